@@ -1,0 +1,104 @@
+//! The fast parts against slow and plain ones, on random games.
+
+use crate::game::{Game, Specs};
+use crate::read::{self, Solution};
+use crate::verify::{self, NoSolution, kept};
+use crate::{solve, write};
+use std::process::ExitCode;
+
+/// Numbers from a fixed seed (splitmix64).
+struct Random(u64);
+
+impl Random {
+    fn below(&mut self, bound: u32) -> u32 {
+        self.0 = self.0.wrapping_add(0x9e37_79b9_7f4a_7c15);
+        let mut z = self.0;
+        z = (z ^ (z >> 30)).wrapping_mul(0xbf58_476d_1ce4_e5b9);
+        z = (z ^ (z >> 27)).wrapping_mul(0x94d0_49bb_1331_11eb);
+        ((z ^ (z >> 31)) % u64::from(bound)) as u32
+    }
+
+    fn game(&mut self) -> Game {
+        let n = 1 + self.below(12);
+        let priorities = 1 + self.below(2 * n);
+        let degree = 1 + self.below(3);
+        let mut specs = Specs::default();
+        for v in 0..n {
+            specs.ids.push(3 * (n - v));
+            specs.priorities.push(self.below(priorities));
+            specs.odd.push(self.below(2) == 1);
+            for _ in 0..=self.below(degree) {
+                specs.successors.push(3 * (1 + self.below(n)));
+            }
+            specs.ends.push(specs.successors.len() as u32);
+        }
+        specs.game().unwrap_or_else(|why| panic!("{why}"))
+    }
+}
+
+/// The verdict on cycles by one search for each bad vertex.
+fn plain(game: &Game, solution: &Solution) -> Result<(), NoSolution> {
+    verify::check_edges(game, solution)?;
+    for v in 0..game.len() {
+        let top = game.priorities[v as usize];
+        if (top % 2 == 1) == solution.odd[v as usize] {
+            continue;
+        }
+        let mut seen = vec![false; game.ids.len()];
+        let mut open = vec![v];
+        while let Some(u) = open.pop() {
+            for w in kept(game, solution, u) {
+                if *w == v {
+                    return Err(NoSolution::Cycle(game.ids[v as usize]));
+                }
+                if game.priorities[*w as usize] <= top && !std::mem::replace(&mut seen[*w as usize], true) {
+                    open.push(*w);
+                }
+            }
+        }
+    }
+    Ok(())
+}
+
+fn fault(random: &mut Random) -> Option<String> {
+    let game = random.game();
+    let text = write::game(&game);
+    let shown = || String::from_utf8_lossy(&text).into_owned();
+    if !read::game(&text).is_ok_and(|again| write::game(&again) == text) {
+        return Some(format!("tidy twice differs\n{}", shown()));
+    }
+    let mut solution = solve::zielonka(&game);
+    if let Err(why) = plain(&game, &solution) {
+        return Some(format!("solve: {why}\n{}", shown()));
+    }
+    for _ in 0..4 {
+        // both verdicts agree, also on solutions with a fault, most of which keep to their regions
+        let v = random.below(game.len());
+        let row = game.successors.row(v);
+        solution.choices[v as usize] = row[random.below(row.len() as u32) as usize];
+        if random.below(4) == 0 {
+            solution.odd.fill(random.below(2) == 1);
+            for u in 0..game.len() {
+                let row = game.successors.row(u);
+                solution.choices[u as usize] = row[random.below(row.len() as u32) as usize];
+            }
+        }
+        let (fast, slow) = (verify::check(&game, &solution), plain(&game, &solution));
+        if fast != slow {
+            return Some(format!("verify: {fast:?} and {slow:?}\n{}", shown()));
+        }
+    }
+    None
+}
+
+pub fn run(count: u64) -> ExitCode {
+    let mut random = Random(2026);
+    for _ in 0..count {
+        if let Some(why) = fault(&mut random) {
+            println!("{why}");
+            return ExitCode::FAILURE;
+        }
+    }
+    println!("{count} games agree");
+    ExitCode::SUCCESS
+}

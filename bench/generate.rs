@@ -1,0 +1,248 @@
+//! Writes the inputs of the benchmarks, the same bytes in each run: `generate FOLDER NAME..`.
+//!
+//! For each name a game `NAME.pg`, and where `verify` is measured on a wrong solution `NAME.wrong`. Right solutions are
+//! not made here. All games keep pgboard's limits, so the hostile ones have as many levels as 4,096 priorities allow.
+
+use std::fs::File;
+use std::io::{BufWriter, Result, Write};
+
+const MOST_VERTICES: u32 = 65_536;
+const MOST_PRIORITIES: u32 = 4_096;
+
+/// Numbers from a fixed seed (splitmix64).
+struct Random(u64);
+
+impl Random {
+    fn below(&mut self, bound: u32) -> u32 {
+        self.0 = self.0.wrapping_add(0x9e37_79b9_7f4a_7c15);
+        let mut z = self.0;
+        z = (z ^ (z >> 30)).wrapping_mul(0xbf58_476d_1ce4_e5b9);
+        z = (z ^ (z >> 27)).wrapping_mul(0x94d0_49bb_1331_11eb);
+        ((z ^ (z >> 31)) % u64::from(bound)) as u32
+    }
+
+    /// So many different numbers below a bound, rising.
+    fn different(&mut self, count: u32, bound: u32) -> Vec<u32> {
+        let mut found = Vec::new();
+        while (found.len() as u32) < count {
+            let more = (found.len() as u32..count).map(|_| self.below(bound)).collect::<Vec<_>>();
+            found.extend(more);
+            found.sort_unstable();
+            found.dedup();
+        }
+        found
+    }
+}
+
+/// A vertex: its priority, whether Odd owns it, and its successors.
+struct Vertex(u32, bool, Vec<u32>);
+
+type Game = Vec<Vertex>;
+
+/// Each vertex with so many successors, priorities and owners at random.
+fn sparse(n: u32, degree: u32, priorities: u32, seed: u64) -> Game {
+    let random = &mut Random(seed);
+    (0..n)
+        .map(|_| Vertex(random.below(priorities), random.below(2) == 1, random.different(degree, n)))
+        .collect()
+}
+
+/// Each of the edges with one chance of two.
+fn dense(n: u32) -> Game {
+    let random = &mut Random(5);
+    (0..n)
+        .map(|v| {
+            let row = (0..n).filter(|w| *w == (v + 1) % n || random.below(2) == 1).collect();
+            Vertex(random.below(n), random.below(2) == 1, row)
+        })
+        .collect()
+}
+
+/// A path to an own loop, with rising priorities.
+fn chain(n: u32) -> Game {
+    (0..n).map(|v| Vertex(v / (n / MOST_PRIORITIES), v % 2 == 1, vec![(v + 1).min(n - 1)])).collect()
+}
+
+/// A path on which each vertex may also stay where it is.
+fn chain_of_own_loops(n: u32) -> Game {
+    (0..n).map(|v| Vertex(v / (n / MOST_PRIORITIES), v % 3 == 1, vec![v, (v + 1).min(n - 1)])).collect()
+}
+
+/// One cycle through all vertices.
+fn cycle(n: u32) -> Game {
+    (0..n).map(|v| Vertex(v.wrapping_mul(7919) % MOST_PRIORITIES, v % 2 == 1, vec![(v + 1) % n])).collect()
+}
+
+/// All edges lead down, and at the end is an own loop: every vertex but that is bad for Even, who wins all.
+fn downward(n: u32, degree: u32) -> Game {
+    (0..n)
+        .map(|v| match v {
+            0 => Vertex(0, true, vec![0]),
+            _ => Vertex(1, true, (v.saturating_sub(degree)..v).collect()),
+        })
+        .collect()
+}
+
+/// A ring with a bad vertex and a good one hung on it for each level: from the ring to the bad one, from there to the
+/// good one of next greater priority, and back to the ring. Even wins all, and each level hides the next one.
+fn ladder(n: u32) -> Game {
+    let levels = MOST_PRIORITIES / 2 - 1;
+    let ring = n - 2 * levels;
+    let mut game: Game = (0..ring).map(|v| Vertex(0, true, vec![(v + 1) % ring])).collect();
+    for level in 0..levels {
+        let at = level * (ring / levels);
+        let bad = ring + 2 * level;
+        game[at as usize].2.push(bad);
+        game.push(Vertex(2 * level + 1, true, vec![bad + 1]));
+        game.push(Vertex(2 * level + 2, true, vec![at]));
+    }
+    game
+}
+
+/// Own loops alone, each with a priority of its own.
+fn own_loops(n: u32) -> Game {
+    (0..n).map(|v| Vertex(2 * v, false, vec![v])).collect()
+}
+
+/// A sparse game in which every second group of four vertices is a short loop that its player can keep to.
+fn small_dominions(n: u32) -> Game {
+    let random = &mut Random(7);
+    let mut game = sparse(n, 4, 6, 8);
+    for first in (0..n).step_by(8) {
+        let odd = random.below(2);
+        let size = 1 + random.below(4);
+        for at in 0..size {
+            let mut row = random.different(3, n);
+            row.push(first + (at + 1) % size);
+            row.sort_unstable();
+            row.dedup();
+            game[(first + at) as usize] = Vertex(2 * random.below(3) + odd, odd == 1, row);
+        }
+    }
+    game
+}
+
+fn write_row(out: &mut impl Write, id: u32, vertex: &Vertex, name: impl Fn(u32) -> u32) -> Result<()> {
+    let Vertex(priority, odd, row) = vertex;
+    write!(out, "{id} {priority} {} ", u8::from(*odd))?;
+    for (at, w) in row.iter().enumerate() {
+        write!(out, "{}{}", if at == 0 { "" } else { "," }, name(*w))?;
+    }
+    writeln!(out, ";")
+}
+
+fn write_game(out: &mut impl Write, game: &Game) -> Result<()> {
+    writeln!(out, "parity {};", game.len() - 1)?;
+    for (v, vertex) in game.iter().enumerate() {
+        write_row(out, v as u32, vertex, |w| w)?;
+    }
+    Ok(())
+}
+
+/// Even is said to win everywhere, with the first successors as choices.
+fn write_wrong(out: &mut impl Write, game: &Game) -> Result<()> {
+    writeln!(out, "paritysol {};", game.len() - 1)?;
+    for (v, Vertex(_, odd, row)) in game.iter().enumerate() {
+        match odd {
+            true => writeln!(out, "{v} 0;")?,
+            false => writeln!(out, "{v} 0 {};", row[0])?,
+        }
+    }
+    Ok(())
+}
+
+/// Wide identifiers in no order, a long name each, and many blanks.
+fn wide(out: &mut impl Write) -> Result<()> {
+    let random = &mut Random(9);
+    let ids = random.different(MOST_VERTICES, 1 << 31);
+    let game = sparse(MOST_VERTICES, 2, 6, 10);
+    let blanks = " ".repeat(64) + "\t\r\n";
+    let name = "a name with some length; 0 1 2, ".repeat(8);
+    for at in 0..MOST_VERTICES {
+        // an odd factor gives each vertex once
+        let v = at.wrapping_mul(40_503) % MOST_VERTICES;
+        let Vertex(priority, odd, row) = &game[v as usize];
+        write!(out, "{}{blanks}{priority}{blanks}{}{blanks}", ids[v as usize], u8::from(*odd))?;
+        for (place, w) in row.iter().enumerate() {
+            write!(out, "{}{}{blanks}", if place == 0 { "" } else { ",  " }, ids[*w as usize])?;
+        }
+        writeln!(out, "\"{name}\" ;{blanks}")?;
+    }
+    Ok(())
+}
+
+fn many(out: &mut impl Write, piece: &[u8], count: usize) -> Result<()> {
+    let block = piece.repeat(1 << 16);
+    for _ in 0..count >> 16 {
+        out.write_all(&block)?;
+    }
+    out.write_all(&piece.repeat(count & 0xffff))
+}
+
+/// A game of one vertex round a great many bytes.
+fn around(out: &mut impl Write, before: &str, piece: &[u8], count: usize, after: &str) -> Result<()> {
+    out.write_all(before.as_bytes())?;
+    many(out, piece, count)?;
+    out.write_all(after.as_bytes())
+}
+
+fn game_of(name: &str) -> Option<Game> {
+    let n = MOST_VERTICES;
+    Some(match name {
+        "sparse_6" => sparse(n, 4, 6, 1),
+        "sparse_4096" => sparse(n, 4, 4096, 2),
+        "edge_limit_2" => sparse(n, 16, 2, 4),
+        "edge_limit_100" => sparse(n, 16, 100, 4),
+        "edge_limit_4096" => sparse(n, 16, 4096, 4),
+        "growth_8192" => sparse(8_192, 16, 100, 4),
+        "growth_16384" => sparse(16_384, 16, 100, 4),
+        "growth_32768" => sparse(32_768, 16, 100, 4),
+        "growth_65536" => sparse(65_536, 16, 100, 4),
+        "dense" => dense(1_024),
+        "chain" => chain(n),
+        "chain_of_own_loops" => chain_of_own_loops(n),
+        "cycle" => cycle(n),
+        "downward" => downward(n, 16),
+        "growth_downward_8192" => downward(8_192, 16),
+        "ladder" => ladder(n),
+        "growth_ladder_8192" => ladder(8_192),
+        "own_loops" => own_loops(MOST_PRIORITIES),
+        "own_loops_too_many" => own_loops(5_000),
+        "small_dominions" => small_dominions(n),
+        _ => return None,
+    })
+}
+
+fn text_of(name: &str, out: &mut impl Write) -> Result<()> {
+    match name {
+        "wide" => wide(out),
+        "one_name" => around(out, "0 0 0 0 \"", b"a name ", 200_000_000 / 7, "\";\n"),
+        "blanks" => around(out, "0 0 0", b" \t\r\n", 50_000_000, "0;\n"),
+        "digits" => around(out, "parity ", b"0", 10_000_000, "1; 0 0 0 0;\n"),
+        "digits_too_many" => around(out, "parity ", b"9", 10_000_000, "; 0 0 0 0;\n"),
+        "quotes" => around(out, "", b"\"\"", 25_000_000, "\n"),
+        "repeated_successor" => around(out, "0 0 0 0", b",0", 50_000_000, ";\n"),
+        _ => Err(std::io::Error::other(format!("no input is called {name}"))),
+    }
+}
+
+fn main() -> Result<()> {
+    let words: Vec<String> = std::env::args().skip(1).collect();
+    let Some((folder, names)) = words.split_first() else {
+        return Err(std::io::Error::other("generate FOLDER NAME.."));
+    };
+    for name in names {
+        let mut out = BufWriter::with_capacity(1 << 20, File::create(format!("{folder}/{name}.pg"))?);
+        match game_of(name) {
+            Some(game) => {
+                write_game(&mut out, &game)?;
+                let mut wrong = BufWriter::with_capacity(1 << 20, File::create(format!("{folder}/{name}.wrong"))?);
+                write_wrong(&mut wrong, &game)?;
+                wrong.flush()?;
+            }
+            None => text_of(name, &mut out)?,
+        }
+        out.flush()?;
+    }
+    Ok(())
+}

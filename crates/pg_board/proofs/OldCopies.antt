@@ -1,0 +1,131 @@
+-- A claim that was a dominion after some entries is posted, or it is stale: it is refused for no other reason.
+use mathlib.Core.Path.{fun_ext}
+use Rattle.std.proofs.Common.{◌≡◌, ℕ, zero, suc, ◌+◌, ◌<◌, ◌≤◌, Bool, true, false, ◌||◌, ◌⊎◌, ◌↔◌, inl, inr, List, [], ◌∷◌, ◌++◌, length, take, map, get_or, refl, sym, ◌∙◌, ap, subst, arith, Ok, Err, Result, length-take}
+use Rattle.std.specs.Prelude.{Option, IfOk, IfErr, OnErr, min}
+use Rattle.std.specs.List.{AllByRecursion}
+use Rattle.std.specs.List.Sorted.{IsStrictlyIncreasing}
+use Rattle.std.proofs.lemmas.List.{get_or-take}
+use Rattle.pg_game.specs.declared.player.Player.{Player}
+use Rattle.pg_game.specs.Player.{opponent}
+use Rattle.pg_game.specs.Graph.{Graph, IsGame}
+use Rattle.pg_game.specs.VertexSet.{VertexSet, In, all_vertices, no_vertices, union}
+use Rattle.pg_game.specs.Attractor.{Attractor}
+use Rattle.pg_game.proofs.Edges.{edge_inside, some_edge}
+use Rattle.pg_game.proofs.Rotate.{none_from_good}
+use Rattle.pg_dominion.specs.declared.claim.Claim.{Claim}
+use Rattle.pg_dominion.specs.declared.claim.ClaimFault.{ClaimFault}
+use Rattle.pg_dominion.specs.declared.claim.ClaimFault.TheVariants as claim_fault
+use Rattle.pg_dominion.specs.Claim.{Rows, named, choice_in, IsRightRow, AreRight, HasShape, IsFirstWrongRow}
+use Rattle.pg_dominion.specs.Fault.{IsClaimFault}
+use Rattle.pg_board.specs.declared.entry.Entry.{Entry}
+use Rattle.pg_board.specs.declared.entry.Posted.{Posted}
+use Rattle.pg_board.specs.declared.refusal.Refusal.{Refusal}
+use Rattle.pg_board.specs.declared.refusal.Refusal.TheVariants as refusal
+use Rattle.pg_board.specs.State.{State, settled, rest_of, IsGoodOn, IsDominion}
+use Rattle.pg_board.specs.Journal.{Journal, state_of, claimed_rows, IsLawful, IsDominionAfter}
+use Rattle.pg_board.specs.Order.{Posts}
+use Rattle.pg_board.specs.Play.{Play}
+use Rattle.pg_board.specs.Post.{Adds, AnswersDominion, SettlesDominion, SettlesUnlessMemory}
+use Rattle.pg_board.specs.Refusal.{Refuses, refusal_of}
+use Rattle.pg_board.proofs.RestIsGood.{vertices}
+use Rattle.pg_board.proofs.Numbers.{lawful_now}
+use Rattle.pg_board.proofs.Push.{theirs, same_self}
+use Rattle.pg_board.proofs.Lawful.{lawful_push}
+use Rattle.pg_board.proofs.Dominion.{never_lost, stays_closed}
+use Rattle.pg_board.proofs.Order.{Target, order}
+
+all_take : (P : ℕ × Option ℕ → Type 0) (rows : Rows) (n : ℕ) → AllByRecursion P rows → AllByRecursion P (take n rows)
+all_take P [] zero a = tt
+all_take P [] (suc n) a = tt
+all_take P (r ∷ rows) zero a = tt
+all_take P (r ∷ rows) (suc n) a = (a.0, all_take P rows n a.1)
+
+vertices_take : (rows : Rows) (n : ℕ) → vertices (take n rows) ≡ take n (vertices rows)
+vertices_take [] zero = refl
+vertices_take [] (suc n) = refl
+vertices_take (r ∷ rows) zero = refl
+vertices_take (r ∷ rows) (suc n) = ap (λ xs. r.0 ∷ xs) (vertices_take rows n)
+
+right_take : (g : Graph) (p : Player) (rows : Rows) (n : ℕ) → AreRight g p rows → AreRight g p (take n rows)
+right_take g p rows n a = record {
+  each = all_take (IsRightRow g p) rows n a.each;
+  rising = subst (λ (xs : List ℕ). IsStrictlyIncreasing xs) (sym (vertices_take rows n)) (λ k l.
+      (let size = length-take n (vertices rows) in
+      let e = get_or-take n (vertices rows) k 0 (omega (arith, size)) in
+      let f = get_or-take n (vertices rows) (k + 1) 0 (omega (arith, size)) in
+      let h = a.rising k (omega (arith, size)) in
+      rw (e, f) h));
+}
+
+shape_is_right : (g : Graph) (p : Player) (rows : Rows) (i : ℕ) → HasShape g p rows → IsFirstWrongRow g p rows i → ⊥
+shape_is_right g p rows i shape (inl (e, z)) = let n = shape.nonempty in let l : length rows ≡ 0 = ap (λ (xs : Rows). length xs) e in omega arith
+shape_is_right g p rows i shape (inr (l, a, wrong)) = wrong (right_take g p rows (i + 1) shape.right)
+
+module _ (g : Graph) (game : IsGame g) (old : Journal) (lawful : IsLawful g old) (claim : Claim) (k : ℕ) (d : IsDominionAfter g old k claim.player claim.rows) where
+  abbrev p : Player
+  p = claim.player
+
+  abbrev rows : Rows
+  rows = claim.rows
+
+  no_fault : (fault : ClaimFault) → IsClaimFault g p rows fault → (fault ≡ claim_fault.Memory → ⊥) → ⊥
+  no_fault (claim_fault.Shape i) h n = shape_is_right g p rows i d.1.shape h
+  no_fault (claim_fault.Cycle v) h n = none_from_good g p (named rows) (choice_in rows) d.1.good v h.1.has
+  no_fault claim_fault.Memory h n = n refl
+
+  target_is : Target p old (claim ∷ []) ≡ union (settled (state_of old) p) (named rows)
+  target_is = fun_ext (λ v. ap (λ b. settled (state_of old) p v || b) (rw (same_self p) (or_none (named rows v))))
+    where
+      or_none : (b : Bool) → (b || false) ≡ b
+      or_none true = refl
+      or_none false = refl
+
+  own : (new : Journal) → Posts g old (claim ∷ []) new → (v : ℕ) → In (settled (state_of new) p) v ↔ Attractor g p (all_vertices g) (union (settled (state_of old) p) (named rows)) v
+  own new posts v = subst (λ (T : VertexSet). In (settled (state_of new) p) v ↔ Attractor g p (all_vertices g) T v) target_is
+      ((order g (edge_inside g game) (some_edge g game) old new (claim ∷ []) lawful ((k, d), tt) posts).1 p v)
+
+  settles_stale : rest_of (state_of old) rows ≡ [] → (new : Play) → new ≡ record { graph = g; journal = old } → SettlesDominion (record { graph = g; journal = old }) new p rows
+  settles_stale none new same = subst (λ (x : Play). SettlesDominion (record { graph = g; journal = old }) x p rows) (sym same) (record {
+    own = own old (inl (none, refl));
+    other = λ v. refl;
+  })
+
+  settles_posted : (new : Play) (worker : ℕ) (posted : Posted) → IsGoodOn g (state_of old) p rows → Adds (record { graph = g; journal = old }) new worker claim posted → SettlesDominion (record { graph = g; journal = old }) new p rows
+  settles_posted new worker posted good a = record {
+    own = own new.journal (inr (a.entry, good.not_stale, a.answers, a.journal));
+    other = λ v. ap (λ (j : Journal). settled (state_of j) (opponent p) v) a.journal
+        ∙ ap (λ (X : VertexSet). X v) (theirs g (edge_inside g game) old (lawful_now g old lawful) p rows good a.entry a.answers);
+  }
+
+  claimed_size : (worker : ℕ) (new : Play) (posted : Posted) → Adds (record { graph = g; journal = old }) new worker claim posted → posted.claimed ≡ length (rest_of (state_of old) rows)
+  claimed_size worker new posted a =
+      let e : length (take a.entry.claimed a.entry.rows) ≡ length (rest_of (state_of old) rows) = ap (λ (xs : Rows). length xs) a.answers.rest in
+      let l = a.answers.claimed in
+      let c = a.claimed in
+      omega (arith, length-take a.entry.claimed a.entry.rows)
+
+  pub old_copy : (new : Play) (worker : ℕ) (result : Result Posted Refusal)
+      → IfOk result (λ posted. IsGoodOn g (state_of old) p rows × Adds (record { graph = g; journal = old }) new worker claim posted)
+      → IfErr result (λ e. Refuses g (state_of old) p rows e)
+      → OnErr result (new ≡ record { graph = g; journal = old })
+      → AnswersDominion (state_of old) rows result × SettlesUnlessMemory (record { graph = g; journal = old }) new p rows result
+  old_copy new worker (Ok posted) ok refused same = (claimed_size worker new posted ok.1, settles_posted new worker posted ok.0 ok.1)
+  old_copy new worker (Err refusal.Memory) ok refused same = (tt, tt)
+  old_copy new worker (Err refusal.Stale) ok refused same = (refused.2, settles_stale refused.2 new same)
+  old_copy new worker (Err (refusal.Claim fault)) ok refused same = absurd (no_fault fault refused.0 refused.1)
+  old_copy new worker (Err (refusal.Lost v)) ok refused same = absurd (let h = refused.1.has in let f = never_lost g old lawful k p rows d v h.0 in let t = h.1 in cc (t, f))
+  old_copy new worker (Err (refusal.Open v w)) ok refused same = absurd (let e = refused.2.edge in e.1 (stays_closed g old lawful k p rows d v w e.0))
+
+-- what is answered where the check of a claim failed
+pub refused_check : (g : Graph) (st : State) (p : Player) (rows : Rows) (fault : ClaimFault) → IsClaimFault g p rows fault → Refuses g st p rows (refusal_of fault)
+refused_check g st p rows (claim_fault.Shape i) h = (h, λ e. cc e)
+refused_check g st p rows (claim_fault.Cycle v) h = (h, λ e. cc e)
+refused_check g st p rows claim_fault.Memory h = tt
+
+-- the journal is lawful after a post
+pub lawful_after : (g : Graph) → IsGame g → (old : Journal) → IsLawful g old → (claim : Claim) (new : Play) (worker : ℕ) (result : Result Posted Refusal)
+    → IfOk result (λ posted. IsGoodOn g (state_of old) claim.player claim.rows × Adds (record { graph = g; journal = old }) new worker claim posted)
+    → OnErr result (new ≡ record { graph = g; journal = old }) → new.graph ≡ g → IsLawful new.graph new.journal
+lawful_after g game old lawful claim new worker (Ok posted) ok same graph =
+    rw (graph, ok.1.journal) (lawful_push g (edge_inside g game) (some_edge g game) old lawful claim.player claim.rows ok.0 ok.1.entry ok.1.answers)
+lawful_after g game old lawful claim new worker (Err e) ok same graph = subst (λ (x : Play). IsLawful x.graph x.journal) (sym same) lawful

@@ -1,0 +1,70 @@
+-- What the checks of a claim against the state say together.
+use mathlib.Core.Path.{fun_ext}
+use Rattle.std.proofs.Common.{◌≡◌, ℕ, ◌+◌, ◌<◌, Bool, true, false, ◌||◌, ◌⊎◌, inl, inr, length, refl, sym, ◌∙◌, ap, subst, arith}
+use Rattle.std.proofs.lemmas.Bool.{false_from_ne_true}
+use Rattle.pg_game.specs.declared.player.Player.{Player}
+use Rattle.pg_game.specs.Graph.{Graph}
+use Rattle.pg_game.specs.Least.{NoneHas}
+use Rattle.pg_game.specs.VertexSet.{VertexSet, In, members, union}
+use Rattle.pg_game.specs.Kept.{KeptEdge}
+use Rattle.pg_dominion.specs.declared.claim.Claim.{Claim}
+use Rattle.pg_dominion.specs.Claim.{Rows, named, choice_in, IsSound}
+use Rattle.pg_board.specs.declared.entry.Posted.{Posted}
+use Rattle.pg_board.specs.State.{State, settled, rest_of, IsGoodOn}
+use Rattle.pg_board.specs.Journal.{state_of}
+use Rattle.pg_board.specs.Play.{Play}
+use Rattle.pg_board.specs.Post.{Adds}
+use Rattle.pg_board.specs.Refusal.{IsLost, IsOpenEdge, IsFirstOpenEdge}
+use Rattle.pg_board.specs.OpenEdges.{LeadsOutside, IsFirstOutside}
+use Rattle.pg_board.proofs.RestIsGood.{kept_rest, kept_of_rest, rest_twice}
+
+-- the vertices of the rest and the player's
+abbrev pub Bounds : State → Player → Rows → VertexSet
+Bounds st p rows = union (named (rest_of st rows)) (settled st p)
+
+module _ (g : Graph) (st : State) (p : Player) (rows : Rows) where
+  open_edge : (v w : ℕ) → LeadsOutside g p (Bounds st p rows) (rest_of st rows) v w → IsOpenEdge g st p rows v w
+  open_edge v w h = (kept_rest g p st rows v w h.0, λ i. (let f = h.1 in cc (i, f)))
+
+  leads_outside : (v w : ℕ) → IsOpenEdge g st p rows v w → LeadsOutside g p (Bounds st p rows) (rest_of st rows) v w
+  leads_outside v w h = (kept_of_rest g p st rows v w h.0, false_from_ne_true (Bounds st p rows w) h.1)
+
+  pub first_open : (v w : ℕ) → IsFirstOutside g p (Bounds st p rows) (rest_of st rows) v w → IsFirstOpenEdge g st p rows v w
+  first_open v w h = record {
+    edge = open_edge v w h.edge;
+    first = λ u x o. h.first u x (leads_outside u x o);
+    least = λ x o. h.least x (leads_outside v x o);
+  }
+
+  pub good_on : IsSound g p rows → NoneHas (IsLost st p rows) → 0 < length (rest_of st rows) → ((v w : ℕ) → LeadsOutside g p (Bounds st p rows) (rest_of st rows) v w → ⊥) → IsGoodOn g st p rows
+  good_on sound none some closed = record {
+    shape = sound.shape;
+    good = sound.good;
+    not_lost = λ v i. false_from_ne_true _ (λ t. none v (i, t));
+    not_stale = some;
+    closed = λ v w k. inside v w k (Bounds st p rows w) refl;
+  }
+    where
+      inside : (v w : ℕ) → KeptEdge g p (named (rest_of st rows)) (choice_in rows) v w → (b : Bool) → Bounds st p rows w ≡ b → In (Bounds st p rows) w
+      inside v w k true e = e
+      inside v w k false e = absurd (closed v w (kept_of_rest g p st rows v w k, e))
+
+-- an entry that answers the rest answers the claim
+pub adds_claim : (old new : Play) (worker : ℕ) (p : Player) (rows : Rows) (claim : Claim) (posted : Posted) → claim.player ≡ p → rows ≡ rest_of (state_of old.journal) claim.rows → Adds old new worker (record { player = p; rows = rows }) posted → Adds old new worker claim posted
+adds_claim old new worker p rows claim posted player same a =
+    let st = state_of old.journal in
+    record {
+      entry = a.entry;
+      journal = a.journal;
+      answers = record {
+        player = a.answers.player ∙ sym player;
+        claimed = a.answers.claimed;
+        rest = a.answers.rest ∙ (ap (rest_of st) same ∙ rest_twice st claim.rows);
+        exact = rw player a.answers.exact;
+        turns = rw player a.answers.turns;
+      };
+      by_worker = a.by_worker;
+      number = a.number;
+      claimed = a.claimed;
+      settled = a.settled;
+    }

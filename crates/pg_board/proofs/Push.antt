@@ -1,0 +1,376 @@
+-- An entry that answers a good claim leaves a lawful state.
+use mathlib.Core.Path.{fun_ext}
+use Rattle.std.proofs.Common.{◌≡◌, ℕ, ◌<◌, Bool, true, false, ◌&&◌, ◌||◌, not, ◌⊎◌, ◌↔◌, inl, inr, List, [], ◌∷◌, ◌++◌, length, refl, sym, ◌∙◌, ap, subst, arith, lt-ltb, ltb-true}
+use Rattle.std.specs.Prelude.{Option, Some, None, ◌==◌, nat_eq, nat_lt, if◌then◌else◌}
+use Rattle.std.specs.List.{list_any, Contains}
+use Rattle.std.proofs.lemmas.Bool.{eqb-true, eq-eqb, false_from_ne_true}
+use Rattle.std.proofs.lemmas.List.{take-append-drop, append-nil, map-append}
+use Rattle.std.specs.List.{AllByRecursion, IsDistinct}
+use Rattle.std.specs.Cmp.{nat_eq_equiv}
+use Rattle.std.proofs.lemmas.Map.Keys.{IsDistinct-push, IsDistinct-from_apart, sorted_from_strictly_increasing, below_from_sorted}
+use Rattle.std.specs.List.Sorted.{IsStrictlyIncreasing}
+use Rattle.std.proofs.Common.{get_or}
+use Rattle.pg_board.proofs.Distinct.{distinct-append, each_named}
+use Rattle.std.proofs.Common.{append_assoc}
+use Rattle.pg_game.specs.declared.player.Player.{Player}
+use Rattle.pg_game.specs.declared.player.Player.TheVariants.{Even, Odd}
+use Rattle.pg_game.specs.Player.{opponent, same_player}
+use Rattle.pg_game.specs.Graph.{Graph, HasEdge, owner_of, successors_of}
+use Rattle.pg_game.specs.VertexSet.{VertexSet, In, all_vertices, union, without}
+use Rattle.pg_game.specs.Kept.{Choices, kept, listed, KeptEdge}
+use Rattle.pg_game.specs.Subgame.{IsSubgame}
+use Rattle.pg_game.specs.Attractor.{Attractor}
+use Rattle.pg_game.specs.Region.{IsRegion}
+use Rattle.pg_game.proofs.Walks.{ClosedWalk-weaker, or_false}
+use Rattle.pg_game.proofs.Members.{Contains-one}
+use Rattle.pg_game.proofs.Attract.{Attractor-idempotent}
+use Rattle.pg_game.proofs.Grown.{Grows, grown_region}
+use Rattle.pg_game.proofs.Rest.{rest_is_subgame}
+use Rattle.pg_dominion.specs.Claim.{Rows, named, choice_in, IsRightRow}
+use Rattle.pg_dominion.specs.Attraction.{LeadsTo, AttractInTurn}
+use Rattle.pg_board.specs.declared.entry.Entry.{Entry}
+use Rattle.pg_board.specs.State.{State, settled, settled_for, chosen, choices, is_unsettled, unsettled, rest_of, IsGoodOn, IsLawfulState}
+use Rattle.pg_board.specs.Journal.{Journal, state_of, claimed_rows, attracted_rows, Answers}
+use Rattle.pg_board.proofs.RestIsGood.{vertices, in_rest, rest_is_good, rest_twice}
+use Rattle.pg_board.proofs.Named.{named-append, choice-front, choice-back, place_of, rank, rank_below, rank_at, named_right}
+use Rattle.pg_board.proofs.Turns.{own_or_other, differs, not_own, avoid}
+
+-- what one entry says of a vertex
+abbrev pub entry_state : Entry → State
+entry_state e v = if named e.rows v then Some (e.player, choice_in e.rows v) else None
+
+later : (b : Bool) (a : Player × Option ℕ) (new old E : Option (Player × Option ℕ)) → new ≡ (if is_unsettled old then E else old) → (if b then Some a else new) ≡ (if is_unsettled (if b then Some a else old) then E else (if b then Some a else old))
+later true a new old E h = refl
+later false a new old E h = h
+
+-- the new entry says what the journal left open
+pub state_push : (j : Journal) (e : Entry) (v : ℕ) → state_of (j ++ e ∷ []) v ≡ (if is_unsettled (state_of j v) then entry_state e v else state_of j v)
+state_push [] e v = refl
+state_push (x ∷ xs) e v = later (named x.rows v) (x.player, choice_in x.rows v) (state_of (xs ++ e ∷ []) v) (state_of xs v) (entry_state e v) (state_push xs e v)
+
+pub open_unsettled : (q : Player) (o : Option (Player × Option ℕ)) → is_unsettled o ≡ true → settled_for q o ≡ false
+open_unsettled q None h = refl
+open_unsettled q (Some r) h = absurd (cc h)
+
+pub settled_shut : (q : Player) (o : Option (Player × Option ℕ)) → settled_for q o ≡ true → is_unsettled o ≡ false
+settled_shut q None h = absurd (cc h)
+settled_shut q (Some r) h = refl
+
+pub neither_open : (p : Player) (o : Option (Player × Option ℕ)) → settled_for p o ≡ false → settled_for (opponent p) o ≡ false → is_unsettled o ≡ true
+neither_open p None a b = refl
+neither_open Even (Some (Even, c)) a b = absurd (cc a)
+neither_open Even (Some (Odd, c)) a b = absurd (cc b)
+neither_open Odd (Some (Even, c)) a b = absurd (cc b)
+neither_open Odd (Some (Odd, c)) a b = absurd (cc a)
+
+pub not_both : (p : Player) (o : Option (Player × Option ℕ)) → settled_for p o ≡ true → settled_for (opponent p) o ≡ false
+not_both p None a = refl
+not_both Even (Some (Even, c)) a = refl
+not_both Even (Some (Odd, c)) a = absurd (cc a)
+not_both Odd (Some (Even, c)) a = absurd (cc a)
+not_both Odd (Some (Odd, c)) a = refl
+
+pub same_self : (p : Player) → same_player p p ≡ true
+same_self Even = refl
+same_self Odd = refl
+
+pub distinct_rising : (xs : List ℕ) → IsStrictlyIncreasing xs → IsDistinct nat_eq xs
+distinct_rising xs h = IsDistinct-from_apart nat_eq xs (λ i j d l m.
+    false_from_ne_true (nat_eq (get_or xs i d) (get_or xs j d)) (λ e.
+    (let a = below_from_sorted xs i j d (sorted_from_strictly_increasing xs h) l m in
+    let b = eqb-true (get_or xs i d) (get_or xs j d) e in omega arith)))
+
+none_distinct : IsDistinct nat_eq []
+unfolding IsDistinct
+none_distinct = tt
+
+unnamed : (rows : Rows) (v : ℕ) → named rows v ≡ false → list_any (nat_eq v) (vertices rows) ≡ false
+unnamed [] v n = refl
+unnamed (r ∷ rows) v n =
+    let h = or_false (r.0 == v) (named rows v) n in
+    let k : nat_eq v r.0 ≡ false = false_from_ne_true (nat_eq v r.0) (λ e. (let f : (r.0 == v) ≡ true = eq-eqb r.0 v (sym (eqb-true v r.0 e)) in cc (f, h.0))) in
+    rw k (unnamed rows v h.1)
+
+-- a region with other choices that agree on it
+pub region_same : (g : Graph) (p : Player) (X : VertexSet) (s t : Choices) → ((v : ℕ) → In X v → t v ≡ s v) → IsRegion g p X s → IsRegion g p X t
+region_same g p X s t same r = record {
+  vertices = r.vertices;
+  choices = λ v i o. (let c = r.choices v i o in (c.0, same v i ∙ c.1, c.2));
+  closed = λ v w k. r.closed v w (as_old v w k);
+  good = λ walk c. r.good walk (ClosedWalk-weaker (KeptEdge g p X t) (KeptEdge g p X s) as_old walk c);
+}
+  where
+    as_old : (v w : ℕ) → KeptEdge g p X t v w → KeptEdge g p X s v w
+    as_old v w (i, m) = (i, subst (λ o. Contains (if same_player (owner_of g v) p then listed o else successors_of g v) w) (same v i) m)
+
+module _ (g : Graph) (edges : (v w : ℕ) → v < length g → HasEdge g v w → In (all_vertices g) w) (j : Journal) (lawful : IsLawfulState g (state_of j)) (p : Player) (rows : Rows) (posted : IsGoodOn g (state_of j) p rows) (e : Entry) (answers : Answers g (state_of j) p rows e) where
+  abbrev st : State
+  st = state_of j
+
+  abbrev st' : State
+  st' = state_of (j ++ e ∷ [])
+
+  abbrev R : Rows
+  R = claimed_rows e
+
+  abbrev A : Rows
+  A = attracted_rows e
+
+  split : e.rows ≡ R ++ A
+  split = sym (take-append-drop e.claimed e.rows)
+
+  -- the claimed rows are a good claim of their own
+  own_good : IsGoodOn g st p R
+  own_good = subst (IsGoodOn g st p) (sym answers.rest) (rest_is_good g st p rows posted)
+
+  claimed_open : (v : ℕ) → In (named R) v → is_unsettled (st v) ≡ true
+  claimed_open v i = (in_rest st rows v (subst (λ xs. In (named xs) v) answers.rest i)).1
+
+  region : IsRegion g p (settled st p) (choices st)
+  region = lawful.regions p
+
+  other : IsRegion g (opponent p) (settled st (opponent p)) (choices st)
+  other = lawful.regions (opponent p)
+
+  base : (v : ℕ) → In (union (union (settled st p) (named R)) (named [])) v → settled st (opponent p) v ≡ false
+  base v i = go (settled st p v) (named R v) refl refl
+    where
+      go : (a b : Bool) → settled st p v ≡ a → named R v ≡ b → settled st (opponent p) v ≡ false
+      go true b x y = not_both p (st v) x
+      go false true x y = open_unsettled (opponent p) (st v) (claimed_open v y)
+      go false false x y = absurd (let l : false ≡ true = rw (x, y) at i in cc l)
+
+  not_theirs : (v : ℕ) → In (union (union (settled st p) (named R)) (named A)) v → settled st (opponent p) v ≡ false
+  not_theirs = avoid g p (union (settled st p) (named R)) (settled st (opponent p)) (choices st) other
+      (λ v w i m. edges v w (ltb-true v (length g) (other.vertices v i)) m) A [] A answers.turns refl base
+
+  -- what an attracted row leads to
+  leads : (v : ℕ) (i : In (named A) v) → LeadsTo g p (all_vertices g) (union (union (settled st p) (named R)) (named (place_of A v i).before)) (v, (place_of A v i).choice)
+  leads v i = let q = place_of A v i in answers.turns q.before q.after (v, q.choice) q.split
+
+  attracted_new : (v : ℕ) → In (named A) v → (settled st p v ≡ false) × (named R v ≡ false)
+  attracted_new v i =
+      let f = (leads v i).fresh in
+      let a = or_false (union (settled st p) (named R) v) (named (place_of A v i).before v) f in
+      or_false (settled st p v) (named R v) a.0
+
+  in_third : (a b c : Bool) → c ≡ true → ((a || b) || c) ≡ true
+  in_third true b c h = refl
+  in_third false true c h = refl
+  in_third false false c h = h
+
+  attracted_open : (v : ℕ) → In (named A) v → is_unsettled (st v) ≡ true
+  attracted_open v i = neither_open p (st v) (attracted_new v i).0 (not_theirs v (in_third (settled st p v) (named R v) (named A v) i))
+
+  names : (v : ℕ) → named e.rows v ≡ (named R v || named A v)
+  names v = ap (λ xs. named xs v) split ∙ named-append R A v
+
+  new_state : (v : ℕ) → named e.rows v ≡ true → is_unsettled (st v) ≡ true → st' v ≡ Some (e.player, choice_in e.rows v)
+  new_state v i o = state_push j e v ∙ rw (o, i) refl
+
+  old_state : (v : ℕ) → is_unsettled (st v) ≡ false → st' v ≡ st v
+  old_state v o = state_push j e v ∙ rw o refl
+
+  claimed_choice : (v : ℕ) → In (named R) v → choices st' v ≡ choice_in R v
+  claimed_choice v i =
+      let n : named e.rows v ≡ true = names v ∙ rw i refl in
+      ap chosen (new_state v n (claimed_open v i)) ∙ (ap (λ xs. choice_in xs v) split ∙ choice-front R A v i)
+
+  attracted_choice : (v : ℕ) (i : In (named A) v) → choices st' v ≡ (place_of A v i).choice
+  attracted_choice v i =
+      let r : named R v ≡ false = (attracted_new v i).1 in
+      let n : named e.rows v ≡ true = names v ∙ rw (r, i) refl in
+      ap chosen (new_state v n (attracted_open v i)) ∙ ((ap (λ xs. choice_in xs v) split ∙ choice-back R A v r) ∙ (place_of A v i).chosen)
+
+  kept_as : (v w : ℕ) (a b : Option ℕ) → a ≡ b → Contains (if same_player (owner_of g v) p then listed a else successors_of g v) w → Contains (if same_player (owner_of g v) p then listed b else successors_of g v) w
+  kept_as v w a b h m = subst (λ o. Contains (if same_player (owner_of g v) p then listed o else successors_of g v) w) h m
+
+  either : (a b : Bool) → (a || b) ≡ true → (a ≡ true) ⊎ (b ≡ true)
+  either true b h = inl refl
+  either false b h = inr h
+
+  right : (v : ℕ) → In (named R) v → IsRightRow g p (v, choice_in R v)
+  right v i = named_right g p R v own_good.shape.right.each i
+
+  -- where a kept edge of an attracted vertex ends
+  falls_to : (v w : ℕ) (i : In (named A) v) → Contains (kept g p (choices st') v) w → In (union (union (settled st p) (named R)) (named (place_of A v i).before)) w
+  falls_to v w i m = elim (own_or_other (owner_of g v) p) [
+    | inl o ↦
+        (let c = (leads v i).own o in
+        let h : choices st' v ≡ Some c.0 = attracted_choice v i ∙ c.1 in
+        let n = kept_as v w (choices st' v) (Some c.0) h m in
+        let y : same_player (owner_of g v) p ≡ true = ap (λ q. same_player q p) o ∙ same_self p in
+        let one : Contains (c.0 ∷ []) w = rw y at n in
+        subst (In (union (union (settled st p) (named R)) (named (place_of A v i).before))) (Contains-one c.0 w one) c.3)
+    | inr o ↦
+        (let f = (leads v i).forced (not_own p (owner_of g v) o) in
+        let y : same_player (owner_of g v) p ≡ false = unlike p (owner_of g v) o in
+        let n : HasEdge g v w = rw y at m in
+        f.1 w n (edges v w (ltb-true v (length g) (leads v i).inside) n))
+  ]
+    where
+      unlike : (p q : Player) → q ≡ opponent p → same_player q p ≡ false
+      unlike Even Even e = absurd (cc e)
+      unlike Even Odd e = refl
+      unlike Odd Even e = refl
+      unlike Odd Odd e = absurd (cc e)
+
+  before_in : (v w : ℕ) (i : In (named A) v) → named (place_of A v i).before w ≡ true → In (named A) w × (rank A w < rank A v)
+  before_in v w i n =
+      let q = place_of A v i in
+      let a : named A w ≡ true = ap (λ xs. named xs w) q.split ∙ (named-append q.before ((v, q.choice) ∷ q.after) w ∙ rw n refl) in
+      let b : rank (q.before ++ (v, q.choice) ∷ q.after) w < length q.before = rank_below q.before ((v, q.choice) ∷ q.after) w n in
+      let c : rank (q.before ++ (v, q.choice) ∷ q.after) v ≡ length q.before = rank_at q.before q.choice q.after v q.first in
+      (a, subst (λ xs. rank xs w < rank xs v) (sym q.split) (omega arith))
+
+  grows : Grows g p (settled st p) (named R) (named A) (choices st) (choices st') (rank A)
+  grows = record {
+    old = region;
+    rest = λ v i. lt-ltb v (length g) (right v i).vertex;
+    attracted = λ v i. (leads v i).inside;
+    rest_choices = λ v i o. (let c = (right v i).own o in (c.0, claimed_choice v i ∙ c.1, c.2));
+    attracted_choices = λ v i o. (let c = (leads v i).own o in (c.0, attracted_choice v i ∙ c.1, c.2));
+    rest_closed = λ v w i m.
+        (let k = kept_as v w (choices st' v) (choice_in R v) (claimed_choice v i) m in
+        let same : rest_of st R ≡ R = own_rest in
+        let h : In (union (named R) (settled st p)) w = subst (λ xs. In (union (named xs) (settled st p)) w) same (own_good.closed v w (subst (λ xs. In (named xs) v) (sym same) i, k)) in
+        either (named R w) (settled st p w) h);
+    attracted_falls = λ v w i m.
+        (let h = falls_to v w i m in
+        elim (either (union (settled st p) (named R) w) (named (place_of A v i).before w) h) [
+          | inl h' ↦ inl (either (settled st p w) (named R w) h')
+          | inr n ↦ inr (before_in v w i n)
+        ]);
+    rest_good = λ walk c. own_good.good walk (ClosedWalk-weaker (KeptEdge g p (named R) (choices st')) (KeptEdge g p (named R) (choice_in R)) (λ v w k. (k.0, kept_as v w (choices st' v) (choice_in R v) (claimed_choice v k.0) k.1)) walk c);
+    keeps_old = λ v i. ap chosen (old_state v (settled_shut p (st v) i));
+    rest_new = λ v i. open_unsettled p (st v) (claimed_open v i);
+    attracted_new = attracted_new;
+  }
+    where
+      own_rest : rest_of st R ≡ R
+      own_rest = subst (λ xs. rest_of st xs ≡ xs) (sym answers.rest) (rest_twice st rows)
+
+  named_open : (v : ℕ) → named e.rows v ≡ true → is_unsettled (st v) ≡ true
+  named_open v n = elim (either (named R v) (named A v) (sym (names v) ∙ n)) [ inl i ↦ claimed_open v i | inr i ↦ attracted_open v i ]
+
+  -- whose a vertex is after the entry
+  abbrev After : Player → ℕ → Option (Player × Option ℕ) → Bool → Type 0
+  After q v o n = settled_for q (if is_unsettled o then (if n then Some (e.player, choice_in e.rows v) else None) else o) ≡ (settled_for q o || (same_player p q && n))
+
+  after : (q : Player) (v : ℕ) (o : Option (Player × Option ℕ)) (n : Bool) → (n ≡ true → is_unsettled o ≡ true) → After q v o n
+  after q v None true f = ap (λ x. same_player x q) answers.player ∙ and_true (same_player p q)
+    where
+      and_true : (b : Bool) → b ≡ (b && true)
+      and_true true = refl
+      and_true false = refl
+  after q v None false f = sym (and_false (same_player p q))
+    where
+      and_false : (b : Bool) → (b && false) ≡ false
+      and_false true = refl
+      and_false false = refl
+  after q v (Some r) true f = absurd (cc (f refl))
+  after q v (Some r) false f = or_none (same_player r.0 q) (same_player p q)
+    where
+      or_none : (a b : Bool) → a ≡ (a || (b && false))
+      or_none true b = refl
+      or_none false true = refl
+      or_none false false = refl
+
+  whose : (q : Player) (v : ℕ) → settled st' q v ≡ (settled st q v || (same_player p q && named e.rows v))
+  whose q v = ap (settled_for q) (state_push j e v) ∙ after q v (st v) (named e.rows v) (named_open v)
+
+  and_self : (a b : Bool) → a ≡ true → (a && b) ≡ b
+  and_self true b h = refl
+  and_self false b h = absurd (cc h)
+
+  and_not : (a b c : Bool) → b ≡ false → (a || (b && c)) ≡ a
+  and_not true b c h = refl
+  and_not false false c h = refl
+  and_not false true c h = absurd (cc h)
+
+  ours : settled st' p ≡ union (settled st p) (union (named R) (named A))
+  ours = fun_ext (λ v. whose p v ∙ (ap (λ b. settled st p v || b) (and_self (same_player p p) (named e.rows v) (same_self p) ∙ names v)))
+
+  pub ours_named : settled st' p ≡ union (settled st p) (named e.rows)
+  ours_named = fun_ext (λ v. whose p v ∙ ap (λ b. settled st p v || b) (and_self (same_player p p) (named e.rows v) (same_self p)))
+
+  pub theirs : settled st' (opponent p) ≡ settled st (opponent p)
+  theirs = fun_ext (λ v. whose (opponent p) v ∙ and_not (settled st (opponent p) v) (same_player p (opponent p)) (named e.rows v) (differs p p refl))
+
+  our_region : IsRegion g p (settled st' p) (choices st')
+  our_region = subst (λ X. IsRegion g p X (choices st')) (sym ours) (grown_region g p (settled st p) (named R) (named A) (choices st) (choices st') (rank A) grows)
+
+  their_region : IsRegion g (opponent p) (settled st' (opponent p)) (choices st')
+  their_region = subst (λ X. IsRegion g (opponent p) X (choices st')) (sym theirs)
+      (region_same g (opponent p) (settled st (opponent p)) (choices st) (choices st') (λ v i. ap chosen (old_state v (settled_shut (opponent p) (st v) i))) other)
+
+  our_attractor : (v : ℕ) → Attractor g p (all_vertices g) (settled st' p) v → In (settled st' p) v
+  our_attractor v a = subst (λ X. In X v) (sym ours_named) ((answers.exact v).1
+      (Attractor-idempotent g p (all_vertices g) (union (settled st p) (named R)) (settled st' p)
+      (λ x i. (answers.exact x).0 (subst (λ X. In X x) ours_named i)) v a))
+
+  their_attractor : (v : ℕ) → Attractor g (opponent p) (all_vertices g) (settled st' (opponent p)) v → In (settled st' (opponent p)) v
+  their_attractor v a = subst (λ X. In X v) (sym theirs) (lawful.attracted (opponent p) v (subst (λ X. Attractor g (opponent p) (all_vertices g) X v) theirs a))
+
+  regions : (q : Player) → IsRegion g q (settled st' q) (choices st')
+  regions q = elim (own_or_other q p) [
+    | inl h ↦ subst (λ x. IsRegion g x (settled st' x) (choices st')) (sym h) our_region
+    | inr h ↦ subst (λ x. IsRegion g x (settled st' x) (choices st')) (sym h) their_region
+  ]
+
+  attracted : (q : Player) (v : ℕ) → Attractor g q (all_vertices g) (settled st' q) v → In (settled st' q) v
+  attracted q v a = elim (own_or_other q p) [
+    | inl h ↦ subst (λ x. In (settled st' x) v) (sym h) (our_attractor v (subst (λ x. Attractor g x (all_vertices g) (settled st' x) v) h a))
+    | inr h ↦ subst (λ x. In (settled st' x) v) (sym h) (their_attractor v (subst (λ x. Attractor g x (all_vertices g) (settled st' x) v) h a))
+  ]
+
+  is_unsettled_is : (o : Option (Player × Option ℕ)) → not (settled_for Even o || settled_for Odd o) ≡ is_unsettled o
+  is_unsettled_is None = refl
+  is_unsettled_is (Some (Even, c)) = refl
+  is_unsettled_is (Some (Odd, c)) = refl
+
+  rest_is : without (all_vertices g) (union (settled st' Even) (settled st' Odd)) ≡ unsettled g st'
+  rest_is = fun_ext (λ v. ap (λ b. nat_lt v (length g) && b) (is_unsettled_is (st' v)))
+
+  pub lawful_state : ((v : ℕ) → v < length g → (w : ℕ) × HasEdge g v w) → IsLawfulState g st'
+  lawful_state some = record {
+    regions = regions;
+    attracted = attracted;
+    open_part = subst (IsSubgame g) rest_is (rest_is_subgame g (settled st' Even) (settled st' Odd) edges some (attracted Even) (attracted Odd));
+  }
+
+  -- the entry answers its own claim
+  pub own_claim_good : IsGoodOn g st e.player R
+  own_claim_good = subst (λ q. IsGoodOn g st q R) (sym answers.player) own_good
+
+  pub own_claim_answered : Answers g st e.player R e
+  own_claim_answered = record {
+    player = refl;
+    claimed = answers.claimed;
+    rest = sym own_rest;
+    exact = λ v. subst (λ q. (In (union (settled st q) (named e.rows)) v) ↔ Attractor g q (all_vertices g) (union (settled st q) (named R)) v) (sym answers.player) (answers.exact v);
+    turns = subst (λ q. AttractInTurn g q (all_vertices g) (union (settled st q) (named R)) A) (sym answers.player) answers.turns;
+  }
+    where
+      own_rest : rest_of st R ≡ R
+      own_rest = subst (λ xs. rest_of st xs ≡ xs) (sym answers.rest) (rest_twice st rows)
+
+  -- no two of the entry's rows name one vertex
+  all_done : (done rest : Rows) → A ≡ done ++ rest → IsDistinct nat_eq (vertices done) → IsDistinct nat_eq (vertices A)
+  all_done done [] q d = subst (λ xs. IsDistinct nat_eq (vertices xs)) (sym (q ∙ append-nil done)) d
+  all_done done (r ∷ rest) q d =
+      let f = (answers.turns done rest r q).fresh in
+      let n : named done r.0 ≡ false = (or_false (union (settled st p) (named R) r.0) (named done r.0) f).1 in
+      all_done (done ++ r ∷ []) rest (q ∙ sym (append_assoc done (r ∷ []) rest))
+      (subst (IsDistinct nat_eq) (sym (map-append (λ (x : ℕ × Option ℕ). x.0) done (r ∷ []))) (IsDistinct-push nat_eq_equiv (vertices done) r.0 d (unnamed done r.0 n)))
+
+  pub once_rows : IsDistinct nat_eq (vertices e.rows)
+  once_rows = subst (IsDistinct nat_eq) (sym (ap vertices split ∙ map-append (λ (x : ℕ × Option ℕ). x.0) R A))
+      (distinct-append (named A) (vertices R) (vertices A)
+      (distinct_rising (vertices R) own_good.shape.right.rising)
+      (all_done [] A refl none_distinct)
+      (each_named (λ v. named A v ≡ false) R (λ v i. false_from_ne_true (named A v) (λ a. (let h = (attracted_new v a).1 in cc (i, h)))))
+      (each_named (λ v. named A v ≡ true) A (λ v i. i)))
+
+  pub each_open : AllByRecursion (λ v. is_unsettled (st v) ≡ true) (vertices e.rows)
+  each_open = each_named (λ v. is_unsettled (st v) ≡ true) e.rows named_open

@@ -1,0 +1,108 @@
+-- The state of a full journal is a solution.
+use mathlib.Core.Path.{fun_ext}
+use Rattle.std.proofs.Common.{◌≡◌, ◌≢◌, ℕ, zero, suc, ◌<◌, ◌≤◌, Bool, true, false, ◌&&◌, ◌||◌, ◌⊎◌, inl, inr, [], ◌∷◌, ◌++◌, length, take, drop, get_or, refl, sym, ◌∙◌, ap, subst, arith, lt-ltb, ltb-true}
+use Rattle.std.specs.Prelude.{Option, Some, None, nat_lt, slice_get, if◌then◌else◌, ◌↔◌}
+use Rattle.std.proofs.lemmas.Bool.{false_from_ne_true}
+use Rattle.std.proofs.lemmas.List.{take-append-drop}
+use Rattle.std.proofs.lemmas.Option.{slice_get-get_or}
+use Rattle.pg_game.specs.declared.player.Player.{Player}
+use Rattle.pg_game.specs.declared.player.Player.TheVariants.{Even}
+use Rattle.pg_game.specs.Player.{opponent, same_player}
+use Rattle.pg_game.specs.Graph.{Graph, owner_of}
+use Rattle.pg_game.specs.VertexSet.{VertexSet, In}
+use Rattle.pg_game.specs.Kept.{Choices}
+use Rattle.pg_game.specs.Region.{IsRegion, Wins}
+use Rattle.pg_game.proofs.Players.{own_or_other, not_own, other_from_not}
+use Rattle.pg_text.specs.Solution.{winner_of, choice_of, won_by, IsSolution, IsExactSolution, Rows as Solved}
+use Rattle.pg_dominion.specs.Claim.{named, choice_in}
+use Rattle.pg_dominion.proofs.Rows.{named_right}
+use Rattle.pg_board.specs.declared.entry.Entry.{Entry}
+use Rattle.pg_board.specs.State.{State, settled, settled_for, chosen, choices, is_unsettled}
+use Rattle.pg_board.specs.Journal.{Journal, state_of, claimed_rows, attracted_rows, IsLawful}
+use Rattle.pg_board.specs.Full.{IsFull, AreStateRows}
+use Rattle.pg_board.proofs.Named.{named-append, choice-front, choice-back, place_of}
+use Rattle.pg_board.proofs.Push.{region_same, same_self}
+use Rattle.pg_board.proofs.Numbers.{lawful_now}
+use Rattle.pg_board.proofs.Dominion.{disjoint_for}
+
+-- the entry that settled a vertex
+pub record Settling (j : Journal) (v : ℕ) (r : Player × Option ℕ) : Type 0 where
+  pub at : ℕ
+  pub entry : Entry
+  pub found : slice_get j at ≡ Some entry
+  pub names : named entry.rows v ≡ true
+  pub said : (entry.player, choice_in entry.rows v) ≡ r
+
+settling : (j : Journal) (v : ℕ) (r : Player × Option ℕ) → state_of j v ≡ Some r → Settling j v r
+settling [] v r e = absurd (cc e)
+settling (x ∷ xs) v r e = go (named x.rows v) refl e (settling xs v r)
+  where
+    go : (b : Bool) → named x.rows v ≡ b → (if b then Some (x.player, choice_in x.rows v) else state_of xs v) ≡ Some r → (state_of xs v ≡ Some r → Settling xs v r) → Settling (x ∷ xs) v r
+    go true n h later = record { at = zero; entry = x; found = refl; names = n; said = cc h }
+    go false n h later = (let q = later h in record { at = suc q.at; entry = q.entry; found = q.found; names = q.names; said = q.said })
+
+module _ (g : Graph) (j : Journal) (lawful : IsLawful g j) where
+  abbrev st : State
+  st = state_of j
+
+  -- no choice stands where the winner isn't the owner
+  entry_none : (k : ℕ) (e : Entry) → slice_get j k ≡ Some e → (v : ℕ) → named e.rows v ≡ true → owner_of g v ≢ e.player → choice_in e.rows v ≡ None
+  entry_none k e at v i other = go (named (claimed_rows e) v) refl
+    where
+      split : e.rows ≡ claimed_rows e ++ attracted_rows e
+      split = sym (take-append-drop e.claimed e.rows)
+
+      attracted : named (claimed_rows e) v ≡ false → named (attracted_rows e) v ≡ true
+      attracted f = (let h : (named (claimed_rows e) v || named (attracted_rows e) v) ≡ true = sym (named-append (claimed_rows e) (attracted_rows e) v) ∙ (ap (λ xs. named xs v) (sym split) ∙ i) in
+          let n : (false || named (attracted_rows e) v) ≡ true = rw f at h in n)
+
+      forced : (n : named (attracted_rows e) v ≡ true) → choice_in (attracted_rows e) v ≡ None
+      forced n = (let q = place_of (attracted_rows e) v n in
+          q.chosen ∙ (((lawful.answered k e at).turns q.before q.after (v, q.choice) q.split).forced other).0)
+
+      go : (b : Bool) → named (claimed_rows e) v ≡ b → choice_in e.rows v ≡ None
+      go true n = ap (λ xs. choice_in xs v) split ∙ (choice-front (claimed_rows e) (attracted_rows e) v n
+          ∙ (named_right g e.player (claimed_rows e) v (lawful.good k e at).shape.right.each n).other other)
+      go false n = ap (λ xs. choice_in xs v) split ∙ (choice-back (claimed_rows e) (attracted_rows e) v n ∙ forced (attracted n))
+
+  others_none : (v : ℕ) (r : Player × Option ℕ) → st v ≡ Some r → owner_of g v ≢ r.0 → r.1 ≡ None
+  others_none v r e other =
+      let q = settling j v r e in
+      let player : q.entry.player ≡ r.0 = ap (λ (x : Player × Option ℕ). x.0) q.said in
+      let choice : choice_in q.entry.rows v ≡ r.1 = ap (λ (x : Player × Option ℕ). x.1) q.said in
+      sym choice ∙ entry_none q.at q.entry q.found v q.names (λ h. other (h ∙ player))
+
+  module _ (rows : Solved) (are : AreStateRows g st rows) where
+    said : (v : ℕ) → v < length g → st v ≡ Some (winner_of rows v, choice_of rows v)
+    said v l = sym (are.each v l) ∙ slice_get-get_or rows v (Even, None) (omega (arith, are.size))
+
+    won : (p : Player) → settled st p ≡ won_by rows p
+    won p = fun_ext (λ v. go v (nat_lt v (length g)) refl)
+      where
+        go : (v : ℕ) (b : Bool) → nat_lt v (length g) ≡ b → settled st p v ≡ (nat_lt v (length rows) && same_player (winner_of rows v) p)
+        go v true e = rw (are.size, e) (ap (settled_for p) (said v (ltb-true v (length g) e)))
+        go v false e = rw (are.size, e) (false_from_ne_true (settled st p v) (λ t. (let i : nat_lt v (length g) ≡ true = ((lawful_now g j lawful).regions p).vertices v t in cc (i, e))))
+
+    regions : (p : Player) → IsRegion g p (won_by rows p) (choice_of rows)
+    regions p = subst (λ (X : VertexSet). IsRegion g p X (choice_of rows)) (won p)
+        (region_same g p (settled st p) (choices st) (choice_of rows) (λ v i. sym (ap chosen (said v (ltb-true v (length g) (((lawful_now g j lawful).regions p).vertices v i)))))
+        ((lawful_now g j lawful).regions p))
+
+    winner_wins : (p : Player) (v : ℕ) → v < length g → winner_of rows v ≡ p → Wins g p v
+    winner_wins p v l e = (won_by rows p, choice_of rows, regions p, inside)
+      where
+        inside : In (won_by rows p) v
+        inside = rw (are.size, lt-ltb v (length g) l, e) (same_self p)
+
+    wins_winner : (p : Player) (v : ℕ) → v < length g → Wins g p v → winner_of rows v ≡ p
+    wins_winner p v l w = elim (own_or_other (winner_of rows v) p) [
+      | inl e ↦ e
+      | inr e ↦ absurd (disjoint_for g p v w (winner_wins (opponent p) v l e))
+    ]
+
+    pub exact_solution : IsExactSolution g rows
+    exact_solution = record {
+      solution = record { size = are.size; regions = regions };
+      choices = λ v l other. others_none v (winner_of rows v, choice_of rows v) (said v l) other;
+      winners = λ p v l. (winner_wins p v l, wins_winner p v l);
+    }

@@ -1,0 +1,72 @@
+-- Attracted rows never name a vertex of a region of the opponent.
+use Rattle.std.proofs.Common.{◌≡◌, ◌≢◌, ℕ, Bool, true, false, ◌||◌, ◌⊎◌, inl, inr, [], ◌∷◌, ◌++◌, refl, sym, ◌∙◌, subst, append_assoc}
+use Rattle.std.specs.Prelude.{Option, ◌==◌}
+use Rattle.std.proofs.lemmas.Bool.{eqb-true}
+use Rattle.std.proofs.lemmas.List.{append-nil}
+use Rattle.pg_game.specs.declared.player.Player.{Player}
+use Rattle.pg_game.specs.declared.player.Player.TheVariants.{Even, Odd}
+use Rattle.pg_game.specs.Player.{opponent, same_player}
+use Rattle.pg_game.specs.Graph.{Graph, HasEdge, owner_of}
+use Rattle.pg_game.specs.VertexSet.{VertexSet, In, all_vertices, union}
+use Rattle.pg_game.specs.Kept.{Choices}
+use Rattle.pg_game.specs.Region.{IsRegion}
+use Rattle.pg_game.proofs.Disjoint.{kept_own, kept_other}
+use Rattle.pg_dominion.specs.Claim.{Rows, named}
+use Rattle.pg_dominion.specs.Attraction.{LeadsTo, AttractInTurn}
+use Rattle.pg_board.proofs.Named.{named-append}
+
+pub own_or_other : (q p : Player) → (q ≡ p) ⊎ (q ≡ opponent p)
+own_or_other Even Even = inl refl
+own_or_other Even Odd = inr refl
+own_or_other Odd Even = inr refl
+own_or_other Odd Odd = inl refl
+
+pub differs : (p : Player) (q : Player) → q ≡ p → same_player q (opponent p) ≡ false
+differs Even Even e = refl
+differs Even Odd e = absurd (cc e)
+differs Odd Even e = absurd (cc e)
+differs Odd Odd e = refl
+
+pub agrees : (p : Player) (q : Player) → q ≡ opponent p → same_player q (opponent p) ≡ true
+agrees Even Even e = absurd (cc e)
+agrees Even Odd e = refl
+agrees Odd Even e = refl
+agrees Odd Odd e = absurd (cc e)
+
+pub not_own : (p : Player) (q : Player) → q ≡ opponent p → q ≢ p
+not_own Even q e f = cc (e, f)
+not_own Odd q e f = cc (e, f)
+
+module _ (g : Graph) (p : Player) (S V : VertexSet) (s : Choices) (other : IsRegion g (opponent p) V s) (inside : (v w : ℕ) → In V v → HasEdge g v w → In (all_vertices g) w) where
+  -- a row that leads away from the region names none of its vertices
+  leads_away : (T : VertexSet) (r : ℕ × Option ℕ) → LeadsTo g p (all_vertices g) T r → ((v : ℕ) → In T v → V v ≡ false) → (b : Bool) → V r.0 ≡ b → V r.0 ≡ false
+  leads_away T r l away false e = e
+  leads_away T r l away true e = absurd (elim (own_or_other (owner_of g r.0) p) [
+    | inl o ↦ (let c = l.own o in
+        let i : V c.0 ≡ true = other.closed r.0 c.0 (kept_other g (opponent p) V s r.0 c.0 e (differs p (owner_of g r.0) o) c.2) in
+        cc (i, away c.0 c.3))
+    | inr o ↦ (let c = other.choices r.0 e o in
+        let i : V c.0 ≡ true = other.closed r.0 c.0 (kept_own g (opponent p) V s r.0 c.0 e (agrees p (owner_of g r.0) o) c.1) in
+        let f = l.forced (not_own p (owner_of g r.0) o) in
+        cc (i, away c.0 (f.1 c.0 c.2 (inside r.0 c.0 e c.2))))
+  ])
+
+  abbrev At : Rows → VertexSet
+  At done = union S (named done)
+
+  more : (done : Rows) (r : ℕ × Option ℕ) → ((v : ℕ) → In (At done) v → V v ≡ false) → V r.0 ≡ false → (v : ℕ) → In (At (done ++ r ∷ [])) v → V v ≡ false
+  more done r away new v i = go (S v) (named done v) (r.0 == v) refl refl refl
+    where
+      go : (a b c : Bool) → S v ≡ a → named done v ≡ b → (r.0 == v) ≡ c → V v ≡ false
+      go true b c x y z = away v (rw x refl)
+      go false true c x y z = away v (rw (x, y) refl)
+      go false false true x y z = subst (λ u. V u ≡ false) (eqb-true r.0 v z) new
+      go false false false x y z = absurd (let j : named (done ++ r ∷ []) v ≡ true = rw x at i in
+          let k : (named done v || ((r.0 == v) || false)) ≡ true = sym (named-append done (r ∷ []) v) ∙ j in
+          let l : false ≡ true = rw (y, z) at k in cc l)
+
+  pub avoid : (rows done rest : Rows) → AttractInTurn g p (all_vertices g) S rows → rows ≡ done ++ rest → ((v : ℕ) → In (At done) v → V v ≡ false) → (v : ℕ) → In (At rows) v → V v ≡ false
+  avoid rows done [] turns e away v i = away v (subst (λ xs. In (At xs) v) (e ∙ append-nil done) i)
+  avoid rows done (r ∷ rest) turns e away v i =
+      let new = leads_away (At done) r (turns done rest r e) away (V r.0) refl in
+      avoid rows (done ++ r ∷ []) rest turns (e ∙ sym (append_assoc done (r ∷ []) rest)) (more done r away new) v i

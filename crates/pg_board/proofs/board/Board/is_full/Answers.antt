@@ -1,0 +1,16 @@
+use Rattle.std.proofs.Common.{◌≡◌, ◌∙◌, sym, subst, IsTrue, ◌↔◌, nat_eq}
+use Rattle.std.proofs.lemmas.Bool.{eqb-true, eq-eqb}
+use Rattle.pg_board.specs.Play.{Play}
+use Rattle.pg_board.specs.Journal.{state_of}
+use Rattle.pg_board.specs.Full.{IsFull}
+use Rattle.pg_board.proofs.Numbers.{full_from_number, number_from_full}
+use Rattle.pg_board.proofs.board.Board.is_full.Goals as goal
+
+pub returns : goal.returns
+returns c =
+    let b = c.self.inside in
+    let i = c.self.invariant in
+    subst (λ (x : Play). IsTrue (nat_eq b.number c.len.result) ↔ IsFull x.graph (state_of x.journal)) c.self.view_is (
+      λ t. full_from_number b.game.now b.entries.items i.lawful (sym i.number_is ∙ (eqb-true b.number c.len.result t ∙ c.len.ensures.number)),
+      λ full. eq-eqb b.number c.len.result (i.number_is ∙ (number_from_full b.game.now b.entries.items i.lawful full ∙ sym c.len.ensures.number)),
+    )

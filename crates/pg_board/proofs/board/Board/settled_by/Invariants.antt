@@ -1,0 +1,6 @@
+use Rattle.std.proofs.Common.{◌≡◌, take}
+use Rattle.pg_board.specs.Journal.{settled_by}
+use Rattle.pg_board.proofs.board.Board.settled_by.Given as goal
+
+abbrev pub invariant-entries : goal.invariant-entries
+invariant-entries l = l.total ≡ settled_by (take l.entry-index l.self.journal) l.worker

@@ -1,0 +1,13 @@
+pub mod State
+pub mod Journal
+pub mod Order
+pub mod Regions
+pub mod OpenEdges
+pub mod Growth
+pub mod Laws
+pub mod Refusal
+pub mod Play
+pub mod Post
+pub mod Shares
+pub mod Full
+pub mod Office

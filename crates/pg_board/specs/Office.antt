@@ -1,0 +1,31 @@
+-- What a call through a lock may answer: it speaks of some lawful board, with at least the share's amount settled.
+use Rattle.std.specs.Prelude.{ℕ, ◌≡◌, ◌≤◌, length, Result, Ok, Err}
+use Rattle.pg_game.specs.declared.player.Player.{Player}
+use Rattle.pg_game.specs.Graph.{Graph, IsGame}
+use Rattle.pg_game.specs.VertexSet.{members}
+use Rattle.pg_finders.specs.Part.{Part}
+use Rattle.pg_dominion.specs.Claim.{Rows}
+use Rattle.pg_board.specs.declared.entry.Entry.{Entry}
+use Rattle.pg_board.specs.declared.refusal.Refusal.{Refusal}
+use Rattle.pg_board.specs.State.{unsettled, IsGoodOn}
+use Rattle.pg_board.specs.Journal.{Journal, state_of, Answers, IsLawful, number_settled}
+use Rattle.pg_board.specs.Refusal.{Refuses}
+
+-- the part of its game that the journal leaves unsettled, and its numbers
+pub record IsCopyOf (journal : Journal) (part : Part) (at settled : ℕ) : Type 0 where
+  pub mask : (v : ℕ) → members part.mask v ≡ unsettled part.graph (state_of journal) v
+  pub at_is : at ≡ length journal
+  pub settled_is : settled ≡ number_settled journal
+
+-- a copy of some lawful board with at least the amount settled
+abbrev pub IsCopyOfSome : Part → ℕ → ℕ → ℕ → Type 0
+IsCopyOfSome part at settled amount = (journal : Journal) × IsLawful part.graph journal × IsCopyOf journal part at settled × (amount ≤ settled)
+
+-- what a board may answer to the claim, of a posted entry its rows alone
+abbrev pub IsAnswer : Graph → Journal → Player → Rows → Result ℕ Refusal → Type 0
+IsAnswer g journal p rows (Ok n) = IsGoodOn g (state_of journal) p rows × ((e : Entry) × Answers g (state_of journal) p rows e × (n ≡ length e.rows))
+IsAnswer g journal p rows (Err fault) = Refuses g (state_of journal) p rows fault
+
+-- an answer of some lawful board with at least the amount settled
+abbrev pub IsAnswerOfSome : ℕ → Player → Rows → Result ℕ Refusal → Type 0
+IsAnswerOfSome amount p rows r = (g : Graph) × (journal : Journal) × IsGame g × IsLawful g journal × (amount ≤ number_settled journal) × IsAnswer g journal p rows r

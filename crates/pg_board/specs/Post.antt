@@ -1,0 +1,44 @@
+-- What an accepted post adds.
+use Rattle.std.specs.Prelude.{ℕ, ◌≡◌, ◌↔◌, ◌++◌, ◌∷◌, [], length, Result, Ok, Err}
+use Rattle.pg_game.specs.declared.player.Player.{Player}
+use Rattle.pg_game.specs.Player.{opponent}
+use Rattle.pg_game.specs.VertexSet.{In, all_vertices, union}
+use Rattle.pg_game.specs.Attractor.{Attractor}
+use Rattle.pg_dominion.specs.Claim.{Rows, named}
+use Rattle.pg_board.specs.declared.refusal.Refusal.{Refusal}
+use Rattle.pg_board.specs.declared.refusal.Refusal.TheVariants as refusal
+use Rattle.pg_board.specs.State.{State, settled, rest_of}
+use Rattle.pg_dominion.specs.declared.claim.Claim.{Claim}
+use Rattle.pg_board.specs.declared.entry.Entry.{Entry}
+use Rattle.pg_board.specs.declared.entry.Posted.{Posted}
+use Rattle.pg_board.specs.Play.{Play}
+use Rattle.pg_board.specs.Journal.{state_of, Answers}
+
+-- one entry, of the worker, that answers the claim, and its numbers
+pub record Adds (old new : Play) (worker : ℕ) (claim : Claim) (posted : Posted) : Type 0 where
+  pub entry : Entry
+  pub journal : new.journal ≡ old.journal ++ entry ∷ []
+  pub answers : Answers old.graph (state_of old.journal) claim.player claim.rows entry
+  pub by_worker : entry.worker ≡ worker
+  pub number : posted.entry ≡ length old.journal
+  pub claimed : posted.claimed ≡ entry.claimed
+  pub settled : posted.settled ≡ length entry.rows
+
+-- posting a claim that was a dominion settles its rest, or answers that it is stale
+abbrev pub AnswersDominion : State → Rows → Result Posted Refusal → Type 0
+AnswersDominion st rows (Ok posted) = posted.claimed ≡ length (rest_of st rows)
+AnswersDominion st rows (Err refusal.Stale) = rest_of st rows ≡ []
+AnswersDominion st rows (Err refusal.Memory) = Unit {0}
+AnswersDominion st rows (Err (refusal.Claim fault)) = ⊥
+AnswersDominion st rows (Err (refusal.Lost v)) = ⊥
+AnswersDominion st rows (Err (refusal.Open v w)) = ⊥
+
+-- the player then has what his old vertices and the claim's attract, and the opponent what he had
+pub record SettlesDominion (old new : Play) (p : Player) (rows : Rows) : Type 0 where
+  pub own : (v : ℕ) → In (settled (state_of new.journal) p) v ↔ Attractor old.graph p (all_vertices old.graph) (union (settled (state_of old.journal) p) (named rows)) v
+  pub other : (v : ℕ) → settled (state_of new.journal) (opponent p) v ≡ settled (state_of old.journal) (opponent p) v
+
+abbrev pub SettlesUnlessMemory : Play → Play → Player → Rows → Result Posted Refusal → Type 0
+SettlesUnlessMemory old new p rows (Ok posted) = SettlesDominion old new p rows
+SettlesUnlessMemory old new p rows (Err refusal.Memory) = Unit {0}
+SettlesUnlessMemory old new p rows (Err other) = SettlesDominion old new p rows

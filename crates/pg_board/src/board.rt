@@ -1,0 +1,246 @@
+//! The board: a game, the journal of what was settled of it, and what is at hand of the journal.
+//! Its type keeps that the journal is lawful, so every board in hand has a lawful one.
+
+ghost use Rattle.std.specs.Prelude.{◌≡◌, ℕ, ◌++◌, ◌∷◌, [], ◌+◌, length, IfOk, IfErr, OnErr, IsTrue, IsSome, IfSome, ◌↔◌};
+ghost use Rattle.pg_game.specs.declared.player.Player.{Player};
+ghost use Rattle.pg_game.specs.Graph.{IsGame};
+ghost use Rattle.pg_game.specs.VertexSet.{members};
+ghost use Rattle.pg_dominion.specs.Claim.{Rows, IsGoodIn, IsSound};
+ghost use Rattle.pg_board.specs.State.{unsettled, rest_of, IsGoodOn, choices, winner_in};
+ghost use Rattle.pg_board.specs.Journal.{state_of, Answers, IsLawful, IsDominionAfter, number_settled, settled_by};
+ghost use Rattle.pg_board.specs.Full.{IsFull, AreStateRows};
+ghost use Rattle.pg_text.specs.Solution.{IsExactSolution};
+ghost use Rattle.pg_board.specs.Refusal.{Refuses};
+ghost use Rattle.pg_board.specs.Post.{Adds, AnswersDominion, SettlesUnlessMemory};
+ghost use Rattle.pg_board.specs.OpenEdges.{IsRestOf};
+
+use crate::entry::{Entry, Posted};
+use crate::open_edges::Bounds;
+use crate::refusal::Refusal;
+use crate::regions::Regions;
+use crate::rest::Rest;
+use pg_dominion::{Claim, check_claim};
+use pg_finders::{Copied, Inside};
+use pg_game::{Game, Player, Sequence};
+use pg_text::Solution;
+use std::alloc::{AllocError, Global};
+use std::marker::Model;
+
+/// A game, and the journal of what was settled of it. Nobody's claim is believed.
+#[derive(Drop)]
+pub struct Board<'g> {
+    game: &'g Game,
+    entries: Vec<Entry>,
+    regions: Regions,
+    number: u32,
+}
+
+impl<'g> Model for Board<'g> {
+    ghost use Rattle.pg_board.specs.Play.{Play};
+    ghost use Rattle.pg_board.specs.Regions.{IsBoard};
+
+    ghost Value = { Play };
+
+    ghost view = { λ b. record { graph = b.game.now; journal = b.entries.items } };
+
+    ghost invariant = { λ b. IsBoard b.game.now b.entries.items b.regions b.number };
+}
+
+impl<'g> Board<'g> {
+    /// A board on which nothing is settled.
+    pub fn open(alloc: Global, game: &'g Game) -> Result<Board<'g>, AllocError>
+        ensures graph { IfOk result (λ b. b.graph ≡ game.now) }
+        ensures journal { IfOk result (λ b. b.journal ≡ []) }
+    {
+        let _n = game.len();
+        Ok(Board {
+            game,
+            entries: Vec::new(alloc),
+            regions: Regions::open(alloc, game)?,
+            number: 0,
+        })
+    }
+
+    /// What is unsettled, the number of entries and the number settled. Looks at no edge.
+    pub fn copy(&self, alloc: Global) -> Result<Copied<'g>, AllocError>
+        ensures graph { IfOk result (λ c. c.inside.graph ≡ self.now.graph) }
+        ensures mask { IfOk result (λ c. (v : ℕ) → members c.inside.mask v ≡ unsettled self.now.graph (state_of self.now.journal) v) }
+        ensures at { IfOk result (λ c. c.at ≡ length self.now.journal) }
+        ensures settled { IfOk result (λ c. c.settled ≡ number_settled self.now.journal) }
+        ensures dominions { IfOk result (λ c. (p : Player) (rows : Rows) → IsGoodIn self.now.graph (members c.inside.mask) p rows → IsDominionAfter self.now.graph self.now.journal c.at p rows) }
+    {
+        let _n = self.game.len();
+        let mask = self.regions.unsettled.copy(alloc)?;
+        Ok(Copied {
+            inside: Inside::of_subgame(self.game, mask),
+            at: self.entries.len() as u64,
+            settled: self.settled(),
+        })
+    }
+
+    /// Checks the claim on the present state. Accepted, the journal gains one entry: the claim's rest, and
+    /// then all that it attracts for the claim's player from the unsettled part.
+    /// Refused for the first reason that applies, in the order of `Refusal`; then nothing has changed.
+    pub fn post(&mut self, alloc: Global, worker: u32, claim: &Claim) -> Result<Posted, Refusal>
+        ensures lawful { IsLawful self.new.graph self.new.journal }
+        ensures game { self.new.graph ≡ self.old.graph }
+        ensures posted { IfOk result (λ posted. IsGoodOn self.old.graph (state_of self.old.journal) claim.now.player claim.now.rows × Adds self.old self.new worker claim.now posted) }
+        ensures refused { IfErr result (λ e. Refuses self.old.graph (state_of self.old.journal) claim.now.player claim.now.rows e) }
+        ensures unchanged { OnErr result (self.new ≡ self.old) }
+        ensures old_copies { (k : ℕ) → IsDominionAfter self.old.graph self.old.journal k claim.now.player claim.now.rows → AnswersDominion (state_of self.old.journal) claim.now.rows result × SettlesUnlessMemory self.old self.new claim.now.player claim.now.rows result }
+    {
+        let _n = self.game.len();
+        let _checked = check_claim(alloc, self.game, claim)?;
+        self.settle_sound(alloc, worker, claim)
+    }
+
+    /// As `post`, for a claim that is known to be sound.
+    fn settle_sound(&mut self, alloc: Global, worker: u32, claim: &Claim) -> Result<Posted, Refusal>
+        requires { IsSound self.old.graph claim.now.player claim.now.rows }
+        ensures game { self.new.graph ≡ self.old.graph }
+        ensures posted { IfOk result (λ posted. IsGoodOn self.old.graph (state_of self.old.journal) claim.now.player claim.now.rows × Adds self.old self.new worker claim.now posted) }
+        ensures refused { IfErr result (λ e. Refuses self.old.graph (state_of self.old.journal) claim.now.player claim.now.rows e) }
+        ensures unchanged { OnErr result (self.new ≡ self.old) }
+    {
+        if let Some(v) = self.regions.first_lost(claim) {
+            return Err(Refusal::Lost(v));
+        }
+        let rest = self.regions.rest_of(alloc, self.game, claim)?;
+        if rest.rows.is_empty() {
+            return Err(Refusal::Stale);
+        }
+        let bounds = Bounds {
+            game: self.game,
+            regions: &self.regions,
+            player: claim.player,
+            rest: &rest.mask,
+        };
+        if let Some((v, w)) = bounds.first_edge(rest.rows.as_slice()) {
+            return Err(Refusal::Open(v, w));
+        }
+        Ok(self.enter(alloc, worker, claim.player, rest)?)
+    }
+
+    /// Settles the rest and what it attracts, in one entry.
+    fn enter(
+        &mut self,
+        alloc: Global,
+        worker: u32,
+        player: Player,
+        rest: Rest,
+    ) -> Result<Posted, AllocError>
+        requires good { IsGoodOn self.old.graph (state_of self.old.journal) player rest.rows.items }
+        requires unsettled { rest_of (state_of self.old.journal) rest.rows.items ≡ rest.rows.items }
+        requires mask { IsRestOf self.old.graph rest }
+        ensures game { self.new.graph ≡ self.old.graph }
+        ensures added { IfOk result (Adds self.old self.new worker (record { player = player; rows = rest.rows.items })) }
+        ensures unchanged { OnErr result (self.new ≡ self.old) }
+    {
+        let mut rows = Vec::with_capacity(alloc, self.game.len() as usize)?;
+        self.entries.reserve(1)?;
+        let entry = self.entries.len() as u64;
+        self.regions
+            .take_all(self.game, player, rest.rows.as_slice(), &mut rows);
+        self.regions.attract(self.game, player, &mut rows);
+        rows.shrink_to_fit();
+        let claimed = rest.rows.len() as u32;
+        let settled = rows.len() as u32;
+        self.number += settled;
+        self.entries.push_reserved(Entry {
+            worker,
+            player,
+            claimed,
+            rows: Sequence::new(rows),
+        });
+        Ok(Posted {
+            entry,
+            claimed,
+            settled,
+        })
+    }
+
+    /// The game. Tells that the journal is lawful.
+    pub fn game(&self) -> &'g Game
+        ensures graph { result.now ≡ self.now.graph }
+        ensures game { IsGame self.now.graph }
+        ensures lawful { IsLawful self.now.graph self.now.journal }
+    {
+        let _ = &self.entries;
+        let _n = self.game.len();
+        self.game
+    }
+
+    /// The player for whom the vertex is settled; none where it is unsettled or no vertex.
+    pub fn winner(&self, v: u32) -> Option<Player>
+        ensures { result ≡ winner_in (state_of self.now.journal v) }
+    {
+        let (winner, _) = self.regions.at(v)?;
+        Some(winner)
+    }
+
+    /// The choice with which the vertex was settled; none where there is none.
+    pub fn choice(&self, v: u32) -> Option<u32>
+        ensures { result ≡ choices (state_of self.now.journal) v }
+    {
+        let (_, choice) = self.regions.at(v)?;
+        choice
+    }
+
+    /// How many vertices are settled.
+    pub fn settled(&self) -> u64
+        ensures { result ≡ number_settled self.now.journal }
+    {
+        u64::from(self.number)
+    }
+
+    /// How many vertices the entries of one worker settled.
+    pub fn settled_by(&self, worker: u32) -> u64
+        ensures { result ≡ settled_by self.now.journal worker }
+    {
+        let _n = self.game.len();
+        let mut total = 0;
+        'entries: for entry in &self.entries {
+            if entry.worker == worker {
+                total += entry.rows.as_slice().len() as u64;
+            }
+        }
+        total
+    }
+
+    /// The journal, the oldest entry first.
+    pub fn entries(&self) -> &[Entry]
+        ensures { result.now ≡ self.now.journal }
+    {
+        self.entries.as_slice()
+    }
+
+    /// Whether no vertex is unsettled.
+    pub fn is_full(&self) -> bool
+        ensures { IsTrue result ↔ IsFull self.now.graph (state_of self.now.journal) }
+    {
+        self.number == self.game.len()
+    }
+
+    /// Winners and choices of all vertices, exactly where the board is full; choices stand exactly where the
+    /// winner owns the vertex.
+    pub fn solution(&self, alloc: Global) -> Result<Option<Solution>, AllocError>
+        ensures full { IfOk result (λ found. IsSome found ↔ IsFull self.now.graph (state_of self.now.journal)) }
+        ensures solution { IfOk result (λ found. IfSome found (λ s. IsExactSolution self.now.graph s.rows)) }
+        ensures state { IfOk result (λ found. IfSome found (λ s. AreStateRows self.now.graph (state_of self.now.journal) s.rows)) }
+    {
+        if !self.is_full() {
+            return Ok(None);
+        }
+        let rows = self.regions.rows(alloc)?;
+        Ok(Some(Solution {
+            rows: Sequence::new(rows),
+        }))
+    }
+
+    /// The journal, for itself.
+    pub fn into_entries(self) -> Vec<Entry>
+        ensures { result.items ≡ self.entry.journal }
+    {
+        self.entries
+    }
+}

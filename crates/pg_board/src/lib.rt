@@ -1,0 +1,19 @@
+//! The board of one owner: it checks each claim against what is settled, closes both regions under
+//! attraction, and keeps a journal of which every prefix is lawful.
+//! Stands on pg_finders (copies), pg_dominion (claims, attractors) and pg_game.
+#![tactic(auto)]
+
+mod board;
+mod entry;
+mod growth;
+pub mod laws;
+mod office;
+mod open_edges;
+mod refusal;
+mod regions;
+mod rest;
+
+pub use board::Board;
+pub use entry::{Entry, Posted};
+pub use office::{Office, Share};
+pub use refusal::Refusal;

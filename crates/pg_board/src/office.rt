@@ -1,0 +1,176 @@
+//! One board and the book of its ledger under a lock, and the shares of those who post to it.
+//!
+//! Each share is a part of the ledger and knows how much was settled by posts through it. The ledger keeps that all
+//! amounts together are the book, and the type under the lock keeps that the book is the number settled. So the
+//! amount of a share is never above the number settled, whatever was posted meanwhile by others.
+ghost use Rattle.std.specs.Prelude.{◌≡◌, ◌+◌, ◌-◌, ◌≤◌, ◌<◌, ℕ, ◌∷◌, [], Ok, IfOk, OnErr, sum, replicate, vec_len};
+ghost use Rattle.pg_game.specs.Graph.{IsGame};
+ghost use Rattle.pg_board.specs.Journal.{IsLawful, number_settled};
+ghost use Rattle.pg_board.specs.Shares.{AreExact};
+ghost use Rattle.pg_board.specs.Office.{IsCopyOfSome, IsAnswer, IsAnswerOfSome};
+
+use crate::board::Board;
+use crate::refusal::Refusal;
+use pg_dominion::Claim;
+use pg_finders::Copied;
+use pg_game::Game;
+use std::alloc::{AllocError, Global};
+use std::marker::Model;
+use std::sync::ledger::{Blank, Book, Ledger, Share as Token};
+use std::sync::{Mutex, Wait};
+
+/// What lies under the lock: the board and the book, which is the number settled.
+#[derive(Drop)]
+pub(crate) struct Desk<'g, L: Ledger> {
+    board: Board<'g>,
+    book: Book<L>,
+    ghost exact: { book.total ≡ number_settled board.journal },
+}
+
+/// A share of an office: the amount of vertices that was settled through it. Contracts see it as that number.
+#[derive(Drop)]
+pub struct Share<L: Ledger> {
+    token: Token<L>,
+    amount: u64,
+}
+
+impl<L: Ledger> Model for Share<L> {
+    ghost Value = { ℕ };
+
+    ghost view = { λ s. s.amount };
+
+    ghost invariant = { λ s. (s.token.parts ≡ 1) × (s.token.amount ≡ s.amount) };
+}
+
+impl<L: Ledger> Share<L> {
+    /// How many vertices were settled through this share.
+    pub fn amount(&self) -> u64
+        ensures { result ≡ self.now }
+    {
+        self.amount
+    }
+}
+
+impl<'g, L: Ledger> Desk<'g, L> {
+    /// The board's own call. What it settles is added to the share.
+    fn post(
+        &mut self,
+        alloc: Global,
+        share: &mut Share<L>,
+        worker: u32,
+        claim: &Claim,
+    ) -> Result<u32, Refusal>
+        ensures game { IsGame self.old.board.graph }
+        ensures lawful { IsLawful self.old.board.graph self.old.board.journal }
+        ensures behind { share.old ≤ number_settled self.old.board.journal }
+        ensures answer { IsAnswer self.old.board.graph self.old.board.journal claim.now.player claim.now.rows result }
+        ensures added { IfOk result (λ n. (1 ≤ n) × (share.new ≡ share.old + n)) }
+        ensures unchanged { OnErr result (share.new ≡ share.old) }
+    {
+        let Desk { board, book } = self;
+        let Share { token, amount } = share;
+        book.audit(token);
+        let _game = board.game();
+        let posted = board.post(alloc, worker, claim)?;
+        let more = u64::from(posted.settled);
+        book.add(token, more);
+        let total = board.settled();
+        *amount += more;
+        Ok(posted.settled)
+    }
+}
+
+/// One board under a lock.
+#[derive(Drop)]
+pub struct Office<'g, L: Ledger> {
+    desk: Mutex<Desk<'g, L>>,
+}
+
+impl<'g, L: Ledger> Office<'g, L> {
+    /// An office with a board on which nothing is settled, and one share of amount 0 for each seat.
+    pub fn open(
+        alloc: Global,
+        blank: Blank,
+        game: &'g Game,
+        seats: u32,
+    ) -> Result<(Office<'g, L>, Vec<Share<L>>), AllocError>
+        requires name { blank.name ≡ L.name }
+        requires parts { (blank.parts ≡ L.parts) × (blank.parts ≡ seats) }
+        requires seats { (1 ≤ seats) × (seats ≤ 64) }
+        ensures shares { IfOk result (λ o. o.1.items ≡ replicate seats 0) }
+        ensures exact { IfOk result (λ o. AreExact o.1.items 0 []) }
+    {
+        let board = Board::open(alloc, game)?;
+        let mut shares = Vec::with_capacity(alloc, seats as usize)?;
+        let (mut book, mut rest) = blank.open::<L>();
+        for _i in 0..seats {
+            let token = rest.split_off(1, 0);
+            shares.push_reserved(Share { token, amount: 0 });
+        }
+        let office = Office {
+            desk: Mutex::new(Desk { board, book }),
+        };
+        Ok((office, shares))
+    }
+
+    /// The board, once all shares of the office are back. The number settled is the sum of their amounts.
+    pub fn close(self, mut shares: Vec<Share<L>>) -> Board<'g>
+        requires all { (vec_len shares ≡ L.parts) × (0 < L.parts) }
+        ensures exact { number_settled result.journal ≡ sum shares.items }
+        ensures lawful { IsLawful result.graph result.journal }
+    {
+        let Office { desk } = self;
+        let Desk { board, mut book } = desk.into_inner();
+        let Some(last) = shares.pop() else {
+            unreachable!()
+        };
+        let Share {
+            token: mut all,
+            amount: _,
+        } = last;
+        while let Some(share) = shares.pop() {
+            let Share { token, amount: _ } = share;
+            all.merge(token);
+        }
+        book.audit(&mut all);
+        let _game = board.game();
+        board
+    }
+
+    /// The board's post under the lock. It answers how many vertices were settled, and the share's amount rises by as
+    /// many; after a refusal the share is unchanged. The answer is one that the board's own call gives on some lawful
+    /// board with at least the share's amount settled.
+    pub fn post<R: Wait>(
+        &self,
+        rt: &R,
+        alloc: Global,
+        share: &mut Share<L>,
+        worker: u32,
+        claim: &Claim,
+    ) -> Result<u32, Refusal>
+        ensures answer { IsAnswerOfSome share.old claim.now.player claim.now.rows result }
+        ensures added { IfOk result (λ n. (1 ≤ n) × (share.new ≡ share.old + n)) }
+        ensures unchanged { OnErr result (share.new ≡ share.old) }
+    {
+        self.desk.lock(rt).post(alloc, share, worker, claim)
+    }
+
+    /// A copy of some lawful board with at least the share's amount settled.
+    pub fn copy<R: Wait>(
+        &self,
+        rt: &R,
+        alloc: Global,
+        share: &Share<L>,
+    ) -> Result<Copied<'g>, AllocError>
+        ensures { IfOk result (λ c. IsCopyOfSome c.inside c.at c.settled share.now) }
+    {
+        for _ in rt.forever() {
+            let desk = self.desk.lock(rt);
+            let _game = desk.board.game();
+            if desk.board.settled() >= share.amount {
+                return desk.board.copy(alloc);
+            }
+        }
+        unreachable!()
+    }
+}

@@ -1,0 +1,44 @@
+//! Why a board refuses a claim.
+
+use pg_dominion::ClaimFault;
+use std::alloc::AllocError;
+
+/// Why a claim is refused, in the order in which the reasons are looked for.
+#[derive(Clone, Copy, Debug, Drop, PartialEq, Eq)]
+pub enum Refusal {
+    /// The claim has not its shape, or a bad closed walk inside; never `ClaimFault::Memory`.
+    Claim(ClaimFault),
+    /// The least vertex of the claim that is settled for the opponent.
+    Lost(u32),
+    /// All vertices of the claim are settled for the player.
+    Stale,
+    /// The first kept edge of the rest that ends neither in the rest nor at the player's vertices.
+    Open(u32, u32),
+    /// Want of memory.
+    Memory,
+}
+
+impl From<AllocError> for Refusal {
+    ghost use Rattle.std.specs.Prelude.{◌≡◌};
+    ghost use Rattle.pg_board.specs.declared.refusal.Refusal.{Refusal};
+
+    ghost from_gives = { λ _ r. r ≡ Refusal.Memory };
+
+    fn from(_error: AllocError) -> Refusal {
+        Refusal::Memory
+    }
+}
+
+impl From<ClaimFault> for Refusal {
+    ghost use Rattle.std.specs.Prelude.{◌≡◌};
+    ghost use Rattle.pg_board.specs.Refusal.{refusal_of};
+
+    ghost from_gives = { λ fault r. r ≡ refusal_of fault };
+
+    fn from(fault: ClaimFault) -> Refusal {
+        match fault {
+            ClaimFault::Memory => Refusal::Memory,
+            _ => Refusal::Claim(fault),
+        }
+    }
+}

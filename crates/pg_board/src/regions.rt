@@ -1,0 +1,84 @@
+//! What a board has at hand beside its journal: of each vertex whose it is and by which choice, and which
+//! vertices are unsettled. Both are changed vertex by vertex, and never made anew.
+
+ghost use Rattle.std.specs.Prelude.{◌≡◌, ◌<◌, ℕ, length, IfOk, OnOk, slice_set, slice_get, Some, None, false, map, nat_eq};
+ghost use Rattle.std.specs.List.{IsDistinct};
+ghost use Rattle.pg_game.specs.VertexSet.{Within};
+ghost use Rattle.pg_dominion.specs.Claim.{named};
+ghost use Rattle.pg_board.specs.State.{settled, is_unsettled, unsettled};
+ghost use Rattle.pg_board.specs.Regions.{told, state_with, AreRegions};
+
+use pg_game::{Game, Mask, Player};
+use std::alloc::{AllocError, Global};
+
+/// Both players' regions, and the vertices that are in neither.
+#[derive(Drop)]
+pub struct Regions {
+    pub table: Vec<Option<(Player, Option<u32>)>>,
+    pub unsettled: Mask,
+    /// Of each vertex how many of its successors are known to be settled, from the first on.
+    pub passed: Vec<u32>,
+}
+
+impl Regions {
+    /// Nothing is settled.
+    pub fn open(alloc: Global, game: &Game) -> Result<Regions, AllocError>
+        ensures regions { IfOk result (λ r. AreRegions game.now r) }
+        ensures nothing { IfOk result (λ r. (v : ℕ) → told r.table.items v ≡ None) }
+    {
+        let n = game.len();
+        Ok(Regions {
+            table: vec![in alloc; None; n as usize]?,
+            unsettled: Mask::full(alloc, n)?,
+            passed: vec![in alloc; 0u32; n as usize]?,
+        })
+    }
+
+    /// Whose the vertex is, and by which choice; none where it is unsettled or no vertex.
+    pub fn at(&self, v: u32) -> Option<(Player, Option<u32>)>
+        ensures { result ≡ told self.now.table.items v }
+    {
+        let at = v as usize;
+        if at < self.table.len() {
+            self.table[at]
+        } else {
+            None
+        }
+    }
+
+    pub fn is_settled_for(&self, player: Player, v: u32) -> bool
+        ensures { result ≡ settled (told self.now.table.items) player v }
+    {
+        match self.at(v) {
+            Some((winner, _)) => winner == player,
+            None => false,
+        }
+    }
+
+    /// Settles one vertex.
+    pub fn settle(&mut self, player: Player, row: (u32, Option<u32>))
+        requires table { row.0 < length self.old.table.items }
+        requires mask { row.0 < length self.old.unsettled }
+        ensures table { self.new.table.items ≡ slice_set self.old.table.items row.0 (Some (player, row.1)) }
+        ensures mask { self.new.unsettled ≡ slice_set self.old.unsettled row.0 false }
+        ensures passed { self.new.passed.items ≡ self.old.passed.items }
+    {
+        self.table[row.0 as usize] = Some((player, row.1));
+        self.unsettled.remove(row.0);
+    }
+
+    /// The state of all vertices, one after another.
+    pub fn rows(&self, alloc: Global) -> Result<Vec<(Player, Option<u32>)>, AllocError>
+        requires { (v : ℕ) → v < length self.now.table.items → is_unsettled (told self.now.table.items v) ≡ false }
+        ensures size { IfOk result (λ rows. length rows.items ≡ length self.now.table.items) }
+        ensures each { IfOk result (λ rows. (v : ℕ) → v < length self.now.table.items → slice_get rows.items v ≡ told self.now.table.items v) }
+    {
+        let mut rows = Vec::with_capacity(alloc, self.table.len())?;
+        'table: for settled in self.table.as_slice() {
+            if let Some(row) = *settled {
+                rows.push(row)?;
+            }
+        }
+        Ok(rows)
+    }
+}

@@ -1,0 +1,10 @@
+pub mod Booleans
+pub mod Agreed
+pub mod Rows
+pub mod Attracting
+pub mod Searching
+pub mod Shape
+pub mod Laid
+pub mod Plan
+pub mod Ranked
+pub mod Named

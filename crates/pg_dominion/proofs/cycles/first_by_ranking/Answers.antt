@@ -1,0 +1,12 @@
+use Rattle.pg_dominion.specs.KeptEdges.{IsWorst}
+use Rattle.pg_dominion.proofs.Searching.{OnTop-from_reaches, not_below}
+use Rattle.pg_dominion.proofs.cycles.first_by_ranking.Goals as goal
+
+pub returns-then-branch : goal.returns-then-branch
+returns-then-branch c =
+    let k = c.args.kept.now in
+    let limit = c.in_ok-ranking.ranking.limit in
+    record {
+      has = (cc (c.has.ensures, c.if-not-has.false), OnTop-from_reaches k limit (c.in_ok-walks_back.ensures.back c.if-branch.true));
+      least = λ u w. not_below (IsWorst k) limit u (c.in_ok-is_ranked.ensures c.if-not-branch.false) w;
+    }

@@ -1,0 +1,26 @@
+use Rattle.std.proofs.Common.{arith, below_more, rules}
+use Rattle.pg_game.proofs.Masks.{member_below}
+use Rattle.pg_dominion.specs.KeptEdges.{IsWorst}
+use Rattle.pg_dominion.proofs.Searching.{OnTop-from_reaches, Reaches-from_top, not_below}
+use Rattle.pg_dominion.proofs.cycles.first_within.Goals as goal
+
+pub returns-then-branch : goal.returns-then-branch
+returns-then-branch c =
+    let k = c.args.kept.now in
+    record {
+      has = (cc (c.has.ensures, c.if-not-has.false), OnTop-from_reaches k c.starts.v (c.in_ok-walks_back.ensures.back (search rules)));
+      least = λ u w. not_below (IsWorst k) c.starts.v u c.starts.invariant.none w;
+    }
+
+pub starts-preserved : goal.starts-preserved
+starts-preserved c =
+    let k = c.args.kept.now in
+    let h = c.in_ok-walks_back.ensures in
+    record {
+      size = h.size;
+      fresh = h.used;
+      none = below_more _ _ c.starts.invariant.none (λ w. h.none (search rules) (Reaches-from_top k c.starts.v w.1));
+    }
+
+pub returns : goal.returns
+returns c = λ v w. c.starts.invariant.none v (omega (arith, member_below c.args.kept.now.bad v w.0, c.requires.bad)) w

@@ -1,0 +1,190 @@
+//! Claims of a player, and the check of one: dominions without their closure (Jurdziński, Paterson and Zwick 2008).
+//!
+//! The shape is checked row by row. Then the rows are laid out by vertex as kept edges, and `cycles` looks for a closed
+//! walk whose greatest priority is the opponent's.
+
+ghost use Rattle.std.specs.Prelude.{◌≡◌, ℕ, ◌↔◌, ◌<◌, IfOk, IfErr, OnOk, length, true, false};
+ghost use Rattle.pg_game.specs.Region.{OnBadWalk};
+ghost use Rattle.pg_dominion.specs.Claim.{IsSound, IsRightRow, HasShape, IsFirstWrongRow, named, choice_in};
+ghost use Rattle.pg_dominion.specs.Fault.{IsClaimFault};
+ghost use Rattle.pg_dominion.specs.Shape.{is_bad, marked, chosen_with, choices_with};
+ghost use Rattle.pg_dominion.specs.KeptEdges.{IsKept, IsWorst};
+
+use crate::cycles::first_worst;
+use crate::kept::Kept;
+use pg_game::{Game, Mask, Player, Sequence};
+use std::alloc::{AllocError, Global};
+use std::marker::Model;
+
+/// Vertices that a player claims to win, rising, with his choice at each that he owns.
+#[derive(Drop)]
+pub struct Claim {
+    pub player: Player,
+    pub rows: Sequence<(u32, Option<u32>)>,
+}
+
+/// Why a claim is not accepted. The first that applies is told, but `Memory` may stand in place of any.
+#[derive(Clone, Copy, Debug, Drop, PartialEq, Eq)]
+pub enum ClaimFault {
+    /// The first wrong row, from 0: its vertex is not in the game or not greater than the one before it, or its choice
+    /// is not a successor exactly where the player owns the vertex. An empty claim is `Shape(0)`.
+    Shape(u32),
+    /// The least vertex with the opponent's parity that is the greatest on a closed walk of kept edges in the claim.
+    Cycle(u32),
+    /// Memory was refused.
+    Memory,
+}
+
+impl From<AllocError> for ClaimFault {
+    ghost use Rattle.std.specs.Prelude.{◌≡◌};
+    ghost use Rattle.pg_dominion.specs.declared.claim.ClaimFault.{ClaimFault};
+
+    ghost from_gives = { λ _ f. f ≡ ClaimFault.Memory };
+
+    fn from(_error: AllocError) -> ClaimFault {
+        ClaimFault::Memory
+    }
+}
+
+/// A vertex of a checked claim, with what its game says of it. The kept successors are the choice alone where the
+/// player owns the vertex, and all of them elsewhere.
+#[derive(Drop)]
+pub struct CheckedRow {
+    pub vertex: u32,
+    pub owner: Player,
+    pub priority: u32,
+    pub kept: Sequence<u32>,
+}
+
+/// A claim that `check_claim` accepted, which alone makes such a value.
+#[derive(Drop)]
+pub struct Checked {
+    claim: Claim,
+}
+
+impl Model for Checked {
+    ghost use Rattle.pg_dominion.specs.declared.claim.Claim.{Claim};
+
+    ghost Value = { Claim };
+
+    ghost view = { λ c. c.claim };
+}
+
+/// Whether the row names a vertex, with a choice that is a successor exactly where the player owns it.
+fn is_right_row(game: &Game, player: Player, row: (u32, Option<u32>)) -> bool
+    ensures right { result ≡ true → IsRightRow game.now player row }
+    ensures wrong { result ≡ false → IsRightRow game.now player row → ⊥ }
+{
+    let (v, choice) = row;
+    if v >= game.len() {
+        return false;
+    }
+    let own = game.owner(v) == player;
+    match choice {
+        Some(w) => own && game.has_edge(v, w),
+        None => !own,
+    }
+}
+
+/// Whether a claim has its shape. The error is the first wrong row.
+pub fn check_shape(game: &Game, claim: &Claim) -> Result<(), u32>
+    ensures right { OnOk result (HasShape game.now claim.now.player claim.now.rows) }
+    ensures wrong { IfErr result (λ i. IsFirstWrongRow game.now claim.now.player claim.now.rows i) }
+{
+    let n = game.len();
+    let rows = claim.rows.as_slice();
+    if rows.is_empty() {
+        return Err(0);
+    }
+    let mut place = 0u32;
+    let mut least = 0u32;
+    'rows: for row in rows {
+        if row.0 < least || !is_right_row(game, claim.player, *row) {
+            return Err(place);
+        }
+        least = row.0 + 1;
+        place += 1;
+    }
+    Ok(())
+}
+
+/// Whether the vertex's priority has the parity of the player's opponent.
+pub fn is_bad(game: &Game, player: Player, v: u32) -> bool
+    requires { v < length game.now }
+    ensures { result ≡ is_bad game.now player v }
+{
+    Player::of_parity(game.priority(v)) == player.other()
+}
+
+/// Adds a vertex to a mask where a test holds.
+pub fn mark_if(test: bool, mask: &mut Mask, v: u32)
+    requires { v < length mask.old }
+    ensures { mask.new ≡ marked test mask.old v }
+{
+    if test {
+        mask.insert(v);
+    }
+}
+
+/// Notes the choice of a vertex, where there is one.
+pub fn note_choice(chosen: &mut Mask, choices: &mut Vec<u32>, v: u32, choice: Option<u32>)
+    requires chosen { v < length chosen.old }
+    requires choices { v < length choices.old.items }
+    ensures chosen { chosen.new ≡ chosen_with chosen.old v choice }
+    ensures choices { choices.new.items ≡ choices_with choices.old.items v choice }
+{
+    if let Some(w) = choice {
+        chosen.insert(v);
+        choices[v as usize] = w;
+    }
+}
+
+/// The kept edges of a claim, and its bad vertices.
+pub fn kept_of<'g>(alloc: Global, game: &'g Game, claim: &Claim) -> Result<Kept<'g>, AllocError>
+    requires { HasShape game.now claim.now.player claim.now.rows }
+    ensures kept { IfOk result (λ k. IsKept k) }
+    ensures worst { IfOk result (λ k. (v : ℕ) → IsWorst k v ↔ OnBadWalk game.now claim.now.player (named claim.now.rows) (choice_in claim.now.rows) v) }
+{
+    let n = game.len();
+    let mut inside = Mask::empty(alloc, n)?;
+    let mut chosen = Mask::empty(alloc, n)?;
+    let mut choices = vec![in alloc; 0u32; n as usize]?;
+    let mut bad = Mask::empty(alloc, n)?;
+    'rows: for row in claim.rows.as_slice() {
+        let (v, choice) = *row;
+        inside.insert(v);
+        mark_if(is_bad(game, claim.player, v), &mut bad, v);
+        note_choice(&mut chosen, &mut choices, v, choice);
+    }
+    Ok(Kept {
+        game,
+        inside,
+        chosen,
+        choices,
+        bad,
+    })
+}
+
+/// Whether a claim is sound in a game: it has its shape, and the edges that it keeps inside make only closed walks
+/// whose greatest priority has the player's parity. Edges that leave the claim don't count.
+///
+/// The refusals are those of [`ClaimFault`].
+pub fn check_claim(alloc: Global, game: &Game, claim: &Claim) -> Result<Checked, ClaimFault>
+    ensures sound { IfOk result (λ c. (c ≡ claim.now) × IsSound game.now claim.now.player claim.now.rows) }
+    ensures fault { IfErr result (λ e. IsClaimFault game.now claim.now.player claim.now.rows e) }
+{
+    if let Err(i) = check_shape(game, claim) {
+        return Err(ClaimFault::Shape(i));
+    }
+    let kept = kept_of(alloc, game, claim)?;
+    if let Some(v) = first_worst(alloc, &kept)? {
+        return Err(ClaimFault::Cycle(v));
+    }
+    let rows = Vec::from_slice(alloc, claim.rows.as_slice())?;
+    Ok(Checked {
+        claim: Claim {
+            player: claim.player,
+            rows: Sequence::new(rows),
+        },
+    })
+}

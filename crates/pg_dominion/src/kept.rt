@@ -1,0 +1,37 @@
+//! The edges that are kept of a game, read in place: no edge is copied.
+
+ghost use Rattle.std.specs.Prelude.{◌≡◌, ℕ, ◌<◌, ◌^◌, length, slice_index};
+ghost use Rattle.pg_dominion.specs.KeptEdges.{IsKept, row_of};
+
+use pg_game::{Game, Mask};
+
+/// The edges that are kept of a game: from a vertex with a choice the edge to it, from another vertex
+/// inside all edges, and none from a vertex outside. A vertex is bad where its priority has the wrong parity.
+#[derive(Drop)]
+pub struct Kept<'g> {
+    pub game: &'g Game,
+    pub inside: Mask,
+    pub chosen: Mask,
+    pub choices: Vec<u32>,
+    pub bad: Mask,
+}
+
+impl<'g> Kept<'g> {
+    /// Where the kept edges of a vertex end.
+    pub fn row(&self, v: u32) -> &[u32]
+        requires kept { IsKept self.now }
+        requires vertex { v < length self.now.game.now }
+        ensures all { result.now ≡ row_of self.now v }
+        ensures below { (i : ℕ) → i < length result.now → slice_index result.now i < length self.now.game.now }
+        ensures short { length result.now < 2 ^ 32 }
+    {
+        let at = v as usize;
+        if self.chosen.has(v) {
+            return &self.choices[at..at + 1];
+        }
+        if self.inside.has(v) {
+            return self.game.successors(v);
+        }
+        &self.choices[at..at]
+    }
+}

@@ -1,0 +1,21 @@
+//! Attractors, claims, and the checks of claims and solutions of a parity game.
+//!
+//! `attract` gives the least set; `check_claim` and `check_solution` answer exactly, in near-linear time.
+#![tactic(auto)]
+
+mod attractor;
+mod claim;
+mod clustering;
+mod components;
+mod cycles;
+mod kept;
+mod pieces;
+mod ranking;
+mod solution;
+mod tables;
+
+pub use attractor::attract;
+pub use claim::{Checked, CheckedRow, Claim, ClaimFault, check_claim};
+pub use cycles::first_worst;
+pub use kept::Kept;
+pub use solution::{SolutionFault, check_solution};

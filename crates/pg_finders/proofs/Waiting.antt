@@ -1,0 +1,63 @@
+-- Levels that wait: one is added, one is taken away, and the last part goes on.
+use Rattle.std.proofs.Common.{◌≡◌, ℕ, zero, suc, ◌+◌, ◌<◌, ◌≤◌, false, true, ◌⊎◌, inl, inr, List, [], ◌∷◌, ◌++◌, arith}
+use Rattle.pg_game.specs.Graph.{Graph}
+use Rattle.pg_game.specs.VertexSet.{VertexSet, Within}
+use Rattle.pg_game.specs.Kept.{Choices}
+use Rattle.pg_finders.specs.Solved.{Winners, IsSolvedTo, IsBegun}
+use Rattle.pg_finders.specs.Waiting.{Level, Waits, steps, steps_after}
+use Rattle.pg_finders.proofs.Sets.{test, no_both}
+use Rattle.pg_finders.proofs.Solving.{IsSolvedTo-same, solved_append, begun_same}
+
+-- what two plans agree on
+abbrev pub Agree : VertexSet → Winners → Winners → Choices → Choices → Type 0
+Agree R won won' s s' = (v : ℕ) → R v ≡ false → (won' v ≡ won v) × (s' v ≡ s v)
+
+pub out_of : (U R : VertexSet) → Within R U → (v : ℕ) → U v ≡ false → R v ≡ false
+out_of U R w v u = go (test (R v))
+  where
+    go : (R v ≡ true) ⊎ (R v ≡ false) → R v ≡ false
+    go (inl y) = absurd (no_both (U v) (w v y) u)
+    go (inr n) = n
+
+waits_within : (g : Graph) (U : VertexSet) (fs : List Level) (R : VertexSet) (won : Winners) (s : Choices) → Waits g U fs R won s → Within R U
+waits_within g U [] R won s h = h.rest
+waits_within g U (f ∷ fs) R won s h = λ v i. h.0.rest v (h.1.within v (waits_within g f.left fs R won s h.2 v i))
+
+-- the part R goes on, and nothing else changes
+pub waits_on : (g : Graph) (U : VertexSet) (fs : List Level) (R Q : VertexSet) (won won' : Winners) (s s' : Choices) → Waits g U fs R won s → Agree R won won' s s' → IsSolvedTo g R Q won' s' → Waits g U fs Q won' s'
+waits_on g U [] R Q won won' s s' h same more = solved_append g U R Q won' s' (IsSolvedTo-same g U R won won' s s' same h) more
+waits_on g U (f ∷ fs) R Q won won' s s' h same more =
+    let below = waits_within g f.left fs R won s h.2 in
+    let here : Agree f.left won won' s s' = λ v n. same v (out_of f.left R below v n) in (
+      IsSolvedTo-same g U f.inside won won' s s' (λ v n. here v (out_of f.inside f.left h.1.within v n)) h.0,
+      begun_same g f.inside f.left f.player won s h.1 won' s' here,
+      waits_on g f.left fs R Q won won' s s' h.2 same more,
+    )
+
+-- the part is begun
+pub waits_push : (g : Graph) (U : VertexSet) (fs : List Level) (f : Level) (R : VertexSet) (won : Winners) (s : Choices) → Waits g U fs f.inside won s → IsBegun g f.inside f.left f.player won s → IsSolvedTo g f.left R won s → Waits g U (fs ++ f ∷ []) R won s
+waits_push g U [] f R won s h b more = (h, b, more)
+waits_push g U (x ∷ fs) f R won s h b more = (h.0, h.1, waits_push g x.left fs f R won s h.2 b more)
+
+-- the last level is taken away
+pub waits_pop : (g : Graph) (U : VertexSet) (fs : List Level) (f : Level) (R : VertexSet) (won : Winners) (s : Choices) → Waits g U (fs ++ f ∷ []) R won s → Waits g U fs f.inside won s × IsBegun g f.inside f.left f.player won s × IsSolvedTo g f.left R won s
+waits_pop g U [] f R won s h = h
+waits_pop g U (x ∷ fs) f R won s h = let k = waits_pop g x.left fs f R won s h.2 in ((h.0, h.1, k.0), k.1, k.2)
+
+pub steps_grow : (m n : ℕ) → m ≤ n → steps m ≤ steps n
+steps_grow zero zero l = omega arith
+steps_grow zero (suc n) l = let h = steps_grow zero n (omega arith) in omega (arith, h)
+steps_grow (suc m) zero l = absurd (omega (arith, l))
+steps_grow (suc m) (suc n) l = let h = steps_grow m n (omega (arith, l)) in omega (arith, h)
+
+pub steps_begin : (n m : ℕ) → m < n → steps m + steps_after n < steps n
+steps_begin zero m l = absurd (omega (arith, l))
+steps_begin (suc n) m l = let h = steps_grow m n (omega (arith, l)) in omega (arith, h)
+
+pub steps_finish : (n m : ℕ) → m < n → steps m < steps_after n
+steps_finish zero m l = absurd (omega (arith, l))
+steps_finish (suc n) m l = let h = steps_grow m n (omega (arith, l)) in omega (arith, h)
+
+pub steps_some : (n : ℕ) → 0 < steps n
+steps_some zero = omega arith
+steps_some (suc n) = omega arith

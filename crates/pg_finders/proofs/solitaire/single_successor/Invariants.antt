@@ -1,0 +1,6 @@
+use Rattle.pg_game.specs.VertexSet.{members}
+use Rattle.pg_finders.specs.Solitaire.{SingleSoFar}
+use Rattle.pg_finders.proofs.solitaire.single_successor.Given as goal
+
+abbrev pub invariant-loop-w : goal.invariant-loop-w
+invariant-loop-w l = SingleSoFar l.game (members l.mask) l.v l.w-index l.single

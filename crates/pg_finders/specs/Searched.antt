@@ -1,0 +1,49 @@
+-- What the steps of a small search answer.
+use Rattle.std.specs.Prelude.{ℕ, ◌≡◌, ◌≤◌, ◌<◌, ◌+◌, false, length, Some}
+use Rattle.pg_game.specs.declared.player.Player.{Player}
+use Rattle.pg_game.specs.Graph.{Graph, HasEdge}
+use Rattle.pg_game.specs.VertexSet.{VertexSet, In, Within}
+use Rattle.pg_dominion.specs.Claim.{Rows, named, choice_in, IsGoodIn}
+use Rattle.pg_finders.specs.declared.search.Step.{Step}
+use Rattle.pg_finders.specs.declared.search.Step.TheVariants.{Found, Nothing, GaveUp}
+use Rattle.pg_finders.specs.Partial.{IsPartial, Agrees}
+
+abbrev pub IfFound : Step → (Rows → Type 0) → Type 0
+IfFound (Found rows) P = P rows
+IfFound Nothing P = Unit {0}
+IfFound GaveUp P = Unit {0}
+
+abbrev pub IfNothing : Step → Type 0 → Type 0
+IfNothing (Found rows) P = Unit {0}
+IfNothing Nothing P = P
+IfNothing GaveUp P = Unit {0}
+
+abbrev pub IfGaveUp : Step → Type 0 → Type 0
+IfGaveUp (Found rows) P = Unit {0}
+IfGaveUp Nothing P = Unit {0}
+IfGaveUp GaveUp P = P
+
+-- one more row is settled, and the vertices are still there
+pub record IsNextPartial (g : Graph) (U : VertexSet) (p : Player) (bound : ℕ) (rows : Rows) (at : ℕ) (next : Rows) : Type 0 where
+  pub partial : IsPartial g U p bound next (at + 1)
+  pub keeps : Within (named rows) (named next)
+
+-- a good claim that agrees with the rows agrees with the next ones
+abbrev pub StillAgrees : Graph → VertexSet → Player → Rows → ℕ → Rows → Type 0
+StillAgrees g U p rows at next = (claim : Rows) → IsGoodIn g U p claim → Agrees g p claim rows at → Agrees g p claim next (at + 1)
+
+-- the same, where it chooses w at v
+abbrev pub StillAgreesAt : Graph → VertexSet → Player → Rows → ℕ → ℕ → ℕ → Rows → Type 0
+StillAgreesAt g U p rows at v w next = (claim : Rows) → IsGoodIn g U p claim → choice_in claim v ≡ Some w → Agrees g p claim rows at → Agrees g p claim next (at + 1)
+
+-- no good claim of at most so many vertices agrees with the rows and chooses w at v
+abbrev pub NoneAgreesAt : Graph → VertexSet → Player → ℕ → Rows → ℕ → ℕ → ℕ → Type 0
+NoneAgreesAt g U p bound rows at v w = (claim : Rows) → IsGoodIn g U p claim → length claim ≤ bound → choice_in claim v ≡ Some w → Agrees g p claim rows at → ⊥
+
+-- the rows are full, and w is not among them
+abbrev pub HasNoRoom : Rows → ℕ → ℕ → Type 0
+HasNoRoom rows bound w = (length rows ≡ bound) × (named rows w ≡ false)
+
+-- a successor of v in the set found no room
+abbrev pub LacksRoom : Graph → VertexSet → Rows → ℕ → ℕ → Type 0
+LacksRoom g U rows bound v = (w : ℕ) × HasEdge g v w × In U w × HasNoRoom rows bound w

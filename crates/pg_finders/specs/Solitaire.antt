@@ -1,0 +1,50 @@
+-- A subgame where one player has no choice: his single successors, and the vertices that lead to a goal.
+use Rattle.std.specs.Prelude.{ℕ, ◌≡◌, ◌≤◌, ◌<◌, ◌&&◌, ◌⊎◌, Bool, false, List, length, slice_index, Option, Some, None}
+use Rattle.pg_game.specs.declared.player.Player.{Player}
+use Rattle.pg_game.specs.Player.{of_parity, same_player}
+use Rattle.pg_game.specs.Graph.{Graph, HasEdge, owner_of, priority_of, successors_of}
+use Rattle.pg_game.specs.VertexSet.{VertexSet, In, members}
+use Rattle.pg_game.specs.Kept.{Choices}
+
+-- the vertex has no two different successors in the set
+abbrev pub HasOneAt : Graph → VertexSet → ℕ → Type 0
+HasOneAt g U v = (w x : ℕ) → HasEdge g v w → In U w → HasEdge g v x → In U x → w ≡ x
+
+-- w is the single successor of the vertex in the set
+pub record IsSingle (g : Graph) (U : VertexSet) (v w : ℕ) : Type 0 where
+  pub edge : HasEdge g v w
+  pub inside : In U w
+  pub only : (x : ℕ) → HasEdge g v x → In U x → x ≡ w
+
+-- among the first so many successors, the single one in the set; none where none of them is in it
+abbrev pub SingleSoFar : Graph → VertexSet → ℕ → ℕ → Option ℕ → Type 0
+SingleSoFar g U v i None = (k : ℕ) → k < i → U (slice_index (successors_of g v) k) ≡ false
+SingleSoFar g U v i (Some x) = HasEdge g v x × In U x × ((k : ℕ) → k < i → In U (slice_index (successors_of g v) k) → slice_index (successors_of g v) k ≡ x)
+
+-- the vertices of the set that the player owns
+abbrev pub owned : Graph → VertexSet → Player → VertexSet
+owned g U p v = U v && same_player (owner_of g v) p
+
+-- the vertices of the set whose priority has the player's parity
+abbrev pub good_for : Graph → VertexSet → Player → VertexSet
+good_for g U p v = U v && same_player (of_parity (priority_of g v)) p
+
+-- the choices that a list has by vertex
+abbrev pub choices_by : List ℕ → Choices
+choices_by next v = Some (slice_index next v)
+
+-- an edge from a vertex of the set of at most this priority
+abbrev pub EdgeBelow : Graph → VertexSet → ℕ → ℕ → ℕ → Type 0
+EdgeBelow g U top v w = HasEdge g v w × In U v × (priority_of g v ≤ top)
+
+-- each vertex that is taken has an edge to the next, which is the goal or is taken and nearer
+pub record AreLeading (g : Graph) (U : VertexSet) (top goal : ℕ) (taken : List Bool) (next : List ℕ) : Type 0 where
+  pub size : length taken ≡ length g
+  pub next_size : length next ≡ length g
+  pub rank : ℕ → ℕ
+  pub edge : (v : ℕ) → In (members taken) v → EdgeBelow g U top v (slice_index next v)
+  pub nearer : (v : ℕ) → In (members taken) v → (slice_index next v ≡ goal) ⊎ (In (members taken) (slice_index next v) × (rank (slice_index next v) < rank v))
+
+-- all that has an edge to the vertex is taken
+abbrev pub IsSeen : Graph → VertexSet → ℕ → VertexSet → ℕ → Type 0
+IsSeen g U top taken w = (v : ℕ) → EdgeBelow g U top v w → In taken v

@@ -1,0 +1,91 @@
+ghost use Rattle.std.specs.Prelude.{◌≡◌, ℕ, ◌<◌, length, IfOk, IfErr, IsTrue, IsFalse};
+ghost use Rattle.pg_game.specs.Graph.{HasEdge};
+ghost use Rattle.pg_game.specs.VertexSet.{In};
+ghost use Rattle.pg_game.specs.VertexSet.{members};
+ghost use Rattle.pg_game.specs.Subgame.{IsSubgame};
+ghost use Rattle.pg_game.specs.Least.{IsLeast};
+ghost use Rattle.pg_finders.specs.Part.{IsPart, IsDeadEnd, IsOut};
+
+use pg_game::{Game, Mask};
+use std::marker::Model;
+
+/// A game and a subgame of it.
+#[derive(Drop)]
+pub struct Inside<'g> {
+    game: &'g Game,
+    mask: Mask,
+}
+
+impl<'g> Model for Inside<'g> {
+    ghost use Rattle.pg_finders.specs.Part.{Part, IsPart};
+
+    ghost Value = { Part };
+
+    ghost view = { λ a. record { graph = a.game.now; mask = a.mask } };
+
+    ghost invariant = { λ a. IsPart (record { graph = a.game.now; mask = a.mask }) };
+}
+
+/// Whether a vertex has a successor in the mask.
+fn has_successor_in(game: &Game, mask: &Mask, v: u32) -> bool
+    requires size { length mask.now ≡ length game.now }
+    requires vertex { v < length game.now }
+    ensures found { IsTrue result → (w : ℕ) × HasEdge game.now v w × In (members mask.now) w }
+    ensures none { IsFalse result → IsOut game.now (members mask.now) v }
+{
+    let _n = game.len();
+    for w in game.successors(v) {
+        if mask.has(*w) {
+            return true;
+        }
+    }
+    false
+}
+
+impl<'g> Inside<'g> {
+    /// The part of the game that the mask has. The refusal hands the mask back, with the least vertex
+    /// that has no successor in it.
+    pub fn new(game: &'g Game, mask: Mask) -> Result<Inside<'g>, (Mask, u32)>
+        requires { length mask ≡ length game.now }
+        ensures part { IfOk result (λ part. (part.graph ≡ game.now) × (part.mask ≡ mask) × IsPart part) }
+        ensures refused { IfErr result (λ e. (e.0 ≡ mask) × IsLeast (IsDeadEnd game.now (members mask)) e.1) }
+    {
+        for v in 0..game.len() {
+            if mask.has(v) && !has_successor_in(game, &mask, v) {
+                return Err((mask, v));
+            }
+        }
+        Ok(Inside { game, mask })
+    }
+
+    /// The part of the game that the mask has, where that is known to be a subgame. Looks at no edge.
+    pub fn of_subgame(game: &'g Game, mask: Mask) -> Inside<'g>
+        requires size { length mask ≡ length game.now }
+        requires subgame { IsSubgame game.now (members mask) }
+        ensures graph { result.graph ≡ game.now }
+        ensures mask { result.mask ≡ mask }
+    {
+        Inside { game, mask }
+    }
+
+    pub fn game(&self) -> &'g Game
+        ensures graph { result.now ≡ self.now.graph }
+        ensures part { IsPart self.now }
+    {
+        self.game
+    }
+
+    pub fn mask(&self) -> &Mask
+        ensures { result.now ≡ self.now.mask }
+    {
+        &self.mask
+    }
+}
+
+/// A copy of what a board leaves unsettled.
+#[derive(Drop)]
+pub struct Copied<'g> {
+    pub inside: Inside<'g>,
+    pub at: u64,
+    pub settled: u64,
+}

@@ -1,0 +1,200 @@
+//! Subgames in which one player has a single successor at each of his vertices.
+//!
+//! The other player then plays alone. Where some closed walk is good for him, the vertices that lead to its greatest
+//! vertex over no greater priority are his. Where there is none, all closed walks are good for the player without a
+//! choice, and all vertices are his.
+ghost use Rattle.std.specs.Prelude.{◌≡◌, ℕ, ◌<◌, ◌↔◌, length, slice_index, IfOk, IfSome, IsNone, IsTrue, MatchOption};
+ghost use Rattle.pg_game.specs.Player.{opponent};
+ghost use Rattle.pg_game.specs.VertexSet.{In, members};
+ghost use Rattle.pg_game.specs.Graph.{owner_of};
+ghost use Rattle.pg_game.specs.Subgame.{IsSubgame};
+ghost use Rattle.pg_dominion.specs.Claim.{IsGoodIn};
+ghost use Rattle.pg_dominion.specs.KeptEdges.{IsKept};
+ghost use Rattle.pg_finders.specs.Part.{IsOut};
+ghost use Rattle.pg_finders.specs.Planned.{HoldsSet};
+ghost use Rattle.pg_finders.specs.Claims.{own_choices, rows_below};
+ghost use Rattle.pg_finders.specs.Finding.{HasOneSuccessor, IsSolitaire};
+ghost use Rattle.pg_finders.specs.Solitaire.{HasOneAt, IsSingle, owned, good_for, choices_by};
+
+use crate::choice::own_choice;
+use crate::inside::Inside;
+use crate::leading::lead_to;
+use crate::parts::is_empty;
+use pg_dominion::{Claim, Kept, first_worst};
+use pg_game::{Game, Mask, Player, Sequence};
+use std::alloc::{AllocError, Global};
+
+/// The single successor of a vertex in the mask. None where there are two, or none.
+fn single_successor(game: &Game, mask: &Mask, v: u32) -> Option<u32>
+    requires size { length mask.now ≡ length game.now }
+    requires vertex { v < length game.now }
+    ensures found { IfSome result (λ w. IsSingle game.now (members mask.now) v w) }
+    ensures none { IsNone result → HasOneAt game.now (members mask.now) v → IsOut game.now (members mask.now) v }
+{
+    let _n = game.len();
+    let mut single = None;
+    for w in game.successors(v) {
+        if mask.has(*w) {
+            match single {
+                Some(x) if x != *w => return None,
+                _ => single = Some(*w),
+            }
+        }
+    }
+    single
+}
+
+/// Whether the player has a single successor in the mask at each of his vertices in it.
+fn has_one_successor(game: &Game, mask: &Mask, player: Player) -> bool
+    requires size { length mask.now ≡ length game.now }
+    requires subgame { IsSubgame game.now (members mask.now) }
+    ensures { IsTrue result ↔ HasOneSuccessor game.now (members mask.now) player }
+{
+    for v in 0..game.len() {
+        if mask.has(v) && game.owner(v) == player && single_successor(game, mask, v).is_none() {
+            return false;
+        }
+    }
+    true
+}
+
+/// The player's vertices in the mask.
+fn owned_by(alloc: Global, game: &Game, mask: &Mask, player: Player) -> Result<Mask, AllocError>
+    requires { length mask.now ≡ length game.now }
+    ensures { IfOk result (λ set. HoldsSet set (length game.now) (owned game.now (members mask.now) player)) }
+{
+    let mut set = Mask::empty(alloc, game.len())?;
+    for v in 0..game.len() {
+        if mask.has(v) && game.owner(v) == player {
+            set.insert(v);
+        }
+    }
+    Ok(set)
+}
+
+/// The vertices in the mask whose priority has the player's parity.
+fn of_parity(alloc: Global, game: &Game, mask: &Mask, player: Player) -> Result<Mask, AllocError>
+    requires { length mask.now ≡ length game.now }
+    ensures { IfOk result (λ set. HoldsSet set (length game.now) (good_for game.now (members mask.now) player)) }
+{
+    let mut set = Mask::empty(alloc, game.len())?;
+    for v in 0..game.len() {
+        if mask.has(v) && Player::of_parity(game.priority(v)) == player {
+            set.insert(v);
+        }
+    }
+    Ok(set)
+}
+
+/// The single successor of a vertex that the player owns in the mask, and 0 for another vertex.
+fn forced_choice(game: &Game, mask: &Mask, player: Player, v: u32) -> u32
+    requires size { length mask.now ≡ length game.now }
+    requires subgame { IsSubgame game.now (members mask.now) }
+    requires one { HasOneSuccessor game.now (members mask.now) player }
+    requires vertex { v < length game.now }
+    ensures { In (members mask.now) v → owner_of game.now v ≡ player → IsSingle game.now (members mask.now) v result }
+{
+    if !mask.has(v) || game.owner(v) != player {
+        return 0;
+    }
+    match single_successor(game, mask, v) {
+        Some(w) => w,
+        None => 0,
+    }
+}
+
+/// By vertex, the single successors of the player's vertices in the mask.
+fn single_successors(
+    alloc: Global,
+    game: &Game,
+    mask: &Mask,
+    player: Player,
+) -> Result<Vec<u32>, AllocError>
+    requires size { length mask.now ≡ length game.now }
+    requires subgame { IsSubgame game.now (members mask.now) }
+    requires one { HasOneSuccessor game.now (members mask.now) player }
+    ensures size { IfOk result (λ next. length next.items ≡ length game.now) }
+    ensures single { IfOk result (λ next. (v : ℕ) → In (members mask.now) v → owner_of game.now v ≡ player → IsSingle game.now (members mask.now) v (slice_index next.items v)) }
+{
+    let n = game.len();
+    let mut next = Vec::with_capacity(alloc, n as usize)?;
+    for v in 0..n {
+        next.push(forced_choice(game, mask, player, v))?;
+    }
+    Ok(next)
+}
+
+/// The claim of a set, with the player's choices from the list.
+fn claim_of(
+    alloc: Global,
+    game: &Game,
+    player: Player,
+    set: &Mask,
+    next: &[u32],
+) -> Result<Claim, AllocError>
+    requires set { length set.now ≡ length game.now }
+    requires next { length next.now ≡ length game.now }
+    ensures player { IfOk result (λ claim. claim.player ≡ player) }
+    ensures rows { IfOk result (λ claim. claim.rows ≡ rows_below (members set.now) (own_choices game.now player (choices_by next.now)) (length game.now)) }
+{
+    let mut rows = Vec::new(alloc);
+    for v in 0..game.len() {
+        if set.has(v) {
+            rows.push((v, own_choice(game, player, v, next[v as usize])))?;
+        }
+    }
+    Ok(Claim {
+        player,
+        rows: Sequence::new(rows),
+    })
+}
+
+/// A claim that is good in the subgame, where `forced` has a single successor inside at each of his vertices.
+fn solve(alloc: Global, game: &Game, mask: &Mask, forced: Player) -> Result<Claim, AllocError>
+    requires size { length mask.now ≡ length game.now }
+    requires subgame { IsSubgame game.now (members mask.now) }
+    requires some { (v : ℕ) × In (members mask.now) v }
+    requires one { HasOneSuccessor game.now (members mask.now) forced }
+    ensures { IfOk result (λ claim. IsGoodIn game.now (members mask.now) claim.player claim.rows) }
+{
+    let kept = Kept {
+        game,
+        inside: mask.copy(alloc)?,
+        chosen: owned_by(alloc, game, mask, forced)?,
+        choices: single_successors(alloc, game, mask, forced)?,
+        bad: of_parity(alloc, game, mask, forced.other())?,
+    };
+    match first_worst(alloc, &kept)? {
+        None => claim_of(alloc, game, forced, mask, kept.choices.as_slice()),
+        Some(goal) => {
+            let lead = lead_to(alloc, game, mask, goal)?;
+            claim_of(
+                alloc,
+                game,
+                forced.other(),
+                &lead.taken,
+                lead.next.as_slice(),
+            )
+        }
+    }
+}
+
+/// A claim that is good in the subgame, where that has a vertex and one player has a single successor inside at
+/// each of his vertices inside; a player without vertices inside has. None elsewhere.
+pub fn find_solitaire(alloc: Global, inside: &Inside) -> Result<Option<Claim>, AllocError>
+    ensures none { IfOk result (λ found. MatchOption found (IsSolitaire inside.now.graph (members inside.now.mask) → ⊥) (λ claim. IsSolitaire inside.now.graph (members inside.now.mask))) }
+    ensures good { IfOk result (λ found. MatchOption found (Unit {0}) (λ claim. IsGoodIn inside.now.graph (members inside.now.mask) claim.player claim.rows)) }
+{
+    let game = inside.game();
+    let mask = inside.mask();
+    if is_empty(game, mask) {
+        return Ok(None);
+    }
+    if has_one_successor(game, mask, Player::Even) {
+        return Ok(Some(solve(alloc, game, mask, Player::Even)?));
+    }
+    if has_one_successor(game, mask, Player::Odd) {
+        return Ok(Some(solve(alloc, game, mask, Player::Odd)?));
+    }
+    Ok(None)
+}

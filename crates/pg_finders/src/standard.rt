@@ -1,0 +1,107 @@
+//! The product's own finder: for each kind of job the finder of that name.
+ghost use Rattle.std.specs.Prelude.{ℕ, ◌<◌, length, slice_index, IfOk};
+
+use crate::claims::zielonka;
+use crate::finder::{Finder, Found, Job};
+use crate::inside::{Copied, Inside};
+use crate::single::find_loop;
+use crate::small::{Small, find_small};
+use crate::solitaire::find_solitaire;
+use pg_dominion::Claim;
+use pg_game::Player;
+use std::alloc::{AllocError, Global};
+
+/// Looks by the finders of this crate. It is safe for any job on any copy.
+///
+/// For `Loops` and `Recursion` it gives Even's claim and then Odd's, where there is one; for `Solitaire` and `Small`
+/// the one claim or none. In a `Small` job it leaves out seeds that aren't vertices of the copy's game, finds nothing
+/// for bound 0 and takes a bound above 8 as 8.
+#[derive(Clone, Copy, Debug, Drop)]
+pub struct Standard;
+
+/// The claims that are there, in order, and nothing given up.
+fn all_of(alloc: Global, first: Option<Claim>, second: Option<Claim>) -> Result<Found, AllocError> {
+    let mut claims = Vec::with_capacity(alloc, 2)?;
+    if let Some(claim) = first {
+        claims.push(claim)?;
+    }
+    if let Some(claim) = second {
+        claims.push(claim)?;
+    }
+    Ok(Found {
+        claims,
+        gave_up: false,
+    })
+}
+
+/// The claim, where it has rows.
+fn if_some(claim: Claim) -> Option<Claim> {
+    if claim.rows.as_slice().is_empty() {
+        None
+    } else {
+        Some(claim)
+    }
+}
+
+/// The vertices below `n` from `first` on, at most `count` of them.
+fn batch(alloc: Global, n: u32, first: u32, count: u32) -> Result<Vec<u32>, AllocError>
+    ensures { IfOk result (λ seeds. (k : ℕ) → k < length seeds.items → slice_index seeds.items k < n) }
+{
+    let end = first.saturating_add(count).min(n);
+    let mut seeds = Vec::new(alloc);
+    for v in first..end {
+        seeds.push(v)?;
+    }
+    Ok(seeds)
+}
+
+/// A `Small` job with these seeds. Bound 0 finds nothing, and a bound above 8 is 8.
+fn small_of(
+    alloc: Global,
+    inside: &Inside,
+    player: Player,
+    seeds: &[u32],
+    bound: u32,
+    budget: u64,
+) -> Result<Found, AllocError>
+    requires { (k : ℕ) → k < length seeds.now → slice_index seeds.now k < length inside.now.graph }
+{
+    if bound == 0 {
+        return all_of(alloc, None, None);
+    }
+    match find_small(alloc, inside, player, seeds, bound.min(8), budget)? {
+        Small::Found(claim) => all_of(alloc, Some(claim), None),
+        Small::Nothing => all_of(alloc, None, None),
+        Small::GaveUp => Ok(Found {
+            claims: Vec::new(alloc),
+            gave_up: true,
+        }),
+    }
+}
+
+impl Finder for Standard {
+    fn find(&self, alloc: Global, copied: &Copied, job: &Job) -> Result<Found, AllocError> {
+        let inside = &copied.inside;
+        match *job {
+            Job::Loops => {
+                let even = find_loop(alloc, inside, Player::Even)?;
+                all_of(alloc, even, find_loop(alloc, inside, Player::Odd)?)
+            }
+            Job::Solitaire => all_of(alloc, find_solitaire(alloc, inside)?, None),
+            Job::Small {
+                player,
+                first,
+                count,
+                bound,
+                budget,
+            } => {
+                let seeds = batch(alloc, inside.game().len(), first, count)?;
+                small_of(alloc, inside, player, seeds.as_slice(), bound, budget)
+            }
+            Job::Recursion => {
+                let solved = zielonka(alloc, inside)?;
+                all_of(alloc, if_some(solved.even), if_some(solved.odd))
+            }
+        }
+    }
+}

@@ -1,0 +1,188 @@
+-- A game is the only game of the specifications that describe it, and these are without fault.
+use Rattle.std.proofs.Common.{◌≡◌, ℕ, zero, suc, ◌+◌, ◌<◌, ◌≤◌, ◌⊎◌, inl, inr, Bool, true, false, List, [], ◌∷◌, length, map, get_or, refl, sym, ◌∙◌, ap, subst, arith}
+use Rattle.std.specs.Prelude.{Some, None, slice_get, find, not, sum_by, ◌||◌, ◌==◌}
+use Rattle.std.specs.List.{Contains, list_any}
+use Rattle.std.specs.List.Sorted.{IsStrictlyIncreasing}
+use Rattle.std.proofs.lemmas.Bool.{eq-eqb, false_from_ne_true}
+use Rattle.std.proofs.lemmas.List.Sums.{sum_by-cons}
+use Rattle.std.proofs.lemmas.List.{length-map, get_or-map, get_or_default, ext_get_or}
+use Rattle.std.proofs.lemmas.List.Elements.{Contains-get_or}
+use Rattle.std.proofs.lemmas.List.Sorted.{IsPermutation-refl}
+use Rattle.std.proofs.lemmas.Option.{slice_get-get_or, get_or_from_slice_get}
+use Rattle.pg_game.specs.declared.game.Spec.{Spec}
+use Rattle.pg_game.specs.Graph.{Graph, Vertex, IsGame, no_vertex, vertex_at, id_of, successors_of}
+use Rattle.pg_game.specs.Specification.{IsGameOf, IsVertexOf, number_of, is_empty, first_repeated, first_without, first_unspecified, first_unknown, IsSpecified, edges, different, first_fault}
+use Rattle.pg_game.specs.Limits.{IsWithinLimits}
+use Rattle.pg_game.specs.Identifiers.{ids_of, priorities_of}
+use Rattle.pg_game.specs.Described.{spec_at, specs_of}
+use Rattle.pg_game.proofs.Members.{Contains-nil, Contains-head, Contains-tail, Contains-cons}
+use Rattle.pg_game.proofs.Gathered.{any_from}
+use Rattle.pg_game.proofs.Different.{rising_tail, below_first}
+use Rattle.pg_game.proofs.Sound.{sound_has_none}
+use Rattle.pg_game.proofs.Rising.{number_is, same_rising}
+
+map-map : {X Y Z : Type 0} (f : X → Y) (h : Y → Z) (xs : List X) → map h (map f xs) ≡ map (λ x. h (f x)) xs
+map-map f h [] = refl
+map-map f h (x ∷ xs) = ap (λ zs. h (f x) ∷ zs) (map-map f h xs)
+
+-- members of a list of identifiers, by the vertices
+member_from : (f : ℕ → ℕ) (ws : List ℕ) (i : ℕ) → Contains (map f ws) i → (w : ℕ) × Contains ws w × (f w ≡ i)
+member_from f ws i (k, l, e) =
+    let n : k < length ws = omega (arith, l, length-map ws f) in
+    (get_or ws k 0, Contains-get_or ws k 0 n, sym (get_or-map f ws k 0 i n) ∙ e)
+
+member_to : (f : ℕ → ℕ) (ws : List ℕ) (w : ℕ) → Contains ws w → Contains (map f ws) (f w)
+member_to f ws w (k, l, e) = (k, omega (arith, l, length-map ws f), get_or-map f ws k w (f w) l ∙ ap f e)
+
+module _ (g : Graph) (game : IsGame g) where
+  ids_described : ids_of (specs_of g) ≡ map (λ (x : Vertex). x.id) g
+  ids_described = map-map (λ (x : Vertex). spec_at g x) (λ (s : Spec). s.id) g
+
+  id_among : (v : ℕ) → v < length g → get_or (map (λ (x : Vertex). x.id) g) v 0 ≡ id_of g v
+  id_among v l = get_or-map (λ (x : Vertex). x.id) g v no_vertex 0 l
+
+  -- the number of a vertex's identifier is the vertex
+  pub described_number : (v : ℕ) → v < length g → number_of (specs_of g) (id_of g v) ≡ v
+  described_number v l =
+      let n : v < length (map (λ (x : Vertex). x.id) g) = omega (arith, l, length-map g (λ (x : Vertex). x.id)) in
+      subst (λ i. number_of (specs_of g) i ≡ v) (id_among v l) (number_is (specs_of g) (specs_of g) (map (λ (x : Vertex). x.id) g) (IsPermutation-refl (specs_of g)) ids_described game.ids v n)
+
+  successor_below : (v w : ℕ) → v < length g → Contains (successors_of g v) w → w < length g
+  successor_below v w l (k, m, e) = subst (λ u. u < length g) (get_or_default (successors_of g v) k 0 w m ∙ e) ((game.successors v l).below k m)
+
+  described_vertex : (v : ℕ) → v < length g → IsVertexOf (specs_of g) (spec_at g (vertex_at g v)) (vertex_at g v)
+  described_vertex v l = record {
+    id = refl;
+    priority = refl;
+    owner = refl;
+    rising = (game.successors v l).rising;
+    successors = λ w. (
+      λ m. (id_of g w, member_to (λ u. id_of g u) (successors_of g v) w m, sym (described_number w (successor_below v w l m))),
+      λ (i, m, e). (let (u, n, f) = member_from (λ u. id_of g u) (successors_of g v) i m in
+          let h : number_of (specs_of g) i ≡ u = subst (λ j. number_of (specs_of g) j ≡ u) f (described_number u (successor_below v u l n)) in
+          subst (λ (x : ℕ). Contains (successors_of g v) x) (sym h ∙ sym e) n),
+    );
+  }
+
+  spec_place : (s : Spec) → Contains (specs_of g) s → (v : ℕ) × (v < length g) × (spec_at g (vertex_at g v) ≡ s)
+  spec_place s (v, l, e) =
+      let n : v < length g = omega (arith, l, length-map g (λ (x : Vertex). spec_at g x)) in
+      (v, n, sym (get_or-map (λ (x : Vertex). spec_at g x) g v no_vertex s n) ∙ e)
+
+  -- a game is a game of the specifications that describe it
+  pub described_game : IsGameOf (specs_of g) g
+  described_game = record {
+    size = sym (length-map g (λ (x : Vertex). spec_at g x));
+    each = λ s m. (
+        let (v, l, e) = spec_place s m in
+        let x = vertex_at g v in
+        let at : number_of (specs_of g) s.id ≡ v = subst (λ (t : Spec). number_of (specs_of g) t.id ≡ v) e (described_number v l) in
+        (x, subst (λ k. slice_get g k ≡ Some x) (sym at) (slice_get-get_or g v no_vertex l), subst (λ (t : Spec). IsVertexOf (specs_of g) t x) e (described_vertex v l)));
+  }
+
+  spec_in : (v : ℕ) → v < length g → Contains (specs_of g) (spec_at g (vertex_at g v))
+  spec_in v l = (v, omega (arith, l, length-map g (λ (x : Vertex). spec_at g x)), get_or-map (λ (x : Vertex). spec_at g x) g v no_vertex (spec_at g (vertex_at g v)) l)
+
+  -- two vertices of one specification are the same
+  same_vertex : (s : Spec) (x y : Vertex) → IsVertexOf (specs_of g) s x → IsVertexOf (specs_of g) s y → x ≡ y
+  same_vertex s x y a b =
+      let id : x.id ≡ y.id = a.id ∙ sym b.id in
+      let priority : x.priority ≡ y.priority = a.priority ∙ sym b.priority in
+      let owner : x.owner ≡ y.owner = a.owner ∙ sym b.owner in
+      let successors : x.successors ≡ y.successors = same_rising x.successors y.successors a.rising b.rising (λ w. (λ m. (b.successors w).1 ((a.successors w).0 m), λ m. (a.successors w).1 ((b.successors w).0 m))) in
+      λ i. record { id = id i; priority = priority i; owner = owner i; successors = successors i }
+
+  -- and the only one
+  pub one_described : (h : Graph) → IsGameOf (specs_of g) h → h ≡ g
+  one_described h other =
+      let n : length h ≡ length g = other.size ∙ length-map g (λ (x : Vertex). spec_at g x) in
+      ext_get_or no_vertex h g n (λ v l.
+      let m : v < length g = omega (arith, l, n) in
+      let (y, get, is) = other.each (spec_at g (vertex_at g v)) (spec_in v m) in
+      let at : slice_get h v ≡ Some y = subst (λ k. slice_get h k ≡ Some y) (described_number v m) get in
+      get_or_from_slice_get h v y no_vertex at ∙ same_vertex (spec_at g (vertex_at g v)) y (vertex_at g v) is (described_vertex v m))
+
+-- a list of rising numbers has no number twice
+not_among : (earlier : List ℕ) (n : ℕ) → ((m : ℕ) → Contains earlier m → m < n) → list_any (λ m. m == n) earlier ≡ false
+not_among earlier n low = false_from_ne_true (list_any (λ m. m == n) earlier) (λ t. let m = any_from earlier n t in let l = low n m in omega (arith, l))
+
+once_rising : (earlier xs : List ℕ) → IsStrictlyIncreasing xs → ((m x : ℕ) → Contains earlier m → Contains xs x → m < x) → first_repeated earlier xs ≡ None
+once_rising earlier [] up low = refl
+once_rising earlier (x ∷ xs) up low =
+    let f = not_among earlier x (λ m h. low m x h (Contains-head x xs)) in
+    rw f (once_rising (x ∷ earlier) xs (rising_tail x xs up) (λ m y h k. elim (Contains-cons x m earlier h) [
+      | inl q ↦ (let b = below_first x xs up y k in omega (arith, b, q))
+      | inr n ↦ low m y n (Contains-tail x y xs k)
+    ]))
+
+some_member : (ws : List ℕ) → 0 < length ws → is_empty ws ≡ false
+some_member [] l = absurd (omega arith)
+some_member (w ∷ ws) l = refl
+
+none_without : (specs : List Spec) → ((s : Spec) → Contains specs s → is_empty s.successors ≡ false) → first_without specs ≡ None
+none_without [] h = refl
+none_without (s ∷ specs) h = rw (h s (zero, omega arith, refl)) (none_without specs (λ t (k, l, e). h t (suc k, omega arith, e)))
+
+find_none : (p : ℕ → Bool) (xs : List ℕ) → ((x : ℕ) → Contains xs x → p x ≡ false) → find p xs ≡ None
+find_none p [] h = refl
+find_none p (x ∷ xs) h = rw (h x (Contains-head x xs)) (find_none p xs (λ y m. h y (Contains-tail x y xs m)))
+
+none_unknown : (all specs : List Spec) → ((s : Spec) → Contains specs s → (i : ℕ) → Contains s.successors i → IsSpecified all i ≡ true) → first_unknown all specs ≡ None
+none_unknown all [] h = refl
+none_unknown all (s ∷ specs) h =
+    let f : first_unspecified all s.successors ≡ None = find_none (λ i. not (IsSpecified all i)) s.successors (λ i m. ap not (h s (zero, omega arith, refl) i m)) in
+    rw f (none_unknown all specs (λ t (k, l, e). h t (suc k, omega arith, e)))
+
+or_first : (a b : Bool) → a ≡ true → (a || b) ≡ true
+or_first true b e = refl
+or_first false b e = absurd (cc e)
+
+or_second : (a b : Bool) → b ≡ true → (a || b) ≡ true
+or_second true b e = refl
+or_second false b e = e
+
+specified_here : (specs : List Spec) (s : Spec) → Contains specs s → IsSpecified specs s.id ≡ true
+specified_here [] s (k, l, e) = absurd (omega arith)
+specified_here (t ∷ specs) s (zero, l, e) = or_first (t.id == s.id) (IsSpecified specs s.id) (eq-eqb t.id s.id (ap (λ (x : Spec). x.id) e))
+specified_here (t ∷ specs) s (suc k, l, e) = or_second (t.id == s.id) (IsSpecified specs s.id) (specified_here specs s (k, omega arith, e))
+
+different_few : (xs : List ℕ) → different xs ≤ length xs
+different_few [] = omega arith
+different_few (x ∷ xs) = go (list_any (λ m. m == x) xs) refl (different_few xs)
+  where
+    go : (b : Bool) → list_any (λ m. m == x) xs ≡ b → different xs ≤ length xs → different (x ∷ xs) ≤ length (x ∷ xs)
+    go true e h = rw e (omega arith)
+    go false e h = rw e (omega arith)
+
+edges_few : (g : Graph) (xs : List Vertex) → edges (map (λ x. spec_at g x) xs) ≤ sum_by (λ (x : Vertex). length x.successors) xs
+edges_few g [] = omega arith
+edges_few g (x ∷ xs) =
+    let a = sum_by-cons (λ (s : Spec). different s.successors) (spec_at g x) (map (λ y. spec_at g y) xs) in
+    let b = sum_by-cons (λ (y : Vertex). length y.successors) x xs in
+    let c = different_few (map (λ w. id_of g w) x.successors) in
+    let d = length-map x.successors (λ w. id_of g w) in
+    omega (arith, a, b, c, d, edges_few g xs)
+
+-- the specifications that describe a game within the limits are without fault
+pub described_sound : (g : Graph) → IsGame g → IsWithinLimits g → first_fault (specs_of g) ≡ None
+described_sound g game limits =
+    let n = length-map g (λ (x : Vertex). spec_at g x) in
+    let some = game.nonempty in
+    let up : IsStrictlyIncreasing (ids_of (specs_of g)) = subst (λ (xs : List ℕ). IsStrictlyIncreasing xs) (sym (ids_described g game)) game.ids in
+    let ps : priorities_of (specs_of g) ≡ map (λ (x : Vertex). x.priority) g = map-map (λ (x : Vertex). spec_at g x) (λ (s : Spec). s.priority) g in
+    sound_has_none (specs_of g) record {
+      nonempty = omega (arith, n, some);
+      vertices = omega (arith, n, limits.vertices);
+      once = once_rising [] (ids_of (specs_of g)) up (λ m x h k. absurd (Contains-nil m h));
+      successors = none_without (specs_of g) (λ s m. (
+          let (v, l, e) = spec_place g game s m in
+          let h = (game.successors v l).nonempty in
+          subst (λ (t : Spec). is_empty t.successors ≡ false) e (some_member (map (λ w. id_of g w) (successors_of g v)) (omega (arith, h, length-map (successors_of g v) (λ w. id_of g w))))));
+      edges_fit = omega (arith, edges_few g g, limits.edges);
+      priorities = let e = ap different ps in omega (arith, e, limits.priorities);
+      known = none_unknown (specs_of g) (specs_of g) (λ s m i k. (
+          let (v, l, e) = spec_place g game s m in
+          let j : Contains (map (λ w. id_of g w) (successors_of g v)) i = subst (λ (t : Spec). Contains t.successors i) (sym e) k in
+          let (w, among, f) = member_from (λ u. id_of g u) (successors_of g v) i j in
+          subst (λ x. IsSpecified (specs_of g) x ≡ true) f (specified_here (specs_of g) (spec_at g (vertex_at g w)) (spec_in g game w (successor_below g game v w l among)))));
+    }

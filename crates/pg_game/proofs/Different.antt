@@ -1,0 +1,145 @@
+-- How many different numbers a list has, and which vertex an identifier names: by rising lists.
+use Rattle.std.proofs.Common.{◌≡◌, ◌≢◌, ℕ, zero, suc, ◌+◌, ◌<◌, ◌≤◌, Bool, true, false, not, ◌↔◌, inl, inr, List, [], ◌∷◌, length, get_or, refl, sym, ◌∙◌, ap, subst, arith, lt-ltb}
+use Rattle.std.specs.Prelude.{◌==◌, nat_lt, count_by}
+use Rattle.std.specs.List.{Contains, list_any, filter}
+use Rattle.std.specs.List.Sorted.{IsStrictlyIncreasing}
+use Rattle.std.proofs.lemmas.Bool.{eqb-true, eq-eqb, false_from_ne_true, ltb-true}
+use Rattle.std.proofs.lemmas.List.{get_or_default}
+use Rattle.std.proofs.lemmas.List.Sums.{length-filter}
+use Rattle.std.proofs.lemmas.List.Kept.{IsStrictlyIncreasing-filter}
+use Rattle.std.proofs.lemmas.Map.Keys.{sorted_from_strictly_increasing, below_from_sorted}
+use Rattle.pg_game.specs.Specification.{different}
+use Rattle.pg_game.proofs.Members.{Contains-nil, Contains-head, Contains-tail, Contains-cons}
+use Rattle.pg_game.proofs.Gathered.{any_from, none_from}
+
+pub rising_tail : (y : ℕ) (ys : List ℕ) → IsStrictlyIncreasing (y ∷ ys) → IsStrictlyIncreasing ys
+rising_tail y ys up k l = below_from_sorted (y ∷ ys) (suc k) (suc (k + 1)) 0 (sorted_from_strictly_increasing (y ∷ ys) up) (omega arith) (omega arith)
+
+-- the first of a rising list is below each other
+pub below_first : (y : ℕ) (ys : List ℕ) → IsStrictlyIncreasing (y ∷ ys) → (x : ℕ) → Contains ys x → y < x
+below_first y ys up x (k, l, e) =
+    let h : y < get_or ys k 0 = below_from_sorted (y ∷ ys) 0 (suc k) 0 (sorted_from_strictly_increasing (y ∷ ys) up) (omega arith) (omega arith) in
+    let q : get_or ys k 0 ≡ x = get_or_default ys k 0 x l ∙ e in
+    omega arith
+
+-- a rising list without one of its members
+abbrev without_one : ℕ → List ℕ → List ℕ
+without_one n ys = filter (λ y. not (y == n)) ys
+
+keep_all : (n : ℕ) (ys : List ℕ) → (Contains ys n → ⊥) → without_one n ys ≡ ys
+keep_all n [] none = refl
+keep_all n (y ∷ ys) none =
+    let f : (y == n) ≡ false = false_from_ne_true (y == n) (λ t. none (0, omega arith, eqb-true y n t)) in
+    rw f (ap (λ zs. y ∷ zs) (keep_all n ys (λ m. none (Contains-tail y n ys m))))
+
+length-without_one : (n : ℕ) (ys : List ℕ) → IsStrictlyIncreasing ys → Contains ys n → length (without_one n ys) + 1 ≡ length ys
+length-without_one n [] up m = absurd (Contains-nil n m)
+length-without_one n (y ∷ ys) up m = go (y == n) refl (length-without_one n ys (rising_tail y ys up))
+  where
+    go : (b : Bool) → (y == n) ≡ b → (Contains ys n → length (without_one n ys) + 1 ≡ length ys) → length (without_one n (y ∷ ys)) + 1 ≡ length (y ∷ ys)
+    go true e h =
+        let q : y ≡ n = eqb-true y n e in
+        let none : Contains ys n → ⊥ = λ k. (let l = below_first y ys up n k in omega (arith, l, q)) in
+        rw e (omega (arith, ap (λ (zs : List ℕ). length zs) (keep_all n ys none)))
+    go false e h = elim (Contains-cons y n ys m) [
+      | inl q ↦ absurd (let t : (y == n) ≡ true = eq-eqb y n q in cc (t, e))
+      | inr k ↦ rw e (omega (arith, h k))
+    ]
+
+contains-without : (n : ℕ) (ys : List ℕ) (x : ℕ) → Contains (without_one n ys) x ↔ (Contains ys x × (x ≢ n))
+contains-without n [] x = (λ m. absurd (Contains-nil x m), λ h. absurd (Contains-nil x h.0))
+contains-without n (y ∷ ys) x = go (y == n) refl (contains-without n ys x)
+  where
+    go : (b : Bool) → (y == n) ≡ b → (Contains (without_one n ys) x ↔ (Contains ys x × (x ≢ n))) → Contains (without_one n (y ∷ ys)) x ↔ (Contains (y ∷ ys) x × (x ≢ n))
+    go true e h = rw e (
+      λ m. (let k = h.0 m in (Contains-tail y x ys k.0, k.1)),
+      λ k. elim (Contains-cons y x ys k.0) [
+        | inl q ↦ absurd (k.1 (sym q ∙ eqb-true y n e))
+        | inr t ↦ h.1 (t, k.1)
+      ],
+    )
+    go false e h = rw e (
+      λ m. elim (Contains-cons y x (without_one n ys) m) [
+        | inl q ↦ (subst (λ (z : ℕ). Contains (y ∷ ys) z) q (Contains-head y ys), λ z. (let t : (y == n) ≡ true = eq-eqb y n (q ∙ z) in cc (t, e)))
+        | inr t ↦ (let k = h.0 t in (Contains-tail y x ys k.0, k.1))
+      ],
+      λ k. elim (Contains-cons y x ys k.0) [
+        | inl q ↦ subst (λ (z : ℕ). Contains (y ∷ without_one n ys) z) q (Contains-head y (without_one n ys))
+        | inr t ↦ Contains-tail y x (without_one n ys) (h.1 (t, k.1))
+      ],
+    )
+
+-- a rising list with the same members tells how many there are
+pub different_is : (xs ys : List ℕ) → IsStrictlyIncreasing ys → ((x : ℕ) → Contains xs x ↔ Contains ys x) → different xs ≡ length ys
+different_is [] [] up same = refl
+different_is [] (y ∷ ys) up same = absurd (Contains-nil y ((same y).1 (Contains-head y ys)))
+different_is (n ∷ ns) ys up same = go (list_any (λ m. m == n) ns) refl (λ zs u s. different_is ns zs u s)
+  where
+    go : (b : Bool) → list_any (λ m. m == n) ns ≡ b → ((zs : List ℕ) → IsStrictlyIncreasing zs → ((x : ℕ) → Contains ns x ↔ Contains zs x) → different ns ≡ length zs) → different (n ∷ ns) ≡ length ys
+    go true e h = rw e (h ys up (λ x. (λ m. (same x).0 (Contains-tail n x ns m), λ m. elim (Contains-cons n x ns ((same x).1 m)) [ inl q ↦ subst (λ (z : ℕ). Contains ns z) q (any_from ns n e) | inr k ↦ k ])))
+    go false e h =
+        let size = length-without_one n ys up ((same n).0 (Contains-head n ns)) in
+        let rest = h (without_one n ys) (IsStrictlyIncreasing-filter (λ y. not (y == n)) ys up)
+        (λ x. (
+          λ m. (contains-without n ys x).1 ((same x).0 (Contains-tail n x ns m), λ q. none_from ns n e (subst (λ (z : ℕ). Contains ns z) q m)),
+          λ m. (let k = (contains-without n ys x).0 m in elim (Contains-cons n x ns ((same x).1 k.0)) [ inl q ↦ absurd (k.1 (sym q)) | inr t ↦ t ]),
+        )) in
+        rw e (omega (arith, rest, size))
+
+same_any : (n y : ℕ) (ys : List ℕ) → (y == n) ≡ false → list_any (λ m. m == y) (without_one n ys) ≡ list_any (λ m. m == y) ys
+same_any n y [] e = refl
+same_any n y (z ∷ zs) e = go (z == n) refl (same_any n y zs e)
+  where
+    go : (b : Bool) → (z == n) ≡ b → list_any (λ m. m == y) (without_one n zs) ≡ list_any (λ m. m == y) zs → list_any (λ m. m == y) (without_one n (z ∷ zs)) ≡ list_any (λ m. m == y) (z ∷ zs)
+    go true q h = let f : (z == y) ≡ false = false_from_ne_true (z == y) (λ t. let s : (y == n) ≡ true = eq-eqb y n (sym (eqb-true z y t) ∙ eqb-true z n q) in cc (s, e)) in rw (q, f) h
+    go false q h = rw (q, h) refl
+
+different-without : (n : ℕ) (ys : List ℕ) → Contains ys n → different (without_one n ys) + 1 ≡ different ys
+different-without n [] m = absurd (Contains-nil n m)
+different-without n (y ∷ ys) m = go (y == n) refl (list_any (λ k. k == y) ys) refl (different-without n ys)
+  where
+    go : (b : Bool) → (y == n) ≡ b → (a : Bool) → list_any (λ k. k == y) ys ≡ a → (Contains ys n → different (without_one n ys) + 1 ≡ different ys) → different (without_one n (y ∷ ys)) + 1 ≡ different (y ∷ ys)
+    go true e true f h = rw (e, f) (h (subst (λ (z : ℕ). Contains ys z) (eqb-true y n e) (any_from ys y f)))
+    go true e false f h = let k : without_one n ys ≡ ys = keep_all n ys (λ z. none_from ys y f (subst (λ (x : ℕ). Contains ys x) (sym (eqb-true y n e)) z)) in rw (e, f, k) refl
+    go false e a f h = elim (Contains-cons y n ys m) [
+      | inl q ↦ absurd (let t : (y == n) ≡ true = eq-eqb y n q in cc (t, e))
+      | inr t ↦ (let k = same_any n y ys e ∙ f in step a e k f (h t))
+    ]
+      where
+        step : (c : Bool) → (y == n) ≡ false → list_any (λ k. k == y) (without_one n ys) ≡ c → list_any (λ k. k == y) ys ≡ c → different (without_one n ys) + 1 ≡ different ys → different (without_one n (y ∷ ys)) + 1 ≡ different (y ∷ ys)
+        step true e k f h = rw (e, k, f) h
+        step false e k f h = rw (e, k, f) (omega (arith, h))
+
+-- members of another list are not more different numbers
+pub different_within : (xs ys : List ℕ) → ((x : ℕ) → Contains xs x → Contains ys x) → different xs ≤ different ys
+different_within [] ys sub = omega arith
+different_within (n ∷ ns) ys sub = go (list_any (λ m. m == n) ns) refl (λ zs s. different_within ns zs s)
+  where
+    go : (b : Bool) → list_any (λ m. m == n) ns ≡ b → ((zs : List ℕ) → ((x : ℕ) → Contains ns x → Contains zs x) → different ns ≤ different zs) → different (n ∷ ns) ≤ different ys
+    go true e h = rw e (h ys (λ x m. sub x (Contains-tail n x ns m)))
+    go false e h =
+        let k = different-without n ys (sub n (Contains-head n ns)) in
+        let rest = h (without_one n ys) (λ x m. (contains-without n ys x).1 (sub x (Contains-tail n x ns m), λ q. none_from ns n e (subst (λ (z : ℕ). Contains ns z) q m))) in
+        rw e (omega (arith, k, rest))
+
+filter_none : (p : ℕ → Bool) (xs : List ℕ) → ((y : ℕ) → Contains xs y → p y ≡ false) → filter p xs ≡ []
+filter_none p [] none = refl
+filter_none p (x ∷ xs) none = rw (none x (Contains-head x xs)) (filter_none p xs (λ y m. none y (Contains-tail x y xs m)))
+
+not_less : (a b : ℕ) → b ≤ a → nat_lt a b ≡ false
+not_less a b l = false_from_ne_true (nat_lt a b) (λ t. let h : a < b = ltb-true a b t in omega arith)
+
+smaller : (xs : List ℕ) (i : ℕ) → IsStrictlyIncreasing xs → i < length xs → length (filter (λ x. nat_lt x (get_or xs i 0)) xs) ≡ i
+smaller [] i up l = absurd (omega arith)
+smaller (x ∷ xs) zero up l =
+    let f = not_less x x (omega arith) in
+    let e = filter_none (λ y. nat_lt y x) xs (λ y m. let h = below_first x xs up y m in not_less y x (omega arith)) in
+    rw (f, e) refl
+smaller (x ∷ xs) (suc i) up l =
+    let h : x < get_or xs i 0 = below_from_sorted (x ∷ xs) 0 (suc i) 0 (sorted_from_strictly_increasing (x ∷ xs) up) (omega arith) l in
+    let t = lt-ltb x (get_or xs i 0) h in
+    rw (t, smaller xs i (rising_tail x xs up) (omega arith)) refl
+
+-- in a rising list as many numbers are smaller than a member as stand before it
+pub smaller_before : (xs : List ℕ) (i : ℕ) → IsStrictlyIncreasing xs → i < length xs → count_by (λ x. nat_lt x (get_or xs i 0)) xs ≡ i
+smaller_before xs i up l = sym (length-filter (λ x. nat_lt x (get_or xs i 0)) xs) ∙ smaller xs i up l

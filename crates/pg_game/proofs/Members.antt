@@ -1,0 +1,42 @@
+-- Membership in a list, by cases on the list; a search in a list.
+use Rattle.std.proofs.Common.{◌≡◌, ℕ, zero, suc, ◌<◌, length, get_or, ◌||◌, Bool, true, false, ◌⊎◌, inl, inr, List, [], ◌∷◌, refl, arith}
+use Rattle.std.specs.List.{Contains, list_any}
+
+pub Contains-nil : (w : ℕ) → Contains [] w → ⊥
+Contains-nil w (k, lt, e) = omega arith
+
+pub Contains-head : (x : ℕ) (xs : List ℕ) → Contains (x ∷ xs) x
+Contains-head x xs = (zero, omega arith, refl)
+
+pub Contains-tail : (x w : ℕ) (xs : List ℕ) → Contains xs w → Contains (x ∷ xs) w
+Contains-tail x w xs (k, lt, e) = (suc k, omega arith, e)
+
+pub Contains-cons : (x w : ℕ) (xs : List ℕ) → Contains (x ∷ xs) w → (x ≡ w) ⊎ Contains xs w
+Contains-cons x w xs (zero, lt, e) = inl e
+Contains-cons x w xs (suc k, lt, e) = inr (k, omega arith, e)
+
+pub Contains-one : (x w : ℕ) → Contains (x ∷ []) w → x ≡ w
+Contains-one x w h = elim (Contains-cons x w [] h) [ inl e ↦ e | inr m ↦ absurd (Contains-nil w m) ]
+
+abbrev pub SomeOrNone : (ℕ → Bool) → List ℕ → Type 0
+SomeOrNone test ws = ((w : ℕ) × Contains ws w × (test w ≡ true)) ⊎ ((w : ℕ) → Contains ws w → test w ≡ false)
+
+some_or_none-cons : (test : ℕ → Bool) (x : ℕ) (xs : List ℕ) (b : Bool) → test x ≡ b → SomeOrNone test xs → SomeOrNone test (x ∷ xs)
+some_or_none-cons test x xs true e rest = inl (x, Contains-head x xs, e)
+some_or_none-cons test x xs false e (inl (w, m, t)) = inl (w, Contains-tail x w xs m, t)
+some_or_none-cons test x xs false e (inr none) = inr (λ w m. elim (Contains-cons x w xs m) [ inl q ↦ rw (← q) e | inr later ↦ none w later ])
+
+-- some member passes the test, or none does
+pub some_or_none : (test : ℕ → Bool) (ws : List ℕ) → SomeOrNone test ws
+some_or_none test [] = inr (λ w m. absurd (Contains-nil w m))
+some_or_none test (x ∷ xs) = some_or_none-cons test x xs (test x) refl (some_or_none test xs)
+
+none_first : (a b : Bool) → (a || b) ≡ false → (a ≡ false) × (b ≡ false)
+none_first true b e = absurd (cc e)
+none_first false b e = (refl, e)
+
+-- where no member passes the test, none at a place does
+pub none_at : (test : ℕ → Bool) (xs : List ℕ) (k : ℕ) → list_any test xs ≡ false → k < length xs → test (get_or xs k 0) ≡ false
+none_at test [] k e l = absurd (omega arith)
+none_at test (x ∷ xs) zero e l = (none_first (test x) (list_any test xs) e).0
+none_at test (x ∷ xs) (suc k) e l = none_at test xs k (none_first (test x) (list_any test xs) e).1 (omega arith)

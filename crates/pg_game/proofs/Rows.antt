@@ -1,0 +1,106 @@
+-- Rows between offsets: how many, each one, and one more.
+use Rattle.std.proofs.Common.{◌≡◌, ℕ, zero, suc, ◌+◌, ◌-◌, ◌<◌, ◌≤◌, ◌⊎◌, inl, inr, List, [], ◌∷◌, ◌++◌, length, take, drop, get_or, ◌^◌, refl, sym, ◌∙◌, ap, subst, arith, length-append, add-one}
+use Rattle.std.specs.Prelude.{slice_range}
+use Rattle.std.proofs.lemmas.List.{take-append-le, ext_get_or, get_or_append_left, get_or_push, get_or_default, drop-append-le, length-drop, length-take-le}
+use Rattle.std.proofs.lemmas.List.Sums.{sum_by-cons}
+use Rattle.std.proofs.Math.Seq.{drop-append_seam, take-length}
+use Rattle.pg_game.specs.Rows.{rows_of, IsCompressed, size_of}
+
+pub length-rows_of : (os ts : List ℕ) → length (rows_of os ts) ≡ length os - 1
+length-rows_of [] ts = refl
+length-rows_of (a ∷ []) ts = refl
+length-rows_of (a ∷ b ∷ os) ts = let h = length-rows_of (b ∷ os) ts in omega arith
+
+pub row_of : (os ts : List ℕ) (k : ℕ) → k + 1 < length os → get_or (rows_of os ts) k [] ≡ slice_range ts (get_or os k 0) (get_or os (k + 1) 0)
+row_of [] ts k l = absurd (omega arith)
+row_of (a ∷ []) ts k l = absurd (omega arith)
+row_of (a ∷ b ∷ os) ts zero l = refl
+row_of (a ∷ b ∷ os) ts (suc k) l = rw add-one (rw add-one at (row_of (b ∷ os) ts k (omega arith)))
+
+-- a range within a list stays where the list grows
+range_stays : (ts xs : List ℕ) (a b : ℕ) → a ≤ b → b ≤ length ts → slice_range (ts ++ xs) a b ≡ slice_range ts a b
+range_stays ts xs a b l m =
+    let e : drop a (ts ++ xs) ≡ drop a ts ++ xs = drop-append-le a ts xs (omega arith) in
+    rw e (take-append-le (b - a) (drop a ts) xs (omega (arith, length-drop a ts)))
+
+take_all : (xs : List ℕ) (n : ℕ) → n ≡ length xs → take n xs ≡ xs
+take_all xs n e = rw e (take-length xs)
+
+-- and what was added is the range from its old end on
+range_added : (ts xs : List ℕ) (a b : ℕ) → a ≡ length ts → b ≡ length ts + length xs → slice_range (ts ++ xs) a b ≡ xs
+range_added ts xs a b e f = rw e (let g : drop (length ts) (ts ++ xs) ≡ xs = drop-append_seam ts xs in rw g (take_all xs (b - length ts) (omega arith)))
+
+last_of : (n k : ℕ) → k < n → (k + 1 < n) ⊎ (k + 1 ≡ n)
+last_of n k l = grind arith
+
+pub rows_of-push : (os ts xs : List ℕ) (e : ℕ) → IsCompressed os ts → e ≡ length ts + length xs → rows_of (os ++ e ∷ []) (ts ++ xs) ≡ rows_of os ts ++ xs ∷ []
+rows_of-push os ts xs e c q =
+    let some = c.nonempty in
+    let n = length-rows_of os ts in
+    let m = length-rows_of (os ++ e ∷ []) (ts ++ xs) in
+    let grown = length-append os (e ∷ []) in
+    let pushed = length-append (rows_of os ts) (xs ∷ []) in
+    ext_get_or [] (rows_of (os ++ e ∷ []) (ts ++ xs)) (rows_of os ts ++ xs ∷ []) (omega (arith, n, m, grown, pushed)) (λ k l.
+    let lk : k < length os = omega (arith, m, grown) in
+    let at = row_of (os ++ e ∷ []) (ts ++ xs) k (omega (arith, m, grown)) in
+    let from : get_or (os ++ e ∷ []) k 0 ≡ get_or os k 0 = get_or_append_left os (e ∷ []) 0 k lk in
+    elim (last_of (length os) k lk) [
+      | inl below ↦ (let to : get_or (os ++ e ∷ []) (k + 1) 0 ≡ get_or os (k + 1) 0 = get_or_append_left os (e ∷ []) 0 (k + 1) below in
+          at ∙ rw (from, to) (range_stays ts xs (get_or os k 0) (get_or os (k + 1) 0) (c.rising k below) (c.within (k + 1) below)
+          ∙ sym (get_or_append_left (rows_of os ts) (xs ∷ []) [] k (omega (arith, n)) ∙ row_of os ts k below)))
+      | inr end ↦ (let to : get_or (os ++ e ∷ []) (k + 1) 0 ≡ e = get_or_push os e 0 (k + 1) (sym end) in
+          at ∙ rw (from, to) (range_added ts xs (get_or os k 0) e (c.last k end) q ∙ sym (get_or_push (rows_of os ts) xs [] k (omega (arith, n)))))
+    ])
+
+pub length-range : (ts : List ℕ) (a b : ℕ) → a ≤ b → b ≤ length ts → length (slice_range ts a b) ≡ b - a
+length-range ts a b l m = length-take-le (b - a) (drop a ts) (omega (arith, length-drop a ts))
+
+rising_more : (a b : ℕ) (os : List ℕ) → ((k : ℕ) → k + 1 < length (a ∷ b ∷ os) → get_or (a ∷ b ∷ os) k 0 ≤ get_or (a ∷ b ∷ os) (k + 1) 0) → (k : ℕ) → k + 1 < length (b ∷ os) → get_or (b ∷ os) k 0 ≤ get_or (b ∷ os) (suc k) 0
+rising_more a b os r k l = rw add-one at (r (suc k) (omega arith))
+
+-- how far the offsets rise
+size-rising : (os ts : List ℕ) (m : ℕ) → m + 1 ≡ length os → ((k : ℕ) → k + 1 < length os → get_or os k 0 ≤ get_or os (k + 1) 0) → ((k : ℕ) → k < length os → get_or os k 0 ≤ length ts) → size_of (rows_of os ts) + get_or os 0 0 ≡ get_or os m 0
+size-rising [] ts m s r w = absurd (omega arith)
+size-rising (a ∷ []) ts zero s r w = omega arith
+size-rising (a ∷ []) ts (suc m) s r w = absurd (omega arith)
+size-rising (a ∷ b ∷ os) ts zero s r w = absurd (omega arith)
+size-rising (a ∷ b ∷ os) ts (suc m) s r w =
+    let h = size-rising (b ∷ os) ts m (omega arith) (λ k l. rw add-one (rising_more a b os r k l)) (λ k l. w (suc k) (omega arith)) in
+    let q : a ≤ b = r 0 (omega arith) in
+    let n : length (slice_range ts a b) ≡ b - a = length-range ts a b q (w 1 (omega arith)) in
+    let e = sum_by-cons (λ (row : List ℕ). length row) (slice_range ts a b) (rows_of (b ∷ os) ts) in
+    omega (arith, h, n, e, q)
+
+pub size-rows_of : (os ts : List ℕ) → IsCompressed os ts → size_of (rows_of os ts) ≡ length ts
+size-rows_of os ts c = let some = c.nonempty in let h = size-rising os ts (length os - 1) (omega arith) c.rising c.within in omega (arith, h, c.first, c.last (length os - 1) (omega arith))
+
+pub IsCompressed-push : (os ts xs : List ℕ) (e : ℕ) → IsCompressed os ts → e ≡ length ts + length xs → length os < 2 ^ 32 → e < 2 ^ 32 → IsCompressed (os ++ e ∷ []) (ts ++ xs)
+IsCompressed-push os ts xs e c q small few =
+    let some = c.nonempty in
+    let grown = length-append os (e ∷ []) in
+    let targets = length-append ts xs in
+    record {
+      nonempty = omega arith;
+      short = omega arith;
+      few = omega arith;
+      first = get_or_append_left os (e ∷ []) 0 0 some ∙ c.first;
+      rising = λ k l. let from = get_or_append_left os (e ∷ []) 0 k (omega (arith, grown)) in elim (last_of (length os) k (omega (arith, grown))) [
+        | inl below ↦ (let to = get_or_append_left os (e ∷ []) 0 (k + 1) below in omega (arith, from, to, c.rising k below))
+        | inr end ↦ (let to = get_or_push os e 0 (k + 1) (sym end) in omega (arith, from, to, c.within k (omega arith)))
+      ];
+      within = λ k l. elim (below_or_last (length os) k (omega (arith, grown))) [
+        | inl below ↦ (let at = get_or_append_left os (e ∷ []) 0 k below in omega (arith, at, targets, c.within k below))
+        | inr end ↦ (let at = get_or_push os e 0 k (sym end) in omega (arith, at, targets))
+      ];
+      last = λ k l. (let at = get_or_push os e 0 k (omega (arith, grown)) in omega (arith, at, targets));
+    }
+  where
+    below_or_last : (n k : ℕ) → k < n + 1 → (k < n) ⊎ (k ≡ n)
+    below_or_last n k l = grind arith
+
+-- the two offsets of a row that are read, and the row
+pub row_bounds : (os ts : List ℕ) (v a b : ℕ) → IsCompressed os ts → v + 1 < length os → a ≡ get_or os v a → b ≡ get_or os (v + 1) b → (a ≤ b) × (b ≤ length ts) × (get_or (rows_of os ts) v [] ≡ slice_range ts a b)
+row_bounds os ts v a b c l ea eb =
+    let fa : a ≡ get_or os v 0 = ea ∙ get_or_default os v a 0 (omega arith) in
+    let fb : b ≡ get_or os (v + 1) 0 = eb ∙ get_or_default os (v + 1) b 0 l in
+    (omega (arith, c.rising v l), omega (arith, c.within (v + 1) l), rw (fa, fb) (row_of os ts v l))

@@ -1,0 +1,115 @@
+-- Specifications without fault, test by test.
+use Rattle.std.proofs.Common.{◌≡◌, ℕ, zero, suc, ◌<◌, ◌≤◌, ◌+◌, Bool, true, false, ◌⊎◌, inl, inr, List, [], ◌∷◌, length, get_or, refl, sym, ◌∙◌, ap, subst, arith, ltb-true, lt-ltb}
+use Rattle.std.specs.Prelude.{Option, Some, None, if◌then◌else◌, nat_lt, not, find, nat_eq}
+use Rattle.std.specs.List.{Contains, list_any}
+use Rattle.std.proofs.lemmas.Bool.{ltb-false, false_from_ne_true}
+use Rattle.pg_game.specs.declared.game.Spec.{Spec}
+use Rattle.pg_game.specs.declared.game.GameFault.{GameFault}
+use Rattle.pg_game.specs.declared.game.GameFault.TheVariants.{NoVertex, TooManyVertices, Twice, NoSuccessor, TooManyEdges, TooManyPriorities, Unknown}
+use Rattle.pg_game.specs.Specification.{first_fault, fault_or, is_empty, first_repeated, first_without, first_unknown, first_unspecified, paired_or, IsSpecified, edges, different, max_vertices, max_edges, max_priorities}
+use Rattle.pg_game.specs.Identifiers.{ids_of, priorities_of}
+use Rattle.pg_game.proofs.Masks.{true_or_false}
+
+pub record IsSound (specs : List Spec) : Type 0 where
+  pub nonempty : 0 < length specs
+  pub vertices : length specs ≤ max_vertices
+  pub once : first_repeated [] (ids_of specs) ≡ None
+  pub successors : first_without specs ≡ None
+  pub edges_fit : edges specs ≤ max_edges
+  pub priorities : different (priorities_of specs) ≤ max_priorities
+  pub known : first_unknown specs specs ≡ None
+
+no_test : (b : Bool) (f : GameFault) (o : Option GameFault) → (if b then Some f else o) ≡ None → (b ≡ false) × (o ≡ None)
+no_test true f o e = absurd (cc e)
+no_test false f o e = (refl, e)
+
+no_fault : {A : Type 0} (f : A → GameFault) (a : Option A) (o : Option GameFault) → fault_or f a o ≡ None → (a ≡ None) × (o ≡ None)
+no_fault f None o e = (refl, e)
+no_fault f (Some x) o e = absurd (cc e)
+
+some_first : (specs : List Spec) → is_empty specs ≡ false → 0 < length specs
+some_first [] e = absurd (cc e)
+some_first (s ∷ specs) e = omega arith
+
+pub sound_is : (specs : List Spec) → first_fault specs ≡ None → IsSound specs
+sound_is specs e =
+    let a = no_test (is_empty specs) NoVertex _ e in
+    let b = no_test (nat_lt max_vertices (length specs)) TooManyVertices _ a.1 in
+    let c = no_fault (λ i. Twice i) (first_repeated [] (ids_of specs)) _ b.1 in
+    let d = no_fault (λ i. NoSuccessor i) (first_without specs) _ c.1 in
+    let f = no_test (nat_lt max_edges (edges specs)) TooManyEdges _ d.1 in
+    let g = no_test (nat_lt max_priorities (different (priorities_of specs))) TooManyPriorities _ f.1 in
+    let h = no_fault (λ (id, i). Unknown id i) (first_unknown specs specs) None g.1 in
+    record {
+      nonempty = some_first specs a.0;
+      vertices = ltb-false max_vertices (length specs) b.0;
+      once = c.0;
+      successors = d.0;
+      edges_fit = ltb-false max_edges (edges specs) f.0;
+      priorities = ltb-false max_priorities (different (priorities_of specs)) g.0;
+      known = h.0;
+    }
+
+not_more : (a b : ℕ) → b ≤ a → nat_lt a b ≡ false
+not_more a b l = false_from_ne_true (nat_lt a b) (λ t. let h : a < b = ltb-true a b t in omega arith)
+
+none_empty : (specs : List Spec) → 0 < length specs → is_empty specs ≡ false
+none_empty [] l = absurd (omega arith)
+none_empty (s ∷ specs) l = refl
+
+pub sound_has_none : (specs : List Spec) → IsSound specs → first_fault specs ≡ None
+sound_has_none specs s =
+    rw (none_empty specs s.nonempty, not_more max_vertices (length specs) s.vertices, s.once, s.successors, not_more max_edges (edges specs) s.edges_fit, not_more max_priorities (different (priorities_of specs)) s.priorities, s.known) refl
+
+head_of : (s t : Spec) (specs : List Spec) → Contains (s ∷ specs) t → (s ≡ t) ⊎ Contains specs t
+head_of s t specs (zero, l, e) = inl e
+head_of s t specs (suc k, l, e) = inr (k, omega arith, e)
+
+none_or : (b : Bool) (i : ℕ) (o : Option ℕ) → (if b then Some i else o) ≡ None → (b ≡ false) × (o ≡ None)
+none_or true i o e = absurd (cc e)
+none_or false i o e = (refl, e)
+
+some_number : (is : List ℕ) → is_empty is ≡ false → 0 < length is
+some_number [] e = absurd (cc e)
+some_number (i ∷ is) e = omega arith
+
+-- each specification has a successor
+pub each_has : (specs : List Spec) → first_without specs ≡ None → (s : Spec) → Contains specs s → 0 < length s.successors
+each_has [] e s (k, l, q) = absurd (omega arith)
+each_has (t ∷ specs) e s m =
+    let h = none_or (is_empty t.successors) t.id (first_without specs) e in
+    elim (head_of t s specs m) [
+      | inl q ↦ subst (λ (x : Spec). 0 < length x.successors) q (some_number t.successors h.0)
+      | inr n ↦ each_has specs h.1 s n
+    ]
+
+none_pair : (id : ℕ) (o : Option ℕ) (p : Option (ℕ × ℕ)) → paired_or id o p ≡ None → (o ≡ None) × (p ≡ None)
+none_pair id None p e = (refl, e)
+none_pair id (Some i) p e = absurd (cc e)
+
+not_false : (b : Bool) → not b ≡ false → b ≡ true
+not_false true e = refl
+not_false false e = absurd (cc e)
+
+number_head : (x i : ℕ) (xs : List ℕ) → Contains (x ∷ xs) i → (x ≡ i) ⊎ Contains xs i
+number_head x i xs (zero, l, e) = inl e
+number_head x i xs (suc k, l, e) = inr (k, omega arith, e)
+
+none_found : (p : ℕ → Bool) (xs : List ℕ) → find p xs ≡ None → (i : ℕ) → Contains xs i → p i ≡ false
+none_found p [] e i (k, l, q) = absurd (omega arith)
+none_found p (x ∷ xs) e i m =
+    let h = none_or (p x) x (find p xs) e in
+    elim (number_head x i xs m) [
+      | inl q ↦ subst (λ (y : ℕ). p y ≡ false) q h.0
+      | inr n ↦ none_found p xs h.1 i n
+    ]
+
+-- each successor is specified
+pub each_known : (all specs : List Spec) → first_unknown all specs ≡ None → (s : Spec) → Contains specs s → (i : ℕ) → Contains s.successors i → IsSpecified all i ≡ true
+each_known all [] e s (k, l, q) i m = absurd (omega arith)
+each_known all (t ∷ specs) e s n i m =
+    let h = none_pair t.id (first_unspecified all t.successors) (first_unknown all specs) e in
+    elim (head_of t s specs n) [
+      | inl q ↦ not_false (IsSpecified all i) (none_found (λ j. not (IsSpecified all j)) t.successors h.0 i (subst (λ (x : Spec). Contains x.successors i) (sym q) m))
+      | inr r ↦ each_known all specs h.1 s r i m
+    ]

@@ -1,0 +1,29 @@
+-- The first successor that is not specified, one specification after another.
+use Rattle.std.proofs.Common.{◌≡◌, ℕ, ◌+◌, ◌<◌, Bool, List, [], ◌∷◌, length, drop, get_or, refl, sym, ◌∙◌, ap, nat_eq}
+use Rattle.std.specs.Prelude.{Option, Some, None, not, ◌||◌, cond}
+use Rattle.std.specs.List.{list_any}
+use Rattle.std.proofs.lemmas.List.{drop_more}
+use Rattle.pg_game.specs.declared.game.Spec.{Spec}
+use Rattle.pg_game.specs.Specification.{IsSpecified, first_unspecified, first_unknown, paired_or}
+use Rattle.pg_game.specs.Identifiers.{ids_of, first_outside}
+use Rattle.pg_game.proofs.Seen.{eqb_flip}
+
+pub specified_is : (specs : List Spec) (i : ℕ) → list_any (nat_eq i) (ids_of specs) ≡ IsSpecified specs i
+specified_is [] i = refl
+specified_is (s ∷ specs) i = rw (eqb_flip s.id i, specified_is specs i) refl
+
+pub outside_is : (specs : List Spec) (keys xs : List ℕ) → keys ≡ ids_of specs → first_outside keys xs ≡ first_unspecified specs xs
+outside_is specs keys [] e = refl
+outside_is specs keys (x ∷ xs) e =
+    let a : list_any (nat_eq x) keys ≡ IsSpecified specs x = ap (λ (ks : List ℕ). list_any (nat_eq x) ks) e ∙ specified_is specs x in
+    rw (a, outside_is specs keys xs e) refl
+
+module _ (specs : List Spec) (k : ℕ) (s : Spec) (l : k < length specs) (is : s ≡ get_or specs k s) where
+  next : drop k specs ≡ s ∷ drop (k + 1) specs
+  next = drop_more specs k s l ∙ ap (λ (x : Spec). x ∷ drop (k + 1) specs) (sym is)
+
+  pub unknown_here : (i : ℕ) → first_unspecified specs s.successors ≡ Some i → first_unknown specs (drop k specs) ≡ Some (s.id, i)
+  unknown_here i e = rw (next, e) refl
+
+  pub unknown_later : first_unspecified specs s.successors ≡ None → first_unknown specs (drop k specs) ≡ first_unknown specs (drop (k + 1) specs)
+  unknown_later e = rw (next, e) refl

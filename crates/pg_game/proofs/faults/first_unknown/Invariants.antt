@@ -1,0 +1,6 @@
+use Rattle.std.proofs.Common.{◌≡◌, drop}
+use Rattle.pg_game.specs.Specification.{first_unknown}
+use Rattle.pg_game.proofs.faults.first_unknown.Given as goal
+
+abbrev pub invariant-specs : goal.invariant-specs
+invariant-specs l = first_unknown l.specs l.specs ≡ first_unknown l.specs (drop l.spec-index l.specs)

@@ -1,0 +1,10 @@
+use Rattle.std.proofs.Common.{◌≡◌, ◌<◌, ℕ, refl, arith}
+use Rattle.std.proofs.lemmas.List.{ext_get_or}
+use Rattle.pg_game.specs.declared.player.Player.TheVariants.{Even}
+use Rattle.pg_game.proofs.game.same_owners.Goals as goal
+
+pub returns : goal.returns
+returns c = (
+  λ t. ext_get_or Even c.args.a.now c.args.b.now (omega (arith, c.if-a-b.false)) (λ v l. c.owners.invariant v (omega (arith, l))),
+  λ e. refl,
+)

@@ -1,0 +1,6 @@
+use Rattle.std.proofs.Common.{◌≡◌, ◌<◌, ℕ, slice_index_or}
+use Rattle.pg_game.specs.declared.player.Player.TheVariants.{Even}
+use Rattle.pg_game.proofs.game.same_owners.Given as goal
+
+abbrev pub invariant-owners : goal.invariant-owners
+invariant-owners l = (w : ℕ) → w < l.v → slice_index_or l.a w Even ≡ slice_index_or l.b w Even

@@ -1,0 +1,106 @@
+//! What can be wrong with specifications, fault by fault.
+
+ghost use Rattle.std.specs.Prelude.{◌≡◌, ◌<◌, ◌≤◌, ◌↔◌, ℕ, [], length, nat_eq, IfOk, IfErr, OnOk, MatchOption, Some, None, Contains};
+ghost use Rattle.std.specs.List.{IsDistinct};
+ghost use Rattle.std.specs.List.Sorted.{IsStrictlyIncreasing};
+ghost use Rattle.pg_game.specs.Specification.{first_without, first_repeated, first_unknown, different, edges, max_edges, OrMemory};
+ghost use Rattle.pg_game.specs.Identifiers.{ids_of, priorities_of, twice_of, first_outside};
+
+use crate::Memory;
+use crate::game::{GameFault, Spec};
+use crate::layout::priorities;
+use indexmap::IndexSet;
+use std::alloc::Global;
+
+/// The greatest number of edges of a game.
+const MAX_EDGES: usize = 1_048_576;
+
+/// The identifiers in their order. Refused where one stands earlier in the list, and for want of memory.
+pub fn identifiers(alloc: Global, specs: &[Spec]) -> Result<IndexSet<u32>, GameFault>
+    ensures ids { IfOk result (λ ids. ids.keys ≡ ids_of specs.now) }
+    ensures distinct { IfOk result (λ ids. IsDistinct nat_eq ids.keys) }
+    ensures once { OnOk result (first_repeated [] (ids_of specs.now) ≡ None) }
+    ensures fault { IfErr result (λ e. OrMemory (twice_of specs.now ≡ Some e) e) }
+{
+    let mut ids = IndexSet::with_capacity(alloc, specs.len())?;
+    'specs: for spec in specs {
+        if !ids.insert(spec.id)? {
+            return Err(GameFault::Twice(spec.id));
+        }
+    }
+    Ok(ids)
+}
+
+/// The first specification with no successor.
+pub fn first_without(specs: &[Spec]) -> Option<u32>
+    ensures { result ≡ first_without specs.now }
+{
+    'specs: for spec in specs {
+        if spec.successors.as_slice().is_empty() {
+            return Some(spec.id);
+        }
+    }
+    None
+}
+
+/// How many different numbers there are. Leaves each once, rising.
+pub fn count_different(numbers: &mut Vec<u32>) -> usize
+    ensures count { result ≡ different numbers.old.items }
+    ensures rising { IsStrictlyIncreasing numbers.new.items }
+    ensures no_more { result ≤ length numbers.old.items }
+    ensures same { (x : ℕ) → Contains numbers.old.items x ↔ Contains numbers.new.items x }
+{
+    numbers.sort_unstable();
+    numbers.dedup();
+    numbers.len()
+}
+
+/// How many edges there are: distinct successors, summed over the specifications. None where there are more than the limit.
+pub fn count_edges(alloc: Global, specs: &[Spec]) -> Result<Option<u32>, Memory>
+    ensures { IfOk result (λ count. MatchOption count (max_edges < edges specs.now) (λ n. (n ≡ edges specs.now) × (n ≤ max_edges))) }
+{
+    let mut successors = Vec::new(alloc);
+    let mut edges = 0usize;
+    'specs: for spec in specs {
+        successors.clear();
+        successors.extend_from_slice(spec.successors.as_slice())?;
+        edges += count_different(&mut successors);
+        if edges > MAX_EDGES {
+            return Ok(None);
+        }
+    }
+    Ok(Some(edges as u32))
+}
+
+/// How many different priorities there are.
+pub fn count_priorities(alloc: Global, specs: &[Spec]) -> Result<usize, Memory>
+    ensures { IfOk result (λ n. n ≡ different (priorities_of specs.now)) }
+{
+    let mut priorities = priorities(alloc, specs)?;
+    Ok(count_different(&mut priorities))
+}
+
+/// The first of the successors that is no identifier.
+fn first_unspecified(ids: &IndexSet<u32>, successors: &[u32]) -> Option<u32>
+    ensures { result ≡ first_outside ids.now.keys successors.now }
+{
+    'successors: for id in successors {
+        if !ids.contains(id) {
+            return Some(*id);
+        }
+    }
+    None
+}
+
+/// The first specification, and in it the first successor, that is no identifier.
+pub fn first_unknown(ids: &IndexSet<u32>, specs: &[Spec]) -> Option<(u32, u32)>
+    requires { ids.now.keys ≡ ids_of specs.now }
+    ensures { result ≡ first_unknown specs.now specs.now }
+{
+    'specs: for spec in specs {
+        if let Some(id) = first_unspecified(ids, spec.successors.as_slice()) {
+            return Some((spec.id, id));
+        }
+    }
+    None
+}

@@ -1,0 +1,78 @@
+//! Specifications without fault, laid out by rising identifier.
+
+ghost use Rattle.std.specs.Prelude.{◌≡◌, ◌<◌, ◌≤◌, ◌^◌, ℕ, length, slice_index_or, IfOk};
+ghost use Rattle.std.specs.List.Sorted.{IsStrictlyIncreasing};
+ghost use Rattle.pg_game.specs.declared.game.Spec.{Spec};
+ghost use Rattle.pg_game.specs.Specification.{edges, max_edges, max_vertices};
+ghost use Rattle.pg_game.specs.Identifiers.{priorities_of, owners_of, ArePlaces};
+ghost use Rattle.pg_game.specs.Rows.{row_at, size_of};
+
+use crate::Memory;
+use crate::adjacency::Adjacency;
+use crate::faults::count_different;
+use crate::game::Spec;
+use crate::player::Player;
+use indexmap::IndexSet;
+use std::alloc::Global;
+
+/// The priorities in order. `Memory` is its one refusal.
+pub fn priorities(alloc: Global, specs: &[Spec]) -> Result<Vec<u32>, Memory>
+    ensures { IfOk result (λ v. v.items ≡ priorities_of specs.now) }
+{
+    let mut priorities = Vec::with_capacity(alloc, specs.len())?;
+    'specs: for spec in specs {
+        priorities.push(spec.priority)?;
+    }
+    Ok(priorities)
+}
+
+/// The owners in order. `Memory` is its one refusal.
+pub fn owners(alloc: Global, specs: &[Spec]) -> Result<Vec<Player>, Memory>
+    ensures { IfOk result (λ v. v.items ≡ owners_of specs.now) }
+{
+    let mut owners = Vec::with_capacity(alloc, specs.len())?;
+    'specs: for spec in specs {
+        owners.push(spec.owner)?;
+    }
+    Ok(owners)
+}
+
+/// The places of the identifiers, each once, rising. `Memory` is its one refusal.
+fn places(alloc: Global, ids: &IndexSet<u32>, successors: &[u32]) -> Result<Vec<u32>, Memory>
+    requires rising { IsStrictlyIncreasing ids.now.keys }
+    requires small { length ids.now.keys < 2 ^ 32 }
+    ensures { IfOk result (λ places. ArePlaces ids.now.keys successors.now places.items) }
+{
+    let mut wanted = Vec::from_slice(alloc, successors)?;
+    count_different(&mut wanted);
+    let mut places = Vec::with_capacity(alloc, wanted.len())?;
+    'wanted: for id in &wanted {
+        let Some(place) = ids.get_index_of(id) else {
+            continue;
+        };
+        places.push(place as u32)?;
+    }
+    Ok(places)
+}
+
+/// The successors as places of the identifiers. `Memory` is its one refusal.
+pub fn successors(
+    alloc: Global,
+    ids: &IndexSet<u32>,
+    specs: &[Spec],
+    edge_count: u32,
+) -> Result<Adjacency, Memory>
+    requires rising { IsStrictlyIncreasing ids.now.keys }
+    requires small { length ids.now.keys < 2 ^ 32 }
+    requires vertices { length specs.now ≤ max_vertices }
+    requires edges { edges specs.now ≤ max_edges }
+    ensures size { IfOk result (λ rows. length rows ≡ length specs.now) }
+    ensures edges { IfOk result (λ rows. size_of rows ≤ edges specs.now) }
+    ensures each { IfOk result (λ rows. (v : ℕ) (d : Spec) → v < length specs.now → ArePlaces ids.now.keys (slice_index_or specs.now v d).successors (row_at rows v)) }
+{
+    let mut rows = Adjacency::with_capacity(alloc, specs.len() as u32, edge_count)?;
+    'specs: for spec in specs {
+        rows.push(places(alloc, ids, spec.successors.as_slice())?.as_slice())?;
+    }
+    Ok(rows)
+}

@@ -1,0 +1,20 @@
+//! Parity games and sets of their vertices, in the terms of the PGSolver manual.
+//! A game is made from specifications, and stands in compressed rows in both directions.
+#![tactic(auto)]
+
+mod adjacency;
+mod check;
+mod faults;
+mod game;
+mod layout;
+mod mask;
+mod player;
+mod sequence;
+
+pub use game::{Game, GameFault, Spec};
+pub use mask::Mask;
+pub use player::Player;
+pub use sequence::Sequence;
+
+/// The answer for want of memory.
+pub type Memory = std::alloc::AllocError;

@@ -1,0 +1,246 @@
+-- Each text is at fault in one place or spells tokens, and not both.
+use Rattle.std.proofs.Common.{◌≡◌, ℕ, zero, suc, ◌+◌, ◌≤◌, ◌<◌, Bool, true, false, ◌⊎◌, inl, inr, List, [], ◌∷◌, ◌++◌, length, refl, sym, ◌∙◌, ap, subst, arith, append_assoc, length-append}
+use Rattle.std.specs.Prelude.{◌==◌}
+use Rattle.std.proofs.lemmas.Bool.Decides.{nat_tests}
+use Rattle.std.proofs.lemmas.List.{append-nil}
+use Rattle.pg_text.specs.Token.{Token, Number, Word, Name, Comma, Semicolon, IsSpelling, IsWhole, Placed, Begins, Spells}
+use Rattle.pg_text.specs.Bytes.{is_blank, is_digit, is_letter, is_no_quote, begins_token, AllAre, EndsRun, value_of}
+use Rattle.pg_text.specs.Fault.{IsLexicalFault}
+use Rattle.pg_text.proofs.Spelling.{run_unique, byte_kind, kind_of, head, one_front, not_blank}
+
+abbrev pub Wrong : ℕ → List ℕ → Type 0
+Wrong b after = (begins_token b ≡ false) ⊎ ((b ≡ 34) × AllAre is_no_quote after)
+
+wrong_digit : (b : ℕ) (after : List ℕ) → Wrong b after → is_digit b ≡ false
+wrong_digit b after (inl e) = grind (arith, nat_tests)
+wrong_digit b after (inr (e, a)) = rw e refl
+
+wrong_letter : (b : ℕ) (after : List ℕ) → Wrong b after → is_letter b ≡ false
+wrong_letter b after (inl e) = grind (arith, nat_tests)
+wrong_letter b after (inr (e, a)) = rw e refl
+
+ends_on : (test : ℕ → Bool) (b : ℕ) (re after : List ℕ) → test b ≡ false → EndsRun test re → EndsRun test (re ++ b ∷ after)
+ends_on test b [] after f e = f
+ends_on test b (x ∷ xs) after f e = e
+
+whole_on : (t : Token) (b : ℕ) (re after : List ℕ) → Wrong b after → IsWhole t re → IsWhole t (re ++ b ∷ after)
+whole_on (Number n) b re after w h = ends_on is_digit b re after (wrong_digit b after w) h
+whole_on (Word l) b re after w h = ends_on is_letter b re after (wrong_letter b after w) h
+whole_on (Name l) b re after w h = tt
+whole_on Comma b re after w h = tt
+whole_on Semicolon b re after w h = tt
+
+-- a byte that begins a token is not wrong
+no_quote_in : (inner more : List ℕ) → AllAre is_no_quote (inner ++ 34 ∷ more) → ⊥
+no_quote_in [] more a = cc a.0
+no_quote_in (x ∷ xs) more a = no_quote_in xs more a.1
+
+kind_begins : (b : ℕ) → byte_kind b < 5 → begins_token b ≡ true
+kind_begins b h = grind (arith, nat_tests)
+
+kind_small : (t : Token) → kind_of t < 5
+kind_small (Number n) = omega arith
+kind_small (Word n) = omega arith
+kind_small (Name n) = omega arith
+kind_small Comma = omega arith
+kind_small Semicolon = omega arith
+
+quote_name : (t : Token) → kind_of t ≡ 2 → (inner : List ℕ) × (t ≡ Name inner)
+quote_name (Number n) e = absurd (omega arith)
+quote_name (Word n) e = absurd (omega arith)
+quote_name (Name n) e = (n, refl)
+quote_name Comma e = absurd (omega arith)
+quote_name Semicolon e = absurd (omega arith)
+
+-- no token begins where a byte is wrong
+no_token : (t : Token) (b : ℕ) (after body rest : List ℕ) → Wrong b after → IsSpelling t body → b ∷ after ≡ body ++ rest → ⊥
+no_token t b after body rest (inl f) s e =
+    let h = head t body rest s in
+    let k : b ≡ h.0 = cc (e, h.2) in
+    let m : byte_kind b ≡ kind_of t = ap byte_kind k ∙ h.3 in
+    let x : begins_token b ≡ true = kind_begins b (subst (λ n. n < 5) (sym m) (kind_small t)) in
+    cc (x, f)
+no_token t b after body rest (inr (q, a)) s e =
+    let h = head t body rest s in
+    let k : b ≡ h.0 = cc (e, h.2) in
+    let m : byte_kind 34 ≡ kind_of t = ap byte_kind (sym q ∙ k) ∙ h.3 in
+    let n = quote_name t (sym m) in
+    let s' : IsSpelling (Name n.0) body = subst (λ x. IsSpelling x body) n.1 s in
+    let f : b ∷ after ≡ 34 ∷ ((n.0 ++ 34 ∷ []) ++ rest) = e ∙ ap (λ xs. xs ++ rest) s'.1 in
+    let g : after ≡ n.0 ++ (34 ∷ rest) = let i : after ≡ (n.0 ++ 34 ∷ []) ++ rest = cc f in i ∙ append_assoc n.0 (34 ∷ []) rest in
+    no_quote_in n.0 rest (subst (AllAre is_no_quote) g a)
+
+extend : (place : ℕ) (text : List ℕ) (t : Placed) (bl bo re after : List ℕ) (b : ℕ) (before : List ℕ) → Wrong b after → Begins place before t bl bo re → text ≡ before ++ b ∷ after → Begins place text t bl bo (re ++ b ∷ after)
+extend place text t bl bo re after b before w h e = record {
+  split = e ∙ (ap (λ xs. xs ++ b ∷ after) h.split ∙ (append_assoc bl (bo ++ re) (b ∷ after) ∙ ap (λ xs. bl ++ xs) (append_assoc bo re (b ∷ after))));
+  blank = h.blank;
+  placed = h.placed;
+  spelled = h.spelled;
+  whole = whole_on t.token b re after w h.whole;
+}
+
+-- a text with a wrong byte behind tokens spells no tokens
+stuck : (place : ℕ) (text before after : List ℕ) (b : ℕ) (ts us : List Placed) → Spells place before ts → is_blank b ≡ false → Wrong b after → text ≡ before ++ b ∷ after → Spells place text us → ⊥
+stuck place text before after b [] [] s f w e z =
+    let r = run_unique is_blank text before [] (b ∷ after) z s tt f (append-nil text ∙ e) in
+    cc r.1
+stuck place text before after b [] (u ∷ us) s f w e (cl, co, se, c, q) =
+    let k = head u.token co se c.spelled in
+    let r = run_unique is_blank before cl (b ∷ after) (co ++ se) s c.blank f (rw k.2 k.4) (sym e ∙ c.split) in
+    no_token u.token b after co se w c.spelled r.1
+stuck place text before after b (t ∷ ts) [] (bl, bo, re, h, r) f w e z =
+    let x = extend place text t bl bo re after b before w h e in
+    not_blank t.token text bl bo (re ++ b ∷ after) z x.blank x.spelled x.split
+stuck place text before after b (t ∷ ts) (u ∷ us) (bl, bo, re, h, r) f w e (cl, co, se, c, q) =
+    let x = extend place text t bl bo re after b before w h e in
+    let o = one_front place text t u bl bo (re ++ b ∷ after) cl co se x c in
+    let n : place + length cl + length co ≡ place + length bl + length bo = cc (o.1, o.2) in
+    let q' : Spells (place + length bl + length bo) se us = subst (λ m. Spells m se us) n q in
+    stuck (place + length bl + length bo) se re after b ts us r f w (sym o.3) q'
+
+-- two wrong bytes behind tokens are the same
+same_wrong : (place : ℕ) (text b1 a1 b2 a2 : List ℕ) (x y : ℕ) (ts us : List Placed) → Spells place b1 ts → Spells place b2 us → is_blank x ≡ false → is_blank y ≡ false → Wrong x a1 → Wrong y a2 → text ≡ b1 ++ x ∷ a1 → text ≡ b2 ++ y ∷ a2 → b1 ≡ b2
+same_wrong place text b1 a1 b2 a2 x y [] [] s z f g w v e d = (run_unique is_blank b1 b2 (x ∷ a1) (y ∷ a2) s z f g (sym e ∙ d)).0
+same_wrong place text b1 a1 b2 a2 x y [] (u ∷ us) s (cl, co, se, c, q) f g w v e d =
+    let c' = extend place text u cl co se a2 y b2 v c d in
+    let k = head u.token co (se ++ y ∷ a2) c.spelled in
+    let r = run_unique is_blank b1 cl (x ∷ a1) (co ++ (se ++ y ∷ a2)) s c.blank f (rw k.2 k.4) (sym e ∙ c'.split) in
+    absurd (no_token u.token x a1 co (se ++ y ∷ a2) w c.spelled r.1)
+same_wrong place text b1 a1 b2 a2 x y (t ∷ ts) [] (bl, bo, re, h, r) z f g w v e d =
+    let h' = extend place text t bl bo re a1 x b1 w h e in
+    let k = head t.token bo (re ++ x ∷ a1) h.spelled in
+    let m = run_unique is_blank b2 bl (y ∷ a2) (bo ++ (re ++ x ∷ a1)) z h.blank g (rw k.2 k.4) (sym d ∙ h'.split) in
+    absurd (no_token t.token y a2 bo (re ++ x ∷ a1) v h.spelled m.1)
+same_wrong place text b1 a1 b2 a2 x y (t ∷ ts) (u ∷ us) (bl, bo, re, h, r) (cl, co, se, c, q) f g w v e d =
+    let h' = extend place text t bl bo re a1 x b1 w h e in
+    let c' = extend place text u cl co se a2 y b2 v c d in
+    let o = one_front place text t u bl bo (re ++ x ∷ a1) cl co (se ++ y ∷ a2) h' c' in
+    let n : place + length cl + length co ≡ place + length bl + length bo = cc (o.1, o.2) in
+    let q' : Spells (place + length bl + length bo) se us = subst (λ m. Spells m se us) n q in
+    let i : re ≡ se = same_wrong (place + length bl + length bo) (re ++ x ∷ a1) re a1 se a2 x y ts us r q' f g w v refl o.3 in
+    h.split ∙ (cc (o.1, o.2, i) ∙ sym c.split)
+
+pub lexical_once : (text : List ℕ) (a b : ℕ) → IsLexicalFault text a → IsLexicalFault text b → a ≡ b
+lexical_once text a b f g =
+    let e : f.before ≡ g.before = same_wrong 0 text f.before f.after g.before g.after f.byte g.byte f.tokens g.tokens f.spelled g.spelled f.solid g.solid f.wrong g.wrong f.split g.split in
+    f.placed ∙ (ap length e ∙ sym g.placed)
+
+pub lexical_or_tokens : (text : List ℕ) (a : ℕ) (ts : List Placed) → IsLexicalFault text a → Spells 0 text ts → ⊥
+lexical_or_tokens text a ts f s = stuck 0 text f.before f.after f.byte f.tokens ts f.spelled f.solid f.wrong f.split s
+
+-- a text spells tokens or has a wrong byte
+pub record Stop (place : ℕ) (text : List ℕ) : Type 0 where
+  pub before : List ℕ
+  pub byte : ℕ
+  pub after : List ℕ
+  pub tokens : List Placed
+  pub split : text ≡ before ++ byte ∷ after
+  pub spelled : Spells place before tokens
+  pub solid : is_blank byte ≡ false
+  pub wrong : Wrong byte after
+
+abbrev pub Lexed : ℕ → List ℕ → Type 0
+Lexed place text = ((ts : List Placed) × Spells place text ts) ⊎ Stop place text
+
+abbrev Run : (ℕ → Bool) → List ℕ → Type 0
+Run test text = (xs ys : List ℕ) × (text ≡ xs ++ ys) × AllAre test xs × EndsRun test ys
+
+run_cons : (test : ℕ → Bool) (x : ℕ) (xs : List ℕ) (b : Bool) → test x ≡ b → Run test xs → Run test (x ∷ xs)
+run_cons test x xs true e (f, r, s, a, n) = (x ∷ f, r, ap (λ l. x ∷ l) s, (e, a), n)
+run_cons test x xs false e r = ([], x ∷ xs, refl, tt, e)
+
+run_of : (test : ℕ → Bool) (xs : List ℕ) → Run test xs
+run_of test [] = ([], [], refl, tt, tt)
+run_of test (x ∷ xs) = run_cons test x xs (test x) refl (run_of test xs)
+
+ends_before : (test : ℕ → Bool) (b : ℕ) (re after ys : List ℕ) → ys ≡ re ++ b ∷ after → EndsRun test ys → EndsRun test re
+ends_before test b [] after ys e n = tt
+ends_before test b (x ∷ xs) after ys e n = subst (EndsRun test) e n
+
+whole_before : (t : Token) (b : ℕ) (re after ys : List ℕ) → ys ≡ re ++ b ∷ after → IsWhole t ys → IsWhole t re
+whole_before (Number n) b re after ys e h = ends_before is_digit b re after ys e h
+whole_before (Word l) b re after ys e h = ends_before is_letter b re after ys e h
+whole_before (Name l) b re after ys e h = tt
+whole_before Comma b re after ys e h = tt
+whole_before Semicolon b re after ys e h = tt
+
+-- a token at the front, and what is behind it
+token_first : (place : ℕ) (text bl bo ys : List ℕ) (t : Token) → text ≡ bl ++ (bo ++ ys) → AllAre is_blank bl → IsSpelling t bo → IsWhole t ys → Lexed (place + length bl + length bo) ys → Lexed place text
+token_first place text bl bo ys t e a s w (inl (ts, z)) = inl (record { token = t; place = place + length bl } ∷ ts, (bl, bo, ys, record { split = e; blank = a; placed = refl; spelled = s; whole = w }, z))
+token_first place text bl bo ys t e a s w (inr st) = inr (record {
+  before = bl ++ (bo ++ st.before);
+  byte = st.byte;
+  after = st.after;
+  tokens = record { token = t; place = place + length bl } ∷ st.tokens;
+  split = e ∙ (ap (λ l. bl ++ (bo ++ l)) st.split ∙ (ap (λ l. bl ++ l) (sym (append_assoc bo st.before (st.byte ∷ st.after))) ∙ sym (append_assoc bl (bo ++ st.before) (st.byte ∷ st.after))));
+  spelled = (bl, bo, st.before, record { split = refl; blank = a; placed = refl; spelled = s; whole = whole_before t st.byte st.before st.after ys st.split w }, st.spelled);
+  solid = st.solid;
+  wrong = st.wrong;
+})
+
+stop_here : (place : ℕ) (text bl after : List ℕ) (b : ℕ) → text ≡ bl ++ b ∷ after → AllAre is_blank bl → is_blank b ≡ false → Wrong b after → Lexed place text
+stop_here place text bl after b e a f w = inr (record { before = bl; byte = b; after = after; tokens = []; split = e; spelled = a; solid = f; wrong = w })
+
+shorter : (n : ℕ) (text bl bo ys : List ℕ) → length text ≤ suc n → text ≡ bl ++ (bo ++ ys) → 0 < length bo → length ys ≤ n
+shorter n text bl bo ys h e p = omega (arith, ap length e, length-append bl (bo ++ ys), length-append bo ys)
+
+Quoted : List ℕ → Type 0
+Quoted rest = (inner ys : List ℕ) × (rest ≡ inner ++ 34 ∷ ys) × AllAre is_no_quote inner
+
+plain_not : (b : ℕ) → is_no_quote b ≡ false → b ≡ 34
+plain_not b h = grind (arith, nat_tests)
+
+abbrev Rec : ℕ → Type 0
+Rec n = (place : ℕ) (ys : List ℕ) → length ys ≤ n → Lexed place ys
+
+from_digits : (n place : ℕ) (text bl rest : List ℕ) (b : ℕ) → length text ≤ suc n → text ≡ bl ++ b ∷ rest → AllAre is_blank bl → is_digit b ≡ true → Rec n → Run is_digit rest → Lexed place text
+from_digits n place text bl rest b h e a d rec (xs, ys, s, k, end) =
+    let e' : text ≡ bl ++ ((b ∷ xs) ++ ys) = e ∙ ap (λ l. bl ++ b ∷ l) s in
+    token_first place text bl (b ∷ xs) ys (Number (value_of (b ∷ xs))) e' a (omega arith, (d, k), refl) end (rec (place + length bl + length (b ∷ xs)) ys (shorter n text bl (b ∷ xs) ys h e' (omega arith)))
+
+from_letters : (n place : ℕ) (text bl rest : List ℕ) (b : ℕ) → length text ≤ suc n → text ≡ bl ++ b ∷ rest → AllAre is_blank bl → is_letter b ≡ true → Rec n → Run is_letter rest → Lexed place text
+from_letters n place text bl rest b h e a d rec (xs, ys, s, k, end) =
+    let e' : text ≡ bl ++ ((b ∷ xs) ++ ys) = e ∙ ap (λ l. bl ++ b ∷ l) s in
+    token_first place text bl (b ∷ xs) ys (Word (b ∷ xs)) e' a (omega arith, (d, k), refl) end (rec (place + length bl + length (b ∷ xs)) ys (shorter n text bl (b ∷ xs) ys h e' (omega arith)))
+
+from_quote : (n place : ℕ) (text bl rest : List ℕ) → length text ≤ suc n → text ≡ bl ++ 34 ∷ rest → AllAre is_blank bl → Rec n → Run is_no_quote rest → Lexed place text
+from_quote n place text bl rest h e a rec (xs, [], s, k, end) = stop_here place text bl rest 34 e a refl (inr (refl, subst (AllAre is_no_quote) (sym (append-nil xs) ∙ sym s) k))
+from_quote n place text bl rest h e a rec (xs, y ∷ ys, s, k, end) =
+    let q : y ≡ 34 = plain_not y end in
+    let e' : text ≡ bl ++ ((34 ∷ (xs ++ 34 ∷ [])) ++ ys) = e ∙ (ap (λ l. bl ++ 34 ∷ l) (s ∙ (ap (λ z. xs ++ z ∷ ys) q ∙ sym (append_assoc xs (34 ∷ []) ys)))) in
+    token_first place text bl (34 ∷ (xs ++ 34 ∷ [])) ys (Name xs) e' a (k, refl) tt (rec (place + length bl + length (34 ∷ (xs ++ 34 ∷ []))) ys (shorter n text bl (34 ∷ (xs ++ 34 ∷ [])) ys h e' (omega arith)))
+
+from_one : (n place : ℕ) (text bl rest : List ℕ) (b : ℕ) (t : Token) → length text ≤ suc n → text ≡ bl ++ b ∷ rest → AllAre is_blank bl → IsSpelling t (b ∷ []) → IsWhole t rest → Rec n → Lexed place text
+from_one n place text bl rest b t h e a s w rec =
+    token_first place text bl (b ∷ []) rest t e a s w (rec (place + length bl + length (b ∷ [])) rest (shorter n text bl (b ∷ []) rest h e (omega arith)))
+
+none_begins : (b : ℕ) → is_digit b ≡ false → is_letter b ≡ false → (b == 34) ≡ false → (b == 44) ≡ false → (b == 59) ≡ false → begins_token b ≡ false
+none_begins b d l q c s = grind (arith, nat_tests)
+
+eq_is : (b n : ℕ) → (b == n) ≡ true → b ≡ n
+eq_is b n h = grind (arith, nat_tests)
+
+from_byte : (n place : ℕ) (text bl rest : List ℕ) (b : ℕ) → length text ≤ suc n → text ≡ bl ++ b ∷ rest → AllAre is_blank bl → is_blank b ≡ false → Rec n
+    → (d l q c s : Bool) → is_digit b ≡ d → is_letter b ≡ l → (b == 34) ≡ q → (b == 44) ≡ c → (b == 59) ≡ s → Lexed place text
+from_byte n place text bl rest b h e a f rec true l q c s ed el eq ec es = from_digits n place text bl rest b h e a ed rec (run_of is_digit rest)
+from_byte n place text bl rest b h e a f rec false true q c s ed el eq ec es = from_letters n place text bl rest b h e a el rec (run_of is_letter rest)
+from_byte n place text bl rest b h e a f rec false false true c s ed el eq ec es = from_quote n place text bl rest h (e ∙ ap (λ z. bl ++ z ∷ rest) (eq_is b 34 eq)) a rec (run_of is_no_quote rest)
+from_byte n place text bl rest b h e a f rec false false false true s ed el eq ec es = from_one n place text bl rest b Comma h e a (ap (λ z. z ∷ []) (eq_is b 44 ec)) tt rec
+from_byte n place text bl rest b h e a f rec false false false false true ed el eq ec es = from_one n place text bl rest b Semicolon h e a (ap (λ z. z ∷ []) (eq_is b 59 es)) tt rec
+from_byte n place text bl rest b h e a f rec false false false false false ed el eq ec es = stop_here place text bl rest b e a f (inl (none_begins b ed el eq ec es))
+
+from_blanks : (n place : ℕ) (text : List ℕ) → length text ≤ suc n → Rec n → Run is_blank text → Lexed place text
+from_blanks n place text h rec (xs, [], s, k, end) = inl ([], subst (AllAre is_blank) (sym (append-nil xs) ∙ sym s) k)
+from_blanks n place text h rec (xs, b ∷ ys, s, k, end) = from_byte n place text xs ys b h s k end rec (is_digit b) (is_letter b) (b == 34) (b == 44) (b == 59) refl refl refl refl refl
+
+lexed : (n place : ℕ) (text : List ℕ) → length text ≤ n → Lexed place text
+lexed zero place [] h = inl ([], tt)
+lexed zero place (x ∷ xs) h = absurd (omega arith)
+lexed (suc n) place text h = from_blanks n place text h (lexed n) (run_of is_blank text)
+
+-- every text spells tokens or has a lexical fault
+pub tokens_or_lexical : (text : List ℕ) → ((ts : List Placed) × Spells 0 text ts) ⊎ ((at : ℕ) × IsLexicalFault text at)
+tokens_or_lexical text = elim (lexed (length text) 0 text (omega arith)) [
+  | inl z ↦ inl z
+  | inr st ↦ inr (length st.before, record { before = st.before; byte = st.byte; after = st.after; tokens = st.tokens; split = st.split; placed = refl; spelled = st.spelled; solid = st.solid; wrong = st.wrong })
+]

@@ -1,0 +1,177 @@
+-- The token at a place, from runs of bytes.
+use Rattle.std.proofs.Common.{◌≡◌, ℕ, ◌+◌, ◌-◌, ◌<◌, ◌≤◌, zero, suc, Bool, true, false, List, [], ◌∷◌, ◌++◌, length, drop, take, get_or, refl, sym, ◌∙◌, ap, subst, arith, inr, ◌⊎◌, append_assoc, length-append, length-drop}
+use Rattle.memchr.specs.Find.{IsFirstByte, is_byte}
+use Rattle.std.specs.Prelude.{◌==◌, ◌≢◌, Some, None}
+use Rattle.std.proofs.lemmas.Bool.{eqb-true, ne_eqb}
+use Rattle.std.proofs.lemmas.List.{drop_more, drop-drop, take-append-drop, length-take-le, take_at, drop_at}
+use Rattle.pg_text.specs.declared.lexer.Kind.{Kind}
+use Rattle.pg_text.specs.declared.lexer.Kind.TheVariants as kind
+use Rattle.pg_text.specs.Token.{Token, Number, Word, Name, Comma, Semicolon, IsSpelling, IsWhole}
+use Rattle.pg_text.specs.Bytes.{is_blank, is_digit, is_letter, is_no_quote, is_quote, begins_token, AllAre, EndsRun, value_of}
+use Rattle.pg_text.specs.Piece.{IsRun, IsToken, IsNoToken, IsPieceOf}
+use Rattle.pg_text.proofs.Runs.{all-append}
+
+-- a run whose first byte passes has a byte
+run_nonempty : (test : ℕ → Bool) (text : List ℕ) (from to : ℕ) (run : List ℕ) → IsRun test text from to run → from < length text → test (get_or text from 0) ≡ true → EndsRun test (drop to text) → 0 < length run
+run_nonempty test text from to [] r h p e = absurd (
+    let s : to ≡ from = let f = r.end in omega arith in
+    let g : EndsRun test (get_or text from 0 ∷ drop (from + 1) text) = subst (EndsRun test) (ap (λ n. drop n text) s ∙ drop_more text from 0 h) e in
+    cc (p, g))
+run_nonempty test text from to (b ∷ run) r h p e = omega arith
+
+module _ (text : List ℕ) (from : ℕ) (inside : from < length text) where
+  -- a body that begins here is a token
+  from_body : (t : Token) (to : ℕ) (body : List ℕ) → drop from text ≡ body ++ drop to text → to ≡ from + length body → IsSpelling t body → IsWhole t (drop to text) → IsToken text from from to t
+  from_body t to body e n s w = record {
+    blanks = [];
+    body = body;
+    begins = record { split = e; blank = tt; placed = omega arith; spelled = s; whole = w };
+    end = omega arith;
+  }
+
+  pub number_at : (to : ℕ) (run : List ℕ) → IsRun is_digit text from to run → is_digit (get_or text from 0) ≡ true → EndsRun is_digit (drop to text) → IsToken text from from to (Number (value_of run))
+  number_at to run r p e = from_body (Number (value_of run)) to run r.split r.end (run_nonempty is_digit text from to run r inside p e, r.passes, refl) e
+
+  pub word_at : (to : ℕ) (run : List ℕ) → IsRun is_letter text from to run → is_letter (get_or text from 0) ≡ true → EndsRun is_letter (drop to text) → IsToken text from from to (Word run)
+  word_at to run r p e = from_body (Word run) to run r.split r.end (run_nonempty is_letter text from to run r inside p e, r.passes, refl) e
+
+  pub comma_at : get_or text from 0 ≡ 44 → IsToken text from from (from + 1) Comma
+  comma_at e = from_body Comma (from + 1) (44 ∷ []) (drop_more text from 0 inside ∙ ap (λ b. b ∷ drop (from + 1) text) e) (omega arith) refl tt
+
+  pub semicolon_at : get_or text from 0 ≡ 59 → IsToken text from from (from + 1) Semicolon
+  semicolon_at e = from_body Semicolon (from + 1) (59 ∷ []) (drop_more text from 0 inside ∙ ap (λ b. b ∷ drop (from + 1) text) e) (omega arith) refl tt
+
+  pub nothing_at : is_blank (get_or text from 0) ≡ false → ((begins_token (get_or text from 0) ≡ false) ⊎ ((get_or text from 0 ≡ 34) × AllAre is_no_quote (drop (from + 1) text))) → IsNoToken text from from
+  nothing_at s w = record {
+    blanks = [];
+    byte = get_or text from 0;
+    after = drop (from + 1) text;
+    split = drop_more text from 0 inside;
+    blank = tt;
+    placed = omega arith;
+    solid = s;
+    wrong = w;
+  }
+
+  pub name_at : (inner : List ℕ) (to : ℕ) → get_or text from 0 ≡ 34 → AllAre is_no_quote inner → drop (from + 1) text ≡ inner ++ 34 ∷ drop to text → to ≡ from + length inner + 2 → IsToken text from from to (Name inner)
+  name_at inner to q p e n =
+      from_body (Name inner) to (34 ∷ (inner ++ 34 ∷ []))
+      (drop_more text from 0 inside ∙ (ap (λ b. b ∷ drop (from + 1) text) q ∙ ap (λ xs. 34 ∷ xs) (e ∙ sym (append_assoc inner (34 ∷ []) (drop to text)))))
+      (let f = length-append inner (34 ∷ []) in omega arith) (p, refl) tt
+
+-- no quote among the first bytes
+pub plain_front : (hay : List ℕ) (k : ℕ) → ((j : ℕ) → j < k → is_quote (get_or hay j 0) ≡ true → ⊥) → AllAre is_no_quote (take k hay)
+plain_front [] zero none = tt
+plain_front [] (suc k) none = tt
+plain_front (b ∷ hay) zero none = tt
+plain_front (b ∷ hay) (suc k) none = (here (is_quote b) refl, plain_front hay k (λ j h. none (suc j) (omega arith)))
+  where
+    here : (t : Bool) → is_quote b ≡ t → is_no_quote b ≡ true
+    here true e = absurd (none 0 (omega arith) e)
+    here false e = rw e refl
+
+pub plain_all : (hay : List ℕ) → ((j : ℕ) → j < length hay → is_quote (get_or hay j 0) ≡ true → ⊥) → AllAre is_no_quote hay
+plain_all [] none = tt
+plain_all (b ∷ hay) none = (here (is_quote b) refl, plain_all hay (λ j h. none (suc j) (omega arith)))
+  where
+    here : (t : Bool) → is_quote b ≡ t → is_no_quote b ≡ true
+    here true e = absurd (none 0 (omega arith) e)
+    here false e = rw e refl
+
+-- the bytes up to the first quote
+pub quote_split : (text : List ℕ) (start k : ℕ) → k < length (drop start text) → is_quote (get_or (drop start text) k 0) ≡ true → drop start text ≡ take k (drop start text) ++ 34 ∷ drop (start + k + 1) text
+quote_split text start k h q =
+    let hay = drop start text in
+    let e : drop k hay ≡ 34 ∷ drop (start + k + 1) text =
+    drop_more hay k 0 h ∙ (ap (λ b. b ∷ drop (k + 1) hay) (eqb-true (get_or hay k 0) 34 q) ∙ ap (λ xs. 34 ∷ xs) (drop-drop (k + 1) start text ∙ ap (λ n. drop n text) (omega arith))) in
+    sym (take-append-drop k hay) ∙ ap (λ xs. take k hay ++ xs) e
+
+-- a token behind blanks
+token_past : (text : List ℕ) (at from end to : ℕ) (run : List ℕ) (t : Token) → IsRun is_blank text at from run → IsToken text from end to t → IsToken text at end to t
+token_past text at from end to run t r i = record {
+  blanks = run ++ i.blanks;
+  body = i.body;
+  begins = record {
+    split = r.split ∙ (ap (λ xs. run ++ xs) i.begins.split ∙ sym (append_assoc run i.blanks (i.body ++ drop to text)));
+    blank = all-append is_blank run i.blanks r.passes i.begins.blank;
+    placed = let f = length-append run i.blanks in let p = i.begins.placed in let q = r.end in omega arith;
+    spelled = i.begins.spelled;
+    whole = i.begins.whole;
+  };
+  end = let f = length-append run i.blanks in let p = i.end in let q = r.end in omega arith;
+}
+
+pub piece_past : (k : Kind) (text : List ℕ) (at from end to : ℕ) (run : List ℕ) → IsRun is_blank text at from run → IsPieceOf k text from end to → IsPieceOf k text at end to
+piece_past (kind.Number value) text at from end to run r (n, e, i) = (n, e, token_past text at from end to run (Number n) r i)
+piece_past kind.Word text at from end to run r (n, i) = (n, token_past text at from end to run (Word n) r i)
+piece_past kind.Name text at from end to run r (n, i) = (n, token_past text at from end to run (Name n) r i)
+piece_past kind.Comma text at from end to run r i = token_past text at from end to run Comma r i
+piece_past kind.Semicolon text at from end to run r i = token_past text at from end to run Semicolon r i
+piece_past kind.End text at from end to run r i = subst (AllAre is_blank) (sym r.split) (all-append is_blank run (drop from text) r.passes i)
+piece_past kind.Bad text at from end to run r i = record {
+  blanks = run ++ i.blanks;
+  byte = i.byte;
+  after = i.after;
+  split = r.split ∙ (ap (λ xs. run ++ xs) i.split ∙ sym (append_assoc run i.blanks (i.byte ∷ i.after)));
+  blank = all-append is_blank run i.blanks r.passes i.blank;
+  placed = let f = length-append run i.blanks in let p = i.placed in let q = r.end in omega arith;
+  solid = i.solid;
+  wrong = i.wrong;
+}
+
+-- a token takes a byte at least
+body_nonempty : (t : Token) (body : List ℕ) → IsSpelling t body → 0 < length body
+body_nonempty (Number n) body s = s.0
+body_nonempty (Word n) body s = s.0
+body_nonempty (Name n) body s = let e = ap length s.1 in omega arith
+body_nonempty Comma body s = let e = ap length s in omega arith
+body_nonempty Semicolon body s = let e = ap length s in omega arith
+
+-- it ends behind the place, and within the text
+pub token_ahead : (text : List ℕ) (at from to : ℕ) (t : Token) → IsToken text at from to t → (at < to) × (at ≤ length text → to ≤ length text)
+token_ahead text at from to t i =
+    let n = body_nonempty t i.body i.begins.spelled in
+    let e = i.end in (
+      omega arith,
+      λ h.
+          let f : length (drop at text) ≡ length (i.blanks ++ (i.body ++ drop to text)) = ap length i.begins.split in
+          let g = length-append i.blanks (i.body ++ drop to text) in
+          let k = length-append i.body (drop to text) in
+          let p = length-drop at text in
+          let q = length-drop to text in
+          omega arith,
+    )
+
+-- a name, from the first quote behind its first
+pub name_found : (text hay : List ℕ) (from more : ℕ) → from < length text → get_or text from 0 ≡ 34 → hay ≡ drop (from + 1) text → IsFirstByte (is_byte 34) hay (Some more) → (x : List ℕ) × IsToken text from from (from + more + 2) (Name x)
+name_found text hay from more h q e f =
+    let g : IsFirstByte (is_byte 34) (drop (from + 1) text) (Some more) = subst (λ xs. IsFirstByte (is_byte 34) xs (Some more)) e f in
+    let l : more < length (drop (from + 1) text) = g.0.high in
+    let n : length (take more (drop (from + 1) text)) ≡ more = length-take-le more (drop (from + 1) text) (omega arith) in (
+      take more (drop (from + 1) text),
+      name_at text from h (take more (drop (from + 1) text)) (from + more + 2) q
+          (plain_front (drop (from + 1) text) more (λ j k t. g.0.before j (omega arith) k t))
+          (quote_split text (from + 1) more l g.1 ∙ ap (λ m. take more (drop (from + 1) text) ++ 34 ∷ drop m text) (omega arith))
+          (omega arith),
+    )
+
+pub name_lost : (text hay : List ℕ) (from : ℕ) → from < length text → get_or text from 0 ≡ 34 → hay ≡ drop (from + 1) text → IsFirstByte (is_byte 34) hay None → IsNoToken text from from
+name_lost text hay from h q e f =
+    let g : IsFirstByte (is_byte 34) (drop (from + 1) text) None = subst (λ xs. IsFirstByte (is_byte 34) xs None) e f in
+    nothing_at text from h (rw q refl) (inr (q, plain_all (drop (from + 1) text) (λ j k t. g j (omega arith) k t)))
+
+-- a byte that is none of those that begin a token
+pub begins_none : (b : ℕ) → is_digit b ≡ false → is_letter b ≡ false → b ≢ 34 → b ≢ 44 → b ≢ 59 → begins_token b ≡ false
+begins_none b d l q c s =
+    let x : (b == 34) ≡ false = ne_eqb b 34 q in
+    let y : (b == 44) ≡ false = ne_eqb b 44 c in
+    let z : (b == 59) ≡ false = ne_eqb b 59 s in
+    rw (d, l, x, y, z) refl
+
+-- the bytes between the places of a word are its letters
+pub word_bytes : (text : List ℕ) (at from to : ℕ) (letters : List ℕ) → IsToken text at from to (Word letters) → take (to - from) (drop from text) ≡ letters
+word_bytes text at from to letters i =
+    let e : drop from text ≡ i.body ++ drop to text =
+    ap (λ n. drop n text) i.begins.placed ∙ (sym (drop-drop (length i.blanks) at text) ∙ (ap (drop (length i.blanks)) i.begins.split ∙ drop_at i.blanks (i.body ++ drop to text) (length i.blanks) refl)) in
+    let n : to - from ≡ length i.body = let p = i.begins.placed in let q = i.end in omega arith in
+    ap (take (to - from)) e ∙ (take_at i.body (drop to text) (to - from) (sym n) ∙ sym i.begins.spelled.2)

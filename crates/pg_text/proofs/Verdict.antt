@@ -1,0 +1,102 @@
+-- Winners and choices without a fault are a solution, and a solution has no fault.
+use Rattle.std.proofs.Common.{◌≡◌, ℕ, ◌<◌, Bool, true, false, ◌&&◌, ◌⊎◌, inl, inr, List, [], ◌∷◌, length, lt-ltb, refl, sym, ◌∙◌, subst, arith}
+use Rattle.std.specs.Prelude.{Option, Some, None, nat_lt, nat_eq}
+use Rattle.std.specs.List.{Contains}
+use Rattle.std.proofs.lemmas.Bool.{ltb-true, eqb-true, eq-eqb}
+use Rattle.pg_game.specs.declared.player.Player.{Player}
+use Rattle.pg_game.specs.declared.player.Player.TheVariants.{Even, Odd}
+use Rattle.pg_game.specs.Player.{same_player}
+use Rattle.pg_game.specs.Graph.{Graph, HasEdge, owner_of, successors_of}
+use Rattle.pg_game.specs.VertexSet.{In}
+use Rattle.pg_game.specs.Kept.{KeptEdge, listed}
+use Rattle.pg_game.specs.Walk.{ClosedWalk}
+use Rattle.pg_game.specs.Region.{OnBadWalk}
+use Rattle.pg_game.specs.Least.{NoneHas}
+use Rattle.pg_game.proofs.Members.{some_or_none, Contains-one}
+use Rattle.pg_game.proofs.Rotate.{good_from_none}
+use Rattle.pg_text.specs.Solution.{Rows, winner_of, choice_of, won_by, IsSolution}
+use Rattle.pg_text.specs.Verdict.{LacksChoice, HasBadChoice, Leaves, IsOnBadWalk}
+
+both_true : (a b : Bool) → (a && b) ≡ true → (a ≡ true) × (b ≡ true)
+both_true true b e = (refl, e)
+both_true false b e = absurd (cc e)
+
+same_is : (p q : Player) → same_player p q ≡ true → p ≡ q
+same_is Even Even e = refl
+same_is Even Odd e = absurd (cc e)
+same_is Odd Even e = absurd (cc e)
+same_is Odd Odd e = refl
+
+is_same : (p q : Player) → p ≡ q → same_player p q ≡ true
+is_same Even Even e = refl
+is_same Even Odd e = absurd (cc e)
+is_same Odd Even e = absurd (cc e)
+is_same Odd Odd e = refl
+
+-- a list has the number or does not
+pub has_or_not : (ws : List ℕ) (w : ℕ) → Contains ws w ⊎ (Contains ws w → ⊥)
+has_or_not ws w = elim (some_or_none (λ x. nat_eq x w) ws) [
+  | inl (x, m, t) ↦ inl (subst (Contains ws) (eqb-true x w t) m)
+  | inr none ↦ inr (λ m. let e : nat_eq w w ≡ true = eq-eqb w w refl in cc (e, none w m))
+]
+
+module _ (g : Graph) (rows : Rows) (size : length rows ≡ length g) where
+  -- a vertex of the player's set is one of the game, and he is its winner
+  pub won : (p : Player) (v : ℕ) → In (won_by rows p) v → (v < length g) × (winner_of rows v ≡ p)
+  won p v i =
+      let h = both_true (nat_lt v (length rows)) (same_player (winner_of rows v) p) i in
+      let l : v < length rows = ltb-true v (length rows) h.0 in
+      (omega arith, same_is (winner_of rows v) p h.1)
+
+  choice_cases : (v : ℕ) → v < length g → owner_of g v ≡ winner_of rows v → NoneHas (LacksChoice g rows) → NoneHas (HasBadChoice g rows) → (c : Option ℕ) → choice_of rows v ≡ c → (w : ℕ) × (choice_of rows v ≡ Some w) × HasEdge g v w
+  choice_cases v l o lacks bad None e = absurd (lacks v (l, o, e))
+  choice_cases v l o lacks bad (Some w) e = elim (has_or_not (successors_of g v) w) [
+    | inl m ↦ (w, e, m)
+    | inr none ↦ absurd (bad v (l, o, (w, e, none)))
+  ]
+
+  module _ (edges : (v w : ℕ) → v < length g → HasEdge g v w → w < length g) (lacks : NoneHas (LacksChoice g rows)) (bad : NoneHas (HasBadChoice g rows)) (leaves : (v w : ℕ) → Leaves g rows v w → ⊥) (on_walk : NoneHas (IsOnBadWalk g rows)) where
+    choice_is : (p : Player) (v : ℕ) → In (won_by rows p) v → owner_of g v ≡ p → (w : ℕ) × (choice_of rows v ≡ Some w) × HasEdge g v w
+    choice_is p v i o = let h = won p v i in choice_cases v h.0 (o ∙ sym h.1) lacks bad (choice_of rows v) refl
+
+    -- a kept edge is an edge
+    kept_edge : (p : Player) (v w : ℕ) → KeptEdge g p (won_by rows p) (choice_of rows) v w → HasEdge g v w
+    kept_edge p v w (i, m) = go (same_player (owner_of g v) p) refl
+      where
+        go : (b : Bool) → same_player (owner_of g v) p ≡ b → HasEdge g v w
+        go false e = rw e at m
+        go true e =
+            let c = choice_is p v i (same_is (owner_of g v) p e) in
+            let n : Contains (listed (choice_of rows v)) w = rw e at m in
+            let one : Contains (c.0 ∷ []) w = subst (λ o. Contains (listed o) w) c.1 n in
+            subst (HasEdge g v) (Contains-one c.0 w one) c.2
+
+    -- the winner of a vertex that the player wins is the player
+    as_winner : (p : Player) (v w : ℕ) → winner_of rows v ≡ p → KeptEdge g p (won_by rows p) (choice_of rows) v w → KeptEdge g (winner_of rows v) (won_by rows (winner_of rows v)) (choice_of rows) v w
+    as_winner p v w e k = subst (λ q. KeptEdge g q (won_by rows q) (choice_of rows) v w) (sym e) k
+
+    stays : (p : Player) (v w : ℕ) → KeptEdge g p (won_by rows p) (choice_of rows) v w → In (won_by rows p) w
+    stays p v w k = go (same_player (winner_of rows w) p) refl
+      where
+        go : (b : Bool) → same_player (winner_of rows w) p ≡ b → In (won_by rows p) w
+        go true e =
+            let h = won p v k.0 in
+            let l : w < length rows = omega (arith, edges v w h.0 (kept_edge p v w k)) in
+            rw (lt-ltb w (length rows) l) e
+        go false e = absurd (let h = won p v k.0 in leaves v w (as_winner p v w h.1 k, λ q. cc (e, is_same (winner_of rows w) p (q ∙ h.1))))
+
+    on_first : (p : Player) (v : ℕ) (vs : List ℕ) → ClosedWalk (KeptEdge g p (won_by rows p) (choice_of rows)) (v ∷ vs) → In (won_by rows p) v
+    on_first p v [] c = c.0
+    on_first p v (w ∷ ws) c = c.0.0
+
+    pub solution_from_no_fault : IsSolution g rows
+    solution_from_no_fault = record {
+      size = size;
+      regions = λ p. record {
+        vertices = λ v i. lt-ltb v (length g) (won p v i).0;
+        choices = choice_is p;
+        closed = stays p;
+        good = good_from_none g p (won_by rows p) (choice_of rows)
+            (λ v b. on_walk v (subst (λ q. OnBadWalk g q (won_by rows q) (choice_of rows) v) (sym (won p v (on_first p v b.0 b.1)).1) b));
+      };
+    }

@@ -1,0 +1,196 @@
+-- The written text of a game, or of winners and choices, reads as these and as nothing else.
+use Rattle.std.proofs.Common.{◌≡◌, ℕ, zero, suc, ◌+◌, ◌-◌, ◌^◌, ◌<◌, false, not, List, [], ◌∷◌, length, map, get_or, refl, sym, ◌∙◌, ap, subst, arith}
+use Rattle.std.specs.Prelude.{◌==◌, Option, Some, None, IfSome, option_map, slice_get}
+use Rattle.std.specs.List.{AllByRecursion, Contains, list_any}
+use Rattle.std.specs.List.Sorted.{IsStrictlyIncreasing}
+use Rattle.std.proofs.lemmas.Bool.{eqb-true, eq-eqb, false_from_ne_true}
+use Rattle.std.proofs.lemmas.List.{length-map, get_or-map, same_lists}
+use Rattle.std.proofs.lemmas.List.Folds.{list_any_at}
+use Rattle.std.proofs.lemmas.Option.{slice_get-get_or, get_or_from_slice_get}
+use Rattle.std.proofs.lemmas.Map.Keys.{sorted_from_strictly_increasing, below_from_sorted}
+use Rattle.pg_game.specs.declared.player.Player.{Player}
+use Rattle.pg_game.specs.declared.player.Player.TheVariants.{Even}
+use Rattle.pg_game.specs.declared.game.Spec.{Spec}
+use Rattle.pg_game.specs.Player.{digit_of}
+use Rattle.pg_game.specs.Graph.{Graph, Vertex, IsGame, id_of, vertex_at, no_vertex, successors_of}
+use Rattle.pg_game.specs.Specification.{IsGameOf, first_repeated}
+use Rattle.pg_text.specs.Token.{Placed, tokens_of}
+use Rattle.pg_text.specs.GameText.{IsGameText, spec_of}
+use Rattle.pg_text.specs.SolutionText as solutions
+use Rattle.pg_text.specs.SolutionText.{IsSolutionText}
+use Rattle.pg_text.specs.Solution.{Rows, AreRows}
+use Rattle.pg_text.specs.Written.{greatest_id, written_game, written_solution}
+use Rattle.pg_text.specs.SolutionLines.{AreRowsOf, first_stranger, first_twice, first_missing, has_line, number_in, row_of}
+use Rattle.pg_text.specs.SolutionTable.{IsNamed}
+use Rattle.pg_text.specs.Laws.{HasShortNumbers, WrittenGameReads, WrittenSolutionReads}
+use Rattle.pg_text.proofs.Described.{spec_at, specs_of, described_game, one_described}
+use Rattle.pg_text.proofs.Spelling.{one_spelling}
+use Rattle.pg_text.proofs.GameRun.{one_reading}
+use Rattle.pg_text.proofs.SolutionRun.{one_lines}
+use Rattle.pg_text.proofs.Identifiers.{number_at, stranger-append}
+use Rattle.pg_text.proofs.SolutionTable.{IsChoice, player_back, find_none, row_is, at_home}
+use Rattle.pg_text.proofs.WrittenSpells.{IsShort, line_of, row_line, row_lines, spells_game, spells_solution, all_from_places, all-map, all_imply, length-ids, owner_small, small_winners}
+
+module _ (g : Graph) (i : IsGame g) (short : HasShortNumbers g) where
+  short_vertices : AllByRecursion (λ x. IsShort g x) g
+  short_vertices = all_from_places (λ x. IsShort g x) no_vertex g (λ v l.
+      let s = i.successors v l in record {
+        id = short.ids v l;
+        priority = short.priorities v l;
+        successors = all-map (λ u. id_of g u) (λ n. n < 10 ^ 64) (successors_of g v) (all_from_places (λ u. id_of g u < 10 ^ 64) 0 (successors_of g v) (λ k h. short.ids (get_or (successors_of g v) k 0) (s.below k h)));
+        some = s.nonempty;
+      })
+
+  short_last : greatest_id g < 10 ^ 64
+  short_last = let h = i.nonempty in short.ids (length g - 1) (omega arith)
+
+-- the written lines specify what describes the game
+spec_back : (g : Graph) (x : Vertex) → spec_of (line_of g x) ≡ spec_at g x
+spec_back g x = ap (λ p. record { id = x.id; priority = x.priority; owner = p; successors = map (λ w. id_of g w) x.successors }) (sym (player_back x.owner))
+
+specs_back : (g : Graph) (xs : List Vertex) → map spec_of (map (λ x. line_of g x) xs) ≡ map (λ x. spec_at g x) xs
+specs_back g [] = refl
+specs_back g (x ∷ xs) = ap (λ (s : Spec). s ∷ map spec_of (map (λ x. line_of g x) xs)) (spec_back g x) ∙ ap (λ (ss : List Spec). spec_at g x ∷ ss) (specs_back g xs)
+
+pub written_game_reads : WrittenGameReads
+written_game_reads g i short =
+    let (ps, s, e) = spells_game g (short_vertices g i short) (short_last g i short) 0 in
+    let grammar : IsGameText (tokens_of ps) (map (λ x. line_of g x) g) = record {
+      header = Some (greatest_id g);
+      start = None;
+      tokens = e;
+      nonempty = let h = i.nonempty in let n = length-map g (λ x. line_of g x) in omega arith;
+      successors = all-map (λ x. line_of g x) (λ l. 0 < length l.successors) g (all_imply (λ x. IsShort g x) (λ x. 0 < length (map (λ w. id_of g w) x.successors)) g (λ x s. let n = length-ids g x.successors in let h = s.some in omega arith) (short_vertices g i short));
+    } in
+    let back : map spec_of (map (λ x. line_of g x) g) ≡ specs_of g = specs_back g g in
+    record {
+      lines = map (λ x. line_of g x) g;
+      spells = (ps, s, grammar);
+      one_text = λ others (us, z, o). one_reading (tokens_of us) others (map (λ x. line_of g x) g) o (subst (λ (ts : List Placed). IsGameText (tokens_of ts) (map (λ x. line_of g x) g)) (one_spelling 0 (written_game g) ps us s z) grammar);
+      owners = all-map (λ x. line_of g x) (λ l. l.owner < 2) g (all_imply (λ x. IsShort g x) (λ x. digit_of x.owner < 2) g (λ x s. owner_small x.owner) (short_vertices g i short));
+      game = subst (λ specs. IsGameOf specs g) (sym back) (described_game g i);
+      one_game = λ h o. one_described g i h (subst (λ specs. IsGameOf specs h) back o);
+    }
+
+-- the row of a place that has none
+no_row : Player × Option ℕ
+no_row = (Even, None)
+
+no_line : solutions.Line
+no_line = record { id = 0; winner = 0; choice = None }
+
+length-row_lines : (g : Graph) (xs : List Vertex) (rows : Rows) → length rows ≡ length xs → length (row_lines g xs rows) ≡ length xs
+length-row_lines g [] rows e = refl
+length-row_lines g (x ∷ xs) [] e = absurd (omega arith)
+length-row_lines g (x ∷ xs) (r ∷ rows) e = let k = length-row_lines g xs rows (omega arith) in omega arith
+
+row_line_at : (g : Graph) (xs : List Vertex) (rows : Rows) (k : ℕ) (x : Vertex) (r : Player × Option ℕ) (d : solutions.Line) → length rows ≡ length xs → k < length xs → get_or (row_lines g xs rows) k d ≡ row_line g (get_or xs k x) (get_or rows k r)
+row_line_at g [] rows k x r d e l = absurd (omega arith)
+row_line_at g (y ∷ ys) [] k x r d e l = absurd (omega arith)
+row_line_at g (y ∷ ys) (q ∷ rows) zero x r d e l = refl
+row_line_at g (y ∷ ys) (q ∷ rows) (suc k) x r d e l = row_line_at g ys rows k x r d (omega arith) (omega arith)
+
+row_line-ids : (g : Graph) (xs : List Vertex) (rows : Rows) → length rows ≡ length xs → map (λ l. l.id) (row_lines g xs rows) ≡ map (λ x. x.id) xs
+row_line-ids g [] rows e = refl
+row_line-ids g (x ∷ xs) [] e = absurd (omega arith)
+row_line-ids g (x ∷ xs) (r ∷ rows) e = ap (λ (is : List ℕ). x.id ∷ is) (row_line-ids g xs rows (omega arith))
+
+-- what rises has nothing twice
+rising_once : (earlier ns : List ℕ) → IsStrictlyIncreasing ns → ((k : ℕ) → k < length ns → list_any (λ m. m == get_or ns k 0) earlier ≡ false) → first_repeated earlier ns ≡ None
+rising_once earlier [] up f = refl
+rising_once earlier (n ∷ ns) up f =
+    let e : list_any (λ m. m == n) earlier ≡ false = f 0 (omega arith) in
+    let sorted = sorted_from_strictly_increasing (n ∷ ns) up in
+    rw e (rising_once (n ∷ earlier) ns (λ k l. below_from_sorted (n ∷ ns) (suc k) (suc (k + 1)) 0 sorted (omega arith) (omega arith)) (λ k l.
+    let b : n < get_or ns k 0 = below_from_sorted (n ∷ ns) 0 (suc k) 0 sorted (omega arith) (omega arith) in
+    let d : (n == get_or ns k 0) ≡ false = false_from_ne_true (n == get_or ns k 0) (λ t. let q : n ≡ get_or ns k 0 = eqb-true n (get_or ns k 0) t in omega arith) in
+    rw d (f (suc k) (omega arith))))
+
+pub all_at : {X : Type 0} (P : X → Type 0) (xs : List X) (k : ℕ) (d : X) → AllByRecursion P xs → k < length xs → P (get_or xs k d)
+all_at P [] k d a l = absurd (omega arith)
+all_at P (x ∷ xs) zero d a l = a.0
+all_at P (x ∷ xs) (suc k) d a l = all_at P xs k d a.1 (omega arith)
+
+choice_named : (g : Graph) (c : Option ℕ) → IfSome c (λ w. w < length g) → IsChoice g (option_map (λ w. id_of g w) c) c
+choice_named g None h = tt
+choice_named g (Some w) h = record { vertex = h; id_is = refl }
+
+none_home : (g : Graph) (lines : List solutions.Line) → AllByRecursion (λ l. first_stranger g (l ∷ []) ≡ None) lines → first_stranger g lines ≡ None
+none_home g [] a = refl
+none_home g (l ∷ lines) a = let h = a.0 in let t = none_home g lines a.1 in stranger-append g (l ∷ []) lines ∙ rw (h, t) refl
+
+module _ (g : Graph) (rows : Rows) (i : IsGame g) (are : AreRows g rows) where
+  choice_at : (v : ℕ) → v < length g → IsChoice g (option_map (λ w. id_of g w) (get_or rows v no_row).1) (get_or rows v no_row).1
+  choice_at v l = choice_named g (get_or rows v no_row).1 (let e = are.size in all_at (λ r. IfSome r.1 (λ w. w < length g)) rows v no_row are.choices (omega arith))
+
+  named : (v : ℕ) → v < length g → IsNamed g (id_of g v) v
+  named v l = record { vertex = l; id_is = refl }
+
+  stands_at : (v : ℕ) (d : solutions.Line) → v < length g → get_or (row_lines g g rows) v d ≡ row_line g (vertex_at g v) (get_or rows v no_row)
+  stands_at v d l = row_line_at g g rows v no_vertex no_row d are.size l
+
+  no_strangers : first_stranger g (row_lines g g rows) ≡ None
+  no_strangers =
+      let n = length-row_lines g g rows are.size in
+      none_home g (row_lines g g rows) (all_from_places (λ l. first_stranger g (l ∷ []) ≡ None) no_line (row_lines g g rows) (λ v l.
+      let h : v < length g = omega arith in
+      subst (λ (x : solutions.Line). first_stranger g (x ∷ []) ≡ None) (sym (stands_at v no_line h)) (at_home g (id_of g v) v (digit_of (get_or rows v no_row).0) (option_map (λ w. id_of g w) (get_or rows v no_row).1) (get_or rows v no_row).1 (named v h) (choice_at v h))))
+
+  once : first_twice (row_lines g g rows) ≡ None
+  once = ap (first_repeated []) (row_line-ids g g rows are.size) ∙ rising_once [] (map (λ x. x.id) g) i.ids (λ k l. refl)
+
+  complete : first_missing g (row_lines g g rows) ≡ None
+  complete =
+      let n = length-row_lines g g rows are.size in
+      let k : length (map (λ x. x.id) g) ≡ length g = length-map g (λ x. x.id) in
+      find_none (λ id. not (has_line (row_lines g g rows) id)) (map (λ x. x.id) g) (λ v l.
+      let h : v < length g = omega arith in
+      let e : get_or (map (λ x. x.id) g) v 0 ≡ id_of g v = get_or-map (λ x. x.id) g v no_vertex 0 h in
+      let f : (get_or (row_lines g g rows) v no_line).id ≡ get_or (map (λ x. x.id) g) v 0 = ap (λ (x : solutions.Line). x.id) (stands_at v no_line h) ∙ sym e in
+      ap not (list_any_at (λ x. x.id == get_or (map (λ x. x.id) g) v 0) (row_lines g g rows) v no_line (omega arith) (eq-eqb (get_or (row_lines g g rows) v no_line).id (get_or (map (λ x. x.id) g) v 0) f)))
+
+  row_back : (v : ℕ) → v < length g → get_or rows v no_row ≡ row_of g (row_line g (vertex_at g v) (get_or rows v no_row))
+  row_back v l = row_is g (id_of g v) (get_or rows v no_row).0 (option_map (λ w. id_of g w) (get_or rows v no_row).1) (get_or rows v no_row).1 i (choice_at v l)
+
+  says : AreRowsOf g (row_lines g g rows) rows
+  says = record {
+    size = are.size;
+    each = λ l (k, lk, e).
+        let n = length-row_lines g g rows are.size in
+        let h : k < length g = omega arith in
+        let m = are.size in
+        let is : l ≡ row_line g (vertex_at g k) (get_or rows k no_row) = sym e ∙ stands_at k l h in
+        let at : number_in g (id_of g k) ≡ k = number_at g (id_of g k) k i (named k h) in
+        subst (λ (x : solutions.Line). slice_get rows (number_in g x.id) ≡ Some (row_of g x)) (sym is)
+        (subst (λ v. slice_get rows v ≡ Some (row_of g (row_line g (vertex_at g k) (get_or rows k no_row)))) (sym at)
+        (slice_get-get_or rows k no_row (omega arith) ∙ ap (λ r. Some r) (row_back k h)));
+  }
+
+  no_others : (others : Rows) → AreRowsOf g (row_lines g g rows) others → others ≡ rows
+  no_others others o = same_lists others rows (o.size ∙ sym are.size) (λ k d l.
+      let n = length-row_lines g g rows are.size in
+      let m = o.size in
+      let h : k < length g = omega arith in
+      let x : solutions.Line = row_line g (vertex_at g k) (get_or rows k no_row) in
+      let at : number_in g (id_of g k) ≡ k = number_at g (id_of g k) k i (named k h) in
+      let c : Contains (row_lines g g rows) x = (k, omega arith, stands_at k x h) in
+      let a : slice_get others k ≡ Some (row_of g x) = subst (λ v. slice_get others v ≡ Some (row_of g x)) at (o.each x c) in
+      let b : slice_get rows k ≡ Some (row_of g x) = subst (λ v. slice_get rows v ≡ Some (row_of g x)) at (says.each x c) in
+      get_or_from_slice_get others k (row_of g x) d a ∙ sym (get_or_from_slice_get rows k (row_of g x) d b))
+
+pub written_solution_reads : WrittenSolutionReads
+written_solution_reads g rows i short are =
+    let (ps, s, e) = spells_solution g rows (all_imply (λ x. IsShort g x) (λ x. x.id < 10 ^ 64) g (λ x s. s.id) (short_vertices g i short)) (all_imply (λ q. IfSome q.1 (λ v. v < length g)) (λ q. IfSome q.1 (λ v. id_of g v < 10 ^ 64)) rows (λ q h. short_choice q.1 h) are.choices) (short_last g i short) 0 in
+    let grammar : IsSolutionText (tokens_of ps) (row_lines g g rows) = (Some (greatest_id g), e) in
+    record {
+      lines = row_lines g g rows;
+      spells = (ps, s, grammar);
+      one_text = λ others (us, z, o). one_lines (tokens_of us) others (row_lines g g rows) o (subst (λ (ts : List Placed). IsSolutionText (tokens_of ts) (row_lines g g rows)) (one_spelling 0 (written_solution g rows) ps us s z) grammar);
+      winners = small_winners g g rows;
+      says = record { no_stranger = no_strangers g rows i are; once = once g rows i are; complete = complete g rows i are; says = says g rows i are };
+      one_solution = λ others o. no_others g rows i are others o.says;
+    }
+  where
+    short_choice : (c : Option ℕ) → IfSome c (λ v. v < length g) → IfSome c (λ v. id_of g v < 10 ^ 64)
+    short_choice None h = tt
+    short_choice (Some w) h = short.ids w h

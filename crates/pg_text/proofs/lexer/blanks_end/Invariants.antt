@@ -1,0 +1,10 @@
+use Rattle.std.proofs.Common.{length, ◌-◌, ℕ, ◌≤◌, List}
+use Rattle.pg_text.specs.Bytes.{is_blank}
+use Rattle.pg_text.specs.Piece.{IsRun}
+use Rattle.pg_text.proofs.lexer.blanks_end.Given as goal
+
+abbrev pub invariant-blanks : goal.invariant-blanks
+invariant-blanks l = (l.to ≤ length l.text) × (run : List ℕ) × IsRun is_blank l.text l.from l.to run
+
+abbrev pub decreases-blanks : goal.decreases-blanks
+decreases-blanks l = length l.text - l.to

@@ -1,0 +1,11 @@
+use Rattle.std.proofs.Common.{length, ◌-◌, ℕ, ◌≤◌, List}
+use Rattle.pg_text.specs.Bytes.{is_digit, value_of}
+use Rattle.pg_text.specs.Piece.{IsRun}
+use Rattle.pg_text.proofs.Runs.{Counts}
+use Rattle.pg_text.proofs.lexer.number.Given as goal
+
+abbrev pub invariant-digits : goal.invariant-digits
+invariant-digits l = (l.to ≤ length l.text) × (run : List ℕ) × IsRun is_digit l.text l.from l.to run × Counts l.value (value_of run)
+
+abbrev pub decreases-digits : goal.decreases-digits
+decreases-digits l = length l.text - l.to

@@ -1,0 +1,54 @@
+-- What is written can be read again, and as nothing else.
+use Rattle.std.specs.Prelude.{ℕ, ◌≡◌, ◌<◌, ◌^◌, List, length, map}
+use Rattle.std.specs.List.{AllByRecursion}
+use Rattle.pg_game.specs.Graph.{Graph, IsGame, id_of, priority_of}
+use Rattle.pg_game.specs.Specification.{IsGameOf}
+use Rattle.pg_text.specs.Token.{Placed, Spells, tokens_of}
+use Rattle.pg_text.specs.GameText as games
+use Rattle.pg_text.specs.GameText.{IsGameText, spec_of}
+use Rattle.pg_text.specs.SolutionText as solutions
+use Rattle.pg_text.specs.SolutionText.{IsSolutionText}
+use Rattle.pg_text.specs.Solution.{Rows, AreRows}
+use Rattle.pg_text.specs.Written.{written_game, written_solution}
+use Rattle.pg_text.specs.SolutionLines.{AreLinesOf}
+
+-- a text spells at most one list of tokens
+abbrev pub OneSpelling : Type 0
+OneSpelling = (text : List ℕ) (ts us : List Placed) → Spells 0 text ts → Spells 0 text us → ts ≡ us
+
+-- the text spells a game text of these lines, with numbers of whatever size
+abbrev pub SpellsLines : List ℕ → List games.Line → Type 0
+SpellsLines text lines = (ts : List Placed) × Spells 0 text ts × IsGameText (tokens_of ts) lines
+
+-- the text spells one game text, and its game is this and no other
+pub record SpellsOneGame (text : List ℕ) (g : Graph) : Type 0 where
+  pub lines : List games.Line
+  pub spells : SpellsLines text lines
+  pub one_text : (others : List games.Line) → SpellsLines text others → others ≡ lines
+  pub owners : AllByRecursion (λ l. l.owner < 2) lines
+  pub game : IsGameOf (map spec_of lines) g
+  pub one_game : (h : Graph) → IsGameOf (map spec_of lines) h → h ≡ g
+
+-- the text spells a solution text of these lines, with numbers of whatever size
+abbrev pub SpellsRows : List ℕ → List solutions.Line → Type 0
+SpellsRows text lines = (ts : List Placed) × Spells 0 text ts × IsSolutionText (tokens_of ts) lines
+
+-- the text spells one solution text, and its rows for the game are these and no others
+pub record SpellsOneSolution (text : List ℕ) (g : Graph) (rows : Rows) : Type 0 where
+  pub lines : List solutions.Line
+  pub spells : SpellsRows text lines
+  pub one_text : (others : List solutions.Line) → SpellsRows text others → others ≡ lines
+  pub winners : AllByRecursion (λ l. l.winner < 2) lines
+  pub says : AreLinesOf g lines rows
+  pub one_solution : (others : Rows) → AreLinesOf g lines others → others ≡ rows
+
+-- identifiers and priorities have at most 64 digits, as many as a decimal of the library has
+pub record HasShortNumbers (g : Graph) : Type 0 where
+  pub ids : (v : ℕ) → v < length g → id_of g v < 10 ^ 64
+  pub priorities : (v : ℕ) → v < length g → priority_of g v < 10 ^ 64
+
+abbrev pub WrittenGameReads : Type 0
+WrittenGameReads = (g : Graph) → IsGame g → HasShortNumbers g → SpellsOneGame (written_game g) g
+
+abbrev pub WrittenSolutionReads : Type 0
+WrittenSolutionReads = (g : Graph) (rows : Rows) → IsGame g → HasShortNumbers g → AreRows g rows → SpellsOneSolution (written_solution g rows) g rows

@@ -1,0 +1,52 @@
+-- What the table of a game's vertices holds of the lines of a solution text that were taken: this describes a private reader.
+use Rattle.std.specs.Prelude.{ℕ, ◌≡◌, ◌<◌, Bool, List, [], ◌∷◌, length, Option, Some, None, slice_index_or}
+use Rattle.std.specs.List.{Contains}
+use Rattle.pg_game.specs.declared.player.Player.TheVariants.{Even}
+use Rattle.pg_game.specs.Graph.{Graph, IsGame, id_of}
+use Rattle.pg_game.specs.VertexSet.{members}
+use Rattle.pg_text.specs.declared.fault.SolutionTextFault.{SolutionTextFault}
+use Rattle.pg_text.specs.declared.fault.SolutionTextFault.TheVariants as fault
+use Rattle.pg_text.specs.declared.solution_rows.Table.{Table}
+use Rattle.pg_text.specs.SolutionText.{Line}
+use Rattle.pg_text.specs.Solution.{Rows}
+use Rattle.pg_text.specs.SolutionLines.{first_stranger, first_twice, first_missing, has_line, row_of}
+
+-- the lines name vertices alone; each vertex is marked that has one; and where none has two, their rows are the lines'
+pub record Holds (g : Graph) (lines : List Line) (rows : Rows) (said : List Bool) (twice : Option ℕ) : Type 0 where
+  pub game : IsGame g
+  pub size : length rows ≡ length g
+  pub marks : length said ≡ length g
+  pub no_stranger : first_stranger g lines ≡ None
+  pub first : twice ≡ first_twice lines
+  pub marked : (v : ℕ) → v < length g → members said v ≡ has_line lines (id_of g v)
+  pub says : twice ≡ None → (v : ℕ) → v < length g → (l : Line) → Contains lines l → l.id ≡ id_of g v → slice_index_or rows v (Even, None) ≡ row_of g l
+
+abbrev pub HoldsTable : Graph → List Line → Table → Type 0
+HoldsTable g lines t = Holds g lines t.rows.items t.said t.twice
+
+-- the vertex has the identifier
+pub record IsNamed (g : Graph) (id v : ℕ) : Type 0 where
+  pub vertex : v < length g
+  pub id_is : id_of g v ≡ id
+
+-- the line names a stranger, and this is the first
+abbrev pub IsStrangerOf : Graph → Line → SolutionTextFault → Type 0
+IsStrangerOf g l (fault.Stranger id) = first_stranger g (l ∷ []) ≡ Some id
+IsStrangerOf g l (fault.Lexical at) = ⊥
+IsStrangerOf g l (fault.Syntax at) = ⊥
+IsStrangerOf g l (fault.Number at) = ⊥
+IsStrangerOf g l (fault.Winner at) = ⊥
+IsStrangerOf g l (fault.Twice id) = ⊥
+IsStrangerOf g l (fault.Missing id) = ⊥
+IsStrangerOf g l fault.Memory = ⊥
+
+-- why the lines say no rows
+abbrev pub IsRowFaultOf : Graph → List Line → SolutionTextFault → Type 0
+IsRowFaultOf g lines (fault.Stranger id) = first_stranger g lines ≡ Some id
+IsRowFaultOf g lines (fault.Twice id) = (first_stranger g lines ≡ None) × (first_twice lines ≡ Some id)
+IsRowFaultOf g lines (fault.Missing id) = (first_stranger g lines ≡ None) × (first_twice lines ≡ None) × (first_missing g lines ≡ Some id)
+IsRowFaultOf g lines fault.Memory = Unit {0}
+IsRowFaultOf g lines (fault.Lexical at) = ⊥
+IsRowFaultOf g lines (fault.Syntax at) = ⊥
+IsRowFaultOf g lines (fault.Number at) = ⊥
+IsRowFaultOf g lines (fault.Winner at) = ⊥

@@ -1,0 +1,319 @@
+//! A game text, read in one pass over its tokens (PGSolver's manual).
+//!
+//! The state says what was read last, and the fields hold the parts of the line begun. A number or an owner at fault is only
+//! noted, since the grammar is judged first; a token that can't stand there ends the pass, and the rest is looked through
+//! once for a byte that begins no token.
+ghost use Rattle.std.specs.Prelude.{◌≡◌, ℕ, ◌≤◌, length, true, false, IfOk, IfErr, MatchResult, None, List, []};
+ghost use Rattle.pg_text.specs.Token.{Number, Word, Name, Comma, Semicolon, Placed, Spells};
+ghost use Rattle.pg_text.specs.Piece.{fitting};
+ghost use Rattle.pg_text.specs.Reading.{IsFaultOf};
+ghost use Rattle.pg_text.specs.GameKeeps.{KeepsReader, Takes, TakesPiece, IsUnexpected, SpellsSpecs};
+ghost use Rattle.pg_text.specs.GameStates.{is_complete};
+
+use crate::fault::TextFault;
+use crate::lexer::{Kind, Piece, first_bad, next_token};
+use crate::numbers::{first_of, player};
+use pg_game::{Player, Sequence, Spec};
+use std::alloc::Global;
+
+/// What of a game text was read last.
+#[derive(Clone, Copy, PartialEq, Eq)]
+enum State {
+    Start,
+    HeadWord,
+    HeadNumber,
+    Headed,
+    StartWord,
+    StartNumber,
+    Started,
+    Ready,
+    Id,
+    Priority,
+    Owner,
+    Listing,
+    Successor,
+    Named,
+}
+
+/// A game text that is being read.
+#[derive(Drop)]
+struct Reader {
+    state: State,
+    specs: Vec<Spec>,
+    id: u32,
+    priority: u32,
+    owner: Player,
+    successors: Vec<u32>,
+    large: Option<u32>,
+    wrong: Option<u32>,
+}
+
+/// Whether a text may end in this state.
+#[inline]
+fn is_complete(state: State) -> bool
+    ensures { result ≡ is_complete state }
+{
+    match state {
+        State::Ready => true,
+        _ => false,
+    }
+}
+
+impl Reader {
+    fn new(alloc: Global) -> Reader
+        ensures { KeepsReader [] result }
+    {
+        Reader {
+            state: State::Start,
+            specs: Vec::new(alloc),
+            id: 0,
+            priority: 0,
+            owner: Player::Even,
+            successors: Vec::new(alloc),
+            large: None,
+            wrong: None,
+        }
+    }
+
+    /// Takes a number; false where none can stand.
+    #[inline]
+    fn number(&mut self, value: Option<u32>, place: u32) -> Result<bool, TextFault>
+        ensures taken { IfOk result (λ taken. (n : ℕ) → value ≡ fitting n → Takes self.old self.new taken (Number n) place) }
+        ensures memory { IfErr result (λ e. e ≡ TextFault.Memory) }
+    {
+        self.large = first_of(self.large, value.is_none(), place);
+        let small = value.unwrap_or(0);
+        match self.state {
+            State::Start => {
+                self.id = small;
+                self.state = State::Id;
+                Ok(true)
+            }
+            State::Headed => {
+                self.id = small;
+                self.state = State::Id;
+                Ok(true)
+            }
+            State::Started => {
+                self.id = small;
+                self.state = State::Id;
+                Ok(true)
+            }
+            State::Ready => {
+                self.id = small;
+                self.state = State::Id;
+                Ok(true)
+            }
+            State::HeadWord => {
+                self.state = State::HeadNumber;
+                Ok(true)
+            }
+            State::StartWord => {
+                self.state = State::StartNumber;
+                Ok(true)
+            }
+            State::Id => {
+                self.priority = small;
+                self.state = State::Priority;
+                Ok(true)
+            }
+            State::Priority => {
+                self.wrong = first_of(self.wrong, 1 < small, place);
+                self.owner = player(small);
+                self.successors.clear();
+                self.state = State::Owner;
+                Ok(true)
+            }
+            State::Owner => match self.successors.push(small) {
+                Ok(_) => {
+                    self.state = State::Successor;
+                    Ok(true)
+                }
+                Err(_) => Err(TextFault::Memory),
+            },
+            State::Listing => match self.successors.push(small) {
+                Ok(_) => {
+                    self.state = State::Successor;
+                    Ok(true)
+                }
+                Err(_) => Err(TextFault::Memory),
+            },
+            _ => Ok(false),
+        }
+    }
+
+    /// The specification that the line says.
+    #[inline]
+    fn spec(&self, alloc: Global) -> Result<Spec, TextFault>
+        ensures spec { IfOk result (λ spec. spec ≡ record { id = self.now.id; priority = self.now.priority; owner = self.now.owner; successors = self.now.successors.items }) }
+        ensures memory { IfErr result (λ e. e ≡ TextFault.Memory) }
+    {
+        match Vec::from_slice(alloc, &self.successors) {
+            Ok(successors) => Ok(Spec {
+                id: self.id,
+                priority: self.priority,
+                owner: self.owner,
+                successors: Sequence::new(successors),
+            }),
+            Err(_) => Err(TextFault::Memory),
+        }
+    }
+
+    /// Takes a semicolon; false where none can stand.
+    #[inline]
+    fn semicolon(&mut self, alloc: Global) -> Result<bool, TextFault>
+        ensures taken { IfOk result (λ taken. (place : ℕ) → Takes self.old self.new taken Semicolon place) }
+        ensures memory { IfErr result (λ e. e ≡ TextFault.Memory) }
+    {
+        match self.state {
+            State::HeadNumber => {
+                self.state = State::Headed;
+                Ok(true)
+            }
+            State::StartNumber => {
+                self.state = State::Started;
+                Ok(true)
+            }
+            State::Successor => {
+                let spec = self.spec(alloc)?;
+                self.specs.push(spec)?;
+                self.state = State::Ready;
+                Ok(true)
+            }
+            State::Named => {
+                let spec = self.spec(alloc)?;
+                self.specs.push(spec)?;
+                self.state = State::Ready;
+                Ok(true)
+            }
+            _ => Ok(false),
+        }
+    }
+
+    /// Takes a comma; false where none can stand.
+    #[inline]
+    fn comma(&mut self) -> bool
+        ensures { (place : ℕ) → Takes self.old self.new result Comma place }
+    {
+        match self.state {
+            State::Successor => {
+                self.state = State::Listing;
+                true
+            }
+            _ => false,
+        }
+    }
+
+    /// Takes a name; false where none can stand.
+    fn name(&mut self) -> bool
+        ensures { (bytes : List ℕ) (place : ℕ) → Takes self.old self.new result (Name bytes) place }
+    {
+        match self.state {
+            State::Successor => {
+                self.state = State::Named;
+                true
+            }
+            _ => false,
+        }
+    }
+
+    /// Takes a word; false where it can't stand.
+    fn word(&mut self, letters: &[u8]) -> bool
+        ensures { (place : ℕ) → Takes self.old self.new result (Word letters.now) place }
+    {
+        match self.state {
+            State::Start => {
+                if letters == b"parity".as_slice() {
+                    self.state = State::HeadWord;
+                    true
+                } else if letters == b"start".as_slice() {
+                    self.state = State::StartWord;
+                    true
+                } else {
+                    false
+                }
+            }
+            State::Headed => {
+                if letters == b"start".as_slice() {
+                    self.state = State::StartWord;
+                    true
+                } else {
+                    false
+                }
+            }
+            _ => false,
+        }
+    }
+
+    /// Takes the token between the places; false where it can't stand there.
+    #[inline]
+    fn take(&mut self, alloc: Global, text: &[u8], piece: Piece) -> Result<bool, TextFault>
+        requires size { length text.now ≤ 268435456 }
+        requires order { piece.from ≤ piece.to }
+        requires within { piece.to ≤ length text.now }
+        ensures taken { IfOk result (λ taken. TakesPiece self.old self.new text.now piece taken) }
+        ensures memory { IfErr result (λ e. e ≡ TextFault.Memory) }
+    {
+        match piece.kind {
+            Kind::Number(value) => self.number(value, piece.from as u32),
+            Kind::Word => Ok(self.word(&text[piece.from..piece.to])),
+            Kind::Semicolon => self.semicolon(alloc),
+            Kind::Comma => Ok(self.comma()),
+            Kind::Name => Ok(self.name()),
+            Kind::End => Ok(false),
+            Kind::Bad => Ok(false),
+        }
+    }
+
+    /// What was read, at the end of the text.
+    fn finish(self, end: u32) -> Result<Vec<Spec>, TextFault>
+        ensures { (text : List ℕ) → (ts : List Placed) → Spells 0 text ts → end ≡ length text → KeepsReader ts self → MatchResult result (λ specs. SpellsSpecs text specs.items) (λ e. IsFaultOf text e) }
+    {
+        if !is_complete(self.state) {
+            return Err(TextFault::Syntax(end));
+        }
+        if let Some(at) = self.large {
+            return Err(TextFault::Number(at));
+        }
+        if let Some(at) = self.wrong {
+            return Err(TextFault::Owner(at));
+        }
+        Ok(self.specs)
+    }
+}
+
+/// The fault of a text whose token between the places can't stand there.
+#[inline(never)]
+fn unexpected(text: &[u8], from: usize, to: usize) -> TextFault
+    requires size { length text.now ≤ 268435456 }
+    requires order { from ≤ to }
+    requires within { to ≤ length text.now }
+    ensures { IsUnexpected text.now from to → IsFaultOf text.now result }
+{
+    match first_bad(text, to) {
+        Some(bad) => TextFault::Lexical(bad as u32),
+        None => TextFault::Syntax(from as u32),
+    }
+}
+
+/// The specifications of a game text, in one pass over its tokens.
+pub fn read_specs(alloc: Global, text: &[u8]) -> Result<Vec<Spec>, TextFault>
+    requires { length text.now ≤ 268435456 }
+    ensures { MatchResult result (λ specs. SpellsSpecs text.now specs.items) (λ e. IsFaultOf text.now e) }
+{
+    let mut reader = Reader::new(alloc);
+    let mut at = 0;
+    'tokens: loop {
+        let piece = next_token(text, at);
+        match piece.kind {
+            Kind::End => return reader.finish(text.len() as u32),
+            Kind::Bad => return Err(TextFault::Lexical(piece.from as u32)),
+            _ => {}
+        }
+        match reader.take(alloc, text, piece) {
+            Ok(true) => at = piece.to,
+            Ok(false) => return Err(unexpected(text, piece.from, piece.to)),
+            Err(fault) => return Err(fault),
+        }
+    }
+}

@@ -1,0 +1,209 @@
+//! The tokens of a text, one at a time and without a list of them (PGSolver's manual).
+//!
+//! Numbers, commas and semicolons are the common ones and stay in one small function; words and names are kept out of line.
+//! A number of any length is read in 64 bits, since its value stops growing once it is above the limit.
+ghost use Rattle.std.specs.Prelude.{◌≡◌, ◌≢◌, ℕ, ◌+◌, ◌<◌, ◌≤◌, length, drop, List, slice_index, false, MatchOption, IfSome};
+ghost use Rattle.pg_text.specs.Bytes.{is_blank, is_digit, is_letter, EndsRun, value_of};
+ghost use Rattle.pg_text.specs.Piece.{IsNext, IsPieceOf, IsRun, fitting};
+ghost use Rattle.pg_text.specs.Reach.{SpellsRest, IsBadFrom};
+
+use memchr::memchr;
+
+/// The greatest number that a text may hold.
+const GREATEST: u64 = 2147483647;
+
+/// What a token is. A number above the limit has no value here.
+#[derive(Clone, Copy)]
+pub enum Kind {
+    Number(Option<u32>),
+    Word,
+    Name,
+    Comma,
+    Semicolon,
+    End,
+    Bad,
+}
+
+/// A token of a text, or what stands in its place.
+#[derive(Clone, Copy)]
+pub struct Piece {
+    pub kind: Kind,
+    pub from: usize,
+    pub to: usize,
+}
+
+#[inline]
+fn blank(byte: u8) -> bool
+    ensures { result ≡ is_blank byte }
+{
+    byte == b' ' || byte == b'\t' || byte == b'\r' || byte == b'\n'
+}
+
+#[inline]
+fn digit(byte: u8) -> bool
+    ensures { result ≡ is_digit byte }
+{
+    b'0' <= byte && byte <= b'9'
+}
+
+#[inline]
+fn letter(byte: u8) -> bool
+    ensures { result ≡ is_letter byte }
+{
+    b'A' <= byte && byte <= b'Z' || b'a' <= byte && byte <= b'z'
+}
+
+/// The first place from `from` on without a blank.
+#[inline]
+fn blanks_end(text: &[u8], from: usize) -> usize
+    requires { from ≤ length text.now }
+    ensures run { (run : List ℕ) × IsRun is_blank text.now from result run }
+    ensures within { result ≤ length text.now }
+    ensures ends { EndsRun is_blank (drop result text.now) }
+{
+    let mut to = from;
+    'blanks: while to < text.len() && blank(text[to]) {
+        to += 1;
+    }
+    to
+}
+
+/// The first place from `from` on without a letter.
+#[inline(never)]
+fn letters_end(text: &[u8], from: usize) -> usize
+    requires { from ≤ length text.now }
+    ensures run { (run : List ℕ) × IsRun is_letter text.now from result run }
+    ensures within { result ≤ length text.now }
+    ensures ends { EndsRun is_letter (drop result text.now) }
+{
+    let mut to = from;
+    'letters: while to < text.len() && letter(text[to]) {
+        to += 1;
+    }
+    to
+}
+
+/// The value of the digits from `from` on, and the place behind them.
+#[inline]
+fn number(text: &[u8], from: usize) -> (Option<u32>, usize)
+    requires { from ≤ length text.now }
+    ensures run { (run : List ℕ) × IsRun is_digit text.now from result.1 run × (result.0 ≡ fitting (value_of run)) }
+    ensures within { result.1 ≤ length text.now }
+    ensures ends { EndsRun is_digit (drop result.1 text.now) }
+{
+    let mut value = 0u64;
+    let mut to = from;
+    'digits: while to < text.len() && digit(text[to]) {
+        if value <= GREATEST {
+            value = value * 10 + u64::from(text[to] - b'0');
+        }
+        to += 1;
+    }
+    if value <= GREATEST {
+        (Some(value as u32), to)
+    } else {
+        (None, to)
+    }
+}
+
+/// The word or the name at a place, or that there is none.
+#[inline(never)]
+fn word_or_name(text: &[u8], from: usize) -> Piece
+    requires inside { from < length text.now }
+    requires solid { is_blank (slice_index text.now from) ≡ false }
+    requires no_digit { is_digit (slice_index text.now from) ≡ false }
+    requires no_comma { slice_index text.now from ≢ 44 }
+    requires no_semicolon { slice_index text.now from ≢ 59 }
+    ensures token { IsNext text.now from result }
+    ensures order { result.from ≤ result.to }
+    ensures within { result.to ≤ length text.now }
+{
+    let first = text[from];
+    if first == b'"' {
+        let later = &text[from + 1..];
+        return match memchr(b'"', later) {
+            Some(more) => Piece {
+                kind: Kind::Name,
+                from,
+                to: from + more + 2,
+            },
+            None => Piece {
+                kind: Kind::Bad,
+                from,
+                to: from,
+            },
+        };
+    }
+    if letter(first) {
+        return Piece {
+            kind: Kind::Word,
+            from,
+            to: letters_end(text, from),
+        };
+    }
+    Piece {
+        kind: Kind::Bad,
+        from,
+        to: from,
+    }
+}
+
+/// The next token of the text, from a place on.
+#[inline]
+pub fn next_token(text: &[u8], at: usize) -> Piece
+    requires { at ≤ length text.now }
+    ensures token { IsNext text.now at result }
+    ensures order { result.from ≤ result.to }
+    ensures within { result.to ≤ length text.now }
+{
+    let from = blanks_end(text, at);
+    if from >= text.len() {
+        return Piece {
+            kind: Kind::End,
+            from,
+            to: from,
+        };
+    }
+    let first = text[from];
+    if digit(first) {
+        let (value, to) = number(text, from);
+        return Piece {
+            kind: Kind::Number(value),
+            from,
+            to,
+        };
+    }
+    if first == b',' {
+        return Piece {
+            kind: Kind::Comma,
+            from,
+            to: from + 1,
+        };
+    }
+    if first == b';' {
+        return Piece {
+            kind: Kind::Semicolon,
+            from,
+            to: from + 1,
+        };
+    }
+    word_or_name(text, from)
+}
+
+/// The first place from `at` on that begins no token.
+#[inline(never)]
+pub fn first_bad(text: &[u8], at: usize) -> Option<usize>
+    requires { at ≤ length text.now }
+    ensures place { MatchOption result (SpellsRest text.now at) (λ bad. IsBadFrom text.now at bad) }
+    ensures within { IfSome result (λ bad. bad ≤ length text.now) }
+{
+    let mut next = at;
+    'tokens: loop {
+        let piece = next_token(text, next);
+        match piece.kind {
+            Kind::Bad => return Some(piece.from),
+            Kind::End => return None,
+            _ => next = piece.to,
+        }
+    }
+}

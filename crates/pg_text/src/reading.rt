@@ -1,0 +1,47 @@
+//! Games and solutions from their texts.
+ghost use Rattle.std.specs.Prelude.{◌≡◌, ◌≤◌, length, IfOk, IfErr};
+ghost use Rattle.pg_game.specs.Graph.{IsGame};
+ghost use Rattle.pg_text.specs.Solution.{AreRows};
+ghost use Rattle.pg_text.specs.Reading.{IsTextOf, IsFaultOf, IsSolutionTextOf, IsSolutionFaultOf};
+
+use crate::fault::{SolutionTextFault, TextFault};
+use crate::game_reader::read_specs;
+use crate::solution::Solution;
+use crate::solution_reader::read_solution_lines;
+use crate::solution_rows::rows_of;
+use pg_game::{Game, GameFault};
+use std::alloc::Global;
+
+/// The game that a text spells. The text is at most 268,435,456 bytes long; any bytes may stand in it.
+///
+/// Refused with the first fault, by kind and then by place: `Lexical`, `Syntax`, `Number`, `Owner`, `Game` (never of
+/// `GameFault::Memory`); or with `Memory`.
+pub fn read_game(alloc: Global, text: &[u8]) -> Result<Game, TextFault>
+    requires { length text.now ≤ 268435456 }
+    ensures game { IfOk result (λ g. IsGame g × IsTextOf text.now g) }
+    ensures fault { IfErr result (λ e. IsFaultOf text.now e) }
+{
+    match read_specs(alloc, text) {
+        Ok(specs) => match Game::from_specs(alloc, specs) {
+            Ok(game) => Ok(game),
+            Err(GameFault::Memory) => Err(TextFault::Memory),
+            Err(fault) => Err(TextFault::Game(fault)),
+        },
+        Err(fault) => Err(fault),
+    }
+}
+
+/// The winners and choices that a text spells for a game, every choice of the text kept. The text is at most 268,435,456 bytes
+/// long; any bytes may stand in it.
+///
+/// Refused with the first fault, by kind and then by place: `Lexical`, `Syntax`, `Number`, `Winner`, `Stranger`, `Twice`,
+/// `Missing`; or with `Memory`.
+pub fn read_solution(alloc: Global, game: &Game, text: &[u8]) -> Result<Solution, SolutionTextFault>
+    requires { length text.now ≤ 268435456 }
+    ensures fit { IfOk result (λ s. AreRows game.now s.rows) }
+    ensures rows { IfOk result (λ s. IsSolutionTextOf game.now text.now s.rows) }
+    ensures fault { IfErr result (λ e. IsSolutionFaultOf game.now text.now e) }
+{
+    let lines = read_solution_lines(alloc, text)?;
+    rows_of(alloc, game, lines.as_slice())
+}

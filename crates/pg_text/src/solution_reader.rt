@@ -1,0 +1,238 @@
+//! A solution text, read in one pass over its tokens (PGSolver's manual).
+//!
+//! The state says what was read last, and the fields hold the parts of the line begun. A number or a winner at fault is only
+//! noted, since the grammar is judged first; a token that can't stand there ends the pass, and the rest is looked through
+//! once for a byte that begins no token.
+ghost use Rattle.std.specs.Prelude.{◌≡◌, ℕ, ◌+◌, ◌<◌, ◌≤◌, length, true, false, map, IfOk, IfErr, MatchResult, None, List, []};
+ghost use Rattle.pg_text.specs.Token.{Number, Word, Semicolon, Placed, Spells};
+ghost use Rattle.pg_text.specs.Piece.{fitting};
+ghost use Rattle.pg_text.specs.SolutionKeeps.{KeepsReader, Takes, line_of, is_complete};
+ghost use Rattle.pg_text.specs.Reading.{SpellsSolution};
+ghost use Rattle.pg_text.specs.SolutionReading.{IsLineFaultOf, IsUnexpected, TakesPiece};
+
+use crate::fault::SolutionTextFault;
+use crate::lexer::{Kind, Piece, first_bad, next_token};
+use crate::numbers::{first_of, player};
+use pg_game::Player;
+use std::alloc::Global;
+
+/// What of a solution text was read last.
+#[derive(Clone, Copy, PartialEq, Eq)]
+enum State {
+    Start,
+    HeadWord,
+    HeadNumber,
+    Ready,
+    Id,
+    Winner,
+    Choice,
+}
+
+/// One line of a solution text.
+#[derive(Drop)]
+pub struct SolutionLine {
+    pub id: u32,
+    pub winner: Player,
+    pub choice: Option<u32>,
+}
+
+/// A solution text that is being read.
+#[derive(Drop)]
+struct Reader {
+    state: State,
+    lines: Vec<SolutionLine>,
+    id: u32,
+    winner: Player,
+    choice: u32,
+    large: Option<u32>,
+    wrong: Option<u32>,
+}
+
+/// Whether a text may end in this state.
+fn is_complete(state: State) -> bool
+    ensures { result ≡ is_complete state }
+{
+    match state {
+        State::Start | State::Ready => true,
+        _ => false,
+    }
+}
+
+impl Reader {
+    fn new(alloc: Global) -> Reader
+        ensures { KeepsReader [] result }
+    {
+        Reader {
+            state: State::Start,
+            lines: Vec::new(alloc),
+            id: 0,
+            winner: Player::Even,
+            choice: 0,
+            large: None,
+            wrong: None,
+        }
+    }
+
+    /// Takes a number; false where none can stand.
+    #[inline]
+    fn number(&mut self, value: Option<u32>, place: u32) -> bool
+        ensures { (n : ℕ) → value ≡ fitting n → Takes self.old self.new result (Number n) place }
+    {
+        self.large = first_of(self.large, value.is_none(), place);
+        let small = value.unwrap_or(0);
+        match self.state {
+            State::Start => {
+                self.id = small;
+                self.state = State::Id;
+                true
+            }
+            State::Ready => {
+                self.id = small;
+                self.state = State::Id;
+                true
+            }
+            State::HeadWord => {
+                self.state = State::HeadNumber;
+                true
+            }
+            State::Id => {
+                self.wrong = first_of(self.wrong, 1 < small, place);
+                self.winner = player(small);
+                self.state = State::Winner;
+                true
+            }
+            State::Winner => {
+                self.choice = small;
+                self.state = State::Choice;
+                true
+            }
+            State::HeadNumber => false,
+            State::Choice => false,
+        }
+    }
+
+    /// Takes a semicolon; false where none can stand.
+    #[inline]
+    fn semicolon(&mut self) -> Result<bool, SolutionTextFault>
+        ensures taken { IfOk result (λ taken. (place : ℕ) → Takes self.old self.new taken Semicolon place) }
+        ensures memory { IfErr result (λ e. e ≡ SolutionTextFault.Memory) }
+    {
+        match self.state {
+            State::HeadNumber => {
+                self.state = State::Ready;
+                Ok(true)
+            }
+            State::Winner => {
+                self.lines.push(SolutionLine {
+                    id: self.id,
+                    winner: self.winner,
+                    choice: None,
+                })?;
+                self.state = State::Ready;
+                Ok(true)
+            }
+            State::Choice => {
+                self.lines.push(SolutionLine {
+                    id: self.id,
+                    winner: self.winner,
+                    choice: Some(self.choice),
+                })?;
+                self.state = State::Ready;
+                Ok(true)
+            }
+            _ => Ok(false),
+        }
+    }
+
+    /// Takes a word; false where it can't stand.
+    fn word(&mut self, letters: &[u8]) -> bool
+        ensures { (place : ℕ) → Takes self.old self.new result (Word letters.now) place }
+    {
+        match self.state {
+            State::Start => {
+                if letters == b"paritysol".as_slice() {
+                    self.state = State::HeadWord;
+                    true
+                } else {
+                    false
+                }
+            }
+            _ => false,
+        }
+    }
+
+    /// Takes the token between the places; false where it can't stand there.
+    #[inline]
+    fn take(&mut self, text: &[u8], piece: Piece) -> Result<bool, SolutionTextFault>
+        requires size { length text.now ≤ 268435456 }
+        requires order { piece.from ≤ piece.to }
+        requires within { piece.to ≤ length text.now }
+        ensures taken { IfOk result (λ taken. TakesPiece self.old self.new text.now piece taken) }
+        ensures memory { IfErr result (λ e. e ≡ SolutionTextFault.Memory) }
+    {
+        match piece.kind {
+            Kind::Number(value) => Ok(self.number(value, piece.from as u32)),
+            Kind::Word => Ok(self.word(&text[piece.from..piece.to])),
+            Kind::Semicolon => self.semicolon(),
+            Kind::Comma => Ok(false),
+            Kind::Name => Ok(false),
+            Kind::End => Ok(false),
+            Kind::Bad => Ok(false),
+        }
+    }
+
+    /// What was read, at the end of the text.
+    fn finish(self, end: u32) -> Result<Vec<SolutionLine>, SolutionTextFault>
+        ensures { (text : List ℕ) → (ts : List Placed) → Spells 0 text ts → end ≡ length text → KeepsReader ts self → MatchResult result (λ lines. SpellsSolution text (map line_of lines.items)) (λ e. IsLineFaultOf text e) }
+    {
+        if !is_complete(self.state) {
+            return Err(SolutionTextFault::Syntax(end));
+        }
+        if let Some(at) = self.large {
+            return Err(SolutionTextFault::Number(at));
+        }
+        if let Some(at) = self.wrong {
+            return Err(SolutionTextFault::Winner(at));
+        }
+        Ok(self.lines)
+    }
+}
+
+/// The fault of a text whose token between the places can't stand there.
+#[inline(never)]
+fn unexpected(text: &[u8], from: usize, to: usize) -> SolutionTextFault
+    requires size { length text.now ≤ 268435456 }
+    requires order { from ≤ to }
+    requires within { to ≤ length text.now }
+    ensures { IsUnexpected text.now from to → IsLineFaultOf text.now result }
+{
+    match first_bad(text, to) {
+        Some(bad) => SolutionTextFault::Lexical(bad as u32),
+        None => SolutionTextFault::Syntax(from as u32),
+    }
+}
+
+/// The lines of a solution text, in one pass over its tokens.
+pub fn read_solution_lines(
+    alloc: Global,
+    text: &[u8],
+) -> Result<Vec<SolutionLine>, SolutionTextFault>
+    requires { length text.now ≤ 268435456 }
+    ensures { MatchResult result (λ lines. SpellsSolution text.now (map line_of lines.items)) (λ e. IsLineFaultOf text.now e) }
+{
+    let mut reader = Reader::new(alloc);
+    let mut at = 0;
+    'tokens: loop {
+        let piece = next_token(text, at);
+        match piece.kind {
+            Kind::End => return reader.finish(text.len() as u32),
+            Kind::Bad => return Err(SolutionTextFault::Lexical(piece.from as u32)),
+            _ => {}
+        }
+        match reader.take(text, piece) {
+            Ok(true) => at = piece.to,
+            Ok(false) => return Err(unexpected(text, piece.from, piece.to)),
+            Err(fault) => return Err(fault),
+        }
+    }
+}

@@ -1,0 +1,111 @@
+//! The rows that the lines of a solution text say of a game's vertices.
+//!
+//! One pass looks each identifier up once. A line of a stranger ends it; a second line of a vertex is only noted, since a
+//! stranger further on is named before it. What has no line is looked for at the end.
+ghost use Rattle.std.specs.Prelude.{◌≡◌, ℕ, ◌<◌, ◌++◌, ◌∷◌, false, List, [], length, map, IfOk, MatchResult};
+ghost use Rattle.pg_game.specs.Graph.{Graph, id_of};
+ghost use Rattle.pg_text.specs.Solution.{AreRows};
+ghost use Rattle.pg_text.specs.SolutionText.{Line};
+ghost use Rattle.pg_text.specs.SolutionKeeps.{line_of};
+ghost use Rattle.pg_text.specs.SolutionLines.{is_id, row_of, first_stranger, AreLinesOf};
+ghost use Rattle.pg_text.specs.SolutionTable.{HoldsTable, IsNamed, IsStrangerOf, IsRowFaultOf};
+
+use crate::fault::SolutionTextFault;
+use crate::solution::Solution;
+use crate::solution_reader::SolutionLine;
+use pg_game::{Game, Mask, Memory, Player, Sequence};
+use std::alloc::Global;
+
+/// What the lines read so far say.
+#[derive(Drop)]
+struct Table {
+    rows: Vec<(Player, Option<u32>)>,
+    said: Mask,
+    twice: Option<u32>,
+}
+
+/// The vertex with an identifier of a text.
+fn named(game: &Game, id: u32) -> Result<u32, SolutionTextFault>
+    ensures { MatchResult result (λ v. IsNamed game.now id v) (λ e. (e ≡ SolutionTextFault.Stranger id) × (is_id game.now id ≡ false)) }
+{
+    game.vertex_of(id).ok_or(SolutionTextFault::Stranger(id))
+}
+
+impl Table {
+    /// No line was read.
+    fn new(alloc: Global, game: &Game) -> Result<Table, Memory>
+        ensures { IfOk result (λ table. HoldsTable game.now [] table) }
+    {
+        let n = game.len();
+        Ok(Table {
+            rows: vec![in alloc; (Player::Even, None); n as usize]?,
+            said: Mask::empty(alloc, n)?,
+            twice: None,
+        })
+    }
+
+    /// Takes a line, whose identifiers are looked up.
+    fn take(&mut self, game: &Game, line: &SolutionLine) -> Result<(), SolutionTextFault>
+        requires rows { length self.old.rows.items ≡ length game.now }
+        requires marks { length self.old.said ≡ length game.now }
+        ensures { (lines : List Line) → HoldsTable game.now lines self.old → MatchResult result (λ _. HoldsTable game.now (lines ++ line_of line.now ∷ []) self.new) (λ e. IsStrangerOf game.now (line_of line.now) e) }
+    {
+        let v = named(game, line.id)?;
+        let choice = match line.choice {
+            Some(id) => Some(named(game, id)?),
+            None => None,
+        };
+        self.put(v, line.id, (line.winner, choice));
+        Ok(())
+    }
+
+    /// Puts the row of a vertex, or notes that it has one.
+    fn put(&mut self, v: u32, id: u32, row: (Player, Option<u32>))
+        requires row { v < length self.old.rows.items }
+        requires mark { v < length self.old.said }
+        ensures { (g : Graph) (lines : List Line) (l : Line) → HoldsTable g lines self.old → IsNamed g l.id v → l.id ≡ id → row ≡ row_of g l → first_stranger g (l ∷ []) ≡ None → HoldsTable g (lines ++ l ∷ []) self.new }
+    {
+        if self.said.has(v) {
+            if self.twice.is_none() {
+                self.twice = Some(id);
+            }
+        } else {
+            self.said.insert(v);
+            self.rows[v as usize] = row;
+        }
+    }
+
+    /// The rows, where each vertex has one line.
+    fn finish(self, game: &Game) -> Result<Solution, SolutionTextFault>
+        requires { length self.said ≡ length game.now }
+        ensures { (lines : List Line) → HoldsTable game.now lines self → MatchResult result (λ s. AreLinesOf game.now lines s.rows) (λ e. IsRowFaultOf game.now lines e) }
+    {
+        if let Some(id) = self.twice {
+            return Err(SolutionTextFault::Twice(id));
+        }
+        'vertices: for v in 0..game.len() {
+            if !self.said.has(v) {
+                return Err(SolutionTextFault::Missing(game.id(v)));
+            }
+        }
+        Ok(Solution {
+            rows: Sequence::new(self.rows),
+        })
+    }
+}
+
+/// The rows that these lines say of the game's vertices.
+pub fn rows_of(
+    alloc: Global,
+    game: &Game,
+    lines: &[SolutionLine],
+) -> Result<Solution, SolutionTextFault>
+    ensures fit { IfOk result (λ s. AreRows game.now s.rows) }
+    ensures rows { MatchResult result (λ s. AreLinesOf game.now (map line_of lines.now) s.rows) (λ e. IsRowFaultOf game.now (map line_of lines.now) e) }
+{
+    let mut table = Table::new(alloc, game)?;
+    'lines: for line in lines {
+        table.take(game, line)?;
+    }
+    table.finish(game)
+}

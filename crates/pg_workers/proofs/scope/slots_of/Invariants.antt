@@ -1,0 +1,13 @@
+use Rattle.std.proofs.Common.{◌≡◌, ◌+◌, replicate, vec_len}
+use Rattle.std.specs.Vec.{vec_capacity}
+use Rattle.pg_workers.specs.Tickets.{fresh}
+use Rattle.pg_workers.proofs.scope.slots_of.Given as goal
+
+abbrev pub invariant-loop-share : goal.invariant-loop-share
+invariant-loop-share g l =
+    (vec_len l.shares + vec_len l.slots ≡ vec_len l.initial.shares)
+    × (l.tickets.items ≡ replicate (vec_len l.shares) (fresh g.J.Counting.total))
+    × (vec_capacity l.slots ≡ vec_len l.initial.shares)
+
+abbrev pub decreases-loop-share : goal.decreases-loop-share
+decreases-loop-share g l = vec_len l.shares

@@ -1,0 +1,7 @@
+pub mod Draws
+pub mod Work
+pub mod Report
+pub mod Tickets
+pub mod TicketFields
+pub mod Rest
+pub mod Outcomes

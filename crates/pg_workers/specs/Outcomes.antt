@@ -1,0 +1,16 @@
+-- What a whole run gives.
+use Rattle.std.specs.Prelude.{ℕ}
+use Rattle.pg_game.specs.Graph.{Graph}
+use Rattle.pg_text.specs.Solution.{IsExactSolution}
+use Rattle.pg_board.specs.Journal.{state_of, IsLawful}
+use Rattle.pg_board.specs.Full.{IsFull, AreStateRows}
+use Rattle.pg_workers.specs.declared.solve.Outcome.{Outcome}
+use Rattle.pg_workers.specs.Report.{IsInOrder}
+
+-- the entries are a lawful journal that settles every vertex, the solution is its state and exact, and each job has its row
+pub record IsOutcome (g : Graph) (total : ℕ) (o : Outcome) : Type 0 where
+  pub lawful : IsLawful g o.entries.items
+  pub full : IsFull g (state_of o.entries.items)
+  pub state : AreStateRows g (state_of o.entries.items) o.solution.rows
+  pub exact : IsExactSolution g o.solution.rows
+  pub report : IsInOrder total o.report.items

@@ -1,0 +1,21 @@
+//! What is told of a worker's progress. A test holds workers there; the product lets them pass.
+
+use std::sync::Wait;
+
+/// Is told of each job before its claims are posted, and after. Nothing is promised of it.
+pub trait Gate: Sync {
+    /// The worker has its copy searched, and posts next.
+    fn found<R: Wait>(&self, rt: &R, worker: u32, job: u64);
+
+    /// The worker has posted all claims of the job.
+    fn posted<R: Wait>(&self, rt: &R, worker: u32, job: u64);
+}
+
+/// A gate that does nothing.
+pub struct Pass;
+
+impl Gate for Pass {
+    fn found<R: Wait>(&self, _rt: &R, _worker: u32, _job: u64) {}
+
+    fn posted<R: Wait>(&self, _rt: &R, _worker: u32, _job: u64) {}
+}

@@ -1,0 +1,117 @@
+//! Slots for the workers, threads that work on them, and what the slots hold once all threads have ended.
+ghost use Rattle.std.specs.Prelude.{◌≡◌, ◌+◌, ◌≤◌, ◌<◌, [], All, IfOk, replicate, vec_len};
+ghost use Rattle.std.specs.Vec.{vec_capacity};
+ghost use Rattle.pg_workers.specs.Tickets.{fresh};
+ghost use Rattle.pg_workers.specs.Work.{total_of};
+
+use crate::gate::Gate;
+use crate::jobs::{Jobs, Ticket};
+use crate::report::ReportRow;
+use crate::worker::{Counting, Slot, Task, work};
+use pg_board::{Office, Share};
+use pg_finders::Finder;
+use pg_game::Memory;
+use std::alloc::Global;
+use std::marker::PhantomData;
+use std::sync::Wait;
+use std::sync::ledger::Ledger;
+use std::thread;
+use std::thread::Threads;
+
+/// A slot for each pair of a share and a ticket, with room for a row for each job.
+pub(crate) fn slots_of<L: Ledger, J: Counting>(
+    alloc: Global,
+    total: u64,
+    mut shares: Vec<Share<L>>,
+    mut tickets: Vec<Ticket>,
+) -> Result<Vec<Slot<L, J>>, Memory>
+    requires total { (total ≡ J.total) × (total ≤ 4096) }
+    requires tickets { tickets.items ≡ replicate (vec_len shares) (fresh J.total) }
+    ensures { IfOk result (λ v. vec_len v ≡ vec_len shares) }
+{
+    let mut slots = Vec::with_capacity(alloc, shares.len())?;
+    while let Some(share) = shares.pop() {
+        let Some(ticket) = tickets.pop() else {
+            unreachable!()
+        };
+        let rows = Vec::with_capacity(alloc, total as usize)?;
+        slots.push_reserved(Slot {
+            share,
+            ticket,
+            rows,
+            jobs: PhantomData,
+        });
+    }
+    Ok(slots)
+}
+
+/// Lends each slot to a thread of its own, and returns once all have ended. A thread that cannot be started is left out,
+/// and its slot is still there.
+pub(crate) fn start_all<
+    'x,
+    'g,
+    L: Ledger + Send + Sync,
+    J: Counting + Send + Sync,
+    G: Gate,
+    F: Finder,
+    R: Threads + Wait + Sync,
+>(
+    rt: &'x R,
+    alloc: Global,
+    office: &'x Office<'g, L>,
+    jobs: &'x Jobs,
+    task: &'x Task<'x, G, F>,
+    mut slots: Vec<Slot<L, J>>,
+) -> Vec<Slot<L, J>>
+    requires jobs { jobs.now.total ≡ J.total }
+    requires task { J.total ≡ total_of task.now.options.now.bound task.now.size }
+    ensures { vec_len result ≡ vec_len slots }
+{
+    let cells = slots.iter_mut();
+    thread::scope(
+        thread::scope_env(),
+        rt,
+        move |scope|
+            requires jobs { jobs.now.total ≡ J.total }
+            requires task { J.total ≡ total_of task.now.options.now.bound task.now.size }
+        {
+            let mut worker = 0u32;
+            for slot in cells {
+                worker = worker.wrapping_add(1);
+                let _ = scope.spawn(
+                    move ||
+                        requires jobs { jobs.now.total ≡ J.total }
+                        requires task { J.total ≡ total_of task.now.options.now.bound task.now.size }
+                    { work(rt, alloc, office, jobs, task, worker, slot) },
+                );
+            }
+        },
+    );
+    slots
+}
+
+/// Shares, tickets and rows of all slots, which go into room that was taken before.
+pub(crate) fn take_apart<L: Ledger, J: Counting>(
+    mut slots: Vec<Slot<L, J>>,
+    mut shares: Vec<Share<L>>,
+    mut tickets: Vec<Ticket>,
+    mut rows: Vec<Vec<ReportRow>>,
+) -> (Vec<Share<L>>, Vec<Ticket>, Vec<Vec<ReportRow>>)
+    requires empty { (shares.items ≡ []) × (tickets.items ≡ []) × (rows.items ≡ []) }
+    requires room { (vec_len slots ≤ vec_capacity shares) × (vec_len slots ≤ vec_capacity tickets) × (vec_len slots ≤ vec_capacity rows) }
+    ensures shares { vec_len result.0 ≡ vec_len slots }
+    ensures tickets { vec_len result.1 ≡ vec_len slots }
+{
+    while let Some(slot) = slots.pop() {
+        let Slot {
+            share,
+            ticket,
+            rows: done,
+            jobs: _,
+        } = slot;
+        shares.push_reserved(share);
+        tickets.push_reserved(ticket);
+        rows.push_reserved(done);
+    }
+    (shares, tickets, rows)
+}

@@ -1,0 +1,54 @@
+-- What reading and writing in pieces does to known bytes, and what a failure does to a count.
+use Rattle.std.proofs.Common.{◌≡◌, ◌≤◌, ◌<◌, ◌⊎◌, inl, inr, ℕ, ◌+◌, ◌-◌, min, List, [], ◌++◌, length, take, drop, Option, Some, None, IfSome, refl, sym, ap, ◌∙◌, subst, arith, append_assoc, append-nil, length-append, length-take, take-append-drop}
+use Rattle.std.proofs.lemmas.Bool.{cases_lt}
+use Rattle.std.proofs.lemmas.List.{take_rest}
+use Rattle.std.specs.Io.KnownBytes.{Consumes, Appends, IsAtEnd}
+use Rattle.pgboard.specs.Device.{HasFailed, AppendsFront, last_count}
+
+-- two reads, one after the other
+pub read_more : (a b c : Option (List ℕ)) (xs ys : List ℕ) → Consumes a b xs → Consumes b c ys → Consumes a c (xs ++ ys)
+read_more None b c xs ys p q = tt
+read_more (Some x) None c xs ys p q = absurd p
+read_more (Some x) (Some y) None xs ys p q = absurd q
+read_more (Some x) (Some y) (Some z) xs ys p q = p ∙ ap (λ l. xs ++ l) q ∙ sym (append_assoc xs ys z)
+
+-- the last read gives nothing
+pub read_whole : (a b c : Option (List ℕ)) (xs ys : List ℕ) (n : ℕ) → Consumes a b xs → Consumes b c (take n ys) → n ≡ 0 → IsAtEnd c → IfSome a (λ bytes. xs ≡ bytes)
+read_whole None b c xs ys n p q zero end = tt
+read_whole (Some x) None c xs ys n p q zero end = absurd p
+read_whole (Some x) (Some y) None xs ys n p q zero end = absurd q
+read_whole (Some x) (Some y) (Some z) xs ys n p q zero end =
+    let none : take n ys ≡ [] = ap (λ k. take k ys) zero in
+    let rest : y ≡ [] = q ∙ ap (λ l. l ++ z) none ∙ end in
+    sym (p ∙ ap (λ l. xs ++ l) rest ∙ append-nil xs)
+
+-- more was read than m
+pub read_past : (a b c : Option (List ℕ)) (xs ys : List ℕ) (m n : ℕ) → Consumes a b xs → Consumes b c (take n ys) → n ≤ length ys → m < length xs + n → IfSome a (λ bytes. m < length bytes)
+read_past None b c xs ys m n p q le lt = tt
+read_past (Some x) None c xs ys m n p q le lt = absurd p
+read_past (Some x) (Some y) None xs ys m n p q le lt = absurd q
+read_past (Some x) (Some y) (Some z) xs ys m n p q le lt =
+    let whole : length x ≡ length xs + length y = ap length p ∙ length-append xs y in
+    let rest : length y ≡ length (take n ys) + length z = ap length q ∙ length-append (take n ys) z in
+    omega (arith, length-take n ys)
+
+-- a piece that has room leaves the text within the limit
+pub within_limit : (xs ys : List ℕ) (m n : ℕ) → n ≤ length ys → length xs + n ≤ m → length (xs ++ take n ys) ≤ m
+within_limit xs ys m n le room = omega (arith, length-append xs (take n ys), length-take n ys)
+
+-- a counted failure
+pub has_failed : (old new : ℕ) → new ≡ min (old + 1) last_count → HasFailed old new
+has_failed old new e = elim (cases_lt old last_count) [ inl lt ↦ inl (omega arith) | inr le ↦ inr le ]
+
+both_written : (a b c : Option (List ℕ)) (xs ys : List ℕ) → Appends a b xs → Appends b c ys → Appends a c (xs ++ ys)
+both_written None b c xs ys p q = tt
+both_written (Some x) None c xs ys p q = absurd p
+both_written (Some x) (Some y) None xs ys p q = absurd q
+both_written (Some x) (Some y) (Some z) xs ys p q = q ∙ ap (λ l. l ++ ys) p ∙ append_assoc x xs ys
+
+-- one more piece was taken, of n bytes
+pub wrote_more : (a b c : Option (List ℕ)) (all front rest : List ℕ) (n : ℕ) → all ≡ front ++ rest → Appends a b front → Appends b c (take n rest)
+    → (more : List ℕ) × (all ≡ more ++ take (length rest - n) (drop n rest)) × Appends a c more
+wrote_more a b c all front rest n e p q =
+    let later : rest ≡ take n rest ++ take (length rest - n) (drop n rest) = sym (ap (λ l. take n rest ++ l) (take_rest rest n) ∙ take-append-drop n rest) in
+    (front ++ take n rest, e ∙ ap (λ l. front ++ l) later ∙ sym (append_assoc front (take n rest) _), both_written a b c front (take n rest) p q)

@@ -1,0 +1,78 @@
+-- The rows of a lawful journal name vertices alone.
+use Rattle.std.proofs.Common.{◌≡◌, ℕ, true, ◌<◌, ◌⊎◌, inl, inr, List, [], ◌∷◌, ◌++◌, length, take, drop, zero, suc, refl, sym, ◌∙◌, ap, subst, arith, rules, append_assoc}
+use Rattle.std.specs.Prelude.{Option, Some, None, IfSome, slice_get, nat_lt}
+use Rattle.std.specs.List.{AllByRecursion}
+use Rattle.std.proofs.lemmas.List.{take-append-drop}
+use Rattle.pg_game.specs.declared.player.Player.{Player}
+use Rattle.pg_game.specs.declared.player.Player.TheVariants.{Even, Odd}
+use Rattle.pg_game.specs.Graph.{Graph, IsGame, HasEdge, owner_of}
+use Rattle.pg_game.proofs.Edges.{edge_inside}
+use Rattle.pg_game.specs.VertexSet.{VertexSet, all_vertices, union}
+use Rattle.pg_dominion.specs.Claim.{Rows, named, IsRightRow}
+use Rattle.pg_dominion.specs.Attraction.{LeadsTo, AttractInTurn}
+use Rattle.pg_board.specs.declared.entry.Entry.{Entry}
+use Rattle.pg_board.specs.State.{settled}
+use Rattle.pg_board.specs.Journal.{Journal, state_of, claimed_rows, attracted_rows, IsLawful}
+use Rattle.pgboard.specs.Trace.{AreVertices}
+
+pub edge_below : (g : Graph) → IsGame g → (v w : ℕ) → v < length g → HasEdge g v w → w < length g
+edge_below g game v w lt e = let h : nat_lt w (length g) ≡ true = edge_inside g game v w lt e in search rules
+
+pub same_or_not : (p q : Player) → (p ≡ q) ⊎ (p ≡ q → ⊥)
+same_or_not Even Even = inl refl
+same_or_not Even Odd = inr (λ e. cc)
+same_or_not Odd Even = inr (λ e. cc)
+same_or_not Odd Odd = inl refl
+
+pub chosen_below : (n w : ℕ) (o : Option ℕ) → o ≡ Some w → w < n → IfSome o (λ x. x < n)
+chosen_below n w o is lt = rw is lt
+
+pub none_below : (n : ℕ) (o : Option ℕ) → o ≡ None → IfSome o (λ x. x < n)
+none_below n o is = rw is tt
+
+right_row : (g : Graph) → IsGame g → (p : Player) (r : ℕ × Option ℕ) → IsRightRow g p r → AreVertices (length g) r
+right_row g game p r right = record {
+  vertex = right.vertex;
+  choice = elim (same_or_not (owner_of g r.0) p) [
+    | inl e ↦ (let o = right.own e in chosen_below (length g) o.0 r.1 o.1 (edge_below g game r.0 o.0 right.vertex o.2))
+    | inr ne ↦ none_below (length g) r.1 (right.other ne)
+  ];
+}
+
+led_row : (g : Graph) → IsGame g → (p : Player) (S : VertexSet) (r : ℕ × Option ℕ) → LeadsTo g p (all_vertices g) S r → AreVertices (length g) r
+led_row g game p S r leads =
+    let lt : r.0 < length g = (let h : nat_lt r.0 (length g) ≡ true = leads.inside in search rules) in record {
+      vertex = lt;
+      choice = elim (same_or_not (owner_of g r.0) p) [
+        | inl e ↦ (let o = leads.own e in chosen_below (length g) o.0 r.1 o.1 (edge_below g game r.0 o.0 lt o.2))
+        | inr ne ↦ none_below (length g) r.1 (leads.forced ne).0
+      ];
+    }
+
+right_rows : (g : Graph) → IsGame g → (p : Player) (rows : Rows) → AllByRecursion (IsRightRow g p) rows → AllByRecursion (AreVertices (length g)) rows
+right_rows g game p [] all = tt
+right_rows g game p (r ∷ rows) (one, all) = (right_row g game p r one, right_rows g game p rows all)
+
+led_rows : (g : Graph) → IsGame g → (p : Player) (S : VertexSet) (all before rows : Rows) → all ≡ before ++ rows → AttractInTurn g p (all_vertices g) S all → AllByRecursion (AreVertices (length g)) rows
+led_rows g game p S all before [] e turns = tt
+led_rows g game p S all before (r ∷ rows) e turns =
+    (led_row g game p (union S (named before)) r (turns before rows r e), led_rows g game p S all (before ++ r ∷ []) rows (e ∙ sym (append_assoc before (r ∷ []) rows)) turns)
+
+both : (n : ℕ) (xs ys : Rows) → AllByRecursion (AreVertices n) xs → AllByRecursion (AreVertices n) ys → AllByRecursion (AreVertices n) (xs ++ ys)
+both n [] ys a b = b
+both n (x ∷ xs) ys (one, a) b = (one, both n xs ys a b)
+
+all_by_index : (P : Entry → Type 0) (es : Journal) → ((k : ℕ) (e : Entry) → slice_get es k ≡ Some e → P e) → AllByRecursion P es
+all_by_index P [] h = tt
+all_by_index P (e ∷ es) h = (h zero e refl, all_by_index P es (λ k x is. h (suc k) x is))
+
+entry_rows : (g : Graph) → IsGame g → (journal : Journal) → IsLawful g journal → (k : ℕ) (e : Entry) → slice_get journal k ≡ Some e → AllByRecursion (AreVertices (length g)) e.rows
+entry_rows g game journal lawful k e is =
+    let good = lawful.good k e is in
+    let answer = lawful.answered k e is in
+    let first = right_rows g game e.player (claimed_rows e) good.shape.right.each in
+    let second = led_rows g game e.player (union (settled (state_of (take k journal)) e.player) (named (claimed_rows e))) (attracted_rows e) [] (attracted_rows e) refl answer.turns in
+    subst (λ (rows : Rows). AllByRecursion (AreVertices (length g)) rows) (take-append-drop e.claimed e.rows) (both (length g) (claimed_rows e) (attracted_rows e) first second)
+
+pub journal_rows : (g : Graph) → IsGame g → (journal : Journal) → IsLawful g journal → AllByRecursion (λ e. AllByRecursion (AreVertices (length g)) e.rows) journal
+journal_rows g game journal lawful = all_by_index (λ e. AllByRecursion (AreVertices (length g)) e.rows) journal (entry_rows g game journal lawful)

@@ -1,0 +1,15 @@
+use Rattle.std.proofs.Common.{◌≡◌, true, List, ℕ, Bool, sym, subst}
+use Rattle.pgboard.specs.Solving.{IsSolveText}
+use Rattle.pgboard.proofs.Solved.{exact_rows, winners_text}
+use Rattle.pgboard.proofs.solve.solve_text.Goals as goal
+
+pub write_winners-requires : goal.write_winners-requires
+write_winners-requires g c = exact_rows _ _ c.len-n.ensures.game c.in_ok-outcome.ensures.exact
+
+pub returns-then-options : goal.returns-then-options
+returns-then-options g c =
+    let winners : c.args.options.now.winners ≡ true = c.if-options.true in
+    subst (λ (b : Bool). IsSolveText b c.args.game.now c.in_ok-text.text.items) (sym winners) (winners_text _ _ _ c.in_ok-outcome.ensures.exact c.in_ok-text.ensures)
+
+pub write_solution-requires : goal.write_solution-requires
+write_solution-requires g c = exact_rows _ _ c.len-n.ensures.game c.in_ok-outcome.ensures.exact

@@ -1,0 +1,6 @@
+use Rattle.std.specs.Prelude.{◌≡◌, ◌++◌, drop}
+use Rattle.pgboard.specs.Trace.{entries_text}
+use Rattle.pgboard.proofs.trace.put_entries.Given as goal
+
+abbrev pub invariant-loop-i : goal.invariant-loop-i
+invariant-loop-i l = l.out.items ++ entries_text l.game l.i (drop l.i l.entries) ≡ l.fn.out.items ++ entries_text l.game 0 l.entries

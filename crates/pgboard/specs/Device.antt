@@ -1,0 +1,23 @@
+-- How sources and sinks count their failures.
+use Rattle.std.specs.Prelude.{ℕ, ◌≡◌, ◌+◌, ◌-◌, ◌^◌, ◌<◌, ◌≤◌, ◌⊎◌, min, Result, MatchResult, List, ◌++◌, Option}
+use Rattle.std.specs.Io.KnownBytes.{Appends}
+use Rattle.pgboard.specs.declared.device.Std.{Std}
+
+abbrev pub last_count : ℕ
+last_count = 2 ^ 64 - 1
+
+-- the count rises with a failure alone, and stays at its last value
+abbrev pub CountsFailure : {A E : Type 0} → ℕ → ℕ → Result A E → Type 0
+CountsFailure old new r = MatchResult r (λ _. new ≡ old) (λ _. new ≡ min (old + 1) last_count)
+
+-- there was a failure, or the count stood at its last value
+abbrev pub HasFailed : ℕ → ℕ → Type 0
+HasFailed old new = (old < new) ⊎ (last_count ≤ old)
+
+-- a front of the text went out
+abbrev pub AppendsFront : Option (List ℕ) → Option (List ℕ) → List ℕ → Type 0
+AppendsFront old new text = (front back : List ℕ) × (text ≡ front ++ back) × Appends old new front
+
+-- a reader or a writer whose failures are not counted yet
+abbrev pub fresh : {T : Type 0} → T → Std T
+fresh inner = record { inner = inner; failures = 0 }

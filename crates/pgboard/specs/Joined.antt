@@ -1,0 +1,57 @@
+-- A game and a solution in one text, and what is said of them.
+use Rattle.std.specs.Prelude.{ℕ, ◌≢◌, ◌<◌, ◌≤◌, ◌==◌, List, [], ◌++◌, codes, decimal}
+use Rattle.std.specs.List.{before_first, after_first}
+use Rattle.pg_game.specs.Graph.{Graph}
+use Rattle.pg_text.specs.Solution.{Rows, IsSolution}
+use Rattle.pg_text.specs.Reading.{IsTextOf, IsFaultOf, IsSolutionTextOf, IsSolutionFaultOf}
+use Rattle.pg_text.specs.declared.fault.TextFault.TheVariants as game_fault
+use Rattle.pg_text.specs.declared.fault.SolutionTextFault.TheVariants as solution_fault
+use Rattle.pg_dominion.specs.declared.solution.SolutionFault.{SolutionFault}
+use Rattle.pg_dominion.specs.declared.solution.SolutionFault.TheVariants.{NoChoice, BadChoice, Leaves, Cycle, Memory}
+use Rattle.pg_dominion.specs.Verdict.{FailsBy}
+use Rattle.pgboard.specs.declared.verdict.Verdict.{Verdict}
+use Rattle.pgboard.specs.declared.verdict.Verdict.TheVariants.{Holds, Fails}
+use Rattle.pgboard.specs.declared.fault.RunFault.{RunFault}
+use Rattle.pgboard.specs.declared.fault.RunFault.TheVariants as fault
+
+-- the game before the first `%`, and the solution after it, or nothing where there is none
+abbrev pub game_part : List ℕ → List ℕ
+game_part text = before_first (λ b. b == 37) text
+
+abbrev pub solution_part : List ℕ → List ℕ
+solution_part text = after_first (λ b. b == 37) text
+
+abbrev pub IsVerdict : Graph → Rows → Verdict → Type 0
+IsVerdict g rows Holds = IsSolution g rows
+IsVerdict g rows (Fails fault) = FailsBy g rows fault × (fault ≢ Memory)
+
+abbrev pub fault_text : SolutionFault → List ℕ
+fault_text (NoChoice v) = codes "no choice at " ++ decimal v
+fault_text (BadChoice v) = codes "bad choice at " ++ decimal v
+fault_text (Leaves v w) = decimal v ++ codes " leaves to " ++ decimal w
+fault_text (Cycle v) = codes "bad cycle at " ++ decimal v
+fault_text Memory = []
+
+abbrev pub verdict_line : Verdict → List ℕ
+verdict_line Holds = codes "ok\n"
+verdict_line (Fails fault) = codes "not a solution: " ++ (fault_text fault ++ codes "\n")
+
+-- the texts spell a game, and winners and choices for it, of which the verdict is true
+pub record IsJudged (game solution : List ℕ) (verdict : Verdict) : Type 0 where
+  pub graph : Graph
+  pub rows : Rows
+  pub game_is : IsTextOf game graph
+  pub solution_is : IsSolutionTextOf graph solution rows
+  pub verdict_is : IsVerdict graph rows verdict
+
+abbrev pub max_text : ℕ
+max_text = 268435456
+
+-- why a run on this text gave no verdict, where the failure counts of the source and the sink went from old to new
+abbrev pub JudgingFailed : List ℕ → List ℕ → ℕ → RunFault → Type 0
+JudgingFailed game solution len fault.Read = Unit {0}
+JudgingFailed game solution len fault.TooLong = max_text < len
+JudgingFailed game solution len (fault.Game f) = (len ≤ max_text) × IsFaultOf game f × (f ≢ game_fault.Memory)
+JudgingFailed game solution len (fault.Solution f) = (len ≤ max_text) × (g : Graph) × IsTextOf game g × IsSolutionFaultOf g solution f × (f ≢ solution_fault.Memory)
+JudgingFailed game solution len fault.Write = (len ≤ max_text) × (verdict : Verdict) × IsJudged game solution verdict
+JudgingFailed game solution len fault.Memory = Unit {0}

@@ -1,0 +1,7 @@
+pub mod Device
+pub mod Joined
+pub mod Run
+pub mod Status
+pub mod Trace
+pub mod Solving
+pub mod Asking

@@ -1,0 +1,54 @@
+-- The text of a journal and a report.
+use Rattle.std.specs.Prelude.{ℕ, ◌+◌, List, [], ◌∷◌, ◌++◌, length, flat_map, sum_by, codes, decimal, Option, Some, None, IfSome, ◌<◌, Bool, true, false}
+use Rattle.std.specs.List.{join_with_byte}
+use Rattle.pg_game.specs.Player.{digit_of}
+use Rattle.pg_game.specs.Graph.{Graph, id_of}
+use Rattle.pg_board.specs.declared.entry.Entry.{Entry}
+use Rattle.pg_board.specs.Journal.{Journal, number_settled}
+use Rattle.pg_workers.specs.declared.report.ReportRow.{ReportRow}
+
+-- words between single spaces, and a line feed
+abbrev pub line : List (List ℕ) → List ℕ
+line words = join_with_byte 32 words ++ codes "\n"
+
+-- the row names vertices below the number
+pub record AreVertices (n : ℕ) (r : ℕ × Option ℕ) : Type 0 where
+  pub vertex : r.0 < n
+  pub choice : IfSome r.1 (λ w. w < n)
+
+abbrev pub choice_words : Graph → Option ℕ → List (List ℕ)
+choice_words g None = []
+choice_words g (Some w) = decimal (id_of g w) ∷ []
+
+abbrev pub row_line : Graph → ℕ × Option ℕ → List ℕ
+row_line g r = join_with_byte 32 (decimal (id_of g r.0) ∷ choice_words g r.1) ++ codes ";\n"
+
+abbrev pub entry_text : Graph → ℕ → Entry → List ℕ
+entry_text g k e =
+    line (codes "entry" ∷ decimal k ∷ decimal e.worker ∷ decimal (digit_of e.player) ∷ decimal e.claimed ∷ decimal (length e.rows) ∷ [])
+    ++ flat_map (row_line g) e.rows
+
+abbrev pub entries_text : Graph → ℕ → Journal → List ℕ
+entries_text g k [] = []
+entries_text g k (e ∷ es) = entry_text g k e ++ entries_text g (k + 1) es
+
+abbrev pub worker_word : Option ℕ → List ℕ
+worker_word None = codes "-"
+worker_word (Some w) = decimal w
+
+abbrev pub flag_word : Bool → List ℕ
+flag_word false = codes "0"
+flag_word true = codes "1"
+
+abbrev pub job_line : ReportRow → List ℕ
+job_line r = line (codes "job" ∷ decimal r.job ∷ worker_word r.worker ∷ decimal r.posted ∷ decimal r.settled ∷ decimal r.stale ∷ decimal r.refused ∷ flag_word r.gave_up ∷ flag_word r.memory ∷ [])
+
+abbrev pub total_line : List ReportRow → List ℕ
+total_line report = line (codes "total" ∷ decimal (sum_by (λ r. r.posted) report) ∷ decimal (sum_by (λ r. r.settled) report) ∷ decimal (sum_by (λ r. r.stale) report) ∷ decimal (sum_by (λ r. r.refused) report) ∷ [])
+
+abbrev pub trace_text : Graph → Journal → List ReportRow → List ℕ
+trace_text g journal report =
+    line (codes "journal" ∷ decimal (length journal) ∷ decimal (number_settled journal) ∷ [])
+    ++ (entries_text g 0 journal
+    ++ (line (codes "report" ∷ decimal (length report) ∷ [])
+    ++ (flat_map job_line report ++ total_line report)))

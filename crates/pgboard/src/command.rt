@@ -1,0 +1,154 @@
+//! The command line's words and flags, and its help: `-h` is short, and `--help` has examples too.
+use clap::{Arg, ArgAction, Command, value_parser};
+use std::alloc::{AllocError, Global};
+
+const VERSION: &str = "0.1.0";
+
+const ABOUT: &str =
+    "pgboard 0.1.0: solves and verifies max-parity games in PGSolver's text formats";
+
+const LONG_ABOUT: &str =
+    "pgboard 0.1.0: solves and verifies max-parity games in PGSolver's text formats{n}{n}\
+Without a command it reads a game and a solution in one text from standard input, with the byte % between{n}\
+them, and writes one line: 'ok', or 'not a solution: ' and what is wrong first. A game with a % in a name{n}\
+needs the command verify.{n}{n}\
+Examples:{n}  \
+pgboard solve game.pg > game.sol                    solve a game{n}  \
+pgboard verify game.pg game.sol                     check any solver's solution{n}  \
+pgboard trace --workers 1 game.pg                   see how a game was solved{n}  \
+pgboard tidy game.pg                                see how a game was read{n}  \
+(cat game.pg; echo %; cat game.sol) | pgboard       check both in one text";
+
+const SOLVE: &str = "Writes a solution of GAME";
+
+const LONG_SOLVE: &str = "Writes a solution of GAME{n}{n}\
+Each vertex has a line with its winner, and where its winner owns it with the winner's choice. Winners are{n}\
+the only ones, choices need not be. Without GAME it reads standard input.{n}{n}\
+Examples:{n}  \
+pgboard solve game.pg > game.sol{n}  \
+pgboard solve --winners < game.pg";
+
+const TRACE: &str = "Writes the journal of solving GAME, and what became of each job";
+
+const LONG_TRACE: &str = "Writes the journal of solving GAME, and what became of each job{n}{n}\
+Small dominions of at most 4 vertices are looked for. The history may be another one in another run. Without{n}\
+GAME it reads standard input.{n}{n}\
+Example:{n}  \
+pgboard trace --workers 1 game.pg";
+
+const VERIFY: &str = "Says whether SOLUTION is a solution of GAME";
+
+const LONG_VERIFY: &str = "Says whether SOLUTION is a solution of GAME{n}{n}\
+It writes one line: 'ok', or 'not a solution: ' and what is wrong first. Both files are opened before anything{n}\
+is read, and the game is read and judged before the solution is read.{n}{n}\
+Example:{n}  \
+pgboard verify game.pg game.sol && echo right";
+
+const TIDY: &str = "Writes GAME in its one written form";
+
+const LONG_TIDY: &str = "Writes GAME in its one written form{n}{n}\
+Vertices stand by rising identifier, and so do their successors, each once. Names and the start line are{n}\
+dropped. Without GAME it reads standard input.{n}{n}\
+Example:{n}  \
+zcat game.pg.gz | pgboard tidy > tidy.pg";
+
+const STATUSES: &str = "Exit status:{n}  \
+0  done; the solution holds; help was asked for{n}  \
+1  it is no solution{n}  \
+2  the command line was refused{n}  \
+3  a text was refused, or is too long{n}  \
+4  a file was not opened or read, or the output was not written{n}  \
+5  memory was refused";
+
+/// The program's command. Its words are those after the program's name.
+pub fn command<'a>(alloc: Global) -> Result<Command<'a>, AllocError> {
+    Command::new(alloc, "pgboard")
+        .bin_name("pgboard")?
+        .no_binary_name(true)
+        .version(VERSION)
+        .about(ABOUT)
+        .long_about(LONG_ABOUT)
+        .after_help(STATUSES)
+        .subcommand(solve(alloc)?)?
+        .subcommand(trace(alloc)?)?
+        .subcommand(verify(alloc)?)?
+        .subcommand(tidy(alloc)?)
+}
+
+/// How many workers there are.
+fn workers<'a>(alloc: Global) -> Arg<'a> {
+    Arg::new(alloc, "workers")
+        .long("workers")
+        .value_name("N")
+        .value_parser(value_parser!(u32).range(1..=64))
+        .default_value("4")
+        .help("How many threads look for dominions, 1 to 64")
+}
+
+/// How large the small dominions are that are looked for.
+fn bound<'a>(alloc: Global) -> Arg<'a> {
+    Arg::new(alloc, "bound")
+        .long("bound")
+        .value_name("N")
+        .value_parser(value_parser!(u32).range(0..=8))
+        .default_value("4")
+        .help("The most vertices of the small dominions that are looked for, 0 to 8; 0 for none")
+}
+
+fn solve<'a>(alloc: Global) -> Result<Command<'a>, AllocError> {
+    let winners = Arg::new(alloc, "winners")
+        .long("winners")
+        .action(ArgAction::SetTrue)
+        .help("Write the winners alone, without choices");
+    Command::new(alloc, "solve")
+        .about(SOLVE)
+        .long_about(LONG_SOLVE)
+        .after_help(STATUSES)
+        .arg(workers(alloc))?
+        .arg(bound(alloc))?
+        .arg(winners)?
+        .arg(path(
+            alloc,
+            "GAME",
+            "The file of the game; standard input without it",
+        ))
+}
+
+fn trace<'a>(alloc: Global) -> Result<Command<'a>, AllocError> {
+    Command::new(alloc, "trace")
+        .about(TRACE)
+        .long_about(LONG_TRACE)
+        .after_help(STATUSES)
+        .arg(workers(alloc))?
+        .arg(path(
+            alloc,
+            "GAME",
+            "The file of the game; standard input without it",
+        ))
+}
+
+fn verify<'a>(alloc: Global) -> Result<Command<'a>, AllocError> {
+    Command::new(alloc, "verify")
+        .about(VERIFY)
+        .long_about(LONG_VERIFY)
+        .after_help(STATUSES)
+        .arg(path(alloc, "GAME", "The file of the game").required(true))?
+        .arg(path(alloc, "SOLUTION", "The file of the solution").required(true))
+}
+
+fn tidy<'a>(alloc: Global) -> Result<Command<'a>, AllocError> {
+    Command::new(alloc, "tidy")
+        .about(TIDY)
+        .long_about(LONG_TIDY)
+        .after_help(STATUSES)
+        .arg(path(
+            alloc,
+            "GAME",
+            "The file of the game; standard input without it",
+        ))
+}
+
+/// A path, taken as it stands.
+fn path<'a>(alloc: Global, name: &'a str, help: &'a str) -> Arg<'a> {
+    Arg::new(alloc, name).help(help)
+}

@@ -1,0 +1,89 @@
+//! Where a run's bytes come from and go to.
+ghost use Rattle.std.specs.Prelude.{ℕ, ◌≤◌, ◌<◌, ◌≡◌, length, List, Option, IfOk};
+ghost use Rattle.std.specs.Io.KnownBytes.{ReadConsumes, WriteAppends};
+ghost use Rattle.std.specs.Io.{ReadsAtMost};
+ghost use Rattle.pgboard.specs.Device.{CountsFailure, fresh};
+
+use std::io::{Read, Write};
+
+/// A read or a write failed.
+#[derive(Clone, Copy, Debug, Drop, PartialEq, Eq)]
+pub struct Failed;
+
+/// Where bytes come from.
+pub trait Source {
+    /// The bytes that are left, where it can tell.
+    ghost left: { Self → Option (List ℕ) };
+
+    /// How often it failed. The count stays at its last value.
+    ghost read_failures: { Self → ℕ };
+
+    fn read(&mut self, buffer: &mut [u8]) -> Result<usize, Failed>
+        ensures bound { ReadsAtMost result buffer.new }
+        ensures bytes { ReadConsumes (left self.old) (left self.new) result buffer.new }
+        ensures failures { CountsFailure (read_failures self.old) (read_failures self.new) result };
+}
+
+/// Where bytes go.
+pub trait Sink {
+    /// The bytes that were taken, where it can tell.
+    ghost taken: { Self → Option (List ℕ) };
+
+    /// How often it failed. The count stays at its last value.
+    ghost write_failures: { Self → ℕ };
+
+    /// Takes a front of the piece, at least one byte of a piece that is not empty.
+    fn write(&mut self, piece: &[u8]) -> Result<usize, Failed>
+        ensures bound { IfOk result (λ n. n ≤ length piece.now) }
+        ensures some { IfOk result (λ n. 0 < length piece.now → 0 < n) }
+        ensures bytes { WriteAppends (taken self.old) (taken self.new) result piece.now }
+        ensures failures { CountsFailure (write_failures self.old) (write_failures self.new) result };
+}
+
+/// A reader or a writer of the standard library.
+#[derive(Drop)]
+pub struct Std<T> {
+    inner: T,
+    failures: u64,
+}
+
+impl<T> Std<T> {
+    /// No failure is counted yet.
+    pub fn new(inner: T) -> Std<T>
+        ensures { result ≡ fresh inner }
+    {
+        Std { inner, failures: 0 }
+    }
+}
+
+impl<R: Read> Source for Std<R> {
+    ghost left = { λ s. R.remaining s.inner };
+
+    ghost read_failures = { λ s. s.failures };
+
+    fn read(&mut self, buffer: &mut [u8]) -> Result<usize, Failed> {
+        match self.inner.read(buffer) {
+            Ok(n) => Ok(n),
+            Err(_) => {
+                self.failures = self.failures.saturating_add(1);
+                Err(Failed)
+            }
+        }
+    }
+}
+
+impl<W: Write> Sink for Std<W> {
+    ghost taken = { λ s. W.contents s.inner };
+
+    ghost write_failures = { λ s. s.failures };
+
+    fn write(&mut self, piece: &[u8]) -> Result<usize, Failed> {
+        match self.inner.write(piece) {
+            Ok(n) if n > 0 || piece.is_empty() => Ok(n),
+            _ => {
+                self.failures = self.failures.saturating_add(1);
+                Err(Failed)
+            }
+        }
+    }
+}

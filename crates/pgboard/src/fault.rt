@@ -1,0 +1,89 @@
+//! Why a run or a command line gave no answer: the faults, their texts and their exit statuses.
+ghost use Rattle.std.specs.Prelude.{◌≡◌};
+ghost use Rattle.pgboard.specs.Status.{status_of, asked_status_of};
+
+use pg_text::{SolutionTextFault, TextFault};
+use std::alloc::{AllocError, AllocFailed};
+use thiserror::Error;
+
+/// Why a run gave no answer.
+#[derive(Clone, Copy, Debug, Drop, PartialEq, Eq, Error)]
+pub enum RunFault {
+    /// A file couldn't be opened, or a read failed.
+    #[error("read fault")]
+    Read,
+    /// A text has more bytes than a text may have.
+    #[error("text too long")]
+    TooLong,
+    /// The game's text was refused.
+    #[error("game: {0}")]
+    Game(TextFault),
+    /// The solution's text was refused.
+    #[error("solution: {0}")]
+    Solution(SolutionTextFault),
+    /// A write failed. A front of the output may have gone out.
+    #[error("write fault")]
+    Write,
+    /// The allocator refused.
+    #[error("no memory")]
+    Memory,
+}
+
+/// Why a command line asks for nothing.
+#[derive(Debug, Drop, Error)]
+pub enum AskedFault {
+    /// The words were refused. The text says why, and ends with its line.
+    #[error("{0}")]
+    Words(String),
+    /// The allocator refused.
+    #[error("pgboard: no memory\n")]
+    Memory,
+}
+
+impl RunFault {
+    /// The exit status of a run that ends with this fault.
+    pub fn status(&self) -> u8
+        ensures { result ≡ status_of self.now }
+    {
+        match self {
+            RunFault::TooLong | RunFault::Game(_) | RunFault::Solution(_) => 3,
+            RunFault::Read | RunFault::Write => 4,
+            RunFault::Memory => 5,
+        }
+    }
+}
+
+impl AskedFault {
+    /// The exit status where the command line was refused.
+    pub fn status(&self) -> u8
+        ensures { result ≡ asked_status_of self.now }
+    {
+        match self {
+            AskedFault::Words(_) => 2,
+            AskedFault::Memory => 5,
+        }
+    }
+}
+
+impl From<AllocError> for RunFault {
+    ghost use Rattle.std.specs.Prelude.{◌≡◌};
+    ghost use Rattle.pgboard.specs.declared.fault.RunFault.{RunFault};
+
+    ghost from_gives = { λ _ e. e ≡ RunFault.Memory };
+
+    fn from(_error: AllocError) -> RunFault {
+        RunFault::Memory
+    }
+}
+
+impl<T: Drop> From<AllocFailed<T>> for AskedFault {
+    fn from(_error: AllocFailed<T>) -> AskedFault {
+        AskedFault::Memory
+    }
+}
+
+impl From<AllocError> for AskedFault {
+    fn from(_error: AllocError) -> AskedFault {
+        AskedFault::Memory
+    }
+}

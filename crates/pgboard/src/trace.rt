@@ -1,0 +1,235 @@
+//! The text of a run: its journal, then a line for each job, then the sums.
+//!
+//! Each function adds one line, and each loop keeps that what is written and what the rest gives is the whole.
+ghost use Rattle.std.specs.Prelude.{◌≡◌, ◌<◌, ◌≤◌, ◌+◌, ◌^◌, ◌++◌, ◌∷◌, [], length, codes, decimal, flat_map, sum_by, IfOk, OnOk, IfSome};
+ghost use Rattle.std.specs.List.{AllByRecursion};
+ghost use Rattle.pg_game.specs.Player.{digit_of};
+ghost use Rattle.pg_game.specs.Graph.{id_of};
+ghost use Rattle.pg_board.specs.Journal.{number_settled};
+ghost use Rattle.pgboard.specs.Trace.{line, AreVertices, row_line, entry_text, entries_text, job_line, total_line, trace_text, flag_word, worker_word};
+
+use itoa::Buffer;
+use pg_board::Entry;
+use pg_game::Game;
+use pg_workers::ReportRow;
+use std::alloc::{AllocError, Global};
+
+fn put_number(out: &mut Vec<u8>, n: u64) -> Result<(), AllocError>
+    ensures { OnOk result (out.new.items ≡ out.old.items ++ decimal n) }
+{
+    out.extend_from_slice(Buffer::new().format(n).as_bytes())
+}
+
+/// A space and a number.
+fn put_next(out: &mut Vec<u8>, n: u64) -> Result<(), AllocError>
+    ensures { OnOk result (out.new.items ≡ out.old.items ++ (32 ∷ decimal n)) }
+{
+    out.extend_from_slice(b" ")?;
+    put_number(out, n)
+}
+
+/// A space and 1 or 0.
+fn put_flag(out: &mut Vec<u8>, flag: bool) -> Result<(), AllocError>
+    ensures { OnOk result (out.new.items ≡ out.old.items ++ (32 ∷ flag_word flag)) }
+{
+    out.extend_from_slice(if flag { b" 1" } else { b" 0" })
+}
+
+/// A space and the worker, or `-` where there is none.
+fn put_worker(out: &mut Vec<u8>, worker: Option<u32>) -> Result<(), AllocError>
+    ensures { OnOk result (out.new.items ≡ out.old.items ++ (32 ∷ worker_word worker)) }
+{
+    match worker {
+        Some(worker) => put_next(out, worker as u64),
+        None => out.extend_from_slice(b" -"),
+    }
+}
+
+/// The line of a settled vertex.
+fn put_row(out: &mut Vec<u8>, game: &Game, row: &(u32, Option<u32>)) -> Result<(), AllocError>
+    requires vertex { row.now.0 < length game.now }
+    requires choice { IfSome row.now.1 (λ w. w < length game.now) }
+    ensures { OnOk result (out.new.items ≡ out.old.items ++ row_line game.now row.now) }
+{
+    put_number(out, game.id(row.0) as u64)?;
+    if let Some(choice) = row.1 {
+        put_next(out, game.id(choice) as u64)?;
+    }
+    out.extend_from_slice(b";\n")
+}
+
+/// The line above an entry's rows.
+fn put_entry_head(out: &mut Vec<u8>, number: u64, entry: &Entry) -> Result<(), AllocError>
+    ensures { OnOk result (out.new.items ≡ out.old.items ++ line (codes "entry" ∷ decimal number ∷ decimal entry.now.worker ∷ decimal (digit_of entry.now.player) ∷ decimal entry.now.claimed ∷ decimal (length entry.now.rows) ∷ [])) }
+{
+    out.extend_from_slice(b"entry")?;
+    put_next(out, number)?;
+    put_next(out, entry.worker as u64)?;
+    put_next(out, entry.player.digit() as u64)?;
+    put_next(out, entry.claimed as u64)?;
+    put_next(out, entry.rows.as_slice().len() as u64)?;
+    out.extend_from_slice(b"\n")?;
+    Ok(())
+}
+
+/// The line of a job.
+fn put_job(out: &mut Vec<u8>, row: &ReportRow) -> Result<(), AllocError>
+    ensures { OnOk result (out.new.items ≡ out.old.items ++ job_line row.now) }
+{
+    out.extend_from_slice(b"job")?;
+    put_next(out, row.job)?;
+    put_worker(out, row.worker)?;
+    put_next(out, row.posted)?;
+    put_next(out, row.settled)?;
+    put_next(out, row.stale)?;
+    put_next(out, row.refused)?;
+    put_flag(out, row.gave_up)?;
+    put_flag(out, row.memory)?;
+    out.extend_from_slice(b"\n")?;
+    Ok(())
+}
+
+/// The lines of an entry's rows.
+fn put_rows(out: &mut Vec<u8>, game: &Game, rows: &[(u32, Option<u32>)]) -> Result<(), AllocError>
+    requires { AllByRecursion (AreVertices (length game.now)) rows.now }
+    ensures { OnOk result (out.new.items ≡ out.old.items ++ flat_map (row_line game.now) rows.now) }
+{
+    for row in rows {
+        put_row(out, game, row)?;
+    }
+    Ok(())
+}
+
+/// An entry: its head and its rows.
+fn put_entry(out: &mut Vec<u8>, game: &Game, number: u64, entry: &Entry) -> Result<(), AllocError>
+    requires { AllByRecursion (AreVertices (length game.now)) entry.now.rows }
+    ensures { OnOk result (out.new.items ≡ out.old.items ++ entry_text game.now number entry.now) }
+{
+    put_entry_head(out, number, entry)?;
+    put_rows(out, game, entry.rows.as_slice())?;
+    Ok(())
+}
+
+/// All entries, numbered from 0.
+fn put_entries(out: &mut Vec<u8>, game: &Game, entries: &[Entry]) -> Result<(), AllocError>
+    requires { AllByRecursion (λ e. AllByRecursion (AreVertices (length game.now)) e.rows) entries.now }
+    ensures { OnOk result (out.new.items ≡ out.old.items ++ entries_text game.now 0 entries.now) }
+{
+    for i in 0..entries.len() {
+        put_entry(out, game, i as u64, &entries[i])?;
+    }
+    Ok(())
+}
+
+/// The lines of all jobs.
+fn put_jobs(out: &mut Vec<u8>, report: &[ReportRow]) -> Result<(), AllocError>
+    ensures { OnOk result (out.new.items ≡ out.old.items ++ flat_map job_line report.now) }
+{
+    for row in report {
+        put_job(out, row)?;
+    }
+    Ok(())
+}
+
+/// The sums of a report's columns, as wide as they may grow.
+#[derive(Clone, Copy)]
+struct Sums {
+    posted: u128,
+    settled: u128,
+    stale: u128,
+    refused: u128,
+}
+
+fn sums_of(report: &[ReportRow]) -> Sums
+    ensures posted { result.posted ≡ sum_by (λ r. r.posted) report.now }
+    ensures settled { result.settled ≡ sum_by (λ r. r.settled) report.now }
+    ensures stale { result.stale ≡ sum_by (λ r. r.stale) report.now }
+    ensures refused { result.refused ≡ sum_by (λ r. r.refused) report.now }
+{
+    let mut sums = Sums {
+        posted: 0,
+        settled: 0,
+        stale: 0,
+        refused: 0,
+    };
+    for row in report {
+        sums.posted += row.posted as u128;
+        sums.settled += row.settled as u128;
+        sums.stale += row.stale as u128;
+        sums.refused += row.refused as u128;
+    }
+    sums
+}
+
+/// A space and a sum.
+fn put_sum(out: &mut Vec<u8>, n: u128) -> Result<(), AllocError>
+    ensures { OnOk result (out.new.items ≡ out.old.items ++ (32 ∷ decimal n)) }
+{
+    out.extend_from_slice(b" ")?;
+    out.extend_from_slice(Buffer::new().format(n).as_bytes())
+}
+
+/// The last line.
+fn put_total(out: &mut Vec<u8>, report: &[ReportRow]) -> Result<(), AllocError>
+    ensures { OnOk result (out.new.items ≡ out.old.items ++ total_line report.now) }
+{
+    let sums = sums_of(report);
+    out.extend_from_slice(b"total")?;
+    put_sum(out, sums.posted)?;
+    put_sum(out, sums.settled)?;
+    put_sum(out, sums.stale)?;
+    put_sum(out, sums.refused)?;
+    out.extend_from_slice(b"\n")?;
+    Ok(())
+}
+
+/// The whole text of a run on a game: the journal, the report and its sums.
+pub(crate) fn write_trace(
+    alloc: Global,
+    game: &Game,
+    entries: &[Entry],
+    report: &[ReportRow],
+) -> Result<Vec<u8>, AllocError>
+    requires { AllByRecursion (λ e. AllByRecursion (AreVertices (length game.now)) e.rows) entries.now }
+    ensures { IfOk result (λ text. text.items ≡ trace_text game.now entries.now report.now) }
+{
+    let mut out = Vec::new(alloc);
+    put_journal_head(&mut out, entries.len() as u64, settled_in(entries))?;
+    put_entries(&mut out, game, entries)?;
+    put_report_head(&mut out, report.len() as u64)?;
+    put_jobs(&mut out, report)?;
+    put_total(&mut out, report)?;
+    Ok(out)
+}
+
+/// How many vertices the entries settle.
+fn settled_in(entries: &[Entry]) -> u128
+    ensures { result ≡ number_settled entries.now }
+{
+    let mut settled = 0u128;
+    for entry in entries {
+        settled += entry.rows.as_slice().len() as u128;
+    }
+    settled
+}
+
+/// The first line.
+fn put_journal_head(out: &mut Vec<u8>, entries: u64, settled: u128) -> Result<(), AllocError>
+    ensures { OnOk result (out.new.items ≡ out.old.items ++ line (codes "journal" ∷ decimal entries ∷ decimal settled ∷ [])) }
+{
+    out.extend_from_slice(b"journal")?;
+    put_next(out, entries)?;
+    put_sum(out, settled)?;
+    out.extend_from_slice(b"\n")?;
+    Ok(())
+}
+
+/// The line above the jobs.
+fn put_report_head(out: &mut Vec<u8>, jobs: u64) -> Result<(), AllocError>
+    ensures { OnOk result (out.new.items ≡ out.old.items ++ line (codes "report" ∷ decimal jobs ∷ [])) }
+{
+    out.extend_from_slice(b"report")?;
+    put_next(out, jobs)?;
+    out.extend_from_slice(b"\n")?;
+    Ok(())
+}

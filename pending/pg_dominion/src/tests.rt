@@ -1,0 +1,9 @@
+//! Tests of what no clause says: worked cases, and that the contracts mean what the definitions say.
+
+mod attractions;
+mod bodies;
+mod claims;
+mod games;
+mod reference;
+mod solutions;
+mod subgames;

@@ -1,0 +1,129 @@
+//! Attractions: worked ones, and all over the smallest games.
+
+use crate::attract;
+use crate::tests::games::{game_of, game_of_small};
+use crate::tests::reference::{Small, has, kind, kinds};
+use crate::tests::subgames::{is_subgame, is_within, mask_of};
+use pg_game::{Game, Player};
+use std::alloc::Global;
+use std::test::Fail;
+
+/// What is attracted, or none where the masks are no subgame and target.
+fn attracted(
+    alloc: Global,
+    game: &Game,
+    inside: u32,
+    player: Player,
+    target: u32,
+) -> Result<Option<Vec<(u32, Option<u32>)>>, Fail> {
+    let n = game.len();
+    let inside = mask_of(alloc, n, inside)?;
+    let target = mask_of(alloc, n, target)?;
+    if is_subgame(game, &inside) && is_within(&target, &inside, n) {
+        return Ok(Some(attract(alloc, game, &inside, player, &target)?));
+    }
+    Ok(None)
+}
+
+#[test]
+fn worked_attractions_have_their_rows(rt: HostRuntime) -> Result<(), Fail> {
+    let alloc = rt.alloc();
+    let game = game_of(
+        alloc,
+        [
+            (0, Player::Even, [0].as_slice()),
+            (3, Player::Even, [0, 1].as_slice()),
+            (3, Player::Odd, [1].as_slice()),
+        ]
+        .as_slice(),
+    )?;
+    for (player, inside, target, want) in [
+        (
+            Player::Even,
+            0b111,
+            0b001,
+            [(1, Some(0)), (2, None)].as_slice(),
+        ),
+        (Player::Even, 0b111, 0b111, [].as_slice()),
+        (Player::Odd, 0b111, 0b010, [(2, Some(1))].as_slice()),
+        (Player::Even, 0b011, 0b001, [(1, Some(0))].as_slice()),
+        (Player::Even, 0b000, 0b000, [].as_slice()),
+    ] {
+        let Some(rows) = attracted(alloc, &game, inside, player, target)? else {
+            return Err(Fail::from("the masks are no subgame and target"));
+        };
+        assert_eq!(rt; rows.as_slice(), want, "{player:?} {inside:b} {target:b}");
+    }
+    Ok(())
+}
+
+/// Whether each row leads to the target or to earlier rows, and they are the set.
+fn are_right(
+    small: &Small,
+    inside: u32,
+    player: Player,
+    target: u32,
+    set: u32,
+    rows: &[(u32, Option<u32>)],
+) -> bool {
+    let mut taken = target;
+    for (v, choice) in rows {
+        let successors = small.successors(*v) & inside;
+        let is_drawn = match *choice {
+            Some(w) => small.owner(*v) == player && has(successors & taken, w),
+            None => small.owner(*v) != player && successors & taken == successors,
+        };
+        if !is_drawn || has(taken, *v) || !has(inside, *v) {
+            return false;
+        }
+        taken |= if *v < 32 { 1 << *v } else { 0 };
+    }
+    taken == set
+}
+
+/// Compares all subgames, targets and players of a game of three vertices. Gives how many there were.
+fn compare(rt: &impl std::process::Abort, alloc: Global, small: &Small) -> Result<u32, Fail> {
+    let game = game_of_small(alloc, small)?;
+    let mut count = 0u32;
+    for inside in 0..8u32 {
+        for target in 0..8u32 {
+            if target & inside != target {
+                continue;
+            }
+            for player in [Player::Even, Player::Odd] {
+                let Some(rows) = attracted(alloc, &game, inside, player, target)? else {
+                    continue;
+                };
+                let set = small.attractor(inside, player, target);
+                let holds = are_right(small, inside, player, target, set, rows.as_slice());
+                assert!(rt; holds, "{inside:b} {target:b} {player:?}");
+                count = count.saturating_add(1);
+            }
+        }
+    }
+    Ok(count)
+}
+
+#[test]
+fn every_attraction_over_every_arena_of_three_vertices(rt: HostRuntime) -> Result<(), Fail> {
+    let alloc = rt.alloc();
+    let mut small = Small::new(alloc);
+    let mut count = 0u32;
+    for first in 0..kinds(3) {
+        for second in 0..kinds(3) {
+            for third in 0..kinds(3) {
+                if first % 3 != 0 || second % 3 != 0 || third % 3 != 0 {
+                    continue;
+                }
+                small.clear();
+                for number in [first, second, third] {
+                    let (priority, owner, successors) = kind(number);
+                    small.add(priority, owner, successors)?;
+                }
+                count = count.saturating_add(compare(&rt, alloc, &small)?);
+            }
+        }
+    }
+    assert!(rt; count > 50_000);
+    Ok(())
+}

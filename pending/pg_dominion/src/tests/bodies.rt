@@ -1,0 +1,100 @@
+//! One table of games through each body of the search for bad closed walks: the search from each vertex alone, the
+//! ranking at once, and both with little patience.
+
+ghost use Rattle.std.specs.Prelude.{IfOk};
+ghost use Rattle.pg_dominion.specs.KeptEdges.{IsKept};
+
+use crate::claim::{check_shape, kept_of};
+use crate::cycles::{first_by_ranking, first_within};
+use crate::kept::Kept;
+use crate::tests::games::{Random, dense, downward, ladder, long_cycle, random_game};
+use crate::{Claim, ClaimFault, check_claim};
+use pg_game::{Game, Player, Sequence};
+use std::alloc::Global;
+use std::process::Abort;
+use std::test::Fail;
+
+/// The claim of Even on all vertices of a game that Odd owns: all edges are kept.
+fn whole_claim(alloc: Global, game: &Game) -> Result<Claim, Fail> {
+    let mut rows = Vec::new(alloc);
+    for v in 0..game.len() {
+        rows.push((v, None))?;
+    }
+    Ok(Claim {
+        player: Player::Even,
+        rows: Sequence::new(rows),
+    })
+}
+
+/// The kept edges of a claim that has its shape.
+fn edges_of<'g>(alloc: Global, game: &'g Game, claim: &Claim) -> Result<Kept<'g>, Fail>
+    ensures { IfOk result (λ k. IsKept k) }
+{
+    match check_shape(game, claim) {
+        Ok(()) => Ok(kept_of(alloc, game, claim)?),
+        Err(_) => Err(Fail::from("the claim has not its shape")),
+    }
+}
+
+/// What the search from each vertex finds, which each other body must find.
+fn agreed(rt: &impl Abort, alloc: Global, game: &Game) -> Result<Option<u32>, Fail> {
+    let claim = whole_claim(alloc, game)?;
+    let kept = edges_of(alloc, game, &claim)?;
+    let plain = first_within(alloc, &kept, u64::MAX)?;
+    let at_once = first_within(alloc, &kept, 0)?;
+    assert_eq!(rt; at_once, plain, "the ranking at once");
+    let late = first_within(alloc, &kept, 40)?;
+    assert_eq!(rt; late, plain, "the ranking after some searches");
+    let is_shown = first_by_ranking(alloc, &kept)?.is_some();
+    assert!(rt; is_shown, "the ranking was not accepted");
+    Ok(plain)
+}
+
+#[test]
+fn hostile_games_have_the_same_answer_in_each_body(rt: HostRuntime) -> Result<(), Fail> {
+    let alloc = rt.alloc();
+    for (game, want) in [
+        (long_cycle(alloc, 300, 2)?, None),
+        (long_cycle(alloc, 300, 1)?, Some(0)),
+        (long_cycle(alloc, 300, 3)?, Some(299)),
+        (downward(alloc, 200)?, None),
+        (ladder(alloc, 60, None)?, None),
+        (ladder(alloc, 60, Some(0))?, Some(62)),
+        (ladder(alloc, 60, Some(59))?, Some(180)),
+        (dense(alloc, 40, 2)?, None),
+        (dense(alloc, 40, 1)?, Some(1)),
+    ] {
+        let found = agreed(&rt, alloc, &game)?;
+        assert_eq!(rt; found, want, "{} vertices", game.len());
+    }
+    Ok(())
+}
+
+#[test]
+fn random_games_have_the_same_answer_in_each_body(rt: HostRuntime) -> Result<(), Fail> {
+    let alloc = rt.alloc();
+    let mut random = Random::new(20_241_122);
+    let mut none = 0u32;
+    for round in 0..3_000u32 {
+        let n = random.below(24).saturating_add(1);
+        let degree = random.below(3).saturating_add(1);
+        let priorities = random.below(12).saturating_add(1);
+        let game = random_game(alloc, &mut random, n, degree, priorities)?;
+        let found = agreed(&rt, alloc, &game)?;
+        let claim = whole_claim(alloc, &game)?;
+        let want = match found {
+            Some(v) => Some(ClaimFault::Cycle(v)),
+            None => None,
+        };
+        assert_eq!(rt;
+            check_claim(alloc, &game, &claim).err(),
+            want,
+            "round {round}"
+        );
+        if found.is_none() {
+            none = none.saturating_add(1);
+        }
+    }
+    assert!(rt; none > 300 && none < 2_700);
+    Ok(())
+}

@@ -1,0 +1,65 @@
+//! Masks for the tests, and whether they meet what `attract` asks.
+
+ghost use Rattle.std.specs.Prelude.{◌≡◌, ℕ, ◌<◌, length, replicate, IfOk, IsTrue, true, false};
+ghost use Rattle.pg_game.specs.Graph.{HasEdge};
+ghost use Rattle.pg_game.specs.VertexSet.{In, Within, members};
+ghost use Rattle.pg_game.specs.Subgame.{IsSubgame};
+
+use crate::tests::reference::has;
+use pg_game::{Game, Mask};
+use std::alloc::Global;
+use std::test::Fail;
+
+/// The mask of length `n` with the members of a set.
+pub fn mask_of(alloc: Global, n: u32, set: u32) -> Result<Mask, Fail>
+    ensures { IfOk result (λ m. length m ≡ n) }
+{
+    let mut mask = Mask::empty(alloc, n)?;
+    'vertices: for v in 0..n {
+        if has(set, v) {
+            mask.insert(v);
+        }
+    }
+    Ok(mask)
+}
+
+fn has_successor_in(game: &Game, mask: &Mask, v: u32) -> bool
+    requires size { length mask.now ≡ length game.now }
+    requires vertex { v < length game.now }
+    ensures { IsTrue result → (w : ℕ) × HasEdge game.now v w × In (members mask.now) w }
+{
+    let _n = game.len();
+    for w in game.successors(v) {
+        if mask.has(*w) {
+            return true;
+        }
+    }
+    false
+}
+
+/// Whether each vertex of the mask has a successor in it.
+pub fn is_subgame(game: &Game, mask: &Mask) -> bool
+    requires { length mask.now ≡ length game.now }
+    ensures { result ≡ true → IsSubgame game.now (members mask.now) }
+{
+    'vertices: for v in 0..game.len() {
+        if mask.has(v) && !has_successor_in(game, mask, v) {
+            return false;
+        }
+    }
+    true
+}
+
+/// Whether the members of the first mask are among those of the second.
+pub fn is_within(first: &Mask, second: &Mask, n: u32) -> bool
+    requires first { length first.now ≡ n }
+    requires second { length second.now ≡ n }
+    ensures { result ≡ true → Within (members first.now) (members second.now) }
+{
+    'vertices: for v in 0..n {
+        if first.has(v) && !second.has(v) {
+            return false;
+        }
+    }
+    true
+}

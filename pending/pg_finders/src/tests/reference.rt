@@ -1,0 +1,169 @@
+//! The winning sets of a game of at most three vertices by their definition: a player wins a vertex where some choice
+//! at each vertex of his wins against every choice of the opponent's.
+
+use crate::tests::games::Draft;
+use pg_game::{Game, Player};
+use std::alloc::Global;
+use std::test::Fail;
+
+/// A number for each of three vertices.
+#[derive(Clone, Copy)]
+pub struct Three {
+    first: u32,
+    second: u32,
+    third: u32,
+}
+
+impl Three {
+    /// The digits of the number to the base.
+    pub fn digits(number: u32, base: u32) -> Three {
+        let base = base.max(1);
+        let rest = number / base;
+        Three {
+            first: number % base,
+            second: rest % base,
+            third: rest / base % base,
+        }
+    }
+
+    pub fn at(self, v: u32) -> u32 {
+        match v {
+            0 => self.first,
+            1 => self.second,
+            _ => self.third,
+        }
+    }
+}
+
+/// A game of at most three vertices: for each vertex a number that says its priority below 3, its owner, and its
+/// successors, a set of vertices that is not empty.
+#[derive(Clone, Copy)]
+pub struct Small {
+    pub len: u32,
+    rows: Three,
+}
+
+/// How many different rows a vertex of a game of so many vertices may have.
+pub fn rows_of(len: u32) -> u32 {
+    match len {
+        1 => 6,
+        2 => 18,
+        _ => 42,
+    }
+}
+
+impl Small {
+    /// The game of this number.
+    pub fn new(len: u32, number: u32) -> Small {
+        Small {
+            len,
+            rows: Three::digits(number, rows_of(len)),
+        }
+    }
+
+    pub fn priority(self, v: u32) -> u32 {
+        self.rows.at(v) % 3
+    }
+
+    pub fn is_odd(self, v: u32) -> bool {
+        self.rows.at(v) / 3 % 2 == 1
+    }
+
+    pub fn has_edge(self, v: u32, w: u32) -> bool {
+        w < self.len && has((self.rows.at(v) / 6).saturating_add(1), w)
+    }
+
+    pub fn game(self, alloc: Global) -> Result<Game, Fail> {
+        let mut draft = Draft::new(alloc);
+        'rows: for v in 0..self.len {
+            let mut successors = Vec::new(alloc);
+            'row: for w in 0..self.len {
+                if self.has_edge(v, w) {
+                    successors.push(w)?;
+                }
+            }
+            let owner = if self.is_odd(v) {
+                Player::Odd
+            } else {
+                Player::Even
+            };
+            draft.add(alloc, self.priority(v), owner, successors.as_slice())?;
+        }
+        draft.game(alloc)
+    }
+
+    /// Whether each choice is an edge.
+    fn is_possible(self, choices: Three) -> bool {
+        'vertices: for v in 0..self.len {
+            if !self.has_edge(v, choices.at(v)) {
+                return false;
+            }
+        }
+        true
+    }
+
+    /// Whether the choices are the same at each vertex of Even's.
+    fn is_even_the_same(self, a: Three, b: Three) -> bool {
+        'vertices: for v in 0..self.len {
+            if !self.is_odd(v) && a.at(v) != b.at(v) {
+                return false;
+            }
+        }
+        true
+    }
+
+    /// Whether the greatest priority of the cycle that the choices reach from `v` is even.
+    fn is_even_play(self, choices: Three, v: u32) -> bool {
+        let mut at = v;
+        'lead: for _step in 0..3 {
+            at = choices.at(at);
+        }
+        let mut most = 0;
+        'cycle: for _step in 0..6 {
+            most = most.max(self.priority(at));
+            at = choices.at(at);
+        }
+        most % 2 == 0
+    }
+
+    /// The choices at all vertices, each with the set of the vertices from which they make an even play.
+    fn plays(self, alloc: Global) -> Result<Vec<(Three, u32)>, Fail> {
+        let mut plays = Vec::new(alloc);
+        'choices: for number in 0..27 {
+            let choices = Three::digits(number, 3);
+            if self.is_possible(choices) {
+                let first = if self.is_even_play(choices, 0) { 1 } else { 0 };
+                let second = if self.is_even_play(choices, 1) { 2 } else { 0 };
+                let third = if self.is_even_play(choices, 2) { 4 } else { 0 };
+                plays.push((choices, first | second | third))?;
+            }
+        }
+        Ok(plays)
+    }
+
+    /// The set of the vertices that Even wins.
+    pub fn even_wins(self, alloc: Global) -> Result<u32, Fail> {
+        let plays = self.plays(alloc)?;
+        let mut wins = 0;
+        'strategies: for (even, _) in &plays {
+            let mut always = 7;
+            'answers: for (answer, won) in &plays {
+                if self.is_even_the_same(*even, *answer) {
+                    always &= *won;
+                }
+            }
+            wins |= always;
+        }
+        Ok(wins)
+    }
+}
+
+/// Whether the set of at most three vertices has the vertex.
+pub fn has(set: u32, v: u32) -> bool {
+    let bit = match v {
+        0 => 1,
+        1 => 2,
+        _ => 4,
+    };
+    set & bit != 0
+}

@@ -1,0 +1,299 @@
+//! Each public call on its happy path, the refusals in their order, the limits, and a plain reference on small games.
+
+ghost use Rattle.std.specs.Prelude.{◌<◌, All, IfOk};
+ghost use Rattle.pg_game.specs.Specification.{AreNumbers};
+
+use crate::{Game, GameFault, Mask, Player, Sequence, Spec};
+use std::alloc::Global;
+use std::process::Abort;
+use std::test::Fail;
+
+type Row<'a> = (u32, u32, Player, &'a [u32]);
+
+const EVEN: Player = Player::Even;
+
+const ODD: Player = Player::Odd;
+
+/// Adds a specification, with numbers cut down to the greatest.
+fn add(
+    specs: &mut Vec<Spec>,
+    id: u32,
+    priority: u32,
+    owner: Player,
+    successors: Vec<u32>,
+) -> Result<(), Fail>
+    requires { All AreNumbers specs.old.items }
+    ensures { All AreNumbers specs.new.items }
+{
+    specs.push(Spec {
+        id: id.min(2_147_483_647),
+        priority: priority.min(2_147_483_647),
+        owner,
+        successors: Sequence::new(successors),
+    })?;
+    Ok(())
+}
+
+fn specs_of(alloc: Global, rows: &[Row]) -> Result<Vec<Spec>, Fail>
+    ensures { IfOk result (λ specs. All AreNumbers specs.items) }
+{
+    let mut specs = Vec::new(alloc);
+    'rows: for row in rows {
+        add(
+            &mut specs,
+            row.0,
+            row.1,
+            row.2,
+            Vec::from_slice(alloc, row.3)?,
+        )?;
+    }
+    Ok(specs)
+}
+
+/// As many vertices, each with the first `degree` as successors and its number as priority, but at most the last.
+fn dense(alloc: Global, n: u32, degree: u32, last: u32) -> Result<Vec<Spec>, Fail>
+    ensures { IfOk result (λ specs. All AreNumbers specs.items) }
+{
+    let mut first = Vec::new(alloc);
+    for w in 0..degree {
+        first.push(w)?;
+    }
+    let mut specs = Vec::new(alloc);
+    'vertices: for v in 0..n {
+        add(
+            &mut specs,
+            v,
+            v.min(last),
+            EVEN,
+            Vec::from_slice(alloc, first.as_slice())?,
+        )?;
+    }
+    Ok(specs)
+}
+
+/// The answer, without the game.
+fn fault_of(alloc: Global, specs: Vec<Spec>) -> Option<GameFault>
+    requires { All AreNumbers specs.items }
+{
+    match Game::from_specs(alloc, specs) {
+        Ok(_) => None,
+        Err(fault) => Some(fault),
+    }
+}
+
+#[test]
+fn a_game_with_gaps_goes_by_rising_identifier(rt: HostRuntime) -> Result<(), Fail> {
+    let alloc = rt.alloc();
+    let rows: [Row; 2] = [(9, 2, ODD, &[3, 3, 9]), (3, 1, EVEN, &[9])];
+    let game = Game::from_specs(alloc, specs_of(alloc, &rows)?)?;
+    assert_eq!(rt; game.len(), 2);
+    assert_eq!(rt; game.id(0), 3);
+    assert_eq!(rt; game.id(1), 9);
+    assert_eq!(rt; game.priority(0), 1);
+    assert_eq!(rt; game.priority(1), 2);
+    assert_eq!(rt; game.owner(0), EVEN);
+    assert_eq!(rt; game.owner(1), ODD);
+    assert_eq!(rt; game.successors(0), [1].as_slice());
+    assert_eq!(rt; game.successors(1), [0, 1].as_slice());
+    assert_eq!(rt; game.predecessors(0), [1].as_slice());
+    assert_eq!(rt; game.predecessors(1), [0, 1].as_slice());
+    assert_eq!(rt; game.vertex_of(9), Some(1));
+    assert_eq!(rt; game.vertex_of(3), Some(0));
+    assert_eq!(rt; game.vertex_of(4), None);
+    assert!(rt; game.has_edge(1, 0));
+    assert!(rt; !game.has_edge(0, 0));
+    Ok(())
+}
+
+#[test]
+fn faults_come_in_their_order(rt: HostRuntime) -> Result<(), Fail> {
+    let alloc = rt.alloc();
+    let none: [Row; 0] = [];
+    assert_eq!(rt;
+        fault_of(alloc, specs_of(alloc, &none)?),
+        Some(GameFault::NoVertex)
+    );
+    let twice: [Row; 3] = [(0, 0, EVEN, &[]), (5, 1, ODD, &[7]), (5, 1, ODD, &[0])];
+    assert_eq!(rt;
+        fault_of(alloc, specs_of(alloc, &twice)?),
+        Some(GameFault::Twice(5))
+    );
+    let without: [Row; 2] = [(0, 0, EVEN, &[7]), (5, 1, ODD, &[])];
+    assert_eq!(rt;
+        fault_of(alloc, specs_of(alloc, &without)?),
+        Some(GameFault::NoSuccessor(5))
+    );
+    let unknown: [Row; 2] = [(4, 0, EVEN, &[4]), (1, 1, ODD, &[4, 8, 7])];
+    assert_eq!(rt;
+        fault_of(alloc, specs_of(alloc, &unknown)?),
+        Some(GameFault::Unknown(1, 8))
+    );
+    Ok(())
+}
+
+#[test]
+fn vertices_are_limited_before_all_else(rt: HostRuntime) -> Result<(), Fail> {
+    let alloc = rt.alloc();
+    assert_eq!(rt;
+        fault_of(alloc, dense(alloc, 65_537, 0, 0)?),
+        Some(GameFault::TooManyVertices)
+    );
+    assert_eq!(rt;
+        fault_of(alloc, dense(alloc, 65_536, 0, 0)?),
+        Some(GameFault::NoSuccessor(0))
+    );
+    Ok(())
+}
+
+#[test]
+fn edges_are_limited(rt: HostRuntime) -> Result<(), Fail> {
+    let alloc = rt.alloc();
+    assert_eq!(rt; fault_of(alloc, dense(alloc, 1_024, 1_024, 0)?), None);
+    assert_eq!(rt;
+        fault_of(alloc, dense(alloc, 1_025, 1_024, 9_999)?),
+        Some(GameFault::TooManyEdges)
+    );
+    Ok(())
+}
+
+#[test]
+fn priorities_are_limited(rt: HostRuntime) -> Result<(), Fail> {
+    let alloc = rt.alloc();
+    assert_eq!(rt; fault_of(alloc, dense(alloc, 4_096, 1, 9_999)?), None);
+    assert_eq!(rt;
+        fault_of(alloc, dense(alloc, 4_097, 1, 9_999)?),
+        Some(GameFault::TooManyPriorities)
+    );
+    assert_eq!(rt; fault_of(alloc, dense(alloc, 4_097, 1, 4_095)?), None);
+    Ok(())
+}
+
+#[test]
+fn the_greatest_number_is_an_identifier(rt: HostRuntime) -> Result<(), Fail> {
+    let alloc = rt.alloc();
+    let rows: [Row; 1] = [(2_147_483_647, 2_147_483_647, ODD, &[2_147_483_647])];
+    let game = Game::from_specs(alloc, specs_of(alloc, &rows)?)?;
+    assert_eq!(rt; game.len(), 1);
+    assert_eq!(rt; game.id(0), 2_147_483_647);
+    assert_eq!(rt; game.priority(0), 2_147_483_647);
+    Ok(())
+}
+
+#[test]
+fn games_are_equal_where_their_contents_are(rt: HostRuntime) -> Result<(), Fail> {
+    let alloc = rt.alloc();
+    let rows: [Row; 2] = [(9, 2, ODD, &[3, 3, 9]), (3, 1, EVEN, &[9])];
+    let other_order: [Row; 2] = [(3, 1, EVEN, &[9]), (9, 2, ODD, &[9, 3])];
+    let other_owner: [Row; 2] = [(3, 1, ODD, &[9]), (9, 2, ODD, &[9, 3])];
+    let other_edge: [Row; 2] = [(3, 1, EVEN, &[3]), (9, 2, ODD, &[9, 3])];
+    let other_priority: [Row; 2] = [(3, 1, EVEN, &[9]), (9, 4, ODD, &[9, 3])];
+    let other_id: [Row; 2] = [(4, 1, EVEN, &[9]), (9, 2, ODD, &[9, 4])];
+    let game = Game::from_specs(alloc, specs_of(alloc, &rows)?)?;
+    assert!(rt; game == Game::from_specs(alloc, specs_of(alloc, &other_order)?)?);
+    assert!(rt; game != Game::from_specs(alloc, specs_of(alloc, &other_owner)?)?);
+    assert!(rt; game != Game::from_specs(alloc, specs_of(alloc, &other_edge)?)?);
+    assert!(rt; game != Game::from_specs(alloc, specs_of(alloc, &other_priority)?)?);
+    assert!(rt; game != Game::from_specs(alloc, specs_of(alloc, &other_id)?)?);
+    Ok(())
+}
+
+/// Looks at every pair of vertices of games of five vertices, whose edges are the bits of `bits`.
+fn compare_edges(rt: &impl Abort, alloc: Global, bits: u32) -> Result<(), Fail> {
+    let mut specs = Vec::new(alloc);
+    'vertices: for v in 0..5u32 {
+        let mut successors = Vec::new(alloc);
+        for w in 0..5u32 {
+            if is_edge(bits, v, w) {
+                successors.push(100 - 10 * w)?;
+            }
+        }
+        add(
+            &mut specs,
+            100 - 10 * v,
+            v,
+            Player::of_parity(v),
+            successors,
+        )?;
+    }
+    let game = Game::from_specs(alloc, specs)?;
+    assert_eq!(rt; game.len(), 5);
+    for v in 0..5u32 {
+        for w in 0..5u32 {
+            let wanted = is_edge(bits, 4 - v, 4 - w);
+            assert_eq!(rt; game.has_edge(v, w), wanted);
+            assert_eq!(rt; game.successors(v).contains(&w), wanted);
+            assert_eq!(rt; game.predecessors(w).contains(&v), wanted);
+        }
+    }
+    Ok(())
+}
+
+/// A vertex is always its own successor; the other edges are given by bits.
+fn is_edge(bits: u32, v: u32, w: u32) -> bool
+    requires from { v < 5 }
+    requires to { w < 5 }
+{
+    v == w || (bits >> (v * 5 + w)) % 2 == 1
+}
+
+#[test]
+fn edges_and_predecessors_are_those_specified(rt: HostRuntime) -> Result<(), Fail> {
+    let mut bits = 1u32;
+    for _round in 0..200u32 {
+        bits = bits.wrapping_mul(1_664_525).wrapping_add(1_013_904_223);
+        compare_edges(&rt, rt.alloc(), bits % 33_554_432)?;
+    }
+    Ok(())
+}
+
+#[test]
+fn a_mask_is_a_set(rt: HostRuntime) -> Result<(), Fail> {
+    let alloc = rt.alloc();
+    let mut empty = Mask::empty(alloc, 3)?;
+    assert_eq!(rt; empty.len(), 3);
+    assert_eq!(rt; empty.count(), 0);
+    empty.insert(1);
+    assert!(rt; empty.has(1));
+    assert!(rt; !empty.has(2));
+    let full = Mask::full(alloc, 3)?;
+    let mut copy = full.copy(alloc)?;
+    assert_eq!(rt; copy.len(), 3);
+    copy.remove(2);
+    assert_eq!(rt; copy.count(), 2);
+    assert_eq!(rt; full.len(), 3);
+    assert_eq!(rt; full.count(), 3);
+    Ok(())
+}
+
+#[test]
+fn players_are_even_and_odd(rt: HostRuntime) -> Result<(), Fail> {
+    let cases = [(6, EVEN, ODD, 0), (7, ODD, EVEN, 1)];
+    for (priority, player, other, digit) in cases {
+        assert_eq!(rt; Player::of_parity(priority), player);
+        assert_eq!(rt; player.other(), other);
+        assert_eq!(rt; player.digit(), digit);
+    }
+    Ok(())
+}
+
+#[test]
+fn faults_say_what_is_wrong(rt: HostRuntime) -> Result<(), Fail> {
+    let alloc = rt.alloc();
+    let cases = [
+        (GameFault::NoVertex, "no vertex"),
+        (GameFault::TooManyVertices, "too many vertices"),
+        (GameFault::Twice(4), "vertex 4: specified twice"),
+        (GameFault::NoSuccessor(4), "vertex 4: no successor"),
+        (GameFault::TooManyEdges, "too many edges"),
+        (GameFault::TooManyPriorities, "too many priorities"),
+        (
+            GameFault::Unknown(4, 9),
+            "vertex 4: successor 9 is not specified",
+        ),
+        (GameFault::Memory, "no memory"),
+    ];
+    for (fault, text) in cases {
+        assert_eq!(rt; format!(in alloc; "{fault}")?.as_str(), text);
+    }
+    Ok(())
+}

@@ -1,0 +1,49 @@
+//! Texts and their answers, read off the formats by hand.
+
+ghost use Rattle.std.specs.Prelude.{IfOk};
+ghost use Rattle.pg_text.specs.Solution.{AreRows};
+
+mod bytes;
+mod faults;
+mod games;
+mod solutions;
+
+use crate::fault::{SolutionTextFault, TextFault};
+use crate::reading::{read_game, read_solution};
+use crate::solution::Solution;
+use pg_game::Game;
+use std::alloc::Global;
+
+/// Two vertices, and each player wins one.
+pub const BOTH_WIN: &str = "0 2 0 0,1; 1 1 1 1;";
+
+/// Identifiers with gaps, in falling order.
+pub const GAPS: &str = "9 2 1 3,3,9; 3 1 0 9;";
+
+/// The game of a short text.
+pub fn game(alloc: Global, text: &[u8]) -> Result<Game, TextFault> {
+    if text.len() > 1000 {
+        return Err(TextFault::Memory);
+    }
+    read_game(alloc, text)
+}
+
+/// Why a short text is no game, if it is none.
+pub fn game_fault(alloc: Global, text: &[u8]) -> Option<TextFault> {
+    game(alloc, text).err()
+}
+
+/// The winners and choices of a short text.
+pub fn solution(alloc: Global, game: &Game, text: &[u8]) -> Result<Solution, SolutionTextFault>
+    ensures { IfOk result (λ s. AreRows game.now s.rows) }
+{
+    if text.len() > 1000 {
+        return Err(SolutionTextFault::Memory);
+    }
+    read_solution(alloc, game, text)
+}
+
+/// Why a short text is no solution text of the game, if it is none.
+pub fn solution_fault(alloc: Global, game: &Game, text: &[u8]) -> Option<SolutionTextFault> {
+    solution(alloc, game, text).err()
+}

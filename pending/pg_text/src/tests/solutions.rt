@@ -1,0 +1,88 @@
+//! Solution texts that are read, and why others are refused.
+
+use super::{BOTH_WIN, GAPS, game, solution, solution_fault};
+use crate::fault::SolutionTextFault;
+use crate::writing::{write_solution, write_winners};
+use std::test::Fail;
+
+#[test]
+fn winners_and_choices_are_written_in_one_spelling(rt: HostRuntime) -> Result<(), Fail> {
+    let alloc = rt.alloc();
+    for (game_text, text, want) in [
+        (
+            BOTH_WIN,
+            "paritysol 1;\n0 0 0;\n1 1 1;\n",
+            "paritysol 1;\n0 0 0;\n1 1 1;\n",
+        ),
+        (BOTH_WIN, "01 1;00 00;", "paritysol 1;\n0 0;\n1 1;\n"),
+        (
+            BOTH_WIN,
+            "paritysol 2147483647; 1 0 00; 0 1 1;",
+            "paritysol 1;\n0 1 1;\n1 0 0;\n",
+        ),
+        (GAPS, "9 0; 3 0 9;", "paritysol 9;\n3 0 9;\n9 0;\n"),
+    ] {
+        let game = game(alloc, game_text.as_bytes())?;
+        let solution = solution(alloc, &game, text.as_bytes())?;
+        let written = write_solution(alloc, &game, &solution)?;
+        assert_eq!(rt; written.as_slice(), want.as_bytes(), "at {text}");
+    }
+    Ok(())
+}
+
+#[test]
+fn winners_are_written_without_choices(rt: HostRuntime) -> Result<(), Fail> {
+    let alloc = rt.alloc();
+    for (game_text, text, want) in [
+        (BOTH_WIN, "0 0 0;1 1 1;", "paritysol 1;\n0 0;\n1 1;\n"),
+        (GAPS, "9 0; 3 0 9;", "paritysol 9;\n3 0;\n9 0;\n"),
+    ] {
+        let game = game(alloc, game_text.as_bytes())?;
+        let solution = solution(alloc, &game, text.as_bytes())?;
+        let written = write_winners(alloc, &game, &solution)?;
+        assert_eq!(rt; written.as_slice(), want.as_bytes(), "at {text}");
+    }
+    Ok(())
+}
+
+#[test]
+fn the_first_fault_of_a_solution_text_is_named(rt: HostRuntime) -> Result<(), Fail> {
+    let alloc = rt.alloc();
+    let game = game(alloc, BOTH_WIN.as_bytes())?;
+    for (text, want) in [
+        ("0 0 0; $", SolutionTextFault::Lexical(7)),
+        (", $", SolutionTextFault::Lexical(2)),
+        ("0 \"a\" \"b", SolutionTextFault::Lexical(6)),
+        ("0 0", SolutionTextFault::Syntax(3)),
+        ("0;", SolutionTextFault::Syntax(1)),
+        ("0 0 0 0;", SolutionTextFault::Syntax(6)),
+        ("0 0,0;", SolutionTextFault::Syntax(3)),
+        ("0 0 0 \"a\";", SolutionTextFault::Syntax(6)),
+        ("parity 1;", SolutionTextFault::Syntax(0)),
+        ("paritysol 1;paritysol 1;", SolutionTextFault::Syntax(12)),
+        (
+            "0 2;99999999999999999999999 0;",
+            SolutionTextFault::Number(4),
+        ),
+        ("0 2147483648;", SolutionTextFault::Number(2)),
+        ("0 0 2147483648;7 2;", SolutionTextFault::Number(4)),
+        ("0 0 0; 1 2;", SolutionTextFault::Winner(9)),
+        ("7 0;0 02;", SolutionTextFault::Winner(6)),
+        ("0 0 0; 2 0;", SolutionTextFault::Stranger(2)),
+        ("0 0 0; 0 0 0; 1 1 7;", SolutionTextFault::Stranger(7)),
+        ("0 0 9; 7 0;", SolutionTextFault::Stranger(9)),
+        ("0 0 0; 0 0 0;", SolutionTextFault::Twice(0)),
+        ("1 1;0 0;0 0;1 1;", SolutionTextFault::Twice(0)),
+        ("", SolutionTextFault::Missing(0)),
+        ("paritysol 1;", SolutionTextFault::Missing(0)),
+        ("1 1 1;", SolutionTextFault::Missing(0)),
+        ("0 0 0;", SolutionTextFault::Missing(1)),
+    ] {
+        assert_eq!(rt;
+            solution_fault(alloc, &game, text.as_bytes()),
+            Some(want),
+            "at {text}"
+        );
+    }
+    Ok(())
+}

@@ -1,0 +1,7 @@
+//! Runs over sources and sinks in memory, the lines of the command, and the texts and statuses of faults.
+mod broken;
+mod command_line;
+mod devices;
+mod faults;
+mod games;
+mod runs;

@@ -1,0 +1,125 @@
+//! The text and the status of each fault.
+use crate::fault::{AskedFault, RunFault};
+use pg_game::GameFault;
+use pg_text::{SolutionTextFault, TextFault};
+use std::test::Fail;
+
+#[test]
+fn each_fault_has_its_text_and_status(rt: HostRuntime) -> Result<(), Fail> {
+    let alloc = rt.alloc();
+    for (fault, text, status) in [
+        (RunFault::Read, "read fault", 4),
+        (RunFault::Write, "write fault", 4),
+        (RunFault::Memory, "no memory", 5),
+        (RunFault::TooLong, "text too long", 3),
+        (
+            RunFault::Game(TextFault::Lexical(8)),
+            "game: byte 8: no token",
+            3,
+        ),
+        (
+            RunFault::Game(TextFault::Syntax(17)),
+            "game: byte 17: not expected",
+            3,
+        ),
+        (
+            RunFault::Game(TextFault::Number(0)),
+            "game: byte 0: number too large",
+            3,
+        ),
+        (
+            RunFault::Game(TextFault::Owner(4)),
+            "game: byte 4: owner is not 0 or 1",
+            3,
+        ),
+        (
+            RunFault::Game(TextFault::Game(GameFault::NoVertex)),
+            "game: no vertex",
+            3,
+        ),
+        (
+            RunFault::Game(TextFault::Game(GameFault::TooManyVertices)),
+            "game: too many vertices",
+            3,
+        ),
+        (
+            RunFault::Game(TextFault::Game(GameFault::Twice(3))),
+            "game: vertex 3: specified twice",
+            3,
+        ),
+        (
+            RunFault::Game(TextFault::Game(GameFault::NoSuccessor(3))),
+            "game: vertex 3: no successor",
+            3,
+        ),
+        (
+            RunFault::Game(TextFault::Game(GameFault::TooManyEdges)),
+            "game: too many edges",
+            3,
+        ),
+        (
+            RunFault::Game(TextFault::Game(GameFault::TooManyPriorities)),
+            "game: too many priorities",
+            3,
+        ),
+        (
+            RunFault::Game(TextFault::Game(GameFault::Unknown(0, 7))),
+            "game: vertex 0: successor 7 is not specified",
+            3,
+        ),
+        (
+            RunFault::Solution(SolutionTextFault::Lexical(1)),
+            "solution: byte 1: no token",
+            3,
+        ),
+        (
+            RunFault::Solution(SolutionTextFault::Syntax(2)),
+            "solution: byte 2: not expected",
+            3,
+        ),
+        (
+            RunFault::Solution(SolutionTextFault::Number(3)),
+            "solution: byte 3: number too large",
+            3,
+        ),
+        (
+            RunFault::Solution(SolutionTextFault::Winner(9)),
+            "solution: byte 9: winner is not 0 or 1",
+            3,
+        ),
+        (
+            RunFault::Solution(SolutionTextFault::Stranger(2)),
+            "solution: vertex 2: not in the game",
+            3,
+        ),
+        (
+            RunFault::Solution(SolutionTextFault::Twice(5)),
+            "solution: vertex 5: written twice",
+            3,
+        ),
+        (
+            RunFault::Solution(SolutionTextFault::Missing(1)),
+            "solution: vertex 1: not written",
+            3,
+        ),
+    ] {
+        let line = fault.to_string(alloc)?;
+        assert_eq!(rt; line.as_str(), text);
+        assert_eq!(rt; fault.status(), status, "of {line}");
+    }
+    Ok(())
+}
+
+#[test]
+fn a_refused_command_line_prints_its_own_text(rt: HostRuntime) -> Result<(), Fail> {
+    let alloc = rt.alloc();
+    let words = AskedFault::Words(String::from_str(alloc, "error: no\n")?);
+    assert_eq!(rt; words.to_string(alloc)?.as_str(), "error: no\n");
+    assert_eq!(rt; words.status(), 2);
+    assert_eq!(rt;
+        AskedFault::Memory.to_string(alloc)?.as_str(),
+        "pgboard: no memory\n"
+    );
+    assert_eq!(rt; AskedFault::Memory.status(), 5);
+    Ok(())
+}

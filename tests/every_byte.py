@@ -1,0 +1,87 @@
+#!/usr/bin/env python3
+"""Shows what a built program says to each byte at places of a game and a solution, and to texts cut at every length.
+
+    tests/every_byte.py BINARY
+
+The answers are those of the definitions in plain.py; for the smallest game, cut, they are written out here too. The last
+line is 'N passed, M failed'.
+"""
+
+import concurrent.futures
+import os
+import subprocess
+import sys
+
+import plain
+
+SMALLEST = b"parity 0;\n0 0 0 0;\n"
+NAMED = b'parity 12; start 1;\n12 05 1 7,12 "a name";\n7 2 0 12;\n'
+SOLUTION = b"paritysol 12;\n7 1;\n12 1 12;\n"
+
+
+def texts():
+    """Pairs of a name and a joined text, or a game where it has no '%'."""
+    for byte in range(256):
+        it = bytes([byte])
+        yield f"byte {byte} first", it + SMALLEST
+        yield f"byte {byte} in a number", b"0 12" + it + b"3 0 0;"
+        yield f"byte {byte} in a name", b'0 0 0 0 "a' + it + b'b";'
+        yield f"byte {byte} last", SMALLEST + it
+        yield f"byte {byte} in a solution", b"0 0 0 0;%0" + it + b"0 0;"
+    for length in range(len(NAMED) + 1):
+        yield f"a game cut to {length} bytes", NAMED[:length]
+    for length in range(len(SOLUTION) + 1):
+        yield f"a solution cut to {length} bytes", NAMED + b"%" + SOLUTION[:length]
+
+
+def wanted_of(text):
+    """Status, standard output and standard error of the run without a command."""
+    first, _, rest = text.partition(b"%")
+    game = plain.game_of(first)
+    if isinstance(game, str):
+        return 3, b"", f"pgboard: game: {game}\n".encode()
+    solution = plain.solution_of(game, rest)
+    if isinstance(solution, str):
+        return 3, b"", f"pgboard: solution: {solution}\n".encode()
+    line = plain.verdict(game, solution)
+    return (0 if line == "ok\n" else 1), line.encode(), b""
+
+
+def tidied_or_refused(length):
+    """What `tidy` says to the smallest game's first bytes, by hand."""
+    if length >= len(SMALLEST) - 1:
+        return 0, SMALLEST, b""
+    # before the word ends it is another word
+    at = 0 if length < len("parity") else length
+    return 3, b"", f"pgboard: game: byte {at}: not expected\n".encode()
+
+
+def runs():
+    for name, text in texts():
+        yield name, [], text, wanted_of(text)
+    for length in range(len(SMALLEST) + 1):
+        yield f"the smallest game cut to {length} bytes", ["tidy"], SMALLEST[:length], tidied_or_refused(length)
+
+
+def fault(binary, run):
+    name, words, text, wanted = run
+    ran = subprocess.run([binary, *words], input=text, capture_output=True, timeout=20)
+    got = ran.returncode, ran.stdout, ran.stderr
+    return None if got == wanted else f"{name}: {text!r} gives {got}, and not {wanted}"
+
+
+def main():
+    if len(sys.argv) != 2:
+        sys.exit("tests/every_byte.py BINARY")
+    binary = os.path.abspath(sys.argv[1])
+    with concurrent.futures.ThreadPoolExecutor(4) as pool:
+        faults = list(pool.map(lambda it: fault(binary, it), runs()))
+    failed = [it for it in faults if it]
+    for why in failed[:20]:
+        print(f"FAILED every_byte/{why}")
+    print(f"{len(faults) - len(failed)} passed, {len(failed)} failed")
+    return 1 if failed else 0
+
+
+if __name__ == "__main__":
+    sys.exit(main())

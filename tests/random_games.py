@@ -1,0 +1,307 @@
+#!/usr/bin/env python3
+"""Compares a built program with plain definitions, and with the comparator, on small random games and texts.
+
+    tests/random_games.py BINARY [COMPARATOR] [--count N] [--seed S] [--without solve,trace]
+
+Each game goes through `tidy` and `verify` (with right and wrong solutions), its texts also with random damage; the
+answers have to be those of plain.py, byte by byte, and the comparator's. What `solve` and `trace` write is read back
+and judged by the definitions. The same seed gives the same games. The last line is 'N passed, M failed'.
+"""
+
+import argparse
+import concurrent.futures
+import os
+import random
+import subprocess
+import sys
+import tempfile
+
+import plain
+
+SECONDS = 20
+BLANKS = [b" ", b"\n", b"\t", b"\r\n", b"  ", b" \n "]
+PIECES = [b"0", b"1", b"9", b"00", b",", b";", b" ", b'"', b"-", b"parity", b"start", b"paritysol", b"x", b"2147483648", b"\xff", b"%", b"\n"]
+
+
+def random_game(chance):
+    n = chance.randint(1, 8)
+    ids = chance.sample(range(n if chance.random() < 0.5 else 3 * n), n)
+    priorities = chance.choice([2, 3, n + 1, 2 * n + 2])
+    degree = chance.choice([1, 2, 3])
+    return {id: (chance.randrange(priorities), chance.randrange(2), set(chance.choices(ids, k=chance.randint(1, degree)))) for id in ids}
+
+
+def number(chance, value):
+    return b"0" * chance.choice([0, 0, 0, 1, 3]) + b"%d" % value
+
+
+def blank(chance, needed):
+    return chance.choice(BLANKS) if needed or chance.random() < 0.3 else b""
+
+
+def random_game_text(chance, game):
+    """Some text of the game, in any spelling."""
+    text = []
+    for word in (b"parity", b"start"):
+        if chance.random() < 0.4:
+            text += [word, blank(chance, False), number(chance, chance.randrange(99)), b";", blank(chance, False)]
+    ids = list(game)
+    chance.shuffle(ids)
+    for id in ids:
+        priority, owner, successors = game[id]
+        row = list(successors) + chance.choices(list(successors), k=chance.choice([0, 0, 1, 2]))
+        chance.shuffle(row)
+        for value in (id, priority, owner):
+            text += [number(chance, value), blank(chance, True)]
+        text.append(b",".join(blank(chance, False) + number(chance, it) + blank(chance, False) for it in row))
+        text.append(chance.choice([b"", b"", b'"a b"', b'""', b'"\xc3\xa4;,\xff\n"', b' "x" ']))
+        text += [b";", blank(chance, False)]
+    return b"".join(text)
+
+
+def random_solution_text(chance, solution):
+    text = []
+    if chance.random() < 0.5:
+        text += [b"paritysol", blank(chance, False), number(chance, chance.randrange(99)), b";", blank(chance, False)]
+    ids = list(solution)
+    chance.shuffle(ids)
+    for id in ids:
+        row = [it for it in (id, *solution[id]) if it is not None]
+        text += [blank(chance, True).join(number(chance, it) for it in row), blank(chance, False), b";", blank(chance, False)]
+    return b"".join(text)
+
+
+def damaged(chance, text):
+    """The text with a few bytes left out, put in or cut off."""
+    for _ in range(chance.randint(1, 2)):
+        at = chance.randint(0, len(text))
+        kind = chance.randrange(4)
+        if kind == 0:
+            text = text[:at] + text[at + chance.randint(1, 3) :]
+        elif kind == 1:
+            text = text[:at] + chance.choice(PIECES) + text[at:]
+        elif kind == 2:
+            text = text[:at] + chance.choice(PIECES) + text[at + 1 :]
+        else:
+            text = text[:at]
+    return text
+
+
+def random_solution(chance, game):
+    """Some winners and choices; the choices are mostly successors."""
+    one = chance.random() < 0.4
+    every = chance.randrange(2)
+    solution = {}
+    for id in game:
+        winner = every if one else chance.randrange(2)
+        successors = list(game[id][2]) if chance.random() < 0.95 else list(game)
+        has_choice = winner == game[id][1] and chance.random() < 0.97 or chance.random() < 0.2
+        solution[id] = winner, chance.choice(successors) if has_choice else None
+    return solution
+
+
+def attracted(game, target, player):
+    """The attractor of a set: a step at a time until nothing comes."""
+    while True:
+        more = {id for id in game if id not in target and (any if game[id][1] == player else all)(to in target for to in game[id][2])}
+        if not more:
+            return target
+        target = target | more
+
+
+def right_solution(game):
+    """A solution by trying all sets and choices of a player in turn: the greatest region of each."""
+    solution = {}
+    for player in (0, 1):
+        region = best_region(game, player)
+        solution.update({id: (player, choice) for id, choice in region.items()})
+    return solution
+
+
+def best_region(game, player):
+    """The union of all regions of a player, found one choice after the other."""
+    won = {}
+    owned = [id for id in game if game[id][1] == player]
+    for choices in every_choice([sorted(game[id][2]) for id in owned]):
+        chosen = dict(zip(owned, choices))
+        solution = {id: (player, chosen.get(id)) for id in game}
+        # what can reach a bad closed walk under these choices is lost, the rest is a region
+        bad = {id for id in game if game[id][0] % 2 != player and plain.is_greatest_on_a_closed_walk(game, solution, id)}
+        while more := {id for id in game if id not in bad and plain.kept(game, solution, id) & bad}:
+            bad |= more
+        won = {**{id: chosen.get(id) for id in game if id not in bad}, **won}
+    return won
+
+
+def every_choice(rows):
+    if not rows:
+        yield []
+        return
+    for rest in every_choice(rows[1:]):
+        for it in rows[0]:
+            yield [it, *rest]
+
+
+class Programs:
+    def __init__(self, binary, comparator, room):
+        self.binary, self.comparator, self.room = binary, comparator, room
+
+    def put(self, name, text):
+        with open(os.path.join(self.room, name), "wb") as file:
+            file.write(text)
+
+    def run(self, program, words, given=b""):
+        ran = subprocess.run([program, *words], input=given, capture_output=True, cwd=self.room, timeout=SECONDS)
+        return ran.returncode, ran.stdout, ran.stderr
+
+    def differs(self, words, given, wanted):
+        """Runs both programs, and returns what differs from the wanted answer."""
+        for program in filter(None, (self.binary, self.comparator)):
+            got = self.run(program, words, given)
+            if got != wanted:
+                return f"{os.path.basename(program)} {' '.join(words)}: {got}, and not {wanted}"
+        return None
+
+
+def refused(text, words):
+    return 3, b"", f"pgboard: {text}: {words}\n".encode()
+
+
+def tidy_fault(programs, text):
+    game = plain.game_of(text)
+    wanted = refused("game", game) if isinstance(game, str) else (0, plain.written_game(game).encode(), b"")
+    return programs.differs(["tidy"], text, wanted)
+
+
+def verify_fault(programs, text, solution_text, joined):
+    game = plain.game_of(text)
+    solution = None if isinstance(game, str) else plain.solution_of(game, solution_text)
+    if isinstance(game, str):
+        wanted = refused("game", game)
+    elif isinstance(solution, str):
+        wanted = refused("solution", solution)
+    else:
+        line = plain.verdict(game, solution)
+        wanted = (0 if line == "ok\n" else 1, line.encode(), b"")
+    if joined:
+        return programs.differs([], text + b"%" + solution_text, wanted)
+    programs.put("game.pg", text)
+    programs.put("game.sol", solution_text)
+    return programs.differs(["verify", "game.pg", "game.sol"], b"", wanted)
+
+
+def solve_fault(programs, text, game, chance):
+    """Judges what the program's own `solve` writes."""
+    words = ["solve", *chance.choice([[], ["--workers", "1", "--bound", "0"], ["--workers", "1"], ["--workers", "3", "--bound", "2"]])]
+    status, out, err = programs.run(programs.binary, words, text)
+    if (status, err) != (0, b""):
+        return f"{words}: {(status, out, err)}"
+    solution = plain.solution_of(game, out)
+    if isinstance(solution, str):
+        return f"{words} writes {out}: {solution}"
+    line = plain.verdict(game, solution)
+    if line != "ok\n":
+        return f"{words} writes {out}: {line}"
+    owned = {id: (winner, choice if game[id][1] == winner else None) for id, (winner, choice) in solution.items()}
+    if plain.written_solution(game, owned).encode() != out:
+        return f"{words} writes {out}, which is not the written form, or has a choice too many"
+    wanted = (0, plain.written_winners(game, solution).encode(), b"")
+    return programs.differs(["solve", "--winners"], text, wanted)
+
+
+def trace_fault(programs, text, game, chance):
+    """Judges the journal of a trace: each entry leaves each player a region, all is settled, and the sums are right."""
+    words = ["trace", "--workers", chance.choice(["1", "2", "4"])]
+    status, out, err = programs.run(programs.binary, words, text)
+    if (status, err) != (0, b""):
+        return f"{words}: {(status, out, err)}"
+    why = journal_fault(game, out.decode().splitlines())
+    return f"{words} writes {out}: {why}" if why else None
+
+
+def journal_fault(game, rows):
+    rows = iter(rows)
+    word, entries, settled = next(rows).split()
+    state = {}
+    for number in range(int(entries)):
+        word, at, worker, player, claimed, count = next(rows).split()
+        if (word, int(at)) != ("entry", number):
+            return f"entry {number} is not where it should be"
+        for place in range(int(count)):
+            id, *choice = map(int, next(rows).rstrip(";").split())
+            if id in state:
+                return f"{id} is settled twice"
+            if bool(choice) != (game[id][1] == int(player)):
+                return f"{id} has a choice, or none, against its owner"
+            state[id] = int(player), choice[0] if choice else None
+        region = {id: it for id, it in state.items() if it[0] == int(player)}
+        if attracted(game, set(region), int(player)) - set(state):
+            return f"entry {number} leaves out what it attracts"
+        part = {id: (game[id][0], game[id][1], game[id][2]) for id in region}
+        if any(not plain.kept(part, region, id) <= set(region) for id in region) or plain.verdict(part, region) != "ok\n":
+            return f"after entry {number} its player's vertices are no region"
+    if len(state) != len(game) or int(settled) != len(game):
+        return "not all is settled"
+    return report_fault(rows, int(entries))
+
+
+def report_fault(rows, entries):
+    word, jobs = next(rows).split()
+    sums = [0, 0, 0, 0]
+    for number in range(int(jobs)):
+        word, at, worker, *columns = next(rows).split()
+        if (word, int(at)) != ("job", number):
+            return f"job {number} is not where it should be"
+        sums = [a + int(b) for a, b in zip(sums, columns)]
+    if next(rows) != f"total {' '.join(map(str, sums))}":
+        return "the last line has other sums"
+    return None if sums[0] <= entries else "more was posted than there are entries"
+
+
+def faults(programs, chance, left_out):
+    """The checks of one random game, each a name and what is wrong or None."""
+    game = random_game(chance)
+    text = random_game_text(chance, game)
+    yield "tidy", tidy_fault(programs, text)
+    yield "tidy of a damaged text", tidy_fault(programs, damaged(chance, text))
+    for solution in (right_solution(game), random_solution(chance, game)):
+        solution_text = random_solution_text(chance, solution)
+        yield "verify", verify_fault(programs, text, solution_text, chance.random() < 0.5)
+    yield "verify of a damaged text", verify_fault(programs, text, damaged(chance, solution_text), False)
+    if plain.verdict(game, right_solution(game)) != "ok\n":
+        yield "the definitions", f"the solution found by trying all choices of {game} is none"
+    if "solve" not in left_out:
+        yield "solve", solve_fault(programs, text, game, chance)
+    if "trace" not in left_out:
+        yield "trace", trace_fault(programs, text, game, chance)
+
+
+def judged(number, given):
+    """The checks of the game of this number, as a list."""
+    comparator = given.comparator and os.path.abspath(given.comparator)
+    chance = random.Random(f"{given.seed} {number}")
+    with tempfile.TemporaryDirectory(prefix="pgboard-random-") as room:
+        return list(faults(Programs(os.path.abspath(given.binary), comparator, room), chance, given.without.split(",")))
+
+
+def main():
+    parser = argparse.ArgumentParser(description="Compares a built program with plain definitions on random games.")
+    parser.add_argument("binary")
+    parser.add_argument("comparator", nargs="?")
+    parser.add_argument("--count", type=int, default=800)
+    parser.add_argument("--seed", type=int, default=1)
+    parser.add_argument("--without", default="", help="commands to leave out, as solve,trace")
+    given = parser.parse_args()
+    passed = failed = 0
+    with concurrent.futures.ThreadPoolExecutor(4) as pool:
+        for number, checks in enumerate(pool.map(lambda it: judged(it, given), range(given.count))):
+            for name, why in checks:
+                passed, failed = passed + (not why), failed + bool(why)
+                if why and failed <= 20:
+                    print(f"FAILED random_games/{name} (seed {given.seed}, game {number}): {why}")
+    print(f"{passed} passed, {failed} failed")
+    return 1 if failed or not passed else 0
+
+
+if __name__ == "__main__":
+    sys.exit(main())
