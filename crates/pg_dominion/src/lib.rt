@@ -13,6 +13,8 @@ mod pieces;
 mod ranking;
 mod solution;
 mod tables;
+#[cfg(test)]
+mod tests;
 
 pub use attractor::attract;
 pub use claim::{Checked, CheckedRow, Claim, ClaimFault, check_claim};

@@ -143,9 +143,6 @@ module _ (g : Graph) (goal : ℕ) where
       let k = h.known w i in
       subst (IsSeen g U top (members taken)) k.2 (done k.0 (omega (arith, l, k.1)))
 
-pub follows_same : (taken : List Bool) (queue : List ℕ) → Follows taken queue taken queue
-follows_same taken queue = record { grows = λ v i. i; longer = omega arith; front = λ i l. refl }
-
 pub follows_push : (a : List Bool) (b : List ℕ) (taken : List Bool) (queue : List ℕ) (v : ℕ) → v < length taken → Follows a b taken queue → Follows a b (set taken v true) (queue ++ v ∷ [])
 follows_push a b taken queue v l h = record {
   grows = λ x i. still_set taken v x l (h.grows x i);

@@ -302,9 +302,6 @@ grown_fewer g p A A' old new front list h v n = h.active_is v ∙ out (A v) (lis
     out true b e = absurd (cc e)
     out false b e = refl
 
-pub grown_listed : (g : Graph) (p : Player) (A A' : VertexSet) (old new : Plan) (front list : List ℕ) → IsGrown g p A old front A' new list → (v : ℕ) → In (listed front) v → In (listed list) v
-grown_listed g p A A' old new front list h v i = subst (λ xs. In (listed xs) v) (sym h.list_is) (in_front front h.more v i)
-
 -- what is active or listed stays the same
 pub grown_union : (g : Graph) (p : Player) (A A' : VertexSet) (old new : Plan) (front list : List ℕ) → IsGrown g p A old front A' new list → (v : ℕ) → union A' (listed list) v ≡ union A (listed front) v
 grown_union g p A A' old new front list h v =

@@ -57,7 +57,3 @@ steps_begin (suc n) m l = let h = steps_grow m n (omega (arith, l)) in omega (ar
 pub steps_finish : (n m : ℕ) → m < n → steps m < steps_after n
 steps_finish zero m l = absurd (omega (arith, l))
 steps_finish (suc n) m l = let h = steps_grow m n (omega (arith, l)) in omega (arith, h)
-
-pub steps_some : (n : ℕ) → 0 < steps n
-steps_some zero = omega arith
-steps_some (suc n) = omega arith

@@ -21,6 +21,8 @@ mod solitaire;
 mod solver;
 mod standard;
 mod subgame;
+#[cfg(test)]
+mod tests;
 mod walks;
 mod watches;
 

@@ -1,9 +1,8 @@
-ghost use Rattle.std.specs.Prelude.{◌≡◌, ◌≢◌, ◌<◌, ℕ, length, IfOk, IfSome, IsNone, false, All, Contains, Option, Some};
-ghost use Rattle.pg_game.specs.VertexSet.{In, members, Within};
+ghost use Rattle.std.specs.Prelude.{◌≡◌, ◌≢◌, ◌<◌, ℕ, length, IfOk, Some};
+ghost use Rattle.pg_game.specs.VertexSet.{In, members};
 ghost use Rattle.pg_game.specs.Graph.{HasEdge};
 ghost use Rattle.pg_game.specs.Subgame.{IsSubgame};
-ghost use Rattle.pg_dominion.specs.Claim.{named};
-ghost use Rattle.pg_finders.specs.Planned.{winners_of, choices_of, HasSize, SameAt, IsGiven};
+ghost use Rattle.pg_finders.specs.Planned.{winners_of, choices_of, HasSize, SameAt};
 
 use crate::parts::successor_in;
 use pg_game::{Game, Mask, Memory, Player};
@@ -53,20 +52,6 @@ impl Plan {
         self.choices[v as usize] = choice;
     }
 
-    /// Gives the rows' vertices to the player, with the rows' choices.
-    pub fn write_rows(&mut self, player: Player, rows: &[(u32, Option<u32>)])
-        requires winners { All (λ (r : ℕ × Option ℕ). r.0 < length self.old.winners.items) rows.now }
-        requires choices { length self.old.choices.items ≡ length self.old.winners.items }
-        ensures winners { length self.new.winners.items ≡ length self.old.winners.items }
-        ensures choices { length self.new.choices.items ≡ length self.old.choices.items }
-        ensures written { (v : ℕ) → In (named rows.now) v → (winners_of self.new v ≡ player) × Contains rows.now (v, choices_of self.new v) }
-        ensures elsewhere { (v : ℕ) → named rows.now v ≡ false → SameAt self.old self.new v }
-    {
-        for row in rows {
-            self.write(row.0, player, row.1);
-        }
-    }
-
     /// Gives a vertex inside to the player, with any successor inside as the choice.
     pub fn write_any(&mut self, game: &Game, inside: &Mask, player: Player, v: u32)
         requires size { HasSize (length game.now) self.old }
@@ -81,23 +66,5 @@ impl Plan {
     {
         let choice = successor_in(game, inside, v);
         self.write(v, player, choice);
-    }
-
-    /// Gives the target to the player, with any successor inside as the choice.
-    pub fn write_target(&mut self, game: &Game, inside: &Mask, player: Player, target: &Mask)
-        requires size { HasSize (length game.now) self.old }
-        requires inside_length { length inside.now ≡ length game.now }
-        requires target_length { length target.now ≡ length game.now }
-        requires subgame { IsSubgame game.now (members inside.now) }
-        requires within { Within (members target.now) (members inside.now) }
-        ensures size { HasSize (length game.now) self.new }
-        ensures written { (v : ℕ) → In (members target.now) v → IsGiven game.now (members inside.now) player self.new v }
-        ensures elsewhere { (v : ℕ) → members target.now v ≡ false → SameAt self.old self.new v }
-    {
-        for v in 0..game.len() {
-            if target.has(v) {
-                self.write_any(game, inside, player, v);
-            }
-        }
     }
 }

@@ -10,6 +10,8 @@ mod layout;
 mod mask;
 mod player;
 mod sequence;
+#[cfg(test)]
+mod tests;
 
 pub use game::{Game, GameFault, Spec};
 pub use mask::Mask;

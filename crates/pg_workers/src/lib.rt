@@ -9,6 +9,8 @@ mod report;
 mod rest;
 mod scope;
 mod solve;
+#[cfg(test)]
+mod tests;
 mod worker;
 
 pub use gate::{Gate, Pass};

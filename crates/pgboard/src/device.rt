@@ -87,3 +87,6 @@ impl<W: Write> Sink for Std<W> {
         }
     }
 }
+
+#[cfg(test)]
+mod tests;

@@ -13,6 +13,8 @@ mod judge;
 mod reading;
 mod run;
 mod solve;
+#[cfg(test)]
+mod tests;
 mod trace;
 mod verdict;
 mod words;
