@@ -1,6 +1,6 @@
 //! Each public call on its happy path, the refusals in their order, the limits, and a plain reference on small games.
 
-ghost use Rattle.std.specs.Prelude.{◌<◌, All, IfOk};
+ghost use Rattle.std.specs.Prelude.{◌<◌, length, All, IfOk};
 ghost use Rattle.pg_game.specs.Specification.{AreNumbers};
 
 use crate::{Game, GameFault, Mask, Player, Sequence, Spec};
@@ -71,6 +71,10 @@ fn dense(alloc: Global, n: u32, degree: u32, last: u32) -> Result<Vec<Spec>, Fai
     Ok(specs)
 }
 
+fn game_of(alloc: Global, rows: &[Row]) -> Result<Game, Fail> {
+    Ok(Game::from_specs(alloc, specs_of(alloc, rows)?)?)
+}
+
 /// The answer, without the game.
 fn fault_of(alloc: Global, specs: Vec<Spec>) -> Option<GameFault>
     requires { All AreNumbers specs.items }
@@ -81,91 +85,89 @@ fn fault_of(alloc: Global, specs: Vec<Spec>) -> Option<GameFault>
     }
 }
 
+/// All that is told of a vertex, whose row names its successors as vertices.
+fn look(rt: &impl Abort, game: &Game, v: u32, row: Row, predecessors: &[u32])
+    requires { v < length game.now }
+{
+    assert_eq!(rt; game.id(v), row.0);
+    assert_eq!(rt; game.vertex_of(row.0), Some(v));
+    assert_eq!(rt; game.priority(v), row.1);
+    assert_eq!(rt; game.owner(v), row.2);
+    assert_eq!(rt; game.successors(v), row.3);
+    assert_eq!(rt; game.predecessors(v), predecessors);
+}
+
 #[test]
 fn a_game_with_gaps_goes_by_rising_identifier(rt: HostRuntime) -> Result<(), Fail> {
-    let alloc = rt.alloc();
     let rows: [Row; 2] = [(9, 2, ODD, &[3, 3, 9]), (3, 1, EVEN, &[9])];
-    let game = Game::from_specs(alloc, specs_of(alloc, &rows)?)?;
+    let game = game_of(rt.alloc(), &rows)?;
     assert_eq!(rt; game.len(), 2);
-    assert_eq!(rt; game.id(0), 3);
-    assert_eq!(rt; game.id(1), 9);
-    assert_eq!(rt; game.priority(0), 1);
-    assert_eq!(rt; game.priority(1), 2);
-    assert_eq!(rt; game.owner(0), EVEN);
-    assert_eq!(rt; game.owner(1), ODD);
-    assert_eq!(rt; game.successors(0), [1].as_slice());
-    assert_eq!(rt; game.successors(1), [0, 1].as_slice());
-    assert_eq!(rt; game.predecessors(0), [1].as_slice());
-    assert_eq!(rt; game.predecessors(1), [0, 1].as_slice());
-    assert_eq!(rt; game.vertex_of(9), Some(1));
-    assert_eq!(rt; game.vertex_of(3), Some(0));
+    look(&rt, &game, 0, (3, 1, EVEN, &[1]), &[1]);
+    look(&rt, &game, 1, (9, 2, ODD, &[0, 1]), &[0, 1]);
     assert_eq!(rt; game.vertex_of(4), None);
-    assert!(rt; game.has_edge(1, 0));
-    assert!(rt; !game.has_edge(0, 0));
+    Ok(())
+}
+
+/// Asks for the fault of these rows.
+fn refused(rt: &impl Abort, alloc: Global, rows: &[Row], wanted: GameFault) -> Result<(), Fail> {
+    assert_eq!(rt; fault_of(alloc, specs_of(alloc, rows)?), Some(wanted));
     Ok(())
 }
 
 #[test]
 fn faults_come_in_their_order(rt: HostRuntime) -> Result<(), Fail> {
     let alloc = rt.alloc();
-    let none: [Row; 0] = [];
-    assert_eq!(rt;
-        fault_of(alloc, specs_of(alloc, &none)?),
-        Some(GameFault::NoVertex)
-    );
     let twice: [Row; 3] = [(0, 0, EVEN, &[]), (5, 1, ODD, &[7]), (5, 1, ODD, &[0])];
-    assert_eq!(rt;
-        fault_of(alloc, specs_of(alloc, &twice)?),
-        Some(GameFault::Twice(5))
-    );
     let without: [Row; 2] = [(0, 0, EVEN, &[7]), (5, 1, ODD, &[])];
-    assert_eq!(rt;
-        fault_of(alloc, specs_of(alloc, &without)?),
-        Some(GameFault::NoSuccessor(5))
-    );
     let unknown: [Row; 2] = [(4, 0, EVEN, &[4]), (1, 1, ODD, &[4, 8, 7])];
-    assert_eq!(rt;
-        fault_of(alloc, specs_of(alloc, &unknown)?),
-        Some(GameFault::Unknown(1, 8))
-    );
+    refused(&rt, alloc, &[], GameFault::NoVertex)?;
+    refused(&rt, alloc, &twice, GameFault::Twice(5))?;
+    refused(&rt, alloc, &without, GameFault::NoSuccessor(5))?;
+    refused(&rt, alloc, &unknown, GameFault::Unknown(1, 8))
+}
+
+/// Asks for the answer to a dense list.
+fn answers(
+    rt: &impl Abort,
+    alloc: Global,
+    (n, degree, last): (u32, u32, u32),
+    wanted: Option<GameFault>,
+) -> Result<(), Fail> {
+    assert_eq!(rt; fault_of(alloc, dense(alloc, n, degree, last)?), wanted);
     Ok(())
 }
 
 #[test]
 fn vertices_are_limited_before_all_else(rt: HostRuntime) -> Result<(), Fail> {
     let alloc = rt.alloc();
-    assert_eq!(rt;
-        fault_of(alloc, dense(alloc, 65_537, 0, 0)?),
-        Some(GameFault::TooManyVertices)
-    );
-    assert_eq!(rt;
-        fault_of(alloc, dense(alloc, 65_536, 0, 0)?),
-        Some(GameFault::NoSuccessor(0))
-    );
-    Ok(())
+    answers(&rt, alloc, (65_537, 0, 0), Some(GameFault::TooManyVertices))?;
+    answers(&rt, alloc, (65_536, 0, 0), Some(GameFault::NoSuccessor(0)))?;
+    answers(&rt, alloc, (65_536, 1, 0), None)
 }
 
 #[test]
 fn edges_are_limited(rt: HostRuntime) -> Result<(), Fail> {
     let alloc = rt.alloc();
-    assert_eq!(rt; fault_of(alloc, dense(alloc, 1_024, 1_024, 0)?), None);
-    assert_eq!(rt;
-        fault_of(alloc, dense(alloc, 1_025, 1_024, 9_999)?),
-        Some(GameFault::TooManyEdges)
-    );
-    Ok(())
+    answers(&rt, alloc, (1_024, 1_024, 0), None)?;
+    answers(
+        &rt,
+        alloc,
+        (1_025, 1_024, 9_999),
+        Some(GameFault::TooManyEdges),
+    )
 }
 
 #[test]
 fn priorities_are_limited(rt: HostRuntime) -> Result<(), Fail> {
     let alloc = rt.alloc();
-    assert_eq!(rt; fault_of(alloc, dense(alloc, 4_096, 1, 9_999)?), None);
-    assert_eq!(rt;
-        fault_of(alloc, dense(alloc, 4_097, 1, 9_999)?),
-        Some(GameFault::TooManyPriorities)
-    );
-    assert_eq!(rt; fault_of(alloc, dense(alloc, 4_097, 1, 4_095)?), None);
-    Ok(())
+    answers(&rt, alloc, (4_096, 1, 9_999), None)?;
+    answers(
+        &rt,
+        alloc,
+        (4_097, 1, 9_999),
+        Some(GameFault::TooManyPriorities),
+    )?;
+    answers(&rt, alloc, (4_097, 1, 4_095), None)
 }
 
 #[test]
@@ -179,34 +181,50 @@ fn the_greatest_number_is_an_identifier(rt: HostRuntime) -> Result<(), Fail> {
     Ok(())
 }
 
+/// Whether the game equals that of these rows.
+fn is_game_of(alloc: Global, game: &Game, rows: &[Row]) -> Result<bool, Fail> {
+    let other = game_of(alloc, rows)?;
+    Ok(*game == other)
+}
+
 #[test]
 fn games_are_equal_where_their_contents_are(rt: HostRuntime) -> Result<(), Fail> {
     let alloc = rt.alloc();
     let rows: [Row; 2] = [(9, 2, ODD, &[3, 3, 9]), (3, 1, EVEN, &[9])];
-    let other_order: [Row; 2] = [(3, 1, EVEN, &[9]), (9, 2, ODD, &[9, 3])];
-    let other_owner: [Row; 2] = [(3, 1, ODD, &[9]), (9, 2, ODD, &[9, 3])];
-    let other_edge: [Row; 2] = [(3, 1, EVEN, &[3]), (9, 2, ODD, &[9, 3])];
-    let other_priority: [Row; 2] = [(3, 1, EVEN, &[9]), (9, 4, ODD, &[9, 3])];
-    let other_id: [Row; 2] = [(4, 1, EVEN, &[9]), (9, 2, ODD, &[9, 4])];
-    let game = Game::from_specs(alloc, specs_of(alloc, &rows)?)?;
-    assert!(rt; game == Game::from_specs(alloc, specs_of(alloc, &other_order)?)?);
-    assert!(rt; game != Game::from_specs(alloc, specs_of(alloc, &other_owner)?)?);
-    assert!(rt; game != Game::from_specs(alloc, specs_of(alloc, &other_edge)?)?);
-    assert!(rt; game != Game::from_specs(alloc, specs_of(alloc, &other_priority)?)?);
-    assert!(rt; game != Game::from_specs(alloc, specs_of(alloc, &other_id)?)?);
+    let others: [([Row; 2], bool); 5] = [
+        ([(3, 1, EVEN, &[9]), (9, 2, ODD, &[9, 3])], true),
+        ([(3, 1, ODD, &[9]), (9, 2, ODD, &[9, 3])], false),
+        ([(3, 1, EVEN, &[3]), (9, 2, ODD, &[9, 3])], false),
+        ([(3, 1, EVEN, &[9]), (9, 4, ODD, &[9, 3])], false),
+        ([(4, 1, EVEN, &[9]), (9, 2, ODD, &[9, 4])], false),
+    ];
+    let game = game_of(alloc, &rows)?;
+    for (other, wanted) in others {
+        assert_eq!(rt; is_game_of(alloc, &game, &other)?, wanted);
+    }
     Ok(())
 }
 
-/// Looks at every pair of vertices of games of five vertices, whose edges are the bits of `bits`.
-fn compare_edges(rt: &impl Abort, alloc: Global, bits: u32) -> Result<(), Fail> {
+/// The successors that the bits give a vertex, as identifiers that fall where the numbers rise.
+fn successors_of(alloc: Global, bits: u32, v: u32) -> Result<Vec<u32>, Fail>
+    requires { v < 5 }
+{
+    let mut successors = Vec::new(alloc);
+    for w in 0..5u32 {
+        if is_edge(bits, v, w) {
+            successors.push(100 - 10 * w)?;
+        }
+    }
+    Ok(successors)
+}
+
+/// Five vertices, whose edges are the bits.
+fn specs_of_bits(alloc: Global, bits: u32) -> Result<Vec<Spec>, Fail>
+    ensures { IfOk result (λ specs. All AreNumbers specs.items) }
+{
     let mut specs = Vec::new(alloc);
     'vertices: for v in 0..5u32 {
-        let mut successors = Vec::new(alloc);
-        for w in 0..5u32 {
-            if is_edge(bits, v, w) {
-                successors.push(100 - 10 * w)?;
-            }
-        }
+        let successors = successors_of(alloc, bits, v)?;
         add(
             &mut specs,
             100 - 10 * v,
@@ -215,14 +233,26 @@ fn compare_edges(rt: &impl Abort, alloc: Global, bits: u32) -> Result<(), Fail> 
             successors,
         )?;
     }
-    let game = Game::from_specs(alloc, specs)?;
+    Ok(specs)
+}
+
+/// Looks at a pair of vertices of a game.
+fn compare_edge(rt: &impl Abort, game: &Game, v: u32, w: u32, wanted: bool)
+    requires from { v < length game.now }
+    requires to { w < length game.now }
+{
+    assert_eq!(rt; game.has_edge(v, w), wanted);
+    assert_eq!(rt; game.successors(v).contains(&w), wanted);
+    assert_eq!(rt; game.predecessors(w).contains(&v), wanted);
+}
+
+/// Looks at every pair of vertices of the game of the bits.
+fn compare_edges(rt: &impl Abort, alloc: Global, bits: u32) -> Result<(), Fail> {
+    let game = Game::from_specs(alloc, specs_of_bits(alloc, bits)?)?;
     assert_eq!(rt; game.len(), 5);
     for v in 0..5u32 {
         for w in 0..5u32 {
-            let wanted = is_edge(bits, 4 - v, 4 - w);
-            assert_eq!(rt; game.has_edge(v, w), wanted);
-            assert_eq!(rt; game.successors(v).contains(&w), wanted);
-            assert_eq!(rt; game.predecessors(w).contains(&v), wanted);
+            compare_edge(rt, &game, v, w, is_edge(bits, 4 - v, 4 - w));
         }
     }
     Ok(())
