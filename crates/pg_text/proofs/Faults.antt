@@ -6,6 +6,7 @@ use Rattle.std.proofs.lemmas.List.{append-nil}
 use Rattle.pg_text.specs.Token.{Token, Number, Word, Name, Comma, Semicolon, IsSpelling, IsWhole, Placed, Begins, Spells}
 use Rattle.pg_text.specs.Bytes.{is_blank, is_digit, is_letter, is_no_quote, begins_token, AllAre, EndsRun, value_of}
 use Rattle.pg_text.specs.Fault.{IsLexicalFault}
+use Rattle.pg_text.specs.Laws.{TokensOrLexical}
 use Rattle.pg_text.proofs.Spelling.{run_unique, byte_kind, kind_of, head, one_front, not_blank}
 
 abbrev pub Wrong : ℕ → List ℕ → Type 0
@@ -239,7 +240,7 @@ lexed zero place (x ∷ xs) h = absurd (omega arith)
 lexed (suc n) place text h = from_blanks n place text h (lexed n) (run_of is_blank text)
 
 -- every text spells tokens or has a lexical fault
-pub tokens_or_lexical : (text : List ℕ) → ((ts : List Placed) × Spells 0 text ts) ⊎ ((at : ℕ) × IsLexicalFault text at)
+pub tokens_or_lexical : TokensOrLexical
 tokens_or_lexical text = elim (lexed (length text) 0 text (omega arith)) [
   | inl z ↦ inl z
   | inr st ↦ inr (length st.before, record { before = st.before; byte = st.byte; after = st.after; tokens = st.tokens; split = st.split; placed = refl; spelled = st.spelled; solid = st.solid; wrong = st.wrong })

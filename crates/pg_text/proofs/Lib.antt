@@ -21,6 +21,5 @@ pub mod ReadGame
 pub mod Wide
 pub mod Identifiers
 pub mod SolutionTable
-pub mod Described
 pub mod WrittenReads
 pub mod RowsFit

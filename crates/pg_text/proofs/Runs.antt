@@ -10,21 +10,12 @@ pub all-append : (test : ℕ → Bool) (xs ys : List ℕ) → AllAre test xs →
 all-append test [] ys a b = b
 all-append test (x ∷ xs) ys a b = (a.0, all-append test xs ys a.1 b)
 
-pub run_none : (test : ℕ → Bool) (text : List ℕ) (from : ℕ) → IsRun test text from from []
-run_none test text from = record { split = refl; passes = tt; end = omega arith }
-
 pub run_more : (test : ℕ → Bool) (text : List ℕ) (from to : ℕ) (run : List ℕ) → IsRun test text from to run → to < length text → test (get_or text to 0) ≡ true → IsRun test text from (to + 1) (run ++ get_or text to 0 ∷ [])
 run_more test text from to run r h p = record {
   split = r.split ∙ (ap (λ xs. run ++ xs) (drop_more text to 0 h) ∙ sym (append_assoc run (get_or text to 0 ∷ []) (drop (to + 1) text)));
   passes = all-append test run (get_or text to 0 ∷ []) r.passes (p, tt);
   end = let e = r.end in let f = length-append run (get_or text to 0 ∷ []) in omega arith;
 }
-
-pub ends_at : (test : ℕ → Bool) (text : List ℕ) (to : ℕ) → to < length text → test (get_or text to 0) ≡ false → EndsRun test (drop to text)
-ends_at test text to h p = subst (EndsRun test) (sym (drop_more text to 0 h)) p
-
-pub ends_all : (test : ℕ → Bool) (text : List ℕ) (to : ℕ) → length text ≤ to → EndsRun test (drop to text)
-ends_all test text to h = subst (EndsRun test) (sym (drop_all to text h)) tt
 
 pub fold-push : (ds : List ℕ) (n d : ℕ) → fold (λ n d. 10 * n + (d - 48)) n (ds ++ d ∷ []) ≡ 10 * fold (λ n d. 10 * n + (d - 48)) n ds + (d - 48)
 fold-push [] n d = refl
@@ -38,9 +29,6 @@ pub record Counts (value n : ℕ) : Type 0 where
   pub small : n ≤ 2147483647 → value ≡ n
   pub large : 2147483647 < n → 2147483647 < value
   pub bound : value < 2 ^ 40
-
-pub counts_none : Counts 0 (value_of [])
-counts_none = record { small = λ h. refl; large = λ h. omega arith; bound = omega arith }
 
 -- one more digit, where the value so far is within the limit
 pub counts_more : (value d n : ℕ) (ds : List ℕ) → Counts value (value_of ds) → value ≤ 2147483647 → d < 256 → n ≡ d - 48 → Counts (value * 10 + n) (value_of (ds ++ d ∷ []))
@@ -63,15 +51,3 @@ counts_same value d ds c h =
       large = λ s. h;
       bound = c.bound;
     }
-
-pub counts_fit : (value n : ℕ) → Counts value n → value ≤ 2147483647 → Some value ≡ fitting n
-counts_fit value n c h = elim (cases_lt 2147483647 n) [
-  | inr l ↦ let e = c.small l in let t : nat_le n 2147483647 ≡ true = le-leb n 2147483647 l in rw t (ap Some e)
-  | inl l ↦ absurd (let f = c.large l in omega arith)
-]
-
-pub counts_too_large : (value n : ℕ) → Counts value n → 2147483647 < value → None ≡ fitting n
-counts_too_large value n c h = elim (cases_lt 2147483647 n) [
-  | inr l ↦ absurd (let e = c.small l in omega arith)
-  | inl l ↦ let t : nat_le n 2147483647 ≡ false = lt-leb n 2147483647 l in rw t refl
-]

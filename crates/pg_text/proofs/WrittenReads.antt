@@ -13,7 +13,7 @@ use Rattle.pg_game.specs.declared.player.Player.TheVariants.{Even}
 use Rattle.pg_game.specs.declared.game.Spec.{Spec}
 use Rattle.pg_game.specs.Player.{digit_of}
 use Rattle.pg_game.specs.Graph.{Graph, Vertex, IsGame, id_of, vertex_at, no_vertex, successors_of}
-use Rattle.pg_game.specs.Specification.{IsGameOf, first_repeated}
+use Rattle.pg_game.specs.Specification.{IsGameOf, first_repeated, first_fault}
 use Rattle.pg_text.specs.Token.{Placed, tokens_of}
 use Rattle.pg_text.specs.GameText.{IsGameText, spec_of}
 use Rattle.pg_text.specs.SolutionText as solutions
@@ -22,14 +22,15 @@ use Rattle.pg_text.specs.Solution.{Rows, AreRows}
 use Rattle.pg_text.specs.Written.{greatest_id, written_game, written_solution}
 use Rattle.pg_text.specs.SolutionLines.{AreRowsOf, first_stranger, first_twice, first_missing, has_line, number_in, row_of}
 use Rattle.pg_text.specs.SolutionTable.{IsNamed}
-use Rattle.pg_text.specs.Laws.{HasShortNumbers, WrittenGameReads, WrittenSolutionReads}
-use Rattle.pg_text.proofs.Described.{spec_at, specs_of, described_game, one_described}
+use Rattle.pg_text.specs.Laws.{HasShortNumbers, WrittenGameReads, WrittenSolutionReads, WrittenGameIsText, WrittenSolutionIsText}
+use Rattle.pg_game.specs.Described.{spec_at, specs_of}
+use Rattle.pg_game.proofs.Described.{described_game, one_described, described_sound}
 use Rattle.pg_text.proofs.Spelling.{one_spelling}
 use Rattle.pg_text.proofs.GameRun.{one_reading}
 use Rattle.pg_text.proofs.SolutionRun.{one_lines}
 use Rattle.pg_text.proofs.Identifiers.{number_at, stranger-append}
 use Rattle.pg_text.proofs.SolutionTable.{IsChoice, player_back, find_none, row_is, at_home}
-use Rattle.pg_text.proofs.WrittenSpells.{IsShort, line_of, row_line, row_lines, spells_game, spells_solution, all_from_places, all-map, all_imply, length-ids, owner_small, small_winners}
+use Rattle.pg_text.proofs.WrittenSpells.{IsShort, line_of, row_line, row_lines, spells_game, spells_solution, all_from_places, all-map, all_imply, length-ids, owner_small, small_winners, written_game_spells, written_solution_spells}
 
 module _ (g : Graph) (i : IsGame g) (short : HasShortNumbers g) where
   short_vertices : AllByRecursion (λ x. IsShort g x) g
@@ -194,3 +195,15 @@ written_solution_reads g rows i short are =
     short_choice : (c : Option ℕ) → IfSome c (λ v. v < length g) → IfSome c (λ v. id_of g v < 10 ^ 64)
     short_choice None h = tt
     short_choice (Some w) h = short.ids w h
+
+pub written_game_is_text : WrittenGameIsText
+written_game_is_text g i w =
+    let back : map spec_of (map (λ x. line_of g x) g) ≡ specs_of g = specs_back g g in
+    (map (λ x. line_of g x) g, written_game_spells g i w, subst (λ specs. IsGameOf specs g) (sym back) (described_game g i), ap first_fault back ∙ described_sound g i w)
+
+pub written_solution_is_text : WrittenSolutionIsText
+written_solution_is_text g rows i w are = record {
+  lines = row_lines g g rows;
+  spelled = written_solution_spells g rows i w are;
+  says = record { no_stranger = no_strangers g rows i are; once = once g rows i are; complete = complete g rows i are; says = says g rows i are };
+}

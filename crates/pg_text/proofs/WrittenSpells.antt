@@ -19,9 +19,6 @@ use Rattle.pg_text.specs.Fault.{fits, AllFit}
 use Rattle.pg_text.specs.Reading.{SpellsGame, SpellsSolution}
 use Rattle.pg_text.specs.GameText.{IsGameText}
 use Rattle.pg_text.specs.SolutionText.{IsSolutionText}
-use Rattle.pg_text.proofs.Spelling.{one_spelling}
-use Rattle.pg_text.proofs.GameRun.{one_reading}
-use Rattle.pg_text.proofs.SolutionRun.{one_lines}
 use Rattle.pg_text.specs.GameText as games
 use Rattle.pg_text.specs.GameText.{separated, headed}
 use Rattle.pg_text.specs.SolutionText as solutions
@@ -342,17 +339,3 @@ written_solution_spells g rows i w r =
       numbers = subst AllFit (sym e) (refl, (fits_number (greatest_id g) last, (refl, fits_rows g g rows a b)));
       winners = small_winners g g rows;
     }
-
--- a text spells a game text of at most one list of lines
-pub one_game_text : (text : List ℕ) (ls ks : List games.Line) → SpellsGame text ls → SpellsGame text ks → ls ≡ ks
-one_game_text text ls ks a b =
-    let e : a.tokens ≡ b.tokens = one_spelling 0 text a.tokens b.tokens a.spelled b.spelled in
-    let i : IsGameText (tokens_of a.tokens) ks = subst (λ (ts : List Placed). IsGameText (tokens_of ts) ks) (sym e) b.grammar in
-    one_reading (tokens_of a.tokens) ls ks a.grammar i
-
--- and a solution text
-pub one_solution_text : (text : List ℕ) (ls ks : List solutions.Line) → SpellsSolution text ls → SpellsSolution text ks → ls ≡ ks
-one_solution_text text ls ks a b =
-    let e : a.tokens ≡ b.tokens = one_spelling 0 text a.tokens b.tokens a.spelled b.spelled in
-    let i : IsSolutionText (tokens_of a.tokens) ks = subst (λ (ts : List Placed). IsSolutionText (tokens_of ts) ks) (sym e) b.grammar in
-    one_lines (tokens_of a.tokens) ls ks a.grammar i

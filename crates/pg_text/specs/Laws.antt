@@ -1,8 +1,14 @@
--- What is written can be read again, and as nothing else.
-use Rattle.std.specs.Prelude.{ℕ, ◌≡◌, ◌<◌, ◌^◌, List, length, map}
+-- What is written can be read again, and as nothing else; a text has one answer.
+use Rattle.std.specs.Prelude.{ℕ, ◌≡◌, ◌<◌, ◌^◌, ◌⊎◌, List, length, map}
 use Rattle.std.specs.List.{AllByRecursion}
 use Rattle.pg_game.specs.Graph.{Graph, IsGame, id_of, priority_of}
+use Rattle.pg_game.specs.Limits.{IsWithinLimits}
 use Rattle.pg_game.specs.Specification.{IsGameOf}
+use Rattle.pg_text.specs.declared.fault.TextFault.{TextFault}
+use Rattle.pg_game.specs.declared.game.GameFault.TheVariants as GameFault
+use Rattle.pg_text.specs.declared.fault.TextFault.TheVariants.{Game, Memory}
+use Rattle.pg_text.specs.Fault.{IsLexicalFault}
+use Rattle.pg_text.specs.Reading.{IsTextOf, IsFaultOf, IsSolutionTextOf}
 use Rattle.pg_text.specs.Token.{Placed, Spells, tokens_of}
 use Rattle.pg_text.specs.GameText as games
 use Rattle.pg_text.specs.GameText.{IsGameText, spec_of}
@@ -52,3 +58,27 @@ WrittenGameReads = (g : Graph) → IsGame g → HasShortNumbers g → SpellsOneG
 
 abbrev pub WrittenSolutionReads : Type 0
 WrittenSolutionReads = (g : Graph) (rows : Rows) → IsGame g → HasShortNumbers g → AreRows g rows → SpellsOneSolution (written_solution g rows) g rows
+
+-- within the limits of games the written text is a text of the game, without fault
+abbrev pub WrittenGameIsText : Type 0
+WrittenGameIsText = (g : Graph) → IsGame g → IsWithinLimits g → IsTextOf (written_game g) g
+
+-- and that of winners and choices is a text of these
+abbrev pub WrittenSolutionIsText : Type 0
+WrittenSolutionIsText = (g : Graph) (rows : Rows) → IsGame g → IsWithinLimits g → AreRows g rows → IsSolutionTextOf g (written_solution g rows) rows
+
+-- every text spells tokens or has a lexical fault
+abbrev pub TokensOrLexical : Type 0
+TokensOrLexical = (text : List ℕ) → ((ts : List Placed) × Spells 0 text ts) ⊎ ((at : ℕ) × IsLexicalFault text at)
+
+-- a text of a game has no fault; want of memory says nothing of the text
+abbrev pub TextOrFault : Type 0
+TextOrFault = (text : List ℕ) (g : Graph) (fault : TextFault) → IsTextOf text g → IsFaultOf text fault → fault ≡ Memory
+
+-- two faults of one text are the same
+abbrev pub OneFault : Type 0
+OneFault = (text : List ℕ) (e f : TextFault) → IsFaultOf text e → IsFaultOf text f → (e ≡ Memory) ⊎ ((f ≡ Memory) ⊎ (e ≡ f))
+
+-- want of memory is never told as a fault of the game
+abbrev pub NoGameWantsMemory : Type 0
+NoGameWantsMemory = (text : List ℕ) → IsFaultOf text (Game GameFault.Memory) → ⊥

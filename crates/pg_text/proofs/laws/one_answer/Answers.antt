@@ -1,0 +1,6 @@
+use Rattle.pg_text.proofs.Faults.{tokens_or_lexical}
+use Rattle.pg_text.proofs.OneFault.{text_or_fault, one_fault, no_game_wants_memory}
+use Rattle.pg_text.proofs.laws.one_answer.Goals as goal
+
+pub returns : goal.returns
+returns c = record { tokens = tokens_or_lexical; game = text_or_fault; fault = one_fault; memory = no_game_wants_memory }
