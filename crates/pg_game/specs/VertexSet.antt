@@ -32,6 +32,3 @@ how_many mask = count_by (λ b. b) mask
 
 abbrev pub Within : VertexSet → VertexSet → Type 0
 Within X Y = (v : ℕ) → In X v → In Y v
-
-abbrev pub SameSet : VertexSet → VertexSet → Type 0
-SameSet X Y = Within X Y × Within Y X

@@ -83,7 +83,6 @@ impl<T: Drop> From<AllocFailed<T>> for GameFault {
 }
 
 /// A parity game.
-#[derive(Drop)]
 pub struct Game {
     ids: IndexSet<u32>,
     priorities: Vec<u32>,
@@ -103,6 +102,19 @@ impl Model for Game {
     ghost view = { λ g. graph_of g.ids.keys g.priorities.items g.owners.items g.successors };
 
     ghost invariant = { λ g. IsStored g.ids.keys g.priorities.items g.owners.items g.successors g.predecessors };
+}
+
+/// By hand, so that letting a game go is one step in the proofs of callers, and not one for each part of each field.
+impl Drop for Game {
+    fn drop(self) {
+        let Game {
+            ids: _ids,
+            priorities: _priorities,
+            owners: _owners,
+            successors: _successors,
+            predecessors: _predecessors,
+        } = self;
+    }
 }
 
 impl Game {

@@ -1,4 +1,6 @@
-ghost use Rattle.std.specs.Prelude.{◌≡◌, ◌++◌, ◌∷◌, [], OnOk};
+//! Vectors as values of their items.
+
+ghost use Rattle.std.specs.Prelude.{◌≡◌, ◌++◌, ◌∷◌, [], OnOk, OnErr};
 
 use crate::Memory;
 use std::marker::Model;
@@ -24,10 +26,12 @@ impl<T> Sequence<T> {
         Sequence { items }
     }
 
+    /// Adds an item at the end. `Memory` is its one refusal.
     pub fn push(&mut self, item: T) -> Result<(), Memory>
     where
         T: Drop,
-        ensures { OnOk result (self.new ≡ self.old ++ item ∷ []) }
+        ensures pushed { OnOk result (self.new ≡ self.old ++ item ∷ []) }
+        ensures kept { OnErr result (self.new ≡ self.old) }
     {
         self.items.push(item)?;
         Ok(())
