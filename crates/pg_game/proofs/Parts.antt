@@ -1,8 +1,8 @@
 -- The vertices of a game's parts.
-use Rattle.std.proofs.Common.{◌≡◌, ℕ, zero, suc, ◌+◌, ◌<◌, List, [], ◌∷◌, length, get_or, refl, sym, ◌∙◌, ap, subst, arith, map}
+use Rattle.std.proofs.Common.{◌≡◌, ℕ, zero, suc, List, [], ◌∷◌, length, get_or, refl, ap, arith, map}
 use Rattle.pg_game.specs.declared.player.Player.{Player}
 use Rattle.pg_game.specs.declared.player.Player.TheVariants.{Even}
-use Rattle.pg_game.specs.Graph.{Graph, Vertex, vertex_at}
+use Rattle.pg_game.specs.Graph.{Vertex, vertex_at}
 use Rattle.pg_game.specs.View.{graph_of}
 use Rattle.pg_game.specs.Stored.{AreParts}
 

@@ -1,10 +1,10 @@
 -- The first successor that is not specified, one specification after another.
-use Rattle.std.proofs.Common.{◌≡◌, ℕ, ◌+◌, ◌<◌, Bool, List, [], ◌∷◌, length, drop, get_or, refl, sym, ◌∙◌, ap, nat_eq}
-use Rattle.std.specs.Prelude.{Option, Some, None, not, ◌||◌, cond}
+use Rattle.std.proofs.Common.{◌≡◌, ℕ, ◌+◌, ◌<◌, List, [], ◌∷◌, length, drop, get_or, refl, sym, ◌∙◌, ap, nat_eq}
+use Rattle.std.specs.Prelude.{Some, None}
 use Rattle.std.specs.List.{list_any}
 use Rattle.std.proofs.lemmas.List.{drop_more}
 use Rattle.pg_game.specs.declared.game.Spec.{Spec}
-use Rattle.pg_game.specs.Specification.{IsSpecified, first_unspecified, first_unknown, paired_or}
+use Rattle.pg_game.specs.Specification.{IsSpecified, first_unspecified, first_unknown}
 use Rattle.pg_game.specs.Identifiers.{ids_of, first_outside}
 use Rattle.pg_game.proofs.Seen.{eqb_flip}
 

@@ -1,5 +1,5 @@
 -- The specifications that describe a game.
-use Rattle.std.specs.Prelude.{ℕ, List, map}
+use Rattle.std.specs.Prelude.{List, map}
 use Rattle.pg_game.specs.declared.game.Spec.{Spec}
 use Rattle.pg_game.specs.Graph.{Graph, Vertex, id_of}
 

@@ -1,5 +1,5 @@
 -- The limits of a game.
-use Rattle.std.specs.Prelude.{ℕ, ◌≡◌, ◌<◌, ◌≤◌, length, map, sum_by}
+use Rattle.std.specs.Prelude.{ℕ, ◌<◌, ◌≤◌, length, map, sum_by}
 use Rattle.pg_game.specs.Graph.{Graph, id_of, priority_of}
 use Rattle.pg_game.specs.Specification.{max_number, max_vertices, max_edges, max_priorities, different}
 

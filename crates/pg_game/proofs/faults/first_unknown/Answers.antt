@@ -1,4 +1,4 @@
-use Rattle.std.proofs.Common.{rules, ◌≡◌, ℕ, sym, ◌∙◌}
+use Rattle.std.proofs.Common.{rules, ◌≡◌, sym, ◌∙◌}
 use Rattle.std.specs.Prelude.{Some, None}
 use Rattle.pg_game.specs.Specification.{first_unspecified}
 use Rattle.pg_game.specs.Identifiers.{first_outside}

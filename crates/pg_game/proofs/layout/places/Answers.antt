@@ -1,10 +1,10 @@
-use Rattle.std.proofs.Common.{rules, ◌≡◌, ℕ, ◌<◌, ◌≤◌, ◌+◌, ◌↔◌, List, [], ◌∷◌, ◌++◌, length, drop, get_or, nat_eq, refl, sym, ◌∙◌, ap, arith, append_assoc}
+use Rattle.std.proofs.Common.{◌≡◌, ℕ, ◌+◌, ◌↔◌, List, [], ◌∷◌, ◌++◌, length, drop, get_or, nat_eq, sym, ◌∙◌, ap, append_assoc}
 use Rattle.std.specs.Prelude.{Option, Some, None, position, option_to_list}
 use Rattle.std.specs.List.{Contains}
 use Rattle.std.proofs.lemmas.List.{append-nil}
 use Rattle.std.proofs.Math.ListN.{drop_of_length-le}
 use Rattle.pg_game.specs.Specification.{different}
-use Rattle.pg_game.specs.Identifiers.{ArePlaces, places_of}
+use Rattle.pg_game.specs.Identifiers.{places_of}
 use Rattle.pg_game.proofs.Different.{different_is}
 use Rattle.pg_game.proofs.Places.{are_places, places_more}
 use Rattle.pg_game.proofs.layout.places.Goals as goal

@@ -1,4 +1,4 @@
-use Rattle.std.proofs.Common.{◌≡◌, ◌<◌, ◌≤◌, ℕ, List, [], length, get_or, sym, ◌∙◌, ap, subst, arith}
+use Rattle.std.proofs.Common.{length, ap, arith}
 use Rattle.pg_game.specs.Graph.{Graph}
 use Rattle.pg_game.proofs.Look.{length_is}
 use Rattle.pg_game.proofs.game.Game.len.Goals as goal

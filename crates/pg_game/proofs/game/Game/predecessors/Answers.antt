@@ -1,4 +1,4 @@
-use Rattle.std.proofs.Common.{◌≡◌, ◌<◌, ℕ, List, [], length, sym, ◌∙◌, ap, subst, arith}
+use Rattle.std.proofs.Common.{subst, arith}
 use Rattle.pg_game.specs.Graph.{Graph}
 use Rattle.pg_game.specs.Predecessors.{ArePredecessors}
 use Rattle.pg_game.proofs.Look.{length_is}

@@ -1,4 +1,4 @@
-use Rattle.std.proofs.Common.{◌≡◌, ◌<◌, ◌≤◌, ℕ, List, [], length, slice_index, sym, ◌∙◌, ap, subst, arith}
+use Rattle.std.proofs.Common.{sym, ◌∙◌, subst, arith}
 use Rattle.pg_game.specs.Graph.{Graph, IsGame}
 use Rattle.pg_game.proofs.Look.{length_is, successors_are}
 use Rattle.pg_game.proofs.game.Game.successors.Goals as goal
