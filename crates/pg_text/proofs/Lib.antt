@@ -6,6 +6,7 @@ pub mod Faults
 pub mod Once
 pub mod Parse
 pub mod OneFault
+pub mod OneSolutionFault
 pub mod NoFault
 pub mod Runs
 pub mod Next

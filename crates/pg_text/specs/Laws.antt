@@ -5,10 +5,12 @@ use Rattle.pg_game.specs.Graph.{Graph, IsGame, id_of, priority_of}
 use Rattle.pg_game.specs.Limits.{IsWithinLimits}
 use Rattle.pg_game.specs.Specification.{IsGameOf}
 use Rattle.pg_text.specs.declared.fault.TextFault.{TextFault}
+use Rattle.pg_text.specs.declared.fault.SolutionTextFault.{SolutionTextFault}
+use Rattle.pg_text.specs.declared.fault.SolutionTextFault.TheVariants as solution
 use Rattle.pg_game.specs.declared.game.GameFault.TheVariants as GameFault
 use Rattle.pg_text.specs.declared.fault.TextFault.TheVariants.{Game, Memory}
 use Rattle.pg_text.specs.Fault.{IsLexicalFault}
-use Rattle.pg_text.specs.Reading.{IsTextOf, IsFaultOf, IsSolutionTextOf}
+use Rattle.pg_text.specs.Reading.{IsTextOf, IsFaultOf, IsSolutionTextOf, IsSolutionFaultOf}
 use Rattle.pg_text.specs.Token.{Placed, Spells, tokens_of}
 use Rattle.pg_text.specs.GameText as games
 use Rattle.pg_text.specs.GameText.{IsGameText, spec_of}
@@ -82,3 +84,11 @@ OneFault = (text : List ℕ) (e f : TextFault) → IsFaultOf text e → IsFaultO
 -- want of memory is never told as a fault of the game
 abbrev pub NoGameWantsMemory : Type 0
 NoGameWantsMemory = (text : List ℕ) → IsFaultOf text (Game GameFault.Memory) → ⊥
+
+-- a solution text of a game has no fault for it
+abbrev pub SolutionTextOrFault : Type 0
+SolutionTextOrFault = (g : Graph) (text : List ℕ) (rows : Rows) (fault : SolutionTextFault) → IsSolutionTextOf g text rows → IsSolutionFaultOf g text fault → fault ≡ solution.Memory
+
+-- two faults of one text for one game are the same
+abbrev pub OneSolutionFault : Type 0
+OneSolutionFault = (g : Graph) (text : List ℕ) (e f : SolutionTextFault) → IsSolutionFaultOf g text e → IsSolutionFaultOf g text f → (e ≡ solution.Memory) ⊎ ((f ≡ solution.Memory) ⊎ (e ≡ f))

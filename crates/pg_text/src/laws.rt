@@ -1,9 +1,9 @@
 //! Laws on texts alone, each the contract of a function without a body.
-ghost use Rattle.pg_text.specs.Laws.{OneSpelling, WrittenGameReads, WrittenSolutionReads, WrittenGameIsText, WrittenSolutionIsText, TokensOrLexical, TextOrFault, OneFault, NoGameWantsMemory};
+ghost use Rattle.pg_text.specs.Laws.{OneSpelling, WrittenGameReads, WrittenSolutionReads, WrittenGameIsText, WrittenSolutionIsText, TokensOrLexical, TextOrFault, OneFault, NoGameWantsMemory, SolutionTextOrFault, OneSolutionFault};
 
 /// What is written can be read again, and as nothing else: a text spells at most one list of tokens, the written text of a
 /// game spells one game text, whose game is that game and no other, and the same holds of winners and choices. Identifiers
-/// and priorities have at most 64 digits here. Where the game is within the limits, its text has no fault.
+/// and priorities have at most 64 digits here. Where the game is within the limits, its texts have no fault.
 pub fn written()
     ensures tokens { OneSpelling }
     ensures games { WrittenGameReads }
@@ -12,11 +12,13 @@ pub fn written()
     ensures solution_texts { WrittenSolutionIsText }
 {}
 
-/// A text has one answer as a game: it spells tokens or has a lexical fault, a text of a game has no fault, and another has at
-/// most one. Want of memory is no answer, and is never wrapped in `Game`.
+/// A text has one answer: it spells tokens or has a lexical fault; a text of a game has no fault, and another has at most one;
+/// and the same holds of solution texts. Want of memory is no answer, and is never wrapped in `Game`.
 pub fn one_answer()
     ensures tokens { TokensOrLexical }
     ensures game { TextOrFault }
     ensures fault { OneFault }
     ensures memory { NoGameWantsMemory }
+    ensures solution { SolutionTextOrFault }
+    ensures solution_fault { OneSolutionFault }
 {}
