@@ -1,10 +1,10 @@
 -- Runs of bytes that pass a test.
-use Rattle.std.proofs.Common.{◌≡◌, ℕ, ◌+◌, ◌*◌, ◌-◌, ◌^◌, ◌<◌, ◌≤◌, Bool, true, false, List, [], ◌∷◌, ◌++◌, length, drop, get_or, refl, sym, ◌∙◌, ap, subst, arith, inl, inr, append_assoc, length-append}
-use Rattle.std.specs.Prelude.{fold, nat_le, Some, None}
-use Rattle.std.proofs.lemmas.Bool.{cases_lt, le-leb, lt-leb}
-use Rattle.std.proofs.lemmas.List.{drop_more, drop_all}
-use Rattle.pg_text.specs.Bytes.{AllAre, EndsRun, value_of}
-use Rattle.pg_text.specs.Piece.{IsRun, fitting}
+use Rattle.std.proofs.Common.{◌≡◌, ℕ, ◌+◌, ◌*◌, ◌-◌, ◌^◌, ◌<◌, ◌≤◌, Bool, true, List, [], ◌∷◌, ◌++◌, length, drop, get_or, refl, sym, ◌∙◌, ap, arith, inl, inr, append_assoc, length-append}
+use Rattle.std.specs.Prelude.{fold}
+use Rattle.std.proofs.lemmas.Bool.{cases_lt}
+use Rattle.std.proofs.lemmas.List.{drop_more}
+use Rattle.pg_text.specs.Bytes.{AllAre, value_of}
+use Rattle.pg_text.specs.Piece.{IsRun}
 
 pub all-append : (test : ℕ → Bool) (xs ys : List ℕ) → AllAre test xs → AllAre test ys → AllAre test (xs ++ ys)
 all-append test [] ys a b = b
