@@ -143,3 +143,12 @@ smaller (x ∷ xs) (suc i) up l =
 -- in a rising list as many numbers are smaller than a member as stand before it
 pub smaller_before : (xs : List ℕ) (i : ℕ) → IsStrictlyIncreasing xs → i < length xs → count_by (λ x. nat_lt x (get_or xs i 0)) xs ≡ i
 smaller_before xs i up l = sym (length-filter (λ x. nat_lt x (get_or xs i 0)) xs) ∙ smaller xs i up l
+
+-- no more than all of them
+pub different_most : (xs : List ℕ) → different xs ≤ length xs
+different_most [] = omega arith
+different_most (n ∷ ns) = go (list_any (λ m. m == n) ns) refl (different_most ns)
+  where
+    go : (b : Bool) → list_any (λ m. m == n) ns ≡ b → different ns ≤ length ns → different (n ∷ ns) ≤ length (n ∷ ns)
+    go true e h = rw e (omega (arith, h))
+    go false e h = rw e (omega (arith, h))

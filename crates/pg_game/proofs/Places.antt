@@ -55,6 +55,13 @@ stands keys x = let at : ℕ = position_or_len (nat_eq x) keys in elim (true_or_
       inr (is, λ v l e. let n : nat_eq x (get_or keys v 0) ≡ false = fails_before_first (nat_eq x) keys v 0 (omega arith) in let y : nat_eq x (get_or keys v 0) ≡ true = eq-eqb x (get_or keys v 0) (sym e) in cc (n, y)))
 ]
 
+-- a number that stands at its own place in a rising list
+pub own_place : (keys : List ℕ) → IsStrictlyIncreasing keys → (x : ℕ) → x < length keys → get_or keys x 0 ≡ x → position (nat_eq x) keys ≡ Some x
+own_place keys up x l e = elim (stands keys x) [
+  | inl (p, is, lp, at) ↦ is ∙ ap (λ k. Some k) (same_place keys up p x lp l (at ∙ sym e))
+  | inr (is, n) ↦ absurd (n x l e)
+]
+
 module _ (keys : List ℕ) (up : IsStrictlyIncreasing keys) where
   no_more : (xs : List ℕ) → length (places_of keys xs) ≤ length xs
   no_more [] = omega arith

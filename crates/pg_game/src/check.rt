@@ -1,6 +1,6 @@
 //! Whether specifications describe a game, by the first fault in the order of the refusals.
 
-ghost use Rattle.std.specs.Prelude.{◌≡◌, nat_eq, IfOk, IfErr, OnOk, Some, None};
+ghost use Rattle.std.specs.Prelude.{◌≡◌, ◌≤◌, nat_eq, IfOk, IfErr, OnOk, Some, None};
 ghost use Rattle.std.specs.List.{IsDistinct};
 ghost use Rattle.pg_game.specs.Specification.{first_fault, edges, OrMemory};
 ghost use Rattle.pg_game.specs.Identifiers.{ids_of};
@@ -14,11 +14,11 @@ const MAX_VERTICES: usize = 65_536;
 
 const MAX_PRIORITIES: usize = 4_096;
 
-/// The identifiers in their order, and the number of edges. Refused by the first fault, or for want of memory.
+/// The identifiers in their order, and a number of edges that there are at most. Refused by the first fault, or for want of memory.
 pub fn check(alloc: Global, specs: &[Spec]) -> Result<(IndexSet<u32>, u32), GameFault>
     ensures ids { IfOk result (λ r. (r.0).keys ≡ ids_of specs.now) }
     ensures distinct { IfOk result (λ r. IsDistinct nat_eq (r.0).keys) }
-    ensures edges { IfOk result (λ r. r.1 ≡ edges specs.now) }
+    ensures edges { IfOk result (λ r. edges specs.now ≤ r.1) }
     ensures sound { OnOk result (first_fault specs.now ≡ None) }
     ensures fault { IfErr result (λ e. OrMemory (first_fault specs.now ≡ Some e) e) }
 {

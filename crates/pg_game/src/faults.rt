@@ -1,6 +1,6 @@
 //! What can be wrong with specifications, fault by fault.
 
-ghost use Rattle.std.specs.Prelude.{◌≡◌, ◌<◌, ◌≤◌, ◌↔◌, ℕ, [], length, nat_eq, IfOk, IfErr, OnOk, MatchOption, Some, None, Contains};
+ghost use Rattle.std.specs.Prelude.{◌≡◌, ◌<◌, ◌≤◌, ◌↔◌, ℕ, [], length, nat_eq, IfOk, IfErr, IfSome, OnOk, MatchOption, Some, None, Contains};
 ghost use Rattle.std.specs.List.{IsDistinct};
 ghost use Rattle.std.specs.List.Sorted.{IsStrictlyIncreasing};
 ghost use Rattle.pg_game.specs.Specification.{first_without, first_repeated, first_unknown, different, edges, max_edges, OrMemory};
@@ -9,6 +9,7 @@ ghost use Rattle.pg_game.specs.Identifiers.{ids_of, priorities_of, twice_of, fir
 use crate::Memory;
 use crate::game::{GameFault, Spec};
 use crate::layout::priorities;
+use crate::lookup::is_known;
 use indexmap::IndexSet;
 use std::alloc::Global;
 
@@ -55,10 +56,29 @@ pub fn count_different(numbers: &mut Vec<u32>) -> usize
     numbers.len()
 }
 
-/// How many edges there are: distinct successors, summed over the specifications. None where there are more than the limit.
-pub fn count_edges(alloc: Global, specs: &[Spec]) -> Result<Option<u32>, Memory>
-    ensures { IfOk result (λ count. MatchOption count (max_edges < edges specs.now) (λ n. (n ≡ edges specs.now) × (n ≤ max_edges))) }
+/// How many successors there are, those that stand twice counted twice. None where there are more than the limit.
+fn count_successors(specs: &[Spec]) -> Option<u32>
+    ensures { IfSome result (λ n. (edges specs.now ≤ n) × (n ≤ max_edges)) }
 {
+    let mut successors = 0usize;
+    'specs: for spec in specs {
+        let more = spec.successors.as_slice().len();
+        if more > MAX_EDGES - successors {
+            return None;
+        }
+        successors += more;
+    }
+    Some(successors as u32)
+}
+
+/// A number of edges (distinct successors, summed over the specifications) that there are at most. None where there are
+/// more than the limit.
+pub fn count_edges(alloc: Global, specs: &[Spec]) -> Result<Option<u32>, Memory>
+    ensures { IfOk result (λ count. MatchOption count (max_edges < edges specs.now) (λ n. (edges specs.now ≤ n) × (n ≤ max_edges))) }
+{
+    if let Some(count) = count_successors(specs) {
+        return Ok(Some(count));
+    }
     let mut successors = Vec::new(alloc);
     let mut edges = 0usize;
     'specs: for spec in specs {
@@ -85,7 +105,7 @@ fn first_unspecified(ids: &IndexSet<u32>, successors: &[u32]) -> Option<u32>
     ensures { result ≡ first_outside ids.now.keys successors.now }
 {
     'successors: for id in successors {
-        if !ids.contains(id) {
+        if !is_known(ids, *id) {
             return Some(*id);
         }
     }

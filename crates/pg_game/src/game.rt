@@ -13,6 +13,7 @@ use crate::Memory;
 use crate::adjacency::Adjacency;
 use crate::check::check;
 use crate::layout::{owners, priorities, successors};
+use crate::lookup::is_at_own_place;
 use crate::player::Player;
 use crate::sequence::Sequence;
 use indexmap::IndexSet;
@@ -138,7 +139,6 @@ impl Game {
         requires numbers { All AreNumbers specs.items }
         requires ids { ids.keys ≡ ids_of specs.items }
         requires different { IsDistinct nat_eq ids.keys }
-        requires edges { edge_count ≡ edges specs.items }
         requires sound { first_fault specs.items ≡ None }
         ensures game { IfOk result (λ g. IsGame g × IsGameOf specs.items g) }
     {
@@ -197,6 +197,9 @@ impl Game {
         ensures found { IfSome result (λ v. (v < length self.now) × (id_of self.now v ≡ id)) }
         ensures missing { IfNone result ((v : ℕ) → v < length self.now → id_of self.now v ≡ id → ⊥) }
     {
+        if is_at_own_place(&self.ids, id) {
+            return Some(id);
+        }
         match self.ids.get_index_of(&id) {
             Some(v) => Some(v as u32),
             None => None,

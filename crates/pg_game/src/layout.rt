@@ -1,6 +1,6 @@
 //! Specifications without fault, laid out by rising identifier.
 
-ghost use Rattle.std.specs.Prelude.{◌≡◌, ◌<◌, ◌≤◌, ◌^◌, ℕ, length, slice_index_or, IfOk};
+ghost use Rattle.std.specs.Prelude.{◌≡◌, ◌<◌, ◌≤◌, ◌^◌, ℕ, length, slice_index_or, IfOk, OnOk};
 ghost use Rattle.std.specs.List.Sorted.{IsStrictlyIncreasing};
 ghost use Rattle.pg_game.specs.declared.game.Spec.{Spec};
 ghost use Rattle.pg_game.specs.Specification.{edges, max_edges, max_vertices};
@@ -11,6 +11,7 @@ use crate::Memory;
 use crate::adjacency::Adjacency;
 use crate::faults::count_different;
 use crate::game::Spec;
+use crate::lookup::place_of;
 use crate::player::Player;
 use indexmap::IndexSet;
 use std::alloc::Global;
@@ -37,22 +38,29 @@ pub fn owners(alloc: Global, specs: &[Spec]) -> Result<Vec<Player>, Memory>
     Ok(owners)
 }
 
-/// The places of the identifiers, each once, rising. `Memory` is its one refusal.
-fn places(alloc: Global, ids: &IndexSet<u32>, successors: &[u32]) -> Result<Vec<u32>, Memory>
+/// Leaves in `places` the places of the identifiers, each once, rising. What `wanted` holds is given up. `Memory` is its
+/// one refusal.
+fn put_places(
+    ids: &IndexSet<u32>,
+    successors: &[u32],
+    wanted: &mut Vec<u32>,
+    places: &mut Vec<u32>,
+) -> Result<(), Memory>
     requires rising { IsStrictlyIncreasing ids.now.keys }
     requires small { length ids.now.keys < 2 ^ 32 }
-    ensures { IfOk result (λ places. ArePlaces ids.now.keys successors.now places.items) }
+    ensures { OnOk result (ArePlaces ids.now.keys successors.now places.new.items) }
 {
-    let mut wanted = Vec::from_slice(alloc, successors)?;
-    count_different(&mut wanted);
-    let mut places = Vec::with_capacity(alloc, wanted.len())?;
-    'wanted: for id in &wanted {
-        let Some(place) = ids.get_index_of(id) else {
+    wanted.clear();
+    wanted.extend_from_slice(successors)?;
+    count_different(wanted);
+    places.clear();
+    'wanted: for id in wanted.as_slice() {
+        let Some(place) = place_of(ids, *id) else {
             continue;
         };
         places.push(place as u32)?;
     }
-    Ok(places)
+    Ok(())
 }
 
 /// The successors as places of the identifiers. `Memory` is its one refusal.
@@ -71,8 +79,11 @@ pub fn successors(
     ensures each { IfOk result (λ rows. (v : ℕ) (d : Spec) → v < length specs.now → ArePlaces ids.now.keys (slice_index_or specs.now v d).successors (row_at rows v)) }
 {
     let mut rows = Adjacency::with_capacity(alloc, specs.len() as u32, edge_count)?;
+    let mut wanted = Vec::new(alloc);
+    let mut places = Vec::new(alloc);
     'specs: for spec in specs {
-        rows.push(places(alloc, ids, spec.successors.as_slice())?.as_slice())?;
+        put_places(ids, spec.successors.as_slice(), &mut wanted, &mut places)?;
+        rows.push(places.as_slice())?;
     }
     Ok(rows)
 }

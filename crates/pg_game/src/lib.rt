@@ -7,6 +7,7 @@ mod check;
 mod faults;
 mod game;
 mod layout;
+mod lookup;
 mod mask;
 mod player;
 mod sequence;

@@ -16,7 +16,7 @@ specs-preserved c =
     let row = c.as_slice-in-specs.result.now in
     let old = c.specs.rows in
     let grown = length-append old (row ∷ []) in
-    let places : ArePlaces c.args.ids.now.keys s.successors row = rw (c.as_slice-in-specs.ensures.value, ← c.as_slice.ensures) c.in_ok-places.ensures in
+    let places : ArePlaces c.args.ids.now.keys s.successors row = rw (c.as_slice-in-specs.ensures.value, ← c.as_slice.ensures) c.in_ok-put_places.ensures in
     rw c.in_ok-push.ensures.pushed record {
       size = omega (arith, grown, c.specs.invariant.size);
       edges_left = let e = edges_more c.args.specs.now i s c.specs-test.true c.spec-item.is in let f = sum_by_push (λ (r : List ℕ). length r) old row in omega (arith, e, f, places.size, c.specs.invariant.edges_left);

@@ -16,6 +16,14 @@ overflow_cast-result c =
     let w : c.in-Some.v < length s.ids.keys = c.in-Some.ensures.within in
     omega (arith, n, e, l, w)
 
+pub returns-then-is_at_own_place-clause-found : goal.returns-then-is_at_own_place-clause-found
+returns-then-is_at_own_place-clause-found c =
+    let s = c.self.inside in
+    let n = length_is s.ids.keys s.priorities.items s.owners.items s.successors c.self.invariant.parts c.args.self.now c.self.view_is in
+    let e = id_is s.ids.keys s.priorities.items s.owners.items s.successors c.self.invariant.parts c.args.self.now c.self.view_is c.args.id in
+    let own = c.is_at_own_place.ensures.0 c.if-is_at_own_place.true in
+    (omega (arith, n, own.0), e ∙ own.1)
+
 pub returns-in-Some-clause-found : goal.returns-in-Some-clause-found
 returns-in-Some-clause-found c =
     let s = c.self.inside in

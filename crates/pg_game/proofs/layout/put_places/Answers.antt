@@ -7,23 +7,23 @@ use Rattle.pg_game.specs.Specification.{different}
 use Rattle.pg_game.specs.Identifiers.{places_of}
 use Rattle.pg_game.proofs.Different.{different_is}
 use Rattle.pg_game.proofs.Places.{are_places, places_more}
-use Rattle.pg_game.proofs.layout.places.Goals as goal
+use Rattle.pg_game.proofs.layout.put_places.Goals as goal
 
 pub wanted-preserved-in_default : goal.wanted-preserved-in_default
 wanted-preserved-in_default c =
-    let xs = c.deref-id-items.result.now in
+    let xs = c.as_slice-id-items.result.now in
     let i = c.wanted.id-index in
     let keys = c.args.ids.now.keys in
-    let n : position (nat_eq (get_or xs i 0)) keys ≡ None = sym c.get_index_of.ensures.index ∙ c.in_default.is in
+    let n : position (nat_eq (get_or xs i 0)) keys ≡ None = sym c.place_of.ensures ∙ c.in_default.is in
     let e : places_of keys (drop i xs) ≡ places_of keys (drop (i + 1) xs) = places_more keys xs i c.wanted-test.true ∙ ap (λ (o : Option ℕ). option_to_list o ++ places_of keys (drop (i + 1) xs)) n in
     ap (λ (ys : List ℕ). c.wanted.places.items ++ ys) (sym e) ∙ c.wanted.invariant
 
 pub wanted-preserved : goal.wanted-preserved
 wanted-preserved c =
-    let xs = c.deref-id-items.result.now in
+    let xs = c.as_slice-id-items.result.now in
     let i = c.wanted.id-index in
     let keys = c.args.ids.now.keys in
-    let n : position (nat_eq (get_or xs i 0)) keys ≡ Some c.in-Some.place = sym c.get_index_of.ensures.index ∙ c.in-Some.is in
+    let n : position (nat_eq (get_or xs i 0)) keys ≡ Some c.in-Some.place = sym c.place_of.ensures ∙ c.in-Some.is in
     let e : places_of keys (drop i xs) ≡ c.in-Some.place ∷ places_of keys (drop (i + 1) xs) = places_more keys xs i c.wanted-test.true ∙ ap (λ (o : Option ℕ). option_to_list o ++ places_of keys (drop (i + 1) xs)) n in
     ap (λ (ys : List ℕ). ys ++ places_of keys (drop (i + 1) xs)) c.in_ok-push.ensures.items
     ∙ (append_assoc c.wanted.places.items (c.in-Some.place ∷ []) (places_of keys (drop (i + 1) xs))
@@ -31,10 +31,10 @@ wanted-preserved c =
 
 pub returns : goal.returns
 returns c =
-    let xs = c.deref-id-items.result.now in
+    let xs = c.as_slice-id-items.result.now in
     let keys = c.args.ids.now.keys in
-    let from : c.in_ok-wanted.wanted.items ≡ c.args.successors.now = c.in_ok-wanted.ensures.items in
-    let to : xs ≡ c.count_different.new.numbers.items = c.deref-id-items.ensures.value in
+    let from : c.extend_from_slice.new.self.items ≡ c.args.successors.now = c.in_ok-extend_from_slice.ensures.items ∙ ap (λ (ys : List ℕ). ys ++ c.args.successors.now) c.clear.ensures.items in
+    let to : xs ≡ c.count_different.new.numbers.items = c.as_slice-id-items.ensures.value in
     let none : drop c.wanted.id-index xs ≡ [] = drop_of_length-le xs c.wanted-test.false in
     let all : c.wanted.places.items ≡ places_of keys xs = sym (append-nil c.wanted.places.items) ∙ (ap (λ (ys : List ℕ). c.wanted.places.items ++ places_of keys ys) (sym none) ∙ c.wanted.invariant) in
     let same : (x : ℕ) → Contains c.args.successors.now x ↔ Contains c.count_different.new.numbers.items x = rw from at c.count_different.ensures.same in
