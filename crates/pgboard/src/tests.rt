@@ -5,3 +5,4 @@ mod devices;
 mod faults;
 mod games;
 mod runs;
+mod solving;
