@@ -1,7 +1,9 @@
-//! Tests of `zielonka`: worked games, each smallest game against its definition, and games at random, checked as
-//! claims. Tests of the other finders beside it.
+//! Tests of what no clause says: that the calls answer with memory at hand, on worked games and on hostile ones; that
+//! a search goes on until its budget is used; what `Standard` gives for a job. The winners of the smallest games are
+//! compared with those of all strategies, which checks the definitions that the clauses stand on.
 
 mod claims;
+mod finders;
 mod games;
 mod reference;
-mod small;
+mod standard;

@@ -1,11 +1,21 @@
-//! Games for the tests: by a table, and at random from a fixed seed.
+//! Games for the tests, by tables and hostile to solvers, and parts of them.
 
-ghost use Rattle.std.specs.Prelude.{◌≡◌, ◌<◌, ◌^◌, All, OnOk};
+ghost use Rattle.std.specs.Prelude.{◌≡◌, All, IfOk, OnOk, length};
 ghost use Rattle.pg_game.specs.Specification.{AreNumbers};
 
-use pg_game::{Game, Player, Sequence, Spec};
+use crate::inside::Inside;
+use pg_dominion::Claim;
+use pg_game::{Game, Mask, Player, Sequence, Spec};
 use std::alloc::Global;
+use std::process::Abort;
 use std::test::Fail;
+
+pub const EVEN: Player = Player::Even;
+
+pub const ODD: Player = Player::Odd;
+
+/// The priority, the owner and the successors of a vertex.
+pub type Vertex<'a> = (u32, Player, &'a [u32]);
 
 /// A game in the making, whose identifiers are 0, 1 and so on.
 #[derive(Drop)]
@@ -51,8 +61,8 @@ impl Draft {
     }
 }
 
-/// Priority, owner and successors of each vertex.
-pub fn game_of(alloc: Global, rows: &[(u32, Player, &[u32])]) -> Result<Game, Fail> {
+/// The game of these vertices.
+pub fn game_of(alloc: Global, rows: &[Vertex]) -> Result<Game, Fail> {
     let mut draft = Draft::new(alloc);
     'rows: for (priority, owner, successors) in rows {
         draft.add(alloc, *priority, *owner, *successors)?;
@@ -60,61 +70,55 @@ pub fn game_of(alloc: Global, rows: &[(u32, Player, &[u32])]) -> Result<Game, Fa
     draft.game(alloc)
 }
 
-/// Numbers that look random and are the same in each run.
-#[derive(Drop)]
-pub struct Random {
-    state: u64,
-}
-
-impl Random {
-    pub fn new(seed: u64) -> Random {
-        Random { state: seed }
-    }
-
-    /// A number below `n`, or 0.
-    pub fn below(&mut self, n: u32) -> u32 {
-        self.state = self
-            .state
-            .wrapping_mul(6_364_136_223_846_793_005)
-            .wrapping_add(1_442_695_040_888_963_407);
-        let number = ((self.state >> 33) & 0x7fff_ffff) as u32;
-        if n == 0 { 0 } else { number % n }
-    }
-
-    pub fn player(&mut self) -> Player {
-        if self.below(2) == 0 {
-            Player::Even
-        } else {
-            Player::Odd
-        }
+/// The game's part that the mask has, which has to be a subgame.
+pub fn inside_of<'g>(rt: &impl Abort, game: &'g Game, mask: Mask) -> Inside<'g>
+    requires { length mask ≡ length game.now }
+    ensures { result.graph ≡ game.now }
+{
+    match Inside::new(game, mask) {
+        Ok(inside) => inside,
+        Err(_) => panic!(*rt; "no subgame"),
     }
 }
 
-/// So many random successors at each vertex, and priorities below `priorities`.
-pub fn random_game(
-    alloc: Global,
-    random: &mut Random,
-    n: u32,
-    degree: u32,
-    priorities: u32,
-) -> Result<Game, Fail> {
-    let mut draft = Draft::new(alloc);
-    'rows: for _v in 0..n {
-        let mut successors = Vec::new(alloc);
-        'row: for _i in 0..degree {
-            successors.push(random.below(n))?;
-        }
-        let priority = random.below(priorities);
-        draft.add(alloc, priority, random.player(), successors.as_slice())?;
+/// All of the game.
+pub fn whole<'g>(rt: &impl Abort, alloc: Global, game: &'g Game) -> Result<Inside<'g>, Fail>
+    ensures { IfOk result (λ inside. inside.graph ≡ game.now) }
+{
+    Ok(inside_of(rt, game, Mask::full(alloc, game.len())?))
+}
+
+/// None of the game.
+pub fn nothing<'g>(rt: &impl Abort, alloc: Global, game: &'g Game) -> Result<Inside<'g>, Fail>
+    ensures { IfOk result (λ inside. inside.graph ≡ game.now) }
+{
+    Ok(inside_of(rt, game, Mask::empty(alloc, game.len())?))
+}
+
+/// The set of one vertex of the game.
+pub fn single(rt: &impl Abort, alloc: Global, game: &Game, v: u32) -> Result<Mask, Fail>
+    ensures { IfOk result (λ mask. length mask ≡ length game.now) }
+{
+    let n = game.len();
+    assert!(*rt; v < n);
+    let mut mask = Mask::empty(alloc, n)?;
+    mask.insert(v);
+    Ok(mask)
+}
+
+/// The vertices with their choices, where there is a claim.
+pub fn rows_of(claim: &Option<Claim>) -> &[(u32, Option<u32>)] {
+    match claim {
+        Some(claim) => claim.rows.as_slice(),
+        None => [].as_slice(),
     }
-    draft.game(alloc)
 }
 
 /// Each vertex has itself alone as a successor, and a priority of its own.
 pub fn self_loops(alloc: Global, n: u32) -> Result<Game, Fail> {
     let mut draft = Draft::new(alloc);
     'rows: for v in 0..n {
-        draft.add(alloc, v, Player::Even, [v].as_slice())?;
+        draft.add(alloc, v, EVEN, [v].as_slice())?;
     }
     draft.game(alloc)
 }
@@ -125,7 +129,31 @@ pub fn chain(alloc: Global, n: u32) -> Result<Game, Fail> {
     'rows: for v in 0..n {
         let next = v.saturating_add(1);
         let to = if next < n { next } else { v };
-        draft.add(alloc, v, Player::Odd, [to].as_slice())?;
+        draft.add(alloc, v, ODD, [to].as_slice())?;
+    }
+    draft.game(alloc)
+}
+
+/// Each vertex is Even's, has priority 0 and leads to the next, and the last to the first.
+pub fn ring(alloc: Global, n: u32) -> Result<Game, Fail> {
+    let mut draft = Draft::new(alloc);
+    'rows: for v in 0..n {
+        let next = v.saturating_add(1);
+        let to = if next < n { next } else { 0 };
+        draft.add(alloc, 0, EVEN, [to].as_slice())?;
+    }
+    draft.game(alloc)
+}
+
+/// Each vertex is Even's, has an odd priority and leads to all.
+pub fn dense(alloc: Global, n: u32) -> Result<Game, Fail> {
+    let mut successors = Vec::new(alloc);
+    'all: for v in 0..n {
+        successors.push(v)?;
+    }
+    let mut draft = Draft::new(alloc);
+    'rows: for _v in 0..n {
+        draft.add(alloc, 1, EVEN, successors.as_slice())?;
     }
     draft.game(alloc)
 }

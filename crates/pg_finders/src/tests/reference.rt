@@ -1,8 +1,8 @@
 //! The winning sets of a game of at most three vertices by their definition: a player wins a vertex where some choice
 //! at each vertex of his wins against every choice of the opponent's.
 
-use crate::tests::games::Draft;
-use pg_game::{Game, Player};
+use crate::tests::games::{Draft, EVEN, ODD};
+use pg_game::Game;
 use std::alloc::Global;
 use std::test::Fail;
 
@@ -38,13 +38,13 @@ impl Three {
 /// A game of at most three vertices: for each vertex a number that says its priority below 3, its owner, and its
 /// successors, a set of vertices that is not empty.
 #[derive(Clone, Copy)]
-pub struct Small {
+pub struct Numbered {
     pub len: u32,
     rows: Three,
 }
 
 /// How many different rows a vertex of a game of so many vertices may have.
-pub fn rows_of(len: u32) -> u32 {
+pub fn rows_of_length(len: u32) -> u32 {
     match len {
         1 => 6,
         2 => 18,
@@ -52,12 +52,12 @@ pub fn rows_of(len: u32) -> u32 {
     }
 }
 
-impl Small {
+impl Numbered {
     /// The game of this number.
-    pub fn new(len: u32, number: u32) -> Small {
-        Small {
+    pub fn new(len: u32, number: u32) -> Numbered {
+        Numbered {
             len,
-            rows: Three::digits(number, rows_of(len)),
+            rows: Three::digits(number, rows_of_length(len)),
         }
     }
 
@@ -82,11 +82,7 @@ impl Small {
                     successors.push(w)?;
                 }
             }
-            let owner = if self.is_odd(v) {
-                Player::Odd
-            } else {
-                Player::Even
-            };
+            let owner = if self.is_odd(v) { ODD } else { EVEN };
             draft.add(alloc, self.priority(v), owner, successors.as_slice())?;
         }
         draft.game(alloc)
