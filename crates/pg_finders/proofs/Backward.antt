@@ -9,14 +9,8 @@ use Rattle.pg_game.specs.Walk.{Walk}
 use Rattle.pg_game.proofs.Masks.{members-set}
 use Rattle.pg_finders.specs.Solitaire.{EdgeBelow, AreLeading, IsSeen}
 use Rattle.pg_finders.specs.Leading.{IsQueue, Follows}
+use Rattle.pg_finders.proofs.Apart.{differ}
 use Rattle.pg_finders.proofs.Masks.{none_mask}
-
-differ : (x v : ℕ) → x ≢ v → (x == v) ≡ false
-differ x v n = go (x == v) refl
-  where
-    go : (b : Bool) → (x == v) ≡ b → b ≡ false
-    go true e = absurd (n (eqb-true x v e))
-    go false e = refl
 
 -- a member of a mask with one more vertex
 set_cases : (mask : List Bool) (v x : ℕ) → v < length mask → In (members (set mask v true)) x → (x ≡ v) ⊎ ((x ≢ v) × In (members mask) x)

@@ -14,17 +14,9 @@ use Rattle.pg_dominion.specs.Attraction.{IsAttraction}
 use Rattle.pg_finders.specs.declared.plan.Plan.{Plan}
 use Rattle.pg_finders.specs.Solved.{won_by, IsSolved, IsSolvedTo, IsAttracted, IsBegun, IsTop}
 use Rattle.pg_finders.specs.Planned.{winners_of, choices_of, SameAt, IsGiven, of_priority}
-use Rattle.pg_finders.proofs.Sets.{own_or_other, same_is, is_same, both, pair, only, no_both, test, either}
+use Rattle.pg_finders.proofs.Sets.{own_or_other, same_is, is_same, both, pair, only, no_both, test, either, in_first, in_second}
 use Rattle.pg_finders.proofs.Attracted.{attracted, not_target, rank_in}
 use Rattle.pg_finders.proofs.Solving.{back_equal, left_is_subgame, IsAttracted-subst, IsSubgame-subst, IsSolvedTo-subst, part_lost, all_won}
-
-in_second : (a b : Bool) → b ≡ true → (a || b) ≡ true
-in_second true b e = refl
-in_second false b e = e
-
-in_first : (a b : Bool) → a ≡ true → (a || b) ≡ true
-in_first true b e = refl
-in_first false b e = absurd (cc e)
 
 -- what the player attracts to T, written into a plan
 module _ (g : Graph) (p : Player) (U T : VertexSet) (rows : Rows) (within : Within T U) (a : IsAttraction g p U T rows) (old new : Plan) (written : (v : ℕ) → In (named rows) v → (winners_of new v ≡ p) × Contains rows (v, choices_of new v)) (elsewhere : (v : ℕ) → named rows v ≡ false → SameAt old new v) where

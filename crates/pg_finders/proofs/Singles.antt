@@ -17,7 +17,7 @@ use Rattle.pg_finders.specs.Finding.{IsLoop}
 use Rattle.pg_finders.specs.Claims.{own_choices, rows_below}
 use Rattle.pg_finders.specs.Solved.{Holds}
 use Rattle.pg_finders.specs.Singles.{loops, leads_away, leads_to_itself, itself}
-use Rattle.pg_finders.proofs.Sets.{own_or_other, not_both, same_is, is_same, not_same, both, pair, minus, either, test}
+use Rattle.pg_finders.proofs.Sets.{own_or_other, not_both, same_is, is_same, not_same, both, pair, minus, either, in_first, test}
 use Rattle.pg_finders.proofs.Loops.{Among, closed_inside, greatest_reached}
 use Rattle.pg_finders.proofs.Solving.{kept_leads, choice_leads}
 use Rattle.pg_finders.proofs.Rows.{rows_of_below}
@@ -45,10 +45,6 @@ or_not : (a b : Bool) → (a || not b) ≡ true → a ≡ false → b ≡ false
 or_not true b e f = absurd (cc f)
 or_not false true e f = absurd (cc e)
 or_not false false e f = refl
-
-or_left : (a b : Bool) → a ≡ true → (a || b) ≡ true
-or_left true b e = refl
-or_left false b e = absurd (cc e)
 
 or_right : (a b : Bool) → b ≡ false → (a || not b) ≡ true
 or_right true b e = refl
@@ -103,7 +99,7 @@ module _ (g : Graph) (U : VertexSet) (p : Player) (v : ℕ) where
       (pair (U v) (same_player (of_parity (priority_of g v)) p) h.inside (is_same (of_parity (priority_of g v)) p h.parity))
       (test_from_itself h.itself))
       (elim (own_or_other (owner_of g v) p) [
-        | inl o ↦ or_left (same_player (owner_of g v) p) (not (leads_away g U v)) (is_same (owner_of g v) p o)
+        | inl o ↦ in_first (same_player (owner_of g v) p) (not (leads_away g U v)) (is_same (owner_of g v) p o)
         | inr o ↦ or_right (same_player (owner_of g v) p) (leads_away g U v) (test_from_stays (h.only (λ q. not_both (owner_of g v) p q o)))
       ])
 
