@@ -4,5 +4,6 @@ mod command_line;
 mod devices;
 mod faults;
 mod games;
+mod held;
 mod runs;
 mod solving;

@@ -85,7 +85,11 @@ fn the_trace_of_a_loop_has_its_job(rt: HostRuntime) -> Result<(), Fail> {
         &Pass,
         &Standard,
     )?;
-    assert!(rt; out.taken.starts_with(b"journal 1 1\nentry 0 1 0 1 1\n7 7;\nreport 5\njob 0 1 1 1 0 0 0 0\n"));
+    assert!(rt;
+        out.taken.starts_with(
+            b"journal 1 1\nentry 0 1 0 1 1\n7 7;\nreport 5\njob 0 1 1 1 0 0 0 0\n"
+        )
+    );
     assert!(rt; out.taken.ends_with(b"total 1 1 0 0\n"));
     Ok(())
 }

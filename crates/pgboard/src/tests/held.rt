@@ -1,0 +1,151 @@
+//! Workers run at once through the program's runs: a gate holds one of them until another has posted.
+use super::devices::{Bounded, Pieces};
+use super::games::ONE_EACH;
+use crate::solve::{SolveOptions, run_solve, run_trace};
+use pg_finders::Standard;
+use pg_workers::Gate;
+use std::alloc::Global;
+use std::process::Abort;
+use std::sync::{Mutex, Wait};
+use std::test::Fail;
+use std::thread::Threads;
+
+/// How often a held worker looks for another worker's post before it gives up.
+const TURNS: u64 = 10_000_000;
+
+/// What a gate has seen.
+#[derive(Drop)]
+struct Seen {
+    held: u32,
+    is_holding: bool,
+    others_posted: bool,
+    gave_up: bool,
+    found: [u32; 5],
+    posted: [u32; 5],
+}
+
+/// Holds one worker at its first `found` until another worker's `posted` was seen. Worker 0 stands for whichever
+/// comes first.
+#[derive(Drop)]
+struct Holder {
+    seen: Mutex<Seen>,
+}
+
+impl Holder {
+    fn new(held: u32) -> Holder {
+        Holder {
+            seen: Mutex::new(Seen {
+                held,
+                is_holding: false,
+                others_posted: false,
+                gave_up: false,
+                found: [0; 5],
+                posted: [0; 5],
+            }),
+        }
+    }
+}
+
+/// Counts the call, and says whether this worker is to be held.
+fn enters(seen: &mut Seen, worker: u32, job: u64) -> bool {
+    if let Some(count) = seen.found.get_mut(job as usize) {
+        *count = count.wrapping_add(1);
+    }
+    if seen.is_holding || (seen.held != 0 && seen.held != worker) {
+        return false;
+    }
+    seen.is_holding = true;
+    seen.held = worker;
+    true
+}
+
+impl Gate for Holder {
+    fn found<R: Wait>(&self, rt: &R, worker: u32, job: u64) {
+        if !enters(&mut *self.seen.lock(rt), worker, job) {
+            return;
+        }
+        for _ in 0..TURNS {
+            if self.seen.lock(rt).others_posted {
+                return;
+            }
+        }
+        self.seen.lock(rt).gave_up = true;
+    }
+
+    fn posted<R: Wait>(&self, rt: &R, worker: u32, job: u64) {
+        let mut guard = self.seen.lock(rt);
+        let seen = &mut *guard;
+        if let Some(count) = seen.posted.get_mut(job as usize) {
+            *count = count.wrapping_add(1);
+        }
+        if seen.is_holding && seen.held != worker {
+            seen.others_posted = true;
+        }
+    }
+}
+
+/// Each of the five jobs was found and posted once, and a worker that was held was let go by another's post. (The other
+/// may have done all jobs before the one that was to be held had its first.)
+fn assert_at_once(rt: &impl Abort, gate: Holder) {
+    let seen = gate.seen.into_inner();
+    assert!(*rt; !seen.gave_up);
+    assert!(*rt; seen.others_posted || !seen.is_holding);
+    assert!(*rt; seen.found == [1; 5]);
+    assert!(*rt; seen.posted == [1; 5]);
+}
+
+fn held_solve<R: Threads + Wait + Abort + Sync>(
+    rt: &R,
+    alloc: Global,
+    held: u32,
+) -> Result<(), Fail> {
+    let options = SolveOptions {
+        workers: 2,
+        bound: 4,
+        winners: true,
+    };
+    let gate = Holder::new(held);
+    let mut input = Pieces::whole(ONE_EACH);
+    let mut out = Bounded::ample(alloc);
+    run_solve(rt, alloc, &mut input, &mut out, &options, &gate, &Standard)?;
+    assert_eq!(*rt;
+        out.taken.as_slice(),
+        b"paritysol 1;\n0 0;\n1 1;\n".as_slice()
+    );
+    assert_at_once(rt, gate);
+    Ok(())
+}
+
+fn held_trace<R: Threads + Wait + Abort + Sync>(
+    rt: &R,
+    alloc: Global,
+    held: u32,
+) -> Result<(), Fail> {
+    let gate = Holder::new(held);
+    let mut input = Pieces::whole(ONE_EACH);
+    let mut out = Bounded::ample(alloc);
+    run_trace(rt, alloc, &mut input, &mut out, 2, &gate, &Standard)?;
+    assert!(*rt; out.taken.starts_with(b"journal 2 2\n"));
+    assert_at_once(rt, gate);
+    Ok(())
+}
+
+#[test]
+fn workers_solve_at_once_while_the_first_is_held(rt: HostRuntime) -> Result<(), Fail> {
+    held_solve(&rt, rt.alloc(), 1)
+}
+
+#[test]
+fn workers_solve_at_once_while_whoever_comes_first_is_held(rt: HostRuntime) -> Result<(), Fail> {
+    held_solve(&rt, rt.alloc(), 0)
+}
+
+#[test]
+fn workers_trace_at_once_while_the_first_is_held(rt: HostRuntime) -> Result<(), Fail> {
+    held_trace(&rt, rt.alloc(), 1)
+}
+
+#[test]
+fn workers_trace_at_once_while_whoever_comes_first_is_held(rt: HostRuntime) -> Result<(), Fail> {
+    held_trace(&rt, rt.alloc(), 0)
+}
