@@ -1,5 +1,5 @@
 -- The steps of an attraction, and what it is when nothing is left to do.
-use Rattle.std.proofs.Common.{◌≡◌, ◌≢◌, ℕ, ◌+◌, ◌<◌, ◌≤◌, Bool, true, false, ◌||◌, ◌&&◌, ◌⊎◌, inl, inr, List, [], ◌∷◌, ◌++◌, length, take, drop, get_or, lt-ltb, ltb-true, set, refl, sym, ◌∙◌, ap, subst, arith, append_assoc, length-set, length-append, get_or-set_same, get_or-set_other}
+use Rattle.std.proofs.Common.{◌≡◌, ◌≢◌, ℕ, ◌+◌, ◌<◌, ◌≤◌, Bool, true, false, ◌||◌, ◌⊎◌, inl, inr, List, [], ◌∷◌, ◌++◌, length, take, drop, get_or, lt-ltb, ltb-true, set, refl, sym, ◌∙◌, ap, subst, arith, append_assoc, length-set, length-append, get_or-set_same, get_or-set_other}
 use Rattle.std.specs.Prelude.{Option, ◌==◌, slice_index, nat_lt}
 use Rattle.std.specs.List.{Contains}
 use Rattle.std.proofs.lemmas.Bool.{eqb-true, eq-eqb, false_from_ne_true}
@@ -52,12 +52,6 @@ module _ (g : Graph) (p : Player) (U T : VertexSet) where
         exact = λ v. m v ∙ (ap (λ b. b || (r.0 == v)) (a.exact v) ∙ (or_assoc (T v) (named rows v) (r.0 == v) ∙ ap (λ b. T v || b) (sym (named-push rows r v))));
         passes = λ v lv. ArePassed-grown U (members taken) (members (set taken r.0 true)) (successors_of g v) (slice_index passed v) (λ x i. m x ∙ or_left (members taken x) (r.0 == x) i) (a.passes v lv);
       }
-
-  pub taken-grows : (taken : List Bool) (v : ℕ) → v < length taken → Within (members taken) (members (set taken v true))
-  taken-grows taken v l x i = members-set taken v l x ∙ or_left (members taken x) (v == x) i
-
-  pub taken-has : (taken : List Bool) (v : ℕ) → v < length taken → In (members (set taken v true)) v
-  taken-has taken v l = members-set taken v l v ∙ or_right (members taken v) (v == v) (eq-eqb v v refl)
 
   -- a way out that is left now was left before
   pub HasOpen-before : (S S' : VertexSet) (v : ℕ) → Within S S' → HasOpen g U S' v → HasOpen g U S v

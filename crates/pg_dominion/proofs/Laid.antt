@@ -1,5 +1,5 @@
 -- Rows laid out by vertex, and the closed walks of a claim on them.
-use Rattle.std.proofs.Common.{◌≡◌, ◌≢◌, ℕ, ◌+◌, ◌<◌, Bool, true, false, ◌&&◌, ◌||◌, ◌⊎◌, ◌↔◌, inl, inr, List, [], ◌∷◌, ◌++◌, length, take, get_or, set, refl, sym, ◌∙◌, ap, subst, arith, length-set, get_or-set_same, get_or-set_other, ltb-true}
+use Rattle.std.proofs.Common.{◌≡◌, ◌≢◌, ℕ, ◌+◌, ◌<◌, Bool, true, false, ◌&&◌, ◌||◌, ◌↔◌, inl, inr, List, [], ◌∷◌, ◌++◌, length, take, get_or, set, refl, sym, ◌∙◌, ap, subst, arith, length-set, get_or-set_same, get_or-set_other, ltb-true}
 use Rattle.std.specs.Prelude.{Option, Some, None, slice_index, ◌==◌, if◌then◌else◌}
 use Rattle.std.specs.List.{Contains, AllByRecursion}
 use Rattle.std.proofs.lemmas.Bool.{eqb-true, eq-eqb}
@@ -33,17 +33,6 @@ or_and true false false d h = refl
 or_and false true c d h = sym (h refl)
 or_and false false c d h = refl
 
--- no row is laid out
-pub IsLaid-none : (g : Graph) (p : Player) (inside chosen : List Bool) (choices : List ℕ) (bad : List Bool) → length inside ≡ length g → length chosen ≡ length g → length choices ≡ length g → length bad ≡ length g → ((v : ℕ) → members inside v ≡ false) → ((v : ℕ) → members chosen v ≡ false) → ((v : ℕ) → members bad v ≡ false) → IsLaid g p [] inside chosen choices bad
-IsLaid-none g p inside chosen choices bad a b c d e f h = record {
-  inside_size = a;
-  chosen_size = b;
-  choices_size = c;
-  bad_size = d;
-  inside_is = e;
-  choices_is = λ v. rw f refl;
-  bad_is = h;
-}
 
 pub length-marked : (b : Bool) (mask : List Bool) (v : ℕ) → length (marked b mask v) ≡ length mask
 length-marked true mask v = length-set mask v true

@@ -27,7 +27,6 @@ use Rattle.pg_dominion.specs.Plan.{own_choice, IsPlanned, IsPlanOf, LeavesTo}
 use Rattle.std.proofs.lemmas.Map.Keys.{sorted_from_strictly_increasing, below_from_sorted}
 use Rattle.pg_dominion.proofs.Searching.{place_in}
 use Rattle.pg_dominion.proofs.Laid.{length-marked, length-chosen_with, length-choices_with, from_choice, row_cases}
-use Rattle.pg_dominion.proofs.Booleans.{true_or_false, last_or}
 
 -- a choice noted at a vertex that had none
 choice_at-same : (chosen : List Bool) (choices : List ℕ) (v : ℕ) (c : Option ℕ) → v < length chosen → v < length choices → members chosen v ≡ false → choice_at (chosen_with chosen v c) (choices_with choices v c) v ≡ c

@@ -1,5 +1,5 @@
 -- The shape of a claim, one row after another.
-use Rattle.std.proofs.Common.{◌≡◌, ℕ, zero, suc, ◌+◌, ◌<◌, ◌≤◌, false, ◌⊎◌, inl, inr, List, [], ◌∷◌, ◌++◌, length, take, drop, map, get_or, refl, sym, subst, arith, length-append}
+use Rattle.std.proofs.Common.{◌≡◌, ℕ, zero, suc, ◌+◌, ◌<◌, ◌≤◌, false, inl, inr, List, [], ◌∷◌, ◌++◌, length, take, drop, map, get_or, refl, sym, subst, arith, length-append}
 use Rattle.std.specs.Prelude.{Option, slice_index, ◌==◌}
 use Rattle.std.specs.List.{AllByRecursion}
 use Rattle.std.specs.List.Sorted.{IsStrictlyIncreasing}
@@ -36,9 +36,6 @@ all_push P (x ∷ rows) r a h = (a.0, all_push P rows r a.1 h)
 all_last : (P : ℕ × Option ℕ → Type 0) (rows : Rows) (r : ℕ × Option ℕ) → AllByRecursion P (rows ++ r ∷ []) → P r
 all_last P [] r a = a.0
 all_last P (x ∷ rows) r a = all_last P rows r a.1
-
-pub AreRight-none : (g : Graph) (p : Player) → AreRight g p []
-AreRight-none g p = record { each = tt; rising = λ k l. absurd (omega arith) }
 
 pub AreRight-push : (g : Graph) (p : Player) (rows : Rows) (r : ℕ × Option ℕ) → AreRight g p rows → IsRightRow g p r → next_after rows ≤ r.0 → AreRight g p (rows ++ r ∷ [])
 AreRight-push g p rows r a right l = record {

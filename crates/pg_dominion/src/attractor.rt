@@ -10,8 +10,8 @@ ghost use Rattle.pg_game.specs.Subgame.{IsSubgame};
 ghost use Rattle.pg_dominion.specs.Attraction.{IsAttraction};
 ghost use Rattle.pg_dominion.specs.Attracting.{IsBlocked, ArePassed, Attracting, IsSettled, Continues};
 
-use pg_game::{Game, Mask, Player};
-use std::alloc::{AllocError, Global};
+use pg_game::{Game, Mask, Memory, Player};
+use std::alloc::Global;
 
 /// The vertices that are taken so far, with their rows, and for each vertex how many of its successors
 /// are known to be outside or taken.
@@ -53,7 +53,7 @@ fn pass_blocked(successors: &[u32], inside: &Mask, taken: &Mask, at: u32) -> u32
 
 impl<'a> Attractor<'a> {
     /// Takes `from` for the player where a successor of his is taken, or where all of the opponent's are.
-    fn consider(&self, progress: &mut Progress, from: u32, to: u32) -> Result<(), AllocError>
+    fn consider(&self, progress: &mut Progress, from: u32, to: u32) -> Result<(), Memory>
         requires inside { In (members self.now.inside.now) from }
         requires size { length self.now.inside.now ≡ length self.now.game.now }
         requires edge { HasEdge self.now.game.now from to }
@@ -89,7 +89,7 @@ impl<'a> Attractor<'a> {
     }
 
     /// Takes what `to`, which is taken, attracts at once.
-    fn reach(&self, progress: &mut Progress, to: u32) -> Result<(), AllocError>
+    fn reach(&self, progress: &mut Progress, to: u32) -> Result<(), Memory>
         requires size { length self.now.inside.now ≡ length self.now.game.now }
         requires taken { In (members progress.old.taken) to }
         requires state { Attracting self.now.game.now self.now.player (members self.now.inside.now) (members self.now.target.now) progress.old.taken progress.old.passed.items progress.old.rows.items }
@@ -111,14 +111,14 @@ impl<'a> Attractor<'a> {
 /// The vertices outside the target that the player attracts to it inside a subgame, each once (Zielonka 1998).
 ///
 /// A row of the player's vertex has a choice, which is in the target or an earlier row. A row of the opponent's vertex
-/// has none, and all its successors inside are in the target or earlier rows. `AllocError` is the one refusal.
+/// has none, and all its successors inside are in the target or earlier rows. `Memory` is the one refusal.
 pub fn attract(
     alloc: Global,
     game: &Game,
     inside: &Mask,
     player: Player,
     target: &Mask,
-) -> Result<Vec<(u32, Option<u32>)>, AllocError>
+) -> Result<Vec<(u32, Option<u32>)>, Memory>
     requires inside_length { length inside.now ≡ length game.now }
     requires target_length { length target.now ≡ length game.now }
     requires subgame { IsSubgame game.now (members inside.now) }
