@@ -2,10 +2,11 @@
 
 use crate::attract;
 use crate::tests::games::{game_of, game_of_small};
-use crate::tests::reference::{Small, has, kind, kinds};
+use crate::tests::reference::{Small, has};
 use crate::tests::subgames::{is_subgame, is_within, mask_of};
 use pg_game::{Game, Player};
 use std::alloc::Global;
+use std::process::Abort;
 use std::test::Fail;
 
 /// What is attracted, or none where the masks are no subgame and target.
@@ -25,6 +26,22 @@ fn attracted(
     Ok(None)
 }
 
+/// Compares what is attracted with the rows of a table, which has a player, the vertices inside and a target.
+fn rows_are(
+    rt: &impl Abort,
+    alloc: Global,
+    game: Game,
+    table: &[(Player, u32, u32, &[(u32, Option<u32>)])],
+) -> Result<(), Fail> {
+    for (player, inside, target, want) in table {
+        let Some(rows) = attracted(alloc, &game, *inside, *player, *target)? else {
+            return Err(Fail::from("the masks are no subgame and target"));
+        };
+        assert_eq!(rt; rows.as_slice(), *want, "{player:?} {inside:b} {target:b}");
+    }
+    Ok(())
+}
+
 #[test]
 fn worked_attractions_have_their_rows(rt: HostRuntime) -> Result<(), Fail> {
     let alloc = rt.alloc();
@@ -37,7 +54,11 @@ fn worked_attractions_have_their_rows(rt: HostRuntime) -> Result<(), Fail> {
         ]
         .as_slice(),
     )?;
-    for (player, inside, target, want) in [
+    rows_are(
+        &rt,
+        alloc,
+        game,
+        [
         (
             Player::Even,
             0b111,
@@ -48,13 +69,9 @@ fn worked_attractions_have_their_rows(rt: HostRuntime) -> Result<(), Fail> {
         (Player::Odd, 0b111, 0b010, [(2, Some(1))].as_slice()),
         (Player::Even, 0b011, 0b001, [(1, Some(0))].as_slice()),
         (Player::Even, 0b000, 0b000, [].as_slice()),
-    ] {
-        let Some(rows) = attracted(alloc, &game, inside, player, target)? else {
-            return Err(Fail::from("the masks are no subgame and target"));
-        };
-        assert_eq!(rt; rows.as_slice(), want, "{player:?} {inside:b} {target:b}");
-    }
-    Ok(())
+        ]
+        .as_slice(),
+    )
 }
 
 /// Whether each row leads to the target or to earlier rows, and they are the set.
@@ -81,22 +98,34 @@ fn are_right(
     taken == set
 }
 
+/// Whether a subgame, target and player have their attraction, and none where the masks are no subgame and target.
+fn is_right(
+    alloc: Global,
+    small: &Small,
+    game: &Game,
+    inside: u32,
+    player: Player,
+    target: u32,
+) -> Result<Option<bool>, Fail> {
+    let Some(rows) = attracted(alloc, game, inside, player, target)? else {
+        return Ok(None);
+    };
+    let set = small.attractor(inside, player, target);
+    let rows = rows.as_slice();
+    Ok(Some(are_right(small, inside, player, target, set, rows)))
+}
+
 /// Compares all subgames, targets and players of a game of three vertices. Gives how many there were.
-fn compare(rt: &impl std::process::Abort, alloc: Global, small: &Small) -> Result<u32, Fail> {
+fn compare(rt: &impl Abort, alloc: Global, small: &Small) -> Result<u32, Fail> {
     let game = game_of_small(alloc, small)?;
     let mut count = 0u32;
-    for inside in 0..8u32 {
-        for target in 0..8u32 {
-            if target & inside != target {
-                continue;
-            }
-            for player in [Player::Even, Player::Odd] {
-                let Some(rows) = attracted(alloc, &game, inside, player, target)? else {
-                    continue;
-                };
-                let set = small.attractor(inside, player, target);
-                let holds = are_right(small, inside, player, target, set, rows.as_slice());
-                assert!(rt; holds, "{inside:b} {target:b} {player:?}");
+    for number in 0..64u32 {
+        let inside = number / 8;
+        let target = number % 8;
+        for player in [Player::Even, Player::Odd] {
+            let found = is_right(alloc, small, &game, inside, player, target)?;
+            assert!(rt; found != Some(false), "{inside:b} {target:b} {player:?}");
+            if found.is_some() {
                 count = count.saturating_add(1);
             }
         }
@@ -107,21 +136,11 @@ fn compare(rt: &impl std::process::Abort, alloc: Global, small: &Small) -> Resul
 #[test]
 fn every_attraction_over_every_arena_of_three_vertices(rt: HostRuntime) -> Result<(), Fail> {
     let alloc = rt.alloc();
-    let mut small = Small::new(alloc);
     let mut count = 0u32;
-    for first in 0..kinds(3) {
-        for second in 0..kinds(3) {
-            for third in 0..kinds(3) {
-                if first % 3 != 0 || second % 3 != 0 || third % 3 != 0 {
-                    continue;
-                }
-                small.clear();
-                for number in [first, second, third] {
-                    let (priority, owner, successors) = kind(number);
-                    small.add(priority, owner, successors)?;
-                }
-                count = count.saturating_add(compare(&rt, alloc, &small)?);
-            }
+    for number in 0..74_088 {
+        let small = Small::numbered(alloc, 3, number)?;
+        if small.is_arena() {
+            count = count.saturating_add(compare(&rt, alloc, &small)?);
         }
     }
     assert!(rt; count > 50_000);

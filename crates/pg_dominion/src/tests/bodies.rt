@@ -50,51 +50,50 @@ fn agreed(rt: &impl Abort, alloc: Global, game: &Game) -> Result<Option<u32>, Fa
     Ok(plain)
 }
 
+/// Whether each body finds what is wanted.
+fn finds(rt: &impl Abort, alloc: Global, game: Game, want: Option<u32>) -> Result<(), Fail> {
+    let found = agreed(rt, alloc, &game)?;
+    assert_eq!(rt; found, want, "{} vertices", game.len());
+    Ok(())
+}
+
 #[test]
 fn hostile_games_have_the_same_answer_in_each_body(rt: HostRuntime) -> Result<(), Fail> {
     let alloc = rt.alloc();
-    for (game, want) in [
-        (long_cycle(alloc, 300, 2)?, None),
-        (long_cycle(alloc, 300, 1)?, Some(0)),
-        (long_cycle(alloc, 300, 3)?, Some(299)),
-        (downward(alloc, 200)?, None),
-        (ladder(alloc, 60, None)?, None),
-        (ladder(alloc, 60, Some(0))?, Some(62)),
-        (ladder(alloc, 60, Some(59))?, Some(180)),
-        (dense(alloc, 40, 2)?, None),
-        (dense(alloc, 40, 1)?, Some(1)),
-    ] {
-        let found = agreed(&rt, alloc, &game)?;
-        assert_eq!(rt; found, want, "{} vertices", game.len());
-    }
-    Ok(())
+    finds(&rt, alloc, long_cycle(alloc, 300, 2)?, None)?;
+    finds(&rt, alloc, long_cycle(alloc, 300, 1)?, Some(0))?;
+    finds(&rt, alloc, long_cycle(alloc, 300, 3)?, Some(299))?;
+    finds(&rt, alloc, downward(alloc, 200)?, None)?;
+    finds(&rt, alloc, ladder(alloc, 60, None)?, None)?;
+    finds(&rt, alloc, ladder(alloc, 60, Some(0))?, Some(62))?;
+    finds(&rt, alloc, ladder(alloc, 60, Some(59))?, Some(180))?;
+    finds(&rt, alloc, dense(alloc, 40, 2)?, None)?;
+    finds(&rt, alloc, dense(alloc, 40, 1)?, Some(1))
+}
+
+/// Compares the bodies, and `check_claim`, on one random game. Whether it has no bad closed walk.
+fn is_good(rt: &impl Abort, alloc: Global, game: Game) -> Result<bool, Fail> {
+    let found = agreed(rt, alloc, &game)?;
+    let claim = whole_claim(alloc, &game)?;
+    let want = found.map(ClaimFault::Cycle);
+    assert_eq!(rt; check_claim(alloc, &game, &claim).err(), want);
+    Ok(found.is_none())
 }
 
 #[test]
 fn random_games_have_the_same_answer_in_each_body(rt: HostRuntime) -> Result<(), Fail> {
     let alloc = rt.alloc();
     let mut random = Random::new(20_241_122);
-    let mut none = 0u32;
-    for round in 0..3_000u32 {
+    let mut good = 0u32;
+    for _round in 0..3_000u32 {
         let n = random.below(24).saturating_add(1);
         let degree = random.below(3).saturating_add(1);
         let priorities = random.below(12).saturating_add(1);
         let game = random_game(alloc, &mut random, n, degree, priorities)?;
-        let found = agreed(&rt, alloc, &game)?;
-        let claim = whole_claim(alloc, &game)?;
-        let want = match found {
-            Some(v) => Some(ClaimFault::Cycle(v)),
-            None => None,
-        };
-        assert_eq!(rt;
-            check_claim(alloc, &game, &claim).err(),
-            want,
-            "round {round}"
-        );
-        if found.is_none() {
-            none = none.saturating_add(1);
+        if is_good(&rt, alloc, game)? {
+            good = good.saturating_add(1);
         }
     }
-    assert!(rt; none > 300 && none < 2_700);
+    assert!(rt; good > 300 && good < 2_700);
     Ok(())
 }

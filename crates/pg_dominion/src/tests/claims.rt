@@ -1,10 +1,11 @@
 //! Claims: worked ones, and all over the smallest games.
 
 use crate::tests::games::{game_of, game_of_small};
-use crate::tests::reference::{Small, kind, kinds};
+use crate::tests::reference::Small;
 use crate::{Claim, ClaimFault, check_claim};
 use pg_game::{Game, Player, Sequence};
 use std::alloc::Global;
+use std::process::Abort;
 use std::test::Fail;
 
 /// The fault of a claim, or none where it is accepted.
@@ -24,6 +25,20 @@ fn fault(
     }
 }
 
+/// Compares the faults of claims with those of a table.
+fn faults_are(
+    rt: &impl Abort,
+    alloc: Global,
+    game: Game,
+    table: &[(Player, &[(u32, Option<u32>)], Option<ClaimFault>)],
+) -> Result<(), Fail> {
+    for (player, rows, want) in table {
+        let found = fault(alloc, &game, *player, *rows)?;
+        assert_eq!(rt; found, *want, "{player:?} {rows:?}");
+    }
+    Ok(())
+}
+
 #[test]
 fn worked_claims_have_their_faults(rt: HostRuntime) -> Result<(), Fail> {
     let alloc = rt.alloc();
@@ -36,7 +51,11 @@ fn worked_claims_have_their_faults(rt: HostRuntime) -> Result<(), Fail> {
         ]
         .as_slice(),
     )?;
-    for (player, rows, want) in [
+    faults_are(
+        &rt,
+        alloc,
+        game,
+        [
         (
             Player::Even,
             [(1, Some(1))].as_slice(),
@@ -80,11 +99,9 @@ fn worked_claims_have_their_faults(rt: HostRuntime) -> Result<(), Fail> {
             [(0, None), (1, None)].as_slice(),
             Some(ClaimFault::Cycle(0)),
         ),
-    ] {
-        let found = fault(alloc, &game, player, rows)?;
-        assert_eq!(rt; found, want, "{player:?} {rows:?}");
-    }
-    Ok(())
+        ]
+        .as_slice(),
+    )
 }
 
 #[test]
@@ -98,14 +115,17 @@ fn the_least_vertex_on_a_bad_walk_is_named(rt: HostRuntime) -> Result<(), Fail> 
         ]
         .as_slice(),
     )?;
-    let found = fault(
+    faults_are(
+        &rt,
         alloc,
-        &game,
-        Player::Even,
-        [(0, None), (1, None)].as_slice(),
-    )?;
-    assert_eq!(rt; found, Some(ClaimFault::Cycle(1)));
-    Ok(())
+        game,
+        [(
+            Player::Even,
+            [(0, None), (1, None)].as_slice(),
+            Some(ClaimFault::Cycle(1)),
+        )]
+        .as_slice(),
+    )
 }
 
 /// The claim of a number: two for each vertex and row, none, no choice, or a choice from 0 on.
@@ -128,94 +148,43 @@ fn read_claim(rows: &mut Vec<(u32, Option<u32>)>, number: u32, n: u32) -> Result
     Ok(())
 }
 
-#[test]
-fn every_claim_over_every_game_of_one_or_two_vertices_with_priorities_to_2(
-    rt: HostRuntime,
-) -> Result<(), Fail> {
-    let alloc = rt.alloc();
-    let mut rows = Vec::new(alloc);
-    let mut refused = 0u32;
-    let mut accepted = 0u32;
-    for n in 1..3 {
-        for first in 0..kinds(n) {
-            for second in 0..if n == 1 { 1 } else { kinds(n) } {
-                let mut small = Small::new(alloc);
-                let (priority, owner, successors) = kind(first);
-                small.add(priority, owner, successors)?;
-                if n == 2 {
-                    let (priority, owner, successors) = kind(second);
-                    small.add(priority, owner, successors)?;
-                }
-                let game = game_of_small(alloc, &small)?;
-                for number in 0..if n == 1 { 4 } else { 25 } {
-                    read_claim(&mut rows, number, n)?;
-                    for player in [Player::Even, Player::Odd] {
-                        let want = small.claim_fault(alloc, player, rows.as_slice())?;
-                        let found = fault(alloc, &game, player, rows.as_slice())?;
-                        assert_eq!(rt; found, want, "{first} {second} {number} {player:?}");
-                        if want.is_none() {
-                            accepted = accepted.saturating_add(1);
-                        } else {
-                            refused = refused.saturating_add(1);
-                        }
-                    }
-                }
-            }
-        }
-    }
-    assert!(rt; accepted > 1_000 && refused > 10_000);
-    Ok(())
-}
-
-/// Compares all claims whose rows are right, of one game of three vertices. Gives how many there were.
-fn compare_right_claims(
-    rt: &impl std::process::Abort,
-    alloc: Global,
-    small: &Small,
-    rows: &mut Vec<(u32, Option<u32>)>,
-) -> Result<u32, Fail> {
+/// Compares all claims of one game. Gives how many were accepted, and how many there were.
+fn compare(rt: &impl Abort, alloc: Global, small: &Small) -> Result<(u32, u32), Fail> {
     let game = game_of_small(alloc, small)?;
+    let mut rows = Vec::new(alloc);
+    let n = small.len();
+    let mut accepted = 0u32;
     let mut count = 0u32;
-    for number in 1..216 {
-        read_claim(rows, number, 3)?;
+    for number in 0..n.saturating_add(3).saturating_pow(n) {
+        read_claim(&mut rows, number, n)?;
         for player in [Player::Even, Player::Odd] {
-            let mut is_right = true;
-            for row in rows.as_slice() {
-                is_right = is_right && small.is_right_row(player, *row);
-            }
-            if !is_right {
-                continue;
-            }
             let want = small.claim_fault(alloc, player, rows.as_slice())?;
             let found = fault(alloc, &game, player, rows.as_slice())?;
-            assert_eq!(rt; found, want);
+            assert_eq!(rt; found, want, "{player:?} {number}");
             count = count.saturating_add(1);
-        }
-    }
-    Ok(count)
-}
-
-#[test]
-fn every_claim_with_right_rows_over_every_game_of_three_vertices_with_priorities_to_2(
-    rt: HostRuntime,
-) -> Result<(), Fail> {
-    let alloc = rt.alloc();
-    let mut small = Small::new(alloc);
-    let mut rows = Vec::new(alloc);
-    let mut count = 0u32;
-    for first in 0..kinds(3) {
-        for second in 0..kinds(3) {
-            for third in 0..kinds(3) {
-                small.clear();
-                for number in [first, second, third] {
-                    let (priority, owner, successors) = kind(number);
-                    small.add(priority, owner, successors)?;
-                }
-                let more = compare_right_claims(&rt, alloc, &small, &mut rows)?;
-                count = count.saturating_add(more);
+            if want.is_none() {
+                accepted = accepted.saturating_add(1);
             }
         }
     }
-    assert!(rt; count > 1_000_000);
+    Ok((accepted, count))
+}
+
+#[test]
+fn every_claim_over_all_games_of_one_or_two_vertices_and_each_97th_of_three(
+    rt: HostRuntime,
+) -> Result<(), Fail> {
+    let alloc = rt.alloc();
+    let mut accepted = 0u32;
+    let mut count = 0u32;
+    for (n, games, step) in [(1u32, 6u32, 1u32), (2, 324, 1), (3, 764, 97)] {
+        for at in 0..games {
+            let small = Small::numbered(alloc, n, at.saturating_mul(step))?;
+            let counts = compare(&rt, alloc, &small)?;
+            accepted = accepted.saturating_add(counts.0);
+            count = count.saturating_add(counts.1);
+        }
+    }
+    assert!(rt; accepted > 5_000 && count > 300_000);
     Ok(())
 }

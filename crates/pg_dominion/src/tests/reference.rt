@@ -32,19 +32,26 @@ pub struct Small {
 }
 
 impl Small {
-    pub fn new(alloc: Global) -> Small {
-        Small {
-            rows: Vec::new(alloc),
+    /// The game of `n` vertices of a number, whose digits are the kinds of its vertices.
+    pub fn numbered(alloc: Global, n: u32, number: u32) -> Result<Small, Fail> {
+        let base = kinds(n).max(1);
+        let mut rows = Vec::new(alloc);
+        let mut rest = number;
+        for _v in 0..n {
+            rows.push(kind(rest % base))?;
+            rest /= base;
         }
+        Ok(Small { rows })
     }
 
-    pub fn add(&mut self, priority: u32, owner: Player, successors: u32) -> Result<(), Fail> {
-        self.rows.push((priority, owner, successors))?;
-        Ok(())
-    }
-
-    pub fn clear(&mut self) {
-        self.rows.clear();
+    /// Whether all priorities are 0.
+    pub fn is_arena(&self) -> bool {
+        for row in self.rows.as_slice() {
+            if row.0 != 0 {
+                return false;
+            }
+        }
+        true
     }
 
     pub fn len(&self) -> u32 {
@@ -240,7 +247,7 @@ fn at(sets: &[u32], v: u32) -> u32 {
 
 /// Each vertex of a game of `n` vertices is a number below this: priority 0 to 2, owner, and a nonempty set of
 /// successors.
-pub fn kinds(n: u32) -> u32 {
+fn kinds(n: u32) -> u32 {
     if n < 32 {
         6u32.saturating_mul(bit(n).saturating_sub(1))
     } else {
@@ -249,7 +256,7 @@ pub fn kinds(n: u32) -> u32 {
 }
 
 /// The vertex of a number.
-pub fn kind(number: u32) -> (u32, Player, u32) {
+fn kind(number: u32) -> (u32, Player, u32) {
     let owner = if number / 3 % 2 == 0 {
         Player::Even
     } else {
