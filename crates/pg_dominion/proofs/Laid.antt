@@ -33,7 +33,6 @@ or_and true false false d h = refl
 or_and false true c d h = sym (h refl)
 or_and false false c d h = refl
 
-
 pub length-marked : (b : Bool) (mask : List Bool) (v : ℕ) → length (marked b mask v) ≡ length mask
 length-marked true mask v = length-set mask v true
 length-marked false mask v = refl

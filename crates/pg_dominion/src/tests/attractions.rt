@@ -59,16 +59,16 @@ fn worked_attractions_have_their_rows(rt: HostRuntime) -> Result<(), Fail> {
         alloc,
         game,
         [
-        (
-            Player::Even,
-            0b111,
-            0b001,
-            [(1, Some(0)), (2, None)].as_slice(),
-        ),
-        (Player::Even, 0b111, 0b111, [].as_slice()),
-        (Player::Odd, 0b111, 0b010, [(2, Some(1))].as_slice()),
-        (Player::Even, 0b011, 0b001, [(1, Some(0))].as_slice()),
-        (Player::Even, 0b000, 0b000, [].as_slice()),
+            (
+                Player::Even,
+                0b111,
+                0b001,
+                [(1, Some(0)), (2, None)].as_slice(),
+            ),
+            (Player::Even, 0b111, 0b111, [].as_slice()),
+            (Player::Odd, 0b111, 0b010, [(2, Some(1))].as_slice()),
+            (Player::Even, 0b011, 0b001, [(1, Some(0))].as_slice()),
+            (Player::Even, 0b000, 0b000, [].as_slice()),
         ]
         .as_slice(),
     )

@@ -56,49 +56,49 @@ fn worked_claims_have_their_faults(rt: HostRuntime) -> Result<(), Fail> {
         alloc,
         game,
         [
-        (
-            Player::Even,
-            [(1, Some(1))].as_slice(),
-            Some(ClaimFault::Cycle(1)),
-        ),
-        (Player::Even, [(1, Some(0)), (2, None)].as_slice(), None),
-        (
-            Player::Even,
-            [(2, None), (1, Some(0))].as_slice(),
-            Some(ClaimFault::Shape(1)),
-        ),
-        (
-            Player::Even,
-            [(1, Some(0)), (1, Some(0))].as_slice(),
-            Some(ClaimFault::Shape(1)),
-        ),
-        (
-            Player::Even,
-            [(1, None)].as_slice(),
-            Some(ClaimFault::Shape(0)),
-        ),
-        (
-            Player::Even,
-            [(1, Some(2))].as_slice(),
-            Some(ClaimFault::Shape(0)),
-        ),
-        (
-            Player::Even,
-            [(2, Some(1))].as_slice(),
-            Some(ClaimFault::Shape(0)),
-        ),
-        (
-            Player::Even,
-            [(0, Some(0)), (3, None)].as_slice(),
-            Some(ClaimFault::Shape(1)),
-        ),
-        (Player::Even, [].as_slice(), Some(ClaimFault::Shape(0))),
-        (Player::Odd, [(1, None), (2, Some(1))].as_slice(), None),
-        (
-            Player::Odd,
-            [(0, None), (1, None)].as_slice(),
-            Some(ClaimFault::Cycle(0)),
-        ),
+            (
+                Player::Even,
+                [(1, Some(1))].as_slice(),
+                Some(ClaimFault::Cycle(1)),
+            ),
+            (Player::Even, [(1, Some(0)), (2, None)].as_slice(), None),
+            (
+                Player::Even,
+                [(2, None), (1, Some(0))].as_slice(),
+                Some(ClaimFault::Shape(1)),
+            ),
+            (
+                Player::Even,
+                [(1, Some(0)), (1, Some(0))].as_slice(),
+                Some(ClaimFault::Shape(1)),
+            ),
+            (
+                Player::Even,
+                [(1, None)].as_slice(),
+                Some(ClaimFault::Shape(0)),
+            ),
+            (
+                Player::Even,
+                [(1, Some(2))].as_slice(),
+                Some(ClaimFault::Shape(0)),
+            ),
+            (
+                Player::Even,
+                [(2, Some(1))].as_slice(),
+                Some(ClaimFault::Shape(0)),
+            ),
+            (
+                Player::Even,
+                [(0, Some(0)), (3, None)].as_slice(),
+                Some(ClaimFault::Shape(1)),
+            ),
+            (Player::Even, [].as_slice(), Some(ClaimFault::Shape(0))),
+            (Player::Odd, [(1, None), (2, Some(1))].as_slice(), None),
+            (
+                Player::Odd,
+                [(0, None), (1, None)].as_slice(),
+                Some(ClaimFault::Cycle(0)),
+            ),
         ]
         .as_slice(),
     )

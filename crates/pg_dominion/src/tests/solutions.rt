@@ -105,37 +105,33 @@ fn worked_solutions_have_their_faults(rt: HostRuntime) -> Result<(), Fail> {
         alloc,
         game,
         [
-        (
-            [(Player::Even, Some(0)), (Player::Odd, Some(1))].as_slice(),
-            None,
-        ),
-        (
-            [(Player::Even, None), (Player::Odd, Some(1))].as_slice(),
-            Some(SolutionFault::NoChoice(0)),
-        ),
-        (
-            [(Player::Even, Some(0)), (Player::Odd, Some(0))].as_slice(),
-            Some(SolutionFault::BadChoice(1)),
-        ),
-        (
-            [(Player::Odd, None), (Player::Odd, Some(1))].as_slice(),
-            Some(SolutionFault::Cycle(0)),
-        ),
-        (
-            [(Player::Even, Some(1)), (Player::Odd, Some(1))].as_slice(),
-            Some(SolutionFault::Leaves(0, 1)),
-        ),
+            (
+                [(Player::Even, Some(0)), (Player::Odd, Some(1))].as_slice(),
+                None,
+            ),
+            (
+                [(Player::Even, None), (Player::Odd, Some(1))].as_slice(),
+                Some(SolutionFault::NoChoice(0)),
+            ),
+            (
+                [(Player::Even, Some(0)), (Player::Odd, Some(0))].as_slice(),
+                Some(SolutionFault::BadChoice(1)),
+            ),
+            (
+                [(Player::Odd, None), (Player::Odd, Some(1))].as_slice(),
+                Some(SolutionFault::Cycle(0)),
+            ),
+            (
+                [(Player::Even, Some(1)), (Player::Odd, Some(1))].as_slice(),
+                Some(SolutionFault::Leaves(0, 1)),
+            ),
         ]
         .as_slice(),
     )
 }
 
 /// The winners and choices of a number, with a choice from 0 on or none at each vertex.
-fn read_solution(
-    rows: &mut Vec<(Player, Option<u32>)>,
-    number: u32,
-    n: u32,
-) -> Result<(), Fail> {
+fn read_solution(rows: &mut Vec<(Player, Option<u32>)>, number: u32, n: u32) -> Result<(), Fail> {
     rows.clear();
     let forms = n.saturating_add(1).max(1);
     let mut rest = number;
