@@ -1,14 +1,12 @@
 -- Rows by place: what stands there, and what they name.
-use Rattle.std.proofs.Common.{◌≡◌, ◌≢◌, ℕ, zero, suc, ◌+◌, ◌<◌, ◌≤◌, min, Bool, true, false, ◌||◌, ◌⊎◌, inl, inr, List, [], ◌∷◌, ◌++◌, length, take, set, get_or, refl, sym, ◌∙◌, ap, subst, arith}
-use Rattle.std.specs.Prelude.{Option, Some, None, ◌==◌, if◌then◌else◌, nat_eq}
-use Rattle.std.specs.List.{list_any}
+use Rattle.std.proofs.Common.{◌≡◌, ◌≢◌, ℕ, zero, suc, ◌+◌, ◌<◌, ◌≤◌, Bool, true, false, ◌||◌, ◌⊎◌, inl, inr, [], ◌∷◌, length, take, set, get_or, refl, sym, ◌∙◌, ap, arith}
+use Rattle.std.specs.Prelude.{Option, ◌==◌}
 use Rattle.std.proofs.lemmas.Bool.{eqb-true, eq-eqb}
-use Rattle.std.proofs.lemmas.List.{get_or-take, length-take-le, take_more}
+use Rattle.std.proofs.lemmas.List.{get_or-take, length-take-le}
 use Rattle.std.proofs.lemmas.List.Folds.{list_any_at, list_any_more}
 use Rattle.std.proofs.Math.Seq.{take-set-lt}
-use Rattle.pg_game.specs.VertexSet.{In}
 use Rattle.pg_dominion.specs.Claim.{Rows, named, choice_in}
-use Rattle.pg_finders.specs.Partial.{no_row, vertex_in, choice_at, vertices, AreDifferent}
+use Rattle.pg_finders.specs.Partial.{no_row, vertex_in, choice_at, AreDifferent}
 use Rattle.pg_finders.specs.Few.{IsFew}
 use Rattle.pg_finders.proofs.Sets.{test}
 

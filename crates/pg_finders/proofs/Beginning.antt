@@ -1,7 +1,6 @@
 -- What a subgame owes where it is begun in place.
 use mathlib.Core.Path.{fun_ext}
-use Rattle.std.proofs.Common.{◌≡◌, ℕ, ◌<◌, ◌≤◌, Bool, true, false, ◌&&◌, ◌||◌, not, ◌⊎◌, inl, inr, List, length, refl, sym, ◌∙◌, ap, subst, arith, ltb-true}
-use Rattle.std.specs.Prelude.{Some}
+use Rattle.std.proofs.Common.{◌≡◌, ℕ, ◌≤◌, Bool, true, false, ◌&&◌, ◌||◌, not, ◌⊎◌, inl, inr, List, refl, sym, ◌∙◌, subst}
 use Rattle.pg_game.specs.declared.player.Player.{Player}
 use Rattle.pg_game.specs.Player.{of_parity}
 use Rattle.pg_game.specs.Graph.{Graph, priority_of}
@@ -10,11 +9,11 @@ use Rattle.pg_game.specs.Subgame.{IsSubgame}
 use Rattle.pg_finders.specs.declared.plan.Plan.{Plan}
 use Rattle.pg_finders.specs.Listed.{listed}
 use Rattle.pg_finders.specs.Planned.{winners_of, choices_of, SameAt, SameOutside, IsGiven}
-use Rattle.pg_finders.specs.Solved.{IsTop, IsBegun, IsAttracted}
+use Rattle.pg_finders.specs.Solved.{IsBegun, IsAttracted}
 use Rattle.pg_finders.specs.Growing.{place, IsGrown, IsDone}
-use Rattle.pg_finders.proofs.Sets.{no_both, test, either, in_first, in_second}
-use Rattle.pg_finders.proofs.Solving.{IsAttracted-subst, IsSubgame-subst}
-use Rattle.pg_finders.proofs.Growing.{grown_attracted, grown_active, grown_union}
+use Rattle.pg_finders.proofs.Sets.{no_both, test, in_first}
+use Rattle.pg_finders.proofs.Solving.{IsAttracted-subst}
+use Rattle.pg_finders.proofs.Growing.{grown_attracted, grown_union}
 use Rattle.pg_finders.proofs.Listed.{front_or_back, in_front}
 
 -- where the set is what is active with what is listed, and nothing is both, each is the set without the other

@@ -1,14 +1,10 @@
 -- What the loop owes where it begins the active part.
-use Rattle.std.proofs.Common.{◌≡◌, ℕ, ◌+◌, ◌-◌, ◌<◌, ◌≤◌, List, Bool, [], ◌∷◌, ◌++◌, length, sym, ◌∙◌, arith, length-append}
+use Rattle.std.proofs.Common.{◌≡◌, ℕ, ◌+◌, ◌-◌, ◌<◌, List, Bool, [], ◌∷◌, ◌++◌, length, arith, length-append}
 use Rattle.pg_game.specs.declared.player.Player.{Player}
 use Rattle.pg_game.specs.declared.player.Player.TheVariants.{Even, Odd}
-use Rattle.pg_game.specs.Graph.{Graph}
-use Rattle.pg_game.specs.VertexSet.{VertexSet, In, members}
-use Rattle.pg_game.specs.Kept.{Choices}
+use Rattle.pg_game.specs.VertexSet.{In, members}
 use Rattle.pg_finders.specs.declared.solver.Stop.{Stop}
-use Rattle.pg_finders.specs.Listed.{listed}
 use Rattle.pg_finders.specs.Settled.{Lists}
-use Rattle.pg_finders.specs.Solved.{Winners}
 use Rattle.pg_finders.specs.Planned.{size}
 use Rattle.pg_finders.specs.UnderWay.{gone, count_at, AreApart}
 use Rattle.pg_finders.specs.Running.{how_many_gone, steps_left}

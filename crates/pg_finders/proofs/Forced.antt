@@ -1,5 +1,5 @@
 -- A subgame where one player has no choice: what the other wins by a closed walk, and that without one all is his who has no choice.
-use Rattle.std.proofs.Common.{◌≡◌, ◌≢◌, ℕ, ◌<◌, ◌≤◌, max, Bool, true, false, ◌&&◌, ◌⊎◌, inl, inr, List, [], ◌∷◌, length, refl, sym, ◌∙◌, ap, subst, arith, ltb-true, eqb}
+use Rattle.std.proofs.Common.{◌≡◌, ◌≢◌, ℕ, ◌<◌, ◌≤◌, Bool, true, false, ◌&&◌, inl, inr, List, [], ◌∷◌, length, refl, sym, ◌∙◌, ap, subst, arith, ltb-true, eqb}
 use Rattle.std.specs.Prelude.{Option, Some, None, Result, Ok, Err, IfOk, slice_index, IfSome, IsNone, if◌then◌else◌}
 use Rattle.std.specs.declared.alloc.AllocError.{AllocError}
 use Rattle.std.specs.List.{Contains}
@@ -9,7 +9,7 @@ use Rattle.pg_game.specs.Player.{same_player, opponent, of_parity}
 use Rattle.pg_game.specs.Graph.{Graph, HasEdge, owner_of, priority_of, successors_of}
 use Rattle.pg_game.specs.VertexSet.{VertexSet, In, members}
 use Rattle.pg_game.specs.Subgame.{IsSubgame}
-use Rattle.pg_game.specs.Kept.{kept, listed, KeptEdge}
+use Rattle.pg_game.specs.Kept.{kept, KeptEdge}
 use Rattle.pg_game.specs.Walk.{Walk, ClosedWalk, greatest_priority}
 use Rattle.pg_game.specs.Least.{NoneHas}
 use Rattle.pg_game.specs.Region.{OnlyGoodWalks, OnBadWalk}
@@ -19,12 +19,12 @@ use Rattle.pg_game.proofs.Rotate.{good_from_none}
 use Rattle.pg_dominion.specs.declared.claim.Claim.{Claim}
 use Rattle.pg_dominion.specs.declared.kept.Kept.{Kept}
 use Rattle.pg_dominion.specs.Claim.{Rows, named, IsGoodIn}
-use Rattle.pg_dominion.specs.KeptEdges.{IsKept, Edge, IsWorst, row_of}
+use Rattle.pg_dominion.specs.KeptEdges.{Edge, IsWorst, row_of}
 use Rattle.pg_finders.specs.Finding.{HasOneSuccessor, IsSolitaire}
 use Rattle.pg_finders.specs.Solved.{Holds}
 use Rattle.pg_finders.specs.Claims.{own_choices, rows_below}
 use Rattle.pg_finders.specs.Solitaire.{HasOneAt, IsSingle, owned, good_for, choices_by, EdgeBelow, AreLeading}
-use Rattle.pg_finders.proofs.Sets.{own_or_other, not_both, twice, same_is, is_same, both, pair, test}
+use Rattle.pg_finders.proofs.Sets.{twice, same_is, is_same, both, pair}
 use Rattle.pg_finders.proofs.Loops.{Among, closed_among, closed_inside, closed_begins, never_falls, greatest_reached}
 use Rattle.pg_finders.proofs.Solving.{kept_leads, choice_leads}
 use Rattle.pg_finders.proofs.Good.{rows_named, good_rows}

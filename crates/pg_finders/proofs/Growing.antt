@@ -1,20 +1,19 @@
 -- The steps of an attraction in place: nothing is taken, one vertex is taken, and one step after another.
-use Rattle.std.proofs.Common.{◌≡◌, ◌≢◌, ℕ, zero, suc, ◌<◌, Bool, true, false, ◌&&◌, ◌||◌, not, ◌⊎◌, inl, inr, List, [], ◌∷◌, ◌++◌, length, take, drop, get_or, ◌+◌, ◌≤◌, refl, sym, ◌∙◌, ap, subst, arith, append_assoc, length-append, ltb-true}
-use Rattle.std.specs.Prelude.{Option, Some, ◌==◌, if◌then◌else◌}
+use Rattle.std.proofs.Common.{◌≡◌, ◌≢◌, ℕ, suc, ◌<◌, Bool, true, false, ◌&&◌, ◌||◌, not, ◌⊎◌, inl, inr, List, [], ◌∷◌, ◌++◌, length, take, get_or, ◌+◌, ◌≤◌, refl, sym, ◌∙◌, ap, subst, arith, append_assoc, length-append}
+use Rattle.std.specs.Prelude.{Option, Some, ◌==◌}
 use Rattle.std.proofs.lemmas.Bool.{eqb-true, eq-eqb}
-use Rattle.std.proofs.lemmas.List.{append-nil, take_more, take-append-le, take-append-drop}
+use Rattle.std.proofs.lemmas.List.{append-nil, take_more, take-append-le}
 use Rattle.pg_game.specs.declared.player.Player.{Player}
 use Rattle.pg_game.specs.Player.{opponent}
 use Rattle.pg_game.specs.Graph.{Graph, HasEdge, owner_of, successors_of}
 use Rattle.pg_game.specs.VertexSet.{VertexSet, In, union, without}
-use Rattle.pg_game.specs.Subgame.{IsSubgame}
 use Rattle.pg_game.proofs.Members.{some_or_none}
 use Rattle.pg_finders.specs.declared.plan.Plan.{Plan}
 use Rattle.pg_finders.specs.Listed.{listed, Once}
-use Rattle.pg_finders.specs.Planned.{winners_of, choices_of, SameAt, SameOutside}
+use Rattle.pg_finders.specs.Planned.{winners_of, choices_of, SameAt}
 use Rattle.pg_finders.specs.Solved.{IsAttracted}
 use Rattle.pg_finders.specs.Growing.{place, Before, IsGrown, IsSettled, IsDone}
-use Rattle.pg_finders.proofs.Sets.{own_or_other, not_both, both, pair, only, minus, no_both, test, either}
+use Rattle.pg_finders.proofs.Sets.{only, minus, no_both, test, either}
 use Rattle.pg_finders.proofs.Listed.{listed-append, once_join, in_front, in_back, front_or_back, one_listed, listed_at, in_take}
 
 place_front : (xs ys : List ℕ) (v : ℕ) → In (listed xs) v → place (xs ++ ys) v ≡ place xs v

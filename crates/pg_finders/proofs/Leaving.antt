@@ -1,7 +1,7 @@
 -- What the loop owes where it finishes the last subgame that waits: all is settled as the player's, or what the opponent won and
 -- attracts is settled and the others are active again.
 use mathlib.Core.Path.{fun_ext}
-use Rattle.std.proofs.Common.{◌≡◌, ◌≢◌, ℕ, ◌+◌, ◌-◌, ◌<◌, ◌≤◌, Bool, true, false, ◌&&◌, ◌||◌, not, ◌⊎◌, inl, inr, List, [], ◌∷◌, ◌++◌, length, take, drop, map, refl, sym, ◌∙◌, ap, subst, arith, append_assoc, length-append, length-drop}
+use Rattle.std.proofs.Common.{◌≡◌, ◌≢◌, ℕ, ◌+◌, ◌-◌, ◌<◌, Bool, true, false, ◌&&◌, ◌||◌, not, ◌⊎◌, inl, inr, List, [], ◌∷◌, ◌++◌, length, take, drop, map, refl, sym, ◌∙◌, ap, subst, arith, append_assoc, length-drop}
 use Rattle.std.proofs.lemmas.List.{append-nil, take-append-drop, take-append-le, take_all}
 use Rattle.pg_game.specs.declared.player.Player.{Player}
 use Rattle.pg_game.specs.declared.player.Player.TheVariants.{Even, Odd}
@@ -16,7 +16,7 @@ use Rattle.pg_finders.specs.Settled.{Lists}
 use Rattle.pg_finders.specs.Planned.{winners_of, choices_of, size}
 use Rattle.pg_finders.specs.Solved.{IsBegun, IsSolved, IsSolvedTo, IsAttracted, won_by}
 use Rattle.pg_finders.specs.Growing.{place, IsGrown, IsDone}
-use Rattle.pg_finders.specs.UnderWay.{gone, part, count_at, front, level_at, IsUnderWay}
+use Rattle.pg_finders.specs.UnderWay.{count_at, front, level_at, IsUnderWay}
 use Rattle.pg_finders.specs.Running.{how_many_gone, steps_left}
 use Rattle.pg_finders.specs.Waiting.{steps}
 use Rattle.pg_finders.proofs.Sets.{own_or_other, test, no_both, either, equal_from, in_first, in_second, only, minus}
@@ -25,7 +25,7 @@ use Rattle.pg_finders.proofs.Solving.{IsSolvedTo-subst, IsSubgame-subst, all_won
 use Rattle.pg_finders.proofs.Growing.{grown_attracted, grown_inside, grown_union}
 use Rattle.pg_finders.proofs.Beginning.{rest_active}
 use Rattle.pg_finders.proofs.Sharing.{by_player, pick, pick_own, pick_other}
-use Rattle.pg_finders.proofs.UnderWay.{lists_fit, stop_fits, last_begun, since_inside, since_left, aside_inside, inside_cases, left_cases, left_solved, won_since, stops_kept, finish_apart, finish_inside, finish_more, under_way_finish}
+use Rattle.pg_finders.proofs.UnderWay.{lists_fit, stop_fits, last_begun, since_inside, since_left, aside_inside, inside_cases, left_cases, left_solved, won_since, stops_kept, finish_more, under_way_finish}
 use Rattle.pg_finders.proofs.Running.{work_finish}
 
 pick_apart : (p : Player) (xs ys : List ℕ) → Apart xs ys → Apart (pick p xs ys Even) (pick p xs ys Odd)

@@ -1,6 +1,5 @@
 -- What a step of the solver owes besides the levels: the places in the order by priority, and the steps that are left.
-use Rattle.std.proofs.Common.{◌≡◌, ℕ, ◌+◌, ◌-◌, ◌<◌, ◌≤◌, List, [], ◌∷◌, ◌++◌, length, map, refl, sym, ◌∙◌, subst, arith}
-use Rattle.pg_game.specs.VertexSet.{VertexSet}
+use Rattle.std.proofs.Common.{◌≡◌, ℕ, ◌+◌, ◌-◌, ◌<◌, ◌≤◌, List, [], ◌∷◌, ◌++◌, length, map, refl, arith}
 use Rattle.pg_finders.specs.declared.order.Ranked.{Ranked}
 use Rattle.pg_finders.specs.declared.solver.Stop.{Stop}
 use Rattle.pg_finders.specs.Waiting.{Level, steps, steps_after}

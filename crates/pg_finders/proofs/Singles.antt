@@ -1,14 +1,13 @@
 -- The vertices that are dominions alone, as a set; together they are a good claim.
-use Rattle.std.proofs.Common.{◌≡◌, ◌≢◌, ℕ, zero, suc, ◌<◌, ◌≤◌, Bool, true, false, ◌&&◌, ◌||◌, not, ◌⊎◌, ◌↔◌, inl, inr, List, [], ◌∷◌, length, refl, sym, ◌∙◌, subst, ap, arith, ltb-true}
-use Rattle.std.specs.Prelude.{Option, Some, None, ◌==◌}
+use Rattle.std.proofs.Common.{◌≡◌, ◌≢◌, ℕ, zero, suc, ◌<◌, ◌≤◌, Bool, true, false, ◌&&◌, ◌||◌, not, ◌↔◌, inl, inr, List, [], ◌∷◌, length, refl, sym, ◌∙◌, subst, ap, arith, ltb-true}
+use Rattle.std.specs.Prelude.{Some, ◌==◌}
 use Rattle.std.specs.List.{list_any, Contains}
 use Rattle.std.proofs.lemmas.Bool.{eqb-true, eq-eqb}
 use Rattle.pg_game.specs.declared.player.Player.{Player}
-use Rattle.pg_game.specs.Player.{of_parity, same_player, opponent}
+use Rattle.pg_game.specs.Player.{of_parity, same_player}
 use Rattle.pg_game.specs.Graph.{Graph, HasEdge, owner_of, priority_of, successors_of}
 use Rattle.pg_game.specs.VertexSet.{VertexSet, In, members}
-use Rattle.pg_game.specs.Subgame.{IsSubgame}
-use Rattle.pg_game.specs.Kept.{KeptEdge, kept, listed}
+use Rattle.pg_game.specs.Kept.{KeptEdge}
 use Rattle.pg_game.specs.Walk.{Walk, ClosedWalk, greatest_priority}
 use Rattle.pg_game.proofs.Members.{Contains-head, Contains-tail, Contains-cons, Contains-nil}
 use Rattle.pg_dominion.specs.Claim.{Rows, named, choice_in, IsGoodIn}
@@ -17,7 +16,7 @@ use Rattle.pg_finders.specs.Finding.{IsLoop}
 use Rattle.pg_finders.specs.Claims.{own_choices, rows_below}
 use Rattle.pg_finders.specs.Solved.{Holds}
 use Rattle.pg_finders.specs.Singles.{loops, leads_away, leads_to_itself, itself}
-use Rattle.pg_finders.proofs.Sets.{own_or_other, not_both, same_is, is_same, not_same, both, pair, minus, either, in_first, test}
+use Rattle.pg_finders.proofs.Sets.{own_or_other, not_both, same_is, is_same, both, pair, minus, in_first, test}
 use Rattle.pg_finders.proofs.Loops.{Among, closed_inside, greatest_reached}
 use Rattle.pg_finders.proofs.Solving.{kept_leads, choice_leads}
 use Rattle.pg_finders.proofs.Rows.{rows_of_below}

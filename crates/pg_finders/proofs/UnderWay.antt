@@ -1,13 +1,13 @@
 -- The steps of the loop over shared lists: a subgame is begun, or the last one that waits is finished.
 use mathlib.Core.Path.{fun_ext}
-use Rattle.std.proofs.Common.{◌≡◌, ℕ, ◌+◌, ◌-◌, ◌<◌, ◌≤◌, Bool, true, false, ◌&&◌, ◌||◌, not, ◌⊎◌, inl, inr, List, [], ◌∷◌, ◌++◌, length, take, drop, map, refl, sym, ◌∙◌, ap, subst, arith, append_assoc, length-append, length-take}
-use Rattle.std.proofs.lemmas.List.{map-append, take-append-drop, take-append-le, take_all}
+use Rattle.std.proofs.Common.{◌≡◌, ℕ, ◌+◌, ◌<◌, ◌≤◌, Bool, true, false, ◌&&◌, ◌||◌, not, ◌⊎◌, inl, inr, List, [], ◌∷◌, ◌++◌, length, take, drop, map, refl, sym, ◌∙◌, ap, subst, arith, length-append, length-take}
+use Rattle.std.proofs.lemmas.List.{map-append, take-append-le, take_all}
 use Rattle.std.proofs.lemmas.Grind.{common_steps}
 use Rattle.pg_game.specs.declared.player.Player.{Player}
 use Rattle.pg_game.specs.declared.player.Player.TheVariants.{Even, Odd}
 use Rattle.pg_game.specs.Player.{opponent, same_player}
 use Rattle.pg_game.specs.Graph.{Graph}
-use Rattle.pg_game.specs.VertexSet.{VertexSet, In, members, no_vertices, without}
+use Rattle.pg_game.specs.VertexSet.{VertexSet, In, members, no_vertices}
 use Rattle.pg_game.specs.Kept.{Choices}
 use Rattle.pg_finders.specs.declared.solver.Stop.{Stop}
 use Rattle.pg_finders.specs.Solved.{Winners, IsSolved, IsSolvedTo, IsBegun, won_by}
@@ -17,8 +17,8 @@ use Rattle.pg_finders.specs.Settled.{Lists}
 use Rattle.pg_finders.specs.Planned.{size}
 use Rattle.pg_finders.specs.UnderWay.{gone, part, count_at, front, level_at, Linked, AreApart, IsUnderWay}
 use Rattle.pg_finders.specs.Running.{how_many_gone}
-use Rattle.pg_finders.proofs.Sets.{own_or_other, not_both, test, no_both, either, equal_from, both, pair, same_is, is_same, only, unless}
-use Rattle.pg_finders.proofs.Listed.{listed-append, in_front, in_back, front_or_back, in_take, in_drop, take_or_drop, once_join, once_take, once_drop, take_apart, apart_from, once_fits}
+use Rattle.pg_finders.proofs.Sets.{test, no_both, equal_from, both, pair, same_is, is_same, unless}
+use Rattle.pg_finders.proofs.Listed.{listed-append, front_or_back, in_take, in_drop, take_or_drop, once_join, once_take, take_apart, apart_from, once_fits}
 use Rattle.pg_finders.proofs.Solving.{solved_none, solved_whole, IsSolvedTo-subst}
 use Rattle.pg_finders.proofs.Waiting.{Agree, waits_on, waits_push, waits_pop}
 use Rattle.pg_finders.proofs.Sharing.{by_player, gone_settled, gone_aside, gone_cases, gone_none, part_of, in_part, linked_more, linked_push, linked_pop, levels_same}

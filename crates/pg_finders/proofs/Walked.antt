@@ -1,28 +1,27 @@
 -- A search for a walk back over a few rows: its steps, and what it says in the end.
-use Rattle.std.proofs.Common.{◌≡◌, ◌≢◌, ℕ, suc, ◌+◌, ◌<◌, ◌≤◌, max, Bool, true, false, ◌⊎◌, inl, inr, List, [], ◌∷◌, ◌++◌, length, take, set, get_or, refl, sym, ◌∙◌, ap, subst, arith, length-set, get_or-set_same, get_or-set_other}
-use Rattle.std.specs.Prelude.{Option, Some, None, ◌==◌, IsTrue, if◌then◌else◌}
+use Rattle.std.proofs.Common.{◌≡◌, ◌≢◌, ℕ, ◌+◌, ◌<◌, ◌≤◌, Bool, true, false, inl, inr, List, [], ◌∷◌, ◌++◌, length, take, set, refl, sym, ◌∙◌, ap, subst, arith, length-set, get_or-set_same, get_or-set_other}
+use Rattle.std.specs.Prelude.{Some, None, ◌==◌, IsTrue}
 use Rattle.std.specs.List.{Contains}
 use Rattle.std.proofs.lemmas.Bool.{cases_eq, eqb-true, eq-eqb}
 use Rattle.pg_game.specs.declared.player.Player.{Player}
-use Rattle.pg_game.specs.Player.{same_player, opponent, of_parity}
-use Rattle.pg_game.specs.Graph.{Graph, owner_of, priority_of, successors_of}
+use Rattle.pg_game.specs.Player.{opponent, of_parity}
+use Rattle.pg_game.specs.Graph.{Graph, owner_of, priority_of}
 use Rattle.pg_game.specs.VertexSet.{In, members}
-use Rattle.pg_game.specs.Kept.{Choices, kept, listed, KeptEdge}
+use Rattle.pg_game.specs.Kept.{Choices, kept, KeptEdge}
 use Rattle.pg_game.specs.Walk.{Walk, ClosedWalk, greatest_priority}
-use Rattle.pg_game.specs.Region.{OnlyGoodWalks, OnBadWalk}
-use Rattle.pg_game.specs.Least.{NoneHas}
+use Rattle.pg_game.specs.Region.{OnlyGoodWalks}
 use Rattle.pg_game.proofs.Members.{Contains-head, Contains-one}
 use Rattle.pg_game.proofs.Walks.{ClosedWalk-weaker}
 use Rattle.pg_game.proofs.Rotate.{good_from_none}
 use Rattle.pg_dominion.specs.Claim.{Rows, named, choice_in}
 use Rattle.pg_dominion.proofs.Searching.{Walk-push}
 use Rattle.pg_finders.specs.Planned.{size}
-use Rattle.pg_finders.specs.Partial.{vertex_in, choice_at, AreDifferent}
-use Rattle.pg_finders.specs.Walked.{LeadsTo, Under, WalksBack, IsFrom, IsNext, IsReached}
+use Rattle.pg_finders.specs.Partial.{vertex_in, AreDifferent}
+use Rattle.pg_finders.specs.Walked.{LeadsTo, Under, WalksBack, IsFrom, IsReached}
 use Rattle.pg_finders.proofs.Sets.{is_same, either, not_both, test}
 use Rattle.pg_finders.proofs.Sizes.{size_less}
 use Rattle.pg_finders.proofs.Loops.{Among, closed_inside}
-use Rattle.pg_finders.proofs.Apart.{choice_of_place, front_named, front_place, same_place, named_more}
+use Rattle.pg_finders.proofs.Apart.{front_named, front_place, same_place, named_more}
 
 -- where the player chose x, the kept edge leads to x alone
 pub leads_some : (g : Graph) (p : Player) (s : Choices) (v x w : ℕ) → owner_of g v ≡ p → s v ≡ Some x → (IsTrue (x == w) → Contains (kept g p s v) w) × (Contains (kept g p s v) w → IsTrue (x == w))

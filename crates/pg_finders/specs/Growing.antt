@@ -1,5 +1,5 @@
 -- How a player takes active vertices one after another, each listed (private: a step of an attraction).
-use Rattle.std.specs.Prelude.{ℕ, suc, ◌≡◌, ◌≢◌, ◌<◌, ◌||◌, ◌==◌, ◌⊎◌, Bool, false, Some, List, [], ◌∷◌, ◌++◌, length, if◌then◌else◌}
+use Rattle.std.specs.Prelude.{ℕ, suc, ◌≡◌, ◌≢◌, ◌<◌, ◌==◌, ◌⊎◌, false, Some, List, [], ◌∷◌, ◌++◌, length, if◌then◌else◌}
 use Rattle.pg_game.specs.declared.player.Player.{Player}
 use Rattle.pg_game.specs.Player.{opponent}
 use Rattle.pg_game.specs.Graph.{Graph, HasEdge, owner_of}

@@ -1,5 +1,5 @@
 -- Lists of vertices as sets.
-use Rattle.std.specs.Prelude.{ℕ, zero, suc, ◌≡◌, ◌==◌, false, List, [], ◌∷◌, ◌++◌, if◌then◌else◌}
+use Rattle.std.specs.Prelude.{ℕ, ◌≡◌, ◌==◌, false, List, [], ◌∷◌}
 use Rattle.std.specs.List.{list_any}
 use Rattle.pg_game.specs.VertexSet.{VertexSet, In}
 

@@ -1,5 +1,5 @@
 -- What the steps of a small search answer.
-use Rattle.std.specs.Prelude.{ℕ, ◌≡◌, ◌≤◌, ◌<◌, ◌+◌, false, length, Some}
+use Rattle.std.specs.Prelude.{ℕ, ◌≡◌, ◌≤◌, ◌+◌, false, length, Some}
 use Rattle.pg_game.specs.declared.player.Player.{Player}
 use Rattle.pg_game.specs.Graph.{Graph, HasEdge}
 use Rattle.pg_game.specs.VertexSet.{VertexSet, In, Within}

@@ -1,5 +1,5 @@
 -- The vertices that are dominions alone, as a set; and the claim that stays at each of them.
-use Rattle.std.specs.Prelude.{ℕ, Bool, ◌≡◌, ◌&&◌, ◌||◌, ◌==◌, not, Some}
+use Rattle.std.specs.Prelude.{ℕ, Bool, ◌&&◌, ◌||◌, ◌==◌, not, Some}
 use Rattle.std.specs.List.{list_any}
 use Rattle.pg_game.specs.declared.player.Player.{Player}
 use Rattle.pg_game.specs.Player.{of_parity, same_player}

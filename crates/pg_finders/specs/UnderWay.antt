@@ -1,9 +1,9 @@
 -- The subgames that wait, kept in lists that they share: the vertices set aside, and those that are settled for each player (private).
-use Rattle.std.specs.Prelude.{ℕ, ◌≡◌, ◌+◌, ◌-◌, ◌≤◌, ◌&&◌, ◌||◌, not, Bool, List, [], ◌∷◌, length, take, map}
+use Rattle.std.specs.Prelude.{ℕ, ◌≡◌, ◌≤◌, ◌&&◌, ◌||◌, not, List, [], ◌∷◌, length, take, map}
 use Rattle.pg_game.specs.declared.player.Player.{Player}
 use Rattle.pg_game.specs.declared.player.Player.TheVariants.{Even, Odd}
 use Rattle.pg_game.specs.Graph.{Graph}
-use Rattle.pg_game.specs.VertexSet.{VertexSet, In, members}
+use Rattle.pg_game.specs.VertexSet.{VertexSet, In}
 use Rattle.pg_game.specs.Kept.{Choices}
 use Rattle.pg_finders.specs.declared.solver.Stop.{Stop}
 use Rattle.pg_finders.specs.Listed.{listed, Once, Apart}

@@ -76,14 +76,7 @@ fn from_first(
     assert!(*rt; 0 < inside.game().len());
     assert!(*rt; 1 <= bound);
     assert!(*rt; bound <= 8);
-    Ok(find_small(
-        alloc,
-        inside,
-        player,
-        [0].as_slice(),
-        bound,
-        budget,
-    )?)
+    Ok(find_small(alloc, inside, player, [0].as_slice(), bound, budget)?)
 }
 
 /// What a search for Even from vertex 0 answers in the whole game.
@@ -138,7 +131,11 @@ fn a_forced_vertex_needs_a_bound_of_two_and_one_choice(rt: HostRuntime) -> Resul
     let rows = [(0, None), (1, Some(0))];
     'found: for (bound, budget) in [(2, 1_000), (8, 2), (8, 1)] {
         let small = small_of(&rt, alloc, vertices.as_slice(), bound, budget)?;
-        assert_eq!(rt; rows_in(&small), rows.as_slice(), "bound {bound}, budget {budget}");
+        assert_eq!(rt;
+            rows_in(&small),
+            rows.as_slice(),
+            "bound {bound}, budget {budget}"
+        );
     }
     let small = small_of(&rt, alloc, vertices.as_slice(), 1, 1_000)?;
     assert!(rt; matches!(small, Small::Nothing));

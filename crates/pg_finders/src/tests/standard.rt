@@ -30,7 +30,11 @@ fn assert_gives(
     assert_eq!(*rt; found.claims.len(), claims.len(), "{job:?}");
     'claims: for (claim, (player, vertex, choice)) in found.claims.iter().zip(claims) {
         assert_eq!(*rt; claim.player, *player, "{job:?}");
-        assert_eq!(*rt; claim.rows.as_slice().first(), Some(&(*vertex, *choice)), "{job:?}");
+        assert_eq!(*rt;
+            claim.rows.as_slice().first(),
+            Some(&(*vertex, *choice)),
+            "{job:?}"
+        );
     }
     Ok(())
 }

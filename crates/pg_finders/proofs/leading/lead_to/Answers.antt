@@ -1,8 +1,8 @@
-use Rattle.std.proofs.Common.{◌≡◌, ℕ, ◌<◌, ◌≤◌, length, slice_index, sym, ◌∙◌, subst, arith, below_more, inl, inr, rules}
+use Rattle.std.proofs.Common.{◌≡◌, ◌<◌, length, slice_index, sym, ◌∙◌, subst, arith, below_more}
 use Rattle.std.proofs.lemmas.List.{get_or_read}
 use Rattle.pg_game.specs.Graph.{priority_of}
-use Rattle.pg_game.specs.VertexSet.{In, members}
-use Rattle.pg_finders.specs.Solitaire.{IsSeen, EdgeBelow}
+use Rattle.pg_game.specs.VertexSet.{members}
+use Rattle.pg_finders.specs.Solitaire.{EdgeBelow}
 use Rattle.pg_finders.proofs.Masks.{none_mask}
 use Rattle.pg_finders.proofs.Backward.{leading_none, queue_one, all_seen, walk_taken}
 use Rattle.pg_finders.proofs.leading.lead_to.Goals as goal

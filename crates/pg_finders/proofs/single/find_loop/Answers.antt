@@ -1,7 +1,6 @@
-use Rattle.std.proofs.Common.{◌≡◌, ◌<◌, ◌≤◌, [], length, vec_len, arith, rules}
+use Rattle.std.proofs.Common.{◌≡◌, [], length, vec_len, arith, rules}
 use Rattle.std.proofs.lemmas.List.{nil_from_length}
 use Rattle.pg_game.specs.VertexSet.{members}
-use Rattle.pg_dominion.specs.Claim.{Rows}
 use Rattle.pg_finders.specs.Claims.{own_choices, rows_below}
 use Rattle.pg_finders.specs.Singles.{loops, itself}
 use Rattle.pg_finders.proofs.Singles.{all_rows, exactly_loops, chooses_itself, loops_good, no_loops, positive}

@@ -1,4 +1,4 @@
-use Rattle.std.proofs.Common.{◌≡◌, ◌≢◌, true, sym, subst, rules}
+use Rattle.std.proofs.Common.{◌≡◌, ◌≢◌, subst, rules}
 use Rattle.pg_game.specs.Player.{of_parity}
 use Rattle.pg_game.specs.Graph.{HasEdge, owner_of, priority_of}
 use Rattle.pg_game.specs.VertexSet.{In, members}

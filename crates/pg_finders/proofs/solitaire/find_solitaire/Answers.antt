@@ -1,7 +1,5 @@
-use Rattle.std.proofs.Common.{◌≡◌, ℕ, sym, ◌∙◌, subst, rules}
 use Rattle.pg_game.specs.declared.player.Player.TheVariants.{Even, Odd}
-use Rattle.pg_game.specs.VertexSet.{In, members}
-use Rattle.pg_finders.specs.Finding.{HasOneSuccessor, IsSolitaire}
+use Rattle.pg_game.specs.VertexSet.{members}
 use Rattle.pg_finders.proofs.Forced.{not_solitaire}
 use Rattle.pg_finders.proofs.solitaire.find_solitaire.Goals as goal
 

@@ -1,4 +1,4 @@
-use Rattle.std.proofs.Common.{◌≡◌, ℕ, ◌<◌, below_more, rules}
+use Rattle.std.proofs.Common.{◌≡◌, below_more, rules}
 use Rattle.std.specs.Prelude.{IsNone}
 use Rattle.pg_game.specs.Graph.{owner_of}
 use Rattle.pg_game.specs.VertexSet.{In, members}

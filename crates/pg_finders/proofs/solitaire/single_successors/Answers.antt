@@ -1,7 +1,6 @@
-use Rattle.std.proofs.Common.{◌≡◌, ℕ, ◌+◌, ◌<◌, length, ◌∷◌, [], length-append, rules, slice_index, refl, sym, subst, arith, below_more}
+use Rattle.std.proofs.Common.{◌∷◌, [], length-append, rules, sym, subst, arith, below_more}
 use Rattle.std.proofs.lemmas.List.{get_or_append_left, get_or_push}
-use Rattle.pg_game.specs.Graph.{owner_of}
-use Rattle.pg_game.specs.VertexSet.{In, members}
+use Rattle.pg_game.specs.VertexSet.{members}
 use Rattle.pg_game.proofs.Masks.{member_below}
 use Rattle.pg_finders.specs.Solitaire.{IsSingle}
 use Rattle.pg_finders.proofs.solitaire.single_successors.Goals as goal

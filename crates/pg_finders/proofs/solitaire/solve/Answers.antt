@@ -1,15 +1,15 @@
-use Rattle.std.proofs.Common.{◌≡◌, ℕ, ◌<◌, true, length, slice_index, refl, sym, ◌∙◌, ap, subst, arith, ltb-true, rules}
+use Rattle.std.proofs.Common.{◌≡◌, ℕ, length, slice_index, refl, sym, ◌∙◌, ap, arith, rules}
 use Rattle.pg_game.specs.Player.{opponent, same_player}
-use Rattle.pg_game.specs.Graph.{IsGame, owner_of}
+use Rattle.pg_game.specs.Graph.{owner_of}
 use Rattle.pg_game.specs.Least.{NoneHas, IsLeast}
-use Rattle.pg_game.specs.VertexSet.{In, members}
+use Rattle.pg_game.specs.VertexSet.{members}
 use Rattle.pg_game.proofs.Masks.{member_below}
 use Rattle.pg_dominion.specs.declared.kept.Kept.{Kept}
-use Rattle.pg_dominion.specs.KeptEdges.{IsKept, IsWorst}
+use Rattle.pg_dominion.specs.KeptEdges.{IsWorst}
 use Rattle.pg_finders.specs.Claims.{own_choices, rows_below}
 use Rattle.pg_finders.specs.Solitaire.{good_for, choices_by}
 use Rattle.pg_finders.proofs.Sets.{both, same_is}
-use Rattle.pg_finders.proofs.Forced.{all_held, worst_leads, worst_inside, worst_parity, lead_held, held_good, ok_good}
+use Rattle.pg_finders.proofs.Forced.{all_held, worst_leads, worst_parity, lead_held, held_good, ok_good}
 use Rattle.pg_finders.proofs.solitaire.solve.Goals as goal
 
 pub first_worst-requires : goal.first_worst-requires

@@ -1,7 +1,6 @@
-use Rattle.std.proofs.Common.{◌≡◌, ◌≢◌, ℕ, ◌<◌, ◌≤◌, true, length, take, sym, ◌∙◌, ap, arith, rules}
+use Rattle.std.proofs.Common.{sym, ◌∙◌, ap, arith}
 use Rattle.std.proofs.lemmas.List.{take_all}
 use Rattle.pg_dominion.specs.Claim.{Rows, named}
-use Rattle.pg_finders.specs.Partial.{vertex_in}
 use Rattle.pg_finders.proofs.Apart.{named_here, unnamed_more}
 use Rattle.pg_finders.proofs.chosen.Chosen.has.Goals as goal
 

@@ -1,5 +1,4 @@
-use Rattle.std.proofs.Common.{arith}
-use Rattle.pg_finders.proofs.Apart.{view_length, view_row}
+use Rattle.pg_finders.proofs.Apart.{view_row}
 use Rattle.pg_finders.proofs.chosen.Chosen.row.Goals as goal
 
 pub returns : goal.returns

@@ -1,19 +1,18 @@
-use Rattle.std.proofs.Common.{◌≡◌, ℕ, ◌+◌, ◌-◌, ◌<◌, ◌≤◌, ◌&&◌, not, All, true, false, List, ◌++◌, ◌∷◌, [], length, vec_len, map, sym, ◌∙◌, ap, subst, arith}
+use Rattle.std.proofs.Common.{◌≡◌, ℕ, ◌≤◌, ◌&&◌, not, All, ◌++◌, ◌∷◌, [], length, vec_len, map, sym, ◌∙◌, ap, subst, arith}
 use Rattle.std.specs.List.Sorted.{IsNonDecreasingBy}
 use Rattle.pg_game.specs.declared.player.Player.{Player}
 use Rattle.pg_game.specs.declared.player.Player.TheVariants.{Even, Odd}
-use Rattle.pg_game.specs.VertexSet.{In, members, without}
+use Rattle.pg_game.specs.VertexSet.{In, members}
 use Rattle.pg_finders.specs.declared.solver.Stop.{Stop}
 use Rattle.pg_finders.specs.declared.order.Ranked.{Ranked}
 use Rattle.pg_finders.specs.Listed.{listed}
 use Rattle.pg_finders.specs.Settled.{settled_by}
 use Rattle.pg_finders.specs.Order.{IsRanked, AllStand}
-use Rattle.pg_finders.specs.Planned.{winners_of, choices_of, size}
+use Rattle.pg_finders.specs.Planned.{winners_of, choices_of}
 use Rattle.pg_finders.specs.Solved.{IsBegun}
 use Rattle.pg_finders.specs.Growing.{active_of}
 use Rattle.pg_finders.specs.UnderWay.{level_at, count_at, IsUnderWay}
-use Rattle.pg_finders.specs.Running.{IsRunning, AllPlaced, work, how_many_gone, steps_left}
-use Rattle.pg_finders.specs.Waiting.{steps}
+use Rattle.pg_finders.specs.Running.{AllPlaced}
 use Rattle.pg_finders.proofs.Sets.{only}
 use Rattle.pg_finders.proofs.Listed.{some_length}
 use Rattle.pg_finders.proofs.Solving.{back_equal, left_subgame}

@@ -1,4 +1,4 @@
-use Rattle.std.proofs.Common.{◌≡◌, ℕ, ◌+◌, ◌-◌, ◌<◌, ◌≤◌, All, List, ◌++◌, ◌∷◌, [], length, vec_len, drop, take, map, refl, sym, ◌∙◌, ap, subst, arith}
+use Rattle.std.proofs.Common.{◌≡◌, ℕ, ◌<◌, ◌≤◌, All, ◌++◌, length, vec_len, drop, sym, ◌∙◌, ap, subst, arith}
 use Rattle.std.specs.List.Sorted.{IsNonDecreasingBy}
 use Rattle.pg_game.specs.declared.player.Player.{Player}
 use Rattle.pg_game.specs.Player.{opponent}
@@ -6,12 +6,11 @@ use Rattle.pg_game.specs.VertexSet.{In, members, union}
 use Rattle.pg_finders.specs.declared.order.Ranked.{Ranked}
 use Rattle.pg_finders.specs.Listed.{listed}
 use Rattle.pg_finders.specs.Settled.{settled_by}
-use Rattle.pg_finders.specs.Order.{IsRanked, AllStand}
-use Rattle.pg_finders.specs.Planned.{winners_of, choices_of, size, HasSize}
+use Rattle.pg_finders.specs.Order.{IsRanked}
+use Rattle.pg_finders.specs.Planned.{winners_of, choices_of, HasSize}
 use Rattle.pg_finders.specs.Growing.{active_of, IsGrown, IsDone}
 use Rattle.pg_finders.specs.UnderWay.{gone, count_at, front, level_at}
-use Rattle.pg_finders.specs.Running.{AllPlaced, how_many_gone, steps_left}
-use Rattle.pg_finders.specs.Waiting.{steps}
+use Rattle.pg_finders.specs.Running.{AllPlaced}
 use Rattle.pg_finders.proofs.Sets.{twice}
 use Rattle.pg_finders.proofs.Masks.{inside_mask}
 use Rattle.pg_finders.proofs.Listed.{all_below}

@@ -1,5 +1,4 @@
-use Rattle.std.proofs.Common.{◌≡◌, ℕ, ◌<◌, ◌+◌, ◌-◌, ◌∷◌, [], ◌++◌, drop, take, length, map, sym, ◌∙◌, ap, subst, arith}
-use Rattle.pg_game.specs.Player.{opponent}
+use Rattle.std.proofs.Common.{◌≡◌, ◌<◌, ◌+◌, ◌-◌, ◌∷◌, [], ◌++◌, drop, map, sym, ◌∙◌, ap, subst}
 use Rattle.pg_game.specs.VertexSet.{members}
 use Rattle.pg_finders.specs.Settled.{settled_by}
 use Rattle.pg_finders.specs.Planned.{winners_of, choices_of, size}

@@ -1,4 +1,4 @@
-use Rattle.std.proofs.Common.{◌≡◌, ℕ, ◌<◌, length, take, sym, subst, arith, rules, ltb-true, refl}
+use Rattle.std.proofs.Common.{length, take, arith, ltb-true, refl}
 use Rattle.pg_game.specs.VertexSet.{In, union}
 use Rattle.pg_finders.specs.Listed.{listed}
 use Rattle.pg_finders.specs.Growing.{active_of}

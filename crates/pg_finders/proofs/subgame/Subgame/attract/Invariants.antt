@@ -1,4 +1,4 @@
-use Rattle.std.proofs.Common.{ℕ, ◌≤◌, length, take}
+use Rattle.std.proofs.Common.{◌≤◌, length, take}
 use Rattle.pg_game.specs.VertexSet.{union}
 use Rattle.pg_finders.specs.Listed.{listed}
 use Rattle.pg_finders.specs.Growing.{active_of, IsReady, IsGrown, IsDone}

@@ -1,5 +1,5 @@
 use Rattle.pg_finders.proofs.subgame.Subgame.give_all.Goals as goal
-use Rattle.std.proofs.Common.{◌≡◌, ◌∙◌, ◌<◌, ℕ, false, ◌⊎◌, inl, inr, sym, subst, arith}
+use Rattle.std.proofs.Common.{◌≡◌, ◌∙◌, ℕ, false, inl, inr, sym, subst, arith}
 use Rattle.pg_game.specs.VertexSet.{In, members}
 use Rattle.pg_game.specs.Subgame.{IsSubgame}
 use Rattle.pg_finders.specs.Growing.{active_of}

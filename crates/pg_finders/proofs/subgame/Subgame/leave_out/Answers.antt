@@ -1,4 +1,4 @@
-use Rattle.std.proofs.Common.{nat_eq, ◌⊎◌, inl, inr, true, ◌≡◌, ℕ, false, length, ◌++◌, ◌∷◌, [], rules, sym, ◌∙◌, ap, subst, length-set}
+use Rattle.std.proofs.Common.{nat_eq, ◌⊎◌, inl, inr, true, ◌≡◌, ℕ, false, length, ◌++◌, ◌∷◌, [], sym, ◌∙◌, ap, subst, length-set}
 use Rattle.pg_game.specs.VertexSet.{In, members, without}
 use Rattle.pg_finders.specs.Listed.{listed, Once}
 use Rattle.pg_finders.specs.Growing.{active_of}

@@ -1,4 +1,4 @@
-use Rattle.std.proofs.Common.{◌≡◌, ◌≢◌, ℕ, ◌<◌}
+use Rattle.std.proofs.Common.{◌≢◌, ℕ, ◌<◌}
 use Rattle.pg_game.specs.Player.{of_parity}
 use Rattle.pg_game.specs.Graph.{priority_of}
 use Rattle.pg_finders.specs.Partial.{vertex_in}

@@ -2,7 +2,7 @@ use Rattle.std.proofs.Common.{◌≡◌, sym, ◌∙◌, rules}
 use Rattle.std.specs.Prelude.{Some, None}
 use Rattle.pg_game.specs.Graph.{owner_of}
 use Rattle.pg_dominion.specs.Claim.{choice_in}
-use Rattle.pg_finders.specs.Partial.{vertex_in, choice_at}
+use Rattle.pg_finders.specs.Partial.{vertex_in}
 use Rattle.pg_finders.proofs.Apart.{choice_of_place}
 use Rattle.pg_finders.proofs.Walked.{leads_some, leads_none}
 use Rattle.pg_finders.proofs.walks.Search.leads.Goals as goal

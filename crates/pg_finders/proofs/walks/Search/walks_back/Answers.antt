@@ -1,7 +1,6 @@
-use Rattle.std.proofs.Common.{◌≡◌, ◌≢◌, ℕ, ◌<◌, List, length, sym, ◌∙◌, subst, arith, length-set, get_or-set_other, rules}
+use Rattle.std.proofs.Common.{sym, ◌∙◌, subst, arith, length-set, get_or-set_other, rules}
 use Rattle.std.specs.Prelude.{IsNone}
 use Rattle.pg_game.specs.Graph.{priority_of}
-use Rattle.pg_game.specs.VertexSet.{In, members}
 use Rattle.pg_game.specs.Walk.{Walk}
 use Rattle.pg_finders.specs.Partial.{vertex_in}
 use Rattle.pg_finders.specs.Walked.{Under}
