@@ -143,12 +143,12 @@ pub fn first_within(alloc: Global, kept: &Kept, patience: u64) -> Result<Option<
 
 /// The least bad vertex that is the greatest on a closed walk through it.
 ///
-/// In most games a search from each bad vertex ends at once. Where 64 edges for each vertex were looked at, a ranking
+/// In most games a search from each bad vertex ends at once. Where 8 edges for each vertex were looked at, a ranking
 /// answers in near-linear time.
 pub fn first_worst(alloc: Global, kept: &Kept) -> Result<Option<u32>, AllocError>
     requires { IsKept kept.now }
     ensures { IfOk result (λ least. MatchOption least (NoneHas (IsWorst kept.now)) (IsLeast (IsWorst kept.now))) }
 {
-    let patience = u64::from(kept.game.len()) * 64;
+    let patience = u64::from(kept.game.len()) * 8;
     first_within(alloc, kept, patience)
 }
