@@ -20,23 +20,10 @@ use Rattle.pg_board.proofs.RestIsGood.{vertices}
 use Rattle.pg_board.proofs.Push.{distinct_rising}
 use Rattle.pg_board.proofs.Places.{row_at, named_at, place_at, fresh_at, rises_or}
 
-pub ends_some : (g : Graph) (p : Player) (r : ℕ × Option ℕ) (w : ℕ) → IsRightRow g p r → r.1 ≡ Some w → ends_of g p r ≡ w ∷ []
-ends_some g p r w right e = elim (own_or_other (owner_of g r.0) p) [
-  | inl o ↦ rw (is_same (owner_of g r.0) p o, e) refl
-  | inr o ↦ absurd (let n = right.other (not_own p (owner_of g r.0) o) in cc (n, e))
-]
-
 pub ends_none : (g : Graph) (p : Player) (r : ℕ × Option ℕ) → IsRightRow g p r → r.1 ≡ None → ends_of g p r ≡ successors_of g r.0
 ends_none g p r right e = elim (own_or_other (owner_of g r.0) p) [
   | inl o ↦ absurd (let c = right.own o in cc (c.1, e))
   | inr o ↦ rw (not_same (owner_of g r.0) p (not_own p (owner_of g r.0) o)) refl
-]
-
--- the choice of a right row is a successor
-pub choice_edge : (g : Graph) (p : Player) (r : ℕ × Option ℕ) (w : ℕ) → IsRightRow g p r → r.1 ≡ Some w → HasEdge g r.0 w
-choice_edge g p r w right e = elim (own_or_other (owner_of g r.0) p) [
-  | inl o ↦ (let c = right.own o in let q : c.0 ≡ w = cc (c.1, e) in subst (HasEdge g r.0) q c.2)
-  | inr o ↦ absurd (let n = right.other (not_own p (owner_of g r.0) o) in cc (n, e))
 ]
 
 pub choice_at : (rows : Rows) (i : ℕ) → IsDistinct nat_eq (vertices rows) → i < length rows → choice_in rows (row_at rows i).0 ≡ (row_at rows i).1

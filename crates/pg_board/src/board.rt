@@ -21,9 +21,9 @@ use crate::regions::Regions;
 use crate::rest::Rest;
 use pg_dominion::{Claim, check_claim};
 use pg_finders::{Copied, Inside};
-use pg_game::{Game, Player, Sequence};
+use pg_game::{Game, Memory, Player, Sequence};
 use pg_text::Solution;
-use std::alloc::{AllocError, Global};
+use std::alloc::Global;
 use std::marker::Model;
 
 /// A game, and the journal of what was settled of it. Nobody's claim is believed.
@@ -48,7 +48,7 @@ impl<'g> Model for Board<'g> {
 
 impl<'g> Board<'g> {
     /// A board on which nothing is settled.
-    pub fn open(alloc: Global, game: &'g Game) -> Result<Board<'g>, AllocError>
+    pub fn open(alloc: Global, game: &'g Game) -> Result<Board<'g>, Memory>
         ensures graph { IfOk result (λ b. b.graph ≡ game.now) }
         ensures journal { IfOk result (λ b. b.journal ≡ []) }
     {
@@ -62,7 +62,7 @@ impl<'g> Board<'g> {
     }
 
     /// What is unsettled, the number of entries and the number settled. Looks at no edge.
-    pub fn copy(&self, alloc: Global) -> Result<Copied<'g>, AllocError>
+    pub fn copy(&self, alloc: Global) -> Result<Copied<'g>, Memory>
         ensures graph { IfOk result (λ c. c.inside.graph ≡ self.now.graph) }
         ensures mask { IfOk result (λ c. (v : ℕ) → members c.inside.mask v ≡ unsettled self.now.graph (state_of self.now.journal) v) }
         ensures at { IfOk result (λ c. c.at ≡ length self.now.journal) }
@@ -128,7 +128,7 @@ impl<'g> Board<'g> {
         worker: u32,
         player: Player,
         rest: Rest,
-    ) -> Result<Posted, AllocError>
+    ) -> Result<Posted, Memory>
         requires good { IsGoodOn self.old.graph (state_of self.old.journal) player rest.rows.items }
         requires unsettled { rest_of (state_of self.old.journal) rest.rows.items ≡ rest.rows.items }
         requires mask { IsRestOf self.old.graph rest }
@@ -223,7 +223,7 @@ impl<'g> Board<'g> {
 
     /// Winners and choices of all vertices, exactly where the board is full; choices stand exactly where the
     /// winner owns the vertex.
-    pub fn solution(&self, alloc: Global) -> Result<Option<Solution>, AllocError>
+    pub fn solution(&self, alloc: Global) -> Result<Option<Solution>, Memory>
         ensures full { IfOk result (λ found. IsSome found ↔ IsFull self.now.graph (state_of self.now.journal)) }
         ensures solution { IfOk result (λ found. IfSome found (λ s. IsExactSolution self.now.graph s.rows)) }
         ensures state { IfOk result (λ found. IfSome found (λ s. AreStateRows self.now.graph (state_of self.now.journal) s.rows)) }

@@ -13,8 +13,8 @@ use crate::board::Board;
 use crate::refusal::Refusal;
 use pg_dominion::Claim;
 use pg_finders::Copied;
-use pg_game::Game;
-use std::alloc::{AllocError, Global};
+use pg_game::{Game, Memory};
+use std::alloc::Global;
 use std::marker::Model;
 use std::sync::ledger::{Blank, Book, Ledger, Share as Token};
 use std::sync::{Mutex, Wait};
@@ -93,7 +93,7 @@ impl<'g, L: Ledger> Office<'g, L> {
         blank: Blank,
         game: &'g Game,
         seats: u32,
-    ) -> Result<(Office<'g, L>, Vec<Share<L>>), AllocError>
+    ) -> Result<(Office<'g, L>, Vec<Share<L>>), Memory>
         requires name { blank.name ≡ L.name }
         requires parts { (blank.parts ≡ L.parts) × (blank.parts ≡ seats) }
         requires seats { (1 ≤ seats) × (seats ≤ 64) }
@@ -161,7 +161,7 @@ impl<'g, L: Ledger> Office<'g, L> {
         rt: &R,
         alloc: Global,
         share: &Share<L>,
-    ) -> Result<Copied<'g>, AllocError>
+    ) -> Result<Copied<'g>, Memory>
         ensures { IfOk result (λ c. IsCopyOfSome c.inside c.at c.settled share.now) }
     {
         for _ in rt.forever() {

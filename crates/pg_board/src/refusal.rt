@@ -1,7 +1,7 @@
 //! Why a board refuses a claim.
 
 use pg_dominion::ClaimFault;
-use std::alloc::AllocError;
+use pg_game::Memory;
 
 /// Why a claim is refused, in the order in which the reasons are looked for.
 #[derive(Clone, Copy, Debug, Drop, PartialEq, Eq)]
@@ -18,13 +18,13 @@ pub enum Refusal {
     Memory,
 }
 
-impl From<AllocError> for Refusal {
+impl From<Memory> for Refusal {
     ghost use Rattle.std.specs.Prelude.{◌≡◌};
     ghost use Rattle.pg_board.specs.declared.refusal.Refusal.{Refusal};
 
     ghost from_gives = { λ _ r. r ≡ Refusal.Memory };
 
-    fn from(_error: AllocError) -> Refusal {
+    fn from(_error: Memory) -> Refusal {
         Refusal::Memory
     }
 }

@@ -8,8 +8,8 @@ ghost use Rattle.pg_dominion.specs.Claim.{named};
 ghost use Rattle.pg_board.specs.State.{settled, is_unsettled, unsettled};
 ghost use Rattle.pg_board.specs.Regions.{told, state_with, AreRegions};
 
-use pg_game::{Game, Mask, Player};
-use std::alloc::{AllocError, Global};
+use pg_game::{Game, Mask, Memory, Player};
+use std::alloc::Global;
 
 /// Both players' regions, and the vertices that are in neither.
 #[derive(Drop)]
@@ -22,7 +22,7 @@ pub struct Regions {
 
 impl Regions {
     /// Nothing is settled.
-    pub fn open(alloc: Global, game: &Game) -> Result<Regions, AllocError>
+    pub fn open(alloc: Global, game: &Game) -> Result<Regions, Memory>
         ensures regions { IfOk result (λ r. AreRegions game.now r) }
         ensures nothing { IfOk result (λ r. (v : ℕ) → told r.table.items v ≡ None) }
     {
@@ -68,7 +68,7 @@ impl Regions {
     }
 
     /// The state of all vertices, one after another.
-    pub fn rows(&self, alloc: Global) -> Result<Vec<(Player, Option<u32>)>, AllocError>
+    pub fn rows(&self, alloc: Global) -> Result<Vec<(Player, Option<u32>)>, Memory>
         requires { (v : ℕ) → v < length self.now.table.items → is_unsettled (told self.now.table.items v) ≡ false }
         ensures size { IfOk result (λ rows. length rows.items ≡ length self.now.table.items) }
         ensures each { IfOk result (λ rows. (v : ℕ) → v < length self.now.table.items → slice_get rows.items v ≡ told self.now.table.items v) }

@@ -12,8 +12,8 @@ ghost use Rattle.pg_board.specs.OpenEdges.{IsRestOf};
 
 use crate::regions::Regions;
 use pg_dominion::Claim;
-use pg_game::{Game, Mask};
-use std::alloc::{AllocError, Global};
+use pg_game::{Game, Mask, Memory};
+use std::alloc::Global;
 
 /// The rows of a claim whose vertices are unsettled, and the set of these vertices.
 #[derive(Drop)]
@@ -47,7 +47,7 @@ impl Regions {
     }
 
     /// What of the claim is unsettled.
-    pub fn rest_of(&self, alloc: Global, game: &Game, claim: &Claim) -> Result<Rest, AllocError>
+    pub fn rest_of(&self, alloc: Global, game: &Game, claim: &Claim) -> Result<Rest, Memory>
         requires { All (λ r. r.0 < length game.now) claim.now.rows }
         ensures rows { IfOk result (λ rest. rest.rows.items ≡ rest_of (told self.now.table.items) claim.now.rows) }
         ensures mask { IfOk result (λ rest. IsRestOf game.now rest) }

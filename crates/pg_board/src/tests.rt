@@ -1,7 +1,7 @@
-//! Tests of what no clause says: worked posts, and that the contracts mean what the definitions say, by a plain
-//! reference over all smallest games and over random ones.
+//! Tests of what no clause says: that calls succeed where memory is ample, with worked answers; claims of the finders on
+//! a board; and posts through the shares of an office.
 
+mod boards;
+mod copies;
 mod games;
-mod reference;
-mod sequences;
-mod worked;
+mod offices;
