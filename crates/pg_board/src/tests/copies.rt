@@ -11,23 +11,21 @@ use std::alloc::Global;
 use std::process::Abort;
 use std::test::Fail;
 
-/// Posts claims of dominions, of which each settles something or is stale.
-fn post_dominions(
-    rt: &impl Abort,
-    alloc: Global,
-    board: &mut Board,
-    claims: &[Claim],
-) -> Result<(), Fail> {
+/// Posts a claim of a dominion, which settles something or is stale.
+fn post_dominion(rt: &impl Abort, alloc: Global, board: &mut Board, claim: &Claim) {
+    match board.post(alloc, 1, claim) {
+        Ok(_) => {}
+        Err(refusal) => assert_eq!(rt; refusal, Refusal::Stale),
+    }
+}
+
+/// Posts claims of dominions, those that have rows.
+fn post_dominions(rt: &impl Abort, alloc: Global, board: &mut Board, claims: &[Claim]) {
     for claim in claims {
-        if claim.rows.as_slice().is_empty() {
-            continue;
-        }
-        match board.post(alloc, 1, claim) {
-            Ok(_) => {}
-            Err(refusal) => assert_eq!(rt; refusal, Refusal::Stale),
+        if !claim.rows.as_slice().is_empty() {
+            post_dominion(rt, alloc, board, claim);
         }
     }
-    Ok(())
 }
 
 /// Posts what `Standard` finds for each job, each on a new copy.
@@ -42,7 +40,7 @@ fn post_found(rt: &impl Abort, alloc: Global, game: &Game) -> Result<(), Fail> {
     ] {
         let copied = board.copy(alloc)?;
         let found = Standard.find(alloc, &copied, &job)?;
-        post_dominions(rt, alloc, &mut board, found.claims.as_slice())?;
+        post_dominions(rt, alloc, &mut board, found.claims.as_slice());
     }
     assert!(rt; board.is_full());
     Ok(())
@@ -82,7 +80,7 @@ fn post_late(
         assert!(rt; board.post(alloc, 1, &claim).is_ok());
         find_all(alloc, &board, &mut late)?;
     }
-    post_dominions(rt, alloc, &mut board, late.as_slice())?;
+    post_dominions(rt, alloc, &mut board, late.as_slice());
     assert!(rt; board.is_full());
     Ok(())
 }
@@ -111,28 +109,35 @@ fn what_is_found_in_an_old_copy_is_posted_or_stale(rt: HostRuntime) -> Result<()
     post_late(&rt, alloc, &game, &[(EVEN, &all)])
 }
 
+/// Posts the claims in their order on a new board, of which Even then has every vertex.
+fn post_in_order(
+    rt: &impl Abort,
+    alloc: Global,
+    game: &Game,
+    claims: [&[Row]; 3],
+) -> Result<(), Fail> {
+    let mut board = Board::open(alloc, game)?;
+    for rows in claims {
+        let claim = claim_of(alloc, EVEN, rows)?;
+        post_dominion(rt, alloc, &mut board, &claim);
+    }
+    for v in 0..3 {
+        assert_eq!(rt; board.winner(v), Some(EVEN), "{claims:?}");
+    }
+    Ok(())
+}
+
 #[test]
 fn dominions_in_any_order_settle_the_same(rt: HostRuntime) -> Result<(), Fail> {
     let alloc = rt.alloc();
     let game = bridge_game(alloc)?;
     let all: [Row; 3] = [(0, Some(0)), (1, None), (2, Some(2))];
-    let claims: [&[Row]; 3] = [&all[..1], &all[2..], &all];
-    for order in [
-        [0, 1, 2],
-        [0, 2, 1],
-        [1, 0, 2],
-        [1, 2, 0],
-        [2, 0, 1],
-        [2, 1, 0],
-    ] {
-        let mut board = Board::open(alloc, &game)?;
-        for place in order {
-            let claim = claim_of(alloc, EVEN, claims[place])?;
-            post_dominions(&rt, alloc, &mut board, std::slice::from_ref(&claim))?;
-        }
-        for v in 0..3 {
-            assert_eq!(rt; board.winner(v), Some(EVEN), "{order:?}");
-        }
-    }
-    Ok(())
+    let first = &all[..1];
+    let last = &all[2..];
+    post_in_order(&rt, alloc, &game, [first, last, &all])?;
+    post_in_order(&rt, alloc, &game, [first, &all, last])?;
+    post_in_order(&rt, alloc, &game, [last, first, &all])?;
+    post_in_order(&rt, alloc, &game, [last, &all, first])?;
+    post_in_order(&rt, alloc, &game, [&all, first, last])?;
+    post_in_order(&rt, alloc, &game, [&all, last, first])
 }
