@@ -1,19 +1,19 @@
 -- A claim that is good in what a journal leaves unsettled is a dominion after it.
-use Rattle.std.proofs.Common.{◌≡◌, ℕ, ◌<◌, ◌≤◌, Bool, true, false, ◌||◌, ◌⊎◌, inl, inr, length, take, refl, sym, subst, arith, ltb-true}
+use Rattle.std.proofs.Common.{◌≡◌, ℕ, ◌<◌, true, false, inl, inr, length, sym, subst, arith, ltb-true}
 use Rattle.std.proofs.Common.{[], ◌∷◌, ◌∙◌, ap}
 use Rattle.std.specs.Prelude.{Some, Contains}
 use Rattle.std.proofs.Math.Seq.{take-length}
 use Rattle.pg_game.specs.declared.player.Player.{Player}
-use Rattle.pg_game.specs.Player.{opponent, same_player}
-use Rattle.pg_game.specs.Graph.{Graph, HasEdge, owner_of, successors_of}
-use Rattle.pg_game.specs.VertexSet.{VertexSet, In, all_vertices, union}
+use Rattle.pg_game.specs.Player.{same_player}
+use Rattle.pg_game.specs.Graph.{Graph, HasEdge, owner_of}
+use Rattle.pg_game.specs.VertexSet.{In, all_vertices, union}
 use Rattle.pg_game.specs.Kept.{listed, KeptEdge}
 use Rattle.pg_game.proofs.Players.{own_or_other, not_own, is_same, not_same}
 use Rattle.pg_game.proofs.Members.{Contains-one}
 use Rattle.pg_game.proofs.Grown.{in_first, in_second}
 use Rattle.pg_dominion.proofs.Rows.{named_right}
 use Rattle.pg_dominion.specs.Claim.{Rows, named, choice_in, IsGoodIn}
-use Rattle.pg_board.specs.State.{State, settled, is_unsettled, unsettled, IsLawfulState, IsDominion}
+use Rattle.pg_board.specs.State.{State, settled, unsettled, IsLawfulState, IsDominion}
 use Rattle.pg_board.specs.Journal.{Journal, state_of, IsLawful, IsDominionAfter}
 use Rattle.pg_board.proofs.Numbers.{lawful_now}
 use Rattle.pg_board.proofs.Whole.{part_of, not_to_other, all_of}

@@ -1,6 +1,6 @@
 -- Kept edges of rows, row by row.
-use Rattle.std.proofs.Common.{◌≡◌, ◌≢◌, ℕ, suc, ◌<◌, ◌≤◌, Bool, true, false, ◌⊎◌, inl, inr, List, [], ◌∷◌, ◌++◌, length, get_or, take, drop, refl, sym, ◌∙◌, ap, subst, arith, drop-cons}
-use Rattle.std.specs.Prelude.{Option, Some, None, ◌==◌, nat_eq, if◌then◌else◌}
+use Rattle.std.proofs.Common.{◌≡◌, ℕ, suc, ◌<◌, ◌≤◌, true, false, ◌⊎◌, inl, inr, List, ◌∷◌, length, get_or, take, drop, refl, sym, ◌∙◌, ap, subst, arith, drop-cons}
+use Rattle.std.specs.Prelude.{Option, None, nat_eq, if◌then◌else◌}
 use Rattle.std.specs.List.{Contains, IsDistinct}
 use Rattle.std.proofs.lemmas.Bool.{eq-eqb}
 use Rattle.std.proofs.lemmas.List.{take-append-drop, get_or_default}
@@ -9,11 +9,11 @@ use Rattle.std.proofs.lemmas.Map.Keys.{sorted_from_strictly_increasing, below_fr
 use Rattle.std.specs.List.Sorted.{IsStrictlyIncreasing}
 use Rattle.pg_game.specs.declared.player.Player.{Player}
 use Rattle.pg_game.specs.Player.{same_player}
-use Rattle.pg_game.specs.Graph.{Graph, HasEdge, IsGame, owner_of, successors_of}
+use Rattle.pg_game.specs.Graph.{Graph, IsGame, owner_of, successors_of}
 use Rattle.pg_game.specs.VertexSet.{VertexSet}
 use Rattle.pg_game.specs.Kept.{kept, listed}
-use Rattle.pg_game.proofs.Players.{own_or_other, not_own, is_same, not_same}
-use Rattle.pg_dominion.specs.Claim.{Rows, named, choice_in, IsRightRow, AreRight}
+use Rattle.pg_game.proofs.Players.{own_or_other, not_own, not_same}
+use Rattle.pg_dominion.specs.Claim.{Rows, choice_in, IsRightRow, AreRight}
 use Rattle.pg_board.specs.OpenEdges.{ends_of, EndsOutside, IsFirstEnd, LeadsOutside, IsFirstOutside}
 use Rattle.pg_board.proofs.Named.{choice-back}
 use Rattle.pg_board.proofs.RestIsGood.{vertices}

@@ -1,27 +1,25 @@
 -- The steps of a region that grows in place, and what it is when nothing is left to do.
 use mathlib.Core.Path.{fun_ext}
-use Rattle.std.proofs.Common.{◌≡◌, ◌≢◌, ℕ, ◌+◌, ◌<◌, ◌≤◌, Bool, true, false, ◌||◌, ◌&&◌, ◌⊎◌, inl, inr, List, [], ◌∷◌, ◌++◌, length, take, drop, get_or, set, refl, sym, ◌∙◌, ap, subst, arith, append_assoc, length-append}
-use Rattle.std.specs.Prelude.{Option, Some, None, ◌==◌, nat_lt, sum_by, if◌then◌else◌}
+use Rattle.std.proofs.Common.{◌≡◌, ◌≢◌, ℕ, ◌+◌, ◌<◌, ◌≤◌, Bool, true, false, ◌||◌, ◌⊎◌, inl, inr, List, [], ◌∷◌, ◌++◌, length, take, drop, get_or, set, refl, sym, ◌∙◌, ap, subst, arith, append_assoc, length-append}
+use Rattle.std.specs.Prelude.{Option, Some, None, ◌==◌, nat_lt, if◌then◌else◌}
 use Rattle.std.proofs.lemmas.Bool.{eqb-true, eq-eqb, false_from_ne_true}
 use Rattle.std.proofs.lemmas.List.{take_more, take_all, append-nil, take-append-drop}
 use Rattle.std.proofs.lemmas.List.Sums.{sum_by-set}
-use Rattle.std.proofs.Math.Seq.{take-length}
 use Rattle.pg_game.specs.declared.player.Player.{Player}
-use Rattle.pg_game.specs.Player.{opponent}
 use Rattle.pg_game.specs.Graph.{Graph, HasEdge, owner_of}
 use Rattle.pg_game.specs.VertexSet.{VertexSet, In, Within, members, union, no_vertices}
 use Rattle.pg_game.specs.Subgame.{IsSubgame}
-use Rattle.pg_game.specs.Attractor.{Attracts, Attractor}
+use Rattle.pg_game.specs.Attractor.{Attracts}
 use Rattle.pg_game.proofs.Players.{own_or_other, not_own}
 use Rattle.pg_game.proofs.Masks.{member_below}
 use Rattle.pg_dominion.specs.Claim.{Rows, named, choice_in}
 use Rattle.pg_dominion.specs.Attraction.{LeadsTo, AttractInTurn, IsAttraction}
-use Rattle.pg_dominion.specs.Attracting.{Continues, IsDone, IsSettled, HasOpen}
+use Rattle.pg_dominion.specs.Attracting.{Continues, IsDone, IsSettled}
 use Rattle.pg_dominion.proofs.Rows.{named-push, no_push, LeadsTo-same}
 use Rattle.pg_dominion.proofs.Named.{named-append}
 use Rattle.pg_dominion.proofs.Attracting.{IsDone-more, IsDone-none, named-take, Continues-same, Continues-push, Continues-then}
 use Rattle.pg_board.specs.declared.regions.Regions.{Regions}
-use Rattle.pg_board.specs.State.{State, is_unsettled, unsettled}
+use Rattle.pg_board.specs.State.{State, is_unsettled}
 use Rattle.pg_board.specs.Regions.{told, state_with, AreRegions}
 use Rattle.pg_board.specs.Growth.{open_before, members_left, IsGrowing, LeadFrom, Grows}
 use Rattle.pg_board.proofs.RestIsGood.{both_true}

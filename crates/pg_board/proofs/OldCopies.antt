@@ -1,14 +1,14 @@
 -- A claim that was a dominion after some entries is posted, or it is stale: it is refused for no other reason.
 use mathlib.Core.Path.{fun_ext}
-use Rattle.std.proofs.Common.{◌≡◌, ℕ, zero, suc, ◌+◌, ◌<◌, ◌≤◌, Bool, true, false, ◌||◌, ◌⊎◌, ◌↔◌, inl, inr, List, [], ◌∷◌, ◌++◌, length, take, map, get_or, refl, sym, ◌∙◌, ap, subst, arith, Ok, Err, Result, length-take}
-use Rattle.std.specs.Prelude.{Option, IfOk, IfErr, OnErr, min}
+use Rattle.std.proofs.Common.{◌≡◌, ℕ, zero, suc, ◌+◌, Bool, true, false, ◌||◌, ◌↔◌, inl, inr, List, [], ◌∷◌, length, take, refl, sym, ◌∙◌, ap, subst, arith, Ok, Err, Result, length-take}
+use Rattle.std.specs.Prelude.{Option, IfOk, IfErr, OnErr}
 use Rattle.std.specs.List.{AllByRecursion}
 use Rattle.std.specs.List.Sorted.{IsStrictlyIncreasing}
 use Rattle.std.proofs.lemmas.List.{get_or-take}
 use Rattle.pg_game.specs.declared.player.Player.{Player}
 use Rattle.pg_game.specs.Player.{opponent}
 use Rattle.pg_game.specs.Graph.{Graph, IsGame}
-use Rattle.pg_game.specs.VertexSet.{VertexSet, In, all_vertices, no_vertices, union}
+use Rattle.pg_game.specs.VertexSet.{VertexSet, In, all_vertices, union}
 use Rattle.pg_game.specs.Attractor.{Attractor}
 use Rattle.pg_game.proofs.Edges.{edge_inside, some_edge}
 use Rattle.pg_game.proofs.Rotate.{none_from_good}
@@ -17,12 +17,11 @@ use Rattle.pg_dominion.specs.declared.claim.ClaimFault.{ClaimFault}
 use Rattle.pg_dominion.specs.declared.claim.ClaimFault.TheVariants as claim_fault
 use Rattle.pg_dominion.specs.Claim.{Rows, named, choice_in, IsRightRow, AreRight, HasShape, IsFirstWrongRow}
 use Rattle.pg_dominion.specs.Fault.{IsClaimFault}
-use Rattle.pg_board.specs.declared.entry.Entry.{Entry}
 use Rattle.pg_board.specs.declared.entry.Posted.{Posted}
 use Rattle.pg_board.specs.declared.refusal.Refusal.{Refusal}
 use Rattle.pg_board.specs.declared.refusal.Refusal.TheVariants as refusal
-use Rattle.pg_board.specs.State.{State, settled, rest_of, IsGoodOn, IsDominion}
-use Rattle.pg_board.specs.Journal.{Journal, state_of, claimed_rows, IsLawful, IsDominionAfter}
+use Rattle.pg_board.specs.State.{State, settled, rest_of, IsGoodOn}
+use Rattle.pg_board.specs.Journal.{Journal, state_of, IsLawful, IsDominionAfter}
 use Rattle.pg_board.specs.Order.{Posts}
 use Rattle.pg_board.specs.Play.{Play}
 use Rattle.pg_board.specs.Post.{Adds, AnswersDominion, SettlesDominion, SettlesUnlessMemory}

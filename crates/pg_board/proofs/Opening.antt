@@ -1,21 +1,20 @@
 -- The state in which nothing is settled.
-use Rattle.std.proofs.Common.{◌≡◌, ℕ, ◌<◌, ◌≤◌, Bool, true, false, ◌&&◌, List, [], ◌∷◌, length, take, refl, sym, ap, subst, arith, lt-ltb, ltb-true}
+use Rattle.std.proofs.Common.{◌≡◌, ℕ, Bool, true, false, ◌&&◌, List, [], ◌∷◌, length, take, refl, sym, subst, arith, ltb-true}
 use Rattle.std.specs.Prelude.{nat_eq, nat_lt, slice_get}
 use Rattle.std.specs.List.{IsDistinct}
 use Rattle.pg_game.specs.declared.player.Player.{Player}
-use Rattle.pg_game.specs.Graph.{Graph, HasEdge, IsGame}
-use Rattle.pg_game.specs.VertexSet.{VertexSet, In, all_vertices, no_vertices}
+use Rattle.pg_game.specs.Graph.{Graph, IsGame}
+use Rattle.pg_game.specs.VertexSet.{In, all_vertices, no_vertices}
 use Rattle.pg_game.specs.Kept.{Choices, KeptEdge}
 use Rattle.pg_game.specs.Walk.{ClosedWalk}
 use Rattle.pg_game.specs.Attractor.{Attractor}
 use Rattle.pg_game.specs.Region.{IsRegion}
-use Rattle.pg_game.specs.Subgame.{IsSubgame}
 use Rattle.pg_game.proofs.Edges.{edge_inside, some_edge}
 use Rattle.std.specs.Prelude.{Some}
 use Rattle.std.proofs.lemmas.Option.{slice_get_within}
 use Rattle.pg_board.specs.declared.entry.Entry.{Entry}
-use Rattle.pg_board.specs.State.{unsettled, choices, settled, IsLawfulState}
-use Rattle.pg_board.specs.Journal.{Journal, state_of, IsLawful}
+use Rattle.pg_board.specs.State.{choices, IsLawfulState}
+use Rattle.pg_board.specs.Journal.{state_of, IsLawful}
 
 none_distinct : IsDistinct nat_eq []
 unfolding IsDistinct

@@ -1,12 +1,12 @@
 -- The mask of a rest in the making.
-use Rattle.std.proofs.Common.{◌≡◌, ℕ, ◌+◌, ◌<◌, ◌≤◌, Bool, true, false, cond, ◌||◌, ◌⊎◌, inl, inr, [], ◌∷◌, ◌++◌, length, take, set, replicate, refl, sym, ◌∙◌, ap, arith, length-set}
+use Rattle.std.proofs.Common.{◌≡◌, ℕ, ◌+◌, ◌<◌, ◌≤◌, true, false, ◌||◌, ◌⊎◌, inl, inr, [], ◌∷◌, ◌++◌, length, take, set, replicate, refl, sym, ◌∙◌, ap, arith, length-set}
 use Rattle.std.specs.Prelude.{Option, None, ◌==◌}
 use Rattle.std.proofs.lemmas.List.{append-nil, length-replicate, get_or-replicate, get_or_past}
 use Rattle.std.proofs.lemmas.List.Elements.{filter_more}
 use Rattle.pg_game.specs.Graph.{Graph}
 use Rattle.pg_game.specs.VertexSet.{members}
 use Rattle.pg_game.proofs.Masks.{members-set}
-use Rattle.pg_dominion.specs.Claim.{Rows, named}
+use Rattle.pg_dominion.specs.Claim.{Rows}
 use Rattle.pg_dominion.proofs.Rows.{named-push}
 use Rattle.pg_board.specs.declared.rest.Rest.{Rest}
 use Rattle.pg_board.specs.State.{State, is_unsettled, rest_of}

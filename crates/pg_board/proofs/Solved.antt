@@ -1,7 +1,7 @@
 -- The state of a full journal is a solution.
 use mathlib.Core.Path.{fun_ext}
-use Rattle.std.proofs.Common.{◌≡◌, ◌≢◌, ℕ, zero, suc, ◌<◌, ◌≤◌, Bool, true, false, ◌&&◌, ◌||◌, ◌⊎◌, inl, inr, [], ◌∷◌, ◌++◌, length, take, drop, get_or, refl, sym, ◌∙◌, ap, subst, arith, lt-ltb, ltb-true}
-use Rattle.std.specs.Prelude.{Option, Some, None, nat_lt, slice_get, if◌then◌else◌, ◌↔◌}
+use Rattle.std.proofs.Common.{◌≡◌, ◌≢◌, ℕ, zero, suc, ◌<◌, Bool, true, false, ◌&&◌, ◌||◌, inl, inr, [], ◌∷◌, ◌++◌, length, refl, sym, ◌∙◌, ap, subst, arith, lt-ltb, ltb-true}
+use Rattle.std.specs.Prelude.{Option, Some, None, nat_lt, slice_get, if◌then◌else◌}
 use Rattle.std.proofs.lemmas.Bool.{false_from_ne_true}
 use Rattle.std.proofs.lemmas.List.{take-append-drop}
 use Rattle.std.proofs.lemmas.Option.{slice_get-get_or}
@@ -10,16 +10,15 @@ use Rattle.pg_game.specs.declared.player.Player.TheVariants.{Even}
 use Rattle.pg_game.specs.Player.{opponent, same_player}
 use Rattle.pg_game.specs.Graph.{Graph, owner_of}
 use Rattle.pg_game.specs.VertexSet.{VertexSet, In}
-use Rattle.pg_game.specs.Kept.{Choices}
 use Rattle.pg_game.specs.Region.{IsRegion, Wins}
-use Rattle.pg_game.proofs.Players.{own_or_other, not_own, other_from_not}
-use Rattle.pg_text.specs.Solution.{winner_of, choice_of, won_by, IsSolution, IsExactSolution, Rows as Solved}
+use Rattle.pg_game.proofs.Players.{own_or_other}
+use Rattle.pg_text.specs.Solution.{winner_of, choice_of, won_by, IsExactSolution, Rows as Solved}
 use Rattle.pg_dominion.specs.Claim.{named, choice_in}
 use Rattle.pg_dominion.proofs.Rows.{named_right}
 use Rattle.pg_board.specs.declared.entry.Entry.{Entry}
-use Rattle.pg_board.specs.State.{State, settled, settled_for, chosen, choices, is_unsettled}
+use Rattle.pg_board.specs.State.{State, settled, settled_for, chosen, choices}
 use Rattle.pg_board.specs.Journal.{Journal, state_of, claimed_rows, attracted_rows, IsLawful}
-use Rattle.pg_board.specs.Full.{IsFull, AreStateRows}
+use Rattle.pg_board.specs.Full.{AreStateRows}
 use Rattle.pg_board.proofs.Named.{named-append, choice-front, choice-back, place_of}
 use Rattle.pg_board.proofs.Push.{region_same, same_self}
 use Rattle.pg_board.proofs.Numbers.{lawful_now}

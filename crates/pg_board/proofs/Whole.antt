@@ -1,21 +1,20 @@
 -- What a player attracts to some unsettled vertices in the unsettled part is, beside his region, all that his
 -- region and these vertices attract in the whole game.
-use Rattle.std.proofs.Common.{◌≡◌, ◌≢◌, ℕ, ◌<◌, Bool, true, false, ◌&&◌, ◌||◌, ◌⊎◌, inl, inr, [], ◌∷◌, ◌++◌, length, refl, sym, ◌∙◌, ap, subst, arith, lt-ltb, ltb-true}
-use Rattle.std.specs.Prelude.{Option, Some, None, nat_lt}
-use Rattle.std.proofs.lemmas.Bool.{false_from_ne_true}
+use Rattle.std.proofs.Common.{◌≡◌, ℕ, ◌<◌, Bool, true, false, ◌||◌, ◌⊎◌, inl, inr, length, refl, sym, ◌∙◌, ltb-true}
+use Rattle.std.specs.Prelude.{Option, nat_lt}
 use Rattle.pg_game.specs.declared.player.Player.{Player}
 use Rattle.pg_game.specs.Player.{opponent}
 use Rattle.pg_game.specs.Graph.{Graph, HasEdge, owner_of}
 use Rattle.pg_game.specs.VertexSet.{VertexSet, In, Within, all_vertices, union}
 use Rattle.pg_game.specs.Attractor.{Attracts, Attractor}
 use Rattle.pg_game.specs.Region.{IsRegion}
-use Rattle.pg_game.proofs.Players.{own_or_other, not_own, other_from_not}
+use Rattle.pg_game.proofs.Players.{other_from_not}
 use Rattle.pg_game.proofs.Attract.{target_attracted, own_attracted, forced_attracted}
 use Rattle.pg_game.proofs.Disjoint.{kept_own, kept_other}
 use Rattle.pg_dominion.specs.Claim.{Rows, named}
-use Rattle.pg_dominion.specs.Attraction.{LeadsTo, AttractInTurn, IsAttraction}
+use Rattle.pg_dominion.specs.Attraction.{LeadsTo, IsAttraction}
 use Rattle.pg_dominion.proofs.Rows.{LeadsTo-same}
-use Rattle.pg_board.specs.State.{State, settled, settled_for, choices, is_unsettled, unsettled, IsLawfulState}
+use Rattle.pg_board.specs.State.{State, settled, choices, is_unsettled, unsettled, IsLawfulState}
 use Rattle.pg_board.proofs.RestIsGood.{both_true}
 use Rattle.pg_board.proofs.Push.{open_unsettled, neither_open, not_both}
 use Rattle.pg_board.proofs.Turns.{differs, agrees}

@@ -5,7 +5,6 @@ use Rattle.pg_game.specs.Graph.{Graph, successors_of}
 use Rattle.pg_game.specs.VertexSet.{members}
 use Rattle.pg_dominion.specs.Claim.{Rows, named, choice_in}
 use Rattle.pg_board.specs.declared.regions.Regions.{Regions}
-use Rattle.pg_board.specs.declared.entry.Entry.{Entry}
 use Rattle.pg_board.specs.State.{State, is_unsettled, unsettled}
 use Rattle.pg_board.specs.Journal.{Journal, state_of, IsLawful, number_settled}
 

@@ -1,9 +1,9 @@
 use mathlib.Core.Path.{fun_ext}
-use Rattle.std.proofs.Common.{◌≡◌, ℕ, ◌+◌, ◌≤◌, [], ◌∷◌, ◌++◌, List, length, refl, sym, ◌∙◌, ap, subst, arith, rules, length-append}
+use Rattle.std.proofs.Common.{◌≡◌, ℕ, ◌+◌, [], ◌∷◌, ◌++◌, length, refl, sym, ◌∙◌, ap, subst, arith, rules, length-append}
 use Rattle.std.specs.Prelude.{nat_eq}
 use Rattle.std.specs.List.{IsDistinct}
 use Rattle.pg_game.specs.declared.player.Player.{Player}
-use Rattle.pg_game.specs.Graph.{Graph, IsGame}
+use Rattle.pg_game.specs.Graph.{Graph}
 use Rattle.pg_game.specs.VertexSet.{VertexSet, Within, members}
 use Rattle.pg_dominion.specs.Claim.{Rows, named}
 use Rattle.pg_dominion.specs.Attraction.{IsAttraction}
@@ -11,7 +11,7 @@ use Rattle.pg_board.specs.declared.entry.Entry.{Entry}
 use Rattle.pg_board.specs.declared.regions.Regions.{Regions}
 use Rattle.pg_board.specs.declared.rest.Rest.{Rest}
 use Rattle.pg_board.specs.Play.{Play}
-use Rattle.pg_board.specs.State.{State, unsettled, IsGoodOn, rest_of}
+use Rattle.pg_board.specs.State.{IsGoodOn, rest_of}
 use Rattle.pg_board.specs.Journal.{Journal, state_of}
 use Rattle.std.proofs.Common.{drop}
 use Rattle.std.specs.Prelude.{vec_capacity}
@@ -23,7 +23,7 @@ use Rattle.pg_board.proofs.Push.{distinct_rising}
 use Rattle.pg_board.specs.Post.{Adds}
 use Rattle.pg_board.specs.OpenEdges.{IsRestOf}
 use Rattle.pg_board.proofs.RestIsGood.{vertices}
-use Rattle.pg_board.proofs.Entering.{rest_set, AreEntered, board_subgame, rest_within, are_entered, entry_answers, board_entered, IsGrowing-start, attracted_rest, rest_and_attracted, told_grown}
+use Rattle.pg_board.proofs.Entering.{rest_set, board_subgame, rest_within, are_entered, entry_answers, board_entered, IsGrowing-start, attracted_rest, rest_and_attracted, told_grown}
 use Rattle.pg_board.proofs.board.Board.enter.Goals as goal
 
 -- what is required, said of the fields

@@ -1,4 +1,4 @@
-use Rattle.std.proofs.Common.{◌≡◌, ◌∙◌, sym, subst, IsTrue, ◌↔◌, nat_eq}
+use Rattle.std.proofs.Common.{◌∙◌, sym, subst, IsTrue, ◌↔◌, nat_eq}
 use Rattle.std.proofs.lemmas.Bool.{eqb-true, eq-eqb}
 use Rattle.pg_board.specs.Play.{Play}
 use Rattle.pg_board.specs.Journal.{state_of}

@@ -1,4 +1,4 @@
-use Rattle.std.proofs.Common.{◌≡◌, [], sym, ◌∙◌, subst, refl}
+use Rattle.std.proofs.Common.{sym, subst, refl}
 use Rattle.std.specs.Prelude.{List}
 use Rattle.pg_board.specs.declared.entry.Entry.{Entry}
 use Rattle.pg_board.specs.Regions.{IsBoard}

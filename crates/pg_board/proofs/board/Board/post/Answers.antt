@@ -1,10 +1,10 @@
-use Rattle.std.proofs.Common.{◌≡◌, ℕ, Ok, Err, Result, refl, sym, subst, rules}
+use Rattle.std.proofs.Common.{◌≡◌, Err, Result, refl, sym, subst, rules}
 use Rattle.pg_game.specs.Graph.{IsGame}
 use Rattle.pg_dominion.specs.Fault.{IsClaimFault}
 use Rattle.pg_board.specs.declared.entry.Posted.{Posted}
 use Rattle.pg_board.specs.declared.refusal.Refusal.{Refusal}
 use Rattle.pg_board.specs.Play.{Play}
-use Rattle.pg_board.specs.Journal.{state_of, IsLawful, IsDominionAfter}
+use Rattle.pg_board.specs.Journal.{state_of, IsLawful}
 use Rattle.pg_board.specs.Refusal.{refusal_of}
 use Rattle.pg_board.specs.Post.{AnswersDominion, SettlesUnlessMemory}
 use Rattle.pg_board.proofs.OldCopies.{old_copy, refused_check, lawful_after}

@@ -1,4 +1,4 @@
-use Rattle.std.proofs.Common.{◌≡◌, ◌≤◌, ◌+◌, ◌<◌, ℕ, ◌⊎◌, inl, inr, sym, subst, arith, rules}
+use Rattle.std.proofs.Common.{◌≡◌, ◌+◌, ◌<◌, ℕ, ◌⊎◌, inl, inr, sym, subst, arith}
 use Rattle.pg_game.specs.VertexSet.{members, union}
 use Rattle.pg_board.specs.State.{settled}
 use Rattle.pg_board.specs.Regions.{told}

@@ -1,11 +1,11 @@
 use mathlib.Core.Path.{fun_ext}
-use Rattle.std.proofs.Common.{◌≡◌, ℕ, ◌<◌, true, length, refl, sym, ◌∙◌, subst, arith, rules, ltb-true}
-use Rattle.pg_game.specs.VertexSet.{VertexSet, In, members}
+use Rattle.std.proofs.Common.{ℕ, length, refl, sym, ◌∙◌, subst, arith, ltb-true}
+use Rattle.pg_game.specs.VertexSet.{VertexSet, In}
 use Rattle.pg_game.specs.Graph.{HasEdge}
 use Rattle.pg_dominion.specs.Claim.{named}
 use Rattle.pg_dominion.specs.Attracting.{IsSettled}
 use Rattle.pg_board.specs.Growth.{open_before}
-use Rattle.pg_board.proofs.Growing.{Grows-same, Grows-then, next_reached, next_named, nothing_done, all_done, in_before}
+use Rattle.pg_board.proofs.Growing.{Grows-same, Grows-then, next_reached, next_named, nothing_done, in_before}
 use Rattle.pg_board.proofs.regions.Regions.attract.Goals as goal
 
 pub rows-init : goal.rows-init

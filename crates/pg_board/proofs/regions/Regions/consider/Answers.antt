@@ -1,6 +1,6 @@
-use Rattle.std.proofs.Common.{◌≡◌, ◌≢◌, ℕ, true, false, Some, None, sym, ◌∙◌, ap, rules}
+use Rattle.std.proofs.Common.{◌≡◌, ◌≢◌, Some, None, sym, ◌∙◌, ap, rules}
 use Rattle.std.specs.Prelude.{vec_capacity}
-use Rattle.pg_game.specs.Graph.{HasEdge, owner_of}
+use Rattle.pg_game.specs.Graph.{owner_of}
 use Rattle.pg_game.specs.VertexSet.{In, members}
 use Rattle.pg_board.proofs.Growing.{IsGrowing-same, Grows-same, Grows-take, Grows-then, leads_own, leads_forced}
 use Rattle.pg_board.proofs.regions.Regions.consider.Goals as goal

@@ -1,12 +1,8 @@
-use Rattle.std.proofs.Common.{◌≡◌, true, sym, ◌∙◌, subst}
-use Rattle.pg_game.specs.declared.player.Player.{Player}
-use Rattle.pg_game.specs.Least.{NoneHas, IsLeast}
-use Rattle.pg_dominion.specs.Claim.{Rows}
+use Rattle.std.proofs.Common.{◌≡◌, true, sym, ◌∙◌}
 use Rattle.pg_board.specs.State.{settled}
-use Rattle.pg_board.specs.Refusal.{IsLost}
 use Rattle.pg_board.specs.Regions.{told}
 use Rattle.pg_board.proofs.Places.{row_at}
-use Rattle.pg_board.proofs.Lost.{NoneBefore, none_lost, least_lost}
+use Rattle.pg_board.proofs.Lost.{none_lost, least_lost}
 use Rattle.pg_board.proofs.regions.Regions.first_lost.Goals as goal
 
 pub returns-then-is_settled_for : goal.returns-then-is_settled_for

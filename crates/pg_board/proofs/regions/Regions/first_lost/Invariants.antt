@@ -1,4 +1,3 @@
-use Rattle.pg_game.specs.Player.{opponent}
 use Rattle.pg_board.specs.Regions.{told}
 use Rattle.pg_board.proofs.Lost.{NoneBefore}
 use Rattle.pg_board.proofs.regions.Regions.first_lost.Given as goal

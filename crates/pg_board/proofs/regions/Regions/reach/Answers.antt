@@ -1,5 +1,5 @@
 use mathlib.Core.Path.{fun_ext}
-use Rattle.std.proofs.Common.{◌≡◌, ℕ, ◌<◌, slice_index, refl, sym, ◌∙◌, subst, arith, rules, below_more}
+use Rattle.std.proofs.Common.{◌≡◌, ℕ, slice_index, refl, sym, ◌∙◌, subst, arith, below_more}
 use Rattle.std.proofs.lemmas.List.{get_or_default}
 use Rattle.std.proofs.lemmas.List.Elements.{Contains-get_or}
 use Rattle.pg_game.specs.VertexSet.{VertexSet, In, no_vertices}

@@ -1,6 +1,5 @@
-use Rattle.std.proofs.Common.{◌≡◌, ℕ, ◌<◌, length, None, Option, sym, ◌∙◌, subst, arith, rules}
+use Rattle.std.proofs.Common.{ℕ, ◌<◌, length, None, Option, sym, ◌∙◌, arith}
 use Rattle.std.proofs.lemmas.List.Elements.{All-get_or}
-use Rattle.pg_dominion.specs.Claim.{Rows}
 use Rattle.pg_board.specs.Regions.{told}
 use Rattle.pg_board.proofs.Places.{row_at}
 use Rattle.pg_board.proofs.RestMask.{IsRestOf-none, IsRestOf-push, rest_kept, rest_left}
