@@ -7,6 +7,8 @@ ghost use Rattle.std.specs.Prelude.{◌≡◌, ◌+◌, ◌-◌, ◌≤◌, ◌<
 ghost use Rattle.pg_game.specs.Graph.{IsGame};
 ghost use Rattle.pg_board.specs.Journal.{IsLawful, number_settled};
 ghost use Rattle.pg_board.specs.Shares.{AreExact};
+ghost use Rattle.pg_board.specs.declared.entry.Posted.{Posted};
+ghost use Rattle.pg_board.specs.Post.{Adds};
 ghost use Rattle.pg_board.specs.Office.{IsCopyOfSome, IsAnswer, IsAnswerOfSome};
 
 use crate::board::Board;
@@ -63,6 +65,7 @@ impl<'g, L: Ledger> Desk<'g, L> {
         ensures game { IsGame self.old.board.graph }
         ensures lawful { IsLawful self.old.board.graph self.old.board.journal }
         ensures behind { share.old ≤ number_settled self.old.board.journal }
+        ensures posted { IfOk result (λ n. (posted : Posted) × Adds self.old.board self.new.board worker claim.now posted × (n ≡ posted.settled)) }
         ensures answer { IsAnswer self.old.board.graph self.old.board.journal claim.now.player claim.now.rows result }
         ensures added { IfOk result (λ n. (1 ≤ n) × (share.new ≡ share.old + n)) }
         ensures unchanged { OnErr result (share.new ≡ share.old) }
