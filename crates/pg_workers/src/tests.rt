@@ -191,7 +191,10 @@ fn winners_with<R: Threads + Wait + Abort + Sync>(
     let outcome = outcome_of(rt, alloc, &game, workers, &Pass, finder)?;
     let rows = outcome.solution.rows.as_slice();
     assert_eq!(rt; rows.len(), 5, "{workers} workers");
-    assert!(rt; rows.iter().all(|row| row.0 == Player::Even), "{workers} workers");
+    assert!(rt;
+        rows.iter().all(|row| row.0 == Player::Even),
+        "{workers} workers"
+    );
     Ok(())
 }
 
@@ -229,7 +232,10 @@ fn the_first_job_settles_both_loops(rt: HostRuntime) -> Result<(), Fail> {
     assert!(rt; outcome.report.len() == 5);
     let row = outcome.report[0];
     assert_eq!(rt; row.worker, Some(1));
-    assert_eq!(rt; [row.posted, row.settled, row.stale, row.refused], [2, 2, 0, 0]);
+    assert_eq!(rt;
+        [row.posted, row.settled, row.stale, row.refused],
+        [2, 2, 0, 0]
+    );
     Ok(())
 }
 
