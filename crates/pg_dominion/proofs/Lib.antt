@@ -8,3 +8,4 @@ pub mod Laid
 pub mod Plan
 pub mod Ranked
 pub mod Named
+pub mod NoneBad

@@ -3,7 +3,9 @@
 //! The shape is checked row by row. Then the rows are laid out by vertex as kept edges, and `cycles` looks for a closed
 //! walk whose greatest priority is the opponent's.
 
-ghost use Rattle.std.specs.Prelude.{◌≡◌, ℕ, ◌↔◌, ◌<◌, IfOk, IfErr, OnOk, length, true, false};
+ghost use Rattle.std.specs.Prelude.{◌≡◌, ℕ, ◌↔◌, ◌<◌, IfOk, IfErr, OnOk, MatchOption, length, true, false};
+ghost use Rattle.std.specs.List.{list_any};
+ghost use Rattle.pg_game.specs.Least.{NoneHas, IsLeast};
 ghost use Rattle.pg_game.specs.Region.{OnBadWalk};
 ghost use Rattle.pg_dominion.specs.Claim.{IsSound, IsRightRow, HasShape, IsFirstWrongRow, named, choice_in};
 ghost use Rattle.pg_dominion.specs.Fault.{IsClaimFault};
@@ -165,6 +167,34 @@ pub fn kept_of<'g>(alloc: Global, game: &'g Game, claim: &Claim) -> Result<Kept<
     })
 }
 
+/// Whether a row names a vertex whose priority has the parity of the player's opponent.
+fn names_bad_vertex(game: &Game, claim: &Claim) -> bool
+    requires { HasShape game.now claim.now.player claim.now.rows }
+    ensures { result ≡ list_any (λ r. is_bad game.now claim.now.player r.0) claim.now.rows }
+{
+    let _n = game.len();
+    'rows: for row in claim.rows.as_slice() {
+        if is_bad(game, claim.player, row.0) {
+            return true;
+        }
+    }
+    false
+}
+
+/// The least vertex that is the greatest on a bad closed walk inside a claim. A claim that names no vertex of the
+/// opponent's parity has none, and that is seen from its rows alone.
+fn first_on_bad_walk(alloc: Global, game: &Game, claim: &Claim) -> Result<Option<u32>, AllocError>
+    requires { HasShape game.now claim.now.player claim.now.rows }
+    ensures { IfOk result (λ least. MatchOption least (NoneHas (OnBadWalk game.now claim.now.player (named claim.now.rows) (choice_in claim.now.rows))) (IsLeast (OnBadWalk game.now claim.now.player (named claim.now.rows) (choice_in claim.now.rows)))) }
+{
+    if !names_bad_vertex(game, claim) {
+        return Ok(None);
+    }
+    let kept = kept_of(alloc, game, claim)?;
+    let least = first_worst(alloc, &kept)?;
+    Ok(least)
+}
+
 /// Whether a claim is sound in a game: it has its shape, and the edges that it keeps inside make only closed walks
 /// whose greatest priority has the player's parity. Edges that leave the claim don't count.
 ///
@@ -176,8 +206,7 @@ pub fn check_claim(alloc: Global, game: &Game, claim: &Claim) -> Result<Checked,
     if let Err(i) = check_shape(game, claim) {
         return Err(ClaimFault::Shape(i));
     }
-    let kept = kept_of(alloc, game, claim)?;
-    if let Some(v) = first_worst(alloc, &kept)? {
+    if let Some(v) = first_on_bad_walk(alloc, game, claim)? {
         return Err(ClaimFault::Cycle(v));
     }
     let rows = Vec::from_slice(alloc, claim.rows.as_slice())?;
