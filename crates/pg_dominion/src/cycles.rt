@@ -14,6 +14,9 @@ use crate::kept::Kept;
 use crate::ranking::is_ranked;
 use std::alloc::{AllocError, Global};
 
+/// How many edges may be looked at before a ranking is tried.
+const PATIENCE: u64 = 4_096;
+
 /// Goes on from `v` with the search for a way back to `start` under its priority. Whether one was found.
 fn spread(
     kept: &Kept,
@@ -113,8 +116,8 @@ pub fn first_by_ranking(alloc: Global, kept: &Kept) -> Result<Option<Option<u32>
     Ok(None)
 }
 
-/// The least bad vertex that is the greatest on a closed walk through it, by a search from each. Once these took as
-/// many steps as there is patience for, a ranking is tried.
+/// The least bad vertex that is the greatest on a closed walk through it, by a search from each. Once these took more
+/// steps than there is patience for, and about twice the edges at which they began, a ranking is tried.
 pub fn first_within(alloc: Global, kept: &Kept, patience: u64) -> Result<Option<u32>, AllocError>
     requires { IsKept kept.now }
     ensures { IfOk result (λ least. MatchOption least (NoneHas (IsWorst kept.now)) (IsLeast (IsWorst kept.now))) }
@@ -123,17 +126,19 @@ pub fn first_within(alloc: Global, kept: &Kept, patience: u64) -> Result<Option<
     let mut stamps = vec![in alloc; 0u32; n as usize]?;
     let mut queue = Vec::new(alloc);
     let mut steps = 0;
+    let mut allowed = patience;
     let mut is_tried = false;
     'starts: for v in 0..n {
         if !kept.bad.has(v) {
             continue;
         }
-        if steps >= patience && !is_tried {
+        if steps >= allowed && !is_tried {
             is_tried = true;
             if let Some(least) = first_by_ranking(alloc, kept)? {
                 return Ok(least);
             }
         }
+        allowed = allowed.saturating_add(4 + 2 * kept.row(v).len() as u64);
         if walks_back(kept, v, &mut stamps, &mut queue, &mut steps)? {
             return Ok(Some(v));
         }
@@ -143,12 +148,11 @@ pub fn first_within(alloc: Global, kept: &Kept, patience: u64) -> Result<Option<
 
 /// The least bad vertex that is the greatest on a closed walk through it.
 ///
-/// In most games a search from each bad vertex ends at once. Where 8 edges for each vertex were looked at, a ranking
+/// In most games a search from each bad vertex ends at once. Where the searches take long on the average, a ranking
 /// answers in near-linear time.
 pub fn first_worst(alloc: Global, kept: &Kept) -> Result<Option<u32>, AllocError>
     requires { IsKept kept.now }
     ensures { IfOk result (λ least. MatchOption least (NoneHas (IsWorst kept.now)) (IsLeast (IsWorst kept.now))) }
 {
-    let patience = u64::from(kept.game.len()) * 8;
-    first_within(alloc, kept, patience)
+    first_within(alloc, kept, PATIENCE)
 }
