@@ -192,7 +192,7 @@ def verify_fault(programs, text, solution_text, joined):
 
 def solve_fault(programs, text, game, chance):
     """Judges what the program's own `solve` writes."""
-    words = ["solve", *chance.choice([[], ["--workers", "1", "--bound", "0"], ["--workers", "1"], ["--workers", "3", "--bound", "2"]])]
+    words = ["solve", *chance.choice([[], ["--workers", "1", "--bound", "0"], ["--workers", "1"], ["--workers", "2"], ["--workers", "7"], ["--workers", "64"], ["--workers", "3", "--bound", "2"]])]
     status, out, err = programs.run(programs.binary, words, text)
     if (status, err) != (0, b""):
         return f"{words}: {(status, out, err)}"
