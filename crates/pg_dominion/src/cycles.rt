@@ -14,9 +14,6 @@ use crate::kept::Kept;
 use crate::ranking::is_ranked;
 use std::alloc::{AllocError, Global};
 
-/// How many edges may be looked at before a ranking is tried.
-const PATIENCE: u64 = 4_096;
-
 /// Goes on from `v` with the search for a way back to `start` under its priority. Whether one was found.
 fn spread(
     kept: &Kept,
@@ -154,5 +151,6 @@ pub fn first_worst(alloc: Global, kept: &Kept) -> Result<Option<u32>, AllocError
     requires { IsKept kept.now }
     ensures { IfOk result (λ least. MatchOption least (NoneHas (IsWorst kept.now)) (IsLeast (IsWorst kept.now))) }
 {
-    first_within(alloc, kept, PATIENCE)
+    let patience = 2 * u64::from(kept.game.len());
+    first_within(alloc, kept, patience)
 }
