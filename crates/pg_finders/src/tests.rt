@@ -3,7 +3,9 @@
 //! compared with those of all strategies, which checks the definitions that the clauses stand on.
 
 mod claims;
+mod dominions;
 mod finders;
 mod games;
 mod reference;
+mod searches;
 mod standard;

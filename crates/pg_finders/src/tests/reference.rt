@@ -69,8 +69,13 @@ impl Numbered {
         self.rows.at(v) / 3 % 2 == 1
     }
 
+    /// The set of the successors.
+    pub fn successors(self, v: u32) -> u32 {
+        (self.rows.at(v) / 6).saturating_add(1)
+    }
+
     pub fn has_edge(self, v: u32, w: u32) -> bool {
-        w < self.len && has((self.rows.at(v) / 6).saturating_add(1), w)
+        w < self.len && has(self.successors(v), w)
     }
 
     pub fn game(self, alloc: Global) -> Result<Game, Fail> {

@@ -1,0 +1,291 @@
+//! The dominions with few vertices of a game of at most seven vertices, by their definition: all sets of vertices with
+//! all choices. A set of vertices is a number whose bits are its members.
+
+use crate::tests::games::{Draft, EVEN, ODD};
+use crate::tests::reference::Numbered;
+use pg_game::{Game, Player};
+use std::alloc::Global;
+use std::test::Fail;
+
+fn bit(v: u32) -> u32 {
+    if v < 32 { 1 << v } else { 0 }
+}
+
+pub fn has(set: u32, v: u32) -> bool {
+    set & bit(v) != 0
+}
+
+pub fn is_within(set: u32, all: u32) -> bool {
+    set & all == set
+}
+
+/// The edges that choices keep: for each of eight vertices a byte, the set of its successors along them.
+#[derive(Clone, Copy)]
+struct Kept {
+    bytes: u64,
+}
+
+impl Kept {
+    fn none() -> Kept {
+        Kept { bytes: 0 }
+    }
+
+    /// These edges, and those from `v` to the set.
+    fn with(self, v: u32, set: u32) -> Kept {
+        let added = if v < 8 {
+            u64::from(set & 255) << (8 * v)
+        } else {
+            0
+        };
+        Kept {
+            bytes: self.bytes | added,
+        }
+    }
+
+    fn from(self, v: u32) -> u32 {
+        if v < 8 {
+            ((self.bytes >> (8 * v)) & 255) as u32
+        } else {
+            0
+        }
+    }
+}
+
+/// The edges, with each choice among the vertices of the set at `v`.
+fn with_choices(alloc: Global, kept: &[Kept], v: u32, set: u32) -> Result<Vec<Kept>, Fail> {
+    let mut all = Vec::new(alloc);
+    for edges in kept {
+        for w in 0..8 {
+            if has(set, w) {
+                all.push(edges.with(v, bit(w)))?;
+            }
+        }
+    }
+    Ok(all)
+}
+
+/// Numbers that look random and are the same in each run.
+#[derive(Drop)]
+pub struct Random {
+    state: u64,
+}
+
+impl Random {
+    pub fn new(seed: u64) -> Random {
+        Random { state: seed }
+    }
+
+    /// A number below `n`, or 0.
+    pub fn below(&mut self, n: u32) -> u32 {
+        self.state = self
+            .state
+            .wrapping_mul(6_364_136_223_846_793_005)
+            .wrapping_add(1_442_695_040_888_963_407);
+        let number = ((self.state >> 33) & 0x7fff_ffff) as u32;
+        if n == 0 { 0 } else { number % n }
+    }
+
+    /// A set of one to three of `n` vertices.
+    fn successors(&mut self, n: u32) -> u32 {
+        let first = bit(self.below(n));
+        let second = bit(self.below(n));
+        let third = bit(self.below(n));
+        match self.below(3) {
+            0 => first,
+            1 => first | second,
+            _ => first | second | third,
+        }
+    }
+
+    /// A set that has about two of three of `n` vertices.
+    pub fn members(&mut self, n: u32) -> u32 {
+        let mut set = 0;
+        for v in 0..n {
+            if self.below(3) > 0 {
+                set |= bit(v);
+            }
+        }
+        set
+    }
+}
+
+/// A game: priority, owner and set of successors of each vertex.
+#[derive(Drop)]
+pub struct Table {
+    rows: Vec<(u32, Player, u32)>,
+}
+
+impl Table {
+    pub fn numbered(alloc: Global, numbered: Numbered) -> Result<Table, Fail> {
+        let mut rows = Vec::new(alloc);
+        for v in 0..numbered.len {
+            let owner = if numbered.is_odd(v) { ODD } else { EVEN };
+            rows.push((numbered.priority(v), owner, numbered.successors(v)))?;
+        }
+        Ok(Table { rows })
+    }
+
+    /// A game of `n` vertices with priorities below 5.
+    pub fn random(alloc: Global, random: &mut Random, n: u32) -> Result<Table, Fail> {
+        let mut rows = Vec::new(alloc);
+        for _v in 0..n {
+            let priority = random.below(5);
+            let owner = if random.below(2) == 0 { EVEN } else { ODD };
+            rows.push((priority, owner, random.successors(n)))?;
+        }
+        Ok(Table { rows })
+    }
+
+    pub fn len(&self) -> u32 {
+        self.rows.len().min(7) as u32
+    }
+
+    /// The set of all vertices.
+    pub fn all(&self) -> u32 {
+        bit(self.len()).saturating_sub(1)
+    }
+
+    fn row(&self, v: u32) -> (u32, Player, u32) {
+        self.rows
+            .as_slice()
+            .get(v as usize)
+            .copied()
+            .unwrap_or((0, EVEN, 0))
+    }
+
+    fn successors(&self, v: u32) -> u32 {
+        self.row(v).2
+    }
+
+    fn is_owned_by(&self, player: Player, v: u32) -> bool {
+        self.row(v).1 == player
+    }
+
+    pub fn game(&self, alloc: Global) -> Result<Game, Fail> {
+        let mut draft = Draft::new(alloc);
+        'rows: for v in 0..self.len() {
+            let (priority, owner, set) = self.row(v);
+            let successors = vertices_of(alloc, set)?;
+            draft.add(alloc, priority, owner, successors.as_slice())?;
+        }
+        draft.game(alloc)
+    }
+
+    /// The vertices whose priority is at most that of `v`.
+    fn not_above(&self, v: u32) -> u32 {
+        let mut set = 0;
+        for u in 0..self.len() {
+            if self.row(u).0 <= self.row(v).0 {
+                set |= bit(u);
+            }
+        }
+        set
+    }
+
+    /// The ends of the edges from the set.
+    fn ends(&self, kept: Kept, set: u32) -> u32 {
+        let mut ends = 0;
+        for v in 0..self.len() {
+            if has(set, v) {
+                ends |= kept.from(v);
+            }
+        }
+        ends
+    }
+
+    /// Whether the vertex reaches itself over vertices whose priorities are at most its own.
+    fn is_greatest_on_walk(&self, kept: Kept, v: u32) -> bool {
+        let over = self.not_above(v);
+        let mut reached = kept.from(v) & over;
+        for _round in 0..self.len() {
+            reached |= self.ends(kept, reached) & over;
+        }
+        has(reached, v)
+    }
+
+    /// Whether the edges have a closed walk whose greatest priority is of the opponent's parity.
+    fn has_bad_walk(&self, player: Player, kept: Kept) -> bool {
+        for v in 0..self.len() {
+            let is_bad = Player::of_parity(self.row(v).0) != player;
+            if is_bad && self.is_greatest_on_walk(kept, v) {
+                return true;
+            }
+        }
+        false
+    }
+
+    /// Whether the set lies inside, and the opponent can't leave it there.
+    pub fn is_closed(&self, inside: u32, player: Player, set: u32) -> bool {
+        for v in 0..self.len() {
+            let successors = self.successors(v) & inside;
+            if has(set, v) && !self.is_owned_by(player, v) && !is_within(successors, set) {
+                return false;
+            }
+        }
+        is_within(set, inside)
+    }
+
+    /// The edges that are kept in the set, by each way to choose at the player's vertices there.
+    fn all_kept(&self, alloc: Global, player: Player, set: u32) -> Result<Vec<Kept>, Fail> {
+        let mut opponents = Kept::none();
+        for v in 0..self.len() {
+            if has(set, v) && !self.is_owned_by(player, v) {
+                opponents = opponents.with(v, self.successors(v) & set);
+            }
+        }
+        let mut all = Vec::from_slice(alloc, [opponents].as_slice())?;
+        for v in 0..self.len() {
+            if has(set, v) && self.is_owned_by(player, v) {
+                all = with_choices(alloc, all.as_slice(), v, self.successors(v) & set)?;
+            }
+        }
+        Ok(all)
+    }
+
+    /// Whether the set is closed inside, and some choices of the player's keep no bad closed walk.
+    fn is_dominion(
+        &self,
+        alloc: Global,
+        inside: u32,
+        player: Player,
+        set: u32,
+    ) -> Result<bool, Fail> {
+        if !self.is_closed(inside, player, set) {
+            return Ok(false);
+        }
+        for kept in &self.all_kept(alloc, player, set)? {
+            if !self.has_bad_walk(player, *kept) {
+                return Ok(true);
+            }
+        }
+        Ok(false)
+    }
+
+    /// The vertices that lie in a dominion of the player with exactly `size` vertices.
+    pub fn in_dominions(
+        &self,
+        alloc: Global,
+        inside: u32,
+        player: Player,
+        size: u32,
+    ) -> Result<u32, Fail> {
+        let mut held = 0;
+        for set in 1..bit(self.len()) {
+            if set.count_ones() == size && self.is_dominion(alloc, inside, player, set)? {
+                held |= set;
+            }
+        }
+        Ok(held)
+    }
+}
+
+/// The members, rising.
+fn vertices_of(alloc: Global, set: u32) -> Result<Vec<u32>, Fail> {
+    let mut vertices = Vec::new(alloc);
+    for v in 0..8 {
+        if has(set, v) {
+            vertices.push(v)?;
+        }
+    }
+    Ok(vertices)
+}
