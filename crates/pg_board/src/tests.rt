@@ -5,3 +5,6 @@ mod boards;
 mod copies;
 mod games;
 mod offices;
+mod random;
+mod reference;
+mod sequences;

@@ -3,6 +3,7 @@
 ghost use Rattle.std.specs.Prelude.{All, IfOk};
 ghost use Rattle.pg_game.specs.Specification.{AreNumbers};
 
+use crate::tests::reference::{Plain, has};
 use pg_dominion::Claim;
 use pg_game::{Game, Player, Sequence, Spec};
 use std::alloc::Global;
@@ -58,6 +59,41 @@ fn specs_of(alloc: Global, vertices: &[Vertex]) -> Result<Vec<Spec>, Fail>
 
 pub fn game_of(alloc: Global, vertices: &[Vertex]) -> Result<Game, Fail> {
     let specs = specs_of(alloc, vertices)?;
+    Ok(Game::from_specs(alloc, specs)?)
+}
+
+/// The members of a set, rising.
+fn vertices_of(alloc: Global, set: u32) -> Result<Vec<u32>, Fail> {
+    let mut vertices = Vec::new(alloc);
+    for v in 0..32 {
+        if has(set, v) {
+            vertices.push(v)?;
+        }
+    }
+    Ok(vertices)
+}
+
+/// Specifications with the identifiers 0, 1 and so on, whose successors are told by sets.
+fn specs_of_sets(alloc: Global, vertices: &[Plain]) -> Result<Vec<Spec>, Fail>
+    ensures { IfOk result (λ specs. All AreNumbers specs.items) }
+{
+    let mut specs = Vec::new(alloc);
+    'vertices: for (priority, owner, successors) in vertices {
+        let id = specs.len();
+        add(
+            &mut specs,
+            id,
+            *priority,
+            *owner,
+            vertices_of(alloc, *successors)?,
+        )?;
+    }
+    Ok(specs)
+}
+
+/// The game of the reference's form.
+pub fn game_of_sets(alloc: Global, vertices: &[Plain]) -> Result<Game, Fail> {
+    let specs = specs_of_sets(alloc, vertices)?;
     Ok(Game::from_specs(alloc, specs)?)
 }
 

@@ -1,0 +1,80 @@
+//! Games and claims at random, from a seed.
+
+use crate::tests::games::{EVEN, ODD, claim_of};
+use crate::tests::reference::{Plain, bit, has, size_of};
+use pg_dominion::Claim;
+use std::alloc::Global;
+use std::test::Fail;
+
+/// Numbers that look random and are the same in each run.
+#[derive(Drop)]
+pub struct Random {
+    state: u64,
+}
+
+impl Random {
+    pub fn new(seed: u64) -> Random {
+        Random { state: seed }
+    }
+
+    /// A number below `n`, or 0.
+    pub fn below(&mut self, n: u32) -> u32 {
+        self.state = self
+            .state
+            .wrapping_mul(6_364_136_223_846_793_005)
+            .wrapping_add(1_442_695_040_888_963_407);
+        let number = ((self.state >> 33) & 0x7fff_ffff) as u32;
+        number % n.max(1)
+    }
+}
+
+/// Of one to three members below `n`, where `n` is not 0.
+fn random_set(random: &mut Random, n: u32) -> u32 {
+    let mut set = bit(random.below(n));
+    for _more in 0..random.below(3) {
+        set |= bit(random.below(n));
+    }
+    set
+}
+
+/// A game of two to eight vertices with priorities below 4.
+pub fn random_game(alloc: Global, random: &mut Random) -> Result<Vec<Plain>, Fail> {
+    let n = random.below(7).saturating_add(2);
+    let mut vertices = Vec::new(alloc);
+    for _v in 0..n {
+        let owner = if random.below(2) == 0 { EVEN } else { ODD };
+        let successors = random_set(random, n);
+        vertices.push((random.below(4), owner, successors))?;
+    }
+    Ok(vertices)
+}
+
+/// Mostly a member of a set of numbers below `n`.
+fn random_member(random: &mut Random, set: u32, n: u32) -> u32 {
+    for _try in 0..32 {
+        let v = random.below(n);
+        if has(set, v) {
+            return v;
+        }
+    }
+    0
+}
+
+/// A claim of random vertices, mostly with right rows.
+pub fn random_claim(alloc: Global, random: &mut Random, game: &[Plain]) -> Result<Claim, Fail> {
+    let player = if random.below(2) == 0 { EVEN } else { ODD };
+    let density = random.below(4);
+    let mut rows = Vec::new(alloc);
+    let mut v = 0u32;
+    for (_, owner, successors) in game {
+        if random.below(4) <= density {
+            let mut choice = None;
+            if *owner == player {
+                choice = Some(random_member(random, *successors, size_of(game)));
+            }
+            rows.push((v, choice))?;
+        }
+        v = v.saturating_add(1);
+    }
+    claim_of(alloc, player, rows.as_slice())
+}
