@@ -85,7 +85,7 @@ fn compare_post(
     }
 }
 
-/// Compares each claim alone on a new board that has got the earlier ones.
+/// Compares each claim alone on a new board that has got the earlier ones. Tells how many vertices they settled.
 fn compare_after(
     rt: &impl Abort,
     alloc: Global,
@@ -93,15 +93,17 @@ fn compare_after(
     game: &Game,
     earlier: &[&Claim],
     claims: &[Claim],
-) -> Result<(), Fail> {
+) -> Result<u32, Fail> {
+    let mut settled = 0u32;
     for claim in claims {
         let mut board = Board::open(alloc, game)?;
         for before in earlier {
             let _found = post(alloc, &mut board, *before);
         }
-        let _settled = compare_post(rt, alloc, plain, &mut board, claim);
+        let more = compare_post(rt, alloc, plain, &mut board, claim);
+        settled = settled.saturating_add(more);
     }
-    Ok(())
+    Ok(settled)
 }
 
 /// The claim of a number below 32: for each of two vertices no row, no choice, or one of two choices.
@@ -144,29 +146,32 @@ fn right_claims(alloc: Global, plain: &[Plain]) -> Result<Vec<Claim>, Fail> {
     Ok(claims)
 }
 
-/// All sequences of up to two claims of numbers on a game.
-fn compare_pairs(rt: &impl Abort, alloc: Global, plain: &[Plain]) -> Result<(), Fail> {
+/// All sequences of up to two claims of numbers on a game. Tells how many vertices the last ones settled.
+fn compare_pairs(rt: &impl Abort, alloc: Global, plain: &[Plain]) -> Result<u32, Fail> {
     let game = game_of_sets(alloc, plain)?;
     let all = all_claims(alloc)?;
     let claims = all.as_slice();
-    compare_after(rt, alloc, plain, &game, &[], claims)?;
+    let mut settled = compare_after(rt, alloc, plain, &game, &[], claims)?;
     for first in claims {
-        compare_after(rt, alloc, plain, &game, &[first], claims)?;
+        let more = compare_after(rt, alloc, plain, &game, &[first], claims)?;
+        settled = settled.saturating_add(more);
     }
-    Ok(())
+    Ok(settled)
 }
 
-/// All sequences of three claims with right rows on a game.
-fn compare_triples(rt: &impl Abort, alloc: Global, plain: &[Plain]) -> Result<(), Fail> {
+/// All sequences of three claims with right rows on a game. Tells how many vertices the last ones settled.
+fn compare_triples(rt: &impl Abort, alloc: Global, plain: &[Plain]) -> Result<u32, Fail> {
     let game = game_of_sets(alloc, plain)?;
     let right = right_claims(alloc, plain)?;
     let claims = right.as_slice();
+    let mut settled = 0u32;
     for first in claims {
         for second in claims {
-            compare_after(rt, alloc, plain, &game, &[first, second], claims)?;
+            let more = compare_after(rt, alloc, plain, &game, &[first, second], claims)?;
+            settled = settled.saturating_add(more);
         }
     }
-    Ok(())
+    Ok(settled)
 }
 
 /// The vertex of a number below 18: a priority below 3, an owner, and one to two of two successors.
@@ -176,14 +181,16 @@ fn vertex_of_number(number: u32) -> Plain {
 }
 
 #[test]
-fn every_two_claims_over_every_game_of_two_vertices_with_priorities_below_3(
+fn up_to_two_claims_over_every_game_of_two_vertices_with_priorities_below_3(
     rt: HostRuntime,
 ) -> Result<(), Fail> {
     let alloc = rt.alloc();
+    let mut settled = 0u32;
     for number in 0..324 {
         let plain = [vertex_of_number(number / 18), vertex_of_number(number % 18)];
-        compare_pairs(&rt, alloc, &plain)?;
+        settled = settled.saturating_add(compare_pairs(&rt, alloc, &plain)?);
     }
+    assert!(rt; settled > 20_000);
     Ok(())
 }
 
@@ -192,10 +199,12 @@ fn every_three_claims_with_right_rows_over_every_game_of_two_vertices_with_prior
     rt: HostRuntime,
 ) -> Result<(), Fail> {
     let alloc = rt.alloc();
+    let mut settled = 0u32;
     for number in 0..324 {
         let plain = [vertex_of_number(number / 18), vertex_of_number(number % 18)];
-        compare_triples(&rt, alloc, &plain)?;
+        settled = settled.saturating_add(compare_triples(&rt, alloc, &plain)?);
     }
+    assert!(rt; settled > 30_000);
     Ok(())
 }
 
@@ -227,6 +236,6 @@ fn random_claims_on_random_games_of_two_to_eight_vertices(rt: HostRuntime) -> Re
         let more = compare_random(&rt, alloc, &mut random, plain.as_slice())?;
         settled = settled.saturating_add(more);
     }
-    assert!(rt; settled > 2_000);
+    assert!(rt; settled > 5_000);
     Ok(())
 }
