@@ -117,8 +117,65 @@ impl Place<'_, '_> {
     }
 }
 
-/// Each search for a player answers what is there by definition.
-fn assert_as_defined(
+/// Each search for the player in the whole game answers what is there by definition.
+fn assert_whole(rt: &impl Abort, alloc: Global, table: &Table, player: Player) -> Result<(), Fail> {
+    let game = table.game(alloc)?;
+    let inside = whole(rt, alloc, &game)?;
+    let place = Place {
+        table,
+        inside: &inside,
+        members: table.all(),
+        player,
+    };
+    place.assert_bounds(rt, alloc)
+}
+
+fn assert_in_every_game(rt: &impl Abort, alloc: Global, player: Player) -> Result<(), Fail> {
+    for len in 1..4 {
+        let k = rows_of_length(len);
+        let all = match len {
+            1 => k,
+            2 => k.saturating_mul(k),
+            _ => k.saturating_mul(k).saturating_mul(k),
+        };
+        for number in 0..all {
+            let table = Table::numbered(alloc, Numbered::new(len, number))?;
+            assert_whole(rt, alloc, &table, player)?;
+        }
+    }
+    Ok(())
+}
+
+#[test]
+fn evens_searches_in_every_game_of_up_to_three_vertices_and_priorities_to_two_find_what_all_sets_and_choices_have(
+    rt: HostRuntime,
+) -> Result<(), Fail> {
+    assert_in_every_game(&rt, rt.alloc(), EVEN)
+}
+
+#[test]
+fn odds_searches_in_every_game_of_up_to_three_vertices_and_priorities_to_two_find_what_all_sets_and_choices_have(
+    rt: HostRuntime,
+) -> Result<(), Fail> {
+    assert_in_every_game(&rt, rt.alloc(), ODD)
+}
+
+/// The mask with the members of the set.
+fn mask_of(alloc: Global, game: &Game, set: u32) -> Result<Mask, Fail>
+    ensures { IfOk result (λ mask. length mask ≡ length game.now) }
+{
+    let n = game.len();
+    let mut mask = Mask::empty(alloc, n)?;
+    'vertices: for v in 0..n {
+        if has(set, v) {
+            mask.insert(v);
+        }
+    }
+    Ok(mask)
+}
+
+/// Each search in the subgame answers what is there by definition.
+fn assert_part(
     rt: &impl Abort,
     alloc: Global,
     table: &Table,
@@ -137,46 +194,6 @@ fn assert_as_defined(
     Ok(())
 }
 
-fn assert_whole_as_defined(rt: &impl Abort, alloc: Global, table: &Table) -> Result<(), Fail> {
-    let game = table.game(alloc)?;
-    let inside = whole(rt, alloc, &game)?;
-    assert_as_defined(rt, alloc, table, &inside, table.all())
-}
-
-#[test]
-fn searches_in_every_game_of_up_to_three_vertices_and_priorities_to_two_find_what_all_sets_and_choices_have(
-    rt: HostRuntime,
-) -> Result<(), Fail> {
-    let alloc = rt.alloc();
-    for len in 1..4 {
-        let k = rows_of_length(len);
-        let all = match len {
-            1 => k,
-            2 => k.saturating_mul(k),
-            _ => k.saturating_mul(k).saturating_mul(k),
-        };
-        for number in 0..all {
-            let table = Table::numbered(alloc, Numbered::new(len, number))?;
-            assert_whole_as_defined(&rt, alloc, &table)?;
-        }
-    }
-    Ok(())
-}
-
-/// The mask with the members of the set.
-fn mask_of(alloc: Global, game: &Game, set: u32) -> Result<Mask, Fail>
-    ensures { IfOk result (λ mask. length mask ≡ length game.now) }
-{
-    let n = game.len();
-    let mut mask = Mask::empty(alloc, n)?;
-    'vertices: for v in 0..n {
-        if has(set, v) {
-            mask.insert(v);
-        }
-    }
-    Ok(mask)
-}
-
 /// Whether the members are a subgame, whose searches then answer what is there.
 fn is_part_as_defined(
     rt: &impl Abort,
@@ -187,7 +204,7 @@ fn is_part_as_defined(
 ) -> Result<bool, Fail> {
     match Inside::new(game, mask_of(alloc, game, members)?) {
         Ok(inside) => {
-            assert_as_defined(rt, alloc, table, &inside, members)?;
+            assert_part(rt, alloc, table, &inside, members)?;
             Ok(true)
         }
         Err(_) => Ok(false),
@@ -203,7 +220,8 @@ fn searches_in_random_games_of_up_to_seven_vertices_find_what_all_sets_and_choic
     for _round in 0..1_000u32 {
         let n = random.below(7).saturating_add(1);
         let table = Table::random(alloc, &mut random, n)?;
-        assert_whole_as_defined(&rt, alloc, &table)?;
+        assert_whole(&rt, alloc, &table, EVEN)?;
+        assert_whole(&rt, alloc, &table, ODD)?;
     }
     Ok(())
 }
