@@ -261,7 +261,7 @@ impl Table {
         Ok(false)
     }
 
-    /// The vertices that lie in a dominion of the player with exactly `size` vertices.
+    /// The vertices that lie in dominions of the player with exactly `size` vertices.
     pub fn in_dominions(
         &self,
         alloc: Global,

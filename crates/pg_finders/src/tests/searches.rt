@@ -1,6 +1,6 @@
 //! `find_small` against the dominions by their definition, on each smallest game and on random ones.
 
-ghost use Rattle.std.specs.Prelude.{◌≡◌, ◌<◌, IfOk, length};
+ghost use Rattle.std.specs.Prelude.{◌≡◌, IfOk, length};
 
 use crate::inside::Inside;
 use crate::tests::dominions::{Random, Table, has, is_within};
