@@ -1,5 +1,5 @@
 //! Tests of what no clause says: that calls succeed where memory is ample, with worked answers; claims of the finders on
-//! a board; and posts through the shares of an office.
+//! a board; claims one after another against a plain reference; and posts through the shares of an office.
 
 mod boards;
 mod copies;
