@@ -1,5 +1,5 @@
 -- A claim that names no vertex of the opponent's parity, and what is said of one property as of another.
-use Rattle.std.proofs.Common.{◌≡◌, ℕ, Bool, true, false, ◌||◌, ◌↔◌, inl, inr, List, [], ◌∷◌, refl, subst}
+use Rattle.std.proofs.Common.{◌≡◌, ℕ, true, false, ◌↔◌, inl, inr, List, [], ◌∷◌, subst}
 use Rattle.std.specs.Prelude.{Option, Some, None, MatchOption, ◌==◌}
 use Rattle.std.specs.List.{list_any}
 use Rattle.std.proofs.lemmas.Bool.{eqb-true}
@@ -11,18 +11,15 @@ use Rattle.pg_game.specs.Kept.{Choices, KeptEdge}
 use Rattle.pg_game.specs.Walk.{ClosedWalk}
 use Rattle.pg_game.specs.Region.{OnBadWalk}
 use Rattle.pg_game.specs.Least.{NoneHas, IsLeast}
+use Rattle.pg_game.proofs.Members.{none_first}
 use Rattle.pg_game.proofs.Players.{is_same}
 use Rattle.pg_dominion.specs.Claim.{Rows, named, choice_in}
 use Rattle.pg_dominion.specs.Shape.{is_bad}
 use Rattle.pg_dominion.proofs.Booleans.{true_or_false}
 
-neither : (a b : Bool) → (a || b) ≡ false → (a ≡ false) × (b ≡ false)
-neither true b e = absurd (cc e)
-neither false b e = (refl, e)
-
 named_good : (g : Graph) (p : Player) (rows : Rows) → list_any (λ r. is_bad g p r.0) rows ≡ false → (v : ℕ) → In (named rows) v → is_bad g p v ≡ false
 named_good g p [] e v y = absurd (cc y)
-named_good g p (r ∷ rows) e v y = let both = neither (is_bad g p r.0) (list_any (λ r. is_bad g p r.0) rows) e in elim (true_or_false (r.0 == v)) [
+named_good g p (r ∷ rows) e v y = let both = none_first (is_bad g p r.0) (list_any (λ r. is_bad g p r.0) rows) e in elim (true_or_false (r.0 == v)) [
   | inl t ↦ subst (λ (u : ℕ). is_bad g p u ≡ false) (eqb-true r.0 v t) both.0
   | inr f ↦ named_good g p rows both.1 v (rw f at y)
 ]

@@ -29,13 +29,6 @@ has_none X n = record {
 pub none_mask : (n v : ℕ) → members (replicate n false) v ≡ false
 none_mask n v = (has_none (λ u. false) n).above v (omega arith)
 
-pub empty_below : (X : VertexSet) (n : ℕ) → ((v : ℕ) → v < n → X v ≡ false) → ((v : ℕ) → X v ≡ true → v < n) → (v : ℕ) → X v ≡ false
-empty_below X n below inside v = go (X v) refl
-  where
-    go : (b : Bool) → X v ≡ b → X v ≡ false
-    go true e = below v (inside v e)
-    go false e = e
-
 -- a vertex is taken out of a mask
 pub members-unset : (mask : List Bool) (v : ℕ) → (w : ℕ) → members (slice_set mask v false) w ≡ (members mask w && not (v == w))
 members-unset mask v w = go (v == w) refl (order v (length mask))

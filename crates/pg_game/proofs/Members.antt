@@ -31,7 +31,7 @@ pub some_or_none : (test : ℕ → Bool) (ws : List ℕ) → SomeOrNone test ws
 some_or_none test [] = inr (λ w m. absurd (Contains-nil w m))
 some_or_none test (x ∷ xs) = some_or_none-cons test x xs (test x) refl (some_or_none test xs)
 
-none_first : (a b : Bool) → (a || b) ≡ false → (a ≡ false) × (b ≡ false)
+pub none_first : (a b : Bool) → (a || b) ≡ false → (a ≡ false) × (b ≡ false)
 none_first true b e = absurd (cc e)
 none_first false b e = (refl, e)
 

@@ -14,7 +14,7 @@ const MAX_VERTICES: usize = 65_536;
 
 const MAX_PRIORITIES: usize = 4_096;
 
-/// The identifiers in their order, and a number of edges that there are at most. Refused by the first fault, or for want of memory.
+/// The identifiers in their order, and a bound on the number of edges. Refused by the first fault, or for want of memory.
 pub fn check(alloc: Global, specs: &[Spec]) -> Result<(IndexSet<u32>, u32), GameFault>
     ensures ids { IfOk result (λ r. (r.0).keys ≡ ids_of specs.now) }
     ensures distinct { IfOk result (λ r. IsDistinct nat_eq (r.0).keys) }

@@ -71,8 +71,8 @@ fn count_successors(specs: &[Spec]) -> Option<u32>
     Some(successors as u32)
 }
 
-/// A number of edges (distinct successors, summed over the specifications) that there are at most. None where there are
-/// more than the limit.
+/// A bound on the number of edges: distinct successors, summed over the specifications. None where there are more than
+/// the limit.
 pub fn count_edges(alloc: Global, specs: &[Spec]) -> Result<Option<u32>, Memory>
     ensures { IfOk result (λ count. MatchOption count (max_edges < edges specs.now) (λ n. (edges specs.now ≤ n) × (n ≤ max_edges))) }
 {
