@@ -18,9 +18,7 @@ use Rattle.pg_board.specs.declared.entry.Entry.{Entry}
 use Rattle.pg_board.specs.State.{State, settled, is_unsettled, unsettled, rest_of, IsGoodOn}
 use Rattle.pg_board.specs.Journal.{Journal, state_of, claimed_rows, attracted_rows, Answers, IsLawful, number_settled}
 use Rattle.pg_board.specs.declared.regions.Regions.{Regions}
-use Rattle.pg_board.specs.declared.rest.Rest.{Rest}
 use Rattle.pg_board.specs.Regions.{told, state_with, AreRegions, IsBoard}
-use Rattle.pg_board.specs.OpenEdges.{IsRestOf}
 use Rattle.pg_board.proofs.RestIsGood.{vertices, in_rest}
 use Rattle.pg_board.proofs.Named.{named-append}
 use Rattle.pg_board.proofs.Push.{state_push, once_rows}
@@ -103,51 +101,46 @@ module _ (g : Graph) (game : IsGame g) (j : Journal) (lawful : IsLawful g j) (p 
 pub open_set : (g : Graph) (j : Journal) (r : Regions) (number : ℕ) → IsBoard g j r number → members r.unsettled ≡ unsettled g (state_of j)
 open_set g j r number b = fun_ext (λ v. b.regions.mask v ∙ ap (λ (s : State). unsettled g s v) (fun_ext b.state))
 
-pub rest_set : (g : Graph) (rest : Rest) → IsRestOf g rest → members rest.mask ≡ named rest.rows.items
-rest_set g rest r = fun_ext r.mask
-
 -- what there is to know of an entry's rows before it is entered
 pub record AreEntered (g : Graph) (j : Journal) (rows : Rows) : Type 0 where
   pub fits : number_settled j + length rows ≤ length g
   pub inside : Within (named rows) (unsettled g (state_of j))
   pub distinct : IsDistinct nat_eq (vertices rows)
 
-module _ (g : Graph) (game : IsGame g) (j : Journal) (r : Regions) (number : ℕ) (b : IsBoard g j r number) (p : Player) (rest : Rest) (good : IsGoodOn g (state_of j) p rest.rows.items) (twice : rest_of (state_of j) rest.rows.items ≡ rest.rows.items) (mask : IsRestOf g rest) where
+module _ (g : Graph) (game : IsGame g) (j : Journal) (r : Regions) (number : ℕ) (b : IsBoard g j r number) (p : Player) (R : Rows) (good : IsGoodOn g (state_of j) p R) (twice : rest_of (state_of j) R ≡ R) where
   pub board_subgame : IsSubgame g (members r.unsettled)
   board_subgame = subst (λ (U : VertexSet). IsSubgame g U) (sym (open_set g j r number b)) (lawful_now g j b.lawful).open_part
 
-  pub rest_within : Within (members rest.mask) (members r.unsettled)
-  rest_within = subst (λ (U : VertexSet). Within (members rest.mask) U) (sym (open_set g j r number b))
-      (subst (λ (T : VertexSet). Within T (unsettled g (state_of j))) (sym (rest_set g rest mask)) (rest_inside g (state_of j) p rest.rows.items good twice))
+  pub rest_within : Within (named R) (members r.unsettled)
+  rest_within = subst (λ (U : VertexSet). Within (named R) U) (sym (open_set g j r number b)) (rest_inside g (state_of j) p R good twice)
 
-  module _ (A : Rows) (attraction : IsAttraction g p (members r.unsettled) (members rest.mask) A) where
-    within_rest : IsAttraction g p (unsettled g (state_of j)) (named rest.rows.items) A
-    within_rest = subst (λ (U : VertexSet). IsAttraction g p U (named rest.rows.items) A) (open_set g j r number b)
-        (subst (λ (T : VertexSet). IsAttraction g p (members r.unsettled) T A) (rest_set g rest mask) attraction)
+  module _ (A : Rows) (attraction : IsAttraction g p (members r.unsettled) (named R) A) where
+    within_rest : IsAttraction g p (unsettled g (state_of j)) (named R) A
+    within_rest = subst (λ (U : VertexSet). IsAttraction g p U (named R) A) (open_set g j r number b) attraction
 
-    pub are_entered : AreEntered g j (rest.rows.items ++ A)
+    pub are_entered : AreEntered g j (R ++ A)
     are_entered =
-        let e : Entry = record { worker = 0; player = p; claimed = length rest.rows.items; rows = rest.rows.items ++ A } in
+        let e : Entry = record { worker = 0; player = p; claimed = length R; rows = R ++ A } in
         record {
-          fits = number_fits g game j b.lawful p rest.rows.items good twice A within_rest e refl refl refl;
-          inside = rows_inside g game j b.lawful p rest.rows.items good twice A within_rest e refl refl refl;
-          distinct = rows_distinct g game j b.lawful p rest.rows.items good twice A within_rest e refl refl refl;
+          fits = number_fits g game j b.lawful p R good twice A within_rest e refl refl refl;
+          inside = rows_inside g game j b.lawful p R good twice A within_rest e refl refl refl;
+          distinct = rows_distinct g game j b.lawful p R good twice A within_rest e refl refl refl;
         }
 
-    module _ (e : Entry) (player : e.player ≡ p) (claimed : e.claimed ≡ length rest.rows.items) (rows : e.rows ≡ rest.rows.items ++ A) where
-      pub entry_answers : Answers g (state_of j) p rest.rows.items e
-      entry_answers = answered g game j b.lawful p rest.rows.items good twice A within_rest e player claimed rows
+    module _ (e : Entry) (player : e.player ≡ p) (claimed : e.claimed ≡ length R) (rows : e.rows ≡ R ++ A) where
+      pub entry_answers : Answers g (state_of j) p R e
+      entry_answers = answered g game j b.lawful p R good twice A within_rest e player claimed rows
 
       pub board_entered : (r' : Regions) (number' : ℕ) → AreRegions g r' → ((v : ℕ) → told r'.table.items v ≡ state_with (told r.table.items) p e.rows v) → number' ≡ number + length e.rows → IsBoard g (j ++ e ∷ []) r' number'
       board_entered r' number' regions new size = record {
-        lawful = lawful_more g game j b.lawful p rest.rows.items good twice A within_rest e player claimed rows;
+        lawful = lawful_more g game j b.lawful p R good twice A within_rest e player claimed rows;
         regions = regions;
-        state = λ v. new v ∙ (ap (λ (s : State). state_with s p e.rows v) (fun_ext b.state) ∙ state_more g game j b.lawful p rest.rows.items good twice A within_rest e player claimed rows v);
-        number_is = (let n = number_more g game j b.lawful p rest.rows.items good twice A within_rest e player claimed rows in omega (arith, b.number_is));
+        state = λ v. new v ∙ (ap (λ (s : State). state_with s p e.rows v) (fun_ext b.state) ∙ state_more g game j b.lawful p R good twice A within_rest e player claimed rows v);
+        number_is = (let n = number_more g game j b.lawful p R good twice A within_rest e player claimed rows in omega (arith, b.number_is));
       }
 
 -- at the start of a growth there is room for a row of each vertex
-pub IsGrowing-start : (g : Graph) (r : Regions) (rows : Rows) (room : ℕ) → AreRegions g r → rows ≡ [] → room ≡ length g → IsGrowing g r rows room
+pub IsGrowing-start : (g : Graph) (r : Regions) (rows : Rows) (room : ℕ) → AreRegions g r → rows ≡ [] → length g ≤ room → IsGrowing g r rows room
 IsGrowing-start g r rows room regions none size = subst (λ (xs : Rows). IsGrowing g r xs room) (sym none) (record {
   regions = regions;
   apart = λ v n. absurd (let h : false ≡ true = n in cc h);
@@ -162,10 +155,7 @@ IsGrowing-start g r rows room regions none size = subst (λ (xs : Rows). IsGrowi
     at_most false = omega arith
 
 -- what has grown from a rest, from a board's regions
-module _ (g : Graph) (p : Player) (r r1 r2 : Regions) (rest : Rest) (mask : IsRestOf g rest) (first rows : Rows) (taken : first ≡ rest.rows.items) (same : (v : ℕ) → open_before r1 rest.rows.items v ≡ members r.unsettled v) (told1 : (v : ℕ) → told r1.table.items v ≡ state_with (told r.table.items) p rest.rows.items v) (grows : Grows g p r1 first r2 rows) (done : IsDone g p (open_before r1 first) (named rows) (named rows)) where
-  abbrev R : Rows
-  R = rest.rows.items
-
+module _ (g : Graph) (p : Player) (r r1 r2 : Regions) (R : Rows) (first rows : Rows) (taken : first ≡ R) (same : (v : ℕ) → open_before r1 R v ≡ members r.unsettled v) (told1 : (v : ℕ) → told r1.table.items v ≡ state_with (told r.table.items) p R v) (grows : Grows g p r1 first r2 rows) (done : IsDone g p (open_before r1 first) (named rows) (named rows)) where
   grown : Grows g p r1 R r2 rows
   grown = subst (λ (xs : Rows). Grows g p r1 xs r2 rows) taken grows
 
@@ -181,9 +171,8 @@ module _ (g : Graph) (p : Player) (r r1 r2 : Regions) (rest : Rest) (mask : IsRe
   done_here : IsDone g p (open_before r1 R) (named rows) (named rows)
   done_here = subst (λ (xs : Rows). IsDone g p (open_before r1 xs) (named rows) (named rows)) taken done
 
-  pub attracted_rest : IsAttraction g p (members r.unsettled) (members rest.mask) (drop (length R) rows)
-  attracted_rest = subst (λ (T : VertexSet). IsAttraction g p (members r.unsettled) T (drop (length R) rows)) (sym (rest_set g rest mask))
-      (subst (λ (U : VertexSet). IsAttraction g p U (named R) (drop (length R) rows)) (fun_ext same) (grown_attraction g p (open_before r1 R) R rows front turns done_here))
+  pub attracted_rest : IsAttraction g p (members r.unsettled) (named R) (drop (length R) rows)
+  attracted_rest = subst (λ (U : VertexSet). IsAttraction g p U (named R) (drop (length R) rows)) (fun_ext same) (grown_attraction g p (open_before r1 R) R rows front turns done_here)
 
   pub rest_and_attracted : rows ≡ R ++ drop (length R) rows
   rest_and_attracted = grown_rows g p (open_before r1 R) R rows front turns done_here

@@ -17,6 +17,7 @@ use Rattle.pg_dominion.specs.declared.claim.ClaimFault.{ClaimFault}
 use Rattle.pg_dominion.specs.declared.claim.ClaimFault.TheVariants as claim_fault
 use Rattle.pg_dominion.specs.Claim.{Rows, named, choice_in, IsRightRow, AreRight, HasShape, IsFirstWrongRow}
 use Rattle.pg_dominion.specs.Fault.{IsClaimFault}
+use Rattle.pg_dominion.specs.Checked.{CheckedClaim, claim_rows, Agrees}
 use Rattle.pg_board.specs.declared.entry.Posted.{Posted}
 use Rattle.pg_board.specs.declared.refusal.Refusal.{Refusal}
 use Rattle.pg_board.specs.declared.refusal.Refusal.TheVariants as refusal
@@ -25,7 +26,7 @@ use Rattle.pg_board.specs.Journal.{Journal, state_of, IsLawful, IsDominionAfter}
 use Rattle.pg_board.specs.Order.{Posts}
 use Rattle.pg_board.specs.Play.{Play}
 use Rattle.pg_board.specs.Post.{Adds, AnswersDominion, SettlesDominion, SettlesUnlessMemory}
-use Rattle.pg_board.specs.Refusal.{Refuses, refusal_of}
+use Rattle.pg_board.specs.Refusal.{Refuses, refusal_of, IsOfState, RefusesChecked}
 use Rattle.pg_board.proofs.RestIsGood.{vertices}
 use Rattle.pg_board.proofs.Numbers.{lawful_now}
 use Rattle.pg_board.proofs.Push.{theirs, same_self}
@@ -112,6 +113,7 @@ module _ (g : Graph) (game : IsGame g) (old : Journal) (lawful : IsLawful g old)
   old_copy new worker (Err refusal.Memory) ok refused same = (tt, tt)
   old_copy new worker (Err refusal.Stale) ok refused same = (refused.2, settles_stale refused.2 new same)
   old_copy new worker (Err (refusal.Claim fault)) ok refused same = absurd (no_fault fault refused.0 refused.1)
+  old_copy new worker (Err (refusal.Foreign v)) ok refused same = absurd refused
   old_copy new worker (Err (refusal.Lost v)) ok refused same = absurd (let h = refused.1.has in let f = never_lost g old lawful k p rows d v h.0 in let t = h.1 in cc (t, f))
   old_copy new worker (Err (refusal.Open v w)) ok refused same = absurd (let e = refused.2.edge in e.1 (stays_closed g old lawful k p rows d v w e.0))
 
@@ -128,3 +130,16 @@ pub lawful_after : (g : Graph) → IsGame g → (old : Journal) → IsLawful g o
 lawful_after g game old lawful claim new worker (Ok posted) ok same graph =
     rw (graph, ok.1.journal) (lawful_push g (edge_inside g game) (some_edge g game) old lawful claim.player claim.rows ok.0 ok.1.entry ok.1.answers)
 lawful_after g game old lawful claim new worker (Err e) ok same graph = subst (λ (x : Play). IsLawful x.graph x.journal) (sym same) lawful
+
+-- a refusal of the claim that lies in the state is one of the checked claim
+pub refused_checked : (g : Graph) (st : State) (c : CheckedClaim) (e : Refusal) → Agrees g c.player c.rows → IsOfState e → Refuses g st c.player (claim_rows c.player c.rows) e → RefusesChecked g st c e
+refused_checked g st c (refusal.Claim fault) a o r = absurd o
+refused_checked g st c (refusal.Foreign v) a o r = absurd o
+refused_checked g st c (refusal.Lost v) a o r = (o, a, r)
+refused_checked g st c refusal.Stale a o r = (o, a, r)
+refused_checked g st c (refusal.Open v w) a o r = (o, a, r)
+refused_checked g st c refusal.Memory a o r = tt
+
+pub checked_refusal : (g : Graph) (st : State) (c : CheckedClaim) → Agrees g c.player c.rows → (r : Result Posted Refusal) → IfErr r IsOfState → IfErr r (λ e. Refuses g st c.player (claim_rows c.player c.rows) e) → IfErr r (λ e. RefusesChecked g st c e)
+checked_refusal g st c a (Ok posted) o r = tt
+checked_refusal g st c a (Err e) o r = refused_checked g st c e a o r

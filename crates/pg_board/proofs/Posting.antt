@@ -1,13 +1,17 @@
 -- What the checks of a claim against the state say together.
-use Rattle.std.proofs.Common.{◌≡◌, ℕ, ◌<◌, Bool, true, false, length, refl, sym, ◌∙◌, ap}
-use Rattle.std.proofs.lemmas.Bool.{false_from_ne_true}
+use Rattle.std.proofs.Common.{◌≡◌, ℕ, ◌<◌, ◌≤◌, ◌||◌, Bool, true, false, eqb, [], ◌∷◌, length, refl, sym, ◌∙◌, ap, subst, arith}
+use Rattle.std.specs.Prelude.{Option}
+use Rattle.std.specs.List.{AllByRecursion, list_any}
+use Rattle.std.proofs.lemmas.List.{length-map}
+use Rattle.std.proofs.lemmas.Map.Steps.{length-le_from_distinct_below}
+use Rattle.std.proofs.lemmas.Bool.{false_from_ne_true, eqb-true}
 use Rattle.pg_game.specs.declared.player.Player.{Player}
 use Rattle.pg_game.specs.Graph.{Graph}
 use Rattle.pg_game.specs.Least.{NoneHas}
 use Rattle.pg_game.specs.VertexSet.{VertexSet, In, union}
 use Rattle.pg_game.specs.Kept.{KeptEdge}
 use Rattle.pg_dominion.specs.declared.claim.Claim.{Claim}
-use Rattle.pg_dominion.specs.Claim.{Rows, named, choice_in, IsSound}
+use Rattle.pg_dominion.specs.Claim.{Rows, named, choice_in, IsRightRow, AreRight, IsSound}
 use Rattle.pg_board.specs.declared.entry.Posted.{Posted}
 use Rattle.pg_board.specs.State.{State, settled, rest_of, IsGoodOn}
 use Rattle.pg_board.specs.Journal.{state_of}
@@ -15,7 +19,8 @@ use Rattle.pg_board.specs.Play.{Play}
 use Rattle.pg_board.specs.Post.{Adds}
 use Rattle.pg_board.specs.Refusal.{IsLost, IsOpenEdge, IsFirstOpenEdge}
 use Rattle.pg_board.specs.OpenEdges.{LeadsOutside, IsFirstOutside}
-use Rattle.pg_board.proofs.RestIsGood.{kept_rest, kept_of_rest, rest_twice}
+use Rattle.pg_board.proofs.Push.{distinct_rising}
+use Rattle.pg_board.proofs.RestIsGood.{vertices, kept_rest, kept_of_rest, rest_twice}
 
 -- the vertices of the rest and the player's
 abbrev pub Bounds : State → Player → Rows → VertexSet
@@ -67,3 +72,17 @@ adds_claim old new worker p rows claim posted player same a =
       claimed = a.claimed;
       settled = a.settled;
     }
+
+below_cons : (n : ℕ) (r : ℕ × Option ℕ) (q : ℕ) (rest : Bool) → r.0 < n → (rest ≡ true → q < n) → (b : Bool) → eqb q r.0 ≡ b → (b || rest) ≡ true → q < n
+below_cons n r q rest l f true e i = subst (λ (x : ℕ). x < n) (sym (eqb-true q r.0 e)) l
+below_cons n r q rest l f false e i = f i
+
+below : (g : Graph) (p : Player) (rows : Rows) → AllByRecursion (IsRightRow g p) rows → (q : ℕ) → list_any (eqb q) (vertices rows) ≡ true → q < length g
+below g p [] a q m = absurd (cc m)
+below g p (r ∷ rows) a q m = below_cons (length g) r q (list_any (eqb q) (vertices rows)) a.0.vertex (below g p rows a.1 q) (eqb q r.0) refl m
+
+-- right rows are no more than the vertices
+pub few_rows : (g : Graph) (p : Player) (rows : Rows) → AreRight g p rows → length rows ≤ length g
+few_rows g p rows a =
+    let h = length-le_from_distinct_below (vertices rows) (length g) (distinct_rising (vertices rows) a.rising) (below g p rows a.each) in
+    omega (arith, h, length-map rows (λ (r : ℕ × Option ℕ). r.0))

@@ -5,11 +5,12 @@ use Rattle.pg_game.specs.Graph.{Graph, IsGame}
 use Rattle.pg_game.specs.VertexSet.{members}
 use Rattle.pg_finders.specs.Part.{Part}
 use Rattle.pg_dominion.specs.Claim.{Rows}
+use Rattle.pg_dominion.specs.Checked.{CheckedClaim, claim_rows, Agrees}
 use Rattle.pg_board.specs.declared.entry.Entry.{Entry}
 use Rattle.pg_board.specs.declared.refusal.Refusal.{Refusal}
 use Rattle.pg_board.specs.State.{unsettled, IsGoodOn}
 use Rattle.pg_board.specs.Journal.{Journal, state_of, Answers, IsLawful, number_settled}
-use Rattle.pg_board.specs.Refusal.{Refuses}
+use Rattle.pg_board.specs.Refusal.{Refuses, RefusesChecked}
 
 -- the part of its game that the journal leaves unsettled, and its numbers
 pub record IsCopyOf (journal : Journal) (part : Part) (at settled : ℕ) : Type 0 where
@@ -29,3 +30,11 @@ IsAnswer g journal p rows (Err fault) = Refuses g (state_of journal) p rows faul
 -- an answer of some lawful board with at least the amount settled
 abbrev pub IsAnswerOfSome : ℕ → Player → Rows → Result ℕ Refusal → Type 0
 IsAnswerOfSome amount p rows r = (g : Graph) × (journal : Journal) × IsGame g × IsLawful g journal × (amount ≤ number_settled journal) × IsAnswer g journal p rows r
+
+-- the same for a checked claim
+abbrev pub IsCheckedAnswer : Graph → Journal → CheckedClaim → Result ℕ Refusal → Type 0
+IsCheckedAnswer g journal c (Ok n) = Agrees g c.player c.rows × IsAnswer g journal c.player (claim_rows c.player c.rows) (Ok n)
+IsCheckedAnswer g journal c (Err fault) = RefusesChecked g (state_of journal) c fault
+
+abbrev pub IsCheckedAnswerOfSome : ℕ → CheckedClaim → Result ℕ Refusal → Type 0
+IsCheckedAnswerOfSome amount c r = (g : Graph) × (journal : Journal) × IsGame g × IsLawful g journal × (amount ≤ number_settled journal) × IsCheckedAnswer g journal c r

@@ -1,17 +1,15 @@
 -- Kept edges of the rest of a claim, row by row.
-use Rattle.std.specs.Prelude.{ℕ, ◌≡◌, ◌≤◌, false, List, length, Option, if◌then◌else◌, Contains}
+use Rattle.std.specs.Prelude.{ℕ, ◌≡◌, ◌≤◌, ◌<◌, false, List, length, Option, None, slice_index, slice_index_or, if◌then◌else◌, Contains}
 use Rattle.pg_game.specs.declared.player.Player.{Player}
 use Rattle.pg_game.specs.Player.{same_player}
 use Rattle.pg_game.specs.Graph.{Graph, owner_of, successors_of}
-use Rattle.pg_game.specs.VertexSet.{VertexSet, members}
+use Rattle.pg_game.specs.VertexSet.{VertexSet, In}
 use Rattle.pg_game.specs.Kept.{listed, KeptEdge}
 use Rattle.pg_dominion.specs.Claim.{Rows, named, choice_in}
-use Rattle.pg_board.specs.declared.rest.Rest.{Rest}
 
--- the mask has the vertices of the rows
-pub record IsRestOf (g : Graph) (rest : Rest) : Type 0 where
-  pub size : length rest.mask ≡ length g
-  pub mask : (v : ℕ) → members rest.mask v ≡ named rest.rows.items v
+-- the list has at each vertex of the rows a place of its row; what it has elsewhere has no effect (Briggs and Torczon 1993)
+abbrev pub ArePlaced : Rows → List ℕ → Type 0
+ArePlaced rows places = (v : ℕ) → In (named rows) v → (slice_index places v < length rows) × ((slice_index_or rows (slice_index places v) (0, None)).0 ≡ v)
 
 -- where the row's kept edges end
 abbrev pub ends_of : Graph → Player → ℕ × Option ℕ → List ℕ

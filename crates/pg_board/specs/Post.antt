@@ -30,6 +30,7 @@ AnswersDominion st rows (Ok posted) = posted.claimed ≡ length (rest_of st rows
 AnswersDominion st rows (Err refusal.Stale) = rest_of st rows ≡ []
 AnswersDominion st rows (Err refusal.Memory) = Unit {0}
 AnswersDominion st rows (Err (refusal.Claim fault)) = ⊥
+AnswersDominion st rows (Err (refusal.Foreign v)) = ⊥
 AnswersDominion st rows (Err (refusal.Lost v)) = ⊥
 AnswersDominion st rows (Err (refusal.Open v w)) = ⊥
 

@@ -8,6 +8,7 @@ use Rattle.pg_game.specs.VertexSet.{In, union}
 use Rattle.pg_game.specs.Kept.{KeptEdge}
 use Rattle.pg_dominion.specs.Claim.{Rows, named, choice_in, IsSound}
 use Rattle.pg_dominion.specs.Fault.{IsClaimFault}
+use Rattle.pg_dominion.specs.Checked.{CheckedClaim, claim_rows, Agrees, IsForeign}
 use Rattle.pg_dominion.specs.declared.claim.ClaimFault.{ClaimFault}
 use Rattle.pg_dominion.specs.declared.claim.ClaimFault.TheVariants as claim_fault
 use Rattle.pg_board.specs.declared.refusal.Refusal.{Refusal}
@@ -29,6 +30,7 @@ pub record IsFirstOpenEdge (g : Graph) (st : State) (p : Player) (rows : Rows) (
 
 abbrev pub Refuses : Graph → State → Player → Rows → Refusal → Type 0
 Refuses g st p rows (refusal.Claim fault) = IsClaimFault g p rows fault × (fault ≢ claim_fault.Memory)
+Refuses g st p rows (refusal.Foreign v) = ⊥
 Refuses g st p rows (refusal.Lost v) = IsSound g p rows × IsLeast (IsLost st p rows) v
 Refuses g st p rows refusal.Stale = IsSound g p rows × NoneHas (IsLost st p rows) × (rest_of st rows ≡ [])
 Refuses g st p rows (refusal.Open v w) = IsSound g p rows × NoneHas (IsLost st p rows) × IsFirstOpenEdge g st p rows v w
@@ -38,3 +40,18 @@ Refuses g st p rows refusal.Memory = Unit {0}
 abbrev pub refusal_of : ClaimFault → Refusal
 refusal_of claim_fault.Memory = refusal.Memory
 refusal_of fault = refusal.Claim fault
+
+-- the reason lies in what is settled, or memory was refused
+abbrev pub IsOfState : Refusal → Type 0
+IsOfState (refusal.Claim fault) = ⊥
+IsOfState (refusal.Foreign v) = ⊥
+IsOfState (refusal.Lost v) = Unit {0}
+IsOfState refusal.Stale = Unit {0}
+IsOfState (refusal.Open v w) = Unit {0}
+IsOfState refusal.Memory = Unit {0}
+
+-- why a board refuses a checked claim: it does not agree with the game, or it does and the claim is refused on the state
+abbrev pub RefusesChecked : Graph → State → CheckedClaim → Refusal → Type 0
+RefusesChecked g st c (refusal.Foreign v) = IsForeign g c.player c.rows v
+RefusesChecked g st c refusal.Memory = Unit {0}
+RefusesChecked g st c e = IsOfState e × Agrees g c.player c.rows × Refuses g st c.player (claim_rows c.player c.rows) e

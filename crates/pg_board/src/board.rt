@@ -6,25 +6,35 @@ ghost use Rattle.pg_game.specs.declared.player.Player.{Player};
 ghost use Rattle.pg_game.specs.Graph.{IsGame};
 ghost use Rattle.pg_game.specs.VertexSet.{members};
 ghost use Rattle.pg_dominion.specs.Claim.{Rows, IsGoodIn, IsSound};
+ghost use Rattle.pg_dominion.specs.Checked.{claim_rows, claim_of, Agrees};
 ghost use Rattle.pg_board.specs.State.{unsettled, rest_of, IsGoodOn, choices, winner_in};
 ghost use Rattle.pg_board.specs.Journal.{state_of, Answers, IsLawful, IsDominionAfter, number_settled, settled_by};
 ghost use Rattle.pg_board.specs.Full.{IsFull, AreStateRows};
 ghost use Rattle.pg_text.specs.Solution.{IsExactSolution};
-ghost use Rattle.pg_board.specs.Refusal.{Refuses};
+ghost use Rattle.pg_board.specs.Refusal.{Refuses, RefusesChecked, IsOfState};
 ghost use Rattle.pg_board.specs.Post.{Adds, AnswersDominion, SettlesUnlessMemory};
-ghost use Rattle.pg_board.specs.OpenEdges.{IsRestOf};
 
 use crate::entry::{Entry, Posted};
 use crate::open_edges::Bounds;
 use crate::refusal::Refusal;
 use crate::regions::Regions;
-use crate::rest::Rest;
-use pg_dominion::{Claim, check_claim};
+use pg_dominion::{Checked, Claim, judge_claim};
 use pg_finders::{Copied, Inside};
 use pg_game::{Game, Memory, Player, Sequence};
 use pg_text::Solution;
 use std::alloc::Global;
 use std::marker::Model;
+use std::mem;
+
+/// A vector of the items alone where memory for it is there, and else the one that has them.
+fn copy_or_take(alloc: Global, items: &mut Vec<(u32, Option<u32>)>) -> Vec<(u32, Option<u32>)>
+    ensures { result.items ≡ items.old.items }
+{
+    match Vec::from_slice(alloc, items.as_slice()) {
+        Ok(copy) => copy,
+        Err(_) => mem::replace(items, Vec::new(alloc)),
+    }
+}
 
 /// A game, and the journal of what was settled of it. Nobody's claim is believed.
 #[derive(Drop)]
@@ -33,6 +43,10 @@ pub struct Board<'g> {
     entries: Vec<Entry>,
     regions: Regions,
     number: u32,
+    /// Room for the places of a rest; whatever stands here between posts has no effect.
+    places: Vec<u32>,
+    /// Room for an entry's rows while they are found; the same.
+    room: Vec<(u32, Option<u32>)>,
 }
 
 impl<'g> Model for Board<'g> {
@@ -58,6 +72,8 @@ impl<'g> Board<'g> {
             entries: Vec::new(alloc),
             regions: Regions::open(alloc, game)?,
             number: 0,
+            places: Vec::new(alloc),
+            room: Vec::new(alloc),
         })
     }
 
@@ -90,8 +106,31 @@ impl<'g> Board<'g> {
         ensures old_copies { (k : ℕ) → IsDominionAfter self.old.graph self.old.journal k claim.now.player claim.now.rows → AnswersDominion (state_of self.old.journal) claim.now.rows result × SettlesUnlessMemory self.old self.new claim.now.player claim.now.rows result }
     {
         let _n = self.game.len();
-        let _checked = check_claim(alloc, self.game, claim)?;
+        judge_claim(alloc, self.game, claim)?;
         self.settle_sound(alloc, worker, claim)
+    }
+
+    /// As `post`, for a claim that was checked, on whatever game: it is refused where it does not agree with the board's.
+    /// Makes no search for closed walks, and takes time in the claim's rows and edges and in those of what it settles.
+    pub fn settle(
+        &mut self,
+        alloc: Global,
+        worker: u32,
+        checked: &Checked,
+    ) -> Result<Posted, Refusal>
+        ensures lawful { IsLawful self.new.graph self.new.journal }
+        ensures game { self.new.graph ≡ self.old.graph }
+        ensures agrees { IfOk result (λ posted. Agrees self.old.graph checked.now.player checked.now.rows) }
+        ensures posted { IfOk result (λ posted. IsGoodOn self.old.graph (state_of self.old.journal) checked.now.player (claim_rows checked.now.player checked.now.rows) × Adds self.old self.new worker (claim_of checked.now) posted) }
+        ensures refused { IfErr result (λ e. RefusesChecked self.old.graph (state_of self.old.journal) checked.now e) }
+        ensures unchanged { OnErr result (self.new ≡ self.old) }
+        ensures old_copies { (k : ℕ) → Agrees self.old.graph checked.now.player checked.now.rows → IsDominionAfter self.old.graph self.old.journal k checked.now.player (claim_rows checked.now.player checked.now.rows) → AnswersDominion (state_of self.old.journal) (claim_rows checked.now.player checked.now.rows) result × SettlesUnlessMemory self.old self.new checked.now.player (claim_rows checked.now.player checked.now.rows) result }
+    {
+        let _n = self.game.len();
+        if let Some(v) = checked.first_foreign(self.game) {
+            return Err(Refusal::Foreign(v));
+        }
+        self.settle_sound(alloc, worker, checked.claim())
     }
 
     /// As `post`, for a claim that is known to be sound.
@@ -100,50 +139,57 @@ impl<'g> Board<'g> {
         ensures game { self.new.graph ≡ self.old.graph }
         ensures posted { IfOk result (λ posted. IsGoodOn self.old.graph (state_of self.old.journal) claim.now.player claim.now.rows × Adds self.old self.new worker claim.now posted) }
         ensures refused { IfErr result (λ e. Refuses self.old.graph (state_of self.old.journal) claim.now.player claim.now.rows e) }
+        ensures of_state { IfErr result IsOfState }
         ensures unchanged { OnErr result (self.new ≡ self.old) }
     {
+        let _n = self.game.len();
         if let Some(v) = self.regions.first_lost(claim) {
             return Err(Refusal::Lost(v));
         }
-        let rest = self.regions.rest_of(alloc, self.game, claim)?;
-        if rest.rows.is_empty() {
+        let rest = self
+            .regions
+            .rest_of(alloc, self.game, claim, &mut self.places)?;
+        if rest.is_empty() {
             return Err(Refusal::Stale);
         }
+        let rows = rest.as_slice();
         let bounds = Bounds {
             game: self.game,
             regions: &self.regions,
             player: claim.player,
-            rest: &rest.mask,
+            rest: rows,
+            places: self.places.as_slice(),
         };
-        if let Some((v, w)) = bounds.first_edge(rest.rows.as_slice()) {
+        if let Some((v, w)) = bounds.first_edge(rows) {
             return Err(Refusal::Open(v, w));
         }
         Ok(self.enter(alloc, worker, claim.player, rest)?)
     }
 
-    /// Settles the rest and what it attracts, in one entry.
+    /// Settles the rest and what it attracts, in one entry. All that it needs is taken before anything is settled; the
+    /// rows alone are copied afterwards, and where memory for that is refused, the entry keeps the room that has them.
     fn enter(
         &mut self,
         alloc: Global,
         worker: u32,
         player: Player,
-        rest: Rest,
+        rest: Vec<(u32, Option<u32>)>,
     ) -> Result<Posted, Memory>
-        requires good { IsGoodOn self.old.graph (state_of self.old.journal) player rest.rows.items }
-        requires unsettled { rest_of (state_of self.old.journal) rest.rows.items ≡ rest.rows.items }
-        requires mask { IsRestOf self.old.graph rest }
+        requires good { IsGoodOn self.old.graph (state_of self.old.journal) player rest.items }
+        requires unsettled { rest_of (state_of self.old.journal) rest.items ≡ rest.items }
         ensures game { self.new.graph ≡ self.old.graph }
-        ensures added { IfOk result (Adds self.old self.new worker (record { player = player; rows = rest.rows.items })) }
+        ensures added { IfOk result (Adds self.old self.new worker (record { player = player; rows = rest.items })) }
         ensures unchanged { OnErr result (self.new ≡ self.old) }
     {
-        let mut rows = Vec::with_capacity(alloc, self.game.len() as usize)?;
+        self.room.clear();
+        self.room.reserve_exact(self.game.len() as usize)?;
         self.entries.reserve(1)?;
         let entry = self.entries.len() as u64;
         self.regions
-            .take_all(self.game, player, rest.rows.as_slice(), &mut rows);
-        self.regions.attract(self.game, player, &mut rows);
-        rows.shrink_to_fit();
-        let claimed = rest.rows.len() as u32;
+            .take_all(self.game, player, rest.as_slice(), &mut self.room);
+        self.regions.attract(self.game, player, &mut self.room);
+        let rows = copy_or_take(alloc, &mut self.room);
+        let claimed = rest.len() as u32;
         let settled = rows.len() as u32;
         self.number += settled;
         self.entries.push_reserved(Entry {

@@ -9,11 +9,12 @@ ghost use Rattle.pg_board.specs.Journal.{IsLawful, number_settled};
 ghost use Rattle.pg_board.specs.Shares.{AreExact};
 ghost use Rattle.pg_board.specs.declared.entry.Posted.{Posted};
 ghost use Rattle.pg_board.specs.Post.{Adds};
-ghost use Rattle.pg_board.specs.Office.{IsCopyOfSome, IsAnswer, IsAnswerOfSome};
+ghost use Rattle.pg_board.specs.Office.{IsCopyOfSome, IsAnswer, IsAnswerOfSome, IsCheckedAnswer, IsCheckedAnswerOfSome};
+ghost use Rattle.pg_dominion.specs.Checked.{claim_of};
 
 use crate::board::Board;
 use crate::refusal::Refusal;
-use pg_dominion::Claim;
+use pg_dominion::{Checked, Claim};
 use pg_finders::Copied;
 use pg_game::{Game, Memory};
 use std::alloc::Global;
@@ -80,6 +81,34 @@ impl<'g, L: Ledger> Desk<'g, L> {
         let total = board.settled();
         *amount += more;
         Ok(posted.settled)
+    }
+
+    /// As `post`, for a claim that was checked.
+    fn settle(
+        &mut self,
+        alloc: Global,
+        share: &mut Share<L>,
+        worker: u32,
+        checked: &Checked,
+    ) -> Result<u32, Refusal>
+        ensures game { IsGame self.old.board.graph }
+        ensures lawful { IsLawful self.old.board.graph self.old.board.journal }
+        ensures behind { share.old ≤ number_settled self.old.board.journal }
+        ensures posted { IfOk result (λ n. (posted : Posted) × Adds self.old.board self.new.board worker (claim_of checked.now) posted × (n ≡ posted.settled)) }
+        ensures answer { IsCheckedAnswer self.old.board.graph self.old.board.journal checked.now result }
+        ensures added { IfOk result (λ n. (1 ≤ n) × (share.new ≡ share.old + n)) }
+        ensures unchanged { OnErr result (share.new ≡ share.old) }
+    {
+        let Desk { board, book } = self;
+        let Share { token, amount } = share;
+        book.audit(token);
+        let _game = board.game();
+        let settled = board.settle(alloc, worker, checked)?.settled;
+        let added = u64::from(settled);
+        book.add(token, added);
+        let total = board.settled();
+        *amount += added;
+        Ok(settled)
     }
 }
 
@@ -156,6 +185,22 @@ impl<'g, L: Ledger> Office<'g, L> {
         ensures unchanged { OnErr result (share.new ≡ share.old) }
     {
         self.desk.lock(rt).post(alloc, share, worker, claim)
+    }
+
+    /// As `post`, for a claim that was checked: nothing is searched for under the lock.
+    pub fn settle<R: Wait>(
+        &self,
+        rt: &R,
+        alloc: Global,
+        share: &mut Share<L>,
+        worker: u32,
+        checked: &Checked,
+    ) -> Result<u32, Refusal>
+        ensures answer { IsCheckedAnswerOfSome share.old checked.now result }
+        ensures added { IfOk result (λ n. (1 ≤ n) × (share.new ≡ share.old + n)) }
+        ensures unchanged { OnErr result (share.new ≡ share.old) }
+    {
+        self.desk.lock(rt).settle(alloc, share, worker, checked)
     }
 
     /// A copy of some lawful board with at least the share's amount settled.

@@ -8,6 +8,8 @@ use pg_game::Memory;
 pub enum Refusal {
     /// The claim has not its shape, or a bad closed walk inside; never `ClaimFault::Memory`.
     Claim(ClaimFault),
+    /// A checked claim does not agree with the board's game: the vertex of its first row that doesn't.
+    Foreign(u32),
     /// The least vertex of the claim that is settled for the opponent.
     Lost(u32),
     /// All vertices of the claim are settled for the player.

@@ -1,26 +1,17 @@
 //! A claim against what is settled: whether it is lost, and what of it is unsettled.
 
-ghost use Rattle.std.specs.Prelude.{◌≡◌, ◌<◌, ℕ, length, IfOk, MatchOption, All, map};
+ghost use Rattle.std.specs.Prelude.{◌≡◌, ◌<◌, ◌^◌, ℕ, length, IfOk, MatchOption, All, map};
 ghost use Rattle.std.specs.List.Sorted.{IsStrictlyIncreasing};
-ghost use Rattle.pg_game.specs.VertexSet.{members};
 ghost use Rattle.pg_game.specs.Least.{NoneHas, IsLeast};
-ghost use Rattle.pg_dominion.specs.Claim.{named};
 ghost use Rattle.pg_board.specs.State.{rest_of, is_unsettled};
 ghost use Rattle.pg_board.specs.Refusal.{IsLost};
-ghost use Rattle.pg_board.specs.Regions.{told, AreRegions};
-ghost use Rattle.pg_board.specs.OpenEdges.{IsRestOf};
+ghost use Rattle.pg_board.specs.Regions.{told};
+ghost use Rattle.pg_board.specs.OpenEdges.{ArePlaced};
 
 use crate::regions::Regions;
 use pg_dominion::Claim;
-use pg_game::{Game, Mask, Memory};
+use pg_game::{Game, Memory};
 use std::alloc::Global;
-
-/// The rows of a claim whose vertices are unsettled, and the set of these vertices.
-#[derive(Drop)]
-pub struct Rest {
-    pub rows: Vec<(u32, Option<u32>)>,
-    pub mask: Mask,
-}
 
 impl Regions {
     pub fn is_unsettled(&self, v: u32) -> bool
@@ -46,22 +37,29 @@ impl Regions {
         None
     }
 
-    /// What of the claim is unsettled.
-    pub fn rest_of(&self, alloc: Global, game: &Game, claim: &Claim) -> Result<Rest, Memory>
-        requires { All (λ r. r.0 < length game.now) claim.now.rows }
-        ensures rows { IfOk result (λ rest. rest.rows.items ≡ rest_of (told self.now.table.items) claim.now.rows) }
-        ensures mask { IfOk result (λ rest. IsRestOf game.now rest) }
+    /// What of the claim is unsettled. At each of its vertices its place among these rows is noted; whatever stood
+    /// there, or stands elsewhere, has no effect.
+    pub fn rest_of(
+        &self,
+        alloc: Global,
+        game: &Game,
+        claim: &Claim,
+        places: &mut Vec<u32>,
+    ) -> Result<Vec<(u32, Option<u32>)>, Memory>
+        requires rows { All (λ r. r.0 < length game.now) claim.now.rows }
+        requires short { length claim.now.rows < 2 ^ 32 }
+        ensures rows { IfOk result (λ rest. rest.items ≡ rest_of (told self.now.table.items) claim.now.rows) }
+        ensures size { IfOk result (λ rest. length places.new.items ≡ length game.now) }
+        ensures placed { IfOk result (λ rest. ArePlaced rest.items places.new.items) }
     {
-        let mut rest = Rest {
-            rows: Vec::new(alloc),
-            mask: Mask::empty(alloc, game.len())?,
-        };
+        places.resize(game.len() as usize, 0)?;
+        let mut rest = Vec::new(alloc);
         'rows: for row in claim.rows.as_slice() {
             if !self.is_unsettled(row.0) {
                 continue;
             }
-            rest.rows.push(*row)?;
-            rest.mask.insert(row.0);
+            places[row.0 as usize] = rest.len() as u32;
+            rest.push(*row)?;
         }
         Ok(rest)
     }

@@ -8,3 +8,4 @@ mod offices;
 mod random;
 mod reference;
 mod sequences;
+mod settling;

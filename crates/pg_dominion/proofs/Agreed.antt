@@ -12,7 +12,7 @@ use Rattle.pg_game.specs.Kept.{Choices, KeptEdge, kept}
 use Rattle.pg_game.specs.Walk.{Walk, ClosedWalk, greatest, greatest_priority}
 use Rattle.pg_game.proofs.Players.{same_is, is_same}
 use Rattle.pg_game.proofs.Walks.{ClosedWalk-weaker}
-use Rattle.pg_dominion.specs.declared.claim.CheckedRow.{CheckedRow}
+use Rattle.pg_dominion.specs.declared.checked.CheckedRow.{CheckedRow}
 use Rattle.pg_dominion.specs.Claim.{named, choice_in, IsRightRow, IsSound}
 use Rattle.pg_dominion.specs.Checked.{head_option, claim_row, claim_rows, AgreesAt, Agrees, RowEdge, row_priority, AreChecked}
 
@@ -34,7 +34,7 @@ module _ (g : Graph) (p : Player) where
   found [] a v i = absurd (cc i)
   found (r ∷ rows) a v i = found_cons r rows v a.0 (found rows a.1 v) (r.vertex == v) refl i
 
-  kept_cases : (s : Choices) (r : CheckedRow) → AgreesAt g p r → s r.vertex ≡ (claim_row p r).1 → (b : Bool) → same_player r.owner p ≡ b → kept g p s r.vertex ≡ r.kept
+  pub kept_cases : (s : Choices) (r : CheckedRow) → AgreesAt g p r → s r.vertex ≡ (claim_row p r).1 → (b : Bool) → same_player r.owner p ≡ b → kept g p s r.vertex ≡ r.kept
   kept_cases s r a e true c =
       let o = a.own (same_is r.owner p c) in
       let k : same_player (owner_of g r.vertex) p ≡ true = rw (← a.owner) c in
@@ -55,18 +55,18 @@ module _ (g : Graph) (p : Player) where
   priority : (rows : List CheckedRow) → Agrees g p rows → (v : ℕ) → In (named (claim_rows p rows)) v → row_priority rows v ≡ priority_of g v
   priority rows a v i = let f = found rows a v i in f.5 ∙ (f.3.priority ∙ ap (priority_of g) f.2)
 
-  walk_priority : (rows : List CheckedRow) → Agrees g p rows → (v : ℕ) (vs : List ℕ) (last : ℕ) → Walk (KeptEdge g p (named (claim_rows p rows)) (choice_in (claim_rows p rows))) v vs last → greatest (row_priority rows) (v ∷ vs) ≡ greatest_priority g (v ∷ vs)
+  pub walk_priority : (rows : List CheckedRow) → Agrees g p rows → (v : ℕ) (vs : List ℕ) (last : ℕ) → Walk (KeptEdge g p (named (claim_rows p rows)) (choice_in (claim_rows p rows))) v vs last → greatest (row_priority rows) (v ∷ vs) ≡ greatest_priority g (v ∷ vs)
   walk_priority rows a v [] last e = ap (λ n. max n 0) (priority rows a v e.0)
   walk_priority rows a v (w ∷ ws) last (e, r) =
       let h = priority rows a v e.0 in
       let k = walk_priority rows a w ws last r in
       ap (λ n. max n (greatest (row_priority rows) (w ∷ ws))) h ∙ ap (λ n. max (priority_of g v) n) k
 
-  vertices : (rows : List CheckedRow) → map (λ r. r.0) (claim_rows p rows) ≡ map (λ r. r.vertex) rows
+  pub vertices : (rows : List CheckedRow) → map (λ r. r.0) (claim_rows p rows) ≡ map (λ r. r.vertex) rows
   vertices [] = refl
   vertices (r ∷ rows) = ap (λ ns. r.vertex ∷ ns) (vertices rows)
 
-  lengths : (rows : List CheckedRow) → length (claim_rows p rows) ≡ length rows
+  pub lengths : (rows : List CheckedRow) → length (claim_rows p rows) ≡ length rows
   lengths [] = refl
   lengths (r ∷ rows) = ap suc (lengths rows)
 

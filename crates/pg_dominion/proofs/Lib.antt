@@ -1,5 +1,6 @@
 pub mod Booleans
 pub mod Agreed
+pub mod Recorded
 pub mod Rows
 pub mod Attracting
 pub mod Searching

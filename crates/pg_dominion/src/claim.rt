@@ -11,12 +11,13 @@ ghost use Rattle.pg_dominion.specs.Claim.{IsSound, IsRightRow, HasShape, IsFirst
 ghost use Rattle.pg_dominion.specs.Fault.{IsClaimFault};
 ghost use Rattle.pg_dominion.specs.Shape.{is_bad, marked, chosen_with, choices_with};
 ghost use Rattle.pg_dominion.specs.KeptEdges.{IsKept, IsWorst};
+ghost use Rattle.pg_dominion.specs.Checked.{claim_of, Agrees};
 
+use crate::checked::Checked;
 use crate::cycles::first_worst;
 use crate::kept::Kept;
 use pg_game::{Game, Mask, Player, Sequence};
 use std::alloc::{AllocError, Global};
-use std::marker::Model;
 
 /// Vertices that a player claims to win, rising, with his choice at each that he owns.
 #[derive(Drop)]
@@ -46,30 +47,6 @@ impl From<AllocError> for ClaimFault {
     fn from(_error: AllocError) -> ClaimFault {
         ClaimFault::Memory
     }
-}
-
-/// A vertex of a checked claim, with what its game says of it. The kept successors are the choice alone where the
-/// player owns the vertex, and all of them elsewhere.
-#[derive(Drop)]
-pub struct CheckedRow {
-    pub vertex: u32,
-    pub owner: Player,
-    pub priority: u32,
-    pub kept: Sequence<u32>,
-}
-
-/// A claim that `check_claim` accepted, which alone makes such a value.
-#[derive(Drop)]
-pub struct Checked {
-    claim: Claim,
-}
-
-impl Model for Checked {
-    ghost use Rattle.pg_dominion.specs.declared.claim.Claim.{Claim};
-
-    ghost Value = { Claim };
-
-    ghost view = { λ c. c.claim };
 }
 
 /// Whether the row names a vertex, with a choice that is a successor exactly where the player owns it.
@@ -199,8 +176,8 @@ fn first_on_bad_walk(alloc: Global, game: &Game, claim: &Claim) -> Result<Option
 /// whose greatest priority has the player's parity. Edges that leave the claim don't count.
 ///
 /// The refusals are those of [`ClaimFault`].
-pub fn check_claim(alloc: Global, game: &Game, claim: &Claim) -> Result<Checked, ClaimFault>
-    ensures sound { IfOk result (λ c. (c ≡ claim.now) × IsSound game.now claim.now.player claim.now.rows) }
+pub fn judge_claim(alloc: Global, game: &Game, claim: &Claim) -> Result<(), ClaimFault>
+    ensures sound { OnOk result (IsSound game.now claim.now.player claim.now.rows) }
     ensures fault { IfErr result (λ e. IsClaimFault game.now claim.now.player claim.now.rows e) }
 {
     if let Err(i) = check_shape(game, claim) {
@@ -209,11 +186,16 @@ pub fn check_claim(alloc: Global, game: &Game, claim: &Claim) -> Result<Checked,
     if let Some(v) = first_on_bad_walk(alloc, game, claim)? {
         return Err(ClaimFault::Cycle(v));
     }
-    let rows = Vec::from_slice(alloc, claim.rows.as_slice())?;
-    Ok(Checked {
-        claim: Claim {
-            player: claim.player,
-            rows: Sequence::new(rows),
-        },
-    })
+    Ok(())
+}
+
+/// As `judge_claim`, with what was found, for a use where the game is not at hand or another.
+pub fn check_claim(alloc: Global, game: &Game, claim: &Claim) -> Result<Checked, ClaimFault>
+    ensures sound { IfOk result (λ c. IsSound game.now claim.now.player claim.now.rows) }
+    ensures holds { IfOk result (λ c. claim_of c ≡ claim.now) }
+    ensures agrees { IfOk result (λ c. Agrees game.now c.player c.rows) }
+    ensures fault { IfErr result (λ e. IsClaimFault game.now claim.now.player claim.now.rows e) }
+{
+    judge_claim(alloc, game, claim)?;
+    Ok(Checked::of(alloc, game, claim)?)
 }

@@ -4,6 +4,7 @@
 #![tactic(auto)]
 
 mod attractor;
+mod checked;
 mod claim;
 mod clustering;
 mod components;
@@ -17,7 +18,8 @@ mod tables;
 mod tests;
 
 pub use attractor::attract;
-pub use claim::{Checked, CheckedRow, Claim, ClaimFault, check_claim};
+pub use checked::{Checked, CheckedRow};
+pub use claim::{Claim, ClaimFault, check_claim, judge_claim};
 pub use cycles::first_worst;
 pub use kept::Kept;
 pub use solution::{SolutionFault, check_solution};

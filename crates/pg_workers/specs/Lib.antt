@@ -1,4 +1,5 @@
-pub mod Draws
+pub mod Counting
+pub mod Drawing
 pub mod Work
 pub mod Report
 pub mod Tickets

@@ -1,24 +1,41 @@
 -- What contracts see of jobs and of the tickets that draw their numbers.
-use Rattle.std.specs.Prelude.{ℕ, List, [], ◌∷◌, ◌++◌, Bool, true, false}
+use Rattle.std.specs.Prelude.{◌≡◌, ℕ, ◌+◌, ◌<◌, List, [], ◌∷◌, ◌++◌, Bool, true, false, length, count_by, sum_by}
+use Rattle.atomic_table.specs.Seated.{TableId}
+use Rattle.pg_workers.specs.Counting.{AreFair}
 
--- how many jobs, and how many tickets were handed out
-pub record JobNumbers : Type 0 where
+-- which jobs, and how many
+pub record Series : Type 0 where
+  pub table : TableId
   pub total : ℕ
+
+abbrev pub no_series : Series
+no_series = record { table = record { words = 0; slots = 0; views_name = 0; atom = 0; block = 0; offset = 0; slot_names = [] }; total = 0 }
+
+-- which jobs, and how many tickets were handed out
+pub record JobNumbers : Type 0 where
+  pub series : Series
   pub seats : ℕ
 
--- how many jobs, the numbers drawn, and whether the ticket was told that none is left
+-- of which jobs, the numbers drawn, and whether the ticket was told that none is left
 pub record HeldTicket : Type 0 where
-  pub total : ℕ
+  pub series : Series
   pub numbers : List ℕ
   pub told_none : Bool
 
 -- a ticket that has drawn nothing
-abbrev pub fresh : ℕ → HeldTicket
-fresh total = record { total = total; numbers = []; told_none = false }
+abbrev pub fresh : Series → HeldTicket
+fresh series = record { series = series; numbers = []; told_none = false }
 
 -- the ticket with one number more
 abbrev pub drew : HeldTicket → ℕ → HeldTicket
-drew t j = record { total = t.total; numbers = t.numbers ++ j ∷ []; told_none = t.told_none }
+drew t j = record { series = t.series; numbers = t.numbers ++ j ∷ []; told_none = t.told_none }
 
 abbrev pub told : HeldTicket → HeldTicket
-told t = record { total = t.total; numbers = t.numbers; told_none = true }
+told t = record { series = t.series; numbers = t.numbers; told_none = true }
+
+-- The tickets' lists are fair for the closing word, which counts the numbers drawn and the tickets told that none is left. Where one was told so, the lists are together the numbers below the total, each once
+pub record AreDrawn (total : ℕ) (tickets : List HeldTicket) : Type 0 where
+  pub word : ℕ
+  pub fair : AreFair total word (λ t. t.numbers) tickets
+  pub word_is : word ≡ sum_by (λ t. length t.numbers) tickets + count_by (λ t. t.told_none) tickets
+  pub all : 0 < count_by (λ t. t.told_none) tickets → AreFair total total (λ t. t.numbers) tickets

@@ -1,12 +1,14 @@
-//! Job numbers, shared out by a count under a lock. Each worker draws by a ticket of its own, which keeps the numbers
-//! that it drew.
-ghost use Rattle.std.specs.Prelude.{◌≡◌, ◌≤◌, ◌<◌, ◌+◌, true, All, IfOk, IfSome, IfNone, None, length, map, replicate, vec_len};
-ghost use Rattle.pg_workers.specs.Tickets.{fresh, drew, told};
+//! Job numbers, drawn from one atomic word. Each worker draws by a ticket of its own, which keeps the numbers that it
+//! drew. A draw is one step on the word and waits for nobody.
+ghost use Rattle.std.specs.Prelude.{◌≡◌, ◌≤◌, ◌<◌, ◌+◌, [], true, All, IfOk, IfSome, IfNone, None, length, map, replicate, vec_len};
+ghost use Rattle.pg_workers.specs.Drawing.{drawer};
+ghost use Rattle.pg_workers.specs.Tickets.{fresh, drew, told, AreDrawn};
 
+use crate::drawing::{About, Draw, Drawer, Drawing, OneTicket};
+use atomic_table::{Seat, Table};
 use pg_game::Memory;
 use std::alloc::Global;
 use std::marker::Model;
-use std::sync::{Mutex, Wait};
 
 /// What a ticket has drawn.
 #[derive(Drop)]
@@ -15,11 +17,11 @@ pub struct Drawn {
     pub told_none: bool,
 }
 
-/// Draws numbers of jobs, and keeps them. Contracts see the number of jobs, the numbers drawn, and whether it was told
+/// Draws numbers of jobs, and keeps them. Contracts see of which jobs it is, the numbers drawn, and whether it was told
 /// that none is left.
 #[derive(Drop)]
 pub struct Ticket {
-    total: u64,
+    seat: Seat<(), Drawer>,
     numbers: Vec<u64>,
     told_none: bool,
 }
@@ -37,20 +39,34 @@ impl Model for Ticket {
 }
 
 impl Ticket {
+    /// A ticket at a seat of its own, with room for all numbers.
+    fn new(alloc: Global, total: u64, seat: Seat<(), Drawer>) -> Result<Ticket, Memory>
+        requires { (seat.me ≡ (drawer total 1 0 [], [])) × (total ≤ 4096) }
+        ensures { IfOk result (λ t. t ≡ fresh (record { table = seat.table_id; total = total })) }
+    {
+        let numbers = Vec::with_capacity(alloc, total as usize)?;
+        Ok(Ticket {
+            seat,
+            numbers,
+            told_none: false,
+        })
+    }
+
     /// The numbers drawn, in order.
     pub fn drawn(&self) -> &[u64]
         ensures numbers { result.now ≡ self.now.numbers }
-        ensures below { All (λ j. j < self.now.total) result.now }
+        ensures below { All (λ j. j < self.now.series.total) result.now }
     {
         let _told_none = self.told_none;
         self.numbers.as_slice()
     }
 }
 
-/// The numbers below a total, each to be drawn by one ticket. Contracts see the total and the number of tickets.
+/// The numbers below a total, each to be drawn by one ticket. Contracts see which jobs they are, with the total, and the
+/// number of tickets.
 #[derive(Drop)]
 pub struct Jobs {
-    next: Mutex<u64>,
+    table: Table<(), Drawer, About, Drawing, Global>,
     total: u64,
     seats: u32,
     room: Vec<Drawn>,
@@ -73,20 +89,24 @@ impl Jobs {
     pub fn open(alloc: Global, total: u64, seats: u32) -> Result<(Jobs, Vec<Ticket>), Memory>
         requires total { total ≤ 4096 }
         requires seats { (1 ≤ seats) × (seats ≤ 64) }
-        ensures jobs { IfOk result (λ o. (o.0.total ≡ total) × (o.0.seats ≡ seats)) }
-        ensures tickets { IfOk result (λ o. o.1.items ≡ replicate seats (fresh total)) }
+        ensures jobs { IfOk result (λ o. (o.0.series.total ≡ total) × (o.0.seats ≡ seats)) }
+        ensures tickets { IfOk result (λ o. o.1.items ≡ replicate seats (fresh o.0.series)) }
+        ensures own { IfOk result (λ o. (vec_len o.1 ≡ seats) × All (λ t. t.series ≡ o.0.series) o.1.items) }
     {
+        let about = About {
+            total,
+            seats: u64::from(seats),
+        };
         let room = Vec::with_capacity(alloc, seats as usize)?;
         let mut tickets = Vec::with_capacity(alloc, seats as usize)?;
-        for _i in 0..seats {
-            tickets.push_reserved(Ticket {
-                total,
-                numbers: Vec::with_capacity(alloc, total as usize)?,
-                told_none: false,
-            });
+        let (table, mut rest) = Table::of_words(alloc, &[0], &about)?;
+        for _i in 1..seats {
+            let seat = table.shared.split_seat::<OneTicket>(&mut rest);
+            tickets.push_reserved(Ticket::new(alloc, total, seat)?);
         }
+        tickets.push_reserved(Ticket::new(alloc, total, rest)?);
         let jobs = Jobs {
-            next: Mutex::new(0),
+            table,
             total,
             seats,
             room,
@@ -95,62 +115,57 @@ impl Jobs {
     }
 
     /// The next number, which the ticket keeps; None where no more are left, and then for good.
-    pub fn draw<R: Wait>(&self, rt: &R, ticket: &mut Ticket) -> Option<u64>
-        requires { ticket.old.total ≡ self.now.total }
-        ensures some { IfSome result (λ j. (ticket.new ≡ drew ticket.old j) × (j < self.now.total)) }
-        ensures room { IfSome result (λ j. length ticket.old.numbers < self.now.total) }
+    pub fn draw(&self, ticket: &mut Ticket) -> Option<u64>
+        requires { ticket.old.series ≡ self.now.series }
+        ensures some { IfSome result (λ j. (ticket.new ≡ drew ticket.old j) × (j < self.now.series.total)) }
+        ensures room { IfSome result (λ j. length ticket.old.numbers < self.now.series.total) }
         ensures none { IfNone result (ticket.new ≡ told ticket.old) }
         ensures sticky { ticket.old.told_none ≡ true → result ≡ None }
     {
         if ticket.told_none {
             return None;
         }
-        // A ticket is full only after all numbers were drawn, which the lock cannot say.
-        if ticket.numbers.len() as u64 >= self.total {
+        let found = self.table.shared.fetch_add::<Draw>(&mut ticket.seat, 0, 1);
+        if found < self.total {
+            ticket.numbers.push_reserved(found);
+            Some(found)
+        } else {
             ticket.told_none = true;
-            return None;
+            None
         }
-        let number = take_next(&mut *self.next.lock(rt), self.total);
-        match number {
-            Some(number) => ticket.numbers.push_reserved(number),
-            None => ticket.told_none = true,
-        }
-        number
     }
 
-    /// What each ticket has drawn, in the order of the tickets. Takes no memory.
-    pub fn close(self, tickets: Vec<Ticket>) -> Vec<Drawn>
+    /// What each ticket has drawn, in the order of the tickets. Takes no memory. No number was drawn twice, and where a
+    /// ticket was told that none is left, each was drawn.
+    pub fn close(self, mut tickets: Vec<Ticket>) -> Vec<Drawn>
         requires all { vec_len tickets ≡ self.seats }
+        requires own { All (λ t. t.series ≡ self.series) tickets.items }
         ensures numbers { map (λ d. d.numbers.items) result.items ≡ map (λ t. t.numbers) tickets.items }
         ensures told { map (λ d. d.told_none) result.items ≡ map (λ t. t.told_none) tickets.items }
+        ensures fair { AreDrawn self.series.total tickets.items }
     {
         let Jobs {
-            next: _,
+            table,
             total: _,
             seats: _,
-            room: mut all,
+            mut room,
         } = self;
+        let Ticket {
+            mut seat,
+            numbers,
+            told_none,
+        } = tickets.remove(0);
+        room.push_reserved(Drawn { numbers, told_none });
         for ticket in tickets {
             let Ticket {
-                total: _,
+                seat: other,
                 numbers,
                 told_none,
             } = ticket;
-            all.push_reserved(Drawn { numbers, told_none });
+            table.shared.join_seat::<OneTicket>(&mut seat, other);
+            room.push_reserved(Drawn { numbers, told_none });
         }
-        all
+        table.close_with(seat).free();
+        room
     }
-}
-
-/// The count, which goes up by one where it is below the total.
-fn take_next(next: &mut u64, total: u64) -> Option<u64>
-    ensures some { IfSome result (λ j. (j ≡ next.old) × (j < total) × (next.new ≡ next.old + 1)) }
-    ensures none { IfNone result ((total ≤ next.old) × (next.new ≡ next.old)) }
-{
-    let number = *next;
-    if number >= total {
-        return None;
-    }
-    *next = number + 1;
-    Some(number)
 }

@@ -2,6 +2,7 @@
 //! part, and posts what it finds. The board trusts none of them; the calling thread settles what is left.
 #![tactic(auto)]
 
+mod drawing;
 mod gate;
 mod jobs;
 mod options;

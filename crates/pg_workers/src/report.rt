@@ -1,6 +1,6 @@
 //! What became of each job of a run, put together by the jobs' numbers.
-ghost use Rattle.std.specs.Prelude.{◌≡◌, ◌≤◌, IfOk, length};
-ghost use Rattle.pg_workers.specs.Report.{IsInOrder, AreNumbered};
+ghost use Rattle.std.specs.Prelude.{◌≡◌, ◌+◌, ◌^◌, ◌≤◌, ◌<◌, IfOk, length};
+ghost use Rattle.pg_workers.specs.Report.{IsInOrder, AreNumbered, AreWithin, settled_in};
 
 use pg_game::Memory;
 use std::alloc::Global;
@@ -38,9 +38,11 @@ impl ReportRow {
 }
 
 /// A row for each job, in order, which nobody drew.
+#[tactic(auto, using(crate::proofs::Rows::none_settled))]
 pub(crate) fn blank_report(alloc: Global, total: u64) -> Result<Vec<ReportRow>, Memory>
     requires { total ≤ 4096 }
-    ensures { IfOk result (λ report. IsInOrder total report.items) }
+    ensures rows { IfOk result (λ report. IsInOrder total report.items) }
+    ensures settled { IfOk result (λ report. settled_in report.items ≡ 0) }
 {
     let mut report = Vec::with_capacity(alloc, total as usize)?;
     for job in 0..total {
@@ -49,40 +51,43 @@ pub(crate) fn blank_report(alloc: Global, total: u64) -> Result<Vec<ReportRow>, 
     Ok(report)
 }
 
-/// Puts a row in the place of its job. A row that names no job, or one that has its row already, is left out.
-fn place_row(report: &mut [ReportRow], row: &ReportRow)
-    requires { AreNumbered report.old }
-    ensures { AreNumbered report.new }
+/// Adds a row to that of its job.
+fn add_row(report: &mut [ReportRow], row: &ReportRow)
+    requires numbered { AreNumbered report.old }
+    requires within { row.now.job < length report.old }
+    requires fits { settled_in report.old + row.now.settled < 2 ^ 64 }
+    ensures numbered { AreNumbered report.new }
+    ensures settled { settled_in report.new ≡ settled_in report.old + row.now.settled }
 {
-    let at = row.job as usize;
-    if at < report.len() {
-        let place = &mut report[at];
-        if place.worker.is_none() {
-            place.worker = row.worker;
-            place.posted = row.posted;
-            place.settled = row.settled;
-            place.stale = row.stale;
-            place.refused = row.refused;
-            place.gave_up = row.gave_up;
-            place.memory = row.memory;
-        }
-    }
+    let place = &mut report[row.job as usize];
+    place.worker = row.worker;
+    place.posted = place.posted.saturating_add(row.posted);
+    place.settled += row.settled;
+    place.stale = place.stale.saturating_add(row.stale);
+    place.refused = place.refused.saturating_add(row.refused);
+    place.gave_up = row.gave_up;
+    place.memory = row.memory;
 }
 
-/// Puts rows in the places of their jobs.
-pub(crate) fn place_rows(report: &mut [ReportRow], rows: &[ReportRow])
-    requires { AreNumbered report.old }
-    ensures { AreNumbered report.new }
+/// Adds rows to those of their jobs.
+pub(crate) fn add_rows(report: &mut [ReportRow], rows: &[ReportRow])
+    requires numbered { AreNumbered report.old }
+    requires within { AreWithin (length report.old) rows.now }
+    requires fits { settled_in report.old + settled_in rows.now < 2 ^ 64 }
+    ensures numbered { AreNumbered report.new }
+    ensures settled { settled_in report.new ≡ settled_in report.old + settled_in rows.now }
 {
     for row in rows {
-        place_row(report, row);
+        add_row(report, row);
     }
 }
 
 /// Sets what was posted and settled to nothing in every row: what the workers did was on another game.
+#[tactic(auto, using(crate::proofs::Rows::none_settled))]
 pub(crate) fn forget_posts(report: &mut [ReportRow])
     requires { AreNumbered report.old }
-    ensures { AreNumbered report.new }
+    ensures numbered { AreNumbered report.new }
+    ensures settled { settled_in report.new ≡ 0 }
 {
     for i in 0..report.len() {
         let row = &mut report[i];

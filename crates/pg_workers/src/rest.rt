@@ -25,6 +25,7 @@ fn post_last(alloc: Global, board: &mut Board<'_>, claim: &Claim) -> Result<(), 
         Err(Refusal::Stale) => Ok(()),
         Err(Refusal::Memory) => Err(AllocError),
         Err(Refusal::Claim(_)) => unreachable!(),
+        Err(Refusal::Foreign(_)) => unreachable!(),
         Err(Refusal::Lost(_)) => unreachable!(),
         Err(Refusal::Open(..)) => unreachable!(),
     }

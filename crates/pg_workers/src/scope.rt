@@ -1,13 +1,14 @@
 //! Slots for the workers, threads that work on them, and what the slots hold once all threads have ended.
-ghost use Rattle.std.specs.Prelude.{◌≡◌, ◌+◌, ◌≤◌, ◌<◌, [], All, IfOk, replicate, vec_len};
+ghost use Rattle.std.specs.Prelude.{◌≡◌, ◌+◌, ◌≤◌, ◌<◌, [], All, IfOk, map, replicate, vec_len};
 ghost use Rattle.std.specs.Vec.{vec_capacity};
+ghost use Rattle.pg_workers.specs.Report.{settled_in, AreWithin};
 ghost use Rattle.pg_workers.specs.Tickets.{fresh};
 ghost use Rattle.pg_workers.specs.Work.{total_of};
 
 use crate::gate::Gate;
 use crate::jobs::{Jobs, Ticket};
 use crate::report::ReportRow;
-use crate::worker::{Counting, Slot, Task, work};
+use crate::worker::{Naming, Slot, Task, work};
 use pg_board::{Office, Share};
 use pg_finders::Finder;
 use pg_game::Memory;
@@ -19,14 +20,15 @@ use std::thread;
 use std::thread::Threads;
 
 /// A slot for each pair of a share and a ticket, with room for a row for each job.
-pub(crate) fn slots_of<L: Ledger, J: Counting>(
+pub(crate) fn slots_of<L: Ledger, J: Naming>(
     alloc: Global,
     total: u64,
     mut shares: Vec<Share<L>>,
     mut tickets: Vec<Ticket>,
 ) -> Result<Vec<Slot<L, J>>, Memory>
-    requires total { (total ≡ J.total) × (total ≤ 4096) }
-    requires tickets { tickets.items ≡ replicate (vec_len shares) (fresh J.total) }
+    requires total { (total ≡ J.series.total) × (total ≤ 4096) }
+    requires shares { shares.items ≡ replicate (vec_len shares) 0 }
+    requires tickets { tickets.items ≡ replicate (vec_len shares) (fresh J.series) }
     ensures { IfOk result (λ v. vec_len v ≡ vec_len shares) }
 {
     let mut slots = Vec::with_capacity(alloc, shares.len())?;
@@ -51,7 +53,7 @@ pub(crate) fn start_all<
     'x,
     'g,
     L: Ledger + Send + Sync,
-    J: Counting + Send + Sync,
+    J: Naming + Send + Sync,
     G: Gate,
     F: Finder,
     R: Threads + Wait + Sync,
@@ -63,8 +65,8 @@ pub(crate) fn start_all<
     task: &'x Task<'x, G, F>,
     mut slots: Vec<Slot<L, J>>,
 ) -> Vec<Slot<L, J>>
-    requires jobs { jobs.now.total ≡ J.total }
-    requires task { J.total ≡ total_of task.now.options.now.bound task.now.size }
+    requires jobs { jobs.now.series ≡ J.series }
+    requires task { J.series.total ≡ total_of task.now.options.now.bound task.now.size }
     ensures { vec_len result ≡ vec_len slots }
 {
     let cells = slots.iter_mut();
@@ -72,16 +74,16 @@ pub(crate) fn start_all<
         thread::scope_env(),
         rt,
         move |scope|
-            requires jobs { jobs.now.total ≡ J.total }
-            requires task { J.total ≡ total_of task.now.options.now.bound task.now.size }
+            requires jobs { jobs.now.series ≡ J.series }
+            requires task { J.series.total ≡ total_of task.now.options.now.bound task.now.size }
         {
             let mut worker = 0u32;
             for slot in cells {
                 worker = worker.wrapping_add(1);
                 let _ = scope.spawn(
                     move ||
-                        requires jobs { jobs.now.total ≡ J.total }
-                        requires task { J.total ≡ total_of task.now.options.now.bound task.now.size }
+                        requires jobs { jobs.now.series ≡ J.series }
+                        requires task { J.series.total ≡ total_of task.now.options.now.bound task.now.size }
                     { work(rt, alloc, office, jobs, task, worker, slot) },
                 );
             }
@@ -91,7 +93,7 @@ pub(crate) fn start_all<
 }
 
 /// Shares, tickets and rows of all slots, which go into room that was taken before.
-pub(crate) fn take_apart<L: Ledger, J: Counting>(
+pub(crate) fn take_apart<L: Ledger, J: Naming>(
     mut slots: Vec<Slot<L, J>>,
     mut shares: Vec<Share<L>>,
     mut tickets: Vec<Ticket>,
@@ -100,7 +102,9 @@ pub(crate) fn take_apart<L: Ledger, J: Counting>(
     requires empty { (shares.items ≡ []) × (tickets.items ≡ []) × (rows.items ≡ []) }
     requires room { (vec_len slots ≤ vec_capacity shares) × (vec_len slots ≤ vec_capacity tickets) × (vec_len slots ≤ vec_capacity rows) }
     ensures shares { vec_len result.0 ≡ vec_len slots }
-    ensures tickets { vec_len result.1 ≡ vec_len slots }
+    ensures tickets { (vec_len result.1 ≡ vec_len slots) × All (λ t. t.series ≡ J.series) result.1.items }
+    ensures amounts { map (λ rows. settled_in rows.items) result.2.items ≡ result.0.items }
+    ensures within { All (λ rows. AreWithin J.series.total rows.items) result.2.items }
 {
     while let Some(slot) = slots.pop() {
         let Slot {
@@ -109,6 +113,7 @@ pub(crate) fn take_apart<L: Ledger, J: Counting>(
             rows: done,
             jobs: _,
         } = slot;
+        let _numbers = ticket.drawn();
         shares.push_reserved(share);
         tickets.push_reserved(ticket);
         rows.push_reserved(done);

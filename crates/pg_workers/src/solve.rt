@@ -1,18 +1,19 @@
 //! A whole run: workers on threads of their own share out the jobs over one office, and the calling thread settles what
 //! is left.
-ghost use Rattle.std.specs.Prelude.{◌≡◌, ◌≤◌, ◌<◌, [], IfOk, length, replicate, vec_len};
+ghost use Rattle.std.specs.Prelude.{◌≡◌, ◌+◌, ◌^◌, ◌≤◌, ◌<◌, [], All, IfOk, length, map, replicate, sum, sum_by, vec_len};
 ghost use Rattle.pg_workers.specs.Outcomes.{IsOutcome};
-ghost use Rattle.pg_workers.specs.Report.{IsInOrder, AreNumbered};
+ghost use Rattle.pg_board.specs.Journal.{number_settled};
+ghost use Rattle.pg_workers.specs.Report.{IsInOrder, AreNumbered, AreWithin, settled_in};
 ghost use Rattle.pg_workers.specs.Tickets.{fresh};
 ghost use Rattle.pg_workers.specs.Work.{total_of};
 
 use crate::gate::Gate;
 use crate::jobs::{Jobs, Ticket};
 use crate::options::Options;
-use crate::report::{ReportRow, blank_report, forget_posts, place_rows};
+use crate::report::{ReportRow, add_rows, blank_report, forget_posts};
 use crate::rest::settle_rest;
 use crate::scope::{slots_of, start_all, take_apart};
-use crate::worker::{Counting, Task};
+use crate::worker::{Naming, Task};
 use pg_board::{Board, Entry, Office, Share};
 use pg_finders::Finder;
 use pg_game::{Game, Memory};
@@ -31,14 +32,17 @@ pub struct Outcome {
     pub report: Vec<ReportRow>,
 }
 
-/// The report with the rows of all workers in the places of their jobs.
-fn placed(mut report: Vec<ReportRow>, all: &[Vec<ReportRow>]) -> Vec<ReportRow>
-    requires { AreNumbered report.items }
+/// The report with the rows of all workers added to those of their jobs.
+fn with_rows(mut report: Vec<ReportRow>, all: &[Vec<ReportRow>]) -> Vec<ReportRow>
+    requires numbered { AreNumbered report.items }
+    requires within { All (λ rows. AreWithin (vec_len report) rows.items) all.now }
+    requires fits { settled_in report.items + sum_by (λ rows. settled_in rows.items) all.now < 2 ^ 64 }
     ensures rows { AreNumbered result.items }
     ensures length { vec_len result ≡ vec_len report }
+    ensures settled { settled_in result.items ≡ settled_in report.items + sum_by (λ rows. settled_in rows.items) all.now }
 {
     for rows in all {
-        place_rows(report.as_mut_slice(), rows.as_slice());
+        add_rows(report.as_mut_slice(), rows.as_slice());
     }
     report
 }
@@ -48,6 +52,7 @@ fn without_posts(mut report: Vec<ReportRow>) -> Vec<ReportRow>
     requires { AreNumbered report.items }
     ensures rows { AreNumbered result.items }
     ensures length { vec_len result ≡ vec_len report }
+    ensures settled { settled_in result.items ≡ 0 }
 {
     forget_posts(report.as_mut_slice());
     report
@@ -60,8 +65,10 @@ fn board_of<'g>(
     board: Board<'g>,
     report: Vec<ReportRow>,
 ) -> Result<(Board<'g>, Vec<ReportRow>), Memory>
-    requires { AreNumbered report.items }
+    requires numbered { AreNumbered report.items }
+    requires settled { settled_in report.items ≡ number_settled board.journal }
     ensures game { IfOk result (λ r. r.0.graph ≡ game.now) }
+    ensures settled { IfOk result (λ r. settled_in r.1.items ≡ number_settled r.0.journal) }
     ensures rows { IfOk result (λ r. AreNumbered r.1.items) }
     ensures length { IfOk result (λ r. vec_len r.1 ≡ vec_len report) }
 {
@@ -72,12 +79,14 @@ fn board_of<'g>(
 }
 
 /// What a board tells once everything is settled.
+#[tactic(auto, using(crate::proofs::AddingUp::adds_up))]
 fn outcome_of(
     alloc: Global,
     mut board: Board<'_>,
     report: Vec<ReportRow>,
 ) -> Result<Outcome, Memory>
-    requires { AreNumbered report.items }
+    requires numbered { AreNumbered report.items }
+    requires settled { settled_in report.items ≡ number_settled board.journal }
     ensures { IfOk result (λ o. IsOutcome board.entry.graph (vec_len report) o) }
 {
     settle_rest(alloc, &mut board)?;
@@ -96,7 +105,7 @@ fn outcome_of(
 fn run<
     'g,
     L: Ledger + Send + Sync,
-    J: Counting + Send + Sync,
+    J: Naming + Send + Sync,
     G: Gate,
     F: Finder,
     R: Threads + Wait + Sync,
@@ -111,10 +120,10 @@ fn run<
     total: u64,
     task: &Task<'_, G, F>,
 ) -> Result<Outcome, Memory>
-    requires total { (total ≡ J.total) × (total ≤ 4096) × (total ≡ total_of task.now.options.now.bound task.now.size) }
-    requires shares { (vec_len shares ≡ L.parts) × (0 < L.parts) }
-    requires jobs { (jobs.total ≡ J.total) × (jobs.seats ≡ vec_len shares) }
-    requires tickets { tickets.items ≡ replicate (vec_len shares) (fresh J.total) }
+    requires total { (total ≡ J.series.total) × (total ≤ 4096) × (total ≡ total_of task.now.options.now.bound task.now.size) }
+    requires shares { (shares.items ≡ replicate (vec_len shares) 0) × (vec_len shares ≡ L.parts) × (0 < L.parts) }
+    requires jobs { (jobs.series ≡ J.series) × (jobs.seats ≡ vec_len shares) }
+    requires tickets { tickets.items ≡ replicate (vec_len shares) (fresh J.series) }
     ensures { IfOk result (λ o. IsOutcome game.now total o) }
 {
     let seats = shares.len();
@@ -127,7 +136,8 @@ fn run<
     let (shares, tickets, rows) = take_apart(slots, shares_back, tickets_back, rows_back);
     drop(jobs.close(tickets));
     let board = office.close(shares);
-    let report = placed(report, rows.as_slice());
+    let _settled = board.settled();
+    let report = with_rows(report, rows.as_slice());
     let (board, report) = board_of(alloc, game, board, report)?;
     outcome_of(alloc, board, report)
 }

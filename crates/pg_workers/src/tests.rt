@@ -266,16 +266,16 @@ fn jobs_have_their_numbers(rt: HostRuntime) {
 }
 
 /// Draws until there are no more.
-fn draw_all<R: Wait>(rt: &R, jobs: &Jobs, mut ticket: Ticket) -> Ticket
-    requires { ticket.total ≡ jobs.now.total }
-    ensures { (result.total ≡ ticket.total) × (result.told_none ≡ true) }
+fn draw_all(jobs: &Jobs, mut ticket: Ticket) -> Ticket
+    requires { ticket.series ≡ jobs.now.series }
+    ensures { (result.series ≡ ticket.series) × (result.told_none ≡ true) }
 {
-    while let Some(_number) = jobs.draw(rt, &mut ticket) {}
+    while let Some(_number) = jobs.draw(&mut ticket) {}
     ticket
 }
 
 /// Each ticket on a thread of its own.
-fn drawn_by_many<R: Threads + Wait + Abort + Sync>(
+fn drawn_by_many<R: Threads + Abort + Sync>(
     rt: &R,
     alloc: Global,
     total: u64,
@@ -286,14 +286,14 @@ fn drawn_by_many<R: Threads + Wait + Abort + Sync>(
     let (jobs, tickets) = Jobs::open(alloc, total, seats)?;
     let shared = &jobs;
     let draw = |ticket: Ticket| -> Ticket
-        requires { ticket.total ≡ shared.now.total }
-        ensures { (result.total ≡ ticket.total) × (result.told_none ≡ true) }
-    { draw_all(rt, shared, ticket) };
+        requires { ticket.series ≡ shared.now.series }
+        ensures { (result.series ≡ ticket.series) × (result.told_none ≡ true) }
+    { draw_all(shared, ticket) };
     let tickets = thread::map_vec(rt, tickets, &draw)?;
     Ok(jobs.close(tickets))
 }
 
-fn each_is_drawn_once<R: Threads + Wait + Abort + Sync>(
+fn each_is_drawn_once<R: Threads + Abort + Sync>(
     rt: &R,
     alloc: Global,
     total: u64,
@@ -325,6 +325,16 @@ fn each_number_is_drawn_once_by_two_threads(rt: HostRuntime) -> Result<(), Fail>
 }
 
 #[test]
+fn each_number_is_drawn_once_by_64_threads(rt: HostRuntime) -> Result<(), Fail> {
+    each_is_drawn_once(&rt, rt.alloc(), 4096, 64)
+}
+
+#[test]
+fn one_number_is_drawn_by_one_of_64_threads(rt: HostRuntime) -> Result<(), Fail> {
+    each_is_drawn_once(&rt, rt.alloc(), 1, 64)
+}
+
+#[test]
 fn no_number_is_drawn_where_there_is_none(rt: HostRuntime) -> Result<(), Fail> {
     each_is_drawn_once(&rt, rt.alloc(), 0, 2)
 }
@@ -337,10 +347,10 @@ fn a_ticket_that_was_told_none_is_told_none_again(rt: HostRuntime) -> Result<(),
         return Err(Fail::from("no ticket"));
     };
     assert!(rt; ticket.drawn().is_empty());
-    let _fits = jobs.draw(&rt, &mut ticket);
+    let _fits = jobs.draw(&mut ticket);
     assert!(rt; ticket.drawn() == [0].as_slice());
-    assert!(rt; jobs.draw(&rt, &mut ticket).is_none());
-    assert!(rt; jobs.draw(&rt, &mut ticket).is_none());
+    assert!(rt; jobs.draw(&mut ticket).is_none());
+    assert!(rt; jobs.draw(&mut ticket).is_none());
     assert!(rt; ticket.drawn() == [0].as_slice());
     Ok(())
 }

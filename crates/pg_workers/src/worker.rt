@@ -1,7 +1,8 @@
-//! A worker: it draws a job, has a copy of the unsettled part searched, posts each claim that was found, notes what
-//! became of it, and draws again until none is left.
-ghost use Rattle.std.specs.Prelude.{◌≡◌, ◌+◌, ◌≤◌, ◌<◌, ℕ, length, vec_len};
+//! A worker: it draws a job, has a copy of the unsettled part searched, checks each claim that was found on the copy's game,
+//! with no lock held, settles what was checked, notes what became of it, and draws again until none is left.
+ghost use Rattle.std.specs.Prelude.{◌≡◌, ◌+◌, ◌≤◌, ◌<◌, map};
 ghost use Rattle.std.specs.Vec.{vec_capacity};
+ghost use Rattle.pg_workers.specs.Report.{settled_in};
 ghost use Rattle.pg_workers.specs.Work.{total_of};
 
 use crate::gate::Gate;
@@ -9,35 +10,38 @@ use crate::jobs::{Jobs, Ticket};
 use crate::options::Options;
 use crate::report::ReportRow;
 use pg_board::{Office, Refusal, Share};
-use pg_dominion::Claim;
+use pg_dominion::{Claim, ClaimFault, check_claim};
 use pg_finders::{Finder, Found, Job};
-use pg_game::Memory;
+use pg_game::{Game, Memory};
 use std::alloc::{AllocError, Global};
 use std::marker::{Brand, PhantomData};
 use std::sync::Wait;
 use std::sync::ledger::Ledger;
 
-/// Says to the type of a slot how many jobs there are. Each call picks it.
-pub(crate) trait Counting {
-    ghost use Rattle.std.specs.Prelude.{ℕ};
+/// Says to the type of a slot which jobs there are. Each call picks it.
+pub(crate) trait Naming {
+    ghost use Rattle.pg_workers.specs.Tickets.{Series};
 
-    ghost total: { ℕ };
+    ghost series: { Series };
 }
 
-impl Counting for Brand {
-    ghost total = { 0 };
+impl Naming for Brand {
+    ghost use Rattle.pg_workers.specs.Tickets.{no_series};
+
+    ghost series = { no_series };
 }
 
 /// What one worker is lent. What it leaves there is known by this type alone.
 #[derive(Drop)]
-pub(crate) struct Slot<L: Ledger, J: Counting> {
+pub(crate) struct Slot<L: Ledger, J: Naming> {
     pub share: Share<L>,
     pub ticket: Ticket,
     pub rows: Vec<ReportRow>,
     pub jobs: PhantomData<J>,
-    ghost of_jobs: { ticket.total ≡ J.total },
-    ghost room: { J.total ≤ vec_capacity rows },
-    ghost drawn: { vec_len rows ≤ length ticket.numbers },
+    ghost of_jobs: { ticket.series ≡ J.series },
+    ghost settled: { share ≡ settled_in rows.items },
+    ghost numbers: { map (λ r. r.job) rows.items ≡ ticket.numbers },
+    ghost room: { J.series.total ≤ vec_capacity rows },
 }
 
 /// What all workers of a run are told.
@@ -50,11 +54,12 @@ pub(crate) struct Task<'x, G, F> {
     ghost small: { size ≤ 65536 },
 }
 
-/// Posts one claim, and notes the answer in the job's row.
+/// Checks one claim on the game, settles it, and notes the answer in the job's row.
 fn post<L: Ledger, R: Wait>(
     rt: &R,
     alloc: Global,
     office: &Office<'_, L>,
+    game: &Game,
     share: &mut Share<L>,
     worker: u32,
     claim: &Claim,
@@ -64,7 +69,18 @@ fn post<L: Ledger, R: Wait>(
     ensures job { row.new.job ≡ row.old.job }
     ensures settled { share.new + row.old.settled ≡ share.old + row.new.settled }
 {
-    match office.post(rt, alloc, share, worker, claim) {
+    let checked = match check_claim(alloc, game, claim) {
+        Ok(checked) => checked,
+        Err(ClaimFault::Memory) => {
+            row.memory = true;
+            return;
+        }
+        Err(_) => {
+            row.refused = row.refused.saturating_add(1);
+            return;
+        }
+    };
+    match office.settle(rt, alloc, share, worker, &checked) {
         Ok(more) => {
             let _all = share.amount();
             row.posted = row.posted.saturating_add(1);
@@ -80,6 +96,7 @@ fn post_all<L: Ledger, R: Wait>(
     rt: &R,
     alloc: Global,
     office: &Office<'_, L>,
+    game: &Game,
     share: &mut Share<L>,
     worker: u32,
     claims: &[Claim],
@@ -90,20 +107,22 @@ fn post_all<L: Ledger, R: Wait>(
     ensures settled { share.new + row.old.settled ≡ share.old + row.new.settled }
 {
     for claim in claims {
-        post(rt, alloc, office, share, worker, claim, row);
+        post(rt, alloc, office, game, share, worker, claim, row);
     }
 }
 
-fn search<L: Ledger, F: Finder, R: Wait>(
+/// What the finder gives for a job on a copy, and the copy's game.
+fn search<'g, L: Ledger, F: Finder, R: Wait>(
     rt: &R,
     alloc: Global,
-    office: &Office<'_, L>,
+    office: &Office<'g, L>,
     finder: &F,
     share: &Share<L>,
     job: &Job,
-) -> Result<Found, Memory> {
+) -> Result<(Found, &'g Game), Memory> {
     let copied = office.copy(rt, alloc, share)?;
-    finder.find(alloc, &copied, job)
+    let found = finder.find(alloc, &copied, job)?;
+    Ok((found, copied.inside.game()))
 }
 
 /// Does one job. What it settles is added to the share and noted in the row.
@@ -126,12 +145,13 @@ fn do_job<L: Ledger, G: Gate, F: Finder, R: Wait>(
     let found = search(rt, alloc, office, task.finder, share, &job);
     task.gate.found(rt, worker, number);
     match found {
-        Ok(Found { claims, gave_up }) => {
+        Ok((Found { claims, gave_up }, game)) => {
             row.gave_up = gave_up;
             post_all(
                 rt,
                 alloc,
                 office,
+                game,
                 share,
                 worker,
                 claims.as_slice(),
@@ -144,7 +164,7 @@ fn do_job<L: Ledger, G: Gate, F: Finder, R: Wait>(
     row
 }
 
-impl<L: Ledger, J: Counting> Slot<L, J> {
+impl<L: Ledger, J: Naming> Slot<L, J> {
     /// Draws a number and does its job, or learns that there are no more.
     fn turn<G: Gate, F: Finder, R: Wait>(
         &mut self,
@@ -155,8 +175,8 @@ impl<L: Ledger, J: Counting> Slot<L, J> {
         task: &Task<'_, G, F>,
         worker: u32,
     ) -> bool
-        requires jobs { jobs.now.total ≡ J.total }
-        requires task { J.total ≡ total_of task.now.options.now.bound task.now.size }
+        requires jobs { jobs.now.series ≡ J.series }
+        requires task { J.series.total ≡ total_of task.now.options.now.bound task.now.size }
     {
         let Slot {
             share,
@@ -164,7 +184,7 @@ impl<L: Ledger, J: Counting> Slot<L, J> {
             rows,
             jobs: _,
         } = self;
-        let Some(number) = jobs.draw(rt, ticket) else {
+        let Some(number) = jobs.draw(ticket) else {
             return false;
         };
         let row = do_job(rt, alloc, office, task, share, worker, number);
@@ -174,7 +194,7 @@ impl<L: Ledger, J: Counting> Slot<L, J> {
 }
 
 /// A worker's whole run.
-pub(crate) fn work<L: Ledger, J: Counting, G: Gate, F: Finder, R: Wait>(
+pub(crate) fn work<L: Ledger, J: Naming, G: Gate, F: Finder, R: Wait>(
     rt: &R,
     alloc: Global,
     office: &Office<'_, L>,
@@ -183,8 +203,8 @@ pub(crate) fn work<L: Ledger, J: Counting, G: Gate, F: Finder, R: Wait>(
     worker: u32,
     slot: &mut Slot<L, J>,
 )
-    requires jobs { jobs.now.total ≡ J.total }
-    requires task { J.total ≡ total_of task.now.options.now.bound task.now.size }
+    requires jobs { jobs.now.series ≡ J.series }
+    requires task { J.series.total ≡ total_of task.now.options.now.bound task.now.size }
 {
     for _ in rt.forever() {
         if !slot.turn(rt, alloc, office, jobs, task, worker) {

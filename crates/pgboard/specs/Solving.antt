@@ -7,7 +7,7 @@ use Rattle.pg_text.specs.Winners.{IsWinnersText}
 use Rattle.pg_board.specs.Journal.{Journal, state_of, IsLawful}
 use Rattle.pg_board.specs.Full.{IsFull}
 use Rattle.pg_workers.specs.declared.report.ReportRow.{ReportRow}
-use Rattle.pg_workers.specs.Report.{IsInOrder}
+use Rattle.pg_workers.specs.Report.{IsInOrder, AddsUp}
 use Rattle.pg_workers.specs.Work.{total_of}
 use Rattle.pgboard.specs.Trace.{trace_text}
 
@@ -16,11 +16,12 @@ abbrev pub IsSolveText : Bool → Graph → List ℕ → Type 0
 IsSolveText true g text = IsWinnersText g text
 IsSolveText false g text = (rows : Rows) × IsExactSolution g rows × (text ≡ written_solution g rows)
 
--- the text of a lawful journal that settles every vertex, and of a report with one row for each job
+-- the text of a lawful journal that settles every vertex, and of a report with one row for each job, whose rows say what the workers settled
 pub record IsTraceText (g : Graph) (text : List ℕ) : Type 0 where
   pub journal : Journal
   pub report : List ReportRow
   pub lawful : IsLawful g journal
   pub full : IsFull g (state_of journal)
   pub order : IsInOrder (total_of 4 (length g)) report
+  pub adds_up : AddsUp journal report
   pub text_is : text ≡ trace_text g journal report

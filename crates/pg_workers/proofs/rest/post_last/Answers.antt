@@ -10,6 +10,13 @@ unreachable-requires c =
     let e = rw c.in-Err-Claim.field-0-is at (c.in-Err-Claim.ensures.old_copies d.0 d.1) in
     absurd e.0
 
+pub unreachable-requires-in-Err-Foreign : goal.unreachable-requires-in-Err-Foreign
+unreachable-requires-in-Err-Foreign c =
+    let some : 0 < length c.args.claim.now.rows = search rules in
+    let d = c.requires some in
+    let e = rw c.in-Err-Foreign.field-0-is at (c.in-Err-Foreign.ensures.old_copies d.0 d.1) in
+    absurd e.0
+
 pub unreachable-requires-in-Err-Lost : goal.unreachable-requires-in-Err-Lost
 unreachable-requires-in-Err-Lost c =
     let some : 0 < length c.args.claim.now.rows = search rules in

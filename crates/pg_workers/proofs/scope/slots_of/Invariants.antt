@@ -6,7 +6,8 @@ use Rattle.pg_workers.proofs.scope.slots_of.Given as goal
 abbrev pub invariant-loop-share : goal.invariant-loop-share
 invariant-loop-share g l =
     (vec_len l.shares + vec_len l.slots ≡ vec_len l.initial.shares)
-    × (l.tickets.items ≡ replicate (vec_len l.shares) (fresh g.J.Counting.total))
+    × (l.shares.items ≡ replicate (vec_len l.shares) 0)
+    × (l.tickets.items ≡ replicate (vec_len l.shares) (fresh g.J.Naming.series))
     × (vec_capacity l.slots ≡ vec_len l.initial.shares)
 
 abbrev pub decreases-loop-share : goal.decreases-loop-share

@@ -1,5 +1,6 @@
-use Rattle.std.proofs.Common.{◌≡◌, ◌+◌, ◌≤◌, vec_len}
+use Rattle.std.proofs.Common.{◌≡◌, ◌+◌, ◌≤◌, All, map, vec_len}
 use Rattle.std.specs.Vec.{vec_capacity}
+use Rattle.pg_workers.specs.Report.{settled_in, AreWithin}
 use Rattle.pg_workers.proofs.scope.take_apart.Given as goal
 
 abbrev pub invariant-loop-slot : goal.invariant-loop-slot
@@ -10,6 +11,9 @@ invariant-loop-slot g l =
     × (vec_len l.initial.slots ≤ vec_capacity l.shares)
     × (vec_len l.initial.slots ≤ vec_capacity l.tickets)
     × (vec_len l.initial.slots ≤ vec_capacity l.rows)
+    × (map (λ rows. settled_in rows.items) l.rows.items ≡ l.shares.items)
+    × All (λ t. t.series ≡ g.J.Naming.series) l.tickets.items
+    × All (λ rows. AreWithin g.J.Naming.series.total rows.items) l.rows.items
 
 abbrev pub decreases-loop-slot : goal.decreases-loop-slot
 decreases-loop-slot g l = vec_len l.slots

@@ -19,6 +19,7 @@ returns g c =
       lawful = outcome.lawful;
       full = outcome.full;
       order = outcome.report;
+      adds_up = outcome.adds_up;
       text_is = c.in_ok-text.ensures
           ∙ ap (λ (j : Journal). trace_text c.args.game.now j c.as_slice-2.result.now) c.as_slice.ensures.value
           ∙ ap (λ (r : List ReportRow). trace_text c.args.game.now c.in_ok-outcome.outcome.entries.items r) c.as_slice-2.ensures.value;

@@ -24,14 +24,14 @@ returns-clause-lawful c =
     let lawful : IsLawful x.graph x.journal = subst (λ (y : Play). IsLawful y.graph y.journal) c.self.view_is c.self.invariant.lawful in
     lawful_after x.graph game x.journal lawful c.args.claim.now c.settle_sound.new.self c.args.worker c.settle_sound.result c.settle_sound.ensures.posted c.settle_sound.ensures.unchanged c.settle_sound.ensures.game
 
-pub returns-in_err-_checked-clause-old_copies : goal.returns-in_err-_checked-clause-old_copies
-returns-in_err-_checked-clause-old_copies c = λ k d.
+pub returns-in_err-judge_claim-clause-old_copies : goal.returns-in_err-judge_claim-clause-old_copies
+returns-in_err-judge_claim-clause-old_copies c = λ k d.
     let x = c.args.self.now in
     let claim = c.args.claim.now in
-    let fault = c.in_err-_checked.field-0.0 in
+    let fault = c.in_err-judge_claim.field-0.0 in
     let game : IsGame x.graph = subst (λ (y : Play). IsGame y.graph) c.self.view_is c.len-n.ensures.game in
     let lawful : IsLawful x.graph x.journal = subst (λ (y : Play). IsLawful y.graph y.journal) c.self.view_is c.self.invariant.lawful in
-    let wrong : IsClaimFault x.graph claim.player claim.rows fault = subst (λ (y : Play). IsClaimFault y.graph claim.player claim.rows fault) c.self.view_is c.in_err-_checked.ensures.fault in
+    let wrong : IsClaimFault x.graph claim.player claim.rows fault = subst (λ (y : Play). IsClaimFault y.graph claim.player claim.rows fault) c.self.view_is c.in_err-judge_claim.ensures.fault in
     let e : c.from_residual.result ≡ Err (refusal_of fault) = search rules in
     subst (λ (r : Result Posted Refusal). AnswersDominion (state_of x.journal) claim.rows r × SettlesUnlessMemory x x claim.player claim.rows r) (sym e)
     (old_copy x.graph game x.journal lawful claim k d x c.args.worker (Err (refusal_of fault)) tt (refused_check x.graph (state_of x.journal) claim.player claim.rows fault wrong) refl)

@@ -5,24 +5,23 @@ use Rattle.std.proofs.lemmas.Bool.{eqb-false}
 use Rattle.pg_game.specs.declared.player.Player.{Player}
 use Rattle.pg_game.specs.Graph.{Graph}
 use Rattle.pg_game.specs.Least.{NoneHas}
-use Rattle.pg_game.specs.VertexSet.{VertexSet, union, members}
+use Rattle.pg_game.specs.VertexSet.{VertexSet, union}
 use Rattle.pg_dominion.specs.Claim.{Rows, named, IsSound, AreRight}
 use Rattle.pg_board.specs.Play.{Play}
 use Rattle.pg_board.specs.State.{State, settled, rest_of, IsGoodOn}
 use Rattle.pg_board.specs.Journal.{Journal, state_of}
-use Rattle.pg_board.specs.declared.rest.Rest.{Rest}
 use Rattle.pg_board.specs.declared.regions.Regions.{Regions}
 use Rattle.pg_board.specs.Regions.{told, IsBoard}
-use Rattle.pg_board.specs.OpenEdges.{IsRestOf, LeadsOutside, IsFirstOutside}
+use Rattle.pg_board.specs.OpenEdges.{LeadsOutside, IsFirstOutside}
 use Rattle.pg_board.specs.Refusal.{IsLost, IsFirstOpenEdge}
 use Rattle.pg_board.proofs.RestIsGood.{rest_right, rest_is_good, rest_twice}
-use Rattle.pg_board.proofs.Entering.{rest_set}
-use Rattle.pg_board.proofs.Posting.{Bounds, first_open, good_on, adds_claim}
+use Rattle.pg_board.specs.Post.{Adds}
+use Rattle.pg_board.proofs.Posting.{Bounds, first_open, good_on, adds_claim, few_rows}
 use Rattle.pg_board.proofs.board.Board.settle_sound.Goals as goal
 
 -- where edges may end, as the code has it
-bounds_are : (g : Graph) (t : State) (p : Player) (rows : Rows) (rest : Rest) → rest.rows.items ≡ rest_of t rows → IsRestOf g rest → union (members rest.mask) (settled t p) ≡ Bounds t p rows
-bounds_are g t p rows rest same r = ap (λ (X : VertexSet). union X (settled t p)) (rest_set g rest r ∙ ap (λ (xs : Rows). named xs) same)
+bounds_are : (t : State) (p : Player) (rows rest : Rows) → rest ≡ rest_of t rows → union (named rest) (settled t p) ≡ Bounds t p rows
+bounds_are t p rows rest same = ap (λ (xs : Rows). union (named xs) (settled t p)) same
 
 sound_here : (x : Play) (g : Graph) (j : Journal) (p : Player) (rows : Rows) → record { graph = g; journal = j } ≡ x → IsSound x.graph p rows → IsSound g p rows
 sound_here x g j p rows view sound = subst (λ (y : Play). IsSound y.graph p rows) (sym view) sound
@@ -32,7 +31,7 @@ first_edge-requires-clause-right c =
     let b = c.self.inside in
     let claim = c.args.claim.now in
     let sound = sound_here c.args.self.now b.game.now b.entries.items claim.player claim.rows c.self.view_is c.requires in
-    subst (λ (xs : Rows). AreRight b.game.now claim.player xs) (sym (c.as_slice.ensures.value ∙ c.in_ok-rest.ensures.rows))
+    subst (λ (xs : Rows). AreRight b.game.now claim.player xs) (sym (c.as_slice-rows.ensures.value ∙ c.in_ok-rest.ensures.rows))
     (rest_right b.game.now claim.player (told b.regions.table.items) claim.rows sound.shape.right)
 
 pub returns-in-Some-first_edge-clause-refused : goal.returns-in-Some-first_edge-clause-refused
@@ -42,15 +41,15 @@ returns-in-Some-first_edge-clause-refused c =
     let p = claim.player in
     let rows = claim.rows in
     let t = told b.regions.table.items in
-    let rest = c.in_ok-rest.rest in
+    let rest = c.in_ok-rest.rest.items in
     let v = c.in-Some-first_edge.v in
     let w = c.in-Some-first_edge.w in
     let sound = sound_here c.args.self.now b.game.now b.entries.items p rows c.self.view_is c.requires in
-    let slice : c.as_slice.result.now ≡ rest_of t rows = c.as_slice.ensures.value ∙ c.in_ok-rest.ensures.rows in
-    let found : IsFirstOutside b.game.now p (union (members rest.mask) (settled t p)) c.as_slice.result.now v w = c.in-Some-first_edge.ensures in
+    let slice : c.as_slice-rows.result.now ≡ rest_of t rows = c.as_slice-rows.ensures.value ∙ c.in_ok-rest.ensures.rows in
+    let found : IsFirstOutside b.game.now p (union (named c.as_slice-rows.result.now) (settled t p)) c.as_slice-rows.result.now v w = c.in-Some-first_edge.ensures in
     let first : IsFirstOutside b.game.now p (Bounds t p rows) (rest_of t rows) v w =
-    subst (λ (S : VertexSet). IsFirstOutside b.game.now p S (rest_of t rows) v w) (bounds_are b.game.now t p rows rest c.in_ok-rest.ensures.rows c.in_ok-rest.ensures.mask)
-    (subst (λ (xs : Rows). IsFirstOutside b.game.now p (union (members rest.mask) (settled t p)) xs v w) slice found) in
+    subst (λ (S : VertexSet). IsFirstOutside b.game.now p S (rest_of t rows) v w) (bounds_are t p rows c.as_slice-rows.result.now slice)
+    (subst (λ (xs : Rows). IsFirstOutside b.game.now p (union (named c.as_slice-rows.result.now) (settled t p)) xs v w) slice found) in
     subst (λ (x : Play). IsSound x.graph p rows × NoneHas (IsLost (state_of x.journal) p rows) × IsFirstOpenEdge x.graph (state_of x.journal) p rows v w) c.self.view_is
     (subst (λ (s : State). IsSound b.game.now p rows × NoneHas (IsLost s p rows) × IsFirstOpenEdge b.game.now s p rows v w) (fun_ext c.self.invariant.state)
     (sound, c.in_default.ensures, first_open b.game.now t p rows v w first))
@@ -59,12 +58,12 @@ nonempty : (n m : ℕ) → n ≡ m → (n == 0) ≡ false → 0 < m
 nonempty n m e f = let h = eqb-false n 0 f in omega (arith, h)
 
 -- the claim is good where nothing was found
-claim_good : (x : Play) (g : Graph) (j : Journal) (r : Regions) (number : ℕ) (p : Player) (rows : Rows) (rest : Rest) (slice : Rows) → record { graph = g; journal = j } ≡ x → IsBoard g j r number → IsSound x.graph p rows → NoneHas (IsLost (told r.table.items) p rows) → rest.rows.items ≡ rest_of (told r.table.items) rows → IsRestOf g rest → slice ≡ rest.rows.items → 0 < length rest.rows.items → ((v w : ℕ) → LeadsOutside g p (union (members rest.mask) (settled (told r.table.items) p)) slice v w → ⊥) → IsGoodOn x.graph (state_of x.journal) p rows
-claim_good x g j r number p rows rest slice view board sound none same mask all some closed =
+claim_good : (x : Play) (g : Graph) (j : Journal) (r : Regions) (number : ℕ) (p : Player) (rows rest slice : Rows) → record { graph = g; journal = j } ≡ x → IsBoard g j r number → IsSound x.graph p rows → NoneHas (IsLost (told r.table.items) p rows) → rest ≡ rest_of (told r.table.items) rows → slice ≡ rest → 0 < length rest → ((v w : ℕ) → LeadsOutside g p (union (named slice) (settled (told r.table.items) p)) slice v w → ⊥) → IsGoodOn x.graph (state_of x.journal) p rows
+claim_good x g j r number p rows rest slice view board sound none same all some closed =
     let t = told r.table.items in
     let outside : (v w : ℕ) → LeadsOutside g p (Bounds t p rows) (rest_of t rows) v w → ⊥ =
-    subst (λ (S : VertexSet). (v w : ℕ) → LeadsOutside g p S (rest_of t rows) v w → ⊥) (bounds_are g t p rows rest same mask)
-    (subst (λ (xs : Rows). (v w : ℕ) → LeadsOutside g p (union (members rest.mask) (settled t p)) xs v w → ⊥) (all ∙ same) closed) in
+    subst (λ (S : VertexSet). (v w : ℕ) → LeadsOutside g p S (rest_of t rows) v w → ⊥) (bounds_are t p rows slice (all ∙ same))
+    (subst (λ (xs : Rows). (v w : ℕ) → LeadsOutside g p (union (named slice) (settled t p)) xs v w → ⊥) (all ∙ same) closed) in
     subst (λ (y : Play). IsGoodOn y.graph (state_of y.journal) p rows) view
     (subst (λ (s : State). IsGoodOn g s p rows) (fun_ext board.state)
     (good_on g t p rows (sound_here x g j p rows view sound) none (subst (λ (xs : Rows). 0 < length xs) same some) outside))
@@ -74,33 +73,46 @@ rest_here : (x : Play) (g : Graph) (j : Journal) (r : Regions) (number : ℕ) (r
 rest_here x g j r number rows rest view board same =
     subst (λ (y : Play). rest ≡ rest_of (state_of y.journal) rows) view (subst (λ (s : State). rest ≡ rest_of s rows) (fun_ext board.state) same)
 
+pub rest_of-requires-clause-short : goal.rest_of-requires-clause-short
+rest_of-requires-clause-short c =
+    let b = c.self.inside in
+    let claim = c.args.claim.now in
+    let sound = sound_here c.args.self.now b.game.now b.entries.items claim.player claim.rows c.self.view_is c.requires in
+    let few = few_rows b.game.now claim.player claim.rows sound.shape.right in
+    let limit = c.len-n.ensures.limits.vertices in
+    omega (arith, few, limit)
+
 pub enter-requires-clause-good : goal.enter-requires-clause-good
 enter-requires-clause-good c =
     let b = c.self.inside in
     let claim = c.args.claim.now in
-    let rest = c.in_ok-rest.rest in
-    let same = rest_here c.args.self.now b.game.now b.entries.items b.regions b.number claim.rows rest.rows.items c.self.view_is c.self.invariant c.in_ok-rest.ensures.rows in
-    let some = nonempty _ (length rest.rows.items) (rest.rows.ok.0) (sym c.is_empty.ensures ∙ c.if-is_empty.false) in
-    let good = claim_good c.args.self.now b.game.now b.entries.items b.regions b.number claim.player claim.rows rest c.as_slice.result.now c.self.view_is c.self.invariant c.requires c.in_default.ensures c.in_ok-rest.ensures.rows c.in_ok-rest.ensures.mask c.as_slice.ensures.value some c.in_default-first_edge.ensures in
-    subst (λ (xs : Rows). IsGoodOn c.args.self.now.graph (state_of c.args.self.now.journal) claim.player xs) (sym same)
-    (rest_is_good c.args.self.now.graph (state_of c.args.self.now.journal) claim.player claim.rows good)
+    let rest = c.in_ok-rest.rest.items in
+    let x : Play = record { graph = b.game.now; journal = b.entries.items } in
+    let sound = sound_here c.args.self.now b.game.now b.entries.items claim.player claim.rows c.self.view_is c.requires in
+    let same = rest_here x b.game.now b.entries.items b.regions b.number claim.rows rest refl c.self.invariant c.in_ok-rest.ensures.rows in
+    let some = nonempty _ (length rest) (c.in_ok-rest.rest.ok.0) (sym c.is_empty.ensures ∙ c.if-is_empty.false) in
+    let good = claim_good x b.game.now b.entries.items b.regions b.number claim.player claim.rows rest c.as_slice-rows.result.now refl c.self.invariant sound c.in_default.ensures c.in_ok-rest.ensures.rows c.as_slice-rows.ensures.value some c.in_default-first_edge.ensures in
+    subst (λ (xs : Rows). IsGoodOn b.game.now (state_of b.entries.items) claim.player xs) (sym same)
+    (rest_is_good b.game.now (state_of b.entries.items) claim.player claim.rows good)
 
 pub enter-requires-clause-unsettled : goal.enter-requires-clause-unsettled
 enter-requires-clause-unsettled c =
     let b = c.self.inside in
     let claim = c.args.claim.now in
-    let rest = c.in_ok-rest.rest in
-    let st = state_of c.args.self.now.journal in
-    let same = rest_here c.args.self.now b.game.now b.entries.items b.regions b.number claim.rows rest.rows.items c.self.view_is c.self.invariant c.in_ok-rest.ensures.rows in
+    let rest = c.in_ok-rest.rest.items in
+    let x : Play = record { graph = b.game.now; journal = b.entries.items } in
+    let st = state_of b.entries.items in
+    let same = rest_here x b.game.now b.entries.items b.regions b.number claim.rows rest refl c.self.invariant c.in_ok-rest.ensures.rows in
     subst (λ (xs : Rows). rest_of st xs ≡ xs) (sym same) (rest_twice st claim.rows)
 
 pub returns-clause-posted : goal.returns-clause-posted
 returns-clause-posted c =
     let b = c.self.inside in
     let claim = c.args.claim.now in
-    let rest = c.in_ok-rest.rest in
-    let same = rest_here c.args.self.now b.game.now b.entries.items b.regions b.number claim.rows rest.rows.items c.self.view_is c.self.invariant c.in_ok-rest.ensures.rows in
-    let some = nonempty _ (length rest.rows.items) (rest.rows.ok.0) (sym c.is_empty.ensures ∙ c.if-is_empty.false) in (
-      claim_good c.args.self.now b.game.now b.entries.items b.regions b.number claim.player claim.rows rest c.as_slice.result.now c.self.view_is c.self.invariant c.requires c.in_default.ensures c.in_ok-rest.ensures.rows c.in_ok-rest.ensures.mask c.as_slice.ensures.value some c.in_default-first_edge.ensures,
-      adds_claim c.args.self.now c.enter.new.self c.args.worker claim.player rest.rows.items claim c.in_ok-enter.field-0 refl same c.in_ok-enter.ensures.added,
+    let rest = c.in_ok-rest.rest.items in
+    let same = rest_here c.args.self.now b.game.now b.entries.items b.regions b.number claim.rows rest c.self.view_is c.self.invariant c.in_ok-rest.ensures.rows in
+    let some = nonempty _ (length rest) (c.in_ok-rest.rest.ok.0) (sym c.is_empty.ensures ∙ c.if-is_empty.false) in (
+      claim_good c.args.self.now b.game.now b.entries.items b.regions b.number claim.player claim.rows rest c.as_slice-rows.result.now c.self.view_is c.self.invariant c.requires c.in_default.ensures c.in_ok-rest.ensures.rows c.as_slice-rows.ensures.value some c.in_default-first_edge.ensures,
+      adds_claim c.args.self.now c.enter.new.self c.args.worker claim.player rest claim c.in_ok-enter.field-0 refl same
+          (subst (λ (y : Play). Adds y c.enter.new.self c.args.worker (record { player = claim.player; rows = rest }) c.in_ok-enter.field-0) c.self.view_is c.in_ok-enter.ensures.added),
     )

@@ -1,11 +1,13 @@
-use Rattle.std.proofs.Common.{◌≡◌, take}
+use Rattle.std.proofs.Common.{◌≡◌, ◌≤◌, length, take}
 use Rattle.pg_board.specs.State.{rest_of}
 use Rattle.pg_board.specs.Regions.{told}
-use Rattle.pg_board.specs.OpenEdges.{IsRestOf}
+use Rattle.pg_board.specs.OpenEdges.{ArePlaced}
 use Rattle.pg_board.proofs.regions.Regions.rest_of.Given as goal
 
 abbrev pub invariant-rows : goal.invariant-rows
 invariant-rows l = record {
-  rows : l.rest.rows.items ≡ rest_of (told l.self.table.items) (take l.row-index l.row-items);
-  mask : IsRestOf l.game l.rest;
+  rows : l.rest.items ≡ rest_of (told l.self.table.items) (take l.row-index l.row-items);
+  size : length l.places.items ≡ length l.game;
+  placed : ArePlaced l.rest.items l.places.items;
+  few : length l.rest.items ≤ l.row-index;
 }

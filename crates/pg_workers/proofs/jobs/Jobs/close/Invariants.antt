@@ -1,10 +1,19 @@
-use Rattle.std.specs.Prelude.{◌≡◌, ◌≤◌, ◌+◌, map, length, vec_len}
+use Rattle.std.specs.Prelude.{◌≡◌, ◌+◌, [], ◌++◌, length, map, flat_map, count_by, vec_len}
 use Rattle.std.specs.Vec.{vec_capacity}
+use Rattle.std.specs.Vec.Iter.{into_iter_items, into_iter_len}
 use Rattle.pg_workers.proofs.jobs.Jobs.close.Given as goal
 
+-- the seat stands for the first ticket and those that the loop has taken, and the room has what they drew
 abbrev pub invariant-loop-ticket : goal.invariant-loop-ticket
 invariant-loop-ticket l =
-    (map (λ d. d.numbers.items) l.all.items ≡ map (λ t. t.numbers) l.yielded)
-    × (map (λ d. d.told_none) l.all.items ≡ map (λ t. t.told_none) l.yielded)
-    × (vec_len l.all ≡ length l.yielded)
-    × (vec_len l.fn.tickets ≤ vec_capacity l.all)
+    (l.yielded ++ into_iter_items l.ticket-iterator ≡ into_iter_items l.initial.ticket-iterator)
+    × (into_iter_len l.ticket-iterator ≡ length (into_iter_items l.ticket-iterator))
+    × (l.seat.table_id ≡ l.initial.seat.table_id)
+    × (l.seat.me.1 ≡ [])
+    × (l.seat.me.0.tickets ≡ 1 + length l.yielded)
+    × (l.seat.me.0.told_none ≡ l.initial.seat.me.0.told_none + count_by (λ t. t.told_none) l.yielded)
+    × (l.seat.me.0.drawn ≡ l.initial.seat.me.0.drawn ++ flat_map (λ t. t.numbers) l.yielded)
+    × (map (λ d. d.numbers.items) l.room.items ≡ map (λ d. d.numbers.items) l.initial.room.items ++ map (λ t. t.numbers) l.yielded)
+    × (map (λ d. d.told_none) l.room.items ≡ map (λ d. d.told_none) l.initial.room.items ++ map (λ t. t.told_none) l.yielded)
+    × (vec_len l.room ≡ 1 + length l.yielded)
+    × (vec_capacity l.room ≡ vec_capacity l.initial.room)

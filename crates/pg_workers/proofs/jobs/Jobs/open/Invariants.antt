@@ -1,8 +1,14 @@
-use Rattle.std.specs.Prelude.{◌≡◌, replicate, vec_len}
+use Rattle.std.specs.Prelude.{◌≡◌, ◌+◌, ◌-◌, [], replicate, vec_len}
 use Rattle.std.specs.Vec.{vec_capacity}
+use Rattle.pg_workers.specs.Drawing.{drawer}
 use Rattle.pg_workers.specs.Tickets.{fresh}
 use Rattle.pg_workers.proofs.jobs.Jobs.open.Given as goal
 
+-- the seat that is split stands for the tickets that are still to be made
 abbrev pub invariant-loop-i : goal.invariant-loop-i
 invariant-loop-i l =
-    (vec_len l.tickets ≡ l._i) × (vec_capacity l.tickets ≡ l.seats) × (l.tickets.items ≡ replicate l._i (fresh l.total))
+    (l.rest.table_id ≡ l.table.shared.table_id)
+    × (l.rest.me ≡ (drawer l.total (l.seats + 1 - l._i) 0 [], []))
+    × (l.tickets.items ≡ replicate (l._i - 1) (fresh (record { table = l.table.shared.table_id; total = l.total })))
+    × (vec_len l.tickets + 1 ≡ l._i)
+    × (vec_capacity l.tickets ≡ l.seats)

@@ -1,0 +1,62 @@
+use Rattle.std.proofs.Common.{◌≡◌, refl, sym, subst, rules}
+use Rattle.std.specs.Prelude.{IfOk, IfErr}
+use Rattle.pg_game.specs.Graph.{Graph, IsGame}
+use Rattle.pg_dominion.specs.declared.claim.Claim.{Claim}
+use Rattle.pg_dominion.specs.Claim.{IsSound}
+use Rattle.pg_dominion.specs.Checked.{claim_of, claim_rows, Agrees, IsForeign}
+use Rattle.pg_dominion.proofs.Agreed.{sound}
+use Rattle.pg_dominion.proofs.Recorded.{never_foreign}
+use Rattle.pg_board.specs.declared.entry.Posted.{Posted}
+use Rattle.pg_board.specs.Play.{Play}
+use Rattle.pg_board.specs.State.{IsGoodOn}
+use Rattle.pg_board.specs.Journal.{state_of, IsLawful}
+use Rattle.pg_board.specs.Refusal.{Refuses}
+use Rattle.pg_board.specs.Post.{Adds}
+use Rattle.pg_board.proofs.OldCopies.{old_copy, lawful_after, checked_refusal}
+use Rattle.pg_board.proofs.board.Board.settle.Goals as goal
+
+pub returns-in-Some-clause-old_copies : goal.returns-in-Some-clause-old_copies
+returns-in-Some-clause-old_copies c = λ k a d.
+    let q = c.args.checked.now in
+    let x = c.args.self.now in
+    let foreign : IsForeign x.graph q.player q.rows c.in-Some.v = subst (λ (y : Play). IsForeign y.graph q.player q.rows c.in-Some.v) c.self.view_is c.in-Some.ensures in
+    absurd (never_foreign x.graph q.player q.rows c.in-Some.v a foreign)
+
+pub settle_sound-requires : goal.settle_sound-requires
+settle_sound-requires c =
+    let q = c.args.checked.now in
+    let b = c.self.inside in
+    let here : IsSound b.game.now q.player (claim_rows q.player q.rows) = sound b.game.now q.player q.rows c.claim.ensures.checked c.in_default.ensures in
+    subst (λ (y : Play). IsSound y.graph c.claim.result.now.player c.claim.result.now.rows) c.self.view_is
+    (subst (λ (k : Claim). IsSound b.game.now k.player k.rows) (sym c.claim.ensures.claim) here)
+
+pub returns-clause-posted : goal.returns-clause-posted
+returns-clause-posted c =
+    let x = c.args.self.now in
+    subst (λ (k : Claim). IfOk c.settle_sound.result (λ posted. IsGoodOn x.graph (state_of x.journal) k.player k.rows × Adds x c.settle_sound.new.self c.args.worker k posted)) c.claim.ensures.claim c.settle_sound.ensures.posted
+
+pub returns-clause-refused : goal.returns-clause-refused
+returns-clause-refused c =
+    let q = c.args.checked.now in
+    let x = c.args.self.now in
+    let agrees : Agrees x.graph q.player q.rows = subst (λ (y : Play). Agrees y.graph q.player q.rows) c.self.view_is c.in_default.ensures in
+    checked_refusal x.graph (state_of x.journal) q agrees c.settle_sound.result c.settle_sound.ensures.of_state
+    (subst (λ (k : Claim). IfErr c.settle_sound.result (λ e. Refuses x.graph (state_of x.journal) k.player k.rows e)) c.claim.ensures.claim c.settle_sound.ensures.refused)
+
+pub returns-clause-lawful : goal.returns-clause-lawful
+returns-clause-lawful c =
+    let x = c.args.self.now in
+    let game : IsGame x.graph = subst (λ (y : Play). IsGame y.graph) c.self.view_is c.len-n.ensures.game in
+    let lawful : IsLawful x.graph x.journal = subst (λ (y : Play). IsLawful y.graph y.journal) c.self.view_is c.self.invariant.lawful in
+    lawful_after x.graph game x.journal lawful c.claim.result.now c.settle_sound.new.self c.args.worker c.settle_sound.result c.settle_sound.ensures.posted c.settle_sound.ensures.unchanged c.settle_sound.ensures.game
+
+pub returns-clause-old_copies : goal.returns-clause-old_copies
+returns-clause-old_copies c = λ k a d.
+    let x = c.args.self.now in
+    let q = c.args.checked.now in
+    let game : IsGame x.graph = subst (λ (y : Play). IsGame y.graph) c.self.view_is c.len-n.ensures.game in
+    let lawful : IsLawful x.graph x.journal = subst (λ (y : Play). IsLawful y.graph y.journal) c.self.view_is c.self.invariant.lawful in
+    old_copy x.graph game x.journal lawful (claim_of q) k d c.settle_sound.new.self c.args.worker c.settle_sound.result
+    (subst (λ (k : Claim). IfOk c.settle_sound.result (λ posted. IsGoodOn x.graph (state_of x.journal) k.player k.rows × Adds x c.settle_sound.new.self c.args.worker k posted)) c.claim.ensures.claim c.settle_sound.ensures.posted)
+    (subst (λ (k : Claim). IfErr c.settle_sound.result (λ e. Refuses x.graph (state_of x.journal) k.player k.rows e)) c.claim.ensures.claim c.settle_sound.ensures.refused)
+    c.settle_sound.ensures.unchanged

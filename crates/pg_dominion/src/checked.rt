@@ -1,0 +1,155 @@
+//! A claim that was checked, with what its game says of its vertices: so whether it is sound in another game can be told
+//! row by row, with no search for closed walks.
+
+ghost use Rattle.std.specs.Prelude.{◌≡◌, ℕ, ◌∷◌, [], IfOk, MatchOption, true, false};
+ghost use Rattle.pg_dominion.specs.Claim.{IsRightRow, AreRight, IsSound};
+ghost use Rattle.pg_dominion.specs.Checked.{claim_row, claim_rows, claim_of, IsSingle, AgreesAt, Agrees, IsForeign, AreChecked};
+
+use crate::claim::Claim;
+use pg_game::{Game, Player, Sequence};
+use std::alloc::{AllocError, Global};
+use std::marker::Model;
+
+/// A vertex of a checked claim, with what its game says of it. The kept successors are the choice alone where the
+/// player owns the vertex, and all of them elsewhere.
+#[derive(Drop)]
+pub struct CheckedRow {
+    pub vertex: u32,
+    pub owner: Player,
+    pub priority: u32,
+    pub kept: Sequence<u32>,
+}
+
+/// A claim that `check_claim` accepted, which alone makes such a value. Its type keeps that its rows are not empty and
+/// rise, that one successor is kept at each vertex of its player, and that its kept edges make only good closed walks.
+#[derive(Drop)]
+pub struct Checked {
+    claim: Claim,
+    rows: Vec<CheckedRow>,
+}
+
+impl Model for Checked {
+    ghost use Rattle.std.specs.Prelude.{◌≡◌};
+    ghost use Rattle.pg_dominion.specs.Checked.{CheckedClaim, AreChecked, claim_rows};
+
+    ghost Value = { CheckedClaim };
+
+    ghost view = { λ c. record { player = c.claim.player; rows = c.rows.items } };
+
+    ghost invariant = { λ c. AreChecked c.claim.player c.rows.items × (c.claim.rows ≡ claim_rows c.claim.player c.rows.items) };
+}
+
+impl CheckedRow {
+    /// The row of a claim that is right in a game, with what the game says of its vertex.
+    fn of(
+        alloc: Global,
+        game: &Game,
+        player: Player,
+        row: (u32, Option<u32>),
+    ) -> Result<CheckedRow, AllocError>
+        requires { IsRightRow game.now player row }
+        ensures agrees { IfOk result (λ r. AgreesAt game.now player r) }
+        ensures row { IfOk result (λ r. claim_row player r ≡ row) }
+    {
+        let (vertex, choice) = row;
+        let _n = game.len();
+        let kept = match choice {
+            Some(w) => vec![in alloc; w; 1]?,
+            None => Vec::from_slice(alloc, game.successors(vertex))?,
+        };
+        Ok(CheckedRow {
+            vertex,
+            owner: game.owner(vertex),
+            priority: game.priority(vertex),
+            kept: Sequence::new(kept),
+        })
+    }
+
+    /// Whether the row says of its vertex what the game says.
+    fn agrees(&self, game: &Game, player: Player) -> bool
+        requires { IsSingle player self.now }
+        ensures agrees { result ≡ true → AgreesAt game.now player self.now }
+        ensures foreign { result ≡ false → AgreesAt game.now player self.now → ⊥ }
+    {
+        let v = self.vertex;
+        if v >= game.len() || self.owner != game.owner(v) || self.priority != game.priority(v) {
+            return false;
+        }
+        let kept = self.kept.as_slice();
+        if self.owner == player {
+            game.has_edge(v, kept[0])
+        } else {
+            kept == game.successors(v)
+        }
+    }
+}
+
+/// What the game says of the rows of a claim that are right in it.
+fn checked_rows(alloc: Global, game: &Game, claim: &Claim) -> Result<Vec<CheckedRow>, AllocError>
+    requires { AreRight game.now claim.now.player claim.now.rows }
+    ensures agree { IfOk result (λ rows. Agrees game.now claim.now.player rows.items) }
+    ensures rows { IfOk result (λ rows. claim_rows claim.now.player rows.items ≡ claim.now.rows) }
+{
+    let claimed = claim.rows.as_slice();
+    let mut rows = Vec::with_capacity(alloc, claimed.len())?;
+    'rows: for row in claimed {
+        rows.push(CheckedRow::of(alloc, game, claim.player, *row)?)?;
+    }
+    Ok(rows)
+}
+
+impl Checked {
+    /// A claim that is known to be sound, with what its game says of its vertices.
+    pub(crate) fn of(alloc: Global, game: &Game, claim: &Claim) -> Result<Checked, AllocError>
+        requires { IsSound game.now claim.now.player claim.now.rows }
+        ensures holds { IfOk result (λ c. claim_of c ≡ claim.now) }
+        ensures agrees { IfOk result (λ c. Agrees game.now c.player c.rows) }
+    {
+        let rows = checked_rows(alloc, game, claim)?;
+        let claimed = Vec::from_slice(alloc, claim.rows.as_slice())?;
+        Ok(Checked {
+            claim: Claim {
+                player: claim.player,
+                rows: Sequence::new(claimed),
+            },
+            rows,
+        })
+    }
+
+    pub fn player(&self) -> Player
+        ensures { result ≡ self.now.player }
+    {
+        self.claim.player
+    }
+
+    /// The rows, by rising vertex. Tells what the type keeps.
+    pub fn rows(&self) -> &[CheckedRow]
+        ensures rows { result.now ≡ self.now.rows }
+        ensures checked { AreChecked self.now.player self.now.rows }
+    {
+        let _player = self.claim.player;
+        self.rows.as_slice()
+    }
+
+    /// The claim that was checked.
+    pub fn claim(&self) -> &Claim
+        ensures claim { result.now ≡ claim_of self.now }
+        ensures checked { AreChecked self.now.player self.now.rows }
+    {
+        let _rows = &self.rows;
+        &self.claim
+    }
+
+    /// The vertex of the first row that does not say of it what the game says; none where the claim agrees with the game.
+    pub fn first_foreign(&self, game: &Game) -> Option<u32>
+        ensures { MatchOption result (Agrees game.now self.now.player self.now.rows) (IsForeign game.now self.now.player self.now.rows) }
+    {
+        let player = self.claim.player;
+        'rows: for row in self.rows.as_slice() {
+            if !row.agrees(game, player) {
+                return Some(row.vertex);
+            }
+        }
+        None
+    }
+}

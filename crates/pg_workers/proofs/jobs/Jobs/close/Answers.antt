@@ -1,0 +1,87 @@
+use Rattle.std.proofs.Common.{◌≡◌, ℕ, ◌<◌, List, [], ◌∷◌, ◌++◌, All, length, map, sym, ap, ◌∙◌, subst, arith, length-append, append_assoc, append-nil}
+use Rattle.std.specs.Prelude.{if◌then◌else◌, cond, flat_map, count_by}
+use Rattle.std.specs.Vec.Iter.{into_iter_items}
+use Rattle.std.proofs.lemmas.List.Sums.{sum_by_push, sum_by-cons}
+use Rattle.pg_workers.specs.declared.jobs.Drawn.{Drawn}
+use Rattle.pg_workers.specs.Tickets.{HeldTicket, AreDrawn}
+use Rattle.pg_workers.proofs.Moves.{joins, knows_all}
+use Rattle.pg_workers.proofs.Closing.{remade, nothing_left, all_here, flat_map-push, listed-push, drawn_by_all}
+use Rattle.pg_workers.proofs.jobs.Jobs.close.Goals as goal
+
+-- the ticket and the first one are of these jobs
+pub join_seat-requires : goal.join_seat-requires
+join_seat-requires c =
+    let at = c.loop-ticket in
+    let i = at.invariant in
+    let jobs = c.self.invariant in
+    let x = c.in-Some.ticket in
+    let left = ap (λ l. at.yielded ++ l) (sym c.in-Some.ensures.steps.0) ∙ i.0 ∙ c.into_iter-ticket-iterator.ensures.into_iter_gives.0 in
+    let some_ticket : 0 < length c.args.tickets.items = let l = c.requires.all in let s = ap (λ o. o.seats) c.self.view_is in omega (arith, jobs.some_seat) in
+    let whole = remade c.args.tickets.items c.remove.new.self.items c.remove.result some_ticket c.remove.ensures.value c.remove.ensures.items in
+    let own = λ (t : HeldTicket). t.series ≡ c.args.self.series in
+    let first = all_here own [] c.remove.new.self.items c.remove.result (subst (All own) whole c.requires.own) in
+    let this = all_here own (c.remove.result ∷ at.yielded) (into_iter_items c.next.new.self) x (subst (All own) (whole ∙ ap (λ l. c.remove.result ∷ l) (sym left)) c.requires.own) in
+    let mine = ap (λ o. o.series.table) c.self.view_is in
+    let one = ap (λ m. m.0.tickets) c.ticket.invariant.seat in (
+      i.2 ∙ ap (λ t. t.series.table) c.seat.view_is ∙ ap (λ s. s.table) first ∙ sym mine,
+      ap (λ t. t.series.table) c.ticket.view_is ∙ ap (λ s. s.table) this ∙ sym mine,
+      ap (λ m. m.1) c.ticket.invariant.seat,
+      omega (arith, jobs.words),
+      joins _ _ _ _ _ _ (let t = i.4 in omega arith),
+    )
+
+pub loop-ticket-preserved : goal.loop-ticket-preserved
+loop-ticket-preserved c =
+    let at = c.loop-ticket in
+    let i = at.invariant in
+    let x = c.in-Some.ticket in
+    let steps : into_iter_items at.ticket-iterator ≡ x ∷ into_iter_items c.next.new.self = c.in-Some.ensures.steps.0 in
+    let j = c.join_seat.ensures in
+    let other = c.ticket.invariant.seat in
+    let view = c.ticket.view_is in
+    let p = c.push_reserved-in-loop-ticket.ensures in
+    let long = length-append at.yielded (x ∷ []) in
+    let numbers = ap (λ m. m.0.drawn) other ∙ ap (λ t. t.numbers) view in (
+      append_assoc at.yielded (x ∷ []) _ ∙ rw (← steps) i.0,
+      (let gone = c.in-Some.ensures.steps.1 in let short = ap length steps in let was = i.1 in omega arith),
+      j.0 ∙ i.2,
+      ap (λ m. m.1) j.2 ∙ i.3,
+      (let a = ap (λ m. m.0.tickets) j.2 in let b = ap (λ m. m.0.tickets) other in let was = i.4 in omega arith),
+      (let a = ap (λ m. m.0.told_none) j.2 in
+          let b = ap (λ m. m.0.told_none) other ∙ ap (λ t. if t.told_none then 1 else 0) view in
+          let o = sum_by_push (λ (t : HeldTicket). cond t.told_none 1 0) at.yielded x in
+          let was = i.5 in
+          omega arith),
+      ap (λ m. m.0.drawn) j.2 ∙ ap (λ l. l ++ c.ticket.inside.seat.me.0.drawn) i.6
+      ∙ append_assoc c.seat.inside.seat.me.0.drawn (flat_map (λ (t : HeldTicket). t.numbers) at.yielded) c.ticket.inside.seat.me.0.drawn
+      ∙ ap (λ l. c.seat.inside.seat.me.0.drawn ++ l) (ap (λ z. flat_map (λ (t : HeldTicket). t.numbers) at.yielded ++ z) numbers ∙ sym (flat_map-push (λ (t : HeldTicket). t.numbers) at.yielded x)),
+      listed-push (λ (d : Drawn). d.numbers.items) (λ (t : HeldTicket). t.numbers) _ at.room.items c.push_reserved.new.self.items _ at.yielded x p.items i.7 (ap (λ t. t.numbers) view),
+      listed-push (λ (d : Drawn). d.told_none) (λ (t : HeldTicket). t.told_none) _ at.room.items c.push_reserved.new.self.items _ at.yielded x p.items i.8 (ap (λ t. t.told_none) view),
+      (let a = p.len in let was = i.9 in omega arith),
+      p.capacity ∙ i.10,
+    )
+
+pub returns-clause-fair : goal.returns-clause-fair
+returns-clause-fair c =
+    let at = c.loop-ticket in
+    let i = at.invariant in
+    let jobs = c.self.invariant in
+    let empty : into_iter_items at.ticket-iterator ≡ [] = nothing_left _ (sym i.1 ∙ c.in-None.ensures.steps.0) in
+    let done = sym (append-nil at.yielded) ∙ ap (λ l. at.yielded ++ l) (sym empty) ∙ i.0 ∙ c.into_iter-ticket-iterator.ensures.into_iter_gives.0 in
+    let some_ticket : 0 < length c.args.tickets.items = let l = c.requires.all in let s = ap (λ o. o.seats) c.self.view_is in omega (arith, jobs.some_seat) in
+    let whole : c.args.tickets.items ≡ c.remove.result ∷ at.yielded =
+    remade c.args.tickets.items c.remove.new.self.items c.remove.result some_ticket c.remove.ensures.value c.remove.ensures.items ∙ ap (λ l. c.remove.result ∷ l) (sym done) in
+    let last = c.close_with.ensures.values.2 in
+    let first = c.seat.invariant.seat in
+    let view = c.seat.view_is in
+    let all_seats : at.seat.me.0.tickets ≡ c.self.inside.table.shared.key.seats =
+    let l = ap length whole in let s = ap (λ o. o.seats) c.self.view_is in let k = ap (λ k. k.seats) jobs.key in let t = i.4 in let r = c.requires.all in omega arith in
+    let known = knows_all _ _ _ _ last.0 last.1.0 last.1.1 all_seats in
+    let total = ap (λ k. k.total) jobs.key ∙ ap (λ o. o.series.total) c.self.view_is in
+    let told = ap (λ m. m.0.told_none) first ∙ ap (λ t. if t.told_none then 1 else 0) view in
+    let numbers = ap (λ m. m.0.drawn) first ∙ ap (λ t. t.numbers) view in
+    let out = drawn_by_all _ known.0 at.seat.me.0.told_none at.seat.me.0.drawn (c.remove.result ∷ at.yielded) known.1 known.2 known.3
+    (i.6 ∙ ap (λ l. l ++ flat_map (λ (t : HeldTicket). t.numbers) at.yielded) numbers)
+    (let b = i.5 in let d = sum_by-cons (λ (t : HeldTicket). cond t.told_none 1 0) c.remove.result at.yielded in omega arith) in
+    subst (λ (n : ℕ). AreDrawn n c.args.tickets.items) total
+    (subst (λ (ts : List HeldTicket). AreDrawn c.self.inside.table.shared.key.total ts) (sym whole) out)

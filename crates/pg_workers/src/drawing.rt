@@ -1,0 +1,58 @@
+//! The word that numbers are drawn from: what a seat at it knows, and the steps that are taken on it.
+use atomic_table::{Join, Play, Split, TableRule};
+use std::collections::LinkedList;
+
+/// What a seat knows. No value of it is made.
+pub(crate) struct Drawer {
+    pub total: u64,
+    pub tickets: u64,
+    pub told_none: u64,
+    pub drawn: LinkedList<u64>,
+}
+
+/// How many numbers there are, and how many tickets.
+#[derive(Drop)]
+pub(crate) struct About {
+    pub total: u64,
+    pub seats: u64,
+}
+
+/// The rule that every step keeps.
+pub(crate) struct Drawing;
+
+impl TableRule<(), Drawer, About> for Drawing {
+    ghost use Rattle.std.specs.Prelude.{[]};
+    ghost use Rattle.pg_workers.specs.Drawing.{IsDrawn, drawer};
+
+    ghost holds = { λ about s. IsDrawn about.total about.seats s };
+
+    ghost first = { λ about. drawer about.total about.seats 0 [] };
+}
+
+/// A draw.
+pub(crate) struct Draw;
+
+impl Play<(), Drawer> for Draw {
+    ghost use Rattle.pg_workers.specs.Drawing.{Draws};
+
+    ghost then = { Draws };
+}
+
+/// One ticket leaves a seat that stands for several, or comes back.
+pub(crate) struct OneTicket;
+
+impl Split<Drawer> for OneTicket {
+    ghost use Rattle.pg_workers.specs.Drawing.{one_less, one_ticket};
+
+    ghost left = { one_less };
+
+    ghost right = { one_ticket };
+}
+
+impl Join<Drawer> for OneTicket {
+    ghost use Rattle.pg_workers.specs.Drawing.{both_drawers, spent_drawer};
+
+    ghost both = { both_drawers };
+
+    ghost spent = { spent_drawer };
+}
