@@ -22,7 +22,7 @@ use Rattle.pg_text.specs.GameText.{player_of}
 use Rattle.pg_text.specs.SolutionText.{Line}
 use Rattle.pg_text.specs.Solution.{Rows}
 use Rattle.pg_text.specs.SolutionLines.{AreLinesOf, first_stranger, first_twice, first_missing, has_line, row_of}
-use Rattle.pg_text.specs.SolutionTable.{Holds, IsNamed, IsStrangerOf, IsRowFaultOf}
+use Rattle.pg_text.specs.SolutionTable.{Holds, IsNamed, IsStrangerOf, IsLookUpFaultOf}
 use Rattle.pg_text.specs.SolutionKeeps.{line_of}
 use Rattle.pg_text.proofs.Identifiers.{number_at, named_is, stranger-append, line_named}
 
@@ -68,7 +68,7 @@ pub has_line-push : (lines : List Line) (l : Line) (id : ℕ) → has_line (line
 has_line-push lines l id = list_any-append (λ x. x.id == id) lines (l ∷ []) ∙ ap (λ b. has_line lines id || b) (or_none (l.id == id))
 
 -- a line is found by its identifier
-has_line_at : (lines : List Line) (l : Line) → Contains lines l → has_line lines l.id ≡ true
+pub has_line_at : (lines : List Line) (l : Line) → Contains lines l → has_line lines l.id ≡ true
 has_line_at lines l (k, h, e) = list_any_at (λ x. x.id == l.id) lines k l h (eq-eqb (slice_index_or lines k l).id l.id (ap (λ (x : Line). x.id) e))
 
 module _ (g : Graph) (lines : List Line) (rows : Rows) (said : List Bool) (twice : Option ℕ) (h : Holds g lines rows said twice) (l : Line) (v : ℕ) (n : IsNamed g l.id v) (home : first_stranger g (l ∷ []) ≡ None) where
@@ -214,7 +214,7 @@ next_line ls i d l =
     ∙ ap (λ (xs : List Line). xs ++ line_of (get_or ls i d) ∷ []) (sym (take-map line_of i ls))))
 
 -- a stranger's line ends the reading
-pub is_stranger : (g : Graph) (ls : List SolutionLine) (i : ℕ) (d : SolutionLine) (e : SolutionTextFault) → i < length ls → first_stranger g (take i (map line_of ls)) ≡ None → IsStrangerOf g (line_of (get_or ls i d)) e → IsRowFaultOf g (map line_of ls) e
+pub is_stranger : (g : Graph) (ls : List SolutionLine) (i : ℕ) (d : SolutionLine) (e : SolutionTextFault) → i < length ls → first_stranger g (take i (map line_of ls)) ≡ None → IsStrangerOf g (line_of (get_or ls i d)) e → IsLookUpFaultOf g (map line_of ls) e
 is_stranger g ls i d (fault.Stranger id) l none s =
     let lines : List Line = map line_of ls in
     let more : List Line = drop (i + 1) lines in

@@ -19,4 +19,5 @@ pub mod GameKeeps
 pub mod SolutionTable
 pub mod Bytes
 pub mod SolutionLines
+pub mod Known
 pub mod GameStates

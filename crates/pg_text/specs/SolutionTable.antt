@@ -50,3 +50,25 @@ IsRowFaultOf g lines (fault.Lexical at) = ⊥
 IsRowFaultOf g lines (fault.Syntax at) = ⊥
 IsRowFaultOf g lines (fault.Number at) = ⊥
 IsRowFaultOf g lines (fault.Winner at) = ⊥
+
+-- why lines name no rows of vertices, before it is asked which vertices have none
+abbrev pub IsLookUpFaultOf : Graph → List Line → SolutionTextFault → Type 0
+IsLookUpFaultOf g lines (fault.Stranger id) = first_stranger g lines ≡ Some id
+IsLookUpFaultOf g lines fault.Memory = Unit {0}
+IsLookUpFaultOf g lines (fault.Twice id) = ⊥
+IsLookUpFaultOf g lines (fault.Missing id) = ⊥
+IsLookUpFaultOf g lines (fault.Lexical at) = ⊥
+IsLookUpFaultOf g lines (fault.Syntax at) = ⊥
+IsLookUpFaultOf g lines (fault.Number at) = ⊥
+IsLookUpFaultOf g lines (fault.Winner at) = ⊥
+
+-- why the lines say nothing that is known
+abbrev pub IsKnownRowFaultOf : Graph → List Line → SolutionTextFault → Type 0
+IsKnownRowFaultOf g lines (fault.Stranger id) = first_stranger g lines ≡ Some id
+IsKnownRowFaultOf g lines (fault.Twice id) = (first_stranger g lines ≡ None) × (first_twice lines ≡ Some id)
+IsKnownRowFaultOf g lines fault.Memory = Unit {0}
+IsKnownRowFaultOf g lines (fault.Missing id) = ⊥
+IsKnownRowFaultOf g lines (fault.Lexical at) = ⊥
+IsKnownRowFaultOf g lines (fault.Syntax at) = ⊥
+IsKnownRowFaultOf g lines (fault.Number at) = ⊥
+IsKnownRowFaultOf g lines (fault.Winner at) = ⊥

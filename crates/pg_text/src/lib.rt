@@ -20,6 +20,6 @@ mod tests;
 mod writing;
 
 pub use fault::{SolutionTextFault, TextFault};
-pub use reading::{read_game, read_solution};
-pub use solution::Solution;
+pub use reading::{read_game, read_known, read_solution};
+pub use solution::{Known, Solution};
 pub use writing::{write_game, write_solution, write_winners};

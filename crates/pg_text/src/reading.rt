@@ -3,12 +3,13 @@ ghost use Rattle.std.specs.Prelude.{◌≡◌, ◌≤◌, length, IfOk, IfErr};
 ghost use Rattle.pg_game.specs.Graph.{IsGame};
 ghost use Rattle.pg_text.specs.Solution.{AreRows};
 ghost use Rattle.pg_text.specs.Reading.{IsTextOf, IsFaultOf, IsSolutionTextOf, IsSolutionFaultOf};
+ghost use Rattle.pg_text.specs.Known.{IsKnownTextOf, IsKnownFaultOf};
 
 use crate::fault::{SolutionTextFault, TextFault};
 use crate::game_reader::read_specs;
-use crate::solution::Solution;
+use crate::solution::{Known, Solution};
 use crate::solution_reader::read_solution_lines;
-use crate::solution_rows::rows_of;
+use crate::solution_rows::{known_of, rows_of};
 use pg_game::{Game, GameFault};
 use std::alloc::Global;
 
@@ -44,4 +45,19 @@ pub fn read_solution(alloc: Global, game: &Game, text: &[u8]) -> Result<Solution
 {
     let lines = read_solution_lines(alloc, text)?;
     rows_of(alloc, game, lines.as_slice())
+}
+
+/// What a text says that is known of a game: winners and choices as in a solution text, where vertices may be left out. The
+/// text is at most 268,435,456 bytes long; any bytes may stand in it.
+///
+/// Refused with the first fault, by kind and then by place: `Lexical`, `Syntax`, `Number`, `Winner`, `Stranger`, `Twice`; or
+/// with `Memory`. Never with `Missing`.
+pub fn read_known(alloc: Global, game: &Game, text: &[u8]) -> Result<Known, SolutionTextFault>
+    requires { length text.now ≤ 268435456 }
+    ensures size { IfOk result (λ k. length k.rows ≡ length game.now) }
+    ensures rows { IfOk result (λ k. IsKnownTextOf game.now text.now k.rows) }
+    ensures fault { IfErr result (λ e. IsKnownFaultOf game.now text.now e) }
+{
+    let lines = read_solution_lines(alloc, text)?;
+    known_of(alloc, game, lines.as_slice())
 }

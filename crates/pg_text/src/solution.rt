@@ -1,4 +1,4 @@
-//! Winners and choices for the vertices of a game.
+//! Winners and choices for the vertices of a game, or for some of them.
 
 use pg_game::{Player, Sequence};
 
@@ -6,4 +6,11 @@ use pg_game::{Player, Sequence};
 #[derive(Drop)]
 pub struct Solution {
     pub rows: Sequence<(Player, Option<u32>)>,
+}
+
+/// For each vertex, in order, what is known of it: its winner, and a choice (a vertex) or none; or nothing. Whether the
+/// winners do win is for a board to check.
+#[derive(Drop)]
+pub struct Known {
+    pub rows: Sequence<Option<(Player, Option<u32>)>>,
 }

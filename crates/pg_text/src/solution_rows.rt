@@ -1,17 +1,21 @@
 //! The rows that the lines of a solution text say of a game's vertices.
 //!
 //! One pass looks each identifier up once. A line of a stranger ends it; a second line of a vertex is only noted, since a
-//! stranger further on is named before it. What has no line is looked for at the end.
-ghost use Rattle.std.specs.Prelude.{◌≡◌, ℕ, ◌<◌, ◌++◌, ◌∷◌, false, List, [], length, map, IfOk, MatchResult};
+//! stranger further on is named before it. What has no line is looked for at the end: a solution has to name each vertex,
+//! and what is known may leave some out.
+ghost use Rattle.std.specs.Prelude.{◌≡◌, ℕ, ◌<◌, ◌++◌, ◌∷◌, false, List, [], length, map, IfOk, MatchResult, Some, None, if◌then◌else◌, slice_index_or};
+ghost use Rattle.pg_game.specs.declared.player.Player.TheVariants.{Even};
+ghost use Rattle.pg_game.specs.VertexSet.{members};
 ghost use Rattle.pg_game.specs.Graph.{Graph, id_of};
 ghost use Rattle.pg_text.specs.Solution.{AreRows};
 ghost use Rattle.pg_text.specs.SolutionText.{Line};
 ghost use Rattle.pg_text.specs.SolutionKeeps.{line_of};
 ghost use Rattle.pg_text.specs.SolutionLines.{is_id, row_of, first_stranger, AreLinesOf};
-ghost use Rattle.pg_text.specs.SolutionTable.{HoldsTable, IsNamed, IsStrangerOf, IsRowFaultOf};
+ghost use Rattle.pg_text.specs.SolutionTable.{HoldsTable, IsNamed, IsStrangerOf, IsLookUpFaultOf, IsRowFaultOf, IsKnownRowFaultOf};
+ghost use Rattle.pg_text.specs.Known.{AreKnownLinesOf};
 
 use crate::fault::SolutionTextFault;
-use crate::solution::Solution;
+use crate::solution::{Known, Solution};
 use crate::solution_reader::SolutionLine;
 use pg_game::{Game, Mask, Memory, Player, Sequence};
 use std::alloc::Global;
@@ -92,6 +96,49 @@ impl Table {
             rows: Sequence::new(self.rows),
         })
     }
+
+    /// What is said of a vertex.
+    fn row(&self, v: u32) -> Option<(Player, Option<u32>)>
+        requires row { v < length self.now.rows.items }
+        requires mark { v < length self.now.said }
+        ensures { result ≡ (if members self.now.said v then Some (slice_index_or self.now.rows.items v (Even, None)) else None) }
+    {
+        if self.said.has(v) {
+            Some(self.rows[v as usize])
+        } else {
+            None
+        }
+    }
+
+    /// What is said of each vertex, where none has two lines.
+    fn known(self, alloc: Global, game: &Game) -> Result<Known, SolutionTextFault>
+        requires rows { length self.rows.items ≡ length game.now }
+        requires marks { length self.said ≡ length game.now }
+        ensures { (lines : List Line) → HoldsTable game.now lines self → MatchResult result (λ k. AreKnownLinesOf game.now lines k.rows) (λ e. IsKnownRowFaultOf game.now lines e) }
+    {
+        if let Some(id) = self.twice {
+            return Err(SolutionTextFault::Twice(id));
+        }
+        let n = game.len();
+        let mut rows = Vec::with_capacity(alloc, n as usize)?;
+        'vertices: for v in 0..n {
+            rows.push_reserved(self.row(v));
+        }
+        Ok(Known {
+            rows: Sequence::new(rows),
+        })
+    }
+}
+
+/// The table of these lines.
+fn table_of(alloc: Global, game: &Game, lines: &[SolutionLine]) -> Result<Table, SolutionTextFault>
+    ensures { MatchResult result (λ table. HoldsTable game.now (map line_of lines.now) table) (λ e. IsLookUpFaultOf game.now (map line_of lines.now) e) }
+{
+    let mut table = Table::new(alloc, game)?;
+    'lines: for line in lines {
+        table.take(game, line)?;
+    }
+    Ok(table)
 }
 
 /// The rows that these lines say of the game's vertices.
@@ -103,9 +150,17 @@ pub fn rows_of(
     ensures fit { IfOk result (λ s. AreRows game.now s.rows) }
     ensures rows { MatchResult result (λ s. AreLinesOf game.now (map line_of lines.now) s.rows) (λ e. IsRowFaultOf game.now (map line_of lines.now) e) }
 {
-    let mut table = Table::new(alloc, game)?;
-    'lines: for line in lines {
-        table.take(game, line)?;
-    }
-    table.finish(game)
+    table_of(alloc, game, lines)?.finish(game)
+}
+
+/// What these lines say that is known of the game's vertices.
+pub fn known_of(
+    alloc: Global,
+    game: &Game,
+    lines: &[SolutionLine],
+) -> Result<Known, SolutionTextFault>
+    ensures size { IfOk result (λ k. length k.rows ≡ length game.now) }
+    ensures rows { MatchResult result (λ k. AreKnownLinesOf game.now (map line_of lines.now) k.rows) (λ e. IsKnownRowFaultOf game.now (map line_of lines.now) e) }
+{
+    table_of(alloc, game, lines)?.known(alloc, game)
 }

@@ -6,6 +6,7 @@ ghost use Rattle.pg_text.specs.Solution.{AreRows};
 mod bytes;
 mod faults;
 mod games;
+mod known;
 mod solutions;
 
 use crate::fault::{SolutionTextFault, TextFault};

@@ -1,7 +1,7 @@
 use Rattle.std.proofs.Common.{map, take}
 use Rattle.pg_text.specs.SolutionKeeps.{line_of}
 use Rattle.pg_text.specs.SolutionTable.{HoldsTable}
-use Rattle.pg_text.proofs.solution_rows.rows_of.Given as goal
+use Rattle.pg_text.proofs.solution_rows.table_of.Given as goal
 
 abbrev pub invariant-lines : goal.invariant-lines
 invariant-lines l = HoldsTable l.game (take l.line-index (map line_of l.lines)) l.table

@@ -1,0 +1,68 @@
+-- What the table of a game's vertices says that is known, and why it is not asked further.
+use Rattle.std.proofs.Common.{◌≡◌, ℕ, ◌<◌, true, false, length, get_or, refl, sym, ◌∙◌, ap, subst, arith, List, Bool}
+use Rattle.std.specs.Prelude.{Option, Some, None, if◌then◌else◌, MatchResult, Result, Ok, Err, IfOk, IsErrAnd}
+use Rattle.std.proofs.lemmas.Option.{slice_get-get_or}
+use Rattle.pg_game.specs.declared.player.Player.TheVariants.{Even}
+use Rattle.pg_game.specs.Graph.{Graph}
+use Rattle.pg_game.specs.VertexSet.{members}
+use Rattle.pg_text.specs.declared.fault.SolutionTextFault.{SolutionTextFault}
+use Rattle.pg_text.specs.declared.fault.SolutionTextFault.TheVariants as fault
+use Rattle.pg_text.specs.declared.solution.Known.{Known}
+use Rattle.pg_text.specs.SolutionText.{Line}
+use Rattle.pg_text.specs.Solution.{Rows}
+use Rattle.pg_text.specs.SolutionLines.{first_stranger, first_twice, has_line}
+use Rattle.pg_text.specs.SolutionTable.{Holds, IsLookUpFaultOf, IsRowFaultOf, IsKnownRowFaultOf}
+use Rattle.pg_text.specs.Known.{KnownRows, AreKnownLinesOf}
+use Rattle.pg_text.proofs.SolutionTable.{has_line_at}
+
+module _ (g : Graph) (lines : List Line) (rows : Rows) (said : List Bool) (twice : Option ℕ) (h : Holds g lines rows said twice) where
+  -- the table's row of each vertex that has a line, and nothing of the others
+  pub say_known : twice ≡ None → (known : KnownRows) → length known ≡ length g
+      → ((u : ℕ) → u < length known → get_or known u None ≡ (if members said u then Some (get_or rows u (Even, None)) else None)) → AreKnownLinesOf g lines known
+  say_known none known size each = record {
+    no_stranger = h.no_stranger;
+    once = sym h.first ∙ none;
+    size = size;
+    said = λ v l x m e.
+        let t : members said v ≡ true = h.marked v l ∙ (ap (has_line lines) (sym e) ∙ has_line_at lines x m) in
+        let d : v < length known = omega arith in
+        let k : get_or known v None ≡ Some (get_or rows v (Even, None)) = each v d ∙ rw t refl in
+        slice_get-get_or known v None d ∙ ap (λ r. Some r) (k ∙ ap (λ r. Some r) (h.says none v l x m e));
+    unsaid = λ v l e.
+        let t : members said v ≡ false = h.marked v l ∙ e in
+        let d : v < length known = omega arith in
+        slice_get-get_or known v None d ∙ ap (λ r. Some r) (each v d ∙ rw t refl);
+  }
+
+  pub is_twice : (id : ℕ) → twice ≡ Some id → (first_stranger g lines ≡ None) × (first_twice lines ≡ Some id)
+  is_twice id e = (h.no_stranger, sym h.first ∙ e)
+
+-- a fault of looking up is one of rows
+pub row_fault : (g : Graph) (lines : List Line) (e : SolutionTextFault) → IsLookUpFaultOf g lines e → IsRowFaultOf g lines e
+row_fault g lines (fault.Stranger id) h = h
+row_fault g lines fault.Memory h = tt
+row_fault g lines (fault.Twice id) h = absurd h
+row_fault g lines (fault.Missing id) h = absurd h
+row_fault g lines (fault.Lexical at) h = absurd h
+row_fault g lines (fault.Syntax at) h = absurd h
+row_fault g lines (fault.Number at) h = absurd h
+row_fault g lines (fault.Winner at) h = absurd h
+
+pub known_fault : (g : Graph) (lines : List Line) (e : SolutionTextFault) → IsLookUpFaultOf g lines e → IsKnownRowFaultOf g lines e
+known_fault g lines (fault.Stranger id) h = h
+known_fault g lines fault.Memory h = tt
+known_fault g lines (fault.Twice id) h = absurd h
+known_fault g lines (fault.Missing id) h = absurd h
+known_fault g lines (fault.Lexical at) h = absurd h
+known_fault g lines (fault.Syntax at) h = absurd h
+known_fault g lines (fault.Number at) h = absurd h
+known_fault g lines (fault.Winner at) h = absurd h
+
+pub known_size : (g : Graph) (lines : List Line) (r : Result Known SolutionTextFault) (Q : SolutionTextFault → Type 0) → MatchResult r (λ k. AreKnownLinesOf g lines k.rows) Q → IfOk r (λ k. length k.rows ≡ length g)
+known_size g lines (Ok k) Q a = a.size
+known_size g lines (Err e) Q a = tt
+
+-- an error that is handed on
+pub passed_on : {A E : Type 0} (r : Result A E) (e : E) (P : A → Type 0) (Q : E → Type 0) → IsErrAnd r (λ x. x ≡ e) → Q e → MatchResult r P Q
+passed_on (Ok a) e P Q is q = absurd is
+passed_on (Err x) e P Q is q = subst Q (sym is) q

@@ -1,0 +1,13 @@
+use Rattle.std.proofs.Common.{◌≡◌, rules, sym, subst, arith}
+use Rattle.std.specs.Prelude.{None}
+use Rattle.pg_text.specs.Known.{AreKnownLinesOf}
+use Rattle.pg_text.proofs.KnownLines.{say_known}
+use Rattle.pg_text.proofs.solution_rows.Table.known.Goals as goal
+
+pub returns : goal.returns
+returns c = λ lines h.
+    let g = c.args.game.now in
+    let t = c.args.self in
+    let none : t.twice ≡ None = search rules in
+    let k = say_known g lines t.rows.items t.said t.twice h none c.vertices.rows.items (omega arith) (λ u l. c.vertices.invariant.2 u (omega arith)) in
+    subst (λ rows. AreKnownLinesOf g lines rows) (sym c.new.ensures) k

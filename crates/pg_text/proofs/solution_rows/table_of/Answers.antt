@@ -1,0 +1,20 @@
+use Rattle.std.proofs.Common.{List, map, sym, subst}
+use Rattle.pg_text.specs.SolutionText.{Line}
+use Rattle.pg_text.specs.SolutionKeeps.{line_of}
+use Rattle.pg_text.specs.SolutionTable.{Holds, HoldsTable, IsLookUpFaultOf}
+use Rattle.pg_text.proofs.SolutionTable.{next_line, is_stranger}
+use Rattle.pg_text.proofs.KnownLines.{passed_on}
+use Rattle.pg_text.proofs.solution_rows.table_of.Goals as goal
+
+pub returns-in_err-take : goal.returns-in_err-take
+returns-in_err-take c =
+    let g = c.args.game.now in
+    let ls = c.args.lines.now in
+    let k = is_stranger g ls c.lines.line-index _ c.in_err-take.field-0.0 c.lines-test.true c.lines.invariant.no_stranger (c.in_err-take.ensures _ c.lines.invariant) in
+    passed_on c.from_residual-in_err-take.result c.in_err-take.field-0.0 (λ table. HoldsTable g (map line_of ls) table) (λ e. IsLookUpFaultOf g (map line_of ls) e) c.from_residual-in_err-take.ensures.1 k
+
+pub lines-preserved : goal.lines-preserved
+lines-preserved c =
+    let g = c.args.game.now in
+    let t = c.take.new.self in
+    subst (λ (lines : List Line). Holds g lines t.rows.items t.said t.twice) (sym (next_line c.args.lines.now c.lines.line-index _ c.lines-test.true)) (c.in_ok-take.ensures _ c.lines.invariant)

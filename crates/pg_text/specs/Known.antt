@@ -1,0 +1,61 @@
+-- What is known of a game: winners and choices of some of its vertices, and the texts that say so.
+use Rattle.std.specs.Prelude.{ℕ, ◌≡◌, ◌<◌, Bool, false, List, length, Option, Some, None, slice_get, slice_index_or}
+use Rattle.std.specs.List.{Contains}
+use Rattle.pg_game.specs.declared.player.Player.{Player}
+use Rattle.pg_game.specs.Player.{same_player}
+use Rattle.pg_game.specs.Graph.{Graph, id_of}
+use Rattle.pg_game.specs.VertexSet.{VertexSet}
+use Rattle.pg_game.specs.Kept.{Choices}
+use Rattle.pg_text.specs.declared.fault.SolutionTextFault.{SolutionTextFault}
+use Rattle.pg_text.specs.declared.fault.SolutionTextFault.TheVariants as fault
+use Rattle.pg_text.specs.SolutionText.{Line}
+use Rattle.pg_text.specs.SolutionLines.{first_stranger, first_twice, has_line, row_of}
+use Rattle.pg_text.specs.Reading.{SpellsSolution, IsSolutionFaultOf}
+
+-- for each vertex its winner, and a choice or none; or nothing
+abbrev pub KnownRows : Type 0
+KnownRows = List (Option (Player × Option ℕ))
+
+abbrev pub known_at : KnownRows → ℕ → Option (Player × Option ℕ)
+known_at rows v = slice_index_or rows v None
+
+abbrev pub is_winner : Player → Option (Player × Option ℕ) → Bool
+is_winner p None = false
+is_winner p (Some row) = same_player row.0 p
+
+abbrev pub choice_in_row : Option (Player × Option ℕ) → Option ℕ
+choice_in_row None = None
+choice_in_row (Some row) = row.1
+
+-- the vertices that the player is known to win
+abbrev pub known_of : KnownRows → Player → VertexSet
+known_of rows p v = is_winner p (known_at rows v)
+
+-- the choices; those at vertices that their winner does not own have no effect
+abbrev pub known_choice : KnownRows → Choices
+known_choice rows v = choice_in_row (known_at rows v)
+
+-- the lines name vertices of the game alone, and each once; they say the rows of these, and of no other vertex is there anything
+pub record AreKnownLinesOf (g : Graph) (lines : List Line) (rows : KnownRows) : Type 0 where
+  pub no_stranger : first_stranger g lines ≡ None
+  pub once : first_twice lines ≡ None
+  pub size : length rows ≡ length g
+  pub said : (v : ℕ) → v < length g → (l : Line) → Contains lines l → l.id ≡ id_of g v → slice_get rows v ≡ Some (Some (row_of g l))
+  pub unsaid : (v : ℕ) → v < length g → has_line lines (id_of g v) ≡ false → slice_get rows v ≡ Some None
+
+-- the text is one of what is known
+pub record IsKnownTextOf (g : Graph) (text : List ℕ) (rows : KnownRows) : Type 0 where
+  pub lines : List Line
+  pub spelled : SpellsSolution text lines
+  pub says : AreKnownLinesOf g lines rows
+
+-- the text's first fault, as for solutions, but no vertex is missing
+abbrev pub IsKnownFaultOf : Graph → List ℕ → SolutionTextFault → Type 0
+IsKnownFaultOf g text (fault.Missing id) = ⊥
+IsKnownFaultOf g text (fault.Lexical at) = IsSolutionFaultOf g text (fault.Lexical at)
+IsKnownFaultOf g text (fault.Syntax at) = IsSolutionFaultOf g text (fault.Syntax at)
+IsKnownFaultOf g text (fault.Number at) = IsSolutionFaultOf g text (fault.Number at)
+IsKnownFaultOf g text (fault.Winner at) = IsSolutionFaultOf g text (fault.Winner at)
+IsKnownFaultOf g text (fault.Stranger id) = IsSolutionFaultOf g text (fault.Stranger id)
+IsKnownFaultOf g text (fault.Twice id) = IsSolutionFaultOf g text (fault.Twice id)
+IsKnownFaultOf g text fault.Memory = IsSolutionFaultOf g text fault.Memory
