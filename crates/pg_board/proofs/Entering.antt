@@ -154,6 +154,14 @@ IsGrowing-start g r rows room regions none size = subst (λ (xs : Rows). IsGrowi
     at_most true = omega arith
     at_most false = omega arith
 
+-- more room does
+pub IsGrowing-more : (g : Graph) (r : Regions) (rows : Rows) (n m : ℕ) → n ≤ m → IsGrowing g r rows n → IsGrowing g r rows m
+IsGrowing-more g r rows n m l growing = record {
+  regions = growing.regions;
+  apart = growing.apart;
+  fits = (let h = growing.fits in omega (arith, l, h));
+}
+
 -- what has grown from a rest, from a board's regions
 module _ (g : Graph) (p : Player) (r r1 r2 : Regions) (R : Rows) (first rows : Rows) (taken : first ≡ R) (same : (v : ℕ) → open_before r1 R v ≡ members r.unsettled v) (told1 : (v : ℕ) → told r1.table.items v ≡ state_with (told r.table.items) p R v) (grows : Grows g p r1 first r2 rows) (done : IsDone g p (open_before r1 first) (named rows) (named rows)) where
   grown : Grows g p r1 R r2 rows

@@ -1,7 +1,8 @@
 -- What the checks of a claim against the state say together.
 use Rattle.std.proofs.Common.{◌≡◌, ℕ, ◌<◌, ◌≤◌, ◌||◌, Bool, true, false, eqb, [], ◌∷◌, length, refl, sym, ◌∙◌, ap, subst, arith}
 use Rattle.std.specs.Prelude.{Option}
-use Rattle.std.specs.List.{AllByRecursion, list_any}
+use Rattle.std.specs.List.{All, AllByRecursion, list_any}
+use Rattle.std.proofs.lemmas.List.Elements.{All-from_recursion}
 use Rattle.std.proofs.lemmas.List.{length-map}
 use Rattle.std.proofs.lemmas.Map.Steps.{length-le_from_distinct_below}
 use Rattle.std.proofs.lemmas.Bool.{false_from_ne_true, eqb-true}
@@ -86,3 +87,11 @@ pub few_rows : (g : Graph) (p : Player) (rows : Rows) → AreRight g p rows → 
 few_rows g p rows a =
     let h = length-le_from_distinct_below (vertices rows) (length g) (distinct_rising (vertices rows) a.rising) (below g p rows a.each) in
     omega (arith, h, length-map rows (λ (r : ℕ × Option ℕ). r.0))
+
+each_below : (g : Graph) (p : Player) (rows : Rows) → AllByRecursion (IsRightRow g p) rows → AllByRecursion (λ (r : ℕ × Option ℕ). r.0 < length g) rows
+each_below g p [] a = tt
+each_below g p (r ∷ rows) a = (a.0.vertex, each_below g p rows a.1)
+
+-- right rows name vertices
+pub all_below : (g : Graph) (p : Player) (rows : Rows) → AreRight g p rows → (n : ℕ) → n ≡ length g → All (λ (r : ℕ × Option ℕ). r.0 < n) rows
+all_below g p rows a n e = subst (λ (m : ℕ). All (λ (r : ℕ × Option ℕ). r.0 < m) rows) (sym e) (All-from_recursion (λ (r : ℕ × Option ℕ). r.0 < length g) rows (each_below g p rows a.each))

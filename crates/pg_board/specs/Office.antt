@@ -1,7 +1,9 @@
--- What a call through a lock may answer: it speaks of some lawful board, with at least the share's amount settled.
+-- What a call through a lock may answer: it speaks of some lawful board of a game within the limits, with at least the
+-- share's amount settled.
 use Rattle.std.specs.Prelude.{ℕ, ◌≡◌, ◌≤◌, length, Result, Ok, Err}
 use Rattle.pg_game.specs.declared.player.Player.{Player}
 use Rattle.pg_game.specs.Graph.{Graph, IsGame}
+use Rattle.pg_game.specs.Limits.{IsWithinLimits}
 use Rattle.pg_game.specs.VertexSet.{members}
 use Rattle.pg_finders.specs.Part.{Part}
 use Rattle.pg_dominion.specs.Claim.{Rows}
@@ -20,7 +22,7 @@ pub record IsCopyOf (journal : Journal) (part : Part) (at settled : ℕ) : Type 
 
 -- a copy of some lawful board with at least the amount settled
 abbrev pub IsCopyOfSome : Part → ℕ → ℕ → ℕ → Type 0
-IsCopyOfSome part at settled amount = (journal : Journal) × IsLawful part.graph journal × IsCopyOf journal part at settled × (amount ≤ settled)
+IsCopyOfSome part at settled amount = (journal : Journal) × IsWithinLimits part.graph × IsLawful part.graph journal × IsCopyOf journal part at settled × (amount ≤ settled)
 
 -- what a board may answer to the claim, of a posted entry its rows alone
 abbrev pub IsAnswer : Graph → Journal → Player → Rows → Result ℕ Refusal → Type 0
@@ -29,7 +31,7 @@ IsAnswer g journal p rows (Err fault) = Refuses g (state_of journal) p rows faul
 
 -- an answer of some lawful board with at least the amount settled
 abbrev pub IsAnswerOfSome : ℕ → Player → Rows → Result ℕ Refusal → Type 0
-IsAnswerOfSome amount p rows r = (g : Graph) × (journal : Journal) × IsGame g × IsLawful g journal × (amount ≤ number_settled journal) × IsAnswer g journal p rows r
+IsAnswerOfSome amount p rows r = (g : Graph) × (journal : Journal) × IsGame g × IsWithinLimits g × IsLawful g journal × (amount ≤ number_settled journal) × IsAnswer g journal p rows r
 
 -- the same for a checked claim
 abbrev pub IsCheckedAnswer : Graph → Journal → CheckedClaim → Result ℕ Refusal → Type 0
@@ -37,4 +39,4 @@ IsCheckedAnswer g journal c (Ok n) = Agrees g c.player c.rows × IsAnswer g jour
 IsCheckedAnswer g journal c (Err fault) = RefusesChecked g (state_of journal) c fault
 
 abbrev pub IsCheckedAnswerOfSome : ℕ → CheckedClaim → Result ℕ Refusal → Type 0
-IsCheckedAnswerOfSome amount c r = (g : Graph) × (journal : Journal) × IsGame g × IsLawful g journal × (amount ≤ number_settled journal) × IsCheckedAnswer g journal c r
+IsCheckedAnswerOfSome amount c r = (g : Graph) × (journal : Journal) × IsGame g × IsWithinLimits g × IsLawful g journal × (amount ≤ number_settled journal) × IsCheckedAnswer g journal c r

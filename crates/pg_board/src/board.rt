@@ -1,9 +1,10 @@
 //! The board: a game, the journal of what was settled of it, and what is at hand of the journal.
 //! Its type keeps that the journal is lawful, so every board in hand has a lawful one.
 
-ghost use Rattle.std.specs.Prelude.{◌≡◌, ℕ, ◌++◌, ◌∷◌, [], ◌+◌, length, IfOk, IfErr, OnErr, IsTrue, IsSome, IfSome, ◌↔◌};
+ghost use Rattle.std.specs.Prelude.{◌≡◌, ◌≤◌, ℕ, ◌++◌, ◌∷◌, [], ◌+◌, length, IfOk, IfErr, OnErr, IsTrue, IsSome, IfSome, ◌↔◌, vec_capacity};
 ghost use Rattle.pg_game.specs.declared.player.Player.{Player};
 ghost use Rattle.pg_game.specs.Graph.{IsGame};
+ghost use Rattle.pg_game.specs.Limits.{IsWithinLimits};
 ghost use Rattle.pg_game.specs.VertexSet.{members};
 ghost use Rattle.pg_dominion.specs.Claim.{Rows, IsGoodIn, IsSound};
 ghost use Rattle.pg_dominion.specs.Checked.{claim_rows, claim_of, Agrees};
@@ -43,9 +44,9 @@ pub struct Board<'g> {
     entries: Vec<Entry>,
     regions: Regions,
     number: u32,
-    /// Room for the places of a rest; whatever stands here between posts has no effect.
+    /// Of each vertex of a claim's rest its place there; whatever else stands here, as from an earlier claim, has no effect.
     places: Vec<u32>,
-    /// Room for an entry's rows while they are found; the same.
+    /// Room for the rows of an entry while they are found.
     room: Vec<(u32, Option<u32>)>,
 }
 
@@ -57,7 +58,9 @@ impl<'g> Model for Board<'g> {
 
     ghost view = { λ b. record { graph = b.game.now; journal = b.entries.items } };
 
-    ghost invariant = { λ b. IsBoard b.game.now b.entries.items b.regions b.number };
+    ghost use Rattle.std.specs.Prelude.{◌≡◌, length};
+
+    ghost invariant = { λ b. IsBoard b.game.now b.entries.items b.regions b.number × (length b.places.items ≡ length b.game.now) };
 }
 
 impl<'g> Board<'g> {
@@ -66,14 +69,14 @@ impl<'g> Board<'g> {
         ensures graph { IfOk result (λ b. b.graph ≡ game.now) }
         ensures journal { IfOk result (λ b. b.journal ≡ []) }
     {
-        let _n = game.len();
+        let n = game.len() as usize;
         Ok(Board {
             game,
             entries: Vec::new(alloc),
             regions: Regions::open(alloc, game)?,
             number: 0,
-            places: Vec::new(alloc),
-            room: Vec::new(alloc),
+            places: vec![in alloc; 0u32; n]?,
+            room: Vec::with_capacity(alloc, n)?,
         })
     }
 
@@ -142,28 +145,49 @@ impl<'g> Board<'g> {
         ensures of_state { IfErr result IsOfState }
         ensures unchanged { OnErr result (self.new ≡ self.old) }
     {
-        let _n = self.game.len();
+        let mut rows = mem::replace(&mut self.room, Vec::new(alloc));
+        let found = self.settle_in(alloc, worker, claim, &mut rows);
+        self.room = rows;
+        found
+    }
+
+    /// The same, with room for an entry's rows.
+    fn settle_in(
+        &mut self,
+        alloc: Global,
+        worker: u32,
+        claim: &Claim,
+        rows: &mut Vec<(u32, Option<u32>)>,
+    ) -> Result<Posted, Refusal>
+        requires { IsSound self.old.graph claim.now.player claim.now.rows }
+        ensures game { self.new.graph ≡ self.old.graph }
+        ensures posted { IfOk result (λ posted. IsGoodOn self.old.graph (state_of self.old.journal) claim.now.player claim.now.rows × Adds self.old self.new worker claim.now posted) }
+        ensures refused { IfErr result (λ e. Refuses self.old.graph (state_of self.old.journal) claim.now.player claim.now.rows e) }
+        ensures of_state { IfErr result IsOfState }
+        ensures unchanged { OnErr result (self.new ≡ self.old) }
+    {
+        let n = self.game.len();
         if let Some(v) = self.regions.first_lost(claim) {
             return Err(Refusal::Lost(v));
         }
-        let rest = self
-            .regions
-            .rest_of(alloc, self.game, claim, &mut self.places)?;
-        if rest.is_empty() {
+        rows.clear();
+        rows.reserve_exact(n as usize)?;
+        self.regions.rest_of(claim, &mut self.places, rows);
+        if rows.is_empty() {
             return Err(Refusal::Stale);
         }
-        let rows = rest.as_slice();
+        let rest = rows.as_slice();
         let bounds = Bounds {
             game: self.game,
             regions: &self.regions,
             player: claim.player,
-            rest: rows,
+            rest,
             places: self.places.as_slice(),
         };
-        if let Some((v, w)) = bounds.first_edge(rows) {
+        if let Some((v, w)) = bounds.first_edge(rest) {
             return Err(Refusal::Open(v, w));
         }
-        Ok(self.enter(alloc, worker, claim.player, rest)?)
+        Ok(self.enter(alloc, worker, claim.player, rows)?)
     }
 
     /// Settles the rest and what it attracts, in one entry. All that it needs is taken before anything is settled; the
@@ -173,30 +197,29 @@ impl<'g> Board<'g> {
         alloc: Global,
         worker: u32,
         player: Player,
-        rest: Vec<(u32, Option<u32>)>,
+        rows: &mut Vec<(u32, Option<u32>)>,
     ) -> Result<Posted, Memory>
-        requires good { IsGoodOn self.old.graph (state_of self.old.journal) player rest.items }
-        requires unsettled { rest_of (state_of self.old.journal) rest.items ≡ rest.items }
+        requires good { IsGoodOn self.old.graph (state_of self.old.journal) player rows.old.items }
+        requires unsettled { rest_of (state_of self.old.journal) rows.old.items ≡ rows.old.items }
+        requires room { length self.old.graph ≤ vec_capacity rows.old }
         ensures game { self.new.graph ≡ self.old.graph }
-        ensures added { IfOk result (Adds self.old self.new worker (record { player = player; rows = rest.items })) }
+        ensures added { IfOk result (Adds self.old self.new worker (record { player = player; rows = rows.old.items })) }
         ensures unchanged { OnErr result (self.new ≡ self.old) }
     {
-        self.room.clear();
-        self.room.reserve_exact(self.game.len() as usize)?;
+        let _n = self.game.len();
         self.entries.reserve(1)?;
         let entry = self.entries.len() as u64;
-        self.regions
-            .take_all(self.game, player, rest.as_slice(), &mut self.room);
-        self.regions.attract(self.game, player, &mut self.room);
-        let rows = copy_or_take(alloc, &mut self.room);
-        let claimed = rest.len() as u32;
-        let settled = rows.len() as u32;
+        let claimed = rows.len() as u32;
+        self.regions.settle_all(self.game, player, rows.as_slice());
+        self.regions.attract(self.game, player, rows);
+        let entered = copy_or_take(alloc, rows);
+        let settled = entered.len() as u32;
         self.number += settled;
         self.entries.push_reserved(Entry {
             worker,
             player,
             claimed,
-            rows: Sequence::new(rows),
+            rows: Sequence::new(entered),
         });
         Ok(Posted {
             entry,
@@ -205,11 +228,13 @@ impl<'g> Board<'g> {
         })
     }
 
-    /// The game. Tells that the journal is lawful.
+    /// The game. Tells what the type keeps.
     pub fn game(&self) -> &'g Game
         ensures graph { result.now ≡ self.now.graph }
         ensures game { IsGame self.now.graph }
+        ensures limits { IsWithinLimits self.now.graph }
         ensures lawful { IsLawful self.now.graph self.now.journal }
+        ensures within { number_settled self.now.journal ≤ length self.now.graph }
     {
         let _ = &self.entries;
         let _n = self.game.len();

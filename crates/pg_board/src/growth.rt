@@ -130,25 +130,18 @@ impl Regions {
         }
     }
 
-    /// Settles rows that are known to be unsettled.
-    pub fn take_all(
-        &mut self,
-        game: &Game,
-        player: Player,
-        rest: &[(u32, Option<u32>)],
-        rows: &mut Vec<(u32, Option<u32>)>,
-    )
-        requires growing { IsGrowing game.now self.old rows.old.items (vec_capacity rows.old) }
-        requires none { rows.old.items ≡ [] }
-        requires unsettled { Within (named rest.now) (members self.old.unsettled) }
-        requires distinct { IsDistinct nat_eq (map (λ r. r.0) rest.now) }
-        ensures growing { IsGrowing game.now self.new rows.new.items (vec_capacity rows.new) }
-        ensures rows { rows.new.items ≡ rest.now }
-        ensures same { (v : ℕ) → open_before self.new rest.now v ≡ members self.old.unsettled v }
-        ensures told { (v : ℕ) → told self.new.table.items v ≡ state_with (told self.old.table.items) player rest.now v }
+    /// Settles rows that are written already, and known to be unsettled.
+    pub fn settle_all(&mut self, game: &Game, player: Player, rows: &[(u32, Option<u32>)])
+        requires regions { AreRegions game.now self.old }
+        requires unsettled { Within (named rows.now) (members self.old.unsettled) }
+        requires distinct { IsDistinct nat_eq (map (λ r. r.0) rows.now) }
+        ensures growing { IsGrowing game.now self.new rows.now (length game.now) }
+        ensures same { (v : ℕ) → open_before self.new rows.now v ≡ members self.old.unsettled v }
+        ensures told { (v : ℕ) → told self.new.table.items v ≡ state_with (told self.old.table.items) player rows.now v }
     {
-        'rest: for row in rest {
-            self.take(game, player, *row, rows);
+        let _n = game.len();
+        'rows: for row in rows {
+            self.settle(player, *row);
         }
     }
 }

@@ -5,6 +5,8 @@
 //! amount of a share is never above the number settled, whatever was posted meanwhile by others.
 ghost use Rattle.std.specs.Prelude.{◌≡◌, ◌+◌, ◌-◌, ◌≤◌, ◌<◌, ℕ, ◌∷◌, [], Ok, IfOk, OnErr, sum, replicate, vec_len};
 ghost use Rattle.pg_game.specs.Graph.{IsGame};
+ghost use Rattle.pg_game.specs.Limits.{IsWithinLimits};
+ghost use Rattle.pg_game.specs.Specification.{max_vertices};
 ghost use Rattle.pg_board.specs.Journal.{IsLawful, number_settled};
 ghost use Rattle.pg_board.specs.Shares.{AreExact};
 ghost use Rattle.pg_board.specs.declared.entry.Posted.{Posted};
@@ -64,12 +66,15 @@ impl<'g, L: Ledger> Desk<'g, L> {
         claim: &Claim,
     ) -> Result<u32, Refusal>
         ensures game { IsGame self.old.board.graph }
+        ensures limits { IsWithinLimits self.old.board.graph }
         ensures lawful { IsLawful self.old.board.graph self.old.board.journal }
         ensures behind { share.old ≤ number_settled self.old.board.journal }
         ensures posted { IfOk result (λ n. (posted : Posted) × Adds self.old.board self.new.board worker claim.now posted × (n ≡ posted.settled)) }
         ensures answer { IsAnswer self.old.board.graph self.old.board.journal claim.now.player claim.now.rows result }
         ensures added { IfOk result (λ n. (1 ≤ n) × (share.new ≡ share.old + n)) }
+        ensures within { IfOk result (λ n. share.new ≤ max_vertices) }
         ensures unchanged { OnErr result (share.new ≡ share.old) }
+        ensures board { OnErr result (self.new.board ≡ self.old.board) }
     {
         let Desk { board, book } = self;
         let Share { token, amount } = share;
@@ -78,7 +83,7 @@ impl<'g, L: Ledger> Desk<'g, L> {
         let posted = board.post(alloc, worker, claim)?;
         let more = u64::from(posted.settled);
         book.add(token, more);
-        let total = board.settled();
+        let _after = board.game();
         *amount += more;
         Ok(posted.settled)
     }
@@ -92,12 +97,15 @@ impl<'g, L: Ledger> Desk<'g, L> {
         checked: &Checked,
     ) -> Result<u32, Refusal>
         ensures game { IsGame self.old.board.graph }
+        ensures limits { IsWithinLimits self.old.board.graph }
         ensures lawful { IsLawful self.old.board.graph self.old.board.journal }
         ensures behind { share.old ≤ number_settled self.old.board.journal }
         ensures posted { IfOk result (λ n. (posted : Posted) × Adds self.old.board self.new.board worker (claim_of checked.now) posted × (n ≡ posted.settled)) }
         ensures answer { IsCheckedAnswer self.old.board.graph self.old.board.journal checked.now result }
         ensures added { IfOk result (λ n. (1 ≤ n) × (share.new ≡ share.old + n)) }
+        ensures within { IfOk result (λ n. share.new ≤ max_vertices) }
         ensures unchanged { OnErr result (share.new ≡ share.old) }
+        ensures board { OnErr result (self.new.board ≡ self.old.board) }
     {
         let Desk { board, book } = self;
         let Share { token, amount } = share;
@@ -106,7 +114,7 @@ impl<'g, L: Ledger> Desk<'g, L> {
         let settled = board.settle(alloc, worker, checked)?.settled;
         let added = u64::from(settled);
         book.add(token, added);
-        let total = board.settled();
+        let _after = board.game();
         *amount += added;
         Ok(settled)
     }
@@ -182,6 +190,7 @@ impl<'g, L: Ledger> Office<'g, L> {
     ) -> Result<u32, Refusal>
         ensures answer { IsAnswerOfSome share.old claim.now.player claim.now.rows result }
         ensures added { IfOk result (λ n. (1 ≤ n) × (share.new ≡ share.old + n)) }
+        ensures within { IfOk result (λ n. share.new ≤ max_vertices) }
         ensures unchanged { OnErr result (share.new ≡ share.old) }
     {
         self.desk.lock(rt).post(alloc, share, worker, claim)
@@ -198,6 +207,7 @@ impl<'g, L: Ledger> Office<'g, L> {
     ) -> Result<u32, Refusal>
         ensures answer { IsCheckedAnswerOfSome share.old checked.now result }
         ensures added { IfOk result (λ n. (1 ≤ n) × (share.new ≡ share.old + n)) }
+        ensures within { IfOk result (λ n. share.new ≤ max_vertices) }
         ensures unchanged { OnErr result (share.new ≡ share.old) }
     {
         self.desk.lock(rt).settle(alloc, share, worker, checked)

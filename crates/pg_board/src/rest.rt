@@ -1,6 +1,6 @@
 //! A claim against what is settled: whether it is lost, and what of it is unsettled.
 
-ghost use Rattle.std.specs.Prelude.{◌≡◌, ◌<◌, ◌^◌, ℕ, length, IfOk, MatchOption, All, map};
+ghost use Rattle.std.specs.Prelude.{◌≡◌, ◌<◌, ◌≤◌, ◌^◌, ℕ, [], length, MatchOption, All, map, vec_capacity};
 ghost use Rattle.std.specs.List.Sorted.{IsStrictlyIncreasing};
 ghost use Rattle.pg_game.specs.Least.{NoneHas, IsLeast};
 ghost use Rattle.pg_board.specs.State.{rest_of, is_unsettled};
@@ -10,8 +10,6 @@ ghost use Rattle.pg_board.specs.OpenEdges.{ArePlaced};
 
 use crate::regions::Regions;
 use pg_dominion::Claim;
-use pg_game::{Game, Memory};
-use std::alloc::Global;
 
 impl Regions {
     pub fn is_unsettled(&self, v: u32) -> bool
@@ -37,30 +35,24 @@ impl Regions {
         None
     }
 
-    /// What of the claim is unsettled. At each of its vertices its place among these rows is noted; whatever stood
-    /// there, or stands elsewhere, has no effect.
-    pub fn rest_of(
-        &self,
-        alloc: Global,
-        game: &Game,
-        claim: &Claim,
-        places: &mut Vec<u32>,
-    ) -> Result<Vec<(u32, Option<u32>)>, Memory>
-        requires rows { All (λ r. r.0 < length game.now) claim.now.rows }
+    /// Writes what of the claim is unsettled. At each of its vertices its place among these rows is noted; whatever
+    /// stood there, or stands elsewhere, has no effect.
+    pub fn rest_of(&self, claim: &Claim, places: &mut Vec<u32>, rest: &mut Vec<(u32, Option<u32>)>)
+        requires rows { All (λ r. r.0 < length places.old.items) claim.now.rows }
         requires short { length claim.now.rows < 2 ^ 32 }
-        ensures rows { IfOk result (λ rest. rest.items ≡ rest_of (told self.now.table.items) claim.now.rows) }
-        ensures size { IfOk result (λ rest. length places.new.items ≡ length game.now) }
-        ensures placed { IfOk result (λ rest. ArePlaced rest.items places.new.items) }
+        requires none { rest.old.items ≡ [] }
+        requires room { length claim.now.rows ≤ vec_capacity rest.old }
+        ensures rows { rest.new.items ≡ rest_of (told self.now.table.items) claim.now.rows }
+        ensures room { vec_capacity rest.new ≡ vec_capacity rest.old }
+        ensures size { length places.new.items ≡ length places.old.items }
+        ensures placed { ArePlaced rest.new.items places.new.items }
     {
-        places.resize(game.len() as usize, 0)?;
-        let mut rest = Vec::new(alloc);
         'rows: for row in claim.rows.as_slice() {
             if !self.is_unsettled(row.0) {
                 continue;
             }
             places[row.0 as usize] = rest.len() as u32;
-            rest.push(*row)?;
+            rest.push_reserved(*row);
         }
-        Ok(rest)
     }
 }

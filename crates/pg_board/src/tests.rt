@@ -2,8 +2,10 @@
 //! a board; claims one after another against a plain reference; and posts through the shares of an office.
 
 mod boards;
+mod calls;
 mod copies;
 mod games;
+mod memory;
 mod offices;
 mod random;
 mod reference;

@@ -1,10 +1,11 @@
-//! Worked posts: on one board each, one after another.
+//! Worked answers: of one board each, to claims one after another, which are posted, or checked and settled.
 
+use crate::tests::calls::{CALLS, Call};
 use crate::tests::games::{
     EVEN, ODD, Row, bridge_game, claim_of, game_of, layered_game, shared_game, waiting_game,
 };
 use crate::{Board, Entry, Posted, Refusal};
-use pg_dominion::{Claim, ClaimFault};
+use pg_dominion::ClaimFault;
 use pg_game::Player;
 use std::alloc::Global;
 use std::process::Abort;
@@ -13,27 +14,17 @@ use std::test::Fail;
 /// A claim with what the board has to answer: an entry's number, its claimed and its settled, or a refusal.
 type Post<'a> = (Player, &'a [Row], Result<(u64, u32, u32), Refusal>);
 
-/// Posts a claim as worker 7; where memory was refused nothing has changed, and it is posted once more.
-fn post(
+/// Puts the claims to the board.
+fn posts(
     rt: &impl Abort,
     alloc: Global,
+    call: Call,
     board: &mut Board,
-    claim: &Claim,
-) -> Result<Posted, Refusal> {
-    let before = board.settled();
-    let found = board.post(alloc, 7, claim);
-    if found != Err(Refusal::Memory) {
-        return found;
-    }
-    assert_eq!(rt; board.settled(), before);
-    board.post(alloc, 7, claim)
-}
-
-/// Posts the claims.
-fn posts(rt: &impl Abort, alloc: Global, board: &mut Board, claims: &[Post]) -> Result<(), Fail> {
+    claims: &[Post],
+) -> Result<(), Fail> {
     for (player, rows, want) in claims {
         let claim = claim_of(alloc, *player, *rows)?;
-        let found = post(rt, alloc, board, &claim);
+        let found = call.put(rt, alloc, board, &claim);
         let want = match *want {
             Ok((entry, claimed, settled)) => Ok(Posted {
                 entry,
@@ -42,7 +33,7 @@ fn posts(rt: &impl Abort, alloc: Global, board: &mut Board, claims: &[Post]) -> 
             }),
             Err(refusal) => Err(refusal),
         };
-        assert_eq!(rt; found, want, "{rows:?}");
+        assert_eq!(rt; found, want, "{call:?} {rows:?}");
     }
     Ok(())
 }
@@ -51,10 +42,33 @@ fn posts(rt: &impl Abort, alloc: Global, board: &mut Board, claims: &[Post]) -> 
 fn an_old_claim_settles_what_is_left_of_it_and_is_then_stale(rt: HostRuntime) -> Result<(), Fail> {
     let alloc = rt.alloc();
     let game = waiting_game(alloc)?;
-    let mut board = Board::open(alloc, &game)?;
+    for call in CALLS {
+        let mut board = Board::open(alloc, &game)?;
+        put_old_claim(&rt, alloc, call, &mut board)?;
+        assert!(rt; board.is_full());
+    }
+    Ok(())
+}
+
+fn put_old_claim(
+    rt: &impl Abort,
+    alloc: Global,
+    call: Call,
+    board: &mut Board,
+) -> Result<(), Fail> {
     let both: [Row; 2] = [(0, Some(0)), (1, None)];
     let first: [Post; 1] = [(EVEN, &both[..1], Ok((0, 1, 1)))];
-    posts(&rt, alloc, &mut board, &first)?;
+    posts(rt, alloc, call, board, &first)?;
+    compare_copy(rt, alloc, board)?;
+    let old: [Post; 2] = [
+        (EVEN, &both, Ok((1, 1, 1))),
+        (EVEN, &both, Err(Refusal::Stale)),
+    ];
+    posts(rt, alloc, call, board, &old)
+}
+
+/// The copy of the waiting game's board after its first post.
+fn compare_copy(rt: &impl Abort, alloc: Global, board: &Board) -> Result<(), Fail> {
     let copy = board.copy(alloc)?;
     assert_eq!(rt; copy.at, 1);
     assert_eq!(rt; copy.settled, 1);
@@ -63,12 +77,6 @@ fn an_old_claim_settles_what_is_left_of_it_and_is_then_stale(rt: HostRuntime) ->
     assert_eq!(rt; mask.count(), 1);
     let is_left = mask.len() > 1 && mask.has(1);
     assert!(rt; is_left);
-    let old: [Post; 2] = [
-        (EVEN, &both, Ok((1, 1, 1))),
-        (EVEN, &both, Err(Refusal::Stale)),
-    ];
-    posts(&rt, alloc, &mut board, &old)?;
-    assert!(rt; board.is_full());
     Ok(())
 }
 
@@ -76,23 +84,20 @@ fn an_old_claim_settles_what_is_left_of_it_and_is_then_stale(rt: HostRuntime) ->
 fn what_is_attracted_is_lost_for_the_opponent(rt: HostRuntime) -> Result<(), Fail> {
     let alloc = rt.alloc();
     let game = shared_game(alloc)?;
-    let mut board = Board::open(alloc, &game)?;
-    post_to_shared(&rt, alloc, &mut board)
-}
-
-/// Even has his loop and what it attracts.
-fn post_to_shared(rt: &impl Abort, alloc: Global, board: &mut Board) -> Result<(), Fail> {
     let claims: [Post; 4] = [
         (ODD, &[(1, Some(0))], Err(Refusal::Open(1, 0))),
         (EVEN, &[(0, Some(0))], Ok((0, 1, 2))),
         (ODD, &[(1, Some(0))], Err(Refusal::Lost(1))),
         (ODD, &[(1, Some(0)), (2, Some(2))], Err(Refusal::Lost(1))),
     ];
-    posts(rt, alloc, board, &claims)?;
-    assert_eq!(rt; board.winner(1), Some(EVEN));
-    assert_eq!(rt; board.choice(1), None);
-    assert_eq!(rt; board.winner(2), None);
-    assert!(rt; !board.is_full());
+    for call in CALLS {
+        let mut board = Board::open(alloc, &game)?;
+        posts(&rt, alloc, call, &mut board, &claims)?;
+        assert_eq!(rt; board.winner(1), Some(EVEN));
+        assert_eq!(rt; board.choice(1), None);
+        assert_eq!(rt; board.winner(2), None);
+        assert!(rt; !board.is_full());
+    }
     Ok(())
 }
 
@@ -100,22 +105,24 @@ fn post_to_shared(rt: &impl Abort, alloc: Global, board: &mut Board) -> Result<(
 fn a_full_board_has_a_solution(rt: HostRuntime) -> Result<(), Fail> {
     let alloc = rt.alloc();
     let game = shared_game(alloc)?;
-    let mut board = Board::open(alloc, &game)?;
-    fill_shared(&rt, alloc, &mut board)?;
-    compare_solution(&rt, alloc, &board)?;
-    assert_eq!(rt; board.into_entries().len(), 2);
+    for call in CALLS {
+        let mut board = Board::open(alloc, &game)?;
+        fill_shared(&rt, alloc, call, &mut board)?;
+        compare_solution(&rt, alloc, &board)?;
+        assert_eq!(rt; board.into_entries().len(), 2);
+    }
     Ok(())
 }
 
-/// Both loops are posted, and the board is full.
-fn fill_shared(rt: &impl Abort, alloc: Global, board: &mut Board) -> Result<(), Fail> {
+/// Both loops are settled, and the board is full.
+fn fill_shared(rt: &impl Abort, alloc: Global, call: Call, board: &mut Board) -> Result<(), Fail> {
     assert_eq!(rt; board.game().len(), 3);
     assert!(rt; board.solution(alloc)?.is_none());
     let claims: [Post; 2] = [
         (EVEN, &[(0, Some(0))], Ok((0, 1, 2))),
         (ODD, &[(2, Some(2))], Ok((1, 1, 1))),
     ];
-    posts(rt, alloc, board, &claims)?;
+    posts(rt, alloc, call, board, &claims)?;
     assert_eq!(rt; board.settled(), 3);
     assert_eq!(rt; board.settled_by(7), 3);
     assert_eq!(rt; board.settled_by(8), 0);
@@ -137,14 +144,16 @@ fn compare_solution(rt: &impl Abort, alloc: Global, board: &Board) -> Result<(),
 fn an_edge_out_of_the_rest_is_told_before_it_is_settled(rt: HostRuntime) -> Result<(), Fail> {
     let alloc = rt.alloc();
     let game = game_of(alloc, &[(0, ODD, &[0, 1]), (1, ODD, &[1])])?;
-    let mut board = Board::open(alloc, &game)?;
     let claims: [Post; 2] = [
         (EVEN, &[(0, None)], Err(Refusal::Open(0, 1))),
         (EVEN, &[], Err(Refusal::Claim(ClaimFault::Shape(0)))),
     ];
-    posts(&rt, alloc, &mut board, &claims)?;
-    assert_eq!(rt; board.settled(), 0);
-    assert!(rt; board.entries().is_empty());
+    for call in CALLS {
+        let mut board = Board::open(alloc, &game)?;
+        posts(&rt, alloc, call, &mut board, &claims)?;
+        assert_eq!(rt; board.settled(), 0);
+        assert!(rt; board.entries().is_empty());
+    }
     Ok(())
 }
 
@@ -152,26 +161,22 @@ fn an_edge_out_of_the_rest_is_told_before_it_is_settled(rt: HostRuntime) -> Resu
 fn a_bad_cycle_of_a_claim_is_told(rt: HostRuntime) -> Result<(), Fail> {
     let alloc = rt.alloc();
     let game = game_of(alloc, &[(0, ODD, &[1]), (1, ODD, &[0])])?;
-    let mut board = Board::open(alloc, &game)?;
     let both: [Row; 2] = [(0, None), (1, None)];
     let claims: [Post; 2] = [
         (EVEN, &both, Err(Refusal::Claim(ClaimFault::Cycle(1)))),
         (EVEN, &[], Err(Refusal::Claim(ClaimFault::Shape(0)))),
     ];
-    posts(&rt, alloc, &mut board, &claims)
+    for call in CALLS {
+        let mut board = Board::open(alloc, &game)?;
+        posts(&rt, alloc, call, &mut board, &claims)?;
+    }
+    Ok(())
 }
 
 #[test]
 fn attraction_goes_through_two_layers(rt: HostRuntime) -> Result<(), Fail> {
     let alloc = rt.alloc();
     let game = layered_game(alloc)?;
-    let mut board = Board::open(alloc, &game)?;
-    post_to_layered(&rt, alloc, &mut board)?;
-    assert!(rt; board.is_full());
-    compare_layers(&rt, board.entries())
-}
-
-fn post_to_layered(rt: &impl Abort, alloc: Global, board: &mut Board) -> Result<(), Fail> {
     let cycle = Refusal::Claim(ClaimFault::Cycle(1));
     let claims: [Post; 4] = [
         (EVEN, &[(0, Some(0))], Ok((0, 1, 3))),
@@ -179,7 +184,13 @@ fn post_to_layered(rt: &impl Abort, alloc: Global, board: &mut Board) -> Result<
         (EVEN, &[(1, Some(1))], Err(cycle)),
         (ODD, &[(2, Some(1))], Err(Refusal::Lost(2))),
     ];
-    posts(rt, alloc, board, &claims)
+    for call in CALLS {
+        let mut board = Board::open(alloc, &game)?;
+        posts(&rt, alloc, call, &mut board, &claims)?;
+        assert!(rt; board.is_full());
+        compare_layers(&rt, board.entries())?;
+    }
+    Ok(())
 }
 
 /// The one entry of the layered game.
@@ -197,14 +208,9 @@ fn compare_layers(rt: &impl Abort, entries: &[Entry]) -> Result<(), Fail> {
 }
 
 #[test]
-fn a_claim_that_was_a_dominion_once_is_posted_or_stale(rt: HostRuntime) -> Result<(), Fail> {
+fn a_claim_that_was_a_dominion_once_is_settled_or_stale(rt: HostRuntime) -> Result<(), Fail> {
     let alloc = rt.alloc();
     let game = bridge_game(alloc)?;
-    let mut board = Board::open(alloc, &game)?;
-    post_to_bridge(&rt, alloc, &mut board)
-}
-
-fn post_to_bridge(rt: &impl Abort, alloc: Global, board: &mut Board) -> Result<(), Fail> {
     let all: [Row; 3] = [(0, Some(0)), (1, None), (2, Some(2))];
     let claims: [Post; 5] = [
         (EVEN, &[(1, None)], Err(Refusal::Open(1, 0))),
@@ -213,17 +219,24 @@ fn post_to_bridge(rt: &impl Abort, alloc: Global, board: &mut Board) -> Result<(
         (EVEN, &all, Ok((2, 1, 1))),
         (EVEN, &all, Err(Refusal::Stale)),
     ];
-    posts(rt, alloc, board, &claims)
+    for call in CALLS {
+        let mut board = Board::open(alloc, &game)?;
+        posts(&rt, alloc, call, &mut board, &claims)?;
+    }
+    Ok(())
 }
 
 #[test]
-fn a_dominion_after_one_entry_is_posted(rt: HostRuntime) -> Result<(), Fail> {
+fn a_dominion_after_one_entry_is_settled(rt: HostRuntime) -> Result<(), Fail> {
     let alloc = rt.alloc();
     let game = bridge_game(alloc)?;
-    let mut board = Board::open(alloc, &game)?;
     let claims: [Post; 2] = [
         (EVEN, &[(0, Some(0))], Ok((0, 1, 1))),
         (EVEN, &[(1, None)], Ok((1, 1, 1))),
     ];
-    posts(&rt, alloc, &mut board, &claims)
+    for call in CALLS {
+        let mut board = Board::open(alloc, &game)?;
+        posts(&rt, alloc, call, &mut board, &claims)?;
+    }
+    Ok(())
 }

@@ -97,6 +97,33 @@ pub fn game_of_sets(alloc: Global, vertices: &[Plain]) -> Result<Game, Fail> {
     Ok(Game::from_specs(alloc, specs)?)
 }
 
+/// Specifications of Even's loops, with the identifiers 0, 1 and so on.
+fn specs_of_loops(alloc: Global, n: u32) -> Result<Vec<Spec>, Fail>
+    ensures { IfOk result (λ specs. All AreNumbers specs.items) }
+{
+    let mut specs = Vec::new(alloc);
+    'vertices: for v in 0..n {
+        let own = vec![in alloc; v; 1]?;
+        add(&mut specs, v as usize, 0, EVEN, own)?;
+    }
+    Ok(specs)
+}
+
+/// So many loops of Even's.
+pub fn loops_game(alloc: Global, n: u32) -> Result<Game, Fail> {
+    let specs = specs_of_loops(alloc, n)?;
+    Ok(Game::from_specs(alloc, specs)?)
+}
+
+/// Even's claim of all those loops.
+pub fn claim_of_loops(alloc: Global, n: u32) -> Result<Claim, Fail> {
+    let mut rows = Vec::new(alloc);
+    for v in 0..n {
+        rows.push((v, Some(v)))?;
+    }
+    claim_of(alloc, EVEN, rows.as_slice())
+}
+
 /// Even's loop, and a vertex of Odd's that may stay with itself.
 pub fn waiting_game(alloc: Global) -> Result<Game, Fail> {
     let vertices: [Vertex; 2] = [(0, EVEN, &[0]), (0, ODD, &[0, 1])];

@@ -1,10 +1,13 @@
-//! Posts through the shares of an office.
+//! Claims through the shares of an office.
 
 ghost use Rattle.std.specs.Prelude.{◌≡◌};
 
-use crate::tests::games::{EVEN, ODD, claim_of, shared_game};
+use crate::tests::calls::{CALLS, Call};
+use crate::tests::games::{
+    EVEN, ODD, claim_of, claim_of_loops, divided_game, layered_game, loops_game, shared_game,
+};
 use crate::{Office, Refusal, Share};
-use pg_dominion::Claim;
+use pg_dominion::{Claim, check_claim};
 use pg_game::{Game, Player};
 use std::alloc::Global;
 use std::marker::Brand;
@@ -17,13 +20,17 @@ use std::test::Fail;
 fn a_copy_has_what_was_settled_through_the_share(rt: HostRuntime) -> Result<(), Fail> {
     let alloc = rt.alloc();
     let game = shared_game(alloc)?;
-    post_by_two::<Brand, _>(&rt, alloc, Blank::new(2), &game)
+    for call in CALLS {
+        settle_by_two::<Brand, _>(&rt, alloc, Blank::new(2), call, &game)?;
+    }
+    Ok(())
 }
 
-fn post_by_two<L: Ledger, R: Wait + Abort>(
+fn settle_by_two<L: Ledger, R: Wait + Abort>(
     rt: &R,
     alloc: Global,
     blank: Blank,
+    call: Call,
     game: &Game,
 ) -> Result<(), Fail>
     requires name { blank.name ≡ L.name }
@@ -33,12 +40,18 @@ fn post_by_two<L: Ledger, R: Wait + Abort>(
     let even = claim_of(alloc, EVEN, &[(0, Some(0))])?;
     let odd = claim_of(alloc, ODD, &[(2, Some(2))])?;
     let first = &mut shares[0];
-    assert_eq!(rt; post(rt, alloc, &office, first, 1, &even), Ok(2));
+    assert_eq!(rt;
+        call.put_through(rt, alloc, &office, first, 1, game, &even),
+        Ok(2)
+    );
     assert_eq!(rt; first.amount(), 2);
     assert!(rt; office.copy(rt, alloc, first)?.settled >= 2);
     let second = &mut shares[1];
-    assert_eq!(rt; post(rt, alloc, &office, second, 2, &odd), Ok(1));
-    let again = post(rt, alloc, &office, second, 2, &odd);
+    assert_eq!(rt;
+        call.put_through(rt, alloc, &office, second, 2, game, &odd),
+        Ok(1)
+    );
+    let again = call.put_through(rt, alloc, &office, second, 2, game, &odd);
     assert_eq!(rt; again, Err(Refusal::Stale));
     assert_eq!(rt; second.amount(), 1);
     let copied = office.copy(rt, alloc, &shares[0])?;
@@ -52,45 +65,31 @@ fn post_by_two<L: Ledger, R: Wait + Abort>(
     Ok(())
 }
 
-/// Posts a claim; where memory was refused the share is unchanged, and it is posted once more.
-fn post<L: Ledger, R: Wait + Abort>(
-    rt: &R,
-    alloc: Global,
-    office: &Office<L>,
-    share: &mut Share<L>,
-    worker: u32,
-    claim: &Claim,
-) -> Result<u32, Refusal> {
-    let before = share.amount();
-    let found = office.post(rt, alloc, share, worker, claim);
-    if found != Err(Refusal::Memory) {
-        return found;
-    }
-    assert_eq!(rt; share.amount(), before);
-    office.post(rt, alloc, share, worker, claim)
-}
-
 #[test]
-fn what_is_posted_through_all_shares_adds_up_at_the_closing(rt: HostRuntime) -> Result<(), Fail> {
+fn what_is_settled_through_all_shares_adds_up_at_the_closing(rt: HostRuntime) -> Result<(), Fail> {
     let alloc = rt.alloc();
     let game = shared_game(alloc)?;
-    post_singles_by_three::<Brand, _>(&rt, alloc, Blank::new(3), &game)
+    for call in CALLS {
+        settle_singles_by_three::<Brand, _>(&rt, alloc, Blank::new(3), call, &game)?;
+    }
+    Ok(())
 }
 
 /// Claims each vertex alone for each player, through one share after another.
-fn post_singles_by_three<L: Ledger, R: Wait + Abort>(
+fn settle_singles_by_three<L: Ledger, R: Wait + Abort>(
     rt: &R,
     alloc: Global,
     blank: Blank,
+    call: Call,
     game: &Game,
 ) -> Result<(), Fail>
     requires name { blank.name ≡ L.name }
     requires parts { (blank.parts ≡ L.parts) × (blank.parts ≡ 3) }
 {
     let (office, mut shares) = Office::<L>::open(alloc, blank, game, 3)?;
-    post_singles(rt, alloc, &office, &mut shares[0], game, 0)?;
-    post_singles(rt, alloc, &office, &mut shares[1], game, 1)?;
-    post_singles(rt, alloc, &office, &mut shares[2], game, 2)?;
+    settle_singles(rt, alloc, call, &office, &mut shares[0], game, 0)?;
+    settle_singles(rt, alloc, call, &office, &mut shares[1], game, 1)?;
+    settle_singles(rt, alloc, call, &office, &mut shares[2], game, 2)?;
     let amounts = [shares[0].amount(), shares[1].amount(), shares[2].amount()];
     assert_eq!(rt; amounts, [2, 0, 1]);
     assert_eq!(rt; office.close(shares).settled(), 3);
@@ -98,9 +97,10 @@ fn post_singles_by_three<L: Ledger, R: Wait + Abort>(
 }
 
 /// Claims one vertex alone for each player, with its least successor where the player owns it.
-fn post_singles<L: Ledger, R: Wait + Abort>(
+fn settle_singles<L: Ledger, R: Wait + Abort>(
     rt: &R,
     alloc: Global,
+    call: Call,
     office: &Office<L>,
     share: &mut Share<L>,
     game: &Game,
@@ -111,7 +111,7 @@ fn post_singles<L: Ledger, R: Wait + Abort>(
     let before = share.amount();
     let mut settled = 0u64;
     for claim in [&even, &odd] {
-        if let Ok(more) = post(rt, alloc, office, share, 1, claim) {
+        if let Ok(more) = call.put_through(rt, alloc, office, share, 1, game, claim) {
             settled = settled.saturating_add(u64::from(more));
         }
     }
@@ -125,4 +125,70 @@ fn single(alloc: Global, game: &Game, v: u32, player: Player) -> Result<Claim, F
         choice = game.successors(v).first().copied();
     }
     claim_of(alloc, player, &[(v, choice)])
+}
+
+#[test]
+fn a_claim_that_was_checked_on_another_game_is_foreign(rt: HostRuntime) -> Result<(), Fail> {
+    let alloc = rt.alloc();
+    let other = divided_game(alloc)?;
+    let game = layered_game(alloc)?;
+    settle_foreign::<Brand, _>(&rt, alloc, Blank::new(1), &other, &game)
+}
+
+/// Settles a claim that was checked on one game through an office of a board of another, and then posts the same claim.
+fn settle_foreign<L: Ledger, R: Wait + Abort>(
+    rt: &R,
+    alloc: Global,
+    blank: Blank,
+    other: &Game,
+    game: &Game,
+) -> Result<(), Fail>
+    requires name { blank.name ≡ L.name }
+    requires parts { (blank.parts ≡ L.parts) × (blank.parts ≡ 1) }
+{
+    let (office, mut shares) = Office::<L>::open(alloc, blank, game, 1)?;
+    let claim = claim_of(alloc, EVEN, &[(0, Some(0))])?;
+    let Ok(checked) = check_claim(alloc, other, &claim) else {
+        return Err(Fail::from("the claim is sound in the other game"));
+    };
+    let share = &mut shares[0];
+    let found = office.settle(rt, alloc, share, 1, &checked);
+    assert_eq!(rt; found, Err(Refusal::Foreign(0)));
+    assert_eq!(rt; share.amount(), 0);
+    let found = Call::Post.put_through(rt, alloc, &office, share, 1, game, &claim);
+    assert_eq!(rt; found, Ok(3));
+    assert_eq!(rt; share.amount(), 3);
+    assert_eq!(rt; office.close(shares).settled(), 3);
+    Ok(())
+}
+
+#[test]
+fn the_largest_claim_of_the_largest_game_is_accepted(rt: HostRuntime) -> Result<(), Fail> {
+    let alloc = rt.alloc();
+    let game = loops_game(alloc, 65_536)?;
+    for call in CALLS {
+        settle_all::<Brand, _>(&rt, alloc, Blank::new(1), call, &game)?;
+    }
+    Ok(())
+}
+
+/// Claims every vertex of a game of loops at once.
+fn settle_all<L: Ledger, R: Wait + Abort>(
+    rt: &R,
+    alloc: Global,
+    blank: Blank,
+    call: Call,
+    game: &Game,
+) -> Result<(), Fail>
+    requires name { blank.name ≡ L.name }
+    requires parts { (blank.parts ≡ L.parts) × (blank.parts ≡ 1) }
+{
+    let (office, mut shares) = Office::<L>::open(alloc, blank, game, 1)?;
+    let claim = claim_of_loops(alloc, game.len())?;
+    let share = &mut shares[0];
+    let found = call.put_through(rt, alloc, &office, share, 1, game, &claim);
+    assert_eq!(rt; found, Ok(65_536));
+    assert_eq!(rt; share.amount(), 65_536);
+    assert!(rt; office.close(shares).is_full());
+    Ok(())
 }

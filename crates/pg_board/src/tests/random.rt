@@ -1,5 +1,6 @@
 //! Games and claims at random, from a seed.
 
+use crate::tests::calls::Call;
 use crate::tests::games::{EVEN, ODD, claim_of};
 use crate::tests::reference::{Plain, bit, has, size_of};
 use pg_dominion::Claim;
@@ -25,6 +26,15 @@ impl Random {
             .wrapping_add(1_442_695_040_888_963_407);
         let number = ((self.state >> 33) & 0x7fff_ffff) as u32;
         number % n.max(1)
+    }
+}
+
+/// One of the two calls that settle a claim.
+pub fn random_call(random: &mut Random) -> Call {
+    if random.below(2) == 0 {
+        Call::Post
+    } else {
+        Call::Settle
     }
 }
 
@@ -77,4 +87,43 @@ pub fn random_claim(alloc: Global, random: &mut Random, game: &[Plain]) -> Resul
         v = v.saturating_add(1);
     }
     claim_of(alloc, player, rows.as_slice())
+}
+
+/// A vertex that says mostly the same in a game of `n` vertices.
+fn altered(random: &mut Random, vertex: Plain, n: u32) -> Plain {
+    let (mut priority, mut owner, mut successors) = vertex;
+    match random.below(24) {
+        0 => priority = random.below(4),
+        1 => owner = owner.other(),
+        2 => successors |= random_set(random, n),
+        3 => successors = random_set(random, n),
+        _ => {}
+    }
+    let within = successors & bit(n).wrapping_sub(1);
+    if within == 0 {
+        successors = random_set(random, n);
+    } else {
+        successors = within;
+    }
+    (priority, owner, successors)
+}
+
+/// A game much like the given one, which may lack its last vertex or have one more.
+pub fn altered_game(
+    alloc: Global,
+    random: &mut Random,
+    game: &[Plain],
+) -> Result<Vec<Plain>, Fail> {
+    let size = size_of(game);
+    let n = match random.below(6) {
+        0 => size.saturating_sub(1).max(1),
+        1 => size.saturating_add(1),
+        _ => size,
+    };
+    let mut vertices = Vec::new(alloc);
+    for v in 0..n {
+        let vertex = game.get(v as usize).copied().unwrap_or((1, EVEN, 1));
+        vertices.push(altered(random, vertex, n))?;
+    }
+    Ok(vertices)
 }

@@ -259,3 +259,24 @@ pub fn are_attracted(game: &[Plain], own: u32, claim: &Claim, rows: &[Row]) -> b
     }
     true
 }
+
+/// Whether both games say the same of the row's vertex, as far as a claim of it rests on that.
+fn agrees_at(on: &[Plain], other: &[Plain], row: Row) -> bool {
+    let (priority, owner, successors) = vertex(on, row.0);
+    let (other_priority, other_owner, other_successors) = vertex(other, row.0);
+    let is_kept = match row.1 {
+        Some(w) => has(other_successors, w),
+        None => successors == other_successors,
+    };
+    row.0 < size_of(other) && owner == other_owner && priority == other_priority && is_kept
+}
+
+/// The vertex of the first row of a claim, right in one game, of which the other says something else.
+pub fn first_foreign(on: &[Plain], other: &[Plain], rows: &[Row]) -> Option<u32> {
+    for row in rows {
+        if !agrees_at(on, other, *row) {
+            return Some(row.0);
+        }
+    }
+    None
+}

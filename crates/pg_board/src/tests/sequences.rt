@@ -1,12 +1,13 @@
 //! Claims one after another on a board, each answer and the board after it against the reference: all over the smallest
 //! games, and at random.
 
+use crate::tests::calls::Call;
 use crate::tests::games::{EVEN, ODD, claim_of, game_of_sets};
-use crate::tests::random::{Random, random_claim, random_game};
+use crate::tests::random::{Random, random_call, random_claim, random_game};
 use crate::tests::reference::{
     Plain, answer, are_attracted, first_wrong_row, region_of, size_of, starts_with_rest, state_of,
 };
-use crate::{Board, Entry, Posted, Refusal};
+use crate::{Board, Entry};
 use pg_dominion::Claim;
 use pg_game::{Game, Player};
 use std::alloc::Global;
@@ -47,19 +48,11 @@ fn compare_entry(rt: &impl Abort, game: &[Plain], own: u32, entries: &[Entry], c
     assert!(rt; are_attracted(game, own, claim, rows));
 }
 
-/// Posts a claim as worker 7; where memory was refused it is posted once more.
-fn post(alloc: Global, board: &mut Board, claim: &Claim) -> Result<Posted, Refusal> {
-    let found = board.post(alloc, 7, claim);
-    if found != Err(Refusal::Memory) {
-        return found;
-    }
-    board.post(alloc, 7, claim)
-}
-
-/// Posts a claim, and compares the answer and the board with the reference. Tells how many vertices were settled.
-fn compare_post(
+/// Puts a claim to the board, and compares the answer and the board with the reference. Tells how many vertices were settled.
+fn compare_answer(
     rt: &impl Abort,
     alloc: Global,
+    call: Call,
     game: &[Plain],
     board: &mut Board,
     claim: &Claim,
@@ -69,7 +62,7 @@ fn compare_post(
     let lost = region_of(board.entries(), n, claim.player.other());
     let before = board.entries().len();
     let (want, after) = answer(game, before as u64, own, lost, claim);
-    let found = post(alloc, board, claim);
+    let found = call.put(rt, alloc, board, claim);
     assert_eq!(rt; found, want);
     compare_states(rt, board, n);
     compare_regions(rt, board, n, claim.player, after, lost);
@@ -89,6 +82,7 @@ fn compare_post(
 fn compare_after(
     rt: &impl Abort,
     alloc: Global,
+    random: &mut Random,
     plain: &[Plain],
     game: &Game,
     earlier: &[&Claim],
@@ -98,9 +92,10 @@ fn compare_after(
     for claim in claims {
         let mut board = Board::open(alloc, game)?;
         for before in earlier {
-            let _found = post(alloc, &mut board, *before);
+            let _found = random_call(random).put(rt, alloc, &mut board, *before);
         }
-        let more = compare_post(rt, alloc, plain, &mut board, claim);
+        let call = random_call(random);
+        let more = compare_answer(rt, alloc, call, plain, &mut board, claim);
         settled = settled.saturating_add(more);
     }
     Ok(settled)
@@ -147,27 +142,37 @@ fn right_claims(alloc: Global, plain: &[Plain]) -> Result<Vec<Claim>, Fail> {
 }
 
 /// All sequences of up to two claims of numbers on a game. Tells how many vertices the last ones settled.
-fn compare_pairs(rt: &impl Abort, alloc: Global, plain: &[Plain]) -> Result<u32, Fail> {
+fn compare_pairs(
+    rt: &impl Abort,
+    alloc: Global,
+    random: &mut Random,
+    plain: &[Plain],
+) -> Result<u32, Fail> {
     let game = game_of_sets(alloc, plain)?;
     let all = all_claims(alloc)?;
     let claims = all.as_slice();
-    let mut settled = compare_after(rt, alloc, plain, &game, &[], claims)?;
+    let mut settled = compare_after(rt, alloc, random, plain, &game, &[], claims)?;
     for first in claims {
-        let more = compare_after(rt, alloc, plain, &game, &[first], claims)?;
+        let more = compare_after(rt, alloc, random, plain, &game, &[first], claims)?;
         settled = settled.saturating_add(more);
     }
     Ok(settled)
 }
 
 /// All sequences of three claims with right rows on a game. Tells how many vertices the last ones settled.
-fn compare_triples(rt: &impl Abort, alloc: Global, plain: &[Plain]) -> Result<u32, Fail> {
+fn compare_triples(
+    rt: &impl Abort,
+    alloc: Global,
+    random: &mut Random,
+    plain: &[Plain],
+) -> Result<u32, Fail> {
     let game = game_of_sets(alloc, plain)?;
     let right = right_claims(alloc, plain)?;
     let claims = right.as_slice();
     let mut settled = 0u32;
     for first in claims {
         for second in claims {
-            let more = compare_after(rt, alloc, plain, &game, &[first, second], claims)?;
+            let more = compare_after(rt, alloc, random, plain, &game, &[first, second], claims)?;
             settled = settled.saturating_add(more);
         }
     }
@@ -185,10 +190,12 @@ fn up_to_two_claims_over_every_game_of_two_vertices_with_priorities_below_3(
     rt: HostRuntime,
 ) -> Result<(), Fail> {
     let alloc = rt.alloc();
+    let mut random = Random::new(324);
     let mut settled = 0u32;
     for number in 0..324 {
         let plain = [vertex_of_number(number / 18), vertex_of_number(number % 18)];
-        settled = settled.saturating_add(compare_pairs(&rt, alloc, &plain)?);
+        let more = compare_pairs(&rt, alloc, &mut random, &plain)?;
+        settled = settled.saturating_add(more);
     }
     assert!(rt; settled > 20_000);
     Ok(())
@@ -199,16 +206,18 @@ fn every_three_claims_with_right_rows_over_every_game_of_two_vertices_with_prior
     rt: HostRuntime,
 ) -> Result<(), Fail> {
     let alloc = rt.alloc();
+    let mut random = Random::new(324);
     let mut settled = 0u32;
     for number in 0..324 {
         let plain = [vertex_of_number(number / 18), vertex_of_number(number % 18)];
-        settled = settled.saturating_add(compare_triples(&rt, alloc, &plain)?);
+        let more = compare_triples(&rt, alloc, &mut random, &plain)?;
+        settled = settled.saturating_add(more);
     }
     assert!(rt; settled > 30_000);
     Ok(())
 }
 
-/// Posts random claims on a new board. Tells how many vertices were settled.
+/// Puts random claims to a new board, by both calls. Tells how many vertices were settled.
 fn compare_random(
     rt: &impl Abort,
     alloc: Global,
@@ -220,7 +229,8 @@ fn compare_random(
     let mut settled = 0u32;
     for _post in 0..40 {
         let claim = random_claim(alloc, random, plain)?;
-        let more = compare_post(rt, alloc, plain, &mut board, &claim);
+        let call = random_call(random);
+        let more = compare_answer(rt, alloc, call, plain, &mut board, &claim);
         settled = settled.saturating_add(more);
     }
     Ok(settled)

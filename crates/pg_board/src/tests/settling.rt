@@ -1,8 +1,13 @@
 //! Claims that were checked on one game and are settled on a board of another, or of the same.
 
-use crate::tests::games::{EVEN, ODD, Row, Vertex, claim_of, divided_game, game_of, layered_game};
+use crate::tests::calls::Call;
+use crate::tests::games::{
+    EVEN, ODD, Row, Vertex, claim_of, divided_game, game_of, game_of_sets, layered_game,
+};
+use crate::tests::random::{Random, altered_game, random_claim, random_game};
+use crate::tests::reference::{Plain, answer, first_foreign, region_of, size_of};
 use crate::{Board, Posted, Refusal};
-use pg_dominion::{Checked, check_claim};
+use pg_dominion::{Checked, Claim, check_claim};
 use pg_game::{Game, Player};
 use std::alloc::Global;
 use std::process::Abort;
@@ -85,5 +90,123 @@ fn a_checked_claim_tells_its_rows(rt: HostRuntime) -> Result<(), Fail> {
         assert_eq!(rt; kept.first(), Some(if row.vertex == 1 { &0 } else { &1 }));
         assert_eq!(rt; row.priority, 3);
     }
+    Ok(())
+}
+
+/// How many answers were foreign, and how many were not.
+#[derive(Clone, Copy, Drop)]
+struct Counts {
+    foreign: u32,
+    other: u32,
+}
+
+/// What settling the claim, which was checked on one game, has to answer on a board of another.
+fn wanted(on: &[Plain], other: &[Plain], board: &Board, claim: &Claim) -> Result<Posted, Refusal> {
+    if let Some(v) = first_foreign(on, other, claim.rows.as_slice()) {
+        return Err(Refusal::Foreign(v));
+    }
+    let entries = board.entries();
+    let own = region_of(entries, size_of(other), claim.player);
+    let lost = region_of(entries, size_of(other), claim.player.other());
+    let (want, _) = answer(other, entries.len() as u64, own, lost, claim);
+    want
+}
+
+/// Settles a checked claim on a board of another game, on which something else may be settled already.
+fn compare_on(
+    rt: &impl Abort,
+    alloc: Global,
+    random: &mut Random,
+    on: &[Plain],
+    other: &[Plain],
+    claim: &Claim,
+    checked: &Checked,
+) -> Result<bool, Fail> {
+    let game = game_of_sets(alloc, other)?;
+    let mut board = Board::open(alloc, &game)?;
+    if random.below(2) == 0 {
+        let earlier = random_claim(alloc, random, other)?;
+        let _found = Call::Post.put(rt, alloc, &mut board, &earlier);
+    }
+    let before = board.settled();
+    let want = wanted(on, other, &board, claim);
+    let mut found = board.settle(alloc, 7, checked);
+    if found == Err(Refusal::Memory) {
+        assert_eq!(rt; board.settled(), before);
+        found = board.settle(alloc, 7, checked);
+    }
+    assert_eq!(rt; found, want);
+    if found.is_err() {
+        assert_eq!(rt; board.settled(), before);
+    }
+    Ok(matches!(found, Err(Refusal::Foreign(_))))
+}
+
+/// Settles a claim, which was checked on one game, on boards of a thousand others.
+fn compare_on_others(
+    rt: &impl Abort,
+    alloc: Global,
+    random: &mut Random,
+    on: &[Plain],
+    claim: &Claim,
+    checked: &Checked,
+) -> Result<Counts, Fail> {
+    let mut counts = Counts {
+        foreign: 0,
+        other: 0,
+    };
+    for _other in 0..1_000 {
+        let other = altered_game(alloc, random, on)?;
+        if compare_on(rt, alloc, random, on, other.as_slice(), claim, checked)? {
+            counts.foreign = counts.foreign.saturating_add(1);
+        } else {
+            counts.other = counts.other.saturating_add(1);
+        }
+    }
+    Ok(counts)
+}
+
+#[test]
+fn a_checked_claim_is_foreign_exactly_where_some_row_differs(rt: HostRuntime) -> Result<(), Fail> {
+    let alloc = rt.alloc();
+    let mut random = Random::new(16_016);
+    let on: [Plain; 5] = [
+        (6, ODD, 0b1_0100),
+        (8, ODD, 0b1_1100),
+        (7, EVEN, 0b1_1011),
+        (6, EVEN, 0b1_0100),
+        (5, ODD, 0b1),
+    ];
+    let all: [Row; 5] = [(0, None), (1, None), (2, Some(1)), (3, Some(2)), (4, None)];
+    let game = game_of_sets(alloc, &on)?;
+    let checked = checked_on(alloc, &game, EVEN, &all)?;
+    let claim = claim_of(alloc, EVEN, &all)?;
+    let counts = compare_on_others(&rt, alloc, &mut random, &on, &claim, &checked)?;
+    assert!(rt; counts.foreign > 300);
+    assert!(rt; counts.other > 300);
+    Ok(())
+}
+
+#[test]
+fn checked_claims_of_random_games_are_foreign_exactly_where_some_row_differs(
+    rt: HostRuntime,
+) -> Result<(), Fail> {
+    let alloc = rt.alloc();
+    let mut random = Random::new(16_017);
+    let mut foreign = 0u32;
+    let mut other = 0u32;
+    for _game in 0..20 {
+        let on = random_game(alloc, &mut random)?;
+        let claim = random_claim(alloc, &mut random, on.as_slice())?;
+        let game = game_of_sets(alloc, on.as_slice())?;
+        if let Ok(checked) = check_claim(alloc, &game, &claim) {
+            let on = on.as_slice();
+            let counts = compare_on_others(&rt, alloc, &mut random, on, &claim, &checked)?;
+            foreign = foreign.saturating_add(counts.foreign);
+            other = other.saturating_add(counts.other);
+        }
+    }
+    assert!(rt; foreign > 1_000);
+    assert!(rt; other > 1_000);
     Ok(())
 }

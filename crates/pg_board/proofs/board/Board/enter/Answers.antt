@@ -1,5 +1,5 @@
 use mathlib.Core.Path.{fun_ext}
-use Rattle.std.proofs.Common.{◌≡◌, ℕ, ◌+◌, [], ◌∷◌, ◌++◌, length, refl, sym, ◌∙◌, ap, subst, arith, rules, length-append}
+use Rattle.std.proofs.Common.{◌≡◌, ◌≤◌, ℕ, ◌+◌, [], ◌∷◌, ◌++◌, length, refl, sym, ◌∙◌, ap, subst, arith, rules, length-append}
 use Rattle.std.specs.Prelude.{nat_eq}
 use Rattle.std.specs.List.{IsDistinct}
 use Rattle.pg_game.specs.declared.player.Player.{Player}
@@ -16,12 +16,13 @@ use Rattle.std.proofs.Common.{drop}
 use Rattle.std.specs.Prelude.{vec_capacity}
 use Rattle.pg_game.specs.Subgame.{IsSubgame}
 use Rattle.pg_dominion.specs.Attracting.{IsDone}
-use Rattle.pg_board.specs.Growth.{open_before, Grows}
+use Rattle.pg_board.specs.Growth.{open_before, IsGrowing, Grows}
 use Rattle.pg_board.specs.Regions.{told, state_with, AreRegions, IsBoard}
 use Rattle.pg_board.proofs.Push.{distinct_rising}
+use Rattle.pg_board.proofs.Posting.{few_rows}
 use Rattle.pg_board.specs.Post.{Adds}
 use Rattle.pg_board.proofs.RestIsGood.{vertices}
-use Rattle.pg_board.proofs.Entering.{board_subgame, rest_within, are_entered, entry_answers, board_entered, IsGrowing-start, attracted_rest, rest_and_attracted, told_grown}
+use Rattle.pg_board.proofs.Entering.{board_subgame, rest_within, are_entered, entry_answers, board_entered, IsGrowing-more, attracted_rest, rest_and_attracted, told_grown}
 use Rattle.pg_board.proofs.board.Board.enter.Goals as goal
 
 -- what is required, said of the fields
@@ -39,127 +40,125 @@ record HasGrown (g : Graph) (p : Player) (r r2 : Regions) (R rows : Rows) : Type
   parts : rows ≡ R ++ drop (length R) rows
   tells : (v : ℕ) → told r2.table.items v ≡ state_with (told r.table.items) p rows v
 
-grew : (g : Graph) (p : Player) (r r1 r2 : Regions) (R : Rows) → (slice first rows : Rows) → slice ≡ R → first ≡ slice → ((v : ℕ) → open_before r1 slice v ≡ members r.unsettled v) → ((v : ℕ) → told r1.table.items v ≡ state_with (told r.table.items) p slice v) → AreRegions g r2 → Grows g p r1 first r2 rows → IsDone g p (open_before r1 first) (named rows) (named rows) → HasGrown g p r r2 R rows
-grew g p r r1 r2 R slice first rows value same_rows same tells regions grows done =
-    let taken : first ≡ R = same_rows ∙ value in
+grew : (g : Graph) (p : Player) (r r1 r2 : Regions) (R slice rows : Rows) → slice ≡ R → ((v : ℕ) → open_before r1 slice v ≡ members r.unsettled v) → ((v : ℕ) → told r1.table.items v ≡ state_with (told r.table.items) p slice v) → AreRegions g r2 → Grows g p r1 R r2 rows → IsDone g p (open_before r1 R) (named rows) (named rows) → HasGrown g p r r2 R rows
+grew g p r r1 r2 R slice rows value same tells regions grows done =
     let same_here = subst (λ (xs : Rows). (v : ℕ) → open_before r1 xs v ≡ members r.unsettled v) value same in
     let tells_here = subst (λ (xs : Rows). (v : ℕ) → told r1.table.items v ≡ state_with (told r.table.items) p xs v) value tells in
     record {
       regions = regions;
-      attraction = attracted_rest g p r r1 r2 R first rows taken same_here tells_here grows done;
-      parts = rest_and_attracted g p r r1 r2 R first rows taken same_here tells_here grows done;
-      tells = told_grown g p r r1 r2 R first rows taken same_here tells_here grows done;
+      attraction = attracted_rest g p r r1 r2 R R rows refl same_here tells_here grows done;
+      parts = rest_and_attracted g p r r1 r2 R R rows refl same_here tells_here grows done;
+      tells = told_grown g p r r1 r2 R R rows refl same_here tells_here grows done;
     }
 
-pub take_all-requires-clause-growing : goal.take_all-requires-clause-growing
-take_all-requires-clause-growing c =
-    let room = c.in_ok-reserve_exact.ensures.ok in
-    let size = c.len.ensures.number in
-    IsGrowing-start c.self.inside.game.now c.self.inside.regions c.reserve_exact.new.self.items (vec_capacity c.reserve_exact.new.self) c.self.invariant.regions (c.reserve_exact.ensures.items ∙ c.clear.ensures.items) (omega (arith, room, size))
-
-pub take_all-requires-clause-unsettled : goal.take_all-requires-clause-unsettled
-take_all-requires-clause-unsettled c =
+pub attract-requires-clause-growing : goal.attract-requires-clause-growing
+attract-requires-clause-growing c =
     let b = c.self.inside in
-    let r = c.args.rest.items in
+    let room : length b.game.now ≤ vec_capacity c.args.rows.now = subst (λ (x : Play). length x.graph ≤ vec_capacity c.args.rows.now) (sym c.self.view_is) c.requires.room in
+    subst (λ (xs : Rows). IsGrowing b.game.now c.settle_all.new.self xs (vec_capacity c.args.rows.now)) c.as_slice.ensures.value
+    (IsGrowing-more b.game.now c.settle_all.new.self c.as_slice.result.now (length b.game.now) (vec_capacity c.args.rows.now) room c.settle_all.ensures.growing)
+
+pub settle_all-requires-clause-unsettled : goal.settle_all-requires-clause-unsettled
+settle_all-requires-clause-unsettled c =
+    let b = c.self.inside in
+    let r = c.args.rows.now.items in
     let q = entering c.args.self.now b.game.now b.entries.items c.args.player r c.self.view_is c.requires.good c.requires.unsettled in
     subst (λ (xs : Rows). Within (named xs) (members b.regions.unsettled)) (sym c.as_slice.ensures.value)
-    (rest_within b.game.now c.len.ensures.game b.entries.items b.regions b.number c.self.invariant c.args.player r q.good q.twice)
+    (rest_within b.game.now c.len-n.ensures.game b.entries.items b.regions b.number c.self.invariant.0 c.args.player r q.good q.twice)
 
-pub take_all-requires-clause-distinct : goal.take_all-requires-clause-distinct
-take_all-requires-clause-distinct c =
+pub settle_all-requires-clause-distinct : goal.settle_all-requires-clause-distinct
+settle_all-requires-clause-distinct c =
     let b = c.self.inside in
-    let r = c.args.rest.items in
+    let r = c.args.rows.now.items in
     let q = entering c.args.self.now b.game.now b.entries.items c.args.player r c.self.view_is c.requires.good c.requires.unsettled in
     subst (λ (xs : Rows). IsDistinct nat_eq (vertices xs)) (sym c.as_slice.ensures.value) (distinct_rising (vertices r) q.good.shape.right.rising)
 
 pub attract-requires-clause-subgame : goal.attract-requires-clause-subgame
 attract-requires-clause-subgame c =
     let b = c.self.inside in
-    let r = c.args.rest.items in
+    let r = c.args.rows.now.items in
     let q = entering c.args.self.now b.game.now b.entries.items c.args.player r c.self.view_is c.requires.good c.requires.unsettled in
-    let e : open_before c.take_all.new.self c.take_all.new.rows.items ≡ members b.regions.unsettled =
-    fun_ext (λ v. ap (λ (xs : Rows). open_before c.take_all.new.self xs v) c.take_all.ensures.rows ∙ c.take_all.ensures.same v) in
+    let e : open_before c.settle_all.new.self r ≡ members b.regions.unsettled =
+    fun_ext (λ v. subst (λ (xs : Rows). open_before c.settle_all.new.self xs v ≡ members b.regions.unsettled v) c.as_slice.ensures.value (c.settle_all.ensures.same v)) in
     subst (λ (U : VertexSet). IsSubgame b.game.now U) (sym e)
-    (board_subgame b.game.now c.len.ensures.game b.entries.items b.regions b.number c.self.invariant c.args.player r q.good q.twice)
+    (board_subgame b.game.now c.len-n.ensures.game b.entries.items b.regions b.number c.self.invariant.0 c.args.player r q.good q.twice)
 
 pub overflow_cast-claimed : goal.overflow_cast-claimed
 overflow_cast-claimed c =
     let b = c.self.inside in
-    let r = c.args.rest.items in
+    let r = c.args.rows.now.items in
     let q = entering c.args.self.now b.game.now b.entries.items c.args.player r c.self.view_is c.requires.good c.requires.unsettled in
-    let w = grew b.game.now c.args.player b.regions c.take_all.new.self c.attract.new.self r c.as_slice.result.now c.take_all.new.rows.items c.attract.new.rows.items c.as_slice.ensures.value c.take_all.ensures.rows c.take_all.ensures.same c.take_all.ensures.told c.attract.ensures.growing.regions c.attract.ensures.grows c.attract.ensures.done in
-    let attracted = drop (length r) c.attract.new.rows.items in
-    let facts = are_entered b.game.now c.len.ensures.game b.entries.items b.regions b.number c.self.invariant c.args.player r q.good q.twice attracted w.attraction in
-    let parts = length-append r attracted in
-    let all : length c.attract.new.rows.items ≡ length (r ++ attracted) = ap (λ (xs : Rows). length xs) w.parts in
-    let limit = c.len.ensures.limits.vertices in
-    omega (arith, facts.fits, parts, c.len-claimed.ensures, c.args.rest.ok.0)
+    let few = few_rows b.game.now c.args.player r q.good.shape.right in
+    let limit = c.len-n.ensures.limits.vertices in
+    omega (arith, few, c.len-claimed.ensures, c.args.rows.now.ok.0)
 
 pub overflow_cast-settled : goal.overflow_cast-settled
 overflow_cast-settled c =
     let b = c.self.inside in
-    let r = c.args.rest.items in
+    let r = c.args.rows.now.items in
     let q = entering c.args.self.now b.game.now b.entries.items c.args.player r c.self.view_is c.requires.good c.requires.unsettled in
-    let w = grew b.game.now c.args.player b.regions c.take_all.new.self c.attract.new.self r c.as_slice.result.now c.take_all.new.rows.items c.attract.new.rows.items c.as_slice.ensures.value c.take_all.ensures.rows c.take_all.ensures.same c.take_all.ensures.told c.attract.ensures.growing.regions c.attract.ensures.grows c.attract.ensures.done in
+    let w = grew b.game.now c.args.player b.regions c.settle_all.new.self c.attract.new.self r c.as_slice.result.now c.attract.new.rows.items c.as_slice.ensures.value c.settle_all.ensures.same c.settle_all.ensures.told c.attract.ensures.growing.regions c.attract.ensures.grows c.attract.ensures.done in
     let attracted = drop (length r) c.attract.new.rows.items in
-    let facts = are_entered b.game.now c.len.ensures.game b.entries.items b.regions b.number c.self.invariant c.args.player r q.good q.twice attracted w.attraction in
+    let facts = are_entered b.game.now c.len-n.ensures.game b.entries.items b.regions b.number c.self.invariant.0 c.args.player r q.good q.twice attracted w.attraction in
     let parts = length-append r attracted in
     let all : length c.attract.new.rows.items ≡ length (r ++ attracted) = ap (λ (xs : Rows). length xs) w.parts in
-    let limit = c.len.ensures.limits.vertices in
-    let shrunk : length c.copy_or_take-rows.result.items ≡ length c.attract.new.rows.items = ap (λ (xs : Rows). length xs) c.copy_or_take-rows.ensures in
-    omega (arith, facts.fits, parts, all, shrunk, c.len-settled.ensures, c.copy_or_take-rows.result.ok.0)
+    let limit = c.len-n.ensures.limits.vertices in
+    let shrunk : length c.copy_or_take-entered.result.items ≡ length c.attract.new.rows.items = ap (λ (xs : Rows). length xs) c.copy_or_take-entered.ensures in
+    omega (arith, facts.fits, parts, all, shrunk, c.len-settled.ensures, c.copy_or_take-entered.result.ok.0)
 
 pub overflow_add-self : goal.overflow_add-self
 overflow_add-self c =
     let b = c.self.inside in
-    let r = c.args.rest.items in
+    let r = c.args.rows.now.items in
     let q = entering c.args.self.now b.game.now b.entries.items c.args.player r c.self.view_is c.requires.good c.requires.unsettled in
-    let w = grew b.game.now c.args.player b.regions c.take_all.new.self c.attract.new.self r c.as_slice.result.now c.take_all.new.rows.items c.attract.new.rows.items c.as_slice.ensures.value c.take_all.ensures.rows c.take_all.ensures.same c.take_all.ensures.told c.attract.ensures.growing.regions c.attract.ensures.grows c.attract.ensures.done in
+    let w = grew b.game.now c.args.player b.regions c.settle_all.new.self c.attract.new.self r c.as_slice.result.now c.attract.new.rows.items c.as_slice.ensures.value c.settle_all.ensures.same c.settle_all.ensures.told c.attract.ensures.growing.regions c.attract.ensures.grows c.attract.ensures.done in
     let attracted = drop (length r) c.attract.new.rows.items in
-    let facts = are_entered b.game.now c.len.ensures.game b.entries.items b.regions b.number c.self.invariant c.args.player r q.good q.twice attracted w.attraction in
+    let facts = are_entered b.game.now c.len-n.ensures.game b.entries.items b.regions b.number c.self.invariant.0 c.args.player r q.good q.twice attracted w.attraction in
     let parts = length-append r attracted in
     let all : length c.attract.new.rows.items ≡ length (r ++ attracted) = ap (λ (xs : Rows). length xs) w.parts in
-    let limit = c.len.ensures.limits.vertices in
-    let shrunk : length c.copy_or_take-rows.result.items ≡ length c.attract.new.rows.items = ap (λ (xs : Rows). length xs) c.copy_or_take-rows.ensures in
-    omega (arith, facts.fits, parts, all, shrunk, c.len-settled.ensures, c.copy_or_take-rows.result.ok.0, c.self.invariant.number_is)
+    let limit = c.len-n.ensures.limits.vertices in
+    let shrunk : length c.copy_or_take-entered.result.items ≡ length c.attract.new.rows.items = ap (λ (xs : Rows). length xs) c.copy_or_take-entered.ensures in
+    omega (arith, facts.fits, parts, all, shrunk, c.len-settled.ensures, c.copy_or_take-entered.result.ok.0, c.self.invariant.0.number_is)
 
 pub invariant_of-self-2 : goal.invariant_of-self-2
 invariant_of-self-2 c =
     let b = c.self.inside in
-    let r = c.args.rest.items in
+    let r = c.args.rows.now.items in
     let q = entering c.args.self.now b.game.now b.entries.items c.args.player r c.self.view_is c.requires.good c.requires.unsettled in
-    let w = grew b.game.now c.args.player b.regions c.take_all.new.self c.attract.new.self r c.as_slice.result.now c.take_all.new.rows.items c.attract.new.rows.items c.as_slice.ensures.value c.take_all.ensures.rows c.take_all.ensures.same c.take_all.ensures.told c.attract.ensures.growing.regions c.attract.ensures.grows c.attract.ensures.done in
+    let w = grew b.game.now c.args.player b.regions c.settle_all.new.self c.attract.new.self r c.as_slice.result.now c.attract.new.rows.items c.as_slice.ensures.value c.settle_all.ensures.same c.settle_all.ensures.told c.attract.ensures.growing.regions c.attract.ensures.grows c.attract.ensures.done in
     let attracted = drop (length r) c.attract.new.rows.items in
-    let shrunk : length c.copy_or_take-rows.result.items ≡ length c.attract.new.rows.items = ap (λ (xs : Rows). length xs) c.copy_or_take-rows.ensures in
+    let shrunk : length c.copy_or_take-entered.result.items ≡ length c.attract.new.rows.items = ap (λ (xs : Rows). length xs) c.copy_or_take-entered.ensures in
     let e : Entry = record { worker = c.args.worker; player = c.args.player; claimed = c.len-claimed.result; rows = c.new.result } in
-    let same : c.new.result ≡ c.attract.new.rows.items = c.new.ensures ∙ c.copy_or_take-rows.ensures in
-    let claimed : c.len-claimed.result ≡ length r = omega (arith, c.len-claimed.ensures, c.args.rest.ok.0) in
-    let size : c.len-settled.result ≡ length c.new.result = (let n : length c.new.result ≡ length c.attract.new.rows.items = ap (λ (xs : Rows). length xs) same in omega (arith, n, shrunk, c.len-settled.ensures, c.copy_or_take-rows.result.ok.0)) in
-    let journal : c.push_reserved.new.self.items ≡ b.entries.items ++ e ∷ [] = search rules in
-    subst (λ (j : Journal). IsBoard b.game.now j c.attract.new.self (b.number + c.len-settled.result)) (sym journal)
-    (board_entered b.game.now c.len.ensures.game b.entries.items b.regions b.number c.self.invariant c.args.player r q.good q.twice attracted w.attraction e refl claimed (same ∙ w.parts) c.attract.new.self (b.number + c.len-settled.result) w.regions
-    (subst (λ (xs : Rows). (v : ℕ) → told c.attract.new.self.table.items v ≡ state_with (told b.regions.table.items) c.args.player xs v) (sym same) w.tells)
-    (omega (arith, size)))
+    let same : c.new.result ≡ c.attract.new.rows.items = c.new.ensures ∙ c.copy_or_take-entered.ensures in
+    let claimed : c.len-claimed.result ≡ length r = omega (arith, c.len-claimed.ensures, c.args.rows.now.ok.0) in
+    let size : c.len-settled.result ≡ length c.new.result = (let n : length c.new.result ≡ length c.attract.new.rows.items = ap (λ (xs : Rows). length xs) same in omega (arith, n, shrunk, c.len-settled.ensures, c.copy_or_take-entered.result.ok.0)) in
+    let journal : c.push_reserved.new.self.items ≡ b.entries.items ++ e ∷ [] = search rules in (
+      subst (λ (j : Journal). IsBoard b.game.now j c.attract.new.self (b.number + c.len-settled.result)) (sym journal)
+          (board_entered b.game.now c.len-n.ensures.game b.entries.items b.regions b.number c.self.invariant.0 c.args.player r q.good q.twice attracted w.attraction e refl claimed (same ∙ w.parts) c.attract.new.self (b.number + c.len-settled.result) w.regions
+          (subst (λ (xs : Rows). (v : ℕ) → told c.attract.new.self.table.items v ≡ state_with (told b.regions.table.items) c.args.player xs v) (sym same) w.tells)
+          (omega (arith, size))),
+      c.self.invariant.1,
+    )
 
 pub returns-clause-added : goal.returns-clause-added
 returns-clause-added c =
     let b = c.self.inside in
-    let r = c.args.rest.items in
+    let r = c.args.rows.now.items in
     let q = entering c.args.self.now b.game.now b.entries.items c.args.player r c.self.view_is c.requires.good c.requires.unsettled in
-    let w = grew b.game.now c.args.player b.regions c.take_all.new.self c.attract.new.self r c.as_slice.result.now c.take_all.new.rows.items c.attract.new.rows.items c.as_slice.ensures.value c.take_all.ensures.rows c.take_all.ensures.same c.take_all.ensures.told c.attract.ensures.growing.regions c.attract.ensures.grows c.attract.ensures.done in
+    let w = grew b.game.now c.args.player b.regions c.settle_all.new.self c.attract.new.self r c.as_slice.result.now c.attract.new.rows.items c.as_slice.ensures.value c.settle_all.ensures.same c.settle_all.ensures.told c.attract.ensures.growing.regions c.attract.ensures.grows c.attract.ensures.done in
     let attracted = drop (length r) c.attract.new.rows.items in
-    let shrunk : length c.copy_or_take-rows.result.items ≡ length c.attract.new.rows.items = ap (λ (xs : Rows). length xs) c.copy_or_take-rows.ensures in
+    let shrunk : length c.copy_or_take-entered.result.items ≡ length c.attract.new.rows.items = ap (λ (xs : Rows). length xs) c.copy_or_take-entered.ensures in
     let e : Entry = record { worker = c.args.worker; player = c.args.player; claimed = c.len-claimed.result; rows = c.new.result } in
-    let same : c.new.result ≡ c.attract.new.rows.items = c.new.ensures ∙ c.copy_or_take-rows.ensures in
-    let claimed : c.len-claimed.result ≡ length r = omega (arith, c.len-claimed.ensures, c.args.rest.ok.0) in
-    let size : c.len-settled.result ≡ length c.new.result = (let n : length c.new.result ≡ length c.attract.new.rows.items = ap (λ (xs : Rows). length xs) same in omega (arith, n, shrunk, c.len-settled.ensures, c.copy_or_take-rows.result.ok.0)) in
+    let same : c.new.result ≡ c.attract.new.rows.items = c.new.ensures ∙ c.copy_or_take-entered.ensures in
+    let claimed : c.len-claimed.result ≡ length r = omega (arith, c.len-claimed.ensures, c.args.rows.now.ok.0) in
+    let size : c.len-settled.result ≡ length c.new.result = (let n : length c.new.result ≡ length c.attract.new.rows.items = ap (λ (xs : Rows). length xs) same in omega (arith, n, shrunk, c.len-settled.ensures, c.copy_or_take-entered.result.ok.0)) in
     let old : length c.reserve.new.self.items ≡ length b.entries.items = ap (λ (xs : Journal). length xs) c.reserve.ensures.items in
     let number : c.len-entry.result ≡ length b.entries.items = omega (arith, old, c.len-entry.ensures, c.reserve.new.self.ok.0) in
     let journal : c.push_reserved.new.self.items ≡ b.entries.items ++ e ∷ [] = search rules in
     subst (λ (x : Play). Adds x (record { graph = b.game.now; journal = c.push_reserved.new.self.items }) c.args.worker (record { player = c.args.player; rows = r }) (record { entry = c.len-entry.result; claimed = c.len-claimed.result; settled = c.len-settled.result })) c.self.view_is (record {
       entry = e;
       journal = journal;
-      answers = entry_answers b.game.now c.len.ensures.game b.entries.items b.regions b.number c.self.invariant c.args.player r q.good q.twice attracted w.attraction e refl claimed (same ∙ w.parts);
+      answers = entry_answers b.game.now c.len-n.ensures.game b.entries.items b.regions b.number c.self.invariant.0 c.args.player r q.good q.twice attracted w.attraction e refl claimed (same ∙ w.parts);
       by_worker = refl;
       number = number;
       claimed = refl;

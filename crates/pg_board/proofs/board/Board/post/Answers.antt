@@ -14,14 +14,14 @@ pub returns-clause-old_copies : goal.returns-clause-old_copies
 returns-clause-old_copies c = λ k d.
     let x = c.args.self.now in
     let game : IsGame x.graph = subst (λ (y : Play). IsGame y.graph) c.self.view_is c.len-n.ensures.game in
-    let lawful : IsLawful x.graph x.journal = subst (λ (y : Play). IsLawful y.graph y.journal) c.self.view_is c.self.invariant.lawful in
+    let lawful : IsLawful x.graph x.journal = subst (λ (y : Play). IsLawful y.graph y.journal) c.self.view_is c.self.invariant.0.lawful in
     old_copy x.graph game x.journal lawful c.args.claim.now k d c.settle_sound.new.self c.args.worker c.settle_sound.result c.settle_sound.ensures.posted c.settle_sound.ensures.refused c.settle_sound.ensures.unchanged
 
 pub returns-clause-lawful : goal.returns-clause-lawful
 returns-clause-lawful c =
     let x = c.args.self.now in
     let game : IsGame x.graph = subst (λ (y : Play). IsGame y.graph) c.self.view_is c.len-n.ensures.game in
-    let lawful : IsLawful x.graph x.journal = subst (λ (y : Play). IsLawful y.graph y.journal) c.self.view_is c.self.invariant.lawful in
+    let lawful : IsLawful x.graph x.journal = subst (λ (y : Play). IsLawful y.graph y.journal) c.self.view_is c.self.invariant.0.lawful in
     lawful_after x.graph game x.journal lawful c.args.claim.now c.settle_sound.new.self c.args.worker c.settle_sound.result c.settle_sound.ensures.posted c.settle_sound.ensures.unchanged c.settle_sound.ensures.game
 
 pub returns-in_err-judge_claim-clause-old_copies : goal.returns-in_err-judge_claim-clause-old_copies
@@ -30,7 +30,7 @@ returns-in_err-judge_claim-clause-old_copies c = λ k d.
     let claim = c.args.claim.now in
     let fault = c.in_err-judge_claim.field-0.0 in
     let game : IsGame x.graph = subst (λ (y : Play). IsGame y.graph) c.self.view_is c.len-n.ensures.game in
-    let lawful : IsLawful x.graph x.journal = subst (λ (y : Play). IsLawful y.graph y.journal) c.self.view_is c.self.invariant.lawful in
+    let lawful : IsLawful x.graph x.journal = subst (λ (y : Play). IsLawful y.graph y.journal) c.self.view_is c.self.invariant.0.lawful in
     let wrong : IsClaimFault x.graph claim.player claim.rows fault = subst (λ (y : Play). IsClaimFault y.graph claim.player claim.rows fault) c.self.view_is c.in_err-judge_claim.ensures.fault in
     let e : c.from_residual.result ≡ Err (refusal_of fault) = search rules in
     subst (λ (r : Result Posted Refusal). AnswersDominion (state_of x.journal) claim.rows r × SettlesUnlessMemory x x claim.player claim.rows r) (sym e)

@@ -1,12 +1,11 @@
-use Rattle.std.proofs.Common.{◌≡◌, refl, sym, subst, rules}
+use Rattle.std.proofs.Common.{sym, subst}
 use Rattle.std.specs.Prelude.{IfOk, IfErr}
-use Rattle.pg_game.specs.Graph.{Graph, IsGame}
+use Rattle.pg_game.specs.Graph.{IsGame}
 use Rattle.pg_dominion.specs.declared.claim.Claim.{Claim}
 use Rattle.pg_dominion.specs.Claim.{IsSound}
 use Rattle.pg_dominion.specs.Checked.{claim_of, claim_rows, Agrees, IsForeign}
 use Rattle.pg_dominion.proofs.Agreed.{sound}
 use Rattle.pg_dominion.proofs.Recorded.{never_foreign}
-use Rattle.pg_board.specs.declared.entry.Posted.{Posted}
 use Rattle.pg_board.specs.Play.{Play}
 use Rattle.pg_board.specs.State.{IsGoodOn}
 use Rattle.pg_board.specs.Journal.{state_of, IsLawful}
@@ -47,7 +46,7 @@ pub returns-clause-lawful : goal.returns-clause-lawful
 returns-clause-lawful c =
     let x = c.args.self.now in
     let game : IsGame x.graph = subst (λ (y : Play). IsGame y.graph) c.self.view_is c.len-n.ensures.game in
-    let lawful : IsLawful x.graph x.journal = subst (λ (y : Play). IsLawful y.graph y.journal) c.self.view_is c.self.invariant.lawful in
+    let lawful : IsLawful x.graph x.journal = subst (λ (y : Play). IsLawful y.graph y.journal) c.self.view_is c.self.invariant.0.lawful in
     lawful_after x.graph game x.journal lawful c.claim.result.now c.settle_sound.new.self c.args.worker c.settle_sound.result c.settle_sound.ensures.posted c.settle_sound.ensures.unchanged c.settle_sound.ensures.game
 
 pub returns-clause-old_copies : goal.returns-clause-old_copies
@@ -55,7 +54,7 @@ returns-clause-old_copies c = λ k a d.
     let x = c.args.self.now in
     let q = c.args.checked.now in
     let game : IsGame x.graph = subst (λ (y : Play). IsGame y.graph) c.self.view_is c.len-n.ensures.game in
-    let lawful : IsLawful x.graph x.journal = subst (λ (y : Play). IsLawful y.graph y.journal) c.self.view_is c.self.invariant.lawful in
+    let lawful : IsLawful x.graph x.journal = subst (λ (y : Play). IsLawful y.graph y.journal) c.self.view_is c.self.invariant.0.lawful in
     old_copy x.graph game x.journal lawful (claim_of q) k d c.settle_sound.new.self c.args.worker c.settle_sound.result
     (subst (λ (k : Claim). IfOk c.settle_sound.result (λ posted. IsGoodOn x.graph (state_of x.journal) k.player k.rows × Adds x c.settle_sound.new.self c.args.worker k posted)) c.claim.ensures.claim c.settle_sound.ensures.posted)
     (subst (λ (k : Claim). IfErr c.settle_sound.result (λ e. Refuses x.graph (state_of x.journal) k.player k.rows e)) c.claim.ensures.claim c.settle_sound.ensures.refused)

@@ -16,8 +16,8 @@ use Rattle.pg_board.specs.OpenEdges.{LeadsOutside, IsFirstOutside}
 use Rattle.pg_board.specs.Refusal.{IsLost, IsFirstOpenEdge}
 use Rattle.pg_board.proofs.RestIsGood.{rest_right, rest_is_good, rest_twice}
 use Rattle.pg_board.specs.Post.{Adds}
-use Rattle.pg_board.proofs.Posting.{Bounds, first_open, good_on, adds_claim, few_rows}
-use Rattle.pg_board.proofs.board.Board.settle_sound.Goals as goal
+use Rattle.pg_board.proofs.Posting.{Bounds, first_open, good_on, adds_claim, few_rows, all_below}
+use Rattle.pg_board.proofs.board.Board.settle_in.Goals as goal
 
 -- where edges may end, as the code has it
 bounds_are : (t : State) (p : Player) (rows rest : Rows) → rest ≡ rest_of t rows → union (named rest) (settled t p) ≡ Bounds t p rows
@@ -31,7 +31,7 @@ first_edge-requires-clause-right c =
     let b = c.self.inside in
     let claim = c.args.claim.now in
     let sound = sound_here c.args.self.now b.game.now b.entries.items claim.player claim.rows c.self.view_is c.requires in
-    subst (λ (xs : Rows). AreRight b.game.now claim.player xs) (sym (c.as_slice-rows.ensures.value ∙ c.in_ok-rest.ensures.rows))
+    subst (λ (xs : Rows). AreRight b.game.now claim.player xs) (sym (c.as_slice-rest.ensures.value ∙ c.rest_of.ensures.rows))
     (rest_right b.game.now claim.player (told b.regions.table.items) claim.rows sound.shape.right)
 
 pub returns-in-Some-first_edge-clause-refused : goal.returns-in-Some-first_edge-clause-refused
@@ -41,17 +41,17 @@ returns-in-Some-first_edge-clause-refused c =
     let p = claim.player in
     let rows = claim.rows in
     let t = told b.regions.table.items in
-    let rest = c.in_ok-rest.rest.items in
+    let rest = c.rest_of.new.rest.items in
     let v = c.in-Some-first_edge.v in
     let w = c.in-Some-first_edge.w in
     let sound = sound_here c.args.self.now b.game.now b.entries.items p rows c.self.view_is c.requires in
-    let slice : c.as_slice-rows.result.now ≡ rest_of t rows = c.as_slice-rows.ensures.value ∙ c.in_ok-rest.ensures.rows in
-    let found : IsFirstOutside b.game.now p (union (named c.as_slice-rows.result.now) (settled t p)) c.as_slice-rows.result.now v w = c.in-Some-first_edge.ensures in
+    let slice : c.as_slice-rest.result.now ≡ rest_of t rows = c.as_slice-rest.ensures.value ∙ c.rest_of.ensures.rows in
+    let found : IsFirstOutside b.game.now p (union (named c.as_slice-rest.result.now) (settled t p)) c.as_slice-rest.result.now v w = c.in-Some-first_edge.ensures in
     let first : IsFirstOutside b.game.now p (Bounds t p rows) (rest_of t rows) v w =
-    subst (λ (S : VertexSet). IsFirstOutside b.game.now p S (rest_of t rows) v w) (bounds_are t p rows c.as_slice-rows.result.now slice)
-    (subst (λ (xs : Rows). IsFirstOutside b.game.now p (union (named c.as_slice-rows.result.now) (settled t p)) xs v w) slice found) in
+    subst (λ (S : VertexSet). IsFirstOutside b.game.now p S (rest_of t rows) v w) (bounds_are t p rows c.as_slice-rest.result.now slice)
+    (subst (λ (xs : Rows). IsFirstOutside b.game.now p (union (named c.as_slice-rest.result.now) (settled t p)) xs v w) slice found) in
     subst (λ (x : Play). IsSound x.graph p rows × NoneHas (IsLost (state_of x.journal) p rows) × IsFirstOpenEdge x.graph (state_of x.journal) p rows v w) c.self.view_is
-    (subst (λ (s : State). IsSound b.game.now p rows × NoneHas (IsLost s p rows) × IsFirstOpenEdge b.game.now s p rows v w) (fun_ext c.self.invariant.state)
+    (subst (λ (s : State). IsSound b.game.now p rows × NoneHas (IsLost s p rows) × IsFirstOpenEdge b.game.now s p rows v w) (fun_ext c.self.invariant.0.state)
     (sound, c.in_default.ensures, first_open b.game.now t p rows v w first))
 
 nonempty : (n m : ℕ) → n ≡ m → (n == 0) ≡ false → 0 < m
@@ -73,6 +73,22 @@ rest_here : (x : Play) (g : Graph) (j : Journal) (r : Regions) (number : ℕ) (r
 rest_here x g j r number rows rest view board same =
     subst (λ (y : Play). rest ≡ rest_of (state_of y.journal) rows) view (subst (λ (s : State). rest ≡ rest_of s rows) (fun_ext board.state) same)
 
+pub rest_of-requires-clause-rows : goal.rest_of-requires-clause-rows
+rest_of-requires-clause-rows c =
+    let b = c.self.inside in
+    let claim = c.args.claim.now in
+    let sound = sound_here c.args.self.now b.game.now b.entries.items claim.player claim.rows c.self.view_is c.requires in
+    all_below b.game.now claim.player claim.rows sound.shape.right (length b.places.items) c.self.invariant.1
+
+pub rest_of-requires-clause-room : goal.rest_of-requires-clause-room
+rest_of-requires-clause-room c =
+    let b = c.self.inside in
+    let claim = c.args.claim.now in
+    let sound = sound_here c.args.self.now b.game.now b.entries.items claim.player claim.rows c.self.view_is c.requires in
+    let few = few_rows b.game.now claim.player claim.rows sound.shape.right in
+    let room = c.in_ok-reserve_exact.ensures.ok in
+    omega (arith, few, room, c.len-n.ensures.number)
+
 pub rest_of-requires-clause-short : goal.rest_of-requires-clause-short
 rest_of-requires-clause-short c =
     let b = c.self.inside in
@@ -86,12 +102,12 @@ pub enter-requires-clause-good : goal.enter-requires-clause-good
 enter-requires-clause-good c =
     let b = c.self.inside in
     let claim = c.args.claim.now in
-    let rest = c.in_ok-rest.rest.items in
+    let rest = c.rest_of.new.rest.items in
     let x : Play = record { graph = b.game.now; journal = b.entries.items } in
     let sound = sound_here c.args.self.now b.game.now b.entries.items claim.player claim.rows c.self.view_is c.requires in
-    let same = rest_here x b.game.now b.entries.items b.regions b.number claim.rows rest refl c.self.invariant c.in_ok-rest.ensures.rows in
-    let some = nonempty _ (length rest) (c.in_ok-rest.rest.ok.0) (sym c.is_empty.ensures ∙ c.if-is_empty.false) in
-    let good = claim_good x b.game.now b.entries.items b.regions b.number claim.player claim.rows rest c.as_slice-rows.result.now refl c.self.invariant sound c.in_default.ensures c.in_ok-rest.ensures.rows c.as_slice-rows.ensures.value some c.in_default-first_edge.ensures in
+    let same = rest_here x b.game.now b.entries.items b.regions b.number claim.rows rest refl c.self.invariant.0 c.rest_of.ensures.rows in
+    let some = nonempty _ (length rest) (c.rest_of.new.rest.ok.0) (sym c.is_empty.ensures ∙ c.if-is_empty.false) in
+    let good = claim_good x b.game.now b.entries.items b.regions b.number claim.player claim.rows rest c.as_slice-rest.result.now refl c.self.invariant.0 sound c.in_default.ensures c.rest_of.ensures.rows c.as_slice-rest.ensures.value some c.in_default-first_edge.ensures in
     subst (λ (xs : Rows). IsGoodOn b.game.now (state_of b.entries.items) claim.player xs) (sym same)
     (rest_is_good b.game.now (state_of b.entries.items) claim.player claim.rows good)
 
@@ -99,20 +115,20 @@ pub enter-requires-clause-unsettled : goal.enter-requires-clause-unsettled
 enter-requires-clause-unsettled c =
     let b = c.self.inside in
     let claim = c.args.claim.now in
-    let rest = c.in_ok-rest.rest.items in
+    let rest = c.rest_of.new.rest.items in
     let x : Play = record { graph = b.game.now; journal = b.entries.items } in
     let st = state_of b.entries.items in
-    let same = rest_here x b.game.now b.entries.items b.regions b.number claim.rows rest refl c.self.invariant c.in_ok-rest.ensures.rows in
+    let same = rest_here x b.game.now b.entries.items b.regions b.number claim.rows rest refl c.self.invariant.0 c.rest_of.ensures.rows in
     subst (λ (xs : Rows). rest_of st xs ≡ xs) (sym same) (rest_twice st claim.rows)
 
 pub returns-clause-posted : goal.returns-clause-posted
 returns-clause-posted c =
     let b = c.self.inside in
     let claim = c.args.claim.now in
-    let rest = c.in_ok-rest.rest.items in
-    let same = rest_here c.args.self.now b.game.now b.entries.items b.regions b.number claim.rows rest c.self.view_is c.self.invariant c.in_ok-rest.ensures.rows in
-    let some = nonempty _ (length rest) (c.in_ok-rest.rest.ok.0) (sym c.is_empty.ensures ∙ c.if-is_empty.false) in (
-      claim_good c.args.self.now b.game.now b.entries.items b.regions b.number claim.player claim.rows rest c.as_slice-rows.result.now c.self.view_is c.self.invariant c.requires c.in_default.ensures c.in_ok-rest.ensures.rows c.as_slice-rows.ensures.value some c.in_default-first_edge.ensures,
+    let rest = c.rest_of.new.rest.items in
+    let same = rest_here c.args.self.now b.game.now b.entries.items b.regions b.number claim.rows rest c.self.view_is c.self.invariant.0 c.rest_of.ensures.rows in
+    let some = nonempty _ (length rest) (c.rest_of.new.rest.ok.0) (sym c.is_empty.ensures ∙ c.if-is_empty.false) in (
+      claim_good c.args.self.now b.game.now b.entries.items b.regions b.number claim.player claim.rows rest c.as_slice-rest.result.now c.self.view_is c.self.invariant.0 c.requires c.in_default.ensures c.rest_of.ensures.rows c.as_slice-rest.ensures.value some c.in_default-first_edge.ensures,
       adds_claim c.args.self.now c.enter.new.self c.args.worker claim.player rest claim c.in_ok-enter.field-0 refl same
           (subst (λ (y : Play). Adds y c.enter.new.self c.args.worker (record { player = claim.player; rows = rest }) c.in_ok-enter.field-0) c.self.view_is c.in_ok-enter.ensures.added),
     )

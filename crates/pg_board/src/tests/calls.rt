@@ -1,0 +1,89 @@
+//! The two calls that settle a claim, on a board and through an office.
+
+use crate::{Board, Office, Posted, Refusal, Share};
+use pg_dominion::{Claim, check_claim};
+use pg_game::Game;
+use std::alloc::Global;
+use std::process::Abort;
+use std::sync::Wait;
+use std::sync::ledger::Ledger;
+
+/// How a claim is put to a board.
+#[derive(Clone, Copy, Debug)]
+pub enum Call {
+    /// As it stands, for the board to check.
+    Post,
+    /// Checked on the board's game before.
+    Settle,
+}
+
+pub const CALLS: [Call; 2] = [Call::Post, Call::Settle];
+
+impl Call {
+    fn ask(self, alloc: Global, board: &mut Board, claim: &Claim) -> Result<Posted, Refusal> {
+        match self {
+            Call::Post => board.post(alloc, 7, claim),
+            Call::Settle => {
+                let checked = check_claim(alloc, board.game(), claim)?;
+                board.settle(alloc, 7, &checked)
+            }
+        }
+    }
+
+    /// The board's answer to a claim of worker 7. Where memory was refused nothing has changed, and it is put once more.
+    pub fn put(
+        self,
+        rt: &impl Abort,
+        alloc: Global,
+        board: &mut Board,
+        claim: &Claim,
+    ) -> Result<Posted, Refusal> {
+        let before = board.settled();
+        let found = self.ask(alloc, board, claim);
+        if found != Err(Refusal::Memory) {
+            return found;
+        }
+        assert_eq!(rt; board.settled(), before);
+        self.ask(alloc, board, claim)
+    }
+
+    fn ask_office<L: Ledger, R: Wait>(
+        self,
+        rt: &R,
+        alloc: Global,
+        office: &Office<L>,
+        share: &mut Share<L>,
+        worker: u32,
+        game: &Game,
+        claim: &Claim,
+    ) -> Result<u32, Refusal> {
+        match self {
+            Call::Post => office.post(rt, alloc, share, worker, claim),
+            Call::Settle => {
+                let checked = check_claim(alloc, game, claim)?;
+                office.settle(rt, alloc, share, worker, &checked)
+            }
+        }
+    }
+
+    /// The answer of an office of a board of the game. Where memory was refused the share is unchanged, and the claim is
+    /// put once more.
+    pub fn put_through<L: Ledger, R: Wait + Abort>(
+        self,
+        rt: &R,
+        alloc: Global,
+        office: &Office<L>,
+        share: &mut Share<L>,
+        worker: u32,
+        game: &Game,
+        claim: &Claim,
+    ) -> Result<u32, Refusal> {
+        let before = share.amount();
+        let found = self.ask_office(rt, alloc, office, share, worker, game, claim);
+        if found != Err(Refusal::Memory) {
+            return found;
+        }
+        assert_eq!(rt; share.amount(), before);
+        self.ask_office(rt, alloc, office, share, worker, game, claim)
+    }
+}

@@ -1,0 +1,225 @@
+//! Where memory is refused, nothing has changed, and the same call with memory is accepted.
+//!
+//! With ample memory these tests pass without meeting a refusal. `tests/refuse.c` of the repository, loaded before the
+//! test program, refuses the allocation of a number. In a shell, for a test NAME of this file:
+//!
+//! ```text
+//! cc -shared -fPIC -o refuse.so tests/refuse.c -ldl
+//! COUNTS=all LD_PRELOAD=./refuse.so crates/pg_board/out/pg_board_tests NAME; read last _ < all
+//! for n in $(seq 1 $last); do
+//!   REFUSE_ALLOC=$n LD_PRELOAD=./refuse.so crates/pg_board/out/pg_board_tests NAME
+//! done
+//! ```
+//!
+//! Each run passes, or says that memory was refused while the test made its games and claims or noted what there was.
+
+ghost use Rattle.std.specs.Prelude.{◌≡◌};
+
+use crate::tests::games::{EVEN, ODD, Row, claim_of, shared_game};
+use crate::{Board, Entry, Office, Posted, Refusal, Share};
+use pg_dominion::{Checked, Claim, check_claim};
+use pg_finders::Copied;
+use pg_game::{Game, Player};
+use std::alloc::Global;
+use std::marker::Brand;
+use std::process::Abort;
+use std::sync::Wait;
+use std::sync::ledger::{Blank, Ledger};
+use std::test::Fail;
+
+/// What an entry says.
+type Told = (u32, Player, u32, Vec<Row>);
+
+/// What a copy says: of each vertex whether it is unsettled, and both numbers.
+type Contents = (Vec<bool>, u64, u64);
+
+fn told(alloc: Global, entries: &[Entry]) -> Result<Vec<Told>, Fail> {
+    let mut all = Vec::new(alloc);
+    for entry in entries {
+        let rows = Vec::from_slice(alloc, entry.rows.as_slice())?;
+        all.push((entry.worker, entry.player, entry.claimed, rows))?;
+    }
+    Ok(all)
+}
+
+fn contents(alloc: Global, copied: &Copied) -> Result<Contents, Fail> {
+    let mask = copied.inside.mask();
+    let mut vertices = Vec::new(alloc);
+    for v in 0..mask.len() {
+        vertices.push(mask.has(v))?;
+    }
+    Ok((vertices, copied.at, copied.settled))
+}
+
+fn checked_on(alloc: Global, game: &Game, claim: &Claim) -> Result<Checked, Fail> {
+    match check_claim(alloc, game, claim) {
+        Ok(checked) => Ok(checked),
+        Err(_) => Err(Fail::from("the claim is not checked, which ample memory allows")),
+    }
+}
+
+/// A call of a board.
+#[derive(Clone, Copy, Drop)]
+enum Asked<'a> {
+    Post(&'a Claim),
+    Settle(&'a Checked),
+}
+
+fn answer(alloc: Global, board: &mut Board, asked: &Asked) -> Result<Posted, Refusal> {
+    match asked {
+        Asked::Post(claim) => board.post(alloc, 7, *claim),
+        Asked::Settle(checked) => board.settle(alloc, 7, *checked),
+    }
+}
+
+/// A call that is accepted. Where memory is refused, the board tells what it told before, and the call is made again.
+fn accepted(
+    rt: &impl Abort,
+    alloc: Global,
+    board: &mut Board,
+    asked: &Asked,
+    want: Posted,
+) -> Result<(), Fail> {
+    let entries = told(alloc, board.entries())?;
+    let copied = contents(alloc, &board.copy(alloc)?)?;
+    let mut found = answer(alloc, board, asked);
+    if found == Err(Refusal::Memory) {
+        assert_eq!(rt; told(alloc, board.entries())?, entries);
+        assert_eq!(rt; contents(alloc, &board.copy(alloc)?)?, copied);
+        assert_eq!(rt; board.settled(), copied.2);
+        found = answer(alloc, board, asked);
+    }
+    assert_eq!(rt; found, Ok(want));
+    Ok(())
+}
+
+/// Both entries of the shared game.
+fn compare_entries(rt: &impl Abort, entries: &[Entry]) {
+    assert_eq!(rt; entries.len(), 2);
+    let even: [Row; 2] = [(0, Some(0)), (1, None)];
+    let odd: [Row; 1] = [(2, Some(2))];
+    for (at, entry) in entries.iter().enumerate() {
+        let rows = if at == 0 { &even[..] } else { &odd[..] };
+        assert_eq!(rt; entry.player, if at == 0 { EVEN } else { ODD });
+        assert_eq!(rt; entry.worker, 7);
+        assert_eq!(rt; entry.claimed, 1);
+        assert_eq!(rt; entry.rows.as_slice(), rows);
+    }
+}
+
+const FIRST: Posted = Posted {
+    entry: 0,
+    claimed: 1,
+    settled: 2,
+};
+
+const SECOND: Posted = Posted {
+    entry: 1,
+    claimed: 1,
+    settled: 1,
+};
+
+#[test]
+fn a_post_without_memory_changes_nothing_and_is_then_accepted(rt: HostRuntime) -> Result<(), Fail> {
+    let alloc = rt.alloc();
+    let game = shared_game(alloc)?;
+    let even = claim_of(alloc, EVEN, &[(0, Some(0))])?;
+    let odd = claim_of(alloc, ODD, &[(2, Some(2))])?;
+    let mut board = Board::open(alloc, &game)?;
+    accepted(&rt, alloc, &mut board, &Asked::Post(&even), FIRST)?;
+    accepted(&rt, alloc, &mut board, &Asked::Post(&odd), SECOND)?;
+    compare_entries(&rt, board.entries());
+    Ok(())
+}
+
+#[test]
+fn a_settle_without_memory_changes_nothing_and_is_then_accepted(
+    rt: HostRuntime,
+) -> Result<(), Fail> {
+    let alloc = rt.alloc();
+    let game = shared_game(alloc)?;
+    let even = checked_on(alloc, &game, &claim_of(alloc, EVEN, &[(0, Some(0))])?)?;
+    let odd = checked_on(alloc, &game, &claim_of(alloc, ODD, &[(2, Some(2))])?)?;
+    let mut board = Board::open(alloc, &game)?;
+    accepted(&rt, alloc, &mut board, &Asked::Settle(&even), FIRST)?;
+    accepted(&rt, alloc, &mut board, &Asked::Settle(&odd), SECOND)?;
+    compare_entries(&rt, board.entries());
+    Ok(())
+}
+
+fn answer_through<L: Ledger, R: Wait>(
+    rt: &R,
+    alloc: Global,
+    office: &Office<L>,
+    share: &mut Share<L>,
+    asked: &Asked,
+) -> Result<u32, Refusal> {
+    match asked {
+        Asked::Post(claim) => office.post(rt, alloc, share, 7, *claim),
+        Asked::Settle(checked) => office.settle(rt, alloc, share, 7, *checked),
+    }
+}
+
+/// The same through a share, whose amount then is as before.
+fn accepted_through<L: Ledger, R: Wait + Abort>(
+    rt: &R,
+    alloc: Global,
+    office: &Office<L>,
+    share: &mut Share<L>,
+    asked: &Asked,
+    want: u32,
+) -> Result<(), Fail> {
+    let copied = contents(alloc, &office.copy(rt, alloc, share)?)?;
+    let amount = share.amount();
+    let mut found = answer_through(rt, alloc, office, share, asked);
+    if found == Err(Refusal::Memory) {
+        assert_eq!(rt; share.amount(), amount);
+        assert_eq!(rt; contents(alloc, &office.copy(rt, alloc, share)?)?, copied);
+        found = answer_through(rt, alloc, office, share, asked);
+    }
+    assert_eq!(rt; found, Ok(want));
+    assert_eq!(rt; share.amount(), amount.saturating_add(u64::from(want)));
+    Ok(())
+}
+
+fn accepted_by_office<L: Ledger, R: Wait + Abort>(
+    rt: &R,
+    alloc: Global,
+    blank: Blank,
+    game: &Game,
+    even: &Asked,
+    odd: &Asked,
+) -> Result<(), Fail>
+    requires name { blank.name ≡ L.name }
+    requires parts { (blank.parts ≡ L.parts) × (blank.parts ≡ 2) }
+{
+    let (office, mut shares) = Office::<L>::open(alloc, blank, game, 2)?;
+    accepted_through(rt, alloc, &office, &mut shares[0], even, 2)?;
+    accepted_through(rt, alloc, &office, &mut shares[1], odd, 1)?;
+    compare_entries(rt, office.close(shares).entries());
+    Ok(())
+}
+
+#[test]
+fn a_share_is_unchanged_by_a_post_without_memory_which_is_then_accepted(
+    rt: HostRuntime,
+) -> Result<(), Fail> {
+    let alloc = rt.alloc();
+    let game = shared_game(alloc)?;
+    let even = claim_of(alloc, EVEN, &[(0, Some(0))])?;
+    let odd = claim_of(alloc, ODD, &[(2, Some(2))])?;
+    let (even, odd) = (Asked::Post(&even), Asked::Post(&odd));
+    accepted_by_office::<Brand, _>(&rt, alloc, Blank::new(2), &game, &even, &odd)
+}
+
+#[test]
+fn a_share_is_unchanged_by_a_settle_without_memory_which_is_then_accepted(
+    rt: HostRuntime,
+) -> Result<(), Fail> {
+    let alloc = rt.alloc();
+    let game = shared_game(alloc)?;
+    let even = checked_on(alloc, &game, &claim_of(alloc, EVEN, &[(0, Some(0))])?)?;
+    let odd = checked_on(alloc, &game, &claim_of(alloc, ODD, &[(2, Some(2))])?)?;
+    let (even, odd) = (Asked::Settle(&even), Asked::Settle(&odd));
+    accepted_by_office::<Brand, _>(&rt, alloc, Blank::new(2), &game, &even, &odd)
+}
