@@ -141,9 +141,29 @@ impl<'g, L: Ledger> Office<'g, L> {
         ensures exact { IfOk result (λ o. AreExact o.1.items 0 []) }
     {
         let board = Board::open(alloc, game)?;
+        Office::open_with(alloc, blank, board, seats)
+    }
+
+    /// An office round a board, and one share for each seat: the first has the amount that is settled, the others 0.
+    pub fn open_with(
+        alloc: Global,
+        blank: Blank,
+        board: Board<'g>,
+        seats: u32,
+    ) -> Result<(Office<'g, L>, Vec<Share<L>>), Memory>
+        requires name { blank.name ≡ L.name }
+        requires parts { (blank.parts ≡ L.parts) × (blank.parts ≡ seats) }
+        requires seats { (1 ≤ seats) × (seats ≤ 65) }
+        ensures shares { IfOk result (λ o. o.1.items ≡ number_settled board.entry.journal ∷ replicate (seats - 1) 0) }
+        ensures exact { IfOk result (λ o. AreExact o.1.items (number_settled board.entry.journal) board.entry.journal) }
+    {
         let mut shares = Vec::with_capacity(alloc, seats as usize)?;
         let (mut book, mut rest) = blank.open::<L>();
-        for _i in 0..seats {
+        let mut token = rest.split_off(1, 0);
+        let amount = board.settled();
+        book.add(&mut token, amount);
+        shares.push_reserved(Share { token, amount });
+        for _i in 0..seats - 1 {
             let token = rest.split_off(1, 0);
             shares.push_reserved(Share { token, amount: 0 });
         }
