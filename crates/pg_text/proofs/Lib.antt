@@ -24,3 +24,4 @@ pub mod Identifiers
 pub mod SolutionTable
 pub mod WrittenReads
 pub mod RowsFit
+pub mod Lengths
