@@ -18,3 +18,4 @@ pub mod Partial
 pub mod Walked
 pub mod Searched
 pub mod Small
+pub mod Jobs

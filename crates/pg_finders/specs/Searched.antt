@@ -1,12 +1,12 @@
 -- What the steps of a small search answer.
-use Rattle.std.specs.Prelude.{ℕ, ◌≡◌, ◌≤◌, ◌+◌, false, length, Some}
+use Rattle.std.specs.Prelude.{ℕ, ◌≡◌, ◌≤◌, ◌<◌, ◌+◌, false, length, Some}
 use Rattle.pg_game.specs.declared.player.Player.{Player}
-use Rattle.pg_game.specs.Graph.{Graph, HasEdge}
+use Rattle.pg_game.specs.Graph.{Graph, HasEdge, owner_of}
 use Rattle.pg_game.specs.VertexSet.{VertexSet, In, Within}
 use Rattle.pg_dominion.specs.Claim.{Rows, named, choice_in, IsGoodIn}
 use Rattle.pg_finders.specs.declared.search.Step.{Step}
 use Rattle.pg_finders.specs.declared.search.Step.TheVariants.{Found, Nothing, GaveUp}
-use Rattle.pg_finders.specs.Partial.{IsPartial, Agrees}
+use Rattle.pg_finders.specs.Partial.{vertex_in, IsPartial, Agrees}
 
 abbrev pub IfFound : Step → (Rows → Type 0) → Type 0
 IfFound (Found rows) P = P rows
@@ -22,6 +22,10 @@ abbrev pub IfGaveUp : Step → Type 0 → Type 0
 IfGaveUp (Found rows) P = Unit {0}
 IfGaveUp Nothing P = Unit {0}
 IfGaveUp GaveUp P = P
+
+-- at the row of this place the player chooses
+abbrev pub Chooses : Graph → Player → Rows → ℕ → Type 0
+Chooses g p rows at = (at < length rows) × (owner_of g (vertex_in rows at) ≡ p)
 
 -- one more row is settled, and the vertices are still there
 pub record IsNextPartial (g : Graph) (U : VertexSet) (p : Player) (bound : ℕ) (rows : Rows) (at : ℕ) (next : Rows) : Type 0 where

@@ -4,9 +4,9 @@ ghost use Rattle.std.specs.Prelude.{◌≡◌, ◌≢◌, ℕ, ◌≤◌, ◌<�
 ghost use Rattle.pg_game.specs.Graph.{HasEdge, owner_of};
 ghost use Rattle.pg_game.specs.VertexSet.{In, Within, members};
 ghost use Rattle.pg_dominion.specs.Claim.{named};
-ghost use Rattle.pg_finders.specs.Finding.{most_choices, AtMostInside};
+ghost use Rattle.pg_finders.specs.Finding.{most_choices, inner_degree, AtMostInside};
 ghost use Rattle.pg_finders.specs.Partial.{vertex_in, AreApart, IsPartial, Extends, NoneAgrees};
-ghost use Rattle.pg_finders.specs.Searched.{IfFound, IfNothing, IfGaveUp, IsNextPartial, StillAgrees, StillAgreesAt, NoneAgreesAt, HasNoRoom, LacksRoom};
+ghost use Rattle.pg_finders.specs.Searched.{Chooses, IfFound, IfNothing, IfGaveUp, IsNextPartial, StillAgrees, StillAgreesAt, NoneAgreesAt, HasNoRoom, LacksRoom};
 
 use crate::chosen::Chosen;
 use crate::walks::Search;
@@ -86,8 +86,8 @@ impl<'a> Search<'a> {
         Some(next)
     }
 
-    /// The rows once the player has chosen at a place, or none.
-    fn with_choice(&self, chosen: &Chosen, at: usize, w: u32) -> Option<Chosen>
+    /// The rows once the player has chosen at a place, or none. The choice is tried, so `left` goes down by one.
+    fn with_choice(&self, chosen: &Chosen, at: usize, w: u32, left: &mut u64) -> Option<Chosen>
         requires bound { self.now.bound ≤ 8 }
         requires state { IsPartial self.now.game.now (members self.now.mask.now) self.now.player self.now.bound chosen.now at }
         requires at { at < length chosen.now }
@@ -95,10 +95,13 @@ impl<'a> Search<'a> {
         requires vertex { w < length self.now.game.now }
         requires edge { HasEdge self.now.game.now (vertex_in chosen.now at) w }
         requires inside { In (members self.now.mask.now) w }
+        requires some { 0 < left.old }
+        ensures counted { left.new + 1 ≡ left.old }
         ensures next { IfSome result (λ next. IsNextPartial self.now.game.now (members self.now.mask.now) self.now.player self.now.bound chosen.now at next) }
         ensures agrees { IfSome result (λ next. StillAgreesAt self.now.game.now (members self.now.mask.now) self.now.player chosen.now at (vertex_in chosen.now at) w next) }
         ensures none { IsNone result → NoneAgreesAt self.now.game.now (members self.now.mask.now) self.now.player self.now.bound chosen.now at (vertex_in chosen.now at) w }
     {
+        *left -= 1;
         let mut next = chosen.copy();
         next.choose(at, w);
         if !self.add(&mut next, w) {
@@ -110,7 +113,8 @@ impl<'a> Search<'a> {
         Some(next)
     }
 
-    /// Goes on from the first rows, which are settled. `left` counts the choices that may still be tried.
+    /// Goes on from the first rows, which are settled. `left` counts the choices that may still be tried: where the player
+    /// chooses, one is tried for what is found, and all before there is nothing.
     pub fn go_on(&self, chosen: &Chosen, done: usize, left: &mut u64) -> Step
         requires bound { self.now.bound ≤ 8 }
         requires size { length self.now.mask.now ≡ length self.now.game.now }
@@ -119,6 +123,9 @@ impl<'a> Search<'a> {
         ensures keeps { IfFound result (λ rows. Within (named chosen.now) (named rows)) }
         ensures none { IfNothing result (NoneAgrees self.now.game.now (members self.now.mask.now) self.now.player self.now.bound chosen.now done) }
         ensures used { IfNothing result ((degree : ℕ) → AtMostInside self.now.game.now (members self.now.mask.now) degree → left.old ≤ left.new + most_choices degree (self.now.bound - done)) }
+        ensures lowered { left.new ≤ left.old }
+        ensures tried_one { IfFound result (λ rows. Chooses self.now.game.now self.now.player chosen.now done → left.new < left.old) }
+        ensures tried_all { IfNothing result (Chooses self.now.game.now self.now.player chosen.now done → left.new + inner_degree self.now.game.now (members self.now.mask.now) (vertex_in chosen.now done) ≤ left.old) }
         ensures gave_up { IfGaveUp result ((degree : ℕ) → AtMostInside self.now.game.now (members self.now.mask.now) degree → left.old < most_choices degree (self.now.bound - done)) }
     {
         if done >= chosen.len() {
@@ -138,8 +145,7 @@ impl<'a> Search<'a> {
             if *left == 0 {
                 return Step::GaveUp;
             }
-            *left -= 1;
-            if let Some(next) = self.with_choice(chosen, done, *w) {
+            if let Some(next) = self.with_choice(chosen, done, *w, left) {
                 match self.go_on(&next, done + 1, left) {
                     Step::Found(rows) => return Step::Found(rows),
                     Step::Nothing => {}

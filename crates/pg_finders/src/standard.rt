@@ -1,5 +1,8 @@
 //! The product's own finder: for each kind of job the finder of that name.
-ghost use Rattle.std.specs.Prelude.{ℕ, ◌<◌, length, slice_index, IfOk};
+ghost use Rattle.std.specs.Prelude.{◌≡◌, ℕ, ◌<◌, ◌++◌, min, false, true, length, slice_index, IfOk};
+ghost use Rattle.std.specs.Option.{option_to_list};
+ghost use Rattle.pg_game.specs.VertexSet.{members};
+ghost use Rattle.pg_finders.specs.Jobs.{IfLoops, IfSolitaire, IfSmall, IfRecursion, is_small, AreLoops, AreOfSolitaire, AreOfRecursion, IsOfSmall, seeds_of, with_rows};
 
 use crate::claims::zielonka;
 use crate::finder::{Finder, Found, Job};
@@ -20,7 +23,10 @@ use std::alloc::{AllocError, Global};
 pub struct Standard;
 
 /// The claims that are there, in order, and nothing given up.
-fn all_of(alloc: Global, first: Option<Claim>, second: Option<Claim>) -> Result<Found, AllocError> {
+fn all_of(alloc: Global, first: Option<Claim>, second: Option<Claim>) -> Result<Found, AllocError>
+    ensures claims { IfOk result (λ found. found.claims.items ≡ option_to_list first ++ option_to_list second) }
+    ensures gave_up { IfOk result (λ found. found.gave_up ≡ false) }
+{
     let mut claims = Vec::with_capacity(alloc, 2)?;
     if let Some(claim) = first {
         claims.push(claim)?;
@@ -35,7 +41,9 @@ fn all_of(alloc: Global, first: Option<Claim>, second: Option<Claim>) -> Result<
 }
 
 /// The claim, where it has rows.
-fn if_some(claim: Claim) -> Option<Claim> {
+fn if_some(claim: Claim) -> Option<Claim>
+    ensures { result ≡ with_rows claim }
+{
     if claim.rows.as_slice().is_empty() {
         None
     } else {
@@ -45,7 +53,8 @@ fn if_some(claim: Claim) -> Option<Claim> {
 
 /// The vertices below `n` from `first` on, at most `count` of them.
 fn batch(alloc: Global, n: u32, first: u32, count: u32) -> Result<Vec<u32>, AllocError>
-    ensures { IfOk result (λ seeds. (k : ℕ) → k < length seeds.items → slice_index seeds.items k < n) }
+    ensures seeds { IfOk result (λ seeds. seeds.items ≡ seeds_of n first count) }
+    ensures below { IfOk result (λ seeds. (k : ℕ) → k < length seeds.items → slice_index seeds.items k < n) }
 {
     let end = first.saturating_add(count).min(n);
     let mut seeds = Vec::new(alloc);
@@ -65,6 +74,7 @@ fn small_of(
     budget: u64,
 ) -> Result<Found, AllocError>
     requires { (k : ℕ) → k < length seeds.now → slice_index seeds.now k < length inside.now.graph }
+    ensures { IfOk result (λ found. IsOfSmall inside.now.graph (members inside.now.mask) player seeds.now (min bound 8) budget found.claims.items found.gave_up) }
 {
     if bound == 0 {
         return all_of(alloc, None, None);
@@ -80,7 +90,13 @@ fn small_of(
 }
 
 impl Finder for Standard {
-    fn find(&self, alloc: Global, copied: &Copied, job: &Job) -> Result<Found, AllocError> {
+    fn find(&self, alloc: Global, copied: &Copied, job: &Job) -> Result<Found, AllocError>
+        ensures loops { IfOk result (λ found. IfLoops job.now (AreLoops copied.now.inside.graph (members copied.now.inside.mask) found.claims.items)) }
+        ensures solitaire { IfOk result (λ found. IfSolitaire job.now (AreOfSolitaire copied.now.inside.graph (members copied.now.inside.mask) found.claims.items)) }
+        ensures small { IfOk result (λ found. IfSmall job.now (λ player first count bound budget. IsOfSmall copied.now.inside.graph (members copied.now.inside.mask) player (seeds_of (length copied.now.inside.graph) first count) (min bound 8) budget found.claims.items found.gave_up)) }
+        ensures recursion { IfOk result (λ found. IfRecursion job.now (AreOfRecursion copied.now.inside.graph (members copied.now.inside.mask) found.claims.items)) }
+        ensures gave_up { IfOk result (λ found. found.gave_up ≡ true → is_small job.now ≡ true) }
+    {
         let inside = &copied.inside;
         match *job {
             Job::Loops => {

@@ -25,3 +25,4 @@ pub mod SolutionTable
 pub mod WrittenReads
 pub mod RowsFit
 pub mod KnownLines
+pub mod Lengths

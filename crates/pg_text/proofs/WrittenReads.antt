@@ -1,5 +1,5 @@
 -- The written text of a game, or of winners and choices, reads as these and as nothing else.
-use Rattle.std.proofs.Common.{◌≡◌, ℕ, zero, suc, ◌+◌, ◌-◌, ◌^◌, ◌<◌, false, not, List, [], ◌∷◌, length, map, get_or, refl, sym, ◌∙◌, ap, subst, arith}
+use Rattle.std.proofs.Common.{◌≡◌, ℕ, zero, suc, ◌+◌, ◌-◌, ◌^◌, ◌<◌, false, not, List, [], ◌∷◌, length, map, get_or, refl, sym, ◌∙◌, ap, subst, arith, lit<}
 use Rattle.std.specs.Prelude.{◌==◌, Option, Some, None, IfSome, option_map, slice_get}
 use Rattle.std.specs.List.{AllByRecursion, Contains, list_any}
 use Rattle.std.specs.List.Sorted.{IsStrictlyIncreasing}
@@ -13,14 +13,16 @@ use Rattle.pg_game.specs.declared.player.Player.TheVariants.{Even}
 use Rattle.pg_game.specs.declared.game.Spec.{Spec}
 use Rattle.pg_game.specs.Player.{digit_of}
 use Rattle.pg_game.specs.Graph.{Graph, Vertex, IsGame, id_of, vertex_at, no_vertex, successors_of}
-use Rattle.pg_game.specs.Specification.{IsGameOf, first_repeated, first_fault}
+use Rattle.pg_game.specs.Specification.{IsGameOf, first_repeated, first_fault, max_number}
+use Rattle.pg_game.specs.Limits.{IsWithinLimits}
 use Rattle.pg_text.specs.Token.{Placed, tokens_of}
 use Rattle.pg_text.specs.GameText.{IsGameText, spec_of}
 use Rattle.pg_text.specs.SolutionText as solutions
 use Rattle.pg_text.specs.SolutionText.{IsSolutionText}
 use Rattle.pg_text.specs.Solution.{Rows, AreRows}
 use Rattle.pg_text.specs.Written.{greatest_id, written_game, written_solution}
-use Rattle.pg_text.specs.SolutionLines.{AreRowsOf, first_stranger, first_twice, first_missing, has_line, number_in, row_of}
+use Rattle.pg_text.specs.Reading.{IsTextOf, IsSolutionTextOf}
+use Rattle.pg_text.specs.SolutionLines.{AreLinesOf, AreRowsOf, first_stranger, first_twice, first_missing, has_line, number_in, row_of}
 use Rattle.pg_text.specs.SolutionTable.{IsNamed}
 use Rattle.pg_text.specs.Laws.{HasShortNumbers, WrittenGameReads, WrittenSolutionReads, WrittenGameIsText, WrittenSolutionIsText}
 use Rattle.pg_game.specs.Described.{spec_at, specs_of}
@@ -207,3 +209,23 @@ written_solution_is_text g rows i w are = record {
   spelled = written_solution_spells g rows i w are;
   says = record { no_stranger = no_strangers g rows i are; once = once g rows i are; complete = complete g rows i are; says = says g rows i are };
 }
+
+short_numbers : (g : Graph) → IsWithinLimits g → HasShortNumbers g
+short_numbers g w = record {
+  ids = λ v l. let h = w.ids v l in omega (arith, lit< {m = max_number} {n = 10 ^ 64} tt);
+  priorities = λ v l. let h = w.numbers v l in omega (arith, lit< {m = max_number} {n = 10 ^ 64} tt);
+}
+
+-- a game that the written text of a game is a text of is that game
+pub written_game_back : (g h : Graph) → IsGame g → IsWithinLimits g → IsTextOf (written_game g) h → h ≡ g
+written_game_back g h i w (lines, s, of, none) =
+    let r = written_game_reads g i (short_numbers g w) in
+    let e = r.one_text lines (s.tokens, s.spelled, s.grammar) in
+    r.one_game h (subst (λ ls. IsGameOf (map spec_of ls) h) e of)
+
+-- and winners and choices that a written solution is a text of are those
+pub written_solution_back : (g : Graph) (rows others : Rows) → IsGame g → IsWithinLimits g → AreRows g rows → IsSolutionTextOf g (written_solution g rows) others → others ≡ rows
+written_solution_back g rows others i w are text =
+    let r = written_solution_reads g rows i (short_numbers g w) are in
+    let e = r.one_text text.lines (text.spelled.tokens, text.spelled.spelled, text.spelled.grammar) in
+    r.one_solution others (subst (λ ls. AreLinesOf g ls others) e text.says)

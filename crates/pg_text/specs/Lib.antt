@@ -3,6 +3,7 @@ pub mod GameText
 pub mod SolutionText
 pub mod Fault
 pub mod Written
+pub mod Lengths
 pub mod Solution
 pub mod Verdict
 pub mod Reading

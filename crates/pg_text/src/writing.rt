@@ -1,10 +1,11 @@
 //! The one written spelling of games, solutions and winners: one line for each vertex in rising identifier, behind a header
 //! with the greatest identifier. Numbers have no leading zeros (`itoa` writes them); there is no start line and no name.
-ghost use Rattle.std.specs.Prelude.{◌≡◌, ℕ, ◌<◌, ◌++◌, ◌∷◌, [], length, slice_index, codes, decimal, flat_map, map, IfOk, OnOk, IfSome};
+ghost use Rattle.std.specs.Prelude.{◌≡◌, ℕ, ◌<◌, ◌≤◌, ◌++◌, ◌∷◌, [], length, slice_index, codes, decimal, flat_map, map, IfOk, OnOk, IfSome};
 ghost use Rattle.std.specs.List.{join_with_byte};
 ghost use Rattle.pg_game.specs.Graph.{id_of, priority_of, owner_of, vertex_at};
 ghost use Rattle.pg_game.specs.Player.{digit_of};
 ghost use Rattle.pg_text.specs.Written.{greatest_id, written_game, written_vertex, written_choice, written_solution, written_rows, written_winners};
+ghost use Rattle.pg_text.specs.Lengths.{greatest_game_text, greatest_solution_text, greatest_winners_text};
 ghost use Rattle.pg_text.specs.Solution.{AreRows};
 
 use crate::solution::Solution;
@@ -55,10 +56,12 @@ fn put_row(out: &mut Vec<u8>, game: &Game, v: u32, row: (Player, Option<u32>)) -
     out.extend_from_slice(b";\n")
 }
 
-/// The written winners and choices of a game, with a choice where the solution has one. Refused with `Memory` alone.
+/// The written winners and choices of a game, with a choice where the solution has one: at most 1,638,422 bytes. Refused with
+/// `Memory` alone.
 pub fn write_solution(alloc: Global, game: &Game, solution: &Solution) -> Result<Vec<u8>, Memory>
     requires { AreRows game.now solution.now.rows }
-    ensures { IfOk result (λ text. text.items ≡ written_solution game.now solution.now.rows) }
+    ensures text { IfOk result (λ text. text.items ≡ written_solution game.now solution.now.rows) }
+    ensures short { IfOk result (λ text. length text.items ≤ greatest_solution_text) }
 {
     let mut out = Vec::new(alloc);
     put_header(&mut out, b"paritysol ", game)?;
@@ -69,10 +72,11 @@ pub fn write_solution(alloc: Global, game: &Game, solution: &Solution) -> Result
     Ok(out)
 }
 
-/// The written winners of a game, without any choice. Refused with `Memory` alone.
+/// The written winners of a game, without any choice: at most 917,526 bytes. Refused with `Memory` alone.
 pub fn write_winners(alloc: Global, game: &Game, solution: &Solution) -> Result<Vec<u8>, Memory>
     requires { AreRows game.now solution.now.rows }
-    ensures { IfOk result (λ text. text.items ≡ written_winners game.now solution.now.rows) }
+    ensures text { IfOk result (λ text. text.items ≡ written_winners game.now solution.now.rows) }
+    ensures short { IfOk result (λ text. length text.items ≤ greatest_winners_text) }
 {
     let mut out = Vec::new(alloc);
     put_header(&mut out, b"paritysol ", game)?;
@@ -131,9 +135,10 @@ fn put_vertex(out: &mut Vec<u8>, game: &Game, v: u32) -> Result<(), Memory>
     Ok(())
 }
 
-/// The one written spelling of a game. Refused with `Memory` alone.
+/// The one written spelling of a game: at most 13,172,755 bytes. Refused with `Memory` alone.
 pub fn write_game(alloc: Global, game: &Game) -> Result<Vec<u8>, Memory>
-    ensures { IfOk result (λ text. text.items ≡ written_game game.now) }
+    ensures text { IfOk result (λ text. text.items ≡ written_game game.now) }
+    ensures short { IfOk result (λ text. length text.items ≤ greatest_game_text) }
 {
     let mut out = Vec::new(alloc);
     put_header(&mut out, b"parity ", game)?;

@@ -177,6 +177,22 @@ fn a_budget_is_used_to_the_last_choice(rt: HostRuntime) -> Result<(), Fail> {
 }
 
 #[test]
+fn a_budget_that_covers_all_choices_does_not_give_up(rt: HostRuntime) -> Result<(), Fail> {
+    let alloc = rt.alloc();
+    let all_edges = [(1, EVEN, [0, 1].as_slice()), (1, EVEN, [0, 1].as_slice())];
+    'budgets: for (budget, gives_up) in [(6, false), (5, false), (4, false), (3, true)] {
+        let small = small_of(&rt, alloc, all_edges.as_slice(), 2, budget)?;
+        assert_eq!(rt; matches!(small, Small::GaveUp), gives_up, "budget {budget}");
+        assert_eq!(rt;
+            matches!(small, Small::Nothing),
+            !gives_up,
+            "budget {budget}"
+        );
+    }
+    Ok(())
+}
+
+#[test]
 fn seeds_share_the_budget(rt: HostRuntime) -> Result<(), Fail> {
     let alloc = rt.alloc();
     let vertices = [(1, EVEN, [0].as_slice()), (0, EVEN, [1].as_slice())];

@@ -128,3 +128,51 @@ fn a_budget_that_ends_gives_up(rt: HostRuntime) -> Result<(), Fail> {
     assert!(rt; found.gave_up && found.claims.is_empty());
     Ok(())
 }
+
+#[test]
+fn a_dominion_of_four_vertices_takes_thousands_of_choices(rt: HostRuntime) -> Result<(), Fail> {
+    let alloc = rt.alloc();
+    let six = [0, 1, 2, 3, 4, 5];
+    let one_of_six = (1, EVEN, six.as_slice());
+    let vertices = [
+        one_of_six,
+        one_of_six,
+        one_of_six,
+        one_of_six,
+        one_of_six,
+        one_of_six,
+        (1, ODD, [0, 1].as_slice()),
+        (2, EVEN, [8].as_slice()),
+        (0, ODD, [9, 10].as_slice()),
+        (1, EVEN, [7, 9].as_slice()),
+        (0, EVEN, [7].as_slice()),
+    ];
+    let game = game_of(alloc, vertices.as_slice())?;
+    let rows = [(7, Some(8)), (8, None), (9, Some(7)), (10, Some(7))];
+    'jobs: for (bound, budget, claims, gave_up) in [
+        (4, 10_000, 1, false),
+        (4, 3_207, 1, false),
+        (4, 3_206, 0, true),
+        (4, 1_000, 0, true),
+        (3, 1_000, 0, false),
+        (3, 956, 0, false),
+        (3, 955, 0, true),
+        (5, 7_959, 1, false),
+        (5, 7_958, 0, true),
+    ] {
+        let job = Job::Small {
+            player: EVEN,
+            first: 0,
+            count: 64,
+            bound,
+            budget,
+        };
+        let found = found_in(&rt, alloc, &game, job)?;
+        assert_eq!(rt; found.claims.len(), claims, "{job:?}");
+        assert_eq!(rt; found.gave_up, gave_up, "{job:?}");
+        if let Some(claim) = found.claims.first() {
+            assert_eq!(rt; claim.rows.as_slice(), rows.as_slice(), "{job:?}");
+        }
+    }
+    Ok(())
+}

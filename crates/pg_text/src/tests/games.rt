@@ -1,9 +1,13 @@
 //! Game texts that are read, and why others are refused.
 
+ghost use Rattle.std.specs.Prelude.{◌≡◌, IfOk, IfErr};
+
 use super::{GAPS, game, game_fault};
 use crate::fault::TextFault;
+use crate::reading::read_game;
 use crate::writing::write_game;
-use pg_game::GameFault;
+use pg_game::{Game, GameFault};
+use std::alloc::Global;
 use std::test::Fail;
 
 #[test]
@@ -39,12 +43,24 @@ fn a_game_is_written_in_one_spelling(rt: HostRuntime) -> Result<(), Fail> {
     Ok(())
 }
 
+/// A game, written and read again. What is written is short enough to be read, so nothing looks at its length.
+fn read_back(alloc: Global, game: &Game) -> Result<Game, TextFault>
+    ensures same { IfOk result (λ read. read ≡ game.now) }
+    ensures fault { IfErr result (λ e. e ≡ TextFault.Memory) }
+{
+    let _n = game.len();
+    let text = write_game(alloc, game)?;
+    read_game(alloc, text.as_slice())
+}
+
 #[test]
-fn a_written_game_is_written_again_as_it_is(rt: HostRuntime) -> Result<(), Fail> {
+fn a_written_game_is_read_back(rt: HostRuntime) -> Result<(), Fail> {
     let alloc = rt.alloc();
     let text = "parity 9;\n3 1 0 9;\n9 2 1 3,9;\n";
     let game = game(alloc, text.as_bytes())?;
     assert_eq!(rt; write_game(alloc, &game)?.as_slice(), text.as_bytes());
+    let read = read_back(alloc, &game)?;
+    assert!(rt; read == game);
     Ok(())
 }
 

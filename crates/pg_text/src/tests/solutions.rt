@@ -1,8 +1,15 @@
 //! Solution texts that are read, and why others are refused.
 
+ghost use Rattle.std.specs.Prelude.{◌≡◌, IfOk, IfErr};
+ghost use Rattle.pg_text.specs.Solution.{AreRows};
+
 use super::{BOTH_WIN, GAPS, game, solution, solution_fault};
 use crate::fault::SolutionTextFault;
+use crate::reading::read_solution;
+use crate::solution::Solution;
 use crate::writing::{write_solution, write_winners};
+use pg_game::{Game, Player};
+use std::alloc::Global;
 use std::test::Fail;
 
 #[test]
@@ -27,6 +34,42 @@ fn winners_and_choices_are_written_in_one_spelling(rt: HostRuntime) -> Result<()
         let written = write_solution(alloc, &game, &solution)?;
         assert_eq!(rt; written.as_slice(), want.as_bytes(), "at {text}");
     }
+    Ok(())
+}
+
+/// Winners and choices, written and read again. What is written is short enough to be read, so nothing looks at its length.
+fn read_back(alloc: Global, game: &Game, solution: &Solution) -> Result<Solution, SolutionTextFault>
+    requires { AreRows game.now solution.now.rows }
+    ensures same { IfOk result (λ read. read.rows ≡ solution.now.rows) }
+    ensures fault { IfErr result (λ e. e ≡ SolutionTextFault.Memory) }
+{
+    let _n = game.len();
+    let text = write_solution(alloc, game, solution)?;
+    read_solution(alloc, game, text.as_slice())
+}
+
+/// Written winners, read again.
+fn winners_back(
+    alloc: Global,
+    game: &Game,
+    solution: &Solution,
+) -> Result<Solution, SolutionTextFault>
+    requires { AreRows game.now solution.now.rows }
+{
+    let text = write_winners(alloc, game, solution)?;
+    read_solution(alloc, game, text.as_slice())
+}
+
+#[test]
+fn written_solutions_and_winners_are_read_back(rt: HostRuntime) -> Result<(), Fail> {
+    let alloc = rt.alloc();
+    let game = game(alloc, GAPS.as_bytes())?;
+    let solution = solution(alloc, &game, "9 0; 3 0 9;".as_bytes())?;
+    let read = read_back(alloc, &game, &solution)?;
+    assert_eq!(rt; read.rows.as_slice(), solution.rows.as_slice());
+    let winners = winners_back(alloc, &game, &solution)?;
+    let want = [(Player::Even, None), (Player::Even, None)];
+    assert_eq!(rt; winners.rows.as_slice(), want.as_slice());
     Ok(())
 }
 

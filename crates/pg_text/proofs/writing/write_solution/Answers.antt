@@ -1,12 +1,13 @@
-use Rattle.std.proofs.Common.{◌≡◌, ℕ, ◌+◌, ◌<◌, List, [], ◌∷◌, ◌++◌, length, drop, get_or, sym, ◌∙◌, ap, subst, arith, append_assoc}
+use Rattle.std.proofs.Common.{◌≡◌, ℕ, ◌+◌, ◌<◌, List, [], ◌∷◌, ◌++◌, length, drop, get_or, sym, ◌∙◌, ap, subst, arith, append_assoc, length-append}
 use Rattle.std.specs.Prelude.{None, IfSome, codes, decimal}
 use Rattle.std.proofs.lemmas.List.{drop_more}
 use Rattle.pg_game.specs.declared.player.Player.TheVariants.{Even}
 use Rattle.pg_game.specs.Graph.{Graph, Vertex, vertex_at, no_vertex}
 use Rattle.pg_game.specs.Player.{digit_of}
-use Rattle.pg_text.specs.Solution.{Rows}
+use Rattle.pg_text.specs.Solution.{Rows, AreRows}
 use Rattle.pg_text.specs.Written.{written_choice, written_rows}
 use Rattle.pg_text.proofs.WrittenReads.{all_at}
+use Rattle.pg_text.proofs.Lengths.{short_solution}
 use Rattle.pg_text.proofs.writing.write_solution.Goals as goal
 
 regroup : (a b c d rest : List ℕ) → a ++ (32 ∷ b ++ (c ++ (d ++ rest))) ≡ (a ++ (32 ∷ b ++ (c ++ d))) ++ rest
@@ -39,3 +40,13 @@ rows-preserved c =
     let rest : List ℕ = written_rows g (drop (c.rows.v + 1) g) (drop (c.rows.v + 1) rows) in
     let one : List ℕ = written_rows g (vertex_at g c.rows.v ∷ []) (get_or rows c.rows.v (Even, None) ∷ []) in
     ap (λ (xs : List ℕ). xs ++ rest) c.in_ok-put_row.ensures ∙ (append_assoc c.rows.out.items one rest ∙ (ap (λ (xs : List ℕ). c.rows.out.items ++ xs) (sym (row_more g rows c.rows.v n l)) ∙ c.rows.invariant))
+
+pub returns-clause-short : goal.returns-clause-short
+returns-clause-short c =
+    let g = c.args.game.now in
+    let rows = c.as_slice-rows.result.now in
+    let rest : List ℕ = written_rows g (drop c.rows.v g) (drop c.rows.v rows) in
+    let all = ap (λ (text : List ℕ). length text) c.rows.invariant in
+    let parts = length-append c.rows.out.items rest in
+    let are : AreRows g rows = subst (AreRows g) (sym c.as_slice-rows.ensures) c.requires in
+    omega (arith, short_solution g c.len-v-end.ensures.game c.len-v-end.ensures.limits rows are)
