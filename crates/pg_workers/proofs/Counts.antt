@@ -1,5 +1,5 @@
 -- Sums and counts over lists, of which one element is changed or has all.
-use Rattle.std.proofs.Common.{◌≡◌, ℕ, zero, suc, ◌+◌, ◌≤◌, ◌<◌, List, [], ◌∷◌, ◌++◌, length, set, get_or, refl, sym, ap, ◌∙◌, arith}
+use Rattle.std.proofs.Common.{◌≡◌, ℕ, zero, suc, ◌+◌, ◌≤◌, ◌<◌, List, [], ◌∷◌, ◌++◌, length, map, set, get_or, refl, sym, ap, ◌∙◌, arith}
 use Rattle.std.specs.Prelude.{◌==◌, if◌then◌else◌, sum_by}
 use Rattle.std.proofs.lemmas.Bool.Decides.{nat_tests}
 use Rattle.std.proofs.lemmas.List.Sums.{sum_by-cons}
@@ -48,6 +48,13 @@ module _ {X : Type 0} where
       let t = sum_by-at g zs i x at in
       let a : f z ≡ 0 = h 0 z refl (omega arith) in
       let b = alone f g zs i x at (omega arith) (λ j y e'. h (suc j) y e') in omega arith
+
+pub sum_by-of_map : {X Y : Type 0} (f : Y → ℕ) (g : X → Y) (xs : List X) → sum_by f (map g xs) ≡ sum_by (λ x. f (g x)) xs
+sum_by-of_map f g [] = refl
+sum_by-of_map f g (x ∷ xs) =
+    let a = sum_by-cons f (g x) (map g xs) in
+    let b = sum_by-cons (λ y. f (g y)) x xs in
+    let c = sum_by-of_map f g xs in omega arith
 
 pub once_more : (x n : ℕ) → once_below x (n + 1) ≡ once_below x n + (if n == x then 1 else 0)
 once_more x n = grind (arith, nat_tests)

@@ -1,5 +1,7 @@
 pub mod AddingUp
 pub mod Rows
+pub mod Placing
+pub mod Noting
 pub mod Counts
 pub mod Moves
 pub mod Closing

@@ -1,16 +1,14 @@
 -- Lists of rows.
-use Rattle.std.proofs.Common.{◌≡◌, ℕ, suc, ◌<◌, List, [], ◌∷◌, All, length, map, refl, sym, subst, arith}
-use Rattle.std.proofs.lemmas.List.{get_or-map, length-map}
-use Rattle.std.proofs.lemmas.List.Sums.{sum_by-cons}
+use Rattle.std.proofs.Common.{◌≡◌, ◌≢◌, ℕ, zero, suc, ◌+◌, ◌<◌, ◌≤◌, ◌⊎◌, inl, inr, Bool, true, false, List, [], ◌∷◌, ◌++◌, All, Vec, Global, length, map, take, drop, get_or, set, refl, sym, ap, ◌∙◌, subst, arith}
+use Rattle.std.specs.Prelude.{◌==◌, cond, sum_by, flat_map, slice_get, Some, None}
+use Rattle.std.proofs.Math.Seq.{take-append_seam}
+use Rattle.std.proofs.lemmas.Bool.Decides.{nat_tests}
+use Rattle.std.proofs.lemmas.List.{length-map, map-append}
+use Rattle.std.proofs.lemmas.List.Sums.{sum_by-cons, sum_by-append}
+use Rattle.std.proofs.lemmas.Option.{none-some, same_Some, slice_get_within, get_or_from_slice_get}
 use Rattle.pg_workers.specs.declared.report.ReportRow.{ReportRow}
-use Rattle.pg_workers.specs.Report.{AreWithin, AreIdle, settled_in}
-
--- rows whose numbers are those of a ticket
-pub within_by_numbers : (n : ℕ) (rows : List ReportRow) (numbers : List ℕ) → map (λ (r : ReportRow). r.job) rows ≡ numbers → All (λ j. j < n) numbers → AreWithin n rows
-within_by_numbers n rows numbers is h =
-    λ k d lt. let e = subst (λ l. All (λ j. j < n) l) (sym is) h in
-    let lt' : k < length (map (λ (r : ReportRow). r.job) rows) = let l = length-map rows (λ (r : ReportRow). r.job) in omega arith in
-    subst (λ j. j < n) (get_or-map (λ (r : ReportRow). r.job) rows k d d.job lt) (e k d.job lt')
+use Rattle.pg_workers.specs.Counting.{times}
+use Rattle.pg_workers.specs.Report.{AreIdle, AreNumbered, IsDone, IsReport, blank_row, forgotten, jobs_in, rows_in, rows_of, settled_in}
 
 -- rows that settled nothing add up to nothing
 pub none_settled : (rows : List ReportRow) → AreIdle (length rows) rows → settled_in rows ≡ 0
@@ -19,3 +17,125 @@ none_settled (r ∷ rows) h =
     let a : r.settled ≡ 0 = h 0 r refl (omega arith) in
     let b = none_settled rows (λ k x e lt. h (suc k) x e (omega arith)) in
     let c = sum_by-cons (λ (x : ReportRow). x.settled) r rows in omega arith
+
+module _ {X : Type 0} where
+  pub get_set_same : (xs : List X) (i : ℕ) (x : X) → i < length xs → slice_get (set xs i x) i ≡ Some x
+  get_set_same [] i x lt = absurd (omega arith)
+  get_set_same (y ∷ ys) zero x lt = refl
+  get_set_same (y ∷ ys) (suc i) x lt = get_set_same ys i x (omega arith)
+
+  pub get_set_other : (xs : List X) (i j : ℕ) (x : X) → j ≢ i → slice_get (set xs i x) j ≡ slice_get xs j
+  get_set_other [] i j x apart = refl
+  get_set_other (y ∷ ys) zero zero x apart = absurd (apart refl)
+  get_set_other (y ∷ ys) zero (suc j) x apart = refl
+  get_set_other (y ∷ ys) (suc i) zero x apart = refl
+  get_set_other (y ∷ ys) (suc i) (suc j) x apart = get_set_other ys i j x (λ e. apart (ap suc e))
+
+  -- an element of two lists is one of the first or one of the second
+  pub get_append : (xs ys : List X) (i : ℕ) (x : X) → slice_get (xs ++ ys) i ≡ Some x → (slice_get xs i ≡ Some x) ⊎ ((k : ℕ) × (slice_get ys k ≡ Some x))
+  get_append [] ys i x e = inr (i, e)
+  get_append (z ∷ zs) ys zero x e = inl e
+  get_append (z ∷ zs) ys (suc i) x e = get_append zs ys i x e
+
+-- one where n is j, else none
+abbrev pub at_job : ℕ → ℕ → ℕ
+at_job j n = cond (n == j) 1 0
+
+is_one : (j : ℕ) → at_job j j ≡ 1
+is_one j = grind (arith, nat_tests)
+
+-- a row is counted at its job
+pub counted : (rows : List ReportRow) (i : ℕ) (r : ReportRow) → slice_get rows i ≡ Some r → 0 < rows_of r.job rows
+counted [] i r e = absurd (none-some r e)
+counted (x ∷ rows) zero r e =
+    let c = sum_by-cons (at_job r.job) x.job (jobs_in rows) in
+    let o : at_job r.job x.job ≡ 1 = ap (λ (y : ReportRow). at_job r.job y.job) (same_Some x r e) ∙ is_one r.job in omega arith
+counted (x ∷ rows) (suc i) r e =
+    let c = sum_by-cons (at_job r.job) x.job (jobs_in rows) in
+    let h = counted rows i r e in omega arith
+
+abbrev Found : ℕ → List ReportRow → Type 0
+Found j rows = (i : ℕ) × (r : ReportRow) × (slice_get rows i ≡ Some r) × (r.job ≡ j)
+
+-- a row of a job that is counted stands in the list
+pub found_row : (j : ℕ) (rows : List ReportRow) → 0 < rows_of j rows → (i : ℕ) × (r : ReportRow) × (slice_get rows i ≡ Some r) × (r.job ≡ j)
+found_row j [] h = absurd (omega arith)
+found_row j (x ∷ rows) h = go (λ some. found_row j rows some) (x.job == j) refl
+  where
+    go : (0 < rows_of j rows → Found j rows) → (b : Bool) → (x.job == j) ≡ b → Found j (x ∷ rows)
+    go rest true e = (0, x, refl, grind (arith, nat_tests, e))
+    go rest false e =
+        let c = sum_by-cons (at_job j) x.job (jobs_in rows) in
+        let o : at_job j x.job ≡ 0 = ap (λ (b : Bool). cond b 1 0) e in
+        let w = rest (omega arith) in (suc w.0, w.1, w.2, w.3)
+
+pub rows_of-append : (j : ℕ) (xs ys : List ReportRow) → rows_of j (xs ++ ys) ≡ rows_of j xs + rows_of j ys
+rows_of-append j xs ys = ap (times j) (map-append (λ (r : ReportRow). r.job) xs ys) ∙ sum_by-append (at_job j) (jobs_in xs) (jobs_in ys)
+
+-- a job's rows of all workers
+pub rows_of-rows_in : (j : ℕ) (all : List (Vec ReportRow Global)) → rows_of j (rows_in all) ≡ sum_by (λ (v : Vec ReportRow Global). rows_of j v.items) all
+rows_of-rows_in j [] = refl
+rows_of-rows_in j (v ∷ all) =
+    let a = rows_of-append j v.items (rows_in all) in
+    let b = sum_by-cons (λ (w : Vec ReportRow Global). rows_of j w.items) v all in
+    let c = rows_of-rows_in j all in a ∙ omega arith
+
+pub settled_in-rows_in : (all : List (Vec ReportRow Global)) → settled_in (rows_in all) ≡ sum_by (λ (v : Vec ReportRow Global). settled_in v.items) all
+settled_in-rows_in [] = refl
+settled_in-rows_in (v ∷ all) =
+    let a = sum_by-append (λ (r : ReportRow). r.settled) v.items (rows_in all) in
+    let b = sum_by-cons (λ (w : Vec ReportRow Global). settled_in w.items) v all in
+    let c = settled_in-rows_in all in a ∙ omega arith
+
+-- what holds of each worker's rows holds of all rows
+pub all_rows : (P : ReportRow → Type 0) (all : List (Vec ReportRow Global)) → All (λ v. All P v.items) all → (i : ℕ) (r : ReportRow) → slice_get (rows_in all) i ≡ Some r → P r
+all_rows P [] h i r e = absurd (none-some r e)
+all_rows P (v ∷ all) h i r e =
+    elim (get_append v.items (rows_in all) i r e) [
+      | inl here ↦ subst P (get_or_from_slice_get v.items i r r here) (h 0 v (omega arith) i r (slice_get_within v.items i r here))
+      | inr there ↦ all_rows P all (λ k d lt. h (suc k) d (omega arith)) there.0 r there.1
+    ]
+
+-- a row of a report whose posts are forgotten
+was : (report : List ReportRow) (k : ℕ) (r : ReportRow) → slice_get (map forgotten report) k ≡ Some r → (x : ReportRow) × (slice_get report k ≡ Some x) × (forgotten x ≡ r)
+was [] k r e = absurd (none-some r e)
+was (x ∷ report) zero r e = (x, refl, same_Some (forgotten x) r e)
+was (x ∷ report) (suc k) r e = was report k r e
+
+pub forgotten_numbered : (report : List ReportRow) → AreNumbered report → AreNumbered (map forgotten report)
+forgotten_numbered report h = λ k r e. let w = was report k r e in ap (λ (x : ReportRow). x.job) (sym w.2) ∙ h k w.0 w.1
+
+pub forgotten_settled : (report : List ReportRow) → settled_in (map forgotten report) ≡ 0
+forgotten_settled report = none_settled (map forgotten report) (λ k r e _. ap (λ (x : ReportRow). x.settled) (sym (was report k r e).2))
+
+pub forgotten_report : (n : ℕ) (report : List ReportRow) → IsReport n report → IsReport n (map forgotten report)
+forgotten_report n report h = record {
+  drawn = h.drawn;
+  done = λ k r e lt.
+      let w = was report k r e in
+      let d = h.done k w.0 w.1 lt in
+      subst (IsDone n) w.2 record { drawn = d.drawn; numbered = d.numbered; counts = (omega arith, (λ _. refl)) };
+  blank = λ k r e le. let w = was report k r e in sym w.2 ∙ ap forgotten (h.blank k w.0 w.1 le);
+}
+
+-- one row more whose posts are forgotten
+next_forgotten : (xs : List ReportRow) (i : ℕ) (d : ReportRow) → i < length xs
+    → set (map forgotten (take i xs) ++ drop i xs) i (forgotten (get_or (map forgotten (take i xs) ++ drop i xs) i d)) ≡ map forgotten (take (suc i) xs) ++ drop (suc i) xs
+next_forgotten [] i d lt = absurd (omega arith)
+next_forgotten (x ∷ xs) zero d lt = refl
+next_forgotten (x ∷ xs) (suc i) d lt = ap (λ l. forgotten x ∷ l) (next_forgotten xs i d (omega arith))
+
+pub more_forgotten : (xs now : List ReportRow) (i : ℕ) (d : ReportRow) → i < length xs → now ≡ map forgotten (take i xs) ++ drop i xs
+    → set now i (forgotten (get_or now i d)) ≡ map forgotten (take (i + 1) xs) ++ drop (i + 1) xs
+more_forgotten xs now i d lt is =
+    let one : suc i ≡ i + 1 = omega arith in
+    ap (λ (l : List ReportRow). set l i (forgotten (get_or l i d))) is ∙ next_forgotten xs i d lt ∙ ap (λ (k : ℕ). map forgotten (take k xs) ++ drop k xs) one
+
+-- a vector whose slice was written has what was written
+pub written : (xs rest : List ReportRow) (n : ℕ) → length xs ≡ n → take n (xs ++ rest) ≡ xs
+written xs rest n long = subst (λ (k : ℕ). take k (xs ++ rest) ≡ xs) long (take-append_seam xs rest)
+
+pub all_forgotten : (items now new rest : List ReportRow) (n : ℕ) → now ≡ items → new ≡ map forgotten now → length now ≡ n → take n (new ++ rest) ≡ map forgotten items
+all_forgotten items now new rest n same is long =
+    let l = ap length is ∙ length-map now forgotten in
+    written new rest n (l ∙ long) ∙ is ∙ ap (map forgotten) same

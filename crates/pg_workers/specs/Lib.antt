@@ -2,6 +2,7 @@ pub mod Counting
 pub mod Drawing
 pub mod Work
 pub mod Report
+pub mod Answers
 pub mod Tickets
 pub mod TicketFields
 pub mod Rest

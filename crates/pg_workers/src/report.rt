@@ -1,7 +1,8 @@
-//! What became of each job of a run, put together by the jobs' numbers.
-ghost use Rattle.std.specs.Prelude.{◌≡◌, ◌+◌, ◌^◌, ◌≤◌, ◌<◌, IfOk, length};
-ghost use Rattle.pg_workers.specs.Report.{IsInOrder, AreNumbered, AreWithin, settled_in};
+//! What became of each job of a run. Each row of a worker has its place in the report by its job's number.
+ghost use Rattle.std.specs.Prelude.{◌≡◌, ◌+◌, ◌^◌, ◌≤◌, ◌<◌, ℕ, IfOk, length, map, vec_len};
+ghost use Rattle.pg_workers.specs.Report.{AreBlank, AreOfFront, ArePlaced, HasPlaces, IsInOrder, answered, blank_row, forgotten, noted, rows_in, settled_in};
 
+use pg_board::Refusal;
 use pg_game::Memory;
 use std::alloc::Global;
 
@@ -22,7 +23,7 @@ pub struct ReportRow {
 impl ReportRow {
     /// The row of a job that nobody drew.
     pub(crate) fn blank(job: u64) -> ReportRow
-        ensures { (result.job ≡ job) × (result.settled ≡ 0) }
+        ensures { result ≡ blank_row job }
     {
         ReportRow {
             job,
@@ -35,6 +36,23 @@ impl ReportRow {
             memory: false,
         }
     }
+
+    /// Notes what was answered to one claim.
+    pub(crate) fn note(&mut self, answer: Result<u32, Refusal>)
+        requires count { answered self.old + 1 < 2 ^ 64 }
+        requires settled { IfOk answer (λ n. self.old.settled + n < 2 ^ 64) }
+        ensures { self.new ≡ noted self.old answer }
+    {
+        match answer {
+            Ok(more) => {
+                self.posted += 1;
+                self.settled += u64::from(more);
+            }
+            Err(Refusal::Stale) => self.stale += 1,
+            Err(Refusal::Memory) => self.memory = true,
+            Err(_) => self.refused += 1,
+        }
+    }
 }
 
 /// A row for each job, in order, which nobody drew.
@@ -42,6 +60,7 @@ impl ReportRow {
 pub(crate) fn blank_report(alloc: Global, total: u64) -> Result<Vec<ReportRow>, Memory>
     requires { total ≤ 4096 }
     ensures rows { IfOk result (λ report. IsInOrder total report.items) }
+    ensures blank { IfOk result (λ report. AreBlank report.items) }
     ensures settled { IfOk result (λ report. settled_in report.items ≡ 0) }
 {
     let mut report = Vec::with_capacity(alloc, total as usize)?;
@@ -51,43 +70,34 @@ pub(crate) fn blank_report(alloc: Global, total: u64) -> Result<Vec<ReportRow>, 
     Ok(report)
 }
 
-/// Adds a row to that of its job.
-fn add_row(report: &mut [ReportRow], row: &ReportRow)
-    requires numbered { AreNumbered report.old }
-    requires within { row.now.job < length report.old }
-    requires fits { settled_in report.old + row.now.settled < 2 ^ 64 }
-    ensures numbered { AreNumbered report.new }
-    ensures settled { settled_in report.new ≡ settled_in report.old + row.now.settled }
-{
-    let place = &mut report[row.job as usize];
-    place.worker = row.worker;
-    place.posted = place.posted.saturating_add(row.posted);
-    place.settled += row.settled;
-    place.stale = place.stale.saturating_add(row.stale);
-    place.refused = place.refused.saturating_add(row.refused);
-    place.gave_up = row.gave_up;
-    place.memory = row.memory;
-}
-
-/// Adds rows to those of their jobs.
-pub(crate) fn add_rows(report: &mut [ReportRow], rows: &[ReportRow])
-    requires numbered { AreNumbered report.old }
-    requires within { AreWithin (length report.old) rows.now }
-    requires fits { settled_in report.old + settled_in rows.now < 2 ^ 64 }
-    ensures numbered { AreNumbered report.new }
+/// Puts each row at the place of its job.
+fn place_rows(report: &mut [ReportRow], rows: &[ReportRow])
+    requires { HasPlaces report.old rows.now }
+    ensures placed { ArePlaced report.old report.new rows.now }
     ensures settled { settled_in report.new ≡ settled_in report.old + settled_in rows.now }
 {
     for row in rows {
-        add_row(report, row);
+        report[row.job as usize] = *row;
     }
 }
 
+/// A report in which each row of all workers is at the place of its job.
+pub(crate) fn with_rows(mut report: Vec<ReportRow>, all: &[Vec<ReportRow>]) -> Vec<ReportRow>
+    requires blank { AreBlank report.items }
+    requires front { (n : ℕ) × (n ≤ length report.items) × AreOfFront n (rows_in all.now) }
+    ensures length { vec_len result ≡ vec_len report }
+    ensures placed { ArePlaced report.items result.items (rows_in all.now) }
+    ensures settled { settled_in result.items ≡ settled_in report.items + settled_in (rows_in all.now) }
+{
+    for rows in all {
+        place_rows(report.as_mut_slice(), rows.as_slice());
+    }
+    report
+}
+
 /// Sets what was posted and settled to nothing in every row: what the workers did was on another game.
-#[tactic(auto, using(crate::proofs::Rows::none_settled))]
 pub(crate) fn forget_posts(report: &mut [ReportRow])
-    requires { AreNumbered report.old }
-    ensures numbered { AreNumbered report.new }
-    ensures settled { settled_in report.new ≡ 0 }
+    ensures { report.new ≡ map forgotten report.old }
 {
     for i in 0..report.len() {
         let row = &mut report[i];

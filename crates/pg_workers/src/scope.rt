@@ -1,14 +1,14 @@
 //! Slots for the workers, threads that work on them, and what the slots hold once all threads have ended.
 ghost use Rattle.std.specs.Prelude.{◌≡◌, ◌+◌, ◌≤◌, ◌<◌, [], All, IfOk, map, replicate, vec_len};
 ghost use Rattle.std.specs.Vec.{vec_capacity};
-ghost use Rattle.pg_workers.specs.Report.{settled_in, AreWithin};
+ghost use Rattle.pg_workers.specs.Report.{IsDone, settled_in};
 ghost use Rattle.pg_workers.specs.Tickets.{fresh};
 ghost use Rattle.pg_workers.specs.Work.{total_of};
 
 use crate::gate::Gate;
 use crate::jobs::{Jobs, Ticket};
 use crate::report::ReportRow;
-use crate::worker::{Naming, Slot, Task, work};
+use crate::worker::{Naming, Slot, Task};
 use pg_board::{Office, Share};
 use pg_finders::Finder;
 use pg_game::Memory;
@@ -19,7 +19,7 @@ use std::sync::ledger::Ledger;
 use std::thread;
 use std::thread::Threads;
 
-/// A slot for each pair of a share and a ticket, with room for a row for each job.
+/// A slot for each pair of a share and a ticket, with the number of its worker and room for a row for each job.
 pub(crate) fn slots_of<L: Ledger, J: Naming>(
     alloc: Global,
     total: u64,
@@ -28,6 +28,7 @@ pub(crate) fn slots_of<L: Ledger, J: Naming>(
 ) -> Result<Vec<Slot<L, J>>, Memory>
     requires total { (total ≡ J.series.total) × (total ≤ 4096) }
     requires shares { shares.items ≡ replicate (vec_len shares) 0 }
+    requires workers { (vec_len shares ≡ J.workers) × (J.workers ≤ 64) }
     requires tickets { tickets.items ≡ replicate (vec_len shares) (fresh J.series) }
     ensures { IfOk result (λ v. vec_len v ≡ vec_len shares) }
 {
@@ -37,7 +38,9 @@ pub(crate) fn slots_of<L: Ledger, J: Naming>(
             unreachable!()
         };
         let rows = Vec::with_capacity(alloc, total as usize)?;
+        let worker = slots.len() as u32 + 1;
         slots.push_reserved(Slot {
+            worker,
             share,
             ticket,
             rows,
@@ -77,14 +80,12 @@ pub(crate) fn start_all<
             requires jobs { jobs.now.series ≡ J.series }
             requires task { J.series.total ≡ total_of task.now.options.now.bound task.now.size }
         {
-            let mut worker = 0u32;
             for slot in cells {
-                worker = worker.wrapping_add(1);
                 let _ = scope.spawn(
                     move ||
                         requires jobs { jobs.now.series ≡ J.series }
                         requires task { J.series.total ≡ total_of task.now.options.now.bound task.now.size }
-                    { work(rt, alloc, office, jobs, task, worker, slot) },
+                    { slot.work(rt, alloc, office, jobs, task) },
                 );
             }
         },
@@ -104,16 +105,17 @@ pub(crate) fn take_apart<L: Ledger, J: Naming>(
     ensures shares { vec_len result.0 ≡ vec_len slots }
     ensures tickets { (vec_len result.1 ≡ vec_len slots) × All (λ t. t.series ≡ J.series) result.1.items }
     ensures amounts { map (λ rows. settled_in rows.items) result.2.items ≡ result.0.items }
-    ensures within { All (λ rows. AreWithin J.series.total rows.items) result.2.items }
+    ensures numbers { map (λ rows. map (λ r. r.job) rows.items) result.2.items ≡ map (λ t. t.numbers) result.1.items }
+    ensures done { All (λ rows. All (IsDone J.workers) rows.items) result.2.items }
 {
     while let Some(slot) = slots.pop() {
         let Slot {
+            worker: _,
             share,
             ticket,
             rows: done,
             jobs: _,
         } = slot;
-        let _numbers = ticket.drawn();
         shares.push_reserved(share);
         tickets.push_reserved(ticket);
         rows.push_reserved(done);

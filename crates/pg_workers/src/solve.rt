@@ -1,16 +1,16 @@
 //! A whole run: workers on threads of their own share out the jobs over one office, and the calling thread settles what
 //! is left.
-ghost use Rattle.std.specs.Prelude.{◌≡◌, ◌+◌, ◌^◌, ◌≤◌, ◌<◌, [], All, IfOk, length, map, replicate, sum, sum_by, vec_len};
+ghost use Rattle.std.specs.Prelude.{◌≡◌, ◌≤◌, ◌<◌, ℕ, IfOk, length, replicate, vec_len};
 ghost use Rattle.pg_workers.specs.Outcomes.{IsOutcome};
 ghost use Rattle.pg_board.specs.Journal.{number_settled};
-ghost use Rattle.pg_workers.specs.Report.{IsInOrder, AreNumbered, AreWithin, settled_in};
+ghost use Rattle.pg_workers.specs.Report.{AreNumbered, IsReport, settled_in};
 ghost use Rattle.pg_workers.specs.Tickets.{fresh};
 ghost use Rattle.pg_workers.specs.Work.{total_of};
 
 use crate::gate::Gate;
 use crate::jobs::{Jobs, Ticket};
 use crate::options::Options;
-use crate::report::{ReportRow, add_rows, blank_report, forget_posts};
+use crate::report::{ReportRow, blank_report, forget_posts, with_rows};
 use crate::rest::settle_rest;
 use crate::scope::{slots_of, start_all, take_apart};
 use crate::worker::{Naming, Task};
@@ -32,26 +32,13 @@ pub struct Outcome {
     pub report: Vec<ReportRow>,
 }
 
-/// The report with the rows of all workers added to those of their jobs.
-fn with_rows(mut report: Vec<ReportRow>, all: &[Vec<ReportRow>]) -> Vec<ReportRow>
-    requires numbered { AreNumbered report.items }
-    requires within { All (λ rows. AreWithin (vec_len report) rows.items) all.now }
-    requires fits { settled_in report.items + sum_by (λ rows. settled_in rows.items) all.now < 2 ^ 64 }
-    ensures rows { AreNumbered result.items }
-    ensures length { vec_len result ≡ vec_len report }
-    ensures settled { settled_in result.items ≡ settled_in report.items + sum_by (λ rows. settled_in rows.items) all.now }
-{
-    for rows in all {
-        add_rows(report.as_mut_slice(), rows.as_slice());
-    }
-    report
-}
-
 /// The report of a run whose posts do not count.
+#[tactic(auto, using(crate::proofs::Rows::forgotten_report))]
 fn without_posts(mut report: Vec<ReportRow>) -> Vec<ReportRow>
     requires { AreNumbered report.items }
-    ensures rows { AreNumbered result.items }
+    ensures numbered { AreNumbered result.items }
     ensures length { vec_len result ≡ vec_len report }
+    ensures rows { (n : ℕ) → IsReport n report.items → IsReport n result.items }
     ensures settled { settled_in result.items ≡ 0 }
 {
     forget_posts(report.as_mut_slice());
@@ -69,7 +56,8 @@ fn board_of<'g>(
     requires settled { settled_in report.items ≡ number_settled board.journal }
     ensures game { IfOk result (λ r. r.0.graph ≡ game.now) }
     ensures settled { IfOk result (λ r. settled_in r.1.items ≡ number_settled r.0.journal) }
-    ensures rows { IfOk result (λ r. AreNumbered r.1.items) }
+    ensures numbered { IfOk result (λ r. AreNumbered r.1.items) }
+    ensures rows { (n : ℕ) → IsReport n report.items → IfOk result (λ r. IsReport n r.1.items) }
     ensures length { IfOk result (λ r. vec_len r.1 ≡ vec_len report) }
 {
     if *board.game() == *game {
@@ -87,7 +75,7 @@ fn outcome_of(
 ) -> Result<Outcome, Memory>
     requires numbered { AreNumbered report.items }
     requires settled { settled_in report.items ≡ number_settled board.journal }
-    ensures { IfOk result (λ o. IsOutcome board.entry.graph (vec_len report) o) }
+    ensures { (n : ℕ) → IsReport n report.items → IfOk result (λ o. IsOutcome board.entry.graph (vec_len report) n o) }
 {
     settle_rest(alloc, &mut board)?;
     let Some(solution) = board.solution(alloc)? else {
@@ -123,8 +111,9 @@ fn run<
     requires total { (total ≡ J.series.total) × (total ≤ 4096) × (total ≡ total_of task.now.options.now.bound task.now.size) }
     requires shares { (shares.items ≡ replicate (vec_len shares) 0) × (vec_len shares ≡ L.parts) × (0 < L.parts) }
     requires jobs { (jobs.series ≡ J.series) × (jobs.seats ≡ vec_len shares) }
+    requires workers { (vec_len shares ≡ J.workers) × (J.workers ≤ 64) }
     requires tickets { tickets.items ≡ replicate (vec_len shares) (fresh J.series) }
-    ensures { IfOk result (λ o. IsOutcome game.now total o) }
+    ensures { IfOk result (λ o. IsOutcome game.now total J.workers o) }
 {
     let seats = shares.len();
     let shares_back = Vec::with_capacity(alloc, seats)?;
@@ -136,7 +125,6 @@ fn run<
     let (shares, tickets, rows) = take_apart(slots, shares_back, tickets_back, rows_back);
     drop(jobs.close(tickets));
     let board = office.close(shares);
-    let _settled = board.settled();
     let report = with_rows(report, rows.as_slice());
     let (board, report) = board_of(alloc, game, board, report)?;
     outcome_of(alloc, board, report)
@@ -156,7 +144,7 @@ fn solve_on<L: Ledger + Send + Sync, G: Gate, F: Finder, R: Threads + Wait + Syn
     requires parts { (blank.parts ≡ L.parts) × (blank.parts ≡ options.now.workers) }
     requires workers { (1 ≤ options.now.workers) × (options.now.workers ≤ 64) }
     requires bound { options.now.bound ≤ 8 }
-    ensures { IfOk result (λ o. IsOutcome game.now (total_of options.now.bound (length game.now)) o) }
+    ensures { IfOk result (λ o. IsOutcome game.now (total_of options.now.bound (length game.now)) options.now.workers o) }
 {
     let size = game.len();
     let total = options.total(size);
@@ -184,7 +172,7 @@ pub fn solve_game<R: Threads + Wait + Sync>(
 ) -> Result<Outcome, Memory>
     requires workers { (1 ≤ options.now.workers) × (options.now.workers ≤ 64) }
     requires bound { options.now.bound ≤ 8 }
-    ensures { IfOk result (λ o. IsOutcome game.now (total_of options.now.bound (length game.now)) o) }
+    ensures { IfOk result (λ o. IsOutcome game.now (total_of options.now.bound (length game.now)) options.now.workers o) }
 {
     let blank = Blank::new(u64::from(options.workers));
     solve_on::<Brand, _, _, R>(rt, alloc, blank, game, options, gate, finder)

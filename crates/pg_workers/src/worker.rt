@@ -1,16 +1,18 @@
 //! A worker: it draws a job, has a copy of the unsettled part searched, checks each claim that was found on the copy's game,
 //! with no lock held, settles what was checked, notes what became of it, and draws again until none is left.
-ghost use Rattle.std.specs.Prelude.{◌≡◌, ◌+◌, ◌≤◌, ◌<◌, map};
+ghost use Rattle.std.specs.Prelude.{◌≡◌, ◌+◌, ◌^◌, ◌≤◌, ◌<◌, ℕ, All, false, IfOk, OnErr, Result, Some, length, map};
 ghost use Rattle.std.specs.Vec.{vec_capacity};
-ghost use Rattle.pg_workers.specs.Report.{settled_in};
-ghost use Rattle.pg_workers.specs.Work.{total_of};
+ghost use Rattle.pg_board.specs.declared.refusal.Refusal.{Refusal};
+ghost use Rattle.pg_workers.specs.Answers.{AreNoted, IsAnswerTo};
+ghost use Rattle.pg_workers.specs.Report.{AreCounts, IsDone, answered, noted, settled_in};
+ghost use Rattle.pg_workers.specs.Work.{job_of, total_of};
 
 use crate::gate::Gate;
 use crate::jobs::{Jobs, Ticket};
 use crate::options::Options;
 use crate::report::ReportRow;
 use pg_board::{Office, Refusal, Share};
-use pg_dominion::{Claim, ClaimFault, check_claim};
+use pg_dominion::{Claim, check_claim};
 use pg_finders::{Finder, Found, Job};
 use pg_game::{Game, Memory};
 use std::alloc::{AllocError, Global};
@@ -18,29 +20,37 @@ use std::marker::{Brand, PhantomData};
 use std::sync::Wait;
 use std::sync::ledger::Ledger;
 
-/// Says to the type of a slot which jobs there are. Each call picks it.
+/// Says to the type of a slot which jobs there are, and how many workers. Each call picks them.
 pub(crate) trait Naming {
+    ghost use Rattle.std.specs.Prelude.{ℕ};
     ghost use Rattle.pg_workers.specs.Tickets.{Series};
 
     ghost series: { Series };
+
+    ghost workers: { ℕ };
 }
 
 impl Naming for Brand {
     ghost use Rattle.pg_workers.specs.Tickets.{no_series};
 
     ghost series = { no_series };
+
+    ghost workers = { 0 };
 }
 
 /// What one worker is lent. What it leaves there is known by this type alone.
 #[derive(Drop)]
 pub(crate) struct Slot<L: Ledger, J: Naming> {
+    pub worker: u32,
     pub share: Share<L>,
     pub ticket: Ticket,
     pub rows: Vec<ReportRow>,
     pub jobs: PhantomData<J>,
+    ghost numbered: { (1 ≤ worker) × (worker ≤ J.workers) },
     ghost of_jobs: { ticket.series ≡ J.series },
     ghost settled: { share ≡ settled_in rows.items },
     ghost numbers: { map (λ r. r.job) rows.items ≡ ticket.numbers },
+    ghost done: { All (IsDone J.workers) rows.items },
     ghost room: { J.series.total ≤ vec_capacity rows },
 }
 
@@ -54,7 +64,25 @@ pub(crate) struct Task<'x, G, F> {
     ghost small: { size ≤ 65536 },
 }
 
-/// Checks one claim on the game, settles it, and notes the answer in the job's row.
+/// Checks a claim on the game, with no lock held, and settles it.
+fn settle_claim<L: Ledger, R: Wait>(
+    rt: &R,
+    alloc: Global,
+    office: &Office<'_, L>,
+    game: &Game,
+    share: &mut Share<L>,
+    worker: u32,
+    claim: &Claim,
+) -> Result<u32, Refusal>
+    ensures answer { IsAnswerTo game.now claim.now share.old result }
+    ensures added { IfOk result (λ n. (1 ≤ n) × (share.new ≡ share.old + n)) }
+    ensures unchanged { OnErr result (share.new ≡ share.old) }
+{
+    let checked = check_claim(alloc, game, claim)?;
+    office.settle(rt, alloc, share, worker, &checked)
+}
+
+/// Has one claim settled, and notes the answer in the job's row.
 fn post<L: Ledger, R: Wait>(
     rt: &R,
     alloc: Global,
@@ -65,33 +93,19 @@ fn post<L: Ledger, R: Wait>(
     claim: &Claim,
     row: &mut ReportRow,
 )
-    requires { row.old.settled ≤ share.old }
-    ensures job { row.new.job ≡ row.old.job }
+    requires share { row.old.settled ≤ share.old }
+    requires room { answered row.old + 1 < 2 ^ 64 }
+    ensures noted { (answer : Result ℕ Refusal) × IsAnswerTo game.now claim.now share.old answer × (row.new ≡ noted row.old answer) }
+    ensures counts { AreCounts row.old → AreCounts row.new }
     ensures settled { share.new + row.old.settled ≡ share.old + row.new.settled }
 {
-    let checked = match check_claim(alloc, game, claim) {
-        Ok(checked) => checked,
-        Err(ClaimFault::Memory) => {
-            row.memory = true;
-            return;
-        }
-        Err(_) => {
-            row.refused = row.refused.saturating_add(1);
-            return;
-        }
-    };
-    match office.settle(rt, alloc, share, worker, &checked) {
-        Ok(more) => {
-            let _all = share.amount();
-            row.posted = row.posted.saturating_add(1);
-            row.settled += u64::from(more);
-        }
-        Err(Refusal::Stale) => row.stale = row.stale.saturating_add(1),
-        Err(Refusal::Memory) => row.memory = true,
-        Err(_) => row.refused = row.refused.saturating_add(1),
-    }
+    let answer = settle_claim(rt, alloc, office, game, share, worker, claim);
+    let _amount = share.amount();
+    row.note(answer);
 }
 
+/// Has all claims settled in order, and notes the answers. Every claim counts as posted, stale or refused where memory was
+/// not refused.
 fn post_all<L: Ledger, R: Wait>(
     rt: &R,
     alloc: Global,
@@ -102,8 +116,13 @@ fn post_all<L: Ledger, R: Wait>(
     claims: &[Claim],
     row: &mut ReportRow,
 )
-    requires { row.old.settled ≤ share.old }
-    ensures job { row.new.job ≡ row.old.job }
+    requires share { row.old.settled ≤ share.old }
+    requires room { answered row.old + length claims.now < 2 ^ 64 }
+    ensures noted { AreNoted game.now claims.now row.old row.new }
+    ensures all { row.new.memory ≡ false → answered row.new ≡ answered row.old + length claims.now }
+    ensures few { answered row.new ≤ answered row.old + length claims.now }
+    ensures same { (row.new.job ≡ row.old.job) × (row.new.worker ≡ row.old.worker) × (row.new.gave_up ≡ row.old.gave_up) }
+    ensures counts { AreCounts row.old → AreCounts row.new }
     ensures settled { share.new + row.old.settled ≡ share.old + row.new.settled }
 {
     for claim in claims {
@@ -125,6 +144,24 @@ fn search<'g, L: Ledger, F: Finder, R: Wait>(
     Ok((found, copied.inside.game()))
 }
 
+/// Has a copy searched for the job of this number, and tells the gate.
+fn search_job<'g, L: Ledger, G: Gate, F: Finder, R: Wait>(
+    rt: &R,
+    alloc: Global,
+    office: &Office<'g, L>,
+    task: &Task<'_, G, F>,
+    share: &Share<L>,
+    worker: u32,
+    number: u64,
+    job: &Job,
+) -> Result<(Found, &'g Game), Memory>
+    requires { job.now ≡ job_of task.now.options.now.bound task.now.options.now.budget task.now.size number }
+{
+    let found = search(rt, alloc, office, task.finder, share, job);
+    task.gate.found(rt, worker, number);
+    found
+}
+
 /// Does one job. What it settles is added to the share and noted in the row.
 fn do_job<L: Ledger, G: Gate, F: Finder, R: Wait>(
     rt: &R,
@@ -136,14 +173,14 @@ fn do_job<L: Ledger, G: Gate, F: Finder, R: Wait>(
     number: u64,
 ) -> ReportRow
     requires { number < total_of task.now.options.now.bound task.now.size }
-    ensures job { result.job ≡ number }
+    ensures job { (result.job ≡ number) × (result.worker ≡ Some worker) }
+    ensures counts { AreCounts result }
     ensures settled { share.new ≡ share.old + result.settled }
 {
     let mut row = ReportRow::blank(number);
     row.worker = Some(worker);
     let job = task.options.job(task.size, number);
-    let found = search(rt, alloc, office, task.finder, share, &job);
-    task.gate.found(rt, worker, number);
+    let found = search_job(rt, alloc, office, task, share, worker, number, &job);
     match found {
         Ok((Found { claims, gave_up }, game)) => {
             row.gave_up = gave_up;
@@ -173,12 +210,12 @@ impl<L: Ledger, J: Naming> Slot<L, J> {
         office: &Office<'_, L>,
         jobs: &Jobs,
         task: &Task<'_, G, F>,
-        worker: u32,
     ) -> bool
         requires jobs { jobs.now.series ≡ J.series }
         requires task { J.series.total ≡ total_of task.now.options.now.bound task.now.size }
     {
         let Slot {
+            worker,
             share,
             ticket,
             rows,
@@ -187,29 +224,28 @@ impl<L: Ledger, J: Naming> Slot<L, J> {
         let Some(number) = jobs.draw(ticket) else {
             return false;
         };
-        let row = do_job(rt, alloc, office, task, share, worker, number);
+        let row = do_job(rt, alloc, office, task, share, *worker, number);
         rows.push_reserved(row);
         true
     }
-}
 
-/// A worker's whole run.
-pub(crate) fn work<L: Ledger, J: Naming, G: Gate, F: Finder, R: Wait>(
-    rt: &R,
-    alloc: Global,
-    office: &Office<'_, L>,
-    jobs: &Jobs,
-    task: &Task<'_, G, F>,
-    worker: u32,
-    slot: &mut Slot<L, J>,
-)
-    requires jobs { jobs.now.series ≡ J.series }
-    requires task { J.series.total ≡ total_of task.now.options.now.bound task.now.size }
-{
-    for _ in rt.forever() {
-        if !slot.turn(rt, alloc, office, jobs, task, worker) {
-            return;
+    /// A worker's whole run.
+    pub(crate) fn work<G: Gate, F: Finder, R: Wait>(
+        &mut self,
+        rt: &R,
+        alloc: Global,
+        office: &Office<'_, L>,
+        jobs: &Jobs,
+        task: &Task<'_, G, F>,
+    )
+        requires jobs { jobs.now.series ≡ J.series }
+        requires task { J.series.total ≡ total_of task.now.options.now.bound task.now.size }
+    {
+        for _ in rt.forever() {
+            if !self.turn(rt, alloc, office, jobs, task) {
+                return;
+            }
         }
+        unreachable!()
     }
-    unreachable!()
 }

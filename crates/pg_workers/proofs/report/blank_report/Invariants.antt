@@ -1,8 +1,7 @@
 use Rattle.std.specs.Prelude.{◌≡◌, vec_len}
 use Rattle.std.specs.Vec.{vec_capacity}
-use Rattle.pg_workers.specs.Report.{IsInOrder, AreIdle}
+use Rattle.pg_workers.specs.Report.{AreBlank}
 use Rattle.pg_workers.proofs.report.blank_report.Given as goal
 
 abbrev pub invariant-loop-job : goal.invariant-loop-job
-invariant-loop-job l =
-    (vec_len l.report ≡ l.job) × (vec_capacity l.report ≡ l.total) × IsInOrder l.job l.report.items × AreIdle l.job l.report.items
+invariant-loop-job l = (vec_len l.report ≡ l.job) × (vec_capacity l.report ≡ l.total) × AreBlank l.report.items

@@ -3,17 +3,13 @@ use Rattle.std.proofs.lemmas.List.{map-append}
 use Rattle.std.proofs.lemmas.List.Elements.{All-push}
 use Rattle.pg_workers.specs.declared.report.ReportRow.{ReportRow}
 use Rattle.pg_workers.specs.Tickets.{Series, HeldTicket}
-use Rattle.pg_workers.specs.Report.{settled_in, AreWithin}
-use Rattle.pg_workers.proofs.Rows.{within_by_numbers}
+use Rattle.pg_workers.specs.Report.{IsDone, jobs_in, settled_in}
 use Rattle.pg_workers.proofs.scope.take_apart.Goals as goal
 
 pub loop-slot-preserved : goal.loop-slot-preserved
 loop-slot-preserved g c =
     let i = c.loop-slot.invariant in
     let slot = c.in-Some.slot in
-    let drawn = c.drawn-numbers.ensures in
-    let below = subst (λ (l : List ℕ). All (λ j. j < slot.ticket.series.total) l) drawn.numbers drawn.below in
-    let within = subst (λ (s : Series). All (λ j. j < s.total) slot.ticket.numbers) slot.of_jobs below in
     let popped = c.in-Some.ensures.cases in
     let a = c.push_reserved.ensures in
     let b = c.push_reserved-in-Some.ensures in
@@ -28,5 +24,7 @@ loop-slot-preserved g c =
       (let x = i.5 in let y = d.capacity in omega arith),
       ap (map (λ rs. settled_in rs.items)) d.items ∙ map-append _ c.loop-slot.rows.items _ ∙ ap (λ l. l ++ settled_in slot.rows.items ∷ []) i.6 ∙ ap (λ n. c.loop-slot.shares.items ++ n ∷ []) (sym slot.settled) ∙ sym a.items,
       rw b.items (All-push (λ (t : HeldTicket). t.series ≡ g.J.Naming.series) c.loop-slot.tickets.items slot.ticket i.7 slot.of_jobs),
-      rw d.items (All-push (λ (rs : Vec ReportRow Global). AreWithin g.J.Naming.series.total rs.items) c.loop-slot.rows.items slot.rows i.8 (within_by_numbers _ slot.rows.items slot.ticket.numbers slot.numbers within)),
+      ap (map (λ rs. map (λ r. r.job) rs.items)) d.items ∙ map-append _ c.loop-slot.rows.items _ ∙ ap (λ l. l ++ jobs_in slot.rows.items ∷ []) i.8
+          ∙ ap (λ n. map (λ (t : HeldTicket). t.numbers) c.loop-slot.tickets.items ++ n ∷ []) slot.numbers ∙ sym (ap (map (λ (t : HeldTicket). t.numbers)) b.items ∙ map-append _ c.loop-slot.tickets.items _),
+      rw d.items (All-push (λ (rs : Vec ReportRow Global). All (IsDone g.J.Naming.workers) rs.items) c.loop-slot.rows.items slot.rows i.9 slot.done),
     )

@@ -1,6 +1,6 @@
 use Rattle.std.proofs.Common.{◌≡◌, ◌+◌, ◌≤◌, All, map, vec_len}
 use Rattle.std.specs.Vec.{vec_capacity}
-use Rattle.pg_workers.specs.Report.{settled_in, AreWithin}
+use Rattle.pg_workers.specs.Report.{IsDone, settled_in}
 use Rattle.pg_workers.proofs.scope.take_apart.Given as goal
 
 abbrev pub invariant-loop-slot : goal.invariant-loop-slot
@@ -13,7 +13,8 @@ invariant-loop-slot g l =
     × (vec_len l.initial.slots ≤ vec_capacity l.rows)
     × (map (λ rows. settled_in rows.items) l.rows.items ≡ l.shares.items)
     × All (λ t. t.series ≡ g.J.Naming.series) l.tickets.items
-    × All (λ rows. AreWithin g.J.Naming.series.total rows.items) l.rows.items
+    × (map (λ rows. map (λ r. r.job) rows.items) l.rows.items ≡ map (λ t. t.numbers) l.tickets.items)
+    × All (λ rows. All (IsDone g.J.Naming.workers) rows.items) l.rows.items
 
 abbrev pub decreases-loop-slot : goal.decreases-loop-slot
 decreases-loop-slot g l = vec_len l.slots

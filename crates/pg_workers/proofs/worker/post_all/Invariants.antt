@@ -1,6 +1,13 @@
-use Rattle.std.proofs.Common.{◌≡◌, ◌+◌}
+use Rattle.std.proofs.Common.{◌≡◌, ◌+◌, ◌≤◌, false, take}
+use Rattle.pg_workers.specs.Answers.{AreNoted}
+use Rattle.pg_workers.specs.Report.{AreCounts, answered}
 use Rattle.pg_workers.proofs.worker.post_all.Given as goal
 
 abbrev pub invariant-loop-claim : goal.invariant-loop-claim
 invariant-loop-claim g l =
-    (l.row.job ≡ l.initial.row.job) × (l.share + l.initial.row.settled ≡ l.initial.share + l.row.settled)
+    AreNoted l.game (take l.claim-index l.claims) l.initial.row l.row
+    × (l.row.memory ≡ false → answered l.row ≡ answered l.initial.row + l.claim-index)
+    × (answered l.row ≤ answered l.initial.row + l.claim-index)
+    × (l.row.job ≡ l.initial.row.job) × (l.row.worker ≡ l.initial.row.worker) × (l.row.gave_up ≡ l.initial.row.gave_up)
+    × (AreCounts l.initial.row → AreCounts l.row)
+    × (l.share + l.initial.row.settled ≡ l.initial.share + l.row.settled)

@@ -53,8 +53,8 @@ loop-ticket-preserved c =
           let was = i.5 in
           omega arith),
       ap (λ m. m.0.drawn) j.2 ∙ ap (λ l. l ++ c.ticket.inside.seat.me.0.drawn) i.6
-      ∙ append_assoc c.seat.inside.seat.me.0.drawn (flat_map (λ (t : HeldTicket). t.numbers) at.yielded) c.ticket.inside.seat.me.0.drawn
-      ∙ ap (λ l. c.seat.inside.seat.me.0.drawn ++ l) (ap (λ z. flat_map (λ (t : HeldTicket). t.numbers) at.yielded ++ z) numbers ∙ sym (flat_map-push (λ (t : HeldTicket). t.numbers) at.yielded x)),
+          ∙ append_assoc c.seat.inside.seat.me.0.drawn (flat_map (λ (t : HeldTicket). t.numbers) at.yielded) c.ticket.inside.seat.me.0.drawn
+          ∙ ap (λ l. c.seat.inside.seat.me.0.drawn ++ l) (ap (λ z. flat_map (λ (t : HeldTicket). t.numbers) at.yielded ++ z) numbers ∙ sym (flat_map-push (λ (t : HeldTicket). t.numbers) at.yielded x)),
       listed-push (λ (d : Drawn). d.numbers.items) (λ (t : HeldTicket). t.numbers) _ at.room.items c.push_reserved.new.self.items _ at.yielded x p.items i.7 (ap (λ t. t.numbers) view),
       listed-push (λ (d : Drawn). d.told_none) (λ (t : HeldTicket). t.told_none) _ at.room.items c.push_reserved.new.self.items _ at.yielded x p.items i.8 (ap (λ t. t.told_none) view),
       (let a = p.len in let was = i.9 in omega arith),

@@ -1,5 +1,5 @@
 use Rattle.std.proofs.Common.{◌≡◌, ◌-◌, length}
-use Rattle.pg_workers.proofs.tests.draw_all.Given as goal
+use Rattle.pg_workers.proofs.tests.draws.draw_all.Given as goal
 
 abbrev pub invariant-loop-number : goal.invariant-loop-number
 invariant-loop-number l = (l.ticket.series ≡ l.jobs.series) × (l.ticket.series ≡ l.initial.ticket.series)

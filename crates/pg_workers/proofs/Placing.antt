@@ -1,0 +1,177 @@
+-- Rows that are put at the places of their jobs.
+use Rattle.std.proofs.Common.{◌≡◌, ◌≢◌, ℕ, zero, suc, ◌+◌, ◌<◌, ◌≤◌, ◌⊎◌, inl, inr, ⊎_elim, Bool, true, false, List, [], ◌∷◌, ◌++◌, All, Vec, Global, length, map, take, drop, get_or, set, refl, sym, ap, ◌∙◌, subst, arith, length-set}
+use Rattle.std.specs.Prelude.{sum_by, slice_get, Some, None}
+use Rattle.std.proofs.lemmas.Bool.Decides.{nat_tests}
+use Rattle.std.proofs.lemmas.List.{take_more, take-append-drop}
+use Rattle.std.proofs.lemmas.List.Sums.{sum_by-append, sum_by-cons, sum_by-set, sum_by_more, sum_by_more_le}
+use Rattle.std.proofs.lemmas.Option.{none-some, same_Some, slice_get_within, slice_get-get_or, get_or_from_slice_get}
+use Rattle.pg_workers.specs.declared.report.ReportRow.{ReportRow}
+use Rattle.pg_workers.specs.Counting.{times, once_below}
+use Rattle.pg_workers.specs.Report.{AreBlank, AreNumbered, AreOfFront, ArePlaced, HasPlaces, IsDone, IsReport, blank_row, jobs_in, rows_in, rows_of, settled_in}
+use Rattle.pg_workers.proofs.Closing.{flat_map-push}
+use Rattle.pg_workers.proofs.Counts.{sum_by-of_map}
+use Rattle.pg_workers.proofs.Rows.{at_job, get_set_same, get_set_other, get_append, counted, found_row, rows_of-append, rows_of-rows_in}
+
+pub none_placed : (report : List ReportRow) → ArePlaced report report []
+none_placed report = record { size = refl; placed = λ i r e. absurd (none-some r e); others = λ j e. refl }
+
+-- one row more, of a job of which there was none
+pub one_placed : (before now rows : List ReportRow) (r : ReportRow) → ArePlaced before now rows → rows_of r.job rows ≡ 0 → r.job < length before → ArePlaced before (set now r.job r) (rows ++ r ∷ [])
+one_placed before now rows r p new lt = record {
+  size = length-set now r.job r ∙ p.size;
+  placed = λ i x e.
+      elim (get_append rows (r ∷ []) i x e) [
+        | inl here ↦
+            let c = counted rows i x here in
+            let apart : x.job ≢ r.job = λ same. let s = ap (λ (j : ℕ). rows_of j rows) same in omega arith in
+            get_set_other now r.job x.job r apart ∙ p.placed i x here
+        | inr there ↦ last there.0 x there.1
+      ];
+  others = λ j none.
+      let a = rows_of-append j rows (r ∷ []) in
+      let c = sum_by-cons (at_job j) r.job [] in
+      let apart : j ≢ r.job = λ same. let o : at_job j r.job ≡ 1 = grind (arith, nat_tests, same) in omega arith in
+      get_set_other now r.job j r apart ∙ p.others j (omega arith);
+}
+  where
+    here : slice_get (set now r.job r) r.job ≡ Some r
+    here = get_set_same now r.job r (let s = p.size in omega arith)
+
+    last : (k : ℕ) (x : ReportRow) → slice_get (r ∷ []) k ≡ Some x → slice_get (set now r.job r) x.job ≡ Some x
+    last zero x e = subst (λ (y : ReportRow). slice_get (set now r.job r) y.job ≡ Some y) (same_Some r x e) here
+    last (suc k) x e = absurd (none-some x e)
+
+apart_from : (a b : ℕ) → (0 < a → b ≡ 0) → 0 < b → a ≡ 0
+apart_from zero b h some = refl
+apart_from (suc a) b h some = absurd (let none = h (omega arith) in omega arith)
+
+-- rows of other jobs are put into the report that was made
+pub then_placed : (before mid after xs ys : List ReportRow) → ArePlaced before mid xs → ArePlaced mid after ys → ((j : ℕ) → 0 < rows_of j ys → rows_of j xs ≡ 0) → ArePlaced before after (xs ++ ys)
+then_placed before mid after xs ys p q apart = record {
+  size = q.size ∙ p.size;
+  placed = λ i r e.
+      elim (get_append xs ys i r e) [
+        | inl here ↦
+            q.others r.job (apart_from (rows_of r.job ys) (rows_of r.job xs) (apart r.job) (counted xs i r here)) ∙ p.placed i r here
+        | inr there ↦ q.placed there.0 r there.1
+      ];
+  others = λ j none. let a = rows_of-append j xs ys in q.others j (omega arith) ∙ p.others j (omega arith);
+}
+
+-- the row at i is of a job of which none of the rows before it is
+next_free : (rows : List ReportRow) (i : ℕ) (r : ReportRow) → i < length rows → r ≡ get_or rows i r → rows_of r.job rows ≤ 1 → rows_of r.job (take i rows) ≡ 0
+next_free rows i r lt is once =
+    let whole : rows_of r.job rows ≡ rows_of r.job (take (i + 1) rows) + rows_of r.job (drop (i + 1) rows) =
+    ap (rows_of r.job) (sym (take-append-drop (i + 1) rows)) ∙ rows_of-append r.job (take (i + 1) rows) (drop (i + 1) rows) in
+    let more : rows_of r.job (take (i + 1) rows) ≡ rows_of r.job (take i rows) + rows_of r.job (r ∷ []) =
+    ap (rows_of r.job) (take_more rows i r lt ∙ ap (λ (x : ReportRow). take i rows ++ x ∷ []) (sym is)) ∙ rows_of-append r.job (take i rows) (r ∷ []) in
+    let one = counted (r ∷ []) 0 r refl in omega arith
+
+-- where the report's rows of these jobs are free, so is that of the row at i, after the rows before it were put in their places
+pub next_blank : (before now rows : List ReportRow) (i : ℕ) (r : ReportRow) → HasPlaces before rows → i < length rows → r ≡ get_or rows i r → ArePlaced before now (take i rows) → slice_get now r.job ≡ Some (blank_row r.job)
+next_blank before now rows i r h lt is p =
+    p.others r.job (next_free rows i r lt is (h.once r.job)) ∙ h.free r.job (counted rows i r (slice_get-get_or rows i r lt ∙ ap Some (sym is)))
+
+pub next_place : (before now rows : List ReportRow) (i : ℕ) (r : ReportRow) → HasPlaces before rows → i < length rows → r ≡ get_or rows i r → ArePlaced before now (take i rows) → r.job < length now
+next_place before now rows i r h lt is p = slice_get_within now r.job (blank_row r.job) (next_blank before now rows i r h lt is p)
+
+pub next_placed : (before now rows : List ReportRow) (i : ℕ) (r : ReportRow) → HasPlaces before rows → i < length rows → r ≡ get_or rows i r → ArePlaced before now (take i rows) → ArePlaced before (set now r.job r) (take (i + 1) rows)
+next_placed before now rows i r h lt is p =
+    let here = next_place before now rows i r h lt is p in
+    let size = p.size in
+    subst (ArePlaced before (set now r.job r)) (sym (take_more rows i r lt ∙ ap (λ (x : ReportRow). take i rows ++ x ∷ []) (sym is)))
+    (one_placed before now (take i rows) r p (next_free rows i r lt is (h.once r.job)) (omega arith))
+
+-- what a row settled comes to a place where nothing was settled
+pub next_settled : (before now rows : List ReportRow) (i : ℕ) (r : ReportRow) → HasPlaces before rows → i < length rows → r ≡ get_or rows i r → ArePlaced before now (take i rows)
+    → settled_in now ≡ settled_in before + settled_in (take i rows) → settled_in (set now r.job r) ≡ settled_in before + settled_in (take (i + 1) rows)
+next_settled before now rows i r h lt is p sum =
+    let here = next_place before now rows i r h lt is p in
+    let free : (get_or now r.job r).settled ≡ 0 = ap (λ (x : ReportRow). x.settled) (get_or_from_slice_get now r.job (blank_row r.job) r (next_blank before now rows i r h lt is p)) in
+    let a = sum_by-set (λ (x : ReportRow). x.settled) now r.job r r here in
+    let b = sum_by_more (λ (x : ReportRow). x.settled) rows i r lt in
+    let c : (get_or rows i r).settled ≡ r.settled = ap (λ (x : ReportRow). x.settled) (sym is) in omega arith
+
+below_once : (j n : ℕ) → once_below j n ≤ 1
+below_once j n = grind (arith, nat_tests)
+
+below : (j n : ℕ) → 0 < once_below j n → j < n
+below j n h = grind (arith, nat_tests)
+
+is_below : (j n : ℕ) → j < n → once_below j n ≡ 1
+is_below j n lt = grind (arith, nat_tests)
+
+not_below : (j n : ℕ) → n ≤ j → once_below j n ≡ 0
+not_below j n le = grind (arith, nat_tests)
+
+-- the rows of the next worker have free places in the report
+pub has_places : (n : ℕ) (before now : List ReportRow) (all : List (Vec ReportRow Global)) (i : ℕ) (v : Vec ReportRow Global) → AreBlank before → n ≤ length before → AreOfFront n (rows_in all)
+    → i < length all → v ≡ get_or all i v → ArePlaced before now (rows_in (take i all)) → HasPlaces now v.items
+has_places n before now all i v blank few front lt is p = record {
+  once = λ j. let s = share j in let f = front j in let o = below_once j n in omega arith;
+  free = λ j some.
+      let s = share j in
+      let f = front j in
+      let o = below_once j n in
+      let lt' : j < n = below j n (omega arith) in
+      let at = slice_get-get_or before j (blank_row j) (omega arith) in
+      p.others j (omega arith) ∙ at ∙ ap Some (blank j (get_or before j (blank_row j)) at);
+}
+  where
+    share : (j : ℕ) → rows_of j (rows_in (take i all)) + rows_of j v.items ≤ rows_of j (rows_in all)
+    share j =
+        let a = sum_by_more_le (λ (w : Vec ReportRow Global). rows_of j w.items) all i v lt in
+        let b = rows_of-rows_in j all in
+        let c = rows_of-rows_in j (take i all) in
+        let d : rows_of j (get_or all i v).items ≡ rows_of j v.items = ap (λ (w : Vec ReportRow Global). rows_of j w.items) (sym is) in omega arith
+
+rows_in-more : (all : List (Vec ReportRow Global)) (i : ℕ) (v : Vec ReportRow Global) → i < length all → v ≡ get_or all i v → rows_in (take (i + 1) all) ≡ rows_in (take i all) ++ v.items
+rows_in-more all i v lt is =
+    ap rows_in (take_more all i v lt ∙ ap (λ (x : Vec ReportRow Global). take i all ++ x ∷ []) (sym is)) ∙ flat_map-push (λ (x : Vec ReportRow Global). x.items) (take i all) v
+
+-- the rows of one worker more
+pub more_placed : (n : ℕ) (before now after : List ReportRow) (all : List (Vec ReportRow Global)) (i : ℕ) (v : Vec ReportRow Global) → AreOfFront n (rows_in all) → i < length all → v ≡ get_or all i v
+    → ArePlaced before now (rows_in (take i all)) → ArePlaced now after v.items → ArePlaced before after (rows_in (take (i + 1) all))
+more_placed n before now after all i v front lt is p q =
+    subst (ArePlaced before after) (sym (rows_in-more all i v lt is))
+    (then_placed before now after (rows_in (take i all)) v.items p q (λ j some.
+    let a = sum_by_more_le (λ (w : Vec ReportRow Global). rows_of j w.items) all i v lt in
+    let b = rows_of-rows_in j all in
+    let c = rows_of-rows_in j (take i all) in
+    let d : rows_of j (get_or all i v).items ≡ rows_of j v.items = ap (λ (w : Vec ReportRow Global). rows_of j w.items) (sym is) in
+    let f = front j in
+    let o = below_once j n in omega arith))
+
+pub more_settled : (all : List (Vec ReportRow Global)) (i : ℕ) (v : Vec ReportRow Global) → i < length all → v ≡ get_or all i v → settled_in (rows_in (take (i + 1) all)) ≡ settled_in (rows_in (take i all)) + settled_in v.items
+more_settled all i v lt is = ap settled_in (rows_in-more all i v lt is) ∙ sum_by-append (λ (r : ReportRow). r.settled) (rows_in (take i all)) v.items
+
+-- the workers' rows are of a front of the jobs, since their tickets' numbers are
+pub of_front : {T : Type 0} (n : ℕ) (numbers : T → List ℕ) (ts : List T) (all : List (Vec ReportRow Global)) → ((j : ℕ) → sum_by (λ t. times j (numbers t)) ts ≡ once_below j n)
+    → map (λ (v : Vec ReportRow Global). jobs_in v.items) all ≡ map numbers ts → AreOfFront n (rows_in all)
+of_front n numbers ts all fair same = λ j.
+    rows_of-rows_in j all ∙ sym (sum_by-of_map (times j) (λ (v : Vec ReportRow Global). jobs_in v.items) all) ∙ ap (sum_by (times j)) same ∙ sum_by-of_map (times j) numbers ts ∙ fair j
+
+-- a row that was placed is still of its place's job
+pub placed_numbered : (before after rows : List ReportRow) → AreBlank before → ArePlaced before after rows → AreNumbered after
+placed_numbered before after rows blank p = λ k r e. go k r e (rows_of k rows) refl
+  where
+    go : (k : ℕ) (r : ReportRow) → slice_get after k ≡ Some r → (m : ℕ) → rows_of k rows ≡ m → r.job ≡ k
+    go k r e zero none = ap (λ (x : ReportRow). x.job) (blank k r (sym (p.others k none) ∙ e))
+    go k r e (suc m) some =
+        let w = found_row k rows (omega arith) in
+        let at = p.placed w.0 w.1 w.2 in
+        let same = same_Some w.1 r (sym at ∙ ap (slice_get after) w.3 ∙ e) in
+        sym (ap (λ (x : ReportRow). x.job) same) ∙ w.3
+
+-- where the workers' rows are of a front of the jobs, they are the report of that front
+pub is_report : (workers n : ℕ) (before after rows : List ReportRow) → AreBlank before → ArePlaced before after rows → AreOfFront n rows → ((i : ℕ) (r : ReportRow) → slice_get rows i ≡ Some r → IsDone workers r) → IsReport workers after
+is_report workers n before after rows blank p front done = record {
+  drawn = n;
+  done = λ k r e lt.
+      let f = front k in
+      let o = is_below k n lt in
+      let w = found_row k rows (omega arith) in
+      let at = p.placed w.0 w.1 w.2 in
+      subst (IsDone workers) (same_Some w.1 r (sym at ∙ ap (slice_get after) w.3 ∙ e)) (done w.0 w.1 w.2);
+  blank = λ k r e le. blank k r (sym (p.others k (front k ∙ not_below k n le)) ∙ e);
+}

@@ -1,0 +1,206 @@
+//! Finders that claim what they like, and finders that note what they are given.
+
+use pg_dominion::Claim;
+use pg_finders::{Copied, Finder, Found, Job, Solved, Standard, zielonka};
+use pg_game::{Game, Memory, Player, Sequence};
+use std::alloc::Global;
+use std::sync::OnceLock;
+
+pub const EVEN: Player = Player::Even;
+
+pub const ODD: Player = Player::Odd;
+
+/// A vertex of a claim, and the choice there.
+pub type Row = (u32, Option<u32>);
+
+pub fn claim_of(alloc: Global, player: Player, rows: &[Row]) -> Result<Claim, Memory> {
+    Ok(Claim {
+        player,
+        rows: Sequence::new(Vec::from_slice(alloc, rows)?),
+    })
+}
+
+fn found(claims: Vec<Claim>) -> Found {
+    Found {
+        claims,
+        gave_up: false,
+    }
+}
+
+/// A vertex with its least successor as the choice where the player owns it.
+fn least_row(game: &Game, v: u32, player: Player) -> Row {
+    if v < game.len() && game.owner(v) == player {
+        (v, game.successors(v).first().copied())
+    } else {
+        (v, None)
+    }
+}
+
+/// Claims every vertex alone, for Even and then for Odd, with its least successor as the choice.
+pub struct Singles;
+
+impl Finder for Singles {
+    fn find(&self, alloc: Global, copied: &Copied, _job: &Job) -> Result<Found, Memory> {
+        let game = copied.inside.game();
+        let mut claims = Vec::new(alloc);
+        for v in 0..game.len() {
+            claims.push(claim_of(alloc, EVEN, &[least_row(game, v, EVEN)])?)?;
+            claims.push(claim_of(alloc, ODD, &[least_row(game, v, ODD)])?)?;
+        }
+        Ok(found(claims))
+    }
+}
+
+/// All vertices, with the player's least successors as choices.
+fn whole(alloc: Global, game: &Game, player: Player) -> Result<Claim, Memory> {
+    let mut rows = Vec::new(alloc);
+    for v in 0..game.len() {
+        rows.push(least_row(game, v, player))?;
+    }
+    Ok(Claim {
+        player,
+        rows: Sequence::new(rows),
+    })
+}
+
+/// Claims all vertices for each player, with least successors as choices.
+pub struct Wholes;
+
+impl Finder for Wholes {
+    fn find(&self, alloc: Global, copied: &Copied, _job: &Job) -> Result<Found, Memory> {
+        let game = copied.inside.game();
+        let mut claims = Vec::new(alloc);
+        claims.push(whole(alloc, game, EVEN)?)?;
+        claims.push(whole(alloc, game, ODD)?)?;
+        Ok(found(claims))
+    }
+}
+
+/// Claims nothing, claims falling rows, and claims what is no vertex, for each player.
+pub struct Misshapen;
+
+impl Finder for Misshapen {
+    fn find(&self, alloc: Global, copied: &Copied, _job: &Job) -> Result<Found, Memory> {
+        let game = copied.inside.game();
+        let n = game.len();
+        let mut claims = Vec::new(alloc);
+        for player in [EVEN, ODD] {
+            claims.push(claim_of(alloc, player, &[])?)?;
+            let falling = [least_row(game, 1, player), least_row(game, 0, player)];
+            claims.push(claim_of(alloc, player, &falling)?)?;
+            let outside = [(n, None), (n.saturating_add(1), Some(n))];
+            claims.push(claim_of(alloc, player, &outside)?)?;
+        }
+        Ok(found(claims))
+    }
+}
+
+/// Gives the solution of the first copy that it sees for ever.
+#[derive(Drop)]
+pub struct FirstSolution {
+    solution: OnceLock<[Claim; 2]>,
+}
+
+impl FirstSolution {
+    pub fn new() -> FirstSolution {
+        FirstSolution {
+            solution: OnceLock::new(),
+        }
+    }
+}
+
+impl Finder for FirstSolution {
+    fn find(&self, alloc: Global, copied: &Copied, _job: &Job) -> Result<Found, Memory> {
+        if self.solution.get().is_none() {
+            let Solved { even, odd } = zielonka(alloc, &copied.inside)?;
+            let _ = self.solution.try_set([even, odd]);
+        }
+        let mut claims = Vec::new(alloc);
+        if let Some([even, odd]) = self.solution.get() {
+            claims.push(claim_of(alloc, even.player, even.rows.as_slice())?)?;
+            claims.push(claim_of(alloc, odd.player, odd.rows.as_slice())?)?;
+        }
+        Ok(found(claims))
+    }
+}
+
+/// Answers want of memory to every job.
+pub struct NoMemory;
+
+impl Finder for NoMemory {
+    fn find(&self, _alloc: Global, _copied: &Copied, _job: &Job) -> Result<Found, Memory> {
+        Err(std::alloc::AllocError)
+    }
+}
+
+/// Gives the same claims for each job, so many times.
+#[derive(Drop)]
+pub struct Fixed<'a> {
+    pub claims: &'a [(Player, &'a [Row])],
+    pub times: u32,
+}
+
+impl<'a> Finder for Fixed<'a> {
+    fn find(&self, alloc: Global, _copied: &Copied, _job: &Job) -> Result<Found, Memory> {
+        let mut claims = Vec::new(alloc);
+        for _time in 0..self.times {
+            for (player, rows) in self.claims {
+                claims.push(claim_of(alloc, *player, *rows)?)?;
+            }
+        }
+        Ok(found(claims))
+    }
+}
+
+/// Has no memory for `Solitaire`, and gives up in each `Small` search for Even.
+pub struct Halting;
+
+impl Finder for Halting {
+    fn find(&self, alloc: Global, _copied: &Copied, job: &Job) -> Result<Found, Memory> {
+        if *job == Job::Solitaire {
+            return Err(std::alloc::AllocError);
+        }
+        Ok(Found {
+            claims: Vec::new(alloc),
+            gave_up: matches!(
+                job,
+                Job::Small {
+                    player: Player::Even,
+                    ..
+                }
+            ),
+        })
+    }
+}
+
+/// Notes the jobs that it is given, in order, and finds nothing.
+#[derive(Drop)]
+pub struct Recorder {
+    pub jobs: Vec<OnceLock<Job>>,
+}
+
+impl Finder for Recorder {
+    fn find(&self, alloc: Global, _copied: &Copied, job: &Job) -> Result<Found, Memory> {
+        for place in self.jobs.iter() {
+            if place.try_set(*job).is_ok() {
+                break;
+            }
+        }
+        Ok(found(Vec::new(alloc)))
+    }
+}
+
+/// The product's finder, which notes how many vertices were settled in the copy of the first search for small dominions.
+#[derive(Drop)]
+pub struct Watcher {
+    pub settled: OnceLock<u64>,
+}
+
+impl Finder for Watcher {
+    fn find(&self, alloc: Global, copied: &Copied, job: &Job) -> Result<Found, Memory> {
+        if let Job::Small { .. } = job {
+            let _ = self.settled.try_set(copied.settled);
+        }
+        Standard.find(alloc, copied, job)
+    }
+}

@@ -1,0 +1,125 @@
+//! Winners are right whatever a finder claims, with any number of workers.
+
+ghost use Rattle.std.specs.Prelude.{◌≤◌};
+
+use crate::tests::finders::{
+    EVEN, FirstSolution, Fixed, Misshapen, NoMemory, ODD, Singles, Wholes,
+};
+use crate::tests::games::{CONTINENTS, outcome_of};
+use pg_finders::{Finder, Standard};
+use pg_game::Player;
+use std::alloc::Global;
+use std::process::Abort;
+use std::sync::Wait;
+use std::test::*;
+use std::thread::Threads;
+
+fn even_wins_with<R: Threads + Wait + Abort + Sync>(
+    rt: &R,
+    alloc: Global,
+    workers: u32,
+    finder: &impl Finder,
+) -> Result<(), Fail>
+    requires { (1 ≤ workers) × (workers ≤ 64) }
+{
+    let outcome = outcome_of(rt, alloc, CONTINENTS, workers, finder)?;
+    let rows = outcome.solution.rows.as_slice();
+    assert_eq!(rt; rows.len(), 5, "{workers} workers");
+    assert!(rt;
+        rows.iter().all(|row| row.0 == Player::Even),
+        "{workers} workers"
+    );
+    Ok(())
+}
+
+/// Even wins the five continents with 1, 2 and 64 workers.
+fn even_wins<R: Threads + Wait + Abort + Sync>(
+    rt: &R,
+    alloc: Global,
+    finder: &impl Finder,
+) -> Result<(), Fail> {
+    even_wins_with(rt, alloc, 1, finder)?;
+    even_wins_with(rt, alloc, 2, finder)?;
+    even_wins_with(rt, alloc, 64, finder)?;
+    Ok(())
+}
+
+#[test]
+fn even_wins_the_continents_with_the_products_finder(rt: HostRuntime) -> Result<(), Fail> {
+    even_wins(&rt, rt.alloc(), &Standard)
+}
+
+#[test]
+fn even_wins_the_continents_whatever_is_claimed_alone(rt: HostRuntime) -> Result<(), Fail> {
+    even_wins(&rt, rt.alloc(), &Singles)
+}
+
+#[test]
+fn even_wins_the_continents_where_everything_is_claimed_for_both(
+    rt: HostRuntime,
+) -> Result<(), Fail> {
+    even_wins(&rt, rt.alloc(), &Wholes)
+}
+
+#[test]
+fn even_wins_the_continents_where_no_claim_has_its_shape(rt: HostRuntime) -> Result<(), Fail> {
+    even_wins(&rt, rt.alloc(), &Misshapen)
+}
+
+#[test]
+fn even_wins_the_continents_where_the_first_solution_is_given_for_ever(
+    rt: HostRuntime,
+) -> Result<(), Fail> {
+    let alloc = rt.alloc();
+    even_wins_with(&rt, alloc, 1, &FirstSolution::new())?;
+    even_wins_with(&rt, alloc, 2, &FirstSolution::new())?;
+    even_wins_with(&rt, alloc, 64, &FirstSolution::new())?;
+    Ok(())
+}
+
+#[test]
+fn even_wins_the_continents_where_finders_get_no_memory(rt: HostRuntime) -> Result<(), Fail> {
+    even_wins(&rt, rt.alloc(), &NoMemory)
+}
+
+/// The solution of another game.
+#[test]
+fn even_wins_the_continents_where_another_game_is_claimed(rt: HostRuntime) -> Result<(), Fail> {
+    let finder = Fixed {
+        claims: &[
+            (EVEN, &[(0, Some(0))]),
+            (ODD, &[(1, Some(1))]),
+            (ODD, &[(0, None), (1, Some(0)), (2, Some(1)), (3, None)]),
+        ],
+        times: 1,
+    };
+    even_wins(&rt, rt.alloc(), &finder)
+}
+
+#[test]
+fn even_wins_the_continents_where_the_greatest_numbers_are_claimed(
+    rt: HostRuntime,
+) -> Result<(), Fail> {
+    let finder = Fixed {
+        claims: &[
+            (EVEN, &[(u32::MAX, Some(u32::MAX))]),
+            (ODD, &[(u32::MAX, None)]),
+            (ODD, &[(0, Some(u32::MAX))]),
+            (EVEN, &[(3, Some(u32::MAX)), (u32::MAX, None)]),
+        ],
+        times: 1,
+    };
+    even_wins(&rt, rt.alloc(), &finder)
+}
+
+/// A good claim and a false one, each a thousand times for each job.
+#[test]
+fn even_wins_the_continents_where_one_claim_is_made_a_thousand_times(
+    rt: HostRuntime,
+) -> Result<(), Fail> {
+    let finder = Fixed {
+        claims: &[(EVEN, &[(1, None), (4, Some(1))]), (ODD, &[(0, Some(2))])],
+        times: 1_000,
+    };
+    even_wins(&rt, rt.alloc(), &finder)
+}

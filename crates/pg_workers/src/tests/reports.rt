@@ -1,0 +1,132 @@
+//! What the report says of each job, on runs with one worker.
+
+use crate::tests::finders::{EVEN, Fixed, Halting, NoMemory, ODD, Singles};
+use crate::tests::games::{TWO_LOOPS, outcome_of};
+use crate::{Outcome, ReportRow};
+use pg_finders::{Finder, Standard};
+use pg_game::Player;
+use std::alloc::Global;
+use std::process::Abort;
+use std::sync::Wait;
+use std::test::*;
+use std::thread::Threads;
+
+/// The row of a job of worker 1, with its numbers posted, settled, stale and refused.
+fn row(job: u64, counts: [u64; 4]) -> ReportRow {
+    let [posted, settled, stale, refused] = counts;
+    ReportRow {
+        job,
+        worker: Some(1),
+        posted,
+        settled,
+        stale,
+        refused,
+        gave_up: false,
+        memory: false,
+    }
+}
+
+/// The numbers of a run with one worker on the game of two winners: those of the first job, and those of each later one.
+fn assert_counts<R: Threads + Wait + Abort + Sync>(
+    rt: &R,
+    alloc: Global,
+    finder: &impl Finder,
+    first: [u64; 4],
+    later: [u64; 4],
+) -> Result<(), Fail> {
+    let outcome = outcome_of(rt, alloc, TWO_LOOPS, 1, finder)?;
+    let expected = [
+        row(0, first),
+        row(1, later),
+        row(2, later),
+        row(3, later),
+        row(4, later),
+    ];
+    assert_eq!(rt; outcome.report.as_slice(), expected.as_slice());
+    Ok(())
+}
+
+#[test]
+fn the_first_job_settles_both_loops(rt: HostRuntime) -> Result<(), Fail> {
+    assert_counts(&rt, rt.alloc(), &Standard, [2, 2, 0, 0], [0, 0, 0, 0])
+}
+
+/// Of four claims two are good, and stale from then on; two have a bad closed walk.
+#[test]
+fn a_finder_of_single_vertices_is_answered_stale_and_refused(rt: HostRuntime) -> Result<(), Fail> {
+    assert_counts(&rt, rt.alloc(), &Singles, [2, 2, 0, 2], [0, 0, 2, 2])
+}
+
+#[test]
+fn a_worker_goes_on_after_a_stale_claim(rt: HostRuntime) -> Result<(), Fail> {
+    let finder = Fixed {
+        claims: &[
+            (EVEN, &[(0, Some(0))]),
+            (EVEN, &[(0, Some(0))]),
+            (ODD, &[(1, Some(1))]),
+        ],
+        times: 1,
+    };
+    assert_counts(&rt, rt.alloc(), &finder, [2, 2, 1, 0], [0, 0, 3, 0])
+}
+
+/// The claim of no row and the claim with a bad closed walk are refused by the check, the claim with an edge that leads out by
+/// the board; a good one comes last.
+#[test]
+fn claims_that_the_check_or_the_board_refuses_count_as_refused(
+    rt: HostRuntime,
+) -> Result<(), Fail> {
+    let finder = Fixed {
+        claims: &[
+            (EVEN, &[]),
+            (ODD, &[(0, None)]),
+            (EVEN, &[(0, Some(1))]),
+            (EVEN, &[(0, Some(0))]),
+        ],
+        times: 1,
+    };
+    assert_counts(&rt, rt.alloc(), &finder, [1, 1, 0, 3], [0, 0, 2, 2])
+}
+
+#[test]
+fn memory_that_is_refused_in_each_search_is_noted(rt: HostRuntime) -> Result<(), Fail> {
+    let outcome = outcome_of(&rt, rt.alloc(), TWO_LOOPS, 1, &NoMemory)?;
+    for (number, found) in (0u64..).zip(outcome.report.iter()) {
+        let mut expected = row(number, [0; 4]);
+        expected.memory = true;
+        assert_eq!(rt; *found, expected);
+    }
+    Ok(())
+}
+
+#[test]
+fn each_row_says_whether_its_search_gave_up_or_had_no_memory(rt: HostRuntime) -> Result<(), Fail> {
+    let outcome = outcome_of(&rt, rt.alloc(), TWO_LOOPS, 1, &Halting)?;
+    let mut expected = [
+        row(0, [0; 4]),
+        row(1, [0; 4]),
+        row(2, [0; 4]),
+        row(3, [0; 4]),
+        row(4, [0; 4]),
+    ];
+    expected[1].memory = true;
+    expected[2].gave_up = true;
+    assert_eq!(rt; outcome.report.as_slice(), expected.as_slice());
+    Ok(())
+}
+
+/// Worker, player and vertex of an entry with one row.
+fn told(outcome: &Outcome, entry: usize) -> Option<(u32, Player, u32)> {
+    let entry = outcome.entries.get(entry)?;
+    let row = entry.rows.as_slice().first()?;
+    Some((entry.worker, entry.player, row.0))
+}
+
+#[test]
+fn the_calling_thread_posts_evens_claim_and_then_odds(rt: HostRuntime) -> Result<(), Fail> {
+    let outcome = outcome_of(&rt, rt.alloc(), TWO_LOOPS, 1, &NoMemory)?;
+    assert_eq!(rt; outcome.entries.len(), 2);
+    assert_eq!(rt; told(&outcome, 0), Some((0, EVEN, 0)));
+    assert_eq!(rt; told(&outcome, 1), Some((0, ODD, 1)));
+    Ok(())
+}
