@@ -71,10 +71,9 @@ module _ (known : Option (List ℕ)) (text slice game solution : List ℕ)
         (λ m. let none : Failed fault.Memory text = tt in subst (λ x. Failed x text) (sym m) none)
         only)
 
-    -- where a verdict is true, so is that the text was judged by it
-    pub judged_and : (verdict : Verdict) (Q : Verdict → Type 0) → IsVerdictOn g solution verdict → Q verdict
-        → IfSome known (λ bytes. (x : Verdict) × IsJudged (game_part bytes) (solution_part bytes) x × Q x)
-    judged_and verdict Q h q = of_known known text (λ bytes. (x : Verdict) × IsJudged (game_part bytes) (solution_part bytes) x × Q x) read (verdict, judged verdict h, q)
+    -- the text that the source had was judged
+    pub judged_known : (verdict : Verdict) → IsVerdictOn g solution verdict → IfSome known (λ bytes. IsJudged (game_part bytes) (solution_part bytes) verdict)
+    judged_known verdict h = of_known known text (λ bytes. IsJudged (game_part bytes) (solution_part bytes) verdict) read (judged verdict h)
 
     -- the text was judged, and it is within the limit
     pub judged_within : (verdict : Verdict) → IsVerdictOn g solution verdict → IfSome known (λ bytes. (length bytes ≤ max_text) × IsJudged (game_part bytes) (solution_part bytes) verdict)

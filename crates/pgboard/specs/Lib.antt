@@ -5,3 +5,4 @@ pub mod Status
 pub mod Trace
 pub mod Solving
 pub mod Asking
+pub mod Answer

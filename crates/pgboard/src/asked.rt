@@ -1,10 +1,11 @@
 //! What a command line may ask for.
-ghost use Rattle.std.specs.Prelude.{◌≤◌, IfOk};
-ghost use Rattle.pgboard.specs.Asking.{IsInRange};
+ghost use Rattle.std.specs.Prelude.{◌≡◌, ◌≢◌, ◌≤◌, Some, IfOk, is_some, option_map, string_bytes};
+ghost use Rattle.clap.specs.Matches.{found_of, first_value, matched_of};
+ghost use Rattle.pgboard.specs.Asking.{IsInRange, path_of};
 
 use crate::fault::AskedFault;
 use clap::ArgMatches;
-use std::alloc::{AllocError, Global};
+use std::alloc::Global;
 
 /// What a command line asks for.
 #[derive(Debug, Drop, PartialEq)]
@@ -38,17 +39,18 @@ pub enum Asked {
 }
 
 impl Asked {
-    /// What the words ask for that the command-line reader took.
+    /// What the words ask for that the command-line reader took. Without a command they are refused.
     pub fn from_matches(alloc: Global, matches: &ArgMatches<'_>) -> Result<Asked, AskedFault>
-        ensures { IfOk result IsInRange }
+        ensures range { IfOk result IsInRange }
+        ensures command { IfOk result (λ asked. asked ≢ Asked.Joined) }
     {
         match matches.subcommand() {
             Some(("verify", given)) => Ok(Asked::Verify {
-                game: path(alloc, given, "GAME")?.unwrap_or(String::new(alloc)),
-                solution: path(alloc, given, "SOLUTION")?.unwrap_or(String::new(alloc)),
+                game: path(alloc, given, "GAME")?,
+                solution: path(alloc, given, "SOLUTION")?,
             }),
             Some(("tidy", given)) => Ok(Asked::Tidy {
-                game: path(alloc, given, "GAME")?,
+                game: optional_path(alloc, given, "GAME")?,
             }),
             Some(("solve", given)) => {
                 let workers = number(alloc, given, "workers", 1, 64)?;
@@ -57,18 +59,40 @@ impl Asked {
                     workers,
                     bound,
                     winners: given.get_flag("winners"),
-                    game: path(alloc, given, "GAME")?,
+                    game: optional_path(alloc, given, "GAME")?,
                 })
             }
             Some(("trace", given)) => {
                 let workers = number(alloc, given, "workers", 1, 64)?;
                 Ok(Asked::Trace {
                     workers,
-                    game: path(alloc, given, "GAME")?,
+                    game: optional_path(alloc, given, "GAME")?,
                 })
             }
-            _ => Ok(Asked::Joined),
+            _ => Err(AskedFault::words(alloc, "error: there is no such command\n")),
         }
+    }
+
+    /// The path of the file of the game, where one game is read and its path was given.
+    pub fn path(&self) -> Option<&str>
+        ensures { option_map (λ path. path.now) result ≡ path_of self.now }
+    {
+        match self {
+            Asked::Tidy { game } => given(game),
+            Asked::Solve { game, .. } => given(game),
+            Asked::Trace { game, .. } => given(game),
+            Asked::Joined | Asked::Verify { .. } | Asked::Help(_) => None,
+        }
+    }
+}
+
+/// The text, where there is one.
+fn given(text: &Option<String>) -> Option<&str>
+    ensures { option_map (λ text. text.now) result ≡ option_map (λ text. string_bytes text) text.now }
+{
+    match text {
+        Some(text) => Some(text.as_str()),
+        None => None,
     }
 }
 
@@ -88,14 +112,30 @@ fn number(
             return Ok(n);
         }
     }
-    let text = String::from_str(alloc, "error: a number is out of its range\n")?;
-    Err(AskedFault::Words(text))
+    Err(AskedFault::words(alloc, "error: a number is out of its range\n"))
 }
 
-/// The path that was given under this name.
-fn path(alloc: Global, given: &ArgMatches<'_>, name: &str) -> Result<Option<String>, AllocError> {
+/// The path that was given under this name. One that can't be read back is refused.
+fn path(alloc: Global, given: &ArgMatches<'_>, name: &str) -> Result<String, AskedFault>
+    ensures { IfOk result (λ path. first_value (found_of given.now) name.now ≡ Some (string_bytes path)) }
+{
     match given.get_str(name) {
-        Some(path) => Ok(Some(String::from_str(alloc, path)?)),
-        None => Ok(None),
+        Some(path) => Ok(String::from_str(alloc, path)?),
+        None => Err(AskedFault::words(alloc, "error: a path is missing\n")),
     }
+}
+
+/// The path that may have been given under this name.
+fn optional_path(
+    alloc: Global,
+    given: &ArgMatches<'_>,
+    name: &str,
+) -> Result<Option<String>, AskedFault>
+    ensures given { IfOk result (λ path. is_some path ≡ is_some (matched_of (found_of given.now) name.now)) }
+    ensures text { IfOk result (λ path. option_map (λ text. string_bytes text) path ≡ first_value (found_of given.now) name.now) }
+{
+    if given.contains_id(name) {
+        return Ok(Some(path(alloc, given, name)?));
+    }
+    Ok(None)
 }

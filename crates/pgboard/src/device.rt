@@ -90,3 +90,5 @@ impl<W: Write> Sink for Std<W> {
 
 #[cfg(test)]
 mod tests;
+#[cfg(test)]
+mod told;

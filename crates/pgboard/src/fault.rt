@@ -1,9 +1,10 @@
 //! Why a run or a command line gave no answer: the faults, their texts and their exit statuses.
 ghost use Rattle.std.specs.Prelude.{◌≡◌};
+ghost use Rattle.pgboard.specs.Asking.{Says};
 ghost use Rattle.pgboard.specs.Status.{status_of, asked_status_of};
 
 use pg_text::{SolutionTextFault, TextFault};
-use std::alloc::{AllocError, AllocFailed};
+use std::alloc::{AllocError, AllocFailed, Global};
 use thiserror::Error;
 
 /// Why a run gave no answer.
@@ -54,6 +55,16 @@ impl RunFault {
 }
 
 impl AskedFault {
+    /// A refusal of the words with this text, or `Memory`.
+    pub fn words(alloc: Global, text: &str) -> AskedFault
+        ensures { Says text.now result }
+    {
+        match String::from_str(alloc, text) {
+            Ok(text) => AskedFault::Words(text),
+            Err(_) => AskedFault::Memory,
+        }
+    }
+
     /// The exit status where the command line was refused.
     pub fn status(&self) -> u8
         ensures { result ≡ asked_status_of self.now }
@@ -77,12 +88,22 @@ impl From<AllocError> for RunFault {
 }
 
 impl<T: Drop> From<AllocFailed<T>> for AskedFault {
+    ghost use Rattle.std.specs.Prelude.{◌≡◌};
+    ghost use Rattle.pgboard.specs.declared.fault.AskedFault.{AskedFault};
+
+    ghost from_gives = { λ _ e. e ≡ AskedFault.Memory };
+
     fn from(_error: AllocFailed<T>) -> AskedFault {
         AskedFault::Memory
     }
 }
 
 impl From<AllocError> for AskedFault {
+    ghost use Rattle.std.specs.Prelude.{◌≡◌};
+    ghost use Rattle.pgboard.specs.declared.fault.AskedFault.{AskedFault};
+
+    ghost from_gives = { λ _ e. e ≡ AskedFault.Memory };
+
     fn from(_error: AllocError) -> AskedFault {
         AskedFault::Memory
     }

@@ -2,9 +2,12 @@
 //! status of the outcome. Results go to standard output, and one fault line to standard error.
 #![tactic(auto)]
 
-ghost use Rattle.std.specs.Prelude.{◌≤◌, IfOk};
-ghost use Rattle.pgboard.specs.Asking.{IsInRange};
+ghost use Rattle.std.specs.Prelude.{◌≡◌, IfOk, IfErr, codes};
+ghost use Rattle.std.specs.IoError.{error_kind};
+ghost use Rattle.pgboard.specs.Asking.{IsInRange, Says};
+ghost use Rattle.pgboard.specs.Status.{asked_status_of};
 
+mod answer;
 mod asked;
 mod command;
 mod device;
@@ -20,32 +23,37 @@ mod verdict;
 mod words;
 mod writing;
 
+use answer::run_asked;
 use asked::Asked;
-use device::{Sink, Std};
+use device::{Source, Std};
 use fault::{AskedFault, RunFault};
 use pg_finders::Standard;
 use pg_workers::Pass;
-use run::{run_joined, run_tidy, run_verify};
-use solve::{SolveOptions, run_solve, run_trace};
+use std::alloc::Global;
 use std::env;
 use std::fs::File;
-use std::io::ErrorKind;
+use std::io::{Error, ErrorKind};
 use std::process::ExitCode;
 use std::sync::Wait;
 use std::thread::Threads;
-use writing::write_all;
 
 /// The words after the program's name.
 fn owned_words(rt: &HostRuntime) -> Result<Vec<String>, AskedFault> {
-    let args = match env::args(rt) {
-        Ok(args) => args,
-        Err(e) if e.kind() == ErrorKind::OutOfMemory => return Err(AskedFault::Memory),
-        Err(_) => {
-            let text = String::from_str(rt.alloc(), "error: an argument is not text\n")?;
-            return Err(AskedFault::Words(text));
-        }
-    };
-    Ok(args.skip(1).collect(rt.alloc())?)
+    match env::args(rt) {
+        Ok(args) => Ok(args.skip(1).collect(rt.alloc())?),
+        Err(error) => Err(unread(rt.alloc(), &error)),
+    }
+}
+
+/// Why the words can't be read: memory was refused, or one of them is not text.
+fn unread(alloc: Global, error: &Error) -> AskedFault
+    ensures memory { error_kind error.now ≡ ErrorKind.OutOfMemory → result ≡ AskedFault.Memory }
+    ensures text { Says (codes "error: an argument is not text\n") result }
+{
+    if error.kind() == ErrorKind::OutOfMemory {
+        return AskedFault::Memory;
+    }
+    AskedFault::words(alloc, "error: an argument is not text\n")
 }
 
 /// What the command line asks for.
@@ -62,165 +70,88 @@ fn asked_by(rt: &HostRuntime) -> Result<Asked, AskedFault>
 }
 
 /// A file to read.
-fn open(rt: &HostRuntime, path: &str) -> Result<Std<File>, RunFault> {
+fn open(rt: &HostRuntime, path: &str) -> Result<Std<File>, RunFault>
+    ensures { IfErr result (λ fault. fault ≡ RunFault.Read) }
+{
     match File::open(rt, path) {
         Ok(file) => Ok(Std::new(file)),
         Err(_) => Err(RunFault::Read),
     }
 }
 
-/// Tidies the game of a file, or of standard input.
-fn tidy_path<O: Sink>(rt: &HostRuntime, path: Option<&str>, out: &mut O) -> Result<u8, RunFault> {
-    match path {
-        Some(path) => run_tidy(rt.alloc(), &mut open(rt, path)?, out)?,
-        None => run_tidy(rt.alloc(), &mut Std::new(rt.stdin()), out)?,
-    }
-    Ok(0)
-}
-
-/// Solves the game of a file, or of standard input.
-fn solve_path<O: Sink, T: Threads + Wait + Sync>(
+/// Runs what was asked for on these sources and standard output. The status of the outcome.
+fn run_on<I: Source, S: Source, T: Threads + Wait + Sync>(
     rt: &HostRuntime,
     threads: &T,
-    options: &SolveOptions,
-    path: Option<&str>,
-    out: &mut O,
+    asked: &Asked,
+    input: &mut I,
+    solution: &mut S,
 ) -> Result<u8, RunFault>
-    requires workers { (1 ≤ options.now.workers) × (options.now.workers ≤ 64) }
-    requires bound { options.now.bound ≤ 8 }
+    requires { IsInRange asked.now }
 {
-    match path {
-        Some(path) => {
-            let mut file = open(rt, path)?;
-            run_solve(
-                threads,
-                rt.alloc(),
-                &mut file,
-                out,
-                options,
-                &Pass,
-                &Standard,
-            )?;
-        }
-        None => {
-            let mut input = Std::new(rt.stdin());
-            run_solve(
-                threads,
-                rt.alloc(),
-                &mut input,
-                out,
-                options,
-                &Pass,
-                &Standard,
-            )?;
-        }
-    }
-    Ok(0)
+    let mut out = Std::new(rt.stdout());
+    run_asked(
+        threads,
+        rt.alloc(),
+        asked,
+        input,
+        solution,
+        &mut out,
+        &Pass,
+        &Standard,
+    )
 }
 
-/// Tells how the game of a file, or of standard input, is solved.
-fn trace_path<O: Sink, T: Threads + Wait + Sync>(
-    rt: &HostRuntime,
-    threads: &T,
-    workers: u32,
-    path: Option<&str>,
-    out: &mut O,
-) -> Result<u8, RunFault>
-    requires { (1 ≤ workers) × (workers ≤ 64) }
-{
-    match path {
-        Some(path) => {
-            let mut file = open(rt, path)?;
-            run_trace(
-                threads,
-                rt.alloc(),
-                &mut file,
-                out,
-                workers,
-                &Pass,
-                &Standard,
-            )?;
-        }
-        None => {
-            let mut input = Std::new(rt.stdin());
-            run_trace(
-                threads,
-                rt.alloc(),
-                &mut input,
-                out,
-                workers,
-                &Pass,
-                &Standard,
-            )?;
-        }
-    }
-    Ok(0)
-}
-
-/// The path, where one was given.
-fn given(game: &Option<String>) -> Option<&str> {
-    match game {
-        Some(path) => Some(path.as_str()),
-        None => None,
-    }
-}
-
-/// Opens the files, and then runs what was asked for. The status of the outcome.
-fn answer<T: Threads + Wait + Sync>(
+/// Opens the files, and then runs what was asked for on them. The status of the outcome.
+fn run_on_files<T: Threads + Wait + Sync>(
     rt: &HostRuntime,
     threads: &T,
     asked: &Asked,
 ) -> Result<u8, RunFault>
     requires { IsInRange asked.now }
 {
-    let alloc = rt.alloc();
-    let mut out = Std::new(rt.stdout());
-    match asked {
-        Asked::Joined => {
-            let verdict = run_joined(alloc, &mut Std::new(rt.stdin()), &mut out)?;
-            Ok(verdict.status())
+    if let Asked::Verify { game, solution } = asked {
+        let mut game = open(rt, game.as_str())?;
+        let mut solution = open(rt, solution.as_str())?;
+        return run_on(rt, threads, asked, &mut game, &mut solution);
+    }
+    let mut none = Std::new(b"".as_slice());
+    match asked.path() {
+        Some(path) => {
+            let mut file = open(rt, path)?;
+            run_on(rt, threads, asked, &mut file, &mut none)
         }
-        Asked::Verify { game, solution } => {
-            let mut game = open(rt, game.as_str())?;
-            let mut solution = open(rt, solution.as_str())?;
-            let verdict = run_verify(alloc, &mut game, &mut solution, &mut out)?;
-            Ok(verdict.status())
-        }
-        Asked::Tidy { game } => tidy_path(rt, given(game), &mut out),
-        Asked::Solve {
-            workers,
-            bound,
-            winners,
-            game,
-        } => {
-            let options = SolveOptions {
-                workers: *workers,
-                bound: *bound,
-                winners: *winners,
-            };
-            solve_path(rt, threads, &options, given(game), &mut out)
-        }
-        Asked::Trace { workers, game } => trace_path(rt, threads, *workers, given(game), &mut out),
-        Asked::Help(text) => {
-            write_all(text.as_str().as_bytes(), &mut out)?;
-            Ok(0)
+        None => {
+            let mut input = Std::new(rt.stdin());
+            run_on(rt, threads, asked, &mut input, &mut none)
         }
     }
 }
 
-fn main(rt: HostRuntime) -> ExitCode {
-    let status = match asked_by(&rt) {
-        Ok(asked) => match answer(&rt, &rt, &asked) {
+/// Runs what was asked for and prints a fault. The status of the outcome, and of a refused command line its own.
+fn status_of<T: Threads + Wait + Sync>(
+    rt: &HostRuntime,
+    threads: &T,
+    asked: Result<Asked, AskedFault>,
+) -> u8
+    requires { IfOk asked IsInRange }
+    ensures { IfErr asked (λ refusal. result ≡ asked_status_of refusal) }
+{
+    match asked {
+        Ok(asked) => match run_on_files(rt, threads, &asked) {
             Ok(status) => status,
             Err(fault) => {
                 let _ = rt.eprintln(format_args!("pgboard: {fault}"));
                 fault.status()
             }
         },
-        Err(fault) => {
-            let _ = rt.eprint(&fault);
-            fault.status()
+        Err(refusal) => {
+            let _ = rt.eprint(&refusal);
+            refusal.status()
         }
-    };
-    ExitCode::from(status)
+    }
+}
+
+fn main(rt: HostRuntime) -> ExitCode {
+    ExitCode::from(status_of(&rt, &rt, asked_by(&rt)))
 }

@@ -29,7 +29,7 @@ pub fn run_joined<I: Source, O: Sink>(
     ensures fault { IfErr result (λ e. IfSome (I.left input.old) (λ text. JudgingFailed (game_part text) (solution_part text) (length text) e)) }
     ensures read { IsErrOf result RunFault.Read → HasFailed (I.read_failures input.old) (I.read_failures input.new) }
     ensures write { IsErrOf result RunFault.Write → HasFailed (O.write_failures out.old) (O.write_failures out.new) }
-    ensures cut { IsErrOf result RunFault.Write → IfSome (I.left input.old) (λ text. (verdict : Verdict) × IsJudged (game_part text) (solution_part text) verdict × AppendsFront (O.taken out.old) (O.taken out.new) (verdict_line verdict)) }
+    ensures cut { IsErrOf result RunFault.Write → (verdict : Verdict) × AppendsFront (O.taken out.old) (O.taken out.new) (verdict_line verdict) × IfSome (I.left input.old) (λ text. IsJudged (game_part text) (solution_part text) verdict) }
     ensures nothing { IfErr result (λ e. e ≢ RunFault.Write → Keeps (O.taken out.old) (O.taken out.new)) }
 {
     let text = read_text(alloc, input)?;
@@ -54,8 +54,9 @@ pub fn run_verify<G: Source, S: Source, O: Sink>(
     ensures no_solution_failure { (IsErrOf result RunFault.Read → ⊥) → S.read_failures solution.new ≡ S.read_failures solution.old }
     ensures no_write_failure { (IsErrOf result RunFault.Write → ⊥) → O.write_failures out.new ≡ O.write_failures out.old }
     ensures fault { IfErr result (λ e. (e ≡ RunFault.Write) ⊎ (IsNoGame (G.left game.old) e ⊎ ((g : Graph) × IsReadGame (G.left game.old) g × IsNoSolution g (S.left solution.old) e))) }
-    ensures read { IsErrOf result RunFault.Read → HasFailed (G.read_failures game.old) (G.read_failures game.new) ⊎ HasFailed (S.read_failures solution.old) (S.read_failures solution.new) }
-    ensures unread { IfErr result (λ e. IsGameFault e → Keeps (S.left solution.old) (S.left solution.new)) }
+    ensures order { (solution.new ≡ solution.old) ⊎ ((g : Graph) × IsReadGame (G.left game.old) g × (G.read_failures game.new ≡ G.read_failures game.old)) }
+    ensures unread { IfErr result (λ e. IsGameFault e → solution.new ≡ solution.old) }
+    ensures read { IsErrOf result RunFault.Read → (HasFailed (G.read_failures game.old) (G.read_failures game.new) × (solution.new ≡ solution.old)) ⊎ ((g : Graph) × IsReadGame (G.left game.old) g × HasFailed (S.read_failures solution.old) (S.read_failures solution.new)) }
     ensures write { IsErrOf result RunFault.Write → HasFailed (O.write_failures out.old) (O.write_failures out.new) }
     ensures cut { IsErrOf result RunFault.Write → (verdict : Verdict) × AppendsFront (O.taken out.old) (O.taken out.new) (verdict_line verdict) × IfSome (G.left game.old) (λ g. IfSome (S.left solution.old) (λ s. IsJudged g s verdict)) }
     ensures nothing { IfErr result (λ e. e ≢ RunFault.Write → Keeps (O.taken out.old) (O.taken out.new)) }

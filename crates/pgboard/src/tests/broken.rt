@@ -59,6 +59,16 @@ fn a_full_sink_is_a_write_fault_after_a_front(rt: HostRuntime) {
 }
 
 #[test]
+fn a_tidy_game_that_is_cut_by_a_full_sink_is_a_write_fault(rt: HostRuntime) {
+    let alloc = rt.alloc();
+    let mut out = Bounded::new(alloc, usize::MAX, 5);
+    let mut input = Pieces::whole(b"9 2 1 3,3,9; 3 1 0 9;");
+    let result = run_tidy(alloc, &mut input, &mut out);
+    assert_eq!(rt; result, Err(RunFault::Write));
+    assert_eq!(rt; out.taken.as_slice(), b"parit".as_slice());
+}
+
+#[test]
 fn a_refused_game_leaves_the_solution_unread(rt: HostRuntime) {
     let alloc = rt.alloc();
     let mut solution = Pieces::new(b"0 0 0;".as_slice(), usize::MAX, 0);

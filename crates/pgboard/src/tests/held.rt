@@ -11,7 +11,7 @@ use std::test::Fail;
 use std::thread::Threads;
 
 /// How often a held worker looks for another worker's post before it gives up.
-const TURNS: u64 = 10_000_000;
+pub const TURNS: u64 = 10_000_000;
 
 /// What a gate has seen.
 #[derive(Drop)]
@@ -24,16 +24,18 @@ struct Seen {
     posted: [u32; 5],
 }
 
-/// Holds one worker at its first `found` until another worker's `posted` was seen. Worker 0 stands for whichever
-/// comes first.
+/// Holds one worker at its first `found` until another worker's `posted` was seen, before it or since. Worker 0 stands
+/// for whichever comes first.
 #[derive(Drop)]
-struct Holder {
+pub struct Holder {
+    turns: u64,
     seen: Mutex<Seen>,
 }
 
 impl Holder {
-    fn new(held: u32) -> Holder {
+    pub fn new(held: u32, turns: u64) -> Holder {
         Holder {
+            turns,
             seen: Mutex::new(Seen {
                 held,
                 is_holding: false,
@@ -64,7 +66,7 @@ impl Gate for Holder {
         if !enters(&mut *self.seen.lock(rt), worker, job) {
             return;
         }
-        for _ in 0..TURNS {
+        for _ in 0..self.turns {
             if self.seen.lock(rt).others_posted {
                 return;
             }
@@ -78,20 +80,32 @@ impl Gate for Holder {
         if let Some(count) = seen.posted.get_mut(job as usize) {
             *count = count.wrapping_add(1);
         }
-        if seen.is_holding && seen.held != worker {
+        if seen.held != worker {
             seen.others_posted = true;
         }
     }
 }
 
-/// Each of the five jobs was found and posted once, and a worker that was held was let go by another's post. (The other
-/// may have done all jobs before the one that was to be held had its first.)
-fn assert_at_once(rt: &impl Abort, gate: Holder) {
-    let seen = gate.seen.into_inner();
-    assert!(*rt; !seen.gave_up);
-    assert!(*rt; seen.others_posted || !seen.is_holding);
+/// Each of the five jobs was found and posted once.
+fn assert_each_once(rt: &impl Abort, seen: &Seen) {
     assert!(*rt; seen.found == [1; 5]);
     assert!(*rt; seen.posted == [1; 5]);
+}
+
+/// Nobody has posted while the worker was held, and yet each of the five jobs was found and posted once.
+pub fn assert_alone(rt: &impl Abort, gate: Holder) {
+    let seen = gate.seen.into_inner();
+    assert!(*rt; seen.gave_up);
+    assert!(*rt; !seen.others_posted);
+    assert_each_once(rt, &seen);
+}
+
+/// Each of the five jobs was found and posted once, and another worker than the one that was to be held has posted.
+pub fn assert_at_once(rt: &impl Abort, gate: Holder) {
+    let seen = gate.seen.into_inner();
+    assert!(*rt; !seen.gave_up);
+    assert!(*rt; seen.others_posted);
+    assert_each_once(rt, &seen);
 }
 
 fn held_solve<R: Threads + Wait + Abort + Sync>(
@@ -104,7 +118,7 @@ fn held_solve<R: Threads + Wait + Abort + Sync>(
         bound: 4,
         winners: true,
     };
-    let gate = Holder::new(held);
+    let gate = Holder::new(held, TURNS);
     let mut input = Pieces::whole(ONE_EACH);
     let mut out = Bounded::ample(alloc);
     run_solve(rt, alloc, &mut input, &mut out, &options, &gate, &Standard)?;
@@ -121,7 +135,7 @@ fn held_trace<R: Threads + Wait + Abort + Sync>(
     alloc: Global,
     held: u32,
 ) -> Result<(), Fail> {
-    let gate = Holder::new(held);
+    let gate = Holder::new(held, TURNS);
     let mut input = Pieces::whole(ONE_EACH);
     let mut out = Bounded::ample(alloc);
     run_trace(rt, alloc, &mut input, &mut out, 2, &gate, &Standard)?;

@@ -1,24 +1,44 @@
-//! Solving and tracing over sources and sinks in memory, by threads.
+//! Whole texts of `solve`, by one worker and by many.
 ghost use Rattle.std.specs.Prelude.{◌≤◌};
 
 use super::devices::{Bounded, Pieces};
-use super::games::FIVE;
+use super::finders::{Recorder, Singles};
+use super::games::{FIVE, ONE_EACH};
 use crate::fault::RunFault;
 use crate::solve::{SolveOptions, run_solve, run_trace};
-use pg_finders::Standard;
+use pg_finders::{Finder, Standard};
 use pg_text::TextFault;
 use pg_workers::Pass;
 use std::alloc::Global;
 use std::process::Abort;
 use std::sync::Wait;
+use std::sync::atomic::Ordering;
 use std::test::Fail;
 use std::thread::Threads;
 
-/// Solves the five vertices, all won by Even.
-fn assert_solved<R: Threads + Wait + Abort + Sync>(
+/// What is written for a game.
+fn solved<R: Threads + Wait + Sync>(
+    rt: &R,
+    alloc: Global,
+    game: &[u8],
+    options: &SolveOptions,
+    finder: &impl Finder,
+) -> Result<Vec<u8>, RunFault>
+    requires workers { (1 ≤ options.now.workers) × (options.now.workers ≤ 64) }
+    requires bound { options.now.bound ≤ 8 }
+{
+    let mut out = Bounded::ample(alloc);
+    let mut input = Pieces::whole(game);
+    run_solve(rt, alloc, &mut input, &mut out, options, &Pass, finder)?;
+    Ok(out.taken)
+}
+
+/// Even wins the five vertices.
+fn assert_five<R: Threads + Wait + Abort + Sync>(
     rt: &R,
     alloc: Global,
     workers: u32,
+    finder: &impl Finder,
 ) -> Result<(), Fail>
     requires { (1 ≤ workers) × (workers ≤ 64) }
 {
@@ -27,25 +47,125 @@ fn assert_solved<R: Threads + Wait + Abort + Sync>(
         bound: 4,
         winners: true,
     };
-    let mut out = Bounded::ample(alloc);
-    run_solve(
-        rt,
-        alloc,
-        &mut Pieces::whole(FIVE),
-        &mut out,
-        &options,
-        &Pass,
-        &Standard,
-    )?;
+    let text = solved(rt, alloc, FIVE, &options, finder)?;
     let want = b"paritysol 4;\n0 0;\n1 0;\n2 0;\n3 0;\n4 0;\n";
-    assert_eq!(rt; out.taken.as_slice(), want.as_slice());
+    assert_eq!(rt; text.as_slice(), want.as_slice(), "{workers} workers");
     Ok(())
 }
 
 #[test]
-fn the_winners_are_the_same_for_one_worker_and_for_many(rt: HostRuntime) -> Result<(), Fail> {
-    assert_solved(&rt, rt.alloc(), 1)?;
-    assert_solved(&rt, rt.alloc(), 7)?;
+fn five_vertices_have_the_same_winners_by_1_2_and_64_workers(rt: HostRuntime) -> Result<(), Fail> {
+    assert_five(&rt, rt.alloc(), 1, &Standard)?;
+    assert_five(&rt, rt.alloc(), 2, &Standard)?;
+    assert_five(&rt, rt.alloc(), 64, &Standard)
+}
+
+#[test]
+fn five_vertices_have_the_same_winners_whatever_is_claimed_alone(
+    rt: HostRuntime,
+) -> Result<(), Fail> {
+    assert_five(&rt, rt.alloc(), 1, &Singles)?;
+    assert_five(&rt, rt.alloc(), 2, &Singles)?;
+    assert_five(&rt, rt.alloc(), 64, &Singles)
+}
+
+/// The only solution of each game, or with `winners` its winners.
+const WORKED: [(&[u8], bool, &str); 7] = [
+    (b"parity 0;\n0 0 0 0;\n", false, "paritysol 0;\n0 0 0;\n"),
+    (b"0 1 1 0;", false, "paritysol 0;\n0 1 0;\n"),
+    (FIVE, true, "paritysol 4;\n0 0;\n1 0;\n2 0;\n3 0;\n4 0;\n"),
+    (
+        b"0 2 0 0,1; 1 1 1 1;",
+        false,
+        "paritysol 1;\n0 0 0;\n1 1 1;\n",
+    ),
+    (
+        b"0 0 0 0; 1 3 0 0,1; 2 3 1 1;",
+        false,
+        "paritysol 2;\n0 0 0;\n1 0 0;\n2 0;\n",
+    ),
+    (
+        b"9 2 1 3,3,9; 3 1 0 9;",
+        false,
+        "paritysol 9;\n3 0 9;\n9 0;\n",
+    ),
+    (
+        b"2147483647 2147483647 1 2147483647;",
+        true,
+        "paritysol 2147483647;\n2147483647 1;\n",
+    ),
+];
+
+fn assert_worked<R: Threads + Wait + Abort + Sync>(
+    rt: &R,
+    alloc: Global,
+    workers: u32,
+    bound: u32,
+) -> Result<(), Fail>
+    requires workers { (1 ≤ workers) × (workers ≤ 64) }
+    requires bound { bound ≤ 8 }
+{
+    for (game, winners, want) in WORKED {
+        let options = SolveOptions {
+            workers,
+            bound,
+            winners,
+        };
+        let text = solved(rt, alloc, game, &options, &Standard)?;
+        assert_eq!(rt;
+            text.as_slice(),
+            want.as_bytes(),
+            "{workers} workers: {want}"
+        );
+    }
+    Ok(())
+}
+
+#[test]
+fn a_game_with_one_solution_has_its_text(rt: HostRuntime) -> Result<(), Fail> {
+    assert_worked(&rt, rt.alloc(), 1, 4)?;
+    assert_worked(&rt, rt.alloc(), 2, 0)?;
+    assert_worked(&rt, rt.alloc(), 64, 8)
+}
+
+#[test]
+fn one_of_two_solutions_is_written(rt: HostRuntime) -> Result<(), Fail> {
+    let options = SolveOptions {
+        workers: 1,
+        bound: 4,
+        winners: false,
+    };
+    let text = solved(&rt, rt.alloc(), FIVE, &options, &Standard)?;
+    let by_two = b"paritysol 4;\n0 0;\n1 0;\n2 0 1;\n3 0 2;\n4 0;\n".as_slice();
+    let by_four = b"paritysol 4;\n0 0;\n1 0;\n2 0 1;\n3 0 4;\n4 0;\n".as_slice();
+    assert!(rt; text.as_slice() == by_two || text.as_slice() == by_four);
+    Ok(())
+}
+
+#[test]
+fn the_bound_and_the_budget_are_handed_on(rt: HostRuntime) -> Result<(), Fail> {
+    let alloc = rt.alloc();
+    let recorder = Recorder::new();
+    let options = SolveOptions {
+        workers: 1,
+        bound: 7,
+        winners: false,
+    };
+    solved(&rt, alloc, ONE_EACH, &options, &recorder)?;
+    assert_eq!(rt; recorder.bound.load(Ordering::SeqCst), 7);
+    assert_eq!(rt; recorder.budget.load(Ordering::SeqCst), 10_000);
+    Ok(())
+}
+
+#[test]
+fn a_trace_looks_for_four_vertices_by_ten_thousand_choices(rt: HostRuntime) -> Result<(), Fail> {
+    let alloc = rt.alloc();
+    let recorder = Recorder::new();
+    let mut input = Pieces::whole(ONE_EACH);
+    let mut out = Bounded::ample(alloc);
+    run_trace(&rt, alloc, &mut input, &mut out, 1, &Pass, &recorder)?;
+    assert_eq!(rt; recorder.bound.load(Ordering::SeqCst), 4);
+    assert_eq!(rt; recorder.budget.load(Ordering::SeqCst), 10_000);
     Ok(())
 }
 
@@ -57,39 +177,19 @@ fn a_refused_game_is_not_solved(rt: HostRuntime) -> Result<(), Fail> {
         bound: 4,
         winners: false,
     };
-    let mut out = Bounded::ample(alloc);
-    let answer = run_solve(
-        &rt,
-        alloc,
-        &mut Pieces::whole(b"parity 1;\n0 0 0 1"),
-        &mut out,
-        &options,
-        &Pass,
-        &Standard,
-    );
-    assert_eq!(rt; answer, Err(RunFault::Game(TextFault::Syntax(17))));
-    assert!(rt; out.taken.is_empty());
-    Ok(())
-}
-
-#[test]
-fn the_trace_of_a_loop_has_its_job(rt: HostRuntime) -> Result<(), Fail> {
-    let alloc = rt.alloc();
-    let mut out = Bounded::ample(alloc);
-    run_trace(
-        &rt,
-        alloc,
-        &mut Pieces::whole(b"7 2 0 7;"),
-        &mut out,
-        1,
-        &Pass,
-        &Standard,
-    )?;
-    assert!(rt;
-        out.taken.starts_with(
-            b"journal 1 1\nentry 0 1 0 1 1\n7 7;\nreport 5\njob 0 1 1 1 0 0 0 0\n"
-        )
-    );
-    assert!(rt; out.taken.ends_with(b"total 1 1 0 0\n"));
+    for (game, want) in [
+        (b"".as_slice(), TextFault::Syntax(0)),
+        (b"parity 1;\n0 0 0 1".as_slice(), TextFault::Syntax(17)),
+        (
+            b"2147483648 2147483647 1 2147483647;".as_slice(),
+            TextFault::Number(0),
+        ),
+    ] {
+        let mut out = Bounded::ample(alloc);
+        let mut input = Pieces::whole(game);
+        let answer = run_solve(&rt, alloc, &mut input, &mut out, &options, &Pass, &Standard);
+        assert_eq!(rt; answer, Err(RunFault::Game(want)));
+        assert!(rt; out.taken.is_empty());
+    }
     Ok(())
 }

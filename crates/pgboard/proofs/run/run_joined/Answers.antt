@@ -1,8 +1,5 @@
-use Rattle.std.proofs.Common.{◌≡◌, length, IfErr, IfSome, IsErrOf, Err, sym}
 use Rattle.std.proofs.lemmas.Result.{err_from_is_err_and}
-use Rattle.pgboard.specs.Device.{AppendsFront}
-use Rattle.pgboard.specs.Joined.{verdict_line}
-use Rattle.pgboard.proofs.Judging.{err_again, no_game, no_solution_of, no_output, judged_and, judged_within}
+use Rattle.pgboard.proofs.Judging.{err_again, no_game, no_solution_of, no_output, judged_known, judged_within}
 use Rattle.pgboard.proofs.run.run_joined.Goals as goal
 
 pub returns-in_err-game-clause-fault : goal.returns-in_err-game-clause-fault
@@ -26,10 +23,12 @@ returns-in_err-write_verdict-clause-fault g c =
 pub returns-in_err-write_verdict-clause-cut : goal.returns-in_err-write_verdict-clause-cut
 returns-in_err-write_verdict-clause-cut g c =
     let p = err_from_is_err_and c.from_residual-in_err-write_verdict.result c.from_residual-in_err-write_verdict.ensures.1 in rw (p.1, p.2)
-    (λ e. judged_and _ c.in_ok-text.text.items c.as_slice.result.now c.parts.result.0.now c.parts.result.1.now c.in_ok-text.ensures.text c.in_ok-text.ensures.limit c.as_slice.ensures.value
-    c.parts.ensures.game c.parts.ensures.solution _ c.in_ok-game.ensures.game c.in_ok-verdict.verdict
-    (λ x. AppendsFront (g.O.Sink.taken c.args.out.now) (g.O.Sink.taken c.write_verdict.new.out) (verdict_line x)) c.in_ok-verdict.ensures.verdict
-    (c.in_err-write_verdict.ensures.cut (err_again _ _ e)))
+    (λ e. (
+      c.in_ok-verdict.verdict,
+      c.in_err-write_verdict.ensures.cut (err_again _ _ e),
+      judged_known _ c.in_ok-text.text.items c.as_slice.result.now c.parts.result.0.now c.parts.result.1.now c.in_ok-text.ensures.text c.in_ok-text.ensures.limit c.as_slice.ensures.value
+          c.parts.ensures.game c.parts.ensures.solution _ c.in_ok-game.ensures.game c.in_ok-verdict.verdict c.in_ok-verdict.ensures.verdict,
+    ))
 
 pub returns-clause-judged : goal.returns-clause-judged
 returns-clause-judged g c =

@@ -1,0 +1,27 @@
+-- What was written for what was asked for, and the status.
+use Rattle.std.specs.Prelude.{ℕ, ◌≡◌, List, Option, IfSome, string_bytes}
+use Rattle.std.specs.Io.KnownBytes.{Appends}
+use Rattle.pg_game.specs.Graph.{Graph}
+use Rattle.pg_text.specs.Written.{written_game}
+use Rattle.pgboard.specs.declared.asked.Asked.{Asked}
+use Rattle.pgboard.specs.declared.asked.Asked.TheVariants.{Joined, Verify, Tidy, Solve, Trace, Help}
+use Rattle.pgboard.specs.declared.verdict.Verdict.{Verdict}
+use Rattle.pgboard.specs.Joined.{game_part, solution_part, verdict_line, IsJudged}
+use Rattle.pgboard.specs.Run.{IsReadGame}
+use Rattle.pgboard.specs.Solving.{IsSolveText, IsTraceText}
+use Rattle.pgboard.specs.Status.{verdict_status}
+
+-- where the first source has these bytes and the second those, the sink went from old to new
+abbrev pub IsAnswer : Asked → Option (List ℕ) → Option (List ℕ) → Option (List ℕ) → Option (List ℕ) → ℕ → Type 0
+IsAnswer Joined first second old new status =
+    (verdict : Verdict) × (status ≡ verdict_status verdict) × Appends old new (verdict_line verdict)
+    × IfSome first (λ text. IsJudged (game_part text) (solution_part text) verdict)
+IsAnswer (Verify game solution) first second old new status =
+    (verdict : Verdict) × (status ≡ verdict_status verdict) × Appends old new (verdict_line verdict)
+    × IfSome first (λ g. IfSome second (λ s. IsJudged g s verdict))
+IsAnswer (Tidy game) first second old new status = (status ≡ 0) × (g : Graph) × IsReadGame first g × Appends old new (written_game g)
+IsAnswer (Solve workers bound winners game) first second old new status =
+    (status ≡ 0) × (g : Graph) × (text : List ℕ) × IsReadGame first g × IsSolveText winners g text × Appends old new text
+IsAnswer (Trace workers game) first second old new status =
+    (status ≡ 0) × (g : Graph) × (text : List ℕ) × IsReadGame first g × IsTraceText g text × Appends old new text
+IsAnswer (Help text) first second old new status = (status ≡ 0) × Appends old new (string_bytes text)

@@ -1,0 +1,66 @@
+//! Doing what was asked for, over any sources and sink.
+ghost use Rattle.std.specs.Prelude.{◌≡◌, ◌≢◌, IfOk, IfErr};
+ghost use Rattle.std.specs.Io.KnownBytes.{Keeps};
+ghost use Rattle.pgboard.specs.Answer.{IsAnswer};
+ghost use Rattle.pgboard.specs.Asking.{IsInRange, IsVerify};
+
+use crate::asked::Asked;
+use crate::device::{Sink, Source};
+use crate::fault::RunFault;
+use crate::run::{run_joined, run_tidy, run_verify};
+use crate::solve::{SolveOptions, run_solve, run_trace};
+use crate::writing::write_all;
+use pg_finders::Finder;
+use pg_workers::Gate;
+use std::alloc::Global;
+use std::sync::Wait;
+use std::thread::Threads;
+
+/// Runs what was asked for, and answers the status. The second source has the solution where one is verified, and is
+/// not read otherwise.
+pub fn run_asked<I: Source, S: Source, O: Sink, R: Threads + Wait + Sync>(
+    rt: &R,
+    alloc: Global,
+    asked: &Asked,
+    input: &mut I,
+    solution: &mut S,
+    out: &mut O,
+    gate: &impl Gate,
+    finder: &impl Finder,
+) -> Result<u8, RunFault>
+    requires { IsInRange asked.now }
+    ensures answer { IfOk result (λ status. IsAnswer asked.now (I.left input.old) (S.left solution.old) (O.taken out.old) (O.taken out.new) status) }
+    ensures one_text { (IsVerify asked.now → ⊥) → solution.new ≡ solution.old }
+    ensures nothing { IfErr result (λ e. e ≢ RunFault.Write → Keeps (O.taken out.old) (O.taken out.new)) }
+{
+    match asked {
+        Asked::Joined => Ok(run_joined(alloc, input, out)?.status()),
+        Asked::Verify { .. } => Ok(run_verify(alloc, input, solution, out)?.status()),
+        Asked::Tidy { .. } => {
+            run_tidy(alloc, input, out)?;
+            Ok(0)
+        }
+        Asked::Solve {
+            workers,
+            bound,
+            winners,
+            ..
+        } => {
+            let options = SolveOptions {
+                workers: *workers,
+                bound: *bound,
+                winners: *winners,
+            };
+            run_solve(rt, alloc, input, out, &options, gate, finder)?;
+            Ok(0)
+        }
+        Asked::Trace { workers, .. } => {
+            run_trace(rt, alloc, input, out, *workers, gate, finder)?;
+            Ok(0)
+        }
+        Asked::Help(text) => {
+            write_all(text.as_str().as_bytes(), out)?;
+            Ok(0)
+        }
+    }
+}

@@ -1,0 +1,71 @@
+//! Runs over bytes in memory, whose devices tell them all: what the runs promise, said of the bytes themselves.
+ghost use Rattle.std.specs.Prelude.{◌≡◌, ◌≤◌, ◌≢◌, [], IfOk, IfErr, length};
+ghost use Rattle.pg_game.specs.Graph.{Graph};
+ghost use Rattle.pg_text.specs.Reading.{IsTextOf};
+ghost use Rattle.pg_text.specs.Winners.{IsWinnersText};
+ghost use Rattle.pgboard.specs.Joined.{max_text, IsJudged, verdict_line};
+
+use super::Std;
+use crate::fault::RunFault;
+use crate::run::run_verify;
+use crate::solve::{SolveOptions, run_solve};
+use crate::verdict::Verdict;
+use pg_finders::Standard;
+use pg_workers::Pass;
+use std::alloc::Global;
+use std::sync::Wait;
+use std::test::Fail;
+use std::thread::Threads;
+
+/// The verdict on two texts, and the bytes that were written.
+fn verdict_on(alloc: Global, game: &[u8], solution: &[u8]) -> Result<(Verdict, Vec<u8>), RunFault>
+    ensures judged { IfOk result (λ r. IsJudged game.now solution.now r.0) }
+    ensures written { IfOk result (λ r. r.1.items ≡ verdict_line r.0) }
+    ensures within { IfOk result (λ r. (length game.now ≤ max_text) × (length solution.now ≤ max_text)) }
+    ensures no_device_fails { IfErr result (λ e. e ≢ RunFault.Read) }
+{
+    let mut out = Std::new(Vec::new(alloc));
+    let verdict = run_verify(
+        alloc,
+        &mut Std::new(game),
+        &mut Std::new(solution),
+        &mut out,
+    )?;
+    Ok((verdict, out.inner))
+}
+
+/// The winners of the game that a text spells.
+fn winners_of<R: Threads + Wait + Sync>(
+    rt: &R,
+    alloc: Global,
+    game: &[u8],
+    workers: u32,
+) -> Result<Vec<u8>, RunFault>
+    requires { (1 ≤ workers) × (workers ≤ 64) }
+    ensures { IfOk result (λ text. (g : Graph) × IsTextOf game.now g × IsWinnersText g text.items) }
+{
+    let options = SolveOptions {
+        workers,
+        bound: 4,
+        winners: true,
+    };
+    let mut out = Std::new(Vec::new(alloc));
+    let mut input = Std::new(game);
+    run_solve(rt, alloc, &mut input, &mut out, &options, &Pass, &Standard)?;
+    Ok(out.inner)
+}
+
+#[test]
+fn a_verdict_on_bytes_in_memory_is_told_with_its_line(rt: HostRuntime) -> Result<(), Fail> {
+    let (verdict, line) = verdict_on(rt.alloc(), b"0 0 0 0;", b"0 0 0;")?;
+    assert_eq!(rt; verdict, Verdict::Holds);
+    assert_eq!(rt; line.as_slice(), b"ok\n".as_slice());
+    Ok(())
+}
+
+#[test]
+fn winners_of_bytes_in_memory_are_told(rt: HostRuntime) -> Result<(), Fail> {
+    let text = winners_of(&rt, rt.alloc(), b"0 0 0 0;", 2)?;
+    assert_eq!(rt; text.as_slice(), b"paritysol 0;\n0 0;\n".as_slice());
+    Ok(())
+}

@@ -1,0 +1,225 @@
+//! What was asked for is done with the options that were given, and ends with its status.
+ghost use Rattle.std.specs.Prelude.{◌≤◌};
+ghost use Rattle.pgboard.specs.Asking.{IsInRange};
+
+use super::devices::{Bounded, Pieces};
+use super::finders::Recorder;
+use super::games::ONE_EACH;
+use super::held::{Holder, TURNS, assert_alone, assert_at_once};
+use crate::answer::run_asked;
+use crate::asked::Asked;
+use crate::fault::{AskedFault, RunFault};
+use crate::status_of;
+use pg_finders::{Finder, Standard};
+use pg_text::TextFault;
+use pg_workers::{Gate, Pass};
+use std::alloc::Global;
+use std::process::Abort;
+use std::sync::Wait;
+use std::sync::atomic::Ordering;
+use std::test::Fail;
+use std::thread::Threads;
+
+const JOINED: &[u8] = b"0 2 0 0,1; 1 1 1 1; % 0 0 0; 1 1 1;";
+
+const OTHER: &[u8] = b"0 0 0; 1 0;";
+
+/// What was asked for, done on this input, gives these bytes and this status.
+fn assert_answer<R: Threads + Wait + Abort + Sync>(
+    rt: &R,
+    alloc: Global,
+    asked: &Asked,
+    input: &[u8],
+    want: &str,
+    status: u8,
+) -> Result<(), Fail>
+    requires { IsInRange asked.now }
+{
+    let mut out = Bounded::ample(alloc);
+    let mut input = Pieces::whole(input);
+    let mut solution = Pieces::whole(OTHER);
+    let answer = run_asked(
+        rt,
+        alloc,
+        asked,
+        &mut input,
+        &mut solution,
+        &mut out,
+        &Pass,
+        &Standard,
+    )?;
+    assert_eq!(rt; out.taken.as_slice(), want.as_bytes());
+    assert_eq!(rt; answer, status, "of {want}");
+    Ok(())
+}
+
+#[test]
+fn one_text_is_judged_where_no_word_is_given(rt: HostRuntime) -> Result<(), Fail> {
+    assert_answer(&rt, rt.alloc(), &Asked::Joined, JOINED, "ok\n", 0)
+}
+
+#[test]
+fn a_second_text_is_verified(rt: HostRuntime) -> Result<(), Fail> {
+    let asked = Asked::Verify {
+        game: String::from_str(rt.alloc(), "a")?,
+        solution: String::from_str(rt.alloc(), "b")?,
+    };
+    let want = "not a solution: bad cycle at 1\n";
+    assert_answer(&rt, rt.alloc(), &asked, ONE_EACH, want, 1)
+}
+
+#[test]
+fn a_game_is_tidied(rt: HostRuntime) -> Result<(), Fail> {
+    let asked = Asked::Tidy { game: None };
+    let want = "parity 0;\n0 0 0 0;\n";
+    assert_answer(&rt, rt.alloc(), &asked, b"0 0 0 0;", want, 0)
+}
+
+#[test]
+fn a_game_is_solved_with_choices_or_without(rt: HostRuntime) -> Result<(), Fail> {
+    let alloc = rt.alloc();
+    let want = "paritysol 1;\n0 0;\n1 1;\n";
+    assert_answer(&rt, alloc, &solve_by(1, 4), ONE_EACH, want, 0)?;
+    let asked = Asked::Solve {
+        workers: 1,
+        bound: 4,
+        winners: false,
+        game: None,
+    };
+    let want = "paritysol 1;\n0 0 0;\n1 1 1;\n";
+    assert_answer(&rt, alloc, &asked, ONE_EACH, want, 0)
+}
+
+#[test]
+fn help_is_printed(rt: HostRuntime) -> Result<(), Fail> {
+    let asked = Asked::Help(String::from_str(rt.alloc(), "what it does\n")?);
+    assert_answer(&rt, rt.alloc(), &asked, b"", "what it does\n", 0)
+}
+
+/// Does this with the game of two winners, and answers what was written.
+fn answered<R: Threads + Wait + Sync>(
+    rt: &R,
+    alloc: Global,
+    asked: &Asked,
+    gate: &impl Gate,
+    finder: &impl Finder,
+) -> Result<Vec<u8>, RunFault>
+    requires { IsInRange asked.now }
+{
+    let mut out = Bounded::ample(alloc);
+    let mut input = Pieces::whole(ONE_EACH);
+    let mut none = Pieces::whole(b"");
+    run_asked(
+        rt, alloc, asked, &mut input, &mut none, &mut out, gate, finder,
+    )?;
+    Ok(out.taken)
+}
+
+fn solve_by(workers: u32, bound: u32) -> Asked
+    requires { (1 ≤ workers) × (workers ≤ 64) × (bound ≤ 8) }
+    ensures { IsInRange result }
+{
+    Asked::Solve {
+        workers,
+        bound,
+        winners: true,
+        game: None,
+    }
+}
+
+#[test]
+fn the_bound_of_the_command_line_is_handed_on(rt: HostRuntime) -> Result<(), Fail> {
+    let recorder = Recorder::new();
+    answered(&rt, rt.alloc(), &solve_by(1, 7), &Pass, &recorder)?;
+    assert_eq!(rt; recorder.bound.load(Ordering::SeqCst), 7);
+    answered(&rt, rt.alloc(), &solve_by(1, 1), &Pass, &recorder)?;
+    assert_eq!(rt; recorder.bound.load(Ordering::SeqCst), 1);
+    Ok(())
+}
+
+#[test]
+fn two_workers_of_the_command_line_work_at_once(rt: HostRuntime) -> Result<(), Fail> {
+    let gate = Holder::new(1, TURNS);
+    answered(&rt, rt.alloc(), &solve_by(2, 4), &gate, &Standard)?;
+    assert_at_once(&rt, gate);
+    let gate = Holder::new(1, TURNS);
+    let asked = Asked::Trace {
+        workers: 2,
+        game: None,
+    };
+    answered(&rt, rt.alloc(), &asked, &gate, &Standard)?;
+    assert_at_once(&rt, gate);
+    Ok(())
+}
+
+#[test]
+fn one_worker_of_the_command_line_is_alone(rt: HostRuntime) -> Result<(), Fail> {
+    let gate = Holder::new(1, 100_000);
+    answered(&rt, rt.alloc(), &solve_by(1, 4), &gate, &Standard)?;
+    assert_alone(&rt, gate);
+    let gate = Holder::new(1, 100_000);
+    let asked = Asked::Trace {
+        workers: 1,
+        game: None,
+    };
+    answered(&rt, rt.alloc(), &asked, &gate, &Standard)?;
+    assert_alone(&rt, gate);
+    Ok(())
+}
+
+/// What was asked for is refused for the game's text, with nothing written.
+fn assert_refused<R: Threads + Wait + Abort + Sync>(rt: &R, alloc: Global, asked: &Asked)
+    requires { IsInRange asked.now }
+{
+    let mut out = Bounded::ample(alloc);
+    let mut input = Pieces::whole(b"0 0 0 1");
+    let mut solution = Pieces::whole(OTHER);
+    let answer = run_asked(
+        rt,
+        alloc,
+        asked,
+        &mut input,
+        &mut solution,
+        &mut out,
+        &Pass,
+        &Standard,
+    );
+    assert_eq!(rt; answer, Err(RunFault::Game(TextFault::Syntax(7))));
+    assert!(rt; out.taken.is_empty());
+    assert_eq!(rt; solution.reads, 0);
+}
+
+#[test]
+fn a_refused_game_is_refused_whatever_is_asked(rt: HostRuntime) -> Result<(), Fail> {
+    let alloc = rt.alloc();
+    let verify = Asked::Verify {
+        game: String::from_str(alloc, "a")?,
+        solution: String::from_str(alloc, "b")?,
+    };
+    let trace = Asked::Trace {
+        workers: 1,
+        game: None,
+    };
+    assert_refused(&rt, alloc, &Asked::Joined);
+    assert_refused(&rt, alloc, &verify);
+    assert_refused(&rt, alloc, &Asked::Tidy { game: None });
+    assert_refused(&rt, alloc, &solve_by(1, 4));
+    assert_refused(&rt, alloc, &trace);
+    Ok(())
+}
+
+#[test]
+fn a_refused_command_line_ends_with_the_status_of_its_fault(rt: HostRuntime) -> Result<(), Fail> {
+    let text = String::from_str(rt.alloc(), "error: shown by a test\n")?;
+    assert_eq!(rt; status_of(&rt, &rt, Err(AskedFault::Words(text))), 2);
+    assert_eq!(rt; status_of(&rt, &rt, Err(AskedFault::Memory)), 5);
+    Ok(())
+}
+
+#[test]
+fn a_file_that_is_not_there_ends_with_status_4(rt: HostRuntime) -> Result<(), Fail> {
+    let path = String::from_str(rt.alloc(), "/nowhere/at/all")?;
+    let asked = Asked::Tidy { game: Some(path) };
+    assert_eq!(rt; status_of(&rt, &rt, Ok(asked)), 4);
+    Ok(())
+}

@@ -1,0 +1,128 @@
+//! Whole texts of `trace`, by one worker, worked out by hand.
+use super::devices::{Bounded, Pieces};
+use super::finders::{NoMemory, Singles};
+use super::games::{EIGHT_TO_EACH, FOUR_AND_FIVE, ONE_EACH, SEVEN_TO_EACH};
+use crate::solve::run_trace;
+use pg_finders::{Finder, Standard};
+use pg_workers::Pass;
+use std::alloc::Global;
+use std::process::Abort;
+use std::sync::Wait;
+use std::test::Fail;
+use std::thread::Threads;
+
+fn assert_traced<R: Threads + Wait + Abort + Sync>(
+    rt: &R,
+    alloc: Global,
+    game: &[u8],
+    finder: &impl Finder,
+    want: &str,
+) -> Result<(), Fail> {
+    let mut out = Bounded::ample(alloc);
+    run_trace(
+        rt,
+        alloc,
+        &mut Pieces::whole(game),
+        &mut out,
+        1,
+        &Pass,
+        finder,
+    )?;
+    assert_eq!(rt; out.taken.as_slice(), want.as_bytes());
+    Ok(())
+}
+
+#[test]
+fn a_loop_attracts_and_the_first_job_settles_all(rt: HostRuntime) -> Result<(), Fail> {
+    assert_traced(
+        &rt,
+        rt.alloc(),
+        b"0 0 0 0; 1 3 0 0,1; 2 3 1 1;",
+        &Standard,
+        "journal 1 3\nentry 0 1 0 1 3\n0 0;\n1 0;\n2;\nreport 5\n\
+job 0 1 1 3 0 0 0 0\njob 1 1 0 0 0 0 0 0\njob 2 1 0 0 0 0 0 0\njob 3 1 0 0 0 0 0 0\njob 4 1 0 0 0 0 0 0\n\
+total 1 3 0 0\n",
+    )
+}
+
+#[test]
+fn one_player_has_nothing_to_choose_and_the_second_job_settles_all(
+    rt: HostRuntime,
+) -> Result<(), Fail> {
+    assert_traced(
+        &rt,
+        rt.alloc(),
+        b"9 2 1 3,3,9; 3 1 0 9;",
+        &Standard,
+        "journal 1 2\nentry 0 1 0 2 2\n3 9;\n9;\nreport 5\n\
+job 0 1 0 0 0 0 0 0\njob 1 1 1 2 0 0 0 0\njob 2 1 0 0 0 0 0 0\njob 3 1 0 0 0 0 0 0\njob 4 1 0 0 0 0 0 0\n\
+total 1 2 0 0\n",
+    )
+}
+
+#[test]
+fn stale_and_refused_posts_are_counted_apart(rt: HostRuntime) -> Result<(), Fail> {
+    assert_traced(
+        &rt,
+        rt.alloc(),
+        ONE_EACH,
+        &Singles,
+        "journal 2 2\nentry 0 1 0 1 1\n0 0;\nentry 1 1 1 1 1\n1 1;\nreport 5\n\
+job 0 1 2 2 0 2 0 0\njob 1 1 0 0 2 2 0 0\njob 2 1 0 0 2 2 0 0\njob 3 1 0 0 2 2 0 0\njob 4 1 0 0 2 2 0 0\n\
+total 2 2 8 10\n",
+    )
+}
+
+#[test]
+fn want_of_memory_is_noted_for_each_job(rt: HostRuntime) -> Result<(), Fail> {
+    assert_traced(
+        &rt,
+        rt.alloc(),
+        ONE_EACH,
+        &NoMemory,
+        "journal 2 2\nentry 0 0 0 1 1\n0 0;\nentry 1 0 1 1 1\n1 1;\nreport 5\n\
+job 0 1 0 0 0 0 0 1\njob 1 1 0 0 0 0 0 1\njob 2 1 0 0 0 0 0 1\njob 3 1 0 0 0 0 0 1\njob 4 1 0 0 0 0 0 1\n\
+total 0 0 0 0\n",
+    )
+}
+
+#[test]
+fn a_dominion_of_four_vertices_is_looked_for_and_one_of_five_is_not(
+    rt: HostRuntime,
+) -> Result<(), Fail> {
+    assert_traced(
+        &rt,
+        rt.alloc(),
+        FOUR_AND_FIVE,
+        &Standard,
+        "journal 2 9\nentry 0 1 0 4 4\n0 1;\n1 2;\n2 3;\n3 0;\nentry 1 1 1 5 5\n4 5;\n5 6;\n6 7;\n7 8;\n8 4;\nreport 5\n\
+job 0 1 0 0 0 0 0 0\njob 1 1 0 0 0 0 0 0\njob 2 1 1 4 0 0 0 0\njob 3 1 0 0 0 0 0 0\njob 4 1 1 5 0 0 0 0\n\
+total 2 9 0 0\n",
+    )
+}
+
+#[test]
+fn a_search_of_seven_thousand_choices_ends(rt: HostRuntime) -> Result<(), Fail> {
+    assert_traced(
+        &rt,
+        rt.alloc(),
+        SEVEN_TO_EACH,
+        &Standard,
+        "journal 2 9\nentry 0 1 1 2 2\n7 8;\n8 7;\nentry 1 1 1 7 7\n0;\n1;\n2;\n3;\n4;\n5;\n6;\nreport 5\n\
+job 0 1 0 0 0 0 0 0\njob 1 1 0 0 0 0 0 0\njob 2 1 0 0 0 0 0 0\njob 3 1 1 2 0 0 0 0\njob 4 1 1 7 0 0 0 0\n\
+total 2 9 0 0\n",
+    )
+}
+
+#[test]
+fn a_search_of_sixteen_thousand_choices_is_given_up(rt: HostRuntime) -> Result<(), Fail> {
+    assert_traced(
+        &rt,
+        rt.alloc(),
+        EIGHT_TO_EACH,
+        &Standard,
+        "journal 2 10\nentry 0 1 1 2 2\n8 9;\n9 8;\nentry 1 1 1 8 8\n0;\n1;\n2;\n3;\n4;\n5;\n6;\n7;\nreport 5\n\
+job 0 1 0 0 0 0 0 0\njob 1 1 0 0 0 0 0 0\njob 2 1 0 0 0 0 1 0\njob 3 1 1 2 0 0 0 0\njob 4 1 1 8 0 0 0 0\n\
+total 2 10 0 0\n",
+    )
+}
