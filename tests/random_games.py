@@ -1,7 +1,7 @@
 #!/usr/bin/env python3
 """Compares a built program with plain definitions, and with the comparator, on small random games and texts.
 
-    tests/random_games.py BINARY [COMPARATOR] [--count N] [--seed S] [--without solve,trace]
+    tests/random_games.py BINARY [COMPARATOR] [--count N] [--seed S]
 
 Each game goes through `tidy` and `verify` (with right and wrong solutions), its texts also with random damage; the
 answers have to be those of plain.py, byte by byte, and the comparator's. What `solve` and `trace` write is read back
@@ -258,7 +258,7 @@ def report_fault(rows, entries):
     return None if sums[0] <= entries else "more was posted than there are entries"
 
 
-def faults(programs, chance, left_out):
+def faults(programs, chance):
     """The checks of one random game, each a name and what is wrong or None."""
     game = random_game(chance)
     text = random_game_text(chance, game)
@@ -270,10 +270,8 @@ def faults(programs, chance, left_out):
     yield "verify of a damaged text", verify_fault(programs, text, damaged(chance, solution_text), False)
     if plain.verdict(game, right_solution(game)) != "ok\n":
         yield "the definitions", f"the solution found by trying all choices of {game} is none"
-    if "solve" not in left_out:
-        yield "solve", solve_fault(programs, text, game, chance)
-    if "trace" not in left_out:
-        yield "trace", trace_fault(programs, text, game, chance)
+    yield "solve", solve_fault(programs, text, game, chance)
+    yield "trace", trace_fault(programs, text, game, chance)
 
 
 def judged(number, given):
@@ -281,7 +279,7 @@ def judged(number, given):
     comparator = given.comparator and os.path.abspath(given.comparator)
     chance = random.Random(f"{given.seed} {number}")
     with tempfile.TemporaryDirectory(prefix="pgboard-random-") as room:
-        return list(faults(Programs(os.path.abspath(given.binary), comparator, room), chance, given.without.split(",")))
+        return list(faults(Programs(os.path.abspath(given.binary), comparator, room), chance))
 
 
 def main():
@@ -290,7 +288,6 @@ def main():
     parser.add_argument("comparator", nargs="?")
     parser.add_argument("--count", type=int, default=800)
     parser.add_argument("--seed", type=int, default=1)
-    parser.add_argument("--without", default="", help="commands to leave out, as solve,trace")
     given = parser.parse_args()
     passed = failed = 0
     with concurrent.futures.ThreadPoolExecutor(4) as pool:
