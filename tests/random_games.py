@@ -100,15 +100,6 @@ def random_solution(chance, game):
     return solution
 
 
-def attracted(game, target, player):
-    """The attractor of a set: a step at a time until nothing comes."""
-    while True:
-        more = {id for id in game if id not in target and (any if game[id][1] == player else all)(to in target for to in game[id][2])}
-        if not more:
-            return target
-        target = target | more
-
-
 def right_solution(game):
     """A solution by trying all sets and choices of a player in turn: the greatest region of each."""
     solution = {}
@@ -210,52 +201,11 @@ def solve_fault(programs, text, game, chance):
 
 
 def trace_fault(programs, text, game, chance):
-    """Judges the journal of a trace: each entry leaves each player a region, all is settled, and the sums are right."""
-    words = ["trace", "--workers", chance.choice(["1", "2", "4"])]
-    status, out, err = programs.run(programs.binary, words, text)
-    if (status, err) != (0, b""):
-        return f"{words}: {(status, out, err)}"
-    why = journal_fault(game, out.decode().splitlines())
-    return f"{words} writes {out}: {why}" if why else None
-
-
-def journal_fault(game, rows):
-    rows = iter(rows)
-    word, entries, settled = next(rows).split()
-    state = {}
-    for number in range(int(entries)):
-        word, at, worker, player, claimed, count = next(rows).split()
-        if (word, int(at)) != ("entry", number):
-            return f"entry {number} is not where it should be"
-        for place in range(int(count)):
-            id, *choice = map(int, next(rows).rstrip(";").split())
-            if id in state:
-                return f"{id} is settled twice"
-            if bool(choice) != (game[id][1] == int(player)):
-                return f"{id} has a choice, or none, against its owner"
-            state[id] = int(player), choice[0] if choice else None
-        region = {id: it for id, it in state.items() if it[0] == int(player)}
-        if attracted(game, set(region), int(player)) - set(state):
-            return f"entry {number} leaves out what it attracts"
-        part = {id: (game[id][0], game[id][1], game[id][2]) for id in region}
-        if any(not plain.kept(part, region, id) <= set(region) for id in region) or plain.verdict(part, region) != "ok\n":
-            return f"after entry {number} its player's vertices are no region"
-    if len(state) != len(game) or int(settled) != len(game):
-        return "not all is settled"
-    return report_fault(rows, int(entries))
-
-
-def report_fault(rows, entries):
-    word, jobs = next(rows).split()
-    sums = [0, 0, 0, 0]
-    for number in range(int(jobs)):
-        word, at, worker, *columns = next(rows).split()
-        if (word, int(at)) != ("job", number):
-            return f"job {number} is not where it should be"
-        sums = [a + int(b) for a, b in zip(sums, columns)]
-    if next(rows) != f"total {' '.join(map(str, sums))}":
-        return "the last line has other sums"
-    return None if sums[0] <= entries else "more was posted than there are entries"
+    """Judges what the program's own `trace` writes."""
+    workers = chance.choice([1, 2, 4])
+    status, out, err = programs.run(programs.binary, ["trace", "--workers", str(workers)], text)
+    why = str((status, out, err)) if (status, err) != (0, b"") else plain.trace_fault(game, workers, out)
+    return f"trace --workers {workers} writes {out}: {why}" if why else None
 
 
 def faults(programs, chance):
