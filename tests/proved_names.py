@@ -18,7 +18,7 @@ CRATES = os.path.join(ROOT, "crates")
 PAGE = os.path.join(ROOT, "docs", "PROVED.md")
 LAW = "a statement without a body"
 # the program hands nothing on: these files have its runs, and what they stand on
-PROGRAM = [f"pgboard/src/{it}.rt" for it in ("device", "fault", "reading", "run", "solve", "verdict", "words", "writing")]
+PROGRAM = [f"pgboard/src/{it}.rt" for it in ("answer", "device", "fault", "reading", "run", "solve", "verdict", "words", "writing")]
 
 
 @functools.lru_cache(maxsize=None)
