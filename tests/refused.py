@@ -144,11 +144,13 @@ def allocations_fault(program, words, given, allows):
     is_right = lambda got: got == NO_MEMORY or allows(got) and (is_one_of_many or got == whole)
     # (some more numbers, since two workers share out their allocations anew in each run)
     for more in ({}, {"REFUSE_FROM": 1}):
-        for n, got in program.each("REFUSE_ALLOC", range(1, count + 10), words, given, **more):
+        answers = program.each("REFUSE_ALLOC", range(1, count + 10), words, given, **more)
+        for n, got in answers:
             if not is_right(got):
                 return f"allocation {n} {more}: {got}"
-    first = program.run(words, given, REFUSE_ALLOC=1)
-    return None if count and first == NO_MEMORY else f"{count} allocations; the first is refused: {first}"
+        if NO_MEMORY not in [got for _, got in answers]:
+            return f"no refusal of {count} ends the run"
+    return None
 
 
 def each_allocation(program):
