@@ -23,8 +23,8 @@ BLANKS = [b" ", b"\n", b"\t", b"\r\n", b"  ", b" \n "]
 PIECES = [b"0", b"1", b"9", b"00", b",", b";", b" ", b'"', b"-", b"parity", b"start", b"paritysol", b"x", b"2147483648", b"\xff", b"%", b"\n"]
 
 
-def random_game(chance):
-    n = chance.randint(1, 8)
+def random_game(chance, most=8):
+    n = chance.randint(most // 2 if most > 8 else 1, most)
     ids = chance.sample(range(n if chance.random() < 0.5 else 3 * n), n)
     priorities = chance.choice([2, 3, n + 1, 2 * n + 2])
     degree = chance.choice([1, 2, 3])
@@ -202,7 +202,7 @@ def solve_fault(programs, text, game, chance):
 
 def trace_fault(programs, text, game, chance):
     """Judges what the program's own `trace` writes."""
-    workers = chance.choice([1, 2, 4])
+    workers = chance.choice([1, 2, 4, 64])
     status, out, err = programs.run(programs.binary, ["trace", "--workers", str(workers)], text)
     why = str((status, out, err)) if (status, err) != (0, b"") else plain.trace_fault(game, workers, out)
     return f"trace --workers {workers} writes {out}: {why}" if why else None
@@ -222,6 +222,10 @@ def faults(programs, chance):
         yield "the definitions", f"the solution found by trying all choices of {game} is none"
     yield "solve", solve_fault(programs, text, game, chance)
     yield "trace", trace_fault(programs, text, game, chance)
+    if chance.random() < 0.02:
+        # of more than one batch of vertices
+        larger = random_game(chance, 140)
+        yield "trace of a larger game", trace_fault(programs, random_game_text(chance, larger), larger, chance)
 
 
 def judged(number, given):
