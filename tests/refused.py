@@ -31,6 +31,7 @@ NO_CHOICE = b"0 0; 1 1 1;"
 NO_MEMORY = (5, b"", b"pgboard: no memory\n")
 READ_FAULT = (4, b"", b"pgboard: read fault\n")
 SECONDS = 60
+KINDS = ["REFUSE_ALLOC", "REFUSE_THREAD", "REFUSE_READ", "REFUSE_WRITE"]
 # no worker could be started: the calling thread settles all
 NOBODY = (
     b"journal 2 2\nentry 0 0 0 1 1\n0 0;\nentry 1 0 1 1 1\n1 1;\nreport 5\n"
@@ -48,7 +49,7 @@ class Program:
         self.library = os.path.join(room, "refuse.so")
         command = ["cc", "-O1", "-shared", "-fPIC", "-o", self.library, os.path.join(HERE, "refuse.c"), "-ldl"]
         subprocess.run(command, check=True)
-        self.refusals = {}
+        self.refusals = dict.fromkeys(KINDS, 0)
         self.numbers = itertools.count()
 
     def put(self, name, text):
@@ -73,10 +74,11 @@ class Program:
         return (ran.returncode, ran.stdout, ran.stderr), numbers
 
     def each(self, kind, numbers, words, given=b"", **more):
-        """The answers to the refusal of each of these numbers, in order."""
-        self.refusals[kind] = self.refusals.get(kind, 0) + len(numbers)
+        """The answers to the refusal of each of these numbers, in order. What a run asked for less often wasn't refused."""
         with concurrent.futures.ThreadPoolExecutor(4) as pool:
-            return list(zip(numbers, pool.map(lambda n: self.run(words, given, **{kind: n}, **more), numbers)))
+            answers = list(pool.map(lambda n: self.counted(words, given, **{kind: n}, **more), numbers))
+        self.refusals[kind] += sum(n <= counts[KINDS.index(kind)] for n, (_, counts) in zip(numbers, answers))
+        return [(n, got) for n, (got, _) in zip(numbers, answers)]
 
 
 def is_solution(text):
@@ -254,8 +256,8 @@ def main():
                 passed, failed = passed + (not why), failed + bool(why)
                 if why:
                     print(f"FAILED refused/{name}: {why}")
-        kinds = {"REFUSE_ALLOC": "allocations", "REFUSE_THREAD": "starts of threads", "REFUSE_READ": "reads", "REFUSE_WRITE": "writes"}
-        print("refused: " + ", ".join(f"{n} {kinds[kind]}" for kind, n in program.refusals.items()))
+        told = dict(zip(KINDS, ("allocations", "starts of threads", "reads", "writes")))
+        print("refused: " + ", ".join(f"{n} {told[kind]}" for kind, n in program.refusals.items()))
     print(f"{passed} passed, {failed} failed")
     return 1 if failed or not passed else 0
 
