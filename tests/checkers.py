@@ -31,6 +31,16 @@ BY_ONE_AND_THE_CALLER = (
 ALSO_RIGHT = {BY_ONE.replace("entry 0 1 0 1 3", f"entry 0 1 0 {claimed} 3") for claimed in (2, 3)}
 TRACES = [("by one worker", LAYERS, BY_ONE), ("by nobody", BOTH_WIN, BY_NOBODY), ("by one and the caller", BOTH_WIN, BY_ONE_AND_THE_CALLER)]
 
+REST = "".join(IDLE % job for job in range(1, 5))
+# traces that add up, and are wrong of the game
+WRONG = [
+    ("attraction is left out", LAYERS, f"journal 2 3\nentry 0 1 0 1 2\n0 0;\n1 0;\nentry 1 1 0 1 1\n2;\nreport 5\njob 0 1 2 3 0 0 0 0\n{REST}total 2 3 0 0\n"),
+    ("a bad cycle is claimed", LAYERS, f"journal 1 3\nentry 0 1 0 3 3\n0 0;\n1 1;\n2;\nreport 5\njob 0 1 1 3 0 0 0 0\n{REST}total 1 3 0 0\n"),
+    ("an open edge is claimed", BOTH_WIN, f"journal 1 2\nentry 0 1 1 2 2\n0;\n1 1;\nreport 5\njob 0 1 1 2 0 0 0 0\n{REST}total 1 2 0 0\n"),
+    ("the caller comes before a worker", BOTH_WIN, f"journal 2 2\nentry 0 0 1 1 1\n1 1;\nentry 1 1 0 1 1\n0 0;\nreport 5\njob 0 1 1 1 0 0 0 0\n{REST}total 1 1 0 0\n"),
+    ("a worker posts in another's row", BOTH_WIN, f"journal 2 2\nentry 0 2 0 1 1\n0 0;\nentry 1 1 1 1 1\n1 1;\nreport 5\njob 0 1 2 2 0 0 0 0\n{REST}total 2 2 0 0\n"),
+]
+
 
 def other_numbers(text):
     """The text with each number in turn one more or less, but for what no check can know: the last two columns of a job."""
@@ -61,6 +71,10 @@ def trace_checks():
         for how, damaged in [*other_numbers(text), *other_lines(text)]:
             is_right = plain.trace_fault(game, 1, damaged.encode()) is None
             yield f"a trace {name}, {how}", None if is_right == (damaged in ALSO_RIGHT) else f"{damaged!r} is judged wrongly"
+
+
+    for name, game, text in WRONG:
+        yield name, None if plain.trace_fault(game, 2, text.encode()) else f"{text!r} is taken"
 
 
 def main():
