@@ -36,7 +36,8 @@ REST = "".join(IDLE % job for job in range(1, 5))
 WRONG = [
     ("attraction is left out", LAYERS, f"journal 2 3\nentry 0 1 0 1 2\n0 0;\n1 0;\nentry 1 1 0 1 1\n2;\nreport 5\njob 0 1 2 3 0 0 0 0\n{REST}total 2 3 0 0\n"),
     ("a bad cycle is claimed", LAYERS, f"journal 1 3\nentry 0 1 0 3 3\n0 0;\n1 1;\n2;\nreport 5\njob 0 1 1 3 0 0 0 0\n{REST}total 1 3 0 0\n"),
-    ("an open edge is claimed", BOTH_WIN, f"journal 1 2\nentry 0 1 1 2 2\n0;\n1 1;\nreport 5\njob 0 1 1 2 0 0 0 0\n{REST}total 1 2 0 0\n"),
+    ("an edge leaves the claim", LAYERS, f"journal 2 3\nentry 0 1 0 1 1\n2;\nentry 1 1 0 1 2\n0 0;\n1 0;\nreport 5\njob 0 1 2 3 0 0 0 0\n{REST}total 2 3 0 0\n"),
+    ("the opponent's cycle is claimed", BOTH_WIN, f"journal 1 2\nentry 0 1 1 2 2\n0;\n1 1;\nreport 5\njob 0 1 1 2 0 0 0 0\n{REST}total 1 2 0 0\n"),
     ("the caller comes before a worker", BOTH_WIN, f"journal 2 2\nentry 0 0 1 1 1\n1 1;\nentry 1 1 0 1 1\n0 0;\nreport 5\njob 0 1 1 1 0 0 0 0\n{REST}total 1 1 0 0\n"),
     ("a worker posts in another's row", BOTH_WIN, f"journal 2 2\nentry 0 2 0 1 1\n0 0;\nentry 1 1 1 1 1\n1 1;\nreport 5\njob 0 1 2 2 0 0 0 0\n{REST}total 2 2 0 0\n"),
 ]
