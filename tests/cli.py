@@ -1,7 +1,7 @@
 #!/usr/bin/env python3
 """Runs the cases under tests/cli over a built program, and compares bytes.
 
-    tests/cli.py BINARY [--without PREFIX,PREFIX] [--only WORD]
+    tests/cli.py BINARY [--only WORD]
 
 A case is a folder whose name says the fact that it shows. Its files:
     args              one word a line; none: no word
@@ -13,7 +13,6 @@ A case is a folder whose name says the fact that it shows. Its files:
     stderr_is_some    in place of stderr: any text that is not empty
     status            none: 0
     files/            copied into the empty folder in which the program runs
---without leaves out the cases whose name begins with one of the words and a '_'.
 The last line is 'N passed, M failed'; the status is 1 where a case failed.
 """
 
@@ -94,12 +93,10 @@ def fault(binary, case):
 def main():
     parser = argparse.ArgumentParser(description="Runs the cases under tests/cli over a built program.")
     parser.add_argument("binary")
-    parser.add_argument("--without", default="", help="groups of cases to leave out, as solve,trace")
     parser.add_argument("--only", default="", help="a word that the case's name has")
     given = parser.parse_args()
     binary = os.path.abspath(given.binary)
-    left_out = tuple(f"{word}_" for word in given.without.split(",") if word)
-    cases = [it for it in sorted(os.listdir(CASES)) if given.only in it and not it.startswith(left_out)]
+    cases = [it for it in sorted(os.listdir(CASES)) if given.only in it]
     failed = 0
     for case in cases:
         why = fault(binary, case)

@@ -1,7 +1,7 @@
 #!/usr/bin/env python3
 """Shows what a built program does with devices that fail, wait or give much, which files of a case can't say.
 
-    tests/cli_devices.py BINARY [--without solve,trace] [--only WORD]
+    tests/cli_devices.py BINARY [--only WORD]
 
 Each function of the table at the end is a case; its name says the fact. It returns what is wrong, or None.
 The last line is 'N passed, M failed'; the status is 1 where a case failed.
@@ -43,8 +43,8 @@ FAULTY_SINKS = {
 class Run:
     """A program in a folder of its own that has a game and a solution."""
 
-    def __init__(self, binary, room, left_out):
-        self.binary, self.room, self.left_out = binary, room, left_out
+    def __init__(self, binary, room):
+        self.binary, self.room = binary, room
         self.put("game.pg", GAME)
         self.put("game.sol", HOLDS)
 
@@ -79,9 +79,6 @@ class Run:
                 timer.cancel()
                 ran.kill()
 
-    def lines(self):
-        return {name: it for name, it in FAULTY_SINKS.items() if name.split()[0] not in self.left_out}
-
 
 def differs(got, wanted, where=""):
     got = (got[0], None if wanted[1] is None else got[1], got[2])
@@ -100,11 +97,11 @@ def a_full_device_is_a_write_fault(run):
         with open("/dev/full", "wb") as full:
             return differs(run(words, given, stdout=full), WRITE_FAULT, name)
 
-    return first(one(name, *it) for name, it in run.lines().items())
+    return first(one(name, *it) for name, it in FAULTY_SINKS.items())
 
 
 def a_closed_standard_output_is_a_write_fault(run):
-    return first(differs(run.by_shell(">&-", words, given), WRITE_FAULT, name) for name, (words, given) in run.lines().items())
+    return first(differs(run.by_shell(">&-", words, given), WRITE_FAULT, name) for name, (words, given) in FAULTY_SINKS.items())
 
 
 def a_pipe_that_nobody_reads_is_a_write_fault_and_no_death_by_signal(run):
@@ -117,7 +114,7 @@ def a_pipe_that_nobody_reads_is_a_write_fault_and_no_death_by_signal(run):
         finally:
             os.close(writer)
 
-    return first(one(name, *it) for name, it in run.lines().items())
+    return first(one(name, *it) for name, it in FAULTY_SINKS.items())
 
 
 def large_game(vertices=60_000):
@@ -283,10 +280,10 @@ CASES = [
 ]
 
 
-def tried(case, binary, left_out):
+def tried(case, binary):
     with tempfile.TemporaryDirectory(prefix="pgboard-devices-") as room:
         try:
-            return case(Run(binary, room, left_out))
+            return case(Run(binary, room))
         except subprocess.TimeoutExpired:
             return f"it had not ended after {SECONDS} seconds"
 
@@ -294,13 +291,12 @@ def tried(case, binary, left_out):
 def main():
     parser = argparse.ArgumentParser(description="Shows what a built program does with devices that fail.")
     parser.add_argument("binary")
-    parser.add_argument("--without", default="", help="commands to leave out, as solve,trace")
     parser.add_argument("--only", default="", help="a word that the case's name has")
     given = parser.parse_args()
     cases = [it for it in CASES if given.only in it.__name__]
     failed = 0
     for case in cases:
-        why = tried(case, os.path.abspath(given.binary), given.without.split(","))
+        why = tried(case, os.path.abspath(given.binary))
         if why:
             failed += 1
             print(f"FAILED cli_devices/{case.__name__}: {why}")

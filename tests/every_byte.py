@@ -3,17 +3,19 @@
 
     tests/every_byte.py BINARY
 
-The answers are those of the definitions in plain.py; for the smallest game, cut, they are written out here too. The last
-line is 'N passed, M failed'.
+The games and solutions of examples are cut at every length too. The answers are those of the definitions in plain.py; for
+the smallest game, cut, they are written out here too. The last line is 'N passed, M failed'.
 """
 
 import concurrent.futures
+import glob
 import os
 import subprocess
 import sys
 
 import plain
 
+EXAMPLES = os.path.join(os.path.dirname(os.path.dirname(os.path.abspath(__file__))), "examples")
 SMALLEST = b"parity 0;\n0 0 0 0;\n"
 NAMED = b'parity 12; start 1;\n12 05 1 7,12 "a name";\n7 2 0 12;\n'
 SOLUTION = b"paritysol 12;\n7 1;\n12 1 12;\n"
@@ -32,6 +34,37 @@ def texts():
         yield f"a game cut to {length} bytes", NAMED[:length]
     for length in range(len(SOLUTION) + 1):
         yield f"a solution cut to {length} bytes", NAMED + b"%" + SOLUTION[:length]
+
+
+def read(path):
+    with open(path, "rb") as file:
+        return file.read()
+
+
+def examples():
+    """The games of examples, each with its solutions, right and wrong: pairs of a name and the bytes."""
+    for path in sorted(glob.glob(os.path.join(EXAMPLES, "*.pg"))):
+        stem = path.removesuffix(".pg")
+        solutions = [it for it in (f"{stem}.sol", f"{stem}.wrong") if os.path.exists(it)]
+        yield (os.path.basename(path), read(path)), [(os.path.basename(it), read(it)) for it in solutions]
+
+
+def tidied(text):
+    game = plain.game_of(text)
+    if isinstance(game, str):
+        return 3, b"", f"pgboard: game: {game}\n".encode()
+    return 0, plain.written_game(game).encode(), b""
+
+
+def cut_examples():
+    """The runs on examples cut at every length: games by `tidy`, solutions behind their game."""
+    for (name, game), solutions in examples():
+        for length in range(len(game) + 1):
+            yield f"{name} cut to {length} bytes", ["tidy"], game[:length], tidied(game[:length])
+        for solution_name, solution in solutions:
+            for length in range(len(solution) + 1):
+                text = game + b"%" + solution[:length]
+                yield f"{solution_name} cut to {length} bytes", [], text, wanted_of(text)
 
 
 def wanted_of(text):
@@ -61,6 +94,7 @@ def runs():
         yield name, [], text, wanted_of(text)
     for length in range(len(SMALLEST) + 1):
         yield f"the smallest game cut to {length} bytes", ["tidy"], SMALLEST[:length], tidied_or_refused(length)
+    yield from cut_examples()
 
 
 def fault(binary, run):
@@ -74,6 +108,8 @@ def main():
     if len(sys.argv) != 2:
         sys.exit("tests/every_byte.py BINARY")
     binary = os.path.abspath(sys.argv[1])
+    if len(list(examples())) < 2:
+        sys.exit("tests/every_byte.py: no examples")
     with concurrent.futures.ThreadPoolExecutor(4) as pool:
         faults = list(pool.map(lambda it: fault(binary, it), runs()))
     failed = [it for it in faults if it]

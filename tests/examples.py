@@ -1,14 +1,12 @@
 #!/usr/bin/env python3
 """Runs the commands that the pages show, and compares what they print.
 
-    tests/examples.py BINARY [--without solve,trace]
+    tests/examples.py BINARY
 
 In README.md, examples/README.md and the pages of docs a block `sh` that is followed by a block `text` is an example; other
-blocks are not run. --without leaves out the parts that are marked as of these commands. docs/FAULTS.md has a test of its
-own. The last line is 'N passed, M failed'.
+blocks are not run. docs/FAULTS.md has a test of its own. The last line is 'N passed, M failed'.
 """
 
-import argparse
 import glob
 import os
 import subprocess
@@ -34,19 +32,16 @@ def fault(binary, commands, wanted):
 
 
 def main():
-    parser = argparse.ArgumentParser(description="Runs the commands that the pages show.")
-    parser.add_argument("binary")
-    parser.add_argument("--without", default="", help="commands whose parts are left out, as solve,trace")
-    given = parser.parse_args()
+    if len(sys.argv) != 2:
+        sys.exit("tests/examples.py BINARY")
     passed = failed = 0
     for page in all_pages():
         if not os.path.exists(os.path.join(pages.ROOT, page)):
             print(f"FAILED examples: {page}: the page isn't there")
             failed += 1
             continue
-        text = pages.without(pages.text_of(page), [it for it in given.without.split(",") if it])
-        for head, commands, wanted in pages.examples(text):
-            why = fault(os.path.abspath(given.binary), commands, wanted)
+        for head, commands, wanted in pages.examples(pages.text_of(page)):
+            why = fault(os.path.abspath(sys.argv[1]), commands, wanted)
             passed, failed = passed + (not why), failed + bool(why)
             if why:
                 print(f"FAILED examples: {page}, {head}: {why}")

@@ -3,7 +3,9 @@
 
     tests/faults_doc.py BINARY
 
-The heading of a part says the status that its examples have, as (status 3). The last line is 'N passed, M failed'.
+The heading of a part says the status that its examples have, as (status 3). After 'Test:' the part of a line names a case,
+a folder of tests/cli or a function or entry of a script of tests, which has to expect a line of this kind and this status;
+the case itself is run where it belongs. The last line is 'N passed, M failed'.
 """
 
 import os
@@ -12,6 +14,8 @@ import subprocess
 import sys
 import tempfile
 
+import cli_devices
+import cli_limits
 import pages
 
 PAGE = "docs/FAULTS.md"
@@ -27,6 +31,8 @@ LINES = [
 ]
 # those that no text gives
 WITHOUT_EXAMPLE = ["game: no vertex", "game: vertex V: no successor"]
+REFUSED_WORDS = "A refused command line (status 2)"
+CASE = re.compile(r"(?m)^Test: `([\w./]+)`(?: `(\w+)`)?\.$")
 
 
 def pattern(line):
@@ -57,6 +63,54 @@ def example_fault(room, head, commands, wanted, status):
     return None
 
 
+def by_heading(text):
+    """The parts under each heading, each with its status."""
+    for status, part in parts(text):
+        for under in re.split(r"(?m)^(?=##+ )", part)[1:]:
+            yield under.split("\n")[0].strip("#` "), status, under
+
+
+def constants(code, module):
+    """What a function holds: its constants, and what the names that it uses stand for."""
+    for it in [*code.co_consts, *(getattr(module, name, None) for name in code.co_names)]:
+        if hasattr(it, "co_consts"):
+            yield from constants(it, module)
+        else:
+            yield from it if isinstance(it, tuple) else [it]
+
+
+def expected_of(path, name):
+    """The status and the lines that a case expects, or None where there is no such case."""
+    if path == "cli_limits.py":
+        wanted = cli_limits.CASES.get(name, [None])[-1]
+        return (3, [f"pgboard: {wanted}\n"]) if isinstance(wanted, str) else None
+    if path == "cli_devices.py":
+        for case in cli_devices.CASES:
+            if case.__name__ == name:
+                held = list(constants(case.__code__, cli_devices))
+                status = [it for it in held if isinstance(it, int) and not isinstance(it, bool)]
+                return status, [it.decode() for it in held if isinstance(it, bytes)]
+        return None
+    folder = os.path.join(pages.ROOT, "tests", path)
+    if name or not path.startswith("cli/") or not os.path.isdir(folder):
+        return None
+    files = {it: pages.text_of(os.path.join("tests", path, it)) for it in ("stdout", "stderr", "status") if os.path.exists(os.path.join(folder, it))}
+    return int(files.get("status", "0")), [files.get("stdout", ""), files.get("stderr", "")]
+
+
+def case_fault(line, status, under):
+    """What is wrong with the case that a part names, or None."""
+    named = CASE.findall(under)
+    expected = expected_of(*named[0]) if len(named) == 1 else None
+    if not expected:
+        return f"it names the cases {named}, and not one that there is"
+    if status != expected[0] and status not in (expected[0] if isinstance(expected[0], list) else []):
+        return f"the case {named[0]} expects status {expected[0]}, and not {status}"
+    if line in LINES and not any(pattern(line).fullmatch(it) for it in expected[1]):
+        return f"the case {named[0]} expects no such line"
+    return None
+
+
 def main():
     if len(sys.argv) != 2:
         sys.exit("tests/faults_doc.py BINARY")
@@ -76,6 +130,12 @@ def main():
             for head, commands, wanted in pages.examples(part):
                 shown.add(head.strip("`"))
                 judge(head, example_fault(room, head, commands, wanted, status))
+    for line, status, under in by_heading(text):
+        if line in LINES and line not in WITHOUT_EXAMPLE or line == REFUSED_WORDS:
+            judge(f"{line}, its case", case_fault(line, status, under))
+            # a case of another kind, and one that isn't there, are refused
+            for other in ("Test: `cli/tidy_the_smallest_game`.", "Test: `cli_limits.py` `no_such_case`.", ""):
+                judge(f"{line}, {other!r}", None if case_fault(line, status, CASE.sub(other, under)) else "a wrong case is taken")
     heads = {it.strip("`") for it in re.findall(r"(?m)^### +(.*)$", text)}
     for line in LINES:
         judge(line, None if line in heads else "it has no heading")

@@ -1,11 +1,13 @@
 #!/usr/bin/env python3
-"""Compares commands, flags and exit statuses in the program's help, in README.md and in the man page docs/pgboard.1.
+"""Compares commands, flags and exit statuses in the program's help, on the pages and in the man page docs/pgboard.1.
 
     tests/help_agrees.py BINARY
 
-The program's help is the source. The man page has the same commands, flags and statuses, and README.md the same commands
-and statuses, and no flag that isn't there. A status has the same words everywhere, markup apart. The version that the
-program prints is the newest of CHANGELOG.md. The last line is 'N passed, M failed'.
+The program's help is the source. The man page and docs/CLI.md have the same commands, flags and statuses, and README.md the
+same commands and statuses, and no flag that isn't there. A status has the same words everywhere, markup apart. Each
+synopsis, also that of crates/pgboard/README.md, has a line for each command with all its flags and files. -h says what
+--help says, but for the examples. The version that the program prints is the newest of CHANGELOG.md. The last line is
+'N passed, M failed'.
 """
 
 import os
@@ -16,6 +18,7 @@ import sys
 import pages
 
 PAGES = {"README.md", "docs/CLI.md", "docs/pgboard.1"}
+SYNOPSES = sorted(PAGES | {"crates/pgboard/README.md"})
 STATUS = r"(?m)^ *([0-9]) {2,}(\S.*?) *$"
 FLAG = r"(?<![\w-])--[a-z][a-z-]*"
 
@@ -25,8 +28,8 @@ def plain(words):
     return re.sub(r"\s+", " ", re.sub(r"[`*]", "", words)).strip().rstrip(".").lower()
 
 
-def help_of(binary, *words):
-    ran = subprocess.run([binary, *words, "--help"], stdin=subprocess.DEVNULL, stdout=subprocess.PIPE, stderr=subprocess.STDOUT, timeout=20)
+def help_of(binary, *words, flag="--help"):
+    ran = subprocess.run([binary, *words, flag], stdin=subprocess.DEVNULL, stdout=subprocess.PIPE, stderr=subprocess.STDOUT, timeout=20)
     return ran.stdout.decode() if ran.returncode == 0 else ""
 
 
@@ -34,6 +37,47 @@ def part_of(text, head):
     """The part of a Markdown page under the first heading that has these words."""
     found = re.search(rf"(?ims)^(#+) [^\n]*\b{head}\b.*?(?=^#{{1,2}} |\Z)", text)
     return found[0] if found else ""
+
+
+def statuses_of(text):
+    return re.findall(STATUS, text[text.find("Exit status") :])
+
+
+def flags_of(text):
+    """The flags that a help lists, in order, each with the name of its value or nothing."""
+    listed = re.findall(r"(?m)^ +(?:-\w, )?--([a-z][a-z-]*)(?: <(\w+)>)?", text)
+    return [f"--{flag} {value}".strip() for flag, value in listed if flag not in ("help", "version")]
+
+
+def line_of(command, text):
+    """The line of a synopsis, by the help of a command or of the program."""
+    files = re.findall(r"<[A-Z]+>|\[[A-Z]+\]", (re.findall(r"(?m)^Usage: pgboard(.*)$", text) or [""])[0])
+    files = [it.strip("<>") for it in files if it not in ("[OPTIONS]", "[COMMAND]")]
+    return " ".join(filter(None, ["pgboard", command, *(f"[{it}]" for it in flags_of(text)), *files]))
+
+
+def synopsis_of(page):
+    """The lines of a page's synopsis, without what they say of each command."""
+    text = pages.text_of(page)
+    if page.endswith(".1"):
+        part = re.search(r"(?ms)^\.SH SYNOPSIS$\n(.*?)(?=^\.SH)", text)[1].replace("\\-", "-")
+        # a macro of two letters writes its words without blanks between
+        words = [it[4:].replace(" ", "") if re.match(r"\.[RBI]{2} ", it) else re.sub(r"^\.[BI] ", "", it) for it in part.splitlines()]
+        found = {" ".join(line.split()) for line in " ".join(words).split(".br")}
+        return found - {"pgboard [COMMAND] --help"}
+    part = part_of(text, "commands") if page == "README.md" else text
+    block = next((it[2] for it in pages.BLOCK.finditer(part)), "")
+    return {re.split(r" {2,}", line)[0] for line in re.sub(r"\n {2,}\b", "  ", block).splitlines() if line}
+
+
+def short_help_fault(binary, name):
+    """Where -h says something else than --help, the examples and what a command does at length apart."""
+    words = [name] if name else []
+    short, whole = help_of(binary, *words, flag="-h"), help_of(binary, *words)
+    if "Example" in short or "Example" not in whole:
+        return "the examples are those of --help"
+    same = line_of(name, short) == line_of(name, whole) and statuses_of(short) == statuses_of(whole)
+    return None if same and statuses_of(short) else f"-h says {short!r}, and --help {whole!r}"
 
 
 class Told:
@@ -50,8 +94,7 @@ def by_help(binary):
     commands = set(re.findall(r"(?m)^ {2}([a-z]+)\b", listed[1] if listed else "")) - {"help"}
     every = {name: help_of(binary, name) for name in sorted(commands)}
     flags = set(re.findall(FLAG, whole + "".join(every.values())))
-    statuses = {name: re.findall(STATUS, text[text.find("Exit status") :]) for name, text in {"": whole, **every}.items()}
-    return Told(commands, flags, statuses[""]), statuses
+    return Told(commands, flags, statuses_of(whole)), {"": whole, **every}
 
 
 def by_page(text):
@@ -75,12 +118,17 @@ def differs(name, what, wanted, got):
 
 
 def checks(binary):
-    told, statuses = by_help(binary)
+    told, helps = by_help(binary)
     yield "the help has commands", None if told.commands else "no part 'Commands:' of the help lists any"
     yield "the help has six statuses", None if set(told.statuses) == set("012345") else f"the help has {sorted(told.statuses)}"
-    for name, found in statuses.items():
+    for name, text in helps.items():
         # (a command's own words may say less)
+        found = statuses_of(text)
         yield f"statuses in the help of {name or 'the program'}", None if found and set(dict(found)) <= set(told.statuses) else f"they are {found}"
+        yield f"the short help of {name or 'the program'}", short_help_fault(binary, name)
+    lines = {line_of(name, text) for name, text in helps.items()}
+    for page in SYNOPSES:
+        yield f"synopsis of {page}", differs(page, "synopsis", lines, synopsis_of(page))
     for page in sorted(PAGES):
         if not os.path.exists(os.path.join(pages.ROOT, page)):
             yield page, "the page isn't there"

@@ -19,13 +19,6 @@ def text_of(page):
         return file.read()
 
 
-def without(text, commands):
-    """The page without the parts that are marked as of these commands."""
-    for command in commands:
-        text = re.sub(rf"(?ms)^<!-- begin {re.escape(command)} -->$.*?^<!-- end {re.escape(command)} -->$", "", text)
-    return text
-
-
 def examples(text):
     """The pairs of a command block and the text that it has to print, each with the heading above."""
     blocks = list(BLOCK.finditer(text))

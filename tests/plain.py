@@ -178,3 +178,138 @@ def written_solution(game, solution):
         return f"{id} {winner}{'' if choice is None else f' {choice}'};\n"
 
     return f"paritysol {max(game)};\n{''.join(map(row, sorted(game)))}"
+
+
+def attracted(game, target, player):
+    """The attractor of a set: a step at a time until nothing comes."""
+    while True:
+        more = {id for id in game if id not in target and (any if game[id][1] == player else all)(to in target for to in game[id][2])}
+        if not more:
+            return target
+        target = target | more
+
+
+def is_region(game, state, player):
+    """Whether the vertices that the state gives the player are a region of his."""
+    region = {id: row for id, row in state.items() if row[0] == player}
+    part = {id: game[id] for id in region}
+    return all(kept(part, region, id) <= set(region) for id in region) and verdict(part, region) == "ok\n"
+
+
+class Lines:
+    """The lines of a text, each taken by the numbers that it has to hold."""
+
+    def __init__(self, text):
+        *self.left, last = text.decode().split("\n")
+        self.fault = "the last line has no line feed" if last else None
+        self.left.reverse()
+
+    def take(self, pattern):
+        """The numbers of the next line; where it doesn't look so, none, and the fault is noted. N stands for a number."""
+        line = self.left.pop() if self.left else ""
+        found = re.fullmatch(pattern.replace("N", "(0|[1-9][0-9]*)"), line)
+        if not found:
+            self.fault = self.fault or f"{line!r} is no line {pattern!r}"
+            return None
+        return [int(it) if it and it.isdigit() else it for it in found.groups()]
+
+
+def trace_fault(game, workers, text):
+    """What is wrong with a trace of the game by so many workers, or None.
+
+    The entries have to lead from nothing to a full board, each by a claim that is good on the state before it and by all
+    that it attracts; the report has to have a row for each job, and its columns have to agree with the journal.
+    """
+    rows = Lines(text)
+    why, entries = journal_fault(game, workers, rows)
+    return why or report_fault(game, workers, entries, rows) or rows.fault or ("a line too many" if rows.left else None)
+
+
+def journal_fault(game, workers, rows):
+    """What is wrong with the journal, or None, and its entries as pairs of a worker and how many rows there are."""
+    head = rows.take("journal N N")
+    state, entries = {}, []
+    for number in range(head[0] if head else 0):
+        entry = rows.take("entry N N ([01]) N N")
+        lines = [rows.take(r"N(?: N)?;") for _ in range(entry[4] if entry else 0)]
+        if rows.fault:
+            return rows.fault, entries
+        _, worker, player, claimed, count = entry
+        if entry[0] != number or worker > workers:
+            return f"entry {number} is of another number, or of no worker", entries
+        why = entry_fault(game, state, player, lines[:claimed], lines[claimed:]) if 0 < claimed <= count else "nothing is claimed, or too much"
+        if why:
+            return f"entry {number}: {why}", entries
+        entries.append((worker, count))
+    if not head or head[1] != len(state) or len(state) != len(game):
+        return rows.fault or "not all is settled, or another number is told", entries
+    return None, entries
+
+
+def row_fault(game, state, player, row, reached):
+    """What is wrong with a row of an entry, whose kept edges may end in the reached, or None; it is added to the state."""
+    id, choice = row
+    if id not in game or id in state:
+        return f"{id} is no vertex, or is settled twice"
+    if (choice is not None) != (game[id][1] == player) or choice is not None and choice not in game[id][2]:
+        return f"{id} has a choice, or none, against its owner, or one that is no successor"
+    state[id] = player, choice
+    return None if kept(game, state, id) <= reached else f"an edge leaves at {id}"
+
+
+def entry_fault(game, state, player, claim, more):
+    """What is wrong with an entry of claimed rows and more on a state, or None; its rows are added to the state."""
+    own = {id for id, row in state.items() if row[0] == player}
+    claimed = [id for id, _ in claim]
+    if claimed != sorted(set(claimed)) or not set(claimed) <= set(game):
+        return "the claimed vertices don't rise, or are none"
+    inside = own | set(claimed)
+    wanted = attracted(game, inside, player)
+    why = next(filter(None, [row_fault(game, state, player, row, inside) for row in claim]), None)
+    for row in more:
+        why = why or row_fault(game, state, player, row, inside)
+        inside = inside | {row[0]}
+    if why or inside != wanted:
+        return why or "it leaves out what it attracts, or has more"
+    for each in (0, 1):
+        part = {id for id, row in state.items() if row[0] == each}
+        if not is_region(game, state, each):
+            return f"afterwards the vertices of {each} are no region"
+        if attracted(game, part, each) != part:
+            return f"afterwards the vertices of {each} attract more"
+    return None
+
+
+def report_fault(game, workers, entries, rows):
+    """What is wrong with the report of a run with this journal, or None."""
+    jobs = 3 + 2 * ((len(game) + 63) // 64)
+    if rows.take("report N") != [jobs]:
+        return rows.fault or "another number of jobs is told"
+    sums, by_worker = [0, 0, 0, 0], {}
+    for number in range(jobs):
+        row = rows.take("job N (-|[1-9][0-9]*) N N N N ([01]) ([01])")
+        if not row:
+            return rows.fault
+        job, worker, *columns = row
+        if job != number or worker != "-" and worker > workers:
+            return f"job {number} is of another number, or of no worker"
+        if worker == "-" and any(columns):
+            return f"job {number} was done by nobody"
+        posted, settled = by_worker.get(worker, (0, 0))
+        by_worker[worker] = posted + columns[0], settled + columns[1]
+        sums = [a + b for a, b in zip(sums, columns)]
+    if rows.take("total N N N N") != sums:
+        return rows.fault or "the last line has other sums"
+    return agreement_fault(entries, sums, by_worker)
+
+
+def agreement_fault(entries, sums, by_worker):
+    """Where the report says something else than the journal, or None."""
+    for worker, told in by_worker.items():
+        counts = [count for by, count in entries if by == worker]
+        if told != (len(counts), sum(counts)):
+            return f"worker {worker} has {counts} in the journal, and {told} in the report"
+    front = [count for by, count in entries if by != 0]
+    if [by for by, _ in entries[len(front) :]] != [0] * (len(entries) - len(front)) or len(entries) - len(front) > 2:
+        return "worker 0 has more than two entries, or one before the others' last"
+    return None if sums[:2] == [len(front), sum(front)] else "the report doesn't add up to the workers' entries"

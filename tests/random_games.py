@@ -1,7 +1,7 @@
 #!/usr/bin/env python3
 """Compares a built program with plain definitions, and with the comparator, on small random games and texts.
 
-    tests/random_games.py BINARY [COMPARATOR] [--count N] [--seed S] [--without solve,trace]
+    tests/random_games.py BINARY [COMPARATOR] [--count N] [--seed S]
 
 Each game goes through `tidy` and `verify` (with right and wrong solutions), its texts also with random damage; the
 answers have to be those of plain.py, byte by byte, and the comparator's. What `solve` and `trace` write is read back
@@ -23,8 +23,8 @@ BLANKS = [b" ", b"\n", b"\t", b"\r\n", b"  ", b" \n "]
 PIECES = [b"0", b"1", b"9", b"00", b",", b";", b" ", b'"', b"-", b"parity", b"start", b"paritysol", b"x", b"2147483648", b"\xff", b"%", b"\n"]
 
 
-def random_game(chance):
-    n = chance.randint(1, 8)
+def random_game(chance, most=8):
+    n = chance.randint(most // 2 if most > 8 else 1, most)
     ids = chance.sample(range(n if chance.random() < 0.5 else 3 * n), n)
     priorities = chance.choice([2, 3, n + 1, 2 * n + 2])
     degree = chance.choice([1, 2, 3])
@@ -98,15 +98,6 @@ def random_solution(chance, game):
         has_choice = winner == game[id][1] and chance.random() < 0.97 or chance.random() < 0.2
         solution[id] = winner, chance.choice(successors) if has_choice else None
     return solution
-
-
-def attracted(game, target, player):
-    """The attractor of a set: a step at a time until nothing comes."""
-    while True:
-        more = {id for id in game if id not in target and (any if game[id][1] == player else all)(to in target for to in game[id][2])}
-        if not more:
-            return target
-        target = target | more
 
 
 def right_solution(game):
@@ -210,55 +201,14 @@ def solve_fault(programs, text, game, chance):
 
 
 def trace_fault(programs, text, game, chance):
-    """Judges the journal of a trace: each entry leaves each player a region, all is settled, and the sums are right."""
-    words = ["trace", "--workers", chance.choice(["1", "2", "4"])]
-    status, out, err = programs.run(programs.binary, words, text)
-    if (status, err) != (0, b""):
-        return f"{words}: {(status, out, err)}"
-    why = journal_fault(game, out.decode().splitlines())
-    return f"{words} writes {out}: {why}" if why else None
+    """Judges what the program's own `trace` writes."""
+    workers = chance.choice([1, 2, 4, 64])
+    status, out, err = programs.run(programs.binary, ["trace", "--workers", str(workers)], text)
+    why = str((status, out, err)) if (status, err) != (0, b"") else plain.trace_fault(game, workers, out)
+    return f"trace --workers {workers} writes {out}: {why}" if why else None
 
 
-def journal_fault(game, rows):
-    rows = iter(rows)
-    word, entries, settled = next(rows).split()
-    state = {}
-    for number in range(int(entries)):
-        word, at, worker, player, claimed, count = next(rows).split()
-        if (word, int(at)) != ("entry", number):
-            return f"entry {number} is not where it should be"
-        for place in range(int(count)):
-            id, *choice = map(int, next(rows).rstrip(";").split())
-            if id in state:
-                return f"{id} is settled twice"
-            if bool(choice) != (game[id][1] == int(player)):
-                return f"{id} has a choice, or none, against its owner"
-            state[id] = int(player), choice[0] if choice else None
-        region = {id: it for id, it in state.items() if it[0] == int(player)}
-        if attracted(game, set(region), int(player)) - set(state):
-            return f"entry {number} leaves out what it attracts"
-        part = {id: (game[id][0], game[id][1], game[id][2]) for id in region}
-        if any(not plain.kept(part, region, id) <= set(region) for id in region) or plain.verdict(part, region) != "ok\n":
-            return f"after entry {number} its player's vertices are no region"
-    if len(state) != len(game) or int(settled) != len(game):
-        return "not all is settled"
-    return report_fault(rows, int(entries))
-
-
-def report_fault(rows, entries):
-    word, jobs = next(rows).split()
-    sums = [0, 0, 0, 0]
-    for number in range(int(jobs)):
-        word, at, worker, *columns = next(rows).split()
-        if (word, int(at)) != ("job", number):
-            return f"job {number} is not where it should be"
-        sums = [a + int(b) for a, b in zip(sums, columns)]
-    if next(rows) != f"total {' '.join(map(str, sums))}":
-        return "the last line has other sums"
-    return None if sums[0] <= entries else "more was posted than there are entries"
-
-
-def faults(programs, chance, left_out):
+def faults(programs, chance):
     """The checks of one random game, each a name and what is wrong or None."""
     game = random_game(chance)
     text = random_game_text(chance, game)
@@ -270,10 +220,12 @@ def faults(programs, chance, left_out):
     yield "verify of a damaged text", verify_fault(programs, text, damaged(chance, solution_text), False)
     if plain.verdict(game, right_solution(game)) != "ok\n":
         yield "the definitions", f"the solution found by trying all choices of {game} is none"
-    if "solve" not in left_out:
-        yield "solve", solve_fault(programs, text, game, chance)
-    if "trace" not in left_out:
-        yield "trace", trace_fault(programs, text, game, chance)
+    yield "solve", solve_fault(programs, text, game, chance)
+    yield "trace", trace_fault(programs, text, game, chance)
+    if chance.random() < 0.02:
+        # of more than one batch of vertices
+        larger = random_game(chance, 140)
+        yield "trace of a larger game", trace_fault(programs, random_game_text(chance, larger), larger, chance)
 
 
 def judged(number, given):
@@ -281,7 +233,7 @@ def judged(number, given):
     comparator = given.comparator and os.path.abspath(given.comparator)
     chance = random.Random(f"{given.seed} {number}")
     with tempfile.TemporaryDirectory(prefix="pgboard-random-") as room:
-        return list(faults(Programs(os.path.abspath(given.binary), comparator, room), chance, given.without.split(",")))
+        return list(faults(Programs(os.path.abspath(given.binary), comparator, room), chance))
 
 
 def main():
@@ -290,7 +242,6 @@ def main():
     parser.add_argument("comparator", nargs="?")
     parser.add_argument("--count", type=int, default=800)
     parser.add_argument("--seed", type=int, default=1)
-    parser.add_argument("--without", default="", help="commands to leave out, as solve,trace")
     given = parser.parse_args()
     passed = failed = 0
     with concurrent.futures.ThreadPoolExecutor(4) as pool:

@@ -1,6 +1,10 @@
-/* Preloaded, it refuses one allocation (REFUSE_ALLOC=N) or one start of a thread (REFUSE_THREAD=N), counted from 1.
-   At the end it writes both counts to the file that COUNTS names. What starting a thread takes inside the C library is
-   not counted. */
+/* Loaded before a program, this refuses it one allocation, one start of a thread, one read or one write, counted from 1:
+
+       REFUSE_ALLOC=N  REFUSE_THREAD=N  REFUSE_READ=N  REFUSE_WRITE=N
+
+   With REFUSE_FROM=1 every later one of the same kind is refused too. With PIECE=K a read or a write takes at most K
+   bytes. Writes are those to standard output. At the end the four counts go to the file that COUNTS names. What starting
+   a thread takes inside the C library is not counted. */
 #define _GNU_SOURCE
 #include <dlfcn.h>
 #include <errno.h>
@@ -8,11 +12,16 @@
 #include <stdatomic.h>
 #include <stdio.h>
 #include <stdlib.h>
+#include <string.h>
 #include <sys/syscall.h>
 #include <unistd.h>
 
-static atomic_long allocations, starts;
-static long refused_allocation, refused_start;
+enum kind { ALLOC, THREAD, READ, WRITE, KINDS };
+
+static const char *const names[KINDS] = {"REFUSE_ALLOC", "REFUSE_THREAD", "REFUSE_READ", "REFUSE_WRITE"};
+static atomic_long counts[KINDS];
+static long refused_at[KINDS];
+static long from, piece;
 static int counting;
 static __thread int starting;
 
@@ -22,8 +31,9 @@ static long number(const char *name) {
 }
 
 __attribute__((constructor)) static void begin(void) {
-    refused_allocation = number("REFUSE_ALLOC");
-    refused_start = number("REFUSE_THREAD");
+    for (int kind = 0; kind < KINDS; kind++) refused_at[kind] = number(names[kind]);
+    from = number("REFUSE_FROM");
+    piece = number("PIECE");
     counting = 1;
 }
 
@@ -34,7 +44,7 @@ __attribute__((destructor)) static void end(void) {
     counting = 0;
     file = name ? fopen(name, "w") : NULL;
     if (!file) return;
-    fprintf(file, "%ld %ld\n", (long)allocations, (long)starts);
+    fprintf(file, "%ld %ld %ld %ld\n", (long)counts[ALLOC], (long)counts[THREAD], (long)counts[READ], (long)counts[WRITE]);
     fclose(file);
 }
 
@@ -45,9 +55,12 @@ void _exit(int status) {
     __builtin_unreachable();
 }
 
-static int refused(void) {
-    if (!counting || starting || ++allocations != refused_allocation) return 0;
-    errno = ENOMEM;
+static int refused(enum kind kind, int error) {
+    long at;
+    if (!counting || starting) return 0;
+    at = ++counts[kind];
+    if (!refused_at[kind] || (from ? at < refused_at[kind] : at != refused_at[kind])) return 0;
+    errno = error;
     return 1;
 }
 
@@ -57,18 +70,62 @@ static int refused(void) {
 
 void *malloc(size_t size) {
     NEXT(malloc);
-    return refused() ? NULL : next(size);
+    return refused(ALLOC, ENOMEM) ? NULL : next(size);
 }
 
 void *realloc(void *old, size_t size) {
     NEXT(realloc);
-    return refused() ? NULL : next(old, size);
+    return refused(ALLOC, ENOMEM) ? NULL : next(old, size);
+}
+
+void *aligned_alloc(size_t alignment, size_t size) {
+    NEXT(aligned_alloc);
+    return refused(ALLOC, ENOMEM) ? NULL : next(alignment, size);
+}
+
+int posix_memalign(void **to, size_t alignment, size_t size) {
+    NEXT(posix_memalign);
+    return refused(ALLOC, ENOMEM) ? ENOMEM : next(to, alignment, size);
+}
+
+void *calloc(size_t count, size_t size) {
+    static char early[4096];
+    static size_t used;
+    static int looking;
+    static __typeof__(calloc) *next;
+    if (!next && looking) {
+        /* dlsym asks for memory while it looks for calloc; what it gets is never given back */
+        char *room = early + used;
+        used += (count * size + 15) / 16 * 16;
+        return used <= sizeof early ? room : NULL;
+    }
+    if (!next) {
+        looking = 1;
+        next = (__typeof__(calloc) *)dlsym(RTLD_NEXT, "calloc");
+        looking = 0;
+    }
+    return refused(ALLOC, ENOMEM) ? NULL : next(count, size);
+}
+
+static size_t cut(size_t count) {
+    return piece && count > (size_t)piece ? (size_t)piece : count;
+}
+
+ssize_t read(int file, void *to, size_t count) {
+    NEXT(read);
+    return refused(READ, EIO) ? -1 : next(file, to, cut(count));
+}
+
+ssize_t write(int file, const void *bytes, size_t count) {
+    NEXT(write);
+    if (file != STDOUT_FILENO) return next(file, bytes, count);
+    return refused(WRITE, EIO) ? -1 : next(file, bytes, cut(count));
 }
 
 int pthread_create(pthread_t *thread, const pthread_attr_t *how, void *(*run)(void *), void *with) {
     int status;
     NEXT(pthread_create);
-    if (++starts == refused_start) return EAGAIN;
+    if (refused(THREAD, EAGAIN)) return EAGAIN;
     starting = 1;
     status = next(thread, how, run, with);
     starting = 0;

@@ -1,0 +1,65 @@
+#!/usr/bin/env python3
+"""Refuses each allocation in turn to the unit tests that stand in a module `memory`, as the gate has built them.
+
+Such a test makes its calls, looks after a refusal that nothing has changed, and makes the call again. So each run passes,
+or ends well because memory was refused to what the test needs itself, and says so; a failed assertion ends it by a signal.
+Needs cc. The line before the last says how many refusals there were, and the last one is 'N passed, M failed'.
+"""
+
+import glob
+import os
+import re
+import subprocess
+import sys
+import tempfile
+
+from refused import Program
+
+ROOT = os.path.dirname(os.path.dirname(os.path.abspath(__file__)))
+
+
+def tests_of(binary):
+    """The tests of a test program that stand in a module `memory`."""
+    listed = subprocess.run([binary, "--list"], stdin=subprocess.DEVNULL, capture_output=True, timeout=60)
+    return sorted(set(re.findall(r"\b(?:\w+::)*memory::\w+", (listed.stdout + listed.stderr).decode())))
+
+
+def is_right(got):
+    """Whether a test passed, or ended for want of memory."""
+    status, out, err = got
+    return status == 0 or status == 1 and re.search(rb"memory|Memory|AllocError", out + err)
+
+
+def fault(program, name):
+    whole, (count, *_) = program.counted([name])
+    if whole[0] != 0:
+        return f"with all memory: {whole}"
+    answers = program.each("REFUSE_ALLOC", range(1, count + 5), [name])
+    wrong = [(n, got) for n, got in answers if not is_right(got)]
+    if wrong:
+        return f"allocation {wrong[0][0]}: {wrong[0][1]}"
+    # the calls are met by refusals, and not the test alone
+    return None if sum(got[0] == 0 for _, got in answers[:count]) else "each refusal ends the test"
+
+
+def main():
+    passed = failed = refusals = 0
+    with tempfile.TemporaryDirectory(prefix="pgboard-refused-") as room:
+        for binary in sorted(glob.glob(os.path.join(ROOT, "crates", "*", "out", "*_tests"))):
+            program = Program(binary, room)
+            for name in tests_of(binary):
+                why = fault(program, name)
+                passed, failed = passed + (not why), failed + bool(why)
+                if why:
+                    print(f"FAILED refused_calls/{os.path.basename(binary)} {name}: {why}")
+            refusals += program.refusals["REFUSE_ALLOC"]
+    if not passed and not failed:
+        print("FAILED refused_calls: no test program has a test in a module `memory`")
+        failed = 1
+    print(f"refused: {refusals} allocations of calls")
+    print(f"{passed} passed, {failed} failed")
+    return 1 if failed else 0
+
+
+if __name__ == "__main__":
+    sys.exit(main())
