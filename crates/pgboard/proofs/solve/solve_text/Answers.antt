@@ -9,7 +9,7 @@ write_winners-requires g c = exact_rows _ _ c.len-n.ensures.game c.in_ok-outcome
 pub returns-then-options : goal.returns-then-options
 returns-then-options g c =
     let winners : c.args.options.now.winners ≡ true = c.if-options.true in
-    subst (λ (b : Bool). IsSolveText b c.args.game.now c.in_ok-text.text.items) (sym winners) (winners_text _ _ _ c.in_ok-outcome.ensures.exact c.in_ok-text.ensures)
+    subst (λ (b : Bool). IsSolveText b c.args.game.now c.in_ok-text.text.items) (sym winners) (winners_text _ _ _ c.in_ok-outcome.ensures.exact c.in_ok-text.ensures.text)
 
 pub write_solution-requires : goal.write_solution-requires
 write_solution-requires g c = exact_rows _ _ c.len-n.ensures.game c.in_ok-outcome.ensures.exact
