@@ -1,6 +1,6 @@
 //! Games for the tests, and runs on them.
 
-ghost use Rattle.std.specs.Prelude.{◌≤◌, All, IfOk};
+ghost use Rattle.std.specs.Prelude.{◌≤◌, All, IfOk, length};
 ghost use Rattle.pg_game.specs.Specification.{AreNumbers};
 
 use crate::{Gate, Options, Outcome, Pass, solve_game};
@@ -58,7 +58,8 @@ pub fn gated_outcome<R: Threads + Wait + Sync>(
     gate: &impl Gate,
     finder: &impl Finder,
 ) -> Result<Outcome, Fail>
-    requires { (1 ≤ workers) × (workers ≤ 64) }
+    requires text { length text.now ≤ 268435456 }
+    requires workers { (1 ≤ workers) × (workers ≤ 64) }
 {
     let game = read_game(alloc, text)?;
     let options = Options {
@@ -77,7 +78,8 @@ pub fn outcome_of<R: Threads + Wait + Sync>(
     workers: u32,
     finder: &impl Finder,
 ) -> Result<Outcome, Fail>
-    requires { (1 ≤ workers) × (workers ≤ 64) }
+    requires text { length text.now ≤ 268435456 }
+    requires workers { (1 ≤ workers) × (workers ≤ 64) }
 {
     gated_outcome(rt, alloc, text, workers, &Pass, finder)
 }

@@ -25,7 +25,11 @@ fn totals_are_those_of_the_batches(rt: HostRuntime) {
 
 #[test]
 fn jobs_have_their_numbers(rt: HostRuntime) {
-    let options = with_bound(4);
+    let options = Options {
+        workers: 1,
+        bound: 4,
+        budget: 10_000,
+    };
     let job = |player: Player, first: u32, count: u32| -> Job {
         Job::Small {
             player,
@@ -40,5 +44,10 @@ fn jobs_have_their_numbers(rt: HostRuntime) {
     assert!(rt; options.job(65, 3) == job(Player::Odd, 0, 64));
     assert!(rt; options.job(65, 4) == job(Player::Even, 64, 1));
     assert!(rt; options.job(65, 6) == Job::Recursion);
-    assert!(rt; with_bound(0).job(65, 2) == Job::Recursion);
+    let without_batches = Options {
+        workers: 1,
+        bound: 0,
+        budget: 10_000,
+    };
+    assert!(rt; without_batches.job(65, 2) == Job::Recursion);
 }

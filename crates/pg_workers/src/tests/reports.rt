@@ -123,6 +123,15 @@ fn told(outcome: &Outcome, entry: usize) -> Option<(u32, Player, u32)> {
 }
 
 #[test]
+fn an_entry_names_the_worker_who_posted_it(rt: HostRuntime) -> Result<(), Fail> {
+    let outcome = outcome_of(&rt, rt.alloc(), TWO_LOOPS, 1, &Standard)?;
+    assert_eq!(rt; outcome.entries.len(), 2);
+    assert_eq!(rt; told(&outcome, 0), Some((1, EVEN, 0)));
+    assert_eq!(rt; told(&outcome, 1), Some((1, ODD, 1)));
+    Ok(())
+}
+
+#[test]
 fn the_calling_thread_posts_evens_claim_and_then_odds(rt: HostRuntime) -> Result<(), Fail> {
     let outcome = outcome_of(&rt, rt.alloc(), TWO_LOOPS, 1, &NoMemory)?;
     assert_eq!(rt; outcome.entries.len(), 2);
