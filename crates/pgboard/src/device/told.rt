@@ -1,5 +1,5 @@
 //! Runs over bytes in memory, whose devices tell them all: what the runs promise, said of the bytes themselves.
-ghost use Rattle.std.specs.Prelude.{◌≡◌, ◌≤◌, ◌≢◌, [], IfOk, IfErr, length};
+ghost use Rattle.std.specs.Prelude.{◌≡◌, ◌≤◌, IfOk, length};
 ghost use Rattle.pg_game.specs.Graph.{Graph};
 ghost use Rattle.pg_text.specs.Reading.{IsTextOf};
 ghost use Rattle.pg_text.specs.Winners.{IsWinnersText};
@@ -22,7 +22,6 @@ fn verdict_on(alloc: Global, game: &[u8], solution: &[u8]) -> Result<(Verdict, V
     ensures judged { IfOk result (λ r. IsJudged game.now solution.now r.0) }
     ensures written { IfOk result (λ r. r.1.items ≡ verdict_line r.0) }
     ensures within { IfOk result (λ r. (length game.now ≤ max_text) × (length solution.now ≤ max_text)) }
-    ensures no_device_fails { IfErr result (λ e. e ≢ RunFault.Read) }
 {
     let mut out = Std::new(Vec::new(alloc));
     let verdict = run_verify(
