@@ -6,7 +6,7 @@ use crate::tests::calls::{CALLS, Call};
 use crate::tests::games::{
     EVEN, ODD, claim_of, claim_of_loops, divided_game, layered_game, loops_game, shared_game,
 };
-use crate::{Office, Refusal, Share};
+use crate::{Board, Office, Refusal, Share};
 use pg_dominion::{Claim, check_claim};
 use pg_game::{Game, Player};
 use std::alloc::Global;
@@ -62,6 +62,32 @@ fn settle_by_two<L: Ledger, R: Wait + Abort>(
     assert_eq!(rt; board.settled(), 3);
     assert_eq!(rt; board.settled_by(1), 2);
     assert_eq!(rt; board.settled_by(2), 1);
+    Ok(())
+}
+
+#[test]
+fn an_office_opens_round_a_board_with_what_is_settled_on_it(rt: HostRuntime) -> Result<(), Fail> {
+    let alloc = rt.alloc();
+    let game = shared_game(alloc)?;
+    open_round_a_board::<Brand>(&rt, alloc, Blank::new(2), &game)
+}
+
+fn open_round_a_board<L: Ledger>(
+    rt: &impl Abort,
+    alloc: Global,
+    blank: Blank,
+    game: &Game,
+) -> Result<(), Fail>
+    requires name { blank.name ≡ L.name }
+    requires parts { (blank.parts ≡ L.parts) × (blank.parts ≡ 2) }
+{
+    let mut board = Board::open(alloc, game)?;
+    let even = claim_of(alloc, EVEN, &[(0, Some(0))])?;
+    assert!(rt; board.post(alloc, 0, &even).is_ok());
+    let (office, shares) = Office::<L>::open_with(alloc, blank, board, 2)?;
+    let amounts = [shares[0].amount(), shares[1].amount()];
+    assert_eq!(rt; amounts, [2, 0]);
+    assert_eq!(rt; office.close(shares).settled(), 2);
     Ok(())
 }
 
