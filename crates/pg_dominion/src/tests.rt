@@ -2,6 +2,7 @@
 
 mod attractions;
 mod bodies;
+mod checked;
 mod claims;
 mod games;
 mod reference;

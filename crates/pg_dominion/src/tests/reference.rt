@@ -44,6 +44,11 @@ impl Small {
         Ok(Small { rows })
     }
 
+    /// The game with these rows: priority, owner and set of successors.
+    pub fn of(rows: Vec<(u32, Player, u32)>) -> Small {
+        Small { rows }
+    }
+
     /// Whether all priorities are 0.
     pub fn is_arena(&self) -> bool {
         for row in self.rows.as_slice() {
@@ -188,6 +193,25 @@ impl Small {
             }
         }
         Ok(None)
+    }
+
+    /// The vertex of the first row of a claim of this game of which the other game says something else: that there is no
+    /// such vertex, another owner or priority, that the choice is no successor, or, where there is no choice, that the
+    /// successors are others.
+    pub fn first_foreign(&self, other: &Small, rows: &[(u32, Option<u32>)]) -> Option<u32> {
+        for (v, choice) in rows {
+            let same_kept = match *choice {
+                Some(w) => has(other.successors(*v), w),
+                None => self.successors(*v) == other.successors(*v),
+            };
+            let same_vertex = *v < other.len()
+                && self.owner(*v) == other.owner(*v)
+                && self.priority(*v) == other.priority(*v);
+            if !same_vertex || !same_kept {
+                return Some(*v);
+            }
+        }
+        None
     }
 
     /// What is wrong first with winners and choices. Identifiers are the vertices.
