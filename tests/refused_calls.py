@@ -24,10 +24,14 @@ def tests_of(binary):
     return sorted(set(re.findall(r"\b(?:\w+::)*memory::\w+", (listed.stdout + listed.stderr).decode())))
 
 
+# how a test program says that its test answered that memory was refused
+NO_MEMORY = re.compile(rb"error: (AllocError|AllocFailed \{ \.\. \}|Memory|\w+\(Memory\)|no memory|"[^"]*, which ample memory allows")\nthe test failed: its result gives status 1\n")
+
+
 def is_right(got):
     """Whether a test passed, or ended for want of memory."""
-    status, out, err = got
-    return status == 0 or status == 1 and re.search(rb"memory|Memory|AllocError", out + err)
+    status, _, err = got
+    return status == 0 or status == 101 and NO_MEMORY.fullmatch(err)
 
 
 def fault(program, name):
