@@ -25,7 +25,10 @@ def tests_of(binary):
 
 
 # how a test program says that its test answered that memory was refused
-NO_MEMORY = re.compile(rb"error: (AllocError|AllocFailed \{ \.\. \}|Memory|\w+\(Memory\)|no memory|"[^"]*, which ample memory allows")\nthe test failed: its result gives status 1\n")
+NO_MEMORY = re.compile(
+    rb"error: (AllocError|AllocFailed \{ \.\. \}|Memory|\w+\(Memory\)|no memory|\x22[^\x22]*, which ample memory allows\x22)\n"
+    rb"the test failed: its result gives status 1\n"
+)
 
 
 def is_right(got):
