@@ -26,7 +26,7 @@ def tests_of(binary):
 
 # how a test program says that its test answered that memory was refused
 NO_MEMORY = re.compile(
-    rb"error: (AllocError|AllocFailed \{ \.\. \}|Memory|\w+\(Memory\)|no memory|\x22[^\x22]*, which ample memory allows\x22)\n"
+    rb"error: (AllocError|AllocFailed \{ \.\. \}|Memory|\w+\(Memory\)|no memory|\x22the claim is not checked, which ample memory allows\x22)\n"
     rb"the test failed: its result gives status 1\n"
 )
 
