@@ -26,6 +26,7 @@ LINES = [
     *(f"game: vertex V: {it}" for it in ("specified twice", "no successor", "successor W is not specified")),
     *(f"solution: byte AT: {it}" for it in (*PLACES, "winner is not 0 or 1")),
     *(f"solution: vertex V: {it}" for it in ("not in the game", "written twice", "not written")),
+    *(f"known: {it}" for it in ("bad choice or none at V", "bad cycle at V", "V is lost", "V leaves to W")),
     *("text too long", "read fault", "write fault", "no memory"),
     *(f"not a solution: {it}" for it in ("no choice at V", "bad choice at V", "V leaves to W", "bad cycle at V")),
 ]

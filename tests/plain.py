@@ -103,8 +103,9 @@ def game_of(text):
     return game
 
 
-def solution_of(game, text):
-    """Returns the solution, a dictionary from identifiers to (winner, choice or None), or a refusal."""
+def known_of(game, text):
+    """Returns what a solution text says that may leave vertices out, a dictionary from identifiers to (winner, choice or
+    None), or a refusal."""
     found, fault = token_fault(text, SOLUTION)
     if fault:
         return fault
@@ -121,6 +122,14 @@ def solution_of(game, text):
         if id in solution:
             return f"vertex {id}: written twice"
         solution[id] = winner, choice[0] if choice else None
+    return solution
+
+
+def solution_of(game, text):
+    """The same of a text that has to name all vertices."""
+    solution = known_of(game, text)
+    if isinstance(solution, str):
+        return solution
     for id in sorted(game):
         if id not in solution:
             return f"vertex {id}: not written"
@@ -135,10 +144,11 @@ def kept(game, solution, id):
 
 
 def is_greatest_on_a_closed_walk(game, solution, id):
-    """Whether a walk of kept edges leads from the vertex to itself over vertices of no greater priority."""
+    """Whether a walk of kept edges leads from the vertex to itself over vertices of no greater priority that the solution
+    names, which may be some of the game's."""
     reached, last = set(), {id}
     while last:
-        last = {to for at in last for to in kept(game, solution, at) if game[to][0] <= game[id][0]} - reached
+        last = {to for at in last for to in kept(game, solution, at) if to in solution and game[to][0] <= game[id][0]} - reached
         reached |= last
     return id in reached
 
@@ -161,6 +171,48 @@ def verdict(game, solution):
         if game[id][0] % 2 != solution[id][0] and is_greatest_on_a_closed_walk(game, solution, id):
             return f"not a solution: bad cycle at {id}\n"
     return "ok\n"
+
+
+def known_fault(game, known):
+    """What is wrong first with what is known, or None: Even's set and then Odd's, each by kind, then by identifier."""
+    won = set()
+    for player in (0, 1):
+        part = {id: known[id] for id in sorted(known) if known[id][0] == player}
+        why = known_set_fault(game, part, player, won)
+        if why:
+            return why
+        won = attracted(game, set(part), player)
+    return None
+
+
+def known_set_fault(game, part, player, lost):
+    """What is wrong first with a player's known set, of which the lost vertices are the opponent's, or None."""
+    for id in part:
+        if game[id][1] == player and part[id][1] not in game[id][2]:
+            return f"bad choice or none at {id}"
+    for id in part:
+        if game[id][0] % 2 != player and is_greatest_on_a_closed_walk(game, part, id):
+            return f"bad cycle at {id}"
+    for id in part:
+        if id in lost:
+            return f"{id} is lost"
+    for id in part:
+        for to in sorted(kept(game, part, id)):
+            if to not in part:
+                return f"{id} leaves to {to}"
+    return None
+
+
+def is_known_region(game, known, player):
+    """Whether a player's known set is a region of his, by the definition: the choices are successors, no kept edge leaves
+    the set, and each closed walk of kept edges is his."""
+    part = {id: row for id, row in known.items() if row[0] == player}
+    own = [id for id in part if game[id][1] == player]
+    return (
+        all(part[id][1] in game[id][2] for id in own)
+        and all(kept(game, part, id) <= set(part) for id in part)
+        and not any(game[id][0] % 2 != player and is_greatest_on_a_closed_walk(game, part, id) for id in part)
+    )
 
 
 def written_game(game):

@@ -5,11 +5,14 @@
 
 Each game goes through `tidy` and `verify` (with right and wrong solutions), its texts also with random damage; the
 answers have to be those of plain.py, byte by byte, and the comparator's. What `solve` and `trace` write is read back
-and judged by the definitions. The same seed gives the same games. The last line is 'N passed, M failed'.
+and judged by the definitions, and so is what `solve` writes from parts of a solution; parts with a fault in them have to
+be refused for the first one. Of some games each part of each player's winning region is handed in: it is taken exactly
+where it is a region. The same seed gives the same games. The last line is 'N passed, M failed'.
 """
 
 import argparse
 import concurrent.futures
+import itertools
 import os
 import random
 import subprocess
@@ -200,6 +203,56 @@ def solve_fault(programs, text, game, chance):
     return programs.differs(["solve", "--winners"], text, wanted)
 
 
+def known_fault(programs, text, game, known_text, chance):
+    """Judges what the program writes from a text of what is known."""
+    programs.put("part.sol", known_text)
+    words = ["solve", "--known", "part.sol", "--workers", chance.choice("1234"), "--bound", chance.choice("048")]
+    got = programs.run(programs.binary, words, text)
+    known = plain.known_of(game, known_text)
+    if isinstance(known, str):
+        wanted = refused("solution", known)
+        return None if got == wanted else f"{known_text}: {got}, and not {wanted}"
+    why = plain.known_fault(game, known)
+    if (why is None) != all(plain.is_known_region(game, known, player) for player in (0, 1)):
+        return f"the definitions differ on {known}: {why}"
+    if why:
+        wanted = 1, b"", f"pgboard: known: {why}\n".encode()
+        return None if got == wanted else f"{known_text}: {got}, and not {wanted}"
+    solution = plain.solution_of(game, got[1]) if got[0] == 0 and not got[2] else str(got)
+    if isinstance(solution, str) or plain.verdict(game, solution) != "ok\n" or plain.written_solution(game, solution).encode() != got[1]:
+        return f"from {known_text}: {got}, {solution}"
+    kept = {id: (winner, choice if game[id][1] == winner else None) for id, (winner, choice) in known.items()}
+    other = {id: solution[id] for id in kept if solution[id] != kept[id]}
+    return f"from {known_text} it has {other}" if other else None
+
+
+def some_of(chance, solution):
+    """Some lines of a solution."""
+    return {id: row for id, row in solution.items() if chance.random() < 0.6}
+
+
+def faulty(chance, game, known):
+    """What is known, with one line changed: another winner, another choice or none."""
+    if not known:
+        return known
+    id = chance.choice(list(known))
+    winner, choice = known[id]
+    row = chance.choice([(1 - winner, choice), (winner, None), (winner, chance.choice(list(game[id][2]))), (winner, chance.choice(list(game)))])
+    return {**known, id: row}
+
+
+def each_part_fault(programs, text, game, solution, chance):
+    """Each part of a player's winning region is taken exactly where it is a region."""
+    for player in (0, 1):
+        region = [id for id in game if solution[id][0] == player]
+        for count in range(1, len(region) + 1):
+            for ids in itertools.combinations(region, count):
+                why = known_fault(programs, text, game, random_solution_text(chance, {id: solution[id] for id in ids}), chance)
+                if why:
+                    return why
+    return None
+
+
 def trace_fault(programs, text, game, chance):
     """Judges what the program's own `trace` writes."""
     workers = chance.choice([1, 2, 4, 64])
@@ -218,7 +271,16 @@ def faults(programs, chance):
         solution_text = random_solution_text(chance, solution)
         yield "verify", verify_fault(programs, text, solution_text, chance.random() < 0.5)
     yield "verify of a damaged text", verify_fault(programs, text, damaged(chance, solution_text), False)
-    if plain.verdict(game, right_solution(game)) != "ok\n":
+    right = right_solution(game)
+    part = some_of(chance, right)
+    yield "solve from a part", known_fault(programs, text, game, random_solution_text(chance, part), chance)
+    wrong = random_solution_text(chance, faulty(chance, game, part))
+    yield "solve from a part with a fault", known_fault(programs, text, game, wrong, chance)
+    yield "solve from some of a random solution", known_fault(programs, text, game, random_solution_text(chance, some_of(chance, random_solution(chance, game))), chance)
+    yield "solve from a damaged text", known_fault(programs, text, game, damaged(chance, wrong), chance)
+    if chance.random() < 0.03:
+        yield "solve from each part of a region", each_part_fault(programs, text, game, right, chance)
+    if plain.verdict(game, right) != "ok\n":
         yield "the definitions", f"the solution found by trying all choices of {game} is none"
     yield "solve", solve_fault(programs, text, game, chance)
     yield "trace", trace_fault(programs, text, game, chance)

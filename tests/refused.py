@@ -126,6 +126,12 @@ RUNS = {
     "tidy, an unknown successor": (["tidy"], b"0 0 0 7;", is_exactly(3, b"", b"pgboard: game: vertex 0: successor 7 is not specified\n")),
     **{f"solve {name} by {n}": (["solve", "--workers", n], text, is_solution(text)) for name, text in GAMES.items() for n in ("1", "2")},
     **{f"trace {name} by {n}": (["trace", "--workers", n], text, is_trace(text, int(n))) for name, text in GAMES.items() for n in ("1", "2")},
+    "solve from what is known": (["solve", "--workers", "1", "--known", "part.sol"], LAYERS, is_solution(LAYERS)),
+    "solve one each from what is known, by 2": (["solve", "--workers", "2", "--known", "odd.sol", "game.pg"], b"", is_solution(ONE_EACH)),
+    "solve, a known set with an edge out": (["solve", "--known", "open.sol"], LAYERS, is_exactly(1, b"", b"pgboard: known: 2 leaves to 1\n")),
+    "solve, a known vertex without choice": (["solve", "--known", "choice.sol"], LAYERS, is_exactly(1, b"", b"pgboard: known: bad choice or none at 1\n")),
+    "solve, a known stranger": (["solve", "--known", "stranger.sol", "game.pg"], b"", is_exactly(3, b"", b"pgboard: solution: vertex 7: not in the game\n")),
+    "solve, a missing known file": (["solve", "--known", "none.sol", "game.pg"], b"", is_exactly(4, b"", b"pgboard: read fault\n")),
     "winners of the continents": (["solve", "--winners"], CONTINENTS, is_exactly(0, b"paritysol 4;\n0 0;\n1 0;\n2 0;\n3 0;\n4 0;\n")),
     "solve without small dominions": (["solve", "--bound", "0", "--workers", "1"], CONTINENTS, is_solution(CONTINENTS)),
     "--version": (["--version"], b"", is_exactly(0, b"pgboard 0.1.0\n")),
@@ -202,10 +208,13 @@ def each_read(program):
         whole = program.run(words, text, PIECE=1)
         if whole[0] != 0:
             return f"{words}, byte by byte: {whole}"
-    files = ["verify", "game.pg", "game.sol"]
-    for n, got in program.each("REFUSE_READ", range(1, len(ONE_EACH) + len(HOLDS) + 3), files, PIECE=1):
-        if got != READ_FAULT:
-            return f"{files}, read {n}: {got}"
+    for files in (["verify", "game.pg", "game.sol"], ["solve", "--known", "game.sol", "game.pg"]):
+        for n, got in program.each("REFUSE_READ", range(1, len(ONE_EACH) + len(HOLDS) + 3), files, PIECE=1):
+            if got != READ_FAULT:
+                return f"{files}, read {n}: {got}"
+        whole = program.run(files, PIECE=1)
+        if whole[0] != 0:
+            return f"{files}, byte by byte: {whole}"
     return None
 
 
@@ -248,6 +257,7 @@ def main():
     with tempfile.TemporaryDirectory(prefix="pgboard-refused-") as room:
         program = Program(os.path.abspath(given.binary), room)
         texts = {"game.pg": ONE_EACH, "game.sol": HOLDS, "wrong.sol": NO_CHOICE, "stranger.sol": b"0 0 0; 7 0;", "owner.pg": b"0 0 2 0;"}
+        texts = {**texts, "part.sol": b"0 0 0;", "odd.sol": b"1 1 1;", "open.sol": b"2 0;", "choice.sol": b"1 0;"}
         for name, text in {**texts, "continents.pg": CONTINENTS, "cycle.sol": b"0 0; 1 0; 2 0 0; 3 0 4; 4 0;"}.items():
             program.put(name, text)
         for name, case in cases(program):

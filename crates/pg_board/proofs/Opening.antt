@@ -16,7 +16,7 @@ use Rattle.pg_board.specs.declared.entry.Entry.{Entry}
 use Rattle.pg_board.specs.State.{choices, IsLawfulState}
 use Rattle.pg_board.specs.Journal.{state_of, IsLawful}
 
-none_distinct : IsDistinct nat_eq []
+pub none_distinct : IsDistinct nat_eq []
 unfolding IsDistinct
 none_distinct = tt
 
@@ -25,7 +25,7 @@ no_edge g p s [] c = c
 no_edge g p s (v ∷ []) c = let h : false ≡ true = c.0 in cc h
 no_edge g p s (v ∷ w ∷ ws) c = let h : false ≡ true = c.0.0 in cc h
 
-no_region : (g : Graph) (p : Player) (s : Choices) → IsRegion g p no_vertices s
+pub no_region : (g : Graph) (p : Player) (s : Choices) → IsRegion g p no_vertices s
 no_region g p s = record {
   vertices = λ v i. absurd (let h : false ≡ true = i in cc h);
   choices = λ v i o. absurd (let h : false ≡ true = i in cc h);
@@ -34,7 +34,7 @@ no_region g p s = record {
 }
 
 module _ (g : Graph) (game : IsGame g) where
-  attracts_none : (p : Player) (v : ℕ) → Attractor g p (all_vertices g) no_vertices v → In no_vertices v
+  pub attracts_none : (p : Player) (v : ℕ) → Attractor g p (all_vertices g) no_vertices v → In no_vertices v
   attracts_none p v a = a no_vertices (record {
     target = λ x i. i;
     own = λ x w i o e h. h;

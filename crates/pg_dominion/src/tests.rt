@@ -5,6 +5,7 @@ mod bodies;
 mod checked;
 mod claims;
 mod games;
+mod memory;
 mod reference;
 mod solutions;
 mod subgames;

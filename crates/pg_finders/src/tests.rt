@@ -7,6 +7,7 @@ mod claims;
 mod dominions;
 mod finders;
 mod games;
+mod memory;
 mod reference;
 mod searches;
 mod standard;

@@ -16,11 +16,16 @@ pub mod Parts
 pub mod Look
 pub mod Seen
 pub mod Places
+pub mod Indexed
 pub mod Sums
 pub mod Unknown
 pub mod Sound
 pub mod Rising
+pub mod Back
 pub mod Made
+pub mod Plain
+pub mod Pushed
+pub mod Taken
 pub mod Sorting
 pub mod Described
 pub mod Filled

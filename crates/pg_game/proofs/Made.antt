@@ -1,10 +1,10 @@
 -- The game that is made of specifications without fault.
-use Rattle.std.proofs.Common.{◌≡◌, ℕ, ◌+◌, ◌<◌, ◌≤◌, ◌⊎◌, inl, inr, true, List, [], ◌∷◌, length, map, get_or, refl, sym, ◌∙◌, ap, subst, arith}
+use Rattle.std.proofs.Common.{◌≡◌, ℕ, ◌+◌, ◌<◌, ◌≤◌, true, List, [], ◌∷◌, length, map, get_or, refl, sym, ◌∙◌, ap, subst, arith}
 use Rattle.std.specs.Prelude.{All, Some, slice_get, sum_by}
 use Rattle.std.specs.List.{Contains}
 use Rattle.std.specs.List.Sorted.{IsStrictlyIncreasing, IsPermutation}
 use Rattle.std.proofs.lemmas.Bool.{eqb-true}
-use Rattle.std.proofs.lemmas.List.{length-map, get_or-map, get_or_default, get_or_past}
+use Rattle.std.proofs.lemmas.List.{length-map, get_or-map, get_or_default}
 use Rattle.std.proofs.lemmas.List.Elements.{Contains-get_or}
 use Rattle.std.proofs.lemmas.List.Sorted.{length_permutation, Contains-permutation, IsPermutation-sym, IsPermutation-map, All-permutation, sum_by-IsPermutation}
 use Rattle.std.proofs.lemmas.List.Sums.{sum_by-cons}
@@ -24,8 +24,8 @@ use Rattle.pg_game.specs.Stored.{AreParts}
 use Rattle.pg_game.proofs.Sound.{IsSound, each_has, each_known}
 use Rattle.pg_game.proofs.Rising.{number_is}
 use Rattle.pg_game.proofs.Unknown.{specified_is}
-use Rattle.pg_game.proofs.Members.{Contains-nil}
 use Rattle.pg_game.proofs.Different.{different_within}
+use Rattle.pg_game.proofs.Back.{back_of}
 use Rattle.pg_game.proofs.Look as look
 use Rattle.pg_game.proofs.Parts.{ids-graph_of, priorities-graph_of, rows-graph_of}
 
@@ -44,12 +44,9 @@ pub record IsLaid (specs sorted : List Spec) (ids : List ℕ) (rows : List (List
 abbrev pub no_spec : Spec
 no_spec = record { id = 0; priority = 0; owner = Even; successors = [] }
 
-sum-map : (g : Graph) → sum_by (λ (x : Vertex). length x.successors) g ≡ size_of (map (λ (x : Vertex). x.successors) g)
+pub sum-map : (g : Graph) → sum_by (λ (x : Vertex). length x.successors) g ≡ size_of (map (λ (x : Vertex). x.successors) g)
 sum-map [] = refl
 sum-map (x ∷ g) = sum_by-cons (λ (y : Vertex). length y.successors) x g ∙ (ap (λ n. length x.successors + n) (sum-map g) ∙ sym (sum_by-cons (λ (r : List ℕ). length r) x.successors (map (λ (y : Vertex). y.successors) g)))
-
-below_or : (a b : ℕ) → (a < b) ⊎ (b ≤ a)
-below_or a b = grind arith
 
 module _ (specs sorted : List Spec) (ids : List ℕ) (rows : List (List ℕ)) (laid : IsLaid specs sorted ids rows) where
   abbrev ps : List ℕ
@@ -185,14 +182,4 @@ module _ (specs sorted : List Spec) (ids : List ℕ) (rows : List (List ℕ)) (l
 
   -- who has a row's number among his successors
   pub made_back : (w : ℕ) (us : List ℕ) → AreSources rows w us → ArePredecessors g w us
-  made_back w us a = record {
-    below = λ k l. (let m = (a.exact (get_or us k 0)).0 (Contains-get_or us k 0 l) in let h = begins (get_or us k 0) w m in omega (arith, h, laid.size, length_ids, length_g));
-    rising = a.rising;
-    exact = λ u. rw (row_is u) (a.exact u);
-  }
-    where
-      begins : (u x : ℕ) → Contains (row_at rows u) x → u < length rows
-      begins u x m = elim (below_or u (length rows)) [
-        | inl l ↦ l
-        | inr l ↦ absurd (let e : row_at rows u ≡ [] = get_or_past rows u [] l in Contains-nil x (subst (λ (xs : List ℕ). Contains xs x) e m))
-      ]
+  made_back w us a = back_of ids ps os rows parts w us a

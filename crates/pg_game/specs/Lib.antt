@@ -17,3 +17,5 @@ pub mod Identifiers
 pub mod Rows
 pub mod Described
 pub mod Same
+pub mod Names
+pub mod Flat

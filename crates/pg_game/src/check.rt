@@ -7,12 +7,9 @@ ghost use Rattle.pg_game.specs.Identifiers.{ids_of};
 
 use crate::faults::{count_edges, count_priorities, first_unknown, first_without, identifiers};
 use crate::game::{GameFault, Spec};
+use crate::limits::{MAX_PRIORITIES, MAX_VERTICES};
 use indexmap::IndexSet;
 use std::alloc::Global;
-
-const MAX_VERTICES: usize = 65_536;
-
-const MAX_PRIORITIES: usize = 4_096;
 
 /// The identifiers in their order, and a bound on the number of edges. Refused by the first fault, or for want of memory.
 pub fn check(alloc: Global, specs: &[Spec]) -> Result<(IndexSet<u32>, u32), GameFault>

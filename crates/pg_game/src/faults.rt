@@ -9,12 +9,10 @@ ghost use Rattle.pg_game.specs.Identifiers.{ids_of, priorities_of, twice_of, fir
 use crate::Memory;
 use crate::game::{GameFault, Spec};
 use crate::layout::priorities;
+use crate::limits::MAX_EDGES;
 use crate::lookup::is_known;
 use indexmap::IndexSet;
 use std::alloc::Global;
-
-/// The greatest number of edges of a game.
-const MAX_EDGES: usize = 1_048_576;
 
 /// The identifiers in their order. Refused where one stands earlier in the list, and for want of memory.
 pub fn identifiers(alloc: Global, specs: &[Spec]) -> Result<IndexSet<u32>, GameFault>

@@ -12,8 +12,9 @@ ghost use Rattle.pg_game.specs.Graph.{IsGame, id_of, priority_of, owner_of, succ
 use crate::Memory;
 use crate::adjacency::Adjacency;
 use crate::check::check;
+use crate::flat::{Listed, Specs};
 use crate::layout::{owners, priorities, successors};
-use crate::lookup::is_at_own_place;
+use crate::names::Names;
 use crate::player::Player;
 use crate::sequence::Sequence;
 use indexmap::IndexSet;
@@ -85,7 +86,7 @@ impl<T: Drop> From<AllocFailed<T>> for GameFault {
 
 /// A parity game.
 pub struct Game {
-    ids: IndexSet<u32>,
+    ids: Names,
     priorities: Vec<u32>,
     owners: Vec<Player>,
     successors: Adjacency,
@@ -100,9 +101,9 @@ impl Model for Game {
     ghost use Rattle.pg_game.specs.View.{graph_of};
     ghost use Rattle.pg_game.specs.Stored.{IsStored};
 
-    ghost view = { λ g. graph_of g.ids.keys g.priorities.items g.owners.items g.successors };
+    ghost view = { λ g. graph_of g.ids g.priorities.items g.owners.items g.successors };
 
-    ghost invariant = { λ g. IsStored g.ids.keys g.priorities.items g.owners.items g.successors g.predecessors };
+    ghost invariant = { λ g. IsStored g.ids g.priorities.items g.owners.items g.successors g.predecessors };
 }
 
 /// By hand, so that letting a game go is one step in the proofs of callers, and not one for each part of each field.
@@ -129,6 +130,44 @@ impl Game {
         Ok(Game::lay_out(alloc, specs, ids, edges)?)
     }
 
+    /// The game of these specifications, as `from_specs` makes it. Where their identifiers are 0, 1 and so on and their
+    /// successors rise, their lists are the game's.
+    pub fn from_rows(alloc: Global, specs: Specs) -> Result<Game, GameFault>
+        requires { All AreNumbers specs }
+        ensures game { IfOk result (λ g. IsGame g × IsGameOf specs g × (first_fault specs ≡ None)) }
+        ensures fault { IfErr result (λ e. OrMemory (first_fault specs ≡ Some e) e) }
+    {
+        match specs.into_listed() {
+            Ok(listed) => Ok(Game::of_listed(alloc, listed)?),
+            Err(specs) => {
+                let items = specs.to_vec(alloc)?;
+                drop(specs);
+                Game::from_specs(alloc, items)
+            }
+        }
+    }
+
+    /// The same game with its predecessors. `Memory` is its one refusal.
+    fn of_listed(alloc: Global, listed: Listed) -> Result<Game, Memory>
+        ensures { IfOk result (λ g. g ≡ listed) }
+    {
+        let Listed {
+            ids,
+            priorities,
+            owners,
+            rows,
+        } = listed;
+        let predecessors = rows.reversed(alloc)?;
+        let ids = Names::of_places(alloc, ids);
+        Ok(Game {
+            ids,
+            priorities,
+            owners,
+            successors: rows,
+            predecessors,
+        })
+    }
+
     /// The game of specifications without fault. `Memory` is its one refusal.
     fn lay_out(
         alloc: Global,
@@ -147,6 +186,7 @@ impl Game {
         ids.sort_unstable()?;
         specs.sort_unstable_by_key(|s| s.id);
         let successors = successors(alloc, &ids, specs.as_slice(), edge_count)?;
+        let ids = Names::of_index(alloc, ids)?;
         Ok(Game {
             priorities: priorities(alloc, specs.as_slice())?,
             owners: owners(alloc, specs.as_slice())?,
@@ -179,7 +219,7 @@ impl Game {
         ensures game { IsGame self.now }
         ensures limits { IsWithinLimits self.now }
     {
-        self.ids.len() as u32
+        self.ids.as_slice().len() as u32
     }
 
     /// The identifier of a vertex.
@@ -197,10 +237,7 @@ impl Game {
         ensures found { IfSome result (λ v. (v < length self.now) × (id_of self.now v ≡ id)) }
         ensures missing { IfNone result ((v : ℕ) → v < length self.now → id_of self.now v ≡ id → ⊥) }
     {
-        if is_at_own_place(&self.ids, id) {
-            return Some(id);
-        }
-        match self.ids.get_index_of(&id) {
+        match self.ids.place_of(id) {
             Some(v) => Some(v as u32),
             None => None,
         }

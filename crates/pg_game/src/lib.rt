@@ -5,15 +5,19 @@
 mod adjacency;
 mod check;
 mod faults;
+mod flat;
 mod game;
 mod layout;
+mod limits;
 mod lookup;
 mod mask;
+mod names;
 mod player;
 mod sequence;
 #[cfg(test)]
 mod tests;
 
+pub use flat::Specs;
 pub use game::{Game, GameFault, Spec};
 pub use mask::Mask;
 pub use player::Player;

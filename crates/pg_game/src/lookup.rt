@@ -4,17 +4,29 @@
 ghost use Rattle.std.specs.Prelude.{◌≡◌, ◌<◌, ◌↔◌, IsTrue, length, nat_eq, position, slice_index};
 ghost use Rattle.std.specs.List.{list_any};
 ghost use Rattle.std.specs.List.Sorted.{IsStrictlyIncreasing};
+ghost use Rattle.pg_game.specs.Names.{AreOwnPlaces};
 
 use indexmap::IndexSet;
 
+/// Whether each identifier stands at the place that is its own number.
+pub fn are_own_places(ids: &[u32]) -> bool
+    ensures { IsTrue result → AreOwnPlaces ids.now }
+{
+    'ids: for v in 0..ids.len() {
+        if ids[v] as usize != v {
+            return false;
+        }
+    }
+    true
+}
+
 /// Whether the identifier stands at the place that is its own number.
 #[inline]
-pub fn is_at_own_place(ids: &IndexSet<u32>, id: u32) -> bool
-    ensures { IsTrue result ↔ ((id < length ids.now.keys) × (slice_index ids.now.keys id ≡ id)) }
+pub fn is_at_own_place(ids: &[u32], id: u32) -> bool
+    ensures { IsTrue result ↔ ((id < length ids.now) × (slice_index ids.now id ≡ id)) }
 {
-    let keys = ids.as_slice();
     let at = id as usize;
-    at < keys.len() && keys[at] == id
+    at < ids.len() && ids[at] == id
 }
 
 /// Whether the identifier is one of these.
@@ -22,7 +34,7 @@ pub fn is_at_own_place(ids: &IndexSet<u32>, id: u32) -> bool
 pub fn is_known(ids: &IndexSet<u32>, id: u32) -> bool
     ensures { result ≡ list_any (nat_eq id) ids.now.keys }
 {
-    if is_at_own_place(ids, id) {
+    if is_at_own_place(ids.as_slice(), id) {
         return true;
     }
     ids.contains(&id)
@@ -34,7 +46,7 @@ pub fn place_of(ids: &IndexSet<u32>, id: u32) -> Option<usize>
     requires { IsStrictlyIncreasing ids.now.keys }
     ensures { result ≡ position (nat_eq id) ids.now.keys }
 {
-    if is_at_own_place(ids, id) {
+    if is_at_own_place(ids.as_slice(), id) {
         return Some(id as usize);
     }
     ids.get_index_of(&id)

@@ -3,7 +3,9 @@
 ghost use Rattle.std.specs.Prelude.{◌<◌, length, All, IfOk};
 ghost use Rattle.pg_game.specs.Specification.{AreNumbers};
 
-use crate::{Game, GameFault, Mask, Player, Sequence, Spec};
+mod memory;
+
+use crate::{Game, GameFault, Mask, Player, Sequence, Spec, Specs};
 use std::alloc::Global;
 use std::process::Abort;
 use std::test::Fail;
@@ -50,6 +52,31 @@ fn specs_of(alloc: Global, rows: &[Row]) -> Result<Vec<Spec>, Fail>
     Ok(specs)
 }
 
+/// Adds a specification to flat lists, with numbers cut down to the greatest.
+fn add_flat(flat: &mut Specs, spec: &Spec) -> Result<(), Fail>
+    requires { All AreNumbers flat.old }
+    ensures { All AreNumbers flat.new }
+{
+    flat.push(
+        spec.id.min(2_147_483_647),
+        spec.priority.min(2_147_483_647),
+        spec.owner,
+        spec.successors.as_slice(),
+    )?;
+    Ok(())
+}
+
+/// The same specifications in flat lists.
+fn flat_of(alloc: Global, specs: &[Spec]) -> Result<Specs, Fail>
+    ensures { IfOk result (λ flat. All AreNumbers flat) }
+{
+    let mut flat = Specs::with_capacity(alloc, 2, 2)?;
+    'specs: for spec in specs {
+        add_flat(&mut flat, spec)?;
+    }
+    Ok(flat)
+}
+
 /// As many vertices, each with the first `degree` as successors and its number as priority, but at most the last.
 fn dense(alloc: Global, n: u32, degree: u32, last: u32) -> Result<Vec<Spec>, Fail>
     ensures { IfOk result (λ specs. All AreNumbers specs.items) }
@@ -75,11 +102,27 @@ fn game_of(alloc: Global, rows: &[Row]) -> Result<Game, Fail> {
     Ok(Game::from_specs(alloc, specs_of(alloc, rows)?)?)
 }
 
+/// The game of the same rows in flat lists.
+fn flat_game_of(alloc: Global, rows: &[Row]) -> Result<Game, Fail> {
+    let specs = specs_of(alloc, rows)?;
+    Ok(Game::from_rows(alloc, flat_of(alloc, specs.as_slice())?)?)
+}
+
 /// The answer, without the game.
 fn fault_of(alloc: Global, specs: Vec<Spec>) -> Option<GameFault>
     requires { All AreNumbers specs.items }
 {
     match Game::from_specs(alloc, specs) {
+        Ok(_) => None,
+        Err(fault) => Some(fault),
+    }
+}
+
+/// The answer to specifications in flat lists, without the game.
+fn fault_of_rows(alloc: Global, specs: Specs) -> Option<GameFault>
+    requires { All AreNumbers specs }
+{
+    match Game::from_rows(alloc, specs) {
         Ok(_) => None,
         Err(fault) => Some(fault),
     }
@@ -108,9 +151,75 @@ fn a_game_with_gaps_goes_by_rising_identifier(rt: HostRuntime) -> Result<(), Fai
     Ok(())
 }
 
-/// Asks for the fault of these rows.
+#[test]
+fn a_game_in_order_has_no_need_of_an_index(rt: HostRuntime) -> Result<(), Fail> {
+    let rows: [Row; 3] = [
+        (0, 4_095, ODD, &[1, 2]),
+        (1, 0, EVEN, &[1]),
+        (2, 1, EVEN, &[0, 1, 2]),
+    ];
+    let game = flat_game_of(rt.alloc(), &rows)?;
+    assert_eq!(rt; game.len(), 3);
+    look(&rt, &game, 0, (0, 4_095, ODD, &[1, 2]), &[2]);
+    look(&rt, &game, 1, (1, 0, EVEN, &[1]), &[0, 1, 2]);
+    look(&rt, &game, 2, (2, 1, EVEN, &[0, 1, 2]), &[0, 2]);
+    for id in [3, 2_147_483_647] {
+        assert_eq!(rt; game.vertex_of(id), None);
+    }
+    Ok(())
+}
+
+#[test]
+fn rows_with_gaps_go_by_rising_identifier(rt: HostRuntime) -> Result<(), Fail> {
+    let rows: [Row; 2] = [(9, 2, ODD, &[3, 3, 9]), (3, 1, EVEN, &[9])];
+    let game = flat_game_of(rt.alloc(), &rows)?;
+    assert_eq!(rt; game.len(), 2);
+    look(&rt, &game, 0, (3, 1, EVEN, &[1]), &[1]);
+    look(&rt, &game, 1, (9, 2, ODD, &[0, 1]), &[0, 1]);
+    assert_eq!(rt; game.vertex_of(0), None);
+    Ok(())
+}
+
+/// Whether the lists of these rows are a game as they stand.
+fn are_a_game(alloc: Global, rows: &[Row]) -> Result<bool, Fail> {
+    let specs = specs_of(alloc, rows)?;
+    Ok(flat_of(alloc, specs.as_slice())?.into_listed().is_ok())
+}
+
+/// Asks for the same game of these rows both ways, and whether their lists are it as they stand.
+fn compare_ways(rt: &impl Abort, alloc: Global, rows: &[Row], stands: bool) -> Result<(), Fail> {
+    assert_eq!(rt; are_a_game(alloc, rows)?, stands);
+    assert!(rt; flat_game_of(alloc, rows)? == game_of(alloc, rows)?);
+    Ok(())
+}
+
+#[test]
+fn lists_in_order_are_the_game(rt: HostRuntime) -> Result<(), Fail> {
+    let in_order: [Row; 2] = [(0, 4_095, EVEN, &[0, 1]), (1, 1, ODD, &[0])];
+    compare_ways(&rt, rt.alloc(), &in_order, true)
+}
+
+#[test]
+fn lists_out_of_order_make_the_same_game(rt: HostRuntime) -> Result<(), Fail> {
+    let others: [[Row; 2]; 5] = [
+        [(0, 4_095, EVEN, &[0, 2]), (2, 1, ODD, &[0])],
+        [(1, 1, ODD, &[0]), (0, 4_095, EVEN, &[0, 1])],
+        [(0, 4_095, EVEN, &[1, 0]), (1, 1, ODD, &[0])],
+        [(0, 4_095, EVEN, &[0, 0]), (1, 1, ODD, &[0])],
+        [(0, 4_096, EVEN, &[0, 1]), (1, 1, ODD, &[0])],
+    ];
+    for other in others {
+        compare_ways(&rt, rt.alloc(), &other, false)?;
+    }
+    Ok(())
+}
+
+/// Asks for the fault of these rows, both ways.
 fn refused(rt: &impl Abort, alloc: Global, rows: &[Row], wanted: GameFault) -> Result<(), Fail> {
-    assert_eq!(rt; fault_of(alloc, specs_of(alloc, rows)?), Some(wanted));
+    let specs = specs_of(alloc, rows)?;
+    let flat = flat_of(alloc, specs.as_slice())?;
+    assert_eq!(rt; fault_of_rows(alloc, flat), Some(wanted));
+    assert_eq!(rt; fault_of(alloc, specs), Some(wanted));
     Ok(())
 }
 
@@ -126,14 +235,17 @@ fn faults_come_in_their_order(rt: HostRuntime) -> Result<(), Fail> {
     refused(&rt, alloc, &unknown, GameFault::Unknown(1, 8))
 }
 
-/// Asks for the answer to a dense list.
+/// Asks for the answer to a dense list, both ways.
 fn answers(
     rt: &impl Abort,
     alloc: Global,
     (n, degree, last): (u32, u32, u32),
     wanted: Option<GameFault>,
 ) -> Result<(), Fail> {
-    assert_eq!(rt; fault_of(alloc, dense(alloc, n, degree, last)?), wanted);
+    let specs = dense(alloc, n, degree, last)?;
+    let flat = flat_of(alloc, specs.as_slice())?;
+    assert_eq!(rt; fault_of_rows(alloc, flat), wanted);
+    assert_eq!(rt; fault_of(alloc, specs), wanted);
     Ok(())
 }
 
@@ -205,29 +317,36 @@ fn games_are_equal_where_their_contents_are(rt: HostRuntime) -> Result<(), Fail>
     Ok(())
 }
 
-/// The successors that the bits give a vertex, as identifiers that fall where the numbers rise.
-fn successors_of(alloc: Global, bits: u32, v: u32) -> Result<Vec<u32>, Fail>
+/// The identifier of a vertex: its number, or one that falls where the numbers rise.
+fn name_of(v: u32, falls: bool) -> u32
+    requires { v < 5 }
+{
+    if falls { 100 - 10 * v } else { v }
+}
+
+/// The successors that the bits give a vertex, as identifiers.
+fn successors_of(alloc: Global, bits: u32, v: u32, falls: bool) -> Result<Vec<u32>, Fail>
     requires { v < 5 }
 {
     let mut successors = Vec::new(alloc);
     for w in 0..5u32 {
         if is_edge(bits, v, w) {
-            successors.push(100 - 10 * w)?;
+            successors.push(name_of(w, falls))?;
         }
     }
     Ok(successors)
 }
 
 /// Five vertices, whose edges are the bits.
-fn specs_of_bits(alloc: Global, bits: u32) -> Result<Vec<Spec>, Fail>
+fn specs_of_bits(alloc: Global, bits: u32, falls: bool) -> Result<Vec<Spec>, Fail>
     ensures { IfOk result (λ specs. All AreNumbers specs.items) }
 {
     let mut specs = Vec::new(alloc);
     'vertices: for v in 0..5u32 {
-        let successors = successors_of(alloc, bits, v)?;
+        let successors = successors_of(alloc, bits, v, falls)?;
         add(
             &mut specs,
-            100 - 10 * v,
+            name_of(v, falls),
             v,
             Player::of_parity(v),
             successors,
@@ -246,15 +365,27 @@ fn compare_edge(rt: &impl Abort, game: &Game, v: u32, w: u32, wanted: bool)
     assert_eq!(rt; game.predecessors(w).contains(&v), wanted);
 }
 
-/// Looks at every pair of vertices of the game of the bits.
-fn compare_edges(rt: &impl Abort, alloc: Global, bits: u32) -> Result<(), Fail> {
-    let game = Game::from_specs(alloc, specs_of_bits(alloc, bits)?)?;
+/// Looks at every pair of vertices of a game of the bits.
+fn compare_edges(rt: &impl Abort, game: &Game, bits: u32, falls: bool) {
     assert_eq!(rt; game.len(), 5);
     for v in 0..5u32 {
         for w in 0..5u32 {
-            compare_edge(rt, &game, v, w, is_edge(bits, 4 - v, 4 - w));
+            let wanted = if falls {
+                is_edge(bits, 4 - v, 4 - w)
+            } else {
+                is_edge(bits, v, w)
+            };
+            compare_edge(rt, game, v, w, wanted);
         }
     }
+}
+
+/// Makes the game of the bits both ways, and looks at it.
+fn compare_games(rt: &impl Abort, alloc: Global, bits: u32, falls: bool) -> Result<(), Fail> {
+    let specs = specs_of_bits(alloc, bits, falls)?;
+    let flat = flat_of(alloc, specs.as_slice())?;
+    compare_edges(rt, &Game::from_rows(alloc, flat)?, bits, falls);
+    compare_edges(rt, &Game::from_specs(alloc, specs)?, bits, falls);
     Ok(())
 }
 
@@ -271,7 +402,8 @@ fn edges_and_predecessors_are_those_specified(rt: HostRuntime) -> Result<(), Fai
     let mut bits = 1u32;
     for _round in 0..200u32 {
         bits = bits.wrapping_mul(1_664_525).wrapping_add(1_013_904_223);
-        compare_edges(&rt, rt.alloc(), bits % 33_554_432)?;
+        compare_games(&rt, rt.alloc(), bits % 33_554_432, true)?;
+        compare_games(&rt, rt.alloc(), bits % 33_554_432, false)?;
     }
     Ok(())
 }

@@ -27,7 +27,7 @@ pub record Keeps (ts : List Placed) (s : State) (specs : List Spec) (id priority
   pub agrees : large ≡ None → wrong ≡ None → Agrees read specs id priority owner successors
 
 abbrev pub KeepsReader : List Placed → Reader → Type 0
-KeepsReader ts r = Keeps ts r.state r.specs.items r.id r.priority r.owner r.successors.items r.large r.wrong
+KeepsReader ts r = Keeps ts r.state r.specs r.id r.priority r.owner r.successors.items r.large r.wrong
 
 -- the token can't stand behind these
 abbrev pub Stops : List Placed → Token → Type 0

@@ -13,7 +13,7 @@ ghost use Rattle.pg_text.specs.GameStates.{is_complete};
 use crate::fault::TextFault;
 use crate::lexer::{Kind, Piece, first_bad, next_token};
 use crate::numbers::{first_of, player};
-use pg_game::{Player, Sequence, Spec};
+use pg_game::{Memory, Player, Specs};
 use std::alloc::Global;
 
 /// What of a game text was read last.
@@ -39,7 +39,7 @@ enum State {
 #[derive(Drop)]
 struct Reader {
     state: State,
-    specs: Vec<Spec>,
+    specs: Specs,
     id: u32,
     priority: u32,
     owner: Player,
@@ -60,19 +60,20 @@ fn is_complete(state: State) -> bool
 }
 
 impl Reader {
-    fn new(alloc: Global) -> Reader
-        ensures { KeepsReader [] result }
+    fn new(alloc: Global) -> Result<Reader, Memory>
+        ensures { IfOk result (λ reader. KeepsReader [] reader) }
     {
-        Reader {
+        let specs = Specs::with_capacity(alloc, 0, 0)?;
+        Ok(Reader {
             state: State::Start,
-            specs: Vec::new(alloc),
+            specs,
             id: 0,
             priority: 0,
             owner: Player::Even,
             successors: Vec::new(alloc),
             large: None,
             wrong: None,
-        }
+        })
     }
 
     /// Takes a number; false where none can stand.
@@ -142,26 +143,9 @@ impl Reader {
         }
     }
 
-    /// The specification that the line says.
-    #[inline]
-    fn spec(&self, alloc: Global) -> Result<Spec, TextFault>
-        ensures spec { IfOk result (λ spec. spec ≡ record { id = self.now.id; priority = self.now.priority; owner = self.now.owner; successors = self.now.successors.items }) }
-        ensures memory { IfErr result (λ e. e ≡ TextFault.Memory) }
-    {
-        match Vec::from_slice(alloc, &self.successors) {
-            Ok(successors) => Ok(Spec {
-                id: self.id,
-                priority: self.priority,
-                owner: self.owner,
-                successors: Sequence::new(successors),
-            }),
-            Err(_) => Err(TextFault::Memory),
-        }
-    }
-
     /// Takes a semicolon; false where none can stand.
     #[inline]
-    fn semicolon(&mut self, alloc: Global) -> Result<bool, TextFault>
+    fn semicolon(&mut self) -> Result<bool, TextFault>
         ensures taken { IfOk result (λ taken. (place : ℕ) → Takes self.old self.new taken Semicolon place) }
         ensures memory { IfErr result (λ e. e ≡ TextFault.Memory) }
     {
@@ -175,14 +159,14 @@ impl Reader {
                 Ok(true)
             }
             State::Successor => {
-                let spec = self.spec(alloc)?;
-                self.specs.push(spec)?;
+                self.specs
+                    .push(self.id, self.priority, self.owner, &self.successors)?;
                 self.state = State::Ready;
                 Ok(true)
             }
             State::Named => {
-                let spec = self.spec(alloc)?;
-                self.specs.push(spec)?;
+                self.specs
+                    .push(self.id, self.priority, self.owner, &self.successors)?;
                 self.state = State::Ready;
                 Ok(true)
             }
@@ -247,7 +231,7 @@ impl Reader {
 
     /// Takes the token between the places; false where it can't stand there.
     #[inline]
-    fn take(&mut self, alloc: Global, text: &[u8], piece: Piece) -> Result<bool, TextFault>
+    fn take(&mut self, text: &[u8], piece: Piece) -> Result<bool, TextFault>
         requires size { length text.now ≤ 268435456 }
         requires order { piece.from ≤ piece.to }
         requires within { piece.to ≤ length text.now }
@@ -257,7 +241,7 @@ impl Reader {
         match piece.kind {
             Kind::Number(value) => self.number(value, piece.from as u32),
             Kind::Word => Ok(self.word(&text[piece.from..piece.to])),
-            Kind::Semicolon => self.semicolon(alloc),
+            Kind::Semicolon => self.semicolon(),
             Kind::Comma => Ok(self.comma()),
             Kind::Name => Ok(self.name()),
             Kind::End => Ok(false),
@@ -266,8 +250,8 @@ impl Reader {
     }
 
     /// What was read, at the end of the text.
-    fn finish(self, end: u32) -> Result<Vec<Spec>, TextFault>
-        ensures { (text : List ℕ) → (ts : List Placed) → Spells 0 text ts → end ≡ length text → KeepsReader ts self → MatchResult result (λ specs. SpellsSpecs text specs.items) (λ e. IsFaultOf text e) }
+    fn finish(self, end: u32) -> Result<Specs, TextFault>
+        ensures { (text : List ℕ) → (ts : List Placed) → Spells 0 text ts → end ≡ length text → KeepsReader ts self → MatchResult result (λ specs. SpellsSpecs text specs) (λ e. IsFaultOf text e) }
     {
         if !is_complete(self.state) {
             return Err(TextFault::Syntax(end));
@@ -297,11 +281,11 @@ fn unexpected(text: &[u8], from: usize, to: usize) -> TextFault
 }
 
 /// The specifications of a game text, in one pass over its tokens.
-pub fn read_specs(alloc: Global, text: &[u8]) -> Result<Vec<Spec>, TextFault>
+pub fn read_specs(alloc: Global, text: &[u8]) -> Result<Specs, TextFault>
     requires { length text.now ≤ 268435456 }
-    ensures { MatchResult result (λ specs. SpellsSpecs text.now specs.items) (λ e. IsFaultOf text.now e) }
+    ensures { MatchResult result (λ specs. SpellsSpecs text.now specs) (λ e. IsFaultOf text.now e) }
 {
-    let mut reader = Reader::new(alloc);
+    let mut reader = Reader::new(alloc)?;
     let mut at = 0;
     'tokens: loop {
         let piece = next_token(text, at);
@@ -310,7 +294,7 @@ pub fn read_specs(alloc: Global, text: &[u8]) -> Result<Vec<Spec>, TextFault>
             Kind::Bad => return Err(TextFault::Lexical(piece.from as u32)),
             _ => {}
         }
-        match reader.take(alloc, text, piece) {
+        match reader.take(text, piece) {
             Ok(true) => at = piece.to,
             Ok(false) => return Err(unexpected(text, piece.from, piece.to)),
             Err(fault) => return Err(fault),

@@ -23,7 +23,7 @@ pub fn read_game(alloc: Global, text: &[u8]) -> Result<Game, TextFault>
     ensures fault { IfErr result (λ e. IsFaultOf text.now e) }
 {
     match read_specs(alloc, text) {
-        Ok(specs) => match Game::from_specs(alloc, specs) {
+        Ok(specs) => match Game::from_rows(alloc, specs) {
             Ok(game) => Ok(game),
             Err(GameFault::Memory) => Err(TextFault::Memory),
             Err(fault) => Err(TextFault::Game(fault)),

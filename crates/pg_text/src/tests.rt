@@ -7,6 +7,7 @@ mod bytes;
 mod faults;
 mod games;
 mod known;
+mod memory;
 mod solutions;
 
 use crate::fault::{SolutionTextFault, TextFault};

@@ -7,3 +7,4 @@ pub mod Moves
 pub mod Closing
 pub mod Computed
 pub mod Settling
+pub mod Knowing

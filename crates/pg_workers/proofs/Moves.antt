@@ -1,6 +1,6 @@
 -- Each kind of step keeps the rule of the word.
 use Rattle.std.proofs.Common.{◌≡◌, ◌≢◌, ℕ, zero, suc, ◌+◌, ◌%◌, ◌^◌, ◌<◌, ◌≤◌, List, [], ◌∷◌, ◌++◌, Bool, true, false, length, set, refl, sym, ap, ◌∙◌, subst, ⊎_elim, arith, length-append}
-use Rattle.std.specs.Prelude.{min, nat_lt, ◌==◌, if◌then◌else◌, slice_index, MatchBool, sum_by, cond}
+use Rattle.std.specs.Prelude.{min, nat_lt, ◌==◌, slice_index, MatchBool, sum_by, cond}
 use Rattle.std.proofs.lemmas.Bool.Decides.{nat_tests}
 use Rattle.std.proofs.Math.Nat.{mod-eq_of_lt}
 use mathlib.Core.Option.{some, some-injective, some-ne-none}

@@ -1,6 +1,6 @@
 -- Lists of rows.
-use Rattle.std.proofs.Common.{◌≡◌, ◌≢◌, ℕ, zero, suc, ◌+◌, ◌<◌, ◌≤◌, ◌⊎◌, inl, inr, Bool, true, false, List, [], ◌∷◌, ◌++◌, All, Vec, Global, length, map, take, drop, get_or, set, refl, sym, ap, ◌∙◌, subst, arith}
-use Rattle.std.specs.Prelude.{◌==◌, cond, sum_by, flat_map, slice_get, Some, None}
+use Rattle.std.proofs.Common.{◌≡◌, ◌≢◌, ℕ, zero, suc, ◌+◌, ◌<◌, ◌⊎◌, inl, inr, Bool, true, false, List, [], ◌∷◌, ◌++◌, All, Vec, Global, length, map, take, drop, get_or, set, refl, sym, ap, ◌∙◌, subst, arith}
+use Rattle.std.specs.Prelude.{◌==◌, cond, sum_by, slice_get, Some}
 use Rattle.std.proofs.Math.Seq.{take-append_seam}
 use Rattle.std.proofs.lemmas.Bool.Decides.{nat_tests}
 use Rattle.std.proofs.lemmas.List.{length-map, map-append}
@@ -8,7 +8,7 @@ use Rattle.std.proofs.lemmas.List.Sums.{sum_by-cons, sum_by-append}
 use Rattle.std.proofs.lemmas.Option.{none-some, same_Some, slice_get_within, get_or_from_slice_get}
 use Rattle.pg_workers.specs.declared.report.ReportRow.{ReportRow}
 use Rattle.pg_workers.specs.Counting.{times}
-use Rattle.pg_workers.specs.Report.{AreIdle, AreNumbered, IsDone, IsReport, blank_row, forgotten, jobs_in, rows_in, rows_of, settled_in}
+use Rattle.pg_workers.specs.Report.{AreIdle, AreNumbered, IsDone, IsReport, forgotten, jobs_in, rows_in, rows_of, settled_in}
 
 -- rows that settled nothing add up to nothing
 pub none_settled : (rows : List ReportRow) → AreIdle (length rows) rows → settled_in rows ≡ 0

@@ -1,10 +1,10 @@
 -- What the calling thread adds settles all that was left.
-use Rattle.std.proofs.Common.{rules, ◌≡◌, ℕ, ◌<◌, ◌≤◌, Bool, true, false, ◌||◌, ◌⊎◌, inl, inr, List, ◌++◌, length, take, refl, ◌∙◌, sym, ap, subst, arith, length-append}
+use Rattle.std.proofs.Common.{rules, ◌≡◌, ℕ, ◌<◌, Bool, true, false, ◌||◌, ◌⊎◌, inl, inr, ◌++◌, length, refl, ◌∙◌, sym, ap, subst, arith, length-append}
 use Rattle.std.specs.Prelude.{nat_lt}
 use Rattle.std.proofs.lemmas.List.{take-append-le}
 use Rattle.pg_game.specs.declared.player.Player.{Player}
 use Rattle.pg_game.specs.Graph.{Graph}
-use Rattle.pg_game.specs.VertexSet.{VertexSet, In, all_vertices, union}
+use Rattle.pg_game.specs.VertexSet.{VertexSet, all_vertices, union}
 use Rattle.pg_game.proofs.Attract.{target_attracted}
 use Rattle.pg_game.proofs.Grown.{in_second}
 use Rattle.pg_game.specs.declared.player.Player.TheVariants.{Odd}
@@ -12,12 +12,12 @@ use Rattle.pg_dominion.specs.Claim.{Rows, named, IsGoodIn}
 use Rattle.pg_dominion.specs.declared.claim.Claim.{Claim}
 use Rattle.pg_finders.specs.Claims.{AreClaims}
 use Rattle.pg_board.specs.Play.{Play}
-use Rattle.pg_board.specs.State.{State, settled, unsettled, is_unsettled, IsDominion}
+use Rattle.pg_board.specs.State.{settled, unsettled, is_unsettled, IsDominion}
 use Rattle.pg_board.specs.Journal.{Journal, state_of, IsDominionAfter}
 use Rattle.pg_board.specs.Post.{SettlesDominion}
 use Rattle.pg_board.specs.Full.{IsFull}
 use Rattle.pg_board.proofs.Push.{settled_shut}
-use Rattle.pg_board.proofs.Dominion.{state_append, stays_settled}
+use Rattle.pg_board.proofs.Dominion.{state_append}
 use Rattle.pg_workers.specs.Rest.{Settles, IsLater}
 
 -- a claim's vertices are settled once it was posted

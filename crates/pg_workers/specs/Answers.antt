@@ -1,7 +1,6 @@
 -- What a worker is answered for its claims, and what it notes.
-use Rattle.std.specs.Prelude.{ℕ, ◌≡◌, ◌≢◌, ◌≤◌, ◌+◌, List, length, fold, slice_get, Some, Result, Ok, Err}
+use Rattle.std.specs.Prelude.{ℕ, ◌≡◌, ◌≢◌, List, length, fold, slice_get, Some, Result, Err}
 use Rattle.pg_game.specs.Graph.{Graph}
-use Rattle.pg_dominion.specs.Claim.{Rows}
 use Rattle.pg_dominion.specs.Fault.{IsClaimFault}
 use Rattle.pg_dominion.specs.Checked.{CheckedClaim, claim_of, Agrees}
 use Rattle.pg_dominion.specs.declared.claim.Claim.{Claim}

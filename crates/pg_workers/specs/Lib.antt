@@ -6,4 +6,5 @@ pub mod Answers
 pub mod Tickets
 pub mod TicketFields
 pub mod Rest
+pub mod Known
 pub mod Outcomes

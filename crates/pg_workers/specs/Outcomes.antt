@@ -1,18 +1,20 @@
 -- What a whole run gives.
 use Rattle.std.specs.Prelude.{ℕ}
+use Rattle.pg_text.specs.Known.{KnownRows}
 use Rattle.pg_game.specs.Graph.{Graph}
 use Rattle.pg_text.specs.Solution.{IsExactSolution}
 use Rattle.pg_board.specs.Journal.{state_of, IsLawful}
 use Rattle.pg_board.specs.Full.{IsFull, AreStateRows}
 use Rattle.pg_workers.specs.declared.solve.Outcome.{Outcome}
+use Rattle.pg_workers.specs.Known.{IsKnownSize}
 use Rattle.pg_workers.specs.Report.{IsInOrder, IsReport, AddsUp}
 
--- the entries are a lawful journal that settles every vertex, the solution is its state and exact, each job has its row, and the rows say who drew it and what the workers settled
-pub record IsOutcome (g : Graph) (total workers : ℕ) (o : Outcome) : Type 0 where
+-- the entries are a lawful journal that settles every vertex, the solution is its state and exact, each job has its row, and the rows say who drew it and what the workers settled beside what the known sets attract
+pub record IsOutcome (g : Graph) (known : KnownRows) (total workers : ℕ) (o : Outcome) : Type 0 where
   pub lawful : IsLawful g o.entries.items
   pub full : IsFull g (state_of o.entries.items)
   pub state : AreStateRows g (state_of o.entries.items) o.solution.rows
   pub exact : IsExactSolution g o.solution.rows
   pub report : IsInOrder total o.report.items
   pub rows : IsReport workers o.report.items
-  pub adds_up : AddsUp o.entries.items o.report.items
+  pub adds_up : (n : ℕ) × IsKnownSize g known n × AddsUp n o.entries.items o.report.items

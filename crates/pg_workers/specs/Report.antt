@@ -1,5 +1,5 @@
 -- The report of a run: one row for each piece of work.
-use Rattle.std.specs.Prelude.{ℕ, ◌≡◌, ◌≤◌, ◌<◌, ◌+◌, Bool, true, false, List, length, map, sum_by, flat_map, take, drop, slice_get, Option, Some, None, ◌≢◌, Result, Ok, Err, Vec}
+use Rattle.std.specs.Prelude.{ℕ, ◌≡◌, ◌≤◌, ◌<◌, ◌+◌, true, false, List, length, map, sum_by, flat_map, take, drop, slice_get, Some, None, ◌≢◌, Result, Ok, Err, Vec}
 use Rattle.std.specs.Global.{Global}
 use Rattle.std.specs.List.{AllByRecursion}
 use Rattle.pg_workers.specs.declared.report.ReportRow.{ReportRow}
@@ -90,10 +90,10 @@ pub record IsReport (workers : ℕ) (report : List ReportRow) : Type 0 where
   pub done : (k : ℕ) (r : ReportRow) → slice_get report k ≡ Some r → k < drawn → IsDone workers r
   pub blank : (k : ℕ) (r : ReportRow) → slice_get report k ≡ Some r → drawn ≤ k → r ≡ blank_row k
 
--- what the workers settled is a front of the journal, and at most two entries follow it, of worker 0
-pub record AddsUp (journal : Journal) (report : List ReportRow) : Type 0 where
+-- so many vertices that were known and what the workers settled are a front of the journal, and at most two entries follow it, of worker 0
+pub record AddsUp (known : ℕ) (journal : Journal) (report : List ReportRow) : Type 0 where
   pub by_workers : ℕ
   pub within : by_workers ≤ length journal
   pub last : length journal ≤ by_workers + 2
-  pub settled : settled_in report ≡ number_settled (take by_workers journal)
+  pub settled : settled_in report + known ≡ number_settled (take by_workers journal)
   pub by_caller : AllByRecursion (λ e. e.worker ≡ 0) (drop by_workers journal)

@@ -5,6 +5,7 @@
 mod drawing;
 mod gate;
 mod jobs;
+mod known;
 mod options;
 mod report;
 mod rest;
@@ -16,6 +17,7 @@ mod worker;
 
 pub use gate::{Gate, Pass};
 pub use jobs::{Drawn, Jobs, Ticket};
+pub use known::SolveFault;
 pub use options::Options;
 pub use report::ReportRow;
 pub use solve::{Outcome, solve_game};

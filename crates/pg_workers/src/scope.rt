@@ -103,6 +103,7 @@ pub(crate) fn take_apart<L: Ledger, J: Naming>(
     requires empty { (shares.items ≡ []) × (tickets.items ≡ []) × (rows.items ≡ []) }
     requires room { (vec_len slots ≤ vec_capacity shares) × (vec_len slots ≤ vec_capacity tickets) × (vec_len slots ≤ vec_capacity rows) }
     ensures shares { vec_len result.0 ≡ vec_len slots }
+    ensures room { vec_capacity result.0 ≡ vec_capacity shares }
     ensures tickets { (vec_len result.1 ≡ vec_len slots) × All (λ t. t.series ≡ J.series) result.1.items }
     ensures amounts { map (λ rows. settled_in rows.items) result.2.items ≡ result.0.items }
     ensures numbers { map (λ rows. map (λ r. r.job) rows.items) result.2.items ≡ map (λ t. t.numbers) result.1.items }

@@ -1,14 +1,18 @@
 //! A whole run: workers on threads of their own share out the jobs over one office, and the calling thread settles what
 //! is left.
-ghost use Rattle.std.specs.Prelude.{◌≡◌, ◌≤◌, ◌<◌, ℕ, IfOk, length, replicate, vec_len};
+ghost use Rattle.std.specs.Prelude.{◌≡◌, ◌+◌, ◌≤◌, ◌<◌, ℕ, IfOk, IfErr, length, replicate, vec_len};
+ghost use Rattle.pg_game.specs.declared.player.Player.{Player};
+ghost use Rattle.pg_text.specs.Known.{KnownRows};
 ghost use Rattle.pg_workers.specs.Outcomes.{IsOutcome};
 ghost use Rattle.pg_board.specs.Journal.{number_settled};
+ghost use Rattle.pg_workers.specs.Known.{HasKnown, HasSettled, IsKnownRegion, IsSolveFault};
 ghost use Rattle.pg_workers.specs.Report.{AreNumbered, IsReport, settled_in};
 ghost use Rattle.pg_workers.specs.Tickets.{fresh};
 ghost use Rattle.pg_workers.specs.Work.{total_of};
 
 use crate::gate::Gate;
 use crate::jobs::{Jobs, Ticket};
+use crate::known::{SolveFault, board_with};
 use crate::options::Options;
 use crate::report::{ReportRow, blank_report, forget_posts, with_rows};
 use crate::rest::settle_rest;
@@ -17,7 +21,7 @@ use crate::worker::{Naming, Task};
 use pg_board::{Board, Entry, Office, Share};
 use pg_finders::Finder;
 use pg_game::{Game, Memory};
-use pg_text::Solution;
+use pg_text::{Known, Solution};
 use std::alloc::Global;
 use std::marker::Brand;
 use std::sync::Wait;
@@ -45,37 +49,39 @@ fn without_posts(mut report: Vec<ReportRow>) -> Vec<ReportRow>
     report
 }
 
-/// The closed board, or a new one where it is a board of another game. Then nothing that was posted counts.
+/// The closed board, or a new one with what is known where it is a board of another game. Then nothing that workers
+/// posted counts.
 fn board_of<'g>(
     alloc: Global,
     game: &'g Game,
+    known: &Known,
     board: Board<'g>,
     report: Vec<ReportRow>,
-) -> Result<(Board<'g>, Vec<ReportRow>), Memory>
+) -> Result<(Board<'g>, Vec<ReportRow>), SolveFault>
+    requires known { length known.now.rows ≡ length game.now }
     requires numbered { AreNumbered report.items }
-    requires settled { settled_in report.items ≡ number_settled board.journal }
+    requires settled { HasSettled game.now known.now.rows report.items board.journal }
     ensures game { IfOk result (λ r. r.0.graph ≡ game.now) }
-    ensures settled { IfOk result (λ r. settled_in r.1.items ≡ number_settled r.0.journal) }
+    ensures settled { IfOk result (λ r. HasSettled game.now known.now.rows r.1.items r.0.journal) }
     ensures numbered { IfOk result (λ r. AreNumbered r.1.items) }
     ensures rows { (n : ℕ) → IsReport n report.items → IfOk result (λ r. IsReport n r.1.items) }
     ensures length { IfOk result (λ r. vec_len r.1 ≡ vec_len report) }
+    ensures fault { IfErr result (λ e. IsSolveFault game.now known.now.rows e) }
 {
     if *board.game() == *game {
         return Ok((board, report));
     }
-    Ok((Board::open(alloc, game)?, without_posts(report)))
+    Ok((board_with(alloc, game, known)?, without_posts(report)))
 }
 
 /// What a board tells once everything is settled.
-#[tactic(auto, using(crate::proofs::AddingUp::adds_up))]
 fn outcome_of(
     alloc: Global,
     mut board: Board<'_>,
     report: Vec<ReportRow>,
 ) -> Result<Outcome, Memory>
-    requires numbered { AreNumbered report.items }
-    requires settled { settled_in report.items ≡ number_settled board.journal }
-    ensures { (n : ℕ) → IsReport n report.items → IfOk result (λ o. IsOutcome board.entry.graph (vec_len report) n o) }
+    requires { AreNumbered report.items }
+    ensures { (known : KnownRows) (n : ℕ) → HasSettled board.entry.graph known report.items board.entry.journal → IsReport n report.items → IfOk result (λ o. IsOutcome board.entry.graph known (vec_len report) n o) }
 {
     settle_rest(alloc, &mut board)?;
     let Some(solution) = board.solution(alloc)? else {
@@ -89,7 +95,8 @@ fn outcome_of(
     })
 }
 
-/// The workers' part, on an office and jobs that were just opened.
+/// The workers' part, on an office and jobs that were just opened: the closed board, and what became of each job. The
+/// first share is no worker's.
 fn run<
     'g,
     L: Ledger + Send + Sync,
@@ -100,34 +107,36 @@ fn run<
 >(
     rt: &R,
     alloc: Global,
-    game: &'g Game,
     office: Office<'g, L>,
+    first: Share<L>,
     shares: Vec<Share<L>>,
     jobs: Jobs,
     tickets: Vec<Ticket>,
     total: u64,
     task: &Task<'_, G, F>,
-) -> Result<Outcome, Memory>
+) -> Result<(Board<'g>, Vec<ReportRow>), Memory>
     requires total { (total ≡ J.series.total) × (total ≤ 4096) × (total ≡ total_of task.now.options.now.bound task.now.size) }
-    requires shares { (shares.items ≡ replicate (vec_len shares) 0) × (vec_len shares ≡ L.parts) × (0 < L.parts) }
+    requires shares { (shares.items ≡ replicate (vec_len shares) 0) × (vec_len shares + 1 ≡ L.parts) }
     requires jobs { (jobs.series ≡ J.series) × (jobs.seats ≡ vec_len shares) }
-    requires workers { (vec_len shares ≡ J.workers) × (J.workers ≤ 64) }
+    requires workers { (vec_len shares ≡ J.workers) × (1 ≤ J.workers) × (J.workers ≤ 64) }
     requires tickets { tickets.items ≡ replicate (vec_len shares) (fresh J.series) }
-    ensures { IfOk result (λ o. IsOutcome game.now total J.workers o) }
+    ensures numbered { IfOk result (λ r. AreNumbered r.1.items) }
+    ensures settled { IfOk result (λ r. settled_in r.1.items + first ≡ number_settled r.0.journal) }
+    ensures rows { IfOk result (λ r. IsReport J.workers r.1.items) }
+    ensures length { IfOk result (λ r. vec_len r.1 ≡ total) }
 {
     let seats = shares.len();
-    let shares_back = Vec::with_capacity(alloc, seats)?;
+    let shares_back = Vec::with_capacity(alloc, seats + 1)?;
     let tickets_back = Vec::with_capacity(alloc, seats)?;
     let rows_back = Vec::with_capacity(alloc, seats)?;
     let report = blank_report(alloc, total)?;
     let slots = slots_of::<L, J>(alloc, total, shares, tickets)?;
     let slots = start_all(rt, alloc, &office, &jobs, task, slots);
-    let (shares, tickets, rows) = take_apart(slots, shares_back, tickets_back, rows_back);
+    let (mut shares, tickets, rows) = take_apart(slots, shares_back, tickets_back, rows_back);
     drop(jobs.close(tickets));
+    shares.push_reserved(first);
     let board = office.close(shares);
-    let report = with_rows(report, rows.as_slice());
-    let (board, report) = board_of(alloc, game, board, report)?;
-    outcome_of(alloc, board, report)
+    Ok((board, with_rows(report, rows.as_slice())))
 }
 
 /// A run over an office whose ledger is made of this blank.
@@ -137,14 +146,18 @@ fn solve_on<L: Ledger + Send + Sync, G: Gate, F: Finder, R: Threads + Wait + Syn
     blank: Blank,
     game: &Game,
     options: &Options,
+    known: &Known,
     gate: &G,
     finder: &F,
-) -> Result<Outcome, Memory>
+) -> Result<Outcome, SolveFault>
     requires name { blank.name ≡ L.name }
-    requires parts { (blank.parts ≡ L.parts) × (blank.parts ≡ options.now.workers) }
+    requires parts { (blank.parts ≡ L.parts) × (blank.parts ≡ options.now.workers + 1) }
+    requires known { length known.now.rows ≡ length game.now }
     requires workers { (1 ≤ options.now.workers) × (options.now.workers ≤ 64) }
     requires bound { options.now.bound ≤ 8 }
-    ensures { IfOk result (λ o. IsOutcome game.now (total_of options.now.bound (length game.now)) options.now.workers o) }
+    ensures outcome { IfOk result (λ o. IsOutcome game.now known.now.rows (total_of options.now.bound (length game.now)) options.now.workers o) }
+    ensures regions { IfOk result (λ o. (p : Player) → IsKnownRegion game.now known.now.rows p) }
+    ensures fault { IfErr result (λ e. IsSolveFault game.now known.now.rows e) }
 {
     let size = game.len();
     let total = options.total(size);
@@ -154,12 +167,20 @@ fn solve_on<L: Ledger + Send + Sync, G: Gate, F: Finder, R: Threads + Wait + Syn
         gate,
         finder,
     };
-    let (office, shares) = Office::<L>::open(alloc, blank, game, options.workers)?;
+    let board = board_with(alloc, game, known)?;
+    let (office, mut shares) = Office::<L>::open_with(alloc, blank, board, options.workers + 1)?;
+    let first = shares.remove(0);
     let (jobs, tickets) = Jobs::open(alloc, total, options.workers)?;
-    run::<L, Brand, G, F, R>(rt, alloc, game, office, shares, jobs, tickets, total, &task)
+    let (board, report) = run::<L, Brand, G, F, R>(
+        rt, alloc, office, first, shares, jobs, tickets, total, &task,
+    )?;
+    let (board, report) = board_of(alloc, game, known, board, report)?;
+    Ok(outcome_of(alloc, board, report)?)
 }
 
 /// Solves a game by as many workers as can be started, each on a thread of its own, and settles what they leave.
+/// What is known is posted before any worker starts, as worker 0: Even's set and then Odd's, where not empty. A known
+/// set that is no region is answered by the refusal of its post.
 /// For every number of workers, gate and finder the entries are a lawful journal of the game, the solution is their
 /// state, and the report has a row for each job, in order.
 pub fn solve_game<R: Threads + Wait + Sync>(
@@ -167,13 +188,17 @@ pub fn solve_game<R: Threads + Wait + Sync>(
     alloc: Global,
     game: &Game,
     options: &Options,
+    known: &Known,
     gate: &impl Gate,
     finder: &impl Finder,
-) -> Result<Outcome, Memory>
+) -> Result<Outcome, SolveFault>
+    requires known { length known.now.rows ≡ length game.now }
     requires workers { (1 ≤ options.now.workers) × (options.now.workers ≤ 64) }
     requires bound { options.now.bound ≤ 8 }
-    ensures { IfOk result (λ o. IsOutcome game.now (total_of options.now.bound (length game.now)) options.now.workers o) }
+    ensures outcome { IfOk result (λ o. IsOutcome game.now known.now.rows (total_of options.now.bound (length game.now)) options.now.workers o) }
+    ensures regions { IfOk result (λ o. (p : Player) → IsKnownRegion game.now known.now.rows p) }
+    ensures fault { IfErr result (λ e. IsSolveFault game.now known.now.rows e) }
 {
-    let blank = Blank::new(u64::from(options.workers));
-    solve_on::<Brand, _, _, R>(rt, alloc, blank, game, options, gate, finder)
+    let blank = Blank::new(u64::from(options.workers) + 1);
+    solve_on::<Brand, _, _, R>(rt, alloc, blank, game, options, known, gate, finder)
 }

@@ -30,6 +30,7 @@ refused_game text fault.Memory le h = tt
 refused_game text fault.Read le h = absurd h
 refused_game text fault.TooLong le h = absurd h
 refused_game text (fault.Solution f) le h = absurd h
+refused_game text (fault.Known f) le h = absurd h
 refused_game text fault.Write le h = absurd h
 
 refused_solution : (text : List ℕ) (g : Graph) (e : RunFault) → length text ≤ max_text → IsTextOf (game_part text) g → IsRefusedSolution g (solution_part text) e → Failed e text
@@ -38,6 +39,7 @@ refused_solution text g fault.Memory le is h = tt
 refused_solution text g fault.Read le is h = absurd h
 refused_solution text g fault.TooLong le is h = absurd h
 refused_solution text g (fault.Game f) le is h = absurd h
+refused_solution text g (fault.Known f) le is h = absurd h
 refused_solution text g fault.Write le is h = absurd h
 
 -- a text that was read, the slice of it, and the slice's parts
@@ -87,6 +89,7 @@ no_solution_from known text g fault.Memory read within h = tt
 no_solution_from known text g fault.Read read within h = absurd h
 no_solution_from known text g fault.TooLong read within h = absurd h
 no_solution_from known text g (fault.Game f) read within h = absurd h
+no_solution_from known text g (fault.Known f) read within h = absurd h
 no_solution_from known text g fault.Write read within h = absurd h
 
 -- a verdict on a text that was read whole is one on what both sources had

@@ -4,3 +4,8 @@ pub mod Judging
 pub mod Lines
 pub mod Journals
 pub mod Solved
+pub mod Nothing
+pub mod Rows
+pub mod Unknown
+pub mod Refusing
+pub mod Knowing

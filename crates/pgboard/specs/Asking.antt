@@ -1,5 +1,5 @@
 -- What a command line may ask for.
-use Rattle.std.specs.Prelude.{ℕ, ◌≡◌, ◌≤◌, List, Option, None, option_map, string_bytes}
+use Rattle.std.specs.Prelude.{ℕ, ◌≡◌, ◌≤◌, List, Option, Some, None, option_map, string_bytes}
 use Rattle.pgboard.specs.declared.fault.AskedFault.{AskedFault}
 use Rattle.pgboard.specs.declared.fault.AskedFault.TheVariants as fault
 use Rattle.pgboard.specs.declared.asked.Asked.{Asked}
@@ -10,23 +10,24 @@ abbrev pub IsInRange : Asked → Type 0
 IsInRange Joined = Unit {0}
 IsInRange (Verify game solution) = Unit {0}
 IsInRange (Tidy game) = Unit {0}
-IsInRange (Solve workers bound winners game) = (1 ≤ workers) × (workers ≤ 64) × (bound ≤ 8)
+IsInRange (Solve workers bound winners known game) = (1 ≤ workers) × (workers ≤ 64) × (bound ≤ 8)
 IsInRange (Trace workers game) = (1 ≤ workers) × (workers ≤ 64)
 IsInRange (Help text) = Unit {0}
 
--- the path of the game that is read, where one was given
+-- the path of the file of the game, where one was given
 abbrev pub path_of : Asked → Option (List ℕ)
 path_of Joined = None
-path_of (Verify game solution) = None
+path_of (Verify game solution) = Some (string_bytes game)
 path_of (Tidy game) = option_map (λ path. string_bytes path) game
-path_of (Solve workers bound winners game) = option_map (λ path. string_bytes path) game
+path_of (Solve workers bound winners known game) = option_map (λ path. string_bytes path) game
 path_of (Trace workers game) = option_map (λ path. string_bytes path) game
 path_of (Help text) = None
 
--- a solution is to be verified
-abbrev pub IsVerify : Asked → Type 0
-IsVerify (Verify game solution) = Unit {0}
-IsVerify _ = ⊥
+-- the path of a second file, of the solution that is verified or of what is known, where one was given
+abbrev pub second_path_of : Asked → Option (List ℕ)
+second_path_of (Verify game solution) = Some (string_bytes solution)
+second_path_of (Solve workers bound winners known game) = option_map (λ path. string_bytes path) known
+second_path_of _ = None
 
 -- the words were refused with this text, or memory was
 abbrev pub Says : List ℕ → AskedFault → Type 0

@@ -1,6 +1,8 @@
 pub mod Device
 pub mod Joined
 pub mod Run
+pub mod Known
+pub mod Refused
 pub mod Status
 pub mod Trace
 pub mod Solving

@@ -1,14 +1,19 @@
 -- What solving a game may write.
-use Rattle.std.specs.Prelude.{ℕ, ◌≡◌, Bool, true, false, List, length}
+use Rattle.std.specs.Prelude.{ℕ, ◌≡◌, Bool, true, false, List, length, Option}
+use Rattle.pg_game.specs.declared.player.Player.{Player}
 use Rattle.pg_game.specs.Graph.{Graph}
+use Rattle.pg_text.specs.Known.{KnownRows}
 use Rattle.pg_text.specs.Solution.{Rows, IsExactSolution}
 use Rattle.pg_text.specs.Written.{written_solution}
 use Rattle.pg_text.specs.Winners.{IsWinnersText}
 use Rattle.pg_board.specs.Journal.{Journal, state_of, IsLawful}
 use Rattle.pg_board.specs.Full.{IsFull}
 use Rattle.pg_workers.specs.declared.report.ReportRow.{ReportRow}
+use Rattle.pg_workers.specs.Known.{IsKnownRegion}
 use Rattle.pg_workers.specs.Report.{IsInOrder, AddsUp}
 use Rattle.pg_workers.specs.Work.{total_of}
+use Rattle.pgboard.specs.Known.{IsReadKnown}
+use Rattle.pgboard.specs.Run.{IsReadGame}
 use Rattle.pgboard.specs.Trace.{trace_text}
 
 -- the winners alone, or the written text of a solution with choices exactly where the winner owns the vertex
@@ -16,12 +21,21 @@ abbrev pub IsSolveText : Bool → Graph → List ℕ → Type 0
 IsSolveText true g text = IsWinnersText g text
 IsSolveText false g text = (rows : Rows) × IsExactSolution g rows × (text ≡ written_solution g rows)
 
--- the text of a lawful journal that settles every vertex, and of a report with one row for each job, whose rows say what the workers settled
+-- the sources had a game and what is known of it, each player's known set is a region of his, and the text is of the game's solution
+pub record IsSolved (game known : Option (List ℕ)) (winners : Bool) (text : List ℕ) : Type 0 where
+  pub graph : Graph
+  pub rows : KnownRows
+  pub game_is : IsReadGame game graph
+  pub known_is : IsReadKnown graph known rows
+  pub regions : (p : Player) → IsKnownRegion graph rows p
+  pub text_is : IsSolveText winners graph text
+
+-- the text of a lawful journal that settles every vertex, and of a report with one row for each job, whose rows say what the workers settled; nothing was known before
 pub record IsTraceText (g : Graph) (text : List ℕ) : Type 0 where
   pub journal : Journal
   pub report : List ReportRow
   pub lawful : IsLawful g journal
   pub full : IsFull g (state_of journal)
   pub order : IsInOrder (total_of 4 (length g)) report
-  pub adds_up : AddsUp journal report
+  pub adds_up : AddsUp 0 journal report
   pub text_is : text ≡ trace_text g journal report

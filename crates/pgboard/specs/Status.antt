@@ -12,8 +12,9 @@ abbrev pub verdict_status : Verdict → ℕ
 verdict_status Holds = 0
 verdict_status (Fails fault) = 1
 
--- a text was refused, a file was not read or written, or memory was refused
+-- what is known does not hold, a text was refused, a file was not read or written, or memory was refused
 abbrev pub status_of : RunFault → ℕ
+status_of (fault.Known f) = 1
 status_of fault.TooLong = 3
 status_of (fault.Game f) = 3
 status_of (fault.Solution f) = 3

@@ -1,11 +1,11 @@
 //! Doing what was asked for, over any sources and sink.
-ghost use Rattle.std.specs.Prelude.{◌≡◌, ◌≢◌, IfOk, IfErr};
+ghost use Rattle.std.specs.Prelude.{◌≡◌, ◌≢◌, None, IfOk, IfErr};
 ghost use Rattle.std.specs.Io.KnownBytes.{Keeps};
 ghost use Rattle.pgboard.specs.Answer.{IsAnswer};
-ghost use Rattle.pgboard.specs.Asking.{IsInRange, IsVerify};
+ghost use Rattle.pgboard.specs.Asking.{IsInRange, second_path_of};
 
 use crate::asked::Asked;
-use crate::device::{Sink, Source};
+use crate::device::{Sink, Source, Std};
 use crate::fault::RunFault;
 use crate::run::{run_joined, run_tidy, run_verify};
 use crate::solve::{SolveOptions, run_solve, run_trace};
@@ -16,26 +16,26 @@ use std::alloc::Global;
 use std::sync::Wait;
 use std::thread::Threads;
 
-/// Runs what was asked for, and answers the status. The second source has the solution where one is verified, and is
-/// not read otherwise.
+/// Runs what was asked for, and answers the status. The second source has the solution where one is verified and what
+/// is known where it was given, and is not read otherwise.
 pub fn run_asked<I: Source, S: Source, O: Sink, R: Threads + Wait + Sync>(
     rt: &R,
     alloc: Global,
     asked: &Asked,
     input: &mut I,
-    solution: &mut S,
+    second: &mut S,
     out: &mut O,
     gate: &impl Gate,
     finder: &impl Finder,
 ) -> Result<u8, RunFault>
     requires { IsInRange asked.now }
-    ensures answer { IfOk result (λ status. IsAnswer asked.now (I.left input.old) (S.left solution.old) (O.taken out.old) (O.taken out.new) status) }
-    ensures one_text { (IsVerify asked.now → ⊥) → solution.new ≡ solution.old }
+    ensures answer { IfOk result (λ status. IsAnswer asked.now (I.left input.old) (S.left second.old) (O.taken out.old) (O.taken out.new) status) }
+    ensures one_text { second_path_of asked.now ≡ None → second.new ≡ second.old }
     ensures nothing { IfErr result (λ e. e ≢ RunFault.Write → Keeps (O.taken out.old) (O.taken out.new)) }
 {
     match asked {
         Asked::Joined => Ok(run_joined(alloc, input, out)?.status()),
-        Asked::Verify { .. } => Ok(run_verify(alloc, input, solution, out)?.status()),
+        Asked::Verify { .. } => Ok(run_verify(alloc, input, second, out)?.status()),
         Asked::Tidy { .. } => {
             run_tidy(alloc, input, out)?;
             Ok(0)
@@ -44,6 +44,7 @@ pub fn run_asked<I: Source, S: Source, O: Sink, R: Threads + Wait + Sync>(
             workers,
             bound,
             winners,
+            known,
             ..
         } => {
             let options = SolveOptions {
@@ -51,7 +52,15 @@ pub fn run_asked<I: Source, S: Source, O: Sink, R: Threads + Wait + Sync>(
                 bound: *bound,
                 winners: *winners,
             };
-            run_solve(rt, alloc, input, out, &options, gate, finder)?;
+            match known {
+                Some(_) => {
+                    run_solve(rt, alloc, input, Some(second), out, &options, gate, finder)?
+                }
+                None => {
+                    let nothing = None::<&mut Std<&[u8]>>;
+                    run_solve(rt, alloc, input, nothing, out, &options, gate, finder)?
+                }
+            }
             Ok(0)
         }
         Asked::Trace { workers, .. } => {

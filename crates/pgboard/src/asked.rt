@@ -1,7 +1,7 @@
 //! What a command line may ask for.
 ghost use Rattle.std.specs.Prelude.{◌≡◌, ◌≢◌, ◌≤◌, Some, IfOk, is_some, option_map, string_bytes};
 ghost use Rattle.clap.specs.Matches.{found_of, first_value, matched_of};
-ghost use Rattle.pgboard.specs.Asking.{IsInRange, path_of};
+ghost use Rattle.pgboard.specs.Asking.{IsInRange, path_of, second_path_of};
 
 use crate::fault::AskedFault;
 use clap::ArgMatches;
@@ -22,11 +22,13 @@ pub enum Asked {
         game: Option<String>,
     },
     /// To solve a game by 1 to 64 workers that look for dominions of at most `bound` vertices (0 to 8), and to write its
-    /// solution, or its winners alone. Without a path, the game of standard input.
+    /// solution, or its winners alone. What is known of it before is a path too, and may be left out. Without a path, the
+    /// game of standard input.
     Solve {
         workers: u32,
         bound: u32,
         winners: bool,
+        known: Option<String>,
         game: Option<String>,
     },
     /// To tell how a game is solved by 1 to 64 workers. Without a path, that of standard input.
@@ -59,6 +61,7 @@ impl Asked {
                     workers,
                     bound,
                     winners: given.get_flag("winners"),
+                    known: optional_path(alloc, given, "known")?,
                     game: optional_path(alloc, given, "GAME")?,
                 })
             }
@@ -73,7 +76,7 @@ impl Asked {
         }
     }
 
-    /// The path of the file of the game, where one game is read and its path was given.
+    /// The path of the file of the game, where one was given.
     pub fn path(&self) -> Option<&str>
         ensures { option_map (λ path. path.now) result ≡ path_of self.now }
     {
@@ -81,7 +84,19 @@ impl Asked {
             Asked::Tidy { game } => given(game),
             Asked::Solve { game, .. } => given(game),
             Asked::Trace { game, .. } => given(game),
-            Asked::Joined | Asked::Verify { .. } | Asked::Help(_) => None,
+            Asked::Verify { game, .. } => Some(game.as_str()),
+            Asked::Joined | Asked::Help(_) => None,
+        }
+    }
+
+    /// The path of a second file, of the solution to be verified or of what is known, where one was given.
+    pub fn second_path(&self) -> Option<&str>
+        ensures { option_map (λ path. path.now) result ≡ second_path_of self.now }
+    {
+        match self {
+            Asked::Verify { solution, .. } => Some(solution.as_str()),
+            Asked::Solve { known, .. } => given(known),
+            Asked::Joined | Asked::Tidy { .. } | Asked::Trace { .. } | Asked::Help(_) => None,
         }
     }
 }

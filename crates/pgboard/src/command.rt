@@ -24,9 +24,13 @@ const SOLVE: &str = "Writes a solution of GAME";
 const LONG_SOLVE: &str = "Writes a solution of GAME{n}{n}\
 Each vertex has a line with its winner, and where its winner owns it with the winner's choice. Winners are{n}\
 the only ones, choices need not be. Without GAME it reads standard input.{n}{n}\
+With --known FILE the search begins from what FILE says: a solution text in which vertices may be left out.{n}\
+It is checked. Where the vertices that it gives a player are not won there by its choices without leaving{n}\
+them, nothing is written, and a line says what is wrong first.{n}{n}\
 Examples:{n}  \
 pgboard solve game.pg > game.sol{n}  \
-pgboard solve --winners < game.pg";
+pgboard solve --winners < game.pg{n}  \
+pgboard solve --known part.sol game.pg > game.sol";
 
 const TRACE: &str = "Writes the journal of solving GAME, and what became of each job";
 
@@ -54,7 +58,7 @@ zcat game.pg.gz | pgboard tidy > tidy.pg";
 
 const STATUSES: &str = "Exit status:{n}  \
 0  done; the solution holds; help was asked for{n}  \
-1  it is no solution{n}  \
+1  it is no solution; what is known does not hold{n}  \
 2  the command line was refused{n}  \
 3  a text was refused, or is too long{n}  \
 4  a file was not opened or read, or the output was not written{n}  \
@@ -95,6 +99,14 @@ fn bound<'a>(alloc: Global) -> Arg<'a> {
         .help("The most vertices of the small dominions that are looked for, 0 to 8; 0 for none")
 }
 
+/// The file of what is known already.
+fn known<'a>(alloc: Global) -> Arg<'a> {
+    Arg::new(alloc, "known")
+        .long("known")
+        .value_name("FILE")
+        .help("A solution text of what is known already, in which vertices may be left out")
+}
+
 fn solve<'a>(alloc: Global) -> Result<Command<'a>, AllocError> {
     let winners = Arg::new(alloc, "winners")
         .long("winners")
@@ -107,6 +119,7 @@ fn solve<'a>(alloc: Global) -> Result<Command<'a>, AllocError> {
         .arg(workers(alloc))?
         .arg(bound(alloc))?
         .arg(winners)?
+        .arg(known(alloc))?
         .arg(path(
             alloc,
             "GAME",

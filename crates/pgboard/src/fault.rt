@@ -19,15 +19,35 @@ pub enum RunFault {
     /// The game's text was refused.
     #[error("game: {0}")]
     Game(TextFault),
-    /// The solution's text was refused.
+    /// The text of a solution, or of what is known, was refused.
     #[error("solution: {0}")]
     Solution(SolutionTextFault),
+    /// What is known of a player is no region of his.
+    #[error("known: {0}")]
+    Known(KnownFault),
     /// A write failed. A front of the output may have gone out.
     #[error("write fault")]
     Write,
     /// The allocator refused.
     #[error("no memory")]
     Memory,
+}
+
+/// Why a player's known set is no region, by identifiers: what its post was refused for.
+#[derive(Clone, Copy, Debug, Drop, PartialEq, Eq, Error)]
+pub enum KnownFault {
+    /// The player owns the vertex, the first such one, and there is no choice at it or one that is no successor.
+    #[error("bad choice or none at {0}")]
+    Choice(u32),
+    /// The least vertex with the opponent's parity that is the greatest on a closed walk that is left inside the set.
+    #[error("bad cycle at {0}")]
+    Cycle(u32),
+    /// The least vertex of the set that the opponent won before it, by what he is known to win and attracts to it.
+    #[error("{0} is lost")]
+    Lost(u32),
+    /// The first edge that may be taken at a vertex of the set and leads out of it.
+    #[error("{0} leaves to {1}")]
+    Open(u32, u32),
 }
 
 /// Why a command line asks for nothing.
@@ -47,6 +67,7 @@ impl RunFault {
         ensures { result ≡ status_of self.now }
     {
         match self {
+            RunFault::Known(_) => 1,
             RunFault::TooLong | RunFault::Game(_) | RunFault::Solution(_) => 3,
             RunFault::Read | RunFault::Write => 4,
             RunFault::Memory => 5,

@@ -13,6 +13,7 @@ mod command;
 mod device;
 mod fault;
 mod judge;
+mod known;
 mod reading;
 mod run;
 mod solve;
@@ -85,7 +86,7 @@ fn run_on<I: Source, S: Source, T: Threads + Wait + Sync>(
     threads: &T,
     asked: &Asked,
     input: &mut I,
-    solution: &mut S,
+    second: &mut S,
 ) -> Result<u8, RunFault>
     requires { IsInRange asked.now }
 {
@@ -95,11 +96,32 @@ fn run_on<I: Source, S: Source, T: Threads + Wait + Sync>(
         rt.alloc(),
         asked,
         input,
-        solution,
+        second,
         &mut out,
         &Pass,
         &Standard,
     )
+}
+
+/// Opens the second file, where one was given, and then runs what was asked for. The status of the outcome.
+fn run_with<I: Source, T: Threads + Wait + Sync>(
+    rt: &HostRuntime,
+    threads: &T,
+    asked: &Asked,
+    input: &mut I,
+) -> Result<u8, RunFault>
+    requires { IsInRange asked.now }
+{
+    match asked.second_path() {
+        Some(path) => {
+            let mut second = open(rt, path)?;
+            run_on(rt, threads, asked, input, &mut second)
+        }
+        None => {
+            let mut none = Std::new(b"".as_slice());
+            run_on(rt, threads, asked, input, &mut none)
+        }
+    }
 }
 
 /// Opens the files, and then runs what was asked for on them. The status of the outcome.
@@ -110,20 +132,14 @@ fn run_on_files<T: Threads + Wait + Sync>(
 ) -> Result<u8, RunFault>
     requires { IsInRange asked.now }
 {
-    if let Asked::Verify { game, solution } = asked {
-        let mut game = open(rt, game.as_str())?;
-        let mut solution = open(rt, solution.as_str())?;
-        return run_on(rt, threads, asked, &mut game, &mut solution);
-    }
-    let mut none = Std::new(b"".as_slice());
     match asked.path() {
         Some(path) => {
             let mut file = open(rt, path)?;
-            run_on(rt, threads, asked, &mut file, &mut none)
+            run_with(rt, threads, asked, &mut file)
         }
         None => {
             let mut input = Std::new(rt.stdin());
-            run_on(rt, threads, asked, &mut input, &mut none)
+            run_with(rt, threads, asked, &mut input)
         }
     }
 }

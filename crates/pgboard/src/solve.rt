@@ -1,19 +1,25 @@
-//! Solving a game, and telling how it was solved.
-ghost use Rattle.std.specs.Prelude.{◌≡◌, ◌≢◌, ◌≤◌, ◌⊎◌, ℕ, List, IfOk, OnOk, IfErr, IsErrOf};
+//! Solving a game, from what is known of it or from nothing, and telling how it was solved.
+ghost use Rattle.std.specs.Prelude.{◌≡◌, ◌≢◌, ◌≤◌, ◌⊎◌, ℕ, List, [], length, Some, None, IfOk, OnOk, IfErr, IsErrOf};
 ghost use Rattle.std.specs.Io.KnownBytes.{Appends, Keeps};
+ghost use Rattle.pg_game.specs.declared.player.Player.{Player};
 ghost use Rattle.pg_game.specs.Graph.{Graph};
+ghost use Rattle.pg_workers.specs.Known.{IsKnownRegion};
 ghost use Rattle.pgboard.specs.Device.{HasFailed, AppendsFront};
-ghost use Rattle.pgboard.specs.Run.{IsReadGame, IsNoGame};
-ghost use Rattle.pgboard.specs.Solving.{IsSolveText, IsTraceText};
+ghost use Rattle.pgboard.specs.Known.{left_in, IfGiven, OnGiven};
+ghost use Rattle.pgboard.specs.Refused.{IsUnsolved, IsNotKnown};
+ghost use Rattle.pgboard.specs.Run.{IsReadGame, IsNoGame, IsGameFault};
+ghost use Rattle.pgboard.specs.Solving.{IsSolveText, IsSolved, IsTraceText};
 
 use crate::device::{Sink, Source};
 use crate::fault::RunFault;
 use crate::judge::game_from;
+use crate::known::{known_of, nothing_known, only_memory, unsolved};
+use crate::reading::read_text;
 use crate::trace::write_trace;
 use crate::writing::write_all;
 use pg_finders::Finder;
 use pg_game::Game;
-use pg_text::{write_solution, write_winners};
+use pg_text::{Known, write_solution, write_winners};
 use pg_workers::{Gate, Options, solve_game};
 use std::alloc::{AllocError, Global};
 use std::sync::Wait;
@@ -34,18 +40,22 @@ pub struct SolveOptions {
     pub winners: bool,
 }
 
-/// The text of a game's solution.
+/// The text of a game's solution, found from what is known of it.
 fn solve_text<R: Threads + Wait + Sync>(
     rt: &R,
     alloc: Global,
     game: &Game,
+    known: &Known,
     options: &SolveOptions,
     gate: &impl Gate,
     finder: &impl Finder,
-) -> Result<Vec<u8>, AllocError>
+) -> Result<Vec<u8>, RunFault>
+    requires known { length known.now.rows ≡ length game.now }
     requires workers { (1 ≤ options.now.workers) × (options.now.workers ≤ 64) }
     requires bound { options.now.bound ≤ 8 }
-    ensures { IfOk result (λ text. IsSolveText options.now.winners game.now text.items) }
+    ensures text { IfOk result (λ text. IsSolveText options.now.winners game.now text.items) }
+    ensures regions { IfOk result (λ text. (p : Player) → IsKnownRegion game.now known.now.rows p) }
+    ensures fault { IfErr result (λ e. IsUnsolved game.now known.now.rows e) }
 {
     let _n = game.len();
     let run = Options {
@@ -53,7 +63,10 @@ fn solve_text<R: Threads + Wait + Sync>(
         bound: options.bound,
         budget: BUDGET,
     };
-    let outcome = solve_game(rt, alloc, game, &run, gate, finder)?;
+    let outcome = match solve_game(rt, alloc, game, &run, known, gate, finder) {
+        Ok(outcome) => outcome,
+        Err(fault) => return Err(unsolved(game, known, fault)),
+    };
     if options.winners {
         let text = write_winners(alloc, game, &outcome.solution)?;
         return Ok(text);
@@ -62,7 +75,7 @@ fn solve_text<R: Threads + Wait + Sync>(
     Ok(text)
 }
 
-/// The text of a run on a game.
+/// The text of a run on a game of which nothing is known.
 fn trace_of<R: Threads + Wait + Sync>(
     rt: &R,
     alloc: Global,
@@ -80,7 +93,11 @@ fn trace_of<R: Threads + Wait + Sync>(
         bound: TRACE_BOUND,
         budget: BUDGET,
     };
-    let outcome = solve_game(rt, alloc, game, &run, gate, finder)?;
+    let known = nothing_known(alloc, game)?;
+    let outcome = match solve_game(rt, alloc, game, &run, &known, gate, finder) {
+        Ok(outcome) => outcome,
+        Err(fault) => return Err(only_memory(game, &known, fault)),
+    };
     let text = write_trace(
         alloc,
         game,
@@ -90,9 +107,40 @@ fn trace_of<R: Threads + Wait + Sync>(
     Ok(text)
 }
 
-/// Reads a game, solves it, and writes its solution, or with `winners` its winners alone, which are a function of the
-/// game.
-pub fn run_solve<I: Source, O: Sink, R: Threads + Wait + Sync>(
+/// Reads a game and then what is known of it, solves it, and writes its solution or its winners.
+fn solve_knowing<I: Source, K: Source, O: Sink, R: Threads + Wait + Sync>(
+    rt: &R,
+    alloc: Global,
+    input: &mut I,
+    known: &mut K,
+    out: &mut O,
+    options: &SolveOptions,
+    gate: &impl Gate,
+    finder: &impl Finder,
+) -> Result<(), RunFault>
+    requires workers { (1 ≤ options.now.workers) × (options.now.workers ≤ 64) }
+    requires bound { options.now.bound ≤ 8 }
+    ensures written { OnOk result ((text : List ℕ) × IsSolved (I.left input.old) (K.left known.old) options.now.winners text × Appends (O.taken out.old) (O.taken out.new) text) }
+    ensures no_read_failure { (IsErrOf result RunFault.Read → ⊥) → I.read_failures input.new ≡ I.read_failures input.old }
+    ensures no_known_failure { (IsErrOf result RunFault.Read → ⊥) → K.read_failures known.new ≡ K.read_failures known.old }
+    ensures no_write_failure { (IsErrOf result RunFault.Write → ⊥) → O.write_failures out.new ≡ O.write_failures out.old }
+    ensures fault { IfErr result (λ e. (e ≡ RunFault.Write) ⊎ (IsNoGame (I.left input.old) e ⊎ ((g : Graph) × IsReadGame (I.left input.old) g × IsNotKnown g (K.left known.old) e))) }
+    ensures order { (known.new ≡ known.old) ⊎ ((g : Graph) × IsReadGame (I.left input.old) g × (I.read_failures input.new ≡ I.read_failures input.old)) }
+    ensures unread { IfErr result (λ e. IsGameFault e → known.new ≡ known.old) }
+    ensures read { IsErrOf result RunFault.Read → (HasFailed (I.read_failures input.old) (I.read_failures input.new) × (known.new ≡ known.old)) ⊎ ((g : Graph) × IsReadGame (I.left input.old) g × HasFailed (K.read_failures known.old) (K.read_failures known.new)) }
+    ensures write { IsErrOf result RunFault.Write → HasFailed (O.write_failures out.old) (O.write_failures out.new) }
+    ensures cut { IsErrOf result RunFault.Write → (text : List ℕ) × IsSolved (I.left input.old) (K.left known.old) options.now.winners text × AppendsFront (O.taken out.old) (O.taken out.new) text }
+    ensures nothing { IfErr result (λ e. e ≢ RunFault.Write → Keeps (O.taken out.old) (O.taken out.new)) }
+{
+    let game = game_from(alloc, input)?;
+    let text = read_text(alloc, known)?;
+    let known = known_of(alloc, &game, text.as_slice())?;
+    let text = solve_text(rt, alloc, &game, &known, options, gate, finder)?;
+    write_all(text.as_slice(), out)
+}
+
+/// Reads a game of which nothing is known, solves it, and writes its solution or its winners.
+fn solve_alone<I: Source, O: Sink, R: Threads + Wait + Sync>(
     rt: &R,
     alloc: Global,
     input: &mut I,
@@ -103,18 +151,56 @@ pub fn run_solve<I: Source, O: Sink, R: Threads + Wait + Sync>(
 ) -> Result<(), RunFault>
     requires workers { (1 ≤ options.now.workers) × (options.now.workers ≤ 64) }
     requires bound { options.now.bound ≤ 8 }
-    ensures written { OnOk result ((g : Graph) × (text : List ℕ) × IsReadGame (I.left input.old) g × IsSolveText options.now.winners g text × Appends (O.taken out.old) (O.taken out.new) text) }
+    ensures written { OnOk result ((text : List ℕ) × IsSolved (I.left input.old) (Some []) options.now.winners text × Appends (O.taken out.old) (O.taken out.new) text) }
     ensures no_read_failure { (IsErrOf result RunFault.Read → ⊥) → I.read_failures input.new ≡ I.read_failures input.old }
     ensures no_write_failure { (IsErrOf result RunFault.Write → ⊥) → O.write_failures out.new ≡ O.write_failures out.old }
     ensures fault { IfErr result (λ e. (e ≡ RunFault.Write) ⊎ IsNoGame (I.left input.old) e) }
     ensures read { IsErrOf result RunFault.Read → HasFailed (I.read_failures input.old) (I.read_failures input.new) }
     ensures write { IsErrOf result RunFault.Write → HasFailed (O.write_failures out.old) (O.write_failures out.new) }
-    ensures cut { IsErrOf result RunFault.Write → (g : Graph) × (text : List ℕ) × IsReadGame (I.left input.old) g × IsSolveText options.now.winners g text × AppendsFront (O.taken out.old) (O.taken out.new) text }
+    ensures cut { IsErrOf result RunFault.Write → (text : List ℕ) × IsSolved (I.left input.old) (Some []) options.now.winners text × AppendsFront (O.taken out.old) (O.taken out.new) text }
     ensures nothing { IfErr result (λ e. e ≢ RunFault.Write → Keeps (O.taken out.old) (O.taken out.new)) }
 {
     let game = game_from(alloc, input)?;
-    let text = solve_text(rt, alloc, &game, options, gate, finder)?;
+    let _n = game.len();
+    let known = nothing_known(alloc, &game)?;
+    let text = solve_text(rt, alloc, &game, &known, options, gate, finder)?;
     write_all(text.as_slice(), out)
+}
+
+/// Reads a game, and where it is given what is known of the game, solves it, and writes its solution, or with `winners`
+/// its winners alone, which are a function of the game. The game is read and judged before what is known is read.
+///
+/// Of the known text each player's set is posted first, as any claim is. `Known` where one is refused: it is no region
+/// of its player, and the fault says by identifiers what it was refused for.
+pub fn run_solve<I: Source, K: Source, O: Sink, R: Threads + Wait + Sync>(
+    rt: &R,
+    alloc: Global,
+    input: &mut I,
+    known: Option<&mut K>,
+    out: &mut O,
+    options: &SolveOptions,
+    gate: &impl Gate,
+    finder: &impl Finder,
+) -> Result<(), RunFault>
+    requires workers { (1 ≤ options.now.workers) × (options.now.workers ≤ 64) }
+    requires bound { options.now.bound ≤ 8 }
+    ensures written { OnOk result ((text : List ℕ) × IsSolved (I.left input.old) (left_in K.left known.entry) options.now.winners text × Appends (O.taken out.old) (O.taken out.new) text) }
+    ensures no_read_failure { (IsErrOf result RunFault.Read → ⊥) → I.read_failures input.new ≡ I.read_failures input.old }
+    ensures no_known_failure { (IsErrOf result RunFault.Read → ⊥) → IfGiven (λ old new. K.read_failures new ≡ K.read_failures old) known.entry known.exit }
+    ensures no_write_failure { (IsErrOf result RunFault.Write → ⊥) → O.write_failures out.new ≡ O.write_failures out.old }
+    ensures fault { IfErr result (λ e. (e ≡ RunFault.Write) ⊎ (IsNoGame (I.left input.old) e ⊎ ((g : Graph) × IsReadGame (I.left input.old) g × IsNotKnown g (left_in K.left known.entry) e))) }
+    ensures alone { IfErr result (λ e. known.entry ≡ None → (e ≡ RunFault.Write) ⊎ IsNoGame (I.left input.old) e) }
+    ensures order { IfGiven (λ old new. new ≡ old) known.entry known.exit ⊎ ((g : Graph) × IsReadGame (I.left input.old) g × (I.read_failures input.new ≡ I.read_failures input.old)) }
+    ensures unread { IfErr result (λ e. IsGameFault e → IfGiven (λ old new. new ≡ old) known.entry known.exit) }
+    ensures read { IsErrOf result RunFault.Read → (HasFailed (I.read_failures input.old) (I.read_failures input.new) × IfGiven (λ old new. new ≡ old) known.entry known.exit) ⊎ ((g : Graph) × IsReadGame (I.left input.old) g × OnGiven (λ old new. HasFailed (K.read_failures old) (K.read_failures new)) known.entry known.exit) }
+    ensures write { IsErrOf result RunFault.Write → HasFailed (O.write_failures out.old) (O.write_failures out.new) }
+    ensures cut { IsErrOf result RunFault.Write → (text : List ℕ) × IsSolved (I.left input.old) (left_in K.left known.entry) options.now.winners text × AppendsFront (O.taken out.old) (O.taken out.new) text }
+    ensures nothing { IfErr result (λ e. e ≢ RunFault.Write → Keeps (O.taken out.old) (O.taken out.new)) }
+{
+    match known {
+        Some(known) => solve_knowing(rt, alloc, input, known, out, options, gate, finder),
+        None => solve_alone(rt, alloc, input, out, options, gate, finder),
+    }
 }
 
 /// Reads a game, solves it, and writes the journal of the run and what became of each job.

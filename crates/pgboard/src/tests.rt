@@ -7,6 +7,7 @@ mod faults;
 mod finders;
 mod games;
 mod held;
+mod knowing;
 mod runs;
 mod solving;
 mod tracing;

@@ -1,31 +1,41 @@
 //! Where memory is refused, nothing has changed, and the same call with memory is accepted.
 //!
-//! With ample memory these tests pass without meeting a refusal. `tests/refuse.c` of the repository, loaded before the
-//! test program, refuses the allocation of a number. In a shell, for a test NAME of this file:
-//!
-//! ```text
-//! cc -shared -fPIC -o refuse.so tests/refuse.c -ldl
-//! COUNTS=all LD_PRELOAD=./refuse.so crates/pg_board/out/pg_board_tests NAME; read last _ < all
-//! for n in $(seq 1 $last); do
-//!   REFUSE_ALLOC=$n LD_PRELOAD=./refuse.so crates/pg_board/out/pg_board_tests NAME
-//! done
-//! ```
-//!
-//! Each run passes, or says that memory was refused while the test made its games and claims or noted what there was.
+//! With ample memory these tests pass without meeting a refusal. `tests/refused_calls.py` of the repository runs each of
+//! them with one allocation after another refused. A run passes, or says that memory was refused to what the test needs
+//! itself.
 
 ghost use Rattle.std.specs.Prelude.{◌≡◌};
 
-use crate::tests::games::{EVEN, ODD, Row, claim_of, shared_game};
+use crate::tests::games::{EVEN, ODD, Row};
 use crate::{Board, Entry, Office, Posted, Refusal, Share};
 use pg_dominion::{Checked, Claim, check_claim};
 use pg_finders::Copied;
-use pg_game::{Game, Player};
+use pg_game::{Game, Memory, Player, Sequence};
+use pg_text::{Solution, read_game};
 use std::alloc::Global;
 use std::marker::Brand;
 use std::process::Abort;
 use std::sync::Wait;
 use std::sync::ledger::{Blank, Ledger};
 use std::test::Fail;
+
+/// Even's loop, a vertex of Odd's that has to go there, and Odd's loop.
+const SHARED: &[u8] = b"0 0 0 0; 1 0 1 0; 2 1 1 2;";
+
+/// What the test needs itself, or its one message where memory is refused to that.
+fn needed<T, E: Drop>(made: Result<T, E>) -> Result<T, Fail> {
+    match made {
+        Ok(value) => Ok(value),
+        Err(_) => Err(Fail::from("no memory for the test itself")),
+    }
+}
+
+fn claim_of(alloc: Global, player: Player, rows: &[Row]) -> Result<Claim, Fail> {
+    Ok(Claim {
+        player,
+        rows: Sequence::new(needed(Vec::from_slice(alloc, rows))?),
+    })
+}
 
 /// What an entry says.
 type Told = (u32, Player, u32, Vec<Row>);
@@ -36,8 +46,8 @@ type Contents = (Vec<bool>, u64, u64);
 fn told(alloc: Global, entries: &[Entry]) -> Result<Vec<Told>, Fail> {
     let mut all = Vec::new(alloc);
     for entry in entries {
-        let rows = Vec::from_slice(alloc, entry.rows.as_slice())?;
-        all.push((entry.worker, entry.player, entry.claimed, rows))?;
+        let rows = needed(Vec::from_slice(alloc, entry.rows.as_slice()))?;
+        needed(all.push((entry.worker, entry.player, entry.claimed, rows)))?;
     }
     Ok(all)
 }
@@ -46,16 +56,13 @@ fn contents(alloc: Global, copied: &Copied) -> Result<Contents, Fail> {
     let mask = copied.inside.mask();
     let mut vertices = Vec::new(alloc);
     for v in 0..mask.len() {
-        vertices.push(mask.has(v))?;
+        needed(vertices.push(mask.has(v)))?;
     }
     Ok((vertices, copied.at, copied.settled))
 }
 
 fn checked_on(alloc: Global, game: &Game, claim: &Claim) -> Result<Checked, Fail> {
-    match check_claim(alloc, game, claim) {
-        Ok(checked) => Ok(checked),
-        Err(_) => Err(Fail::from("the claim is not checked, which ample memory allows")),
-    }
+    needed(check_claim(alloc, game, claim))
 }
 
 /// A call of a board.
@@ -81,11 +88,11 @@ fn accepted(
     want: Posted,
 ) -> Result<(), Fail> {
     let entries = told(alloc, board.entries())?;
-    let copied = contents(alloc, &board.copy(alloc)?)?;
+    let copied = contents(alloc, &needed(board.copy(alloc))?)?;
     let mut found = answer(alloc, board, asked);
     if found == Err(Refusal::Memory) {
         assert_eq!(rt; told(alloc, board.entries())?, entries);
-        assert_eq!(rt; contents(alloc, &board.copy(alloc)?)?, copied);
+        assert_eq!(rt; contents(alloc, &needed(board.copy(alloc))?)?, copied);
         assert_eq!(rt; board.settled(), copied.2);
         found = answer(alloc, board, asked);
     }
@@ -122,10 +129,10 @@ const SECOND: Posted = Posted {
 #[test]
 fn a_post_without_memory_changes_nothing_and_is_then_accepted(rt: HostRuntime) -> Result<(), Fail> {
     let alloc = rt.alloc();
-    let game = shared_game(alloc)?;
+    let game = needed(read_game(alloc, SHARED))?;
     let even = claim_of(alloc, EVEN, &[(0, Some(0))])?;
     let odd = claim_of(alloc, ODD, &[(2, Some(2))])?;
-    let mut board = Board::open(alloc, &game)?;
+    let mut board = needed(Board::open(alloc, &game))?;
     accepted(&rt, alloc, &mut board, &Asked::Post(&even), FIRST)?;
     accepted(&rt, alloc, &mut board, &Asked::Post(&odd), SECOND)?;
     compare_entries(&rt, board.entries());
@@ -137,12 +144,55 @@ fn a_settle_without_memory_changes_nothing_and_is_then_accepted(
     rt: HostRuntime,
 ) -> Result<(), Fail> {
     let alloc = rt.alloc();
-    let game = shared_game(alloc)?;
+    let game = needed(read_game(alloc, SHARED))?;
     let even = checked_on(alloc, &game, &claim_of(alloc, EVEN, &[(0, Some(0))])?)?;
     let odd = checked_on(alloc, &game, &claim_of(alloc, ODD, &[(2, Some(2))])?)?;
-    let mut board = Board::open(alloc, &game)?;
+    let mut board = needed(Board::open(alloc, &game))?;
     accepted(&rt, alloc, &mut board, &Asked::Settle(&even), FIRST)?;
     accepted(&rt, alloc, &mut board, &Asked::Settle(&odd), SECOND)?;
+    compare_entries(&rt, board.entries());
+    Ok(())
+}
+
+fn opened_twice<'g>(alloc: Global, game: &'g Game) -> Result<Board<'g>, Memory> {
+    match Board::open(alloc, game) {
+        Ok(board) => Ok(board),
+        Err(_) => Board::open(alloc, game),
+    }
+}
+
+fn copied_twice<'g>(alloc: Global, board: &Board<'g>) -> Result<Copied<'g>, Memory> {
+    match board.copy(alloc) {
+        Ok(copied) => Ok(copied),
+        Err(_) => board.copy(alloc),
+    }
+}
+
+fn solution_twice(alloc: Global, board: &Board) -> Result<Option<Solution>, Memory> {
+    match board.solution(alloc) {
+        Ok(solution) => Ok(solution),
+        Err(_) => board.solution(alloc),
+    }
+}
+
+#[test]
+fn a_board_is_opened_copied_and_read_after_a_refusal(rt: HostRuntime) -> Result<(), Fail> {
+    let alloc = rt.alloc();
+    let game = needed(read_game(alloc, SHARED))?;
+    let mut board = opened_twice(alloc, &game)?;
+    let copied = copied_twice(alloc, &board)?;
+    assert_eq!(rt; copied.inside.mask().count(), 3);
+    assert!(rt; copied.at == 0 && copied.settled == 0);
+    assert!(rt; solution_twice(alloc, &board)?.is_none());
+    let even = claim_of(alloc, EVEN, &[(0, Some(0))])?;
+    let odd = claim_of(alloc, ODD, &[(2, Some(2))])?;
+    assert_eq!(rt; needed(board.post(alloc, 7, &even))?, FIRST);
+    assert_eq!(rt; needed(board.post(alloc, 7, &odd))?, SECOND);
+    let Some(solution) = solution_twice(alloc, &board)? else {
+        return Err(Fail::from("the board is not full"));
+    };
+    let want = [(EVEN, Some(0)), (EVEN, None), (ODD, Some(2))];
+    assert!(rt; solution.rows.as_slice() == want.as_slice());
     compare_entries(&rt, board.entries());
     Ok(())
 }
@@ -169,12 +219,15 @@ fn accepted_through<L: Ledger, R: Wait + Abort>(
     asked: &Asked,
     want: u32,
 ) -> Result<(), Fail> {
-    let copied = contents(alloc, &office.copy(rt, alloc, share)?)?;
+    let copied = contents(alloc, &needed(office.copy(rt, alloc, share))?)?;
     let amount = share.amount();
     let mut found = answer_through(rt, alloc, office, share, asked);
     if found == Err(Refusal::Memory) {
         assert_eq!(rt; share.amount(), amount);
-        assert_eq!(rt; contents(alloc, &office.copy(rt, alloc, share)?)?, copied);
+        assert_eq!(rt;
+            contents(alloc, &needed(office.copy(rt, alloc, share))?)?,
+            copied
+        );
         found = answer_through(rt, alloc, office, share, asked);
     }
     assert_eq!(rt; found, Ok(want));
@@ -193,7 +246,9 @@ fn accepted_by_office<L: Ledger, R: Wait + Abort>(
     requires name { blank.name ≡ L.name }
     requires parts { (blank.parts ≡ L.parts) × (blank.parts ≡ 2) }
 {
-    let (office, mut shares) = Office::<L>::open(alloc, blank, game, 2)?;
+    let Ok((office, mut shares)) = Office::<L>::open(alloc, blank, game, 2) else {
+        return Err(Fail::from("no memory for the test itself"));
+    };
     accepted_through(rt, alloc, &office, &mut shares[0], even, 2)?;
     accepted_through(rt, alloc, &office, &mut shares[1], odd, 1)?;
     compare_entries(rt, office.close(shares).entries());
@@ -205,7 +260,7 @@ fn a_share_is_unchanged_by_a_post_without_memory_which_is_then_accepted(
     rt: HostRuntime,
 ) -> Result<(), Fail> {
     let alloc = rt.alloc();
-    let game = shared_game(alloc)?;
+    let game = needed(read_game(alloc, SHARED))?;
     let even = claim_of(alloc, EVEN, &[(0, Some(0))])?;
     let odd = claim_of(alloc, ODD, &[(2, Some(2))])?;
     let (even, odd) = (Asked::Post(&even), Asked::Post(&odd));
@@ -217,7 +272,7 @@ fn a_share_is_unchanged_by_a_settle_without_memory_which_is_then_accepted(
     rt: HostRuntime,
 ) -> Result<(), Fail> {
     let alloc = rt.alloc();
-    let game = shared_game(alloc)?;
+    let game = needed(read_game(alloc, SHARED))?;
     let even = checked_on(alloc, &game, &claim_of(alloc, EVEN, &[(0, Some(0))])?)?;
     let odd = checked_on(alloc, &game, &claim_of(alloc, ODD, &[(2, Some(2))])?)?;
     let (even, odd) = (Asked::Settle(&even), Asked::Settle(&odd));

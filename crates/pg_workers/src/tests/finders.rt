@@ -51,10 +51,10 @@ impl Finder for Singles {
     }
 }
 
-/// All vertices, with the player's least successors as choices.
-fn whole(alloc: Global, game: &Game, player: Player) -> Result<Claim, Memory> {
+/// So many rows for a player, rising from 0, with least successors as choices.
+fn rising(alloc: Global, game: &Game, player: Player, count: u32) -> Result<Claim, Memory> {
     let mut rows = Vec::new(alloc);
-    for v in 0..game.len() {
+    for v in 0..count {
         rows.push(least_row(game, v, player))?;
     }
     Ok(Claim {
@@ -70,8 +70,8 @@ impl Finder for Wholes {
     fn find(&self, alloc: Global, copied: &Copied, _job: &Job) -> Result<Found, Memory> {
         let game = copied.inside.game();
         let mut claims = Vec::new(alloc);
-        claims.push(whole(alloc, game, EVEN)?)?;
-        claims.push(whole(alloc, game, ODD)?)?;
+        claims.push(rising(alloc, game, EVEN, game.len())?)?;
+        claims.push(rising(alloc, game, ODD, game.len())?)?;
         Ok(found(claims))
     }
 }
@@ -124,6 +124,38 @@ impl Finder for FirstSolution {
     }
 }
 
+/// Claims every vertex alone as `Singles` does, and then the solution of the first copy for ever, of which a part is
+/// settled by then.
+#[derive(Drop)]
+pub struct Overlapping {
+    first: FirstSolution,
+}
+
+impl Overlapping {
+    pub fn new() -> Overlapping {
+        Overlapping {
+            first: FirstSolution::new(),
+        }
+    }
+}
+
+impl Finder for Overlapping {
+    fn find(&self, alloc: Global, copied: &Copied, job: &Job) -> Result<Found, Memory> {
+        let Found {
+            mut claims,
+            gave_up: _,
+        } = Singles.find(alloc, copied, job)?;
+        let Found {
+            claims: more,
+            gave_up: _,
+        } = self.first.find(alloc, copied, job)?;
+        for claim in more {
+            claims.push(claim)?;
+        }
+        Ok(found(claims))
+    }
+}
+
 /// Answers want of memory to every job.
 pub struct NoMemory;
 
@@ -148,6 +180,29 @@ impl<'a> Finder for Fixed<'a> {
                 claims.push(claim_of(alloc, *player, *rows)?)?;
             }
         }
+        Ok(found(claims))
+    }
+}
+
+/// Claims in the first job so many rows for each player, rising past the game's end, and as many rows of the first vertex,
+/// each the same; and in each job the last vertex for Odd by itself.
+#[derive(Drop)]
+pub struct Long {
+    pub count: u32,
+}
+
+impl Finder for Long {
+    fn find(&self, alloc: Global, copied: &Copied, job: &Job) -> Result<Found, Memory> {
+        let game = copied.inside.game();
+        let mut claims = Vec::new(alloc);
+        if *job == Job::Loops {
+            claims.push(rising(alloc, game, EVEN, self.count)?)?;
+            claims.push(rising(alloc, game, ODD, self.count)?)?;
+            let equal = vec![in alloc; least_row(game, 0, EVEN); self.count as usize]?;
+            claims.push(claim_of(alloc, EVEN, equal.as_slice())?)?;
+        }
+        let last = game.len().saturating_sub(1);
+        claims.push(claim_of(alloc, ODD, &[(last, Some(last))])?)?;
         Ok(found(claims))
     }
 }

@@ -3,10 +3,11 @@
 ghost use Rattle.std.specs.Prelude.{◌≤◌, All, IfOk, length};
 ghost use Rattle.pg_game.specs.Specification.{AreNumbers};
 
-use crate::{Gate, Options, Outcome, Pass, solve_game};
+use crate::tests::reference::{Plain, has};
+use crate::{Gate, Options, Outcome, Pass, SolveFault, solve_game};
 use pg_finders::Finder;
 use pg_game::{Game, Player, Sequence, Spec};
-use pg_text::read_game;
+use pg_text::{read_game, read_known};
 use std::alloc::Global;
 use std::sync::Wait;
 use std::test::Fail;
@@ -49,6 +50,85 @@ pub fn own_loops(alloc: Global, n: u32) -> Result<Game, Fail> {
     Ok(Game::from_specs(alloc, own_loop_specs(alloc, n)?)?)
 }
 
+/// The members of a set, rising.
+fn vertices_of(alloc: Global, set: u32) -> Result<Vec<u32>, Fail> {
+    let mut vertices = Vec::new(alloc);
+    for v in 0..32 {
+        if has(set, v) {
+            vertices.push(v)?;
+        }
+    }
+    Ok(vertices)
+}
+
+/// Adds a vertex of the reference's form.
+fn add_plain(alloc: Global, specs: &mut Vec<Spec>, vertex: Plain) -> Result<(), Fail>
+    requires { All AreNumbers specs.old.items }
+    ensures { All AreNumbers specs.new.items }
+{
+    let (priority, owner, successors) = vertex;
+    specs.push(Spec {
+        id: specs.len().min(65_536) as u32,
+        priority: priority.min(2_147_483_647),
+        owner,
+        successors: Sequence::new(vertices_of(alloc, successors)?),
+    })?;
+    Ok(())
+}
+
+fn plain_specs(alloc: Global, game: &[Plain]) -> Result<Vec<Spec>, Fail>
+    ensures { IfOk result (λ specs. All AreNumbers specs.items) }
+{
+    let mut specs = Vec::new(alloc);
+    'vertices: for vertex in game {
+        add_plain(alloc, &mut specs, *vertex)?;
+    }
+    Ok(specs)
+}
+
+/// The game of the reference's form.
+pub fn game_of_sets(alloc: Global, game: &[Plain]) -> Result<Game, Fail> {
+    Ok(Game::from_specs(alloc, plain_specs(alloc, game)?)?)
+}
+
+/// A run on a game of which nothing is known.
+pub fn solved<R: Threads + Wait + Sync>(
+    rt: &R,
+    alloc: Global,
+    game: &Game,
+    options: &Options,
+    gate: &impl Gate,
+    finder: &impl Finder,
+) -> Result<Outcome, SolveFault>
+    requires workers { (1 ≤ options.now.workers) × (options.now.workers ≤ 64) }
+    requires bound { options.now.bound ≤ 8 }
+{
+    let nothing = match read_known(alloc, game, b"") {
+        Ok(known) => known,
+        Err(_) => return Err(SolveFault::Memory),
+    };
+    solve_game(rt, alloc, game, options, &nothing, gate, finder)
+}
+
+/// A run with so many workers and the product's bounds.
+pub fn run_on<R: Threads + Wait + Sync>(
+    rt: &R,
+    alloc: Global,
+    game: &Game,
+    workers: u32,
+    gate: &impl Gate,
+    finder: &impl Finder,
+) -> Result<Outcome, SolveFault>
+    requires workers { (1 ≤ workers) × (workers ≤ 64) }
+{
+    let options = Options {
+        workers,
+        bound: 4,
+        budget: 10_000,
+    };
+    solved(rt, alloc, game, &options, gate, finder)
+}
+
 /// A run on a game's text, with a gate.
 pub fn gated_outcome<R: Threads + Wait + Sync>(
     rt: &R,
@@ -62,12 +142,7 @@ pub fn gated_outcome<R: Threads + Wait + Sync>(
     requires workers { (1 ≤ workers) × (workers ≤ 64) }
 {
     let game = read_game(alloc, text)?;
-    let options = Options {
-        workers,
-        bound: 4,
-        budget: 10_000,
-    };
-    Ok(solve_game(rt, alloc, &game, &options, gate, finder)?)
+    Ok(run_on(rt, alloc, &game, workers, gate, finder)?)
 }
 
 /// A run on a game's text.
@@ -82,4 +157,27 @@ pub fn outcome_of<R: Threads + Wait + Sync>(
     requires workers { (1 ≤ workers) × (workers ≤ 64) }
 {
     gated_outcome(rt, alloc, text, workers, &Pass, finder)
+}
+
+/// A run on a game's text, with what a text says is known.
+pub fn known_run<R: Threads + Wait + Sync>(
+    rt: &R,
+    alloc: Global,
+    text: &[u8],
+    known: &[u8],
+    workers: u32,
+    finder: &impl Finder,
+) -> Result<Result<Outcome, SolveFault>, Fail>
+    requires text { length text.now ≤ 268435456 }
+    requires known { length known.now ≤ 268435456 }
+    requires workers { (1 ≤ workers) × (workers ≤ 64) }
+{
+    let game = read_game(alloc, text)?;
+    let known = read_known(alloc, &game, known)?;
+    let options = Options {
+        workers,
+        bound: 4,
+        budget: 10_000,
+    };
+    Ok(solve_game(rt, alloc, &game, &options, &known, &Pass, finder))
 }

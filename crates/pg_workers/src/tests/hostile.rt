@@ -3,7 +3,7 @@
 ghost use Rattle.std.specs.Prelude.{◌≤◌};
 
 use crate::tests::finders::{
-    EVEN, FirstSolution, Fixed, Misshapen, NoMemory, ODD, Singles, Wholes,
+    EVEN, FirstSolution, Fixed, Long, Misshapen, NoMemory, ODD, Singles, Wholes,
 };
 use crate::tests::games::{CONTINENTS, outcome_of};
 use pg_finders::{Finder, Standard};
@@ -118,8 +118,19 @@ fn even_wins_the_continents_where_one_claim_is_made_a_thousand_times(
     rt: HostRuntime,
 ) -> Result<(), Fail> {
     let finder = Fixed {
-        claims: &[(EVEN, &[(1, None), (4, Some(1))]), (ODD, &[(0, Some(2))])],
+        claims: &[
+            (
+                EVEN,
+                &[(0, None), (1, None), (2, Some(1)), (3, Some(4)), (4, None)],
+            ),
+            (ODD, &[(0, Some(2))]),
+        ],
         times: 1_000,
     };
     even_wins(&rt, rt.alloc(), &finder)
+}
+
+#[test]
+fn even_wins_the_continents_where_a_million_rows_are_claimed(rt: HostRuntime) -> Result<(), Fail> {
+    even_wins_with(&rt, rt.alloc(), 2, &Long { count: 1_000_000 })
 }

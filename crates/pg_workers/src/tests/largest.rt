@@ -1,8 +1,8 @@
 //! The largest claim of the largest game.
 
 use crate::tests::finders::Wholes;
-use crate::tests::games::own_loops;
-use crate::{Options, Pass, solve_game};
+use crate::tests::games::{own_loops, solved};
+use crate::{Options, Pass};
 use std::test::*;
 
 /// Even's claim of all vertices settles them at once; Odd's is refused.
@@ -15,7 +15,7 @@ fn all_vertices_of_the_largest_game_are_settled_by_one_claim(rt: HostRuntime) ->
         bound: 0,
         budget: 0,
     };
-    let outcome = solve_game(&rt, alloc, &game, &options, &Pass, &Wholes)?;
+    let outcome = solved(&rt, alloc, &game, &options, &Pass, &Wholes)?;
     let mut counts = Vec::new(alloc);
     for row in outcome.report.iter() {
         counts.push([row.posted, row.settled, row.stale, row.refused])?;

@@ -1,6 +1,6 @@
 //! What the report says of each job, on runs with one worker.
 
-use crate::tests::finders::{EVEN, Fixed, Halting, NoMemory, ODD, Singles};
+use crate::tests::finders::{EVEN, Fixed, Halting, Long, NoMemory, ODD, Singles};
 use crate::tests::games::{TWO_LOOPS, outcome_of};
 use crate::{Outcome, ReportRow};
 use pg_finders::{Finder, Standard};
@@ -86,6 +86,13 @@ fn claims_that_the_check_or_the_board_refuses_count_as_refused(
         times: 1,
     };
     assert_counts(&rt, rt.alloc(), &finder, [1, 1, 0, 3], [0, 0, 2, 2])
+}
+
+/// Three claims of a million rows each are refused, and the good one behind them is posted.
+#[test]
+fn a_worker_goes_on_after_claims_of_a_million_rows(rt: HostRuntime) -> Result<(), Fail> {
+    let finder = Long { count: 1_000_000 };
+    assert_counts(&rt, rt.alloc(), &finder, [1, 1, 0, 3], [0, 0, 1, 0])
 }
 
 #[test]

@@ -1,9 +1,9 @@
 //! Workers run at once, whatever order they come in, and are given each job.
 
 use crate::tests::finders::{EVEN, NoMemory, ODD, Recorder, Watcher};
-use crate::tests::games::{TWO_LOOPS, gated_outcome, own_loops};
+use crate::tests::games::{TWO_LOOPS, gated_outcome, own_loops, solved};
 use crate::tests::gates::{Alternating, Holder};
-use crate::{Options, Pass, solve_game};
+use crate::{Options, Pass};
 use pg_finders::{Finder, Job, Standard};
 use pg_game::Player;
 use std::alloc::Global;
@@ -84,7 +84,7 @@ fn a_worker_is_given_each_job_in_order(rt: HostRuntime) -> Result<(), Fail> {
         jobs.push(OnceLock::new())?;
     }
     let recorder = Recorder { jobs };
-    let outcome = solve_game(&rt, alloc, &game, &options, &Pass, &recorder)?;
+    let outcome = solved(&rt, alloc, &game, &options, &Pass, &recorder)?;
     assert!(rt; outcome.report.len() == 7);
     let expected = [
         Some(Job::Loops),

@@ -1,9 +1,13 @@
 //! Runs over bytes in memory, whose devices tell them all: what the runs promise, said of the bytes themselves.
-ghost use Rattle.std.specs.Prelude.{◌≡◌, ◌≤◌, IfOk, length};
+ghost use Rattle.std.specs.Prelude.{◌≡◌, ◌≤◌, false, IfOk, length};
+ghost use Rattle.pg_game.specs.declared.player.Player.{Player};
 ghost use Rattle.pg_game.specs.Graph.{Graph};
+ghost use Rattle.pg_text.specs.Known.{KnownRows, IsKnownTextOf};
 ghost use Rattle.pg_text.specs.Reading.{IsTextOf};
 ghost use Rattle.pg_text.specs.Winners.{IsWinnersText};
+ghost use Rattle.pg_workers.specs.Known.{IsKnownRegion};
 ghost use Rattle.pgboard.specs.Joined.{max_text, IsJudged, verdict_line};
+ghost use Rattle.pgboard.specs.Solving.{IsSolveText};
 
 use super::Std;
 use crate::fault::RunFault;
@@ -50,7 +54,41 @@ fn winners_of<R: Threads + Wait + Sync>(
     };
     let mut out = Std::new(Vec::new(alloc));
     let mut input = Std::new(game);
-    run_solve(rt, alloc, &mut input, &mut out, &options, &Pass, &Standard)?;
+    let known = None::<&mut Std<&[u8]>>;
+    run_solve(
+        rt, alloc, &mut input, known, &mut out, &options, &Pass, &Standard,
+    )?;
+    Ok(out.inner)
+}
+
+/// A solution of the game that a text spells, found from what another text says that is known of it.
+fn solution_from<R: Threads + Wait + Sync>(
+    rt: &R,
+    alloc: Global,
+    game: &[u8],
+    known: &[u8],
+) -> Result<Vec<u8>, RunFault>
+    ensures game { IfOk result (λ text. (g : Graph) × (rows : KnownRows) × IsTextOf game.now g × IsKnownTextOf g known.now rows × ((p : Player) → IsKnownRegion g rows p) × IsSolveText false g text.items) }
+    ensures within { IfOk result (λ _. (length game.now ≤ max_text) × (length known.now ≤ max_text)) }
+{
+    let options = SolveOptions {
+        workers: 1,
+        bound: 4,
+        winners: false,
+    };
+    let mut out = Std::new(Vec::new(alloc));
+    let mut input = Std::new(game);
+    let mut known = Std::new(known);
+    run_solve(
+        rt,
+        alloc,
+        &mut input,
+        Some(&mut known),
+        &mut out,
+        &options,
+        &Pass,
+        &Standard,
+    )?;
     Ok(out.inner)
 }
 
@@ -66,5 +104,15 @@ fn a_verdict_on_bytes_in_memory_is_told_with_its_line(rt: HostRuntime) -> Result
 fn winners_of_bytes_in_memory_are_told(rt: HostRuntime) -> Result<(), Fail> {
     let text = winners_of(&rt, rt.alloc(), b"0 0 0 0;", 2)?;
     assert_eq!(rt; text.as_slice(), b"paritysol 0;\n0 0;\n".as_slice());
+    Ok(())
+}
+
+#[test]
+fn a_solution_from_bytes_that_are_known_is_told(rt: HostRuntime) -> Result<(), Fail> {
+    let text = solution_from(&rt, rt.alloc(), b"0 2 0 0,1; 1 1 1 1;", b"1 1 1;")?;
+    assert_eq!(rt;
+        text.as_slice(),
+        b"paritysol 1;\n0 0 0;\n1 1 1;\n".as_slice()
+    );
     Ok(())
 }

@@ -1,5 +1,5 @@
 //! What was asked for is done with the options that were given, and ends with its status.
-ghost use Rattle.std.specs.Prelude.{◌≤◌};
+ghost use Rattle.std.specs.Prelude.{◌≤◌, IfOk};
 ghost use Rattle.pgboard.specs.Asking.{IsInRange};
 
 use super::devices::{Bounded, Pieces};
@@ -8,12 +8,12 @@ use super::games::ONE_EACH;
 use super::held::{Holder, TURNS, assert_alone, assert_at_once};
 use crate::answer::run_asked;
 use crate::asked::Asked;
-use crate::fault::{AskedFault, RunFault};
+use crate::fault::{AskedFault, KnownFault, RunFault};
 use crate::status_of;
 use pg_finders::{Finder, Standard};
 use pg_text::TextFault;
 use pg_workers::{Gate, Pass};
-use std::alloc::Global;
+use std::alloc::{AllocError, Global};
 use std::process::Abort;
 use std::sync::Wait;
 use std::sync::atomic::Ordering;
@@ -37,13 +37,13 @@ fn assert_answer<R: Threads + Wait + Abort + Sync>(
 {
     let mut out = Bounded::ample(alloc);
     let mut input = Pieces::whole(input);
-    let mut solution = Pieces::whole(OTHER);
+    let mut second = Pieces::whole(OTHER);
     let answer = run_asked(
         rt,
         alloc,
         asked,
         &mut input,
-        &mut solution,
+        &mut second,
         &mut out,
         &Pass,
         &Standard,
@@ -84,6 +84,7 @@ fn a_game_is_solved_with_choices_or_without(rt: HostRuntime) -> Result<(), Fail>
         workers: 1,
         bound: 4,
         winners: false,
+        known: None,
         game: None,
     };
     let want = "paritysol 1;\n0 0 0;\n1 1 1;\n";
@@ -123,8 +124,58 @@ fn solve_by(workers: u32, bound: u32) -> Asked
         workers,
         bound,
         winners: true,
+        known: None,
         game: None,
     }
+}
+
+/// To solve by one worker, from what a file says.
+fn solve_knowing(alloc: Global) -> Result<Asked, AllocError>
+    ensures { IfOk result IsInRange }
+{
+    Ok(Asked::Solve {
+        workers: 1,
+        bound: 4,
+        winners: false,
+        known: Some(String::from_str(alloc, "k")?),
+        game: None,
+    })
+}
+
+/// The answer where Even is known to win both vertices of the game of two winners, which is read where it is known.
+fn answer_knowing<R: Threads + Wait + Sync>(
+    rt: &R,
+    alloc: Global,
+    asked: &Asked,
+) -> (Result<u8, RunFault>, u64)
+    requires { IsInRange asked.now }
+{
+    let mut out = Bounded::ample(alloc);
+    let mut input = Pieces::whole(ONE_EACH);
+    let mut second = Pieces::whole(OTHER);
+    let answer = run_asked(
+        rt,
+        alloc,
+        asked,
+        &mut input,
+        &mut second,
+        &mut out,
+        &Pass,
+        &Standard,
+    );
+    (answer, second.reads)
+}
+
+#[test]
+fn what_is_known_is_read_where_it_was_asked_for(rt: HostRuntime) -> Result<(), Fail> {
+    let alloc = rt.alloc();
+    let (answer, reads) = answer_knowing(&rt, alloc, &solve_knowing(alloc)?);
+    assert_eq!(rt; answer, Err(RunFault::Known(KnownFault::Cycle(1))));
+    assert!(rt; reads > 0);
+    let (answer, reads) = answer_knowing(&rt, alloc, &solve_by(1, 4));
+    assert_eq!(rt; answer, Ok(0));
+    assert_eq!(rt; reads, 0);
+    Ok(())
 }
 
 #[test]
@@ -173,20 +224,20 @@ fn assert_refused<R: Threads + Wait + Abort + Sync>(rt: &R, alloc: Global, asked
 {
     let mut out = Bounded::ample(alloc);
     let mut input = Pieces::whole(b"0 0 0 1");
-    let mut solution = Pieces::whole(OTHER);
+    let mut second = Pieces::whole(OTHER);
     let answer = run_asked(
         rt,
         alloc,
         asked,
         &mut input,
-        &mut solution,
+        &mut second,
         &mut out,
         &Pass,
         &Standard,
     );
     assert_eq!(rt; answer, Err(RunFault::Game(TextFault::Syntax(7))));
     assert!(rt; out.taken.is_empty());
-    assert_eq!(rt; solution.reads, 0);
+    assert_eq!(rt; second.reads, 0);
 }
 
 #[test]
@@ -204,6 +255,7 @@ fn a_refused_game_is_refused_whatever_is_asked(rt: HostRuntime) -> Result<(), Fa
     assert_refused(&rt, alloc, &verify);
     assert_refused(&rt, alloc, &Asked::Tidy { game: None });
     assert_refused(&rt, alloc, &solve_by(1, 4));
+    assert_refused(&rt, alloc, &solve_knowing(alloc)?);
     assert_refused(&rt, alloc, &trace);
     Ok(())
 }
@@ -221,5 +273,6 @@ fn a_file_that_is_not_there_ends_with_status_4(rt: HostRuntime) -> Result<(), Fa
     let path = String::from_str(rt.alloc(), "/nowhere/at/all")?;
     let asked = Asked::Tidy { game: Some(path) };
     assert_eq!(rt; status_of(&rt, &rt, Ok(asked)), 4);
+    assert_eq!(rt; status_of(&rt, &rt, Ok(solve_knowing(rt.alloc())?)), 4);
     Ok(())
 }

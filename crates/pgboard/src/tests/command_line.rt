@@ -36,11 +36,19 @@ fn each_line_asks_for_what_it_says(rt: HostRuntime) -> Result<(), Fail> {
         (["tidy", "a"].as_slice(), "Tidy { game: Some(\"a\") }"),
         (
             ["solve"].as_slice(),
-            "Solve { workers: 4, bound: 4, winners: false, game: None }",
+            "Solve { workers: 4, bound: 4, winners: false, known: None, game: None }",
         ),
         (
             ["solve", "--workers", "64", "--bound=0", "--winners", "a"].as_slice(),
-            "Solve { workers: 64, bound: 0, winners: true, game: Some(\"a\") }",
+            "Solve { workers: 64, bound: 0, winners: true, known: None, game: Some(\"a\") }",
+        ),
+        (
+            ["solve", "--known", "k", "a"].as_slice(),
+            "Solve { workers: 4, bound: 4, winners: false, known: Some(\"k\"), game: Some(\"a\") }",
+        ),
+        (
+            ["solve", "--winners", "--known=-k"].as_slice(),
+            "Solve { workers: 4, bound: 4, winners: true, known: Some(\"-k\"), game: None }",
         ),
         (
             ["trace", "--workers", "2"].as_slice(),
@@ -50,7 +58,14 @@ fn each_line_asks_for_what_it_says(rt: HostRuntime) -> Result<(), Fail> {
         (["solve", "--workers", "65"].as_slice(), "words"),
         (["solve", "--bound", "9"].as_slice(), "words"),
         (["solve", "--workers", "x"].as_slice(), "words"),
+        (["solve", "--known"].as_slice(), "words"),
+        (
+            ["solve", "--known", "k", "--known", "l"].as_slice(),
+            "words",
+        ),
         (["trace", "--bound", "4"].as_slice(), "words"),
+        (["trace", "--known", "k"].as_slice(), "words"),
+        (["verify", "--known", "k", "a", "b"].as_slice(), "words"),
         (["verify", "a"].as_slice(), "words"),
         (["verify", "a", "b", "c"].as_slice(), "words"),
         (["tidy", "a", "b"].as_slice(), "words"),

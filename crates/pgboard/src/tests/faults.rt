@@ -1,5 +1,5 @@
 //! The text and the status of each fault.
-use crate::fault::{AskedFault, RunFault};
+use crate::fault::{AskedFault, KnownFault, RunFault};
 use pg_game::GameFault;
 use pg_text::{SolutionTextFault, TextFault};
 use std::test::Fail;
@@ -101,6 +101,22 @@ fn each_fault_has_its_text_and_status(rt: HostRuntime) -> Result<(), Fail> {
             RunFault::Solution(SolutionTextFault::Missing(1)),
             "solution: vertex 1: not written",
             3,
+        ),
+        (
+            RunFault::Known(KnownFault::Choice(1)),
+            "known: bad choice or none at 1",
+            1,
+        ),
+        (
+            RunFault::Known(KnownFault::Cycle(7)),
+            "known: bad cycle at 7",
+            1,
+        ),
+        (RunFault::Known(KnownFault::Lost(2)), "known: 2 is lost", 1),
+        (
+            RunFault::Known(KnownFault::Open(2, 1)),
+            "known: 2 leaves to 1",
+            1,
         ),
     ] {
         let line = fault.to_string(alloc)?;

@@ -3,6 +3,9 @@
 /// Both players win a vertex: 0 wins its own loop, and 1 loses by its own.
 pub const ONE_EACH: &[u8] = b"parity 1;\n0 2 0 0,1;\n1 1 1 1;\n";
 
+/// Even wins all: 0 by its own loop, 1 by moving to 0, and 2 since Odd can only move from it to 1.
+pub const LAYERS: &[u8] = b"0 0 0 0; 1 3 0 0,1; 2 3 1 1;";
+
 /// Five vertices with names; Even wins them all.
 pub const FIVE: &[u8] =
     b"parity 4; 0 6 1 4,2 \"Africa\"; 4 5 1 0 \"Antarctica\"; 1 8 1 2,4,3 \"America\"; 3 6 0 4,2 \"Australia\"; 2 7 0 3,1,0,4 \"Asia\";";

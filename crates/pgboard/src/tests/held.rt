@@ -121,7 +121,10 @@ fn held_solve<R: Threads + Wait + Abort + Sync>(
     let gate = Holder::new(held, TURNS);
     let mut input = Pieces::whole(ONE_EACH);
     let mut out = Bounded::ample(alloc);
-    run_solve(rt, alloc, &mut input, &mut out, &options, &gate, &Standard)?;
+    let known = None::<&mut Pieces<'_>>;
+    run_solve(
+        rt, alloc, &mut input, known, &mut out, &options, &gate, &Standard,
+    )?;
     assert_eq!(*rt;
         out.taken.as_slice(),
         b"paritysol 1;\n0 0;\n1 1;\n".as_slice()

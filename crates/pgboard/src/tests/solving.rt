@@ -3,7 +3,7 @@ ghost use Rattle.std.specs.Prelude.{◌≤◌};
 
 use super::devices::{Bounded, Pieces};
 use super::finders::{Recorder, Singles};
-use super::games::{FIVE, ONE_EACH};
+use super::games::{FIVE, LAYERS, ONE_EACH};
 use crate::fault::RunFault;
 use crate::solve::{SolveOptions, run_solve, run_trace};
 use pg_finders::{Finder, Standard};
@@ -29,7 +29,10 @@ fn solved<R: Threads + Wait + Sync>(
 {
     let mut out = Bounded::ample(alloc);
     let mut input = Pieces::whole(game);
-    run_solve(rt, alloc, &mut input, &mut out, options, &Pass, finder)?;
+    let known = None::<&mut Pieces<'_>>;
+    run_solve(
+        rt, alloc, &mut input, known, &mut out, options, &Pass, finder,
+    )?;
     Ok(out.taken)
 }
 
@@ -79,11 +82,7 @@ const WORKED: [(&[u8], bool, &str); 7] = [
         false,
         "paritysol 1;\n0 0 0;\n1 1 1;\n",
     ),
-    (
-        b"0 0 0 0; 1 3 0 0,1; 2 3 1 1;",
-        false,
-        "paritysol 2;\n0 0 0;\n1 0 0;\n2 0;\n",
-    ),
+    (LAYERS, false, "paritysol 2;\n0 0 0;\n1 0 0;\n2 0;\n"),
     (
         b"9 2 1 3,3,9; 3 1 0 9;",
         false,
@@ -187,7 +186,16 @@ fn a_refused_game_is_not_solved(rt: HostRuntime) -> Result<(), Fail> {
     ] {
         let mut out = Bounded::ample(alloc);
         let mut input = Pieces::whole(game);
-        let answer = run_solve(&rt, alloc, &mut input, &mut out, &options, &Pass, &Standard);
+        let answer = run_solve(
+            &rt,
+            alloc,
+            &mut input,
+            None::<&mut Pieces<'_>>,
+            &mut out,
+            &options,
+            &Pass,
+            &Standard,
+        );
         assert_eq!(rt; answer, Err(RunFault::Game(want)));
         assert!(rt; out.taken.is_empty());
     }

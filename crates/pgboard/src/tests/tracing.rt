@@ -1,7 +1,7 @@
 //! Whole texts of `trace`, by one worker, worked out by hand.
 use super::devices::{Bounded, Pieces};
 use super::finders::{NoMemory, Singles};
-use super::games::{EIGHT_TO_EACH, FOUR_AND_FIVE, ONE_EACH, SEVEN_TO_EACH};
+use super::games::{EIGHT_TO_EACH, FOUR_AND_FIVE, LAYERS, ONE_EACH, SEVEN_TO_EACH};
 use crate::solve::run_trace;
 use pg_finders::{Finder, Standard};
 use pg_workers::Pass;
@@ -37,7 +37,7 @@ fn a_loop_attracts_and_the_first_job_settles_all(rt: HostRuntime) -> Result<(), 
     assert_traced(
         &rt,
         rt.alloc(),
-        b"0 0 0 0; 1 3 0 0,1; 2 3 1 1;",
+        LAYERS,
         &Standard,
         "journal 1 3\nentry 0 1 0 1 3\n0 0;\n1 0;\n2;\nreport 5\n\
 job 0 1 1 3 0 0 0 0\njob 1 1 0 0 0 0 0 0\njob 2 1 0 0 0 0 0 0\njob 3 1 0 0 0 0 0 0\njob 4 1 0 0 0 0 0 0\n\

@@ -1,4 +1,4 @@
-use Rattle.std.proofs.Common.{◌≡◌, ◌++◌, drop, length, map, take}
+use Rattle.std.proofs.Common.{◌≡◌, ◌++◌, drop, map, take}
 use Rattle.pg_workers.specs.Report.{forgotten}
 use Rattle.pg_workers.proofs.report.forget_posts.Given as goal
 

@@ -1,4 +1,4 @@
-use Rattle.std.proofs.Common.{◌≡◌, ◌+◌, List, Vec, Global, ◌++◌, length, take, drop, sym, ap, ◌∙◌, subst, arith}
+use Rattle.std.proofs.Common.{◌≡◌, ◌+◌, List, ◌++◌, length, take, drop, sym, ap, ◌∙◌, subst, arith}
 use Rattle.pg_workers.specs.declared.report.ReportRow.{ReportRow}
 use Rattle.pg_workers.specs.Report.{ArePlaced, HasPlaces, rows_in, settled_in}
 use Rattle.pg_workers.proofs.Placing.{has_places, more_placed, more_settled}

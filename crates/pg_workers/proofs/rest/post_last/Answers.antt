@@ -1,4 +1,4 @@
-use Rattle.std.proofs.Common.{rules, ◌≡◌, ◌<◌, length, arith}
+use Rattle.std.proofs.Common.{rules, ◌<◌, length}
 use Rattle.pg_workers.proofs.Settling.{settles_claim}
 use Rattle.pg_workers.proofs.rest.post_last.Goals as goal
 

@@ -1,8 +1,8 @@
-use Rattle.std.proofs.Common.{◌≡◌, ℕ, ◌<◌, List, [], ◌∷◌, ◌++◌, All, Vec, Global, map, sym, ap, ◌∙◌, subst, arith}
+use Rattle.std.proofs.Common.{◌≡◌, [], ◌∷◌, ◌++◌, All, Vec, Global, map, sym, ap, ◌∙◌, arith}
 use Rattle.std.proofs.lemmas.List.{map-append}
 use Rattle.std.proofs.lemmas.List.Elements.{All-push}
 use Rattle.pg_workers.specs.declared.report.ReportRow.{ReportRow}
-use Rattle.pg_workers.specs.Tickets.{Series, HeldTicket}
+use Rattle.pg_workers.specs.Tickets.{HeldTicket}
 use Rattle.pg_workers.specs.Report.{IsDone, jobs_in, settled_in}
 use Rattle.pg_workers.proofs.scope.take_apart.Goals as goal
 

@@ -8,7 +8,7 @@ invariant-loop-slot g l =
     (vec_len l.slots + vec_len l.shares ≡ vec_len l.initial.slots)
     × (vec_len l.slots + vec_len l.tickets ≡ vec_len l.initial.slots)
     × (vec_len l.slots + vec_len l.rows ≡ vec_len l.initial.slots)
-    × (vec_len l.initial.slots ≤ vec_capacity l.shares)
+    × (vec_capacity l.shares ≡ vec_capacity l.initial.shares)
     × (vec_len l.initial.slots ≤ vec_capacity l.tickets)
     × (vec_len l.initial.slots ≤ vec_capacity l.rows)
     × (map (λ rows. settled_in rows.items) l.rows.items ≡ l.shares.items)

@@ -4,12 +4,12 @@ use Rattle.pgboard.proofs.Solved.{exact_rows, winners_text}
 use Rattle.pgboard.proofs.solve.solve_text.Goals as goal
 
 pub write_winners-requires : goal.write_winners-requires
-write_winners-requires g c = exact_rows _ _ c.len-n.ensures.game c.in_ok-outcome.ensures.exact
+write_winners-requires g c = exact_rows _ _ c.len-n.ensures.game c.in-Ok.ensures.outcome.exact
 
-pub returns-then-options : goal.returns-then-options
-returns-then-options g c =
+pub returns-then-options-clause-text : goal.returns-then-options-clause-text
+returns-then-options-clause-text g c =
     let winners : c.args.options.now.winners ≡ true = c.if-options.true in
-    subst (λ (b : Bool). IsSolveText b c.args.game.now c.in_ok-text.text.items) (sym winners) (winners_text _ _ _ c.in_ok-outcome.ensures.exact c.in_ok-text.ensures.text)
+    subst (λ (b : Bool). IsSolveText b c.args.game.now c.in_ok-text.text.items) (sym winners) (winners_text _ _ _ c.in-Ok.ensures.outcome.exact c.in_ok-text.ensures.text)
 
 pub write_solution-requires : goal.write_solution-requires
-write_solution-requires g c = exact_rows _ _ c.len-n.ensures.game c.in_ok-outcome.ensures.exact
+write_solution-requires g c = exact_rows _ _ c.len-n.ensures.game c.in-Ok.ensures.outcome.exact

@@ -9,8 +9,8 @@ returns-then-ne c = (
   λ e.
       let s = c.self.inside in
       let o = c.other.inside in
-      let p = same_parts s.ids.keys s.priorities.items s.owners.items s.successors o.ids.keys o.priorities.items o.owners.items o.successors c.self.invariant.parts c.other.invariant.parts (c.self.view_is ∙ (e ∙ sym c.other.view_is)) in
-      absurd (differ _ _ _ c.ne.ensures c.if-ne.true (c.as_slice.ensures.keys ∙ (p.0 ∙ sym c.as_slice-2.ensures.keys))),
+      let p = same_parts s.ids s.priorities.items s.owners.items s.successors o.ids o.priorities.items o.owners.items o.successors c.self.invariant.parts c.other.invariant.parts (c.self.view_is ∙ (e ∙ sym c.other.view_is)) in
+      absurd (differ _ _ _ c.ne.ensures c.if-ne.true (c.as_slice.ensures ∙ (p.0 ∙ sym c.as_slice-2.ensures))),
 )
 
 pub returns-then-ne-2 : goal.returns-then-ne-2
@@ -19,7 +19,7 @@ returns-then-ne-2 c = (
   λ e.
       let s = c.self.inside in
       let o = c.other.inside in
-      let p = same_parts s.ids.keys s.priorities.items s.owners.items s.successors o.ids.keys o.priorities.items o.owners.items o.successors c.self.invariant.parts c.other.invariant.parts (c.self.view_is ∙ (e ∙ sym c.other.view_is)) in
+      let p = same_parts s.ids s.priorities.items s.owners.items s.successors o.ids o.priorities.items o.owners.items o.successors c.self.invariant.parts c.other.invariant.parts (c.self.view_is ∙ (e ∙ sym c.other.view_is)) in
       absurd (differ _ _ _ c.ne-2.ensures c.if-ne-2.true (c.as_slice-3.ensures.value ∙ (p.1 ∙ sym c.as_slice-4.ensures.value))),
 )
 
@@ -29,7 +29,7 @@ returns-then-not-same_owners c = (
   λ e.
       let s = c.self.inside in
       let o = c.other.inside in
-      let p = same_parts s.ids.keys s.priorities.items s.owners.items s.successors o.ids.keys o.priorities.items o.owners.items o.successors c.self.invariant.parts c.other.invariant.parts (c.self.view_is ∙ (e ∙ sym c.other.view_is)) in
+      let p = same_parts s.ids s.priorities.items s.owners.items s.successors o.ids o.priorities.items o.owners.items o.successors c.self.invariant.parts c.other.invariant.parts (c.self.view_is ∙ (e ∙ sym c.other.view_is)) in
       let y : c.same_owners.result ≡ true = c.same_owners.ensures.1 (c.as_slice-5.ensures.value ∙ (p.2 ∙ sym c.as_slice-6.ensures.value)) in
       let n : c.same_owners.result ≡ false = search rules in
       absurd (cc (y, n)),
@@ -39,14 +39,14 @@ pub returns : goal.returns
 returns c =
     let s = c.self.inside in
     let o = c.other.inside in
-    let ids : s.ids.keys ≡ o.ids.keys = sym c.as_slice.ensures.keys ∙ (agree _ _ _ c.ne.ensures c.if-ne.false ∙ c.as_slice-2.ensures.keys) in
+    let ids : s.ids ≡ o.ids = sym c.as_slice.ensures ∙ (agree _ _ _ c.ne.ensures c.if-ne.false ∙ c.as_slice-2.ensures) in
     let ps : s.priorities.items ≡ o.priorities.items = sym c.as_slice-3.ensures.value ∙ (agree _ _ _ c.ne-2.ensures c.if-ne-2.false ∙ c.as_slice-4.ensures.value) in
     let y : c.same_owners.result ≡ true = search rules in
     let os : s.owners.items ≡ o.owners.items = sym c.as_slice-5.ensures.value ∙ (c.same_owners.ensures.0 y ∙ c.as_slice-6.ensures.value) in (
       λ t.
           let rows : s.successors ≡ o.successors = c.is_same.ensures.0 t in
-          let g : graph_of s.ids.keys s.priorities.items s.owners.items s.successors ≡ graph_of o.ids.keys o.priorities.items o.owners.items o.successors = λ i. graph_of (ids i) (ps i) (os i) (rows i) in
+          let g : graph_of s.ids s.priorities.items s.owners.items s.successors ≡ graph_of o.ids o.priorities.items o.owners.items o.successors = λ i. graph_of (ids i) (ps i) (os i) (rows i) in
           sym c.self.view_is ∙ (g ∙ c.other.view_is),
       λ e.
-          c.is_same.ensures.1 (same_parts s.ids.keys s.priorities.items s.owners.items s.successors o.ids.keys o.priorities.items o.owners.items o.successors c.self.invariant.parts c.other.invariant.parts (c.self.view_is ∙ (e ∙ sym c.other.view_is))).3,
+          c.is_same.ensures.1 (same_parts s.ids s.priorities.items s.owners.items s.successors o.ids o.priorities.items o.owners.items o.successors c.self.invariant.parts c.other.invariant.parts (c.self.view_is ∙ (e ∙ sym c.other.view_is))).3,
     )

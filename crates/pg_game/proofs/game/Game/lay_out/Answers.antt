@@ -57,7 +57,7 @@ invariant_of-result c =
     let laid : IsLaid specs sorted ids rows = laid_from specs sorted c.args.ids.keys ids rows c.requires.numbers c.requires.sound c.requires.ids c.sort_unstable_by_key.ensures.permutation c.sort_unstable.ensures.reordered.0 c.sort_unstable.ensures.unique c.in_ok-sort_unstable.ensures.sorted rises (rw e at h.size, rw e at h.edges, rw e at h.each) in
     let ps : c.in_ok-priorities.field-0.items ≡ priorities_of sorted = c.in_ok-priorities.ensures ∙ ap priorities_of c.as_slice-2.ensures.value in
     let os : c.in_ok-owners.field-0.items ≡ owners_of sorted = c.in_ok-owners.ensures ∙ ap owners_of c.as_slice-3.ensures.value in
-    rw (ps, os) record {
+    rw (c.in_ok-ids.ensures, ps, os) record {
       parts = parts specs sorted ids rows laid;
       game = made_game specs sorted ids rows laid;
       limits = made_limits specs sorted ids rows laid;
@@ -77,4 +77,4 @@ returns c =
     let laid : IsLaid specs sorted ids rows = laid_from specs sorted c.args.ids.keys ids rows c.requires.numbers c.requires.sound c.requires.ids c.sort_unstable_by_key.ensures.permutation c.sort_unstable.ensures.reordered.0 c.sort_unstable.ensures.unique c.in_ok-sort_unstable.ensures.sorted rises (rw e at h.size, rw e at h.edges, rw e at h.each) in
     let ps : c.in_ok-priorities.field-0.items ≡ priorities_of sorted = c.in_ok-priorities.ensures ∙ ap priorities_of c.as_slice-2.ensures.value in
     let os : c.in_ok-owners.field-0.items ≡ owners_of sorted = c.in_ok-owners.ensures ∙ ap owners_of c.as_slice-3.ensures.value in
-    rw (ps, os) record { game = (made_game specs sorted ids rows laid, made_of specs sorted ids rows laid) }
+    rw (c.in_ok-ids.ensures, ps, os) record { game = (made_game specs sorted ids rows laid, made_of specs sorted ids rows laid) }

@@ -7,12 +7,12 @@ use Rattle.pg_game.proofs.game.Game.owner.Goals as goal
 pub index-requires : goal.index-requires
 index-requires c =
     let s = c.self.inside in
-    let n = length_is s.ids.keys s.priorities.items s.owners.items s.successors c.self.invariant.parts c.args.self.now c.self.view_is in
+    let n = length_is s.ids s.priorities.items s.owners.items s.successors c.self.invariant.parts c.args.self.now c.self.view_is in
     omega (arith, n, c.self.invariant.parts.owners)
 
 pub returns : goal.returns
 returns c =
     let s = c.self.inside in
-    let n = length_is s.ids.keys s.priorities.items s.owners.items s.successors c.self.invariant.parts c.args.self.now c.self.view_is in
-    let e = owner_is s.ids.keys s.priorities.items s.owners.items s.successors c.self.invariant.parts c.args.self.now c.self.view_is c.args.v in
+    let n = length_is s.ids s.priorities.items s.owners.items s.successors c.self.invariant.parts c.args.self.now c.self.view_is in
+    let e = owner_is s.ids s.priorities.items s.owners.items s.successors c.self.invariant.parts c.args.self.now c.self.view_is c.args.v in
     get_or_read s.owners.items c.args.v _ (omega (arith, n, c.self.invariant.parts.owners)) c.index.ensures Even ∙ sym e

@@ -1,0 +1,203 @@
+//! Specifications in lists of their parts. Where their identifiers are 0, 1 and so on and their successors rise, the lists
+//! are a game as they stand: nothing is copied, sorted or hashed.
+
+ghost use Rattle.std.specs.Prelude.{◌≡◌, ◌<◌, ◌≤◌, ◌^◌, ◌++◌, ◌∷◌, ℕ, [], length, IfOk, IfErr, OnOk, OnErr, IsTrue, All, None};
+ghost use Rattle.pg_game.specs.Graph.{IsGame, AreSuccessors};
+ghost use Rattle.pg_game.specs.Specification.{AreNumbers, IsGameOf, first_fault, max_vertices, max_edges};
+ghost use Rattle.pg_game.specs.Rows.{size_of};
+ghost use Rattle.pg_game.specs.Flat.{AreSmall, AreSuccessorRows, ArePlain};
+
+use crate::Memory;
+use crate::adjacency::Adjacency;
+use crate::game::Spec;
+use crate::limits::{MAX_EDGES, MAX_PRIORITIES, MAX_VERTICES};
+use crate::lookup::are_own_places;
+use crate::player::Player;
+use crate::sequence::Sequence;
+use std::alloc::{AllocError, Global};
+use std::marker::Model;
+
+/// Specifications in their order, part by part. The successors are identifiers.
+#[derive(Drop)]
+pub struct Specs {
+    ids: Vec<u32>,
+    priorities: Vec<u32>,
+    owners: Vec<Player>,
+    rows: Adjacency,
+}
+
+impl Model for Specs {
+    ghost use Rattle.std.specs.Prelude.{List};
+    ghost use Rattle.pg_game.specs.declared.game.Spec.{Spec};
+
+    ghost Value = { List Spec };
+
+    ghost use Rattle.pg_game.specs.Flat.{specs_from};
+    ghost use Rattle.pg_game.specs.Stored.{AreParts};
+
+    ghost view = { λ s. specs_from s.ids.items s.priorities.items s.owners.items s.rows };
+
+    ghost invariant = { λ s. AreParts s.ids.items s.priorities.items s.owners.items s.rows };
+}
+
+/// A game without its predecessors, whose identifiers are their own places.
+#[derive(Drop)]
+pub struct Listed {
+    pub ids: Vec<u32>,
+    pub priorities: Vec<u32>,
+    pub owners: Vec<Player>,
+    pub rows: Adjacency,
+}
+
+impl Model for Listed {
+    ghost use Rattle.pg_game.specs.Graph.{Graph};
+
+    ghost Value = { Graph };
+
+    ghost use Rattle.pg_game.specs.View.{graph_of};
+    ghost use Rattle.pg_game.specs.Flat.{IsListed};
+
+    ghost view = { λ g. graph_of g.ids.items g.priorities.items g.owners.items g.rows };
+
+    ghost invariant = { λ g. IsListed g.ids.items g.priorities.items g.owners.items g.rows };
+}
+
+/// Whether each number is below the greatest number of different priorities, so that there are never too many.
+fn are_small(priorities: &[u32]) -> bool
+    ensures { IsTrue result → AreSmall priorities.now }
+{
+    'priorities: for k in 0..priorities.len() {
+        if priorities[k] as usize >= MAX_PRIORITIES {
+            return false;
+        }
+    }
+    true
+}
+
+/// Whether there are numbers, which rise and are below a bound.
+#[inline]
+fn are_successors(row: &[u32], bound: u32) -> bool
+    ensures { IsTrue result → AreSuccessors bound row.now }
+{
+    let mut least = 0u32;
+    'row: for k in 0..row.len() {
+        let w = row[k];
+        if w < least || w >= bound {
+            return false;
+        }
+        least = w + 1;
+    }
+    least > 0
+}
+
+/// Whether each row is some, rises and has rows' numbers alone.
+fn are_successor_rows(rows: &Adjacency) -> bool
+    ensures { IsTrue result → AreSuccessorRows rows.now }
+{
+    let n = rows.len();
+    'rows: for v in 0..n {
+        if !are_successors(rows.row(v), n) {
+            return false;
+        }
+    }
+    true
+}
+
+/// Whether the lists of the parts are a game as they stand.
+fn are_plain(ids: &[u32], priorities: &[u32], rows: &Adjacency) -> bool
+    ensures { IsTrue result → ArePlain ids.now priorities.now rows.now }
+{
+    let n = ids.len();
+    0 < n
+        && n <= MAX_VERTICES
+        && rows.size() <= MAX_EDGES
+        && are_own_places(ids)
+        && are_small(priorities)
+        && are_successor_rows(rows)
+}
+
+impl Specs {
+    /// None, with room for `n` of them and `edges` successors in all. `Memory` is its one refusal.
+    pub fn with_capacity(alloc: Global, n: u32, edges: u32) -> Result<Specs, Memory>
+        ensures { IfOk result (λ s. s ≡ []) }
+    {
+        Ok(Specs {
+            ids: Vec::with_capacity(alloc, n as usize)?,
+            priorities: Vec::with_capacity(alloc, n as usize)?,
+            owners: Vec::with_capacity(alloc, n as usize)?,
+            rows: Adjacency::with_capacity(alloc, n, edges)?,
+        })
+    }
+
+    /// Adds one at the end. `Memory` is its one refusal, and comes also where 4,294,967,295 specifications or successors
+    /// would be passed.
+    pub fn push(
+        &mut self,
+        id: u32,
+        priority: u32,
+        owner: Player,
+        successors: &[u32],
+    ) -> Result<(), Memory>
+        ensures pushed { OnOk result (self.new ≡ self.old ++ record { id = id; priority = priority; owner = owner; successors = successors.now } ∷ []) }
+        ensures kept { OnErr result (self.new ≡ self.old) }
+    {
+        let room = u32::MAX as usize - self.rows.size();
+        if self.rows.len() == u32::MAX || successors.len() > room {
+            return Err(AllocError);
+        }
+        self.ids.reserve(1)?;
+        self.priorities.reserve(1)?;
+        self.owners.reserve(1)?;
+        self.rows.push(successors)?;
+        self.ids.push_reserved(id);
+        self.priorities.push_reserved(priority);
+        self.owners.push_reserved(owner);
+        Ok(())
+    }
+
+    /// The game that the lists are as they stand. Otherwise the specifications come back, whether or not they have a fault.
+    pub(crate) fn into_listed(self) -> Result<Listed, Specs>
+        requires { All AreNumbers self }
+        ensures game { IfOk result (λ g. IsGame g × IsGameOf self g × (first_fault self ≡ None)) }
+        ensures back { IfErr result (λ s. s ≡ self) }
+    {
+        let Specs {
+            ids,
+            priorities,
+            owners,
+            rows,
+        } = self;
+        if are_plain(ids.as_slice(), priorities.as_slice(), &rows) {
+            return Ok(Listed {
+                ids,
+                priorities,
+                owners,
+                rows,
+            });
+        }
+        Err(Specs {
+            ids,
+            priorities,
+            owners,
+            rows,
+        })
+    }
+
+    /// The specifications one by one. `Memory` is its one refusal.
+    pub(crate) fn to_vec(&self, alloc: Global) -> Result<Vec<Spec>, Memory>
+        ensures { IfOk result (λ specs. specs.items ≡ self.now) }
+    {
+        let n = self.rows.len();
+        let mut specs = Vec::with_capacity(alloc, n as usize)?;
+        'lines: for v in 0..n {
+            let i = v as usize;
+            specs.push(Spec {
+                id: self.ids[i],
+                priority: self.priorities[i],
+                owner: self.owners[i],
+                successors: Sequence::new(Vec::from_slice(alloc, self.rows.row(v))?),
+            })?;
+        }
+        Ok(specs)
+    }
+}

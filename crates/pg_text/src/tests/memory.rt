@@ -1,0 +1,198 @@
+//! Where memory is refused to a call, it says so, and the same call with memory gives the same.
+//!
+//! With ample memory these tests pass without meeting a refusal. `tests/refused_calls.py` of the repository runs each of
+//! them with one allocation after another refused. A run passes, or says that memory was refused to what the test needs
+//! itself.
+
+ghost use Rattle.std.specs.Prelude.{IfOk};
+ghost use Rattle.pg_text.specs.Solution.{AreRows};
+
+use super::{game, solution};
+use crate::fault::{SolutionTextFault, TextFault};
+use crate::reading::read_known;
+use crate::solution::{Known, Solution};
+use crate::writing::{write_game, write_solution, write_winners};
+use pg_game::{Game, Memory, Player};
+use std::alloc::Global;
+use std::process::Abort;
+use std::test::Fail;
+
+const GAME: &[u8] =
+    b"parity 9; 0 6 1 9,2 \"Africa\"; 9 5 1 0; 1 8 1 2,9,3; 3 6 0 9,2; 2 7 0 3,1,0,9;";
+
+const WRITTEN_GAME: &[u8] =
+    b"parity 9;\n0 6 1 2,9;\n1 8 1 2,3,9;\n2 7 0 0,1,3,9;\n3 6 0 2,9;\n9 5 1 0;\n";
+
+const SOLUTION: &[u8] = b"paritysol 9; 9 0; 2 0 1; 0 0; 3 0 9; 1 0;";
+
+const WRITTEN_SOLUTION: &[u8] = b"paritysol 9;\n0 0;\n1 0;\n2 0 1;\n3 0 9;\n9 0;\n";
+
+const WRITTEN_WINNERS: &[u8] = b"paritysol 9;\n0 0;\n1 0;\n2 0;\n3 0;\n9 0;\n";
+
+const KNOWN: &[u8] = b"2 0 1; 9 1; 0 1 9;";
+
+/// How a test ends where memory is refused to what it needs itself.
+fn lacking() -> Fail {
+    Fail::from("no memory for the test itself")
+}
+
+fn needed_game(alloc: Global) -> Result<Game, Fail> {
+    match game(alloc, GAME) {
+        Ok(game) => Ok(game),
+        Err(_) => Err(lacking()),
+    }
+}
+
+fn needed_solution(alloc: Global, game: &Game) -> Result<Solution, Fail>
+    ensures { IfOk result (λ s. AreRows game.now s.rows) }
+{
+    match solution(alloc, game, SOLUTION) {
+        Ok(solution) => Ok(solution),
+        Err(_) => Err(lacking()),
+    }
+}
+
+/// The game of a text, read once more where memory was refused.
+fn read_twice(alloc: Global) -> Result<Game, TextFault> {
+    match game(alloc, GAME) {
+        Err(TextFault::Memory) => game(alloc, GAME),
+        read => read,
+    }
+}
+
+/// Priority, owner and successors of a vertex of the game.
+fn compare_vertex(
+    rt: &impl Abort,
+    game: &Game,
+    id: u32,
+    priority: u32,
+    owner: Player,
+    successors: &[u32],
+) -> Result<(), Fail> {
+    let Some(v) = game.vertex_of(id) else {
+        return Err(Fail::from("no such vertex"));
+    };
+    assert_eq!(rt; game.priority(v), priority);
+    assert_eq!(rt; game.owner(v), owner);
+    assert_eq!(rt; game.successors(v), successors);
+    Ok(())
+}
+
+/// The game is that of the text.
+fn compare_game(rt: &impl Abort, game: &Game) -> Result<(), Fail> {
+    assert_eq!(rt; game.len(), 5);
+    compare_vertex(rt, game, 0, 6, Player::Odd, [2, 4].as_slice())?;
+    compare_vertex(rt, game, 1, 8, Player::Odd, [2, 3, 4].as_slice())?;
+    compare_vertex(rt, game, 2, 7, Player::Even, [0, 1, 3, 4].as_slice())?;
+    compare_vertex(rt, game, 3, 6, Player::Even, [2, 4].as_slice())?;
+    compare_vertex(rt, game, 9, 5, Player::Odd, [0].as_slice())
+}
+
+#[test]
+fn a_game_is_read_after_a_refusal(rt: HostRuntime) -> Result<(), Fail> {
+    let game = read_twice(rt.alloc())?;
+    compare_game(&rt, &game)
+}
+
+/// The same for a solution text.
+fn read_solution_twice(alloc: Global, game: &Game) -> Result<Solution, SolutionTextFault> {
+    match solution(alloc, game, SOLUTION) {
+        Err(SolutionTextFault::Memory) => solution(alloc, game, SOLUTION),
+        read => read,
+    }
+}
+
+#[test]
+fn a_solution_is_read_after_a_refusal(rt: HostRuntime) -> Result<(), Fail> {
+    let alloc = rt.alloc();
+    let game = needed_game(alloc)?;
+    let solution = read_solution_twice(alloc, &game)?;
+    let even = Player::Even;
+    let want = [
+        (even, None),
+        (even, None),
+        (even, Some(1)),
+        (even, Some(4)),
+        (even, None),
+    ];
+    assert_eq!(rt; solution.rows.as_slice(), want.as_slice());
+    compare_game(&rt, &game)
+}
+
+/// The same for what is known.
+fn read_known_twice(alloc: Global, game: &Game) -> Result<Known, SolutionTextFault> {
+    match read_known(alloc, game, KNOWN) {
+        Err(SolutionTextFault::Memory) => read_known(alloc, game, KNOWN),
+        read => read,
+    }
+}
+
+#[test]
+fn what_is_known_is_read_after_a_refusal(rt: HostRuntime) -> Result<(), Fail> {
+    let alloc = rt.alloc();
+    let game = needed_game(alloc)?;
+    let known = read_known_twice(alloc, &game)?;
+    let want = [
+        Some((Player::Odd, Some(4))),
+        None,
+        Some((Player::Even, Some(1))),
+        None,
+        Some((Player::Odd, None)),
+    ];
+    assert!(rt; known.rows.as_slice() == want.as_slice());
+    compare_game(&rt, &game)
+}
+
+fn write_game_twice(alloc: Global, game: &Game) -> Result<Vec<u8>, Memory> {
+    match write_game(alloc, game) {
+        Ok(text) => Ok(text),
+        Err(_) => write_game(alloc, game),
+    }
+}
+
+#[test]
+fn a_game_is_written_after_a_refusal(rt: HostRuntime) -> Result<(), Fail> {
+    let alloc = rt.alloc();
+    let game = needed_game(alloc)?;
+    let text = write_game_twice(alloc, &game)?;
+    assert_eq!(rt; text.as_slice(), WRITTEN_GAME);
+    compare_game(&rt, &game)
+}
+
+fn write_solution_twice(alloc: Global, game: &Game, solution: &Solution) -> Result<Vec<u8>, Memory>
+    requires { AreRows game.now solution.now.rows }
+{
+    match write_solution(alloc, game, solution) {
+        Ok(text) => Ok(text),
+        Err(_) => write_solution(alloc, game, solution),
+    }
+}
+
+#[test]
+fn a_solution_is_written_after_a_refusal(rt: HostRuntime) -> Result<(), Fail> {
+    let alloc = rt.alloc();
+    let game = needed_game(alloc)?;
+    let solution = needed_solution(alloc, &game)?;
+    let text = write_solution_twice(alloc, &game, &solution)?;
+    assert_eq!(rt; text.as_slice(), WRITTEN_SOLUTION);
+    compare_game(&rt, &game)
+}
+
+fn write_winners_twice(alloc: Global, game: &Game, solution: &Solution) -> Result<Vec<u8>, Memory>
+    requires { AreRows game.now solution.now.rows }
+{
+    match write_winners(alloc, game, solution) {
+        Ok(text) => Ok(text),
+        Err(_) => write_winners(alloc, game, solution),
+    }
+}
+
+#[test]
+fn winners_are_written_after_a_refusal(rt: HostRuntime) -> Result<(), Fail> {
+    let alloc = rt.alloc();
+    let game = needed_game(alloc)?;
+    let solution = needed_solution(alloc, &game)?;
+    let text = write_winners_twice(alloc, &game, &solution)?;
+    assert_eq!(rt; text.as_slice(), WRITTEN_WINNERS);
+    compare_game(&rt, &game)
+}

@@ -1,0 +1,8 @@
+use Rattle.std.proofs.Common.{◌≡◌}
+use Rattle.pg_text.specs.Known.{known_of, known_choice}
+use Rattle.pg_finders.specs.Claims.{own_choices, rows_below}
+use Rattle.pg_workers.proofs.known.known_claim.Given as goal
+
+-- the rows of the vertices seen so far
+abbrev pub invariant-loop-v : goal.invariant-loop-v
+invariant-loop-v l = l.rows.items ≡ rows_below (known_of l.known.rows l.player) (own_choices l.game l.player (known_choice l.known.rows)) l.v

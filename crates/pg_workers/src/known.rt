@@ -1,0 +1,108 @@
+//! What is known of a game is posted as any claim is, Even's set and then Odd's, before a worker starts.
+ghost use Rattle.std.specs.Prelude.{◌≡◌, length, IfOk, IfErr, OnOk};
+ghost use Rattle.pg_workers.specs.Known.{known_rows, fault_of, HasKnown, HasNone, IsKnownFault, IsSolveFault, SettlesKnown};
+
+use pg_board::{Board, Refusal};
+use pg_dominion::Claim;
+use pg_game::{Game, Memory, Player, Sequence};
+use pg_text::Known;
+use std::alloc::Global;
+
+/// Why a run has no outcome: a player's known set was refused, and for what, or memory was.
+#[derive(Clone, Copy, Debug, Drop, PartialEq, Eq)]
+pub enum SolveFault {
+    /// The player's known set is no region; the reason is never want of memory.
+    Known(Player, Refusal),
+    /// Want of memory.
+    Memory,
+}
+
+impl From<Memory> for SolveFault {
+    ghost use Rattle.std.specs.Prelude.{◌≡◌};
+    ghost use Rattle.pg_workers.specs.declared.known.SolveFault.{SolveFault};
+
+    ghost from_gives = { λ _ fault. fault ≡ SolveFault.Memory };
+
+    fn from(_error: Memory) -> SolveFault {
+        SolveFault::Memory
+    }
+}
+
+/// The fault of a run whose post of the player's known set was refused.
+fn refused(player: Player, refusal: Refusal) -> SolveFault
+    ensures { result ≡ fault_of player refusal }
+{
+    match refusal {
+        Refusal::Memory => SolveFault::Memory,
+        _ => SolveFault::Known(player, refusal),
+    }
+}
+
+/// The player's known set, as a claim: choices stand at his own vertices alone.
+fn known_claim(alloc: Global, game: &Game, known: &Known, player: Player) -> Result<Claim, Memory>
+    requires { length known.now.rows ≡ length game.now }
+    ensures player { IfOk result (λ claim. claim.player ≡ player) }
+    ensures rows { IfOk result (λ claim. claim.rows ≡ known_rows game.now known.now.rows player) }
+{
+    let of_vertices = known.rows.as_slice();
+    let mut rows = Vec::new(alloc);
+    for v in 0..game.len() {
+        if let Some((winner, choice)) = of_vertices[v as usize] {
+            if winner == player {
+                let own = if game.owner(v) == player {
+                    choice
+                } else {
+                    None
+                };
+                rows.push((v, own))?;
+            }
+        }
+    }
+    Ok(Claim {
+        player,
+        rows: Sequence::new(rows),
+    })
+}
+
+/// Posts the player's known set as worker 0, where it is not empty.
+fn post_known(
+    alloc: Global,
+    board: &mut Board<'_>,
+    known: &Known,
+    player: Player,
+) -> Result<(), SolveFault>
+    requires size { length known.now.rows ≡ length board.old.graph }
+    requires none { HasNone board.old.journal player }
+    ensures graph { board.new.graph ≡ board.old.graph }
+    ensures settles { OnOk result (SettlesKnown board.old board.new known.now.rows player) }
+    ensures fault { IfErr result (λ e. IsKnownFault board.old.graph board.old.journal known.now.rows player e) }
+{
+    let game = board.game();
+    let claim = known_claim(alloc, game, known, player)?;
+    if claim.rows.as_slice().is_empty() {
+        return Ok(());
+    }
+    match board.post(alloc, 0, &claim) {
+        Ok(_) => Ok(()),
+        Err(refusal) => Err(refused(player, refusal)),
+    }
+}
+
+/// A board on which what is known was posted: Even's set and then Odd's.
+pub(crate) fn board_with<'g>(
+    alloc: Global,
+    game: &'g Game,
+    known: &Known,
+) -> Result<Board<'g>, SolveFault>
+    requires { length known.now.rows ≡ length game.now }
+    ensures game { IfOk result (λ b. b.graph ≡ game.now) }
+    ensures known { IfOk result (λ b. HasKnown game.now known.now.rows b.journal) }
+    ensures fault { IfErr result (λ e. IsSolveFault game.now known.now.rows e) }
+{
+    let mut board = Board::open(alloc, game)?;
+    let _opened = board.game();
+    post_known(alloc, &mut board, known, Player::Even)?;
+    let _posted = board.game();
+    post_known(alloc, &mut board, known, Player::Odd)?;
+    Ok(board)
+}

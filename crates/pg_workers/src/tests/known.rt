@@ -1,0 +1,166 @@
+//! What is known is posted before any worker starts, and is taken exactly where it is a region.
+
+ghost use Rattle.std.specs.Prelude.{◌≤◌, length};
+
+use crate::tests::finders::{EVEN, ODD, Singles};
+use crate::tests::games::{TWO_LOOPS, known_run};
+use crate::{Outcome, SolveFault};
+use pg_board::{Entry, Refusal};
+use pg_dominion::ClaimFault;
+use pg_finders::{Finder, Standard};
+use pg_game::Player;
+use std::alloc::Global;
+use std::process::Abort;
+use std::sync::Wait;
+use std::test::*;
+use std::thread::Threads;
+
+/// Even wins vertex 0 by itself, and attracts 1 and then 2.
+const LAYERS: &[u8] = b"0 0 0 0; 1 3 0 0,1; 2 3 1 1;";
+
+/// The outcome of a run that takes what is known.
+fn taken<R: Threads + Wait + Abort + Sync>(
+    rt: &R,
+    alloc: Global,
+    text: &[u8],
+    known: &[u8],
+    workers: u32,
+    finder: &impl Finder,
+) -> Result<Outcome, Fail>
+    requires text { length text.now ≤ 268435456 }
+    requires known { length known.now ≤ 268435456 }
+    requires workers { (1 ≤ workers) × (workers ≤ 64) }
+{
+    match known_run(rt, alloc, text, known, workers, finder)? {
+        Ok(outcome) => Ok(outcome),
+        Err(_) => Err(Fail::from("what is known was refused")),
+    }
+}
+
+/// A run with the same answer for 1, 2 and 64 workers: the player's known set is refused.
+fn refused<R: Threads + Wait + Abort + Sync>(
+    rt: &R,
+    alloc: Global,
+    text: &[u8],
+    known: &[u8],
+    player: Player,
+    refusal: Refusal,
+) -> Result<(), Fail>
+    requires text { length text.now ≤ 268435456 }
+    requires known { length known.now ≤ 268435456 }
+{
+    let expected = Some(SolveFault::Known(player, refusal));
+    assert_eq!(rt;
+        known_run(rt, alloc, text, known, 1, &Standard)?.err(),
+        expected
+    );
+    assert_eq!(rt;
+        known_run(rt, alloc, text, known, 2, &Standard)?.err(),
+        expected
+    );
+    assert_eq!(rt;
+        known_run(rt, alloc, text, known, 64, &Standard)?.err(),
+        expected
+    );
+    Ok(())
+}
+
+/// What an entry says but for its rows, of which it says how many there are.
+fn told(entry: &Entry) -> (u32, Player, u32, usize) {
+    (
+        entry.worker,
+        entry.player,
+        entry.claimed,
+        entry.rows.as_slice().len(),
+    )
+}
+
+#[test]
+fn a_known_region_is_the_first_entry_with_all_that_it_attracts(
+    rt: HostRuntime,
+) -> Result<(), Fail> {
+    let outcome = taken(&rt, rt.alloc(), LAYERS, b"0 0 0;", 2, &Singles)?;
+    assert_eq!(rt; outcome.entries.len(), 1);
+    assert_eq!(rt; outcome.entries.first().map(told), Some((0, EVEN, 1, 3)));
+    assert_eq!(rt;
+        outcome.solution.rows.as_slice(),
+        &[(EVEN, Some(0)), (EVEN, Some(0)), (EVEN, None)][..]
+    );
+    let mut settled = 0u64;
+    'rows: for row in outcome.report.iter() {
+        settled = settled.wrapping_add(row.settled);
+    }
+    assert_eq!(rt; settled, 0);
+    Ok(())
+}
+
+#[test]
+fn both_known_regions_are_posted_evens_first(rt: HostRuntime) -> Result<(), Fail> {
+    let outcome = taken(&rt, rt.alloc(), TWO_LOOPS, b"1 1 1; 0 0 0;", 64, &Standard)?;
+    assert_eq!(rt; outcome.entries.len(), 2);
+    assert_eq!(rt; outcome.entries.first().map(told), Some((0, EVEN, 1, 1)));
+    assert_eq!(rt; outcome.entries.last().map(told), Some((0, ODD, 1, 1)));
+    Ok(())
+}
+
+/// The workers settle what is left beside Odd's known region.
+#[test]
+fn what_is_left_beside_a_known_region_is_solved(rt: HostRuntime) -> Result<(), Fail> {
+    let outcome = taken(&rt, rt.alloc(), TWO_LOOPS, b"1 1 1;", 1, &Standard)?;
+    assert_eq!(rt; outcome.entries.first().map(told), Some((0, ODD, 1, 1)));
+    assert_eq!(rt; outcome.entries.last().map(told), Some((1, EVEN, 1, 1)));
+    assert_eq!(rt; outcome.report.first().map(|row| row.settled), Some(1));
+    assert_eq!(rt;
+        outcome.solution.rows.as_slice(),
+        &[(EVEN, Some(0)), (ODD, Some(1))][..]
+    );
+    Ok(())
+}
+
+/// The board attracts from the known region with choices of its own; the known choice stays where it was posted.
+#[test]
+fn a_known_choice_stands_in_the_solution(rt: HostRuntime) -> Result<(), Fail> {
+    let text = b"0 2 0 1,2; 1 2 0 0,2; 2 2 0 0,1;";
+    let outcome = taken(&rt, rt.alloc(), text, b"0 0 2; 1 0 2; 2 0 1;", 2, &Standard)?;
+    let solution = outcome.solution.rows.as_slice();
+    assert_eq!(rt;
+        solution,
+        &[(EVEN, Some(2)), (EVEN, Some(2)), (EVEN, Some(1))][..]
+    );
+    Ok(())
+}
+
+#[test]
+fn a_choice_at_a_vertex_of_the_opponent_has_no_effect(rt: HostRuntime) -> Result<(), Fail> {
+    let text = b"0 2 1 0; 1 1 1 0,1;";
+    let outcome = taken(&rt, rt.alloc(), text, b"0 0 0;", 1, &Standard)?;
+    assert_eq!(rt; outcome.entries.first().map(told), Some((0, EVEN, 1, 1)));
+    assert_eq!(rt;
+        outcome.solution.rows.as_slice(),
+        &[(EVEN, None), (ODD, Some(1))][..]
+    );
+    Ok(())
+}
+
+#[test]
+fn a_known_set_that_is_no_region_is_refused_for_the_posts_reason(
+    rt: HostRuntime,
+) -> Result<(), Fail> {
+    let alloc = rt.alloc();
+    let shape = Refusal::Claim(ClaimFault::Shape(0));
+    refused(&rt, alloc, LAYERS, b"1 0;", EVEN, shape)?;
+    let cycle = Refusal::Claim(ClaimFault::Cycle(1));
+    refused(&rt, alloc, LAYERS, b"1 0 1;", EVEN, cycle)?;
+    refused(&rt, alloc, LAYERS, b"2 0;", EVEN, Refusal::Open(2, 1))?;
+    refused(&rt, alloc, LAYERS, b"0 0 0; 2 1 1;", ODD, Refusal::Lost(2))?;
+    let odd_cycle = Refusal::Claim(ClaimFault::Cycle(0));
+    refused(&rt, alloc, TWO_LOOPS, b"0 1; 1 1 1;", ODD, odd_cycle)?;
+    Ok(())
+}
+
+/// Where neither known set is a region, Even's is named.
+#[test]
+fn evens_known_set_is_judged_before_odds(rt: HostRuntime) -> Result<(), Fail> {
+    let cycle = Refusal::Claim(ClaimFault::Cycle(1));
+    refused(&rt, rt.alloc(), TWO_LOOPS, b"0 1; 1 0;", EVEN, cycle)
+}

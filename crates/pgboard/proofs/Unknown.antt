@@ -1,0 +1,75 @@
+-- Where nothing is known, no known set is refused, and none attracts a vertex.
+use mathlib.Core.Path.{fun_ext}
+use Rattle.std.proofs.Common.{◌≡◌, ℕ, zero, suc, ◌+◌, ◌<◌, ◌≤◌, false, true, ◌⊎◌, inl, inr, List, [], ◌∷◌, length, refl, sym, ◌∙◌, ap, subst, arith}
+use Rattle.std.specs.Prelude.{Some, None, replicate, slice_get}
+use Rattle.std.proofs.lemmas.Bool.{cases_lt}
+use Rattle.pg_game.specs.declared.player.Player.{Player}
+use Rattle.pg_game.specs.declared.player.Player.TheVariants.{Even, Odd}
+use Rattle.pg_game.specs.Graph.{Graph, IsGame}
+use Rattle.pg_game.specs.VertexSet.{VertexSet, all_vertices}
+use Rattle.pg_game.specs.Kept.{Choices}
+use Rattle.pg_game.specs.Attractor.{Attractor}
+use Rattle.pg_game.specs.Region.{IsRegion}
+use Rattle.pg_game.proofs.Members.{Contains-head}
+use Rattle.pg_text.specs.Known.{KnownRows, known_at, known_of, known_choice}
+use Rattle.pg_finders.specs.Claims.{own_choices, rows_below}
+use Rattle.pg_finders.proofs.Sets.{test}
+use Rattle.pg_board.specs.declared.refusal.Refusal.{Refusal}
+use Rattle.pg_board.proofs.Opening.{no_region, attracts_none}
+use Rattle.pg_workers.specs.declared.known.SolveFault.TheVariants as solving
+use Rattle.pg_workers.specs.Known.{known_rows, IsKnownRegion, HasSize, IsAttractedToKnown, IsKnownSize, IsSolveFault}
+use Rattle.pgboard.proofs.Rows.{row_of_vertex}
+
+-- a set without vertices is a region, and attracts none
+module _ (g : Graph) (game : IsGame g) (known : KnownRows) (p : Player) (none : (v : ℕ) → known_of known p v ≡ false) where
+  pub empty_region : IsKnownRegion g known p
+  empty_region = subst (λ (X : VertexSet). IsRegion g p X (known_choice known)) (sym (fun_ext none)) (no_region g p (known_choice known))
+
+  none_attracted : (v : ℕ) → IsAttractedToKnown g known p v → ⊥
+  none_attracted v a =
+      let h : false ≡ true = attracts_none g game p v (subst (λ (X : VertexSet). Attractor g p (all_vertices g) X v) (fun_ext none) a) in
+      cc h
+
+unknown_beyond : (known : KnownRows) (p : Player) (v : ℕ) → length known ≤ v → known_of known p v ≡ false
+unknown_beyond [] p v le = refl
+unknown_beyond (r ∷ known) p zero le = absurd (omega arith)
+unknown_beyond (r ∷ known) p (suc v) le = unknown_beyond known p v (omega (arith, le))
+
+-- a set without rows has no vertices
+pub none_of_rows : (g : Graph) (known : KnownRows) (p : Player) → length known ≡ length g → known_rows g known p ≡ [] → (v : ℕ) → known_of known p v ≡ false
+none_of_rows g known p sized empty v = elim (cases_lt v (length g)) [
+  | inl lt ↦ inside lt (test (known_of known p v))
+  | inr le ↦ unknown_beyond known p v (omega (arith, le))
+]
+  where
+    inside : v < length g → (known_of known p v ≡ true) ⊎ (known_of known p v ≡ false) → known_of known p v ≡ false
+    inside lt (inr n) = n
+    inside lt (inl y) = absurd (none_there (row_of_vertex (known_of known p) (own_choices g p (known_choice known)) (length g) v lt y))
+      where
+        none_there : slice_get (known_rows g known p) (length (rows_below (known_of known p) (own_choices g p (known_choice known)) v)) ≡ Some (v, own_choices g p (known_choice known) v) → ⊥
+        none_there is = let h = rw empty at is in cc h
+
+nothing_at : (n v : ℕ) → known_at (replicate n None) v ≡ None
+nothing_at zero v = refl
+nothing_at (suc n) zero = refl
+nothing_at (suc n) (suc v) = nothing_at n v
+
+no_size : (P : ℕ → Type 0) (n : ℕ) → ((v : ℕ) → P v → ⊥) → HasSize P n → n ≡ 0
+no_size P n none ([], distinct, listed, size) = sym size
+no_size P n none (v ∷ vs, distinct, listed, size) = absurd (none v ((listed v).0 (Contains-head v vs)))
+
+module _ (g : Graph) (game : IsGame g) (known : KnownRows) (nothing : known ≡ replicate (length g) None) where
+  not_known : (p : Player) (v : ℕ) → known_of known p v ≡ false
+  not_known p v = rw (nothing, nothing_at (length g) v) refl
+
+  pub never_refused : (p : Player) (e : Refusal) → IsSolveFault g known (solving.Known p e) → ⊥
+  never_refused p e (journal, lawful, before, why) = why.no_region (empty_region g game known p (not_known p))
+
+  attracts_nothing : (p : Player) (n : ℕ) → HasSize (IsAttractedToKnown g known p) n → n ≡ 0
+  attracts_nothing p n size = no_size (IsAttractedToKnown g known p) n (none_attracted g game known p (not_known p)) size
+
+  pub settles_nothing : (n : ℕ) → IsKnownSize g known n → n ≡ 0
+  settles_nothing n (a, b, even, odd, is) =
+      let none_of_even = attracts_nothing Even a even in
+      let none_of_odd = attracts_nothing Odd b odd in
+      omega arith

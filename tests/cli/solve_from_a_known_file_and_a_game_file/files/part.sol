@@ -1,0 +1,1 @@
+paritysol 9; 0 0 0;
