@@ -1,0 +1,204 @@
+#!/usr/bin/env python3
+"""Plants the must-fail edits of each crate, several at a time, and holds the prover to refusing every one of them.
+
+    tests/must_fail.py [CRATE [WORD..]]
+
+The edits stand in `crates/NAME/must-fail/`, in the kit's form. `rt must-fail` tries them one by one, and reads all
+libraries anew for each, which takes hours. Here a round plants edits of different functions in a copy of the crate, at most
+one a function, and proves these functions. An edit is refused where a function that it changes is not proved for itself;
+one that only calls another without proof doesn't count. What a round lets through, and what changes no function's code, is
+tried alone: then the whole crate has to be read by the prover and refused.
+
+Needs the crates below to be built, as `rt ci` leaves them. With words, only edits whose names have one of them are tried.
+The last line is 'N passed, M failed'.
+"""
+
+import difflib
+import glob
+import os
+import re
+import shutil
+import subprocess
+import sys
+import tempfile
+from concurrent.futures import ThreadPoolExecutor
+
+sys.dont_write_bytecode = True
+sys.path.insert(0, os.path.dirname(os.path.realpath(shutil.which("rt"))))
+import rtlib
+
+ROOT = os.path.dirname(os.path.dirname(os.path.abspath(__file__)))
+# what a check takes at most, in bytes, of pgboard
+MEMORY = 5_000_000_000
+
+
+class BadEdit(Exception):
+    """An edit that can't be applied."""
+
+
+def function_at(source, at):
+    """The path of the function, in its file, that the place lies in, if it lies in one."""
+    before = source[:at]
+    functions = list(re.finditer(r"(?m)^( *)(?:pub(?:\(\w+\))? )?fn (\w+)", before))
+    last = functions[-1] if functions else None
+    # an item that begins at the margin later ends the function
+    if not last or re.search(r"(?m)^(?:pub |const|static|struct|enum|impl|mod|use|ghost|type)", before[last.end() :]):
+        return None
+    if not last[1]:
+        return last[2]
+    *_, header = re.finditer(r"(?m)^impl(?:<[^{]*?>)? (?:([\w:]+)(?:<.*>)? for )?(\w+)", before[: last.start()])
+    return f"{header[2]}{(header[1] or '').split('::')[-1]}::{last[2]}"
+
+
+class Edit:
+    """A must-fail edit: what it does to the lines of files, and the paths of the functions that it changes."""
+
+    def __init__(self, crate, path):
+        self.name, self.changes, self.functions = os.path.basename(path), {}, set()
+        before, after, file, old = {}, {}, None, None
+        with open(path, encoding="utf-8") as it:
+            lines = it.read().splitlines()
+        for line in lines:
+            kind, _, text = line.partition(":")
+            text = text.removeprefix(" ")
+            if kind == "file":
+                file = text.strip()
+                if file not in after:
+                    before[file] = after[file] = read(f"{crate.folder}/{file}")
+            elif kind == "old":
+                old = text
+            elif kind == "new" and file and old:
+                after[file] = self.replaced(file, after[file], old, text)
+        if before == after:
+            raise BadEdit(f"{self.name} changes nothing")
+        self.changes = {it: changed_lines(before[it], after[it]) for it in before}
+
+    def replaced(self, file, source, old, new):
+        if source.count(old) != 1:
+            raise BadEdit(f"{self.name}: a text stands in {file} {source.count(old)} times, and not once")
+        place = function_at(source, source.find(old)) if file.startswith("src/") else None
+        module = re.sub(r"^(?:lib|main)$", "", file[len("src/") : -len(".rt")]).replace("/", "::")
+        self.functions.add("::".join(it for it in (module, place) if it) if place else None)
+        return source.replace(old, new)
+
+
+def read(path):
+    with open(path, encoding="utf-8") as file:
+        return file.read()
+
+
+def changed_lines(before, after):
+    """The runs of lines that differ: where each begins and ends before, and the lines that stand there after."""
+    old, new = before.splitlines(True), after.splitlines(True)
+    codes = difflib.SequenceMatcher(None, old, new, autojunk=False).get_opcodes()
+    return [(start, end, new[at:to]) for kind, start, end, at, to in codes if kind != "equal"]
+
+
+def plant(folder, edits):
+    """Puts edits of different functions into the files of a copy of the crate."""
+    changes = {}
+    for edit in edits:
+        for file, runs in edit.changes.items():
+            changes.setdefault(file, []).extend(runs)
+    for file, runs in changes.items():
+        lines = read(f"{folder}/{file}").splitlines(True)
+        for start, end, new in sorted(runs, key=lambda it: it[:2], reverse=True):
+            lines[start:end] = new
+        with open(f"{folder}/{file}", "w", encoding="utf-8") as out:
+            out.write("".join(lines))
+
+
+def rounds_of(edits):
+    """Edits in rounds, none of which changes a function twice; an edit outside all functions stands alone."""
+    rounds = []
+    for edit in edits:
+        place = next((it for it in rounds if None not in edit.functions | it[1] and not edit.functions & it[1]), None)
+        if place:
+            place[0].append(edit)
+            place[1].update(edit.functions)
+        else:
+            rounds.append(([edit], set(edit.functions)))
+    return [entries for entries, _ in rounds]
+
+
+def check(crate, edits, kept, flags):
+    """Checks a copy of the crate with the edits planted, over what earlier checks have kept."""
+    with tempfile.TemporaryDirectory(prefix="must-fail-") as room:
+        for part in rtlib.PARTS:
+            if os.path.isdir(f"{crate.folder}/{part}"):
+                shutil.copytree(f"{crate.folder}/{part}", f"{room}/{part}")
+        plant(room, edits)
+        words = [rtlib.RATTLE, "check", *crate.words(["--jobs", "1"], keeps=False), "--incremental", kept, *flags]
+        how = {"stdin": subprocess.DEVNULL, "stdout": subprocess.PIPE, "stderr": subprocess.STDOUT, "errors": "replace"}
+        return subprocess.run([*rtlib.guarded(), *words], cwd=room, **how)
+
+
+def refused_functions(said):
+    """The paths of the functions that a check refused for themselves."""
+    paths = re.findall(r"(?m)^fn \w+::(\S+): (?:no proof|not proved)(?![:;] it calls)", said)
+    # a closure stands below its function
+    return {re.sub(r"(?:^|(?<=::))fn::", "", path) for path in paths}
+
+
+def is_refused(edit, refused):
+    return any(it == path or it.startswith(f"{path}::") for path in edit.functions for it in refused)
+
+
+def is_refused_alone(crate, edit, kept):
+    """Whether the crate with this edit is read whole by the prover, and refused."""
+    ran = check(crate, [edit], kept, [])
+    return ran.returncode == 1 and ran.stdout.rstrip().split("\n")[-1].startswith("logic=not-proved")
+
+
+def try_round(crate, edits, kept):
+    """The names of the edits of a round that are not refused."""
+    if len(edits) > 1 or None not in edits[0].functions:
+        functions = sorted(set().union(*[it.functions for it in edits]))
+        flags = ["--allow-holes", *[word for it in functions for word in ("--only", it)]]
+        refused = refused_functions(check(crate, edits, kept, flags).stdout)
+        edits = [it for it in edits if not is_refused(it, refused)]
+    return [it.name for it in edits if not is_refused_alone(crate, it, kept)]
+
+
+def try_crate(crate, words):
+    """How many edits there are, and the names of those that are not refused."""
+    paths = sorted(glob.glob(f"{crate.folder}/must-fail/*.edit"))
+    paths = [it for it in paths if not words or any(word in os.path.basename(it) for word in words)]
+    edits, through = [], []
+    for path in paths:
+        try:
+            edits.append(Edit(crate, path))
+        except BadEdit as bad:
+            through.append(str(bad))
+    rounds = rounds_of(edits)
+    with tempfile.TemporaryDirectory(prefix="must-fail-kept-") as kept:
+        for entries in rounds:
+            through += try_round(crate, entries, kept)
+    print(f"{crate.name}: {len(paths)} edits in {len(rounds)} rounds, {len(through)} let through", flush=True)
+    for name in through:
+        print(f"FAILED must_fail/{crate.name} {name}", flush=True)
+    return len(paths), len(through)
+
+
+def lanes():
+    with open("/proc/meminfo", encoding="utf-8") as file:
+        free = 1024 * int(re.search(r"MemAvailable:\s+(\d+)", file.read())[1])
+    return max(1, min(len(os.sched_getaffinity(0)), free // MEMORY))
+
+
+def main():
+    names, words = sys.argv[1:2], sys.argv[2:]
+    # its first call sets a signal's handler, which only the main thread may
+    rtlib.guarded()
+    crates = [it for it in rtlib.crates_below(ROOT) if not names or it.name in names]
+    # the crates with the most edits first
+    crates.sort(key=lambda it: -len(glob.glob(f"{it.folder}/must-fail/*.edit")))
+    with ThreadPoolExecutor(lanes()) as pool:
+        tried = list(pool.map(lambda it: try_crate(it, words), crates))
+    count, failed = sum(it[0] for it in tried), sum(it[1] for it in tried)
+    print(f"{count - failed} passed, {failed} failed")
+    return 1 if failed or not count else 0
+
+
+if __name__ == "__main__":
+    sys.exit(main())
