@@ -6,8 +6,8 @@
 The edits stand in `crates/NAME/must-fail/`, in the kit's form. `rt must-fail` tries them one by one, and reads all
 libraries anew for each, which takes hours. Here a round plants edits of different functions in a copy of the crate, at most
 one a function, and proves these functions. An edit is refused where a function that it changes is not proved for itself;
-one that only calls another without proof doesn't count. What a round lets through, and what changes no function's code, is
-tried alone: then the whole crate has to be read by the prover and refused.
+one that only calls another without proof doesn't count. What a round lets through is tried in smaller ones. What is left
+alone, or changes no function's code, is tried as the kit does: the whole crate has to be read by the prover and refused.
 
 Needs the crates below to be built, as `rt ci` leaves them. With words, only edits whose names have one of them are tried.
 The last line is 'N passed, M failed'.
@@ -152,12 +152,19 @@ def is_refused_alone(crate, edit, kept):
 
 def try_round(crate, edits, kept):
     """The names of the edits of a round that are not refused."""
-    if len(edits) > 1 or None not in edits[0].functions:
-        functions = sorted(set().union(*[it.functions for it in edits]))
-        flags = ["--allow-holes", *[word for it in functions for word in ("--only", it)]]
-        refused = refused_functions(check(crate, edits, kept, flags).stdout)
-        edits = [it for it in edits if not is_refused(it, refused)]
-    return [it.name for it in edits if not is_refused_alone(crate, it, kept)]
+    if None in edits[0].functions:
+        return [it.name for it in edits if not is_refused_alone(crate, it, kept)]
+    functions = sorted(set().union(*[it.functions for it in edits]))
+    flags = ["--allow-holes", *[word for it in functions for word in ("--only", it)]]
+    refused = refused_functions(check(crate, edits, kept, flags).stdout)
+    left = [it for it in edits if not is_refused(it, refused)]
+    if len(left) < len(edits):
+        # a caller's refusal may have gone by the name of what it calls
+        return try_round(crate, left, kept) if left else []
+    if len(left) == 1:
+        return [it.name for it in left if not is_refused_alone(crate, it, kept)]
+    half = len(left) // 2
+    return try_round(crate, left[:half], kept) + try_round(crate, left[half:], kept)
 
 
 def try_crate(crate, words):
