@@ -1,10 +1,11 @@
-ghost use Rattle.std.specs.Prelude.{◌≡◌, length, IfOk};
+ghost use Rattle.std.specs.Prelude.{◌≡◌, [], length, IfOk};
 ghost use Rattle.pg_game.specs.VertexSet.{members};
 ghost use Rattle.pg_finders.specs.Solved.{won_by};
 ghost use Rattle.pg_finders.specs.Planned.{winners_of, choices_of, HasSize};
 ghost use Rattle.pg_finders.specs.Claims.{AreClaims, own_choices, rows_below};
 
 use crate::inside::Inside;
+use crate::parts::is_empty;
 use crate::plan::Plan;
 use crate::solver::Solver;
 use pg_dominion::Claim;
@@ -20,6 +21,30 @@ pub struct Solved {
 
 /// A claim for each player, which together have all vertices inside (Zielonka 1998).
 pub fn zielonka(alloc: Global, inside: &Inside) -> Result<Solved, Memory>
+    ensures { IfOk result (λ solved. AreClaims inside.now.graph (members inside.now.mask) solved.even solved.odd) }
+{
+    if is_empty(inside.game(), inside.mask()) {
+        return Ok(Solved {
+            even: claim_on_nothing(alloc, Player::Even),
+            odd: claim_on_nothing(alloc, Player::Odd),
+        });
+    }
+    solve(alloc, inside)
+}
+
+/// A player's claim without rows. It takes no memory.
+fn claim_on_nothing(alloc: Global, player: Player) -> Claim
+    ensures player { result.player ≡ player }
+    ensures rows { result.rows ≡ [] }
+{
+    Claim {
+        player,
+        rows: Sequence::new(Vec::new(alloc)),
+    }
+}
+
+/// The two claims of the recursion on all vertices inside.
+fn solve(alloc: Global, inside: &Inside) -> Result<Solved, Memory>
     ensures { IfOk result (λ solved. AreClaims inside.now.graph (members inside.now.mask) solved.even solved.odd) }
 {
     let game = inside.game();

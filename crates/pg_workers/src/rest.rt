@@ -31,8 +31,8 @@ fn post_last(alloc: Global, board: &mut Board<'_>, claim: &Claim) -> Result<(), 
     }
 }
 
-/// Settles all that is unsettled, by at most two entries of worker 0.
-pub(crate) fn settle_rest(alloc: Global, board: &mut Board<'_>) -> Result<(), Memory>
+/// Settles all that a copy has unsettled by the two claims of the recursion, each an entry of worker 0.
+fn solve_rest(alloc: Global, board: &mut Board<'_>) -> Result<(), Memory>
     ensures full { OnOk result (IsFull board.new.graph (state_of board.new.journal)) }
     ensures later { OnOk result (IsLater 2 board.old board.new) }
 {
@@ -41,4 +41,15 @@ pub(crate) fn settle_rest(alloc: Global, board: &mut Board<'_>) -> Result<(), Me
     post_last(alloc, board, &even)?;
     post_last(alloc, board, &odd)?;
     Ok(())
+}
+
+/// Settles all that is unsettled, by at most two entries of worker 0. A full board is left as it is, and costs nothing.
+pub(crate) fn settle_rest(alloc: Global, board: &mut Board<'_>) -> Result<(), Memory>
+    ensures full { OnOk result (IsFull board.new.graph (state_of board.new.journal)) }
+    ensures later { OnOk result (IsLater 2 board.old board.new) }
+{
+    if board.is_full() {
+        return Ok(());
+    }
+    solve_rest(alloc, board)
 }

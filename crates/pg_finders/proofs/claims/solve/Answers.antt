@@ -5,7 +5,7 @@ use Rattle.pg_finders.specs.Planned.{winners_of, choices_of}
 use Rattle.pg_finders.specs.Solved.{IsSolved}
 use Rattle.pg_finders.specs.Claims.{AreClaims}
 use Rattle.pg_finders.proofs.Good.{are_claims}
-use Rattle.pg_finders.proofs.claims.zielonka.Goals as goal
+use Rattle.pg_finders.proofs.claims.solve.Goals as goal
 
 solved : (c : goal.After-drop-plan-3) → IsSolved c.game-game.result.now (members c.mask-mask.result.now) (winners_of c.into_plan-plan.result) (choices_of c.into_plan-plan.result)
 solved c = subst (λ plan. IsSolved c.game-game.result.now (members c.mask-mask.result.now) (winners_of plan) (choices_of plan)) (sym c.into_plan-plan.ensures) c.in_ok-run.ensures.solved
