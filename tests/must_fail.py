@@ -37,7 +37,7 @@ class BadEdit(Exception):
 
 
 def function_at(source, at):
-    """The path of the function, in its file, that the place lies in, if it lies in one."""
+    """The function that the place lies in, if it lies in one: the type that it is of, if any, and its path below a module."""
     before = source[:at]
     functions = list(re.finditer(r"(?m)^( *)(?:pub(?:\(\w+\))? )?fn (\w+)", before))
     last = functions[-1] if functions else None
@@ -45,9 +45,20 @@ def function_at(source, at):
     if not last or re.search(r"(?m)^(?:pub |const|static|struct|enum|impl|mod|use|ghost|type)", before[last.end() :]):
         return None
     if not last[1]:
-        return last[2]
-    *_, header = re.finditer(r"(?m)^impl(?:<[^{]*?>)? (?:([\w:]+)(?:<.*>)? for )?(\w+)", before[: last.start()])
-    return f"{header[2]}{(header[1] or '').split('::')[-1]}::{last[2]}"
+        return None, last[2]
+    *_, header = re.finditer(r"(?m)^impl(?:<[^{]*?>)? (?:([\w:]+)(?:<(\w*).*>)? for )?(\w+)", before[: last.start()])
+    trait = (header[1] or "").split("::")[-1] + (header[2] or "")
+    return header[3], f"{header[3]}{trait}::{last[2]}"
+
+
+def module_of(crate, file, kind):
+    """The module by which the prover names a function of the file: of a method, the one that declares its type."""
+    declares = rf"(?m)^(?:pub(?:\(\w+\))? )?(?:struct|enum) {kind}\b"
+    if kind and not re.search(declares, read(f"{crate.folder}/{file}")):
+        paths = glob.glob(f"{crate.folder}/src/**/*.rt", recursive=True)
+        found = [it for it in paths if "/tests" not in it and re.search(declares, read(it))]
+        file = os.path.relpath(found[0], crate.folder) if found else file
+    return re.sub(r"^(?:lib|main)$", "", file[len("src/") : -len(".rt")]).replace("/", "::")
 
 
 class Edit:
@@ -68,17 +79,17 @@ class Edit:
             elif kind == "old":
                 old = text
             elif kind == "new" and file and old:
-                after[file] = self.replaced(file, after[file], old, text)
+                after[file] = self.replaced(crate, file, after[file], old, text)
         if before == after:
             raise BadEdit(f"{self.name} changes nothing")
         self.changes = {it: changed_lines(before[it], after[it]) for it in before}
 
-    def replaced(self, file, source, old, new):
+    def replaced(self, crate, file, source, old, new):
         if source.count(old) != 1:
             raise BadEdit(f"{self.name}: a text stands in {file} {source.count(old)} times, and not once")
-        place = function_at(source, source.find(old)) if file.startswith("src/") else None
-        module = re.sub(r"^(?:lib|main)$", "", file[len("src/") : -len(".rt")]).replace("/", "::")
-        self.functions.add("::".join(it for it in (module, place) if it) if place else None)
+        found = function_at(source, source.find(old)) if file.startswith("src/") else None
+        names = (module_of(crate, file, found[0]), found[1]) if found else ()
+        self.functions.add("::".join(it for it in names if it) or None)
         return source.replace(old, new)
 
 
