@@ -1,17 +1,19 @@
 //! Specifications in lists of their parts. Where their identifiers are 0, 1 and so on and their successors rise, the lists
 //! are a game as they stand: nothing is copied, sorted or hashed.
 
-ghost use Rattle.std.specs.Prelude.{◌≡◌, ◌<◌, ◌≤◌, ◌^◌, ◌++◌, ◌∷◌, ℕ, [], length, IfOk, IfErr, OnOk, OnErr, IsTrue, All, None};
+ghost use Rattle.std.specs.Prelude.{◌≡◌, ◌<◌, ◌≤◌, ◌^◌, ◌++◌, ◌∷◌, ℕ, [], length, IfOk, IfErr, IfSome, OnOk, OnErr, IsTrue, All, None};
 ghost use Rattle.pg_game.specs.Graph.{IsGame, AreSuccessors};
-ghost use Rattle.pg_game.specs.Specification.{AreNumbers, IsGameOf, first_fault, max_vertices, max_edges};
+ghost use Rattle.pg_game.specs.Specification.{AreNumbers, IsGameOf, first_fault, different, max_vertices, max_edges, max_priorities};
 ghost use Rattle.pg_game.specs.Rows.{size_of};
 ghost use Rattle.pg_game.specs.Flat.{AreSmall, AreSuccessorRows, ArePlain};
 
 use crate::Memory;
 use crate::adjacency::Adjacency;
+use crate::faults::count_different;
 use crate::game::Spec;
 use crate::limits::{MAX_EDGES, MAX_PRIORITIES, MAX_VERTICES};
 use crate::lookup::are_own_places;
+use crate::placed::{is_rising, place_rows};
 use crate::player::Player;
 use crate::sequence::Sequence;
 use std::alloc::{AllocError, Global};
@@ -40,7 +42,7 @@ impl Model for Specs {
     ghost invariant = { λ s. AreParts s.ids.items s.priorities.items s.owners.items s.rows };
 }
 
-/// A game without its predecessors, whose identifiers are their own places.
+/// A game without its predecessors.
 #[derive(Drop)]
 pub struct Listed {
     pub ids: Vec<u32>,
@@ -72,6 +74,17 @@ fn are_small(priorities: &[u32]) -> bool
         }
     }
     true
+}
+
+/// Whether there are no more different numbers than a game may have priorities. `Memory` is its one refusal.
+fn are_few(alloc: Global, priorities: &[u32]) -> Result<bool, Memory>
+    ensures { IfOk result (λ few. IsTrue few → different priorities.now ≤ max_priorities) }
+{
+    if are_small(priorities) {
+        return Ok(true);
+    }
+    let mut copy = Vec::from_slice(alloc, priorities)?;
+    Ok(count_different(&mut copy) <= MAX_PRIORITIES)
 }
 
 /// Whether there are numbers, which rise and are below a bound.
@@ -181,6 +194,32 @@ impl Specs {
             owners,
             rows,
         })
+    }
+
+    /// The game of these specifications, or none where their identifiers don't rise or they have a fault. `Memory` is its
+    /// one refusal.
+    pub(crate) fn placed(&self, alloc: Global) -> Result<Option<Listed>, Memory>
+        requires { All AreNumbers self.now }
+        ensures { IfOk result (λ listed. IfSome listed (λ g. IsGame g × IsGameOf self.now g × (first_fault self.now ≡ None))) }
+    {
+        let ids = self.ids.as_slice();
+        let priorities = self.priorities.as_slice();
+        if ids.is_empty()
+            || ids.len() > MAX_VERTICES
+            || !is_rising(ids)
+            || !are_few(alloc, priorities)?
+        {
+            return Ok(None);
+        }
+        let Some(rows) = place_rows(alloc, ids, &self.rows)? else {
+            return Ok(None);
+        };
+        Ok(Some(Listed {
+            ids: Vec::from_slice(alloc, ids)?,
+            priorities: Vec::from_slice(alloc, priorities)?,
+            owners: Vec::from_slice(alloc, self.owners.as_slice())?,
+            rows,
+        }))
     }
 
     /// The specifications one by one. `Memory` is its one refusal.

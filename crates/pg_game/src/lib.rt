@@ -12,6 +12,7 @@ mod limits;
 mod lookup;
 mod mask;
 mod names;
+mod placed;
 mod player;
 mod sequence;
 #[cfg(test)]
