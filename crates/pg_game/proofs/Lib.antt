@@ -24,6 +24,8 @@ pub mod Back
 pub mod Made
 pub mod Plain
 pub mod Laid
+pub mod Moved
+pub mod Ordered
 pub mod Pushed
 pub mod Taken
 pub mod Sorting

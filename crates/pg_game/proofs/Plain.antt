@@ -60,7 +60,7 @@ none_repeated earlier (x ∷ xs) up less =
       | inr k ↦ less e y k (Contains-tail x y xs n)
     ]))
 
-not_empty : (ws : List ℕ) → 0 < length ws → is_empty ws ≡ false
+pub not_empty : (ws : List ℕ) → 0 < length ws → is_empty ws ≡ false
 not_empty [] l = absurd (omega arith)
 not_empty (w ∷ ws) l = refl
 
@@ -68,7 +68,7 @@ pub none_without : (g : Graph) → ((v : ℕ) → v < length g → 0 < length (s
 none_without [] has = refl
 none_without (x ∷ g) has = rw (not_empty x.successors (has 0 (omega arith))) (none_without g (λ v l. has (suc v) (omega arith)))
 
-all_specified : (all : List Spec) (ws : List ℕ) → ((i : ℕ) → Contains ws i → IsSpecified all i ≡ true) → first_unspecified all ws ≡ None
+pub all_specified : (all : List Spec) (ws : List ℕ) → ((i : ℕ) → Contains ws i → IsSpecified all i ≡ true) → first_unspecified all ws ≡ None
 all_specified all [] has = refl
 all_specified all (w ∷ ws) has = rw (has w (Contains-head w ws)) (all_specified all ws (λ i m. has i (Contains-tail w i ws m)))
 

@@ -143,14 +143,14 @@ impl Game {
         }
     }
 
-    /// The game of these specifications, as `from_specs` makes it. Where they have no fault and their identifiers rise, it
-    /// is laid out from the lists. Else each gets a value of its own, and the first fault is looked for.
+    /// The game of these specifications, as `from_specs` makes it. Where they have no fault, it is laid out from the
+    /// lists. Else each gets a value of its own, and the first fault is looked for.
     fn of_lines(alloc: Global, specs: Specs) -> Result<Game, GameFault>
         requires { All AreNumbers specs }
         ensures game { IfOk result (λ g. IsGame g × IsGameOf specs g × (first_fault specs ≡ None)) }
         ensures fault { IfErr result (λ e. OrMemory (first_fault specs ≡ Some e) e) }
     {
-        if let Some(listed) = specs.placed(alloc)? {
+        if let Some(listed) = specs.listed(alloc)? {
             drop(specs);
             return Ok(Game::of_listed(alloc, listed)?);
         }
