@@ -7,6 +7,7 @@ mod check;
 mod faults;
 mod flat;
 mod game;
+mod hints;
 mod layout;
 mod limits;
 mod lookup;
