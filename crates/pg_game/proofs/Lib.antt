@@ -16,7 +16,6 @@ pub mod Parts
 pub mod Look
 pub mod Seen
 pub mod Places
-pub mod Indexed
 pub mod Sums
 pub mod Unknown
 pub mod Sound
@@ -24,6 +23,9 @@ pub mod Rising
 pub mod Back
 pub mod Made
 pub mod Plain
+pub mod Laid
+pub mod Moved
+pub mod Ordered
 pub mod Pushed
 pub mod Taken
 pub mod Sorting

@@ -26,15 +26,15 @@ use Rattle.pg_game.proofs.Made.{IsLaid, sum-map, made_game, made_of, made_limits
 use Rattle.pg_game.proofs.Parts.{ids-graph_of, priorities-graph_of, owners-graph_of, rows-graph_of}
 use Rattle.pg_game.proofs.Look as look
 
-ids-map : (g : Graph) → ids_of (map spec_from g) ≡ map (λ (x : Vertex). x.id) g
+pub ids-map : (g : Graph) → ids_of (map spec_from g) ≡ map (λ (x : Vertex). x.id) g
 ids-map [] = refl
 ids-map (x ∷ g) = ap (λ (xs : List ℕ). x.id ∷ xs) (ids-map g)
 
-priorities-map : (g : Graph) → priorities_of (map spec_from g) ≡ map (λ (x : Vertex). x.priority) g
+pub priorities-map : (g : Graph) → priorities_of (map spec_from g) ≡ map (λ (x : Vertex). x.priority) g
 priorities-map [] = refl
 priorities-map (x ∷ g) = ap (λ (xs : List ℕ). x.priority ∷ xs) (priorities-map g)
 
-owners-map : (g : Graph) → owners_of (map spec_from g) ≡ map (λ (x : Vertex). x.owner) g
+pub owners-map : (g : Graph) → owners_of (map spec_from g) ≡ map (λ (x : Vertex). x.owner) g
 owners-map [] = refl
 owners-map (x ∷ g) = ap (λ (xs : List Player). x.owner ∷ xs) (owners-map g)
 
@@ -51,7 +51,7 @@ edges-map (x ∷ g) up =
     omega (arith, a, b, c, d)
 
 -- numbers that rise above those before are not repeated
-none_repeated : (earlier xs : List ℕ) → IsStrictlyIncreasing xs → ((e x : ℕ) → Contains earlier e → Contains xs x → e < x) → first_repeated earlier xs ≡ None
+pub none_repeated : (earlier xs : List ℕ) → IsStrictlyIncreasing xs → ((e x : ℕ) → Contains earlier e → Contains xs x → e < x) → first_repeated earlier xs ≡ None
 none_repeated earlier [] up less = refl
 none_repeated earlier (x ∷ xs) up less =
     let f : list_any (λ m. m == x) earlier ≡ false = false_from_ne_true (list_any (λ m. m == x) earlier) (λ t. let h = less x x (any_from earlier x t) (Contains-head x xs) in omega (arith, h)) in
@@ -60,19 +60,19 @@ none_repeated earlier (x ∷ xs) up less =
       | inr k ↦ less e y k (Contains-tail x y xs n)
     ]))
 
-not_empty : (ws : List ℕ) → 0 < length ws → is_empty ws ≡ false
+pub not_empty : (ws : List ℕ) → 0 < length ws → is_empty ws ≡ false
 not_empty [] l = absurd (omega arith)
 not_empty (w ∷ ws) l = refl
 
-none_without : (g : Graph) → ((v : ℕ) → v < length g → 0 < length (successors_of g v)) → first_without (map spec_from g) ≡ None
+pub none_without : (g : Graph) → ((v : ℕ) → v < length g → 0 < length (successors_of g v)) → first_without (map spec_from g) ≡ None
 none_without [] has = refl
 none_without (x ∷ g) has = rw (not_empty x.successors (has 0 (omega arith))) (none_without g (λ v l. has (suc v) (omega arith)))
 
-all_specified : (all : List Spec) (ws : List ℕ) → ((i : ℕ) → Contains ws i → IsSpecified all i ≡ true) → first_unspecified all ws ≡ None
+pub all_specified : (all : List Spec) (ws : List ℕ) → ((i : ℕ) → Contains ws i → IsSpecified all i ≡ true) → first_unspecified all ws ≡ None
 all_specified all [] has = refl
 all_specified all (w ∷ ws) has = rw (has w (Contains-head w ws)) (all_specified all ws (λ i m. has i (Contains-tail w i ws m)))
 
-none_unknown : (all : List Spec) (g : Graph) → ((v i : ℕ) → v < length g → Contains (successors_of g v) i → IsSpecified all i ≡ true) → first_unknown all (map spec_from g) ≡ None
+pub none_unknown : (all : List Spec) (g : Graph) → ((v i : ℕ) → v < length g → Contains (successors_of g v) i → IsSpecified all i ≡ true) → first_unknown all (map spec_from g) ≡ None
 none_unknown all [] has = refl
 none_unknown all (x ∷ g) has = rw (all_specified all x.successors (λ i m. has 0 i (omega arith) m)) (none_unknown all g (λ v i l m. has (suc v) i (omega arith) m))
 
@@ -80,7 +80,7 @@ or_true : (b : Bool) → (b || true) ≡ true
 or_true true = refl
 or_true false = refl
 
-any_member : (xs : List ℕ) (i : ℕ) → Contains xs i → list_any (nat_eq i) xs ≡ true
+pub any_member : (xs : List ℕ) (i : ℕ) → Contains xs i → list_any (nat_eq i) xs ≡ true
 any_member [] i m = absurd (Contains-nil i m)
 any_member (x ∷ xs) i m = elim (Contains-cons x i xs m) [
   | inl q ↦ (let e : nat_eq i x ≡ true = eq-eqb i x (sym q) in rw e refl)
@@ -106,7 +106,7 @@ in_below (suc n) x l = elim (last_or_lower n x l) [
   | inr k ↦ Contains-tail n x (below n) (in_below n x k)
 ]
 
-few_different : (n : ℕ) (xs : List ℕ) → ((k : ℕ) → k < length xs → get_or xs k 0 < n) → different xs ≤ n
+pub few_different : (n : ℕ) (xs : List ℕ) → ((k : ℕ) → k < length xs → get_or xs k 0 < n) → different xs ≤ n
 few_different n xs small =
     let a = different_within xs (below n) (λ x (k, l, e). in_below n x (subst (λ (y : ℕ). y < n) (get_or_default xs k 0 x l ∙ e) (small k l))) in
     let b = different_most (below n) in
@@ -202,4 +202,4 @@ module _ (ids ps : List ℕ) (os : List Player) (rows : List (List ℕ)) (a : Ar
   plain_of numbers = subst (λ (qs : List ℕ). IsGameOf specs (graph_of ids qs os rows)) priorities_are (subst (λ (qs : List Player). IsGameOf specs (graph_of ids (priorities_of specs) qs rows)) owners_are (made_of specs specs ids rows (laid numbers)))
 
   pub plain_listed : All AreNumbers specs → IsListed ids ps os rows
-  plain_listed numbers = record { parts = a; game = plain_game numbers; limits = plain_limits numbers; own = p.own }
+  plain_listed numbers = record { parts = a; game = plain_game numbers; limits = plain_limits numbers }

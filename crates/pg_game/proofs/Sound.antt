@@ -64,7 +64,7 @@ head_of : (s t : Spec) (specs : List Spec) → Contains (s ∷ specs) t → (s �
 head_of s t specs (zero, l, e) = inl e
 head_of s t specs (suc k, l, e) = inr (k, omega arith, e)
 
-none_or : (b : Bool) (i : ℕ) (o : Option ℕ) → (if b then Some i else o) ≡ None → (b ≡ false) × (o ≡ None)
+pub none_or : (b : Bool) (i : ℕ) (o : Option ℕ) → (if b then Some i else o) ≡ None → (b ≡ false) × (o ≡ None)
 none_or true i o e = absurd (cc e)
 none_or false i o e = (refl, e)
 

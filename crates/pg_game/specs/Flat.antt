@@ -33,9 +33,8 @@ pub record ArePlain (ids ps : List ℕ) (rows : List (List ℕ)) : Type 0 where
   pub small : AreSmall ps
   pub successors : AreSuccessorRows rows
 
--- a game that is stored without predecessors, and whose identifiers are their own places
+-- a game that is stored without predecessors
 pub record IsListed (ids ps : List ℕ) (os : List Player) (rows : List (List ℕ)) : Type 0 where
   pub parts : AreParts ids ps os rows
   pub game : IsGame (graph_of ids ps os rows)
   pub limits : IsWithinLimits (graph_of ids ps os rows)
-  pub own : AreOwnPlaces ids

@@ -19,3 +19,4 @@ pub mod Described
 pub mod Same
 pub mod Names
 pub mod Flat
+pub mod Placed

@@ -1,17 +1,21 @@
 //! Specifications in lists of their parts. Where their identifiers are 0, 1 and so on and their successors rise, the lists
 //! are a game as they stand: nothing is copied, sorted or hashed.
 
-ghost use Rattle.std.specs.Prelude.{◌≡◌, ◌<◌, ◌≤◌, ◌^◌, ◌++◌, ◌∷◌, ℕ, [], length, IfOk, IfErr, OnOk, OnErr, IsTrue, All, None};
+ghost use Rattle.std.specs.Prelude.{◌≡◌, ◌<◌, ◌≤◌, ◌^◌, ◌++◌, ◌∷◌, ℕ, [], length, map, slice_index_or, IfOk, IfErr, IfSome, OnOk, OnErr, IsTrue, All, None};
+ghost use Rattle.std.specs.List.Sorted.{IsPermutation};
+ghost use Rattle.pg_game.specs.declared.game.Spec.{Spec};
 ghost use Rattle.pg_game.specs.Graph.{IsGame, AreSuccessors};
-ghost use Rattle.pg_game.specs.Specification.{AreNumbers, IsGameOf, first_fault, max_vertices, max_edges};
+ghost use Rattle.pg_game.specs.Specification.{AreNumbers, IsGameOf, first_fault, different, max_vertices, max_edges, max_priorities};
 ghost use Rattle.pg_game.specs.Rows.{size_of};
 ghost use Rattle.pg_game.specs.Flat.{AreSmall, AreSuccessorRows, ArePlain};
 
 use crate::Memory;
 use crate::adjacency::Adjacency;
+use crate::faults::count_different;
 use crate::game::Spec;
 use crate::limits::{MAX_EDGES, MAX_PRIORITIES, MAX_VERTICES};
 use crate::lookup::are_own_places;
+use crate::placed::{is_rising, place_rows};
 use crate::player::Player;
 use crate::sequence::Sequence;
 use std::alloc::{AllocError, Global};
@@ -40,7 +44,7 @@ impl Model for Specs {
     ghost invariant = { λ s. AreParts s.ids.items s.priorities.items s.owners.items s.rows };
 }
 
-/// A game without its predecessors, whose identifiers are their own places.
+/// A game without its predecessors.
 #[derive(Drop)]
 pub struct Listed {
     pub ids: Vec<u32>,
@@ -72,6 +76,17 @@ fn are_small(priorities: &[u32]) -> bool
         }
     }
     true
+}
+
+/// Whether there are no more different numbers than a game may have priorities. `Memory` is its one refusal.
+fn are_few(alloc: Global, priorities: &[u32]) -> Result<bool, Memory>
+    ensures { IfOk result (λ few. IsTrue few → different priorities.now ≤ max_priorities) }
+{
+    if are_small(priorities) {
+        return Ok(true);
+    }
+    let mut copy = Vec::from_slice(alloc, priorities)?;
+    Ok(count_different(&mut copy) <= MAX_PRIORITIES)
 }
 
 /// Whether there are numbers, which rise and are below a bound.
@@ -114,6 +129,19 @@ fn are_plain(ids: &[u32], priorities: &[u32], rows: &Adjacency) -> bool
         && are_own_places(ids)
         && are_small(priorities)
         && are_successor_rows(rows)
+}
+
+/// The number of each line, after its identifier. `Memory` is its one refusal.
+fn numbered(alloc: Global, ids: &[u32]) -> Result<Vec<(u32, u32)>, Memory>
+    requires { length ids.now < 2 ^ 32 }
+    ensures size { IfOk result (λ lines. length lines.items ≡ length ids.now) }
+    ensures each { IfOk result (λ lines. (k : ℕ) (d : ℕ × ℕ) → k < length ids.now → (slice_index_or lines.items k d).1 ≡ k) }
+{
+    let mut lines = Vec::with_capacity(alloc, ids.len())?;
+    'lines: for v in 0..ids.len() {
+        lines.push((ids[v], v as u32))?;
+    }
+    Ok(lines)
 }
 
 impl Specs {
@@ -181,6 +209,71 @@ impl Specs {
             owners,
             rows,
         })
+    }
+
+    /// The game of these specifications, or none where their identifiers don't rise or they have a fault. `Memory` is its
+    /// one refusal.
+    fn placed(&self, alloc: Global) -> Result<Option<Listed>, Memory>
+        requires { All AreNumbers self.now }
+        ensures { IfOk result (λ listed. IfSome listed (λ g. IsGame g × IsGameOf self.now g × (first_fault self.now ≡ None))) }
+    {
+        let ids = self.ids.as_slice();
+        let priorities = self.priorities.as_slice();
+        if ids.is_empty()
+            || ids.len() > MAX_VERTICES
+            || !is_rising(ids)
+            || !are_few(alloc, priorities)?
+        {
+            return Ok(None);
+        }
+        let Some(rows) = place_rows(alloc, ids, &self.rows)? else {
+            return Ok(None);
+        };
+        Ok(Some(Listed {
+            ids: Vec::from_slice(alloc, ids)?,
+            priorities: Vec::from_slice(alloc, priorities)?,
+            owners: Vec::from_slice(alloc, self.owners.as_slice())?,
+            rows,
+        }))
+    }
+
+    /// The specifications of these lines. `Memory` is its one refusal.
+    fn picked(&self, alloc: Global, lines: &[(u32, u32)]) -> Result<Specs, Memory>
+        requires { All (λ line. line.1 < length self.now) lines.now }
+        ensures { IfOk result (λ specs. (d : Spec) → specs ≡ map (λ line. slice_index_or self.now line.1 d) lines.now) }
+    {
+        let mut specs = Specs::with_capacity(alloc, self.rows.len(), self.rows.size() as u32)?;
+        'lines: for line in lines {
+            let i = line.1 as usize;
+            let row = self.rows.row(line.1);
+            specs.push(self.ids[i], self.priorities[i], self.owners[i], row)?;
+        }
+        Ok(specs)
+    }
+
+    /// The same specifications by identifier. `Memory` is its one refusal.
+    fn by_identifier(&self, alloc: Global) -> Result<Specs, Memory>
+        requires { length self.now ≤ max_vertices }
+        ensures { IfOk result (λ specs. IsPermutation self.now specs) }
+    {
+        let mut lines = numbered(alloc, self.ids.as_slice())?;
+        lines.sort_unstable_by_key(|line| line.0);
+        Ok(self.picked(alloc, lines.as_slice())?)
+    }
+
+    /// The game of these specifications, or none where they have a fault. `Memory` is its one refusal.
+    pub(crate) fn listed(&self, alloc: Global) -> Result<Option<Listed>, Memory>
+        requires { All AreNumbers self.now }
+        ensures { IfOk result (λ listed. IfSome listed (λ g. IsGame g × IsGameOf self.now g × (first_fault self.now ≡ None))) }
+    {
+        if self.ids.len() > MAX_VERTICES {
+            return Ok(None);
+        }
+        if is_rising(self.ids.as_slice()) {
+            return self.placed(alloc);
+        }
+        let sorted = self.by_identifier(alloc)?;
+        Ok(sorted.placed(alloc)?)
     }
 
     /// The specifications one by one. `Memory` is its one refusal.

@@ -139,12 +139,24 @@ impl Game {
     {
         match specs.into_listed() {
             Ok(listed) => Ok(Game::of_listed(alloc, listed)?),
-            Err(specs) => {
-                let items = specs.to_vec(alloc)?;
-                drop(specs);
-                Game::from_specs(alloc, items)
-            }
+            Err(specs) => Game::of_lines(alloc, specs),
         }
+    }
+
+    /// The game of these specifications, as `from_specs` makes it. Where they have no fault, it is laid out from the
+    /// lists. Else each gets a value of its own, and the first fault is looked for.
+    fn of_lines(alloc: Global, specs: Specs) -> Result<Game, GameFault>
+        requires { All AreNumbers specs }
+        ensures game { IfOk result (λ g. IsGame g × IsGameOf specs g × (first_fault specs ≡ None)) }
+        ensures fault { IfErr result (λ e. OrMemory (first_fault specs ≡ Some e) e) }
+    {
+        if let Some(listed) = specs.listed(alloc)? {
+            drop(specs);
+            return Ok(Game::of_listed(alloc, listed)?);
+        }
+        let items = specs.to_vec(alloc)?;
+        drop(specs);
+        Game::from_specs(alloc, items)
     }
 
     /// The same game with its predecessors. `Memory` is its one refusal.
@@ -158,7 +170,7 @@ impl Game {
             rows,
         } = listed;
         let predecessors = rows.reversed(alloc)?;
-        let ids = Names::of_places(alloc, ids);
+        let ids = Names::of_rising(ids);
         Ok(Game {
             ids,
             priorities,
@@ -186,7 +198,7 @@ impl Game {
         ids.sort_unstable()?;
         specs.sort_unstable_by_key(|s| s.id);
         let successors = successors(alloc, &ids, specs.as_slice(), edge_count)?;
-        let ids = Names::of_index(alloc, ids)?;
+        let ids = Names::of_rising(Vec::from_slice(alloc, ids.as_slice())?);
         Ok(Game {
             priorities: priorities(alloc, specs.as_slice())?,
             owners: owners(alloc, specs.as_slice())?,

@@ -7,11 +7,13 @@ mod check;
 mod faults;
 mod flat;
 mod game;
+mod hints;
 mod layout;
 mod limits;
 mod lookup;
 mod mask;
 mod names;
+mod placed;
 mod player;
 mod sequence;
 #[cfg(test)]

@@ -1,7 +1,7 @@
 //! Where an identifier stands in a list of them. Those of a game without gaps stand each at its own place, which saves
 //! the hashing.
 
-ghost use Rattle.std.specs.Prelude.{◌≡◌, ◌<◌, ◌↔◌, IsTrue, length, nat_eq, position, slice_index};
+ghost use Rattle.std.specs.Prelude.{◌≡◌, ◌<◌, ◌↔◌, ℕ, IfNone, IfSome, IsTrue, length, nat_eq, position, slice_index};
 ghost use Rattle.std.specs.List.{list_any};
 ghost use Rattle.std.specs.List.Sorted.{IsStrictlyIncreasing};
 ghost use Rattle.pg_game.specs.Names.{AreOwnPlaces};
@@ -50,4 +50,20 @@ pub fn place_of(ids: &IndexSet<u32>, id: u32) -> Option<usize>
         return Some(id as usize);
     }
     ids.get_index_of(&id)
+}
+
+/// The place of the identifier in a rising list, or none.
+#[inline]
+pub fn find(ids: &[u32], id: u32) -> Option<usize>
+    requires { IsStrictlyIncreasing ids.now }
+    ensures found { IfSome result (λ v. (v < length ids.now) × (slice_index ids.now v ≡ id)) }
+    ensures missing { IfNone result ((v : ℕ) → v < length ids.now → slice_index ids.now v ≡ id → ⊥) }
+{
+    if is_at_own_place(ids, id) {
+        return Some(id as usize);
+    }
+    match ids.binary_search(&id) {
+        Ok(place) => Some(place),
+        Err(_) => None,
+    }
 }

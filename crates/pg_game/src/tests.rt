@@ -214,6 +214,50 @@ fn lists_out_of_order_make_the_same_game(rt: HostRuntime) -> Result<(), Fail> {
     Ok(())
 }
 
+/// The next random number (W. H. Press et al., Numerical Recipes).
+fn next_random(seed: &mut u32) -> u32 {
+    *seed = seed.wrapping_mul(1_664_525).wrapping_add(1_013_904_223);
+    *seed >> 8
+}
+
+/// The identifier of a line of seven: they rise where `turn` is 1, and follow another order with another.
+fn turned(v: u32, step: u32, turn: u32) -> u32 {
+    step.wrapping_mul(v.wrapping_mul(turn) % 7)
+}
+
+/// Seven lines with random successors, unsorted and repeated.
+fn random_specs(alloc: Global, seed: &mut u32, step: u32, turn: u32) -> Result<Vec<Spec>, Fail>
+    ensures { IfOk result (λ specs. All AreNumbers specs.items) }
+{
+    let mut specs = Vec::new(alloc);
+    'lines: for v in 0..7u32 {
+        let mut successors = Vec::new(alloc);
+        'row: for _successor in 0..next_random(seed) % 5 + 1 {
+            successors.push(turned(next_random(seed) % 7, step, turn))?;
+        }
+        let priority = next_random(seed) % 9;
+        let id = turned(v, step, turn);
+        add(&mut specs, id, priority, Player::of_parity(v), successors)?;
+    }
+    Ok(specs)
+}
+
+#[test]
+fn random_lists_make_the_same_game(rt: HostRuntime) -> Result<(), Fail> {
+    let alloc = rt.alloc();
+    let mut seed = 1u32;
+    for round in 0..60u32 {
+        for step in [1, 3, 300_000_000] {
+            let turn = round % 6 + 1;
+            let specs = random_specs(alloc, &mut seed, step, turn)?;
+            let flat = flat_of(alloc, specs.as_slice())?;
+            assert!(rt; flat.listed(alloc)?.is_some());
+            assert!(rt; Game::from_rows(alloc, flat)? == Game::from_specs(alloc, specs)?);
+        }
+    }
+    Ok(())
+}
+
 /// Asks for the fault of these rows, both ways.
 fn refused(rt: &impl Abort, alloc: Global, rows: &[Row], wanted: GameFault) -> Result<(), Fail> {
     let specs = specs_of(alloc, rows)?;

@@ -45,6 +45,17 @@ reversed-requires c =
     let laid : IsLaid specs sorted ids rows = laid_from specs sorted c.args.ids.keys ids rows c.requires.numbers c.requires.sound c.requires.ids c.sort_unstable_by_key.ensures.permutation c.sort_unstable.ensures.reordered.0 c.sort_unstable.ensures.unique c.in_ok-sort_unstable.ensures.sorted rises (rw e at h.size, rw e at h.edges, rw e at h.each) in
     made_rows specs sorted ids rows laid
 
+pub of_rising-ids-requires : goal.of_rising-ids-requires
+of_rising-ids-requires c =
+    let specs = c.args.specs.items in
+    let sorted = c.sort_unstable_by_key.new.self.items in
+    let ids = c.sort_unstable.new.self.keys in
+    let sames : IsPermutation (ids_of specs) ids = subst (λ (xs : List ℕ). IsPermutation xs ids) c.requires.ids c.sort_unstable.ensures.reordered.0 in
+    let rises : IsNonDecreasingBy (λ (s : Spec). s.id) sorted = IsNonDecreasingBy-from_sort_by_key (λ (s : Spec). s.id) _ c.sort_unstable_by_key.ensures.sorted (λ a r q k. search rules) in
+    let up = IsNonDecreasingBy-from_sort (λ (x : ℕ). x) ids c.in_ok-sort_unstable.ensures.sorted in
+    let both = ids_agree specs sorted ids c.sort_unstable_by_key.ensures.permutation sames c.sort_unstable.ensures.unique up rises in
+    rw (c.in_ok-from_slice.ensures.items, c.as_slice-2.ensures.keys) both.1
+
 pub invariant_of-result : goal.invariant_of-result
 invariant_of-result c =
     let specs = c.args.specs.items in
@@ -55,9 +66,10 @@ invariant_of-result c =
     let h = c.in_ok-successors.ensures in
     let e = c.as_slice.ensures.value in
     let laid : IsLaid specs sorted ids rows = laid_from specs sorted c.args.ids.keys ids rows c.requires.numbers c.requires.sound c.requires.ids c.sort_unstable_by_key.ensures.permutation c.sort_unstable.ensures.reordered.0 c.sort_unstable.ensures.unique c.in_ok-sort_unstable.ensures.sorted rises (rw e at h.size, rw e at h.edges, rw e at h.each) in
-    let ps : c.in_ok-priorities.field-0.items ≡ priorities_of sorted = c.in_ok-priorities.ensures ∙ ap priorities_of c.as_slice-2.ensures.value in
-    let os : c.in_ok-owners.field-0.items ≡ owners_of sorted = c.in_ok-owners.ensures ∙ ap owners_of c.as_slice-3.ensures.value in
-    rw (c.in_ok-ids.ensures, ps, os) record {
+    let ps : c.in_ok-priorities.field-0.items ≡ priorities_of sorted = c.in_ok-priorities.ensures ∙ ap priorities_of c.as_slice-3.ensures.value in
+    let os : c.in_ok-owners.field-0.items ≡ owners_of sorted = c.in_ok-owners.ensures ∙ ap owners_of c.as_slice-4.ensures.value in
+    let names : c.of_rising-ids.result ≡ ids = c.of_rising-ids.ensures ∙ (c.in_ok-from_slice.ensures.items ∙ c.as_slice-2.ensures.keys) in
+    rw (names, ps, os) record {
       parts = parts specs sorted ids rows laid;
       game = made_game specs sorted ids rows laid;
       limits = made_limits specs sorted ids rows laid;
@@ -75,6 +87,7 @@ returns c =
     let h = c.in_ok-successors.ensures in
     let e = c.as_slice.ensures.value in
     let laid : IsLaid specs sorted ids rows = laid_from specs sorted c.args.ids.keys ids rows c.requires.numbers c.requires.sound c.requires.ids c.sort_unstable_by_key.ensures.permutation c.sort_unstable.ensures.reordered.0 c.sort_unstable.ensures.unique c.in_ok-sort_unstable.ensures.sorted rises (rw e at h.size, rw e at h.edges, rw e at h.each) in
-    let ps : c.in_ok-priorities.field-0.items ≡ priorities_of sorted = c.in_ok-priorities.ensures ∙ ap priorities_of c.as_slice-2.ensures.value in
-    let os : c.in_ok-owners.field-0.items ≡ owners_of sorted = c.in_ok-owners.ensures ∙ ap owners_of c.as_slice-3.ensures.value in
-    rw (c.in_ok-ids.ensures, ps, os) record { game = (made_game specs sorted ids rows laid, made_of specs sorted ids rows laid) }
+    let ps : c.in_ok-priorities.field-0.items ≡ priorities_of sorted = c.in_ok-priorities.ensures ∙ ap priorities_of c.as_slice-3.ensures.value in
+    let os : c.in_ok-owners.field-0.items ≡ owners_of sorted = c.in_ok-owners.ensures ∙ ap owners_of c.as_slice-4.ensures.value in
+    let names : c.of_rising-ids.result ≡ ids = c.of_rising-ids.ensures ∙ (c.in_ok-from_slice.ensures.items ∙ c.as_slice-2.ensures.keys) in
+    rw (names, ps, os) record { game = (made_game specs sorted ids rows laid, made_of specs sorted ids rows laid) }

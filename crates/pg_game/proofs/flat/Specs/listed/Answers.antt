@@ -1,0 +1,27 @@
+use Rattle.std.proofs.Common.{◌≡◌, List, length, ap, arith}
+use Rattle.std.specs.Prelude.{Option, None, Some, IfSome}
+use Rattle.std.specs.List.Sorted.{IsPermutation}
+use Rattle.std.proofs.lemmas.List.Sorted.{All-permutation}
+use Rattle.pg_game.specs.declared.game.Spec.{Spec}
+use Rattle.pg_game.specs.Graph.{Graph, IsGame}
+use Rattle.pg_game.specs.Specification.{AreNumbers, IsGameOf, first_fault}
+use Rattle.pg_game.proofs.Moved.{still_none, still_of}
+use Rattle.pg_game.proofs.Taken.{length_specs}
+use Rattle.pg_game.proofs.flat.Specs.listed.Goals as goal
+
+still_some : (specs sorted : List Spec) → IsPermutation specs sorted → (o : Option Graph) → IfSome o (λ g. IsGame g × IsGameOf sorted g × (first_fault sorted ≡ None)) → IfSome o (λ g. IsGame g × IsGameOf specs g × (first_fault specs ≡ None))
+still_some specs sorted moved None h = h
+still_some specs sorted moved (Some g) (game, of, none) = (game, still_of specs sorted moved g of, still_none specs sorted moved none)
+
+pub by_identifier-requires : goal.by_identifier-requires
+by_identifier-requires c =
+    let s = c.self.inside in
+    let n = length_specs s.ids.items s.priorities.items s.owners.items s.rows c.self.invariant in
+    let e = ap (λ (xs : List Spec). length xs) c.self.view_is in
+    omega (arith, n, e, c.if-len-gt-MAX_VERTICES.false, c.len.ensures, s.ids.ok.0)
+
+pub placed-requires-2 : goal.placed-requires-2
+placed-requires-2 c = All-permutation AreNumbers c.args.self.now c.in_ok-sorted.sorted c.in_ok-sorted.ensures c.requires
+
+pub returns : goal.returns
+returns c = still_some c.args.self.now c.in_ok-sorted.sorted c.in_ok-sorted.ensures c.in_ok-placed.field-0 c.in_ok-placed.ensures
