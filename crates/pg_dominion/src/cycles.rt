@@ -9,8 +9,8 @@ ghost use Rattle.std.specs.Prelude.{◌≡◌, ℕ, ◌<◌, ◌≤◌, ◌+◌,
 ghost use Rattle.pg_game.specs.Least.{NoneHas, IsLeast};
 ghost use Rattle.pg_dominion.specs.KeptEdges.{IsKept, Reaches, IsWorst, Searching, IsSource, IsSpread, GoesOn};
 
-use crate::clustering::find_ranking;
 use crate::kept::Kept;
+use crate::placing::find_ranking;
 use crate::ranking::is_ranked;
 use std::alloc::{AllocError, Global};
 
