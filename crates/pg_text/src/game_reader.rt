@@ -78,7 +78,7 @@ impl Reader {
     }
 
     /// Takes a number; false where none can stand.
-    #[inline]
+    #[inline(always)]
     fn number(&mut self, value: Option<u32>, place: u32) -> Result<bool, TextFault>
         ensures taken { IfOk result (λ taken. (n : ℕ) → value ≡ fitting n → Takes self.old self.new taken (Number n) place) }
         ensures memory { IfErr result (λ e. e ≡ TextFault.Memory) }
@@ -145,7 +145,7 @@ impl Reader {
     }
 
     /// Takes a semicolon; false where none can stand.
-    #[inline]
+    #[inline(always)]
     fn semicolon(&mut self) -> Result<bool, TextFault>
         ensures taken { IfOk result (λ taken. (place : ℕ) → Takes self.old self.new taken Semicolon place) }
         ensures memory { IfErr result (λ e. e ≡ TextFault.Memory) }
@@ -176,7 +176,7 @@ impl Reader {
     }
 
     /// Takes a comma; false where none can stand.
-    #[inline]
+    #[inline(always)]
     fn comma(&mut self) -> bool
         ensures { (place : ℕ) → Takes self.old self.new result Comma place }
     {
@@ -251,7 +251,7 @@ impl Reader {
     }
 
     /// Takes the number at a place, behind at most one blank, and answers the place behind it. Without one nothing happens.
-    #[inline]
+    #[inline(always)]
     fn near_number(&mut self, text: &[u8], at: usize) -> Result<Option<usize>, TextFault>
         requires size { length text.now ≤ 268435456 }
         requires inside { at ≤ length text.now }
@@ -270,7 +270,7 @@ impl Reader {
     }
 
     /// Takes the comma at a place and answers the place behind it. Without one nothing happens.
-    #[inline]
+    #[inline(always)]
     fn near_comma(&mut self, text: &[u8], at: usize) -> Result<Option<usize>, TextFault>
         requires size { length text.now ≤ 268435456 }
         requires inside { at ≤ length text.now }
@@ -289,7 +289,7 @@ impl Reader {
     }
 
     /// Takes the semicolon at a place and answers the place behind it, or the place itself where there is none.
-    #[inline]
+    #[inline(always)]
     fn near_semicolon(&mut self, text: &[u8], at: usize) -> Result<usize, TextFault>
         requires size { length text.now ≤ 268435456 }
         requires inside { at ≤ length text.now }
@@ -308,7 +308,7 @@ impl Reader {
     }
 
     /// Reads on behind a successor: further ones, each behind a comma, and a semicolon. Answers the place behind what was read.
-    #[inline]
+    #[inline(always)]
     fn line_end(&mut self, text: &[u8], from: usize) -> Result<usize, TextFault>
         requires size { length text.now ≤ 268435456 }
         requires inside { from ≤ length text.now }
@@ -327,7 +327,7 @@ impl Reader {
     }
 
     /// Reads a line as far as it is made of numbers, single separators and a semicolon. Answers the place behind what was read.
-    #[inline]
+    #[inline(always)]
     fn line(&mut self, text: &[u8], from: usize) -> Result<usize, TextFault>
         requires size { length text.now ≤ 268435456 }
         requires inside { from ≤ length text.now }

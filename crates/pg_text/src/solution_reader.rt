@@ -75,7 +75,7 @@ impl Reader {
     }
 
     /// Takes a number; false where none can stand.
-    #[inline]
+    #[inline(always)]
     fn number(&mut self, value: Option<u32>, place: u32) -> bool
         ensures { (n : ℕ) → value ≡ fitting n → Takes self.old self.new result (Number n) place }
     {
@@ -113,7 +113,7 @@ impl Reader {
     }
 
     /// Takes a semicolon; false where none can stand.
-    #[inline]
+    #[inline(always)]
     fn semicolon(&mut self) -> Result<bool, SolutionTextFault>
         ensures taken { IfOk result (λ taken. (place : ℕ) → Takes self.old self.new taken Semicolon place) }
         ensures memory { IfErr result (λ e. e ≡ SolutionTextFault.Memory) }
@@ -183,7 +183,7 @@ impl Reader {
     }
 
     /// Takes the number at a place, behind at most one blank, and answers the place behind it. Without one nothing happens.
-    #[inline]
+    #[inline(always)]
     fn near_number(&mut self, text: &[u8], at: usize) -> Result<Option<usize>, SolutionTextFault>
         requires size { length text.now ≤ 268435456 }
         requires inside { at ≤ length text.now }
@@ -202,7 +202,7 @@ impl Reader {
     }
 
     /// Takes the semicolon at a place and answers the place behind it, or the place itself where there is none.
-    #[inline]
+    #[inline(always)]
     fn near_semicolon(&mut self, text: &[u8], at: usize) -> Result<usize, SolutionTextFault>
         requires size { length text.now ≤ 268435456 }
         requires inside { at ≤ length text.now }
@@ -221,7 +221,7 @@ impl Reader {
     }
 
     /// Reads a line as far as it is made of numbers, single separators and a semicolon. Answers the place behind what was read.
-    #[inline]
+    #[inline(always)]
     fn line(&mut self, text: &[u8], from: usize) -> Result<usize, SolutionTextFault>
         requires size { length text.now ≤ 268435456 }
         requires inside { from ≤ length text.now }
