@@ -262,7 +262,7 @@ impl Reader {
         let Some(n) = number_near(text, at) else {
             return Ok(None);
         };
-        match self.number(n.value, n.from as u32) {
+        match self.number(Some(n.value), n.from as u32) {
             Ok(true) => Ok(Some(n.to)),
             Ok(false) => Err(unexpected(text, n.from, n.to)),
             Err(fault) => Err(fault),
@@ -350,7 +350,7 @@ impl Reader {
         self.line_end(text, successor)
     }
 
-    /// Reads lines straight through, where one may begin. Answers the place behind what was read: all else is for the tokens.
+    /// Reads lines straight through, behind a line. Answers the place behind what was read: all else is for the tokens.
     fn lines(&mut self, text: &[u8], from: usize) -> Result<usize, TextFault>
         requires size { length text.now ≤ 268435456 }
         requires inside { from ≤ length text.now }

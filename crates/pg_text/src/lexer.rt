@@ -2,7 +2,7 @@
 //!
 //! Numbers, commas and semicolons are the common ones and stay in one small function; words and names are kept out of line.
 //! A number of any length is read in 64 bits, since its value stops growing once it is above the limit.
-ghost use Rattle.std.specs.Prelude.{◌≡◌, ◌≢◌, ℕ, ◌+◌, ◌<◌, ◌≤◌, length, drop, List, slice_index, false, MatchOption, IfSome};
+ghost use Rattle.std.specs.Prelude.{◌≡◌, ◌≢◌, ℕ, ◌+◌, ◌<◌, ◌≤◌, length, drop, List, slice_index, false, MatchOption, IfSome, Some};
 ghost use Rattle.pg_text.specs.Bytes.{is_blank, is_digit, is_letter, EndsRun, value_of};
 ghost use Rattle.pg_text.specs.Piece.{IsNext, IsPieceOf, IsRun, IsToken, fitting};
 ghost use Rattle.pg_text.specs.Token.{Number};
@@ -25,10 +25,10 @@ pub enum Kind {
     Bad,
 }
 
-/// A number of a text: its value, where it is within the limit, and the places where its digits begin and end.
+/// A number of a text within the limit, and the places where its digits begin and end.
 #[derive(Clone, Copy)]
 pub struct Numeral {
-    pub value: Option<u32>,
+    pub value: u32,
     pub from: usize,
     pub to: usize,
 }
@@ -77,14 +77,14 @@ fn blanks_end(text: &[u8], from: usize) -> usize
     to
 }
 
-/// The place behind the blank at `from`, or `from` where none stands there.
+/// The place behind the blank at `from`, or `from` where none stands there. A digit is the common byte, and looked for first.
 #[inline]
 fn blank_end(text: &[u8], from: usize) -> usize
     requires { from ≤ length text.now }
     ensures run { (run : List ℕ) × IsRun is_blank text.now from result run }
     ensures within { result ≤ length text.now }
 {
-    if from < text.len() && blank(text[from]) {
+    if from < text.len() && !digit(text[from]) && blank(text[from]) {
         from + 1
     } else {
         from
@@ -129,11 +129,11 @@ fn number(text: &[u8], from: usize) -> (Option<u32>, usize)
     }
 }
 
-/// The number at a place, behind at most one blank.
+/// The number at a place, behind at most one blank, where it is within the limit.
 #[inline]
 pub fn number_near(text: &[u8], at: usize) -> Option<Numeral>
     requires { at ≤ length text.now }
-    ensures token { IfSome result (λ n. (m : ℕ) × (n.value ≡ fitting m) × IsToken text.now at n.from n.to (Number m)) }
+    ensures token { IfSome result (λ n. (m : ℕ) × (Some n.value ≡ fitting m) × IsToken text.now at n.from n.to (Number m)) }
     ensures order { IfSome result (λ n. n.from ≤ n.to) }
     ensures ahead { IfSome result (λ n. (at < n.to) × (n.to ≤ length text.now)) }
 {
@@ -141,7 +141,9 @@ pub fn number_near(text: &[u8], at: usize) -> Option<Numeral>
     if from >= text.len() || !digit(text[from]) {
         return None;
     }
-    let (value, to) = number(text, from);
+    let (Some(value), to) = number(text, from) else {
+        return None;
+    };
     Some(Numeral { value, from, to })
 }
 

@@ -194,7 +194,7 @@ impl Reader {
         let Some(n) = number_near(text, at) else {
             return Ok(None);
         };
-        if self.number(n.value, n.from as u32) {
+        if self.number(Some(n.value), n.from as u32) {
             Ok(Some(n.to))
         } else {
             Err(unexpected(text, n.from, n.to))
@@ -241,7 +241,7 @@ impl Reader {
         }
     }
 
-    /// Reads lines straight through, where one may begin. Answers the place behind what was read: all else is for the tokens.
+    /// Reads lines straight through, behind a header or a line. Answers the place behind what was read: all else is for the tokens.
     fn lines(&mut self, text: &[u8], from: usize) -> Result<usize, SolutionTextFault>
         requires size { length text.now ≤ 268435456 }
         requires inside { from ≤ length text.now }
