@@ -3,6 +3,9 @@
 //! The state says what was read last, and the fields hold the parts of the line begun. A number or an owner at fault is only
 //! noted, since the grammar is judged first; a token that can't stand there ends the pass, and the rest is looked through
 //! once for a byte that begins no token.
+//!
+//! Behind a line, numbers, commas and semicolons are taken where they stand, each by the step of its token; what is none of
+//! these is left to the lexer.
 ghost use Rattle.std.specs.Prelude.{◌≡◌, ℕ, ◌≤◌, length, true, false, IfOk, IfErr, IfSome, MatchResult, ◌<◌, None, List, []};
 ghost use Rattle.pg_text.specs.Token.{Number, Word, Name, Comma, Semicolon, Placed, Spells};
 ghost use Rattle.pg_text.specs.Piece.{fitting};
