@@ -3,7 +3,8 @@
 
     tests/every_byte.py BINARY
 
-The games and solutions of examples are cut at every length too. The answers are those of the definitions in plain.py; for
+Lines of games and solutions get each fault at each place, in spellings that are read straight through and in others. The
+games and solutions of examples are cut at every length too. The answers are those of the definitions in plain.py; for
 the smallest game, cut, they are written out here too. The last line is 'N passed, M failed'.
 """
 
@@ -20,6 +21,11 @@ SMALLEST = b"parity 0;\n0 0 0 0;\n"
 NAMED = b'parity 12; start 1;\n12 05 1 7,12 "a name";\n7 2 0 12;\n'
 SOLUTION = b"paritysol 12;\n7 1;\n12 1 12;\n"
 
+GAME_LINES = [b"0 4 1 1 , 2 ;", b"1 7 0 0 , 1 , 2 ;", b"2 10 1 1 ;"]
+SOLUTION_LINES = [b"0 1 ;", b"1 0 0 ;", b"2 1 ;"]
+FAULTS = [b"2147483648", b"99999999999999999999", b"2", b"00", b",", b";", b'"x"', b"x", b"-"]
+SPELLINGS = {"straight": (b" ", b"", b"\n"), "two blanks": (b"  ", b"", b"\n\n"), "spaced": (b"\t", b" ", b"\r\n")}
+
 
 def texts():
     """Pairs of a name and a joined text, or a game where it has no '%'."""
@@ -34,6 +40,47 @@ def texts():
         yield f"a game cut to {length} bytes", NAMED[:length]
     for length in range(len(SOLUTION) + 1):
         yield f"a solution cut to {length} bytes", NAMED + b"%" + SOLUTION[:length]
+
+
+def spelled(tokens, between, around, behind):
+    """The tokens with these bytes between two numbers, around commas and before semicolons, and behind semicolons."""
+    text, last = [], b";"
+    for token in tokens:
+        if token.isdigit() and last.isdigit():
+            text.append(between)
+        elif token in (b",", b";") or last == b",":
+            text.append(around)
+        text.append(token)
+        if token == b";":
+            text.append(behind)
+        last = token
+    return b"".join(text)
+
+
+def damaged(lines):
+    """Pairs of a name and the tokens of the lines: whole, and with each fault before, at and in place of each token."""
+    yield "whole", b" ".join(lines).split()
+    for row, line in enumerate(lines):
+        before, tokens, behind = b" ".join(lines[:row]).split(), line.split(), b" ".join(lines[row + 1 :]).split()
+        for at in range(len(tokens)):
+            yield f"line {row} without token {at}", before + tokens[:at] + tokens[at + 1 :] + behind
+            for fault in FAULTS:
+                yield f"line {row} with {fault} before token {at}", before + tokens[:at] + [fault] + tokens[at:] + behind
+                yield f"line {row} with {fault} as token {at}", before + tokens[:at] + [fault] + tokens[at + 1 :] + behind
+
+
+def damaged_lines():
+    """The runs on faults at each place of lines: games by `tidy`, solutions behind a game."""
+    game = spelled(b" ".join(GAME_LINES).split(), b" ", b"", b"\n")
+    named = [line.replace(b" ;", b' "n" ;') for line in GAME_LINES]
+    for how, bytes_between in SPELLINGS.items():
+        for kind, lines in (("named ", named), ("", GAME_LINES)):
+            for name, tokens in damaged(lines):
+                text = spelled(tokens, *bytes_between)
+                yield f"a {kind}game, {how}: {name}", ["tidy"], text, tidied(text)
+        for name, tokens in damaged(SOLUTION_LINES):
+            text = game + b"%" + spelled(tokens, *bytes_between)
+            yield f"a solution, {how}: {name}", [], text, wanted_of(text)
 
 
 def read(path):
@@ -95,6 +142,7 @@ def runs():
     for length in range(len(SMALLEST) + 1):
         yield f"the smallest game cut to {length} bytes", ["tidy"], SMALLEST[:length], tidied_or_refused(length)
     yield from cut_examples()
+    yield from damaged_lines()
 
 
 def fault(binary, run):

@@ -1,22 +1,21 @@
 -- How long written texts are, within the limits of games.
-use Rattle.std.proofs.Common.{◌≡◌, ℕ, zero, suc, ◌+◌, ◌-◌, ◌*◌, ◌^◌, ◌<◌, ◌≤◌, List, [], ◌∷◌, ◌++◌, length, map, get_or, refl, sym, ◌∙◌, ap, subst, arith, lit<, length-append, decimal}
+use Rattle.std.proofs.Common.{ℕ, ◌+◌, ◌-◌, ◌*◌, ◌^◌, ◌<◌, ◌≤◌, List, [], ◌∷◌, ◌++◌, length, map, get_or, arith, lit<, length-append, decimal}
 use Rattle.std.specs.Prelude.{Option, Some, None, IfSome, codes, flat_map, sum_by}
 use Rattle.std.specs.List.{AllByRecursion, join_with_byte}
 use Rattle.std.proofs.Math.Nat.{mul-le-mul_right}
 use Rattle.std.proofs.lemmas.Fmt.{length-decimal-le_wide}
-use Rattle.std.proofs.lemmas.List.{length-map}
 use Rattle.std.proofs.lemmas.List.Concat.{flat_map-cons}
 use Rattle.std.proofs.lemmas.List.Sums.{sum_by-cons}
 use Rattle.pg_game.specs.declared.player.Player.{Player}
 use Rattle.pg_game.specs.declared.player.Player.TheVariants.{Even, Odd}
 use Rattle.pg_game.specs.Player.{digit_of}
 use Rattle.pg_game.specs.Graph.{Graph, Vertex, IsGame, id_of, no_vertex, successors_of}
-use Rattle.pg_game.specs.Specification.{max_number, max_vertices, max_edges}
+use Rattle.pg_game.specs.Specification.{max_number, max_vertices}
 use Rattle.pg_game.specs.Limits.{IsWithinLimits}
 use Rattle.pg_text.specs.Solution.{Rows, AreRows}
 use Rattle.pg_text.specs.Written.{greatest_id, written_vertex, written_game, written_choice, written_rows, written_solution, written_winners}
 use Rattle.pg_text.specs.Lengths.{most_digits, greatest_header, greatest_game_text, greatest_winners_text, greatest_solution_text}
-use Rattle.pg_text.proofs.WrittenSpells.{all_from_places, all-map, all_imply}
+use Rattle.pg_text.proofs.WrittenSpells.{all_from_places, all_imply}
 
 -- a number within the limit
 short_number : (n : ℕ) → n ≤ max_number → length (decimal n) ≤ most_digits

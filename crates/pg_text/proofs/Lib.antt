@@ -17,6 +17,8 @@ pub mod SolutionKeeps
 pub mod Written
 pub mod GameRun
 pub mod GameKeeps
+pub mod GameAdvance
+pub mod SolutionAdvance
 pub mod WrittenSpells
 pub mod ReadGame
 pub mod Wide

@@ -87,7 +87,7 @@ quote_split text start k h q =
     sym (take-append-drop k hay) ∙ ap (λ xs. take k hay ++ xs) e
 
 -- a token behind blanks
-token_past : (text : List ℕ) (at from end to : ℕ) (run : List ℕ) (t : Token) → IsRun is_blank text at from run → IsToken text from end to t → IsToken text at end to t
+pub token_past : (text : List ℕ) (at from end to : ℕ) (run : List ℕ) (t : Token) → IsRun is_blank text at from run → IsToken text from end to t → IsToken text at end to t
 token_past text at from end to run t r i = record {
   blanks = run ++ i.blanks;
   body = i.body;

@@ -22,3 +22,5 @@ pub mod Bytes
 pub mod SolutionLines
 pub mod Known
 pub mod GameStates
+pub mod GameAdvance
+pub mod SolutionAdvance

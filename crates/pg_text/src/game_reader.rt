@@ -3,15 +3,19 @@
 //! The state says what was read last, and the fields hold the parts of the line begun. A number or an owner at fault is only
 //! noted, since the grammar is judged first; a token that can't stand there ends the pass, and the rest is looked through
 //! once for a byte that begins no token.
-ghost use Rattle.std.specs.Prelude.{◌≡◌, ℕ, ◌≤◌, length, true, false, IfOk, IfErr, MatchResult, None, List, []};
+//!
+//! Behind a line, numbers, commas and semicolons are taken where they stand, each by the step of its token; what is none of
+//! these is left to the lexer.
+ghost use Rattle.std.specs.Prelude.{◌≡◌, ℕ, ◌≤◌, length, true, false, IfOk, IfErr, IfSome, MatchResult, ◌<◌, None, List, []};
 ghost use Rattle.pg_text.specs.Token.{Number, Word, Name, Comma, Semicolon, Placed, Spells};
 ghost use Rattle.pg_text.specs.Piece.{fitting};
 ghost use Rattle.pg_text.specs.Reading.{IsFaultOf};
 ghost use Rattle.pg_text.specs.GameKeeps.{KeepsReader, Takes, TakesPiece, IsUnexpected, SpellsSpecs};
+ghost use Rattle.pg_text.specs.GameAdvance.{Advances, AdvancesTo, FailsWith};
 ghost use Rattle.pg_text.specs.GameStates.{is_complete};
 
 use crate::fault::TextFault;
-use crate::lexer::{Kind, Piece, first_bad, next_token};
+use crate::lexer::{Kind, Piece, first_bad, next_token, number_near};
 use crate::numbers::{first_of, player};
 use pg_game::{Memory, Player, Specs};
 use std::alloc::Global;
@@ -77,7 +81,7 @@ impl Reader {
     }
 
     /// Takes a number; false where none can stand.
-    #[inline]
+    #[inline(always)]
     fn number(&mut self, value: Option<u32>, place: u32) -> Result<bool, TextFault>
         ensures taken { IfOk result (λ taken. (n : ℕ) → value ≡ fitting n → Takes self.old self.new taken (Number n) place) }
         ensures memory { IfErr result (λ e. e ≡ TextFault.Memory) }
@@ -144,7 +148,7 @@ impl Reader {
     }
 
     /// Takes a semicolon; false where none can stand.
-    #[inline]
+    #[inline(always)]
     fn semicolon(&mut self) -> Result<bool, TextFault>
         ensures taken { IfOk result (λ taken. (place : ℕ) → Takes self.old self.new taken Semicolon place) }
         ensures memory { IfErr result (λ e. e ≡ TextFault.Memory) }
@@ -175,7 +179,7 @@ impl Reader {
     }
 
     /// Takes a comma; false where none can stand.
-    #[inline]
+    #[inline(always)]
     fn comma(&mut self) -> bool
         ensures { (place : ℕ) → Takes self.old self.new result Comma place }
     {
@@ -249,6 +253,125 @@ impl Reader {
         }
     }
 
+    /// Takes the number at a place, behind at most one blank, and answers the place behind it. Without one nothing happens.
+    #[inline(always)]
+    fn near_number(&mut self, text: &[u8], at: usize) -> Result<Option<usize>, TextFault>
+        requires size { length text.now ≤ 268435456 }
+        requires inside { at ≤ length text.now }
+        ensures taken { IfOk result (λ to. AdvancesTo self.old self.new text.now at to) }
+        ensures ahead { IfOk result (λ to. IfSome to (λ behind. (at < behind) × (behind ≤ length text.now))) }
+        ensures fault { IfErr result (λ e. FailsWith self.old text.now at e) }
+    {
+        let Some(n) = number_near(text, at) else {
+            return Ok(None);
+        };
+        match self.number(Some(n.value), n.from as u32) {
+            Ok(true) => Ok(Some(n.to)),
+            Ok(false) => Err(unexpected(text, n.from, n.to)),
+            Err(fault) => Err(fault),
+        }
+    }
+
+    /// Takes the comma at a place and answers the place behind it. Without one nothing happens.
+    #[inline(always)]
+    fn near_comma(&mut self, text: &[u8], at: usize) -> Result<Option<usize>, TextFault>
+        requires size { length text.now ≤ 268435456 }
+        requires inside { at ≤ length text.now }
+        ensures taken { IfOk result (λ to. AdvancesTo self.old self.new text.now at to) }
+        ensures ahead { IfOk result (λ to. IfSome to (λ behind. (at < behind) × (behind ≤ length text.now))) }
+        ensures fault { IfErr result (λ e. FailsWith self.old text.now at e) }
+    {
+        if at >= text.len() || text[at] != b',' {
+            return Ok(None);
+        }
+        if self.comma() {
+            Ok(Some(at + 1))
+        } else {
+            Err(unexpected(text, at, at + 1))
+        }
+    }
+
+    /// Takes the semicolon at a place and answers the place behind it, or the place itself where there is none.
+    #[inline(always)]
+    fn near_semicolon(&mut self, text: &[u8], at: usize) -> Result<usize, TextFault>
+        requires size { length text.now ≤ 268435456 }
+        requires inside { at ≤ length text.now }
+        ensures taken { IfOk result (λ to. Advances self.old self.new text.now at to) }
+        ensures ahead { IfOk result (λ to. (at ≤ to) × (to ≤ length text.now)) }
+        ensures fault { IfErr result (λ e. FailsWith self.old text.now at e) }
+    {
+        if at >= text.len() || text[at] != b';' {
+            return Ok(at);
+        }
+        match self.semicolon() {
+            Ok(true) => Ok(at + 1),
+            Ok(false) => Err(unexpected(text, at, at + 1)),
+            Err(fault) => Err(fault),
+        }
+    }
+
+    /// Reads on behind a successor: further ones, each behind a comma, and a semicolon. Answers the place behind what was read.
+    #[inline(always)]
+    fn line_end(&mut self, text: &[u8], from: usize) -> Result<usize, TextFault>
+        requires size { length text.now ≤ 268435456 }
+        requires inside { from ≤ length text.now }
+        ensures taken { IfOk result (λ to. Advances self.old self.new text.now from to) }
+        ensures ahead { IfOk result (λ to. (from ≤ to) × (to ≤ length text.now)) }
+        ensures fault { IfErr result (λ e. FailsWith self.old text.now from e) }
+    {
+        let mut at = from;
+        'successors: while let Some(next) = self.near_comma(text, at)? {
+            let Some(behind) = self.near_number(text, next)? else {
+                return Ok(next);
+            };
+            at = behind;
+        }
+        self.near_semicolon(text, at)
+    }
+
+    /// Reads a line as far as it is made of numbers, single separators and a semicolon. Answers the place behind what was read.
+    #[inline(always)]
+    fn line(&mut self, text: &[u8], from: usize) -> Result<usize, TextFault>
+        requires size { length text.now ≤ 268435456 }
+        requires inside { from ≤ length text.now }
+        ensures taken { IfOk result (λ to. Advances self.old self.new text.now from to) }
+        ensures ahead { IfOk result (λ to. (from ≤ to) × (to ≤ length text.now)) }
+        ensures fault { IfErr result (λ e. FailsWith self.old text.now from e) }
+    {
+        let Some(id) = self.near_number(text, from)? else {
+            return Ok(from);
+        };
+        let Some(priority) = self.near_number(text, id)? else {
+            return Ok(id);
+        };
+        let Some(owner) = self.near_number(text, priority)? else {
+            return Ok(priority);
+        };
+        let Some(successor) = self.near_number(text, owner)? else {
+            return Ok(owner);
+        };
+        self.line_end(text, successor)
+    }
+
+    /// Reads lines straight through, behind a line. Answers the place behind what was read: all else is for the tokens.
+    fn lines(&mut self, text: &[u8], from: usize) -> Result<usize, TextFault>
+        requires size { length text.now ≤ 268435456 }
+        requires inside { from ≤ length text.now }
+        ensures taken { IfOk result (λ to. Advances self.old self.new text.now from to) }
+        ensures ahead { IfOk result (λ to. (from ≤ to) × (to ≤ length text.now)) }
+        ensures fault { IfErr result (λ e. FailsWith self.old text.now from e) }
+    {
+        let mut at = from;
+        'lines: while let State::Ready = self.state {
+            let to = self.line(text, at)?;
+            if to <= at {
+                return Ok(to);
+            }
+            at = to;
+        }
+        Ok(at)
+    }
+
     /// What was read, at the end of the text.
     fn finish(self, end: u32) -> Result<Specs, TextFault>
         ensures { (text : List ℕ) → (ts : List Placed) → Spells 0 text ts → end ≡ length text → KeepsReader ts self → MatchResult result (λ specs. SpellsSpecs text specs) (λ e. IsFaultOf text e) }
@@ -295,7 +418,7 @@ pub fn read_specs(alloc: Global, text: &[u8]) -> Result<Specs, TextFault>
             _ => {}
         }
         match reader.take(text, piece) {
-            Ok(true) => at = piece.to,
+            Ok(true) => at = reader.lines(text, piece.to)?,
             Ok(false) => return Err(unexpected(text, piece.from, piece.to)),
             Err(fault) => return Err(fault),
         }

@@ -2,9 +2,10 @@
 //!
 //! Numbers, commas and semicolons are the common ones and stay in one small function; words and names are kept out of line.
 //! A number of any length is read in 64 bits, since its value stops growing once it is above the limit.
-ghost use Rattle.std.specs.Prelude.{◌≡◌, ◌≢◌, ℕ, ◌+◌, ◌<◌, ◌≤◌, length, drop, List, slice_index, false, MatchOption, IfSome};
+ghost use Rattle.std.specs.Prelude.{◌≡◌, ◌≢◌, ℕ, ◌+◌, ◌<◌, ◌≤◌, length, drop, List, slice_index, false, MatchOption, IfSome, Some};
 ghost use Rattle.pg_text.specs.Bytes.{is_blank, is_digit, is_letter, EndsRun, value_of};
-ghost use Rattle.pg_text.specs.Piece.{IsNext, IsPieceOf, IsRun, fitting};
+ghost use Rattle.pg_text.specs.Piece.{IsNext, IsPieceOf, IsRun, IsToken, fitting};
+ghost use Rattle.pg_text.specs.Token.{Number};
 ghost use Rattle.pg_text.specs.Reach.{SpellsRest, IsBadFrom};
 
 use memchr::memchr;
@@ -22,6 +23,14 @@ pub enum Kind {
     Semicolon,
     End,
     Bad,
+}
+
+/// A number of a text within the limit, and the places where its digits begin and end.
+#[derive(Clone, Copy)]
+pub struct Numeral {
+    pub value: u32,
+    pub from: usize,
+    pub to: usize,
 }
 
 /// A token of a text, or what stands in its place.
@@ -68,6 +77,20 @@ fn blanks_end(text: &[u8], from: usize) -> usize
     to
 }
 
+/// The place behind the blank at `from`, or `from` where none stands there. A digit is the common byte, and looked for first.
+#[inline]
+fn blank_end(text: &[u8], from: usize) -> usize
+    requires { from ≤ length text.now }
+    ensures run { (run : List ℕ) × IsRun is_blank text.now from result run }
+    ensures within { result ≤ length text.now }
+{
+    if from < text.len() && !digit(text[from]) && blank(text[from]) {
+        from + 1
+    } else {
+        from
+    }
+}
+
 /// The first place from `from` on without a letter.
 #[inline(never)]
 fn letters_end(text: &[u8], from: usize) -> usize
@@ -104,6 +127,24 @@ fn number(text: &[u8], from: usize) -> (Option<u32>, usize)
     } else {
         (None, to)
     }
+}
+
+/// The number at a place, behind at most one blank, where it is within the limit.
+#[inline]
+pub fn number_near(text: &[u8], at: usize) -> Option<Numeral>
+    requires { at ≤ length text.now }
+    ensures token { IfSome result (λ n. (m : ℕ) × (Some n.value ≡ fitting m) × IsToken text.now at n.from n.to (Number m)) }
+    ensures order { IfSome result (λ n. n.from ≤ n.to) }
+    ensures ahead { IfSome result (λ n. (at < n.to) × (n.to ≤ length text.now)) }
+{
+    let from = blank_end(text, at);
+    if from >= text.len() || !digit(text[from]) {
+        return None;
+    }
+    let (Some(value), to) = number(text, from) else {
+        return None;
+    };
+    Some(Numeral { value, from, to })
 }
 
 /// The word or the name at a place, or that there is none.

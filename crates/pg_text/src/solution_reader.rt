@@ -3,15 +3,19 @@
 //! The state says what was read last, and the fields hold the parts of the line begun. A number or a winner at fault is only
 //! noted, since the grammar is judged first; a token that can't stand there ends the pass, and the rest is looked through
 //! once for a byte that begins no token.
-ghost use Rattle.std.specs.Prelude.{◌≡◌, ℕ, ◌+◌, ◌<◌, ◌≤◌, length, true, false, map, IfOk, IfErr, MatchResult, None, List, []};
+//!
+//! Behind a line, numbers and semicolons are taken where they stand, each by the step of its token; what is none of these is
+//! left to the lexer.
+ghost use Rattle.std.specs.Prelude.{◌≡◌, ℕ, ◌+◌, ◌<◌, ◌≤◌, length, true, false, map, IfOk, IfErr, IfSome, MatchResult, None, List, []};
 ghost use Rattle.pg_text.specs.Token.{Number, Word, Semicolon, Placed, Spells};
 ghost use Rattle.pg_text.specs.Piece.{fitting};
 ghost use Rattle.pg_text.specs.SolutionKeeps.{KeepsReader, Takes, line_of, is_complete};
 ghost use Rattle.pg_text.specs.Reading.{SpellsSolution};
 ghost use Rattle.pg_text.specs.SolutionReading.{IsLineFaultOf, IsUnexpected, TakesPiece};
+ghost use Rattle.pg_text.specs.SolutionAdvance.{Advances, AdvancesTo, FailsWith};
 
 use crate::fault::SolutionTextFault;
-use crate::lexer::{Kind, Piece, first_bad, next_token};
+use crate::lexer::{Kind, Piece, first_bad, next_token, number_near};
 use crate::numbers::{first_of, player};
 use pg_game::Player;
 use std::alloc::Global;
@@ -74,7 +78,7 @@ impl Reader {
     }
 
     /// Takes a number; false where none can stand.
-    #[inline]
+    #[inline(always)]
     fn number(&mut self, value: Option<u32>, place: u32) -> bool
         ensures { (n : ℕ) → value ≡ fitting n → Takes self.old self.new result (Number n) place }
     {
@@ -112,7 +116,7 @@ impl Reader {
     }
 
     /// Takes a semicolon; false where none can stand.
-    #[inline]
+    #[inline(always)]
     fn semicolon(&mut self) -> Result<bool, SolutionTextFault>
         ensures taken { IfOk result (λ taken. (place : ℕ) → Takes self.old self.new taken Semicolon place) }
         ensures memory { IfErr result (λ e. e ≡ SolutionTextFault.Memory) }
@@ -181,6 +185,84 @@ impl Reader {
         }
     }
 
+    /// Takes the number at a place, behind at most one blank, and answers the place behind it. Without one nothing happens.
+    #[inline(always)]
+    fn near_number(&mut self, text: &[u8], at: usize) -> Result<Option<usize>, SolutionTextFault>
+        requires size { length text.now ≤ 268435456 }
+        requires inside { at ≤ length text.now }
+        ensures taken { IfOk result (λ to. AdvancesTo self.old self.new text.now at to) }
+        ensures ahead { IfOk result (λ to. IfSome to (λ behind. (at < behind) × (behind ≤ length text.now))) }
+        ensures fault { IfErr result (λ e. FailsWith self.old text.now at e) }
+    {
+        let Some(n) = number_near(text, at) else {
+            return Ok(None);
+        };
+        if self.number(Some(n.value), n.from as u32) {
+            Ok(Some(n.to))
+        } else {
+            Err(unexpected(text, n.from, n.to))
+        }
+    }
+
+    /// Takes the semicolon at a place and answers the place behind it, or the place itself where there is none.
+    #[inline(always)]
+    fn near_semicolon(&mut self, text: &[u8], at: usize) -> Result<usize, SolutionTextFault>
+        requires size { length text.now ≤ 268435456 }
+        requires inside { at ≤ length text.now }
+        ensures taken { IfOk result (λ to. Advances self.old self.new text.now at to) }
+        ensures ahead { IfOk result (λ to. (at ≤ to) × (to ≤ length text.now)) }
+        ensures fault { IfErr result (λ e. FailsWith self.old text.now at e) }
+    {
+        if at >= text.len() || text[at] != b';' {
+            return Ok(at);
+        }
+        match self.semicolon() {
+            Ok(true) => Ok(at + 1),
+            Ok(false) => Err(unexpected(text, at, at + 1)),
+            Err(fault) => Err(fault),
+        }
+    }
+
+    /// Reads a line as far as it is made of numbers, single separators and a semicolon. Answers the place behind what was read.
+    #[inline(always)]
+    fn line(&mut self, text: &[u8], from: usize) -> Result<usize, SolutionTextFault>
+        requires size { length text.now ≤ 268435456 }
+        requires inside { from ≤ length text.now }
+        ensures taken { IfOk result (λ to. Advances self.old self.new text.now from to) }
+        ensures ahead { IfOk result (λ to. (from ≤ to) × (to ≤ length text.now)) }
+        ensures fault { IfErr result (λ e. FailsWith self.old text.now from e) }
+    {
+        let Some(id) = self.near_number(text, from)? else {
+            return Ok(from);
+        };
+        let Some(winner) = self.near_number(text, id)? else {
+            return Ok(id);
+        };
+        match self.near_number(text, winner)? {
+            Some(choice) => self.near_semicolon(text, choice),
+            None => self.near_semicolon(text, winner),
+        }
+    }
+
+    /// Reads lines straight through, behind a header or a line. Answers the place behind what was read: all else is for the tokens.
+    fn lines(&mut self, text: &[u8], from: usize) -> Result<usize, SolutionTextFault>
+        requires size { length text.now ≤ 268435456 }
+        requires inside { from ≤ length text.now }
+        ensures taken { IfOk result (λ to. Advances self.old self.new text.now from to) }
+        ensures ahead { IfOk result (λ to. (from ≤ to) × (to ≤ length text.now)) }
+        ensures fault { IfErr result (λ e. FailsWith self.old text.now from e) }
+    {
+        let mut at = from;
+        'lines: while let State::Ready = self.state {
+            let to = self.line(text, at)?;
+            if to <= at {
+                return Ok(to);
+            }
+            at = to;
+        }
+        Ok(at)
+    }
+
     /// What was read, at the end of the text.
     fn finish(self, end: u32) -> Result<Vec<SolutionLine>, SolutionTextFault>
         ensures { (text : List ℕ) → (ts : List Placed) → Spells 0 text ts → end ≡ length text → KeepsReader ts self → MatchResult result (λ lines. SpellsSolution text (map line_of lines.items)) (λ e. IsLineFaultOf text e) }
@@ -230,7 +312,7 @@ pub fn read_solution_lines(
             _ => {}
         }
         match reader.take(text, piece) {
-            Ok(true) => at = piece.to,
+            Ok(true) => at = reader.lines(text, piece.to)?,
             Ok(false) => return Err(unexpected(text, piece.from, piece.to)),
             Err(fault) => return Err(fault),
         }

@@ -1,17 +1,20 @@
 //! The one written spelling of games, solutions and winners: one line for each vertex in rising identifier, behind a header
 //! with the greatest identifier. Numbers have no leading zeros (`itoa` writes them); there is no start line and no name.
-ghost use Rattle.std.specs.Prelude.{◌≡◌, ℕ, ◌<◌, ◌≤◌, ◌++◌, ◌∷◌, [], length, slice_index, codes, decimal, flat_map, map, IfOk, OnOk, IfSome};
+ghost use Rattle.std.specs.Prelude.{◌≡◌, ℕ, ◌<◌, ◌≤◌, ◌++◌, ◌+◌, ◌*◌, ◌^◌, ◌∷◌, [], length, drop, slice_index, codes, decimal, flat_map, map, IfOk, OnOk, IfSome};
 ghost use Rattle.std.specs.List.{join_with_byte};
-ghost use Rattle.pg_game.specs.Graph.{id_of, priority_of, owner_of, vertex_at};
+ghost use Rattle.pg_game.specs.Graph.{id_of, priority_of, owner_of, successors_of, vertex_at};
 ghost use Rattle.pg_game.specs.Player.{digit_of};
 ghost use Rattle.pg_text.specs.Written.{greatest_id, written_game, written_vertex, written_choice, written_solution, written_rows, written_winners};
 ghost use Rattle.pg_text.specs.Lengths.{greatest_game_text, greatest_solution_text, greatest_winners_text};
 ghost use Rattle.pg_text.specs.Solution.{AreRows};
 
 use crate::solution::Solution;
-use itoa::Buffer;
+use itoa::{Buffer, write_digits};
 use pg_game::{Game, Memory, Player};
 use std::alloc::Global;
+
+/// The longest line of a solution text: two numbers, a winner, two spaces, a semicolon and a line feed.
+const ROW: usize = 34;
 
 /// A number in decimal digits.
 fn put_number(out: &mut Vec<u8>, n: u32) -> Result<(), Memory>
@@ -31,16 +34,77 @@ fn put_header(out: &mut Vec<u8>, word: &[u8], game: &Game) -> Result<(), Memory>
     out.extend_from_slice(b";\n")
 }
 
-/// A space and the choice's identifier, where there is a choice.
-fn put_choice(out: &mut Vec<u8>, game: &Game, choice: Option<u32>) -> Result<(), Memory>
-    requires { IfSome choice (λ w. w < length game.now) }
-    ensures { OnOk result (out.new.items ≡ out.old.items ++ written_choice game.now choice) }
+/// Writes a number whose digits end at a place of the line, and answers where they begin.
+#[inline]
+fn number_before(line: &mut [u8], end: usize, n: u32) -> usize
+    requires room { 10 ≤ end }
+    requires within { end ≤ length line.old }
+    ensures written { drop result line.new ≡ decimal n ++ drop end line.old }
+    ensures near { end ≤ result + 10 }
+    ensures before { result ≤ end }
+    ensures size { length line.new ≡ length line.old }
 {
-    if let Some(w) = choice {
-        out.extend_from_slice(b" ")?;
-        put_number(out, game.id(w))?;
+    write_digits(u64::from(n), line, end)
+}
+
+/// Writes a byte before a place of the line, and answers where it stands.
+#[inline]
+fn byte_before(line: &mut [u8], end: usize, byte: u8) -> usize
+    requires room { 1 ≤ end }
+    requires within { end ≤ length line.old }
+    ensures written { drop result line.new ≡ byte ∷ drop end line.old }
+    ensures place { result + 1 ≡ end }
+    ensures size { length line.new ≡ length line.old }
+{
+    line[end - 1] = byte;
+    end - 1
+}
+
+/// Writes the end of a line, and answers where it begins.
+#[inline]
+fn end_before(line: &mut [u8]) -> usize
+    requires { 2 ≤ length line.old }
+    ensures written { drop result line.new ≡ codes ";\n" }
+    ensures place { result + 2 ≡ length line.old }
+    ensures size { length line.new ≡ length line.old }
+{
+    let end = line.len();
+    let at = byte_before(line, end, b'\n');
+    byte_before(line, at, b';')
+}
+
+/// Writes a space and the choice's identifier before a place of the line, where there is a choice.
+#[inline]
+fn choice_before(line: &mut [u8], end: usize, game: &Game, choice: Option<u32>) -> usize
+    requires room { 11 ≤ end }
+    requires within { end ≤ length line.old }
+    requires choice { IfSome choice (λ w. w < length game.now) }
+    ensures written { drop result line.new ≡ written_choice game.now choice ++ drop end line.old }
+    ensures near { end ≤ result + 11 }
+    ensures before { result ≤ end }
+    ensures size { length line.new ≡ length line.old }
+{
+    match choice {
+        Some(w) => {
+            let at = number_before(line, end, game.id(w));
+            byte_before(line, at, b' ')
+        }
+        None => end,
     }
-    Ok(())
+}
+
+/// Writes a number and a space before a place of the line, and answers where they begin.
+#[inline]
+fn field_before(line: &mut [u8], end: usize, n: u32) -> usize
+    requires room { 11 ≤ end }
+    requires within { end ≤ length line.old }
+    ensures written { drop result line.new ≡ decimal n ++ 32 ∷ drop end line.old }
+    ensures near { end ≤ result + 11 }
+    ensures before { result ≤ end }
+    ensures size { length line.new ≡ length line.old }
+{
+    let at = byte_before(line, end, b' ');
+    number_before(line, at, n)
 }
 
 /// The line of one vertex in a solution text.
@@ -49,11 +113,13 @@ fn put_row(out: &mut Vec<u8>, game: &Game, v: u32, row: (Player, Option<u32>)) -
     requires choice { IfSome row.1 (λ w. w < length game.now) }
     ensures { OnOk result (out.new.items ≡ out.old.items ++ written_rows game.now (vertex_at game.now v ∷ []) (row ∷ [])) }
 {
-    put_number(out, game.id(v))?;
-    out.extend_from_slice(b" ")?;
-    put_number(out, u32::from(row.0.digit()))?;
-    put_choice(out, game, row.1)?;
-    out.extend_from_slice(b";\n")
+    let mut buffer = [0u8; ROW];
+    let line = buffer.as_mut_slice();
+    let at = end_before(line);
+    let at = choice_before(line, at, game, row.1);
+    let at = number_before(line, at, u32::from(row.0.digit()));
+    let at = field_before(line, at, game.id(v));
+    out.extend_from_slice(&line[at..])
 }
 
 /// The written winners and choices of a game, with a choice where the solution has one: at most 1,638,422 bytes. Refused with
@@ -87,51 +153,65 @@ pub fn write_winners(alloc: Global, game: &Game, solution: &Solution) -> Result<
     Ok(out)
 }
 
-/// Identifiers of these vertices, each behind a comma.
-fn put_more(out: &mut Vec<u8>, game: &Game, vertices: &[u32]) -> Result<(), Memory>
-    requires { (k : ℕ) → k < length vertices.now → slice_index vertices.now k < length game.now }
-    ensures { OnOk result (out.new.items ≡ out.old.items ++ flat_map (λ w. 44 ∷ decimal (id_of game.now w)) vertices.now) }
-{
-    'vertices: for w in vertices {
-        out.extend_from_slice(b",")?;
-        put_number(out, game.id(*w))?;
-    }
-    Ok(())
-}
-
-/// Identifiers of these vertices, separated by commas.
-fn put_list(out: &mut Vec<u8>, game: &Game, vertices: &[u32]) -> Result<(), Memory>
+/// Writes identifiers of these vertices, separated by commas, before a place of the line.
+fn list_before(line: &mut [u8], end: usize, game: &Game, vertices: &[u32]) -> usize
     requires some { 0 < length vertices.now }
     requires below { (k : ℕ) → k < length vertices.now → slice_index vertices.now k < length game.now }
-    ensures { OnOk result (out.new.items ≡ out.old.items ++ join_with_byte 44 (map (λ w. decimal (id_of game.now w)) vertices.now)) }
+    requires room { 11 * length vertices.now ≤ end }
+    requires within { end ≤ length line.old }
+    ensures written { drop result line.new ≡ join_with_byte 44 (map (λ w. decimal (id_of game.now w)) vertices.now) ++ drop end line.old }
+    ensures near { end ≤ result + 11 * length vertices.now }
+    ensures before { result ≤ end }
+    ensures size { length line.new ≡ length line.old }
 {
-    put_number(out, game.id(vertices[0]))?;
-    put_more(out, game, &vertices[1..])?;
-    Ok(())
+    let mut at = end;
+    let mut left = vertices.len();
+    'vertices: while left > 1 {
+        left -= 1;
+        at = number_before(line, at, game.id(vertices[left]));
+        at = byte_before(line, at, b',');
+    }
+    number_before(line, at, game.id(vertices[0]))
 }
 
-/// Identifier, priority and owner of a vertex, each with a space behind it.
-fn put_numbers(out: &mut Vec<u8>, game: &Game, v: u32) -> Result<(), Memory>
-    requires { v < length game.now }
-    ensures { OnOk result (out.new.items ≡ out.old.items ++ (decimal (id_of game.now v) ++ (32 ∷ decimal (priority_of game.now v) ++ (32 ∷ decimal (digit_of (owner_of game.now v)) ++ 32 ∷ [])))) }
+/// Writes identifier, priority and owner of a vertex before a place of the line, each with a space behind it.
+#[inline]
+fn fields_before(line: &mut [u8], end: usize, game: &Game, v: u32) -> usize
+    requires vertex { v < length game.now }
+    requires room { 33 ≤ end }
+    requires within { end ≤ length line.old }
+    ensures written { drop result line.new ≡ decimal (id_of game.now v) ++ (32 ∷ decimal (priority_of game.now v) ++ (32 ∷ decimal (digit_of (owner_of game.now v)) ++ (32 ∷ drop end line.old))) }
+    ensures before { result ≤ end }
+    ensures size { length line.new ≡ length line.old }
 {
-    put_number(out, game.id(v))?;
-    out.extend_from_slice(b" ")?;
-    put_number(out, game.priority(v))?;
-    out.extend_from_slice(b" ")?;
-    put_number(out, u32::from(game.owner(v).digit()))?;
-    out.extend_from_slice(b" ")
+    let at = field_before(line, end, u32::from(game.owner(v).digit()));
+    let at = field_before(line, at, game.priority(v));
+    field_before(line, at, game.id(v))
 }
 
-/// The line of one vertex in a game text.
-fn put_vertex(out: &mut Vec<u8>, game: &Game, v: u32) -> Result<(), Memory>
-    requires { v < length game.now }
-    ensures { OnOk result (out.new.items ≡ out.old.items ++ written_vertex game.now (vertex_at game.now v)) }
+/// The line of one vertex in a game text, which is written from its end into a line with room for it.
+fn put_vertex(out: &mut Vec<u8>, line: &mut [u8], game: &Game, v: u32) -> Result<(), Memory>
+    requires vertex { v < length game.now }
+    requires room { 40 + 11 * length (successors_of game.now v) ≤ length line.old }
+    ensures text { OnOk result (out.new.items ≡ out.old.items ++ written_vertex game.now (vertex_at game.now v)) }
+    ensures size { length line.new ≡ length line.old }
 {
     let _n = game.len();
-    put_numbers(out, game, v)?;
-    put_list(out, game, game.successors(v))?;
-    out.extend_from_slice(b";\n")?;
+    let at = end_before(line);
+    let at = list_before(line, at, game, game.successors(v));
+    let at = fields_before(line, at, game, v);
+    out.extend_from_slice(&line[at..])
+}
+
+/// Room in the line for a vertex with so many successors.
+fn make_room(line: &mut Vec<u8>, successors: usize) -> Result<(), Memory>
+    requires { successors < 2 ^ 32 }
+    ensures { OnOk result (40 + 11 * successors ≤ length line.new.items) }
+{
+    let room = 40 + 11 * successors;
+    if line.len() < room {
+        line.resize(room, 0)?;
+    }
     Ok(())
 }
 
@@ -141,9 +221,11 @@ pub fn write_game(alloc: Global, game: &Game) -> Result<Vec<u8>, Memory>
     ensures short { IfOk result (λ text. length text.items ≤ greatest_game_text) }
 {
     let mut out = Vec::new(alloc);
+    let mut line = Vec::new(alloc);
     put_header(&mut out, b"parity ", game)?;
     'vertices: for v in 0..game.len() {
-        put_vertex(&mut out, game, v)?;
+        make_room(&mut line, game.successors(v).len())?;
+        put_vertex(&mut out, line.as_mut_slice(), game, v)?;
     }
     Ok(out)
 }

@@ -1,0 +1,9 @@
+use Rattle.std.proofs.Common.{rules}
+use Rattle.std.proofs.lemmas.Fmt.{length-decimal-le}
+use Rattle.pg_text.proofs.writing.number_before.Goals as goal
+
+pub write_digits-requires : goal.write_digits-requires
+write_digits-requires c = search (rules, length-decimal-le 10)
+
+pub returns-clause-near : goal.returns-clause-near
+returns-clause-near c = search (rules, length-decimal-le 10)
