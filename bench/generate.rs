@@ -151,6 +151,33 @@ fn write_wrong(out: &mut impl Write, game: &Game) -> Result<()> {
     Ok(())
 }
 
+/// The game `sparse_6` in another spelling: the order of its lines, its identifiers, its rows, and what stands behind them.
+fn spelled(
+    out: &mut impl Write,
+    lines: impl Iterator<Item = u32>,
+    id: impl Fn(u32) -> u32,
+    row: impl Fn(&[u32]) -> Vec<u32>,
+    name: &str,
+) -> Result<()> {
+    let game = sparse(MOST_VERTICES, 4, 6, 1);
+    for v in lines {
+        let Vertex(priority, odd, successors) = &game[v as usize];
+        let row: Vec<String> = row(successors).iter().map(|w| id(*w).to_string()).collect();
+        writeln!(out, "{} {priority} {} {}{name};", id(v), u8::from(*odd), row.join(","))?;
+    }
+    Ok(())
+}
+
+/// All vertices, each once, in no order: an odd factor gives each.
+fn shuffled() -> impl Iterator<Item = u32> {
+    (0..MOST_VERTICES).map(|at| at.wrapping_mul(40_503) % MOST_VERTICES)
+}
+
+/// The successors from the last to the first, and the last once more.
+fn unsorted(row: &[u32]) -> Vec<u32> {
+    row.iter().rev().chain(row.last()).copied().collect()
+}
+
 /// Wide identifiers in no order, a long name each, and many blanks.
 fn wide(out: &mut impl Write) -> Result<()> {
     let random = &mut Random(9);
@@ -158,9 +185,7 @@ fn wide(out: &mut impl Write) -> Result<()> {
     let game = sparse(MOST_VERTICES, 2, 6, 10);
     let blanks = " ".repeat(64) + "\t\r\n";
     let name = "a name with some length; 0 1 2, ".repeat(8);
-    for at in 0..MOST_VERTICES {
-        // an odd factor gives each vertex once
-        let v = at.wrapping_mul(40_503) % MOST_VERTICES;
+    for v in shuffled() {
         let Vertex(priority, odd, row) = &game[v as usize];
         write!(out, "{}{blanks}{priority}{blanks}{}{blanks}", ids[v as usize], u8::from(*odd))?;
         for (place, w) in row.iter().enumerate() {
@@ -215,6 +240,15 @@ fn game_of(name: &str) -> Option<Game> {
 
 fn text_of(name: &str, out: &mut impl Write) -> Result<()> {
     match name {
+        "gaps" => spelled(out, 0..MOST_VERTICES, |v| 3 * v + 1, <[u32]>::to_vec, ""),
+        "shuffled" => spelled(out, shuffled(), |v| v, <[u32]>::to_vec, ""),
+        "gaps_shuffled" => spelled(out, shuffled(), |v| 3 * v + 1, <[u32]>::to_vec, ""),
+        "unsorted" => spelled(out, 0..MOST_VERTICES, |v| v, unsorted, ""),
+        "names" => spelled(out, 0..MOST_VERTICES, |v| v, <[u32]>::to_vec, " \"a vertex\""),
+        "wide_identifiers" => {
+            let ids = Random(9).different(MOST_VERTICES, 1 << 31);
+            spelled(out, 0..MOST_VERTICES, |v| ids[v as usize], <[u32]>::to_vec, "")
+        }
         "wide" => wide(out),
         "one_name" => around(out, "0 0 0 0 \"", b"a name ", 200_000_000 / 7, "\";\n"),
         "blanks" => around(out, "0 0 0", b" \t\r\n", 50_000_000, "0;\n"),
