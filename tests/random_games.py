@@ -1,13 +1,14 @@
 #!/usr/bin/env python3
 """Compares a built program with plain definitions, and with the comparator, on small random games and texts.
 
-    tests/random_games.py BINARY [COMPARATOR] [--count N] [--seed S]
+    tests/random_games.py BINARY [COMPARATOR] [--count N] [--seed S] [--tidy]
 
 Each game goes through `tidy` and `verify` (with right and wrong solutions), its texts also with random damage; the
 answers have to be those of plain.py, byte by byte, and the comparator's. What `solve` and `trace` write is read back
 and judged by the definitions, and so is what `solve` writes from parts of a solution; parts with a fault in them have to
 be refused for the first one. Of some games each part of each player's winning region is handed in: it is taken exactly
-where it is a region. The same seed gives the same games. The last line is 'N passed, M failed'.
+where it is a region. With `--tidy` games are read and written alone. The same seed gives the same games. The last line is
+'N passed, M failed'.
 """
 
 import argparse
@@ -42,8 +43,22 @@ def blank(chance, needed):
     return chance.choice(BLANKS) if needed or chance.random() < 0.3 else b""
 
 
+def straight_game_text(chance, game):
+    """A text of the game with single separators; lines and rows may be in order, or rows have repeats."""
+    lines = []
+    for id in sorted(game) if chance.random() < 0.5 else game:
+        priority, owner, successors = game[id]
+        row = sorted(successors)
+        if chance.random() < 0.3:
+            row = chance.sample(row, len(row)) + chance.choices(row, k=chance.choice([0, 1]))
+        lines.append(b"%d %d %d %s;\n" % (id, priority, owner, b",".join(b"%d" % it for it in row)))
+    return b"".join([chance.choice([b"", b"parity %d;\n" % max(game)]), *lines])
+
+
 def random_game_text(chance, game):
-    """Some text of the game, in any spelling."""
+    """Some text of the game, half of them in any spelling."""
+    if chance.random() < 0.5:
+        return straight_game_text(chance, game)
     text = []
     for word in (b"parity", b"start"):
         if chance.random() < 0.4:
@@ -261,12 +276,14 @@ def trace_fault(programs, text, game, chance):
     return f"trace --workers {workers} writes {out}: {why}" if why else None
 
 
-def faults(programs, chance):
+def faults(programs, chance, tidy_alone):
     """The checks of one random game, each a name and what is wrong or None."""
     game = random_game(chance)
     text = random_game_text(chance, game)
     yield "tidy", tidy_fault(programs, text)
     yield "tidy of a damaged text", tidy_fault(programs, damaged(chance, text))
+    if tidy_alone:
+        return
     for solution in (right_solution(game), random_solution(chance, game)):
         solution_text = random_solution_text(chance, solution)
         yield "verify", verify_fault(programs, text, solution_text, chance.random() < 0.5)
@@ -295,7 +312,7 @@ def judged(number, given):
     comparator = given.comparator and os.path.abspath(given.comparator)
     chance = random.Random(f"{given.seed} {number}")
     with tempfile.TemporaryDirectory(prefix="pgboard-random-") as room:
-        return list(faults(Programs(os.path.abspath(given.binary), comparator, room), chance))
+        return list(faults(Programs(os.path.abspath(given.binary), comparator, room), chance, given.tidy))
 
 
 def main():
@@ -304,6 +321,7 @@ def main():
     parser.add_argument("comparator", nargs="?")
     parser.add_argument("--count", type=int, default=800)
     parser.add_argument("--seed", type=int, default=1)
+    parser.add_argument("--tidy", action="store_true")
     given = parser.parse_args()
     passed = failed = 0
     with concurrent.futures.ThreadPoolExecutor(4) as pool:
