@@ -1,7 +1,7 @@
 #!/usr/bin/env python3
 """Plants the must-fail edits of each crate, several at a time, and holds the prover to refusing every one of them.
 
-    tests/must_fail.py [CRATE [WORD..]]
+    tests/must_fail.py [--in TREE --after LOG] [CRATE [WORD..]]
 
 The edits stand in `crates/NAME/must-fail/`, in the kit's form. `rt must-fail` tries them one by one, and reads all
 libraries anew for each, which takes hours. Here a round plants edits of different functions in a copy of the crate, at most
@@ -9,10 +9,12 @@ one a function, and proves these functions. An edit is refused where a function 
 one that only calls another without proof doesn't count. What a round lets through is tried in smaller ones. What is left
 alone, or changes no function's code, is tried as the kit does: the whole crate has to be read by the prover and refused.
 
-Needs the crates below to be built, as `rt ci` leaves them. With words, only edits whose names have one of them are tried.
-The last line is 'N passed, M failed'.
+Needs the crates below to be built, as `rt ci` leaves them: here, or in a copy of the sources. Where `rt ci` is at work
+there, its output so far says which crates are proved, and each crate's edits wait for those below it. With words, only
+edits whose names have one of them are tried. The last line is 'N passed, M failed'.
 """
 
+import argparse
 import difflib
 import glob
 import os
@@ -21,6 +23,7 @@ import shutil
 import subprocess
 import sys
 import tempfile
+import time
 from concurrent.futures import ThreadPoolExecutor
 
 sys.dont_write_bytecode = True
@@ -178,10 +181,25 @@ def try_round(crate, edits, kept):
     return try_round(crate, left[:half], kept) + try_round(crate, left[half:], kept)
 
 
-def try_crate(crate, words):
-    """How many edits there are, and the names of those that are not refused."""
-    paths = sorted(glob.glob(f"{crate.folder}/must-fail/*.edit"))
+def wait_for(crate, log):
+    """Waits until `rt ci` has said that the crates below are proved. Whether it has; it ends with a count."""
+    while log:
+        said = read(log)
+        if all(f"rt: {it.name} proved\n" in said for it in crate.below()):
+            break
+        if re.search(r"(?m)^\d+ passed, \d+ failed$", said):
+            return False
+        time.sleep(1)
+    return True
+
+
+def try_crate(crate, words, log):
+    """How many edits there are, and how many of them are not refused."""
+    paths = sorted(glob.glob(f"{ROOT}/crates/{crate.name}/must-fail/*.edit"))
     paths = [it for it in paths if not words or any(word in os.path.basename(it) for word in words)]
+    if not wait_for(crate, log):
+        print(f"FAILED must_fail/{crate.name}: a crate below is not proved", flush=True)
+        return len(paths), len(paths)
     edits, through = [], []
     for path in paths:
         try:
@@ -199,20 +217,26 @@ def try_crate(crate, words):
 
 
 def lanes():
+    """How many crates are tried at once. (The gate takes half of the memory at most, and with it two processors.)"""
     with open("/proc/meminfo", encoding="utf-8") as file:
         free = 1024 * int(re.search(r"MemAvailable:\s+(\d+)", file.read())[1])
-    return max(1, min(len(os.sched_getaffinity(0)), free // MEMORY))
+    return max(1, min(len(os.sched_getaffinity(0)) // 2, free // MEMORY))
 
 
 def main():
-    names, words = sys.argv[1:2], sys.argv[2:]
+    parser = argparse.ArgumentParser(description="Plants the must-fail edits of each crate, and holds the prover to refusing them.")
+    parser.add_argument("--in", dest="tree", default=ROOT)
+    parser.add_argument("--after", metavar="LOG", help="what `rt ci` says, which is at work in the tree")
+    parser.add_argument("crate", nargs="?")
+    parser.add_argument("words", nargs="*")
+    given = parser.parse_args()
     # its first call sets a signal's handler, which only the main thread may
     rtlib.guarded()
-    crates = [it for it in rtlib.crates_below(ROOT) if not names or it.name in names]
-    # the crates with the most edits first
-    crates.sort(key=lambda it: -len(glob.glob(f"{it.folder}/must-fail/*.edit")))
+    crates = [it for it in rtlib.crates_below(given.tree) if given.crate in (None, it.name)]
+    # lowest first, since their edits need the least
+    crates.sort(key=lambda it: len(it.below()))
     with ThreadPoolExecutor(lanes()) as pool:
-        tried = list(pool.map(lambda it: try_crate(it, words), crates))
+        tried = list(pool.map(lambda it: try_crate(it, given.words, given.after), crates))
     count, failed = sum(it[0] for it in tried), sum(it[1] for it in tried)
     print(f"{count - failed} passed, {failed} failed")
     return 1 if failed or not count else 0
