@@ -161,7 +161,10 @@ def is_refused(edit, refused):
 def is_refused_alone(crate, edit, kept):
     """Whether the crate with this edit is read whole by the prover, and refused."""
     ran = check(crate, [edit], kept, [])
-    return ran.returncode == 1 and ran.stdout.rstrip().split("\n")[-1].startswith("logic=not-proved")
+    is_refused = ran.returncode == 1 and ran.stdout.rstrip().split("\n")[-1].startswith("logic=not-proved")
+    if is_refused:
+        print(f"{crate.name}: the crate is refused with {edit.name}, its own function was not", flush=True)
+    return is_refused
 
 
 def try_round(crate, edits, kept):

@@ -43,7 +43,7 @@ fn solve_rest(alloc: Global, board: &mut Board<'_>) -> Result<(), Memory>
     Ok(())
 }
 
-/// Settles all that is unsettled, by at most two entries of worker 0. A full board is left as it is, and costs nothing.
+/// Settles all that is unsettled, by at most two entries of worker 0. A full board is left as it is.
 pub(crate) fn settle_rest(alloc: Global, board: &mut Board<'_>) -> Result<(), Memory>
     ensures full { OnOk result (IsFull board.new.graph (state_of board.new.journal)) }
     ensures later { OnOk result (IsLater 2 board.old board.new) }
