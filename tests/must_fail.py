@@ -65,10 +65,13 @@ def module_of(crate, file, kind):
 
 
 class Edit:
-    """A must-fail edit: what it does to the lines of files, and the paths of the functions that it changes."""
+    """A must-fail edit: what it does to the lines of files, the functions whose text it touches, and those that it changes.
+
+    A pair of texts that differ by parentheses alone only makes the next pair's text stand once.
+    """
 
     def __init__(self, crate, path):
-        self.name, self.changes, self.functions = os.path.basename(path), {}, set()
+        self.name, self.changes, self.touched, self.functions = os.path.basename(path), {}, set(), set()
         before, after, file, old = {}, {}, None, None
         with open(path, encoding="utf-8") as it:
             lines = it.read().splitlines()
@@ -92,7 +95,10 @@ class Edit:
             raise BadEdit(f"{self.name}: a text stands in {file} {source.count(old)} times, and not once")
         found = function_at(source, source.find(old)) if file.startswith("src/") else None
         names = (module_of(crate, file, found[0]), found[1]) if found else ()
-        self.functions.add("::".join(it for it in names if it) or None)
+        function = "::".join(it for it in names if it) or None
+        self.touched.add(function)
+        if re.sub("[()]", "", old) != re.sub("[()]", "", new):
+            self.functions.add(function)
         return source.replace(old, new)
 
 
@@ -123,15 +129,15 @@ def plant(folder, edits):
 
 
 def rounds_of(edits):
-    """Edits in rounds, none of which changes a function twice; an edit outside all functions stands alone."""
+    """Edits in rounds, none of which touches a function twice; an edit outside all functions stands alone."""
     rounds = []
     for edit in edits:
-        place = next((it for it in rounds if None not in edit.functions | it[1] and not edit.functions & it[1]), None)
+        place = next((it for it in rounds if None not in edit.touched | it[1] and not edit.touched & it[1]), None)
         if place:
             place[0].append(edit)
-            place[1].update(edit.functions)
+            place[1].update(edit.touched)
         else:
-            rounds.append(([edit], set(edit.functions)))
+            rounds.append(([edit], set(edit.touched)))
     return [entries for entries, _ in rounds]
 
 
@@ -169,7 +175,7 @@ def is_refused_alone(crate, edit, kept):
 
 def try_round(crate, edits, kept):
     """The names of the edits of a round that are not refused."""
-    if None in edits[0].functions:
+    if None in edits[0].touched:
         return [it.name for it in edits if not is_refused_alone(crate, it, kept)]
     functions = sorted(set().union(*[it.functions for it in edits]))
     flags = ["--allow-holes", *[word for it in functions for word in ("--only", it)]]
