@@ -1,0 +1,348 @@
+#!/usr/bin/env python3
+"""Holds docs/THEOREM.md to the sources: the headline, what each part of it says, and each definition that it stands on.
+
+    tests/theorem.py [--write | --private]
+
+The page has the headline of README.md; under each of its parts the clauses that docs/PROVED.md names for it, as they stand
+in src; then the definitions that these clauses reach, copied from specs, each file after those that it cites; the types of
+the code that are named there; and by name the definitions that the other public contracts reach. A public contract is a
+clause of a call that a crate hands on, of a run of the program or of a trait, or how contracts see a type.
+
+`--write` makes the page. `--private` prints the definitions of specs that no public contract reaches, by crate. The last
+line is 'N passed, M failed', by parts and definitions.
+"""
+
+import collections
+import glob
+import itertools
+import os
+import re
+import sys
+
+sys.dont_write_bytecode = True
+import antt
+import proved_names
+
+ROOT = antt.ROOT
+PAGE = os.path.join(ROOT, "docs", "THEOREM.md")
+# the parts of the headline as they stand there, in the order of docs/PROVED.md, each with what it says in other words
+PARTS = [
+    (
+        "Whenever the board's lock is free, whatever was posted and however calls interleaved",
+        "Each call through the lock is answered as some lawful board of a game within the limits answers it.",
+    ),
+    ("the settled regions are disjoint", "A state gives a vertex at most one winner; nor does the game have a vertex that both players win."),
+    (
+        "each is closed against its opponent, with a strategy that stays inside and leaves only closed walks of its winner's parity",
+        "What is settled for a player is a region of his: `IsRegion` in each state.",
+    ),
+    ("neither attracts a further vertex", "What a player's settled vertices attract in the whole game is among them."),
+    ("every prefix of the journal replays to such a board", "After the first k entries, for each k, the state is lawful; each entry answers its claim on the state before it."),
+    ("all shares together are the number settled", "At the closing the amounts of all shares add up to the number of rows in the journal."),
+    (
+        "a full board is the game's only solution",
+        "A board has a solution exactly where it is full; there each vertex's winner is the one player who wins it, and choices stand exactly where the winner owns the vertex.",
+    ),
+]
+
+
+class Sources:
+    """All definitions of specs by their whole names, and what each names."""
+
+    def __init__(self):
+        self.items, self.names = {}, {}
+        for crate in antt.CRATES:
+            for path in antt.paths(crate, "specs"):
+                self.add(path)
+
+    def add(self, path):
+        found = antt.items(path)
+        own = {it.name for it in found} | {name for it in found for name in constructors(it)}
+        made_by = {name: it.name for it in found for name in constructors(it)}
+        for item in found:
+            self.items[item.key] = item
+            named = antt.names_in(item.text, antt.imports(antt.read(path)), own - {item.name}, item.module)
+            self.names[item.key] = {f"{item.module}.{made_by.get(it.split('.')[-1], it.split('.')[-1])}" if it.startswith(item.module) else it for it in named}
+
+    def reached(self, roots):
+        """The definitions that names reach, and all other names that these definitions have."""
+        found, others, left = set(), set(), list(roots)
+        while left:
+            name = self.whole(left.pop())
+            if name in found or name in others:
+                continue
+            if name in self.items:
+                found.add(name)
+                left.extend(self.names[name])
+            else:
+                others.add(name)
+        return found, others
+
+    def whole(self, name):
+        """The definition that declares a constructor, where the name is one."""
+        if name in self.items:
+            return name
+        module, _, last = name.rpartition(".")
+        for key, item in self.items.items():
+            if item.module == module and last in constructors(item):
+                return key
+        return name
+
+
+def constructors(item):
+    return re.findall(r"(?m)^  (\w+) :", item.text) if "data" in item.kind else []
+
+
+def text_of(*path):
+    with open(os.path.join(ROOT, *path), encoding="utf-8") as file:
+        return file.read()
+
+
+# --- what is public ---
+
+
+def handed_on_files():
+    """Each file of src that has something public, with the public names that count there; None where all do."""
+    for crate in antt.CRATES:
+        names, open_files = proved_names.handed_on(crate)
+        for path in sorted(glob.glob(os.path.join(ROOT, "crates", crate, "src", "*.rt"))):
+            path = os.path.relpath(path, os.path.join(ROOT, "crates"))
+            yield path, None if path in open_files or path in proved_names.PROGRAM else names
+
+
+def public_clauses():
+    """Each public clause: the file, the call and the text."""
+    for path, names in handed_on_files():
+        for call, (is_public, contract) in proved_names.calls(path).items():
+            if is_public and (names is None or call.split("::")[0] in names):
+                yield path, call, contract
+        for owner, line in views(path):
+            if names is None or owner in names:
+                yield path, owner, line
+
+
+def views(path):
+    """How contracts see the types of a file: the type, and each `ghost` line of its implementations but the invariant."""
+    owner = ""
+    for line in (proved_names.read(path) or "").splitlines():
+        if re.match(r"(?:pub )?(?:impl|trait)\b", line):
+            owner = proved_names.owner_of(line)
+        elif line == "}":
+            owner = ""
+        elif owner and re.match(r"    ghost (?!use |invariant)\w+", line):
+            yield owner, line
+
+
+def public_names():
+    return {name for path, _, text in public_clauses() for name in means(path, text)}
+
+
+def headline_names():
+    return {name for _, _, clauses in parts() for path, _, _, text in clauses for name in means(path, text)}
+
+
+def means(path, text):
+    """The whole names that a piece of a source file means."""
+    known = antt.imports(proved_names.read(path))
+    return antt.names_in(re.sub(r"(?:ensures|requires) \w*", "", text), known, set(), "")
+
+
+# --- the headline ---
+
+
+def headline():
+    found = re.search(r"(?m)^\*\*(Whenever .*)\*\*$", text_of("README.md"))
+    return found[1]
+
+
+def headline_rows():
+    """For each part the calls that docs/PROVED.md names, with their clauses."""
+    part = re.search(r"(?ms)^## The headline, part by part$(.*?)^## ", text_of("docs", "PROVED.md"))[1]
+    return [proved_names.calls_of(row.split(" | ")[2]) for row in proved_names.rows_of(part)]
+
+
+def clause(path, call, name):
+    """The text between the braces of a clause."""
+    contract = proved_names.calls(path)[call][1]
+    found = re.search(rf"(?ms)^\s*ensures {name} ?{{ (.*?) }};?$", contract)
+    return " ".join(found[1].split())
+
+
+def clauses_of(row):
+    for path, call, names in row:
+        for name in names or [""]:
+            yield path, call, name, clause(path, call, name)
+
+
+def parts():
+    """Each part of the headline: its text, its gloss, and its clauses."""
+    for (text, gloss), row in zip(PARTS, headline_rows()):
+        yield text, gloss, list(clauses_of(row))
+
+
+def headline_fault():
+    """What the headline has beside its parts, or None."""
+    left = headline()
+    for text, _ in PARTS:
+        before, found, left = left.partition(text)
+        if not found or before not in ("", ", ", "; ", "; and "):
+            return f"it does not go on with '{text}'"
+    if left != ".":
+        return f"it ends with '{left}'"
+    return None if len(headline_rows()) == len(PARTS) else "docs/PROVED.md has other parts"
+
+
+# --- the page ---
+
+
+def in_order(sources, found):
+    """Modules of these definitions, each after those that it cites; within that, as the crates and their files are ordered."""
+    modules = list(dict.fromkeys(item.module for key, item in sources.items.items() if key in found))
+    cites = collections.defaultdict(set)
+    for key in found:
+        named = {sources.items[it].module for it in map(sources.whole, sources.names[key]) if it in found}
+        cites[sources.items[key].module] |= named - {sources.items[key].module}
+    done = []
+    while len(done) < len(modules):
+        done.append(next(it for it in modules if it not in done and cites[it] <= set(done)))
+    return done
+
+
+def definitions(sources, found):
+    """The definitions, file by file, each with the comment above it."""
+    for module in in_order(sources, found):
+        these = [item for key, item in sources.items.items() if key in found and item.module == module]
+        path = these[0].path
+        yield f"### `{path.removeprefix('crates/')}`\n\n{antt.head(path)} ([file](../{path}))\n"
+        yield fenced("text", "\n\n".join("\n".join([*it.comment, it.text]) for it in these))
+
+
+def types(names):
+    """The types of the code among names, each with its text, without attributes."""
+    declared = re.compile(r"(\w+)\.specs\.declared\.([\w.]+?)\.(\w+)\.(?:TheVariants.*|\3)")
+    found = {declared.fullmatch(it).groups() for it in names if ".specs.declared." in it}
+    for crate, module, name in sorted(found, key=lambda it: (antt.CRATES.index(it[0]), it)):
+        text = text_of("crates", crate, "src", f"{module.replace('.', '/')}.rt")
+        shown = re.search(rf"(?m)((?:^///.*\n)*)(?:^#\[.*\n)*^(pub (?:struct|enum) {name}\b[^{{;]*{{\n(?:.*\n)*?}})$", text)
+        yield f"{crate}::{name}", re.sub(r"(?m)^ *#\[.*\n", "", shown[1] + shown[2]) if shown else None
+
+
+def library(names):
+    """The library's names by module."""
+    found = collections.defaultdict(set)
+    for name in names:
+        module, _, last = name.rpartition(".")
+        if module.split(".")[0] not in antt.CRATES:
+            found[module].add(last.replace("◌", ""))
+    for module, these in sorted(found.items()):
+        yield f"- `{module}`: {', '.join(f'`{it}`' for it in sorted(these))}"
+
+
+def table(sources, found):
+    """The files of definitions, with their names."""
+    by_file = collections.defaultdict(list)
+    for key, item in sources.items.items():
+        if key in found:
+            by_file[item.path].append(f"`{item.name}`")
+    yield "| File | Definitions |\n|---|---|"
+    for path, names in by_file.items():
+        yield f"| [{path.removeprefix('crates/').replace('/specs', '')}](../{path}) | {', '.join(names)} |"
+
+
+def fenced(kind, text):
+    return f"```{kind}\n{text}\n```\n"
+
+
+def shown_clauses(clauses):
+    """Clauses under the calls that they are of."""
+    lines = []
+    for path, call, _, said in clauses:
+        title = f"{path.split('/')[0]}: {call if '::' in call else os.path.basename(path)[:-3] + '::' + call}"
+        lines += ([] if title in lines else [title]) + [f"    {said}"]
+    return "\n".join(lines)
+
+
+def page(sources):
+    found, others = sources.reached(headline_names())
+    every, _ = sources.reached(public_names())
+    yield "# The theorem\n"
+    yield f"**{headline()}**\n"
+    yield "Below is what this says: each part with the clauses that carry it, then the types and all definitions that these clauses stand on. The page is made of the sources by `tests/theorem.py --write`; `./test` fails where it differs from them. Premises, and for each part a wrong body that its clauses refuse: [PROVED.md](PROVED.md#the-headline-part-by-part).\n"
+    yield "## Part by part\n"
+    for text, gloss, clauses in parts():
+        yield f"**{text}.** {gloss}\n"
+        yield fenced("text", shown_clauses(clauses))
+    yield "In a clause `result` is what the call answers, and `self.now` is what is seen of a value that the call only looks at; `x.old` and `x.new` are a value before the call and after it.\n"
+    yield "## Types of the code\n"
+    yield "Definitions see a `Sequence` as the list of its items, and numbers as natural numbers.\n"
+    yield fenced("rust", "\n\n".join(text for _, text in types(others) if text))
+    yield "## Definitions\n"
+    yield f"{len(found)} definitions, each file after those that it cites. Sources that a head names are in [TERMS.md](TERMS.md#sources); `⊥` is what nothing proves.\n"
+    yield from definitions(sources, found)
+    yield "## Words of the library\n"
+    yield "All other words are the kit's.\n"
+    yield "\n".join(library(others)) + "\n"
+    yield "## What other promises stand on\n"
+    yield "These definitions are reached by other public contracts alone; [PROVED.md](PROVED.md) says which promise stands on which.\n"
+    yield "\n".join(table(sources, every - found)) + "\n"
+
+
+# --- what runs ---
+
+
+def private(sources):
+    """Prints which definitions of specs no public contract reaches."""
+    every, _ = sources.reached(public_names())
+    for crate in antt.CRATES:
+        all_of = [it for it in sources.items.values() if it.crate == crate]
+        left = [it for it in all_of if it.key not in every]
+        print(f"{crate}: {len(left)} of {len(all_of)} definitions")
+        for path in dict.fromkeys(it.path for it in left):
+            names = [it.name for it in left if it.path == path]
+            whole = "the whole file" if len(names) == len(antt.items(path)) else "a part of the file"
+            print(f"    {os.path.basename(path)}, {whole}: {', '.join(names)}")
+
+
+def differs(made, path):
+    """The first line in which the page is not what is made of the sources, or None."""
+    stands = text_of(path) if os.path.exists(os.path.join(ROOT, path)) else ""
+    for number, (line, wanted) in enumerate(itertools.zip_longest(stands.splitlines(), made.splitlines()), 1):
+        if line != wanted:
+            return f"line {number} is {line!r} and not {wanted!r}; tests/theorem.py --write makes the page anew"
+    return None
+
+
+def checks(sources, made):
+    yield "headline", headline_fault()
+    yield "page", differs(made, os.path.join("docs", "THEOREM.md"))
+    for text, _, clauses in parts():
+        yield text, None if clauses and all(means(path, said) for path, _, _, said in clauses) else "it has a clause that cites nothing"
+    found, others = sources.reached(headline_names() | public_names())
+    for key in sorted(found):
+        lacking = [it for it in sources.names[key] if it.split(".")[0] in antt.CRATES and ".declared." not in it and sources.whole(it) not in sources.items]
+        yield key, f"it cites {', '.join(lacking)}, which is not found" if lacking else None
+    for name, text in types(sources.reached(headline_names())[1]):
+        yield name, None if text else "no type of this name is public"
+
+
+def main():
+    sources = Sources()
+    if "--private" in sys.argv[1:]:
+        private(sources)
+        return 0
+    made = "\n".join(page(sources))
+    if "--write" in sys.argv[1:]:
+        with open(PAGE, "w", encoding="utf-8") as file:
+            file.write(made)
+        return 0
+    failed = count = 0
+    for name, why in checks(sources, made):
+        count, failed = count + 1, failed + bool(why)
+        if why:
+            print(f"FAILED theorem/{name}: {why}")
+    print(f"{count - failed} passed, {failed} failed")
+    return 1 if failed else 0
+
+
+if __name__ == "__main__":
+    sys.exit(main())
