@@ -47,10 +47,10 @@ PARTS = [
 
 
 class Sources:
-    """All definitions of specs by their whole names, and what each names."""
+    """All definitions of specs by their whole names, what each names, and which one declares a constructor."""
 
     def __init__(self):
-        self.items, self.names = {}, {}
+        self.items, self.names, self.makers = {}, {}, {}
         for crate in antt.CRATES:
             for path in antt.paths(crate, "specs"):
                 self.add(path)
@@ -58,11 +58,10 @@ class Sources:
     def add(self, path):
         found = antt.items(path)
         own = {it.name for it in found} | {name for it in found for name in constructors(it)}
-        made_by = {name: it.name for it in found for name in constructors(it)}
         for item in found:
             self.items[item.key] = item
-            named = antt.names_in(item.text, antt.imports(antt.read(path)), own - {item.name}, item.module)
-            self.names[item.key] = {f"{item.module}.{made_by.get(it.split('.')[-1], it.split('.')[-1])}" if it.startswith(item.module) else it for it in named}
+            self.makers.update({f"{item.module}.{name}": item.key for name in constructors(item)})
+            self.names[item.key] = antt.names_in(item.text, antt.imports(antt.read(path)), own - {item.name}, item.module)
 
     def reached(self, roots):
         """The definitions that names reach, and all other names that these definitions have."""
@@ -80,13 +79,7 @@ class Sources:
 
     def whole(self, name):
         """The definition that declares a constructor, where the name is one."""
-        if name in self.items:
-            return name
-        module, _, last = name.rpartition(".")
-        for key, item in self.items.items():
-            if item.module == module and last in constructors(item):
-                return key
-        return name
+        return self.makers.get(name, name)
 
 
 def constructors(item):
@@ -138,7 +131,13 @@ def public_names():
 
 
 def headline_names():
-    return {name for _, _, clauses in parts() for path, _, _, text in clauses for name in means(path, text)}
+    """What the clauses of the headline name, and how they see the types whose calls these are."""
+    named = set()
+    for _, _, clauses in parts():
+        for path, call, _, text in clauses:
+            seen = " ".join(line for owner, line in views(path) if owner == call.split("::")[0] and " Value " in line)
+            named |= means(path, text) | means(path, seen)
+    return named
 
 
 def means(path, text):
@@ -208,12 +207,23 @@ def in_order(sources, found):
     return done
 
 
+def meant(sources, found, these):
+    """Sentences that say which definition of another file a name means, where two files declare it."""
+    declared = collections.Counter(sources.items[it].name for it in found)
+    cited = {sources.whole(name) for item in these for name in sources.names[item.key]} & found
+    for key in sorted(cited - {it.key for it in these}):
+        item = sources.items[key]
+        if declared[item.name] > 1:
+            yield f" Here `{item.name}` is that of `{item.path.removeprefix('crates/')}`."
+
+
 def definitions(sources, found):
     """The definitions, file by file, each with the comment above it."""
     for module in in_order(sources, found):
         these = [item for key, item in sources.items.items() if key in found and item.module == module]
         path = these[0].path
-        yield f"### `{path.removeprefix('crates/')}`\n\n{antt.head(path)} ([file](../{path}))\n"
+        names = "".join(meant(sources, found, these))
+        yield f"### `{path.removeprefix('crates/')}`\n\n{antt.head(path)}{names} ([file](../{path}))\n"
         yield fenced("text", "\n\n".join("\n".join([*it.comment, it.text]) for it in these))
 
 
@@ -249,6 +259,16 @@ def table(sources, found):
         yield f"| [{path.removeprefix('crates/').replace('/specs', '')}](../{path}) | {', '.join(names)} |"
 
 
+def seen_as(found):
+    """The public types of which contracts see something else, where that is of the library or among the definitions."""
+    for path, names in handed_on_files():
+        for owner, line in views(path):
+            value = re.match(r"    ghost Value = { (.*) };", line)
+            known = {it for it in means(path, value[1]) if it.split(".")[0] in antt.CRATES} if value else set()
+            if value and (names is None or owner in names) and known <= found:
+                yield f"- `{owner}` ({path.split('/')[0]}): `{value[1]}`"
+
+
 def fenced(kind, text):
     return f"```{kind}\n{text}\n```\n"
 
@@ -269,15 +289,18 @@ def page(sources):
     yield f"**{headline()}**\n"
     yield "Below is what this says: each part with the clauses that carry it, then the types and all definitions that these clauses stand on. The page is made of the sources by `tests/theorem.py --write`; `./test` fails where it differs from them. Premises, and for each part a wrong body that its clauses refuse: [PROVED.md](PROVED.md#the-headline-part-by-part).\n"
     yield "## Part by part\n"
-    for text, gloss, clauses in parts():
-        yield f"**{text}.** {gloss}\n"
+    for number, (text, gloss, clauses) in enumerate(parts(), 1):
+        yield f"**{number}. {text}.** {gloss}\n"
         yield fenced("text", shown_clauses(clauses))
-    yield "In a clause `result` is what the call answers, and `self.now` is what is seen of a value that the call only looks at; `x.old` and `x.new` are a value before the call and after it.\n"
+    yield "In a clause `result` is what the call answers, `x.now` a value that the call only looks at, and `x.old` is one before the call.\n"
     yield "## Types of the code\n"
-    yield "Definitions see a `Sequence` as the list of its items, and numbers as natural numbers.\n"
+    yield "Numbers are natural numbers in clauses and definitions. Of these types they see:\n"
+    yield "\n".join(seen_as(found)) + "\n"
+    yield "All others are seen as they are declared:\n"
     yield fenced("rust", "\n\n".join(text for _, text in types(others) if text))
     yield "## Definitions\n"
-    yield f"{len(found)} definitions, each file after those that it cites. Sources that a head names are in [TERMS.md](TERMS.md#sources); `⊥` is what nothing proves.\n"
+    yield f"{len(found)} definitions, each file after those that it cites; sources that a head names are in [TERMS.md](TERMS.md#sources).\n"
+    yield "A definition with `Type 0` behind it states something. There `(v : ℕ) →` is 'for each v', and between statements `→` is 'implies'; `(v : ℕ) ×` is 'there is a v such that', and between statements `×` is 'and'; `⊎` is 'or', `⊥` what never holds and `Unit {0}` what always does. A record states all its fields.\n"
     yield from definitions(sources, found)
     yield "## Words of the library\n"
     yield "All other words are the kit's.\n"
