@@ -161,10 +161,10 @@ def headline_rows():
 
 
 def clause(path, call, name):
-    """The text between the braces of a clause."""
-    contract = proved_names.calls(path)[call][1]
+    """The text between the braces of a clause; the empty text where there is none."""
+    _, contract = proved_names.calls(path).get(call, (False, ""))
     found = re.search(rf"(?ms)^\s*ensures {name} ?{{ (.*?) }};?$", contract)
-    return " ".join(found[1].split())
+    return " ".join(found[1].split()) if found else ""
 
 
 def clauses_of(row):
@@ -335,15 +335,26 @@ def differs(made, path):
     return None
 
 
+def strangers(sources, item):
+    """Names of a definition that are capitalized and mean nothing there, or mean something that is not declared."""
+    text = re.sub(r"--.*", "", item.text)
+    bound = re.findall(r"[({]([\w' ]+) :|λ ([\w' ]+)\.|^([^=:\n]*) =(?: |$)", text, re.M)
+    known = {*" ".join(it for names in bound for it in names).split(), "Type", "Unit", item.name, *antt.imports(antt.read(item.path))}
+    known |= {it.name for it in antt.items(item.path)} | {name for it in antt.items(item.path) for name in constructors(it)}
+    yield from sorted(set(re.findall(r"(?<![\w.'])[A-Z][\w']*(?!\w)", text)) - known - {it.rstrip(".") for it in known})
+    for name in sorted(sources.names[item.key]):
+        if name.split(".")[0] in antt.CRATES and ".declared." not in name and sources.whole(name) not in sources.items:
+            yield name
+
+
 def checks(sources, made):
     yield "headline", headline_fault()
     yield "page", differs(made, os.path.join("docs", "THEOREM.md"))
     for text, _, clauses in parts():
-        yield text, None if clauses and all(means(path, said) for path, _, _, said in clauses) else "it has a clause that cites nothing"
-    found, others = sources.reached(headline_names() | public_names())
-    for key in sorted(found):
-        lacking = [it for it in sources.names[key] if it.split(".")[0] in antt.CRATES and ".declared." not in it and sources.whole(it) not in sources.items]
-        yield key, f"it cites {', '.join(lacking)}, which is not found" if lacking else None
+        yield text, None if clauses and all(means(path, said) for path, _, _, said in clauses) else "it has a clause that is not there or cites nothing"
+    for key in sorted(sources.reached(headline_names() | public_names())[0]):
+        lacking = list(strangers(sources, sources.items[key]))
+        yield key, f"it names {', '.join(lacking)}, which is not found" if lacking else None
     for name, text in types(sources.reached(headline_names())[1]):
         yield name, None if text else "no type of this name is public"
 
