@@ -29,7 +29,7 @@ PAGE = os.path.join(ROOT, "docs", "THEOREM.md")
 PARTS = [
     (
         "Whenever the board's lock is free, whatever was posted and however calls interleaved",
-        "Each call through the lock is answered as some lawful board of a game within the limits answers it.",
+        "Each answer and each copy that comes through the lock is one of some lawful board of a game within the limits.",
     ),
     ("the settled regions are disjoint", "A state gives a vertex at most one winner; nor does the game have a vertex that both players win."),
     (
@@ -98,9 +98,10 @@ def handed_on_files():
     """Each file of src that has something public, with the public names that count there; None where all do."""
     for crate in antt.CRATES:
         names, open_files = proved_names.handed_on(crate)
-        for path in sorted(glob.glob(os.path.join(ROOT, "crates", crate, "src", "*.rt"))):
+        for path in sorted(glob.glob(os.path.join(ROOT, "crates", crate, "src", "**", "*.rt"), recursive=True)):
             path = os.path.relpath(path, os.path.join(ROOT, "crates"))
-            yield path, None if path in open_files or path in proved_names.PROGRAM else names
+            if "/tests" not in path:
+                yield path, None if path in open_files or path in proved_names.PROGRAM else names
 
 
 def public_clauses():
@@ -354,7 +355,8 @@ def checks(sources, made):
         yield text, None if clauses and all(means(path, said) for path, _, _, said in clauses) else "it has a clause that is not there or cites nothing"
     for key in sorted(sources.reached(headline_names() | public_names())[0]):
         lacking = list(strangers(sources, sources.items[key]))
-        yield key, f"it names {', '.join(lacking)}, which is not found" if lacking else None
+        why = f"it names {', '.join(lacking)}, which is not found" if lacking else None
+        yield key, "it is private, and a public contract reaches it" if ".private." in key else why
     for name, text in types(sources.reached(headline_names())[1]):
         yield name, None if text else "no type of this name is public"
 
