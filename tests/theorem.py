@@ -18,6 +18,7 @@ import itertools
 import os
 import re
 import sys
+import unicodedata
 
 sys.dont_write_bytecode = True
 import antt
@@ -348,9 +349,22 @@ def strangers(sources, item):
             yield name
 
 
+def without_accents(text):
+    return unicodedata.normalize("NFKD", text).encode("ascii", "ignore").decode()
+
+
+def lacking_sources(made):
+    """The sources that the page names, as `Zielonka 1998`, and docs/TERMS.md doesn't list."""
+    listed = without_accents(text_of("docs", "TERMS.md").split("## Sources")[1])
+    named = set(re.findall(r"PGSolver manual|(?:[A-Z]\w+(?:, | and |(?= \d)))+ \d{4}", without_accents(made)))
+    return sorted(it for it in named if f"- {it}:" not in listed) if named else ["any"]
+
+
 def checks(sources, made):
     yield "headline", headline_fault()
     yield "page", differs(made, os.path.join("docs", "THEOREM.md"))
+    lacking = lacking_sources(made)
+    yield "sources", f"docs/TERMS.md does not list {', '.join(lacking)}" if lacking else None
     for text, _, clauses in parts():
         yield text, None if clauses and all(means(path, said) for path, _, _, said in clauses) else "it has a clause that is not there or cites nothing"
     for key in sorted(sources.reached(headline_names() | public_names())[0]):
