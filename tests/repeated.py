@@ -121,8 +121,9 @@ def statement(item, meaning):
     said = []
     for equation in re.split(rf"(?:^|(?<=\s)){re.escape(item.name)}(?= [^:]*?=)", body):
         left, equals, right = equation.partition(" = ")
-        bound = {it: f"${at}" for at, it in enumerate(re.findall(r"[\w']+", left)) if equals and it not in meaning and not it[0].isupper()}
-        said.append(Reader(meaning).said(left, bound) + equals + Reader(meaning).said(right, bound) if equals else Reader(meaning).said(left))
+        words = re.findall(r"[\w']+", left) if equals else []
+        scope = {it: f"${at}" for at, it in enumerate(words) if it not in meaning and not it[0].isupper()}
+        said += [Reader(meaning).said(left, scope), Reader(meaning).said(right, scope)]
     return " ; ".join(it.replace(item.name, "@") for it in said)
 
 
@@ -141,8 +142,8 @@ def every_item():
 def is_closed(helper, meaning):
     """Whether the statement of a lemma under `where` names nothing of the lemma that it stands in."""
     known = {*meaning, *antt.imports(antt.read(helper.path)), "Type"}
-    said = Reader(meaning).said(helper.statement)
-    return all(it in known or "." in it or f"◌{it}◌" in known for it in re.findall(r"(?<![#\w.'-])[\w'?!≢-]*[A-Za-zℕ][\w'?!≢.-]*", said))
+    words = re.findall(r"(?<![#\w.'-])[\w'?!≢-]*[A-Za-zℕ][\w'?!≢.-]*", Reader(meaning).said(helper.statement))
+    return all(it in known or "." in it for it in words)
 
 
 # --- what stands twice ---
@@ -229,7 +230,8 @@ def unused(items):
     """Each item that nothing names but itself."""
     elsewhere = named_elsewhere()
     for item, _ in items:
-        if item.is_helper or item.key in elsewhere or any(f"{item.module}.{it}" in elsewhere for it in re.findall(r"(?m)^  (\w+) :", item.text)):
+        names = [item.name, *re.findall(r"(?m)^  (\w+) :", item.text)]
+        if item.is_helper or any(f"{item.module}.{it}" in elsewhere for it in names):
             continue
         lines = antt.read(item.path).split("\n")
         others = lines[: item.line - 1] + lines[item.line - 1 + len(item.lines) :]

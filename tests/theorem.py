@@ -32,19 +32,44 @@ PARTS = [
         "Whenever the board's lock is free, whatever was posted and however calls interleaved",
         "Each answer and each copy that comes through the lock is one of some lawful board of a game within the limits.",
     ),
-    ("the settled regions are disjoint", "A state gives a vertex at most one winner; nor does the game have a vertex that both players win."),
+    (
+        "the settled regions are disjoint",
+        "A state gives a vertex at most one winner; nor does the game have a vertex that both players win.",
+    ),
     (
         "each is closed against its opponent, with a strategy that stays inside and leaves only closed walks of its winner's parity",
         "What is settled for a player is a region of his: `IsRegion` in each state.",
     ),
     ("neither attracts a further vertex", "What a player's settled vertices attract in the whole game is among them."),
-    ("every prefix of the journal replays to such a board", "After the first k entries, for each k, the state is lawful; each entry answers its claim on the state before it."),
-    ("all shares together are the number settled", "At the closing the amounts of all shares add up to the number of rows in the journal."),
+    (
+        "every prefix of the journal replays to such a board",
+        "After the first k entries, for each k, the state is lawful; each entry answers its claim on the state before it.",
+    ),
+    (
+        "all shares together are the number settled",
+        "At the closing the amounts of all shares add up to the number of rows in the journal.",
+    ),
     (
         "a full board is the game's only solution",
-        "A board has a solution exactly where it is full; there each vertex's winner is the one player who wins it, and choices stand exactly where the winner owns the vertex.",
+        "A board has a solution exactly where it is full; there each vertex's winner is the one player who wins it, "
+        "and choices stand exactly where the winner owns the vertex.",
     ),
 ]
+INTRODUCTION = (
+    "Below is what this says: each part with the clauses that carry it, then the types and all definitions that these clauses "
+    "stand on. The page is made of the sources by `tests/theorem.py --write`; `./test` fails where it differs from them. "
+    "Premises, and for each part a wrong body that its clauses refuse: [PROVED.md](PROVED.md#the-headline-part-by-part)."
+)
+OF_CLAUSES = (
+    "In a clause `result` is what the call answers, `x.now` a value that the call only looks at, and `x.old` is one before the "
+    "call."
+)
+OF_DEFINITIONS = (
+    "A definition with `Type 0` behind it states something. There `(v : ℕ) →` is 'for each v', and between statements `→` is "
+    "'implies'; `(v : ℕ) ×` is 'there is a v such that', and between statements `×` is 'and'; `⊎` is 'or', `⊥` what never holds "
+    "and `Unit {0}` what always does. A record states all its fields."
+)
+OF_OTHERS = "These are reached by other public contracts alone; [PROVED.md](PROVED.md) says which promise stands on which."
 
 
 class Sources:
@@ -197,7 +222,7 @@ def headline_fault():
 
 
 def in_order(sources, found):
-    """Modules of these definitions, each after those that it cites; within that, as the crates and their files are ordered."""
+    """Modules of these definitions, each after those that it cites, and else as the crates and their files are ordered."""
     modules = list(dict.fromkeys(item.module for key, item in sources.items.items() if key in found))
     cites = collections.defaultdict(set)
     for key in found:
@@ -289,26 +314,26 @@ def page(sources):
     every, _ = sources.reached(public_names())
     yield "# The theorem\n"
     yield f"**{headline()}**\n"
-    yield "Below is what this says: each part with the clauses that carry it, then the types and all definitions that these clauses stand on. The page is made of the sources by `tests/theorem.py --write`; `./test` fails where it differs from them. Premises, and for each part a wrong body that its clauses refuse: [PROVED.md](PROVED.md#the-headline-part-by-part).\n"
+    yield f"{INTRODUCTION}\n"
     yield "## Part by part\n"
     for number, (text, gloss, clauses) in enumerate(parts(), 1):
         yield f"**{number}. {text}.** {gloss}\n"
         yield fenced("text", shown_clauses(clauses))
-    yield "In a clause `result` is what the call answers, `x.now` a value that the call only looks at, and `x.old` is one before the call.\n"
+    yield f"{OF_CLAUSES}\n"
     yield "## Types of the code\n"
     yield "Numbers are natural numbers in clauses and definitions. Of these types they see:\n"
     yield "\n".join(seen_as(found)) + "\n"
     yield "All others are seen as they are declared:\n"
     yield fenced("rust", "\n\n".join(text for _, text in types(others) if text))
     yield "## Definitions\n"
-    yield f"{len(found)} definitions, each file after those that it cites; sources that a head names are in [TERMS.md](TERMS.md#sources).\n"
-    yield "A definition with `Type 0` behind it states something. There `(v : ℕ) →` is 'for each v', and between statements `→` is 'implies'; `(v : ℕ) ×` is 'there is a v such that', and between statements `×` is 'and'; `⊎` is 'or', `⊥` what never holds and `Unit {0}` what always does. A record states all its fields.\n"
+    yield f"{len(found)} definitions, each file after those that it cites; their sources are in [TERMS.md](TERMS.md#sources).\n"
+    yield f"{OF_DEFINITIONS}\n"
     yield from definitions(sources, found)
     yield "## Words of the library\n"
     yield "All other words are the kit's.\n"
     yield "\n".join(library(others)) + "\n"
     yield "## What other promises stand on\n"
-    yield "These definitions are reached by other public contracts alone; [PROVED.md](PROVED.md) says which promise stands on which.\n"
+    yield f"{OF_OTHERS}\n"
     yield "\n".join(table(sources, every - found)) + "\n"
 
 
@@ -341,9 +366,10 @@ def strangers(sources, item):
     """Names of a definition that are capitalized and mean nothing there, or mean something that is not declared."""
     text = re.sub(r"--.*", "", item.text)
     bound = re.findall(r"[({]([\w' ]+) :|λ ([\w' ]+)\.|^([^=:\n]*) =(?: |$)", text, re.M)
-    known = {*" ".join(it for names in bound for it in names).split(), "Type", "Unit", item.name, *antt.imports(antt.read(item.path))}
-    known |= {it.name for it in antt.items(item.path)} | {name for it in antt.items(item.path) for name in constructors(it)}
-    yield from sorted(set(re.findall(r"(?<![\w.'])[A-Z][\w']*(?!\w)", text)) - known - {it.rstrip(".") for it in known})
+    known = {"Type", "Unit", *" ".join(it for names in bound for it in names).split()}
+    known |= {it.rstrip(".") for it in antt.imports(antt.read(item.path))}
+    known |= {name for it in antt.items(item.path) for name in (it.name, *constructors(it))}
+    yield from sorted(set(re.findall(r"(?<![\w.'])[A-Z][\w']*(?!\w)", text)) - known)
     for name in sorted(sources.names[item.key]):
         if name.split(".")[0] in antt.CRATES and ".declared." not in name and sources.whole(name) not in sources.items:
             yield name
@@ -366,7 +392,8 @@ def checks(sources, made):
     lacking = lacking_sources(made)
     yield "sources", f"docs/TERMS.md does not list {', '.join(lacking)}" if lacking else None
     for text, _, clauses in parts():
-        yield text, None if clauses and all(means(path, said) for path, _, _, said in clauses) else "it has a clause that is not there or cites nothing"
+        is_said = clauses and all(means(path, said) for path, _, _, said in clauses)
+        yield text, None if is_said else "it has a clause that is not there or cites nothing"
     for key in sorted(sources.reached(headline_names() | public_names())[0]):
         lacking = list(strangers(sources, sources.items[key]))
         why = f"it names {', '.join(lacking)}, which is not found" if lacking else None
