@@ -1,7 +1,8 @@
 //! A claim that was checked, with what its game says of its vertices: so whether it is sound in another game can be told
-//! row by row, with no search for closed walks.
+//! row by row, with no search for closed walks. What the game says is lent, so a row takes no memory of its own.
 
-ghost use Rattle.std.specs.Prelude.{◌≡◌, ℕ, ◌∷◌, [], IfOk, MatchOption, true, false};
+ghost use Rattle.std.specs.Prelude.{◌≡◌, ℕ, ◌<◌, length, ◌∷◌, [], IfOk, MatchOption, true, false};
+ghost use Rattle.pg_game.specs.Graph.{HasEdge};
 ghost use Rattle.pg_dominion.specs.Claim.{IsRightRow, AreRight, IsSound};
 ghost use Rattle.pg_dominion.specs.Checked.{claim_row, claim_rows, claim_of, IsSingle, AgreesAt, Agrees, IsForeign, AreChecked};
 
@@ -10,25 +11,47 @@ use pg_game::{Game, Player, Sequence};
 use std::alloc::{AllocError, Global};
 use std::marker::Model;
 
+/// Successors of a vertex that stand together in its game.
+#[derive(Drop)]
+pub struct KeptSuccessors<'g> {
+    vertices: &'g [u32],
+}
+
+impl<'g> Model for KeptSuccessors<'g> {
+    ghost use Rattle.std.specs.Prelude.{ℕ, List};
+
+    ghost Value = { List ℕ };
+
+    ghost view = { λ k. k.vertices.now };
+}
+
+impl<'g> KeptSuccessors<'g> {
+    pub fn as_slice(&self) -> &'g [u32]
+        ensures { result.now ≡ self.now }
+    {
+        self.vertices
+    }
+}
+
 /// A vertex of a checked claim, with what its game says of it. The kept successors are the choice alone where the
 /// player owns the vertex, and all of them elsewhere.
 #[derive(Drop)]
-pub struct CheckedRow {
+pub struct CheckedRow<'g> {
     pub vertex: u32,
     pub owner: Player,
     pub priority: u32,
-    pub kept: Sequence<u32>,
+    pub kept: KeptSuccessors<'g>,
 }
 
 /// A claim that `check_claim` accepted, which alone makes such a value. Its type keeps that its rows are not empty and
 /// rise, that one successor is kept at each vertex of its player, and that its kept edges make only good closed walks.
 #[derive(Drop)]
-pub struct Checked {
+pub struct Checked<'g> {
     claim: Claim,
-    rows: Vec<CheckedRow>,
+    rows: Vec<CheckedRow<'g>>,
 }
 
-impl Model for Checked {
+impl<'g> Model for Checked<'g> {
     ghost use Rattle.std.specs.Prelude.{◌≡◌};
     ghost use Rattle.pg_dominion.specs.Checked.{CheckedClaim, AreChecked, claim_rows};
 
@@ -39,30 +62,40 @@ impl Model for Checked {
     ghost invariant = { λ c. AreChecked c.claim.player c.rows.items × (c.claim.rows ≡ claim_rows c.claim.player c.rows.items) };
 }
 
-impl CheckedRow {
+/// A successor of the vertex, by itself.
+fn single<'g>(game: &'g Game, v: u32, w: u32) -> &'g [u32]
+    requires vertex { v < length game.now }
+    requires edge { HasEdge game.now v w }
+    ensures { result.now ≡ w ∷ [] }
+{
+    let successors = game.successors(v);
+    for k in 0..successors.len() {
+        if successors[k] == w {
+            return &successors[k..k + 1];
+        }
+    }
+    unreachable!()
+}
+
+impl<'g> CheckedRow<'g> {
     /// The row of a claim that is right in a game, with what the game says of its vertex.
-    fn of(
-        alloc: Global,
-        game: &Game,
-        player: Player,
-        row: (u32, Option<u32>),
-    ) -> Result<CheckedRow, AllocError>
+    fn of(game: &'g Game, player: Player, row: (u32, Option<u32>)) -> CheckedRow<'g>
         requires { IsRightRow game.now player row }
-        ensures agrees { IfOk result (λ r. AgreesAt game.now player r) }
-        ensures row { IfOk result (λ r. claim_row player r ≡ row) }
+        ensures agrees { AgreesAt game.now player result }
+        ensures row { claim_row player result ≡ row }
     {
         let (vertex, choice) = row;
         let _n = game.len();
-        let kept = match choice {
-            Some(w) => vec![in alloc; w; 1]?,
-            None => Vec::from_slice(alloc, game.successors(vertex))?,
+        let vertices = match choice {
+            Some(w) => single(game, vertex, w),
+            None => game.successors(vertex),
         };
-        Ok(CheckedRow {
+        CheckedRow {
             vertex,
             owner: game.owner(vertex),
             priority: game.priority(vertex),
-            kept: Sequence::new(kept),
-        })
+            kept: KeptSuccessors { vertices },
+        }
     }
 
     /// Whether the row says of its vertex what the game says.
@@ -85,7 +118,11 @@ impl CheckedRow {
 }
 
 /// What the game says of the rows of a claim that are right in it.
-fn checked_rows(alloc: Global, game: &Game, claim: &Claim) -> Result<Vec<CheckedRow>, AllocError>
+fn checked_rows<'g>(
+    alloc: Global,
+    game: &'g Game,
+    claim: &Claim,
+) -> Result<Vec<CheckedRow<'g>>, AllocError>
     requires { AreRight game.now claim.now.player claim.now.rows }
     ensures agree { IfOk result (λ rows. Agrees game.now claim.now.player rows.items) }
     ensures rows { IfOk result (λ rows. claim_rows claim.now.player rows.items ≡ claim.now.rows) }
@@ -93,14 +130,18 @@ fn checked_rows(alloc: Global, game: &Game, claim: &Claim) -> Result<Vec<Checked
     let claimed = claim.rows.as_slice();
     let mut rows = Vec::with_capacity(alloc, claimed.len())?;
     'rows: for row in claimed {
-        rows.push(CheckedRow::of(alloc, game, claim.player, *row)?)?;
+        rows.push(CheckedRow::of(game, claim.player, *row))?;
     }
     Ok(rows)
 }
 
-impl Checked {
+impl<'g> Checked<'g> {
     /// A claim that is known to be sound, with what its game says of its vertices.
-    pub(crate) fn of(alloc: Global, game: &Game, claim: &Claim) -> Result<Checked, AllocError>
+    pub(crate) fn of(
+        alloc: Global,
+        game: &'g Game,
+        claim: &Claim,
+    ) -> Result<Checked<'g>, AllocError>
         requires { IsSound game.now claim.now.player claim.now.rows }
         ensures holds { IfOk result (λ c. claim_of c ≡ claim.now) }
         ensures agrees { IfOk result (λ c. Agrees game.now c.player c.rows) }
@@ -123,7 +164,7 @@ impl Checked {
     }
 
     /// The rows, by rising vertex. Tells what the type keeps.
-    pub fn rows(&self) -> &[CheckedRow]
+    pub fn rows(&self) -> &[CheckedRow<'g>]
         ensures rows { result.now ≡ self.now.rows }
         ensures checked { AreChecked self.now.player self.now.rows }
     {

@@ -21,7 +21,7 @@ mod tables;
 mod tests;
 
 pub use attractor::attract;
-pub use checked::{Checked, CheckedRow};
+pub use checked::{Checked, CheckedRow, KeptSuccessors};
 pub use claim::{Claim, ClaimFault, check_claim, judge_claim};
 pub use cycles::first_worst;
 pub use kept::Kept;

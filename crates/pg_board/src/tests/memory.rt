@@ -61,7 +61,7 @@ fn contents(alloc: Global, copied: &Copied) -> Result<Contents, Fail> {
     Ok((vertices, copied.at, copied.settled))
 }
 
-fn checked_on(alloc: Global, game: &Game, claim: &Claim) -> Result<Checked, Fail> {
+fn checked_on<'g>(alloc: Global, game: &'g Game, claim: &Claim) -> Result<Checked<'g>, Fail> {
     needed(check_claim(alloc, game, claim))
 }
 
@@ -69,7 +69,7 @@ fn checked_on(alloc: Global, game: &Game, claim: &Claim) -> Result<Checked, Fail
 #[derive(Clone, Copy, Drop)]
 enum Asked<'a> {
     Post(&'a Claim),
-    Settle(&'a Checked),
+    Settle(&'a Checked<'a>),
 }
 
 fn answer(alloc: Global, board: &mut Board, asked: &Asked) -> Result<Posted, Refusal> {

@@ -13,7 +13,12 @@ use std::alloc::Global;
 use std::process::Abort;
 use std::test::Fail;
 
-fn checked_on(alloc: Global, game: &Game, player: Player, rows: &[Row]) -> Result<Checked, Fail> {
+fn checked_on<'g>(
+    alloc: Global,
+    game: &'g Game,
+    player: Player,
+    rows: &[Row],
+) -> Result<Checked<'g>, Fail> {
     let claim = claim_of(alloc, player, rows)?;
     match check_claim(alloc, game, &claim) {
         Ok(checked) => Ok(checked),

@@ -9,12 +9,12 @@ use std::process::Abort;
 use std::test::Fail;
 
 /// A claim's check, or none where the claim is refused.
-fn checked(
+fn checked<'g>(
     alloc: Global,
-    game: &Game,
+    game: &'g Game,
     player: Player,
     rows: &[(u32, Option<u32>)],
-) -> Result<Option<Checked>, Fail> {
+) -> Result<Option<Checked<'g>>, Fail> {
     let claim = Claim {
         player,
         rows: Sequence::new(Vec::from_slice(alloc, rows)?),

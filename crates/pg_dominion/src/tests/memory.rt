@@ -67,7 +67,11 @@ fn a_claim_is_judged_after_a_refusal(rt: HostRuntime) -> Result<(), Fail> {
     Ok(())
 }
 
-fn checked_twice(alloc: Global, game: &Game, claim: &Claim) -> Result<Checked, ClaimFault> {
+fn checked_twice<'g>(
+    alloc: Global,
+    game: &'g Game,
+    claim: &Claim,
+) -> Result<Checked<'g>, ClaimFault> {
     match check_claim(alloc, game, claim) {
         Err(ClaimFault::Memory) => check_claim(alloc, game, claim),
         answer => answer,
