@@ -12,15 +12,16 @@ import sys
 
 ROOT = os.path.dirname(os.path.dirname(os.path.abspath(__file__)))
 INPUTS = ["own_loops", "own_loops_too_many"]
+COMMANDS = ["tidy", "tidy-pipe", "verify", "verify-any", "wrong", "solve", "winners"]
 
 
 def main():
     if len(sys.argv) != 2:
         sys.exit("tests/bench.py BINARY")
-    words = [os.path.join(ROOT, "bench", "run"), os.path.abspath(sys.argv[1]), "--runs", "1", "--only", ",".join(INPUTS)]
+    words = [os.path.join(ROOT, "bench", "run"), os.path.abspath(sys.argv[1]), "--runs", "1", "--only", ",".join(INPUTS), "--commands", ",".join(COMMANDS)]
     ran = subprocess.run([sys.executable, *words], stdin=subprocess.DEVNULL, stdout=subprocess.PIPE, stderr=subprocess.STDOUT, errors="replace")
-    shown = {line.split()[0] for line in ran.stdout.splitlines() if line.strip()}
-    lacking = [it for it in INPUTS if it not in shown]
+    shown = {word for line in ran.stdout.splitlines() for word in line.split()[:2]}
+    lacking = [it for it in INPUTS + COMMANDS if it not in shown]
     if ran.returncode or lacking:
         print(f"FAILED bench: status {ran.returncode}, no line of {lacking}; it said:\n{ran.stdout}")
         print("0 passed, 1 failed")

@@ -194,6 +194,65 @@ def a_pipe_is_read_as_a_file_is(run):
     return differs(run(["verify", "game.pg", "/dev/stdin"], HOLDS), (0, b"ok\n", b""))
 
 
+def a_named_pipe_is_read_as_a_file_is(run):
+    path = os.path.join(run.room, "game.pipe")
+    os.mkfifo(path)
+
+    def feed():
+        with open(path, "wb") as file:
+            file.write(large_game())
+
+    thread = threading.Thread(target=feed)
+    thread.start()
+    got = run(["tidy", "game.pipe"])
+    thread.join()
+    return differs(got, (0, tidied(), b""))
+
+
+def a_file_that_says_it_is_empty_is_read_to_its_end(run):
+    # the kernel tells no length of what it makes when it is read
+    name = " " * 70_000 + "x"
+    got = run(["tidy", "/proc/self/environ"], env={name: ""})
+    return differs(got, run(["tidy"], name.encode() + b"=\0")) or differs(got, (3, b"", b"pgboard: game: byte 70001: no token\n"))
+
+
+def is_open(program, name):
+    """Whether a program has a file of this name open."""
+    folder = f"/proc/{program.pid}/fd"
+    return any(os.readlink(os.path.join(folder, it)).endswith(name) for it in os.listdir(folder))
+
+
+def a_file_that_grows_or_shrinks_before_it_is_read_is_read_to_its_end(run):
+    # both files are opened before the game is read, which is a pipe
+    path = os.path.join(run.room, "game.pipe")
+    os.mkfifo(path)
+    long = HOLDS + b" " * 100_000
+
+    def one(before, then):
+        run.put("game.sol", before)
+        with run.started(["verify", "game.pipe", "game.sol"]) as ran:
+            with open(path, "wb") as file:
+                while ran.poll() is None and not is_open(ran, "game.sol"):
+                    time.sleep(0.01)
+                time.sleep(0.05)
+                run.put("game.sol", then)
+                file.write(GAME)
+            out, err = ran.communicate()
+        return differs((ran.returncode, out, err), (0, b"ok\n", b""))
+
+    return one(b"", long) or one(HOLDS, long) or one(long, HOLDS)
+
+
+def a_file_that_was_read_in_part_is_read_from_there(run):
+    with open(os.path.join(run.room, "game.pg"), "rb") as file:
+        os.lseek(file.fileno(), len(GAME) // 2, os.SEEK_SET)
+        return differs(run(["tidy"], stdin=file), run(["tidy"], GAME[len(GAME) // 2 :]))
+
+
+def a_folder_is_a_read_fault(run):
+    return differs(run(["tidy", "."]), READ_FAULT)
+
+
 def a_folder_as_standard_input_is_a_read_fault(run):
     folder = os.open(run.room, os.O_RDONLY)
     try:
@@ -247,6 +306,17 @@ def a_text_with_one_byte_more_is_too_long(run):
     return first(differs(of_blanks(run, words, LONGEST + 1), wanted, str(words)) for words in ([], ["tidy"]))
 
 
+def a_file_of_the_greatest_length_is_read_and_a_longer_one_is_too_long(run):
+    def one(size, words):
+        # (of zeros, which take no room)
+        run.put("long.pg", b"")
+        os.truncate(os.path.join(run.room, "long.pg"), size)
+        return differs(run(["tidy", "long.pg"]), (3, b"", b"pgboard: " + words + b"\n"), str(size))
+
+    byte = b"game: byte 0: no token"
+    return one(LONGEST, byte) or one(LONGEST + 1, b"text too long") or one(1 << 40, b"text too long")
+
+
 def a_bad_game_is_named_before_a_solution_that_waits_is_read(run):
     # the solution is a pipe with no writer's bytes: a program that read it first would never end
     reader, writer = os.pipe()
@@ -267,6 +337,11 @@ CASES = [
     a_slow_reader_gets_the_whole_output,
     a_game_given_byte_by_byte_is_read_whole,
     a_pipe_is_read_as_a_file_is,
+    a_named_pipe_is_read_as_a_file_is,
+    a_file_that_says_it_is_empty_is_read_to_its_end,
+    a_file_that_grows_or_shrinks_before_it_is_read_is_read_to_its_end,
+    a_file_that_was_read_in_part_is_read_from_there,
+    a_folder_is_a_read_fault,
     a_folder_as_standard_input_is_a_read_fault,
     a_file_whose_reading_fails_is_a_read_fault,
     a_closed_standard_error_leaves_the_status,
@@ -276,6 +351,7 @@ CASES = [
     refused_memory_is_status_5_and_nothing_is_written,
     a_text_of_the_greatest_length_is_read_to_its_end,
     a_text_with_one_byte_more_is_too_long,
+    a_file_of_the_greatest_length_is_read_and_a_longer_one_is_too_long,
     a_bad_game_is_named_before_a_solution_that_waits_is_read,
 ]
 

@@ -3,9 +3,10 @@
 
     tests/every_byte.py BINARY
 
-Lines of games and solutions get each fault at each place, in spellings that are read straight through and in others. The
-games and solutions of examples are cut at every length too. The answers are those of the definitions in plain.py; for
-the smallest game, cut, they are written out here too. The last line is 'N passed, M failed'.
+Lines of games and solutions get each fault at each place, in spellings that are read straight through and in others, and
+bytes of each kind before and in place of each of their bytes. The games and solutions of examples are cut at every length
+too. The answers are those of the definitions in plain.py; for the smallest game, cut, they are written out here too. The
+last line is 'N passed, M failed'.
 """
 
 import concurrent.futures
@@ -23,7 +24,9 @@ SOLUTION = b"paritysol 12;\n7 1;\n12 1 12;\n"
 
 GAME_LINES = [b"0 4 1 1 , 2 ;", b"1 7 0 0 , 1 , 2 ;", b"2 10 1 1 ;"]
 SOLUTION_LINES = [b"0 1 ;", b"1 0 0 ;", b"2 1 ;"]
-FAULTS = [b"2147483648", b"99999999999999999999", b"2", b"00", b",", b";", b'"x"', b"x", b"-"]
+FAULTS = [b"2147483648", b"99999999999999999999", b"2", b"9", b"00", b",", b";", b'"x"', b"x", b"-"]
+# blanks, what tokens are made of, and the neighbours of both
+BYTES = b"\t\n\v\r \0\"%,-/09:;@Aaz{\x7f\xff"
 SPELLINGS = {"straight": (b" ", b"", b"\n"), "two blanks": (b"  ", b"", b"\n\n"), "spaced": (b"\t", b" ", b"\r\n")}
 
 
@@ -67,6 +70,26 @@ def damaged(lines):
             for fault in FAULTS:
                 yield f"line {row} with {fault} before token {at}", before + tokens[:at] + [fault] + tokens[at:] + behind
                 yield f"line {row} with {fault} as token {at}", before + tokens[:at] + [fault] + tokens[at + 1 :] + behind
+
+
+def touched(text):
+    """Pairs of a name and the text with each byte left out, and with some bytes before it and in place of it."""
+    for at in range(len(text)):
+        yield f"without byte {at}", text[:at] + text[at + 1 :]
+        for it in (bytes([byte]) for byte in BYTES):
+            yield f"with {it} before byte {at}", text[:at] + it + text[at:]
+            yield f"with {it} as byte {at}", text[:at] + it + text[at + 1 :]
+
+
+def touched_lines():
+    """The runs on bytes put into lines: games by `tidy`, solutions behind a game."""
+    game, solution = b" ".join(GAME_LINES).split(), b" ".join(SOLUTION_LINES).split()
+    whole = spelled(game, b" ", b"", b"\n")
+    for how in ("straight", "spaced"):
+        for name, text in touched(spelled(game, *SPELLINGS[how])):
+            yield f"a game, {how}: {name}", ["tidy"], text, tidied(text)
+        for name, text in touched(spelled(solution, *SPELLINGS[how])):
+            yield f"a solution, {how}: {name}", [], whole + b"%" + text, wanted_of(whole + b"%" + text)
 
 
 def damaged_lines():
@@ -143,6 +166,7 @@ def runs():
         yield f"the smallest game cut to {length} bytes", ["tidy"], SMALLEST[:length], tidied_or_refused(length)
     yield from cut_examples()
     yield from damaged_lines()
+    yield from touched_lines()
 
 
 def fault(binary, run):

@@ -4,8 +4,8 @@
 //! noted, since the grammar is judged first; a token that can't stand there ends the pass, and the rest is looked through
 //! once for a byte that begins no token.
 //!
-//! Behind a line, numbers, commas and semicolons are taken where they stand, each by the step of its token; what is none of
-//! these is left to the lexer.
+//! Where a line may begin, numbers, commas and semicolons are taken where they stand, each by the step of its token; what is
+//! none of these is left to the lexer.
 ghost use Rattle.std.specs.Prelude.{◌≡◌, ℕ, ◌≤◌, length, true, false, IfOk, IfErr, IfSome, MatchResult, ◌<◌, None, List, []};
 ghost use Rattle.pg_text.specs.Token.{Number, Word, Name, Comma, Semicolon, Placed, Spells};
 ghost use Rattle.pg_text.specs.Piece.{fitting};
@@ -58,6 +58,18 @@ fn is_complete(state: State) -> bool
     ensures { result ≡ is_complete state }
 {
     match state {
+        State::Ready => true,
+        _ => false,
+    }
+}
+
+/// Whether a line of the game may begin in this state.
+#[inline]
+fn begins_line(state: State) -> bool {
+    match state {
+        State::Start => true,
+        State::Headed => true,
+        State::Started => true,
         State::Ready => true,
         _ => false,
     }
@@ -353,7 +365,7 @@ impl Reader {
         self.line_end(text, successor)
     }
 
-    /// Reads lines straight through, behind a line. Answers the place behind what was read: all else is for the tokens.
+    /// Reads lines straight through. Answers the place behind what was read: all else is for the tokens.
     fn lines(&mut self, text: &[u8], from: usize) -> Result<usize, TextFault>
         requires size { length text.now ≤ 268435456 }
         requires inside { from ≤ length text.now }
@@ -362,7 +374,7 @@ impl Reader {
         ensures fault { IfErr result (λ e. FailsWith self.old text.now from e) }
     {
         let mut at = from;
-        'lines: while let State::Ready = self.state {
+        'lines: while begins_line(self.state) {
             let to = self.line(text, at)?;
             if to <= at {
                 return Ok(to);
@@ -411,14 +423,15 @@ pub fn read_specs(alloc: Global, text: &[u8]) -> Result<Specs, TextFault>
     let mut reader = Reader::new(alloc)?;
     let mut at = 0;
     'tokens: loop {
-        let piece = next_token(text, at);
+        let from = reader.lines(text, at)?;
+        let piece = next_token(text, from);
         match piece.kind {
             Kind::End => return reader.finish(text.len() as u32),
             Kind::Bad => return Err(TextFault::Lexical(piece.from as u32)),
             _ => {}
         }
         match reader.take(text, piece) {
-            Ok(true) => at = reader.lines(text, piece.to)?,
+            Ok(true) => at = piece.to,
             Ok(false) => return Err(unexpected(text, piece.from, piece.to)),
             Err(fault) => return Err(fault),
         }

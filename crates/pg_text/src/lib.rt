@@ -10,6 +10,7 @@ mod fault;
 mod game_reader;
 pub mod laws;
 mod lexer;
+mod line;
 mod numbers;
 mod reading;
 mod solution;

@@ -4,17 +4,21 @@ ghost use Rattle.std.specs.Prelude.{◌≡◌, ℕ, ◌<◌, ◌≤◌, ◌++◌
 ghost use Rattle.std.specs.List.{join_with_byte};
 ghost use Rattle.pg_game.specs.Graph.{id_of, priority_of, owner_of, successors_of, vertex_at};
 ghost use Rattle.pg_game.specs.Player.{digit_of};
-ghost use Rattle.pg_text.specs.Written.{greatest_id, written_game, written_vertex, written_choice, written_solution, written_rows, written_winners};
+ghost use Rattle.pg_text.specs.Written.{greatest_id, written_game, written_vertex, written_solution, written_rows, written_winners};
 ghost use Rattle.pg_text.specs.Lengths.{greatest_game_text, greatest_solution_text, greatest_winners_text};
 ghost use Rattle.pg_text.specs.Solution.{AreRows};
 
+use crate::line::{byte_before, choice_before, end_before, field_before, number_before};
 use crate::solution::Solution;
-use itoa::{Buffer, write_digits};
+use itoa::Buffer;
 use pg_game::{Game, Memory, Player};
 use std::alloc::Global;
 
 /// The longest line of a solution text: two numbers, a winner, two spaces, a semicolon and a line feed.
 const ROW: usize = 34;
+
+/// The longest first line: a word, a space, a number, a semicolon and a line feed.
+const HEADER: usize = 22;
 
 /// A number in decimal digits.
 fn put_number(out: &mut Vec<u8>, n: u32) -> Result<(), Memory>
@@ -32,79 +36,6 @@ fn put_header(out: &mut Vec<u8>, word: &[u8], game: &Game) -> Result<(), Memory>
     let last = game.len() - 1;
     put_number(out, game.id(last))?;
     out.extend_from_slice(b";\n")
-}
-
-/// Writes a number whose digits end at a place of the line, and answers where they begin.
-#[inline]
-fn number_before(line: &mut [u8], end: usize, n: u32) -> usize
-    requires room { 10 ≤ end }
-    requires within { end ≤ length line.old }
-    ensures written { drop result line.new ≡ decimal n ++ drop end line.old }
-    ensures near { end ≤ result + 10 }
-    ensures before { result ≤ end }
-    ensures size { length line.new ≡ length line.old }
-{
-    write_digits(u64::from(n), line, end)
-}
-
-/// Writes a byte before a place of the line, and answers where it stands.
-#[inline]
-fn byte_before(line: &mut [u8], end: usize, byte: u8) -> usize
-    requires room { 1 ≤ end }
-    requires within { end ≤ length line.old }
-    ensures written { drop result line.new ≡ byte ∷ drop end line.old }
-    ensures place { result + 1 ≡ end }
-    ensures size { length line.new ≡ length line.old }
-{
-    line[end - 1] = byte;
-    end - 1
-}
-
-/// Writes the end of a line, and answers where it begins.
-#[inline]
-fn end_before(line: &mut [u8]) -> usize
-    requires { 2 ≤ length line.old }
-    ensures written { drop result line.new ≡ codes ";\n" }
-    ensures place { result + 2 ≡ length line.old }
-    ensures size { length line.new ≡ length line.old }
-{
-    let end = line.len();
-    let at = byte_before(line, end, b'\n');
-    byte_before(line, at, b';')
-}
-
-/// Writes a space and the choice's identifier before a place of the line, where there is a choice.
-#[inline]
-fn choice_before(line: &mut [u8], end: usize, game: &Game, choice: Option<u32>) -> usize
-    requires room { 11 ≤ end }
-    requires within { end ≤ length line.old }
-    requires choice { IfSome choice (λ w. w < length game.now) }
-    ensures written { drop result line.new ≡ written_choice game.now choice ++ drop end line.old }
-    ensures near { end ≤ result + 11 }
-    ensures before { result ≤ end }
-    ensures size { length line.new ≡ length line.old }
-{
-    match choice {
-        Some(w) => {
-            let at = number_before(line, end, game.id(w));
-            byte_before(line, at, b' ')
-        }
-        None => end,
-    }
-}
-
-/// Writes a number and a space before a place of the line, and answers where they begin.
-#[inline]
-fn field_before(line: &mut [u8], end: usize, n: u32) -> usize
-    requires room { 11 ≤ end }
-    requires within { end ≤ length line.old }
-    ensures written { drop result line.new ≡ decimal n ++ 32 ∷ drop end line.old }
-    ensures near { end ≤ result + 11 }
-    ensures before { result ≤ end }
-    ensures size { length line.new ≡ length line.old }
-{
-    let at = byte_before(line, end, b' ');
-    number_before(line, at, n)
 }
 
 /// The line of one vertex in a solution text.
@@ -129,7 +60,7 @@ pub fn write_solution(alloc: Global, game: &Game, solution: &Solution) -> Result
     ensures text { IfOk result (λ text. text.items ≡ written_solution game.now solution.now.rows) }
     ensures short { IfOk result (λ text. length text.items ≤ greatest_solution_text) }
 {
-    let mut out = Vec::new(alloc);
+    let mut out = Vec::with_capacity(alloc, HEADER + ROW * game.len() as usize)?;
     put_header(&mut out, b"paritysol ", game)?;
     let rows = solution.rows.as_slice();
     'rows: for v in 0..game.len() {
@@ -144,7 +75,7 @@ pub fn write_winners(alloc: Global, game: &Game, solution: &Solution) -> Result<
     ensures text { IfOk result (λ text. text.items ≡ written_winners game.now solution.now.rows) }
     ensures short { IfOk result (λ text. length text.items ≤ greatest_winners_text) }
 {
-    let mut out = Vec::new(alloc);
+    let mut out = Vec::with_capacity(alloc, HEADER + ROW * game.len() as usize)?;
     put_header(&mut out, b"paritysol ", game)?;
     let rows = solution.rows.as_slice();
     'rows: for v in 0..game.len() {
@@ -215,12 +146,21 @@ fn make_room(line: &mut Vec<u8>, successors: usize) -> Result<(), Memory>
     Ok(())
 }
 
+/// How many bytes the text of a game has at most. Room for so many is taken once, so that nothing written is moved.
+fn game_room(game: &Game) -> usize {
+    let mut room = HEADER;
+    'lines: for v in 0..game.len() {
+        room = room.saturating_add(40 + 11 * game.successors(v).len());
+    }
+    room
+}
+
 /// The one written spelling of a game: at most 13,172,755 bytes. Refused with `Memory` alone.
 pub fn write_game(alloc: Global, game: &Game) -> Result<Vec<u8>, Memory>
     ensures text { IfOk result (λ text. text.items ≡ written_game game.now) }
     ensures short { IfOk result (λ text. length text.items ≤ greatest_game_text) }
 {
-    let mut out = Vec::new(alloc);
+    let mut out = Vec::with_capacity(alloc, game_room(game))?;
     let mut line = Vec::new(alloc);
     put_header(&mut out, b"parity ", game)?;
     'vertices: for v in 0..game.len() {

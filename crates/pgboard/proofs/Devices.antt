@@ -1,9 +1,9 @@
 -- What reading and writing in pieces does to known bytes, and what a failure does to a count.
-use Rattle.std.proofs.Common.{◌≡◌, ◌≤◌, ◌<◌, ◌⊎◌, inl, inr, ℕ, ◌+◌, ◌-◌, min, List, [], ◌++◌, length, take, drop, Option, Some, None, IfSome, refl, sym, ap, ◌∙◌, subst, arith, append_assoc, append-nil, length-append, length-take, take-append-drop}
+use Rattle.std.proofs.Common.{◌≡◌, ◌≤◌, ◌<◌, inl, inr, ℕ, ◌+◌, ◌-◌, min, List, [], ◌++◌, length, take, drop, Option, Some, None, IfSome, sym, ap, ◌∙◌, subst, arith, append_assoc, append-nil, length-append, length-take, take-append-drop}
 use Rattle.std.proofs.lemmas.Bool.{cases_lt}
-use Rattle.std.proofs.lemmas.List.{take_rest}
+use Rattle.std.proofs.lemmas.List.{take_rest, take-take, drop-take}
 use Rattle.std.specs.Io.KnownBytes.{Consumes, Appends, IsAtEnd}
-use Rattle.pgboard.specs.Device.{HasFailed, AppendsFront, last_count}
+use Rattle.pgboard.specs.Device.{HasFailed, last_count}
 
 -- two reads, one after the other
 pub read_more : (a b c : Option (List ℕ)) (xs ys : List ℕ) → Consumes a b xs → Consumes b c ys → Consumes a c (xs ++ ys)
@@ -52,3 +52,11 @@ pub wrote_more : (a b c : Option (List ℕ)) (all front rest : List ℕ) (n : �
 wrote_more a b c all front rest n e p q =
     let later : rest ≡ take n rest ++ take (length rest - n) (drop n rest) = sym (ap (λ l. take n rest ++ l) (take_rest rest n) ∙ take-append-drop n rest) in
     (front ++ take n rest, e ∙ ap (λ l. front ++ l) later ∙ sym (append_assoc front (take n rest) _), both_written a b c front (take n rest) p q)
+
+-- what is filled grows by what was read behind it
+pub filled_more : (a b c : Option (List ℕ)) (xs ys : List ℕ) (f n : ℕ) → take f ys ≡ take f xs
+    → Consumes a b (take f xs) → Consumes b c (take n (drop f ys)) → Consumes a c (take (f + n) ys)
+filled_more a b c xs ys f n front before read =
+    let earlier : take f (take (f + n) ys) ≡ take f xs = take-take f (f + n) ys (omega arith) ∙ front in
+    let whole : take f xs ++ take n (drop f ys) ≡ take (f + n) ys = rw (← earlier, ← drop-take f n ys) (take-append-drop f (take (f + n) ys)) in
+    subst (Consumes a c) whole (read_more a b c _ _ before read)

@@ -18,6 +18,6 @@ HasFailed old new = (old < new) ⊎ (last_count ≤ old)
 abbrev pub AppendsFront : Option (List ℕ) → Option (List ℕ) → List ℕ → Type 0
 AppendsFront old new text = (front back : List ℕ) × (text ≡ front ++ back) × Appends old new front
 
--- a reader or a writer whose failures are not counted yet
+-- a reader or a writer whose failures are not counted yet, and of whose bytes none are expected
 abbrev pub fresh : {T : Type 0} → T → Std T
-fresh inner = record { inner = inner; failures = 0 }
+fresh inner = record { inner = inner; failures = 0; expected = 0 }

@@ -18,6 +18,11 @@ pub trait Source {
     /// How often it failed. The count stays at its last value.
     ghost read_failures: { Self → ℕ };
 
+    /// How many bytes are left to the best of its knowledge. More may come, or fewer.
+    fn expected(&self) -> u64 {
+        0
+    }
+
     fn read(&mut self, buffer: &mut [u8]) -> Result<usize, Failed>
         ensures bound { ReadsAtMost result buffer.new }
         ensures bytes { ReadConsumes (left self.old) (left self.new) result buffer.new }
@@ -45,14 +50,30 @@ pub trait Sink {
 pub struct Std<T> {
     inner: T,
     failures: u64,
+    expected: u64,
 }
 
 impl<T> Std<T> {
-    /// No failure is counted yet.
+    /// No failure is counted yet, and nothing is known of how many bytes there are.
     pub fn new(inner: T) -> Std<T>
         ensures { result ≡ fresh inner }
     {
-        Std { inner, failures: 0 }
+        Std {
+            inner,
+            failures: 0,
+            expected: 0,
+        }
+    }
+
+    /// The same, of which so many bytes are expected.
+    pub fn expecting(self, bytes: u64) -> Std<T>
+        ensures inner { result.inner ≡ self.inner }
+        ensures failures { result.failures ≡ self.failures }
+    {
+        Std {
+            expected: bytes,
+            ..self
+        }
     }
 }
 
@@ -60,6 +81,10 @@ impl<R: Read> Source for Std<R> {
     ghost left = { λ s. R.remaining s.inner };
 
     ghost read_failures = { λ s. s.failures };
+
+    fn expected(&self) -> u64 {
+        self.expected
+    }
 
     fn read(&mut self, buffer: &mut [u8]) -> Result<usize, Failed> {
         match self.inner.read(buffer) {

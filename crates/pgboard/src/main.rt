@@ -75,7 +75,10 @@ fn open(rt: &HostRuntime, path: &str) -> Result<Std<File>, RunFault>
     ensures { IfErr result (λ fault. fault ≡ RunFault.Read) }
 {
     match File::open(rt, path) {
-        Ok(file) => Ok(Std::new(file)),
+        Ok(file) => {
+            let size = file.metadata().map_or(0, |it| it.len());
+            Ok(Std::new(file).expecting(size))
+        }
         Err(_) => Err(RunFault::Read),
     }
 }

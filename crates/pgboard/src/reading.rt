@@ -1,32 +1,53 @@
-//! Reading a whole text from a source.
-ghost use Rattle.std.specs.Prelude.{◌≡◌, ◌≤◌, ◌<◌, ◌⊎◌, length, IfOk, IfErr, IfSome, IsErrOf};
-ghost use Rattle.pgboard.specs.Device.{HasFailed};
+//! Reading a whole text from a source, into one buffer.
+ghost use Rattle.std.specs.Prelude.{◌≡◌, ◌≤◌, ◌<◌, ◌+◌, ◌⊎◌, length, take, drop, IfOk, IfErr, OnErr, OnOk, IfSome, IsErrOf, [], vec_len};
+ghost use Rattle.std.specs.Io.KnownBytes.{Consumes, IsAtEnd};
+ghost use Rattle.pgboard.specs.Device.{HasFailed, CountsFailure};
 ghost use Rattle.pgboard.specs.Joined.{max_text};
 
-use crate::device::Source;
+use crate::device::{Failed, Source};
 use crate::fault::RunFault;
 use std::alloc::{AllocError, Global};
 
 /// The greatest number of bytes in a text.
 const MAX_TEXT: usize = 268_435_456;
 
-/// How many bytes are asked for at a time.
+/// How many bytes are asked for at a time, at most.
 const PIECE: usize = 65_536;
 
-/// Zeros.
-fn zeros(alloc: Global, size: usize) -> Result<Vec<u8>, AllocError>
-    ensures { IfOk result (λ bytes. length bytes.items ≡ size) }
+/// Zeros behind the bytes that were read, for the next ones: as many as the room holds, up to a piece. A text that fills its
+/// room gets more.
+fn make_room(text: &mut Vec<u8>, filled: usize) -> Result<(), AllocError>
+    requires limit { filled ≤ max_text }
+    requires within { filled ≤ vec_len text.old }
+    ensures front { OnOk result (take filled text.new.items ≡ take filled text.old.items) }
+    ensures room { OnOk result (filled < vec_len text.new) }
 {
-    vec![in alloc; 0u8; size]
+    if filled == text.capacity() {
+        text.reserve(PIECE)?;
+    }
+    let end = text.capacity().min(filled + PIECE);
+    if text.len() < end {
+        text.resize(end, 0)?;
+    }
+    Ok(())
 }
 
-/// All bytes that a source has left, which come by way of the piece.
-fn read_in_pieces<S: Source>(
-    alloc: Global,
-    source: &mut S,
-    piece: &mut [u8],
-) -> Result<Vec<u8>, RunFault>
-    requires { 0 < length piece.old }
+/// One read, to the places behind those that are filled.
+fn read_behind<S: Source>(source: &mut S, text: &mut [u8], filled: usize) -> Result<usize, Failed>
+    requires { filled < length text.old }
+    ensures front { take filled text.new ≡ take filled text.old }
+    ensures size { length text.new ≡ length text.old }
+    ensures within { IfOk result (λ n. filled + n ≤ length text.new) }
+    ensures bytes { IfOk result (λ n. Consumes (S.left source.old) (S.left source.new) (take n (drop filled text.new))) }
+    ensures end { IfOk result (λ n. n ≡ 0 → IsAtEnd (S.left source.new)) }
+    ensures failures { CountsFailure (S.read_failures source.old) (S.read_failures source.new) result }
+{
+    source.read(&mut text[filled..])
+}
+
+/// All bytes that a source has left, read into a buffer that is empty and may have room.
+fn read_into<S: Source>(source: &mut S, buffer: Vec<u8>) -> Result<Vec<u8>, RunFault>
+    requires { buffer.items ≡ [] }
     ensures text { IfOk result (λ text. IfSome (S.left source.old) (λ bytes. text.items ≡ bytes)) }
     ensures limit { IfOk result (λ text. length text.items ≤ max_text) }
     ensures no_failure { (IsErrOf result RunFault.Read → ⊥) → S.read_failures source.new ≡ S.read_failures source.old }
@@ -34,18 +55,21 @@ fn read_in_pieces<S: Source>(
     ensures failed { IsErrOf result RunFault.Read → HasFailed (S.read_failures source.old) (S.read_failures source.new) }
     ensures only { IfErr result (λ e. ((e ≡ RunFault.Read) ⊎ (e ≡ RunFault.TooLong)) ⊎ (e ≡ RunFault.Memory)) }
 {
-    let mut text = Vec::new(alloc);
-    'pieces: loop {
-        let Ok(n) = source.read(piece) else {
+    let mut text = buffer;
+    let mut filled = 0;
+    'reads: loop {
+        make_room(&mut text, filled)?;
+        let Ok(n) = read_behind(source, text.as_mut_slice(), filled) else {
             return Err(RunFault::Read);
         };
         if n == 0 {
+            text.truncate(filled);
             return Ok(text);
         }
-        if n > MAX_TEXT - text.len() {
+        if n > MAX_TEXT - filled {
             return Err(RunFault::TooLong);
         }
-        text.extend_from_slice(&piece[..n])?;
+        filled += n;
     }
 }
 
@@ -60,6 +84,12 @@ pub fn read_text<S: Source>(alloc: Global, source: &mut S) -> Result<Vec<u8>, Ru
     ensures failed { IsErrOf result RunFault.Read → HasFailed (S.read_failures source.old) (S.read_failures source.new) }
     ensures only { IfErr result (λ e. ((e ≡ RunFault.Read) ⊎ (e ≡ RunFault.TooLong)) ⊎ (e ≡ RunFault.Memory)) }
 {
-    let mut piece = zeros(alloc, PIECE)?;
-    read_in_pieces(alloc, source, piece.as_mut_slice())
+    let mut buffer = Vec::new(alloc);
+    let expected = source.expected().min(MAX_TEXT as u64) as usize;
+    // one byte more, for the read that gives nothing. Where that much is refused, the reads ask for what they need
+    let _ = buffer.reserve_exact(expected + 1);
+    read_into(source, buffer)
 }
+
+#[cfg(test)]
+mod tests;

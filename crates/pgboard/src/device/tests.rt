@@ -46,6 +46,7 @@ fn the_count_stays_at_its_last_value(rt: HostRuntime) {
     let mut source = Std {
         inner: Good(0),
         failures: u64::MAX,
+        expected: 0,
     };
     assert_eq!(rt; source.read(&mut [0u8; 4]), Err(Failed));
     assert_eq!(rt; source.failures, u64::MAX);
@@ -60,4 +61,11 @@ fn a_write_that_takes_nothing_fails(rt: HostRuntime) {
     assert_eq!(rt; sink.write(b"1"), Err(Failed));
     assert_eq!(rt; sink.write(b"four"), Err(Failed));
     assert_eq!(rt; sink.failures, 2);
+}
+
+#[test]
+fn what_is_expected_is_told(rt: HostRuntime) {
+    let source = Std::new(Good(1));
+    assert_eq!(rt; source.expected(), 0);
+    assert_eq!(rt; source.expecting(7).expected(), 7);
 }

@@ -1,6 +1,6 @@
 use Rattle.std.proofs.Common.{rules}
 use Rattle.std.proofs.lemmas.Fmt.{length-decimal-le}
-use Rattle.pg_text.proofs.writing.number_before.Goals as goal
+use Rattle.pg_text.proofs.line.number_before.Goals as goal
 
 pub write_digits-requires : goal.write_digits-requires
 write_digits-requires c = search (rules, length-decimal-le 10)

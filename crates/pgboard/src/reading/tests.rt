@@ -1,0 +1,81 @@
+//! A text is read whole, whatever its source expected.
+ghost use Rattle.std.specs.Prelude.{None};
+
+use super::read_text;
+use crate::device::{Failed, Source};
+use crate::fault::RunFault;
+use std::test::Fail;
+
+/// Gives its bytes, as many as are asked for, and expects so many.
+#[derive(Drop)]
+struct Expecting<'a> {
+    rest: &'a [u8],
+    expected: u64,
+    reads: u64,
+}
+
+impl<'a> Source for Expecting<'a> {
+    ghost left = { λ _. None };
+
+    ghost read_failures = { λ _. 0 };
+
+    fn expected(&self) -> u64 {
+        self.expected
+    }
+
+    fn read(&mut self, buffer: &mut [u8]) -> Result<usize, Failed> {
+        self.reads = self.reads.saturating_add(1);
+        let n = buffer.len().min(self.rest.len());
+        buffer[..n].copy_from_slice(&self.rest[..n]);
+        self.rest = &self.rest[n..];
+        Ok(n)
+    }
+}
+
+/// Reads that many bytes from a source that expects so many: how many came, the buffer's room and the reads.
+fn read_from(
+    rt: &HostRuntime,
+    size: usize,
+    expected: u64,
+) -> Result<(usize, usize, u64), RunFault> {
+    let bytes = vec![in rt.alloc(); b'a'; size]?;
+    let mut source = Expecting {
+        rest: bytes.as_slice(),
+        expected,
+        reads: 0,
+    };
+    let text = read_text(rt.alloc(), &mut source)?;
+    if text.as_slice() != bytes.as_slice() {
+        return Err(RunFault::Read);
+    }
+    Ok((text.len(), text.capacity(), source.reads))
+}
+
+#[test]
+fn the_room_is_what_was_expected_and_a_byte(rt: HostRuntime) -> Result<(), Fail> {
+    assert_eq!(rt; read_from(&rt, 0, 0)?, (0, 1, 1));
+    assert_eq!(rt; read_from(&rt, 5, 5)?, (5, 6, 2));
+    assert_eq!(rt; read_from(&rt, 5, 9)?, (5, 10, 2));
+    assert_eq!(rt; read_from(&rt, 65_535, 65_535)?, (65_535, 65_536, 2));
+    assert_eq!(rt; read_from(&rt, 65_536, 65_536)?, (65_536, 65_537, 2));
+    assert_eq!(rt; read_from(&rt, 200_000, 200_000)?, (200_000, 200_001, 5));
+    Ok(())
+}
+
+#[test]
+fn what_comes_beyond_what_was_expected_is_read(rt: HostRuntime) -> Result<(), Fail> {
+    for size in [1, 2, 65_536, 65_537, 65_538, 300_000] {
+        for expected in [0, 1, 65_536] {
+            let (n, room, _) = read_from(&rt, size, expected)?;
+            assert_eq!(rt; n, size);
+            assert!(rt; size < room);
+        }
+    }
+    Ok(())
+}
+
+#[test]
+fn no_more_is_expected_than_a_text_may_have(rt: HostRuntime) -> Result<(), Fail> {
+    assert_eq!(rt; read_from(&rt, 3, u64::MAX)?, (3, 268_435_457, 2));
+    Ok(())
+}
