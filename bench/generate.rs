@@ -1,13 +1,18 @@
 //! Writes the inputs of the benchmarks, the same bytes in each run: `generate FOLDER NAME..`.
 //!
 //! For each name a game `NAME.pg`, and where `verify` is measured on a wrong solution `NAME.wrong`. Right solutions are
-//! not made here. All games keep pgboard's limits, so the hostile ones have as many levels as 4,096 priorities allow.
+//! not made here. All games keep pgboard's limits. A name that ends in a number of vertices, as `chain_1048576`, is a game
+//! of a kind that is measured at two sizes.
 
 use std::fs::File;
 use std::io::{BufWriter, Result, Write};
 
-const MOST_VERTICES: u32 = 65_536;
-const MOST_PRIORITIES: u32 = 4_096;
+/// How many vertices most games have.
+const VERTICES: u32 = 65_536;
+/// How many levels the hostile games of that size have.
+const LEVELS: u32 = 4_096;
+/// How many vertices a game may have.
+const MOST_VERTICES: u32 = 1_048_576;
 
 /// Numbers from a fixed seed (splitmix64).
 struct Random(u64);
@@ -58,19 +63,19 @@ fn dense(n: u32) -> Game {
         .collect()
 }
 
-/// A path to an own loop, with rising priorities.
-fn chain(n: u32) -> Game {
-    (0..n).map(|v| Vertex(v / (n / MOST_PRIORITIES), v % 2 == 1, vec![(v + 1).min(n - 1)])).collect()
+/// A path to an own loop, with so many priorities that rise.
+fn chain(n: u32, levels: u32) -> Game {
+    (0..n).map(|v| Vertex(v / (n / levels), v % 2 == 1, vec![(v + 1).min(n - 1)])).collect()
 }
 
 /// A path on which each vertex may also stay where it is.
 fn chain_of_own_loops(n: u32) -> Game {
-    (0..n).map(|v| Vertex(v / (n / MOST_PRIORITIES), v % 3 == 1, vec![v, (v + 1).min(n - 1)])).collect()
+    (0..n).map(|v| Vertex(v / (n / LEVELS), v % 3 == 1, vec![v, (v + 1).min(n - 1)])).collect()
 }
 
 /// One cycle through all vertices.
 fn cycle(n: u32) -> Game {
-    (0..n).map(|v| Vertex(v.wrapping_mul(7919) % MOST_PRIORITIES, v % 2 == 1, vec![(v + 1) % n])).collect()
+    (0..n).map(|v| Vertex(v.wrapping_mul(7919) % LEVELS, v % 2 == 1, vec![(v + 1) % n])).collect()
 }
 
 /// All edges lead down, and at the end is an own loop: every vertex but that is bad for Even, who wins all.
@@ -85,8 +90,7 @@ fn downward(n: u32, degree: u32) -> Game {
 
 /// A ring with a bad vertex and a good one hung on it for each level: from the ring to the bad one, from there to the
 /// good one of next greater priority, and back to the ring. Even wins all, and each level hides the next one.
-fn ladder(n: u32) -> Game {
-    let levels = MOST_PRIORITIES / 2 - 1;
+fn ladder(n: u32, levels: u32) -> Game {
     let ring = n - 2 * levels;
     let mut game: Game = (0..ring).map(|v| Vertex(0, true, vec![(v + 1) % ring])).collect();
     for level in 0..levels {
@@ -102,6 +106,65 @@ fn ladder(n: u32) -> Game {
 /// Own loops alone, each with a priority of its own.
 fn own_loops(n: u32) -> Game {
     (0..n).map(|v| Vertex(2 * v, false, vec![v])).collect()
+}
+
+/// Each vertex leads to lower ones alone and has an even priority of its own: as many nested subgames as vertices.
+fn nested(n: u32) -> Game {
+    (0..n)
+        .map(|v| match v {
+            0 | 1 => Vertex(2 * v, v == 1, vec![0]),
+            2 => Vertex(4, false, vec![1]),
+            _ => Vertex(2 * v, v % 2 == 1, vec![v / 2, v - 1]),
+        })
+        .collect()
+}
+
+/// Whether a formula of the modal mu-calculus holds in the states of a transition system, as a game of pairs (Emerson,
+/// Jutla and Sistla 1993): greatest X, least Y: (p and (q or some next is in X)) or all next are in Y. Most states have one
+/// next, some lead back to an earlier one too, and the last leads to itself.
+fn modal(n: u32) -> Game {
+    let random = &mut Random(13);
+    let states = n / 8;
+    let mut game = Game::new();
+    for s in 0..states {
+        let mut next = vec![(s + 1).min(states - 1)];
+        if s % 64 == 63 {
+            next.insert(0, s - random.below(s.min(4_096)));
+        }
+        let at = |place: u32| 8 * s + place;
+        let to = |place: u32| next.iter().map(|t| 8 * t + place).collect::<Vec<u32>>();
+        let mut or_some = to(0);
+        or_some.push(at(6));
+        or_some.sort_unstable();
+        let (p, q) = (random.below(8) == 0, random.below(64) == 0);
+        game.push(Vertex(2, false, vec![at(1)]));
+        game.push(Vertex(1, false, vec![at(2)]));
+        game.push(Vertex(0, false, vec![at(3), at(7)]));
+        game.push(Vertex(0, true, vec![at(4), at(5)]));
+        game.push(Vertex(u32::from(!p), false, vec![at(4)]));
+        game.push(Vertex(0, false, or_some));
+        game.push(Vertex(u32::from(!q), false, vec![at(6)]));
+        game.push(Vertex(0, true, to(1)));
+    }
+    game
+}
+
+/// A game of a kind that is measured at two sizes.
+fn sized(kind: &str, n: u32) -> Option<Game> {
+    Some(match kind {
+        "random_2_6" => sparse(n, 2, 6, 14),
+        "random_3_all" => sparse(n, 3, n, 15),
+        "random_4_6" => sparse(n, 4, 6, 16),
+        "random_4_all" => sparse(n, 4, n, 17),
+        "random_16_6" => sparse(n, 16, 6, 18),
+        "random_16_all" => sparse(n, 16, n, 19),
+        "modal" => modal(n),
+        "chain" => chain(n, n),
+        "ladder" => ladder(n, n / 4),
+        "own_loops" => own_loops(n),
+        "nested" => nested(n),
+        _ => return None,
+    })
 }
 
 /// A sparse game in which every second group of four vertices is a short loop that its player can keep to.
@@ -159,7 +222,7 @@ fn spelled(
     row: impl Fn(&[u32]) -> Vec<u32>,
     name: &str,
 ) -> Result<()> {
-    let game = sparse(MOST_VERTICES, 4, 6, 1);
+    let game = sparse(VERTICES, 4, 6, 1);
     for v in lines {
         let Vertex(priority, odd, successors) = &game[v as usize];
         let row: Vec<String> = row(successors).iter().map(|w| id(*w).to_string()).collect();
@@ -170,7 +233,7 @@ fn spelled(
 
 /// All vertices, each once, in no order: an odd factor gives each.
 fn shuffled() -> impl Iterator<Item = u32> {
-    (0..MOST_VERTICES).map(|at| at.wrapping_mul(40_503) % MOST_VERTICES)
+    (0..VERTICES).map(|at| at.wrapping_mul(40_503) % VERTICES)
 }
 
 /// The successors from the last to the first, and the last once more.
@@ -181,8 +244,8 @@ fn unsorted(row: &[u32]) -> Vec<u32> {
 /// Wide identifiers in no order, a long name each, and many blanks.
 fn wide(out: &mut impl Write) -> Result<()> {
     let random = &mut Random(9);
-    let ids = random.different(MOST_VERTICES, 1 << 31);
-    let game = sparse(MOST_VERTICES, 2, 6, 10);
+    let ids = random.different(VERTICES, 1 << 31);
+    let game = sparse(VERTICES, 2, 6, 10);
     let blanks = " ".repeat(64) + "\t\r\n";
     let name = "a name with some length; 0 1 2, ".repeat(8);
     for v in shuffled() {
@@ -212,7 +275,13 @@ fn around(out: &mut impl Write, before: &str, piece: &[u8], count: usize, after:
 }
 
 fn game_of(name: &str) -> Option<Game> {
-    let n = MOST_VERTICES;
+    let n = VERTICES;
+    if let Some((kind, size)) = name.rsplit_once('_') {
+        let size = size.parse().ok().filter(|size| [VERTICES, MOST_VERTICES].contains(size));
+        if let Some(game) = size.and_then(|size| sized(kind, size)) {
+            return Some(game);
+        }
+    }
     Some(match name {
         "sparse_6" => sparse(n, 4, 6, 1),
         "sparse_4096" => sparse(n, 4, 4096, 2),
@@ -224,15 +293,15 @@ fn game_of(name: &str) -> Option<Game> {
         "growth_32768" => sparse(32_768, 16, 100, 4),
         "growth_65536" => sparse(65_536, 16, 100, 4),
         "dense" => dense(1_024),
-        "chain" => chain(n),
+        "chain" => chain(n, LEVELS),
         "chain_of_own_loops" => chain_of_own_loops(n),
         "cycle" => cycle(n),
         "downward" => downward(n, 16),
         "growth_downward_8192" => downward(8_192, 16),
-        "ladder" => ladder(n),
-        "growth_ladder_8192" => ladder(8_192),
-        "own_loops" => own_loops(MOST_PRIORITIES),
-        "own_loops_too_many" => own_loops(5_000),
+        "ladder" => ladder(n, LEVELS / 2 - 1),
+        "growth_ladder_8192" => ladder(8_192, LEVELS / 2 - 1),
+        "own_loops" => own_loops(LEVELS),
+        "one_own_loop_too_many" => own_loops(MOST_VERTICES + 1),
         "small_dominions" => small_dominions(n),
         _ => return None,
     })
@@ -240,14 +309,14 @@ fn game_of(name: &str) -> Option<Game> {
 
 fn text_of(name: &str, out: &mut impl Write) -> Result<()> {
     match name {
-        "gaps" => spelled(out, 0..MOST_VERTICES, |v| 3 * v + 1, <[u32]>::to_vec, ""),
+        "gaps" => spelled(out, 0..VERTICES, |v| 3 * v + 1, <[u32]>::to_vec, ""),
         "shuffled" => spelled(out, shuffled(), |v| v, <[u32]>::to_vec, ""),
         "gaps_shuffled" => spelled(out, shuffled(), |v| 3 * v + 1, <[u32]>::to_vec, ""),
-        "unsorted" => spelled(out, 0..MOST_VERTICES, |v| v, unsorted, ""),
-        "names" => spelled(out, 0..MOST_VERTICES, |v| v, <[u32]>::to_vec, " \"a vertex\""),
+        "unsorted" => spelled(out, 0..VERTICES, |v| v, unsorted, ""),
+        "names" => spelled(out, 0..VERTICES, |v| v, <[u32]>::to_vec, " \"a vertex\""),
         "wide_identifiers" => {
-            let ids = Random(9).different(MOST_VERTICES, 1 << 31);
-            spelled(out, 0..MOST_VERTICES, |v| ids[v as usize], <[u32]>::to_vec, "")
+            let ids = Random(9).different(VERTICES, 1 << 31);
+            spelled(out, 0..VERTICES, |v| ids[v as usize], <[u32]>::to_vec, "")
         }
         "wide" => wide(out),
         "one_name" => around(out, "0 0 0 0 \"", b"a name ", 200_000_000 / 7, "\";\n"),

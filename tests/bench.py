@@ -11,7 +11,7 @@ import subprocess
 import sys
 
 ROOT = os.path.dirname(os.path.dirname(os.path.abspath(__file__)))
-INPUTS = ["own_loops", "own_loops_too_many"]
+INPUTS = ["own_loops", "one_own_loop_too_many"]
 COMMANDS = ["tidy", "tidy-pipe", "verify", "verify-any", "wrong", "solve", "winners"]
 
 

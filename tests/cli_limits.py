@@ -3,15 +3,24 @@
 
     tests/cli_limits.py BINARY
 
-The texts are too long for files of a case, so they are made here. The last line is 'N passed, M failed'.
+The texts are too long for files of a case, so they are made here. The greatest game has as many vertices, edges and
+priorities as may be and every number of ten digits, so that its text and its solution are as long as any that is written.
+A line for each case that ran a second or more says how long. The last line is 'N passed, M failed'.
 """
 
 import os
 import subprocess
 import sys
+import time
 
-SECONDS = 120
-VERTICES, EDGES, PRIORITIES = 65_536, 1_048_576, 4_096
+SECONDS = 300
+VERTICES, EDGES = 1_048_576, 16_777_216
+# each vertex with so many successors is as many edges as may be
+WIDTH = 4_096
+DEGREE = EDGES // VERTICES
+# the first identifier and the first priority of the greatest game
+FIRST, LEAST = 1_100_000_000, 1_000_000_000
+LONGEST_GAME, LONGEST_SOLUTION = 210_763_795, 26_214_422
 
 
 def game(rows):
@@ -19,58 +28,108 @@ def game(rows):
     return b"".join(b"%d %d %d %s;\n" % (i, p, o, b",".join(b"%d" % w for w in succ)) for i, p, o, succ in rows)
 
 
-def own_loops(count, priorities=1):
-    return game((v, v % priorities, 0, [v]) for v in range(count))
+def own_loops(count, priority=lambda v: 0):
+    return b"".join(b"%d %d 0 %d;\n" % (v, priority(v), v) for v in range(count))
+
+
+def row_of(numbers):
+    return b",".join(b"%d" % w for w in numbers)
 
 
 def rows_of_all(count, width):
     """Each of the vertices with the first so many as successors."""
-    row = list(range(width))
-    return game((v, 0, 0, row) for v in range(count))
+    return rows_of(count, range(width))
+
+
+def rows_of(count, numbers):
+    """Each of the vertices with the same successors."""
+    row = row_of(numbers)
+    return b"".join(b"%d 0 0 %s;\n" % (v, row) for v in range(count))
 
 
 def written(text, greatest):
     return b"parity %d;\n" % greatest + text
 
 
-def all_to_even(count):
-    return b"paritysol %d;\n" % (count - 1) + b"".join(b"%d 0;\n" % v for v in range(count))
+def all_to_even(count, own=False):
+    """A solution in which Even wins everywhere, by own loops if he has a choice."""
+    return b"paritysol %d;\n" % (count - 1) + b"".join(b"%d 0 %d;\n" % (v, v) if own else b"%d 0;\n" % v for v in range(count))
 
 
-# texts that are wrong in more than one way, to show the order of the refusals
-MANY = VERTICES + 1
-TWICE = game((0, v, 0, [v + 1]) for v in range(5_000))
-TOO_WIDE = game((v, v, 0, range(70_000, 71_500)) for v in range(5_000))
-TOO_MANY_PRIORITIES = game((v, v, 0, [9_999]) for v in range(PRIORITIES + 1))
+def greatest_game():
+    """Even owns each vertex, which leads to itself and to those after it, in a ring: he wins by the even priorities."""
+    ids = [b"%d" % (FIRST + v) for v in range(VERTICES)]
+    round_ids = ids + ids[: DEGREE - 1]
+    lines = []
+    for v in range(VERTICES):
+        row = round_ids[v : v + DEGREE]
+        if v + DEGREE > VERTICES:
+            row.sort()
+        lines.append(b"%d %d 0 %s;\n" % (FIRST + v, LEAST + v, b",".join(row)))
+    text = written(b"".join(lines), FIRST + VERTICES - 1)
+    assert len(text) == LONGEST_GAME
+    return text
 
+
+def greatest_solution():
+    """Each vertex of even priority stays, and each other leads to the next, or the last to the first."""
+    nexts = [v if v % 2 == 0 else (v + 1) % VERTICES for v in range(VERTICES)]
+    text = b"paritysol %d;\n" % (FIRST + VERTICES - 1) + b"".join(b"%d 0 %d;\n" % (FIRST + v, FIRST + w) for v, w in enumerate(nexts))
+    assert len(text) == LONGEST_SOLUTION
+    return text
+
+
+def greatest_with_its_solution():
+    return greatest_game() + b"%" + greatest_solution()
+
+
+def prints(make):
+    """What judges an output that has to be exactly that."""
+    return lambda binary, out: None if out == make() else "standard output is not what it should be"
+
+
+def is_the_longest_solution(binary, out):
+    """What judges the program's own solution of the greatest game: it is as long as any, and holds."""
+    if len(out) != LONGEST_SOLUTION:
+        return f"the solution has {len(out)} bytes, and not {LONGEST_SOLUTION}"
+    return fault(binary, [], lambda: greatest_game() + b"%" + out, prints(lambda: b"ok\n"))
+
+
+TOO_MANY_VERTICES, TOO_MANY_EDGES = "game: too many vertices", "game: too many edges"
+
+# the words, what makes the text, and what is to come: the line of a refusal, or what judges the output
 CASES = {
-    "as_many_vertices_as_may_be": (["tidy"], own_loops(VERTICES), written(own_loops(VERTICES), VERTICES - 1)),
-    "one_vertex_too_many": (["tidy"], own_loops(MANY), "game: too many vertices"),
-    "too_many_vertices_come_before_a_vertex_specified_twice": (["tidy"], b"0 0 0 1;" * MANY, "game: too many vertices"),
-    "as_many_edges_as_may_be": (["tidy"], rows_of_all(1_024, 1_024), written(rows_of_all(1_024, 1_024), 1_023)),
-    "one_row_of_edges_too_many": (["tidy"], rows_of_all(1_025, 1_024), "game: too many edges"),
-    "one_edge_too_many": (["tidy"], rows_of_all(1_024, 1_024) + b"1024 0 0 0;\n", "game: too many edges"),
-    "repeated_successors_are_one_edge": (["tidy"], b"0 0 0 0" + b",0" * 2_000_000 + b";", written(b"0 0 0 0;\n", 0)),
-    "edges_to_unspecified_vertices_count": (["tidy"], TOO_WIDE, "game: too many edges"),
-    "a_vertex_specified_twice_comes_before_edges": (["tidy"], TWICE, "game: vertex 0: specified twice"),
-    "as_many_priorities_as_may_be": (["tidy"], own_loops(PRIORITIES, PRIORITIES), written(own_loops(PRIORITIES, PRIORITIES), PRIORITIES - 1)),
-    "one_priority_too_many": (["tidy"], own_loops(PRIORITIES + 1, PRIORITIES + 1), "game: too many priorities"),
-    "too_many_priorities_come_before_an_unknown_successor": (["tidy"], TOO_MANY_PRIORITIES, "game: too many priorities"),
-    "a_solution_of_as_many_vertices_as_may_be": ([], own_loops(VERTICES) + b"%" + b"".join(b"%d 0 %d;\n" % (v, v) for v in range(VERTICES)), b"ok\n"),
-    "solve_as_many_vertices_as_may_be": (["solve", "--winners"], own_loops(VERTICES), all_to_even(VERTICES)),
-    "solve_as_many_edges_as_may_be": (["solve", "--winners"], rows_of_all(1_024, 1_024), all_to_even(1_024)),
+    "as_many_vertices_as_may_be": (["tidy"], lambda: own_loops(VERTICES), prints(lambda: written(own_loops(VERTICES), VERTICES - 1))),
+    "one_vertex_too_many": (["tidy"], lambda: own_loops(VERTICES + 1), TOO_MANY_VERTICES),
+    "too_many_vertices_come_before_a_vertex_specified_twice": (["tidy"], lambda: b"0 0 0 1;" * (VERTICES + 1), TOO_MANY_VERTICES),
+    "as_many_edges_as_may_be": (["tidy"], lambda: rows_of_all(WIDTH, WIDTH), prints(lambda: written(rows_of_all(WIDTH, WIDTH), WIDTH - 1))),
+    "one_row_of_edges_too_many": (["tidy"], lambda: rows_of_all(WIDTH + 1, WIDTH), TOO_MANY_EDGES),
+    "one_edge_too_many": (["tidy"], lambda: rows_of_all(WIDTH, WIDTH) + b"%d 0 0 0;\n" % WIDTH, TOO_MANY_EDGES),
+    "repeated_successors_are_one_edge": (["tidy"], lambda: b"0 0 0 0" + b",0" * (EDGES + 1) + b";", prints(lambda: written(b"0 0 0 0;\n", 0))),
+    "edges_to_unspecified_vertices_count": (["tidy"], lambda: rows_of(5_000, range(70_000, 73_500)), TOO_MANY_EDGES),
+    "a_vertex_specified_twice_comes_before_edges": (["tidy"], lambda: (b"0 0 0 %s;\n" % row_of(range(WIDTH))) * (WIDTH + 1), "game: vertex 0: specified twice"),
+    "each_vertex_may_have_a_priority_of_its_own": (["tidy"], lambda: own_loops(VERTICES, lambda v: v), prints(lambda: written(own_loops(VERTICES, lambda v: v), VERTICES - 1))),
+    "a_solution_of_as_many_vertices_as_may_be": ([], lambda: own_loops(VERTICES) + b"%" + all_to_even(VERTICES, own=True), prints(lambda: b"ok\n")),
+    "solve_as_many_vertices_as_may_be": (["solve", "--winners"], lambda: own_loops(VERTICES), prints(lambda: all_to_even(VERTICES))),
+    "solve_as_many_edges_as_may_be": (["solve", "--winners"], lambda: rows_of_all(WIDTH, WIDTH), prints(lambda: all_to_even(WIDTH))),
+    "solve_own_loops_of_even_priorities": (["solve", "--workers", "1", "--bound", "0"], lambda: own_loops(5_000, lambda v: 2 * v), prints(lambda: all_to_even(5_000, own=True))),
+    "tidy_the_greatest_game": (["tidy"], greatest_game, prints(greatest_game)),
+    "verify_the_greatest_solution": ([], greatest_with_its_solution, prints(lambda: b"ok\n")),
+    "solve_the_greatest_game": (["solve"], greatest_game, is_the_longest_solution),
 }
 
 
-def fault(binary, words, given, wanted):
-    status, out, err = (3, b"", f"pgboard: {wanted}\n".encode()) if isinstance(wanted, str) else (0, wanted, b"")
+def fault(binary, words, make, wanted):
+    """What is wrong with a run on the text that is made, or None."""
+    status, err = (3, f"pgboard: {wanted}\n".encode()) if isinstance(wanted, str) else (0, b"")
     try:
-        ran = subprocess.run([binary, *words], input=given, capture_output=True, timeout=SECONDS)
+        ran = subprocess.run([binary, *words], input=make(), capture_output=True, timeout=SECONDS)
     except subprocess.TimeoutExpired:
         return f"it had not ended after {SECONDS} seconds"
     if (ran.returncode, ran.stderr) != (status, err):
         return f"status {ran.returncode} and {ran.stderr[:200]}, and not {status} and {err}"
-    return None if ran.stdout == out else "standard output is not what it should be"
+    judge = prints(bytes) if isinstance(wanted, str) else wanted
+    return judge(binary, ran.stdout)
 
 
 def main():
@@ -78,7 +137,11 @@ def main():
         sys.exit("tests/cli_limits.py BINARY")
     failed = 0
     for case, run in CASES.items():
+        begun = time.monotonic()
         why = fault(os.path.abspath(sys.argv[1]), *run)
+        took = time.monotonic() - begun
+        if took >= 1:
+            print(f"cli_limits/{case}: {took:.0f} s, with its texts", flush=True)
         if why:
             failed += 1
             print(f"FAILED cli_limits/{case}: {why}")

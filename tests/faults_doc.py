@@ -22,7 +22,7 @@ PAGE = "docs/FAULTS.md"
 PLACES = ["no token", "not expected", "number too large"]
 LINES = [
     *(f"game: byte AT: {it}" for it in (*PLACES, "owner is not 0 or 1")),
-    *(f"game: {it}" for it in ("no vertex", "too many vertices", "too many edges", "too many priorities")),
+    *(f"game: {it}" for it in ("no vertex", "too many vertices", "too many edges")),
     *(f"game: vertex V: {it}" for it in ("specified twice", "no successor", "successor W is not specified")),
     *(f"solution: byte AT: {it}" for it in (*PLACES, "winner is not 0 or 1")),
     *(f"solution: vertex V: {it}" for it in ("not in the game", "written twice", "not written")),

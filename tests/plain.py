@@ -334,7 +334,10 @@ def entry_fault(game, state, player, claim, more):
 
 def report_fault(game, workers, entries, rows):
     """What is wrong with the report of a run with this journal, or None."""
-    jobs = 3 + 2 * ((len(game) + 63) // 64)
+    batch = 64
+    while -(-len(game) // batch) > 2_046:
+        batch *= 2
+    jobs = 3 + 2 * -(-len(game) // batch)
     if rows.take("report N") != [jobs]:
         return rows.fault or "another number of jobs is told"
     sums, by_worker = [0, 0, 0, 0], {}

@@ -13,7 +13,7 @@ use Rattle.pg_game.specs.declared.game.Spec.{Spec}
 use Rattle.pg_game.specs.Graph.{Graph, Vertex, IsGame, no_vertex, vertex_at, id_of, successors_of}
 use Rattle.pg_game.specs.Specification.{IsGameOf, IsVertexOf, number_of, is_empty, first_repeated, first_without, first_unspecified, first_unknown, IsSpecified, edges, different, first_fault}
 use Rattle.pg_game.specs.Limits.{IsWithinLimits}
-use Rattle.pg_game.specs.Identifiers.{ids_of, priorities_of}
+use Rattle.pg_game.specs.Identifiers.{ids_of}
 use Rattle.pg_game.specs.Described.{spec_at, specs_of}
 use Rattle.pg_game.proofs.Members.{Contains-nil, Contains-head, Contains-tail, Contains-cons}
 use Rattle.pg_game.proofs.Gathered.{any_from}
@@ -169,7 +169,6 @@ described_sound g game limits =
     let n = length-map g (λ (x : Vertex). spec_at g x) in
     let some = game.nonempty in
     let up : IsStrictlyIncreasing (ids_of (specs_of g)) = subst (λ (xs : List ℕ). IsStrictlyIncreasing xs) (sym (ids_described g game)) game.ids in
-    let ps : priorities_of (specs_of g) ≡ map (λ (x : Vertex). x.priority) g = map-map (λ (x : Vertex). spec_at g x) (λ (s : Spec). s.priority) g in
     sound_has_none (specs_of g) record {
       nonempty = omega (arith, n, some);
       vertices = omega (arith, n, limits.vertices);
@@ -179,7 +178,6 @@ described_sound g game limits =
           let h = (game.successors v l).nonempty in
           subst (λ (t : Spec). is_empty t.successors ≡ false) e (some_member (map (λ w. id_of g w) (successors_of g v)) (omega (arith, h, length-map (successors_of g v) (λ w. id_of g w))))));
       edges_fit = omega (arith, edges_few g g, limits.edges);
-      priorities = let e = ap different ps in omega (arith, e, limits.priorities);
       known = none_unknown (specs_of g) (specs_of g) (λ s m i k. (
           let (v, l, e) = spec_place g game s m in
           let j : Contains (map (λ w. id_of g w) (successors_of g v)) i = subst (λ (t : Spec). Contains t.successors i) (sym e) k in

@@ -86,42 +86,6 @@ different_is (n ∷ ns) ys up same = go (list_any (λ m. m == n) ns) refl (λ zs
         )) in
         rw e (omega (arith, rest, size))
 
-same_any : (n y : ℕ) (ys : List ℕ) → (y == n) ≡ false → list_any (λ m. m == y) (without_one n ys) ≡ list_any (λ m. m == y) ys
-same_any n y [] e = refl
-same_any n y (z ∷ zs) e = go (z == n) refl (same_any n y zs e)
-  where
-    go : (b : Bool) → (z == n) ≡ b → list_any (λ m. m == y) (without_one n zs) ≡ list_any (λ m. m == y) zs → list_any (λ m. m == y) (without_one n (z ∷ zs)) ≡ list_any (λ m. m == y) (z ∷ zs)
-    go true q h = let f : (z == y) ≡ false = false_from_ne_true (z == y) (λ t. let s : (y == n) ≡ true = eq-eqb y n (sym (eqb-true z y t) ∙ eqb-true z n q) in cc (s, e)) in rw (q, f) h
-    go false q h = rw (q, h) refl
-
-different-without : (n : ℕ) (ys : List ℕ) → Contains ys n → different (without_one n ys) + 1 ≡ different ys
-different-without n [] m = absurd (Contains-nil n m)
-different-without n (y ∷ ys) m = go (y == n) refl (list_any (λ k. k == y) ys) refl (different-without n ys)
-  where
-    go : (b : Bool) → (y == n) ≡ b → (a : Bool) → list_any (λ k. k == y) ys ≡ a → (Contains ys n → different (without_one n ys) + 1 ≡ different ys) → different (without_one n (y ∷ ys)) + 1 ≡ different (y ∷ ys)
-    go true e true f h = rw (e, f) (h (subst (λ (z : ℕ). Contains ys z) (eqb-true y n e) (any_from ys y f)))
-    go true e false f h = let k : without_one n ys ≡ ys = keep_all n ys (λ z. none_from ys y f (subst (λ (x : ℕ). Contains ys x) (sym (eqb-true y n e)) z)) in rw (e, f, k) refl
-    go false e a f h = elim (Contains-cons y n ys m) [
-      | inl q ↦ absurd (let t : (y == n) ≡ true = eq-eqb y n q in cc (t, e))
-      | inr t ↦ (let k = same_any n y ys e ∙ f in step a e k f (h t))
-    ]
-      where
-        step : (c : Bool) → (y == n) ≡ false → list_any (λ k. k == y) (without_one n ys) ≡ c → list_any (λ k. k == y) ys ≡ c → different (without_one n ys) + 1 ≡ different ys → different (without_one n (y ∷ ys)) + 1 ≡ different (y ∷ ys)
-        step true e k f h = rw (e, k, f) h
-        step false e k f h = rw (e, k, f) (omega (arith, h))
-
--- members of another list are not more different numbers
-pub different_within : (xs ys : List ℕ) → ((x : ℕ) → Contains xs x → Contains ys x) → different xs ≤ different ys
-different_within [] ys sub = omega arith
-different_within (n ∷ ns) ys sub = go (list_any (λ m. m == n) ns) refl (λ zs s. different_within ns zs s)
-  where
-    go : (b : Bool) → list_any (λ m. m == n) ns ≡ b → ((zs : List ℕ) → ((x : ℕ) → Contains ns x → Contains zs x) → different ns ≤ different zs) → different (n ∷ ns) ≤ different ys
-    go true e h = rw e (h ys (λ x m. sub x (Contains-tail n x ns m)))
-    go false e h =
-        let k = different-without n ys (sub n (Contains-head n ns)) in
-        let rest = h (without_one n ys) (λ x m. (contains-without n ys x).1 (sub x (Contains-tail n x ns m), λ q. none_from ns n e (subst (λ (z : ℕ). Contains ns z) q m))) in
-        rw e (omega (arith, k, rest))
-
 filter_none : (p : ℕ → Bool) (xs : List ℕ) → ((y : ℕ) → Contains xs y → p y ≡ false) → filter p xs ≡ []
 filter_none p [] none = refl
 filter_none p (x ∷ xs) none = rw (none x (Contains-head x xs)) (filter_none p xs (λ y m. none y (Contains-tail x y xs m)))

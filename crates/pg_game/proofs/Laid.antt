@@ -89,7 +89,7 @@ edges-placed (x ∷ g) (r ∷ placed) e same =
     let d = edges-placed g placed (omega arith) (λ v l. same (suc v) (omega arith)) in
     omega (arith, a, b, c, d)
 
-module _ (ids ps : List ℕ) (os : List Player) (rows placed : List (List ℕ)) (a : AreParts ids ps os rows) (p : ArePlaced ids ps rows placed) where
+module _ (ids ps : List ℕ) (os : List Player) (rows placed : List (List ℕ)) (a : AreParts ids ps os rows) (p : ArePlaced ids rows placed) where
   abbrev g : Graph
   g = graph_of ids ps os rows
 
@@ -140,7 +140,6 @@ module _ (ids ps : List ℕ) (os : List Player) (rows placed : List (List ℕ)) 
     once = ap (λ (xs : List ℕ). first_repeated [] xs) ids_are ∙ none_repeated [] ids p.rising (λ e x m n. absurd (Contains-nil e m));
     successors = none_without g (λ v l. has_row (successors_of g v) (row_at placed v) (places_at v (omega (arith, l, length_g))));
     edges_fit = let h = p.laid.edges_fit in omega (arith, h, edges_are);
-    priorities = let h = p.priorities in let e = ap different priorities_are in omega (arith, h, e);
     known = none_unknown specs g (λ v i l m. is_specified v i (omega (arith, l, length_g)) m);
   }
 

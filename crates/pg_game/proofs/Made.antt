@@ -24,10 +24,9 @@ use Rattle.pg_game.specs.Stored.{AreParts}
 use Rattle.pg_game.proofs.Sound.{IsSound, each_has, each_known}
 use Rattle.pg_game.proofs.Rising.{number_is}
 use Rattle.pg_game.proofs.Unknown.{specified_is}
-use Rattle.pg_game.proofs.Different.{different_within}
 use Rattle.pg_game.proofs.Back.{back_of}
 use Rattle.pg_game.proofs.Look as look
-use Rattle.pg_game.proofs.Parts.{ids-graph_of, priorities-graph_of, rows-graph_of}
+use Rattle.pg_game.proofs.Parts.{ids-graph_of, rows-graph_of}
 
 -- specifications by rising identifier, and their rows
 pub record IsLaid (specs sorted : List Spec) (ids : List ℕ) (rows : List (List ℕ)) : Type 0 where
@@ -146,11 +145,6 @@ module _ (specs sorted : List Spec) (ids : List ℕ) (rows : List (List ℕ)) (l
   made_limits = record {
     vertices = let h = laid.sound.vertices in omega (arith, h, length_g, length_ids, length_specs);
     edges = let h = laid.sound.edges_fit in let e = sum_by-IsPermutation (λ (s : Spec). different s.successors) specs sorted laid.moved in omega (arith, h, e, sum-rows, laid.edges_are);
-    priorities =
-        let h = laid.sound.priorities in
-        let e = ap different (priorities-graph_of ids ps os rows parts) in
-        let w = different_within ps (priorities_of specs) (λ x m. Contains-permutation ps (priorities_of specs) x (IsPermutation-map (λ (s : Spec). s.priority) sorted specs (IsPermutation-sym specs sorted laid.moved)) m) in
-        omega (arith, h, e, w);
     ids = λ v l. (let k : v < length sorted = omega (arith, l, length_g, length_ids) in let h = (numbers_at v k).id in omega (arith, h, id_at v, id_in v no_spec k));
     numbers = λ v l. (let k : v < length sorted = omega (arith, l, length_g, length_ids) in let h = (numbers_at v k).priority in omega (arith, h, priority_in v no_spec k));
   }

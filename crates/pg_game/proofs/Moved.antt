@@ -11,10 +11,9 @@ use Rattle.std.proofs.lemmas.Map.Views.{Contains-from_any}
 use Rattle.pg_game.specs.declared.game.Spec.{Spec}
 use Rattle.pg_game.specs.Graph.{Graph}
 use Rattle.pg_game.specs.Specification.{IsGameOf, IsSpecified, number_of, first_fault, first_repeated, first_without, first_unknown, different}
-use Rattle.pg_game.specs.Identifiers.{ids_of, priorities_of}
+use Rattle.pg_game.specs.Identifiers.{ids_of}
 use Rattle.pg_game.proofs.Members.{Contains-nil, Contains-head, Contains-tail, Contains-cons, none_first}
 use Rattle.pg_game.proofs.Seen.{eqb_flip}
-use Rattle.pg_game.proofs.Different.{different_within}
 use Rattle.pg_game.proofs.Unknown.{specified_is}
 use Rattle.pg_game.proofs.Sound.{IsSound, sound_is, sound_has_none, none_or, each_has, each_known}
 use Rattle.pg_game.proofs.Plain.{not_empty, all_specified, any_member}
@@ -87,10 +86,6 @@ module _ (specs sorted : List Spec) (moved : IsPermutation specs sorted) where
     once = still_once h.once;
     successors = none_without specs (λ s m. each_has sorted h.successors s (Contains-permutation specs sorted s moved m));
     edges_fit = let l = h.edges_fit in let e = sum_by-IsPermutation (λ (s : Spec). different s.successors) specs sorted moved in omega (arith, l, e);
-    priorities =
-        let l = h.priorities in
-        let w = different_within (priorities_of specs) (priorities_of sorted) (λ x m. Contains-permutation (priorities_of specs) (priorities_of sorted) x (IsPermutation-map (λ (s : Spec). s.priority) specs sorted moved) m) in
-        omega (arith, l, w);
     known = none_unknown specs specs (λ s i m n. still_specified i (each_known sorted sorted h.known s (Contains-permutation specs sorted s moved m) i n));
   }
 

@@ -1,5 +1,5 @@
 -- Specifications that are a game as they stand.
-use Rattle.std.proofs.Common.{◌≡◌, ℕ, zero, suc, ◌+◌, ◌<◌, ◌≤◌, ◌||◌, ◌⊎◌, Bool, true, false, inl, inr, List, [], ◌∷◌, length, map, get_or, nat_eq, refl, sym, ◌∙◌, ap, subst, arith}
+use Rattle.std.proofs.Common.{◌≡◌, ℕ, suc, ◌+◌, ◌<◌, ◌||◌, Bool, true, false, inl, inr, List, [], ◌∷◌, length, map, get_or, nat_eq, refl, sym, ◌∙◌, ap, subst, arith}
 use Rattle.std.specs.Prelude.{All, None, sum_by, ◌==◌}
 use Rattle.std.specs.List.{Contains, list_any}
 use Rattle.std.specs.List.Sorted.{IsStrictlyIncreasing}
@@ -19,7 +19,7 @@ use Rattle.pg_game.specs.Stored.{AreParts}
 use Rattle.pg_game.specs.Flat.{spec_from, specs_from, ArePlain, IsListed}
 use Rattle.pg_game.proofs.Members.{Contains-nil, Contains-head, Contains-tail, Contains-cons}
 use Rattle.pg_game.proofs.Gathered.{any_from}
-use Rattle.pg_game.proofs.Different.{rising_tail, below_first, different_is, different_within, different_most}
+use Rattle.pg_game.proofs.Different.{rising_tail, below_first, different_is}
 use Rattle.pg_game.proofs.Unknown.{specified_is}
 use Rattle.pg_game.proofs.Sound.{IsSound, sound_has_none}
 use Rattle.pg_game.proofs.Made.{IsLaid, sum-map, made_game, made_of, made_limits}
@@ -87,33 +87,7 @@ any_member (x ∷ xs) i m = elim (Contains-cons x i xs m) [
   | inr k ↦ rw (any_member xs i k) (or_true (nat_eq i x))
 ]
 
--- the numbers below n
-abbrev below : ℕ → List ℕ
-below zero = []
-below (suc n) = n ∷ below n
-
-length-below : (n : ℕ) → length (below n) ≡ n
-length-below zero = refl
-length-below (suc n) = let h = length-below n in omega (arith, h)
-
-last_or_lower : (m y : ℕ) → y < suc m → (m ≡ y) ⊎ (y < m)
-last_or_lower m y k = grind arith
-
-in_below : (n x : ℕ) → x < n → Contains (below n) x
-in_below zero x l = absurd (omega arith)
-in_below (suc n) x l = elim (last_or_lower n x l) [
-  | inl q ↦ subst (λ (y : ℕ). Contains (n ∷ below n) y) q (Contains-head n (below n))
-  | inr k ↦ Contains-tail n x (below n) (in_below n x k)
-]
-
-pub few_different : (n : ℕ) (xs : List ℕ) → ((k : ℕ) → k < length xs → get_or xs k 0 < n) → different xs ≤ n
-few_different n xs small =
-    let a = different_within xs (below n) (λ x (k, l, e). in_below n x (subst (λ (y : ℕ). y < n) (get_or_default xs k 0 x l ∙ e) (small k l))) in
-    let b = different_most (below n) in
-    let c = length-below n in
-    omega (arith, a, b, c)
-
-module _ (ids ps : List ℕ) (os : List Player) (rows : List (List ℕ)) (a : AreParts ids ps os rows) (p : ArePlain ids ps rows) where
+module _ (ids ps : List ℕ) (os : List Player) (rows : List (List ℕ)) (a : AreParts ids ps os rows) (p : ArePlain ids rows) where
   abbrev g : Graph
   g = graph_of ids ps os rows
 
@@ -157,7 +131,6 @@ module _ (ids ps : List ℕ) (os : List Player) (rows : List (List ℕ)) (a : Ar
     once = ap (λ (xs : List ℕ). first_repeated [] xs) ids_are ∙ none_repeated [] ids rising (λ e x m n. absurd (Contains-nil e m));
     successors = none_without g (λ v l. rw (row_is v) (row_of v (omega (arith, l, length_g))).nonempty);
     edges_fit = let h = p.edges_fit in omega (arith, h, edges_are);
-    priorities = let h = few_different 4096 ps p.small in let e = ap different priorities_are in omega (arith, h, e);
     known = none_unknown specs g (λ v i l m. (let r = row_of v (omega (arith, l, length_g)) in
         let n : Contains (row_at rows v) i = subst (λ (ws : List ℕ). Contains ws i) (row_is v) m in
         is_specified i (subst (λ (j : ℕ). j < length ids) (get_or_default (row_at rows v) n.0 0 i n.1 ∙ n.2) (r.below n.0 n.1))));

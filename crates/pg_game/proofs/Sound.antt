@@ -5,9 +5,9 @@ use Rattle.std.specs.List.{Contains}
 use Rattle.std.proofs.lemmas.Bool.{ltb-false, false_from_ne_true}
 use Rattle.pg_game.specs.declared.game.Spec.{Spec}
 use Rattle.pg_game.specs.declared.game.GameFault.{GameFault}
-use Rattle.pg_game.specs.declared.game.GameFault.TheVariants.{NoVertex, TooManyVertices, Twice, NoSuccessor, TooManyEdges, TooManyPriorities, Unknown}
-use Rattle.pg_game.specs.Specification.{first_fault, fault_or, is_empty, first_repeated, first_without, first_unknown, first_unspecified, paired_or, IsSpecified, edges, different, max_vertices, max_edges, max_priorities}
-use Rattle.pg_game.specs.Identifiers.{ids_of, priorities_of}
+use Rattle.pg_game.specs.declared.game.GameFault.TheVariants.{NoVertex, TooManyVertices, Twice, NoSuccessor, TooManyEdges, Unknown}
+use Rattle.pg_game.specs.Specification.{first_fault, fault_or, is_empty, first_repeated, first_without, first_unknown, first_unspecified, paired_or, IsSpecified, edges, max_vertices, max_edges}
+use Rattle.pg_game.specs.Identifiers.{ids_of}
 
 pub record IsSound (specs : List Spec) : Type 0 where
   pub nonempty : 0 < length specs
@@ -15,7 +15,6 @@ pub record IsSound (specs : List Spec) : Type 0 where
   pub once : first_repeated [] (ids_of specs) ≡ None
   pub successors : first_without specs ≡ None
   pub edges_fit : edges specs ≤ max_edges
-  pub priorities : different (priorities_of specs) ≤ max_priorities
   pub known : first_unknown specs specs ≡ None
 
 no_test : (b : Bool) (f : GameFault) (o : Option GameFault) → (if b then Some f else o) ≡ None → (b ≡ false) × (o ≡ None)
@@ -37,15 +36,13 @@ sound_is specs e =
     let c = no_fault (λ i. Twice i) (first_repeated [] (ids_of specs)) _ b.1 in
     let d = no_fault (λ i. NoSuccessor i) (first_without specs) _ c.1 in
     let f = no_test (nat_lt max_edges (edges specs)) TooManyEdges _ d.1 in
-    let g = no_test (nat_lt max_priorities (different (priorities_of specs))) TooManyPriorities _ f.1 in
-    let h = no_fault (λ (id, i). Unknown id i) (first_unknown specs specs) None g.1 in
+    let h = no_fault (λ (id, i). Unknown id i) (first_unknown specs specs) None f.1 in
     record {
       nonempty = some_first specs a.0;
       vertices = ltb-false max_vertices (length specs) b.0;
       once = c.0;
       successors = d.0;
       edges_fit = ltb-false max_edges (edges specs) f.0;
-      priorities = ltb-false max_priorities (different (priorities_of specs)) g.0;
       known = h.0;
     }
 
@@ -58,7 +55,7 @@ none_empty (s ∷ specs) l = refl
 
 pub sound_has_none : (specs : List Spec) → IsSound specs → first_fault specs ≡ None
 sound_has_none specs s =
-    rw (none_empty specs s.nonempty, not_more max_vertices (length specs) s.vertices, s.once, s.successors, not_more max_edges (edges specs) s.edges_fit, not_more max_priorities (different (priorities_of specs)) s.priorities, s.known) refl
+    rw (none_empty specs s.nonempty, not_more max_vertices (length specs) s.vertices, s.once, s.successors, not_more max_edges (edges specs) s.edges_fit, s.known) refl
 
 head_of : (s t : Spec) (specs : List Spec) → Contains (s ∷ specs) t → (s ≡ t) ⊎ Contains specs t
 head_of s t specs (zero, l, e) = inl e

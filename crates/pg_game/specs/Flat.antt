@@ -1,12 +1,12 @@
 -- Specifications in lists of their parts, and those that are a game as they stand.
-use Rattle.std.specs.Prelude.{ℕ, ◌<◌, ◌≤◌, List, length, map, slice_index}
+use Rattle.std.specs.Prelude.{ℕ, ◌<◌, ◌≤◌, List, length, map}
 use Rattle.pg_game.specs.declared.player.Player.{Player}
 use Rattle.pg_game.specs.declared.game.Spec.{Spec}
 use Rattle.pg_game.specs.Graph.{Vertex, IsGame, AreSuccessors}
 use Rattle.pg_game.specs.Limits.{IsWithinLimits}
 use Rattle.pg_game.specs.Names.{AreOwnPlaces}
 use Rattle.pg_game.specs.Rows.{row_at, size_of}
-use Rattle.pg_game.specs.Specification.{max_vertices, max_edges, max_priorities}
+use Rattle.pg_game.specs.Specification.{max_vertices, max_edges}
 use Rattle.pg_game.specs.Stored.{AreParts}
 use Rattle.pg_game.specs.View.{graph_of}
 
@@ -18,19 +18,15 @@ spec_from x = record { id = x.id; priority = x.priority; owner = x.owner; succes
 abbrev pub specs_from : List ℕ → List ℕ → List Player → List (List ℕ) → List Spec
 specs_from ids ps os rows = map spec_from (graph_of ids ps os rows)
 
-abbrev pub AreSmall : List ℕ → Type 0
-AreSmall ps = (k : ℕ) → k < length ps → slice_index ps k < max_priorities
-
 abbrev pub AreSuccessorRows : List (List ℕ) → Type 0
 AreSuccessorRows rows = (v : ℕ) → v < length rows → AreSuccessors (length rows) (row_at rows v)
 
 -- identifiers are 0, 1 and so on, rows rise, and no limit is passed
-pub record ArePlain (ids ps : List ℕ) (rows : List (List ℕ)) : Type 0 where
+pub record ArePlain (ids : List ℕ) (rows : List (List ℕ)) : Type 0 where
   pub some : 0 < length ids
   pub few : length ids ≤ max_vertices
   pub edges_fit : size_of rows ≤ max_edges
   pub own : AreOwnPlaces ids
-  pub small : AreSmall ps
   pub successors : AreSuccessorRows rows
 
 -- a game that is stored without predecessors

@@ -1,7 +1,7 @@
 -- Rows of identifiers as rows of their places in a rising list.
 use Rattle.std.specs.Prelude.{ℕ, ◌≡◌, ◌<◌, ◌≤◌, List, length, slice_index, Contains}
 use Rattle.std.specs.List.Sorted.{IsStrictlyIncreasing}
-use Rattle.pg_game.specs.Specification.{different, max_vertices, max_edges, max_priorities}
+use Rattle.pg_game.specs.Specification.{max_vertices, max_edges}
 use Rattle.pg_game.specs.Rows.{row_at, size_of}
 
 -- rising, one or more, and the places of all successors and of nothing else
@@ -17,9 +17,8 @@ pub record ArePlacedRows (ids : List ℕ) (rows placed : List (List ℕ)) : Type
   pub each : (v : ℕ) → v < length rows → AreAllPlaces ids (row_at rows v) (row_at placed v)
 
 -- identifiers rise, rows are placed, and no limit is passed
-pub record ArePlaced (ids ps : List ℕ) (rows placed : List (List ℕ)) : Type 0 where
+pub record ArePlaced (ids : List ℕ) (rows placed : List (List ℕ)) : Type 0 where
   pub some : 0 < length ids
   pub few : length ids ≤ max_vertices
   pub rising : IsStrictlyIncreasing ids
-  pub priorities : different ps ≤ max_priorities
   pub laid : ArePlacedRows ids rows placed

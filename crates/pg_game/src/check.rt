@@ -5,9 +5,9 @@ ghost use Rattle.std.specs.List.{IsDistinct};
 ghost use Rattle.pg_game.specs.Specification.{first_fault, edges, OrMemory};
 ghost use Rattle.pg_game.specs.Identifiers.{ids_of};
 
-use crate::faults::{count_edges, count_priorities, first_unknown, first_without, identifiers};
+use crate::faults::{count_edges, first_unknown, first_without, identifiers};
 use crate::game::{GameFault, Spec};
-use crate::limits::{MAX_PRIORITIES, MAX_VERTICES};
+use crate::limits::MAX_VERTICES;
 use indexmap::IndexSet;
 use std::alloc::Global;
 
@@ -32,9 +32,6 @@ pub fn check(alloc: Global, specs: &[Spec]) -> Result<(IndexSet<u32>, u32), Game
     let Some(edges) = count_edges(alloc, specs)? else {
         return Err(GameFault::TooManyEdges);
     };
-    if count_priorities(alloc, specs)? > MAX_PRIORITIES {
-        return Err(GameFault::TooManyPriorities);
-    }
     if let Some((id, successor)) = first_unknown(&ids, specs) {
         return Err(GameFault::Unknown(id, successor));
     }

@@ -4,11 +4,10 @@ ghost use Rattle.std.specs.Prelude.{◌≡◌, ◌<◌, ◌≤◌, ◌↔◌, �
 ghost use Rattle.std.specs.List.{IsDistinct};
 ghost use Rattle.std.specs.List.Sorted.{IsStrictlyIncreasing};
 ghost use Rattle.pg_game.specs.Specification.{first_without, first_repeated, first_unknown, different, edges, max_edges, OrMemory};
-ghost use Rattle.pg_game.specs.Identifiers.{ids_of, priorities_of, twice_of, first_outside};
+ghost use Rattle.pg_game.specs.Identifiers.{ids_of, twice_of, first_outside};
 
 use crate::Memory;
 use crate::game::{GameFault, Spec};
-use crate::layout::priorities;
 use crate::limits::MAX_EDGES;
 use crate::lookup::is_known;
 use indexmap::IndexSet;
@@ -88,14 +87,6 @@ pub fn count_edges(alloc: Global, specs: &[Spec]) -> Result<Option<u32>, Memory>
         }
     }
     Ok(Some(edges as u32))
-}
-
-/// How many different priorities there are.
-pub fn count_priorities(alloc: Global, specs: &[Spec]) -> Result<usize, Memory>
-    ensures { IfOk result (λ n. n ≡ different (priorities_of specs.now)) }
-{
-    let mut priorities = priorities(alloc, specs)?;
-    Ok(count_different(&mut priorities))
 }
 
 /// The first of the successors that is no identifier.

@@ -5,15 +5,14 @@ ghost use Rattle.std.specs.Prelude.{◌≡◌, ◌<◌, ◌≤◌, ◌^◌, ◌+
 ghost use Rattle.std.specs.List.Sorted.{IsPermutation};
 ghost use Rattle.pg_game.specs.declared.game.Spec.{Spec};
 ghost use Rattle.pg_game.specs.Graph.{IsGame, AreSuccessors};
-ghost use Rattle.pg_game.specs.Specification.{AreNumbers, IsGameOf, first_fault, different, max_vertices, max_edges, max_priorities};
+ghost use Rattle.pg_game.specs.Specification.{AreNumbers, IsGameOf, first_fault, max_vertices};
 ghost use Rattle.pg_game.specs.Rows.{size_of};
-ghost use Rattle.pg_game.specs.Flat.{AreSmall, AreSuccessorRows, ArePlain};
+ghost use Rattle.pg_game.specs.Flat.{AreSuccessorRows, ArePlain};
 
 use crate::Memory;
 use crate::adjacency::Adjacency;
-use crate::faults::count_different;
 use crate::game::Spec;
-use crate::limits::{MAX_EDGES, MAX_PRIORITIES, MAX_VERTICES};
+use crate::limits::{MAX_EDGES, MAX_VERTICES};
 use crate::lookup::are_own_places;
 use crate::placed::{is_rising, place_rows};
 use crate::player::Player;
@@ -66,29 +65,6 @@ impl Model for Listed {
     ghost invariant = { λ g. IsListed g.ids.items g.priorities.items g.owners.items g.rows };
 }
 
-/// Whether each number is below the greatest number of different priorities, so that there are never too many.
-fn are_small(priorities: &[u32]) -> bool
-    ensures { IsTrue result → AreSmall priorities.now }
-{
-    'priorities: for k in 0..priorities.len() {
-        if priorities[k] as usize >= MAX_PRIORITIES {
-            return false;
-        }
-    }
-    true
-}
-
-/// Whether there are no more different numbers than a game may have priorities. `Memory` is its one refusal.
-fn are_few(alloc: Global, priorities: &[u32]) -> Result<bool, Memory>
-    ensures { IfOk result (λ few. IsTrue few → different priorities.now ≤ max_priorities) }
-{
-    if are_small(priorities) {
-        return Ok(true);
-    }
-    let mut copy = Vec::from_slice(alloc, priorities)?;
-    Ok(count_different(&mut copy) <= MAX_PRIORITIES)
-}
-
 /// Whether there are numbers, which rise and are below a bound.
 #[inline]
 fn are_successors(row: &[u32], bound: u32) -> bool
@@ -119,15 +95,14 @@ fn are_successor_rows(rows: &Adjacency) -> bool
 }
 
 /// Whether the lists of the parts are a game as they stand.
-fn are_plain(ids: &[u32], priorities: &[u32], rows: &Adjacency) -> bool
-    ensures { IsTrue result → ArePlain ids.now priorities.now rows.now }
+fn are_plain(ids: &[u32], rows: &Adjacency) -> bool
+    ensures { IsTrue result → ArePlain ids.now rows.now }
 {
     let n = ids.len();
     0 < n
         && n <= MAX_VERTICES
         && rows.size() <= MAX_EDGES
         && are_own_places(ids)
-        && are_small(priorities)
         && are_successor_rows(rows)
 }
 
@@ -195,7 +170,7 @@ impl Specs {
             owners,
             rows,
         } = self;
-        if are_plain(ids.as_slice(), priorities.as_slice(), &rows) {
+        if are_plain(ids.as_slice(), &rows) {
             return Ok(Listed {
                 ids,
                 priorities,
@@ -218,12 +193,7 @@ impl Specs {
         ensures { IfOk result (λ listed. IfSome listed (λ g. IsGame g × IsGameOf self.now g × (first_fault self.now ≡ None))) }
     {
         let ids = self.ids.as_slice();
-        let priorities = self.priorities.as_slice();
-        if ids.is_empty()
-            || ids.len() > MAX_VERTICES
-            || !is_rising(ids)
-            || !are_few(alloc, priorities)?
-        {
+        if ids.is_empty() || ids.len() > MAX_VERTICES || !is_rising(ids) {
             return Ok(None);
         }
         let Some(rows) = place_rows(alloc, ids, &self.rows)? else {
@@ -231,7 +201,7 @@ impl Specs {
         };
         Ok(Some(Listed {
             ids: Vec::from_slice(alloc, ids)?,
-            priorities: Vec::from_slice(alloc, priorities)?,
+            priorities: Vec::from_slice(alloc, self.priorities.as_slice())?,
             owners: Vec::from_slice(alloc, self.owners.as_slice())?,
             rows,
         }))

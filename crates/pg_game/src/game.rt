@@ -37,7 +37,7 @@ pub enum GameFault {
     /// The list is empty.
     #[error("no vertex")]
     NoVertex,
-    /// The list has more than 65,536 specifications.
+    /// The list has more than 1,048,576 specifications.
     #[error("too many vertices")]
     TooManyVertices,
     /// The first identifier that stands earlier in the list.
@@ -46,12 +46,9 @@ pub enum GameFault {
     /// The first specification without a successor.
     #[error("vertex {0}: no successor")]
     NoSuccessor(u32),
-    /// Distinct successors, summed over the specifications, are more than 1,048,576.
+    /// Distinct successors, summed over the specifications, are more than 16,777,216.
     #[error("too many edges")]
     TooManyEdges,
-    /// There are more than 4,096 different priorities.
-    #[error("too many priorities")]
-    TooManyPriorities,
     /// The first specification, and in it the first successor, that names no specification.
     #[error("vertex {0}: successor {1} is not specified")]
     Unknown(u32, u32),
@@ -224,7 +221,7 @@ impl Game {
         self.successors.is_same(&other.successors)
     }
 
-    /// How many vertices there are: from 1 to 65,536.
+    /// How many vertices there are: from 1 to 1,048,576.
     #[inline]
     pub fn len(&self) -> u32
         ensures number { result ≡ length self.now }

@@ -154,13 +154,13 @@ fn a_game_with_gaps_goes_by_rising_identifier(rt: HostRuntime) -> Result<(), Fai
 #[test]
 fn a_game_in_order_has_no_need_of_an_index(rt: HostRuntime) -> Result<(), Fail> {
     let rows: [Row; 3] = [
-        (0, 4_095, ODD, &[1, 2]),
+        (0, 2_147_483_647, ODD, &[1, 2]),
         (1, 0, EVEN, &[1]),
         (2, 1, EVEN, &[0, 1, 2]),
     ];
     let game = flat_game_of(rt.alloc(), &rows)?;
     assert_eq!(rt; game.len(), 3);
-    look(&rt, &game, 0, (0, 4_095, ODD, &[1, 2]), &[2]);
+    look(&rt, &game, 0, (0, 2_147_483_647, ODD, &[1, 2]), &[2]);
     look(&rt, &game, 1, (1, 0, EVEN, &[1]), &[0, 1, 2]);
     look(&rt, &game, 2, (2, 1, EVEN, &[0, 1, 2]), &[0, 2]);
     for id in [3, 2_147_483_647] {
@@ -195,18 +195,17 @@ fn compare_ways(rt: &impl Abort, alloc: Global, rows: &[Row], stands: bool) -> R
 
 #[test]
 fn lists_in_order_are_the_game(rt: HostRuntime) -> Result<(), Fail> {
-    let in_order: [Row; 2] = [(0, 4_095, EVEN, &[0, 1]), (1, 1, ODD, &[0])];
+    let in_order: [Row; 2] = [(0, 2_147_483_647, EVEN, &[0, 1]), (1, 1, ODD, &[0])];
     compare_ways(&rt, rt.alloc(), &in_order, true)
 }
 
 #[test]
 fn lists_out_of_order_make_the_same_game(rt: HostRuntime) -> Result<(), Fail> {
-    let others: [[Row; 2]; 5] = [
-        [(0, 4_095, EVEN, &[0, 2]), (2, 1, ODD, &[0])],
-        [(1, 1, ODD, &[0]), (0, 4_095, EVEN, &[0, 1])],
-        [(0, 4_095, EVEN, &[1, 0]), (1, 1, ODD, &[0])],
-        [(0, 4_095, EVEN, &[0, 0]), (1, 1, ODD, &[0])],
-        [(0, 4_096, EVEN, &[0, 1]), (1, 1, ODD, &[0])],
+    let others: [[Row; 2]; 4] = [
+        [(0, 2, EVEN, &[0, 2]), (2, 1, ODD, &[0])],
+        [(1, 1, ODD, &[0]), (0, 2, EVEN, &[0, 1])],
+        [(0, 2, EVEN, &[1, 0]), (1, 1, ODD, &[0])],
+        [(0, 2, EVEN, &[0, 0]), (1, 1, ODD, &[0])],
     ];
     for other in others {
         compare_ways(&rt, rt.alloc(), &other, false)?;
@@ -296,34 +295,31 @@ fn answers(
 #[test]
 fn vertices_are_limited_before_all_else(rt: HostRuntime) -> Result<(), Fail> {
     let alloc = rt.alloc();
-    answers(&rt, alloc, (65_537, 0, 0), Some(GameFault::TooManyVertices))?;
-    answers(&rt, alloc, (65_536, 0, 0), Some(GameFault::NoSuccessor(0)))?;
-    answers(&rt, alloc, (65_536, 1, 0), None)
+    answers(
+        &rt,
+        alloc,
+        (1_048_577, 0, 0),
+        Some(GameFault::TooManyVertices),
+    )?;
+    answers(
+        &rt,
+        alloc,
+        (1_048_576, 0, 0),
+        Some(GameFault::NoSuccessor(0)),
+    )?;
+    answers(&rt, alloc, (1_048_576, 1, 1_048_575), None)
 }
 
 #[test]
 fn edges_are_limited(rt: HostRuntime) -> Result<(), Fail> {
     let alloc = rt.alloc();
-    answers(&rt, alloc, (1_024, 1_024, 0), None)?;
+    answers(&rt, alloc, (4_096, 4_096, 0), None)?;
     answers(
         &rt,
         alloc,
-        (1_025, 1_024, 9_999),
+        (4_097, 4_096, 9_999),
         Some(GameFault::TooManyEdges),
     )
-}
-
-#[test]
-fn priorities_are_limited(rt: HostRuntime) -> Result<(), Fail> {
-    let alloc = rt.alloc();
-    answers(&rt, alloc, (4_096, 1, 9_999), None)?;
-    answers(
-        &rt,
-        alloc,
-        (4_097, 1, 9_999),
-        Some(GameFault::TooManyPriorities),
-    )?;
-    answers(&rt, alloc, (4_097, 1, 4_095), None)
 }
 
 #[test]
@@ -491,7 +487,6 @@ fn faults_say_what_is_wrong(rt: HostRuntime) -> Result<(), Fail> {
         (GameFault::Twice(4), "vertex 4: specified twice"),
         (GameFault::NoSuccessor(4), "vertex 4: no successor"),
         (GameFault::TooManyEdges, "too many edges"),
-        (GameFault::TooManyPriorities, "too many priorities"),
         (
             GameFault::Unknown(4, 9),
             "vertex 4: successor 9 is not specified",

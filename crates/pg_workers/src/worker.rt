@@ -5,6 +5,7 @@ ghost use Rattle.std.specs.Vec.{vec_capacity};
 ghost use Rattle.pg_board.specs.declared.refusal.Refusal.{Refusal};
 ghost use Rattle.pg_workers.specs.Answers.{AreNoted, IsAnswerTo};
 ghost use Rattle.pg_workers.specs.Report.{AreCounts, IsDone, answered, noted, settled_in};
+ghost use Rattle.pg_game.specs.Specification.{max_vertices};
 ghost use Rattle.pg_workers.specs.Work.{job_of, total_of};
 
 use crate::gate::Gate;
@@ -61,7 +62,7 @@ pub(crate) struct Task<'x, G, F> {
     pub size: u32,
     pub gate: &'x G,
     pub finder: &'x F,
-    ghost small: { size ≤ 65536 },
+    ghost small: { size ≤ max_vertices },
 }
 
 /// Checks a claim on the game, with no lock held, and settles it.

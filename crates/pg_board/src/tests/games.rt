@@ -31,7 +31,7 @@ fn add(
     ensures { All AreNumbers specs.new.items }
 {
     specs.push(Spec {
-        id: id.min(65_536) as u32,
+        id: id.min(1_048_576) as u32,
         priority: priority.min(2_147_483_647),
         owner,
         successors: Sequence::new(successors),

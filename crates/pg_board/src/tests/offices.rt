@@ -191,7 +191,7 @@ fn settle_foreign<L: Ledger, R: Wait + Abort>(
 #[test]
 fn the_largest_claim_of_the_largest_game_is_accepted(rt: HostRuntime) -> Result<(), Fail> {
     let alloc = rt.alloc();
-    let game = loops_game(alloc, 65_536)?;
+    let game = loops_game(alloc, 1_048_576)?;
     for call in CALLS {
         settle_all::<Brand, _>(&rt, alloc, Blank::new(1), call, &game)?;
     }
@@ -213,8 +213,8 @@ fn settle_all<L: Ledger, R: Wait + Abort>(
     let claim = claim_of_loops(alloc, game.len())?;
     let share = &mut shares[0];
     let found = call.put_through(rt, alloc, &office, share, 1, game, &claim);
-    assert_eq!(rt; found, Ok(65_536));
-    assert_eq!(rt; share.amount(), 65_536);
+    assert_eq!(rt; found, Ok(1_048_576));
+    assert_eq!(rt; share.amount(), 1_048_576);
     assert!(rt; office.close(shares).is_full());
     Ok(())
 }

@@ -34,7 +34,7 @@ impl Draft {
         requires { All AreNumbers self.old.specs.items }
         ensures { OnOk result (All AreNumbers self.new.specs.items) }
     {
-        let id = self.specs.len().min(65_536) as u32;
+        let id = self.specs.len().min(1_048_576) as u32;
         let successors = Sequence::new(Vec::from_slice(alloc, successors)?);
         self.specs.push(Spec {
             id,

@@ -4,7 +4,7 @@ ghost use Rattle.std.specs.Prelude.{◌≡◌, ◌<◌};
 
 use crate::inside::Inside;
 use crate::tests::games::{
-    EVEN, ODD, Vertex, chain, game_of, inside_of, nothing, self_loops, single, whole,
+    EVEN, ODD, Vertex, chain, even_loops, game_of, inside_of, nothing, self_loops, single, whole,
 };
 use crate::tests::reference::{Numbered, has, rows_of_length};
 use crate::{Solved, zielonka};
@@ -226,13 +226,28 @@ fn a_thousand_loops_are_shared_out(rt: HostRuntime) -> Result<(), Fail> {
 }
 
 #[test]
+fn five_thousand_even_loops_are_all_evens(rt: HostRuntime) -> Result<(), Fail> {
+    let alloc = rt.alloc();
+    let game = even_loops(alloc, 5_000)?;
+    let claims = solved(&rt, alloc, &game)?;
+    assert!(rt; rows(&claims.odd).is_empty());
+    let mut v = 0u32;
+    for row in rows(&claims.even) {
+        assert_eq!(rt; *row, (v, Some(v)));
+        v = v.saturating_add(1);
+    }
+    assert_eq!(rt; v, 5_000);
+    Ok(())
+}
+
+#[test]
 fn a_chain_with_as_many_priorities_as_a_game_may_have_is_the_last_vertexs(
     rt: HostRuntime,
 ) -> Result<(), Fail> {
     let alloc = rt.alloc();
-    let game = chain(alloc, 4_096)?;
+    let game = chain(alloc, 1_048_576)?;
     let claims = solved(&rt, alloc, &game)?;
     assert!(rt; rows(&claims.even).is_empty());
-    assert_eq!(rt; rows(&claims.odd).len(), 4_096);
+    assert_eq!(rt; rows(&claims.odd).len(), 1_048_576);
     Ok(())
 }

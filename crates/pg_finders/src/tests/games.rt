@@ -43,7 +43,7 @@ impl Draft {
         requires { All AreNumbers self.old.specs.items }
         ensures { OnOk result (All AreNumbers self.new.specs.items) }
     {
-        let id = self.specs.len().min(65_536) as u32;
+        let id = self.specs.len().min(1_048_576) as u32;
         let successors = Sequence::new(Vec::from_slice(alloc, successors)?);
         self.specs.push(Spec {
             id,
@@ -119,6 +119,15 @@ pub fn self_loops(alloc: Global, n: u32) -> Result<Game, Fail> {
     let mut draft = Draft::new(alloc);
     'rows: for v in 0..n {
         draft.add(alloc, v, EVEN, [v].as_slice())?;
+    }
+    draft.game(alloc)
+}
+
+/// Each vertex has itself alone as a successor, and an even priority of its own.
+pub fn even_loops(alloc: Global, n: u32) -> Result<Game, Fail> {
+    let mut draft = Draft::new(alloc);
+    'rows: for v in 0..n {
+        draft.add(alloc, v.saturating_mul(2), EVEN, [v].as_slice())?;
     }
     draft.game(alloc)
 }

@@ -43,7 +43,7 @@ fn add(alloc: Global, specs: &mut Vec<Spec>, vertex: &Vertex) -> Result<(), Memo
 {
     let (priority, owner, successors) = vertex;
     specs.push(Spec {
-        id: specs.len().min(65_536) as u32,
+        id: specs.len().min(1_048_576) as u32,
         priority: (*priority).min(2_147_483_647),
         owner: *owner,
         successors: Sequence::new(Vec::from_slice(alloc, *successors)?),

@@ -27,10 +27,6 @@ fn each_fault_of_a_game_text_has_its_line(rt: HostRuntime) -> Result<(), Fail> {
         ),
         (TextFault::Game(GameFault::TooManyEdges), "too many edges"),
         (
-            TextFault::Game(GameFault::TooManyPriorities),
-            "too many priorities",
-        ),
-        (
             TextFault::Game(GameFault::Unknown(0, 7)),
             "vertex 0: successor 7 is not specified",
         ),

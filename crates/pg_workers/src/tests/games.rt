@@ -25,7 +25,7 @@ fn add_own_loop(alloc: Global, specs: &mut Vec<Spec>, v: u32) -> Result<(), Fail
     requires { All AreNumbers specs.old.items }
     ensures { All AreNumbers specs.new.items }
 {
-    let id = v.min(65_536);
+    let id = v.min(1_048_576);
     specs.push(Spec {
         id,
         priority: 0,
@@ -68,7 +68,7 @@ fn add_plain(alloc: Global, specs: &mut Vec<Spec>, vertex: Plain) -> Result<(), 
 {
     let (priority, owner, successors) = vertex;
     specs.push(Spec {
-        id: specs.len().min(65_536) as u32,
+        id: specs.len().min(1_048_576) as u32,
         priority: priority.min(2_147_483_647),
         owner,
         successors: Sequence::new(vertices_of(alloc, successors)?),

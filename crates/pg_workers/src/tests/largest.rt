@@ -9,7 +9,7 @@ use std::test::*;
 #[test]
 fn all_vertices_of_the_largest_game_are_settled_by_one_claim(rt: HostRuntime) -> Result<(), Fail> {
     let alloc = rt.alloc();
-    let game = own_loops(alloc, 65_536)?;
+    let game = own_loops(alloc, 1_048_576)?;
     let options = Options {
         workers: 1,
         bound: 0,
@@ -21,7 +21,7 @@ fn all_vertices_of_the_largest_game_are_settled_by_one_claim(rt: HostRuntime) ->
         counts.push([row.posted, row.settled, row.stale, row.refused])?;
         assert!(rt; !row.memory);
     }
-    let expected = [[1, 65_536, 0, 1], [0, 0, 1, 1], [0, 0, 1, 1]];
+    let expected = [[1, 1_048_576, 0, 1], [0, 0, 1, 1], [0, 0, 1, 1]];
     assert!(rt; counts.as_slice() == expected.as_slice());
     assert_eq!(rt; outcome.entries.len(), 1);
     Ok(())

@@ -58,11 +58,6 @@ fn each_fault_has_its_text_and_status(rt: HostRuntime) -> Result<(), Fail> {
             3,
         ),
         (
-            RunFault::Game(TextFault::Game(GameFault::TooManyPriorities)),
-            "game: too many priorities",
-            3,
-        ),
-        (
             RunFault::Game(TextFault::Game(GameFault::Unknown(0, 7))),
             "game: vertex 0: successor 7 is not specified",
             3,

@@ -10,14 +10,14 @@ use Rattle.pg_game.proofs.flat.Specs.into_listed.Goals as goal
 pub invariant_of-result : goal.invariant_of-result
 invariant_of-result c =
     let s = c.self.inside in
-    let plain : ArePlain s.ids.items s.priorities.items s.rows = rw (c.as_slice.ensures.value, c.as_slice-2.ensures.value) at (c.if-are_plain.ensures refl) in
+    let plain : ArePlain s.ids.items s.rows = rw c.as_slice.ensures.value at (c.if-are_plain.ensures refl) in
     let numbers = subst (λ (xs : List Spec). All AreNumbers xs) (sym c.self.view_is) c.requires in
     plain_listed s.ids.items s.priorities.items s.owners.items s.rows c.self.invariant plain numbers
 
 pub returns-then-are_plain-clause-game : goal.returns-then-are_plain-clause-game
 returns-then-are_plain-clause-game c =
     let s = c.self.inside in
-    let plain : ArePlain s.ids.items s.priorities.items s.rows = rw (c.as_slice.ensures.value, c.as_slice-2.ensures.value) at (c.if-are_plain.ensures refl) in
+    let plain : ArePlain s.ids.items s.rows = rw c.as_slice.ensures.value at (c.if-are_plain.ensures refl) in
     let numbers = subst (λ (xs : List Spec). All AreNumbers xs) (sym c.self.view_is) c.requires in
     let game = plain_game s.ids.items s.priorities.items s.owners.items s.rows c.self.invariant plain numbers in
     let of = subst (λ (xs : List Spec). IsGameOf xs (graph_of s.ids.items s.priorities.items s.owners.items s.rows)) c.self.view_is (plain_of s.ids.items s.priorities.items s.owners.items s.rows c.self.invariant plain numbers) in

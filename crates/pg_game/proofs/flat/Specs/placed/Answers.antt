@@ -1,4 +1,4 @@
-use Rattle.std.proofs.Common.{◌≡◌, List, ℕ, refl, subst, sym, arith, true, ap, length, ◌∙◌}
+use Rattle.std.proofs.Common.{◌≡◌, List, ℕ, refl, subst, sym, arith, ap, length, ◌∙◌}
 use Rattle.std.specs.Prelude.{All, None}
 use Rattle.pg_game.specs.declared.game.Spec.{Spec}
 use Rattle.pg_game.specs.Specification.{AreNumbers, IsGameOf, first_fault}
@@ -7,15 +7,13 @@ use Rattle.pg_game.specs.Placed.{ArePlaced}
 use Rattle.pg_game.proofs.Laid.{placed_none, placed_game, placed_of, placed_listed}
 use Rattle.pg_game.proofs.flat.Specs.placed.Goals as goal
 
-placed_at : (c : goal.In_ok-from_slice-3) → ArePlaced c.self.inside.ids.items c.self.inside.priorities.items c.self.inside.rows c.in-Some.rows
+placed_at : (c : goal.In_ok-from_slice-3) → ArePlaced c.self.inside.ids.items c.self.inside.rows c.in-Some.rows
 placed_at c =
-    let few : c.in_ok-are_few.field-0 ≡ true = grind (arith, c.if-not-branch.false) in
     let n : length c.as_slice-ids.result.now ≡ length c.self.inside.ids.items = ap (λ (xs : List ℕ). length xs) c.as_slice-ids.ensures.value in
     record {
       some = grind (arith, c.if-is_empty.false, c.is_empty.ensures, n);
       few = omega (arith, n, c.if-ids-gt-MAX_VERTICES.false);
       rising = rw c.as_slice-ids.ensures.value at (c.if-not-is_rising.ensures refl);
-      priorities = rw c.as_slice-priorities.ensures.value at (c.in_ok-are_few.ensures few);
       laid = rw (c.in-Some.is, c.as_slice-ids.ensures.value) at c.in_ok-rows.ensures;
     }
 
@@ -25,8 +23,8 @@ invariant_of-result c =
     let rows = c.in-Some.rows in
     let numbers = subst (λ (xs : List Spec). All AreNumbers xs) (sym c.self.view_is) c.requires in
     let ids : c.in_ok-from_slice.field-0.items ≡ s.ids.items = c.in_ok-from_slice.ensures.items ∙ c.as_slice-ids.ensures.value in
-    let ps : c.in_ok-from_slice-2.field-0.items ≡ s.priorities.items = c.in_ok-from_slice-2.ensures.items ∙ c.as_slice-priorities.ensures.value in
-    let os : c.in_ok-from_slice-3.field-0.items ≡ s.owners.items = c.in_ok-from_slice-3.ensures.items ∙ c.as_slice.ensures.value in
+    let ps : c.in_ok-from_slice-2.field-0.items ≡ s.priorities.items = c.in_ok-from_slice-2.ensures.items ∙ c.as_slice.ensures.value in
+    let os : c.in_ok-from_slice-3.field-0.items ≡ s.owners.items = c.in_ok-from_slice-3.ensures.items ∙ c.as_slice-2.ensures.value in
     rw (ids, ps, os) (placed_listed s.ids.items s.priorities.items s.owners.items s.rows rows c.self.invariant (placed_at c) numbers)
 
 pub returns : goal.returns
@@ -36,8 +34,8 @@ returns c =
     let placed = placed_at c in
     let numbers = subst (λ (xs : List Spec). All AreNumbers xs) (sym c.self.view_is) c.requires in
     let ids : c.in_ok-from_slice.field-0.items ≡ s.ids.items = c.in_ok-from_slice.ensures.items ∙ c.as_slice-ids.ensures.value in
-    let ps : c.in_ok-from_slice-2.field-0.items ≡ s.priorities.items = c.in_ok-from_slice-2.ensures.items ∙ c.as_slice-priorities.ensures.value in
-    let os : c.in_ok-from_slice-3.field-0.items ≡ s.owners.items = c.in_ok-from_slice-3.ensures.items ∙ c.as_slice.ensures.value in
+    let ps : c.in_ok-from_slice-2.field-0.items ≡ s.priorities.items = c.in_ok-from_slice-2.ensures.items ∙ c.as_slice.ensures.value in
+    let os : c.in_ok-from_slice-3.field-0.items ≡ s.owners.items = c.in_ok-from_slice-3.ensures.items ∙ c.as_slice-2.ensures.value in
     let game = placed_game s.ids.items s.priorities.items s.owners.items s.rows rows c.self.invariant placed numbers in
     let of = subst (λ (xs : List Spec). IsGameOf xs (graph_of s.ids.items s.priorities.items s.owners.items rows)) c.self.view_is (placed_of s.ids.items s.priorities.items s.owners.items s.rows rows c.self.invariant placed numbers) in
     let none = subst (λ (xs : List Spec). first_fault xs ≡ None) c.self.view_is (placed_none s.ids.items s.priorities.items s.owners.items s.rows rows c.self.invariant placed) in

@@ -1,0 +1,105 @@
+-- Sizes of batches, as they are tried one after the other.
+use Rattle.std.proofs.Common.{◌≡◌, ◌≢◌, ◌≤◌, ◌<◌, ◌*◌, ◌/◌, ℕ, zero, suc, ◌+◌, ◌-◌, ◌^◌, Bool, true, false, ◌⊎◌, inl, inr, refl, sym, ◌∙◌, subst, arith, ltb-true}
+use Rattle.std.specs.Prelude.{nat_lt, ◌==◌}
+use Rattle.std.proofs.Math.Nat.{le-div_iff_mul-le, two-pow-succ}
+use Rattle.std.proofs.lemmas.Bool.{false_from_ne_true}
+use Rattle.pg_game.specs.Specification.{max_vertices}
+use Rattle.pg_workers.specs.Work.{batch_of, batches, batches_of, doubled, most_batches, most_doublings, total_of}
+
+-- this size is tried after smaller ones that gave too many batches
+pub record IsTried (n size : ℕ) : Type 0 where
+  pub times : ℕ
+  pub left : ℕ
+  pub some : 64 ≤ size
+  pub small : size ≤ 2 * n + 64
+  pub size_is : size ≡ 64 * 2 ^ times
+  pub same : doubled left size n ≡ batch_of n
+  pub within : n ≤ size * 2 ^ left
+  pub least : (k : ℕ) → k < times → most_batches < batches_of (64 * 2 ^ k) n
+
+pub first_tried : (n : ℕ) → n ≤ max_vertices → IsTried n 64
+unfolding batch_of
+first_tried n l = record {
+  times = 0;
+  left = most_doublings;
+  some = omega arith;
+  small = omega arith;
+  size_is = refl;
+  same = refl;
+  within = omega (arith, l);
+  least = λ k lt. absurd (omega (arith, lt));
+}
+
+-- more batches than one, so there are more vertices than a batch has
+pub too_many : (n size : ℕ) → 64 ≤ size → most_batches < batches_of size n → size < n
+too_many n size some many =
+    let positive : 0 < size = omega (arith, some) in
+    let a : (most_batches + 1) * size ≤ n + (size - 1) = (le-div_iff_mul-le positive).0 many in
+    omega (arith, a, some)
+
+next_one : (n size left : ℕ) → nat_lt most_batches (batches_of size n) ≡ true → doubled (suc left) size n ≡ doubled left (2 * size) n
+next_one n size left t = rw t refl
+
+none_more : (n size left : ℕ) → nat_lt most_batches (batches_of size n) ≡ false → doubled left size n ≡ size
+none_more n size zero f = refl
+none_more n size (suc left) f = rw f refl
+
+split : (k times : ℕ) → k < suc times → (k < times) ⊎ (k ≡ times)
+split k times l = search arith
+
+pub next_tried : (n size : ℕ) → IsTried n size → most_batches < batches_of size n → IsTried n (size * 2)
+next_tried n size r many = go r.left r.same r.within
+  where
+    t : nat_lt most_batches (batches_of size n) ≡ true
+    t = search arith
+
+    -- twice the size, once less to be doubled
+    ap_within : (left : ℕ) → n ≤ size * 2 ^ suc left → n ≤ size * 2 * 2 ^ left
+    ap_within left h = subst (λ (m : ℕ). n ≤ m) (again (2 ^ left) (2 ^ suc left) (two-pow-succ left)) h
+      where
+        again : (x y : ℕ) → y ≡ x + x → size * y ≡ size * 2 * x
+        again x y e = rw e (omega arith)
+
+    two : size * 2 ≡ 2 * size
+    two = omega arith
+
+    go : (left : ℕ) → doubled left size n ≡ batch_of n → n ≤ size * 2 ^ left → IsTried n (size * 2)
+    go zero same within = absurd (let m = too_many n size r.some many in omega (arith, m, within))
+    go (suc left) same within = record {
+      times = suc r.times;
+      left = left;
+      some = let s = r.some in omega (arith, s);
+      small = let m = too_many n size r.some many in omega (arith, m);
+      size_is = let e = two-pow-succ r.times in let s = r.size_is in omega (arith, e, s);
+      same = rw two (sym (next_one n size left t) ∙ same);
+      within = ap_within left within;
+      least = λ k l. elim (split k r.times l) [
+        | inl b ↦ r.least k b
+        | inr e ↦ subst (λ (j : ℕ). most_batches < batches_of (64 * 2 ^ j) n) (sym e) (subst (λ (s : ℕ). most_batches < batches_of s n) r.size_is many)
+      ];
+    }
+
+pub last_tried : (n size : ℕ) → IsTried n size → batches_of size n ≤ most_batches → size ≡ batch_of n
+last_tried n size r few = sym (none_more n size r.left (false_from_ne_true (nat_lt most_batches (batches_of size n)) (λ t. let h : most_batches < batches_of size n = ltb-true most_batches (batches_of size n) t in omega (arith, h, few)))) ∙ r.same
+
+-- each batch begins below the number of vertices
+begins_below : (n size k : ℕ) → 64 ≤ size → k < batches_of size n → size * k ≤ n
+begins_below n size k some l =
+    let positive : 0 < size = omega (arith, some) in
+    let a : (k + 1) * size ≤ n + (size - 1) = (le-div_iff_mul-le positive).0 (next_below k (batches_of size n) l) in
+    omega (arith, a, some)
+  where
+    next_below : (x y : ℕ) → x < y → x + 1 ≤ y
+    next_below x y h = omega (arith, h)
+
+-- a search that is not the last job has a batch
+pub has_batch : (bound n number : ℕ) → number < total_of bound n → (number ≢ 0) → (number ≢ 1) → (number + 1 ≢ total_of bound n) → (number - 2) / 2 < batches n
+has_batch bound n number l a b d = go (bound == 0) refl
+  where
+    go : (t : Bool) → (bound == 0) ≡ t → (number - 2) / 2 < batches n
+    go true e = absurd (let m : total_of bound n ≡ 3 = rw e refl in omega (arith, l, a, b, d, m))
+    go false e = let m : total_of bound n ≡ 3 + 2 * batches n = rw e refl in omega (arith, l, a, b, d, m)
+
+pub job_begins : (bound n number size : ℕ) → size ≡ batch_of n → 64 ≤ size → number < total_of bound n → (number ≢ 0) → (number ≢ 1) → (number + 1 ≢ total_of bound n) → size * ((number - 2) / 2) ≤ n
+job_begins bound n number size e some l a b d =
+    begins_below n size ((number - 2) / 2) some (subst (λ (s : ℕ). (number - 2) / 2 < batches_of s n) (sym e) (has_batch bound n number l a b d))

@@ -1,0 +1,11 @@
+use Rattle.pg_workers.proofs.Batches.{first_tried, next_tried, last_tried}
+use Rattle.pg_workers.proofs.options.batch_of.Goals as goal
+
+pub loop-size-init : goal.loop-size-init
+loop-size-init c = first_tried c.args.n c.requires
+
+pub loop-size-preserved : goal.loop-size-preserved
+loop-size-preserved c = next_tried c.args.n c.loop-size.size c.loop-size.invariant c.loop-size-test.true
+
+pub returns-clause-size : goal.returns-clause-size
+returns-clause-size c = last_tried c.args.n c.loop-size.size c.loop-size.invariant c.loop-size-test.false
