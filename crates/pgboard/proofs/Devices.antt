@@ -12,34 +12,6 @@ read_more (Some x) None c xs ys p q = absurd p
 read_more (Some x) (Some y) None xs ys p q = absurd q
 read_more (Some x) (Some y) (Some z) xs ys p q = p ∙ ap (λ l. xs ++ l) q ∙ sym (append_assoc xs ys z)
 
--- the last read gives nothing
-pub read_whole : (a b c : Option (List ℕ)) (xs ys : List ℕ) (n : ℕ) → Consumes a b xs → Consumes b c (take n ys) → n ≡ 0 → IsAtEnd c → IfSome a (λ bytes. xs ≡ bytes)
-read_whole None b c xs ys n p q zero end = tt
-read_whole (Some x) None c xs ys n p q zero end = absurd p
-read_whole (Some x) (Some y) None xs ys n p q zero end = absurd q
-read_whole (Some x) (Some y) (Some z) xs ys n p q zero end =
-    let none : take n ys ≡ [] = ap (λ k. take k ys) zero in
-    let rest : y ≡ [] = q ∙ ap (λ l. l ++ z) none ∙ end in
-    sym (p ∙ ap (λ l. xs ++ l) rest ∙ append-nil xs)
-
--- more was read than m
-pub read_past : (a b c : Option (List ℕ)) (xs ys : List ℕ) (m n : ℕ) → Consumes a b xs → Consumes b c (take n ys) → n ≤ length ys → m < length xs + n → IfSome a (λ bytes. m < length bytes)
-read_past None b c xs ys m n p q le lt = tt
-read_past (Some x) None c xs ys m n p q le lt = absurd p
-read_past (Some x) (Some y) None xs ys m n p q le lt = absurd q
-read_past (Some x) (Some y) (Some z) xs ys m n p q le lt =
-    let whole : length x ≡ length xs + length y = ap length p ∙ length-append xs y in
-    let rest : length y ≡ length (take n ys) + length z = ap length q ∙ length-append (take n ys) z in
-    omega (arith, length-take n ys)
-
--- a piece that has room leaves the text within the limit
-pub within_limit : (xs ys : List ℕ) (m n : ℕ) → n ≤ length ys → length xs + n ≤ m → length (xs ++ take n ys) ≤ m
-within_limit xs ys m n le room = omega (arith, length-append xs (take n ys), length-take n ys)
-
--- a counted failure
-pub has_failed : (old new : ℕ) → new ≡ min (old + 1) last_count → HasFailed old new
-has_failed old new e = elim (cases_lt old last_count) [ inl lt ↦ inl (omega arith) | inr le ↦ inr le ]
-
 both_written : (a b c : Option (List ℕ)) (xs ys : List ℕ) → Appends a b xs → Appends b c ys → Appends a c (xs ++ ys)
 both_written None b c xs ys p q = tt
 both_written (Some x) None c xs ys p q = absurd p
