@@ -6,10 +6,12 @@ use Rattle.pg_game.specs.Graph.{Graph, IsGame}
 use Rattle.pg_game.specs.Limits.{IsWithinLimits}
 use Rattle.pg_game.specs.VertexSet.{members}
 use Rattle.pg_finders.specs.Part.{Part}
+use Rattle.pg_finders.specs.declared.inside.Copied.{Copied}
 use Rattle.pg_dominion.specs.Claim.{Rows}
 use Rattle.pg_dominion.specs.Checked.{CheckedClaim, claim_rows, Agrees}
 use Rattle.pg_board.specs.declared.entry.Entry.{Entry}
 use Rattle.pg_board.specs.declared.refusal.Refusal.{Refusal}
+use Rattle.pg_board.specs.Play.{Play}
 use Rattle.pg_board.specs.State.{unsettled, IsGoodOn}
 use Rattle.pg_board.specs.Journal.{Journal, state_of, Answers, IsLawful, number_settled}
 use Rattle.pg_board.specs.Refusal.{Refuses, RefusesChecked}
@@ -19,6 +21,11 @@ pub record IsCopyOf (journal : Journal) (part : Part) (at settled : ℕ) : Type 
   pub mask : (v : ℕ) → members part.mask v ≡ unsettled part.graph (state_of journal) v
   pub at_is : at ≡ length journal
   pub settled_is : settled ≡ number_settled journal
+
+-- a copy of the board as it stands
+pub record IsPresentCopy (board : Play) (c : Copied) : Type 0 where
+  pub graph : c.inside.graph ≡ board.graph
+  pub copy : IsCopyOf board.journal c.inside c.at c.settled
 
 -- a copy of some lawful board with at least the amount settled
 abbrev pub IsCopyOfSome : Part → ℕ → ℕ → ℕ → Type 0

@@ -3,7 +3,12 @@
 //! Each share is a part of the ledger and knows how much was settled by posts through it. The ledger keeps that all
 //! amounts together are the book, and the type under the lock keeps that the book is the number settled. So the
 //! amount of a share is never above the number settled, whatever was posted meanwhile by others.
+//!
+//! The copy that was last shared lies under the lock too, until something is settled: the type keeps that it is of the
+//! board as it stands. So those who ask for a copy of an unchanged board get one and the same.
 ghost use Rattle.std.specs.Prelude.{◌≡◌, ◌+◌, ◌-◌, ◌≤◌, ◌<◌, ℕ, ◌∷◌, [], Ok, IfOk, OnErr, sum, replicate, vec_len};
+ghost use Rattle.std.specs.Arc.{arc_value};
+ghost use Rattle.std.specs.Option.{ForSome};
 ghost use Rattle.pg_game.specs.Graph.{IsGame};
 ghost use Rattle.pg_game.specs.Limits.{IsWithinLimits};
 ghost use Rattle.pg_game.specs.Specification.{max_vertices};
@@ -11,7 +16,7 @@ ghost use Rattle.pg_board.specs.Journal.{IsLawful, number_settled};
 ghost use Rattle.pg_board.specs.Shares.{AreExact};
 ghost use Rattle.pg_board.specs.declared.entry.Posted.{Posted};
 ghost use Rattle.pg_board.specs.Post.{Adds};
-ghost use Rattle.pg_board.specs.Office.{IsCopyOfSome, IsAnswer, IsAnswerOfSome, IsCheckedAnswer, IsCheckedAnswerOfSome};
+ghost use Rattle.pg_board.specs.Office.{IsCopyOfSome, IsPresentCopy, IsAnswer, IsAnswerOfSome, IsCheckedAnswer, IsCheckedAnswerOfSome};
 ghost use Rattle.pg_dominion.specs.Checked.{claim_of};
 
 use crate::board::Board;
@@ -22,14 +27,17 @@ use pg_game::{Game, Memory};
 use std::alloc::Global;
 use std::marker::Model;
 use std::sync::ledger::{Blank, Book, Ledger, Share as Token};
-use std::sync::{Mutex, Wait};
+use std::sync::{Arc, Mutex, Wait};
 
-/// What lies under the lock: the board and the book, which is the number settled.
+/// What lies under the lock: the board, the book, which is the number settled, and the copy that was last shared, while
+/// it is of the board as it stands.
 #[derive(Drop)]
 pub(crate) struct Desk<'g, L: Ledger> {
     board: Board<'g>,
     book: Book<L>,
+    shared: Option<Arc<Copied<'g>>>,
     ghost exact: { book.total ≡ number_settled board.journal },
+    ghost present: { ForSome shared (λ c. IsPresentCopy board (arc_value c)) },
 }
 
 /// A share of an office: the amount of vertices that was settled through it. Contracts see it as that number.
@@ -76,11 +84,16 @@ impl<'g, L: Ledger> Desk<'g, L> {
         ensures unchanged { OnErr result (share.new ≡ share.old) }
         ensures board { OnErr result (self.new.board ≡ self.old.board) }
     {
-        let Desk { board, book } = self;
+        let Desk {
+            board,
+            book,
+            shared,
+        } = self;
         let Share { token, amount } = share;
         book.audit(token);
         let _game = board.game();
         let posted = board.post(alloc, worker, claim)?;
+        *shared = None;
         let more = u64::from(posted.settled);
         book.add(token, more);
         let _after = board.game();
@@ -107,16 +120,41 @@ impl<'g, L: Ledger> Desk<'g, L> {
         ensures unchanged { OnErr result (share.new ≡ share.old) }
         ensures board { OnErr result (self.new.board ≡ self.old.board) }
     {
-        let Desk { board, book } = self;
+        let Desk {
+            board,
+            book,
+            shared,
+        } = self;
         let Share { token, amount } = share;
         book.audit(token);
         let _game = board.game();
         let settled = board.settle(alloc, worker, checked)?.settled;
+        *shared = None;
         let added = u64::from(settled);
         book.add(token, added);
         let _after = board.game();
         *amount += added;
         Ok(settled)
+    }
+
+    /// The copy that was last shared, where the board is still as it was, and else a new one.
+    fn shared_copy(&mut self, alloc: Global) -> Result<Arc<Copied<'g>>, Memory>
+        ensures copy { IfOk result (λ c. IsPresentCopy self.old.board (arc_value c)) }
+        ensures board { self.new.board ≡ self.old.board }
+        ensures some { IfOk result (λ c. IsCopyOfSome (arc_value c).inside (arc_value c).at (arc_value c).settled 0) }
+    {
+        let Desk {
+            board,
+            book: _,
+            shared,
+        } = self;
+        let _game = board.game();
+        if let Some(copied) = shared {
+            return Arc::try_clone(copied);
+        }
+        let copied = Arc::new(alloc, board.copy(alloc)?)?;
+        *shared = Some(Arc::try_clone(&copied)?);
+        Ok(copied)
     }
 }
 
@@ -168,7 +206,11 @@ impl<'g, L: Ledger> Office<'g, L> {
             shares.push_reserved(Share { token, amount: 0 });
         }
         let office = Office {
-            desk: Mutex::new(Desk { board, book }),
+            desk: Mutex::new(Desk {
+                board,
+                book,
+                shared: None,
+            }),
         };
         Ok((office, shares))
     }
@@ -180,7 +222,11 @@ impl<'g, L: Ledger> Office<'g, L> {
         ensures lawful { IsLawful result.graph result.journal }
     {
         let Office { desk } = self;
-        let Desk { board, mut book } = desk.into_inner();
+        let Desk {
+            board,
+            mut book,
+            shared: _,
+        } = desk.into_inner();
         let Some(last) = shares.pop() else {
             unreachable!()
         };
@@ -247,6 +293,25 @@ impl<'g, L: Ledger> Office<'g, L> {
             let _game = desk.board.game();
             if desk.board.settled() >= share.amount {
                 return desk.board.copy(alloc);
+            }
+        }
+        unreachable!()
+    }
+
+    /// As `copy`, but a copy that was shared before is shared again where nothing was settled since. That takes no memory,
+    /// and no time in the size of the game.
+    pub fn shared_copy<R: Wait>(
+        &self,
+        rt: &R,
+        alloc: Global,
+        share: &Share<L>,
+    ) -> Result<Arc<Copied<'g>>, Memory>
+        ensures { IfOk result (λ c. IsCopyOfSome (arc_value c).inside (arc_value c).at (arc_value c).settled share.now) }
+    {
+        for _ in rt.forever() {
+            let copied = self.desk.lock(rt).shared_copy(alloc)?;
+            if copied.settled >= share.amount {
+                return Ok(copied);
             }
         }
         unreachable!()

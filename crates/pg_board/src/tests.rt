@@ -11,3 +11,4 @@ mod random;
 mod reference;
 mod sequences;
 mod settling;
+mod sharing;

@@ -139,7 +139,7 @@ fn search<'g, L: Ledger, F: Finder, R: Wait>(
     share: &Share<L>,
     job: &Job,
 ) -> Result<(Found, &'g Game), Memory> {
-    let copied = office.copy(rt, alloc, share)?;
+    let copied = office.shared_copy(rt, alloc, share)?;
     let found = finder.find(alloc, &copied, job)?;
     Ok((found, copied.inside.game()))
 }
