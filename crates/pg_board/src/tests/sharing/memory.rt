@@ -36,7 +36,9 @@ fn share_after_a_refusal<L: Ledger, R: Wait + Abort>(
     requires name { blank.name ≡ L.name }
     requires parts { (blank.parts ≡ L.parts) × (blank.parts ≡ 1) }
 {
-    let (office, shares) = needed(Office::<L>::open(alloc, blank, game, 1))?;
+    let Ok((office, shares)) = Office::<L>::open(alloc, blank, game, 1) else {
+        return Err(Fail::from("no memory for the test itself"));
+    };
     let share = &shares[0];
     if office.shared_copy(rt, alloc, share).is_err() {
         assert!(rt; office.shared_copy(rt, alloc, share).is_ok());
