@@ -69,8 +69,8 @@ fn contents(alloc: Global, copied: &Copied) -> Result<Contents, Fail> {
     Ok((vertices, copied.at, copied.settled))
 }
 
-fn checked_on(alloc: Global, game: &Game, claim: &Claim) -> Result<Checked, Fail> {
-    needed(check_claim(alloc, game, claim))
+fn checked_on(alloc: Global, game: &Game, player: Player, rows: &[Row]) -> Result<Checked, Fail> {
+    needed(check_claim(alloc, game, &claim_of(alloc, player, rows)?))
 }
 
 /// A call of a board.
@@ -171,17 +171,28 @@ const SECOND: Posted = Posted {
     settled: 1,
 };
 
+/// Both calls on a new board of the shared game.
+fn accepted_by_board(
+    rt: &impl Abort,
+    alloc: Global,
+    game: &Game,
+    even: &Asked,
+    odd: &Asked,
+) -> Result<(), Fail> {
+    let mut board = board_of(alloc, game)?;
+    accepted(rt, alloc, &mut board, even, FIRST)?;
+    accepted(rt, alloc, &mut board, odd, SECOND)?;
+    compare_entries(rt, board.entries());
+    Ok(())
+}
+
 #[test]
 fn a_post_without_memory_changes_nothing_and_is_then_accepted(rt: HostRuntime) -> Result<(), Fail> {
     let alloc = rt.alloc();
     let game = game_of(alloc, SHARED)?;
     let even = claim_of(alloc, EVEN, &[(0, Some(0))])?;
     let odd = claim_of(alloc, ODD, &[(2, Some(2))])?;
-    let mut board = board_of(alloc, &game)?;
-    accepted(&rt, alloc, &mut board, &Asked::Post(&even), FIRST)?;
-    accepted(&rt, alloc, &mut board, &Asked::Post(&odd), SECOND)?;
-    compare_entries(&rt, board.entries());
-    Ok(())
+    accepted_by_board(&rt, alloc, &game, &Asked::Post(&even), &Asked::Post(&odd))
 }
 
 #[test]
@@ -190,13 +201,15 @@ fn a_settle_without_memory_changes_nothing_and_is_then_accepted(
 ) -> Result<(), Fail> {
     let alloc = rt.alloc();
     let game = game_of(alloc, SHARED)?;
-    let even = checked_on(alloc, &game, &claim_of(alloc, EVEN, &[(0, Some(0))])?)?;
-    let odd = checked_on(alloc, &game, &claim_of(alloc, ODD, &[(2, Some(2))])?)?;
-    let mut board = board_of(alloc, &game)?;
-    accepted(&rt, alloc, &mut board, &Asked::Settle(&even), FIRST)?;
-    accepted(&rt, alloc, &mut board, &Asked::Settle(&odd), SECOND)?;
-    compare_entries(&rt, board.entries());
-    Ok(())
+    let even = checked_on(alloc, &game, EVEN, &[(0, Some(0))])?;
+    let odd = checked_on(alloc, &game, ODD, &[(2, Some(2))])?;
+    accepted_by_board(
+        &rt,
+        alloc,
+        &game,
+        &Asked::Settle(&even),
+        &Asked::Settle(&odd),
+    )
 }
 
 fn opened_twice<'g>(alloc: Global, game: &'g Game) -> Result<Board<'g>, Memory> {
@@ -339,8 +352,8 @@ fn a_share_is_unchanged_by_a_settle_without_memory_which_is_then_accepted(
 ) -> Result<(), Fail> {
     let alloc = rt.alloc();
     let game = game_of(alloc, SHARED)?;
-    let even = checked_on(alloc, &game, &claim_of(alloc, EVEN, &[(0, Some(0))])?)?;
-    let odd = checked_on(alloc, &game, &claim_of(alloc, ODD, &[(2, Some(2))])?)?;
+    let even = checked_on(alloc, &game, EVEN, &[(0, Some(0))])?;
+    let odd = checked_on(alloc, &game, ODD, &[(2, Some(2))])?;
     let (even, odd) = (Asked::Settle(&even), Asked::Settle(&odd));
     accepted_by_office::<Brand, _>(&rt, alloc, Blank::new(2), &game, &even, &odd)
 }
