@@ -3,6 +3,26 @@
 ghost use Rattle.std.specs.Prelude.{IfOk};
 ghost use Rattle.pg_text.specs.Solution.{AreRows};
 
+// In the place of those of std.
+macro_rules! assert_eq {
+    ($rt:expr; $found:expr, $want:expr $(,)?) => {
+        $crate::tests::asserting::same(&$rt, $found, $want, stringify!($found))
+    };
+    ($rt:expr; $found:expr, $want:expr, $($note:tt)+) => {
+        $crate::tests::asserting::same(&$rt, $found, $want, format_args!($($note)+))
+    };
+}
+
+macro_rules! assert {
+    ($rt:expr; $is_so:expr $(,)?) => {
+        $crate::tests::asserting::holds(&$rt, $is_so, stringify!($is_so))
+    };
+    ($rt:expr; $is_so:expr, $($note:tt)+) => {
+        $crate::tests::asserting::holds(&$rt, $is_so, format_args!($($note)+))
+    };
+}
+
+mod asserting;
 mod bytes;
 mod faults;
 mod games;

@@ -1,12 +1,14 @@
 //! Worked answers: of one board each, to claims one after another, which are posted, or checked and settled.
 
-use crate::tests::calls::{CALLS, Call};
+use crate::tests::calls::{CALLS, Call, copied};
 use crate::tests::games::{
     EVEN, ODD, Row, bridge_game, claim_of, game_of, layered_game, shared_game, waiting_game,
 };
 use crate::{Board, Entry, Posted, Refusal};
 use pg_dominion::ClaimFault;
-use pg_game::Player;
+use pg_finders::Copied;
+use pg_game::{Game, Mask, Player};
+use pg_text::Solution;
 use std::alloc::Global;
 use std::process::Abort;
 use std::test::Fail;
@@ -38,46 +40,63 @@ fn posts(
     Ok(())
 }
 
+/// A new board of the game to which the claims were put.
+fn board_after<'g>(
+    rt: &impl Abort,
+    alloc: Global,
+    call: Call,
+    game: &'g Game,
+    claims: &[Post],
+) -> Result<Board<'g>, Fail> {
+    let mut board = Board::open(alloc, game)?;
+    posts(rt, alloc, call, &mut board, claims)?;
+    Ok(board)
+}
+
+/// Puts the claims to a new board of the game, by either call.
+fn post_by_both(rt: &impl Abort, alloc: Global, game: &Game, claims: &[Post]) -> Result<(), Fail> {
+    for call in CALLS {
+        let _board = board_after(rt, alloc, call, game, claims)?;
+    }
+    Ok(())
+}
+
 #[test]
 fn an_old_claim_settles_what_is_left_of_it_and_is_then_stale(rt: HostRuntime) -> Result<(), Fail> {
     let alloc = rt.alloc();
     let game = waiting_game(alloc)?;
     for call in CALLS {
-        let mut board = Board::open(alloc, &game)?;
-        put_old_claim(&rt, alloc, call, &mut board)?;
-        assert!(rt; board.is_full());
+        put_old_claim(&rt, alloc, call, &game)?;
     }
     Ok(())
 }
 
-fn put_old_claim(
-    rt: &impl Abort,
-    alloc: Global,
-    call: Call,
-    board: &mut Board,
-) -> Result<(), Fail> {
+fn put_old_claim(rt: &impl Abort, alloc: Global, call: Call, game: &Game) -> Result<(), Fail> {
     let both: [Row; 2] = [(0, Some(0)), (1, None)];
-    let first: [Post; 1] = [(EVEN, &both[..1], Ok((0, 1, 1)))];
-    posts(rt, alloc, call, board, &first)?;
-    compare_copy(rt, alloc, board)?;
+    let first: [Post; 1] = [(EVEN, &[(0, Some(0))], Ok((0, 1, 1)))];
+    let mut board = board_after(rt, alloc, call, game, &first)?;
+    compare_copy(rt, &copied(alloc, &board)?);
     let old: [Post; 2] = [
         (EVEN, &both, Ok((1, 1, 1))),
         (EVEN, &both, Err(Refusal::Stale)),
     ];
-    posts(rt, alloc, call, board, &old)
+    posts(rt, alloc, call, &mut board, &old)?;
+    assert!(rt; board.is_full());
+    Ok(())
 }
 
 /// The copy of the waiting game's board after its first post.
-fn compare_copy(rt: &impl Abort, alloc: Global, board: &Board) -> Result<(), Fail> {
-    let copy = board.copy(alloc)?;
+fn compare_copy(rt: &impl Abort, copy: &Copied) {
     assert_eq!(rt; copy.at, 1);
     assert_eq!(rt; copy.settled, 1);
     let mask = copy.inside.mask();
     assert_eq!(rt; mask.len(), 2);
     assert_eq!(rt; mask.count(), 1);
-    let is_left = mask.len() > 1 && mask.has(1);
-    assert!(rt; is_left);
-    Ok(())
+    assert!(rt; is_member(mask, 1));
+}
+
+fn is_member(mask: &Mask, v: u32) -> bool {
+    v < mask.len() && mask.has(v)
 }
 
 #[test]
@@ -91,8 +110,7 @@ fn what_is_attracted_is_lost_for_the_opponent(rt: HostRuntime) -> Result<(), Fai
         (ODD, &[(1, Some(0)), (2, Some(2))], Err(Refusal::Lost(1))),
     ];
     for call in CALLS {
-        let mut board = Board::open(alloc, &game)?;
-        posts(&rt, alloc, call, &mut board, &claims)?;
+        let board = board_after(&rt, alloc, call, &game, &claims)?;
         assert_eq!(rt; board.winner(1), Some(EVEN));
         assert_eq!(rt; board.choice(1), None);
         assert_eq!(rt; board.winner(2), None);
@@ -106,33 +124,48 @@ fn a_full_board_has_a_solution(rt: HostRuntime) -> Result<(), Fail> {
     let alloc = rt.alloc();
     let game = shared_game(alloc)?;
     for call in CALLS {
-        let mut board = Board::open(alloc, &game)?;
-        fill_shared(&rt, alloc, call, &mut board)?;
+        compare_new(&rt, alloc, &game)?;
+        let board = fill_shared(&rt, alloc, call, &game)?;
         compare_solution(&rt, alloc, &board)?;
         assert_eq!(rt; board.into_entries().len(), 2);
     }
     Ok(())
 }
 
-/// Both loops are settled, and the board is full.
-fn fill_shared(rt: &impl Abort, alloc: Global, call: Call, board: &mut Board) -> Result<(), Fail> {
+/// A board of the shared game on which nothing is settled.
+fn compare_new(rt: &impl Abort, alloc: Global, game: &Game) -> Result<(), Fail> {
+    let board = board_after(rt, alloc, Call::Post, game, &[])?;
     assert_eq!(rt; board.game().len(), 3);
-    assert!(rt; board.solution(alloc)?.is_none());
+    assert!(rt; solution_of(alloc, &board)?.is_none());
+    Ok(())
+}
+
+/// Both loops are settled, and the board is full.
+fn fill_shared<'g>(
+    rt: &impl Abort,
+    alloc: Global,
+    call: Call,
+    game: &'g Game,
+) -> Result<Board<'g>, Fail> {
     let claims: [Post; 2] = [
         (EVEN, &[(0, Some(0))], Ok((0, 1, 2))),
         (ODD, &[(2, Some(2))], Ok((1, 1, 1))),
     ];
-    posts(rt, alloc, call, board, &claims)?;
+    let board = board_after(rt, alloc, call, game, &claims)?;
     assert_eq!(rt; board.settled(), 3);
     assert_eq!(rt; board.settled_by(7), 3);
     assert_eq!(rt; board.settled_by(8), 0);
-    Ok(())
+    Ok(board)
+}
+
+fn solution_of(alloc: Global, board: &Board) -> Result<Option<Solution>, Fail> {
+    Ok(board.solution(alloc)?)
 }
 
 /// The solution of the full board of the shared game.
 fn compare_solution(rt: &impl Abort, alloc: Global, board: &Board) -> Result<(), Fail> {
     assert!(rt; board.is_full());
-    let Some(solution) = board.solution(alloc)? else {
+    let Some(solution) = solution_of(alloc, board)? else {
         return Err(Fail::from("a full board has a solution"));
     };
     let rows = [(EVEN, Some(0)), (EVEN, None), (ODD, Some(2))];
@@ -149,8 +182,7 @@ fn an_edge_out_of_the_rest_is_told_before_it_is_settled(rt: HostRuntime) -> Resu
         (EVEN, &[], Err(Refusal::Claim(ClaimFault::Shape(0)))),
     ];
     for call in CALLS {
-        let mut board = Board::open(alloc, &game)?;
-        posts(&rt, alloc, call, &mut board, &claims)?;
+        let board = board_after(&rt, alloc, call, &game, &claims)?;
         assert_eq!(rt; board.settled(), 0);
         assert!(rt; board.entries().is_empty());
     }
@@ -166,11 +198,7 @@ fn a_bad_cycle_of_a_claim_is_told(rt: HostRuntime) -> Result<(), Fail> {
         (EVEN, &both, Err(Refusal::Claim(ClaimFault::Cycle(1)))),
         (EVEN, &[], Err(Refusal::Claim(ClaimFault::Shape(0)))),
     ];
-    for call in CALLS {
-        let mut board = Board::open(alloc, &game)?;
-        posts(&rt, alloc, call, &mut board, &claims)?;
-    }
-    Ok(())
+    post_by_both(&rt, alloc, &game, &claims)
 }
 
 #[test]
@@ -185,8 +213,7 @@ fn attraction_goes_through_two_layers(rt: HostRuntime) -> Result<(), Fail> {
         (ODD, &[(2, Some(1))], Err(Refusal::Lost(2))),
     ];
     for call in CALLS {
-        let mut board = Board::open(alloc, &game)?;
-        posts(&rt, alloc, call, &mut board, &claims)?;
+        let board = board_after(&rt, alloc, call, &game, &claims)?;
         assert!(rt; board.is_full());
         compare_layers(&rt, board.entries())?;
     }
@@ -219,11 +246,7 @@ fn a_claim_that_was_a_dominion_once_is_settled_or_stale(rt: HostRuntime) -> Resu
         (EVEN, &all, Ok((2, 1, 1))),
         (EVEN, &all, Err(Refusal::Stale)),
     ];
-    for call in CALLS {
-        let mut board = Board::open(alloc, &game)?;
-        posts(&rt, alloc, call, &mut board, &claims)?;
-    }
-    Ok(())
+    post_by_both(&rt, alloc, &game, &claims)
 }
 
 #[test]
@@ -234,9 +257,5 @@ fn a_dominion_after_one_entry_is_settled(rt: HostRuntime) -> Result<(), Fail> {
         (EVEN, &[(0, Some(0))], Ok((0, 1, 1))),
         (EVEN, &[(1, None)], Ok((1, 1, 1))),
     ];
-    for call in CALLS {
-        let mut board = Board::open(alloc, &game)?;
-        posts(&rt, alloc, call, &mut board, &claims)?;
-    }
-    Ok(())
+    post_by_both(&rt, alloc, &game, &claims)
 }

@@ -2,11 +2,18 @@
 
 use crate::{Board, Office, Posted, Refusal, Share};
 use pg_dominion::{Claim, check_claim};
+use pg_finders::Copied;
 use pg_game::Game;
 use std::alloc::Global;
 use std::process::Abort;
 use std::sync::Wait;
 use std::sync::ledger::Ledger;
+use std::test::Fail;
+
+/// A copy of the board, of which a test is told nothing.
+pub fn copied<'g>(alloc: Global, board: &Board<'g>) -> Result<Copied<'g>, Fail> {
+    Ok(board.copy(alloc)?)
+}
 
 /// How a claim is put to a board.
 #[derive(Clone, Copy, Debug)]

@@ -1,13 +1,13 @@
 //! Claims that the finders give for copies of a board, posted to it at once and later.
 
-use crate::tests::calls::{CALLS, Call};
+use crate::tests::calls::{CALLS, Call, copied};
 use crate::tests::games::{
     EVEN, ODD, Row, Vertex, bridge_game, claim_of, divided_game, game_of, layered_game,
     shared_game, winding_game,
 };
 use crate::{Board, Refusal};
 use pg_dominion::Claim;
-use pg_finders::{Finder, Found, Job, Standard, zielonka};
+use pg_finders::{Copied, Finder, Found, Job, Solved, Standard, zielonka};
 use pg_game::{Game, Player};
 use std::alloc::Global;
 use std::process::Abort;
@@ -30,6 +30,15 @@ fn put_dominions(rt: &impl Abort, alloc: Global, call: Call, board: &mut Board, 
     }
 }
 
+/// What `Standard` finds in a copy of the board.
+fn found_in(alloc: Global, board: &Board, job: &Job) -> Result<Found, Fail> {
+    find(alloc, &copied(alloc, board)?, job)
+}
+
+fn find(alloc: Global, copied: &Copied, job: &Job) -> Result<Found, Fail> {
+    Ok(Standard.find(alloc, copied, job)?)
+}
+
 /// Puts what `Standard` finds for each job, each on a new copy.
 fn put_found(rt: &impl Abort, alloc: Global, call: Call, game: &Game) -> Result<(), Fail> {
     let mut board = Board::open(alloc, game)?;
@@ -40,8 +49,7 @@ fn put_found(rt: &impl Abort, alloc: Global, call: Call, game: &Game) -> Result<
         small_job(ODD, 4, 10_000),
         Job::Recursion,
     ] {
-        let copied = board.copy(alloc)?;
-        let found = Standard.find(alloc, &copied, &job)?;
+        let found = found_in(alloc, &board, &job)?;
         put_dominions(rt, alloc, call, &mut board, found.claims.as_slice());
     }
     assert!(rt; board.is_full());
@@ -79,8 +87,7 @@ fn found_on_new(
 ) -> Result<Found, Fail> {
     let game = game_of(alloc, vertices)?;
     let board = Board::open(alloc, &game)?;
-    let copied = board.copy(alloc)?;
-    Ok(Standard.find(alloc, &copied, &small_job(EVEN, bound, budget))?)
+    found_in(alloc, &board, &small_job(EVEN, bound, budget))
 }
 
 #[test]
@@ -133,10 +140,13 @@ fn put_late(
     Ok(())
 }
 
+fn solved(alloc: Global, copied: &Copied) -> Result<Solved, Fail> {
+    Ok(zielonka(alloc, &copied.inside)?)
+}
+
 /// Both claims of the recursion in a copy of the board.
 fn find_all(alloc: Global, board: &Board, claims: &mut Vec<Claim>) -> Result<(), Fail> {
-    let copied = board.copy(alloc)?;
-    let solved = zielonka(alloc, &copied.inside)?;
+    let solved = solved(alloc, &copied(alloc, board)?)?;
     claims.push(solved.even)?;
     claims.push(solved.odd)?;
     Ok(())
@@ -168,16 +178,28 @@ fn put_in_order(
     claims: [&[Row]; 3],
 ) -> Result<(), Fail> {
     for call in CALLS {
-        let mut board = Board::open(alloc, game)?;
-        for rows in claims {
-            let claim = claim_of(alloc, EVEN, rows)?;
-            put_dominion(rt, alloc, call, &mut board, &claim);
-        }
+        let board = board_after(rt, alloc, call, game, &claims)?;
         for v in 0..3 {
             assert_eq!(rt; board.winner(v), Some(EVEN), "{call:?} {claims:?}");
         }
     }
     Ok(())
+}
+
+/// A new board after Even's claims.
+fn board_after<'g>(
+    rt: &impl Abort,
+    alloc: Global,
+    call: Call,
+    game: &'g Game,
+    claims: &[&[Row]],
+) -> Result<Board<'g>, Fail> {
+    let mut board = Board::open(alloc, game)?;
+    for rows in claims {
+        let claim = claim_of(alloc, EVEN, *rows)?;
+        put_dominion(rt, alloc, call, &mut board, &claim);
+    }
+    Ok(board)
 }
 
 #[test]

@@ -30,6 +30,14 @@ fn needed<T, E: Drop>(made: Result<T, E>) -> Result<T, Fail> {
     }
 }
 
+/// The game of a short text.
+fn game_of(alloc: Global, text: &[u8]) -> Result<Game, Fail> {
+    if text.len() > 1000 {
+        return Err(Fail::from("the text is not short"));
+    }
+    needed(read_game(alloc, text))
+}
+
 fn claim_of(alloc: Global, player: Player, rows: &[Row]) -> Result<Claim, Fail> {
     Ok(Claim {
         player,
@@ -61,8 +69,13 @@ fn contents(alloc: Global, copied: &Copied) -> Result<Contents, Fail> {
     Ok((vertices, copied.at, copied.settled))
 }
 
-fn checked_on<'g>(alloc: Global, game: &'g Game, claim: &Claim) -> Result<Checked<'g>, Fail> {
-    needed(check_claim(alloc, game, claim))
+fn checked_on<'g>(
+    alloc: Global,
+    game: &'g Game,
+    player: Player,
+    rows: &[Row],
+) -> Result<Checked<'g>, Fail> {
+    needed(check_claim(alloc, game, &claim_of(alloc, player, rows)?))
 }
 
 /// A call of a board.
@@ -87,16 +100,45 @@ fn accepted(
     asked: &Asked,
     want: Posted,
 ) -> Result<(), Fail> {
-    let entries = told(alloc, board.entries())?;
-    let copied = contents(alloc, &needed(board.copy(alloc))?)?;
+    let before = said_by(alloc, board)?;
     let mut found = answer(alloc, board, asked);
-    if found == Err(Refusal::Memory) {
-        assert_eq!(rt; told(alloc, board.entries())?, entries);
-        assert_eq!(rt; contents(alloc, &needed(board.copy(alloc))?)?, copied);
-        assert_eq!(rt; board.settled(), copied.2);
+    if is_of_memory(&found) {
+        compare_said(rt, alloc, board, &before)?;
         found = answer(alloc, board, asked);
     }
     assert_eq!(rt; found, Ok(want));
+    Ok(())
+}
+
+fn is_of_memory<T>(found: &Result<T, Refusal>) -> bool {
+    matches!(found, Err(Refusal::Memory))
+}
+
+fn board_of<'g>(alloc: Global, game: &'g Game) -> Result<Board<'g>, Fail> {
+    needed(Board::open(alloc, game))
+}
+
+/// What a board tells of itself: its entries and its copy.
+#[derive(Drop)]
+struct Said {
+    entries: Vec<Told>,
+    copied: Contents,
+}
+
+fn said_by(alloc: Global, board: &Board) -> Result<Said, Fail> {
+    let entries = told(alloc, board.entries())?;
+    let copied = copied_contents(alloc, board)?;
+    Ok(Said { entries, copied })
+}
+
+fn copied_contents(alloc: Global, board: &Board) -> Result<Contents, Fail> {
+    contents(alloc, &needed(board.copy(alloc))?)
+}
+
+fn compare_said(rt: &impl Abort, alloc: Global, board: &Board, want: &Said) -> Result<(), Fail> {
+    assert_eq!(rt; &told(alloc, board.entries())?, &want.entries);
+    assert_eq!(rt; &copied_contents(alloc, board)?, &want.copied);
+    assert_eq!(rt; board.settled(), want.copied.2);
     Ok(())
 }
 
@@ -106,12 +148,20 @@ fn compare_entries(rt: &impl Abort, entries: &[Entry]) {
     let even: [Row; 2] = [(0, Some(0)), (1, None)];
     let odd: [Row; 1] = [(2, Some(2))];
     for (at, entry) in entries.iter().enumerate() {
-        let rows = if at == 0 { &even[..] } else { &odd[..] };
-        assert_eq!(rt; entry.player, if at == 0 { EVEN } else { ODD });
-        assert_eq!(rt; entry.worker, 7);
-        assert_eq!(rt; entry.claimed, 1);
-        assert_eq!(rt; entry.rows.as_slice(), rows);
+        if at == 0 {
+            compare_entry(rt, entry, EVEN, &even);
+        } else {
+            compare_entry(rt, entry, ODD, &odd);
+        }
     }
+}
+
+/// An entry of worker 7 with one claimed vertex.
+fn compare_entry(rt: &impl Abort, entry: &Entry, player: Player, rows: &[Row]) {
+    assert_eq!(rt; entry.player, player);
+    assert_eq!(rt; entry.worker, 7);
+    assert_eq!(rt; entry.claimed, 1);
+    assert_eq!(rt; entry.rows.as_slice(), rows);
 }
 
 const FIRST: Posted = Posted {
@@ -126,17 +176,28 @@ const SECOND: Posted = Posted {
     settled: 1,
 };
 
+/// Both calls on a new board of the shared game.
+fn accepted_by_board(
+    rt: &impl Abort,
+    alloc: Global,
+    game: &Game,
+    even: &Asked,
+    odd: &Asked,
+) -> Result<(), Fail> {
+    let mut board = board_of(alloc, game)?;
+    accepted(rt, alloc, &mut board, even, FIRST)?;
+    accepted(rt, alloc, &mut board, odd, SECOND)?;
+    compare_entries(rt, board.entries());
+    Ok(())
+}
+
 #[test]
 fn a_post_without_memory_changes_nothing_and_is_then_accepted(rt: HostRuntime) -> Result<(), Fail> {
     let alloc = rt.alloc();
-    let game = needed(read_game(alloc, SHARED))?;
+    let game = game_of(alloc, SHARED)?;
     let even = claim_of(alloc, EVEN, &[(0, Some(0))])?;
     let odd = claim_of(alloc, ODD, &[(2, Some(2))])?;
-    let mut board = needed(Board::open(alloc, &game))?;
-    accepted(&rt, alloc, &mut board, &Asked::Post(&even), FIRST)?;
-    accepted(&rt, alloc, &mut board, &Asked::Post(&odd), SECOND)?;
-    compare_entries(&rt, board.entries());
-    Ok(())
+    accepted_by_board(&rt, alloc, &game, &Asked::Post(&even), &Asked::Post(&odd))
 }
 
 #[test]
@@ -144,14 +205,16 @@ fn a_settle_without_memory_changes_nothing_and_is_then_accepted(
     rt: HostRuntime,
 ) -> Result<(), Fail> {
     let alloc = rt.alloc();
-    let game = needed(read_game(alloc, SHARED))?;
-    let even = checked_on(alloc, &game, &claim_of(alloc, EVEN, &[(0, Some(0))])?)?;
-    let odd = checked_on(alloc, &game, &claim_of(alloc, ODD, &[(2, Some(2))])?)?;
-    let mut board = needed(Board::open(alloc, &game))?;
-    accepted(&rt, alloc, &mut board, &Asked::Settle(&even), FIRST)?;
-    accepted(&rt, alloc, &mut board, &Asked::Settle(&odd), SECOND)?;
-    compare_entries(&rt, board.entries());
-    Ok(())
+    let game = game_of(alloc, SHARED)?;
+    let even = checked_on(alloc, &game, EVEN, &[(0, Some(0))])?;
+    let odd = checked_on(alloc, &game, ODD, &[(2, Some(2))])?;
+    accepted_by_board(
+        &rt,
+        alloc,
+        &game,
+        &Asked::Settle(&even),
+        &Asked::Settle(&odd),
+    )
 }
 
 fn opened_twice<'g>(alloc: Global, game: &'g Game) -> Result<Board<'g>, Memory> {
@@ -175,10 +238,14 @@ fn solution_twice(alloc: Global, board: &Board) -> Result<Option<Solution>, Memo
     }
 }
 
+fn posted(alloc: Global, board: &mut Board, claim: &Claim) -> Result<Posted, Fail> {
+    needed(board.post(alloc, 7, claim))
+}
+
 #[test]
 fn a_board_is_opened_copied_and_read_after_a_refusal(rt: HostRuntime) -> Result<(), Fail> {
     let alloc = rt.alloc();
-    let game = needed(read_game(alloc, SHARED))?;
+    let game = game_of(alloc, SHARED)?;
     let mut board = opened_twice(alloc, &game)?;
     let copied = copied_twice(alloc, &board)?;
     assert_eq!(rt; copied.inside.mask().count(), 3);
@@ -186,8 +253,8 @@ fn a_board_is_opened_copied_and_read_after_a_refusal(rt: HostRuntime) -> Result<
     assert!(rt; solution_twice(alloc, &board)?.is_none());
     let even = claim_of(alloc, EVEN, &[(0, Some(0))])?;
     let odd = claim_of(alloc, ODD, &[(2, Some(2))])?;
-    assert_eq!(rt; needed(board.post(alloc, 7, &even))?, FIRST);
-    assert_eq!(rt; needed(board.post(alloc, 7, &odd))?, SECOND);
+    assert_eq!(rt; posted(alloc, &mut board, &even)?, FIRST);
+    assert_eq!(rt; posted(alloc, &mut board, &odd)?, SECOND);
     let Some(solution) = solution_twice(alloc, &board)? else {
         return Err(Fail::from("the board is not full"));
     };
@@ -210,6 +277,26 @@ fn answer_through<L: Ledger, R: Wait>(
     }
 }
 
+fn contents_through<L: Ledger, R: Wait>(
+    rt: &R,
+    alloc: Global,
+    office: &Office<L>,
+    share: &Share<L>,
+) -> Result<Contents, Fail> {
+    contents(alloc, &needed(office.copy(rt, alloc, share))?)
+}
+
+fn compare_through<L: Ledger, R: Wait + Abort>(
+    rt: &R,
+    alloc: Global,
+    office: &Office<L>,
+    share: &Share<L>,
+    want: &Contents,
+) -> Result<(), Fail> {
+    assert_eq!(rt; &contents_through(rt, alloc, office, share)?, want);
+    Ok(())
+}
+
 /// The same through a share, whose amount then is as before.
 fn accepted_through<L: Ledger, R: Wait + Abort>(
     rt: &R,
@@ -219,15 +306,12 @@ fn accepted_through<L: Ledger, R: Wait + Abort>(
     asked: &Asked,
     want: u32,
 ) -> Result<(), Fail> {
-    let copied = contents(alloc, &needed(office.copy(rt, alloc, share))?)?;
+    let copied = contents_through(rt, alloc, office, share)?;
     let amount = share.amount();
     let mut found = answer_through(rt, alloc, office, share, asked);
-    if found == Err(Refusal::Memory) {
+    if is_of_memory(&found) {
         assert_eq!(rt; share.amount(), amount);
-        assert_eq!(rt;
-            contents(alloc, &needed(office.copy(rt, alloc, share))?)?,
-            copied
-        );
+        compare_through(rt, alloc, office, share, &copied)?;
         found = answer_through(rt, alloc, office, share, asked);
     }
     assert_eq!(rt; found, Ok(want));
@@ -260,7 +344,7 @@ fn a_share_is_unchanged_by_a_post_without_memory_which_is_then_accepted(
     rt: HostRuntime,
 ) -> Result<(), Fail> {
     let alloc = rt.alloc();
-    let game = needed(read_game(alloc, SHARED))?;
+    let game = game_of(alloc, SHARED)?;
     let even = claim_of(alloc, EVEN, &[(0, Some(0))])?;
     let odd = claim_of(alloc, ODD, &[(2, Some(2))])?;
     let (even, odd) = (Asked::Post(&even), Asked::Post(&odd));
@@ -272,9 +356,9 @@ fn a_share_is_unchanged_by_a_settle_without_memory_which_is_then_accepted(
     rt: HostRuntime,
 ) -> Result<(), Fail> {
     let alloc = rt.alloc();
-    let game = needed(read_game(alloc, SHARED))?;
-    let even = checked_on(alloc, &game, &claim_of(alloc, EVEN, &[(0, Some(0))])?)?;
-    let odd = checked_on(alloc, &game, &claim_of(alloc, ODD, &[(2, Some(2))])?)?;
+    let game = game_of(alloc, SHARED)?;
+    let even = checked_on(alloc, &game, EVEN, &[(0, Some(0))])?;
+    let odd = checked_on(alloc, &game, ODD, &[(2, Some(2))])?;
     let (even, odd) = (Asked::Settle(&even), Asked::Settle(&odd));
     accepted_by_office::<Brand, _>(&rt, alloc, Blank::new(2), &game, &even, &odd)
 }

@@ -1,13 +1,14 @@
 //! Claims through the shares of an office.
 
-ghost use Rattle.std.specs.Prelude.{◌≡◌};
+ghost use Rattle.std.specs.Prelude.{◌≡◌, ◌≤◌, IfOk, vec_len};
 
 use crate::tests::calls::{CALLS, Call};
 use crate::tests::games::{
     EVEN, ODD, claim_of, claim_of_loops, divided_game, layered_game, loops_game, shared_game,
 };
 use crate::{Board, Office, Refusal, Share};
-use pg_dominion::{Claim, check_claim};
+use pg_dominion::{Checked, Claim, check_claim};
+use pg_finders::Copied;
 use pg_game::{Game, Player};
 use std::alloc::Global;
 use std::marker::Brand;
@@ -15,6 +16,31 @@ use std::process::Abort;
 use std::sync::Wait;
 use std::sync::ledger::{Blank, Ledger};
 use std::test::Fail;
+
+/// An office of a new board, with so many shares.
+fn office_of<'g, L: Ledger>(
+    alloc: Global,
+    blank: Blank,
+    game: &'g Game,
+    seats: u32,
+) -> Result<(Office<'g, L>, Vec<Share<L>>), Fail>
+    requires name { blank.name ≡ L.name }
+    requires parts { (blank.parts ≡ L.parts) × (blank.parts ≡ seats) }
+    requires seats { (1 ≤ seats) × (seats ≤ 64) }
+    ensures { IfOk result (λ o. vec_len o.1 ≡ seats) }
+{
+    Ok(Office::<L>::open(alloc, blank, game, seats)?)
+}
+
+/// A copy through the share, of which a test is told nothing.
+fn copied_through<'g, L: Ledger, R: Wait>(
+    rt: &R,
+    alloc: Global,
+    office: &Office<'g, L>,
+    share: &Share<L>,
+) -> Result<Copied<'g>, Fail> {
+    Ok(office.copy(rt, alloc, share)?)
+}
 
 #[test]
 fn a_copy_has_what_was_settled_through_the_share(rt: HostRuntime) -> Result<(), Fail> {
@@ -36,33 +62,65 @@ fn settle_by_two<L: Ledger, R: Wait + Abort>(
     requires name { blank.name ≡ L.name }
     requires parts { (blank.parts ≡ L.parts) × (blank.parts ≡ 2) }
 {
-    let (office, mut shares) = Office::<L>::open(alloc, blank, game, 2)?;
+    let (office, mut shares) = office_of::<L>(alloc, blank, game, 2)?;
+    settle_first(rt, alloc, call, &office, &mut shares[0], game)?;
+    settle_second(rt, alloc, call, &office, &mut shares[1], game)?;
+    compare_copy(rt, &copied_through(rt, alloc, &office, &shares[0])?);
+    compare_closed(rt, &office.close(shares));
+    Ok(())
+}
+
+/// Even's loop and what it attracts, settled by worker 1.
+fn settle_first<L: Ledger, R: Wait + Abort>(
+    rt: &R,
+    alloc: Global,
+    call: Call,
+    office: &Office<L>,
+    share: &mut Share<L>,
+    game: &Game,
+) -> Result<(), Fail> {
     let even = claim_of(alloc, EVEN, &[(0, Some(0))])?;
-    let odd = claim_of(alloc, ODD, &[(2, Some(2))])?;
-    let first = &mut shares[0];
     assert_eq!(rt;
-        call.put_through(rt, alloc, &office, first, 1, game, &even),
+        call.put_through(rt, alloc, office, share, 1, game, &even),
         Ok(2)
     );
-    assert_eq!(rt; first.amount(), 2);
-    assert!(rt; office.copy(rt, alloc, first)?.settled >= 2);
-    let second = &mut shares[1];
+    assert_eq!(rt; share.amount(), 2);
+    assert!(rt; copied_through(rt, alloc, office, share)?.settled >= 2);
+    Ok(())
+}
+
+/// Odd's loop, settled by worker 2, and claimed once more.
+fn settle_second<L: Ledger, R: Wait + Abort>(
+    rt: &R,
+    alloc: Global,
+    call: Call,
+    office: &Office<L>,
+    share: &mut Share<L>,
+    game: &Game,
+) -> Result<(), Fail> {
+    let odd = claim_of(alloc, ODD, &[(2, Some(2))])?;
     assert_eq!(rt;
-        call.put_through(rt, alloc, &office, second, 2, game, &odd),
+        call.put_through(rt, alloc, office, share, 2, game, &odd),
         Ok(1)
     );
-    let again = call.put_through(rt, alloc, &office, second, 2, game, &odd);
+    let again = call.put_through(rt, alloc, office, share, 2, game, &odd);
     assert_eq!(rt; again, Err(Refusal::Stale));
-    assert_eq!(rt; second.amount(), 1);
-    let copied = office.copy(rt, alloc, &shares[0])?;
+    assert_eq!(rt; share.amount(), 1);
+    Ok(())
+}
+
+/// A copy of the full board of the shared game.
+fn compare_copy(rt: &impl Abort, copied: &Copied) {
     assert_eq!(rt; copied.at, 2);
     assert_eq!(rt; copied.settled, 3);
     assert_eq!(rt; copied.inside.mask().count(), 0);
-    let board = office.close(shares);
+}
+
+/// The same board, with what each worker settled.
+fn compare_closed(rt: &impl Abort, board: &Board) {
     assert_eq!(rt; board.settled(), 3);
     assert_eq!(rt; board.settled_by(1), 2);
     assert_eq!(rt; board.settled_by(2), 1);
-    Ok(())
 }
 
 #[test]
@@ -81,14 +139,33 @@ fn open_round_a_board<L: Ledger>(
     requires name { blank.name ≡ L.name }
     requires parts { (blank.parts ≡ L.parts) × (blank.parts ≡ 2) }
 {
-    let mut board = Board::open(alloc, game)?;
-    let even = claim_of(alloc, EVEN, &[(0, Some(0))])?;
-    assert!(rt; board.post(alloc, 0, &even).is_ok());
-    let (office, shares) = Office::<L>::open_with(alloc, blank, board, 2)?;
+    let board = board_of_post(rt, alloc, game)?;
+    let (office, shares) = office_round::<L>(alloc, blank, board)?;
     let amounts = [shares[0].amount(), shares[1].amount()];
     assert_eq!(rt; amounts, [2, 0]);
     assert_eq!(rt; office.close(shares).settled(), 2);
     Ok(())
+}
+
+/// A board on which Even's loop is settled with what it attracts.
+fn board_of_post<'g>(rt: &impl Abort, alloc: Global, game: &'g Game) -> Result<Board<'g>, Fail> {
+    let mut board = Board::open(alloc, game)?;
+    let even = claim_of(alloc, EVEN, &[(0, Some(0))])?;
+    assert!(rt; board.post(alloc, 0, &even).is_ok());
+    Ok(board)
+}
+
+/// An office round the board, with two shares.
+fn office_round<'g, L: Ledger>(
+    alloc: Global,
+    blank: Blank,
+    board: Board<'g>,
+) -> Result<(Office<'g, L>, Vec<Share<L>>), Fail>
+    requires name { blank.name ≡ L.name }
+    requires parts { (blank.parts ≡ L.parts) × (blank.parts ≡ 2) }
+    ensures { IfOk result (λ o. vec_len o.1 ≡ 2) }
+{
+    Ok(Office::<L>::open_with(alloc, blank, board, 2)?)
 }
 
 #[test]
@@ -112,7 +189,7 @@ fn settle_singles_by_three<L: Ledger, R: Wait + Abort>(
     requires name { blank.name ≡ L.name }
     requires parts { (blank.parts ≡ L.parts) × (blank.parts ≡ 3) }
 {
-    let (office, mut shares) = Office::<L>::open(alloc, blank, game, 3)?;
+    let (office, mut shares) = office_of::<L>(alloc, blank, game, 3)?;
     settle_singles(rt, alloc, call, &office, &mut shares[0], game, 0)?;
     settle_singles(rt, alloc, call, &office, &mut shares[1], game, 1)?;
     settle_singles(rt, alloc, call, &office, &mut shares[2], game, 2)?;
@@ -172,20 +249,36 @@ fn settle_foreign<L: Ledger, R: Wait + Abort>(
     requires name { blank.name ≡ L.name }
     requires parts { (blank.parts ≡ L.parts) × (blank.parts ≡ 1) }
 {
-    let (office, mut shares) = Office::<L>::open(alloc, blank, game, 1)?;
+    let (office, mut shares) = office_of::<L>(alloc, blank, game, 1)?;
+    settle_checked(rt, alloc, &office, &mut shares[0], other, game)?;
+    assert_eq!(rt; office.close(shares).settled(), 3);
+    Ok(())
+}
+
+fn settle_checked<L: Ledger, R: Wait + Abort>(
+    rt: &R,
+    alloc: Global,
+    office: &Office<L>,
+    share: &mut Share<L>,
+    other: &Game,
+    game: &Game,
+) -> Result<(), Fail> {
     let claim = claim_of(alloc, EVEN, &[(0, Some(0))])?;
-    let Ok(checked) = check_claim(alloc, other, &claim) else {
-        return Err(Fail::from("the claim is sound in the other game"));
-    };
-    let share = &mut shares[0];
+    let checked = checked_on(alloc, other, &claim)?;
     let found = office.settle(rt, alloc, share, 1, &checked);
     assert_eq!(rt; found, Err(Refusal::Foreign(0)));
     assert_eq!(rt; share.amount(), 0);
-    let found = Call::Post.put_through(rt, alloc, &office, share, 1, game, &claim);
+    let found = Call::Post.put_through(rt, alloc, office, share, 1, game, &claim);
     assert_eq!(rt; found, Ok(3));
     assert_eq!(rt; share.amount(), 3);
-    assert_eq!(rt; office.close(shares).settled(), 3);
     Ok(())
+}
+
+fn checked_on<'g>(alloc: Global, game: &'g Game, claim: &Claim) -> Result<Checked<'g>, Fail> {
+    match check_claim(alloc, game, claim) {
+        Ok(checked) => Ok(checked),
+        Err(_) => Err(Fail::from("the claim is sound in the other game")),
+    }
 }
 
 #[test]
@@ -209,12 +302,23 @@ fn settle_all<L: Ledger, R: Wait + Abort>(
     requires name { blank.name ≡ L.name }
     requires parts { (blank.parts ≡ L.parts) × (blank.parts ≡ 1) }
 {
-    let (office, mut shares) = Office::<L>::open(alloc, blank, game, 1)?;
+    let (office, mut shares) = office_of::<L>(alloc, blank, game, 1)?;
+    settle_loops(rt, alloc, call, &office, &mut shares[0], game)?;
+    assert!(rt; office.close(shares).is_full());
+    Ok(())
+}
+
+fn settle_loops<L: Ledger, R: Wait + Abort>(
+    rt: &R,
+    alloc: Global,
+    call: Call,
+    office: &Office<L>,
+    share: &mut Share<L>,
+    game: &Game,
+) -> Result<(), Fail> {
     let claim = claim_of_loops(alloc, game.len())?;
-    let share = &mut shares[0];
-    let found = call.put_through(rt, alloc, &office, share, 1, game, &claim);
+    let found = call.put_through(rt, alloc, office, share, 1, game, &claim);
     assert_eq!(rt; found, Ok(1_048_576));
     assert_eq!(rt; share.amount(), 1_048_576);
-    assert!(rt; office.close(shares).is_full());
     Ok(())
 }

@@ -7,7 +7,7 @@ use crate::tests::games::{
 use crate::tests::random::{Random, altered_game, random_claim, random_game};
 use crate::tests::reference::{Plain, answer, first_foreign, region_of, size_of};
 use crate::{Board, Posted, Refusal};
-use pg_dominion::{Checked, Claim, check_claim};
+use pg_dominion::{Checked, CheckedRow, Claim, check_claim};
 use pg_game::{Game, Player};
 use std::alloc::Global;
 use std::process::Abort;
@@ -90,12 +90,18 @@ fn a_checked_claim_tells_its_rows(rt: HostRuntime) -> Result<(), Fail> {
     let rows = checked.rows();
     assert_eq!(rt; rows.len(), 2);
     for row in rows {
-        let kept = row.kept.as_slice();
-        assert_eq!(rt; kept.len(), 1);
-        assert_eq!(rt; kept.first(), Some(if row.vertex == 1 { &0 } else { &1 }));
-        assert_eq!(rt; row.priority, 3);
+        let target = if row.vertex == 1 { 0 } else { 1 };
+        compare_row(&rt, row, target);
     }
     Ok(())
+}
+
+/// A row of priority 3, which keeps one successor.
+fn compare_row(rt: &impl Abort, row: &CheckedRow, target: u32) {
+    let kept = row.kept.as_slice();
+    assert_eq!(rt; kept.len(), 1);
+    assert_eq!(rt; kept.first().copied(), Some(target));
+    assert_eq!(rt; row.priority, 3);
 }
 
 /// How many answers were foreign, and how many were not.
