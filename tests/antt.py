@@ -11,7 +11,7 @@ import os
 import re
 
 ROOT = os.path.dirname(os.path.dirname(os.path.abspath(__file__)))
-CRATES = ["pg_game", "pg_text", "pg_dominion", "pg_finders", "pg_board", "pg_workers", "pgboard"]
+CRATES = ["pg_game", "pg_text", "pg_dominion", "pg_finders", "pg_board", "pg_workers", "pgboard", "pgboard_c"]
 NAME = r"[^\s(){}\[\];,.:]+"
 WORD = re.compile(r"[\w'?!≢-]*\w[\w'?!≢-]*|[^\s\w]")
 BEGUN = re.compile(rf"^(?:(pub record|record|pub data|data) ({NAME})(?= )|(?:(abbrev pub|abbrev|unfoldable pub|unfoldable|pub) )?({NAME}) :)")

@@ -11,7 +11,7 @@ import re
 import sys
 
 ROOT = os.path.dirname(os.path.dirname(os.path.abspath(__file__)))
-CRATES = ["pg_game", "pg_text", "pg_dominion", "pg_finders", "pg_board", "pg_workers", "pgboard"]
+CRATES = ["pg_game", "pg_text", "pg_dominion", "pg_finders", "pg_board", "pg_workers", "pgboard", "pgboard_c"]
 
 
 def code_of(crate):

@@ -42,7 +42,7 @@ class BadEdit(Exception):
 def function_at(source, at):
     """The function that the place lies in, if it lies in one: the type that it is of, if any, and its path below a module."""
     before = source[:at]
-    functions = list(re.finditer(r"(?m)^( *)(?:pub(?:\(\w+\))? )?fn (\w+)", before))
+    functions = list(re.finditer(r"(?m)^( *)(?:pub(?:\(\w+\))? )?(?:extern \S+ )?fn (\w+)", before))
     last = functions[-1] if functions else None
     # an item that begins at the margin later ends the function
     if not last or re.search(r"(?m)^(?:pub |const|static|struct|enum|impl|mod|use|ghost|type)", before[last.end() :]):

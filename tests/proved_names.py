@@ -4,7 +4,7 @@
 In a table the second column has files of specs and names that they declare; the third files of src, calls of that file
 (`Board::post` is `post` of an implementation of Board) and clauses of the call before; a call with no clause there has
 one without a name. The fourth has edits, each of a crate that the row names. A public call is one that its crate's lib.rt
-hands on, or one of PROGRAM. Rows that are damaged on purpose have to be refused. The last line is 'N passed, M failed'.
+hands on, one of PROGRAM, or one that C calls. Rows that are damaged on purpose have to be refused. The last line is 'N passed, M failed'.
 """
 
 import functools
@@ -17,6 +17,7 @@ ROOT = os.path.dirname(os.path.dirname(os.path.abspath(__file__)))
 CRATES = os.path.join(ROOT, "crates")
 PAGE = os.path.join(ROOT, "docs", "PROVED.md")
 LAW = "a statement without a body"
+EXPORT = 'pub extern "C" '
 # the program hands nothing on: these files have its runs, and what they stand on
 PROGRAM = [f"pgboard/src/{it}.rt" for it in ("answer", "device", "fault", "reading", "run", "solve", "verdict", "words", "writing")]
 
@@ -52,10 +53,10 @@ def calls(path):
             owner, is_trait = owner_of(line), "trait" in line.split("{")[0] or " for " in line
         elif line == "}":
             owner = ""
-        begun = re.match(r"\s*(pub (?:\(crate\) )?)?fn (\w+)", line)
+        begun = re.match(r"\s*(pub (?:\(crate\) |extern \"C\" )?)?fn (\w+)", line)
         if begun:
             name = f"{owner}::{begun[2]}" if owner else begun[2]
-            found[name] = bool(begun[1] == "pub " or owner and is_trait), ""
+            found[name] = bool(begun[1] in ("pub ", EXPORT) or owner and is_trait), ""
         elif name and re.match(r"\s*\{$", line):
             name = None
         elif name:
@@ -162,7 +163,8 @@ def public_calls():
         for path in sorted(glob.glob(os.path.join(CRATES, crate, "src", "*.rt"))):
             path = os.path.relpath(path, CRATES)
             for call, (is_public, contract) in calls(path).items():
-                is_handed_on = call.split("::")[0] in names or path in open_files or path in PROGRAM
+                is_export = f"{EXPORT}fn {call}(" in read(path)
+                is_handed_on = call.split("::")[0] in names or path in open_files or path in PROGRAM or is_export
                 # the rest of a trait's implementation has the trait's contract
                 if is_public and is_handed_on and "ensures" in contract:
                     yield path, call

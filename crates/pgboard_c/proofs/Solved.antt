@@ -1,0 +1,180 @@
+-- Two claims that share a game out make its solution.
+use mathlib.Core.Path.{fun_ext}
+use Rattle.std.proofs.Common.{◌≡◌, ◌≢◌, ℕ, ◌<◌, Bool, true, false, inl, inr, List, [], ◌∷◌, length, replicate, sym, ◌∙◌, ap, subst, arith, lt-ltb, ltb-true, get_or}
+use Rattle.std.specs.Prelude.{Option, None, nat_lt, All, if◌then◌else◌}
+use Rattle.std.specs.List.{AllByRecursion, Contains}
+use Rattle.std.proofs.lemmas.List.{get_or-replicate, length-replicate}
+use Rattle.std.proofs.lemmas.List.Elements.{All-nil, All-from_recursion, All-weaker}
+use Rattle.pg_game.specs.declared.player.Player.{Player}
+use Rattle.pg_game.specs.declared.player.Player.TheVariants.{Even, Odd}
+use Rattle.pg_game.specs.Player.{opponent, same_player}
+use Rattle.pg_game.specs.Graph.{Graph, IsGame, HasEdge, owner_of, successors_of}
+use Rattle.pg_game.specs.VertexSet.{VertexSet, In, members}
+use Rattle.pg_game.specs.Subgame.{IsSubgame}
+use Rattle.pg_game.specs.Kept.{Choices, listed, KeptEdge}
+use Rattle.pg_game.specs.Region.{IsRegion, Wins}
+use Rattle.pg_game.proofs.Disjoint.{wins_disjoint}
+use Rattle.pg_game.proofs.Edges.{some_edge}
+use Rattle.pg_game.proofs.Walks.{ClosedWalk-weaker}
+use Rattle.pg_text.specs.Solution.{winner_of, choice_of, won_by, IsExactSolution, Rows as Solved}
+use Rattle.pg_dominion.specs.declared.claim.Claim.{Claim}
+use Rattle.pg_dominion.specs.Claim.{Rows, named, choice_in, IsRightRow, IsGoodIn}
+use Rattle.pg_dominion.proofs.Rows.{named_right}
+use Rattle.pg_finders.specs.Claims.{AreClaims}
+use Rattle.pg_finders.proofs.Loops.{never_empty}
+use Rattle.pg_finders.proofs.Masks.{inside_mask}
+use Rattle.pg_finders.proofs.Sets.{own_or_other, is_same, same_is, both, pair, either, equal_from}
+use Rattle.pg_finders.proofs.Solving.{kept_leads, choice_leads}
+use Rattle.pgboard_c.specs.Put.{IsPut}
+use Rattle.pgboard_c.proofs.Choices.{edge_below}
+
+-- all vertices
+pub all_inside : (n v : ℕ) → In (members (replicate n true)) v → v < n
+all_inside n v i = let h = inside_mask (replicate n true) v i in omega (arith, h, length-replicate n true)
+
+pub inside_all : (n v : ℕ) → v < n → In (members (replicate n true)) v
+inside_all n v lt = get_or-replicate n v true false lt
+
+pub all_subgame : (g : Graph) → IsGame g → IsSubgame g (members (replicate (length g) true))
+all_subgame g game = record {
+  vertices = λ v i. lt-ltb v (length g) (all_inside (length g) v i);
+  successor = λ v i.
+      let l = all_inside (length g) v i in
+      let e = some_edge g game v l in
+      (e.0, e.1, inside_all (length g) e.0 (edge_below g game v e.0 l e.1));
+}
+
+-- claims on all vertices, whatever the mask that says so
+pub claims_of : (g h : Graph) (mask : List Bool) (even odd : Claim) → h ≡ g → mask ≡ replicate (length g) true → AreClaims h (members mask) even odd
+    → AreClaims g (members (replicate (length g) true)) even odd
+claims_of g h mask even odd same all claims = subst (λ (m : List Bool). AreClaims g (members m) even odd) all
+    (subst (λ (x : Graph). AreClaims x (members mask) even odd) same claims)
+
+-- the vertices of a good claim, or of none
+pub rows_below : (g : Graph) (U : VertexSet) (p : Player) (rows : Rows) → (0 < length rows → IsGoodIn g U p rows) → All (λ r. r.0 < length g) rows
+rows_below g U p [] good = All-nil (λ (r : ℕ × Option ℕ). r.0 < length g)
+rows_below g U p (r ∷ rows) good =
+    let some : 0 < length (r ∷ rows) = omega arith in
+    All-weaker (IsRightRow g p) (λ (x : ℕ × Option ℕ). x.0 < length g) (λ x right. right.vertex) (r ∷ rows)
+    (All-from_recursion (IsRightRow g p) (r ∷ rows) (good some).shape.right.each)
+
+-- other choices outside change nothing
+region_same : (g : Graph) (p : Player) (X : VertexSet) (s t : Choices) → ((v : ℕ) → In X v → t v ≡ s v) → IsRegion g p X s → IsRegion g p X t
+region_same g p X s t same r = record {
+  vertices = r.vertices;
+  choices = λ v i o. (let c = r.choices v i o in (c.0, same v i ∙ c.1, c.2));
+  closed = λ v w k. r.closed v w (as_old v w k);
+  good = λ walk c. r.good walk (ClosedWalk-weaker (KeptEdge g p X t) (KeptEdge g p X s) as_old walk c);
+}
+  where
+    as_old : (v w : ℕ) → KeptEdge g p X t v w → KeptEdge g p X s v w
+    as_old v w (i, m) = (i, subst (λ o. Contains (if same_player (owner_of g v) p then listed o else successors_of g v) w) (same v i) m)
+
+module _ (g : Graph) (game : IsGame g) (U : VertexSet) (below : (v : ℕ) → In U v → v < length g) (whole : (v : ℕ) → v < length g → In U v) where
+  -- where a kept edge of a right claim leads
+  kept_below : (p : Player) (rows : Rows) → AllByRecursion (IsRightRow g p) rows → (v w : ℕ) → v < length g
+      → KeptEdge g p (named rows) (choice_in rows) v w → w < length g
+  kept_below p rows right v w lt k = elim (kept_leads g p (choice_in rows) v w k.1) [
+    | inl (o, m) ↦ (let c = (named_right g p rows v right k.0).own o in
+        edge_below g game v w lt (subst (HasEdge g v) (choice_leads (choice_in rows v) c.0 w c.1 m) c.2))
+    | inr (o, e) ↦ edge_below g game v w lt e
+  ]
+
+  -- a claim that is good in the whole game is a region
+  region_of : (p : Player) (rows : Rows) → (0 < length rows → IsGoodIn g U p rows) → IsRegion g p (named rows) (choice_in rows)
+  region_of p [] good = record {
+    vertices = λ v i. absurd (let h : false ≡ true = i in cc h);
+    choices = λ v i o. absurd (let h : false ≡ true = i in cc h);
+    closed = λ v w k. absurd (let h : false ≡ true = k.0 in cc h);
+    good = λ walk c. absurd (never_empty (KeptEdge g p (named []) (choice_in [])) (λ v w k. (let h : false ≡ true = k.0 in cc h)) walk c);
+  }
+  region_of p (r ∷ rows) good =
+      let some : 0 < length (r ∷ rows) = omega arith in
+      let claim = good some in record {
+        vertices = λ v i. lt-ltb v (length g) (below v (claim.vertices v i));
+        choices = λ v i o. (named_right g p (r ∷ rows) v claim.shape.right.each i).own o;
+        closed = λ v w k. claim.closed v w k (whole w (kept_below p (r ∷ rows) claim.shape.right.each v w (below v (claim.vertices v k.0)) k));
+        good = claim.good;
+      }
+
+  module _ (even odd : Claim) (claims : AreClaims g U even odd) (old mid rows : Solved) (size : length old ≡ length g)
+      (first : IsPut even.player even.rows old mid) (second : IsPut odd.player odd.rows mid rows) where
+    abbrev claimed : Player → Rows
+    claimed Even = even.rows
+    claimed Odd = odd.rows
+
+    good_in : (p : Player) → 0 < length (claimed p) → IsGoodIn g U p (claimed p)
+    good_in Even = claims.even_good
+    good_in Odd = claims.odd_good
+
+    long : length rows ≡ length g
+    long = second.size ∙ (first.size ∙ size)
+
+    row_is : (p : Player) (v : ℕ) → In (named (claimed p)) v → get_or rows v (Even, None) ≡ (p, choice_in (claimed p) v)
+    row_is Even v i = second.others v (claims.disjoint v i) ∙ (first.put v i ∙ ap (λ q. (q, choice_in even.rows v)) claims.even_player)
+    row_is Odd v i = second.put v i ∙ ap (λ q. (q, choice_in odd.rows v)) claims.odd_player
+
+    winner_is : (p : Player) (v : ℕ) → In (named (claimed p)) v → winner_of rows v ≡ p
+    winner_is p v i = ap (λ (r : Player × Option ℕ). r.0) (row_is p v i)
+
+    choice_is : (p : Player) (v : ℕ) → In (named (claimed p)) v → choice_of rows v ≡ choice_in (claimed p) v
+    choice_is p v i = ap (λ (r : Player × Option ℕ). r.1) (row_is p v i)
+
+    claimed_by : (v : ℕ) → v < length g → (p : Player) × In (named (claimed p)) v
+    claimed_by v lt = elim (either (named even.rows v) (named odd.rows v) (claims.together v ∙ whole v lt)) [
+      | inl i ↦ (Even, i)
+      | inr i ↦ (Odd, i)
+    ]
+
+    region : (p : Player) → IsRegion g p (named (claimed p)) (choice_in (claimed p))
+    region p = region_of p (claimed p) (good_in p)
+
+    named_below : (p : Player) (v : ℕ) → In (named (claimed p)) v → v < length g
+    named_below p v i = ltb-true v (length g) ((region p).vertices v i)
+
+    won : (p : Player) → named (claimed p) ≡ won_by rows p
+    won p = fun_ext (λ v. equal_from (named (claimed p) v) (won_by rows p v) (inside v) (outside v))
+      where
+        inside : (v : ℕ) → In (named (claimed p)) v → In (won_by rows p) v
+        inside v i = pair (nat_lt v (length rows)) (same_player (winner_of rows v) p)
+            (lt-ltb v (length rows) (omega (arith, named_below p v i, long))) (is_same (winner_of rows v) p (winner_is p v i))
+
+        outside : (v : ℕ) → In (won_by rows p) v → In (named (claimed p)) v
+        outside v i =
+            let h = both (nat_lt v (length rows)) (same_player (winner_of rows v) p) i in
+            let l : v < length g = (let k = ltb-true v (length rows) h.0 in omega (arith, k, long)) in
+            let c = claimed_by v l in
+            subst (λ q. In (named (claimed q)) v) (sym (winner_is c.0 v c.1) ∙ same_is (winner_of rows v) p h.1) c.1
+
+    regions : (p : Player) → IsRegion g p (won_by rows p) (choice_of rows)
+    regions p = subst (λ (X : VertexSet). IsRegion g p X (choice_of rows)) (won p)
+        (region_same g p (named (claimed p)) (choice_in (claimed p)) (choice_of rows) (choice_is p) (region p))
+
+    winner_wins : (p : Player) (v : ℕ) → v < length g → winner_of rows v ≡ p → Wins g p v
+    winner_wins p v l e =
+        let inside : In (won_by rows p) v = pair (nat_lt v (length rows)) (same_player (winner_of rows v) p)
+        (lt-ltb v (length rows) (omega (arith, l, long))) (is_same (winner_of rows v) p e) in
+        (won_by rows p, choice_of rows, regions p, inside)
+
+    not_both : (p : Player) (v : ℕ) → Wins g p v → Wins g (opponent p) v → ⊥
+    not_both Even v a b = wins_disjoint g v a b
+    not_both Odd v a b = wins_disjoint g v b a
+
+    wins_winner : (p : Player) (v : ℕ) → v < length g → Wins g p v → winner_of rows v ≡ p
+    wins_winner p v l w = elim (own_or_other (winner_of rows v) p) [
+      | inl e ↦ e
+      | inr e ↦ absurd (not_both p v w (winner_wins (opponent p) v l e))
+    ]
+
+    others_none : (p : Player) (v : ℕ) (xs : Rows) → (0 < length xs → IsGoodIn g U p xs) → In (named xs) v → owner_of g v ≢ p → choice_in xs v ≡ None
+    others_none p v [] good i other = absurd (let h : false ≡ true = i in cc h)
+    others_none p v (x ∷ xs) good i other =
+        (named_right g p (x ∷ xs) v (good (let some : 0 < length (x ∷ xs) = omega arith in some)).shape.right.each i).other other
+
+    pub exact_solution : IsExactSolution g rows
+    exact_solution = record {
+      solution = record { size = long; regions = regions };
+      choices = λ v l other.
+          (let c = claimed_by v l in choice_is c.0 v c.1 ∙ others_none c.0 v (claimed c.0) (good_in c.0) c.1 (λ e. other (e ∙ sym (winner_is c.0 v c.1))));
+      winners = λ p v l. (winner_wins p v l, wins_winner p v l);
+    }

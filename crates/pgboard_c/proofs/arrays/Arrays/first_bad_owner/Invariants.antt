@@ -1,0 +1,6 @@
+use Rattle.std.proofs.Common.{ℕ, ◌<◌}
+use Rattle.pgboard_c.specs.Arrays.{IsBadOwner}
+use Rattle.pgboard_c.proofs.arrays.Arrays.first_bad_owner.Given as goal
+
+abbrev pub invariant-loop-v : goal.invariant-loop-v
+invariant-loop-v l = (u : ℕ) → u < l.v → IsBadOwner l.self u → ⊥

@@ -1,0 +1,12 @@
+use Rattle.std.proofs.Common.{rules, ◌≡◌, List, length, sym, subst, arith}
+use Rattle.std.specs.Prelude.{All}
+use Rattle.pg_game.specs.declared.game.Spec.{Spec}
+use Rattle.pg_game.specs.Specification.{AreNumbers}
+use Rattle.pgboard_c.proofs.Described.{numbers_below}
+use Rattle.pgboard_c.proofs.arrays.Arrays.specs.Goals as goal
+
+pub returns-clause-numbers : goal.returns-clause-numbers
+returns-clause-numbers c =
+    let e : c.loop-v.v ≡ length c.args.self.now.owners = search rules in
+    let numbers = numbers_below c.args.self.now c.requires.formed.priorities c.loop-v.v (omega (arith, e)) (omega (arith, e, c.requires.few)) in
+    subst (λ (specs : List Spec). All AreNumbers specs) (sym c.loop-v.invariant) numbers

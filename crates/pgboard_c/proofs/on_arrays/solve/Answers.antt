@@ -1,0 +1,9 @@
+use Rattle.std.proofs.Common.{arith}
+use Rattle.pgboard_c.specs.Arrays.{no_choice}
+use Rattle.pgboard_c.proofs.Choices.{choices_below}
+use Rattle.pgboard_c.proofs.on_arrays.solve.Goals as goal
+
+pub write_results-requires-clause-below : goal.write_results-requires-clause-below
+write_results-requires-clause-below c =
+    let few = c.len-n.ensures.limits.vertices in
+    choices_below _ _ no_choice c.len-n.ensures.game c.in_ok-solution.ensures (omega (arith, few))

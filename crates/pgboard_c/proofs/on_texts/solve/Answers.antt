@@ -1,0 +1,5 @@
+use Rattle.pgboard_c.proofs.Choices.{exact_rows}
+use Rattle.pgboard_c.proofs.on_texts.solve.Goals as goal
+
+pub write_solution-requires : goal.write_solution-requires
+write_solution-requires c = exact_rows _ _ c.len-n.ensures.game c.in_ok-solution.ensures

@@ -1,0 +1,6 @@
+use Rattle.std.proofs.Common.{ℕ, ◌<◌}
+use Rattle.pgboard_c.specs.Arrays.{IsBadWinner}
+use Rattle.pgboard_c.proofs.results.first_bad_winner.Given as goal
+
+abbrev pub invariant-loop-v : goal.invariant-loop-v
+invariant-loop-v l = (u : ℕ) → u < l.v → IsBadWinner l.winners u → ⊥

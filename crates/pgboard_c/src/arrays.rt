@@ -1,0 +1,190 @@
+//! A game in arrays, as a tool has it in memory: compressed sparse rows. A vertex is its place, from 0 on.
+ghost use Rattle.std.specs.Prelude.{◌≡◌, ◌+◌, ◌<◌, ◌≤◌, ℕ, length, slice_index, IfOk, IfErr, OnOk, MatchOption, IsTrue, IsFalse, All};
+ghost use Rattle.pg_game.specs.Specification.{AreNumbers};
+ghost use Rattle.pg_game.specs.Least.{NoneHas, IsLeast};
+ghost use Rattle.pg_text.specs.GameText.{player_of};
+ghost use Rattle.pgboard_c.specs.Arrays.{HaveLengths, IsBadRow, IsBadOwner, IsBadPriority, AreWellFormed, row_of, specs_of, IsGameOfArrays};
+ghost use Rattle.pgboard_c.specs.Answers.{IsArraysFault};
+
+use crate::fault::Fault;
+use pg_game::{Game, GameFault, Memory, Player, Specs};
+use std::alloc::Global;
+use std::marker::Model;
+
+/// The greatest priority.
+const MAX_NUMBER: u32 = 2_147_483_647;
+
+/// More vertices than this have no identifiers: so many numbers there are from 0 to the greatest.
+const MAX_IDS: usize = 2_147_483_648;
+
+/// Owners, priorities, and the targets of all edges in rows: vertex `v` has those from `starts[v]` on, before
+/// `starts[v + 1]`.
+#[derive(Drop)]
+pub struct Arrays<'a> {
+    owners: &'a [u8],
+    priorities: &'a [u32],
+    starts: &'a [u32],
+    targets: &'a [u32],
+}
+
+impl<'a> Model for Arrays<'a> {
+    ghost use Rattle.pgboard_c.specs.Arrays.{Lists};
+
+    ghost Value = { Lists };
+
+    ghost view = { λ a. record { owners = a.owners.now; priorities = a.priorities.now; starts = a.starts.now; targets = a.targets.now } };
+}
+
+impl<'a> Arrays<'a> {
+    pub fn new(
+        owners: &'a [u8],
+        priorities: &'a [u32],
+        starts: &'a [u32],
+        targets: &'a [u32],
+    ) -> Arrays<'a>
+        ensures { result ≡ record { owners = owners.now; priorities = priorities.now; starts = starts.now; targets = targets.now } }
+    {
+        Arrays {
+            owners,
+            priorities,
+            starts,
+            targets,
+        }
+    }
+
+    /// Whether the arrays fit one another.
+    fn have_lengths(&self) -> bool
+        ensures fit { IsTrue result → HaveLengths self.now }
+        ensures unfit { IsFalse result → HaveLengths self.now → ⊥ }
+    {
+        let n = self.owners.len();
+        if self.priorities.len() != n || self.starts.is_empty() || self.starts.len() - 1 != n {
+            return false;
+        }
+        self.starts[0] == 0 && self.starts[n] as usize == self.targets.len()
+    }
+
+    fn is_bad_row(&self, v: usize) -> bool
+        requires lengths { HaveLengths self.now }
+        requires vertex { v < length self.now.owners }
+        ensures bad { IsTrue result → IsBadRow self.now v }
+        ensures good { IsFalse result → IsBadRow self.now v → ⊥ }
+    {
+        let _n = self.starts.len();
+        let from = self.starts[v];
+        let to = self.starts[v + 1];
+        to < from || self.targets.len() < to as usize
+    }
+
+    /// The first vertex whose row is no part of the targets.
+    fn first_bad_row(&self) -> Option<usize>
+        requires { HaveLengths self.now }
+        ensures { MatchOption result (NoneHas (IsBadRow self.now)) (IsLeast (IsBadRow self.now)) }
+    {
+        for v in 0..self.owners.len() {
+            if self.is_bad_row(v) {
+                return Some(v);
+            }
+        }
+        None
+    }
+
+    /// The first vertex whose owner is neither 0 nor 1.
+    fn first_bad_owner(&self) -> Option<usize>
+        ensures { MatchOption result (NoneHas (IsBadOwner self.now)) (IsLeast (IsBadOwner self.now)) }
+    {
+        for v in 0..self.owners.len() {
+            if self.owners[v] > 1 {
+                return Some(v);
+            }
+        }
+        None
+    }
+
+    /// The first vertex whose priority is too large.
+    fn first_bad_priority(&self) -> Option<usize>
+        requires { HaveLengths self.now }
+        ensures { MatchOption result (NoneHas (IsBadPriority self.now)) (IsLeast (IsBadPriority self.now)) }
+    {
+        for v in 0..self.owners.len() {
+            if self.priorities[v] > MAX_NUMBER {
+                return Some(v);
+            }
+        }
+        None
+    }
+
+    /// Refused where the arrays can be no game's, whatever the edges.
+    fn check(&self) -> Result<(), Fault>
+        ensures formed { OnOk result (AreWellFormed self.now) }
+        ensures fault { IfErr result (λ e. IsArraysFault self.now e) }
+    {
+        if !self.have_lengths() {
+            return Err(Fault::Lengths);
+        }
+        if let Some(v) = self.first_bad_row() {
+            return Err(Fault::Row(v));
+        }
+        if let Some(v) = self.first_bad_owner() {
+            return Err(Fault::Owner(v));
+        }
+        if let Some(v) = self.first_bad_priority() {
+            return Err(Fault::Priority(v));
+        }
+        Ok(())
+    }
+
+    fn owner(&self, v: usize) -> Player
+        requires { v < length self.now.owners }
+        ensures { result ≡ player_of (slice_index self.now.owners v) }
+    {
+        if self.owners[v] == 0 {
+            Player::Even
+        } else {
+            Player::Odd
+        }
+    }
+
+    fn row(&self, v: usize) -> &[u32]
+        requires formed { AreWellFormed self.now }
+        requires vertex { v < length self.now.owners }
+        ensures { result.now ≡ row_of self.now v }
+    {
+        let _n = self.starts.len();
+        let from = self.starts[v] as usize;
+        let to = self.starts[v + 1] as usize;
+        &self.targets[from..to]
+    }
+
+    /// What the arrays say of the vertices. `Memory` is its one refusal.
+    fn specs(&self, alloc: Global) -> Result<Specs, Memory>
+        requires formed { AreWellFormed self.now }
+        requires few { length self.now.owners ≤ 2147483648 }
+        ensures specs { IfOk result (λ specs. specs ≡ specs_of self.now) }
+        ensures numbers { IfOk result (λ specs. All AreNumbers specs) }
+    {
+        let n = self.owners.len();
+        let mut specs = Specs::with_capacity(alloc, n as u32, self.starts[n])?;
+        for v in 0..n {
+            specs.push(v as u32, self.priorities[v], self.owner(v), self.row(v))?;
+        }
+        Ok(specs)
+    }
+
+    /// The game that the arrays say.
+    pub fn game(&self, alloc: Global) -> Result<Game, Fault>
+        ensures game { IfOk result (λ g. IsGameOfArrays self.now g) }
+        ensures fault { IfErr result (λ e. IsArraysFault self.now e) }
+    {
+        self.check()?;
+        if self.owners.len() > MAX_IDS {
+            return Err(Fault::Game(GameFault::TooManyVertices));
+        }
+        let specs = self.specs(alloc)?;
+        match Game::from_rows(alloc, specs) {
+            Ok(game) => Ok(game),
+            Err(GameFault::Memory) => Err(Fault::Memory),
+            Err(fault) => Err(Fault::Game(fault)),
+        }
+    }
+}

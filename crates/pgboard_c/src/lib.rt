@@ -1,0 +1,11 @@
+//! A static library with a C face: games, and winners and choices, in arrays and in texts. It starts no thread.
+//!
+//! `include/pgboard.h` declares the exports, and names each answer.
+#![tactic(auto)]
+
+mod arrays;
+mod fault;
+mod on_arrays;
+mod on_texts;
+mod results;
+mod solving;

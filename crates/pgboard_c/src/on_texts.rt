@@ -1,0 +1,165 @@
+//! The exports on texts in PGSolver's formats, which stand in the caller's memory.
+ghost use Rattle.std.specs.Prelude.{◌≡◌, ◌≢◌, ◌<◌, ℕ, List, length, IfOk, OnOk, OnErr, IfErr};
+ghost use Rattle.pg_game.specs.Graph.{IsGame};
+ghost use Rattle.pg_text.specs.Solution.{Rows, IsSolution};
+ghost use Rattle.pg_text.specs.Reading.{IsTextOf, IsSolutionTextOf};
+ghost use Rattle.pgboard_c.specs.declared.fault.Fault.{Fault};
+ghost use Rattle.pgboard_c.specs.Numbers.{number_of, at_of, to_of};
+ghost use Rattle.pgboard_c.specs.Texts.{Holds, IsSolvedText, IsTidyText, IsRefusedGame, IsTextFault, AreVerified, IsVerifyFault};
+
+use crate::fault::{Fault, Told, tell};
+use crate::solving::solution_of;
+use pg_dominion::{SolutionFault, check_solution};
+use pg_game::Game;
+use pg_text::{SolutionTextFault, TextFault, read_game, read_solution, write_game, write_solution};
+use std::alloc::Global;
+
+/// The greatest number of bytes of a text.
+const MAX_TEXT: usize = 268_435_456;
+
+/// The game that a text spells.
+fn game_of(alloc: Global, text: &[u8]) -> Result<Game, Fault>
+    ensures game { IfOk result (λ g. IsGame g × IsTextOf text.now g) }
+    ensures fault { IfErr result (λ e. IsRefusedGame text.now e) }
+{
+    if text.len() > MAX_TEXT {
+        return Err(Fault::GameTooLong);
+    }
+    match read_game(alloc, text) {
+        Ok(game) => Ok(game),
+        Err(TextFault::Memory) => Err(Fault::Memory),
+        Err(fault) => Err(Fault::GameText(fault)),
+    }
+}
+
+/// Copies the text to the front of the buffer, and answers its size.
+fn put(text: &[u8], into: &mut [u8]) -> Result<usize, Fault>
+    ensures held { IfOk result (λ n. Holds into.new n text.now) }
+    ensures small { IfErr result (λ e. (e ≡ Fault.Room (length text.now)) × (length into.old < length text.now)) }
+    ensures kept { OnErr result (into.new ≡ into.old) }
+{
+    let n = text.len();
+    if into.len() < n {
+        return Err(Fault::Room(n));
+    }
+    into[..n].copy_from_slice(text);
+    Ok(n)
+}
+
+/// Writes a solution of the game that a text spells, and answers its size.
+fn solve(alloc: Global, text: &[u8], into: &mut [u8]) -> Result<usize, Fault>
+    ensures solved { IfOk result (λ n. (answer : List ℕ) × IsSolvedText text.now answer × Holds into.new n answer) }
+    ensures fault { IfErr result (λ e. IsTextFault IsSolvedText text.now (length into.old) e) }
+    ensures kept { OnErr result (into.new ≡ into.old) }
+{
+    let game = game_of(alloc, text)?;
+    let _n = game.len();
+    let solution = solution_of(alloc, &game)?;
+    let answer = write_solution(alloc, &game, &solution)?;
+    put(answer.as_slice(), into)
+}
+
+/// Writes the game that a text spells in its one written form, and answers its size.
+fn tidy(alloc: Global, text: &[u8], into: &mut [u8]) -> Result<usize, Fault>
+    ensures tidied { IfOk result (λ n. (answer : List ℕ) × IsTidyText text.now answer × Holds into.new n answer) }
+    ensures fault { IfErr result (λ e. IsTextFault IsTidyText text.now (length into.old) e) }
+    ensures kept { OnErr result (into.new ≡ into.old) }
+{
+    let game = game_of(alloc, text)?;
+    let answer = write_game(alloc, &game)?;
+    put(answer.as_slice(), into)
+}
+
+/// Whether a text is a solution of a game.
+fn verify_on(alloc: Global, game: &Game, text: &[u8]) -> Result<(), Fault>
+    ensures holds { OnOk result ((rows : Rows) × IsSolutionTextOf game.now text.now rows × IsSolution game.now rows) }
+    ensures fault { IfErr result (λ e. (text_of : List ℕ) → IsTextOf text_of game.now → IsVerifyFault text_of text.now e) }
+{
+    if text.len() > MAX_TEXT {
+        return Err(Fault::SolutionTooLong);
+    }
+    let solution = match read_solution(alloc, game, text) {
+        Ok(solution) => solution,
+        Err(SolutionTextFault::Memory) => return Err(Fault::Memory),
+        Err(fault) => return Err(Fault::SolutionText(fault)),
+    };
+    match check_solution(alloc, game, &solution) {
+        Ok(()) => Ok(()),
+        Err(SolutionFault::Memory) => Err(Fault::Memory),
+        Err(fault) => Err(Fault::Verdict(fault)),
+    }
+}
+
+/// Whether the texts are a game and a solution of it.
+fn verify(alloc: Global, game: &[u8], solution: &[u8]) -> Result<(), Fault>
+    ensures holds { OnOk result (AreVerified game.now solution.now) }
+    ensures fault { IfErr result (λ e. IsVerifyFault game.now solution.now e) }
+{
+    let game = game_of(alloc, game)?;
+    verify_on(alloc, &game, solution)
+}
+
+/// Solves the game that a text spells: writes a solution's text to the front of the buffer, and tells its size. The
+/// answer is 0, or why there is none; then only `told` is written.
+#[unsafe(no_mangle)]
+pub extern "C" fn pgboard_solve_text(
+    alloc: Global,
+    game: &[u8],
+    into: &mut [u8],
+    told: &mut Told,
+) -> u32
+    ensures solved { result ≡ 0 → (answer : List ℕ) × IsSolvedText game.now answer × Holds into.new told.new.at answer }
+    ensures refused { result ≢ 0 → (e : Fault) × (result ≡ number_of e) × (told.new.at ≡ at_of e) × (told.new.to ≡ to_of e) × IsTextFault IsSolvedText game.now (length into.old) e }
+    ensures kept { result ≢ 0 → into.new ≡ into.old }
+{
+    match solve(alloc, game, into) {
+        Ok(size) => {
+            told.at = size as u64;
+            told.to = 0;
+            0
+        }
+        Err(fault) => tell(told, fault),
+    }
+}
+
+/// Writes the game that a text spells in its one written form to the front of the buffer, and tells its size. The
+/// answer is 0, or why there is none; then only `told` is written.
+#[unsafe(no_mangle)]
+pub extern "C" fn pgboard_tidy_text(
+    alloc: Global,
+    game: &[u8],
+    into: &mut [u8],
+    told: &mut Told,
+) -> u32
+    ensures tidied { result ≡ 0 → (answer : List ℕ) × IsTidyText game.now answer × Holds into.new told.new.at answer }
+    ensures refused { result ≢ 0 → (e : Fault) × (result ≡ number_of e) × (told.new.at ≡ at_of e) × (told.new.to ≡ to_of e) × IsTextFault IsTidyText game.now (length into.old) e }
+    ensures kept { result ≢ 0 → into.new ≡ into.old }
+{
+    match tidy(alloc, game, into) {
+        Ok(size) => {
+            told.at = size as u64;
+            told.to = 0;
+            0
+        }
+        Err(fault) => tell(told, fault),
+    }
+}
+
+/// Whether a text is a solution of the game that another spells: 0, or what is wrong first. Vertices are told by their
+/// identifiers.
+#[unsafe(no_mangle)]
+pub extern "C" fn pgboard_verify_text(
+    alloc: Global,
+    game: &[u8],
+    solution: &[u8],
+    told: &mut Told,
+) -> u32
+    ensures holds { result ≡ 0 → AreVerified game.now solution.now }
+    ensures untold { result ≡ 0 → told.new ≡ told.old }
+    ensures refused { result ≢ 0 → (e : Fault) × (result ≡ number_of e) × (told.new.at ≡ at_of e) × (told.new.to ≡ to_of e) × IsVerifyFault game.now solution.now e }
+{
+    match verify(alloc, game, solution) {
+        Ok(()) => 0,
+        Err(fault) => tell(told, fault),
+    }
+}

@@ -1,0 +1,81 @@
+//! Winners and choices in arrays.
+ghost use Rattle.std.specs.Prelude.{◌≡◌, ◌<◌, ◌≤◌, ℕ, length, IfOk, IfSome, MatchOption};
+ghost use Rattle.pg_game.specs.Least.{NoneHas, IsLeast};
+ghost use Rattle.pg_game.specs.Player.{digit_of};
+ghost use Rattle.pg_text.specs.Solution.{choice_of};
+ghost use Rattle.pgboard_c.specs.Arrays.{no_choice, choice_from, AreResults, IsBadWinner};
+
+use pg_game::{Memory, Player, Sequence};
+use pg_text::Solution;
+use std::alloc::Global;
+
+/// What stands where there is no choice.
+const NO_CHOICE: u32 = u32::MAX;
+
+/// Writes the winner and the choice of each vertex.
+pub fn write_results(solution: &Solution, winners: &mut [u8], choices: &mut [u32])
+    requires winners { length winners.old ≡ length solution.now.rows }
+    requires choices { length choices.old ≡ length solution.now.rows }
+    requires below { (v : ℕ) → v < length solution.now.rows → IfSome (choice_of solution.now.rows v) (λ w. w < no_choice) }
+    ensures { AreResults winners.new choices.new solution.now.rows }
+{
+    let rows = solution.rows.as_slice();
+    for v in 0..rows.len() {
+        let (winner, choice) = rows[v];
+        winners[v] = winner.digit();
+        choices[v] = match choice {
+            Some(w) => w,
+            None => NO_CHOICE,
+        };
+    }
+}
+
+/// The first vertex whose winner is neither 0 nor 1.
+pub fn first_bad_winner(winners: &[u8]) -> Option<usize>
+    ensures { MatchOption result (NoneHas (IsBadWinner winners.now)) (IsLeast (IsBadWinner winners.now)) }
+{
+    for v in 0..winners.len() {
+        if winners[v] > 1 {
+            return Some(v);
+        }
+    }
+    None
+}
+
+/// The player with this digit.
+fn player_of(digit: u8) -> Player
+    requires { digit ≤ 1 }
+    ensures { digit ≡ digit_of result }
+{
+    if digit == 0 {
+        Player::Even
+    } else {
+        Player::Odd
+    }
+}
+
+/// The choice that stands there.
+fn choice_from(number: u32) -> Option<u32>
+    ensures { result ≡ choice_from number }
+{
+    if number == NO_CHOICE {
+        None
+    } else {
+        Some(number)
+    }
+}
+
+/// The winners and choices that stand in the arrays. `Memory` is its one refusal.
+pub fn read_results(alloc: Global, winners: &[u8], choices: &[u32]) -> Result<Solution, Memory>
+    requires size { length choices.now ≡ length winners.now }
+    requires digits { NoneHas (IsBadWinner winners.now) }
+    ensures { IfOk result (λ s. AreResults winners.now choices.now s.rows) }
+{
+    let mut rows = Vec::with_capacity(alloc, winners.len())?;
+    for v in 0..winners.len() {
+        rows.push((player_of(winners[v]), choice_from(choices[v])))?;
+    }
+    Ok(Solution {
+        rows: Sequence::new(rows),
+    })
+}

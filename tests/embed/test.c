@@ -1,0 +1,394 @@
+/* Goes through the calls of include/pgboard.h: each answer, what is told beside it, and that nothing else is written.
+ * With the word `games`, reads games as numbers from standard input (n and m, owners, priorities, starts, targets), and
+ * writes for each the winners and the choices that it got. Else the words are the limits of a game: vertices, edges,
+ * priorities; the last line is 'N passed, M failed'. Linked with -Wl,--wrap=malloc,--wrap=realloc, so that memory can
+ * be refused. */
+#include <stdio.h>
+#include <stdlib.h>
+#include <string.h>
+
+#include "pgboard.h"
+
+static int passed, failed;
+
+/* The first allocation that is refused, counted from 1, with all after it; below 0, none is. */
+static long allowed = -1;
+void *__real_malloc(size_t size);
+void *__real_realloc(void *block, size_t size);
+void *__wrap_malloc(size_t size);
+void *__wrap_realloc(void *block, size_t size);
+
+static int is_refused(void)
+{
+    if (allowed > 0)
+        allowed--;
+    return allowed == 0;
+}
+void *__wrap_malloc(size_t size)
+{
+    return is_refused() ? NULL : __real_malloc(size);
+}
+void *__wrap_realloc(void *block, size_t size)
+{
+    return is_refused() ? NULL : __real_realloc(block, size);
+}
+
+static void expect(int holds, const char *what, unsigned line)
+{
+    passed += holds;
+    failed += !holds;
+    if (!holds)
+        printf("FAILED embed/test.c:%u: %s\n", line, what);
+}
+#define EXPECT(holds) expect((holds), #holds, __LINE__)
+
+#define MOST 70000
+
+/* The arrays that the calls get, each with a length of its own. */
+struct arrays {
+    uint8_t owners[MOST], winners[MOST];
+    uint32_t priorities[MOST], starts[MOST + 1], targets[MOST], choices[MOST];
+    size_t owners_len, priorities_len, starts_len, targets_len, winners_len, choices_len;
+};
+static struct arrays game, before;
+
+static void set(size_t n, const char *owners, const uint32_t *priorities, const uint32_t *starts,
+                const uint32_t *targets)
+{
+    memset(&game, 0, sizeof game);
+    for (size_t v = 0; v < n; v++) {
+        game.owners[v] = (uint8_t)(owners[v] - '0');
+        game.priorities[v] = priorities[v];
+    }
+    memcpy(game.starts, starts, (n + 1) * sizeof *starts);
+    memcpy(game.targets, targets, starts[n] * sizeof *targets);
+    memset(game.winners, 77, sizeof game.winners);
+    memset(game.choices, 77, sizeof game.choices);
+    game.owners_len = game.priorities_len = game.winners_len = game.choices_len = n;
+    game.starts_len = n + 1;
+    game.targets_len = starts[n];
+}
+
+static struct pgboard_told told;
+
+static uint32_t solve(void)
+{
+    told.at = told.to = 99;
+    return pgboard_solve(game.owners, game.owners_len, game.priorities, game.priorities_len, game.starts,
+                         game.starts_len, game.targets, game.targets_len, game.winners, game.winners_len, game.choices,
+                         game.choices_len, &told);
+}
+
+static uint32_t check(void)
+{
+    told.at = told.to = 99;
+    return pgboard_check(game.owners, game.owners_len, game.priorities, game.priorities_len, game.starts,
+                         game.starts_len, game.targets, game.targets_len, game.winners, game.winners_len, game.choices,
+                         game.choices_len, &told);
+}
+
+/* Whether a call has this answer and tells this, and has changed nothing else. */
+static int refuses(uint32_t (*call)(void), uint32_t answer, uint64_t at, uint64_t to)
+{
+    memcpy(&before, &game, sizeof game);
+    return call() == answer && told.at == at && told.to == to && memcmp(&before, &game, sizeof game) == 0;
+}
+
+static int both_refuse(uint32_t answer, uint64_t at, uint64_t to)
+{
+    return refuses(solve, answer, at, to) && refuses(check, answer, at, to);
+}
+
+/* Even owns 0 and may stay there or go to 1; Odd owns 1 and stays. Even wins 0, Odd wins 1. */
+static const uint32_t two_priorities[] = {2, 1}, two_starts[] = {0, 2, 3}, two_targets[] = {0, 1, 1};
+
+static void two(void)
+{
+    set(2, "01", two_priorities, two_starts, two_targets);
+}
+
+static void solves(void)
+{
+    two();
+    EXPECT(solve() == PGBOARD_OK && told.at == 99 && told.to == 99);
+    EXPECT(game.winners[0] == 0 && game.winners[1] == 1 && game.winners[2] == 77);
+    EXPECT(game.choices[0] == 0 && game.choices[1] == 1 && game.choices[2] == 77u * 0x01010101u);
+    EXPECT(refuses(check, PGBOARD_OK, 99, 99));
+    /* a choice where the winner isn't the owner has no effect, and is not written */
+    game.owners[1] = 0;
+    EXPECT(solve() == PGBOARD_OK && game.winners[1] == 1 && game.choices[1] == PGBOARD_NO_CHOICE);
+    game.choices[1] = 4;
+    EXPECT(refuses(check, PGBOARD_OK, 99, 99));
+}
+
+static void refuses_arrays(void)
+{
+    two();
+    game.priorities_len = 1;
+    EXPECT(both_refuse(PGBOARD_LENGTHS, 0, 0));
+    two();
+    game.starts_len = 2;
+    EXPECT(both_refuse(PGBOARD_LENGTHS, 0, 0));
+    two();
+    game.starts[0] = 1;
+    EXPECT(both_refuse(PGBOARD_LENGTHS, 0, 0));
+    two();
+    game.targets_len = 2;
+    EXPECT(both_refuse(PGBOARD_LENGTHS, 0, 0));
+    two();
+    game.starts[1] = 4;
+    game.owners[0] = 2; /* is looked at later */
+    EXPECT(both_refuse(PGBOARD_ROW, 0, 0));
+    game.starts[1] = 2;
+    EXPECT(both_refuse(PGBOARD_OWNER, 0, 0));
+    two();
+    game.owners[1] = 255;
+    game.priorities[0] = 2147483648u;
+    EXPECT(both_refuse(PGBOARD_OWNER, 1, 0));
+    game.owners[1] = 1;
+    EXPECT(both_refuse(PGBOARD_PRIORITY, 0, 0));
+    game.priorities[0] = 2147483647u;
+    EXPECT(solve() == PGBOARD_OK && game.winners[0] == 1);
+    two();
+    game.winners_len = 1;
+    EXPECT(both_refuse(PGBOARD_RESULTS, 0, 0));
+    two();
+    game.choices_len = 3;
+    EXPECT(both_refuse(PGBOARD_RESULTS, 0, 0));
+}
+
+static void refuses_games(void)
+{
+    two();
+    game.owners_len = game.priorities_len = game.targets_len = 0;
+    game.starts_len = 1;
+    EXPECT(both_refuse(PGBOARD_NO_VERTEX, 0, 0));
+    two();
+    game.starts[1] = 0;
+    EXPECT(both_refuse(PGBOARD_NO_SUCCESSOR, 0, 0));
+    two();
+    game.targets[1] = 2;
+    game.targets[2] = 9;
+    EXPECT(both_refuse(PGBOARD_UNKNOWN, 0, 2));
+    game.targets[1] = 1;
+    EXPECT(both_refuse(PGBOARD_UNKNOWN, 1, 9));
+    /* a successor that stands twice, in any order, is one */
+    two();
+    game.targets[0] = 1;
+    game.targets[1] = 0;
+    EXPECT(solve() == PGBOARD_OK && game.winners[0] == 0 && game.choices[0] == 0);
+}
+
+static void refuses_solutions(void)
+{
+    two();
+    EXPECT(solve() == PGBOARD_OK);
+    game.winners[1] = 2;
+    EXPECT(refuses(check, PGBOARD_WINNER, 1, 0));
+    game.winners[1] = 1;
+    game.choices[0] = PGBOARD_NO_CHOICE;
+    EXPECT(refuses(check, PGBOARD_NO_CHOICE_AT, 0, 0));
+    game.choices[0] = 2;
+    EXPECT(refuses(check, PGBOARD_BAD_CHOICE, 0, 0));
+    game.choices[0] = 1;
+    EXPECT(refuses(check, PGBOARD_LEAVES, 0, 1));
+    game.winners[1] = 0;
+    EXPECT(refuses(check, PGBOARD_CYCLE, 1, 0));
+}
+
+static int text_refuses(uint32_t (*call)(const uint8_t *, size_t, uint8_t *, size_t, struct pgboard_told *),
+                        const char *text, size_t room, uint32_t answer, uint64_t at, uint64_t to)
+{
+    uint8_t into[64];
+    memset(into, 77, sizeof into);
+    told.at = told.to = 99;
+    int right =
+        call((const uint8_t *)text, strlen(text), into, room, &told) == answer && told.at == at && told.to == to;
+    for (size_t k = 0; k < sizeof into; k++)
+        right = right && into[k] == 77;
+    return right;
+}
+
+static int writes(uint32_t (*call)(const uint8_t *, size_t, uint8_t *, size_t, struct pgboard_told *), const char *text,
+                  const char *wanted)
+{
+    uint8_t into[64];
+    size_t size = strlen(wanted);
+    memset(into, 77, sizeof into);
+    int right =
+        call((const uint8_t *)text, strlen(text), into, size, &told) == PGBOARD_OK && told.at == size && told.to == 0;
+    return right && memcmp(into, wanted, size) == 0 && into[size] == 77 &&
+           text_refuses(call, text, size - 1, PGBOARD_ROOM, size, 0);
+}
+
+static uint32_t verify(const char *text, const char *solution)
+{
+    told.at = told.to = 99;
+    return pgboard_verify_text((const uint8_t *)text, strlen(text), (const uint8_t *)solution, strlen(solution), &told);
+}
+
+static int not_verified(const char *text, const char *solution, uint32_t answer, uint64_t at, uint64_t to)
+{
+    return verify(text, solution) == answer && told.at == at && told.to == to;
+}
+
+static const char *const GAME = "9 1 1 9; 3 2 0 3, 9 \"a name\";";
+
+static void takes_texts(void)
+{
+    EXPECT(writes(pgboard_solve_text, GAME, "paritysol 9;\n3 0 3;\n9 1 9;\n"));
+    EXPECT(writes(pgboard_tidy_text, GAME, "parity 9;\n3 2 0 3,9;\n9 1 1 9;\n"));
+    EXPECT(verify(GAME, "9 1 9; 3 0 3;") == PGBOARD_OK && told.at == 99 && told.to == 99);
+}
+
+static void refuses_texts(void)
+{
+    static const struct {
+        const char *text;
+        uint32_t answer;
+        uint64_t at, to;
+    } bad[] = {
+        {"0 0 0 ?;", PGBOARD_GAME_LEXICAL, 6, 0},         {"0 0 0 0", PGBOARD_GAME_SYNTAX, 7, 0},
+        {"0 4294967296 0 0;", PGBOARD_GAME_NUMBER, 2, 0}, {"0 0 2 0;", PGBOARD_GAME_OWNER, 4, 0},
+        {"7 0 0 7; 7 1 1 7;", PGBOARD_TWICE, 7, 0},       {"7 0 0 7,8;", PGBOARD_UNKNOWN, 7, 8},
+    };
+    for (size_t k = 0; k < sizeof bad / sizeof *bad; k++) {
+        EXPECT(text_refuses(pgboard_solve_text, bad[k].text, 64, bad[k].answer, bad[k].at, bad[k].to));
+        EXPECT(text_refuses(pgboard_tidy_text, bad[k].text, 64, bad[k].answer, bad[k].at, bad[k].to));
+        EXPECT(not_verified(bad[k].text, "", bad[k].answer, bad[k].at, bad[k].to));
+    }
+    EXPECT(not_verified(GAME, "3 0 ?", PGBOARD_SOLUTION_LEXICAL, 4, 0));
+    EXPECT(not_verified(GAME, "3 0", PGBOARD_SOLUTION_SYNTAX, 3, 0));
+    EXPECT(not_verified(GAME, "3 4294967296;", PGBOARD_SOLUTION_NUMBER, 2, 0));
+    EXPECT(not_verified(GAME, "3 2;", PGBOARD_SOLUTION_WINNER, 2, 0));
+    EXPECT(not_verified(GAME, "4 0;", PGBOARD_SOLUTION_STRANGER, 4, 0));
+    EXPECT(not_verified(GAME, "3 0 3; 3 0 3;", PGBOARD_SOLUTION_TWICE, 3, 0));
+    EXPECT(not_verified(GAME, "3 0 3;", PGBOARD_SOLUTION_MISSING, 9, 0));
+    EXPECT(not_verified(GAME, "3 0; 9 1 9;", PGBOARD_NO_CHOICE_AT, 3, 0));
+    EXPECT(not_verified(GAME, "3 0 9; 9 1 9;", PGBOARD_LEAVES, 3, 9));
+}
+
+/* Texts behind the limit are refused by their length, and never read. */
+static void refuses_long_texts(void)
+{
+    size_t size = 268435457;
+    uint8_t *text = calloc(size, 1);
+    uint8_t into[1];
+    EXPECT(text != NULL);
+    EXPECT(pgboard_solve_text(text, size, into, 0, &told) == PGBOARD_GAME_TOO_LONG && told.at == 0 && told.to == 0);
+    EXPECT(pgboard_tidy_text(text, size, into, 0, &told) == PGBOARD_GAME_TOO_LONG);
+    EXPECT(pgboard_verify_text(text, size, text, 0, &told) == PGBOARD_GAME_TOO_LONG);
+    EXPECT(pgboard_verify_text((const uint8_t *)GAME, strlen(GAME), text, size, &told) == PGBOARD_SOLUTION_TOO_LONG);
+    free(text);
+}
+
+/* Refuses each allocation of a call in turn, and counts those that made it answer so. */
+static void refuses_memory(void)
+{
+    uint8_t into[64];
+    long refused[4] = {0};
+    for (long n = 1; n < 200; n++) {
+        two();
+        allowed = n;
+        int ended = refuses(solve, PGBOARD_MEMORY, 0, 0);
+        refused[0] += ended;
+        allowed = -1;
+        EXPECT(ended || (solve() == PGBOARD_OK && refuses(check, PGBOARD_OK, 99, 99)));
+        EXPECT(solve() == PGBOARD_OK);
+        allowed = n;
+        refused[1] += refuses(check, PGBOARD_MEMORY, 0, 0);
+        allowed = n;
+        refused[2] += text_refuses(pgboard_solve_text, GAME, sizeof into, PGBOARD_MEMORY, 0, 0);
+        allowed = n;
+        refused[3] += not_verified(GAME, "9 1 9; 3 0 3;", PGBOARD_MEMORY, 0, 0);
+        allowed = -1;
+    }
+    for (int k = 0; k < 4; k++)
+        EXPECT(1 < refused[k] && refused[k] < 190);
+}
+
+/* The answer for a game of n vertices, whose rows begin at places that are `degree` apart, with rising priorities. */
+static uint32_t large(size_t n, size_t degree)
+{
+    uint32_t *priorities = calloc(n, 4), *starts = calloc(n + 1, 4), *targets = calloc(n * degree, 4),
+             *choices = calloc(n, 4);
+    uint8_t *owners = calloc(n, 1), *winners = calloc(n, 1);
+    if (!priorities || !starts || !targets || !choices || !owners || !winners)
+        exit(2);
+    for (size_t v = 0; v < n; v++) {
+        priorities[v] = degree == 1 ? (uint32_t)v : 0;
+        starts[v + 1] = (uint32_t)((v + 1) * degree);
+        for (size_t k = 0; k < degree; k++)
+            targets[v * degree + k] = (uint32_t)k;
+    }
+    uint32_t answer =
+        pgboard_solve(owners, n, priorities, n, starts, n + 1, targets, n * degree, winners, n, choices, n, &told);
+    free(priorities), free(starts), free(targets), free(choices), free(owners), free(winners);
+    return answer;
+}
+
+/* Games one past each limit. */
+static void refuses_large_games(size_t vertices, size_t edges, size_t priorities)
+{
+    size_t n = 1;
+    while (n * n <= edges)
+        n++;
+    EXPECT(large(vertices + 1, 1) == PGBOARD_TOO_MANY_VERTICES && told.at == 0 && told.to == 0);
+    EXPECT(large(n, n) == PGBOARD_TOO_MANY_EDGES && told.at == 0 && told.to == 0);
+    EXPECT(large(n - 1, n - 1) == PGBOARD_OK);
+    EXPECT(large(priorities + 1, 1) == PGBOARD_TOO_MANY_PRIORITIES && told.at == 0 && told.to == 0);
+    EXPECT(large(priorities, 1) == PGBOARD_OK);
+}
+
+/* Reads so many numbers into new memory. */
+static uint32_t *numbers(size_t count)
+{
+    uint32_t *found = calloc(count + 1, sizeof *found);
+    for (size_t k = 0; found && k < count; k++)
+        if (scanf("%u", &found[k]) != 1)
+            exit(2);
+    return found;
+}
+
+static int games(void)
+{
+    unsigned n, m;
+    while (scanf("%u %u", &n, &m) == 2) {
+        uint32_t *wide = numbers(n), *priorities = numbers(n), *starts = numbers(n + 1), *targets = numbers(m);
+        uint32_t *choices = calloc(n, sizeof *choices);
+        uint8_t *owners = calloc(n, 1), *winners = calloc(n, 1);
+        if (!wide || !priorities || !starts || !targets || !choices || !owners || !winners)
+            return 2;
+        for (unsigned v = 0; v < n; v++)
+            owners[v] = (uint8_t)wide[v];
+        uint32_t answer =
+            pgboard_solve(owners, n, priorities, n, starts, n + 1, targets, m, winners, n, choices, n, &told);
+        uint32_t holds =
+            pgboard_check(owners, n, priorities, n, starts, n + 1, targets, m, winners, n, choices, n, &told);
+        printf("%u %u", answer, holds);
+        for (unsigned v = 0; v < n; v++)
+            printf(" %u:%ld", winners[v], choices[v] == PGBOARD_NO_CHOICE ? -1L : (long)choices[v]);
+        printf("\n");
+        free(wide), free(priorities), free(starts), free(targets), free(choices), free(owners), free(winners);
+    }
+    return 0;
+}
+
+int main(int argc, char **argv)
+{
+    if (argc > 1 && strcmp(argv[1], "games") == 0)
+        return games();
+    if (argc != 4)
+        return 2;
+    solves();
+    refuses_arrays();
+    refuses_games();
+    refuses_solutions();
+    takes_texts();
+    refuses_texts();
+    refuses_long_texts();
+    refuses_memory();
+    refuses_large_games(strtoul(argv[1], NULL, 10), strtoul(argv[2], NULL, 10), strtoul(argv[3], NULL, 10));
+    printf("%d passed, %d failed\n", passed, failed);
+    return failed != 0;
+}
