@@ -28,20 +28,6 @@ use Rattle.pg_game.proofs.Parts.{ids-graph_of, priorities-graph_of, owners-graph
 use Rattle.pg_game.proofs.Plain.{ids-map, priorities-map, owners-map, none_repeated, none_without, none_unknown, any_member}
 use Rattle.pg_game.proofs.Look as look
 
--- the identifiers found one by one, and then each place once, rising
-pub all_places : (ids row found places : List ℕ) → length found ≡ length row → ((k : ℕ) → k < length row → (get_or found k 0 < length ids) × (get_or ids (get_or found k 0) 0 ≡ get_or row k 0)) → IsStrictlyIncreasing places → ((x : ℕ) → Contains found x ↔ Contains places x) → 0 < length places → AreAllPlaces ids row places
-all_places ids row found places size at up same some = record {
-  some = some;
-  rising = up;
-  from = λ w m.
-      let n = (same w).1 m in
-      let is : get_or found n.0 0 ≡ w = get_or_default found n.0 0 w n.1 ∙ n.2 in
-      let l : n.0 < length row = omega (arith, n.1, size) in
-      let h = at n.0 l in
-      (subst (λ (j : ℕ). j < length ids) is h.0, subst (λ (i : ℕ). Contains row i) (sym h.1 ∙ ap (λ (j : ℕ). get_or ids j 0) is) (Contains-get_or row n.0 0 l));
-  all = λ i m. (get_or found m.0 0, (same (get_or found m.0 0)).0 (Contains-get_or found m.0 0 (omega (arith, m.1, size))), (at m.0 m.1).1 ∙ (get_or_default row m.0 0 i m.1 ∙ m.2));
-}
-
 module _ (ids : List ℕ) (up : IsStrictlyIncreasing ids) (successors places : List ℕ) (a : AreAllPlaces ids successors places) where
   abbrev name : ℕ → ℕ
   name w = get_or ids w 0

@@ -18,7 +18,7 @@ use Rattle.pg_game.proofs.Different.{rising_tail, below_first}
 pub rises : (xs : List ℕ) → IsStrictlyIncreasing xs → (i j : ℕ) → i < j → j < length xs → get_or xs i 0 < get_or xs j 0
 rises xs up i j l m = below_from_sorted xs i j 0 (sorted_from_strictly_increasing xs up) l m
 
-order : (p q : ℕ) → (p < q) ⊎ ((p ≡ q) ⊎ (q < p))
+pub order : (p q : ℕ) → (p < q) ⊎ ((p ≡ q) ⊎ (q < p))
 order p q = grind arith
 
 -- places go as their numbers do

@@ -1,8 +1,9 @@
 use Rattle.std.proofs.Common.{◌≡◌, ℕ, ◌<◌, length, slice_index}
+use Rattle.std.specs.List.{Contains}
 use Rattle.pg_game.proofs.placed.put_row.Given as goal
 
 abbrev pub invariant-row : goal.invariant-row
 invariant-row l = record {
-  size : length l.places.items ≡ l.id-index;
-  found : (k : ℕ) → k < l.id-index → (slice_index l.places.items k < length l.ids) × (slice_index l.ids (slice_index l.places.items k) ≡ slice_index l.row k);
+  from : (w : ℕ) → Contains l.places.items w → (w < length l.ids) × Contains l.row (slice_index l.ids w);
+  all : (k : ℕ) → k < l.id-index → (w : ℕ) × Contains l.places.items w × (slice_index l.ids w ≡ slice_index l.row k);
 }
