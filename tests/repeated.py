@@ -28,7 +28,7 @@ ALLOWED = {
     "pg_dominion": (10, 8, 2),
     "pg_finders": (26, 12, 11),
     "pg_board": (38, 13, 5),
-    "pg_workers": (2, 2, 12),
+    "pg_workers": (2, 2, 9),
     "pgboard": (0, 0, 0),
     "pgboard_c": (10, 0, 0),
 }

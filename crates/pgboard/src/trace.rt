@@ -11,8 +11,21 @@ ghost use Rattle.pgboard.specs.Trace.{line, AreVertices, row_line, entry_text, e
 use itoa::Buffer;
 use pg_board::Entry;
 use pg_game::Game;
+use pg_text::{choice_before, end_before, number_before};
 use pg_workers::ReportRow;
 use std::alloc::{AllocError, Global};
+
+/// The longest line of a settled vertex: two numbers, a space, a semicolon and a line feed.
+const ROW: usize = 23;
+
+/// The longest line above an entry's rows.
+const ENTRY: usize = 82;
+
+/// The longest line of a job.
+const JOB: usize = 124;
+
+/// All other lines: the first one, the one above the jobs and the sums.
+const OTHERS: usize = 263;
 
 fn put_number(out: &mut Vec<u8>, n: u64) -> Result<(), AllocError>
     ensures { OnOk result (out.new.items ≡ out.old.items ++ decimal n) }
@@ -45,17 +58,18 @@ fn put_worker(out: &mut Vec<u8>, worker: Option<u32>) -> Result<(), AllocError>
     }
 }
 
-/// The line of a settled vertex.
+/// The line of a settled vertex, written from its end.
 fn put_row(out: &mut Vec<u8>, game: &Game, row: &(u32, Option<u32>)) -> Result<(), AllocError>
     requires vertex { row.now.0 < length game.now }
     requires choice { IfSome row.now.1 (λ w. w < length game.now) }
     ensures { OnOk result (out.new.items ≡ out.old.items ++ row_line game.now row.now) }
 {
-    put_number(out, game.id(row.0) as u64)?;
-    if let Some(choice) = row.1 {
-        put_next(out, game.id(choice) as u64)?;
-    }
-    out.extend_from_slice(b";\n")
+    let mut buffer = [0u8; ROW];
+    let line = buffer.as_mut_slice();
+    let at = end_before(line);
+    let at = choice_before(line, at, game, row.1);
+    let at = number_before(line, at, game.id(row.0));
+    out.extend_from_slice(&line[at..])
 }
 
 /// The line above an entry's rows.
@@ -183,6 +197,16 @@ fn put_total(out: &mut Vec<u8>, report: &[ReportRow]) -> Result<(), AllocError>
     Ok(())
 }
 
+/// How many bytes a trace has at most. Room for so many is taken once, so that nothing written is moved.
+fn trace_room(entries: &[Entry], report: &[ReportRow]) -> usize {
+    let mut room = OTHERS.saturating_add(JOB.saturating_mul(report.len()));
+    for entry in entries {
+        let rows = ROW.saturating_mul(entry.rows.as_slice().len());
+        room = room.saturating_add(ENTRY).saturating_add(rows);
+    }
+    room
+}
+
 /// The whole text of a run on a game: the journal, the report and its sums.
 pub(crate) fn write_trace(
     alloc: Global,
@@ -193,7 +217,7 @@ pub(crate) fn write_trace(
     requires { AllByRecursion (λ e. AllByRecursion (AreVertices (length game.now)) e.rows) entries.now }
     ensures { IfOk result (λ text. text.items ≡ trace_text game.now entries.now report.now) }
 {
-    let mut out = Vec::new(alloc);
+    let mut out = Vec::with_capacity(alloc, trace_room(entries, report))?;
     put_journal_head(&mut out, entries.len() as u64, settled_in(entries))?;
     put_entries(&mut out, game, entries)?;
     put_report_head(&mut out, report.len() as u64)?;
