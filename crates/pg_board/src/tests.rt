@@ -1,8 +1,8 @@
 //! Tests of what no clause says: that calls succeed where memory is ample, with worked answers; claims of the finders on
 //! a board; claims one after another against a plain reference; and posts through the shares of an office.
 
-// In the place of those of std.
-macro_rules! assert_eq {
+// As `assert_eq!` and `assert!`.
+macro_rules! check_eq {
     ($rt:expr; $found:expr, $want:expr $(,)?) => {
         $crate::tests::asserting::same(&$rt, $found, $want, stringify!($found))
     };
@@ -11,7 +11,7 @@ macro_rules! assert_eq {
     };
 }
 
-macro_rules! assert {
+macro_rules! check {
     ($rt:expr; $is_so:expr $(,)?) => {
         $crate::tests::asserting::holds(&$rt, $is_so, stringify!($is_so))
     };

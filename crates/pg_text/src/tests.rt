@@ -3,8 +3,8 @@
 ghost use Rattle.std.specs.Prelude.{IfOk};
 ghost use Rattle.pg_text.specs.Solution.{AreRows};
 
-// In the place of those of std.
-macro_rules! assert_eq {
+// As `assert_eq!` and `assert!`.
+macro_rules! check_eq {
     ($rt:expr; $found:expr, $want:expr $(,)?) => {
         $crate::tests::asserting::same(&$rt, $found, $want, stringify!($found))
     };
@@ -13,7 +13,7 @@ macro_rules! assert_eq {
     };
 }
 
-macro_rules! assert {
+macro_rules! check {
     ($rt:expr; $is_so:expr $(,)?) => {
         $crate::tests::asserting::holds(&$rt, $is_so, stringify!($is_so))
     };

@@ -35,7 +35,7 @@ fn posts(
             }),
             Err(refusal) => Err(refusal),
         };
-        assert_eq!(rt; found, want, "{call:?} {rows:?}");
+        check_eq!(rt; found, want, "{call:?} {rows:?}");
     }
     Ok(())
 }
@@ -81,18 +81,18 @@ fn put_old_claim(rt: &impl Abort, alloc: Global, call: Call, game: &Game) -> Res
         (EVEN, &both, Err(Refusal::Stale)),
     ];
     posts(rt, alloc, call, &mut board, &old)?;
-    assert!(rt; board.is_full());
+    check!(rt; board.is_full());
     Ok(())
 }
 
 /// The copy of the waiting game's board after its first post.
 fn compare_copy(rt: &impl Abort, copy: &Copied) {
-    assert_eq!(rt; copy.at, 1);
-    assert_eq!(rt; copy.settled, 1);
+    check_eq!(rt; copy.at, 1);
+    check_eq!(rt; copy.settled, 1);
     let mask = copy.inside.mask();
-    assert_eq!(rt; mask.len(), 2);
-    assert_eq!(rt; mask.count(), 1);
-    assert!(rt; is_member(mask, 1));
+    check_eq!(rt; mask.len(), 2);
+    check_eq!(rt; mask.count(), 1);
+    check!(rt; is_member(mask, 1));
 }
 
 fn is_member(mask: &Mask, v: u32) -> bool {
@@ -111,10 +111,10 @@ fn what_is_attracted_is_lost_for_the_opponent(rt: HostRuntime) -> Result<(), Fai
     ];
     for call in CALLS {
         let board = board_after(&rt, alloc, call, &game, &claims)?;
-        assert_eq!(rt; board.winner(1), Some(EVEN));
-        assert_eq!(rt; board.choice(1), None);
-        assert_eq!(rt; board.winner(2), None);
-        assert!(rt; !board.is_full());
+        check_eq!(rt; board.winner(1), Some(EVEN));
+        check_eq!(rt; board.choice(1), None);
+        check_eq!(rt; board.winner(2), None);
+        check!(rt; !board.is_full());
     }
     Ok(())
 }
@@ -127,7 +127,7 @@ fn a_full_board_has_a_solution(rt: HostRuntime) -> Result<(), Fail> {
         compare_new(&rt, alloc, &game)?;
         let board = fill_shared(&rt, alloc, call, &game)?;
         compare_solution(&rt, alloc, &board)?;
-        assert_eq!(rt; board.into_entries().len(), 2);
+        check_eq!(rt; board.into_entries().len(), 2);
     }
     Ok(())
 }
@@ -135,8 +135,8 @@ fn a_full_board_has_a_solution(rt: HostRuntime) -> Result<(), Fail> {
 /// A board of the shared game on which nothing is settled.
 fn compare_new(rt: &impl Abort, alloc: Global, game: &Game) -> Result<(), Fail> {
     let board = board_after(rt, alloc, Call::Post, game, &[])?;
-    assert_eq!(rt; board.game().len(), 3);
-    assert!(rt; solution_of(alloc, &board)?.is_none());
+    check_eq!(rt; board.game().len(), 3);
+    check!(rt; solution_of(alloc, &board)?.is_none());
     Ok(())
 }
 
@@ -152,9 +152,9 @@ fn fill_shared<'g>(
         (ODD, &[(2, Some(2))], Ok((1, 1, 1))),
     ];
     let board = board_after(rt, alloc, call, game, &claims)?;
-    assert_eq!(rt; board.settled(), 3);
-    assert_eq!(rt; board.settled_by(7), 3);
-    assert_eq!(rt; board.settled_by(8), 0);
+    check_eq!(rt; board.settled(), 3);
+    check_eq!(rt; board.settled_by(7), 3);
+    check_eq!(rt; board.settled_by(8), 0);
     Ok(board)
 }
 
@@ -164,12 +164,12 @@ fn solution_of(alloc: Global, board: &Board) -> Result<Option<Solution>, Fail> {
 
 /// The solution of the full board of the shared game.
 fn compare_solution(rt: &impl Abort, alloc: Global, board: &Board) -> Result<(), Fail> {
-    assert!(rt; board.is_full());
+    check!(rt; board.is_full());
     let Some(solution) = solution_of(alloc, board)? else {
         return Err(Fail::from("a full board has a solution"));
     };
     let rows = [(EVEN, Some(0)), (EVEN, None), (ODD, Some(2))];
-    assert_eq!(rt; solution.rows.as_slice(), rows.as_slice());
+    check_eq!(rt; solution.rows.as_slice(), rows.as_slice());
     Ok(())
 }
 
@@ -183,8 +183,8 @@ fn an_edge_out_of_the_rest_is_told_before_it_is_settled(rt: HostRuntime) -> Resu
     ];
     for call in CALLS {
         let board = board_after(&rt, alloc, call, &game, &claims)?;
-        assert_eq!(rt; board.settled(), 0);
-        assert!(rt; board.entries().is_empty());
+        check_eq!(rt; board.settled(), 0);
+        check!(rt; board.entries().is_empty());
     }
     Ok(())
 }
@@ -214,7 +214,7 @@ fn attraction_goes_through_two_layers(rt: HostRuntime) -> Result<(), Fail> {
     ];
     for call in CALLS {
         let board = board_after(&rt, alloc, call, &game, &claims)?;
-        assert!(rt; board.is_full());
+        check!(rt; board.is_full());
         compare_layers(&rt, board.entries())?;
     }
     Ok(())
@@ -222,15 +222,15 @@ fn attraction_goes_through_two_layers(rt: HostRuntime) -> Result<(), Fail> {
 
 /// The one entry of the layered game.
 fn compare_layers(rt: &impl Abort, entries: &[Entry]) -> Result<(), Fail> {
-    assert_eq!(rt; entries.len(), 1);
+    check_eq!(rt; entries.len(), 1);
     let Some(entry) = entries.first() else {
         return Err(Fail::from("there is one entry"));
     };
-    assert_eq!(rt; entry.worker, 7);
-    assert_eq!(rt; entry.player, EVEN);
-    assert_eq!(rt; entry.claimed, 1);
+    check_eq!(rt; entry.worker, 7);
+    check_eq!(rt; entry.player, EVEN);
+    check_eq!(rt; entry.claimed, 1);
     let rows: [Row; 3] = [(0, Some(0)), (1, Some(0)), (2, None)];
-    assert_eq!(rt; entry.rows.as_slice(), rows.as_slice());
+    check_eq!(rt; entry.rows.as_slice(), rows.as_slice());
     Ok(())
 }
 

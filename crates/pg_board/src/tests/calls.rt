@@ -50,7 +50,7 @@ impl Call {
         if found != Err(Refusal::Memory) {
             return found;
         }
-        assert_eq!(rt; board.settled(), before);
+        check_eq!(rt; board.settled(), before);
         self.ask(alloc, board, claim)
     }
 
@@ -90,7 +90,7 @@ impl Call {
         if found != Err(Refusal::Memory) {
             return found;
         }
-        assert_eq!(rt; share.amount(), before);
+        check_eq!(rt; share.amount(), before);
         self.ask_office(rt, alloc, office, share, worker, game, claim)
     }
 }

@@ -17,7 +17,7 @@ use std::test::Fail;
 fn put_dominion(rt: &impl Abort, alloc: Global, call: Call, board: &mut Board, claim: &Claim) {
     match call.put(rt, alloc, board, claim) {
         Ok(_) => {}
-        Err(refusal) => assert_eq!(rt; refusal, Refusal::Stale, "{call:?}"),
+        Err(refusal) => check_eq!(rt; refusal, Refusal::Stale, "{call:?}"),
     }
 }
 
@@ -52,7 +52,7 @@ fn put_found(rt: &impl Abort, alloc: Global, call: Call, game: &Game) -> Result<
         let found = found_in(alloc, &board, &job)?;
         put_dominions(rt, alloc, call, &mut board, found.claims.as_slice());
     }
-    assert!(rt; board.is_full());
+    check!(rt; board.is_full());
     Ok(())
 }
 
@@ -97,15 +97,15 @@ fn a_bound_above_the_greatest_is_taken_as_the_greatest_and_for_bound_0_nothing_i
     let alloc = rt.alloc();
     let own: [Vertex; 1] = [(0, EVEN, &[0])];
     let found = found_on_new(alloc, &own, 9, 100)?;
-    assert!(rt; !found.gave_up);
-    assert_eq!(rt; found.claims.len(), 1);
+    check!(rt; !found.gave_up);
+    check_eq!(rt; found.claims.len(), 1);
     for claim in found.claims.as_slice() {
-        assert_eq!(rt; claim.player, EVEN);
+        check_eq!(rt; claim.player, EVEN);
         let rows: [Row; 1] = [(0, Some(0))];
-        assert_eq!(rt; claim.rows.as_slice(), rows.as_slice());
+        check_eq!(rt; claim.rows.as_slice(), rows.as_slice());
     }
     let found = found_on_new(alloc, &own, 0, 100)?;
-    assert!(rt; found.claims.is_empty());
+    check!(rt; found.claims.is_empty());
     Ok(())
 }
 
@@ -114,8 +114,8 @@ fn a_small_search_without_budget_gives_up(rt: HostRuntime) -> Result<(), Fail> {
     let alloc = rt.alloc();
     let pair: [Vertex; 2] = [(0, ODD, &[1]), (2, EVEN, &[0])];
     let found = found_on_new(alloc, &pair, 2, 0)?;
-    assert!(rt; found.gave_up);
-    assert!(rt; found.claims.is_empty());
+    check!(rt; found.gave_up);
+    check!(rt; found.claims.is_empty());
     Ok(())
 }
 
@@ -132,11 +132,11 @@ fn put_late(
     find_all(alloc, &board, &mut late)?;
     for (player, rows) in claims {
         let claim = claim_of(alloc, *player, *rows)?;
-        assert!(rt; call.put(rt, alloc, &mut board, &claim).is_ok());
+        check!(rt; call.put(rt, alloc, &mut board, &claim).is_ok());
         find_all(alloc, &board, &mut late)?;
     }
     put_dominions(rt, alloc, call, &mut board, late.as_slice());
-    assert!(rt; board.is_full());
+    check!(rt; board.is_full());
     Ok(())
 }
 
@@ -180,7 +180,7 @@ fn put_in_order(
     for call in CALLS {
         let board = board_after(rt, alloc, call, game, &claims)?;
         for v in 0..3 {
-            assert_eq!(rt; board.winner(v), Some(EVEN), "{call:?} {claims:?}");
+            check_eq!(rt; board.winner(v), Some(EVEN), "{call:?} {claims:?}");
         }
     }
     Ok(())

@@ -106,7 +106,7 @@ fn accepted(
         compare_said(rt, alloc, board, &before)?;
         found = answer(alloc, board, asked);
     }
-    assert_eq!(rt; found, Ok(want));
+    check_eq!(rt; found, Ok(want));
     Ok(())
 }
 
@@ -136,15 +136,15 @@ fn copied_contents(alloc: Global, board: &Board) -> Result<Contents, Fail> {
 }
 
 fn compare_said(rt: &impl Abort, alloc: Global, board: &Board, want: &Said) -> Result<(), Fail> {
-    assert_eq!(rt; &told(alloc, board.entries())?, &want.entries);
-    assert_eq!(rt; &copied_contents(alloc, board)?, &want.copied);
-    assert_eq!(rt; board.settled(), want.copied.2);
+    check_eq!(rt; &told(alloc, board.entries())?, &want.entries);
+    check_eq!(rt; &copied_contents(alloc, board)?, &want.copied);
+    check_eq!(rt; board.settled(), want.copied.2);
     Ok(())
 }
 
 /// Both entries of the shared game.
 fn compare_entries(rt: &impl Abort, entries: &[Entry]) {
-    assert_eq!(rt; entries.len(), 2);
+    check_eq!(rt; entries.len(), 2);
     let even: [Row; 2] = [(0, Some(0)), (1, None)];
     let odd: [Row; 1] = [(2, Some(2))];
     for (at, entry) in entries.iter().enumerate() {
@@ -158,10 +158,10 @@ fn compare_entries(rt: &impl Abort, entries: &[Entry]) {
 
 /// An entry of worker 7 with one claimed vertex.
 fn compare_entry(rt: &impl Abort, entry: &Entry, player: Player, rows: &[Row]) {
-    assert_eq!(rt; entry.player, player);
-    assert_eq!(rt; entry.worker, 7);
-    assert_eq!(rt; entry.claimed, 1);
-    assert_eq!(rt; entry.rows.as_slice(), rows);
+    check_eq!(rt; entry.player, player);
+    check_eq!(rt; entry.worker, 7);
+    check_eq!(rt; entry.claimed, 1);
+    check_eq!(rt; entry.rows.as_slice(), rows);
 }
 
 const FIRST: Posted = Posted {
@@ -248,18 +248,18 @@ fn a_board_is_opened_copied_and_read_after_a_refusal(rt: HostRuntime) -> Result<
     let game = game_of(alloc, SHARED)?;
     let mut board = opened_twice(alloc, &game)?;
     let copied = copied_twice(alloc, &board)?;
-    assert_eq!(rt; copied.inside.mask().count(), 3);
-    assert!(rt; copied.at == 0 && copied.settled == 0);
-    assert!(rt; solution_twice(alloc, &board)?.is_none());
+    check_eq!(rt; copied.inside.mask().count(), 3);
+    check!(rt; copied.at == 0 && copied.settled == 0);
+    check!(rt; solution_twice(alloc, &board)?.is_none());
     let even = claim_of(alloc, EVEN, &[(0, Some(0))])?;
     let odd = claim_of(alloc, ODD, &[(2, Some(2))])?;
-    assert_eq!(rt; posted(alloc, &mut board, &even)?, FIRST);
-    assert_eq!(rt; posted(alloc, &mut board, &odd)?, SECOND);
+    check_eq!(rt; posted(alloc, &mut board, &even)?, FIRST);
+    check_eq!(rt; posted(alloc, &mut board, &odd)?, SECOND);
     let Some(solution) = solution_twice(alloc, &board)? else {
         return Err(Fail::from("the board is not full"));
     };
     let want = [(EVEN, Some(0)), (EVEN, None), (ODD, Some(2))];
-    assert!(rt; solution.rows.as_slice() == want.as_slice());
+    check!(rt; solution.rows.as_slice() == want.as_slice());
     compare_entries(&rt, board.entries());
     Ok(())
 }
@@ -293,7 +293,7 @@ fn compare_through<L: Ledger, R: Wait + Abort>(
     share: &Share<L>,
     want: &Contents,
 ) -> Result<(), Fail> {
-    assert_eq!(rt; &contents_through(rt, alloc, office, share)?, want);
+    check_eq!(rt; &contents_through(rt, alloc, office, share)?, want);
     Ok(())
 }
 
@@ -310,12 +310,12 @@ fn accepted_through<L: Ledger, R: Wait + Abort>(
     let amount = share.amount();
     let mut found = answer_through(rt, alloc, office, share, asked);
     if is_of_memory(&found) {
-        assert_eq!(rt; share.amount(), amount);
+        check_eq!(rt; share.amount(), amount);
         compare_through(rt, alloc, office, share, &copied)?;
         found = answer_through(rt, alloc, office, share, asked);
     }
-    assert_eq!(rt; found, Ok(want));
-    assert_eq!(rt; share.amount(), amount.saturating_add(u64::from(want)));
+    check_eq!(rt; found, Ok(want));
+    check_eq!(rt; share.amount(), amount.saturating_add(u64::from(want)));
     Ok(())
 }
 

@@ -80,12 +80,12 @@ fn settle_first<L: Ledger, R: Wait + Abort>(
     game: &Game,
 ) -> Result<(), Fail> {
     let even = claim_of(alloc, EVEN, &[(0, Some(0))])?;
-    assert_eq!(rt;
+    check_eq!(rt;
         call.put_through(rt, alloc, office, share, 1, game, &even),
         Ok(2)
     );
-    assert_eq!(rt; share.amount(), 2);
-    assert!(rt; copied_through(rt, alloc, office, share)?.settled >= 2);
+    check_eq!(rt; share.amount(), 2);
+    check!(rt; copied_through(rt, alloc, office, share)?.settled >= 2);
     Ok(())
 }
 
@@ -99,28 +99,28 @@ fn settle_second<L: Ledger, R: Wait + Abort>(
     game: &Game,
 ) -> Result<(), Fail> {
     let odd = claim_of(alloc, ODD, &[(2, Some(2))])?;
-    assert_eq!(rt;
+    check_eq!(rt;
         call.put_through(rt, alloc, office, share, 2, game, &odd),
         Ok(1)
     );
     let again = call.put_through(rt, alloc, office, share, 2, game, &odd);
-    assert_eq!(rt; again, Err(Refusal::Stale));
-    assert_eq!(rt; share.amount(), 1);
+    check_eq!(rt; again, Err(Refusal::Stale));
+    check_eq!(rt; share.amount(), 1);
     Ok(())
 }
 
 /// A copy of the full board of the shared game.
 fn compare_copy(rt: &impl Abort, copied: &Copied) {
-    assert_eq!(rt; copied.at, 2);
-    assert_eq!(rt; copied.settled, 3);
-    assert_eq!(rt; copied.inside.mask().count(), 0);
+    check_eq!(rt; copied.at, 2);
+    check_eq!(rt; copied.settled, 3);
+    check_eq!(rt; copied.inside.mask().count(), 0);
 }
 
 /// The same board, with what each worker settled.
 fn compare_closed(rt: &impl Abort, board: &Board) {
-    assert_eq!(rt; board.settled(), 3);
-    assert_eq!(rt; board.settled_by(1), 2);
-    assert_eq!(rt; board.settled_by(2), 1);
+    check_eq!(rt; board.settled(), 3);
+    check_eq!(rt; board.settled_by(1), 2);
+    check_eq!(rt; board.settled_by(2), 1);
 }
 
 #[test]
@@ -142,8 +142,8 @@ fn open_round_a_board<L: Ledger>(
     let board = board_of_post(rt, alloc, game)?;
     let (office, shares) = office_round::<L>(alloc, blank, board)?;
     let amounts = [shares[0].amount(), shares[1].amount()];
-    assert_eq!(rt; amounts, [2, 0]);
-    assert_eq!(rt; office.close(shares).settled(), 2);
+    check_eq!(rt; amounts, [2, 0]);
+    check_eq!(rt; office.close(shares).settled(), 2);
     Ok(())
 }
 
@@ -151,7 +151,7 @@ fn open_round_a_board<L: Ledger>(
 fn board_of_post<'g>(rt: &impl Abort, alloc: Global, game: &'g Game) -> Result<Board<'g>, Fail> {
     let mut board = Board::open(alloc, game)?;
     let even = claim_of(alloc, EVEN, &[(0, Some(0))])?;
-    assert!(rt; board.post(alloc, 0, &even).is_ok());
+    check!(rt; board.post(alloc, 0, &even).is_ok());
     Ok(board)
 }
 
@@ -194,8 +194,8 @@ fn settle_singles_by_three<L: Ledger, R: Wait + Abort>(
     settle_singles(rt, alloc, call, &office, &mut shares[1], game, 1)?;
     settle_singles(rt, alloc, call, &office, &mut shares[2], game, 2)?;
     let amounts = [shares[0].amount(), shares[1].amount(), shares[2].amount()];
-    assert_eq!(rt; amounts, [2, 0, 1]);
-    assert_eq!(rt; office.close(shares).settled(), 3);
+    check_eq!(rt; amounts, [2, 0, 1]);
+    check_eq!(rt; office.close(shares).settled(), 3);
     Ok(())
 }
 
@@ -218,7 +218,7 @@ fn settle_singles<L: Ledger, R: Wait + Abort>(
             settled = settled.saturating_add(u64::from(more));
         }
     }
-    assert_eq!(rt; share.amount(), before.saturating_add(settled));
+    check_eq!(rt; share.amount(), before.saturating_add(settled));
     Ok(())
 }
 
@@ -251,7 +251,7 @@ fn settle_foreign<L: Ledger, R: Wait + Abort>(
 {
     let (office, mut shares) = office_of::<L>(alloc, blank, game, 1)?;
     settle_checked(rt, alloc, &office, &mut shares[0], other, game)?;
-    assert_eq!(rt; office.close(shares).settled(), 3);
+    check_eq!(rt; office.close(shares).settled(), 3);
     Ok(())
 }
 
@@ -266,11 +266,11 @@ fn settle_checked<L: Ledger, R: Wait + Abort>(
     let claim = claim_of(alloc, EVEN, &[(0, Some(0))])?;
     let checked = checked_on(alloc, other, &claim)?;
     let found = office.settle(rt, alloc, share, 1, &checked);
-    assert_eq!(rt; found, Err(Refusal::Foreign(0)));
-    assert_eq!(rt; share.amount(), 0);
+    check_eq!(rt; found, Err(Refusal::Foreign(0)));
+    check_eq!(rt; share.amount(), 0);
     let found = Call::Post.put_through(rt, alloc, office, share, 1, game, &claim);
-    assert_eq!(rt; found, Ok(3));
-    assert_eq!(rt; share.amount(), 3);
+    check_eq!(rt; found, Ok(3));
+    check_eq!(rt; share.amount(), 3);
     Ok(())
 }
 
@@ -304,7 +304,7 @@ fn settle_all<L: Ledger, R: Wait + Abort>(
 {
     let (office, mut shares) = office_of::<L>(alloc, blank, game, 1)?;
     settle_loops(rt, alloc, call, &office, &mut shares[0], game)?;
-    assert!(rt; office.close(shares).is_full());
+    check!(rt; office.close(shares).is_full());
     Ok(())
 }
 
@@ -318,7 +318,7 @@ fn settle_loops<L: Ledger, R: Wait + Abort>(
 ) -> Result<(), Fail> {
     let claim = claim_of_loops(alloc, game.len())?;
     let found = call.put_through(rt, alloc, office, share, 1, game, &claim);
-    assert_eq!(rt; found, Ok(1_048_576));
-    assert_eq!(rt; share.amount(), 1_048_576);
+    check_eq!(rt; found, Ok(1_048_576));
+    check_eq!(rt; share.amount(), 1_048_576);
     Ok(())
 }

@@ -22,19 +22,19 @@ fn compare_states(rt: &impl Abort, board: &Board, n: u32) {
         if let Some((_, chosen)) = state {
             choice = chosen;
         }
-        assert_eq!(rt; board.winner(v), state.map(|s| s.0));
-        assert_eq!(rt; board.choice(v), choice);
+        check_eq!(rt; board.winner(v), state.map(|s| s.0));
+        check_eq!(rt; board.choice(v), choice);
     }
 }
 
 /// Compares the regions that the journal gives, and the number settled.
 fn compare_regions(rt: &impl Abort, board: &Board, n: u32, player: Player, own: u32, lost: u32) {
-    assert_eq!(rt; region_of(board.entries(), n, player), own);
-    assert_eq!(rt; region_of(board.entries(), n, player.other()), lost);
+    check_eq!(rt; region_of(board.entries(), n, player), own);
+    check_eq!(rt; region_of(board.entries(), n, player.other()), lost);
     let settled = u64::from((own | lost).count_ones());
-    assert_eq!(rt; board.settled(), settled);
-    assert_eq!(rt; board.settled_by(7), settled);
-    assert_eq!(rt; board.is_full(), settled == u64::from(n));
+    check_eq!(rt; board.settled(), settled);
+    check_eq!(rt; board.settled_by(7), settled);
+    check_eq!(rt; board.is_full(), settled == u64::from(n));
 }
 
 /// Compares the last entry with the claim that it answers.
@@ -43,9 +43,9 @@ fn compare_entry(rt: &impl Abort, game: &[Plain], own: u32, entries: &[Entry], c
         return;
     };
     let rows = entry.rows.as_slice();
-    assert_eq!(rt; entry.player, claim.player);
-    assert!(rt; starts_with_rest(rows, claim.rows.as_slice(), own));
-    assert!(rt; are_attracted(game, own, claim, rows));
+    check_eq!(rt; entry.player, claim.player);
+    check!(rt; starts_with_rest(rows, claim.rows.as_slice(), own));
+    check!(rt; are_attracted(game, own, claim, rows));
 }
 
 /// Puts a claim to the board, and compares the answer and the board with the reference. Tells how many vertices were settled.
@@ -63,7 +63,7 @@ fn compare_answer(
     let before = board.entries().len();
     let (want, after) = answer(game, before as u64, own, lost, claim);
     let found = call.put(rt, alloc, board, claim);
-    assert_eq!(rt; found, want);
+    check_eq!(rt; found, want);
     compare_states(rt, board, n);
     compare_regions(rt, board, n, claim.player, after, lost);
     match want {
@@ -72,7 +72,7 @@ fn compare_answer(
             posted.settled
         }
         Err(_) => {
-            assert_eq!(rt; board.entries().len(), before);
+            check_eq!(rt; board.entries().len(), before);
             0
         }
     }
@@ -197,7 +197,7 @@ fn up_to_two_claims_over_every_game_of_two_vertices_with_priorities_below_3(
         let more = compare_pairs(&rt, alloc, &mut random, &plain)?;
         settled = settled.saturating_add(more);
     }
-    assert!(rt; settled > 20_000);
+    check!(rt; settled > 20_000);
     Ok(())
 }
 
@@ -213,7 +213,7 @@ fn every_three_claims_with_right_rows_over_every_game_of_two_vertices_with_prior
         let more = compare_triples(&rt, alloc, &mut random, &plain)?;
         settled = settled.saturating_add(more);
     }
-    assert!(rt; settled > 30_000);
+    check!(rt; settled > 30_000);
     Ok(())
 }
 
@@ -246,6 +246,6 @@ fn random_claims_on_random_games_of_two_to_eight_vertices(rt: HostRuntime) -> Re
         let more = compare_random(&rt, alloc, &mut random, plain.as_slice())?;
         settled = settled.saturating_add(more);
     }
-    assert!(rt; settled > 5_000);
+    check!(rt; settled > 5_000);
     Ok(())
 }

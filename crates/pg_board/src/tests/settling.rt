@@ -45,7 +45,7 @@ fn a_row_that_says_otherwise_of_its_vertex_is_foreign(rt: HostRuntime) -> Result
     let layered = layered_game(alloc)?;
     let own: [Row; 1] = [(0, Some(0))];
     let found = settle(alloc, &divided, &own, &layered)?;
-    assert_eq!(rt; found, Err(Refusal::Foreign(0)));
+    check_eq!(rt; found, Err(Refusal::Foreign(0)));
     let one: [Vertex; 1] = [(0, ODD, &[0])];
     let more: [Vertex; 2] = [(0, ODD, &[0, 1]), (0, EVEN, &[1])];
     let found = settle(
@@ -54,7 +54,7 @@ fn a_row_that_says_otherwise_of_its_vertex_is_foreign(rt: HostRuntime) -> Result
         &[(0, None)],
         &game_of(alloc, &more)?,
     )?;
-    assert_eq!(rt; found, Err(Refusal::Foreign(0)));
+    check_eq!(rt; found, Err(Refusal::Foreign(0)));
     Ok(())
 }
 
@@ -71,9 +71,9 @@ fn rows_that_agree_are_settled_in_a_smaller_game(rt: HostRuntime) -> Result<(), 
         settled: 1,
     };
     let own: [Row; 1] = [(0, Some(0))];
-    assert_eq!(rt; settle(alloc, &large, &own, &small)?, Ok(posted));
+    check_eq!(rt; settle(alloc, &large, &own, &small)?, Ok(posted));
     let past: [Row; 1] = [(1, Some(1))];
-    assert_eq!(rt;
+    check_eq!(rt;
         settle(alloc, &large, &past, &small)?,
         Err(Refusal::Foreign(1))
     );
@@ -86,9 +86,9 @@ fn a_checked_claim_tells_its_rows(rt: HostRuntime) -> Result<(), Fail> {
     let game = layered_game(alloc)?;
     let rows: [Row; 2] = [(1, Some(0)), (2, None)];
     let checked = checked_on(alloc, &game, EVEN, &rows)?;
-    assert_eq!(rt; checked.player(), EVEN);
+    check_eq!(rt; checked.player(), EVEN);
     let rows = checked.rows();
-    assert_eq!(rt; rows.len(), 2);
+    check_eq!(rt; rows.len(), 2);
     for row in rows {
         let target = if row.vertex == 1 { 0 } else { 1 };
         compare_row(&rt, row, target);
@@ -99,9 +99,9 @@ fn a_checked_claim_tells_its_rows(rt: HostRuntime) -> Result<(), Fail> {
 /// A row of priority 3, which keeps one successor.
 fn compare_row(rt: &impl Abort, row: &CheckedRow, target: u32) {
     let kept = row.kept.as_slice();
-    assert_eq!(rt; kept.len(), 1);
-    assert_eq!(rt; kept.first().copied(), Some(target));
-    assert_eq!(rt; row.priority, 3);
+    check_eq!(rt; kept.len(), 1);
+    check_eq!(rt; kept.first().copied(), Some(target));
+    check_eq!(rt; row.priority, 3);
 }
 
 /// How many answers were foreign, and how many were not.
@@ -143,12 +143,12 @@ fn compare_on(
     let want = wanted(on, other, &board, claim);
     let mut found = board.settle(alloc, 7, checked);
     if found == Err(Refusal::Memory) {
-        assert_eq!(rt; board.settled(), before);
+        check_eq!(rt; board.settled(), before);
         found = board.settle(alloc, 7, checked);
     }
-    assert_eq!(rt; found, want);
+    check_eq!(rt; found, want);
     if found.is_err() {
-        assert_eq!(rt; board.settled(), before);
+        check_eq!(rt; board.settled(), before);
     }
     Ok(matches!(found, Err(Refusal::Foreign(_))))
 }
@@ -193,8 +193,8 @@ fn a_checked_claim_is_foreign_exactly_where_some_row_differs(rt: HostRuntime) ->
     let checked = checked_on(alloc, &game, EVEN, &all)?;
     let claim = claim_of(alloc, EVEN, &all)?;
     let counts = compare_on_others(&rt, alloc, &mut random, &on, &claim, &checked)?;
-    assert!(rt; counts.foreign > 300);
-    assert!(rt; counts.other > 300);
+    check!(rt; counts.foreign > 300);
+    check!(rt; counts.other > 300);
     Ok(())
 }
 
@@ -217,7 +217,7 @@ fn checked_claims_of_random_games_are_foreign_exactly_where_some_row_differs(
             other = other.saturating_add(counts.other);
         }
     }
-    assert!(rt; foreign > 1_000);
-    assert!(rt; other > 1_000);
+    check!(rt; foreign > 1_000);
+    check!(rt; other > 1_000);
     Ok(())
 }

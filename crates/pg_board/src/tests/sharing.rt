@@ -42,16 +42,16 @@ fn share_copies<L: Ledger, R: Wait + Abort>(
     compare(rt, &first, (0, 0, 3));
     compare(rt, &second, (0, 0, 3));
     // the office has the third
-    assert_eq!(rt; Arc::strong_count(&first), 3);
+    check_eq!(rt; Arc::strong_count(&first), 3);
     let even = claim_of(alloc, EVEN, &[(0, Some(0))])?;
     let found = call.put_through(rt, alloc, &office, &mut shares[0], 1, game, &even);
-    assert_eq!(rt; found, Ok(2));
+    check_eq!(rt; found, Ok(2));
     compare(rt, &first, (0, 0, 3));
     let later = office.shared_copy(rt, alloc, &shares[1])?;
     compare(rt, &later, (1, 2, 1));
-    assert_eq!(rt; Arc::strong_count(&first), 2);
+    check_eq!(rt; Arc::strong_count(&first), 2);
     share_after_refusals(rt, alloc, call, &office, &mut shares[1], game, &later)?;
-    assert_eq!(rt; office.close(shares).settled(), 2);
+    check_eq!(rt; office.close(shares).settled(), 2);
     Ok(())
 }
 
@@ -67,18 +67,18 @@ fn share_after_refusals<L: Ledger, R: Wait + Abort>(
 ) -> Result<(), Fail> {
     let stale = claim_of(alloc, EVEN, &[(0, Some(0))])?;
     let found = call.put_through(rt, alloc, office, share, 2, game, &stale);
-    assert_eq!(rt; found, Err(Refusal::Stale));
+    check_eq!(rt; found, Err(Refusal::Stale));
     let lost = claim_of(alloc, ODD, &[(1, Some(0))])?;
     let found = call.put_through(rt, alloc, office, share, 2, game, &lost);
-    assert_eq!(rt; found, Err(Refusal::Lost(1)));
+    check_eq!(rt; found, Err(Refusal::Lost(1)));
     let again = office.shared_copy(rt, alloc, share)?;
     compare(rt, &again, (1, 2, 1));
-    assert_eq!(rt; Arc::strong_count(last), 3);
+    check_eq!(rt; Arc::strong_count(last), 3);
     Ok(())
 }
 
 /// What a copy says: the number of entries, how many vertices are settled and how many are not.
 fn compare(rt: &impl Abort, copied: &Copied, want: (u64, u64, u32)) {
     let found = (copied.at, copied.settled, copied.inside.mask().count());
-    assert_eq!(rt; found, want);
+    check_eq!(rt; found, want);
 }

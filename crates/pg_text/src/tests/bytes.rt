@@ -38,13 +38,13 @@ fn in_a_name(byte: u8) -> Option<TextFault> {
 fn each_byte_has_its_answer(rt: HostRuntime) {
     let alloc = rt.alloc();
     for byte in 0..=255u8 {
-        assert_eq!(rt;
+        check_eq!(rt;
             game_fault(alloc, [byte].as_slice()),
             Some(alone(byte)),
             "at {byte}"
         );
         let number = [b'0', b' ', b'0', b' ', b'0', b' ', b'0', byte, b'0', b';'];
-        assert_eq!(rt;
+        check_eq!(rt;
             game_fault(alloc, number.as_slice()),
             in_a_number(byte),
             "at {byte}"
@@ -52,7 +52,7 @@ fn each_byte_has_its_answer(rt: HostRuntime) {
         let name = [
             b'0', b' ', b'0', b' ', b'0', b' ', b'0', b'"', byte, b'"', b';',
         ];
-        assert_eq!(rt;
+        check_eq!(rt;
             game_fault(alloc, name.as_slice()),
             in_a_name(byte),
             "at {byte}"
@@ -70,7 +70,7 @@ fn a_cut_game_text_is_refused_at_its_end(rt: HostRuntime) {
             6..=17 => Some(TextFault::Syntax(len)),
             _ => None,
         };
-        assert_eq!(rt; game_fault(alloc, &text[..len as usize]), want, "at {len}");
+        check_eq!(rt; game_fault(alloc, &text[..len as usize]), want, "at {len}");
     }
 }
 
@@ -90,7 +90,7 @@ fn a_cut_solution_text_is_refused_at_its_end_or_lacks_lines(rt: HostRuntime) -> 
             21..=25 => Some(SolutionTextFault::Syntax(len)),
             _ => None,
         };
-        assert_eq!(rt;
+        check_eq!(rt;
             solution_fault(alloc, &game, &text[..len as usize]),
             want,
             "at {len}"

@@ -33,7 +33,7 @@ fn each_fault_of_a_game_text_has_its_line(rt: HostRuntime) -> Result<(), Fail> {
         (TextFault::Memory, "no memory"),
     ] {
         let text = fault.to_string(alloc)?;
-        assert_eq!(rt; text.as_str(), line);
+        check_eq!(rt; text.as_str(), line);
     }
     Ok(())
 }
@@ -52,7 +52,7 @@ fn each_fault_of_a_solution_text_has_its_line(rt: HostRuntime) -> Result<(), Fai
         (SolutionTextFault::Memory, "no memory"),
     ] {
         let text = fault.to_string(alloc)?;
-        assert_eq!(rt; text.as_str(), line);
+        check_eq!(rt; text.as_str(), line);
     }
     Ok(())
 }

@@ -38,7 +38,7 @@ fn a_game_is_written_in_one_spelling(rt: HostRuntime) -> Result<(), Fail> {
     ] {
         let game = game(alloc, text.as_bytes())?;
         let written = write_game(alloc, &game)?;
-        assert_eq!(rt; written.as_slice(), want.as_bytes(), "at {text}");
+        check_eq!(rt; written.as_slice(), want.as_bytes(), "at {text}");
     }
     Ok(())
 }
@@ -58,9 +58,9 @@ fn a_written_game_is_read_back(rt: HostRuntime) -> Result<(), Fail> {
     let alloc = rt.alloc();
     let text = "parity 9;\n3 1 0 9;\n9 2 1 3,9;\n";
     let game = game(alloc, text.as_bytes())?;
-    assert_eq!(rt; write_game(alloc, &game)?.as_slice(), text.as_bytes());
+    check_eq!(rt; write_game(alloc, &game)?.as_slice(), text.as_bytes());
     let read = read_back(alloc, &game)?;
-    assert!(rt; read == game);
+    check!(rt; read == game);
     Ok(())
 }
 
@@ -96,7 +96,7 @@ fn the_grammar_is_judged_before_numbers_and_numbers_before_owners(rt: HostRuntim
         ("0 0 02 0;", TextFault::Owner(4)),
         ("0 0 1 7;0 0 2 0;0 0 3 0;", TextFault::Owner(12)),
     ] {
-        assert_eq!(rt; game_fault(alloc, text.as_bytes()), Some(want), "at {text}");
+        check_eq!(rt; game_fault(alloc, text.as_bytes()), Some(want), "at {text}");
     }
 }
 
@@ -109,7 +109,7 @@ fn specifications_that_make_no_game_are_named(rt: HostRuntime) {
         ("1 0 0 1;1 0 0 2;", GameFault::Twice(1)),
         ("0 0 0 0,5,3; 1 0 0 2;", GameFault::Unknown(0, 5)),
     ] {
-        assert_eq!(rt;
+        check_eq!(rt;
             game_fault(alloc, text.as_bytes()),
             Some(TextFault::Game(want)),
             "at {text}"

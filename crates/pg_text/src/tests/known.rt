@@ -36,7 +36,7 @@ fn vertices_may_be_left_out(rt: HostRuntime) -> Result<(), Fail> {
     ] {
         let game = game(alloc, game_text.as_bytes())?;
         let known = known(alloc, &game, text.as_bytes())?;
-        assert!(rt; known.rows.as_slice() == want.as_slice(), "at {text}");
+        check!(rt; known.rows.as_slice() == want.as_slice(), "at {text}");
     }
     Ok(())
 }
@@ -58,7 +58,7 @@ fn the_first_fault_of_a_known_text_is_named(rt: HostRuntime) -> Result<(), Fail>
         ("0 0 0; 0 0 0;", SolutionTextFault::Twice(0)),
         ("1 1;0 0;0 0;1 1;", SolutionTextFault::Twice(0)),
     ] {
-        assert_eq!(rt;
+        check_eq!(rt;
             known(alloc, &game, text.as_bytes()).err(),
             Some(want),
             "at {text}"

@@ -72,15 +72,15 @@ fn compare_vertex(
     let Some(v) = game.vertex_of(id) else {
         return Err(Fail::from("no such vertex"));
     };
-    assert_eq!(rt; game.priority(v), priority);
-    assert_eq!(rt; game.owner(v), owner);
-    assert_eq!(rt; game.successors(v), successors);
+    check_eq!(rt; game.priority(v), priority);
+    check_eq!(rt; game.owner(v), owner);
+    check_eq!(rt; game.successors(v), successors);
     Ok(())
 }
 
 /// The game is that of the text.
 fn compare_game(rt: &impl Abort, game: &Game) -> Result<(), Fail> {
-    assert_eq!(rt; game.len(), 5);
+    check_eq!(rt; game.len(), 5);
     compare_vertex(rt, game, 0, 6, Player::Odd, [2, 4].as_slice())?;
     compare_vertex(rt, game, 1, 8, Player::Odd, [2, 3, 4].as_slice())?;
     compare_vertex(rt, game, 2, 7, Player::Even, [0, 1, 3, 4].as_slice())?;
@@ -115,7 +115,7 @@ fn a_solution_is_read_after_a_refusal(rt: HostRuntime) -> Result<(), Fail> {
         (even, Some(4)),
         (even, None),
     ];
-    assert_eq!(rt; solution.rows.as_slice(), want.as_slice());
+    check_eq!(rt; solution.rows.as_slice(), want.as_slice());
     compare_game(&rt, &game)
 }
 
@@ -139,7 +139,7 @@ fn what_is_known_is_read_after_a_refusal(rt: HostRuntime) -> Result<(), Fail> {
         None,
         Some((Player::Odd, None)),
     ];
-    assert!(rt; known.rows.as_slice() == want.as_slice());
+    check!(rt; known.rows.as_slice() == want.as_slice());
     compare_game(&rt, &game)
 }
 
@@ -155,7 +155,7 @@ fn a_game_is_written_after_a_refusal(rt: HostRuntime) -> Result<(), Fail> {
     let alloc = rt.alloc();
     let game = needed_game(alloc)?;
     let text = write_game_twice(alloc, &game)?;
-    assert_eq!(rt; text.as_slice(), WRITTEN_GAME);
+    check_eq!(rt; text.as_slice(), WRITTEN_GAME);
     compare_game(&rt, &game)
 }
 
@@ -174,7 +174,7 @@ fn a_solution_is_written_after_a_refusal(rt: HostRuntime) -> Result<(), Fail> {
     let game = needed_game(alloc)?;
     let solution = needed_solution(alloc, &game)?;
     let text = write_solution_twice(alloc, &game, &solution)?;
-    assert_eq!(rt; text.as_slice(), WRITTEN_SOLUTION);
+    check_eq!(rt; text.as_slice(), WRITTEN_SOLUTION);
     compare_game(&rt, &game)
 }
 
@@ -193,6 +193,6 @@ fn winners_are_written_after_a_refusal(rt: HostRuntime) -> Result<(), Fail> {
     let game = needed_game(alloc)?;
     let solution = needed_solution(alloc, &game)?;
     let text = write_winners_twice(alloc, &game, &solution)?;
-    assert_eq!(rt; text.as_slice(), WRITTEN_WINNERS);
+    check_eq!(rt; text.as_slice(), WRITTEN_WINNERS);
     compare_game(&rt, &game)
 }

@@ -32,7 +32,7 @@ fn winners_and_choices_are_written_in_one_spelling(rt: HostRuntime) -> Result<()
         let game = game(alloc, game_text.as_bytes())?;
         let solution = solution(alloc, &game, text.as_bytes())?;
         let written = write_solution(alloc, &game, &solution)?;
-        assert_eq!(rt; written.as_slice(), want.as_bytes(), "at {text}");
+        check_eq!(rt; written.as_slice(), want.as_bytes(), "at {text}");
     }
     Ok(())
 }
@@ -66,10 +66,10 @@ fn written_solutions_and_winners_are_read_back(rt: HostRuntime) -> Result<(), Fa
     let game = game(alloc, GAPS.as_bytes())?;
     let solution = solution(alloc, &game, "9 0; 3 0 9;".as_bytes())?;
     let read = read_back(alloc, &game, &solution)?;
-    assert_eq!(rt; read.rows.as_slice(), solution.rows.as_slice());
+    check_eq!(rt; read.rows.as_slice(), solution.rows.as_slice());
     let winners = winners_back(alloc, &game, &solution)?;
     let want = [(Player::Even, None), (Player::Even, None)];
-    assert_eq!(rt; winners.rows.as_slice(), want.as_slice());
+    check_eq!(rt; winners.rows.as_slice(), want.as_slice());
     Ok(())
 }
 
@@ -83,7 +83,7 @@ fn winners_are_written_without_choices(rt: HostRuntime) -> Result<(), Fail> {
         let game = game(alloc, game_text.as_bytes())?;
         let solution = solution(alloc, &game, text.as_bytes())?;
         let written = write_winners(alloc, &game, &solution)?;
-        assert_eq!(rt; written.as_slice(), want.as_bytes(), "at {text}");
+        check_eq!(rt; written.as_slice(), want.as_bytes(), "at {text}");
     }
     Ok(())
 }
@@ -121,7 +121,7 @@ fn the_first_fault_of_a_solution_text_is_named(rt: HostRuntime) -> Result<(), Fa
         ("1 1 1;", SolutionTextFault::Missing(0)),
         ("0 0 0;", SolutionTextFault::Missing(1)),
     ] {
-        assert_eq!(rt;
+        check_eq!(rt;
             solution_fault(alloc, &game, text.as_bytes()),
             Some(want),
             "at {text}"

@@ -41,12 +41,12 @@ fn share_after_a_refusal<L: Ledger, R: Wait + Abort>(
     };
     let share = &shares[0];
     if office.shared_copy(rt, alloc, share).is_err() {
-        assert!(rt; office.shared_copy(rt, alloc, share).is_ok());
+        check!(rt; office.shared_copy(rt, alloc, share).is_ok());
     }
     let again = office.shared_copy(rt, alloc, share);
-    assert!(rt; again.is_ok());
+    check!(rt; again.is_ok());
     let copied = needed(again)?;
     let told = (copied.at, copied.settled, copied.inside.mask().count());
-    assert_eq!(rt; told, (0, 0, 3));
+    check_eq!(rt; told, (0, 0, 3));
     Ok(())
 }
