@@ -37,8 +37,7 @@ extern "C" {
 #define PGBOARD_TWICE 12u               /* a vertex is specified twice (the vertex); never of arrays */
 #define PGBOARD_NO_SUCCESSOR 13u        /* a vertex has no successor (the first such vertex) */
 #define PGBOARD_TOO_MANY_EDGES 14u      /* it has more edges than pgboard takes */
-#define PGBOARD_TOO_MANY_PRIORITIES 15u /* it has more different priorities than pgboard takes */
-#define PGBOARD_UNKNOWN 16u             /* a successor is no vertex (the first such vertex, the first such successor) */
+#define PGBOARD_UNKNOWN 15u             /* a successor is no vertex (the first such vertex, the first such successor) */
 
 /* winners and choices that are no solution, in the order in which they are looked at */
 #define PGBOARD_NO_CHOICE_AT 20u        /* the winner owns the vertex and has no choice (the first such vertex) */

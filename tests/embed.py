@@ -83,7 +83,7 @@ def header_fault():
 
 def limits():
     text = text_of("crates", "pg_game", "specs", "Specification.antt")
-    return [re.search(rf"(?m)^max_{it} = (\d+)$", text)[1] for it in ("vertices", "edges", "priorities")]
+    return [re.search(rf"(?m)^max_{it} = (\d+)$", text)[1] for it in ("vertices", "edges")]
 
 
 def run(words, given=None):

@@ -80,10 +80,6 @@ class TooManyEdges(Refused):
     words = "there are too many edges"
 
 
-class TooManyPriorities(Refused):
-    words = "there are too many different priorities"
-
-
 class UnknownSuccessor(Refused):
     words = "vertex {at}: the successor {to} is no vertex"
 
@@ -153,8 +149,7 @@ FAULTS = {
     12: SpecifiedTwice,
     13: NoSuccessor,
     14: TooManyEdges,
-    15: TooManyPriorities,
-    16: UnknownSuccessor,
+    15: UnknownSuccessor,
     20: NoChoice,
     21: BadChoice,
     22: Leaves,

@@ -327,8 +327,8 @@ static uint32_t large(size_t n, size_t degree)
     return answer;
 }
 
-/* Games one past each limit. */
-static void refuses_large_games(size_t vertices, size_t edges, size_t priorities)
+/* The greatest games, of which one has a priority for each vertex, and games one past each limit. */
+static void refuses_large_games(size_t vertices, size_t edges)
 {
     size_t n = 1;
     while (n * n <= edges)
@@ -336,8 +336,7 @@ static void refuses_large_games(size_t vertices, size_t edges, size_t priorities
     EXPECT(large(vertices + 1, 1) == PGBOARD_TOO_MANY_VERTICES && told.at == 0 && told.to == 0);
     EXPECT(large(n, n) == PGBOARD_TOO_MANY_EDGES && told.at == 0 && told.to == 0);
     EXPECT(large(n - 1, n - 1) == PGBOARD_OK);
-    EXPECT(large(priorities + 1, 1) == PGBOARD_TOO_MANY_PRIORITIES && told.at == 0 && told.to == 0);
-    EXPECT(large(priorities, 1) == PGBOARD_OK);
+    EXPECT(large(vertices, 1) == PGBOARD_OK);
 }
 
 /* Reads so many numbers into new memory. */
@@ -378,7 +377,7 @@ int main(int argc, char **argv)
 {
     if (argc > 1 && strcmp(argv[1], "games") == 0)
         return games();
-    if (argc != 4)
+    if (argc != 3)
         return 2;
     solves();
     refuses_arrays();
@@ -388,7 +387,7 @@ int main(int argc, char **argv)
     refuses_texts();
     refuses_long_texts();
     refuses_memory();
-    refuses_large_games(strtoul(argv[1], NULL, 10), strtoul(argv[2], NULL, 10), strtoul(argv[3], NULL, 10));
+    refuses_large_games(strtoul(argv[1], NULL, 10), strtoul(argv[2], NULL, 10));
     printf("%d passed, %d failed\n", passed, failed);
     return failed != 0;
 }

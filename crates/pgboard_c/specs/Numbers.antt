@@ -17,8 +17,7 @@ game_number game.TooManyVertices = 11
 game_number (game.Twice id) = 12
 game_number (game.NoSuccessor id) = 13
 game_number game.TooManyEdges = 14
-game_number game.TooManyPriorities = 15
-game_number (game.Unknown id to) = 16
+game_number (game.Unknown id to) = 15
 game_number game.Memory = 1
 
 abbrev pub verdict_number : SolutionFault → ℕ

@@ -64,8 +64,7 @@ fn game_number(fault: GameFault) -> u32
         GameFault::Twice(_) => 12,
         GameFault::NoSuccessor(_) => 13,
         GameFault::TooManyEdges => 14,
-        GameFault::TooManyPriorities => 15,
-        GameFault::Unknown(..) => 16,
+        GameFault::Unknown(..) => 15,
         GameFault::Memory => 1,
     }
 }
@@ -81,7 +80,6 @@ fn game_at(fault: GameFault) -> u64
         GameFault::NoVertex => 0,
         GameFault::TooManyVertices => 0,
         GameFault::TooManyEdges => 0,
-        GameFault::TooManyPriorities => 0,
         GameFault::Memory => 0,
     }
 }
@@ -97,7 +95,6 @@ fn game_to(fault: GameFault) -> u64
         GameFault::NoVertex => 0,
         GameFault::TooManyVertices => 0,
         GameFault::TooManyEdges => 0,
-        GameFault::TooManyPriorities => 0,
         GameFault::Memory => 0,
     }
 }
