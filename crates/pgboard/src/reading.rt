@@ -86,8 +86,10 @@ pub fn read_text<S: Source>(alloc: Global, source: &mut S) -> Result<Vec<u8>, Ru
 {
     let mut buffer = Vec::new(alloc);
     let expected = source.expected().min(MAX_TEXT as u64) as usize;
-    // one byte more, for the read that gives nothing. Where that much is refused, the reads ask for what they need
-    let _ = buffer.reserve_exact(expected + 1);
+    if expected > 0 {
+        // one byte more, for the read that gives nothing. Where that much is refused, the reads ask for what they need
+        let _ = buffer.reserve_exact(expected + 1);
+    }
     read_into(source, buffer)
 }
 

@@ -80,9 +80,9 @@ fn checked_on<'g>(
 
 /// A call of a board.
 #[derive(Clone, Copy, Drop)]
-enum Asked<'a> {
+enum Asked<'a, 'g> {
     Post(&'a Claim),
-    Settle(&'a Checked<'a>),
+    Settle(&'a Checked<'g>),
 }
 
 fn answer(alloc: Global, board: &mut Board, asked: &Asked) -> Result<Posted, Refusal> {
@@ -200,6 +200,17 @@ fn a_post_without_memory_changes_nothing_and_is_then_accepted(rt: HostRuntime) -
     accepted_by_board(&rt, alloc, &game, &Asked::Post(&even), &Asked::Post(&odd))
 }
 
+/// Even's claim, and then Odd's.
+fn settled_on_a_board(
+    rt: &impl Abort,
+    alloc: Global,
+    game: &Game,
+    even: &Checked,
+) -> Result<(), Fail> {
+    let odd = checked_on(alloc, game, ODD, &[(2, Some(2))])?;
+    accepted_by_board(rt, alloc, game, &Asked::Settle(even), &Asked::Settle(&odd))
+}
+
 #[test]
 fn a_settle_without_memory_changes_nothing_and_is_then_accepted(
     rt: HostRuntime,
@@ -207,14 +218,7 @@ fn a_settle_without_memory_changes_nothing_and_is_then_accepted(
     let alloc = rt.alloc();
     let game = game_of(alloc, SHARED)?;
     let even = checked_on(alloc, &game, EVEN, &[(0, Some(0))])?;
-    let odd = checked_on(alloc, &game, ODD, &[(2, Some(2))])?;
-    accepted_by_board(
-        &rt,
-        alloc,
-        &game,
-        &Asked::Settle(&even),
-        &Asked::Settle(&odd),
-    )
+    settled_on_a_board(&rt, alloc, &game, &even)
 }
 
 fn opened_twice<'g>(alloc: Global, game: &'g Game) -> Result<Board<'g>, Memory> {
@@ -351,6 +355,22 @@ fn a_share_is_unchanged_by_a_post_without_memory_which_is_then_accepted(
     accepted_by_office::<Brand, _>(&rt, alloc, Blank::new(2), &game, &even, &odd)
 }
 
+/// Even's claim through one share, and then Odd's through the other.
+fn settled_through_an_office<L: Ledger, R: Wait + Abort>(
+    rt: &R,
+    alloc: Global,
+    blank: Blank,
+    game: &Game,
+    even: &Checked,
+) -> Result<(), Fail>
+    requires name { blank.name ≡ L.name }
+    requires parts { (blank.parts ≡ L.parts) × (blank.parts ≡ 2) }
+{
+    let odd = checked_on(alloc, game, ODD, &[(2, Some(2))])?;
+    let (even, odd) = (Asked::Settle(even), Asked::Settle(&odd));
+    accepted_by_office::<L, _>(rt, alloc, blank, game, &even, &odd)
+}
+
 #[test]
 fn a_share_is_unchanged_by_a_settle_without_memory_which_is_then_accepted(
     rt: HostRuntime,
@@ -358,7 +378,5 @@ fn a_share_is_unchanged_by_a_settle_without_memory_which_is_then_accepted(
     let alloc = rt.alloc();
     let game = game_of(alloc, SHARED)?;
     let even = checked_on(alloc, &game, EVEN, &[(0, Some(0))])?;
-    let odd = checked_on(alloc, &game, ODD, &[(2, Some(2))])?;
-    let (even, odd) = (Asked::Settle(&even), Asked::Settle(&odd));
-    accepted_by_office::<Brand, _>(&rt, alloc, Blank::new(2), &game, &even, &odd)
+    settled_through_an_office::<Brand, _>(&rt, alloc, Blank::new(2), &game, &even)
 }

@@ -53,7 +53,8 @@ fn read_from(
 
 #[test]
 fn the_room_is_what_was_expected_and_a_byte(rt: HostRuntime) -> Result<(), Fail> {
-    assert_eq!(rt; read_from(&rt, 0, 0)?, (0, 1, 1));
+    assert_eq!(rt; read_from(&rt, 0, 0)?, (0, 65_536, 1));
+    assert_eq!(rt; read_from(&rt, 5, 0)?, (5, 65_536, 2));
     assert_eq!(rt; read_from(&rt, 5, 5)?, (5, 6, 2));
     assert_eq!(rt; read_from(&rt, 5, 9)?, (5, 10, 2));
     assert_eq!(rt; read_from(&rt, 65_535, 65_535)?, (65_535, 65_536, 2));
