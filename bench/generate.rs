@@ -149,6 +149,37 @@ fn modal(n: u32) -> Game {
     game
 }
 
+/// Blocks of so many vertices that don't touch, each of eight phases: every edge leads into the block's next phase, so no play
+/// comes back within seven moves, and no dominion is small. One block is a protocol in rounds, many are modules.
+fn phases(n: u32, block: u32, degree: u32) -> Game {
+    let random = &mut Random(20);
+    let phase = block / 8;
+    (0..n)
+        .map(|v| {
+            let next = v - v % block + (v % block / phase + 1) % 8 * phase;
+            let row = random.different(degree, phase).iter().map(|w| next + w).collect();
+            Vertex(random.below(6), random.below(2) == 1, row)
+        })
+        .collect()
+}
+
+/// The same, and at the end of each block four vertices that one player owns are a cycle which he can keep to.
+fn modules(n: u32) -> Game {
+    let random = &mut Random(21);
+    let mut game = phases(n, 64, 3);
+    for first in (60..n).step_by(64) {
+        let odd = random.below(2);
+        for at in 0..4 {
+            let Vertex(priority, owner, row) = &mut game[(first + at) as usize];
+            (*priority, *owner) = (2 * random.below(3) + odd, odd == 1);
+            row.push(first + (at + 1) % 4);
+            row.sort_unstable();
+            row.dedup();
+        }
+    }
+    game
+}
+
 /// A game of a kind that is measured at two sizes.
 fn sized(kind: &str, n: u32) -> Option<Game> {
     Some(match kind {
@@ -158,6 +189,9 @@ fn sized(kind: &str, n: u32) -> Option<Game> {
         "random_4_all" => sparse(n, 4, n, 17),
         "random_16_6" => sparse(n, 16, 6, 18),
         "random_16_all" => sparse(n, 16, n, 19),
+        "rounds" => phases(n, n, 4),
+        "blocks" => phases(n, 64, 3),
+        "modules" => modules(n),
         "modal" => modal(n),
         "chain" => chain(n, n),
         "ladder" => ladder(n, n / 4),

@@ -9,6 +9,8 @@ import sys
 
 import plain
 
+import harness
+
 LAYERS = plain.game_of(b"0 0 0 0; 1 3 0 0,1; 2 3 1 1;")
 BOTH_WIN = plain.game_of(b"0 2 0 0,1; 1 1 1 1;")
 IDLE = "job %d 1 0 0 0 0 0 0\n"
@@ -79,13 +81,7 @@ def trace_checks():
 
 
 def main():
-    passed = failed = 0
-    for name, why in trace_checks():
-        passed, failed = passed + (not why), failed + bool(why)
-        if why:
-            print(f"FAILED checkers/{name}: {why}")
-    print(f"{passed} passed, {failed} failed")
-    return 1 if failed else 0
+    return harness.report("checkers", trace_checks())
 
 
 if __name__ == "__main__":

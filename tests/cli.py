@@ -23,6 +23,8 @@ import subprocess
 import sys
 import tempfile
 
+import harness
+
 HERE = os.path.dirname(os.path.abspath(__file__))
 CASES = os.path.join(HERE, "cli")
 SECONDS = 20
@@ -97,14 +99,7 @@ def main():
     given = parser.parse_args()
     binary = os.path.abspath(given.binary)
     cases = [it for it in sorted(os.listdir(CASES)) if given.only in it]
-    failed = 0
-    for case in cases:
-        why = fault(binary, case)
-        if why:
-            failed += 1
-            print(f"FAILED cli/{case}: {why}")
-    print(f"{len(cases) - failed} passed, {failed} failed")
-    return 1 if failed or not cases else 0
+    return harness.report("cli", ((it, fault(binary, it)) for it in cases))
 
 
 if __name__ == "__main__":

@@ -17,6 +17,8 @@ import tempfile
 import threading
 import time
 
+import harness
+
 SECONDS = 60
 LONGEST = 268_435_456
 GAME = b"0 2 0 0,1; 1 1 1 1;"
@@ -370,14 +372,7 @@ def main():
     parser.add_argument("--only", default="", help="a word that the case's name has")
     given = parser.parse_args()
     cases = [it for it in CASES if given.only in it.__name__]
-    failed = 0
-    for case in cases:
-        why = tried(case, os.path.abspath(given.binary))
-        if why:
-            failed += 1
-            print(f"FAILED cli_devices/{case.__name__}: {why}")
-    print(f"{len(cases) - failed} passed, {failed} failed")
-    return 1 if failed or not cases else 0
+    return harness.report("cli_devices", ((it.__name__, tried(it, os.path.abspath(given.binary))) for it in cases))
 
 
 if __name__ == "__main__":

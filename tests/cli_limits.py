@@ -8,10 +8,11 @@ priorities as may be and every number of ten digits, so that its text and its so
 A line for each case that ran a second or more says how long. The last line is 'N passed, M failed'.
 """
 
-import os
 import subprocess
 import sys
 import time
+
+import harness
 
 SECONDS = 300
 VERTICES, EDGES = 1_048_576, 16_777_216
@@ -132,21 +133,18 @@ def fault(binary, words, make, wanted):
     return judge(binary, ran.stdout)
 
 
-def main():
-    if len(sys.argv) != 2:
-        sys.exit("tests/cli_limits.py BINARY")
-    failed = 0
+def checks(binary):
     for case, run in CASES.items():
         begun = time.monotonic()
-        why = fault(os.path.abspath(sys.argv[1]), *run)
+        why = fault(binary, *run)
         took = time.monotonic() - begun
         if took >= 1:
             print(f"cli_limits/{case}: {took:.0f} s, with its texts", flush=True)
-        if why:
-            failed += 1
-            print(f"FAILED cli_limits/{case}: {why}")
-    print(f"{len(CASES) - failed} passed, {failed} failed")
-    return 1 if failed else 0
+        yield case, why
+
+
+def main():
+    return harness.report("cli_limits", checks(harness.binary()))
 
 
 if __name__ == "__main__":

@@ -14,6 +14,8 @@ import sys
 
 import plain
 
+import harness
+
 SCRIPT = os.path.join(os.path.dirname(os.path.dirname(os.path.abspath(__file__))), "examples", "convert.py")
 
 
@@ -95,21 +97,16 @@ RUNS = [
 ]
 
 
-def main():
-    failed = count = 0
+def checks():
     for name, flags, text, status, out in RUNS:
         got = ran(flags, text)
-        count += 1
-        if got[:2] != (status, out) or bool(got[2]) != bool(status):
-            failed += 1
-            print(f"FAILED convert/{name}: {got}")
+        yield name, got if got[:2] != (status, out) or bool(got[2]) != bool(status) else None
     for seed in range(96):
-        why = random_fault(seed)
-        count, failed = count + 1, failed + bool(why)
-        if why:
-            print(f"FAILED convert/random_{seed}: {why}")
-    print(f"{count - failed} passed, {failed} failed")
-    return 1 if failed else 0
+        yield f"random_{seed}", random_fault(seed)
+
+
+def main():
+    return harness.report("convert", checks())
 
 
 if __name__ == "__main__":

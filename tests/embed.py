@@ -22,6 +22,7 @@ sys.path.insert(0, os.path.dirname(os.path.realpath(shutil.which("rt"))))
 import pages
 import plain
 import rtlib
+import harness
 
 ROOT = pages.ROOT
 GAMES = 300
@@ -62,10 +63,10 @@ def prototypes():
 
 def numbers():
     """The numbers of the answers, by the definition that the contracts cite."""
-    for group, name, number in re.findall(r"(?m)^\w+_number \(?(\w+)\.(\w+)[^=\n]*= (\d+)$|^$", text_of("crates", "pgboard_c", "specs", "Numbers.antt")):
+    for group, name, number in re.findall(r"(?m)^(?!answer_)\w+_number \(?(\w+)\.(\w+)[^=\n]*= (\d+)$|^$", text_of("crates", "pgboard_c", "specs", "Numbers.antt")):
         if name and name != "Memory":
             yield group, name, number
-    for name, number in re.findall(r"(?m)^number_of \(?fault\.(\w+)[^=\n]*= (\d+)$", text_of("crates", "pgboard_c", "specs", "Numbers.antt")):
+    for name, number in re.findall(r"(?m)^answer_number \(?fault\.(\w+)[^=\n]*= (\d+)$", text_of("crates", "pgboard_c", "specs", "Numbers.antt")):
         yield "fault", name, number
 
 
@@ -180,13 +181,7 @@ def faults(tree, binary):
 def main():
     if len(sys.argv) != 3:
         sys.exit("tests/embed.py TREE BINARY")
-    found = list(faults(os.path.abspath(sys.argv[1]), os.path.abspath(sys.argv[2])))
-    for name, why in found:
-        if why:
-            print(f"FAILED embed/{name}: {why}")
-    failed = sum(bool(why) for _, why in found)
-    print(f"{len(found) - failed} passed, {failed} failed")
-    return 1 if failed else 0
+    return harness.report("embed", faults(os.path.abspath(sys.argv[1]), os.path.abspath(sys.argv[2])))
 
 
 if __name__ == "__main__":

@@ -17,6 +17,8 @@ import sys
 
 import plain
 
+import harness
+
 EXAMPLES = os.path.join(os.path.dirname(os.path.dirname(os.path.abspath(__file__))), "examples")
 SMALLEST = b"parity 0;\n0 0 0 0;\n"
 NAMED = b'parity 12; start 1;\n12 05 1 7,12 "a name";\n7 2 0 12;\n'
@@ -177,18 +179,12 @@ def fault(binary, run):
 
 
 def main():
-    if len(sys.argv) != 2:
-        sys.exit("tests/every_byte.py BINARY")
-    binary = os.path.abspath(sys.argv[1])
+    binary = harness.binary()
     if len(list(examples())) < 2:
         sys.exit("tests/every_byte.py: no examples")
     with concurrent.futures.ThreadPoolExecutor(4) as pool:
         faults = list(pool.map(lambda it: fault(binary, it), runs()))
-    failed = [it for it in faults if it]
-    for why in failed[:20]:
-        print(f"FAILED every_byte/{why}")
-    print(f"{len(faults) - len(failed)} passed, {len(failed)} failed")
-    return 1 if failed else 0
+    return harness.report("every_byte", ((f"run {number}", why) for number, why in enumerate(faults)))
 
 
 if __name__ == "__main__":

@@ -15,6 +15,8 @@ import tempfile
 
 import pages
 
+import harness
+
 
 def all_pages():
     found = [os.path.relpath(it, pages.ROOT) for it in sorted(glob.glob(os.path.join(pages.ROOT, "docs", "*.md")))]
@@ -31,22 +33,17 @@ def fault(binary, commands, wanted):
     return None if out == wanted else f"{commands!r} prints {out!r}, and not {wanted!r}"
 
 
-def main():
-    if len(sys.argv) != 2:
-        sys.exit("tests/examples.py BINARY")
-    passed = failed = 0
+def checks(binary):
     for page in all_pages():
         if not os.path.exists(os.path.join(pages.ROOT, page)):
-            print(f"FAILED examples: {page}: the page isn't there")
-            failed += 1
+            yield page, "the page isn't there"
             continue
         for head, commands, wanted in pages.examples(pages.text_of(page)):
-            why = fault(os.path.abspath(sys.argv[1]), commands, wanted)
-            passed, failed = passed + (not why), failed + bool(why)
-            if why:
-                print(f"FAILED examples: {page}, {head}: {why}")
-    print(f"{passed} passed, {failed} failed")
-    return 1 if failed or not passed else 0
+            yield f"{page}, {head}", fault(binary, commands, wanted)
+
+
+def main():
+    return harness.report("examples", checks(harness.binary()))
 
 
 if __name__ == "__main__":

@@ -18,6 +18,8 @@ import cli_devices
 import cli_limits
 import pages
 
+import harness
+
 PAGE = "docs/FAULTS.md"
 PLACES = ["no token", "not expected", "number too large"]
 LINES = [
@@ -112,39 +114,31 @@ def case_fault(line, status, under):
     return None
 
 
-def main():
-    if len(sys.argv) != 2:
-        sys.exit("tests/faults_doc.py BINARY")
+def checks(binary):
     text = pages.text_of(PAGE)
-    passed = failed = 0
     shown = set()
-
-    def judge(name, why):
-        nonlocal passed, failed
-        passed, failed = passed + (not why), failed + bool(why)
-        if why:
-            print(f"FAILED faults_doc/{name}: {why}")
-
     with tempfile.TemporaryDirectory(prefix="pgboard-faults-") as room:
-        pages.furnish(room, os.path.abspath(sys.argv[1]))
+        pages.furnish(room, binary)
         for status, part in parts(text):
             for head, commands, wanted in pages.examples(part):
                 shown.add(head.strip("`"))
-                judge(head, example_fault(room, head, commands, wanted, status))
+                yield head, example_fault(room, head, commands, wanted, status)
     for line, status, under in by_heading(text):
         if line in LINES and line not in WITHOUT_EXAMPLE or line == REFUSED_WORDS:
-            judge(f"{line}, its case", case_fault(line, status, under))
+            yield f"{line}, its case", case_fault(line, status, under)
             # a case of another kind, and one that isn't there, are refused
             for other in ("Test: `cli/tidy_the_smallest_game`.", "Test: `cli_limits.py` `no_such_case`.", ""):
-                judge(f"{line}, {other!r}", None if case_fault(line, status, CASE.sub(other, under)) else "a wrong case is taken")
+                yield f"{line}, {other!r}", None if case_fault(line, status, CASE.sub(other, under)) else "a wrong case is taken"
     heads = {it.strip("`") for it in re.findall(r"(?m)^### +(.*)$", text)}
     for line in LINES:
-        judge(line, None if line in heads else "it has no heading")
+        yield line, None if line in heads else "it has no heading"
         if line not in WITHOUT_EXAMPLE:
-            judge(line, None if line in shown else "it has no example")
-    judge("headings", f"no such line is printed: {', '.join(sorted(heads - set(LINES)))}" if heads - set(LINES) else None)
-    print(f"{passed} passed, {failed} failed")
-    return 1 if failed else 0
+            yield line, None if line in shown else "it has no example"
+    yield "headings", f"no such line is printed: {', '.join(sorted(heads - set(LINES)))}" if heads - set(LINES) else None
+
+
+def main():
+    return harness.report("faults_doc", checks(harness.binary()))
 
 
 if __name__ == "__main__":

@@ -17,6 +17,8 @@ import sys
 
 import pages
 
+import harness
+
 PAGES = {"README.md", "docs/CLI.md", "docs/pgboard.1"}
 SYNOPSES = sorted(PAGES | {"crates/pgboard/README.md"})
 STATUS = r"(?m)^ *([0-9]) {2,}(\S.*?) *$"
@@ -153,15 +155,7 @@ def version_fault(binary):
 
 
 def main():
-    if len(sys.argv) != 2:
-        sys.exit("tests/help_agrees.py BINARY")
-    passed = failed = 0
-    for name, why in checks(os.path.abspath(sys.argv[1])):
-        passed, failed = passed + (not why), failed + bool(why)
-        if why:
-            print(f"FAILED help_agrees/{name}: {why}")
-    print(f"{passed} passed, {failed} failed")
-    return 1 if failed else 0
+    return harness.report("help_agrees", checks(harness.binary()))
 
 
 if __name__ == "__main__":

@@ -10,7 +10,9 @@ import os
 import re
 import sys
 
-ROOT = os.path.dirname(os.path.dirname(os.path.abspath(__file__)))
+import harness
+
+ROOT = harness.ROOT
 CRATES = ["pg_game", "pg_text", "pg_dominion", "pg_finders", "pg_board", "pg_workers", "pgboard", "pgboard_c"]
 
 
@@ -44,21 +46,19 @@ def fault(crate, cell):
     return f"it does not use {', '.join(sorted(lacking))}" if lacking else None
 
 
-def main():
+def checks():
     with open(os.path.join(ROOT, "docs", "ARCHITECTURE.md"), encoding="utf-8") as file:
         rows = dict(re.findall(r"(?m)^\| `(pg\w+)` \|[^|]*\| ([^|]*) \|$", file.read()))
-    failed = count = 0
     for crate in CRATES:
         cell = rows.get(crate, "")
         why = fault(crate, cell) if cell else "it has no row"
         # a function too many is refused
         wrong = None if fault(crate, cell + " `no_such_call`") else "a wrong row is taken"
-        for each in (why, wrong):
-            count, failed = count + 1, failed + bool(each)
-            if each:
-                print(f"FAILED layers/{crate}: {each}")
-    print(f"{count - failed} passed, {failed} failed")
-    return 1 if failed else 0
+        yield from ((crate, why), (crate, wrong))
+
+
+def main():
+    return harness.report("layers", checks())
 
 
 if __name__ == "__main__":

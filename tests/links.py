@@ -8,7 +8,9 @@ import os
 import re
 import sys
 
-ROOT = os.path.dirname(os.path.dirname(os.path.abspath(__file__)))
+import harness
+
+ROOT = harness.ROOT
 LINK = re.compile(r"\[[^\]]*\]\(([^)\s]+)\)")
 
 
@@ -39,18 +41,16 @@ def fault(page, link):
     return None
 
 
-def main():
-    passed = failed = 0
+def checks():
     for page in pages():
         for link in LINK.findall(re.sub(r"(?ms)^```.*?^```", "", text_of(page))):
             if re.match(r"[a-z]+:", link):
                 continue
-            why = fault(page, link)
-            passed, failed = passed + (not why), failed + bool(why)
-            if why:
-                print(f"FAILED links/{os.path.relpath(page, ROOT)}: {link}: {why}")
-    print(f"{passed} passed, {failed} failed")
-    return 1 if failed else 0
+            yield f"{os.path.relpath(page, ROOT)}: {link}", fault(page, link)
+
+
+def main():
+    return harness.report("links", checks())
 
 
 if __name__ == "__main__":

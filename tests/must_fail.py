@@ -9,9 +9,9 @@ one a function, and proves these functions. An edit is refused where a function 
 one that only calls another without proof doesn't count. What a round lets through is tried in smaller ones. What is left
 alone, or changes no function's code, is tried as the kit does: the whole crate has to be read by the prover and refused.
 
-Needs the crates below to be built, as `rt ci` leaves them: here, or in a copy of the sources. Where `rt ci` is at work
-there, its output so far says which crates are proved, and each crate's edits wait for those below it. With words, only
-edits whose names have one of them are tried. The last line is 'N passed, M failed'.
+Needs the crates below to be built, here or in a copy of the sources, and begins with what a check there kept. Where
+tests/unit_tests.py is at work in copies of the tree, its output so far says which crates' tests are proved, and each crate's
+edits wait for them. With words, only edits whose names have one of them are tried. The last line is 'N passed, M failed'.
 """
 
 import argparse
@@ -190,11 +190,11 @@ def try_round(crate, edits, kept):
     return try_round(crate, left[:half], kept) + try_round(crate, left[half:], kept)
 
 
-def wait_for(crate, log):
-    """Waits until `rt ci` has said that the crates below are proved. Whether it has; it ends with a count."""
+def wait_for(lines, log):
+    """Waits until what writes the log has written these lines. Whether it has; it ends with a count."""
     while log:
         said = read(log)
-        if all(f"rt: {it.name} proved\n" in said for it in crate.below()):
+        if all(f"{it}\n" in said for it in lines):
             break
         if re.search(r"(?m)^\d+ passed, \d+ failed$", said):
             return False
@@ -202,13 +202,20 @@ def wait_for(crate, log):
     return True
 
 
+def own_copy(crate):
+    """The crate in the copy of the tree in which its tests were proved, where there is one."""
+    tree = f"{os.path.dirname(os.path.dirname(crate.folder))}.{crate.name}"
+    return next((it for it in rtlib.crates_below(tree) if it.name == crate.name), crate) if os.path.isdir(tree) else crate
+
+
 def try_crate(crate, words, log):
     """How many edits there are, and how many of them are not refused."""
     paths = sorted(glob.glob(f"{ROOT}/crates/{crate.name}/must-fail/*.edit"))
     paths = [it for it in paths if not words or any(word in os.path.basename(it) for word in words)]
-    if not wait_for(crate, log):
-        print(f"FAILED must_fail/{crate.name}: a crate below is not proved", flush=True)
+    if not wait_for([f"rt: {crate.name}: its tests are proved"], log):
+        print(f"FAILED must_fail/{crate.name}: it is not proved with its tests", flush=True)
         return len(paths), len(paths)
+    crate = own_copy(crate)
     edits, through = [], []
     for path in paths:
         try:
@@ -216,7 +223,10 @@ def try_crate(crate, words, log):
         except BadEdit as bad:
             through.append(str(bad))
     rounds = rounds_of(edits)
-    with tempfile.TemporaryDirectory(prefix="must-fail-kept-") as kept:
+    with tempfile.TemporaryDirectory(prefix="must-fail-kept-") as room:
+        kept = f"{room}/kept"
+        if crate.has_kept():
+            shutil.copytree(f"{crate.folder}/{rtlib.KEPT[1]}", kept)
         for entries in rounds:
             through += try_round(crate, entries, kept)
     print(f"{crate.name}: {len(paths)} edits in {len(rounds)} rounds, {len(through)} let through", flush=True)
@@ -235,7 +245,7 @@ def lanes():
 def main():
     parser = argparse.ArgumentParser(description="Plants the must-fail edits of each crate, and holds the prover to refusing them.")
     parser.add_argument("--in", dest="tree", default=ROOT)
-    parser.add_argument("--after", metavar="LOG", help="what `rt ci` says, which is at work in the tree")
+    parser.add_argument("--after", metavar="LOG", help="what tests/unit_tests.py says, which is at work in the tree")
     parser.add_argument("crate", nargs="?")
     parser.add_argument("words", nargs="*")
     given = parser.parse_args()

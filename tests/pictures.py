@@ -14,7 +14,9 @@ import subprocess
 import sys
 import tempfile
 
-ROOT = os.path.dirname(os.path.dirname(os.path.abspath(__file__)))
+import harness
+
+ROOT = harness.ROOT
 SCRIPT = os.path.join(ROOT, "examples", "draw.py")
 PICTURES = os.path.join(ROOT, "docs", "pictures")
 
@@ -85,23 +87,22 @@ def refusals(room):
     yield None if (status, out) == (2, "") and "dot" in err else f"without dot: {status}, {out!r}, {err!r}"
 
 
-def main():
-    if len(sys.argv) < 2:
-        sys.exit("tests/pictures.py BINARY [--write]")
-    found = []
+def checks():
     with tempfile.TemporaryDirectory(prefix="pgboard-pictures-") as room:
         trace = os.path.join(room, "trace")
         with open(trace, "wb") as file:
             subprocess.run([os.path.abspath(sys.argv[1]), "trace", "--workers", "1", "examples/requests.pg"], cwd=ROOT, stdout=file, check=True, timeout=60)
         for name, words in DRAWN:
             whole = list(faults(name, [trace if it == "TRACE" else it for it in words], "--write" in sys.argv))
-            found.append("; ".join(whole) or None)
-        found.extend(refusals(room))
-    for why in filter(None, found):
-        print(f"FAILED pictures/{why}")
-    failed = sum(map(bool, found))
-    print(f"{len(found) - failed} passed, {failed} failed")
-    return 1 if failed else 0
+            yield name, "; ".join(whole) or None
+        for why in refusals(room):
+            yield "refusals", why
+
+
+def main():
+    if len(sys.argv) < 2:
+        sys.exit("tests/pictures.py BINARY [--write]")
+    return harness.report("pictures", checks())
 
 
 if __name__ == "__main__":

@@ -13,7 +13,9 @@ import os
 import re
 import sys
 
-ROOT = os.path.dirname(os.path.dirname(os.path.abspath(__file__)))
+import harness
+
+ROOT = harness.ROOT
 CRATES = os.path.join(ROOT, "crates")
 PAGE = os.path.join(ROOT, "docs", "PROVED.md")
 LAW = "a statement without a body"
@@ -89,7 +91,7 @@ def by_file(cell):
 
 def definition_fault(cell):
     for path, names in by_file(cell) or []:
-        if not re.fullmatch(r"\w+/specs/\w+\.antt", path) or read(path) is None:
+        if not re.fullmatch(r"\w+/specs/(private/)?\w+\.antt", path) or read(path) is None:
             return f"{path} is no file of specs"
         for name in names:
             if not declares(path, name):
@@ -114,7 +116,7 @@ def call_fault(cell):
     if not named:
         return "it names no call"
     for path, call, behind in named:
-        if not re.fullmatch(r"\w+/src/\w+\.rt", path) or read(path) is None:
+        if not re.fullmatch(r"\w+/src/[\w/]+\.rt", path) or read(path) is None:
             return f"{path} is no file of src"
         if call not in calls(path) or not calls(path)[call][0]:
             return f"{path} has no public call {call}"
@@ -156,15 +158,19 @@ def handed_on(crate):
     return names, [f"{crate}/src/{it}.rt" for it in re.findall(r"pub mod (\w+);", lib)]
 
 
+def is_export(path, call):
+    """Whether C calls it."""
+    return f"{EXPORT}fn {call}(" in read(path)
+
+
 def public_calls():
     """Each public call that has a clause, with its file."""
     for crate in sorted(os.listdir(CRATES)):
         names, open_files = handed_on(crate)
-        for path in sorted(glob.glob(os.path.join(CRATES, crate, "src", "*.rt"))):
+        for path in sorted(glob.glob(os.path.join(CRATES, crate, "src", "**", "*.rt"), recursive=True)):
             path = os.path.relpath(path, CRATES)
             for call, (is_public, contract) in calls(path).items():
-                is_export = f"{EXPORT}fn {call}(" in read(path)
-                is_handed_on = call.split("::")[0] in names or path in open_files or path in PROGRAM or is_export
+                is_handed_on = call.split("::")[0] in names or path in open_files or path in PROGRAM or is_export(path, call)
                 # the rest of a trait's implementation has the trait's contract
                 if is_public and is_handed_on and "ensures" in contract:
                     yield path, call
@@ -176,9 +182,9 @@ def damaged(row):
         if found.start() < row.index(" | "):
             continue
         yield row[: found.start()] + "`no_such_name`" + row[found.end() :]
-    for path in re.findall(r"`(\w+/specs/\w+\.antt)`", row):
+    for path in re.findall(r"`(\w+/specs/[\w/]+\.antt)`", row):
         yield row.replace(path, "pg_game/specs/Lib.antt")
-    for path in re.findall(r"`(\w+/src/\w+\.rt)`", row):
+    for path in re.findall(r"`(\w+/src/[\w/]+\.rt)`", row):
         yield row.replace(path, "pg_game/src/lib.rt")
 
 
@@ -210,13 +216,7 @@ def checks(text):
 def main():
     with open(PAGE, encoding="utf-8") as file:
         text = file.read()
-    passed = failed = 0
-    for name, why in checks(text):
-        passed, failed = passed + (not why), failed + bool(why)
-        if why:
-            print(f"FAILED proved_names/{name}: {why}")
-    print(f"{passed} passed, {failed} failed")
-    return 1 if failed else 0
+    return harness.report("proved_names", checks(text))
 
 
 if __name__ == "__main__":

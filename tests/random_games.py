@@ -22,6 +22,8 @@ import tempfile
 
 import plain
 
+import harness
+
 SECONDS = 20
 BLANKS = [b" ", b"\n", b"\t", b"\r\n", b"  ", b" \n "]
 PIECES = [b"0", b"1", b"9", b"00", b",", b";", b" ", b'"', b"-", b"parity", b"start", b"paritysol", b"x", b"2147483648", b"\xff", b"%", b"\n"]
@@ -315,6 +317,13 @@ def judged(number, given):
         return list(faults(Programs(os.path.abspath(given.binary), comparator, room), chance, given.tidy))
 
 
+def all_checks(given):
+    with concurrent.futures.ThreadPoolExecutor(4) as pool:
+        for number, checks in enumerate(pool.map(lambda it: judged(it, given), range(given.count))):
+            for name, why in checks:
+                yield f"{name} (seed {given.seed}, game {number})", why
+
+
 def main():
     parser = argparse.ArgumentParser(description="Compares a built program with plain definitions on random games.")
     parser.add_argument("binary")
@@ -323,15 +332,7 @@ def main():
     parser.add_argument("--seed", type=int, default=1)
     parser.add_argument("--tidy", action="store_true")
     given = parser.parse_args()
-    passed = failed = 0
-    with concurrent.futures.ThreadPoolExecutor(4) as pool:
-        for number, checks in enumerate(pool.map(lambda it: judged(it, given), range(given.count))):
-            for name, why in checks:
-                passed, failed = passed + (not why), failed + bool(why)
-                if why and failed <= 20:
-                    print(f"FAILED random_games/{name} (seed {given.seed}, game {number}): {why}")
-    print(f"{passed} passed, {failed} failed")
-    return 1 if failed or not passed else 0
+    return harness.report("random_games", all_checks(given))
 
 
 if __name__ == "__main__":

@@ -19,6 +19,8 @@ import tempfile
 
 import plain
 
+import harness
+
 HERE = os.path.dirname(os.path.abspath(__file__))
 CONTINENTS = b'parity 4; 0 6 1 4,2 "Africa"; 4 5 1 0 "Antarctica"; 1 8 1 2,4,3 "America"; 3 6 0 4,2 "Australia"; 2 7 0 3,1,0,4 "Asia";'
 ONE_EACH = b"0 2 0 0,1; 1 1 1 1;"
@@ -248,12 +250,7 @@ def tried(case):
         return f"it had not ended after {SECONDS} seconds"
 
 
-def main():
-    parser = argparse.ArgumentParser(description="Refuses a built program memory, threads and devices.")
-    parser.add_argument("binary")
-    parser.add_argument("--only", default="", help="a word that the case's name has")
-    given = parser.parse_args()
-    passed = failed = 0
+def checks(given):
     with tempfile.TemporaryDirectory(prefix="pgboard-refused-") as room:
         program = Program(os.path.abspath(given.binary), room)
         texts = {"game.pg": ONE_EACH, "game.sol": HOLDS, "wrong.sol": NO_CHOICE, "stranger.sol": b"0 0 0; 7 0;", "owner.pg": b"0 0 2 0;"}
@@ -262,14 +259,17 @@ def main():
             program.put(name, text)
         for name, case in cases(program):
             if given.only in name:
-                why = tried(case)
-                passed, failed = passed + (not why), failed + bool(why)
-                if why:
-                    print(f"FAILED refused/{name}: {why}")
+                yield name, tried(case)
         told = dict(zip(KINDS, ("allocations", "starts of threads", "reads", "writes")))
         print("refused: " + ", ".join(f"{n} {told[kind]}" for kind, n in program.refusals.items()))
-    print(f"{passed} passed, {failed} failed")
-    return 1 if failed or not passed else 0
+
+
+def main():
+    parser = argparse.ArgumentParser(description="Refuses a built program memory, threads and devices.")
+    parser.add_argument("binary")
+    parser.add_argument("--only", default="", help="a word that the case's name has")
+    given = parser.parse_args()
+    return harness.report("refused", checks(given))
 
 
 if __name__ == "__main__":

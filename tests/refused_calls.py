@@ -16,7 +16,9 @@ import tempfile
 
 from refused import Program
 
-ROOT = os.path.dirname(os.path.dirname(os.path.abspath(__file__)))
+import harness
+
+ROOT = harness.ROOT
 
 
 def tests_of(binary):
@@ -47,23 +49,19 @@ def fault(program, name):
     return None if sum(got[0] == 0 for _, got in answers[:count]) else "each refusal ends the test"
 
 
-def main():
-    passed = failed = refusals = 0
+def checks():
+    refusals = 0
     with tempfile.TemporaryDirectory(prefix="pgboard-refused-") as room:
         for binary in sorted(glob.glob(os.path.join(ROOT, "crates", "*", "out", "*_tests"))):
             program = Program(binary, room)
             for name in tests_of(binary):
-                why = fault(program, name)
-                passed, failed = passed + (not why), failed + bool(why)
-                if why:
-                    print(f"FAILED refused_calls/{os.path.basename(binary)} {name}: {why}")
+                yield f"{os.path.basename(binary)} {name}", fault(program, name)
             refusals += program.refusals["REFUSE_ALLOC"]
-    if not passed and not failed:
-        print("FAILED refused_calls: no test program has a test in a module `memory`")
-        failed = 1
     print(f"refused: {refusals} allocations of calls")
-    print(f"{passed} passed, {failed} failed")
-    return 1 if failed else 0
+
+
+def main():
+    return harness.report("refused_calls", checks())
 
 
 if __name__ == "__main__":

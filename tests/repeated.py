@@ -20,13 +20,14 @@ import sys
 
 sys.dont_write_bytecode = True
 import antt
+import harness
 
 # items that stand a second time, lemmas that are the library's, and items that nothing names
 ALLOWED = {
-    "pg_game": (22, 20, 2),
-    "pg_text": (11, 2, 23),
-    "pg_dominion": (10, 8, 2),
-    "pg_finders": (26, 12, 11),
+    "pg_game": (2, 6, 0),
+    "pg_text": (0, 0, 23),
+    "pg_dominion": (6, 8, 2),
+    "pg_finders": (25, 12, 11),
     "pg_board": (38, 13, 5),
     "pg_workers": (2, 2, 9),
     "pgboard": (0, 0, 0),
@@ -275,13 +276,7 @@ def main():
             for item, said in these:
                 print(f"{item.place} {said}")
         return 0
-    failed = count = 0
-    for name, why in checks(found):
-        count, failed = count + 1, failed + bool(why)
-        if why:
-            print(f"FAILED repeated/{name}: {why}")
-    print(f"{count - failed} passed, {failed} failed")
-    return 1 if failed else 0
+    return harness.report("repeated", checks(found))
 
 
 if __name__ == "__main__":

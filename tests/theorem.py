@@ -1,15 +1,15 @@
 #!/usr/bin/env python3
 """Holds docs/THEOREM.md to the sources: the headline, what each part of it says, and each definition that it stands on.
 
-    tests/theorem.py [--write | --private]
+    tests/theorem.py [--write]
 
 The page has the headline of README.md; under each of its parts the clauses that docs/PROVED.md names for it, as they stand
 in src; then the definitions that these clauses reach, copied from specs, each file after those that it cites; the types of
 the code that are named there; and by name the definitions that the other public contracts reach. A public contract is a
-clause of a call that a crate hands on, of a run of the program or of a trait, or how contracts see a type.
+clause of a call that a crate hands on or that C calls, of a run of the program or of a trait, or how contracts see a type.
 
-`--write` makes the page. `--private` prints the definitions of specs that no public contract reaches, by crate. The last
-line is 'N passed, M failed', by parts and definitions.
+What no public contract reaches stands in specs/private/, and nothing else does. `--write` makes the page. The last line is
+'N passed, M failed', by parts and definitions.
 """
 
 import collections
@@ -23,6 +23,7 @@ import unicodedata
 sys.dont_write_bytecode = True
 import antt
 import proved_names
+import harness
 
 ROOT = antt.ROOT
 PAGE = os.path.join(ROOT, "docs", "THEOREM.md")
@@ -134,7 +135,7 @@ def public_clauses():
     """Each public clause: the file, the call and the text."""
     for path, names in handed_on_files():
         for call, (is_public, contract) in proved_names.calls(path).items():
-            if is_public and (names is None or call.split("::")[0] in names):
+            if is_public and (names is None or call.split("::")[0] in names or proved_names.is_export(path, call)):
                 yield path, call, contract
         for owner, line in views(path):
             if names is None or owner in names:
@@ -340,19 +341,6 @@ def page(sources):
 # --- what runs ---
 
 
-def private(sources):
-    """Prints which definitions of specs no public contract reaches."""
-    every, _ = sources.reached(public_names())
-    for crate in antt.CRATES:
-        all_of = [it for it in sources.items.values() if it.crate == crate]
-        left = [it for it in all_of if it.key not in every]
-        print(f"{crate}: {len(left)} of {len(all_of)} definitions")
-        for path in dict.fromkeys(it.path for it in left):
-            names = [it.name for it in left if it.path == path]
-            whole = "the whole file" if len(names) == len(antt.items(path)) else "a part of the file"
-            print(f"    {os.path.basename(path)}, {whole}: {', '.join(names)}")
-
-
 def differs(made, path):
     """The first line in which the page is not what is made of the sources, or None."""
     stands = text_of(path) if os.path.exists(os.path.join(ROOT, path)) else ""
@@ -375,6 +363,18 @@ def strangers(sources, item):
             yield name
 
 
+def strangers_fault(sources, item):
+    lacking = list(strangers(sources, item))
+    return f"it names {', '.join(lacking)}, which is not found" if lacking else None
+
+
+def placed_fault(key, every):
+    """What is wrong with the place of a definition, where these are reached by public contracts."""
+    if ".private." in key:
+        return "it is private, and a public contract reaches it" if key in every else None
+    return None if key in every else "no public contract reaches it: it belongs in specs/private/"
+
+
 def without_accents(text):
     return unicodedata.normalize("NFKD", text).encode("ascii", "ignore").decode()
 
@@ -394,31 +394,21 @@ def checks(sources, made):
     for text, _, clauses in parts():
         is_said = clauses and all(means(path, said) for path, _, _, said in clauses)
         yield text, None if is_said else "it has a clause that is not there or cites nothing"
-    for key in sorted(sources.reached(headline_names() | public_names())[0]):
-        lacking = list(strangers(sources, sources.items[key]))
-        why = f"it names {', '.join(lacking)}, which is not found" if lacking else None
-        yield key, "it is private, and a public contract reaches it" if ".private." in key else why
+    every, _ = sources.reached(headline_names() | public_names())
+    for key, item in sources.items.items():
+        yield key, placed_fault(key, every) or strangers_fault(sources, item)
     for name, text in types(sources.reached(headline_names())[1]):
         yield name, None if text else "no type of this name is public"
 
 
 def main():
     sources = Sources()
-    if "--private" in sys.argv[1:]:
-        private(sources)
-        return 0
     made = "\n".join(page(sources))
     if "--write" in sys.argv[1:]:
         with open(PAGE, "w", encoding="utf-8") as file:
             file.write(made)
         return 0
-    failed = count = 0
-    for name, why in checks(sources, made):
-        count, failed = count + 1, failed + bool(why)
-        if why:
-            print(f"FAILED theorem/{name}: {why}")
-    print(f"{count - failed} passed, {failed} failed")
-    return 1 if failed else 0
+    return harness.report("theorem", checks(sources, made))
 
 
 if __name__ == "__main__":

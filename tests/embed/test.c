@@ -307,7 +307,7 @@ static void refuses_memory(void)
         EXPECT(1 < refused[k] && refused[k] < 190);
 }
 
-/* The answer for a game of n vertices, whose rows begin at places that are `degree` apart; with one edge each, even priorities rise. */
+/* The answer for a game of n vertices, whose rows begin at places that are `degree` apart; with one edge each, priorities rise. */
 static uint32_t large(size_t n, size_t degree)
 {
     uint32_t *priorities = calloc(n, 4), *starts = calloc(n + 1, 4), *targets = calloc(n * degree, 4),
@@ -316,7 +316,7 @@ static uint32_t large(size_t n, size_t degree)
     if (!priorities || !starts || !targets || !choices || !owners || !winners)
         exit(2);
     for (size_t v = 0; v < n; v++) {
-        priorities[v] = degree == 1 ? 2 * (uint32_t)v : 0;
+        priorities[v] = degree == 1 ? (uint32_t)v : 0;
         starts[v + 1] = (uint32_t)((v + 1) * degree);
         for (size_t k = 0; k < degree; k++)
             targets[v * degree + k] = (uint32_t)k;

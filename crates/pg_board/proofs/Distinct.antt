@@ -6,12 +6,12 @@ use Rattle.std.proofs.lemmas.Bool.{eqb-true, eq-eqb, false_from_ne_true}
 use Rattle.std.proofs.lemmas.List.{map-append}
 use Rattle.std.proofs.lemmas.Map.Keys.{IsDistinct-cons, IsDistinct-head, IsDistinct-tail}
 use Rattle.pg_game.specs.declared.player.Player.{Player}
-use Rattle.pg_dominion.specs.Claim.{Rows, named, choice_in}
+use Rattle.pg_dominion.specs.Claim.{ClaimRows, named, choice_in}
 use Rattle.pg_board.specs.State.{is_unsettled}
 use Rattle.pg_board.specs.Journal.{Journal, state_of}
 use Rattle.pg_board.proofs.RestIsGood.{vertices}
 
-abbrev pub AllRows : Journal → Rows
+abbrev pub AllRows : Journal → ClaimRows
 AllRows journal = flat_map (λ e. e.rows) journal
 
 -- numbers with a mark that others lack differ from them
@@ -31,7 +31,7 @@ distinct-append mark (x ∷ xs) ys a b m n =
     (distinct-append mark xs ys (IsDistinct-tail nat_eq x xs a) b m.1 n)
 
 -- each vertex of the rows is named by them
-pub each_named : (P : ℕ → Type 0) (rows : Rows) → ((v : ℕ) → named rows v ≡ true → P v) → AllByRecursion P (vertices rows)
+pub each_named : (P : ℕ → Type 0) (rows : ClaimRows) → ((v : ℕ) → named rows v ≡ true → P v) → AllByRecursion P (vertices rows)
 each_named P [] f = tt
 each_named P (r ∷ rows) f = (f r.0 (rw (eq-eqb r.0 r.0 refl) refl), each_named P rows (λ v i. f v (or_second (r.0 == v) (named rows v) i)))
   where

@@ -10,12 +10,12 @@ use Rattle.pg_game.specs.declared.player.Player.TheVariants.{Even, Odd}
 use Rattle.pg_game.specs.Player.{opponent, same_player}
 use Rattle.pg_game.specs.Graph.{Graph, owner_of, successors_of}
 use Rattle.pg_game.specs.VertexSet.{In, no_vertices, union}
-use Rattle.pg_game.specs.Kept.{Choices, kept, listed, KeptEdge}
+use Rattle.pg_game.specs.Kept.{Choices, kept, option_list, KeptEdge}
 use Rattle.pg_game.specs.Region.{Wins}
 use Rattle.pg_game.proofs.Walks.{ClosedWalk-weaker}
 use Rattle.pg_game.proofs.Disjoint.{wins_disjoint}
 use Rattle.pg_game.proofs.Grown.{Grows, grown_region, in_first, in_second}
-use Rattle.pg_dominion.specs.Claim.{Rows, named, choice_in}
+use Rattle.pg_dominion.specs.Claim.{ClaimRows, named, choice_in}
 use Rattle.pg_board.specs.State.{State, settled, settled_for, choices, is_unsettled, rest_of, IsGoodOn, IsDominion, IsLawfulState}
 use Rattle.pg_board.specs.Journal.{Journal, state_of, IsLawful, IsDominionAfter}
 use Rattle.pg_board.proofs.RestIsGood.{both_true, in_rest, to_rest}
@@ -43,7 +43,7 @@ shut_ours p o true e s n = e
 shut_ours p o false e s n = absurd (let h = neither_open p o e n in cc (h, s))
 
 -- where a player wins on a state, with the claim
-module _ (g : Graph) (st : State) (lawful : IsLawfulState g st) (p : Player) (rows : Rows) (d : IsDominion g st p rows) where
+module _ (g : Graph) (st : State) (lawful : IsLawfulState g st) (p : Player) (rows : ClaimRows) (d : IsDominion g st p rows) where
   abbrev both_choices : Choices
   both_choices v = if named rows v then choice_in rows v else choices st v
 
@@ -54,7 +54,7 @@ module _ (g : Graph) (st : State) (lawful : IsLawfulState g st) (p : Player) (ro
   as_claim v w i m = (
     i,
     let e : both_choices v ≡ choice_in rows v = rw i refl in
-        subst (λ o. Contains (if same_player (owner_of g v) p then listed o else successors_of g v) w) e m,
+        subst (λ o. Contains (if same_player (owner_of g v) p then option_list o else successors_of g v) w) e m,
   )
 
   either : (a b : Bool) → (a || b) ≡ true → (a ≡ true) ⊎ (b ≡ true)
@@ -84,7 +84,7 @@ module _ (g : Graph) (st : State) (lawful : IsLawfulState g st) (p : Player) (ro
     in_second (settled st p v) (named rows v || false) (in_first (named rows v) false i),
   )
 
-module _ (g : Graph) (journal : Journal) (lawful : IsLawful g journal) (k : ℕ) (p : Player) (rows : Rows) (d : IsDominionAfter g journal k p rows) where
+module _ (g : Graph) (journal : Journal) (lawful : IsLawful g journal) (k : ℕ) (p : Player) (rows : ClaimRows) (d : IsDominionAfter g journal k p rows) where
   abbrev now : State
   now = state_of journal
 

@@ -11,10 +11,10 @@ use Rattle.pg_game.specs.declared.player.Player.{Player}
 use Rattle.pg_game.specs.Player.{same_player}
 use Rattle.pg_game.specs.Graph.{Graph, IsGame, owner_of, successors_of}
 use Rattle.pg_game.specs.VertexSet.{VertexSet}
-use Rattle.pg_game.specs.Kept.{kept, listed}
+use Rattle.pg_game.specs.Kept.{kept, option_list}
 use Rattle.pg_game.proofs.Players.{own_or_other, not_own, not_same}
-use Rattle.pg_dominion.specs.Claim.{Rows, choice_in, IsRightRow, AreRight}
-use Rattle.pg_board.specs.OpenEdges.{ends_of, EndsOutside, IsFirstEnd, LeadsOutside, IsFirstOutside}
+use Rattle.pg_dominion.specs.Claim.{ClaimRows, choice_in, IsRightRow, AreRight}
+use Rattle.pg_board.specs.private.OpenEdges.{ends_of, EndsOutside, IsFirstEnd, LeadsOutside, IsFirstOutside}
 use Rattle.pg_board.proofs.Named.{choice-back}
 use Rattle.pg_board.proofs.RestIsGood.{vertices}
 use Rattle.pg_board.proofs.Push.{distinct_rising}
@@ -26,19 +26,19 @@ ends_none g p r right e = elim (own_or_other (owner_of g r.0) p) [
   | inr o ↦ rw (not_same (owner_of g r.0) p (not_own p (owner_of g r.0) o)) refl
 ]
 
-pub choice_at : (rows : Rows) (i : ℕ) → IsDistinct nat_eq (vertices rows) → i < length rows → choice_in rows (row_at rows i).0 ≡ (row_at rows i).1
+pub choice_at : (rows : ClaimRows) (i : ℕ) → IsDistinct nat_eq (vertices rows) → i < length rows → choice_in rows (row_at rows i).0 ≡ (row_at rows i).1
 choice_at rows i distinct l =
     let v = (row_at rows i).0 in
-    ap (λ (xs : Rows). choice_in xs v) (sym (take-append-drop i rows))
+    ap (λ (xs : ClaimRows). choice_in xs v) (sym (take-append-drop i rows))
     ∙ (choice-back (take i rows) (drop i rows) v (fresh_at rows i distinct l)
-    ∙ (ap (λ (xs : Rows). choice_in xs v) (drop-cons rows i (0, None) l) ∙ first (row_at rows i) (drop (suc i) rows)))
+    ∙ (ap (λ (xs : ClaimRows). choice_in xs v) (drop-cons rows i (0, None) l) ∙ first (row_at rows i) (drop (suc i) rows)))
   where
-    first : (r : ℕ × Option ℕ) (rest : Rows) → choice_in (r ∷ rest) r.0 ≡ r.1
+    first : (r : ℕ × Option ℕ) (rest : ClaimRows) → choice_in (r ∷ rest) r.0 ≡ r.1
     first r rest = rw (eq-eqb r.0 r.0 refl) refl
 
-module _ (g : Graph) (p : Player) (S : VertexSet) (rows : Rows) (right : AreRight g p rows) where
+module _ (g : Graph) (p : Player) (S : VertexSet) (rows : ClaimRows) (right : AreRight g p rows) where
   ends_kept : (i : ℕ) → i < length rows → ends_of g p (row_at rows i) ≡ kept g p (choice_in rows) (row_at rows i).0
-  ends_kept i l = ap (λ (o : Option ℕ). if same_player (owner_of g (row_at rows i).0) p then listed o else successors_of g (row_at rows i).0) (sym (choice_at rows i (distinct_rising (vertices rows) right.rising) l))
+  ends_kept i l = ap (λ (o : Option ℕ). if same_player (owner_of g (row_at rows i).0) p then option_list o else successors_of g (row_at rows i).0) (sym (choice_at rows i (distinct_rising (vertices rows) right.rising) l))
 
   from_row : (i w : ℕ) → i < length rows → EndsOutside g p S (row_at rows i) w → LeadsOutside g p S rows (row_at rows i).0 w
   from_row i w l h = ((named_at rows i l, subst (λ (ws : List ℕ). Contains ws w) (ends_kept i l) h.0), h.1)

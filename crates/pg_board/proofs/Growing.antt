@@ -12,16 +12,16 @@ use Rattle.pg_game.specs.Subgame.{IsSubgame}
 use Rattle.pg_game.specs.Attractor.{Attracts}
 use Rattle.pg_game.proofs.Players.{own_or_other, not_own}
 use Rattle.pg_game.proofs.Masks.{member_below}
-use Rattle.pg_dominion.specs.Claim.{Rows, named, choice_in}
-use Rattle.pg_dominion.specs.Attraction.{LeadsTo, AttractInTurn, IsAttraction}
-use Rattle.pg_dominion.specs.Attracting.{Continues, IsDone, IsSettled}
+use Rattle.pg_dominion.specs.Claim.{ClaimRows, named, choice_in}
+use Rattle.pg_dominion.specs.Attraction.{IsAttractedRow, AttractInTurn, IsAttraction}
+use Rattle.pg_dominion.specs.private.Attracting.{Continues, AttractsNoFurther, IsTakenOrOpen}
 use Rattle.pg_dominion.proofs.Rows.{named-push, no_push, LeadsTo-same}
 use Rattle.pg_dominion.proofs.Named.{named-append}
 use Rattle.pg_dominion.proofs.Attracting.{IsDone-more, IsDone-none, named-take, Continues-same, Continues-push, Continues-then}
 use Rattle.pg_board.specs.declared.regions.Regions.{Regions}
 use Rattle.pg_board.specs.State.{State, is_unsettled}
-use Rattle.pg_board.specs.Regions.{told, state_with, AreRegions}
-use Rattle.pg_board.specs.Growth.{open_before, members_left, IsGrowing, LeadFrom, Grows}
+use Rattle.pg_board.specs.private.Regions.{table_state, state_with, AreRegions}
+use Rattle.pg_board.specs.private.Growth.{open_before, members_left, IsGrowing, LeadFrom, Grows}
 use Rattle.pg_board.proofs.RestIsGood.{both_true}
 use Rattle.pg_board.proofs.Tables.{AreRegions-settle, members-settle, told-push}
 
@@ -48,7 +48,7 @@ left_less mask v i =
     let k : ◌≡◌ {A = ℕ} (if get_or mask v false then 1 else 0) 1 = rw i refl in
     omega (arith, h, k)
 
-split_push : (rows : Rows) (r : ℕ × Option ℕ) (before : Rows) (x : ℕ × Option ℕ) (after : Rows) → rows ++ r ∷ [] ≡ before ++ x ∷ after → ((rest : Rows) × (rows ≡ before ++ x ∷ rest)) ⊎ ((before ≡ rows) × (x ≡ r))
+split_push : (rows : ClaimRows) (r : ℕ × Option ℕ) (before : ClaimRows) (x : ℕ × Option ℕ) (after : ClaimRows) → rows ++ r ∷ [] ≡ before ++ x ∷ after → ((rest : ClaimRows) × (rows ≡ before ++ x ∷ rest)) ⊎ ((before ≡ rows) × (x ≡ r))
 split_push [] r [] x after e = inr (refl, cc e)
 split_push [] r (b ∷ bs) x after e = absurd (no_push bs x after (cc e))
 split_push (y ∷ ys) r [] x after e = inl (ys, let h : y ≡ x = cc e in ap (λ z. z ∷ ys) h)
@@ -61,7 +61,7 @@ split_push (y ∷ ys) r (b ∷ bs) x after e =
     ]
 
 -- a vertex is settled, with its row
-module _ (g : Graph) (p : Player) (r r' : Regions) (rows : Rows) (row : ℕ × Option ℕ) (room : ℕ) (table : r'.table.items ≡ set r.table.items row.0 (Some (p, row.1))) (mask : r'.unsettled ≡ set r.unsettled row.0 false) (passed : r'.passed.items ≡ r.passed.items) (i : In (members r.unsettled) row.0) (growing : IsGrowing g r rows room) where
+module _ (g : Graph) (p : Player) (r r' : Regions) (rows : ClaimRows) (row : ℕ × Option ℕ) (room : ℕ) (table : r'.table.items ≡ set r.table.items row.0 (Some (p, row.1))) (mask : r'.unsettled ≡ set r.unsettled row.0 false) (passed : r'.passed.items ≡ r.passed.items) (i : In (members r.unsettled) row.0) (growing : IsGrowing g r rows room) where
   row_below : row.0 < length g
   row_below = let l = member_below r.unsettled row.0 i in omega (arith, growing.regions.mask_size)
 
@@ -99,29 +99,29 @@ module _ (g : Graph) (p : Player) (r r' : Regions) (rows : Rows) (row : ℕ × O
       go true e = here (members r.unsettled v) (named rows v) (subst (λ (x : ℕ). members r.unsettled x ≡ true) (eqb-true row.0 v e) i)
       go false e = there (members r.unsettled v) (named rows v)
 
-  was_unsettled : (st : State) → ((v : ℕ) → told r.table.items v ≡ state_with st p rows v) → is_unsettled (st row.0) ≡ true
+  was_unsettled : (st : State) → ((v : ℕ) → table_state r.table.items v ≡ state_with st p rows v) → is_unsettled (st row.0) ≡ true
   was_unsettled st h =
-      let u = (both_true (nat_lt row.0 (length g)) (is_unsettled (told r.table.items row.0)) (sym (growing.regions.mask row.0) ∙ i)).1 in
+      let u = (both_true (nat_lt row.0 (length g)) (is_unsettled (table_state r.table.items row.0)) (sym (growing.regions.mask row.0) ∙ i)).1 in
       go (st row.0) (named rows row.0) (Some (p, choice_in rows row.0)) row_fresh (subst (λ (o : Option (Player × Option ℕ)). is_unsettled o ≡ true) (h row.0) u)
     where
       go : (o : Option (Player × Option ℕ)) (n : Bool) (a : Option (Player × Option ℕ)) → n ≡ false → is_unsettled (if is_unsettled o then (if n then a else None) else o) ≡ true → is_unsettled o ≡ true
       go None n a f h = refl
       go (Some x) n a f h = h
 
-  pub told-take : (st : State) → ((v : ℕ) → told r.table.items v ≡ state_with st p rows v) → (v : ℕ) → told r'.table.items v ≡ state_with st p (rows ++ row ∷ []) v
+  pub told-take : (st : State) → ((v : ℕ) → table_state r.table.items v ≡ state_with st p rows v) → (v : ℕ) → table_state r'.table.items v ≡ state_with st p (rows ++ row ∷ []) v
   told-take st h = told-push g r r' p row table mask passed row_below growing.regions st rows h (was_unsettled st h) row_fresh
 
   pub same-take : (v : ℕ) → open_before r' (rows ++ row ∷ []) v ≡ open_before r rows v
   same-take = open_same
 
-  pub Grows-take : LeadsTo g p (open_before r rows) (named rows) row → Grows g p r rows r' (rows ++ row ∷ [])
+  pub Grows-take : IsAttractedRow g p (open_before r rows) (named rows) row → Grows g p r rows r' (rows ++ row ∷ [])
   Grows-take leads = record {
     same = open_same;
     more = Continues-push rows row;
     within = λ v n. named-push rows row v ∙ or_left (named rows v) (row.0 == v) n;
     turns = λ n l turns before after x e m. elim (split_push rows row before x after e) [
       | inl (rest, q) ↦ turns before rest x q m
-      | inr (q, s) ↦ subst (λ (b : Rows). LeadsTo g p (open_before r rows) (named b) x) (sym q) (subst (λ (y : ℕ × Option ℕ). LeadsTo g p (open_before r rows) (named rows) y) (sym s) leads)
+      | inr (q, s) ↦ subst (λ (b : ClaimRows). IsAttractedRow g p (open_before r rows) (named b) x) (sym q) (subst (λ (y : ℕ × Option ℕ). IsAttractedRow g p (open_before r rows) (named rows) y) (sym s) leads)
     ];
     tells = told-take;
   }
@@ -129,16 +129,16 @@ module _ (g : Graph) (p : Player) (r r' : Regions) (rows : Rows) (row : ℕ × O
   pub taken_named : In (named (rows ++ row ∷ [])) row.0
   taken_named = named-push rows row row.0 ∙ or_right (named rows row.0) (row.0 == row.0) (eq-eqb row.0 row.0 refl)
 
-pub Grows-same : (g : Graph) (p : Player) (r r' : Regions) (rows : Rows) → r'.table.items ≡ r.table.items → r'.unsettled ≡ r.unsettled → Grows g p r rows r' rows
+pub Grows-same : (g : Graph) (p : Player) (r r' : Regions) (rows : ClaimRows) → r'.table.items ≡ r.table.items → r'.unsettled ≡ r.unsettled → Grows g p r rows r' rows
 Grows-same g p r r' rows table mask = record {
   same = λ v. ap (λ m. members m v || named rows v) mask;
   more = Continues-same rows;
   within = λ v n. n;
   turns = λ n l turns. turns;
-  tells = λ st h v. ap (λ t. told t v) table ∙ h v;
+  tells = λ st h v. ap (λ t. table_state t v) table ∙ h v;
 }
 
-pub Grows-then : (g : Graph) (p : Player) (r r' r'' : Regions) (rows rows' rows'' : Rows) → Grows g p r rows r' rows' → Grows g p r' rows' r'' rows'' → Grows g p r rows r'' rows''
+pub Grows-then : (g : Graph) (p : Player) (r r' r'' : Regions) (rows rows' rows'' : ClaimRows) → Grows g p r rows r' rows' → Grows g p r' rows' r'' rows'' → Grows g p r rows r'' rows''
 Grows-then g p r r' r'' rows rows' rows'' a b = record {
   same = λ v. b.same v ∙ a.same v;
   more = Continues-then rows rows' rows'' a.more b.more;
@@ -149,7 +149,7 @@ Grows-then g p r r' r'' rows rows' rows'' a b = record {
 }
 
 -- a mask that didn't change is as much apart
-pub IsGrowing-same : (g : Graph) (r r' : Regions) (rows : Rows) (room : ℕ) → AreRegions g r' → r'.unsettled ≡ r.unsettled → IsGrowing g r rows room → IsGrowing g r' rows room
+pub IsGrowing-same : (g : Graph) (r r' : Regions) (rows : ClaimRows) (room : ℕ) → AreRegions g r' → r'.unsettled ≡ r.unsettled → IsGrowing g r rows room → IsGrowing g r' rows room
 IsGrowing-same g r r' rows room regions mask a = record {
   regions = regions;
   apart = λ v n. ap (λ m. members m v) mask ∙ a.apart v n;
@@ -157,47 +157,47 @@ IsGrowing-same g r r' rows room regions mask a = record {
 }
 
 -- the next row's vertex is reached
-pub next_reached : (g : Graph) (p : Player) (U : VertexSet) (rows rows' : Rows) (n : ℕ) (r : ℕ × Option ℕ) → n < length rows → r ≡ get_or rows n r → Continues rows rows' → Within (named rows) (named rows') → ((u : ℕ) → In U u → HasEdge g u r.0 → IsSettled g p U (named rows) (named rows') u) → IsDone g p U (named (take n rows)) (named rows) → IsDone g p U (named (take (n + 1) rows')) (named rows')
+pub next_reached : (g : Graph) (p : Player) (U : VertexSet) (rows rows' : ClaimRows) (n : ℕ) (r : ℕ × Option ℕ) → n < length rows → r ≡ get_or rows n r → Continues rows rows' → Within (named rows) (named rows') → ((u : ℕ) → In U u → HasEdge g u r.0 → IsTakenOrOpen g p U (named rows) (named rows') u) → AttractsNoFurther g p U (named (take n rows)) (named rows) → AttractsNoFurther g p U (named (take (n + 1) rows')) (named rows')
 next_reached g p U rows rows' n r l e k grows settled d =
     let front : take (n + 1) rows' ≡ take (n + 1) rows = k.front (n + 1) (omega arith) in
     let more : take (n + 1) rows ≡ take n rows ++ r ∷ [] = take_more rows n r l ∙ ap (λ (x : ℕ × Option ℕ). take n rows ++ x ∷ []) (sym e) in
     IsDone-more g p U no_vertices (named (take n rows)) (named (take (n + 1) rows')) (named rows) (named rows') r.0 grows
-    (λ x i. named-take (n + 1) rows x (subst (λ (xs : Rows). named xs x ≡ true) front i))
-    (λ x i. elim (or_cases (named (take n rows) x) (r.0 == x) (sym (named-push (take n rows) r x) ∙ subst (λ (xs : Rows). named xs x ≡ true) (front ∙ more) i)) [
+    (λ x i. named-take (n + 1) rows x (subst (λ (xs : ClaimRows). named xs x ≡ true) front i))
+    (λ x i. elim (or_cases (named (take n rows) x) (r.0 == x) (sym (named-push (take n rows) r x) ∙ subst (λ (xs : ClaimRows). named xs x ≡ true) (front ∙ more) i)) [
       | inl t ↦ inl t
       | inr t ↦ inr (sym (eqb-true r.0 x t))
     ])
     settled d
 
-pub next_named : (rows : Rows) (n : ℕ) (r : ℕ × Option ℕ) → n < length rows → r ≡ get_or rows n r → In (named rows) r.0
+pub next_named : (rows : ClaimRows) (n : ℕ) (r : ℕ × Option ℕ) → n < length rows → r ≡ get_or rows n r → In (named rows) r.0
 next_named rows n r l e =
     let more : take (n + 1) rows ≡ take n rows ++ r ∷ [] = take_more rows n r l ∙ ap (λ (x : ℕ × Option ℕ). take n rows ++ x ∷ []) (sym e) in
-    named-take (n + 1) rows r.0 (subst (λ (xs : Rows). named xs r.0 ≡ true) (sym more) (named-push (take n rows) r r.0 ∙ or_right (named (take n rows) r.0) (r.0 == r.0) (eq-eqb r.0 r.0 refl)))
+    named-take (n + 1) rows r.0 (subst (λ (xs : ClaimRows). named xs r.0 ≡ true) (sym more) (named-push (take n rows) r r.0 ∙ or_right (named (take n rows) r.0) (r.0 == r.0) (eq-eqb r.0 r.0 refl)))
 
-pub nothing_done : (g : Graph) (p : Player) (U : VertexSet) (rows : Rows) → IsSubgame g U → IsDone g p U (named (take 0 rows)) (named rows)
+pub nothing_done : (g : Graph) (p : Player) (U : VertexSet) (rows : ClaimRows) → IsSubgame g U → AttractsNoFurther g p U (named (take 0 rows)) (named rows)
 nothing_done g p U rows sub = IsDone-none g p U no_vertices (named (take 0 rows)) (named rows) sub (λ x. refl)
 
-pub all_done : (g : Graph) (p : Player) (U : VertexSet) (rows : Rows) (n : ℕ) → length rows ≤ n → IsDone g p U (named (take n rows)) (named rows) → IsDone g p U (named rows) (named rows)
-all_done g p U rows n l d = subst (λ (xs : Rows). IsDone g p U (named xs) (named rows)) (take_all n rows l) d
+pub all_done : (g : Graph) (p : Player) (U : VertexSet) (rows : ClaimRows) (n : ℕ) → length rows ≤ n → AttractsNoFurther g p U (named (take n rows)) (named rows) → AttractsNoFurther g p U (named rows) (named rows)
+all_done g p U rows n l d = subst (λ (xs : ClaimRows). AttractsNoFurther g p U (named xs) (named rows)) (take_all n rows l) d
 
 -- the rows after the first are what those attract
-module _ (g : Graph) (p : Player) (U : VertexSet) (R rows : Rows) (front : take (length R) rows ≡ R) (turns : LeadFrom g p U (length R) rows) (done : IsDone g p U (named rows) (named rows)) where
-  abbrev A : Rows
+module _ (g : Graph) (p : Player) (U : VertexSet) (R rows : ClaimRows) (front : take (length R) rows ≡ R) (turns : LeadFrom g p U (length R) rows) (done : AttractsNoFurther g p U (named rows) (named rows)) where
+  abbrev A : ClaimRows
   A = drop (length R) rows
 
   all : R ++ A ≡ rows
-  all = ap (λ (xs : Rows). xs ++ A) (sym front) ∙ take-append-drop (length R) rows
+  all = ap (λ (xs : ClaimRows). xs ++ A) (sym front) ∙ take-append-drop (length R) rows
 
   in_turn : AttractInTurn g p U (named R) A
   in_turn before after r e =
       LeadsTo-same g p U (named (R ++ before)) (union (named R) (named before)) r (λ v. named-append R before v)
-      (turns (R ++ before) after r (sym all ∙ (ap (λ (xs : Rows). R ++ xs) e ∙ sym (append_assoc R before (r ∷ after)))) (omega (arith, length-append R before)))
+      (turns (R ++ before) after r (sym all ∙ (ap (λ (xs : ClaimRows). R ++ xs) e ∙ sym (append_assoc R before (r ∷ after)))) (omega (arith, length-append R before)))
 
   names : (v : ℕ) → union (named R) (named A) v ≡ named rows v
-  names v = sym (named-append R A v) ∙ ap (λ (xs : Rows). named xs v) all
+  names v = sym (named-append R A v) ∙ ap (λ (xs : ClaimRows). named xs v) all
 
-  lies : (S : VertexSet) → Attracts g p U (named R) S → (before after : Rows) → A ≡ before ++ after → Within (union (named R) (named before)) S → Within (union (named R) (named A)) S
-  lies S a before [] e within = subst (λ (xs : Rows). Within (union (named R) (named xs)) S) (sym (e ∙ append-nil before)) within
+  lies : (S : VertexSet) → Attracts g p U (named R) S → (before after : ClaimRows) → A ≡ before ++ after → Within (union (named R) (named before)) S → Within (union (named R) (named A)) S
+  lies S a before [] e within = subst (λ (xs : ClaimRows). Within (union (named R) (named xs)) S) (sym (e ∙ append-nil before)) within
   lies S a before (r ∷ after) e within =
       let l = in_turn before after r e in
       let i : In S r.0 = elim (own_or_other (owner_of g r.0) p) [
@@ -245,7 +245,7 @@ module _ (g : Graph) (p : Player) (U : VertexSet) (R rows : Rows) (front : take 
   grown_rows = sym all
 
 -- an unsettled vertex of the player with an edge to his
-pub leads_own : (g : Graph) (p : Player) (r : Regions) (rows : Rows) (room from to : ℕ) → IsGrowing g r rows room → In (members r.unsettled) from → owner_of g from ≡ p → HasEdge g from to → In (named rows) to → LeadsTo g p (open_before r rows) (named rows) (from, Some to)
+pub leads_own : (g : Graph) (p : Player) (r : Regions) (rows : ClaimRows) (room from to : ℕ) → IsGrowing g r rows room → In (members r.unsettled) from → owner_of g from ≡ p → HasEdge g from to → In (named rows) to → IsAttractedRow g p (open_before r rows) (named rows) (from, Some to)
 leads_own g p r rows room from to growing i o e t = record {
   inside = or_left (members r.unsettled from) (named rows from) i;
   fresh = false_from_ne_true (named rows from) (λ n. (let f = growing.apart from n in cc (f, i)));
@@ -254,7 +254,7 @@ leads_own g p r rows room from to growing i o e t = record {
 }
 
 -- an unsettled vertex of the opponent without a way out
-pub leads_forced : (g : Graph) (p : Player) (r : Regions) (rows : Rows) (room from : ℕ) → IsGrowing g r rows room → In (members r.unsettled) from → owner_of g from ≢ p → ((w : ℕ) → HasEdge g from w → members r.unsettled w ≡ false) → LeadsTo g p (open_before r rows) (named rows) (from, None)
+pub leads_forced : (g : Graph) (p : Player) (r : Regions) (rows : ClaimRows) (room from : ℕ) → IsGrowing g r rows room → In (members r.unsettled) from → owner_of g from ≢ p → ((w : ℕ) → HasEdge g from w → members r.unsettled w ≡ false) → IsAttractedRow g p (open_before r rows) (named rows) (from, None)
 leads_forced g p r rows room from growing i o none = record {
   inside = or_left (members r.unsettled from) (named rows from) i;
   fresh = false_from_ne_true (named rows from) (λ n. (let f = growing.apart from n in cc (f, i)));
@@ -268,11 +268,11 @@ leads_forced g p r rows room from growing i o none = record {
   );
 }
 
-pub in_before : (r : Regions) (rows : Rows) (v : ℕ) → In (named rows) v → In (open_before r rows) v
+pub in_before : (r : Regions) (rows : ClaimRows) (v : ℕ) → In (named rows) v → In (open_before r rows) v
 in_before r rows v n = or_right (members r.unsettled v) (named rows v) n
 
 -- of what was unsettled before the rows, what they don't name is unsettled
-pub still_unsettled : (r : Regions) (rows : Rows) (v : ℕ) → In (open_before r rows) v → named rows v ≡ false → In (members r.unsettled) v
+pub still_unsettled : (r : Regions) (rows : ClaimRows) (v : ℕ) → In (open_before r rows) v → named rows v ≡ false → In (members r.unsettled) v
 still_unsettled r rows v i f = elim (or_cases (members r.unsettled v) (named rows v) i) [ inl m ↦ m | inr n ↦ absurd (cc (n, f)) ]
 
 pub before_none : (r : Regions) (v : ℕ) → open_before r [] v ≡ members r.unsettled v

@@ -9,7 +9,7 @@ use Rattle.std.proofs.Math.Seq.{take-length}
 use Rattle.pg_game.specs.declared.player.Player.{Player}
 use Rattle.pg_game.specs.Graph.{Graph, HasEdge}
 use Rattle.pg_game.specs.VertexSet.{In, all_vertices}
-use Rattle.pg_dominion.specs.Claim.{Rows}
+use Rattle.pg_dominion.specs.Claim.{ClaimRows}
 use Rattle.pg_board.specs.declared.entry.Entry.{Entry}
 use Rattle.pg_board.specs.State.{IsGoodOn, IsLawfulState, is_unsettled}
 use Rattle.pg_board.specs.Journal.{Journal, state_of, claimed_rows, Answers, IsLawful}
@@ -27,7 +27,7 @@ pub length-snoc : (j : Journal) (e : Entry) → length (j ++ e ∷ []) ≡ suc (
 length-snoc [] e = refl
 length-snoc (x ∷ xs) e = ap suc (length-snoc xs e)
 
-module _ (g : Graph) (edges : (v w : ℕ) → v < length g → HasEdge g v w → In (all_vertices g) w) (some : (v : ℕ) → v < length g → (w : ℕ) × HasEdge g v w) (j : Journal) (lawful : IsLawful g j) (p : Player) (rows : Rows) where
+module _ (g : Graph) (edges : (v w : ℕ) → v < length g → HasEdge g v w → In (all_vertices g) w) (some : (v : ℕ) → v < length g → (w : ℕ) × HasEdge g v w) (j : Journal) (lawful : IsLawful g j) (p : Player) (rows : ClaimRows) where
   state : IsLawfulState g (state_of j)
   state = subst (λ xs. IsLawfulState g (state_of xs)) (take-length j) (lawful.states (length j) (omega arith))
 

@@ -4,17 +4,17 @@ use Rattle.std.specs.List.Sorted.{IsStrictlyIncreasing}
 use Rattle.pg_game.specs.declared.player.Player.{Player}
 use Rattle.pg_game.specs.Player.{opponent}
 use Rattle.pg_game.specs.Least.{NoneHas, IsLeast}
-use Rattle.pg_dominion.specs.Claim.{Rows}
+use Rattle.pg_dominion.specs.Claim.{ClaimRows}
 use Rattle.pg_board.specs.State.{State, settled}
 use Rattle.pg_board.specs.Refusal.{IsLost}
 use Rattle.pg_board.proofs.RestIsGood.{vertices}
 use Rattle.pg_board.proofs.Places.{row_at, named_at, place_at, rises_or}
 
 -- the first so many rows are not settled for the player
-abbrev pub NoneBefore : State → Player → Rows → ℕ → Type 0
+abbrev pub NoneBefore : State → Player → ClaimRows → ℕ → Type 0
 NoneBefore st q rows i = (k : ℕ) → k < i → settled st q (row_at rows k).0 ≡ false
 
-module _ (st : State) (p : Player) (rows : Rows) where
+module _ (st : State) (p : Player) (rows : ClaimRows) where
   pub none_lost : (i : ℕ) → length rows ≤ i → NoneBefore st (opponent p) rows i → NoneHas (IsLost st p rows)
   none_lost i l before u h =
       let q = place_at rows u h.0 in

@@ -14,7 +14,7 @@ use Rattle.std.proofs.lemmas.Map.Steps.{length-le_from_distinct_below, le-length
 use Rattle.std.proofs.Math.Seq.{take-length}
 use Rattle.pg_game.specs.declared.player.Player.{Player}
 use Rattle.pg_game.specs.Graph.{Graph}
-use Rattle.pg_dominion.specs.Claim.{Rows, named, choice_in}
+use Rattle.pg_dominion.specs.Claim.{ClaimRows, named, choice_in}
 use Rattle.pg_board.specs.declared.entry.Entry.{Entry}
 use Rattle.pg_board.specs.State.{settled_for, is_unsettled, IsLawfulState}
 use Rattle.pg_board.specs.Journal.{Journal, state_of, IsLawful, number_settled, settled_by}
@@ -32,7 +32,7 @@ Settled j = vertices (AllRows j)
 number_is : (j : Journal) → number_settled j ≡ length (Settled j)
 number_is j = sym (length-map (AllRows j) (λ (r : ℕ × Option ℕ). r.0) ∙ length-flat_map (λ (e : Entry). e.rows) j)
 
-pub in_vertices : (rows : Rows) (v : ℕ) → list_any (nat_eq v) (vertices rows) ≡ named rows v
+pub in_vertices : (rows : ClaimRows) (v : ℕ) → list_any (nat_eq v) (vertices rows) ≡ named rows v
 in_vertices [] v = refl
 in_vertices (r ∷ rows) v = go (nat_eq v r.0) (r.0 == v) refl refl (in_vertices rows v)
   where

@@ -15,9 +15,9 @@ use Rattle.pg_game.proofs.Rotate.{none_from_good}
 use Rattle.pg_dominion.specs.declared.claim.Claim.{Claim}
 use Rattle.pg_dominion.specs.declared.claim.ClaimFault.{ClaimFault}
 use Rattle.pg_dominion.specs.declared.claim.ClaimFault.TheVariants as claim_fault
-use Rattle.pg_dominion.specs.Claim.{Rows, named, choice_in, IsRightRow, AreRight, HasShape, IsFirstWrongRow}
+use Rattle.pg_dominion.specs.Claim.{ClaimRows, named, choice_in, IsRightRow, AreRight, HasShape, IsFirstWrongRow}
 use Rattle.pg_dominion.specs.Fault.{IsClaimFault}
-use Rattle.pg_dominion.specs.Checked.{CheckedClaim, claim_rows, Agrees}
+use Rattle.pg_dominion.specs.Checked.{CheckedClaim, claim_rows, AgreesWithGame}
 use Rattle.pg_board.specs.declared.entry.Posted.{Posted}
 use Rattle.pg_board.specs.declared.refusal.Refusal.{Refusal}
 use Rattle.pg_board.specs.declared.refusal.Refusal.TheVariants as refusal
@@ -34,19 +34,19 @@ use Rattle.pg_board.proofs.Lawful.{lawful_push}
 use Rattle.pg_board.proofs.Dominion.{never_lost, stays_closed}
 use Rattle.pg_board.proofs.Order.{Target, order}
 
-all_take : (P : ℕ × Option ℕ → Type 0) (rows : Rows) (n : ℕ) → AllByRecursion P rows → AllByRecursion P (take n rows)
+all_take : (P : ℕ × Option ℕ → Type 0) (rows : ClaimRows) (n : ℕ) → AllByRecursion P rows → AllByRecursion P (take n rows)
 all_take P [] zero a = tt
 all_take P [] (suc n) a = tt
 all_take P (r ∷ rows) zero a = tt
 all_take P (r ∷ rows) (suc n) a = (a.0, all_take P rows n a.1)
 
-vertices_take : (rows : Rows) (n : ℕ) → vertices (take n rows) ≡ take n (vertices rows)
+vertices_take : (rows : ClaimRows) (n : ℕ) → vertices (take n rows) ≡ take n (vertices rows)
 vertices_take [] zero = refl
 vertices_take [] (suc n) = refl
 vertices_take (r ∷ rows) zero = refl
 vertices_take (r ∷ rows) (suc n) = ap (λ xs. r.0 ∷ xs) (vertices_take rows n)
 
-right_take : (g : Graph) (p : Player) (rows : Rows) (n : ℕ) → AreRight g p rows → AreRight g p (take n rows)
+right_take : (g : Graph) (p : Player) (rows : ClaimRows) (n : ℕ) → AreRight g p rows → AreRight g p (take n rows)
 right_take g p rows n a = record {
   each = all_take (IsRightRow g p) rows n a.each;
   rising = subst (λ (xs : List ℕ). IsStrictlyIncreasing xs) (sym (vertices_take rows n)) (λ k l.
@@ -57,15 +57,15 @@ right_take g p rows n a = record {
       rw (e, f) h));
 }
 
-shape_is_right : (g : Graph) (p : Player) (rows : Rows) (i : ℕ) → HasShape g p rows → IsFirstWrongRow g p rows i → ⊥
-shape_is_right g p rows i shape (inl (e, z)) = let n = shape.nonempty in let l : length rows ≡ 0 = ap (λ (xs : Rows). length xs) e in omega arith
+shape_is_right : (g : Graph) (p : Player) (rows : ClaimRows) (i : ℕ) → HasShape g p rows → IsFirstWrongRow g p rows i → ⊥
+shape_is_right g p rows i shape (inl (e, z)) = let n = shape.nonempty in let l : length rows ≡ 0 = ap (λ (xs : ClaimRows). length xs) e in omega arith
 shape_is_right g p rows i shape (inr (l, a, wrong)) = wrong (right_take g p rows (i + 1) shape.right)
 
 module _ (g : Graph) (game : IsGame g) (old : Journal) (lawful : IsLawful g old) (claim : Claim) (k : ℕ) (d : IsDominionAfter g old k claim.player claim.rows) where
   abbrev p : Player
   p = claim.player
 
-  abbrev rows : Rows
+  abbrev rows : ClaimRows
   rows = claim.rows
 
   no_fault : (fault : ClaimFault) → IsClaimFault g p rows fault → (fault ≡ claim_fault.Memory → ⊥) → ⊥
@@ -99,7 +99,7 @@ module _ (g : Graph) (game : IsGame g) (old : Journal) (lawful : IsLawful g old)
 
   claimed_size : (worker : ℕ) (new : Play) (posted : Posted) → Adds (record { graph = g; journal = old }) new worker claim posted → posted.claimed ≡ length (rest_of (state_of old) rows)
   claimed_size worker new posted a =
-      let e : length (take a.entry.claimed a.entry.rows) ≡ length (rest_of (state_of old) rows) = ap (λ (xs : Rows). length xs) a.answers.rest in
+      let e : length (take a.entry.claimed a.entry.rows) ≡ length (rest_of (state_of old) rows) = ap (λ (xs : ClaimRows). length xs) a.answers.rest in
       let l = a.answers.claimed in
       let c = a.claimed in
       omega (arith, length-take a.entry.claimed a.entry.rows)
@@ -118,7 +118,7 @@ module _ (g : Graph) (game : IsGame g) (old : Journal) (lawful : IsLawful g old)
   old_copy new worker (Err (refusal.Open v w)) ok refused same = absurd (let e = refused.2.edge in e.1 (stays_closed g old lawful k p rows d v w e.0))
 
 -- what is answered where the check of a claim failed
-pub refused_check : (g : Graph) (st : State) (p : Player) (rows : Rows) (fault : ClaimFault) → IsClaimFault g p rows fault → Refuses g st p rows (refusal_of fault)
+pub refused_check : (g : Graph) (st : State) (p : Player) (rows : ClaimRows) (fault : ClaimFault) → IsClaimFault g p rows fault → Refuses g st p rows (refusal_of fault)
 refused_check g st p rows (claim_fault.Shape i) h = (h, λ e. cc e)
 refused_check g st p rows (claim_fault.Cycle v) h = (h, λ e. cc e)
 refused_check g st p rows claim_fault.Memory h = tt
@@ -132,7 +132,7 @@ lawful_after g game old lawful claim new worker (Ok posted) ok same graph =
 lawful_after g game old lawful claim new worker (Err e) ok same graph = subst (λ (x : Play). IsLawful x.graph x.journal) (sym same) lawful
 
 -- a refusal of the claim that lies in the state is one of the checked claim
-pub refused_checked : (g : Graph) (st : State) (c : CheckedClaim) (e : Refusal) → Agrees g c.player c.rows → IsOfState e → Refuses g st c.player (claim_rows c.player c.rows) e → RefusesChecked g st c e
+pub refused_checked : (g : Graph) (st : State) (c : CheckedClaim) (e : Refusal) → AgreesWithGame g c.player c.rows → IsOfState e → Refuses g st c.player (claim_rows c.player c.rows) e → RefusesChecked g st c e
 refused_checked g st c (refusal.Claim fault) a o r = absurd o
 refused_checked g st c (refusal.Foreign v) a o r = absurd o
 refused_checked g st c (refusal.Lost v) a o r = (o, a, r)
@@ -140,6 +140,6 @@ refused_checked g st c refusal.Stale a o r = (o, a, r)
 refused_checked g st c (refusal.Open v w) a o r = (o, a, r)
 refused_checked g st c refusal.Memory a o r = tt
 
-pub checked_refusal : (g : Graph) (st : State) (c : CheckedClaim) → Agrees g c.player c.rows → (r : Result Posted Refusal) → IfErr r IsOfState → IfErr r (λ e. Refuses g st c.player (claim_rows c.player c.rows) e) → IfErr r (λ e. RefusesChecked g st c e)
+pub checked_refusal : (g : Graph) (st : State) (c : CheckedClaim) → AgreesWithGame g c.player c.rows → (r : Result Posted Refusal) → IfErr r IsOfState → IfErr r (λ e. Refuses g st c.player (claim_rows c.player c.rows) e) → IfErr r (λ e. RefusesChecked g st c e)
 checked_refusal g st c a (Ok posted) o r = tt
 checked_refusal g st c a (Err e) o r = refused_checked g st c e a o r

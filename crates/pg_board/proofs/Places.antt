@@ -6,23 +6,23 @@ use Rattle.std.specs.List.Sorted.{IsStrictlyIncreasing}
 use Rattle.std.proofs.lemmas.Bool.{eqb-true, eq-eqb, false_from_ne_true}
 use Rattle.std.proofs.lemmas.List.{get_or-map, get_or-take, length-map, length-take}
 use Rattle.std.proofs.lemmas.Map.Keys.{apart_from_distinct, sorted_from_strictly_increasing, below_from_sorted}
-use Rattle.pg_dominion.specs.Claim.{Rows, named}
+use Rattle.pg_dominion.specs.Claim.{ClaimRows, named}
 use Rattle.pg_board.proofs.RestIsGood.{vertices}
 
-abbrev pub row_at : Rows → ℕ → ℕ × Option ℕ
+abbrev pub row_at : ClaimRows → ℕ → ℕ × Option ℕ
 row_at rows i = get_or rows i (0, None)
 
 or_right : (a b : Bool) → b ≡ true → (a || b) ≡ true
 or_right true b e = refl
 or_right false b e = e
 
-pub named_at : (rows : Rows) (i : ℕ) → i < length rows → named rows (row_at rows i).0 ≡ true
+pub named_at : (rows : ClaimRows) (i : ℕ) → i < length rows → named rows (row_at rows i).0 ≡ true
 named_at [] i l = absurd (omega arith)
 named_at (r ∷ rows) zero l = rw (eq-eqb r.0 r.0 refl) refl
 named_at (r ∷ rows) (suc i) l = or_right (r.0 == (row_at rows i).0) (named rows (row_at rows i).0) (named_at rows i (omega arith))
 
 -- the place of a named vertex
-pub place_at : (rows : Rows) (v : ℕ) → named rows v ≡ true → (i : ℕ) × (i < length rows) × ((row_at rows i).0 ≡ v)
+pub place_at : (rows : ClaimRows) (v : ℕ) → named rows v ≡ true → (i : ℕ) × (i < length rows) × ((row_at rows i).0 ≡ v)
 place_at [] v i = absurd (cc i)
 place_at (r ∷ rows) v i = go (r.0 == v) refl (place_at rows v)
   where
@@ -30,18 +30,18 @@ place_at (r ∷ rows) v i = go (r.0 == v) refl (place_at rows v)
     go true e h = (zero, omega arith, eqb-true r.0 v e)
     go false e h = let n : named rows v ≡ true = rw e at i in let q = h n in (suc q.0, omega (arith, q.1), q.2)
 
-pub vertex_at : (rows : Rows) (i : ℕ) → i < length rows → get_or (vertices rows) i 0 ≡ (row_at rows i).0
+pub vertex_at : (rows : ClaimRows) (i : ℕ) → i < length rows → get_or (vertices rows) i 0 ≡ (row_at rows i).0
 vertex_at rows i l = get_or-map (λ (r : ℕ × Option ℕ). r.0) rows i (0, None) 0 l
 
 -- in rising rows a later row names a greater vertex
-pub rises : (rows : Rows) (i k : ℕ) → IsStrictlyIncreasing (vertices rows) → i < k → k < length rows → (row_at rows i).0 < (row_at rows k).0
+pub rises : (rows : ClaimRows) (i k : ℕ) → IsStrictlyIncreasing (vertices rows) → i < k → k < length rows → (row_at rows i).0 < (row_at rows k).0
 rises rows i k rising l m =
     let h = below_from_sorted (vertices rows) i k 0 (sorted_from_strictly_increasing (vertices rows) rising) l (omega (arith, length-map rows (λ (r : ℕ × Option ℕ). r.0))) in
     let a = vertex_at rows i (omega arith) in
     let b = vertex_at rows k m in
     omega arith
 
-pub rises_or : (rows : Rows) (i k : ℕ) → IsStrictlyIncreasing (vertices rows) → i ≤ k → k < length rows → (row_at rows i).0 ≤ (row_at rows k).0
+pub rises_or : (rows : ClaimRows) (i k : ℕ) → IsStrictlyIncreasing (vertices rows) → i ≤ k → k < length rows → (row_at rows i).0 ≤ (row_at rows k).0
 rises_or rows i k rising l m = elim (equal_or i k l) [
   | inl e ↦ rw e (omega arith)
   | inr less ↦ (let h = rises rows i k rising less m in omega arith)
@@ -51,7 +51,7 @@ rises_or rows i k rising l m = elim (equal_or i k l) [
     equal_or i k l = grind arith
 
 -- no earlier row names the vertex of a row
-pub fresh_at : (rows : Rows) (i : ℕ) → IsDistinct nat_eq (vertices rows) → i < length rows → named (take i rows) (row_at rows i).0 ≡ false
+pub fresh_at : (rows : ClaimRows) (i : ℕ) → IsDistinct nat_eq (vertices rows) → i < length rows → named (take i rows) (row_at rows i).0 ≡ false
 fresh_at rows i distinct l = false_from_ne_true (named (take i rows) (row_at rows i).0) (λ t.
     (let q = place_at (take i rows) (row_at rows i).0 t in
     let less : q.0 < i = omega (arith, q.1, length-take i rows) in

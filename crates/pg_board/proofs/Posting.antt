@@ -12,22 +12,22 @@ use Rattle.pg_game.specs.Least.{NoneHas}
 use Rattle.pg_game.specs.VertexSet.{VertexSet, In, union}
 use Rattle.pg_game.specs.Kept.{KeptEdge}
 use Rattle.pg_dominion.specs.declared.claim.Claim.{Claim}
-use Rattle.pg_dominion.specs.Claim.{Rows, named, choice_in, IsRightRow, AreRight, IsSound}
+use Rattle.pg_dominion.specs.Claim.{ClaimRows, named, choice_in, IsRightRow, AreRight, IsSound}
 use Rattle.pg_board.specs.declared.entry.Posted.{Posted}
 use Rattle.pg_board.specs.State.{State, settled, rest_of, IsGoodOn}
 use Rattle.pg_board.specs.Journal.{state_of}
 use Rattle.pg_board.specs.Play.{Play}
 use Rattle.pg_board.specs.Post.{Adds}
 use Rattle.pg_board.specs.Refusal.{IsLost, IsOpenEdge, IsFirstOpenEdge}
-use Rattle.pg_board.specs.OpenEdges.{LeadsOutside, IsFirstOutside}
+use Rattle.pg_board.specs.private.OpenEdges.{LeadsOutside, IsFirstOutside}
 use Rattle.pg_board.proofs.Push.{distinct_rising}
 use Rattle.pg_board.proofs.RestIsGood.{vertices, kept_rest, kept_of_rest, rest_twice}
 
 -- the vertices of the rest and the player's
-abbrev pub Bounds : State → Player → Rows → VertexSet
+abbrev pub Bounds : State → Player → ClaimRows → VertexSet
 Bounds st p rows = union (named (rest_of st rows)) (settled st p)
 
-module _ (g : Graph) (st : State) (p : Player) (rows : Rows) where
+module _ (g : Graph) (st : State) (p : Player) (rows : ClaimRows) where
   open_edge : (v w : ℕ) → LeadsOutside g p (Bounds st p rows) (rest_of st rows) v w → IsOpenEdge g st p rows v w
   open_edge v w h = (kept_rest g p st rows v w h.0, λ i. (let f = h.1 in cc (i, f)))
 
@@ -55,7 +55,7 @@ module _ (g : Graph) (st : State) (p : Player) (rows : Rows) where
       inside v w k false e = absurd (closed v w (kept_of_rest g p st rows v w k, e))
 
 -- an entry that answers the rest answers the claim
-pub adds_claim : (old new : Play) (worker : ℕ) (p : Player) (rows : Rows) (claim : Claim) (posted : Posted) → claim.player ≡ p → rows ≡ rest_of (state_of old.journal) claim.rows → Adds old new worker (record { player = p; rows = rows }) posted → Adds old new worker claim posted
+pub adds_claim : (old new : Play) (worker : ℕ) (p : Player) (rows : ClaimRows) (claim : Claim) (posted : Posted) → claim.player ≡ p → rows ≡ rest_of (state_of old.journal) claim.rows → Adds old new worker (record { player = p; rows = rows }) posted → Adds old new worker claim posted
 adds_claim old new worker p rows claim posted player same a =
     let st = state_of old.journal in
     record {
@@ -78,20 +78,20 @@ below_cons : (n : ℕ) (r : ℕ × Option ℕ) (q : ℕ) (rest : Bool) → r.0 <
 below_cons n r q rest l f true e i = subst (λ (x : ℕ). x < n) (sym (eqb-true q r.0 e)) l
 below_cons n r q rest l f false e i = f i
 
-below : (g : Graph) (p : Player) (rows : Rows) → AllByRecursion (IsRightRow g p) rows → (q : ℕ) → list_any (eqb q) (vertices rows) ≡ true → q < length g
+below : (g : Graph) (p : Player) (rows : ClaimRows) → AllByRecursion (IsRightRow g p) rows → (q : ℕ) → list_any (eqb q) (vertices rows) ≡ true → q < length g
 below g p [] a q m = absurd (cc m)
 below g p (r ∷ rows) a q m = below_cons (length g) r q (list_any (eqb q) (vertices rows)) a.0.vertex (below g p rows a.1 q) (eqb q r.0) refl m
 
 -- right rows are no more than the vertices
-pub few_rows : (g : Graph) (p : Player) (rows : Rows) → AreRight g p rows → length rows ≤ length g
+pub few_rows : (g : Graph) (p : Player) (rows : ClaimRows) → AreRight g p rows → length rows ≤ length g
 few_rows g p rows a =
     let h = length-le_from_distinct_below (vertices rows) (length g) (distinct_rising (vertices rows) a.rising) (below g p rows a.each) in
     omega (arith, h, length-map rows (λ (r : ℕ × Option ℕ). r.0))
 
-each_below : (g : Graph) (p : Player) (rows : Rows) → AllByRecursion (IsRightRow g p) rows → AllByRecursion (λ (r : ℕ × Option ℕ). r.0 < length g) rows
+each_below : (g : Graph) (p : Player) (rows : ClaimRows) → AllByRecursion (IsRightRow g p) rows → AllByRecursion (λ (r : ℕ × Option ℕ). r.0 < length g) rows
 each_below g p [] a = tt
 each_below g p (r ∷ rows) a = (a.0.vertex, each_below g p rows a.1)
 
 -- right rows name vertices
-pub all_below : (g : Graph) (p : Player) (rows : Rows) → AreRight g p rows → (n : ℕ) → n ≡ length g → All (λ (r : ℕ × Option ℕ). r.0 < n) rows
+pub all_below : (g : Graph) (p : Player) (rows : ClaimRows) → AreRight g p rows → (n : ℕ) → n ≡ length g → All (λ (r : ℕ × Option ℕ). r.0 < n) rows
 all_below g p rows a n e = subst (λ (m : ℕ). All (λ (r : ℕ × Option ℕ). r.0 < m) rows) (sym e) (All-from_recursion (λ (r : ℕ × Option ℕ). r.0 < length g) rows (each_below g p rows a.each))

@@ -16,8 +16,9 @@ use Rattle.pg_game.specs.declared.player.Player.{Player}
 use Rattle.pg_game.specs.declared.player.Player.TheVariants.{Even, Odd}
 use Rattle.pg_game.specs.Player.{opponent, same_player}
 use Rattle.pg_game.specs.Graph.{Graph, HasEdge, owner_of, successors_of}
-use Rattle.pg_game.specs.VertexSet.{VertexSet, In, all_vertices, union, without}
-use Rattle.pg_game.specs.Kept.{Choices, kept, listed, KeptEdge}
+use Rattle.pg_game.specs.VertexSet.{VertexSet, In, all_vertices, union}
+use Rattle.pg_game.specs.private.VertexSet.{without}
+use Rattle.pg_game.specs.Kept.{Choices, kept, option_list, KeptEdge}
 use Rattle.pg_game.specs.Subgame.{IsSubgame}
 use Rattle.pg_game.specs.Attractor.{Attractor}
 use Rattle.pg_game.specs.Region.{IsRegion}
@@ -26,8 +27,8 @@ use Rattle.pg_game.proofs.Members.{Contains-one}
 use Rattle.pg_game.proofs.Attract.{Attractor-idempotent}
 use Rattle.pg_game.proofs.Grown.{Grows, grown_region}
 use Rattle.pg_game.proofs.Rest.{rest_is_subgame}
-use Rattle.pg_dominion.specs.Claim.{Rows, named, choice_in, IsRightRow}
-use Rattle.pg_dominion.specs.Attraction.{LeadsTo, AttractInTurn}
+use Rattle.pg_dominion.specs.Claim.{ClaimRows, named, choice_in, IsRightRow}
+use Rattle.pg_dominion.specs.Attraction.{IsAttractedRow, AttractInTurn}
 use Rattle.pg_board.specs.declared.entry.Entry.{Entry}
 use Rattle.pg_board.specs.State.{State, settled, settled_for, chosen, choices, is_unsettled, unsettled, rest_of, IsGoodOn, IsLawfulState}
 use Rattle.pg_board.specs.Journal.{Journal, state_of, claimed_rows, attracted_rows, Answers}
@@ -84,7 +85,7 @@ none_distinct : IsDistinct nat_eq []
 unfolding IsDistinct
 none_distinct = tt
 
-unnamed : (rows : Rows) (v : ℕ) → named rows v ≡ false → list_any (nat_eq v) (vertices rows) ≡ false
+unnamed : (rows : ClaimRows) (v : ℕ) → named rows v ≡ false → list_any (nat_eq v) (vertices rows) ≡ false
 unnamed [] v n = refl
 unnamed (r ∷ rows) v n =
     let h = or_false (r.0 == v) (named rows v) n in
@@ -101,19 +102,19 @@ region_same g p X s t same r = record {
 }
   where
     as_old : (v w : ℕ) → KeptEdge g p X t v w → KeptEdge g p X s v w
-    as_old v w (i, m) = (i, subst (λ o. Contains (if same_player (owner_of g v) p then listed o else successors_of g v) w) (same v i) m)
+    as_old v w (i, m) = (i, subst (λ o. Contains (if same_player (owner_of g v) p then option_list o else successors_of g v) w) (same v i) m)
 
-module _ (g : Graph) (edges : (v w : ℕ) → v < length g → HasEdge g v w → In (all_vertices g) w) (j : Journal) (lawful : IsLawfulState g (state_of j)) (p : Player) (rows : Rows) (posted : IsGoodOn g (state_of j) p rows) (e : Entry) (answers : Answers g (state_of j) p rows e) where
+module _ (g : Graph) (edges : (v w : ℕ) → v < length g → HasEdge g v w → In (all_vertices g) w) (j : Journal) (lawful : IsLawfulState g (state_of j)) (p : Player) (rows : ClaimRows) (posted : IsGoodOn g (state_of j) p rows) (e : Entry) (answers : Answers g (state_of j) p rows e) where
   abbrev st : State
   st = state_of j
 
   abbrev st' : State
   st' = state_of (j ++ e ∷ [])
 
-  abbrev R : Rows
+  abbrev R : ClaimRows
   R = claimed_rows e
 
-  abbrev A : Rows
+  abbrev A : ClaimRows
   A = attracted_rows e
 
   split : e.rows ≡ R ++ A
@@ -145,7 +146,7 @@ module _ (g : Graph) (edges : (v w : ℕ) → v < length g → HasEdge g v w →
       (λ v w i m. edges v w (ltb-true v (length g) (other.vertices v i)) m) A [] A answers.turns refl base
 
   -- what an attracted row leads to
-  leads : (v : ℕ) (i : In (named A) v) → LeadsTo g p (all_vertices g) (union (union (settled st p) (named R)) (named (place_of A v i).before)) (v, (place_of A v i).choice)
+  leads : (v : ℕ) (i : In (named A) v) → IsAttractedRow g p (all_vertices g) (union (union (settled st p) (named R)) (named (place_of A v i).before)) (v, (place_of A v i).choice)
   leads v i = let q = place_of A v i in answers.turns q.before q.after (v, q.choice) q.split
 
   attracted_new : (v : ℕ) → In (named A) v → (settled st p v ≡ false) × (named R v ≡ false)
@@ -182,8 +183,8 @@ module _ (g : Graph) (edges : (v w : ℕ) → v < length g → HasEdge g v w →
       let n : named e.rows v ≡ true = names v ∙ rw (r, i) refl in
       ap chosen (new_state v n (attracted_open v i)) ∙ ((ap (λ xs. choice_in xs v) split ∙ choice-back R A v r) ∙ (place_of A v i).chosen)
 
-  kept_as : (v w : ℕ) (a b : Option ℕ) → a ≡ b → Contains (if same_player (owner_of g v) p then listed a else successors_of g v) w → Contains (if same_player (owner_of g v) p then listed b else successors_of g v) w
-  kept_as v w a b h m = subst (λ o. Contains (if same_player (owner_of g v) p then listed o else successors_of g v) w) h m
+  kept_as : (v w : ℕ) (a b : Option ℕ) → a ≡ b → Contains (if same_player (owner_of g v) p then option_list a else successors_of g v) w → Contains (if same_player (owner_of g v) p then option_list b else successors_of g v) w
+  kept_as v w a b h m = subst (λ o. Contains (if same_player (owner_of g v) p then option_list o else successors_of g v) w) h m
 
   either : (a b : Bool) → (a || b) ≡ true → (a ≡ true) ⊎ (b ≡ true)
   either true b h = inl refl
@@ -356,7 +357,7 @@ module _ (g : Graph) (edges : (v w : ℕ) → v < length g → HasEdge g v w →
       own_rest = subst (λ xs. rest_of st xs ≡ xs) (sym answers.rest) (rest_twice st rows)
 
   -- no two of the entry's rows name one vertex
-  all_done : (done rest : Rows) → A ≡ done ++ rest → IsDistinct nat_eq (vertices done) → IsDistinct nat_eq (vertices A)
+  all_done : (done rest : ClaimRows) → A ≡ done ++ rest → IsDistinct nat_eq (vertices done) → IsDistinct nat_eq (vertices A)
   all_done done [] q d = subst (λ xs. IsDistinct nat_eq (vertices xs)) (sym (q ∙ append-nil done)) d
   all_done done (r ∷ rest) q d =
       let f = (answers.turns done rest r q).fresh in

@@ -9,23 +9,23 @@ use Rattle.pg_game.specs.declared.player.Player.{Player}
 use Rattle.pg_game.specs.Player.{same_player}
 use Rattle.pg_game.specs.Graph.{Graph, owner_of, successors_of}
 use Rattle.pg_game.specs.VertexSet.{In, union}
-use Rattle.pg_game.specs.Kept.{listed, KeptEdge}
+use Rattle.pg_game.specs.Kept.{option_list, KeptEdge}
 use Rattle.pg_game.proofs.Walks.{ClosedWalk-weaker}
-use Rattle.pg_dominion.specs.Claim.{Rows, named, choice_in, IsRightRow, AreRight}
+use Rattle.pg_dominion.specs.Claim.{ClaimRows, named, choice_in, IsRightRow, AreRight}
 use Rattle.pg_board.specs.State.{State, is_unsettled, rest_of, settled, IsGoodOn}
 
-abbrev pub vertices : Rows → List ℕ
+abbrev pub vertices : ClaimRows → List ℕ
 vertices rows = map (λ r. r.0) rows
 
-vertices-cond : (b : Bool) (r : ℕ × Option ℕ) (xs : Rows) (ys : List ℕ) → vertices xs ≡ ys → vertices (cond b (r ∷ xs) xs) ≡ cond b (r.0 ∷ ys) ys
+vertices-cond : (b : Bool) (r : ℕ × Option ℕ) (xs : ClaimRows) (ys : List ℕ) → vertices xs ≡ ys → vertices (cond b (r ∷ xs) xs) ≡ cond b (r.0 ∷ ys) ys
 vertices-cond true r xs ys e = ap (λ zs. r.0 ∷ zs) e
 vertices-cond false r xs ys e = e
 
-open_rows : (st : State) (rows : Rows) → vertices (rest_of st rows) ≡ filter (λ v. is_unsettled (st v)) (vertices rows)
+open_rows : (st : State) (rows : ClaimRows) → vertices (rest_of st rows) ≡ filter (λ v. is_unsettled (st v)) (vertices rows)
 open_rows st [] = refl
 open_rows st (r ∷ rows) = vertices-cond (is_unsettled (st r.0)) r (rest_of st rows) (filter (λ v. is_unsettled (st v)) (vertices rows)) (open_rows st rows)
 
-named-cond : (b : Bool) (r : ℕ × Option ℕ) (xs : Rows) (v : ℕ) → named (cond b (r ∷ xs) xs) v ≡ ((b && (r.0 == v)) || named xs v)
+named-cond : (b : Bool) (r : ℕ × Option ℕ) (xs : ClaimRows) (v : ℕ) → named (cond b (r ∷ xs) xs) v ≡ ((b && (r.0 == v)) || named xs v)
 named-cond true r xs v = refl
 named-cond false r xs v = refl
 
@@ -42,7 +42,7 @@ bool_step false true o n m f e = e
 bool_step false false o n m f e = e
 
 -- the rest names the open vertices of the claim
-pub named_rest : (st : State) (rows : Rows) (v : ℕ) → named (rest_of st rows) v ≡ (named rows v && is_unsettled (st v))
+pub named_rest : (st : State) (rows : ClaimRows) (v : ℕ) → named (rest_of st rows) v ≡ (named rows v && is_unsettled (st v))
 named_rest st [] v = refl
 named_rest st (r ∷ rows) v =
     named-cond (is_unsettled (st r.0)) r (rest_of st rows) v
@@ -53,58 +53,58 @@ pub both_true : (a b : Bool) → (a && b) ≡ true → (a ≡ true) × (b ≡ tr
 both_true true b e = (refl, e)
 both_true false b e = absurd (cc e)
 
-pub in_rest : (st : State) (rows : Rows) (v : ℕ) → In (named (rest_of st rows)) v → In (named rows) v × (is_unsettled (st v) ≡ true)
+pub in_rest : (st : State) (rows : ClaimRows) (v : ℕ) → In (named (rest_of st rows)) v → In (named rows) v × (is_unsettled (st v) ≡ true)
 in_rest st rows v i = both_true (named rows v) (is_unsettled (st v)) (sym (named_rest st rows v) ∙ i)
 
-pub to_rest : (st : State) (rows : Rows) (v : ℕ) → In (named rows) v → is_unsettled (st v) ≡ true → In (named (rest_of st rows)) v
+pub to_rest : (st : State) (rows : ClaimRows) (v : ℕ) → In (named rows) v → is_unsettled (st v) ≡ true → In (named (rest_of st rows)) v
 to_rest st rows v i o = named_rest st rows v ∙ rw (i, o) refl
 
-choice-cond : (t b : Bool) (r : ℕ × Option ℕ) (xs rows : Rows) (v : ℕ) → (r.0 == v) ≡ t → (t ≡ true → b ≡ true) → choice_in xs v ≡ choice_in rows v → choice_in (cond b (r ∷ xs) xs) v ≡ choice_in (r ∷ rows) v
+choice-cond : (t b : Bool) (r : ℕ × Option ℕ) (xs rows : ClaimRows) (v : ℕ) → (r.0 == v) ≡ t → (t ≡ true → b ≡ true) → choice_in xs v ≡ choice_in rows v → choice_in (cond b (r ∷ xs) xs) v ≡ choice_in (r ∷ rows) v
 choice-cond true b r xs rows v e f c = rw (f refl, e) refl
 choice-cond false true r xs rows v e f c = rw e c
 choice-cond false false r xs rows v e f c = rw e c
 
 -- and gives them the claim's choices
-pub choice_rest : (st : State) (rows : Rows) (v : ℕ) → is_unsettled (st v) ≡ true → choice_in (rest_of st rows) v ≡ choice_in rows v
+pub choice_rest : (st : State) (rows : ClaimRows) (v : ℕ) → is_unsettled (st v) ≡ true → choice_in (rest_of st rows) v ≡ choice_in rows v
 choice_rest st [] v o = refl
 choice_rest st (r ∷ rows) v o =
     choice-cond (r.0 == v) (is_unsettled (st r.0)) r (rest_of st rows) rows v refl
     (λ e. ap (λ u. is_unsettled (st u)) (eqb-true r.0 v e) ∙ o) (choice_rest st rows v o)
 
 -- a kept edge of the claim from its rest is one of the rest
-pub kept_of_rest : (g : Graph) (p : Player) (st : State) (rows : Rows) (v w : ℕ) → KeptEdge g p (named (rest_of st rows)) (choice_in rows) v w → KeptEdge g p (named (rest_of st rows)) (choice_in (rest_of st rows)) v w
+pub kept_of_rest : (g : Graph) (p : Player) (st : State) (rows : ClaimRows) (v w : ℕ) → KeptEdge g p (named (rest_of st rows)) (choice_in rows) v w → KeptEdge g p (named (rest_of st rows)) (choice_in (rest_of st rows)) v w
 kept_of_rest g p st rows v w (i, m) =
-    (i, subst (λ c. Contains (if same_player (owner_of g v) p then listed c else successors_of g v) w) (sym (choice_rest st rows v (in_rest st rows v i).1)) m)
+    (i, subst (λ c. Contains (if same_player (owner_of g v) p then option_list c else successors_of g v) w) (sym (choice_rest st rows v (in_rest st rows v i).1)) m)
 
 -- and the other way round
-pub kept_rest : (g : Graph) (p : Player) (st : State) (rows : Rows) (v w : ℕ) → KeptEdge g p (named (rest_of st rows)) (choice_in (rest_of st rows)) v w → KeptEdge g p (named (rest_of st rows)) (choice_in rows) v w
+pub kept_rest : (g : Graph) (p : Player) (st : State) (rows : ClaimRows) (v w : ℕ) → KeptEdge g p (named (rest_of st rows)) (choice_in (rest_of st rows)) v w → KeptEdge g p (named (rest_of st rows)) (choice_in rows) v w
 kept_rest g p st rows v w (i, m) =
-    (i, subst (λ c. Contains (if same_player (owner_of g v) p then listed c else successors_of g v) w) (choice_rest st rows v (in_rest st rows v i).1) m)
+    (i, subst (λ c. Contains (if same_player (owner_of g v) p then option_list c else successors_of g v) w) (choice_rest st rows v (in_rest st rows v i).1) m)
 
-each-cond : (g : Graph) (p : Player) (b : Bool) (r : ℕ × Option ℕ) (xs : Rows) → IsRightRow g p r → AllByRecursion (IsRightRow g p) xs → AllByRecursion (IsRightRow g p) (cond b (r ∷ xs) xs)
+each-cond : (g : Graph) (p : Player) (b : Bool) (r : ℕ × Option ℕ) (xs : ClaimRows) → IsRightRow g p r → AllByRecursion (IsRightRow g p) xs → AllByRecursion (IsRightRow g p) (cond b (r ∷ xs) xs)
 each-cond g p true r xs a h = (a, h)
 each-cond g p false r xs a h = h
 
-each_rest : (g : Graph) (p : Player) (st : State) (rows : Rows) → AllByRecursion (IsRightRow g p) rows → AllByRecursion (IsRightRow g p) (rest_of st rows)
+each_rest : (g : Graph) (p : Player) (st : State) (rows : ClaimRows) → AllByRecursion (IsRightRow g p) rows → AllByRecursion (IsRightRow g p) (rest_of st rows)
 each_rest g p st [] h = tt
 each_rest g p st (r ∷ rows) h = each-cond g p (is_unsettled (st r.0)) r (rest_of st rows) h.0 (each_rest g p st rows h.1)
 
-twice-cond : (st : State) (b : Bool) (r : ℕ × Option ℕ) (xs : Rows) → is_unsettled (st r.0) ≡ b → rest_of st xs ≡ xs → rest_of st (cond b (r ∷ xs) xs) ≡ cond b (r ∷ xs) xs
+twice-cond : (st : State) (b : Bool) (r : ℕ × Option ℕ) (xs : ClaimRows) → is_unsettled (st r.0) ≡ b → rest_of st xs ≡ xs → rest_of st (cond b (r ∷ xs) xs) ≡ cond b (r ∷ xs) xs
 twice-cond st true r xs e h = rw e (ap (λ zs. r ∷ zs) h)
 twice-cond st false r xs e h = h
 
-pub rest_twice : (st : State) (rows : Rows) → rest_of st (rest_of st rows) ≡ rest_of st rows
+pub rest_twice : (st : State) (rows : ClaimRows) → rest_of st (rest_of st rows) ≡ rest_of st rows
 rest_twice st [] = refl
 rest_twice st (r ∷ rows) = twice-cond st (is_unsettled (st r.0)) r (rest_of st rows) refl (rest_twice st rows)
 
-pub rest_right : (g : Graph) (p : Player) (st : State) (rows : Rows) → AreRight g p rows → AreRight g p (rest_of st rows)
+pub rest_right : (g : Graph) (p : Player) (st : State) (rows : ClaimRows) → AreRight g p rows → AreRight g p (rest_of st rows)
 rest_right g p st rows a = record {
   each = each_rest g p st rows a.each;
   rising = subst IsStrictlyIncreasing (sym (open_rows st rows)) (IsStrictlyIncreasing-filter (λ v. is_unsettled (st v)) (vertices rows) a.rising);
 }
 
 -- where a claim may be posted, so may its rest as a claim of its own
-pub rest_is_good : (g : Graph) (st : State) (p : Player) (rows : Rows) → IsGoodOn g st p rows → IsGoodOn g st p (rest_of st rows)
+pub rest_is_good : (g : Graph) (st : State) (p : Player) (rows : ClaimRows) → IsGoodOn g st p rows → IsGoodOn g st p (rest_of st rows)
 rest_is_good g st p rows h = record {
   shape = record {
     nonempty = h.not_stale;

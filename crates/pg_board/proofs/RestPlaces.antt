@@ -6,27 +6,27 @@ use Rattle.std.proofs.lemmas.List.{append-nil, get_or_append_left, get_or_push}
 use Rattle.std.proofs.lemmas.List.Elements.{filter_more}
 use Rattle.pg_game.specs.VertexSet.{In}
 use Rattle.pg_game.proofs.Masks.{true_or_false}
-use Rattle.pg_dominion.specs.Claim.{Rows, named}
+use Rattle.pg_dominion.specs.Claim.{ClaimRows, named}
 use Rattle.pg_dominion.proofs.Rows.{named-push}
 use Rattle.pg_board.specs.State.{State, is_unsettled, rest_of}
-use Rattle.pg_board.specs.OpenEdges.{ArePlaced}
+use Rattle.pg_board.specs.private.OpenEdges.{HavePlaces}
 use Rattle.pg_board.proofs.Places.{row_at, named_at}
 
 -- one more row of the claim: it is in the rest, or it is left out
-pub rest_kept : (st : State) (rows : Rows) (i : ℕ) → i < length rows → is_unsettled (st (row_at rows i).0) ≡ true → rest_of st (take (i + 1) rows) ≡ rest_of st (take i rows) ++ row_at rows i ∷ []
+pub rest_kept : (st : State) (rows : ClaimRows) (i : ℕ) → i < length rows → is_unsettled (st (row_at rows i).0) ≡ true → rest_of st (take (i + 1) rows) ≡ rest_of st (take i rows) ++ row_at rows i ∷ []
 rest_kept st rows i l u = filter_more (λ (r : ℕ × Option ℕ). is_unsettled (st r.0)) rows i (0, None) l ∙ rw u refl
 
-pub rest_left : (st : State) (rows : Rows) (i : ℕ) → i < length rows → is_unsettled (st (row_at rows i).0) ≡ false → rest_of st (take (i + 1) rows) ≡ rest_of st (take i rows)
+pub rest_left : (st : State) (rows : ClaimRows) (i : ℕ) → i < length rows → is_unsettled (st (row_at rows i).0) ≡ false → rest_of st (take (i + 1) rows) ≡ rest_of st (take i rows)
 rest_left st rows i l u = filter_more (λ (r : ℕ × Option ℕ). is_unsettled (st r.0)) rows i (0, None) l ∙ rw u (append-nil (rest_of st (take i rows)))
 
-pub ArePlaced-none : (rest : Rows) (places : List ℕ) → rest ≡ [] → ArePlaced rest places
-ArePlaced-none rest places none v i = absurd (let f : named rest v ≡ false = ap (λ (xs : Rows). named xs v) none in cc (i, f))
+pub ArePlaced-none : (rest : ClaimRows) (places : List ℕ) → rest ≡ [] → HavePlaces rest places
+ArePlaced-none rest places none v i = absurd (let f : named rest v ≡ false = ap (λ (xs : ClaimRows). named xs v) none in cc (i, f))
 
 or_left : (a b : Bool) → (a || b) ≡ true → b ≡ false → a ≡ true
 or_left true b e f = refl
 or_left false b e f = absurd (cc (e, f))
 
-pub ArePlaced-push : (rest : Rows) (places : List ℕ) (r : ℕ × Option ℕ) → r.0 < length places → ArePlaced rest places → ArePlaced (rest ++ r ∷ []) (set places r.0 (length rest))
+pub ArePlaced-push : (rest : ClaimRows) (places : List ℕ) (r : ℕ × Option ℕ) → r.0 < length places → HavePlaces rest places → HavePlaces (rest ++ r ∷ []) (set places r.0 (length rest))
 ArePlaced-push rest places r l a v i = elim (true_or_false (r.0 == v)) [
   | inl e ↦ new (eqb-true r.0 v e)
   | inr e ↦ old e
@@ -48,5 +48,5 @@ ArePlaced-push rest places r l a v i = elim (true_or_false (r.0 == v)) [
         (omega (arith, at, q.0, length-append rest (r ∷ [])), rw at (ap (λ (x : ℕ × Option ℕ). x.0) row ∙ q.1))
 
 -- the rows name the vertex only at the place that is noted there
-pub placed_named : (rows : Rows) (places : List ℕ) (v at : ℕ) → at ≡ get_or places v 0 → at < length rows → (row_at rows at).0 ≡ v → named rows v ≡ true
+pub placed_named : (rows : ClaimRows) (places : List ℕ) (v at : ℕ) → at ≡ get_or places v 0 → at < length rows → (row_at rows at).0 ≡ v → named rows v ≡ true
 placed_named rows places v at e l h = subst (λ (x : ℕ). named rows x ≡ true) h (named_at rows at l)

@@ -12,7 +12,7 @@ use Rattle.pg_game.specs.Graph.{Graph, owner_of}
 use Rattle.pg_game.specs.VertexSet.{VertexSet, In}
 use Rattle.pg_game.specs.Region.{IsRegion, Wins}
 use Rattle.pg_game.proofs.Players.{own_or_other}
-use Rattle.pg_text.specs.Solution.{winner_of, choice_of, won_by, IsExactSolution, Rows as Solved}
+use Rattle.pg_text.specs.Solution.{winner_of, choice_of, won_by, IsExactSolution, SolutionRows as Solved}
 use Rattle.pg_dominion.specs.Claim.{named, choice_in}
 use Rattle.pg_dominion.proofs.Rows.{named_right}
 use Rattle.pg_board.specs.declared.entry.Entry.{Entry}

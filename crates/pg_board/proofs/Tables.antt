@@ -5,11 +5,11 @@ use Rattle.std.proofs.lemmas.Bool.{eqb-true, eq-eqb}
 use Rattle.pg_game.specs.declared.player.Player.{Player}
 use Rattle.pg_game.specs.Graph.{Graph, successors_of}
 use Rattle.pg_game.specs.VertexSet.{members}
-use Rattle.pg_dominion.specs.Claim.{Rows, named, choice_in}
+use Rattle.pg_dominion.specs.Claim.{ClaimRows, named, choice_in}
 use Rattle.pg_dominion.proofs.Rows.{named-push, choice-push_same, choice-push_other}
 use Rattle.pg_board.specs.declared.regions.Regions.{Regions}
 use Rattle.pg_board.specs.State.{State, is_unsettled, unsettled}
-use Rattle.pg_board.specs.Regions.{told, state_with, AreRegions}
+use Rattle.pg_board.specs.private.Regions.{table_state, state_with, AreRegions}
 
 -- a list after a write, at any place
 pub read_set : {X : Type 0} (xs : List X) (v x : ℕ) (y d : X) → v < length xs → get_or (set xs v y) x d ≡ (if v == x then y else get_or xs x d)
@@ -20,7 +20,7 @@ read_set xs v x y d l = go (v == x) refl
     go false e = (let n : x ≢ v = λ h. (let t : (v == x) ≡ true = eq-eqb v x (sym h) in cc (t, e)) in get_or-set_other xs v x y d n)
 
 -- one more row
-pub state_with-push : (st : State) (p : Player) (rows : Rows) (r : ℕ × Option ℕ) → is_unsettled (st r.0) ≡ true → named rows r.0 ≡ false → (v : ℕ) → state_with st p (rows ++ r ∷ []) v ≡ (if r.0 == v then Some (p, r.1) else state_with st p rows v)
+pub state_with-push : (st : State) (p : Player) (rows : ClaimRows) (r : ℕ × Option ℕ) → is_unsettled (st r.0) ≡ true → named rows r.0 ≡ false → (v : ℕ) → state_with st p (rows ++ r ∷ []) v ≡ (if r.0 == v then Some (p, r.1) else state_with st p rows v)
 state_with-push st p rows r u n v = go (r.0 == v) refl
   where
     with_choice : (c : Option ℕ) → choice_in (rows ++ r ∷ []) r.0 ≡ c → state_with st p (rows ++ r ∷ []) r.0 ≡ Some (p, c)
@@ -44,7 +44,7 @@ state_with-none st p v = go (st v)
 
 -- the tables after one vertex is settled
 module _ (g : Graph) (r r' : Regions) (p : Player) (row : ℕ × Option ℕ) (table : r'.table.items ≡ set r.table.items row.0 (Some (p, row.1))) (mask : r'.unsettled ≡ set r.unsettled row.0 false) (passed : r'.passed.items ≡ r.passed.items) (below : row.0 < length g) (a : AreRegions g r) where
-  pub told-settle : (v : ℕ) → told r'.table.items v ≡ (if row.0 == v then Some (p, row.1) else told r.table.items v)
+  pub told-settle : (v : ℕ) → table_state r'.table.items v ≡ (if row.0 == v then Some (p, row.1) else table_state r.table.items v)
   told-settle v = rw table (read_set r.table.items row.0 v (Some (p, row.1)) None (omega (arith, a.size)))
 
   pub members-settle : (v : ℕ) → members r'.unsettled v ≡ (if row.0 == v then false else members r.unsettled v)
@@ -73,14 +73,14 @@ module _ (g : Graph) (r r' : Regions) (p : Player) (row : ℕ × Option ℕ) (ta
       and_false true = refl
       and_false false = refl
 
-      go : (v : ℕ) (b : Bool) → members r.unsettled v ≡ unsettled g (told r.table.items) v → (if b then false else members r.unsettled v) ≡ (nat_lt v (length g) && is_unsettled (if b then Some (p, row.1) else told r.table.items v))
+      go : (v : ℕ) (b : Bool) → members r.unsettled v ≡ unsettled g (table_state r.table.items) v → (if b then false else members r.unsettled v) ≡ (nat_lt v (length g) && is_unsettled (if b then Some (p, row.1) else table_state r.table.items v))
       go v true h = and_false (nat_lt v (length g))
       go v false h = h
 
   -- with the rows so far
-  pub told-push : (st : State) (rows : Rows) → ((v : ℕ) → told r.table.items v ≡ state_with st p rows v) → is_unsettled (st row.0) ≡ true → named rows row.0 ≡ false → (v : ℕ) → told r'.table.items v ≡ state_with st p (rows ++ row ∷ []) v
+  pub told-push : (st : State) (rows : ClaimRows) → ((v : ℕ) → table_state r.table.items v ≡ state_with st p rows v) → is_unsettled (st row.0) ≡ true → named rows row.0 ≡ false → (v : ℕ) → table_state r'.table.items v ≡ state_with st p (rows ++ row ∷ []) v
   told-push st rows h u n v = told-settle v ∙ (go (row.0 == v) (h v) ∙ sym (state_with-push st p rows row u n v))
     where
-      go : (b : Bool) → told r.table.items v ≡ state_with st p rows v → (if b then Some (p, row.1) else told r.table.items v) ≡ (if b then Some (p, row.1) else state_with st p rows v)
+      go : (b : Bool) → table_state r.table.items v ≡ state_with st p rows v → (if b then Some (p, row.1) else table_state r.table.items v) ≡ (if b then Some (p, row.1) else state_with st p rows v)
       go true e = refl
       go false e = e

@@ -11,8 +11,8 @@ use Rattle.pg_game.specs.VertexSet.{VertexSet, In, all_vertices, union}
 use Rattle.pg_game.specs.Kept.{Choices}
 use Rattle.pg_game.specs.Region.{IsRegion}
 use Rattle.pg_game.proofs.Disjoint.{kept_own, kept_other}
-use Rattle.pg_dominion.specs.Claim.{Rows, named}
-use Rattle.pg_dominion.specs.Attraction.{LeadsTo, AttractInTurn}
+use Rattle.pg_dominion.specs.Claim.{ClaimRows, named}
+use Rattle.pg_dominion.specs.Attraction.{IsAttractedRow, AttractInTurn}
 use Rattle.pg_board.proofs.Named.{named-append}
 
 pub own_or_other : (q p : Player) → (q ≡ p) ⊎ (q ≡ opponent p)
@@ -39,7 +39,7 @@ not_own Odd q e f = cc (e, f)
 
 module _ (g : Graph) (p : Player) (S V : VertexSet) (s : Choices) (other : IsRegion g (opponent p) V s) (inside : (v w : ℕ) → In V v → HasEdge g v w → In (all_vertices g) w) where
   -- a row that leads away from the region names none of its vertices
-  leads_away : (T : VertexSet) (r : ℕ × Option ℕ) → LeadsTo g p (all_vertices g) T r → ((v : ℕ) → In T v → V v ≡ false) → (b : Bool) → V r.0 ≡ b → V r.0 ≡ false
+  leads_away : (T : VertexSet) (r : ℕ × Option ℕ) → IsAttractedRow g p (all_vertices g) T r → ((v : ℕ) → In T v → V v ≡ false) → (b : Bool) → V r.0 ≡ b → V r.0 ≡ false
   leads_away T r l away false e = e
   leads_away T r l away true e = absurd (elim (own_or_other (owner_of g r.0) p) [
     | inl o ↦ (let c = l.own o in
@@ -51,10 +51,10 @@ module _ (g : Graph) (p : Player) (S V : VertexSet) (s : Choices) (other : IsReg
         cc (i, away c.0 (f.1 c.0 c.2 (inside r.0 c.0 e c.2))))
   ])
 
-  abbrev At : Rows → VertexSet
+  abbrev At : ClaimRows → VertexSet
   At done = union S (named done)
 
-  more : (done : Rows) (r : ℕ × Option ℕ) → ((v : ℕ) → In (At done) v → V v ≡ false) → V r.0 ≡ false → (v : ℕ) → In (At (done ++ r ∷ [])) v → V v ≡ false
+  more : (done : ClaimRows) (r : ℕ × Option ℕ) → ((v : ℕ) → In (At done) v → V v ≡ false) → V r.0 ≡ false → (v : ℕ) → In (At (done ++ r ∷ [])) v → V v ≡ false
   more done r away new v i = go (S v) (named done v) (r.0 == v) refl refl refl
     where
       go : (a b c : Bool) → S v ≡ a → named done v ≡ b → (r.0 == v) ≡ c → V v ≡ false
@@ -65,7 +65,7 @@ module _ (g : Graph) (p : Player) (S V : VertexSet) (s : Choices) (other : IsReg
           let k : (named done v || ((r.0 == v) || false)) ≡ true = sym (named-append done (r ∷ []) v) ∙ j in
           let l : false ≡ true = rw (y, z) at k in cc l)
 
-  pub avoid : (rows done rest : Rows) → AttractInTurn g p (all_vertices g) S rows → rows ≡ done ++ rest → ((v : ℕ) → In (At done) v → V v ≡ false) → (v : ℕ) → In (At rows) v → V v ≡ false
+  pub avoid : (rows done rest : ClaimRows) → AttractInTurn g p (all_vertices g) S rows → rows ≡ done ++ rest → ((v : ℕ) → In (At done) v → V v ≡ false) → (v : ℕ) → In (At rows) v → V v ≡ false
   avoid rows done [] turns e away v i = away v (subst (λ xs. In (At xs) v) (e ∙ append-nil done) i)
   avoid rows done (r ∷ rest) turns e away v i =
       let new = leads_away (At done) r (turns done rest r e) away (V r.0) refl in

@@ -11,8 +11,8 @@ use Rattle.pg_game.specs.Region.{IsRegion}
 use Rattle.pg_game.proofs.Players.{other_from_not}
 use Rattle.pg_game.proofs.Attract.{target_attracted, own_attracted, forced_attracted}
 use Rattle.pg_game.proofs.Disjoint.{kept_own, kept_other}
-use Rattle.pg_dominion.specs.Claim.{Rows, named}
-use Rattle.pg_dominion.specs.Attraction.{LeadsTo, IsAttraction}
+use Rattle.pg_dominion.specs.Claim.{ClaimRows, named}
+use Rattle.pg_dominion.specs.Attraction.{IsAttractedRow, IsAttraction}
 use Rattle.pg_dominion.proofs.Rows.{LeadsTo-same}
 use Rattle.pg_board.specs.State.{State, settled, choices, is_unsettled, unsettled, IsLawfulState}
 use Rattle.pg_board.proofs.RestIsGood.{both_true}
@@ -89,7 +89,7 @@ module _ (g : Graph) (edges : (v w : ℕ) → v < length g → HasEdge g v w →
     | inr a ↦ (let f = open_unsettled (opponent p) (st w) (open_of w (into w a)) in cc (f, o))
   ]
 
-  pub leads_whole : (S : VertexSet) (r : ℕ × Option ℕ) → LeadsTo g p U S r → LeadsTo g p (all_vertices g) (union Own S) r
+  pub leads_whole : (S : VertexSet) (r : ℕ × Option ℕ) → IsAttractedRow g p U S r → IsAttractedRow g p (all_vertices g) (union Own S) r
   leads_whole S r l = record {
     inside = all_of r.0 l.inside;
     fresh = rw (open_unsettled p (st r.0) (open_of r.0 l.inside)) l.fresh;
@@ -101,7 +101,7 @@ module _ (g : Graph) (edges : (v w : ℕ) → v < length g → HasEdge g v w →
     ));
   }
 
-  module _ (T : VertexSet) (inside : Within T U) (rows : Rows) (a : IsAttraction g p U T rows) where
+  module _ (T : VertexSet) (inside : Within T U) (rows : ClaimRows) (a : IsAttraction g p U T rows) where
     abbrev Taken : VertexSet
     Taken = union T (named rows)
 

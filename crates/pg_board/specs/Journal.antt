@@ -5,7 +5,7 @@ use Rattle.pg_game.specs.declared.player.Player.{Player}
 use Rattle.pg_game.specs.Graph.{Graph}
 use Rattle.pg_game.specs.VertexSet.{In, all_vertices, union}
 use Rattle.pg_game.specs.Attractor.{Attractor}
-use Rattle.pg_dominion.specs.Claim.{Rows, named, choice_in}
+use Rattle.pg_dominion.specs.Claim.{ClaimRows, named, choice_in}
 use Rattle.pg_dominion.specs.Attraction.{AttractInTurn}
 use Rattle.pg_board.specs.declared.entry.Entry.{Entry}
 use Rattle.pg_board.specs.State.{State, settled, rest_of, IsGoodOn, IsLawfulState, IsDominion}
@@ -19,14 +19,14 @@ state_of [] v = None
 state_of (e ∷ es) v = if named e.rows v then Some (e.player, choice_in e.rows v) else state_of es v
 
 -- the rows that the entry took from its claim, and those that it attracted
-abbrev pub claimed_rows : Entry → Rows
+abbrev pub claimed_rows : Entry → ClaimRows
 claimed_rows e = take e.claimed e.rows
 
-abbrev pub attracted_rows : Entry → Rows
+abbrev pub attracted_rows : Entry → ClaimRows
 attracted_rows e = drop e.claimed e.rows
 
 -- the entry is one that posting the claim may give in the state
-pub record Answers (g : Graph) (st : State) (p : Player) (rows : Rows) (e : Entry) : Type 0 where
+pub record Answers (g : Graph) (st : State) (p : Player) (rows : ClaimRows) (e : Entry) : Type 0 where
   pub player : e.player ≡ p
   pub claimed : e.claimed ≤ length e.rows
   pub rest : claimed_rows e ≡ rest_of st rows
@@ -48,5 +48,5 @@ abbrev pub settled_by : Journal → ℕ → ℕ
 settled_by journal worker = number_settled (filter (λ e. e.worker == worker) journal)
 
 -- the claim is a dominion on what the first k entries leave
-abbrev pub IsDominionAfter : Graph → Journal → ℕ → Player → Rows → Type 0
+abbrev pub IsDominionAfter : Graph → Journal → ℕ → Player → ClaimRows → Type 0
 IsDominionAfter g journal k p rows = (k ≤ length journal) × IsDominion g (state_of (take k journal)) p rows

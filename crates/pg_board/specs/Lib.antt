@@ -1,9 +1,6 @@
 pub mod State
 pub mod Journal
 pub mod Order
-pub mod Regions
-pub mod OpenEdges
-pub mod Growth
 pub mod Laws
 pub mod Refusal
 pub mod Play
@@ -11,3 +8,4 @@ pub mod Post
 pub mod Shares
 pub mod Full
 pub mod Office
+pub mod private

@@ -7,8 +7,8 @@ use Rattle.pg_game.specs.Limits.{IsWithinLimits}
 use Rattle.pg_game.specs.VertexSet.{members}
 use Rattle.pg_finders.specs.Part.{Part}
 use Rattle.pg_finders.specs.declared.inside.Copied.{Copied}
-use Rattle.pg_dominion.specs.Claim.{Rows}
-use Rattle.pg_dominion.specs.Checked.{CheckedClaim, claim_rows, Agrees}
+use Rattle.pg_dominion.specs.Claim.{ClaimRows}
+use Rattle.pg_dominion.specs.Checked.{CheckedClaim, claim_rows, AgreesWithGame}
 use Rattle.pg_board.specs.declared.entry.Entry.{Entry}
 use Rattle.pg_board.specs.declared.refusal.Refusal.{Refusal}
 use Rattle.pg_board.specs.Play.{Play}
@@ -22,27 +22,22 @@ pub record IsCopyOf (journal : Journal) (part : Part) (at settled : ℕ) : Type 
   pub at_is : at ≡ length journal
   pub settled_is : settled ≡ number_settled journal
 
--- a copy of the board as it stands
-pub record IsPresentCopy (board : Play) (c : Copied) : Type 0 where
-  pub graph : c.inside.graph ≡ board.graph
-  pub copy : IsCopyOf board.journal c.inside c.at c.settled
-
 -- a copy of some lawful board with at least the amount settled
 abbrev pub IsCopyOfSome : Part → ℕ → ℕ → ℕ → Type 0
 IsCopyOfSome part at settled amount = (journal : Journal) × IsWithinLimits part.graph × IsLawful part.graph journal × IsCopyOf journal part at settled × (amount ≤ settled)
 
 -- what a board may answer to the claim, of a posted entry its rows alone
-abbrev pub IsAnswer : Graph → Journal → Player → Rows → Result ℕ Refusal → Type 0
-IsAnswer g journal p rows (Ok n) = IsGoodOn g (state_of journal) p rows × ((e : Entry) × Answers g (state_of journal) p rows e × (n ≡ length e.rows))
-IsAnswer g journal p rows (Err fault) = Refuses g (state_of journal) p rows fault
+abbrev pub IsPostAnswer : Graph → Journal → Player → ClaimRows → Result ℕ Refusal → Type 0
+IsPostAnswer g journal p rows (Ok n) = IsGoodOn g (state_of journal) p rows × ((e : Entry) × Answers g (state_of journal) p rows e × (n ≡ length e.rows))
+IsPostAnswer g journal p rows (Err fault) = Refuses g (state_of journal) p rows fault
 
 -- an answer of some lawful board with at least the amount settled
-abbrev pub IsAnswerOfSome : ℕ → Player → Rows → Result ℕ Refusal → Type 0
-IsAnswerOfSome amount p rows r = (g : Graph) × (journal : Journal) × IsGame g × IsWithinLimits g × IsLawful g journal × (amount ≤ number_settled journal) × IsAnswer g journal p rows r
+abbrev pub IsAnswerOfSome : ℕ → Player → ClaimRows → Result ℕ Refusal → Type 0
+IsAnswerOfSome amount p rows r = (g : Graph) × (journal : Journal) × IsGame g × IsWithinLimits g × IsLawful g journal × (amount ≤ number_settled journal) × IsPostAnswer g journal p rows r
 
 -- the same for a checked claim
 abbrev pub IsCheckedAnswer : Graph → Journal → CheckedClaim → Result ℕ Refusal → Type 0
-IsCheckedAnswer g journal c (Ok n) = Agrees g c.player c.rows × IsAnswer g journal c.player (claim_rows c.player c.rows) (Ok n)
+IsCheckedAnswer g journal c (Ok n) = AgreesWithGame g c.player c.rows × IsPostAnswer g journal c.player (claim_rows c.player c.rows) (Ok n)
 IsCheckedAnswer g journal c (Err fault) = RefusesChecked g (state_of journal) c fault
 
 abbrev pub IsCheckedAnswerOfSome : ℕ → CheckedClaim → Result ℕ Refusal → Type 0

@@ -4,7 +4,7 @@ use Rattle.pg_game.specs.declared.player.Player.{Player}
 use Rattle.pg_game.specs.Player.{opponent}
 use Rattle.pg_game.specs.VertexSet.{In, all_vertices, union}
 use Rattle.pg_game.specs.Attractor.{Attractor}
-use Rattle.pg_dominion.specs.Claim.{Rows, named}
+use Rattle.pg_dominion.specs.Claim.{ClaimRows, named}
 use Rattle.pg_board.specs.declared.refusal.Refusal.{Refusal}
 use Rattle.pg_board.specs.declared.refusal.Refusal.TheVariants as refusal
 use Rattle.pg_board.specs.State.{State, settled, rest_of}
@@ -25,7 +25,7 @@ pub record Adds (old new : Play) (worker : ℕ) (claim : Claim) (posted : Posted
   pub settled : posted.settled ≡ length entry.rows
 
 -- posting a claim that was a dominion settles its rest, or answers that it is stale
-abbrev pub AnswersDominion : State → Rows → Result Posted Refusal → Type 0
+abbrev pub AnswersDominion : State → ClaimRows → Result Posted Refusal → Type 0
 AnswersDominion st rows (Ok posted) = posted.claimed ≡ length (rest_of st rows)
 AnswersDominion st rows (Err refusal.Stale) = rest_of st rows ≡ []
 AnswersDominion st rows (Err refusal.Memory) = Unit {0}
@@ -35,11 +35,11 @@ AnswersDominion st rows (Err (refusal.Lost v)) = ⊥
 AnswersDominion st rows (Err (refusal.Open v w)) = ⊥
 
 -- the player then has what his old vertices and the claim's attract, and the opponent what he had
-pub record SettlesDominion (old new : Play) (p : Player) (rows : Rows) : Type 0 where
+pub record SettlesDominion (old new : Play) (p : Player) (rows : ClaimRows) : Type 0 where
   pub own : (v : ℕ) → In (settled (state_of new.journal) p) v ↔ Attractor old.graph p (all_vertices old.graph) (union (settled (state_of old.journal) p) (named rows)) v
   pub other : (v : ℕ) → settled (state_of new.journal) (opponent p) v ≡ settled (state_of old.journal) (opponent p) v
 
-abbrev pub SettlesUnlessMemory : Play → Play → Player → Rows → Result Posted Refusal → Type 0
+abbrev pub SettlesUnlessMemory : Play → Play → Player → ClaimRows → Result Posted Refusal → Type 0
 SettlesUnlessMemory old new p rows (Ok posted) = SettlesDominion old new p rows
 SettlesUnlessMemory old new p rows (Err refusal.Memory) = Unit {0}
 SettlesUnlessMemory old new p rows (Err other) = SettlesDominion old new p rows

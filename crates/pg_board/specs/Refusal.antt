@@ -6,9 +6,9 @@ use Rattle.pg_game.specs.Graph.{Graph}
 use Rattle.pg_game.specs.Least.{IsLeast, NoneHas}
 use Rattle.pg_game.specs.VertexSet.{In, union}
 use Rattle.pg_game.specs.Kept.{KeptEdge}
-use Rattle.pg_dominion.specs.Claim.{Rows, named, choice_in, IsSound}
+use Rattle.pg_dominion.specs.Claim.{ClaimRows, named, choice_in, IsSound}
 use Rattle.pg_dominion.specs.Fault.{IsClaimFault}
-use Rattle.pg_dominion.specs.Checked.{CheckedClaim, claim_rows, Agrees, IsForeign}
+use Rattle.pg_dominion.specs.Checked.{CheckedClaim, claim_rows, AgreesWithGame, IsForeign}
 use Rattle.pg_dominion.specs.declared.claim.ClaimFault.{ClaimFault}
 use Rattle.pg_dominion.specs.declared.claim.ClaimFault.TheVariants as claim_fault
 use Rattle.pg_board.specs.declared.refusal.Refusal.{Refusal}
@@ -16,19 +16,19 @@ use Rattle.pg_board.specs.declared.refusal.Refusal.TheVariants as refusal
 use Rattle.pg_board.specs.State.{State, settled, rest_of}
 
 -- the claim names the vertex, and it is settled for the opponent
-abbrev pub IsLost : State → Player → Rows → ℕ → Type 0
+abbrev pub IsLost : State → Player → ClaimRows → ℕ → Type 0
 IsLost st p rows v = In (named rows) v × In (settled st (opponent p)) v
 
 -- a kept edge of the rest that ends neither in the rest nor at the player's vertices
-abbrev pub IsOpenEdge : Graph → State → Player → Rows → ℕ → ℕ → Type 0
+abbrev pub IsOpenEdge : Graph → State → Player → ClaimRows → ℕ → ℕ → Type 0
 IsOpenEdge g st p rows v w = KeptEdge g p (named (rest_of st rows)) (choice_in rows) v w × (In (union (named (rest_of st rows)) (settled st p)) w → ⊥)
 
-pub record IsFirstOpenEdge (g : Graph) (st : State) (p : Player) (rows : Rows) (v w : ℕ) : Type 0 where
+pub record IsFirstOpenEdge (g : Graph) (st : State) (p : Player) (rows : ClaimRows) (v w : ℕ) : Type 0 where
   pub edge : IsOpenEdge g st p rows v w
   pub first : (u x : ℕ) → IsOpenEdge g st p rows u x → v ≤ u
   pub least : (x : ℕ) → IsOpenEdge g st p rows v x → w ≤ x
 
-abbrev pub Refuses : Graph → State → Player → Rows → Refusal → Type 0
+abbrev pub Refuses : Graph → State → Player → ClaimRows → Refusal → Type 0
 Refuses g st p rows (refusal.Claim fault) = IsClaimFault g p rows fault × (fault ≢ claim_fault.Memory)
 Refuses g st p rows (refusal.Foreign v) = ⊥
 Refuses g st p rows (refusal.Lost v) = IsSound g p rows × IsLeast (IsLost st p rows) v
@@ -54,4 +54,4 @@ IsOfState refusal.Memory = Unit {0}
 abbrev pub RefusesChecked : Graph → State → CheckedClaim → Refusal → Type 0
 RefusesChecked g st c (refusal.Foreign v) = IsForeign g c.player c.rows v
 RefusesChecked g st c refusal.Memory = Unit {0}
-RefusesChecked g st c e = IsOfState e × Agrees g c.player c.rows × Refuses g st c.player (claim_rows c.player c.rows) e
+RefusesChecked g st c e = IsOfState e × AgreesWithGame g c.player c.rows × Refuses g st c.player (claim_rows c.player c.rows) e

@@ -8,7 +8,7 @@ use Rattle.pg_game.specs.Kept.{Choices, KeptEdge}
 use Rattle.pg_game.specs.Subgame.{IsSubgame}
 use Rattle.pg_game.specs.Attractor.{Attractor}
 use Rattle.pg_game.specs.Region.{IsRegion, OnlyGoodWalks}
-use Rattle.pg_dominion.specs.Claim.{Rows, named, choice_in, HasShape}
+use Rattle.pg_dominion.specs.Claim.{ClaimRows, named, choice_in, HasShape}
 
 -- the player and the choice of each settled vertex
 abbrev pub State : Type 0
@@ -48,11 +48,11 @@ pub record IsLawfulState (g : Graph) (st : State) : Type 0 where
   pub open_part : IsSubgame g (unsettled g st)
 
 -- the rows of the claim whose vertices are not settled
-abbrev pub rest_of : State → Rows → Rows
+abbrev pub rest_of : State → ClaimRows → ClaimRows
 rest_of st rows = filter (λ r. is_unsettled (st r.0)) rows
 
 -- a claim that may be posted
-pub record IsGoodOn (g : Graph) (st : State) (p : Player) (rows : Rows) : Type 0 where
+pub record IsGoodOn (g : Graph) (st : State) (p : Player) (rows : ClaimRows) : Type 0 where
   pub shape : HasShape g p rows
   pub good : OnlyGoodWalks g p (named rows) (choice_in rows)
   pub not_lost : (v : ℕ) → In (named rows) v → settled st (opponent p) v ≡ false
@@ -60,7 +60,7 @@ pub record IsGoodOn (g : Graph) (st : State) (p : Player) (rows : Rows) : Type 0
   pub closed : (v w : ℕ) → KeptEdge g p (named (rest_of st rows)) (choice_in rows) v w → In (union (named (rest_of st rows)) (settled st p)) w
 
 -- a claim of a set that is the player's whatever else was settled meanwhile (Jurdzinski, Paterson, Zwick 2008, relative to what is settled)
-pub record IsDominion (g : Graph) (st : State) (p : Player) (rows : Rows) : Type 0 where
+pub record IsDominion (g : Graph) (st : State) (p : Player) (rows : ClaimRows) : Type 0 where
   pub shape : HasShape g p rows
   pub vertices : Within (named rows) (unsettled g st)
   pub good : OnlyGoodWalks g p (named rows) (choice_in rows)

@@ -6,8 +6,8 @@ ghost use Rattle.pg_game.specs.declared.player.Player.{Player};
 ghost use Rattle.pg_game.specs.Graph.{IsGame};
 ghost use Rattle.pg_game.specs.Limits.{IsWithinLimits};
 ghost use Rattle.pg_game.specs.VertexSet.{members};
-ghost use Rattle.pg_dominion.specs.Claim.{Rows, IsGoodIn, IsSound};
-ghost use Rattle.pg_dominion.specs.Checked.{claim_rows, claim_of, Agrees};
+ghost use Rattle.pg_dominion.specs.Claim.{ClaimRows, IsGoodIn, IsSound};
+ghost use Rattle.pg_dominion.specs.Checked.{claim_rows, claim_of, AgreesWithGame};
 ghost use Rattle.pg_board.specs.State.{unsettled, rest_of, IsGoodOn, choices, winner_in};
 ghost use Rattle.pg_board.specs.Journal.{state_of, Answers, IsLawful, IsDominionAfter, number_settled, settled_by};
 ghost use Rattle.pg_board.specs.Full.{IsFull, AreStateRows};
@@ -52,7 +52,7 @@ pub struct Board<'g> {
 
 impl<'g> Model for Board<'g> {
     ghost use Rattle.pg_board.specs.Play.{Play};
-    ghost use Rattle.pg_board.specs.Regions.{IsBoard};
+    ghost use Rattle.pg_board.specs.private.Regions.{IsBoard};
 
     ghost Value = { Play };
 
@@ -86,7 +86,7 @@ impl<'g> Board<'g> {
         ensures mask { IfOk result (λ c. (v : ℕ) → members c.inside.mask v ≡ unsettled self.now.graph (state_of self.now.journal) v) }
         ensures at { IfOk result (λ c. c.at ≡ length self.now.journal) }
         ensures settled { IfOk result (λ c. c.settled ≡ number_settled self.now.journal) }
-        ensures dominions { IfOk result (λ c. (p : Player) (rows : Rows) → IsGoodIn self.now.graph (members c.inside.mask) p rows → IsDominionAfter self.now.graph self.now.journal c.at p rows) }
+        ensures dominions { IfOk result (λ c. (p : Player) (rows : ClaimRows) → IsGoodIn self.now.graph (members c.inside.mask) p rows → IsDominionAfter self.now.graph self.now.journal c.at p rows) }
     {
         let _n = self.game.len();
         let mask = self.regions.unsettled.copy(alloc)?;
@@ -123,11 +123,11 @@ impl<'g> Board<'g> {
     ) -> Result<Posted, Refusal>
         ensures lawful { IsLawful self.new.graph self.new.journal }
         ensures game { self.new.graph ≡ self.old.graph }
-        ensures agrees { IfOk result (λ posted. Agrees self.old.graph checked.now.player checked.now.rows) }
+        ensures agrees { IfOk result (λ posted. AgreesWithGame self.old.graph checked.now.player checked.now.rows) }
         ensures posted { IfOk result (λ posted. IsGoodOn self.old.graph (state_of self.old.journal) checked.now.player (claim_rows checked.now.player checked.now.rows) × Adds self.old self.new worker (claim_of checked.now) posted) }
         ensures refused { IfErr result (λ e. RefusesChecked self.old.graph (state_of self.old.journal) checked.now e) }
         ensures unchanged { OnErr result (self.new ≡ self.old) }
-        ensures old_copies { (k : ℕ) → Agrees self.old.graph checked.now.player checked.now.rows → IsDominionAfter self.old.graph self.old.journal k checked.now.player (claim_rows checked.now.player checked.now.rows) → AnswersDominion (state_of self.old.journal) (claim_rows checked.now.player checked.now.rows) result × SettlesUnlessMemory self.old self.new checked.now.player (claim_rows checked.now.player checked.now.rows) result }
+        ensures old_copies { (k : ℕ) → AgreesWithGame self.old.graph checked.now.player checked.now.rows → IsDominionAfter self.old.graph self.old.journal k checked.now.player (claim_rows checked.now.player checked.now.rows) → AnswersDominion (state_of self.old.journal) (claim_rows checked.now.player checked.now.rows) result × SettlesUnlessMemory self.old self.new checked.now.player (claim_rows checked.now.player checked.now.rows) result }
     {
         let _n = self.game.len();
         if let Some(v) = checked.first_foreign(self.game) {

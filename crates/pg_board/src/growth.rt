@@ -7,9 +7,9 @@ ghost use Rattle.pg_game.specs.Graph.{HasEdge};
 ghost use Rattle.pg_game.specs.Subgame.{IsSubgame};
 ghost use Rattle.pg_game.specs.VertexSet.{members, In, Within};
 ghost use Rattle.pg_dominion.specs.Claim.{named};
-ghost use Rattle.pg_dominion.specs.Attracting.{IsSettled, IsDone};
-ghost use Rattle.pg_board.specs.Regions.{told, state_with, ArePassed, AreRegions};
-ghost use Rattle.pg_board.specs.Growth.{open_before, IsGrowing, Grows};
+ghost use Rattle.pg_dominion.specs.private.Attracting.{IsTakenOrOpen, AttractsNoFurther};
+ghost use Rattle.pg_board.specs.private.Regions.{table_state, state_with, ArePassed, AreRegions};
+ghost use Rattle.pg_board.specs.private.Growth.{open_before, IsGrowing, Grows};
 
 use crate::regions::Regions;
 use pg_game::{Game, Mask, Player};
@@ -84,7 +84,7 @@ impl Regions {
         requires taken { In (named rows.old.items) to }
         ensures growing { IsGrowing game.now self.new rows.new.items (vec_capacity rows.new) }
         ensures grows { Grows game.now player self.old rows.old.items self.new rows.new.items }
-        ensures settled { In (open_before self.old rows.old.items) from → IsSettled game.now player (open_before self.old rows.old.items) (named rows.old.items) (named rows.new.items) from }
+        ensures settled { In (open_before self.old rows.old.items) from → IsTakenOrOpen game.now player (open_before self.old rows.old.items) (named rows.old.items) (named rows.new.items) from }
     {
         if !self.unsettled.has(from) {
             return;
@@ -106,7 +106,7 @@ impl Regions {
         requires taken { In (named rows.old.items) to }
         ensures growing { IsGrowing game.now self.new rows.new.items (vec_capacity rows.new) }
         ensures grows { Grows game.now player self.old rows.old.items self.new rows.new.items }
-        ensures settled { (u : ℕ) → In (open_before self.old rows.old.items) u → HasEdge game.now u to → IsSettled game.now player (open_before self.old rows.old.items) (named rows.old.items) (named rows.new.items) u }
+        ensures settled { (u : ℕ) → In (open_before self.old rows.old.items) u → HasEdge game.now u to → IsTakenOrOpen game.now player (open_before self.old rows.old.items) (named rows.old.items) (named rows.new.items) u }
     {
         for from in game.predecessors(to) {
             self.consider(game, player, *from, to, rows);
@@ -119,7 +119,7 @@ impl Regions {
         requires subgame { IsSubgame game.now (open_before self.old rows.old.items) }
         ensures growing { IsGrowing game.now self.new rows.new.items (vec_capacity rows.new) }
         ensures grows { Grows game.now player self.old rows.old.items self.new rows.new.items }
-        ensures done { IsDone game.now player (open_before self.old rows.old.items) (named rows.new.items) (named rows.new.items) }
+        ensures done { AttractsNoFurther game.now player (open_before self.old rows.old.items) (named rows.new.items) (named rows.new.items) }
     {
         'rows: for next in 0..usize::MAX {
             if next >= rows.len() {
@@ -137,7 +137,7 @@ impl Regions {
         requires distinct { IsDistinct nat_eq (map (λ r. r.0) rows.now) }
         ensures growing { IsGrowing game.now self.new rows.now (length game.now) }
         ensures same { (v : ℕ) → open_before self.new rows.now v ≡ members self.old.unsettled v }
-        ensures told { (v : ℕ) → told self.new.table.items v ≡ state_with (told self.old.table.items) player rows.now v }
+        ensures told { (v : ℕ) → table_state self.new.table.items v ≡ state_with (table_state self.old.table.items) player rows.now v }
     {
         let _n = game.len();
         'rows: for row in rows {

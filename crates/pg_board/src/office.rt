@@ -16,7 +16,8 @@ ghost use Rattle.pg_board.specs.Journal.{IsLawful, number_settled};
 ghost use Rattle.pg_board.specs.Shares.{AreExact};
 ghost use Rattle.pg_board.specs.declared.entry.Posted.{Posted};
 ghost use Rattle.pg_board.specs.Post.{Adds};
-ghost use Rattle.pg_board.specs.Office.{IsCopyOfSome, IsPresentCopy, IsAnswer, IsAnswerOfSome, IsCheckedAnswer, IsCheckedAnswerOfSome};
+ghost use Rattle.pg_board.specs.Office.{IsCopyOfSome, IsPostAnswer, IsAnswerOfSome, IsCheckedAnswer, IsCheckedAnswerOfSome};
+ghost use Rattle.pg_board.specs.private.Office.{IsPresentCopy};
 ghost use Rattle.pg_dominion.specs.Checked.{claim_of};
 
 use crate::board::Board;
@@ -78,7 +79,7 @@ impl<'g, L: Ledger> Desk<'g, L> {
         ensures lawful { IsLawful self.old.board.graph self.old.board.journal }
         ensures behind { share.old ≤ number_settled self.old.board.journal }
         ensures posted { IfOk result (λ n. (posted : Posted) × Adds self.old.board self.new.board worker claim.now posted × (n ≡ posted.settled)) }
-        ensures answer { IsAnswer self.old.board.graph self.old.board.journal claim.now.player claim.now.rows result }
+        ensures answer { IsPostAnswer self.old.board.graph self.old.board.journal claim.now.player claim.now.rows result }
         ensures added { IfOk result (λ n. (1 ≤ n) × (share.new ≡ share.old + n)) }
         ensures within { IfOk result (λ n. share.new ≤ max_vertices) }
         ensures unchanged { OnErr result (share.new ≡ share.old) }

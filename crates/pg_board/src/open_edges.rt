@@ -5,8 +5,8 @@ ghost use Rattle.pg_game.specs.Graph.{IsGame};
 ghost use Rattle.pg_game.specs.VertexSet.{union};
 ghost use Rattle.pg_dominion.specs.Claim.{named, IsRightRow, AreRight};
 ghost use Rattle.pg_board.specs.State.{settled};
-ghost use Rattle.pg_board.specs.Regions.{told};
-ghost use Rattle.pg_board.specs.OpenEdges.{ArePlaced, EndsOutside, IsFirstEnd, LeadsOutside, IsFirstOutside};
+ghost use Rattle.pg_board.specs.private.Regions.{table_state};
+ghost use Rattle.pg_board.specs.private.OpenEdges.{HavePlaces, EndsOutside, IsFirstEnd, LeadsOutside, IsFirstOutside};
 
 use crate::regions::Regions;
 use pg_game::{Game, Player};
@@ -25,7 +25,7 @@ impl<'a> Bounds<'a> {
     /// Whether the rest names the vertex. It does only at the place that is noted there.
     fn is_in_rest(&self, w: u32) -> bool
         requires size { w < length self.now.places.now }
-        requires placed { ArePlaced self.now.rest.now self.now.places.now }
+        requires placed { HavePlaces self.now.rest.now self.now.places.now }
         ensures { result ≡ named self.now.rest.now w }
     {
         let at = self.places[w as usize] as usize;
@@ -34,8 +34,8 @@ impl<'a> Bounds<'a> {
 
     fn has(&self, w: u32) -> bool
         requires size { w < length self.now.places.now }
-        requires placed { ArePlaced self.now.rest.now self.now.places.now }
-        ensures { result ≡ union (named self.now.rest.now) (settled (told self.now.regions.now.table.items) self.now.player) w }
+        requires placed { HavePlaces self.now.rest.now self.now.places.now }
+        ensures { result ≡ union (named self.now.rest.now) (settled (table_state self.now.regions.now.table.items) self.now.player) w }
     {
         self.is_in_rest(w) || self.regions.is_settled_for(self.player, w)
     }
@@ -43,9 +43,9 @@ impl<'a> Bounds<'a> {
     /// The first kept edge of the row that ends outside, by its end.
     fn first_end(&self, row: (u32, Option<u32>)) -> Option<u32>
         requires size { length self.now.places.now ≡ length self.now.game.now }
-        requires placed { ArePlaced self.now.rest.now self.now.places.now }
+        requires placed { HavePlaces self.now.rest.now self.now.places.now }
         requires right { IsRightRow self.now.game.now self.now.player row }
-        ensures { MatchOption result ((w : ℕ) → EndsOutside self.now.game.now self.now.player (union (named self.now.rest.now) (settled (told self.now.regions.now.table.items) self.now.player)) row w → ⊥) (IsFirstEnd self.now.game.now self.now.player (union (named self.now.rest.now) (settled (told self.now.regions.now.table.items) self.now.player)) row) }
+        ensures { MatchOption result ((w : ℕ) → EndsOutside self.now.game.now self.now.player (union (named self.now.rest.now) (settled (table_state self.now.regions.now.table.items) self.now.player)) row w → ⊥) (IsFirstEnd self.now.game.now self.now.player (union (named self.now.rest.now) (settled (table_state self.now.regions.now.table.items) self.now.player)) row) }
     {
         let _n = self.game.len();
         if let Some(w) = row.1 {
@@ -62,9 +62,9 @@ impl<'a> Bounds<'a> {
     /// The first kept edge of the rows that ends outside.
     pub fn first_edge(&self, rows: &[(u32, Option<u32>)]) -> Option<(u32, u32)>
         requires size { length self.now.places.now ≡ length self.now.game.now }
-        requires placed { ArePlaced self.now.rest.now self.now.places.now }
+        requires placed { HavePlaces self.now.rest.now self.now.places.now }
         requires right { AreRight self.now.game.now self.now.player rows.now }
-        ensures { MatchOption result ((v w : ℕ) → LeadsOutside self.now.game.now self.now.player (union (named self.now.rest.now) (settled (told self.now.regions.now.table.items) self.now.player)) rows.now v w → ⊥) (λ e. IsFirstOutside self.now.game.now self.now.player (union (named self.now.rest.now) (settled (told self.now.regions.now.table.items) self.now.player)) rows.now e.0 e.1) }
+        ensures { MatchOption result ((v w : ℕ) → LeadsOutside self.now.game.now self.now.player (union (named self.now.rest.now) (settled (table_state self.now.regions.now.table.items) self.now.player)) rows.now v w → ⊥) (λ e. IsFirstOutside self.now.game.now self.now.player (union (named self.now.rest.now) (settled (table_state self.now.regions.now.table.items) self.now.player)) rows.now e.0 e.1) }
     {
         'rows: for row in rows {
             if let Some(w) = self.first_end(*row) {

@@ -6,7 +6,7 @@ ghost use Rattle.std.specs.List.{IsDistinct};
 ghost use Rattle.pg_game.specs.VertexSet.{Within};
 ghost use Rattle.pg_dominion.specs.Claim.{named};
 ghost use Rattle.pg_board.specs.State.{settled, is_unsettled, unsettled};
-ghost use Rattle.pg_board.specs.Regions.{told, state_with, AreRegions};
+ghost use Rattle.pg_board.specs.private.Regions.{table_state, state_with, AreRegions};
 
 use pg_game::{Game, Mask, Memory, Player};
 use std::alloc::Global;
@@ -24,7 +24,7 @@ impl Regions {
     /// Nothing is settled.
     pub fn open(alloc: Global, game: &Game) -> Result<Regions, Memory>
         ensures regions { IfOk result (λ r. AreRegions game.now r) }
-        ensures nothing { IfOk result (λ r. (v : ℕ) → told r.table.items v ≡ None) }
+        ensures nothing { IfOk result (λ r. (v : ℕ) → table_state r.table.items v ≡ None) }
     {
         let n = game.len();
         Ok(Regions {
@@ -36,7 +36,7 @@ impl Regions {
 
     /// Whose the vertex is, and by which choice; none where it is unsettled or no vertex.
     pub fn at(&self, v: u32) -> Option<(Player, Option<u32>)>
-        ensures { result ≡ told self.now.table.items v }
+        ensures { result ≡ table_state self.now.table.items v }
     {
         let at = v as usize;
         if at < self.table.len() {
@@ -47,7 +47,7 @@ impl Regions {
     }
 
     pub fn is_settled_for(&self, player: Player, v: u32) -> bool
-        ensures { result ≡ settled (told self.now.table.items) player v }
+        ensures { result ≡ settled (table_state self.now.table.items) player v }
     {
         match self.at(v) {
             Some((winner, _)) => winner == player,
@@ -69,9 +69,9 @@ impl Regions {
 
     /// The state of all vertices, one after another.
     pub fn rows(&self, alloc: Global) -> Result<Vec<(Player, Option<u32>)>, Memory>
-        requires { (v : ℕ) → v < length self.now.table.items → is_unsettled (told self.now.table.items v) ≡ false }
+        requires { (v : ℕ) → v < length self.now.table.items → is_unsettled (table_state self.now.table.items v) ≡ false }
         ensures size { IfOk result (λ rows. length rows.items ≡ length self.now.table.items) }
-        ensures each { IfOk result (λ rows. (v : ℕ) → v < length self.now.table.items → slice_get rows.items v ≡ told self.now.table.items v) }
+        ensures each { IfOk result (λ rows. (v : ℕ) → v < length self.now.table.items → slice_get rows.items v ≡ table_state self.now.table.items v) }
     {
         let mut rows = Vec::with_capacity(alloc, self.table.len())?;
         'table: for settled in self.table.as_slice() {

@@ -5,15 +5,15 @@ ghost use Rattle.std.specs.List.Sorted.{IsStrictlyIncreasing};
 ghost use Rattle.pg_game.specs.Least.{NoneHas, IsLeast};
 ghost use Rattle.pg_board.specs.State.{rest_of, is_unsettled};
 ghost use Rattle.pg_board.specs.Refusal.{IsLost};
-ghost use Rattle.pg_board.specs.Regions.{told};
-ghost use Rattle.pg_board.specs.OpenEdges.{ArePlaced};
+ghost use Rattle.pg_board.specs.private.Regions.{table_state};
+ghost use Rattle.pg_board.specs.private.OpenEdges.{HavePlaces};
 
 use crate::regions::Regions;
 use pg_dominion::Claim;
 
 impl Regions {
     pub fn is_unsettled(&self, v: u32) -> bool
-        ensures { result ≡ is_unsettled (told self.now.table.items v) }
+        ensures { result ≡ is_unsettled (table_state self.now.table.items v) }
     {
         match self.at(v) {
             Some(_) => false,
@@ -24,7 +24,7 @@ impl Regions {
     /// The least vertex of the claim that is settled for the opponent.
     pub fn first_lost(&self, claim: &Claim) -> Option<u32>
         requires { IsStrictlyIncreasing (map (λ r. r.0) claim.now.rows) }
-        ensures { MatchOption result (NoneHas (IsLost (told self.now.table.items) claim.now.player claim.now.rows)) (IsLeast (IsLost (told self.now.table.items) claim.now.player claim.now.rows)) }
+        ensures { MatchOption result (NoneHas (IsLost (table_state self.now.table.items) claim.now.player claim.now.rows)) (IsLeast (IsLost (table_state self.now.table.items) claim.now.player claim.now.rows)) }
     {
         let opponent = claim.player.other();
         'rows: for row in claim.rows.as_slice() {
@@ -42,10 +42,10 @@ impl Regions {
         requires short { length claim.now.rows < 2 ^ 32 }
         requires none { rest.old.items ≡ [] }
         requires room { length claim.now.rows ≤ vec_capacity rest.old }
-        ensures rows { rest.new.items ≡ rest_of (told self.now.table.items) claim.now.rows }
+        ensures rows { rest.new.items ≡ rest_of (table_state self.now.table.items) claim.now.rows }
         ensures room { vec_capacity rest.new ≡ vec_capacity rest.old }
         ensures size { length places.new.items ≡ length places.old.items }
-        ensures placed { ArePlaced rest.new.items places.new.items }
+        ensures placed { HavePlaces rest.new.items places.new.items }
     {
         'rows: for row in claim.rows.as_slice() {
             if !self.is_unsettled(row.0) {

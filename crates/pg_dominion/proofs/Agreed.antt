@@ -14,7 +14,7 @@ use Rattle.pg_game.proofs.Players.{same_is, is_same}
 use Rattle.pg_game.proofs.Walks.{ClosedWalk-weaker}
 use Rattle.pg_dominion.specs.declared.checked.CheckedRow.{CheckedRow}
 use Rattle.pg_dominion.specs.Claim.{named, choice_in, IsRightRow, IsSound}
-use Rattle.pg_dominion.specs.Checked.{head_option, claim_row, claim_rows, AgreesAt, Agrees, RowEdge, row_priority, AreChecked}
+use Rattle.pg_dominion.specs.Checked.{head_option, claim_row, claim_rows, AgreesAt, AgreesWithGame, RowEdge, row_priority, AreChecked}
 
 other_is : (q p : Player) → same_player q p ≡ false → q ≢ p
 other_is q p e h = cc (is_same q p h, e)
@@ -30,7 +30,7 @@ module _ (g : Graph) (p : Player) where
       let f = rec j in
       (f.0, (suc f.1.0, (let l = f.1.1 in omega (arith, l)), f.1.2), f.2, f.3, rw e f.4, rw e f.5)
 
-  found : (rows : List CheckedRow) → Agrees g p rows → (v : ℕ) → In (named (claim_rows p rows)) v → Found rows v
+  found : (rows : List CheckedRow) → AgreesWithGame g p rows → (v : ℕ) → In (named (claim_rows p rows)) v → Found rows v
   found [] a v i = absurd (cc i)
   found (r ∷ rows) a v i = found_cons r rows v a.0 (found rows a.1 v) (r.vertex == v) refl i
 
@@ -44,7 +44,7 @@ module _ (g : Graph) (p : Player) where
       let k : same_player (owner_of g r.vertex) p ≡ false = rw (← a.owner) c in
       rw k (sym (a.other (other_is r.owner p c)))
 
-  edge : (rows : List CheckedRow) → Agrees g p rows → (v w : ℕ) → KeptEdge g p (named (claim_rows p rows)) (choice_in (claim_rows p rows)) v w → RowEdge rows v w
+  edge : (rows : List CheckedRow) → AgreesWithGame g p rows → (v w : ℕ) → KeptEdge g p (named (claim_rows p rows)) (choice_in (claim_rows p rows)) v w → RowEdge rows v w
   edge rows a v w (i, k) =
       let f = found rows a v i in
       let c : choice_in (claim_rows p rows) f.0.vertex ≡ (claim_row p f.0).1 = subst (λ x. choice_in (claim_rows p rows) x ≡ (claim_row p f.0).1) (sym f.2) f.4 in
@@ -52,10 +52,10 @@ module _ (g : Graph) (p : Player) where
       let m : Contains (kept g p (choice_in (claim_rows p rows)) f.0.vertex) w = subst (λ x. Contains (kept g p (choice_in (claim_rows p rows)) x) w) (sym f.2) k in
       (f.0, f.1, f.2, subst (λ l. Contains l w) q m)
 
-  priority : (rows : List CheckedRow) → Agrees g p rows → (v : ℕ) → In (named (claim_rows p rows)) v → row_priority rows v ≡ priority_of g v
+  priority : (rows : List CheckedRow) → AgreesWithGame g p rows → (v : ℕ) → In (named (claim_rows p rows)) v → row_priority rows v ≡ priority_of g v
   priority rows a v i = let f = found rows a v i in f.5 ∙ (f.3.priority ∙ ap (priority_of g) f.2)
 
-  pub walk_priority : (rows : List CheckedRow) → Agrees g p rows → (v : ℕ) (vs : List ℕ) (last : ℕ) → Walk (KeptEdge g p (named (claim_rows p rows)) (choice_in (claim_rows p rows))) v vs last → greatest (row_priority rows) (v ∷ vs) ≡ greatest_priority g (v ∷ vs)
+  pub walk_priority : (rows : List CheckedRow) → AgreesWithGame g p rows → (v : ℕ) (vs : List ℕ) (last : ℕ) → Walk (KeptEdge g p (named (claim_rows p rows)) (choice_in (claim_rows p rows))) v vs last → greatest (row_priority rows) (v ∷ vs) ≡ greatest_priority g (v ∷ vs)
   walk_priority rows a v [] last e = ap (λ n. max n 0) (priority rows a v e.0)
   walk_priority rows a v (w ∷ ws) last (e, r) =
       let h = priority rows a v e.0 in
@@ -84,17 +84,17 @@ module _ (g : Graph) (p : Player) where
     other = λ _. rw c refl;
   }
 
-  rights : (rows : List CheckedRow) → Agrees g p rows → AllByRecursion (IsRightRow g p) (claim_rows p rows)
+  rights : (rows : List CheckedRow) → AgreesWithGame g p rows → AllByRecursion (IsRightRow g p) (claim_rows p rows)
   rights [] a = tt
   rights (r ∷ rows) a = (right_cases r a.0 (same_player r.owner p) refl, rights rows a.1)
 
-  good_walk : (rows : List CheckedRow) → AreChecked p rows → Agrees g p rows → (walk : List ℕ) → ClosedWalk (KeptEdge g p (named (claim_rows p rows)) (choice_in (claim_rows p rows))) walk → of_parity (greatest_priority g walk) ≡ p
+  good_walk : (rows : List CheckedRow) → AreChecked p rows → AgreesWithGame g p rows → (walk : List ℕ) → ClosedWalk (KeptEdge g p (named (claim_rows p rows)) (choice_in (claim_rows p rows))) walk → of_parity (greatest_priority g walk) ≡ p
   good_walk rows c a [] w = absurd w
   good_walk rows c a (v ∷ vs) w =
       let h = c.good (v ∷ vs) (ClosedWalk-weaker (KeptEdge g p (named (claim_rows p rows)) (choice_in (claim_rows p rows))) (RowEdge rows) (edge rows a) (v ∷ vs) w) in
       ap of_parity (sym (walk_priority rows a v vs v w)) ∙ h
 
-  pub sound : (rows : List CheckedRow) → AreChecked p rows → Agrees g p rows → IsSound g p (claim_rows p rows)
+  pub sound : (rows : List CheckedRow) → AreChecked p rows → AgreesWithGame g p rows → IsSound g p (claim_rows p rows)
   sound rows c a = record {
     shape = record {
       nonempty = rw (lengths rows) c.nonempty;

@@ -12,19 +12,19 @@ use Rattle.pg_game.specs.Attractor.{Attracts}
 use Rattle.pg_game.proofs.Players.{own_or_other, not_own}
 use Rattle.pg_game.proofs.Masks.{members-set}
 use Rattle.pg_game.proofs.Members.{some_or_none}
-use Rattle.pg_dominion.specs.Claim.{Rows, named}
-use Rattle.pg_dominion.specs.Attraction.{LeadsTo, AttractInTurn, IsAttraction}
-use Rattle.pg_dominion.specs.Attracting.{ArePassed, Attracting, HasOpen, IsSettled, IsDone, Continues, first_of}
+use Rattle.pg_dominion.specs.Claim.{ClaimRows, named}
+use Rattle.pg_dominion.specs.Attraction.{IsAttractedRow, AttractInTurn, IsAttraction}
+use Rattle.pg_dominion.specs.private.Attracting.{AreBlocked, Attracting, HasOpen, IsTakenOrOpen, AttractsNoFurther, Continues, first_of}
 use Rattle.pg_dominion.proofs.Named.{named-append}
 use Rattle.pg_dominion.proofs.Rows.{named-push, no_push, LeadsTo-same, AttractInTurn-push}
 use Rattle.pg_dominion.proofs.Booleans.{true_or_false, or_left, or_right, or_none, or_cases, or_assoc, and_cases}
 
-pub ArePassed-grown : (U S S' : VertexSet) (ws : List ℕ) (n : ℕ) → Within S S' → ArePassed U S ws n → ArePassed U S' ws n
+pub ArePassed-grown : (U S S' : VertexSet) (ws : List ℕ) (n : ℕ) → Within S S' → AreBlocked U S ws n → AreBlocked U S' ws n
 ArePassed-grown U S S' ws n w a = record { within = a.within; blocked = λ k l u. w (slice_index ws k) (a.blocked k l u) }
 
 module _ (g : Graph) (p : Player) (U T : VertexSet) where
   -- a watch moves on
-  pub Attracting-passed : (taken : List Bool) (passed : List ℕ) (rows : Rows) (v n : ℕ) → v < length g → ArePassed U (members taken) (successors_of g v) n → Attracting g p U T taken passed rows → Attracting g p U T taken (set passed v n) rows
+  pub Attracting-passed : (taken : List Bool) (passed : List ℕ) (rows : ClaimRows) (v n : ℕ) → v < length g → AreBlocked U (members taken) (successors_of g v) n → Attracting g p U T taken passed rows → Attracting g p U T taken (set passed v n) rows
   Attracting-passed taken passed rows v n l new a = record {
     size = a.size;
     passed_size = length-set passed v n ∙ a.passed_size;
@@ -33,15 +33,15 @@ module _ (g : Graph) (p : Player) (U T : VertexSet) where
     passes = λ x lx. elim (true_or_false (x == v)) [
       | inl e ↦ (let q : x ≡ v = eqb-true x v e in
           let s : get_or (set passed v n) v 0 ≡ n = get_or-set_same passed v n 0 (omega (arith, a.passed_size)) in
-          subst (λ (y : ℕ). ArePassed U (members taken) (successors_of g y) (slice_index (set passed v n) y)) (sym q) (subst (λ (m : ℕ). ArePassed U (members taken) (successors_of g v) m) (sym s) new))
+          subst (λ (y : ℕ). AreBlocked U (members taken) (successors_of g y) (slice_index (set passed v n) y)) (sym q) (subst (λ (m : ℕ). AreBlocked U (members taken) (successors_of g v) m) (sym s) new))
       | inr e ↦ (let d : x ≢ v = λ h. (let t : (x == v) ≡ true = eq-eqb x v h in cc (t, e)) in
           let s : get_or (set passed v n) x 0 ≡ get_or passed x 0 = get_or-set_other passed v x n 0 d in
-          subst (λ (m : ℕ). ArePassed U (members taken) (successors_of g x) m) (sym s) (a.passes x lx))
+          subst (λ (m : ℕ). AreBlocked U (members taken) (successors_of g x) m) (sym s) (a.passes x lx))
     ];
   }
 
   -- a vertex is taken
-  pub Attracting-taken : (taken : List Bool) (passed : List ℕ) (rows : Rows) (r : ℕ × Option ℕ) → r.0 < length g → LeadsTo g p U (members taken) r → Attracting g p U T taken passed rows → Attracting g p U T (set taken r.0 true) passed (rows ++ r ∷ [])
+  pub Attracting-taken : (taken : List Bool) (passed : List ℕ) (rows : ClaimRows) (r : ℕ × Option ℕ) → r.0 < length g → IsAttractedRow g p U (members taken) r → Attracting g p U T taken passed rows → Attracting g p U T (set taken r.0 true) passed (rows ++ r ∷ [])
   Attracting-taken taken passed rows r l leads a =
       let lt : r.0 < length taken = omega (arith, a.size) in
       let m = members-set taken r.0 lt in
@@ -57,16 +57,16 @@ module _ (g : Graph) (p : Player) (U T : VertexSet) where
   pub HasOpen-before : (S S' : VertexSet) (v : ℕ) → Within S S' → HasOpen g U S' v → HasOpen g U S v
   HasOpen-before S S' v w (x, e, u, f) = (x, e, u, false_from_ne_true (S x) (λ t. let h = w x t in cc (h, f)))
 
-  pub IsSettled-before : (B S S' : VertexSet) (v : ℕ) → Within B S → IsSettled g p U S S' v → IsSettled g p U B S' v
+  pub IsSettled-before : (B S S' : VertexSet) (v : ℕ) → Within B S → IsTakenOrOpen g p U S S' v → IsTakenOrOpen g p U B S' v
   IsSettled-before B S S' v w (inl i) = inl i
   IsSettled-before B S S' v w (inr (o, h)) = inr (o, HasOpen-before B S v w h)
 
-  pub IsSettled-later : (B S S' : VertexSet) (v : ℕ) → Within S S' → IsSettled g p U B S v → IsSettled g p U B S' v
+  pub IsSettled-later : (B S S' : VertexSet) (v : ℕ) → Within S S' → IsTakenOrOpen g p U B S v → IsTakenOrOpen g p U B S' v
   IsSettled-later B S S' v w (inl i) = inl (w v i)
   IsSettled-later B S S' v w (inr h) = inr h
 
   -- one more vertex is done, once those with an edge to it are settled
-  pub IsDone-more : (D D' S S' : VertexSet) (to : ℕ) → Within S S' → Within D' S → ((x : ℕ) → In D' x → In D x ⊎ (x ≡ to)) → ((u : ℕ) → In U u → HasEdge g u to → IsSettled g p U S S' u) → IsDone g p U D S → IsDone g p U D' S'
+  pub IsDone-more : (D D' S S' : VertexSet) (to : ℕ) → Within S S' → Within D' S → ((x : ℕ) → In D' x → In D x ⊎ (x ≡ to)) → ((u : ℕ) → In U u → HasEdge g u to → IsTakenOrOpen g p U S S' u) → AttractsNoFurther g p U D S → AttractsNoFurther g p U D' S'
   IsDone-more D D' S S' to grows sub more settled d = record { own = own; other = other }
     where
       before : (v : ℕ) → S' v ≡ false → S v ≡ false
@@ -100,15 +100,15 @@ module _ (g : Graph) (p : Player) (U T : VertexSet) where
       ]
 
   -- at the start nothing is done
-  pub IsDone-none : (D S : VertexSet) → IsSubgame g U → ((x : ℕ) → D x ≡ false) → IsDone g p U D S
+  pub IsDone-none : (D S : VertexSet) → IsSubgame g U → ((x : ℕ) → D x ≡ false) → AttractsNoFurther g p U D S
   IsDone-none D S sub none = record {
     own = λ v w u f o e. none w;
     other = λ v u f o. (let q = sub.successor v u in (q.0, q.1, q.2, none q.0));
   }
 
   -- rows that lead in turn lie in every set that attracts
-  lies : (S : VertexSet) → Attracts g p U T S → (rows done rest : Rows) → AttractInTurn g p U T rows → rows ≡ done ++ rest → Within (union T (named done)) S → Within (union T (named rows)) S
-  lies S a rows done [] turns e within = subst (λ (xs : Rows). Within (union T (named xs)) S) (sym (e ∙ append-nil done)) within
+  lies : (S : VertexSet) → Attracts g p U T S → (rows done rest : ClaimRows) → AttractInTurn g p U T rows → rows ≡ done ++ rest → Within (union T (named done)) S → Within (union T (named rows)) S
+  lies S a rows done [] turns e within = subst (λ (xs : ClaimRows). Within (union T (named xs)) S) (sym (e ∙ append-nil done)) within
   lies S a rows done (r ∷ rest) turns e within =
       let l = turns done rest r e in
       let i : In S r.0 = elim (own_or_other (owner_of g r.0) p) [
@@ -123,7 +123,7 @@ module _ (g : Graph) (p : Player) (U T : VertexSet) where
         | inr new ↦ subst (λ (u : ℕ). In S u) (eqb-true r.0 v new) i
       ]
 
-  pub attraction : (taken : List Bool) (passed : List ℕ) (rows : Rows) (D : VertexSet) → Attracting g p U T taken passed rows → IsDone g p U D (members taken) → ((x : ℕ) → D x ≡ union T (named rows) x) → IsAttraction g p U T rows
+  pub attraction : (taken : List Bool) (passed : List ℕ) (rows : ClaimRows) (D : VertexSet) → Attracting g p U T taken passed rows → AttractsNoFurther g p U D (members taken) → ((x : ℕ) → D x ≡ union T (named rows) x) → IsAttraction g p U T rows
   attraction taken passed rows D a d all = record {
     turns = a.turns;
     exact = λ v. (λ i S at. lies S at rows [] rows a.turns refl (λ x h. at.target x (sym (or_none (T x)) ∙ h)) v i, λ h. h (union T (named rows)) attracts);
@@ -143,16 +143,16 @@ module _ (g : Graph) (p : Player) (U T : VertexSet) where
       }
 
 -- all are blocked where all are passed
-pub all_blocked : (U S : VertexSet) (ws : List ℕ) (n : ℕ) → ArePassed U S ws n → length ws ≤ n → (w : ℕ) → Contains ws w → In U w → In S w
+pub all_blocked : (U S : VertexSet) (ws : List ℕ) (n : ℕ) → AreBlocked U S ws n → length ws ≤ n → (w : ℕ) → Contains ws w → In U w → In S w
 all_blocked U S ws n a l w (k, lt, e) u =
     let q : slice_index ws k ≡ w = get_or_default ws k 0 w lt ∙ e in
     subst (λ (x : ℕ). In S x) q (a.blocked k (omega arith) (subst (λ (x : ℕ). In U x) (sym q) u))
 
-pub named-take : (n : ℕ) (rows : Rows) (v : ℕ) → named (take n rows) v ≡ true → named rows v ≡ true
-named-take n rows v i = subst (λ (xs : Rows). named xs v ≡ true) (take-append-drop n rows) (named-append (take n rows) (drop n rows) v ∙ or_left (named (take n rows) v) (named (drop n rows) v) i)
+pub named-take : (n : ℕ) (rows : ClaimRows) (v : ℕ) → named (take n rows) v ≡ true → named rows v ≡ true
+named-take n rows v i = subst (λ (xs : ClaimRows). named xs v ≡ true) (take-append-drop n rows) (named-append (take n rows) (drop n rows) v ∙ or_left (named (take n rows) v) (named (drop n rows) v) i)
 
 module _ (g : Graph) (p : Player) (U T : VertexSet) where
-  pub IsDone-weaker : (D D' S : VertexSet) → Within D' D → IsDone g p U D S → IsDone g p U D' S
+  pub IsDone-weaker : (D D' S : VertexSet) → Within D' D → AttractsNoFurther g p U D S → AttractsNoFurther g p U D' S
   IsDone-weaker D D' S w d = record {
     own = λ v x u f o e. less x (d.own v x u f o e);
     other = λ v u f o. (let q = d.other v u f o in (q.0, q.1, q.2, less q.0 q.3));
@@ -173,49 +173,49 @@ module _ (g : Graph) (p : Player) (U T : VertexSet) where
       equal_or : (x v : ℕ) → x < v + 1 → (x ≡ v) ⊎ (x < v)
       equal_or x v l = grind arith
 
-  pub target_skipped : (S : VertexSet) (v : ℕ) → T v ≡ false → IsDone g p U (First v) S → IsDone g p U (First (v + 1)) S
+  pub target_skipped : (S : VertexSet) (v : ℕ) → T v ≡ false → AttractsNoFurther g p U (First v) S → AttractsNoFurther g p U (First (v + 1)) S
   target_skipped S v f d = IsDone-weaker (First v) (First (v + 1)) S (λ x i. elim (first_more v x i) [
     | inl h ↦ h
     | inr e ↦ absurd (let h = and_cases (T x) (nat_lt x (v + 1)) i in let k : T v ≡ true = subst (λ (y : ℕ). T y ≡ true) e h.0 in cc (k, f))
   ]) d
 
-  pub target_reached : (taken : List Bool) (passed : List ℕ) (rows : Rows) (S' : VertexSet) (v : ℕ) → Attracting g p U T taken passed rows → Within (members taken) S' → ((u : ℕ) → In U u → HasEdge g u v → IsSettled g p U (members taken) S' u) → IsDone g p U (First v) (members taken) → IsDone g p U (First (v + 1)) S'
+  pub target_reached : (taken : List Bool) (passed : List ℕ) (rows : ClaimRows) (S' : VertexSet) (v : ℕ) → Attracting g p U T taken passed rows → Within (members taken) S' → ((u : ℕ) → In U u → HasEdge g u v → IsTakenOrOpen g p U (members taken) S' u) → AttractsNoFurther g p U (First v) (members taken) → AttractsNoFurther g p U (First (v + 1)) S'
   target_reached taken passed rows S' v a grows settled d =
       IsDone-more g p U T (First v) (First (v + 1)) (members taken) S' v grows
       (λ x i. a.exact x ∙ or_left (T x) (named rows x) (and_cases (T x) (nat_lt x (v + 1)) i).0)
       (first_more v) settled d
 
-  pub targets_done : (S : VertexSet) (n : ℕ) (rows : Rows) → ((x : ℕ) → In T x → x < n) → IsDone g p U (First n) S → IsDone g p U (union T (named (take 0 rows))) S
+  pub targets_done : (S : VertexSet) (n : ℕ) (rows : ClaimRows) → ((x : ℕ) → In T x → x < n) → AttractsNoFurther g p U (First n) S → AttractsNoFurther g p U (union T (named (take 0 rows))) S
   targets_done S n rows below d = IsDone-weaker (First n) (union T (named (take 0 rows))) S (λ x i. elim (or_cases (T x) false i) [
     | inl t ↦ rw t (lt-ltb x n (below x t))
     | inr f ↦ absurd (cc f)
   ]) d
 
-  pub row_reached : (taken : List Bool) (passed : List ℕ) (rows rows' : Rows) (S' : VertexSet) (n : ℕ) (r : ℕ × Option ℕ) → n < length rows → r ≡ get_or rows n r → Attracting g p U T taken passed rows → Continues rows rows' → Within (members taken) S' → ((u : ℕ) → In U u → HasEdge g u r.0 → IsSettled g p U (members taken) S' u) → IsDone g p U (union T (named (take n rows))) (members taken) → IsDone g p U (union T (named (take (n + 1) rows'))) S'
+  pub row_reached : (taken : List Bool) (passed : List ℕ) (rows rows' : ClaimRows) (S' : VertexSet) (n : ℕ) (r : ℕ × Option ℕ) → n < length rows → r ≡ get_or rows n r → Attracting g p U T taken passed rows → Continues rows rows' → Within (members taken) S' → ((u : ℕ) → In U u → HasEdge g u r.0 → IsTakenOrOpen g p U (members taken) S' u) → AttractsNoFurther g p U (union T (named (take n rows))) (members taken) → AttractsNoFurther g p U (union T (named (take (n + 1) rows'))) S'
   row_reached taken passed rows rows' S' n r l e a k grows settled d =
       let front : take (n + 1) rows' ≡ take (n + 1) rows = k.front (n + 1) (omega arith) in
       let more : take (n + 1) rows ≡ take n rows ++ r ∷ [] = take_more rows n r l ∙ ap (λ (x : ℕ × Option ℕ). take n rows ++ x ∷ []) (sym e) in
       IsDone-more g p U T (union T (named (take n rows))) (union T (named (take (n + 1) rows'))) (members taken) S' r.0 grows
       (λ x i. a.exact x ∙ (elim (or_cases (T x) (named (take (n + 1) rows') x) i) [
         | inl t ↦ or_left (T x) (named rows x) t
-        | inr m ↦ or_right (T x) (named rows x) (named-take (n + 1) rows x (subst (λ (xs : Rows). named xs x ≡ true) front m))
+        | inr m ↦ or_right (T x) (named rows x) (named-take (n + 1) rows x (subst (λ (xs : ClaimRows). named xs x ≡ true) front m))
       ]))
       (λ x i. elim (or_cases (T x) (named (take (n + 1) rows') x) i) [
         | inl t ↦ inl (or_left (T x) (named (take n rows) x) t)
-        | inr m ↦ elim (or_cases (named (take n rows) x) (r.0 == x) (sym (named-push (take n rows) r x) ∙ subst (λ (xs : Rows). named xs x ≡ true) (front ∙ more) m)) [
+        | inr m ↦ elim (or_cases (named (take n rows) x) (r.0 == x) (sym (named-push (take n rows) r x) ∙ subst (λ (xs : ClaimRows). named xs x ≡ true) (front ∙ more) m)) [
           | inl t ↦ inl (or_right (T x) (named (take n rows) x) t)
           | inr t ↦ inr (sym (eqb-true r.0 x t))
         ]
       ])
       settled d
 
-  pub finished : (taken : List Bool) (passed : List ℕ) (rows : Rows) (n : ℕ) → length rows ≤ n → Attracting g p U T taken passed rows → IsDone g p U (union T (named (take n rows))) (members taken) → IsAttraction g p U T rows
-  finished taken passed rows n l a d = attraction g p U T taken passed rows (union T (named (take n rows))) a d (λ x. ap (λ (xs : Rows). T x || named xs x) (take_all n rows l))
+  pub finished : (taken : List Bool) (passed : List ℕ) (rows : ClaimRows) (n : ℕ) → length rows ≤ n → Attracting g p U T taken passed rows → AttractsNoFurther g p U (union T (named (take n rows))) (members taken) → IsAttraction g p U T rows
+  finished taken passed rows n l a d = attraction g p U T taken passed rows (union T (named (take n rows))) a d (λ x. ap (λ (xs : ClaimRows). T x || named xs x) (take_all n rows l))
 
-  pub row_taken : (taken : List Bool) (passed : List ℕ) (rows : Rows) (n : ℕ) (r : ℕ × Option ℕ) → n < length rows → r ≡ get_or rows n r → Attracting g p U T taken passed rows → In (members taken) r.0
+  pub row_taken : (taken : List Bool) (passed : List ℕ) (rows : ClaimRows) (n : ℕ) (r : ℕ × Option ℕ) → n < length rows → r ≡ get_or rows n r → Attracting g p U T taken passed rows → In (members taken) r.0
   row_taken taken passed rows n r l e a =
       let more : take (n + 1) rows ≡ take n rows ++ r ∷ [] = take_more rows n r l ∙ ap (λ (x : ℕ × Option ℕ). take n rows ++ x ∷ []) (sym e) in
-      let i : named (take (n + 1) rows) r.0 ≡ true = subst (λ (xs : Rows). named xs r.0 ≡ true) (sym more) (named-push (take n rows) r r.0 ∙ or_right (named (take n rows) r.0) (r.0 == r.0) (eq-eqb r.0 r.0 refl)) in
+      let i : named (take (n + 1) rows) r.0 ≡ true = subst (λ (xs : ClaimRows). named xs r.0 ≡ true) (sym more) (named-push (take n rows) r r.0 ∙ or_right (named (take n rows) r.0) (r.0 == r.0) (eq-eqb r.0 r.0 refl)) in
       a.exact r.0 ∙ or_right (T r.0) (named rows r.0) (named-take (n + 1) rows r.0 i)
 
   -- at the start the target is taken, and nothing else
@@ -228,13 +228,13 @@ module _ (g : Graph) (p : Player) (U T : VertexSet) where
     passes = λ v l. (let z = zero v (omega arith) in record { within = omega arith; blocked = λ k lt. absurd (omega arith) });
   }
 
-pub Continues-same : (xs : Rows) → Continues xs xs
+pub Continues-same : (xs : ClaimRows) → Continues xs xs
 Continues-same xs = record { longer = omega arith; front = λ n l. refl }
 
-pub Continues-push : (xs : Rows) (r : ℕ × Option ℕ) → Continues xs (xs ++ r ∷ [])
+pub Continues-push : (xs : ClaimRows) (r : ℕ × Option ℕ) → Continues xs (xs ++ r ∷ [])
 Continues-push xs r = record { longer = omega (arith, length-append xs (r ∷ [])); front = λ n l. take-append-le n xs (r ∷ []) l }
 
-pub Continues-then : (xs ys zs : Rows) → Continues xs ys → Continues ys zs → Continues xs zs
+pub Continues-then : (xs ys zs : ClaimRows) → Continues xs ys → Continues ys zs → Continues xs zs
 Continues-then xs ys zs a b = record { longer = omega (arith, a.longer, b.longer); front = λ n l. b.front n (omega (arith, a.longer)) ∙ a.front n l }
 
 pub first_none : (T : VertexSet) (x : ℕ) → first_of T 0 x ≡ false

@@ -18,9 +18,9 @@ use Rattle.pg_game.proofs.Members.{Contains-nil}
 use Rattle.pg_game.proofs.Players.{same_is, is_same}
 use Rattle.pg_game.proofs.Walks.{ClosedWalk-weaker}
 use Rattle.pg_dominion.specs.declared.kept.Kept.{Kept}
-use Rattle.pg_dominion.specs.Claim.{Rows, named, choice_in, IsRightRow, AreRight}
-use Rattle.pg_dominion.specs.KeptEdges.{IsKept, Edge, IsWorst, row_of}
-use Rattle.pg_dominion.specs.Shape.{IsLaid, choice_at, is_bad, marked, chosen_with, choices_with}
+use Rattle.pg_dominion.specs.Claim.{ClaimRows, named, choice_in, IsRightRow, AreRight}
+use Rattle.pg_dominion.specs.KeptEdges.{IsKept, Edge, IsWorst, kept_row}
+use Rattle.pg_dominion.specs.private.Shape.{IsLaid, chosen_at, is_bad, marked, chosen_with, choices_with}
 use Rattle.pg_dominion.proofs.Shape.{next_unnamed}
 use Rattle.pg_dominion.proofs.Rows.{named-push, choice-none, choice-push_same, choice-push_other, named_right}
 use Rattle.pg_dominion.proofs.Booleans.{true_or_false, or_none, and_none, and_cases, both_and}
@@ -46,16 +46,16 @@ members-marked true mask v l x = members-set mask v l x ∙ ap (λ c. members ma
 members-marked false mask v l x = sym (ap (λ c. members mask x || c) (and_none (v == x)) ∙ or_none (members mask x))
 
 module _ (g : Graph) (p : Player) where
-  choice_at-with : (rows : Rows) (chosen : List Bool) (choices : List ℕ) (r : ℕ × Option ℕ) → r.0 < length chosen → r.0 < length choices → named rows r.0 ≡ false → ((v : ℕ) → choice_at chosen choices v ≡ choice_in rows v) → (v : ℕ) → choice_at (chosen_with chosen r.0 r.1) (choices_with choices r.0 r.1) v ≡ choice_in (rows ++ r ∷ []) v
+  choice_at-with : (rows : ClaimRows) (chosen : List Bool) (choices : List ℕ) (r : ℕ × Option ℕ) → r.0 < length chosen → r.0 < length choices → named rows r.0 ≡ false → ((v : ℕ) → chosen_at chosen choices v ≡ choice_in rows v) → (v : ℕ) → chosen_at (chosen_with chosen r.0 r.1) (choices_with choices r.0 r.1) v ≡ choice_in (rows ++ r ∷ []) v
   choice_at-with rows chosen choices (u, None) l m new h v = elim (true_or_false (u == v)) [
-    | inl t ↦ (let e : u ≡ v = eqb-true u v t in subst (λ (x : ℕ). choice_at chosen choices x ≡ choice_in (rows ++ (u, None) ∷ []) x) e (h u ∙ (choice-none rows u new ∙ sym (choice-push_same rows (u, None) new))))
+    | inl t ↦ (let e : u ≡ v = eqb-true u v t in subst (λ (x : ℕ). chosen_at chosen choices x ≡ choice_in (rows ++ (u, None) ∷ []) x) e (h u ∙ (choice-none rows u new ∙ sym (choice-push_same rows (u, None) new))))
     | inr f ↦ h v ∙ sym (choice-push_other rows (u, None) v f)
   ]
   choice_at-with rows chosen choices (u, Some w) l m new h v = elim (true_or_false (u == v)) [
     | inl t ↦ (let e : u ≡ v = eqb-true u v t in
         let a : get_or (set chosen u true) u false ≡ true = get_or-set_same chosen u true false l in
         let b : get_or (set choices u w) u 0 ≡ w = get_or-set_same choices u w 0 m in
-        subst (λ (x : ℕ). choice_at (set chosen u true) (set choices u w) x ≡ choice_in (rows ++ (u, Some w) ∷ []) x) e (rw (a, b) (sym (choice-push_same rows (u, Some w) new))))
+        subst (λ (x : ℕ). chosen_at (set chosen u true) (set choices u w) x ≡ choice_in (rows ++ (u, Some w) ∷ []) x) e (rw (a, b) (sym (choice-push_same rows (u, Some w) new))))
     | inr f ↦ (let n : v ≢ u = λ q. (let t : (u == v) ≡ true = eq-eqb u v (sym q) in cc (t, f)) in
         let a : get_or (set chosen u true) v false ≡ get_or chosen v false = get_or-set_other chosen u v true false n in
         let b : get_or (set choices u w) v 0 ≡ get_or choices v 0 = get_or-set_other choices u v w 0 n in
@@ -71,7 +71,7 @@ module _ (g : Graph) (p : Player) where
   length-choices_with choices v (Some w) = length-set choices v w
 
   -- one more row is laid out
-  pub IsLaid-push : (rows : Rows) (inside chosen : List Bool) (choices : List ℕ) (bad : List Bool) (r : ℕ × Option ℕ) → r.0 < length g → named rows r.0 ≡ false → IsLaid g p rows inside chosen choices bad → IsLaid g p (rows ++ r ∷ []) (set inside r.0 true) (chosen_with chosen r.0 r.1) (choices_with choices r.0 r.1) (marked (is_bad g p r.0) bad r.0)
+  pub IsLaid-push : (rows : ClaimRows) (inside chosen : List Bool) (choices : List ℕ) (bad : List Bool) (r : ℕ × Option ℕ) → r.0 < length g → named rows r.0 ≡ false → IsLaid g p rows inside chosen choices bad → IsLaid g p (rows ++ r ∷ []) (set inside r.0 true) (chosen_with chosen r.0 r.1) (choices_with choices r.0 r.1) (marked (is_bad g p r.0) bad r.0)
   IsLaid-push rows inside chosen choices bad r l new a = record {
     inside_size = length-set inside r.0 true ∙ a.inside_size;
     chosen_size = length-chosen_with chosen r.0 r.1 ∙ a.chosen_size;
@@ -86,10 +86,10 @@ module _ (g : Graph) (p : Player) where
   }
 
   -- the next row is laid out
-  pub IsLaid-next : (rows : Rows) (i : ℕ) (d : ℕ × Option ℕ) (inside chosen : List Bool) (choices : List ℕ) (bad : List Bool) → AreRight g p rows → i < length rows → IsLaid g p (take i rows) inside chosen choices bad → IsLaid g p (take (i + 1) rows) (set inside (get_or rows i d).0 true) (chosen_with chosen (get_or rows i d).0 (get_or rows i d).1) (choices_with choices (get_or rows i d).0 (get_or rows i d).1) (marked (is_bad g p (get_or rows i d).0) bad (get_or rows i d).0)
+  pub IsLaid-next : (rows : ClaimRows) (i : ℕ) (d : ℕ × Option ℕ) (inside chosen : List Bool) (choices : List ℕ) (bad : List Bool) → AreRight g p rows → i < length rows → IsLaid g p (take i rows) inside chosen choices bad → IsLaid g p (take (i + 1) rows) (set inside (get_or rows i d).0 true) (chosen_with chosen (get_or rows i d).0 (get_or rows i d).1) (choices_with choices (get_or rows i d).0 (get_or rows i d).1) (marked (is_bad g p (get_or rows i d).0) bad (get_or rows i d).0)
   IsLaid-next rows i d inside chosen choices bad right l a =
       let r : IsRightRow g p (get_or rows i d) = All-from_recursion (IsRightRow g p) rows right.each i d l in
-      subst (λ (xs : Rows). IsLaid g p xs (set inside (get_or rows i d).0 true) (chosen_with chosen (get_or rows i d).0 (get_or rows i d).1) (choices_with choices (get_or rows i d).0 (get_or rows i d).1) (marked (is_bad g p (get_or rows i d).0) bad (get_or rows i d).0)) (sym (take_more rows i d l))
+      subst (λ (xs : ClaimRows). IsLaid g p xs (set inside (get_or rows i d).0 true) (chosen_with chosen (get_or rows i d).0 (get_or rows i d).1) (choices_with choices (get_or rows i d).0 (get_or rows i d).1) (marked (is_bad g p (get_or rows i d).0) bad (get_or rows i d).0)) (sym (take_more rows i d l))
       (IsLaid-push (take i rows) inside chosen choices bad (get_or rows i d) r.vertex (next_unnamed g p rows i d right l) a)
 
 -- the row of a choice, or else the inner row
@@ -101,9 +101,9 @@ pub row_cases : (b : Bool) (w : ℕ) (inner : List ℕ) (c : Option ℕ) → (if
 row_cases true w inner c e = subst (λ (o : Option ℕ). w ∷ [] ≡ from_choice o inner) e refl
 row_cases false w inner c e = subst (λ (o : Option ℕ). inner ≡ from_choice o inner) e refl
 
-module _ (k : Kept) (p : Player) (rows : Rows) (game : IsGame k.game.now) (right : AllByRecursion (IsRightRow k.game.now p) rows) (a : IsLaid k.game.now p rows k.inside k.chosen k.choices.items k.bad) where
+module _ (k : Kept) (p : Player) (rows : ClaimRows) (game : IsGame k.game.now) (right : AllByRecursion (IsRightRow k.game.now p) rows) (a : IsLaid k.game.now p rows k.inside k.chosen k.choices.items k.bad) where
   -- the kept edges of a claim are those of the layout
-  row_is : (v : ℕ) → row_of k v ≡ (if named rows v then kept k.game.now p (choice_in rows) v else [])
+  row_is : (v : ℕ) → kept_row k v ≡ (if named rows v then kept k.game.now p (choice_in rows) v else [])
   row_is v = row_cases (members k.chosen v) (slice_index k.choices.items v) _ (choice_in rows v) (a.choices_is v) ∙ rw (a.inside_is v) (go (named rows v) refl)
     where
       own : same_player (owner_of k.game.now v) p ≡ true → (c : (w : ℕ) × (choice_in rows v ≡ Some w) × HasEdge k.game.now v w) → from_choice (choice_in rows v) (successors_of k.game.now v) ≡ kept k.game.now p (choice_in rows) v

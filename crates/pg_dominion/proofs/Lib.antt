@@ -10,3 +10,4 @@ pub mod Plan
 pub mod Ranked
 pub mod Named
 pub mod NoneBad
+mod Staying

@@ -3,12 +3,12 @@ use Rattle.std.proofs.Common.{◌≡◌, ℕ, suc, ◌<◌, Bool, true, false, �
 use Rattle.std.specs.Prelude.{Option, ◌==◌, if◌then◌else◌}
 use Rattle.std.proofs.lemmas.Bool.{eqb-true, eq-eqb}
 use Rattle.std.proofs.lemmas.List.Folds.{list_any-append}
-use Rattle.pg_dominion.specs.Claim.{Rows, named, choice_in}
+use Rattle.pg_dominion.specs.Claim.{ClaimRows, named, choice_in}
 
-pub named-append : (xs ys : Rows) (v : ℕ) → named (xs ++ ys) v ≡ (named xs v || named ys v)
+pub named-append : (xs ys : ClaimRows) (v : ℕ) → named (xs ++ ys) v ≡ (named xs v || named ys v)
 named-append xs ys v = list_any-append (λ r. r.0 == v) xs ys
 
-pub choice-front : (xs ys : Rows) (v : ℕ) → named xs v ≡ true → choice_in (xs ++ ys) v ≡ choice_in xs v
+pub choice-front : (xs ys : ClaimRows) (v : ℕ) → named xs v ≡ true → choice_in (xs ++ ys) v ≡ choice_in xs v
 choice-front [] ys v i = absurd (cc i)
 choice-front (r ∷ xs) ys v i = go (r.0 == v) refl (choice-front xs ys v)
   where
@@ -16,7 +16,7 @@ choice-front (r ∷ xs) ys v i = go (r.0 == v) refl (choice-front xs ys v)
     go true e h = rw e refl
     go false e h = let n : named xs v ≡ true = rw e at i in rw e (h n)
 
-pub choice-back : (xs ys : Rows) (v : ℕ) → named xs v ≡ false → choice_in (xs ++ ys) v ≡ choice_in ys v
+pub choice-back : (xs ys : ClaimRows) (v : ℕ) → named xs v ≡ false → choice_in (xs ++ ys) v ≡ choice_in ys v
 choice-back [] ys v i = refl
 choice-back (r ∷ xs) ys v i = go (r.0 == v) refl (choice-back xs ys v)
   where
@@ -25,15 +25,15 @@ choice-back (r ∷ xs) ys v i = go (r.0 == v) refl (choice-back xs ys v)
     go false e h = let n : named xs v ≡ false = rw e at i in rw e (h n)
 
 -- where a vertex is first named
-pub record Place (rows : Rows) (v : ℕ) : Type 0 where
-  pub before : Rows
+pub record Place (rows : ClaimRows) (v : ℕ) : Type 0 where
+  pub before : ClaimRows
   pub choice : Option ℕ
-  pub after : Rows
+  pub after : ClaimRows
   pub split : rows ≡ before ++ (v, choice) ∷ after
   pub first : named before v ≡ false
   pub chosen : choice_in rows v ≡ choice
 
-pub place_of : (rows : Rows) (v : ℕ) → named rows v ≡ true → Place rows v
+pub place_of : (rows : ClaimRows) (v : ℕ) → named rows v ≡ true → Place rows v
 place_of [] v i = absurd (cc i)
 place_of (r ∷ rows) v i = go (r.0 == v) refl (place_of rows v)
   where
@@ -59,11 +59,11 @@ place_of (r ∷ rows) v i = go (r.0 == v) refl (place_of rows v)
         }
 
 -- how many rows stand before the first that names the vertex
-abbrev pub rank : Rows → ℕ → ℕ
+abbrev pub rank : ClaimRows → ℕ → ℕ
 rank [] v = 0
 rank (r ∷ rows) v = if r.0 == v then 0 else suc (rank rows v)
 
-pub rank_below : (xs ys : Rows) (v : ℕ) → named xs v ≡ true → rank (xs ++ ys) v < length xs
+pub rank_below : (xs ys : ClaimRows) (v : ℕ) → named xs v ≡ true → rank (xs ++ ys) v < length xs
 rank_below [] ys v i = absurd (cc i)
 rank_below (r ∷ xs) ys v i = go (r.0 == v) refl (rank_below xs ys v)
   where
@@ -71,7 +71,7 @@ rank_below (r ∷ xs) ys v i = go (r.0 == v) refl (rank_below xs ys v)
     go true e h = rw e (omega arith)
     go false e h = let n : named xs v ≡ true = rw e at i in rw e (omega (arith, h n))
 
-pub rank_at : (xs : Rows) (c : Option ℕ) (ys : Rows) (v : ℕ) → named xs v ≡ false → rank (xs ++ (v, c) ∷ ys) v ≡ length xs
+pub rank_at : (xs : ClaimRows) (c : Option ℕ) (ys : ClaimRows) (v : ℕ) → named xs v ≡ false → rank (xs ++ (v, c) ∷ ys) v ≡ length xs
 rank_at [] c ys v i = rw (eq-eqb v v refl) refl
 rank_at (r ∷ xs) c ys v i = go (r.0 == v) refl (rank_at xs c ys v)
   where

@@ -13,11 +13,11 @@ use Rattle.pg_game.specs.Region.{OnBadWalk}
 use Rattle.pg_game.specs.Least.{NoneHas, IsLeast}
 use Rattle.pg_game.proofs.Members.{none_first}
 use Rattle.pg_game.proofs.Players.{is_same}
-use Rattle.pg_dominion.specs.Claim.{Rows, named, choice_in}
-use Rattle.pg_dominion.specs.Shape.{is_bad}
+use Rattle.pg_dominion.specs.Claim.{ClaimRows, named, choice_in}
+use Rattle.pg_dominion.specs.private.Shape.{is_bad}
 use Rattle.pg_dominion.proofs.Booleans.{true_or_false}
 
-named_good : (g : Graph) (p : Player) (rows : Rows) → list_any (λ r. is_bad g p r.0) rows ≡ false → (v : ℕ) → In (named rows) v → is_bad g p v ≡ false
+named_good : (g : Graph) (p : Player) (rows : ClaimRows) → list_any (λ r. is_bad g p r.0) rows ≡ false → (v : ℕ) → In (named rows) v → is_bad g p v ≡ false
 named_good g p [] e v y = absurd (cc y)
 named_good g p (r ∷ rows) e v y = let both = none_first (is_bad g p r.0) (list_any (λ r. is_bad g p r.0) rows) e in elim (true_or_false (r.0 == v)) [
   | inl t ↦ subst (λ (u : ℕ). is_bad g p u ≡ false) (eqb-true r.0 v t) both.0
@@ -28,7 +28,7 @@ starts_in : (g : Graph) (p : Player) (X : VertexSet) (s : Choices) (v : ℕ) (vs
 starts_in g p X s v [] walk = walk.0
 starts_in g p X s v (w ∷ ws) walk = walk.0.0
 
-pub none_on_bad_walk : (g : Graph) (p : Player) (rows : Rows) → list_any (λ r. is_bad g p r.0) rows ≡ false → NoneHas (OnBadWalk g p (named rows) (choice_in rows))
+pub none_on_bad_walk : (g : Graph) (p : Player) (rows : ClaimRows) → list_any (λ r. is_bad g p r.0) rows ≡ false → NoneHas (OnBadWalk g p (named rows) (choice_in rows))
 none_on_bad_walk g p rows e v (vs, walk, top, parity) =
     let f : is_bad g p v ≡ false = named_good g p rows e v (starts_in g p (named rows) (choice_in rows) v vs walk) in
     let t : is_bad g p v ≡ true = is_same (of_parity (priority_of g v)) (opponent p) parity in

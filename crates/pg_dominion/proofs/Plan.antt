@@ -17,26 +17,26 @@ use Rattle.pg_game.proofs.Masks.{member_below}
 use Rattle.pg_game.proofs.Members.{Contains-nil, Contains-one}
 use Rattle.pg_game.proofs.Players.{same_is, is_same}
 use Rattle.pg_game.proofs.Walks.{ClosedWalk-weaker}
-use Rattle.pg_text.specs.Solution.{Rows, winner_of, choice_of, won_by}
+use Rattle.pg_text.specs.Solution.{SolutionRows, winner_of, choice_of, won_by}
 use Rattle.pg_text.specs.Verdict.{LacksChoice, HasBadChoice, Leaves, IsOnBadWalk}
 use Rattle.pg_text.proofs.Verdict.{has_or_not, won}
 use Rattle.pg_dominion.specs.declared.kept.Kept.{Kept}
-use Rattle.pg_dominion.specs.KeptEdges.{IsKept, Edge, IsWorst, row_of}
-use Rattle.pg_dominion.specs.Shape.{choice_at, is_bad, marked, chosen_with, choices_with}
-use Rattle.pg_dominion.specs.Plan.{own_choice, IsPlanned, IsPlanOf, LeavesTo}
+use Rattle.pg_dominion.specs.KeptEdges.{IsKept, Edge, IsWorst, kept_row}
+use Rattle.pg_dominion.specs.private.Shape.{chosen_at, is_bad, marked, chosen_with, choices_with}
+use Rattle.pg_dominion.specs.private.Plan.{own_choice, IsPlanned, IsPlanOf, LeavesTo}
 use Rattle.std.proofs.lemmas.Map.Keys.{sorted_from_strictly_increasing, below_from_sorted}
 use Rattle.pg_dominion.proofs.Searching.{place_in}
 use Rattle.pg_dominion.proofs.Laid.{length-marked, length-chosen_with, length-choices_with, from_choice, row_cases}
 
 -- a choice noted at a vertex that had none
-choice_at-same : (chosen : List Bool) (choices : List ℕ) (v : ℕ) (c : Option ℕ) → v < length chosen → v < length choices → members chosen v ≡ false → choice_at (chosen_with chosen v c) (choices_with choices v c) v ≡ c
+choice_at-same : (chosen : List Bool) (choices : List ℕ) (v : ℕ) (c : Option ℕ) → v < length chosen → v < length choices → members chosen v ≡ false → chosen_at (chosen_with chosen v c) (choices_with choices v c) v ≡ c
 choice_at-same chosen choices v None l m f = rw f refl
 choice_at-same chosen choices v (Some w) l m f =
     let a : get_or (set chosen v true) v false ≡ true = get_or-set_same chosen v true false l in
     let b : get_or (set choices v w) v 0 ≡ w = get_or-set_same choices v w 0 m in
     rw (a, b) refl
 
-choice_at-other : (chosen : List Bool) (choices : List ℕ) (v : ℕ) (c : Option ℕ) (x : ℕ) → x ≢ v → choice_at (chosen_with chosen v c) (choices_with choices v c) x ≡ choice_at chosen choices x
+choice_at-other : (chosen : List Bool) (choices : List ℕ) (v : ℕ) (c : Option ℕ) (x : ℕ) → x ≢ v → chosen_at (chosen_with chosen v c) (choices_with choices v c) x ≡ chosen_at chosen choices x
 choice_at-other chosen choices v None x n = refl
 choice_at-other chosen choices v (Some w) x n =
     let a : get_or (set chosen v true) x false ≡ get_or chosen x false = get_or-set_other chosen v x true false n in
@@ -55,7 +55,7 @@ marked-same : (b : Bool) (mask : List Bool) (v : ℕ) → v < length mask → me
 marked-same true mask v l f = get_or-set_same mask v true false l
 marked-same false mask v l f = f
 
-pub IsPlanned-push : (g : Graph) (rows : Rows) (v : ℕ) (inside chosen : List Bool) (choices : List ℕ) (bad : List Bool) (c : Option ℕ) (b : Bool) → v < length g → c ≡ own_choice g rows v → b ≡ is_bad g (winner_of rows v) v → IsPlanned g rows v inside chosen choices bad → IsPlanned g rows (v + 1) (set inside v true) (chosen_with chosen v c) (choices_with choices v c) (marked b bad v)
+pub IsPlanned-push : (g : Graph) (rows : SolutionRows) (v : ℕ) (inside chosen : List Bool) (choices : List ℕ) (bad : List Bool) (c : Option ℕ) (b : Bool) → v < length g → c ≡ own_choice g rows v → b ≡ is_bad g (winner_of rows v) v → IsPlanned g rows v inside chosen choices bad → IsPlanned g rows (v + 1) (set inside v true) (chosen_with chosen v c) (choices_with choices v c) (marked b bad v)
 IsPlanned-push g rows v inside chosen choices bad c b l e f a = record {
   inside_size = length-set inside v true ∙ a.inside_size;
   chosen_size = length-chosen_with g Even chosen v c ∙ a.chosen_size;
@@ -77,15 +77,15 @@ IsPlanned-push g rows v inside chosen choices bad c b l e f a = record {
   bad_later = λ x lx. marked-other b bad v x (omega arith) ∙ a.bad_later x (omega arith);
 }
 
-module _ (k : Kept) (rows : Rows) (game : IsGame k.game.now) (size : length rows ≡ length k.game.now) where
+module _ (k : Kept) (rows : SolutionRows) (game : IsGame k.game.now) (size : length rows ≡ length k.game.now) where
   abbrev g : Graph
   g = k.game.now
 
   -- what is kept of a vertex rises
-  pub row_rising : (v : ℕ) → v < length g → IsStrictlyIncreasing (row_of k v)
+  pub row_rising : (v : ℕ) → v < length g → IsStrictlyIncreasing (kept_row k v)
   row_rising v l = go (members k.chosen v) (members k.inside v) refl refl
     where
-      go : (b c : Bool) → members k.chosen v ≡ b → members k.inside v ≡ c → IsStrictlyIncreasing (row_of k v)
+      go : (b c : Bool) → members k.chosen v ≡ b → members k.inside v ≡ c → IsStrictlyIncreasing (kept_row k v)
       go true c e f = rw e (λ i h. absurd (omega arith))
       go false true e f = rw (e, f) (game.successors v l).rising
       go false false e f = rw (e, f) (λ i h. absurd (omega arith))
@@ -176,11 +176,11 @@ module _ (k : Kept) (rows : Rows) (game : IsGame k.game.now) (size : length rows
               | inr none ↦ absurd (wrong v (l, same_is (owner_of g v) (winner_of rows v) s, (w, sym h, none)))
             ]
 
-module _ (k : Kept) (rows : Rows) where
+module _ (k : Kept) (rows : SolutionRows) where
   -- the first in a rising row that leads to the other winner is the least
-  pub first_is_least : (v : ℕ) (ws : List ℕ) (i : ℕ) → IsStrictlyIncreasing (row_of k v) → ws ≡ row_of k v → i < length ws → ((j : ℕ) → j < i → winner_of rows (slice_index ws j) ≡ winner_of rows v) → (x : ℕ) → LeavesTo k rows v x → slice_index ws i ≤ x
+  pub first_is_least : (v : ℕ) (ws : List ℕ) (i : ℕ) → IsStrictlyIncreasing (kept_row k v) → ws ≡ kept_row k v → i < length ws → ((j : ℕ) → j < i → winner_of rows (slice_index ws j) ≡ winner_of rows v) → (x : ℕ) → LeavesTo k rows v x → slice_index ws i ≤ x
   first_is_least v ws i up e l passed x h =
-      let q = place_in (row_of k v) ws x e h.0 in
+      let q = place_in (kept_row k v) ws x e h.0 in
       let rise : IsStrictlyIncreasing ws = subst (λ (xs : List ℕ). IsStrictlyIncreasing xs) (sym e) up in
       elim (order q.0 i) [
         | inl below ↦ absurd (h.1 (ap (winner_of rows) (sym q.2) ∙ passed q.0 below))

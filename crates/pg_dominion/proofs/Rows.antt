@@ -6,20 +6,20 @@ use Rattle.std.proofs.lemmas.Bool.{eqb-true, eq-eqb}
 use Rattle.pg_game.specs.declared.player.Player.{Player}
 use Rattle.pg_game.specs.Graph.{Graph}
 use Rattle.pg_game.specs.VertexSet.{VertexSet, union}
-use Rattle.pg_dominion.specs.Claim.{Rows, named, choice_in, IsRightRow}
-use Rattle.pg_dominion.specs.Attraction.{LeadsTo, AttractInTurn}
+use Rattle.pg_dominion.specs.Claim.{ClaimRows, named, choice_in, IsRightRow}
+use Rattle.pg_dominion.specs.Attraction.{IsAttractedRow, AttractInTurn}
 use Rattle.pg_dominion.proofs.Named.{named-append}
 use Rattle.pg_dominion.proofs.Booleans.{or_none}
 
-pub named-push : (xs : Rows) (r : ℕ × Option ℕ) (v : ℕ) → named (xs ++ r ∷ []) v ≡ (named xs v || (r.0 == v))
+pub named-push : (xs : ClaimRows) (r : ℕ × Option ℕ) (v : ℕ) → named (xs ++ r ∷ []) v ≡ (named xs v || (r.0 == v))
 named-push xs r v = named-append xs (r ∷ []) v ∙ ap (λ b. named xs v || b) (or_none (r.0 == v))
 
-pub no_push : (before : Rows) (r : ℕ × Option ℕ) (after : Rows) → [] ≡ before ++ r ∷ after → ⊥
+pub no_push : (before : ClaimRows) (r : ℕ × Option ℕ) (after : ClaimRows) → [] ≡ before ++ r ∷ after → ⊥
 no_push [] r after e = cc e
 no_push (b ∷ bs) r after e = cc e
 
 -- where the rows are one longer, the row that is looked at is an earlier one or the last
-split_push : (rows : Rows) (r : ℕ × Option ℕ) (before : Rows) (x : ℕ × Option ℕ) (after : Rows) → rows ++ r ∷ [] ≡ before ++ x ∷ after → ((rest : Rows) × (rows ≡ before ++ x ∷ rest)) ⊎ ((before ≡ rows) × (x ≡ r))
+split_push : (rows : ClaimRows) (r : ℕ × Option ℕ) (before : ClaimRows) (x : ℕ × Option ℕ) (after : ClaimRows) → rows ++ r ∷ [] ≡ before ++ x ∷ after → ((rest : ClaimRows) × (rows ≡ before ++ x ∷ rest)) ⊎ ((before ≡ rows) × (x ≡ r))
 split_push [] r [] x after e = inr (refl, cc e)
 split_push [] r (b ∷ bs) x after e = absurd (no_push bs x after (cc e))
 split_push (y ∷ ys) r [] x after e = inl (ys, let h : y ≡ x = cc e in ap (λ z. z ∷ ys) h)
@@ -32,7 +32,7 @@ split_push (y ∷ ys) r (b ∷ bs) x after e =
     ]
 
 -- a set may be told otherwise
-pub LeadsTo-same : (g : Graph) (p : Player) (U S S' : VertexSet) (r : ℕ × Option ℕ) → ((v : ℕ) → S v ≡ S' v) → LeadsTo g p U S r → LeadsTo g p U S' r
+pub LeadsTo-same : (g : Graph) (p : Player) (U S S' : VertexSet) (r : ℕ × Option ℕ) → ((v : ℕ) → S v ≡ S' v) → IsAttractedRow g p U S r → IsAttractedRow g p U S' r
 LeadsTo-same g p U S S' r same l = record {
   inside = l.inside;
   fresh = sym (same r.0) ∙ l.fresh;
@@ -40,13 +40,13 @@ LeadsTo-same g p U S S' r same l = record {
   forced = λ o. (let f = l.forced o in (f.0, λ w e u. sym (same w) ∙ f.1 w e u));
 }
 
-pub AttractInTurn-push : (g : Graph) (p : Player) (U S : VertexSet) (rows : Rows) (r : ℕ × Option ℕ) → AttractInTurn g p U S rows → LeadsTo g p U (union S (named rows)) r → AttractInTurn g p U S (rows ++ r ∷ [])
+pub AttractInTurn-push : (g : Graph) (p : Player) (U S : VertexSet) (rows : ClaimRows) (r : ℕ × Option ℕ) → AttractInTurn g p U S rows → IsAttractedRow g p U (union S (named rows)) r → AttractInTurn g p U S (rows ++ r ∷ [])
 AttractInTurn-push g p U S rows r turns leads before after x e = elim (split_push rows r before x after e) [
   | inl (rest, q) ↦ turns before rest x q
-  | inr (q, s) ↦ subst (λ (b : Rows). LeadsTo g p U (union S (named b)) x) (sym q) (subst (λ (y : ℕ × Option ℕ). LeadsTo g p U (union S (named rows)) y) (sym s) leads)
+  | inr (q, s) ↦ subst (λ (b : ClaimRows). IsAttractedRow g p U (union S (named b)) x) (sym q) (subst (λ (y : ℕ × Option ℕ). IsAttractedRow g p U (union S (named rows)) y) (sym s) leads)
 ]
 
-pub choice-none : (rows : Rows) (v : ℕ) → named rows v ≡ false → choice_in rows v ≡ None
+pub choice-none : (rows : ClaimRows) (v : ℕ) → named rows v ≡ false → choice_in rows v ≡ None
 choice-none [] v i = refl
 choice-none (r ∷ rows) v i = go (r.0 == v) refl (choice-none rows v)
   where
@@ -54,7 +54,7 @@ choice-none (r ∷ rows) v i = go (r.0 == v) refl (choice-none rows v)
     go true e h = absurd (let n : true ≡ false = rw e at i in cc n)
     go false e h = let n : named rows v ≡ false = rw e at i in rw e (h n)
 
-pub choice-push_other : (rows : Rows) (r : ℕ × Option ℕ) (v : ℕ) → (r.0 == v) ≡ false → choice_in (rows ++ r ∷ []) v ≡ choice_in rows v
+pub choice-push_other : (rows : ClaimRows) (r : ℕ × Option ℕ) (v : ℕ) → (r.0 == v) ≡ false → choice_in (rows ++ r ∷ []) v ≡ choice_in rows v
 choice-push_other [] r v e = rw e refl
 choice-push_other (x ∷ rows) r v e = go (x.0 == v) refl (choice-push_other rows r v e)
   where
@@ -62,7 +62,7 @@ choice-push_other (x ∷ rows) r v e = go (x.0 == v) refl (choice-push_other row
     go true f h = rw f refl
     go false f h = rw f h
 
-pub choice-push_same : (rows : Rows) (r : ℕ × Option ℕ) → named rows r.0 ≡ false → choice_in (rows ++ r ∷ []) r.0 ≡ r.1
+pub choice-push_same : (rows : ClaimRows) (r : ℕ × Option ℕ) → named rows r.0 ≡ false → choice_in (rows ++ r ∷ []) r.0 ≡ r.1
 choice-push_same [] r i = rw (eq-eqb r.0 r.0 refl) refl
 choice-push_same (x ∷ rows) r i = go (x.0 == r.0) refl (choice-push_same rows r)
   where
@@ -71,7 +71,7 @@ choice-push_same (x ∷ rows) r i = go (x.0 == r.0) refl (choice-push_same rows 
     go false f h = let n : named rows r.0 ≡ false = rw f at i in rw f (h n)
 
 -- the row of a named vertex is right
-pub named_right : (g : Graph) (p : Player) (rows : Rows) (v : ℕ) → AllByRecursion (IsRightRow g p) rows → named rows v ≡ true → IsRightRow g p (v, choice_in rows v)
+pub named_right : (g : Graph) (p : Player) (rows : ClaimRows) (v : ℕ) → AllByRecursion (IsRightRow g p) rows → named rows v ≡ true → IsRightRow g p (v, choice_in rows v)
 named_right g p [] v a i = absurd (cc i)
 named_right g p (r ∷ rows) v a i = go (r.0 == v) refl (named_right g p rows v a.1)
   where

@@ -8,36 +8,36 @@ use Rattle.std.proofs.lemmas.List.{map_push, map-append, take-append-drop, take_
 use Rattle.std.proofs.lemmas.Map.Keys.{sorted_from_strictly_increasing, below_from_sorted}
 use Rattle.pg_game.specs.declared.player.Player.{Player}
 use Rattle.pg_game.specs.Graph.{Graph}
-use Rattle.pg_dominion.specs.Claim.{Rows, named, IsRightRow, AreRight}
-use Rattle.pg_dominion.specs.Shape.{next_after}
+use Rattle.pg_dominion.specs.Claim.{ClaimRows, named, IsRightRow, AreRight}
+use Rattle.pg_dominion.specs.private.Shape.{next_after}
 use Rattle.pg_dominion.proofs.Booleans.{last_or}
 
-abbrev vertices : Rows → List ℕ
+abbrev vertices : ClaimRows → List ℕ
 vertices rows = map (λ r. r.0) rows
 
-pub next_after-push : (rows : Rows) (r : ℕ × Option ℕ) → next_after rows ≤ r.0 → next_after (rows ++ r ∷ []) ≡ r.0 + 1
+pub next_after-push : (rows : ClaimRows) (r : ℕ × Option ℕ) → next_after rows ≤ r.0 → next_after (rows ++ r ∷ []) ≡ r.0 + 1
 next_after-push [] r l = omega arith
 next_after-push (x ∷ rows) r l = omega (arith, next_after-push rows r (omega arith))
 
 -- each vertex is below the next
-below_next : (rows : Rows) (k : ℕ) → k < length rows → slice_index (vertices rows) k < next_after rows
+below_next : (rows : ClaimRows) (k : ℕ) → k < length rows → slice_index (vertices rows) k < next_after rows
 below_next [] k l = absurd (omega arith)
 below_next (x ∷ rows) zero l = omega arith
 below_next (x ∷ rows) (suc k) l = omega (arith, below_next rows k (omega arith))
 
-next_least : (rows : Rows) (m : ℕ) → ((k : ℕ) → k < length rows → slice_index (vertices rows) k < m) → next_after rows ≤ m
+next_least : (rows : ClaimRows) (m : ℕ) → ((k : ℕ) → k < length rows → slice_index (vertices rows) k < m) → next_after rows ≤ m
 next_least [] m h = omega arith
 next_least (x ∷ rows) m h = let a : x.0 < m = h 0 (omega arith) in omega (arith, next_least rows m (λ k l. h (suc k) (omega arith)))
 
-all_push : (P : ℕ × Option ℕ → Type 0) (rows : Rows) (r : ℕ × Option ℕ) → AllByRecursion P rows → P r → AllByRecursion P (rows ++ r ∷ [])
+all_push : (P : ℕ × Option ℕ → Type 0) (rows : ClaimRows) (r : ℕ × Option ℕ) → AllByRecursion P rows → P r → AllByRecursion P (rows ++ r ∷ [])
 all_push P [] r a h = (h, tt)
 all_push P (x ∷ rows) r a h = (a.0, all_push P rows r a.1 h)
 
-all_last : (P : ℕ × Option ℕ → Type 0) (rows : Rows) (r : ℕ × Option ℕ) → AllByRecursion P (rows ++ r ∷ []) → P r
+all_last : (P : ℕ × Option ℕ → Type 0) (rows : ClaimRows) (r : ℕ × Option ℕ) → AllByRecursion P (rows ++ r ∷ []) → P r
 all_last P [] r a = a.0
 all_last P (x ∷ rows) r a = all_last P rows r a.1
 
-pub AreRight-push : (g : Graph) (p : Player) (rows : Rows) (r : ℕ × Option ℕ) → AreRight g p rows → IsRightRow g p r → next_after rows ≤ r.0 → AreRight g p (rows ++ r ∷ [])
+pub AreRight-push : (g : Graph) (p : Player) (rows : ClaimRows) (r : ℕ × Option ℕ) → AreRight g p rows → IsRightRow g p r → next_after rows ≤ r.0 → AreRight g p (rows ++ r ∷ [])
 AreRight-push g p rows r a right l = record {
   each = all_push (IsRightRow g p) rows r a.each right;
   rising = subst (λ (xs : List ℕ). IsStrictlyIncreasing xs) (sym (map_push (λ (x : ℕ × Option ℕ). x.0) rows r)) (λ k lt.
@@ -55,11 +55,11 @@ AreRight-push g p rows r a right l = record {
 }
 
 -- a vertex from the next on is not named
-pub unnamed : (rows : Rows) (v : ℕ) → next_after rows ≤ v → named rows v ≡ false
+pub unnamed : (rows : ClaimRows) (v : ℕ) → next_after rows ≤ v → named rows v ≡ false
 unnamed [] v l = refl
 unnamed (x ∷ rows) v l = let f : (x.0 == v) ≡ false = false_from_ne_true (x.0 == v) (λ t. let e = eqb-true x.0 v t in absurd (omega arith)) in rw (f, unnamed rows v (omega arith)) refl
 
-pub AreRight-last : (g : Graph) (p : Player) (rows : Rows) (r : ℕ × Option ℕ) → AreRight g p (rows ++ r ∷ []) → IsRightRow g p r × (next_after rows ≤ r.0)
+pub AreRight-last : (g : Graph) (p : Player) (rows : ClaimRows) (r : ℕ × Option ℕ) → AreRight g p (rows ++ r ∷ []) → IsRightRow g p r × (next_after rows ≤ r.0)
 AreRight-last g p rows r a =
     let size = length-map rows (λ (x : ℕ × Option ℕ). x.0) in
     let up : IsStrictlyIncreasing (vertices rows ++ r.0 ∷ []) = subst (λ (xs : List ℕ). IsStrictlyIncreasing xs) (map_push (λ (x : ℕ × Option ℕ). x.0) rows r) a.rising in (
@@ -71,11 +71,11 @@ AreRight-last g p rows r a =
           let i : get_or (vertices rows) k 0 < r.0 = omega (arith, e, f, h) in i),
     )
 
-all_front : (P : ℕ × Option ℕ → Type 0) (xs ys : Rows) → AllByRecursion P (xs ++ ys) → AllByRecursion P xs
+all_front : (P : ℕ × Option ℕ → Type 0) (xs ys : ClaimRows) → AllByRecursion P (xs ++ ys) → AllByRecursion P xs
 all_front P [] ys a = tt
 all_front P (x ∷ xs) ys a = (a.0, all_front P xs ys a.1)
 
-pub AreRight-front : (g : Graph) (p : Player) (xs ys : Rows) → AreRight g p (xs ++ ys) → AreRight g p xs
+pub AreRight-front : (g : Graph) (p : Player) (xs ys : ClaimRows) → AreRight g p (xs ++ ys) → AreRight g p xs
 AreRight-front g p xs ys a = record {
   each = all_front (IsRightRow g p) xs ys a.each;
   rising = λ k l.
@@ -87,9 +87,9 @@ AreRight-front g p xs ys a = record {
 }
 
 -- the next row's vertex is not named by the rows before it
-pub next_unnamed : (g : Graph) (p : Player) (rows : Rows) (i : ℕ) (d : ℕ × Option ℕ) → AreRight g p rows → i < length rows → named (take i rows) (get_or rows i d).0 ≡ false
+pub next_unnamed : (g : Graph) (p : Player) (rows : ClaimRows) (i : ℕ) (d : ℕ × Option ℕ) → AreRight g p rows → i < length rows → named (take i rows) (get_or rows i d).0 ≡ false
 next_unnamed g p rows i d a l =
     let r = get_or rows i d in
-    let all : AreRight g p (take (i + 1) rows ++ drop (i + 1) rows) = subst (λ (xs : Rows). AreRight g p xs) (sym (take-append-drop (i + 1) rows)) a in
-    let front : AreRight g p (take i rows ++ r ∷ []) = subst (λ (xs : Rows). AreRight g p xs) (take_more rows i d l) (AreRight-front g p (take (i + 1) rows) (drop (i + 1) rows) all) in
+    let all : AreRight g p (take (i + 1) rows ++ drop (i + 1) rows) = subst (λ (xs : ClaimRows). AreRight g p xs) (sym (take-append-drop (i + 1) rows)) a in
+    let front : AreRight g p (take i rows ++ r ∷ []) = subst (λ (xs : ClaimRows). AreRight g p xs) (take_more rows i d l) (AreRight-front g p (take (i + 1) rows) (drop (i + 1) rows) all) in
     unnamed (take i rows) r.0 (AreRight-last g p (take i rows) r front).1

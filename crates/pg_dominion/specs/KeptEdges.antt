@@ -13,19 +13,11 @@ pub record IsKept (k : Kept) : Type 0 where
   pub bad : length k.bad ≡ length k.game.now
   pub below : (v : ℕ) → In (members k.chosen) v → slice_index k.choices.items v < length k.game.now
 
-abbrev pub row_of : Kept → ℕ → List ℕ
-row_of k v = if members k.chosen v then slice_index k.choices.items v ∷ [] else (if members k.inside v then successors_of k.game.now v else [])
+abbrev pub kept_row : Kept → ℕ → List ℕ
+kept_row k v = if members k.chosen v then slice_index k.choices.items v ∷ [] else (if members k.inside v then successors_of k.game.now v else [])
 
 abbrev pub Edge : Kept → ℕ → ℕ → Type 0
-Edge k v w = Contains (row_of k v) w
-
--- an edge to a vertex of at most this priority
-abbrev pub EdgeUnder : Kept → ℕ → ℕ → ℕ → Type 0
-EdgeUnder k top v w = Edge k v w × (priority_of k.game.now w ≤ top)
-
--- a walk from v to w over vertices of at most v's priority
-abbrev pub Reaches : Kept → ℕ → ℕ → Type 0
-Reaches k v w = (vs : List ℕ) × Walk (EdgeUnder k (priority_of k.game.now v)) v vs w
+Edge k v w = Contains (kept_row k v) w
 
 -- the vertex is the greatest on a closed walk through it
 abbrev pub OnTop : Kept → ℕ → Type 0
@@ -34,29 +26,3 @@ OnTop k v = (vs : List ℕ) × ClosedWalk (Edge k) (v ∷ vs) × (priority_of k.
 -- a bad vertex that is the greatest on a closed walk through it
 abbrev pub IsWorst : Kept → ℕ → Type 0
 IsWorst k v = In (members k.bad) v × OnTop k v
-
--- a search from the start: the vertices with the mark, in the order in which they were reached
-pub record Searching (k : Kept) (start : ℕ) (stamps queue : List ℕ) : Type 0 where
-  pub size : length stamps ≡ length k.game.now
-  pub bound : (x : ℕ) → slice_index stamps x ≤ start + 1
-  pub known : (x : ℕ) → slice_index stamps x ≡ start + 1 → (i : ℕ) × (i < length queue) × (slice_index queue i ≡ x)
-  pub below : (i : ℕ) → i < length queue → slice_index queue i < length k.game.now
-  pub reached : (i : ℕ) → i < length queue → Reaches k start (slice_index queue i)
-
--- the search goes on from v: it is the start, or it was reached
-abbrev pub IsSource : Kept → ℕ → ℕ → Type 0
-IsSource k start v = (v ≡ start) ⊎ Reaches k start v
-
--- w is not the start, and has the mark
-abbrev pub IsMarked : ℕ → List ℕ → ℕ → Type 0
-IsMarked start stamps w = (w ≢ start) × (slice_index stamps w ≡ start + 1)
-
--- what v leads to, under the start's priority, has the mark
-abbrev pub IsSpread : Kept → ℕ → List ℕ → ℕ → Type 0
-IsSpread k start stamps v = (w : ℕ) → EdgeUnder k (priority_of k.game.now start) v w → IsMarked start stamps w
-
--- what was reached stays so
-pub record GoesOn (mark : ℕ) (stamps queue stamps' queue' : List ℕ) : Type 0 where
-  pub longer : length queue ≤ length queue'
-  pub front : (i : ℕ) → i < length queue → slice_index queue' i ≡ slice_index queue i
-  pub keeps : (x : ℕ) → slice_index stamps x ≡ mark → slice_index stamps' x ≡ mark

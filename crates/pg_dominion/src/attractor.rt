@@ -8,7 +8,7 @@ ghost use Rattle.pg_game.specs.VertexSet.{members, In, Within};
 ghost use Rattle.pg_game.specs.Graph.{HasEdge};
 ghost use Rattle.pg_game.specs.Subgame.{IsSubgame};
 ghost use Rattle.pg_dominion.specs.Attraction.{IsAttraction};
-ghost use Rattle.pg_dominion.specs.Attracting.{IsBlocked, ArePassed, Attracting, IsSettled, Continues};
+ghost use Rattle.pg_dominion.specs.private.Attracting.{IsBlocked, AreBlocked, Attracting, IsTakenOrOpen, Continues};
 
 use pg_game::{Game, Mask, Memory, Player};
 use std::alloc::Global;
@@ -36,8 +36,8 @@ fn pass_blocked(successors: &[u32], inside: &Mask, taken: &Mask, at: u32) -> u32
     requires short { length successors.now < 2 ^ 32 }
     requires below { (k : ℕ) → k < length successors.now → slice_index successors.now k < length inside.now }
     requires size { length taken.now ≡ length inside.now }
-    requires passed { ArePassed (members inside.now) (members taken.now) successors.now at }
-    ensures passed { ArePassed (members inside.now) (members taken.now) successors.now result }
+    requires passed { AreBlocked (members inside.now) (members taken.now) successors.now at }
+    ensures passed { AreBlocked (members inside.now) (members taken.now) successors.now result }
     ensures inside { result < length successors.now → In (members inside.now) (slice_index successors.now result) }
     ensures open { result < length successors.now → members taken.now (slice_index successors.now result) ≡ false }
 {
@@ -61,7 +61,7 @@ impl<'a> Attractor<'a> {
         requires state { Attracting self.now.game.now self.now.player (members self.now.inside.now) (members self.now.target.now) progress.old.taken progress.old.passed.items progress.old.rows.items }
         ensures state { OnOk result (Attracting self.now.game.now self.now.player (members self.now.inside.now) (members self.now.target.now) progress.new.taken progress.new.passed.items progress.new.rows.items) }
         ensures grows { OnOk result (Within (members progress.old.taken) (members progress.new.taken)) }
-        ensures settled { OnOk result (IsSettled self.now.game.now self.now.player (members self.now.inside.now) (members progress.old.taken) (members progress.new.taken) from) }
+        ensures settled { OnOk result (IsTakenOrOpen self.now.game.now self.now.player (members self.now.inside.now) (members progress.old.taken) (members progress.new.taken) from) }
         ensures rows { OnOk result (Continues progress.old.rows.items progress.new.rows.items) }
     {
         if progress.taken.has(from) {
@@ -95,7 +95,7 @@ impl<'a> Attractor<'a> {
         requires state { Attracting self.now.game.now self.now.player (members self.now.inside.now) (members self.now.target.now) progress.old.taken progress.old.passed.items progress.old.rows.items }
         ensures state { OnOk result (Attracting self.now.game.now self.now.player (members self.now.inside.now) (members self.now.target.now) progress.new.taken progress.new.passed.items progress.new.rows.items) }
         ensures grows { OnOk result (Within (members progress.old.taken) (members progress.new.taken)) }
-        ensures settled { OnOk result ((u : ℕ) → In (members self.now.inside.now) u → HasEdge self.now.game.now u to → IsSettled self.now.game.now self.now.player (members self.now.inside.now) (members progress.old.taken) (members progress.new.taken) u) }
+        ensures settled { OnOk result ((u : ℕ) → In (members self.now.inside.now) u → HasEdge self.now.game.now u to → IsTakenOrOpen self.now.game.now self.now.player (members self.now.inside.now) (members progress.old.taken) (members progress.new.taken) u) }
         ensures rows { OnOk result (Continues progress.old.rows.items progress.new.rows.items) }
     {
         for from in self.game.predecessors(to) {

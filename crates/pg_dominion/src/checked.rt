@@ -4,7 +4,7 @@
 ghost use Rattle.std.specs.Prelude.{◌≡◌, ℕ, ◌<◌, length, ◌∷◌, [], IfOk, MatchOption, true, false};
 ghost use Rattle.pg_game.specs.Graph.{HasEdge};
 ghost use Rattle.pg_dominion.specs.Claim.{IsRightRow, AreRight, IsSound};
-ghost use Rattle.pg_dominion.specs.Checked.{claim_row, claim_rows, claim_of, IsSingle, AgreesAt, Agrees, IsForeign, AreChecked};
+ghost use Rattle.pg_dominion.specs.Checked.{claim_row, claim_rows, claim_of, KeepsOne, AgreesAt, AgreesWithGame, IsForeign, AreChecked};
 
 use crate::claim::Claim;
 use pg_game::{Game, Player, Sequence};
@@ -79,7 +79,7 @@ fn single<'g>(game: &'g Game, v: u32, w: u32) -> &'g [u32]
 
 impl<'g> CheckedRow<'g> {
     /// The row of a claim that is right in a game, with what the game says of its vertex.
-    fn of(game: &'g Game, player: Player, row: (u32, Option<u32>)) -> CheckedRow<'g>
+    pub(crate) fn of(game: &'g Game, player: Player, row: (u32, Option<u32>)) -> CheckedRow<'g>
         requires { IsRightRow game.now player row }
         ensures agrees { AgreesAt game.now player result }
         ensures row { claim_row player result ≡ row }
@@ -100,7 +100,7 @@ impl<'g> CheckedRow<'g> {
 
     /// Whether the row says of its vertex what the game says.
     fn agrees(&self, game: &Game, player: Player) -> bool
-        requires { IsSingle player self.now }
+        requires { KeepsOne player self.now }
         ensures agrees { result ≡ true → AgreesAt game.now player self.now }
         ensures foreign { result ≡ false → AgreesAt game.now player self.now → ⊥ }
     {
@@ -124,7 +124,7 @@ fn checked_rows<'g>(
     claim: &Claim,
 ) -> Result<Vec<CheckedRow<'g>>, AllocError>
     requires { AreRight game.now claim.now.player claim.now.rows }
-    ensures agree { IfOk result (λ rows. Agrees game.now claim.now.player rows.items) }
+    ensures agree { IfOk result (λ rows. AgreesWithGame game.now claim.now.player rows.items) }
     ensures rows { IfOk result (λ rows. claim_rows claim.now.player rows.items ≡ claim.now.rows) }
 {
     let claimed = claim.rows.as_slice();
@@ -144,7 +144,7 @@ impl<'g> Checked<'g> {
     ) -> Result<Checked<'g>, AllocError>
         requires { IsSound game.now claim.now.player claim.now.rows }
         ensures holds { IfOk result (λ c. claim_of c ≡ claim.now) }
-        ensures agrees { IfOk result (λ c. Agrees game.now c.player c.rows) }
+        ensures agrees { IfOk result (λ c. AgreesWithGame game.now c.player c.rows) }
     {
         let rows = checked_rows(alloc, game, claim)?;
         let claimed = Vec::from_slice(alloc, claim.rows.as_slice())?;
@@ -183,7 +183,7 @@ impl<'g> Checked<'g> {
 
     /// The vertex of the first row that does not say of it what the game says; none where the claim agrees with the game.
     pub fn first_foreign(&self, game: &Game) -> Option<u32>
-        ensures { MatchOption result (Agrees game.now self.now.player self.now.rows) (IsForeign game.now self.now.player self.now.rows) }
+        ensures { MatchOption result (AgreesWithGame game.now self.now.player self.now.rows) (IsForeign game.now self.now.player self.now.rows) }
     {
         let player = self.claim.player;
         'rows: for row in self.rows.as_slice() {

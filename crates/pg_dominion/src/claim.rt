@@ -9,13 +9,14 @@ ghost use Rattle.pg_game.specs.Least.{NoneHas, IsLeast};
 ghost use Rattle.pg_game.specs.Region.{OnBadWalk};
 ghost use Rattle.pg_dominion.specs.Claim.{IsSound, IsRightRow, HasShape, IsFirstWrongRow, named, choice_in};
 ghost use Rattle.pg_dominion.specs.Fault.{IsClaimFault};
-ghost use Rattle.pg_dominion.specs.Shape.{is_bad, marked, chosen_with, choices_with};
+ghost use Rattle.pg_dominion.specs.private.Shape.{is_bad, marked, chosen_with, choices_with};
 ghost use Rattle.pg_dominion.specs.KeptEdges.{IsKept, IsWorst};
-ghost use Rattle.pg_dominion.specs.Checked.{claim_of, Agrees};
+ghost use Rattle.pg_dominion.specs.Checked.{claim_of, AgreesWithGame};
 
 use crate::checked::Checked;
 use crate::cycles::first_worst;
 use crate::kept::Kept;
+use crate::small::is_shown_small;
 use pg_game::{Game, Mask, Player, Sequence};
 use std::alloc::{AllocError, Global};
 
@@ -167,6 +168,10 @@ fn first_on_bad_walk(alloc: Global, game: &Game, claim: &Claim) -> Result<Option
     if !names_bad_vertex(game, claim) {
         return Ok(None);
     }
+    let is_shown = is_shown_small(alloc, game, claim)?;
+    if is_shown {
+        return Ok(None);
+    }
     let kept = kept_of(alloc, game, claim)?;
     let least = first_worst(alloc, &kept)?;
     Ok(least)
@@ -197,7 +202,7 @@ pub fn check_claim<'g>(
 ) -> Result<Checked<'g>, ClaimFault>
     ensures sound { IfOk result (λ c. IsSound game.now claim.now.player claim.now.rows) }
     ensures holds { IfOk result (λ c. claim_of c ≡ claim.now) }
-    ensures agrees { IfOk result (λ c. Agrees game.now c.player c.rows) }
+    ensures agrees { IfOk result (λ c. AgreesWithGame game.now c.player c.rows) }
     ensures fault { IfErr result (λ e. IsClaimFault game.now claim.now.player claim.now.rows e) }
 {
     judge_claim(alloc, game, claim)?;

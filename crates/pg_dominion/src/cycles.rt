@@ -7,7 +7,8 @@
 
 ghost use Rattle.std.specs.Prelude.{◌≡◌, ℕ, ◌<◌, ◌≤◌, ◌+◌, length, slice_index, IfOk, IfSome, OnOk, MatchOption, true, false};
 ghost use Rattle.pg_game.specs.Least.{NoneHas, IsLeast};
-ghost use Rattle.pg_dominion.specs.KeptEdges.{IsKept, Reaches, IsWorst, Searching, IsSource, IsSpread, GoesOn};
+ghost use Rattle.pg_dominion.specs.KeptEdges.{IsKept, IsWorst};
+ghost use Rattle.pg_dominion.specs.private.KeptEdges.{Reaches, Searching, IsSource, IsSpread, GoesOn};
 
 use crate::kept::Kept;
 use crate::placing::find_ranking;

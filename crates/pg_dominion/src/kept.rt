@@ -1,7 +1,7 @@
 //! The edges that are kept of a game, read in place: no edge is copied.
 
 ghost use Rattle.std.specs.Prelude.{◌≡◌, ℕ, ◌<◌, ◌^◌, length, slice_index};
-ghost use Rattle.pg_dominion.specs.KeptEdges.{IsKept, row_of};
+ghost use Rattle.pg_dominion.specs.KeptEdges.{IsKept, kept_row};
 
 use pg_game::{Game, Mask};
 
@@ -21,7 +21,7 @@ impl<'g> Kept<'g> {
     pub fn row(&self, v: u32) -> &[u32]
         requires kept { IsKept self.now }
         requires vertex { v < length self.now.game.now }
-        ensures all { result.now ≡ row_of self.now v }
+        ensures all { result.now ≡ kept_row self.now v }
         ensures below { (i : ℕ) → i < length result.now → slice_index result.now i < length self.now.game.now }
         ensures short { length result.now < 2 ^ 32 }
     {

@@ -15,6 +15,7 @@ mod kept_components;
 mod pieces;
 mod placing;
 mod ranking;
+mod small;
 mod solution;
 mod tables;
 #[cfg(test)]

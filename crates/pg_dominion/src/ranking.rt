@@ -6,7 +6,7 @@
 
 ghost use Rattle.std.specs.Prelude.{◌≡◌, ℕ, ◌+◌, ◌%◌, ◌<◌, ◌≤◌, ◌^◌, ◌⊎◌, length, slice_index, vec_len, IfOk, true};
 ghost use Rattle.pg_dominion.specs.KeptEdges.{IsKept, Edge, IsWorst};
-ghost use Rattle.pg_dominion.specs.Ranking.{key_of};
+ghost use Rattle.pg_dominion.specs.private.Ranking.{key_of};
 
 use crate::kept::Kept;
 use std::alloc::{AllocError, Global};

@@ -9,7 +9,7 @@ ghost use Rattle.pg_text.specs.Solution.{IsSolution, winner_of, choice_of};
 ghost use Rattle.pg_text.specs.Verdict.{LacksChoice, HasBadChoice, Leaves, IsOnBadWalk, IsFirstLeaving};
 ghost use Rattle.pg_dominion.specs.Verdict.{FailsBy};
 ghost use Rattle.pg_dominion.specs.KeptEdges.{IsKept, IsWorst};
-ghost use Rattle.pg_dominion.specs.Plan.{own_choice, IsPlanned, IsPlanOf, LeavesTo, IsFirstTo};
+ghost use Rattle.pg_dominion.specs.private.Plan.{own_choice, IsPlanned, IsPlanOf, LeavesTo, IsFirstTo};
 
 use crate::claim::{is_bad, mark_if, note_choice};
 use crate::cycles::first_worst;

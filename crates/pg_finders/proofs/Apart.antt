@@ -5,26 +5,26 @@ use Rattle.std.proofs.lemmas.Bool.{eqb-true, eq-eqb}
 use Rattle.std.proofs.lemmas.List.{get_or-take, length-take-le}
 use Rattle.std.proofs.lemmas.List.Folds.{list_any_at, list_any_more}
 use Rattle.std.proofs.Math.Seq.{take-set-lt}
-use Rattle.pg_dominion.specs.Claim.{Rows, named, choice_in}
-use Rattle.pg_finders.specs.Partial.{no_row, vertex_in, choice_at, AreDifferent}
-use Rattle.pg_finders.specs.Few.{IsFew}
+use Rattle.pg_dominion.specs.Claim.{ClaimRows, named, choice_in}
+use Rattle.pg_finders.specs.private.small.Partial.{no_row, vertex_in, choice_at, AreDifferent}
+use Rattle.pg_finders.specs.private.small.Few.{IsFew}
 use Rattle.pg_finders.proofs.Sets.{test}
 
-module _ (rows now : Rows) (len : ℕ) (few : IsFew rows len) (view : take len rows ≡ now) where
+module _ (rows now : ClaimRows) (len : ℕ) (few : IsFew rows len) (view : take len rows ≡ now) where
   pub view_length : len ≡ length now
   view_length = sym (ap length (sym view) ∙ length-take-le len rows (omega (arith, few.size, few.within)))
 
   pub view_row : (at : ℕ) → at < length now → get_or rows at no_row ≡ get_or now at no_row
-  view_row at l = sym (ap (λ (xs : Rows). get_or xs at no_row) (sym view) ∙ get_or-take len rows at no_row (omega (arith, view_length)))
+  view_row at l = sym (ap (λ (xs : ClaimRows). get_or xs at no_row) (sym view) ∙ get_or-take len rows at no_row (omega (arith, view_length)))
 
   pub view_set : (at : ℕ) (r : ℕ × Option ℕ) → at < length now → take len (set rows at r) ≡ set now at r
-  view_set at r l = take-set-lt len rows at r (omega (arith, view_length)) ∙ ap (λ (xs : Rows). set xs at r) view
+  view_set at r l = take-set-lt len rows at r (omega (arith, view_length)) ∙ ap (λ (xs : ClaimRows). set xs at r) view
 
 -- the vertex at a place is named
-pub named_here : (rows : Rows) (at v : ℕ) → at < length rows → vertex_in rows at ≡ v → named rows v ≡ true
+pub named_here : (rows : ClaimRows) (at v : ℕ) → at < length rows → vertex_in rows at ≡ v → named rows v ≡ true
 named_here rows at v l e = list_any_at (λ (r : ℕ × Option ℕ). r.0 == v) rows at no_row l (eq-eqb (vertex_in rows at) v e)
 
-pub named_more : (rows : Rows) (at v : ℕ) → at < length rows → named (take (at + 1) rows) v ≡ (named (take at rows) v || (vertex_in rows at == v))
+pub named_more : (rows : ClaimRows) (at v : ℕ) → at < length rows → named (take (at + 1) rows) v ≡ (named (take at rows) v || (vertex_in rows at == v))
 named_more rows at v l = list_any_more (λ (r : ℕ × Option ℕ). r.0 == v) rows at no_row l
 
 pub differ : (x v : ℕ) → x ≢ v → (x == v) ≡ false
@@ -34,26 +34,26 @@ differ x v n = go (x == v) refl
     go true e = absurd (n (eqb-true x v e))
     go false e = refl
 
-pub unnamed_more : (rows : Rows) (at v : ℕ) → at < length rows → named (take at rows) v ≡ false → vertex_in rows at ≢ v → named (take (at + 1) rows) v ≡ false
+pub unnamed_more : (rows : ClaimRows) (at v : ℕ) → at < length rows → named (take at rows) v ≡ false → vertex_in rows at ≢ v → named (take (at + 1) rows) v ≡ false
 unnamed_more rows at v l h n = named_more rows at v l ∙ rw (h, differ (vertex_in rows at) v n) refl
 
 -- no vertex stands at two places, so its choice is that of its place
-pub choice_of_place : (rows : Rows) (k : ℕ) → AreDifferent rows → k < length rows → choice_in rows (vertex_in rows k) ≡ choice_at rows k
+pub choice_of_place : (rows : ClaimRows) (k : ℕ) → AreDifferent rows → k < length rows → choice_in rows (vertex_in rows k) ≡ choice_at rows k
 choice_of_place [] k d l = absurd (omega (arith, l))
 choice_of_place (r ∷ rows) zero d l = rw (eq-eqb r.0 r.0 refl) refl
 choice_of_place (r ∷ rows) (suc k) d l = rw (differ r.0 (vertex_in rows k) (d 0 (suc k) (omega arith) l)) (choice_of_place rows k (λ i j a b. d (suc i) (suc j) (omega (arith, a)) (omega (arith, b))) (omega (arith, l)))
 
-pub place_of : (rows : Rows) (v : ℕ) → named rows v ≡ true → (k : ℕ) × (k < length rows) × (vertex_in rows k ≡ v)
+pub place_of : (rows : ClaimRows) (v : ℕ) → named rows v ≡ true → (k : ℕ) × (k < length rows) × (vertex_in rows k ≡ v)
 place_of [] v i = absurd (cc i)
 place_of (r ∷ rows) v i = elim (test (r.0 == v)) [
   | inl y ↦ (zero, omega arith, eqb-true r.0 v y)
   | inr n ↦ (let h = place_of rows v (rw n at i) in (suc h.0, omega (arith, h.1), h.2))
 ]
 
-pub front_named : (rows : Rows) (done k : ℕ) → done ≤ length rows → k < done → named (take done rows) (vertex_in rows k) ≡ true
+pub front_named : (rows : ClaimRows) (done k : ℕ) → done ≤ length rows → k < done → named (take done rows) (vertex_in rows k) ≡ true
 front_named rows done k m l = named_here (take done rows) k (vertex_in rows k) (omega (arith, length-take-le done rows m)) (ap (λ (r : ℕ × Option ℕ). r.0) (get_or-take done rows k no_row l))
 
-pub front_place : (rows : Rows) (done v : ℕ) → done ≤ length rows → named (take done rows) v ≡ true → (k : ℕ) × (k < done) × (vertex_in rows k ≡ v)
+pub front_place : (rows : ClaimRows) (done v : ℕ) → done ≤ length rows → named (take done rows) v ≡ true → (k : ℕ) × (k < done) × (vertex_in rows k ≡ v)
 front_place rows done v m i =
     let h = place_of (take done rows) v i in
     let l : h.0 < done = omega (arith, h.1, length-take-le done rows m) in
@@ -62,7 +62,7 @@ front_place rows done v m i =
 order : (j k : ℕ) → (j < k) ⊎ (j ≡ k) ⊎ (k < j)
 order j k = grind arith
 
-pub same_place : (rows : Rows) (j k : ℕ) → AreDifferent rows → j < length rows → k < length rows → vertex_in rows j ≡ vertex_in rows k → j ≡ k
+pub same_place : (rows : ClaimRows) (j k : ℕ) → AreDifferent rows → j < length rows → k < length rows → vertex_in rows j ≡ vertex_in rows k → j ≡ k
 same_place rows j k d a b e = elim (order j k) [
   | inl l ↦ absurd (d j k l b e)
   | inr h ↦ elim h [ inl q ↦ q | inr l ↦ absurd (d k j l a (sym e)) ]

@@ -4,7 +4,7 @@ use Rattle.std.specs.Prelude.{◌==◌, slice_set}
 use Rattle.std.proofs.lemmas.Bool.{eqb-true, eq-eqb}
 use Rattle.std.proofs.lemmas.List.{get_or_past, get_or-replicate, length-replicate}
 use Rattle.pg_game.specs.VertexSet.{VertexSet, members}
-use Rattle.pg_finders.specs.Planned.{HasBelow}
+use Rattle.pg_finders.specs.private.recursion.Planned.{HasBelow}
 
 pub order : (v i : ℕ) → (v < i) ⊎ (v ≡ i) ⊎ (i < v)
 order v i = grind arith

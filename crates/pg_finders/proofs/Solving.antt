@@ -6,33 +6,34 @@ use Rattle.std.specs.List.{Contains}
 use Rattle.pg_game.specs.declared.player.Player.{Player}
 use Rattle.pg_game.specs.Player.{opponent, same_player, of_parity}
 use Rattle.pg_game.specs.Graph.{Graph, HasEdge, owner_of, priority_of, successors_of}
-use Rattle.pg_game.specs.VertexSet.{VertexSet, In, no_vertices, without}
+use Rattle.pg_game.specs.VertexSet.{VertexSet, In, no_vertices}
+use Rattle.pg_game.specs.private.VertexSet.{without}
 use Rattle.pg_game.specs.Subgame.{IsSubgame}
-use Rattle.pg_game.specs.Kept.{Choices, kept, listed, KeptEdge}
+use Rattle.pg_game.specs.Kept.{Choices, kept, option_list, KeptEdge}
 use Rattle.pg_game.specs.Region.{OnlyGoodWalks}
 use Rattle.pg_game.proofs.Members.{Contains-one, some_or_none}
 use Rattle.pg_game.proofs.Walks.{ClosedWalk-weaker}
-use Rattle.pg_finders.specs.Solved.{Winners, won_by, Holds, IsSolved, IsSolvedTo, IsAttracted, IsBegun}
+use Rattle.pg_finders.specs.private.Solved.{Winners, won_inside, WinsOn, IsSolvedInside, IsSolvedTo, IsAttracted, IsBegun}
 use Rattle.pg_finders.proofs.Sets.{own_or_other, not_both, twice, same_is, is_same, not_same, both, pair, only, minus, back, unless, no_both, test, equal_from}
-use Rattle.pg_finders.proofs.Loops.{Among, closed_among, closed_inside, closed_begins, in_or_out, never_falls, never_empty, greatest_kept}
+use Rattle.pg_finders.proofs.ClosedWalks.{Among, closed_among, closed_inside, closed_begins, in_or_out, never_falls, never_empty, greatest_kept}
 
 -- where a kept edge leads: along the player's choice, or along any edge of the opponent's vertex
-pub kept_leads : (g : Graph) (p : Player) (s : Choices) (v w : ℕ) → Contains (kept g p s v) w → ((owner_of g v ≡ p) × Contains (listed (s v)) w) ⊎ ((owner_of g v ≡ opponent p) × HasEdge g v w)
+pub kept_leads : (g : Graph) (p : Player) (s : Choices) (v w : ℕ) → Contains (kept g p s v) w → ((owner_of g v ≡ p) × Contains (option_list (s v)) w) ⊎ ((owner_of g v ≡ opponent p) × HasEdge g v w)
 kept_leads g p s v w m = elim (own_or_other (owner_of g v) p) [
-  | inl o ↦ inl (o, (let y = is_same (owner_of g v) p o in let n : Contains (listed (s v)) w = rw y at m in n))
+  | inl o ↦ inl (o, (let y = is_same (owner_of g v) p o in let n : Contains (option_list (s v)) w = rw y at m in n))
   | inr o ↦ inr (o, (let y = not_same (owner_of g v) p o in let n : HasEdge g v w = rw y at m in n))
 ]
 
 -- with the choice known
-pub choice_leads : (s : Option ℕ) (c w : ℕ) → s ≡ Some c → Contains (listed s) w → c ≡ w
-choice_leads s c w e m = Contains-one c w (subst (λ o. Contains (listed o) w) e m)
+pub choice_leads : (s : Option ℕ) (c w : ℕ) → s ≡ Some c → Contains (option_list s) w → c ≡ w
+choice_leads s c w e m = Contains-one c w (subst (λ o. Contains (option_list o) w) e m)
 
 -- what one of two strategies keeps, the other keeps where they agree
 pub kept_same : (g : Graph) (p : Player) (X : VertexSet) (s t : Choices) (v w : ℕ) → t v ≡ s v → In X v → Contains (kept g p t v) w → KeptEdge g p X s v w
-kept_same g p X s t v w e i m = (i, subst (λ o. Contains (if same_player (owner_of g v) p then listed o else successors_of g v) w) e m)
+kept_same g p X s t v w e i m = (i, subst (λ o. Contains (if same_player (owner_of g v) p then option_list o else successors_of g v) w) e m)
 
 -- other choices elsewhere change nothing
-pub Holds-same : (g : Graph) (U : VertexSet) (p : Player) (X : VertexSet) (s t : Choices) → ((v : ℕ) → In X v → t v ≡ s v) → Holds g U p X s → Holds g U p X t
+pub Holds-same : (g : Graph) (U : VertexSet) (p : Player) (X : VertexSet) (s t : Choices) → ((v : ℕ) → In X v → t v ≡ s v) → WinsOn g U p X s → WinsOn g U p X t
 Holds-same g U p X s t same h = record {
   within = h.within;
   choices = λ v i o. (let c = h.choices v i o in (c.0, same v i ∙ c.1, c.2, c.3));
@@ -40,7 +41,7 @@ Holds-same g U p X s t same h = record {
   good = λ walk c. h.good walk (ClosedWalk-weaker (KeptEdge g p X t) (KeptEdge g p X s) (λ v w k. kept_same g p X s t v w (same v k.0) k.0 k.1) walk c);
 }
 
-pub Holds-none : (g : Graph) (U : VertexSet) (p : Player) (X : VertexSet) (s : Choices) → ((v : ℕ) → In X v → ⊥) → Holds g U p X s
+pub Holds-none : (g : Graph) (U : VertexSet) (p : Player) (X : VertexSet) (s : Choices) → ((v : ℕ) → In X v → ⊥) → WinsOn g U p X s
 Holds-none g U p X s empty = record {
   within = λ v i. absurd (empty v i);
   choices = λ v i o. absurd (empty v i);
@@ -48,21 +49,21 @@ Holds-none g U p X s empty = record {
   good = λ walk c. absurd (never_empty (KeptEdge g p X s) (λ v w k. empty v k.0) walk c);
 }
 
-pub Holds-subst : (g : Graph) (U : VertexSet) (p : Player) (X Y : VertexSet) (s : Choices) → ((v : ℕ) → X v ≡ Y v) → Holds g U p X s → Holds g U p Y s
-Holds-subst g U p X Y s e h = subst (λ Z. Holds g U p Z s) (fun_ext e) h
+pub Holds-subst : (g : Graph) (U : VertexSet) (p : Player) (X Y : VertexSet) (s : Choices) → ((v : ℕ) → X v ≡ Y v) → WinsOn g U p X s → WinsOn g U p Y s
+Holds-subst g U p X Y s e h = subst (λ Z. WinsOn g U p Z s) (fun_ext e) h
 
 -- nothing is left to solve
-pub solved_whole : (g : Graph) (U : VertexSet) (won : Winners) (s : Choices) → IsSolvedTo g U no_vertices won s → IsSolved g U won s
-solved_whole g U won s h p = Holds-subst g U p (won_by (without U no_vertices) won p) (won_by U won p) s (λ v. ap (λ b. b && same_player (won v) p) (all_of (U v))) (h.holds p)
+pub solved_whole : (g : Graph) (U : VertexSet) (won : Winners) (s : Choices) → IsSolvedTo g U no_vertices won s → IsSolvedInside g U won s
+solved_whole g U won s h p = Holds-subst g U p (won_inside (without U no_vertices) won p) (won_inside U won p) s (λ v. ap (λ b. b && same_player (won v) p) (all_of (U v))) (h.holds p)
   where
     all_of : (b : Bool) → (b && true) ≡ b
     all_of true = refl
     all_of false = refl
 
-pub whole_solved : (g : Graph) (U : VertexSet) (won : Winners) (s : Choices) → IsSolved g U won s → IsSolvedTo g U no_vertices won s
+pub whole_solved : (g : Graph) (U : VertexSet) (won : Winners) (s : Choices) → IsSolvedInside g U won s → IsSolvedTo g U no_vertices won s
 whole_solved g U won s h = record {
   rest = λ v i. absurd (cc i);
-  holds = λ p. Holds-subst g U p (won_by U won p) (won_by (without U no_vertices) won p) s (λ v. ap (λ b. b && same_player (won v) p) (of_all (U v))) (h p);
+  holds = λ p. Holds-subst g U p (won_inside U won p) (won_inside (without U no_vertices) won p) s (λ v. ap (λ b. b && same_player (won v) p) (of_all (U v))) (h p);
   away = λ v w i. absurd (cc i);
 }
   where
@@ -74,7 +75,7 @@ whole_solved g U won s h = record {
 pub solved_none : (g : Graph) (U : VertexSet) (won : Winners) (s : Choices) → IsSolvedTo g U U won s
 solved_none g U won s = record {
   rest = λ v i. i;
-  holds = λ p. Holds-none g U p (won_by (without U U) won p) s (λ v i. nothing (U v) (both (without U U v) (same_player (won v) p) i).0);
+  holds = λ p. Holds-none g U p (won_inside (without U U) won p) s (λ v i. nothing (U v) (both (without U U v) (same_player (won v) p) i).0);
   away = λ v w i e j. absurd (nothing (U w) j);
 }
   where
@@ -101,13 +102,13 @@ left_is_subgame g p U T A s rank sub a = record {
 -- Who wins what, where U was solved up to R and R up to Q.
 module _ (g : Graph) (U R Q : VertexSet) (won : Winners) (s : Choices) (first : IsSolvedTo g U R won s) (second : IsSolvedTo g R Q won s) where
   abbrev X : Player → VertexSet
-  X p = won_by (without U Q) won p
+  X p = won_inside (without U Q) won p
 
   abbrev D : Player → VertexSet
-  D p = won_by (without U R) won p
+  D p = won_inside (without U R) won p
 
   abbrev F : Player → VertexSet
-  F p = won_by (without R Q) won p
+  F p = won_inside (without R Q) won p
 
   q_out : (w : ℕ) → R w ≡ false → Q w ≡ false
   q_out w n = elim (test (Q w)) [ inl y ↦ absurd (no_both (R w) (second.rest w y) n) | inr m ↦ m ]
@@ -193,7 +194,7 @@ module _ (g : Graph) (U R Q : VertexSet) (won : Winners) (s : Choices) (first : 
   }
 
 -- What the player q won in U without A, from which no edge of the opponent's leads into A, grows by what it attracts in U.
-module _ (g : Graph) (q : Player) (U A L B : VertexSet) (won : Winners) (s t : Choices) (rank : ℕ → ℕ) (shut : (v w : ℕ) → In (without U A) v → owner_of g v ≡ opponent q → HasEdge g v w → In A w → ⊥) (sub : Holds g (without U A) q L s) (a : IsAttracted g q U L B t rank) (keeps : (v : ℕ) → In L v → t v ≡ s v) (his : (v : ℕ) → In B v → won v ≡ q) where
+module _ (g : Graph) (q : Player) (U A L B : VertexSet) (won : Winners) (s t : Choices) (rank : ℕ → ℕ) (shut : (v w : ℕ) → In (without U A) v → owner_of g v ≡ opponent q → HasEdge g v w → In A w → ⊥) (sub : WinsOn g (without U A) q L s) (a : IsAttracted g q U L B t rank) (keeps : (v : ℕ) → In L v → t v ≡ s v) (his : (v : ℕ) → In B v → won v ≡ q) where
   -- the part is held in U too
   old_closed : (v w : ℕ) → In L v → owner_of g v ≡ opponent q → HasEdge g v w → In U w → In L w
   old_closed v w i o e u = elim (test (A w)) [
@@ -220,7 +221,7 @@ module _ (g : Graph) (q : Player) (U A L B : VertexSet) (won : Winners) (s t : C
     | inr (o, e) ↦ (a.pushed v w i n o e (a.inside w j)).1
   ]
 
-  pub grown_held : Holds g U q B t
+  pub grown_held : WinsOn g U q B t
   grown_held = record {
     within = a.inside;
     choices = λ v i o. elim (test (L v)) [
@@ -242,9 +243,9 @@ module _ (g : Graph) (q : Player) (U A L B : VertexSet) (won : Winners) (s t : C
   solved_but = record {
     rest = λ v i. (only (U v) (B v) i).0;
     holds = λ p. elim (own_or_other q p) [
-      | inl e ↦ subst (λ x. Holds g U x (won_by (without U (without U B)) won x) t) e
-          (Holds-subst g U q B (won_by (without U (without U B)) won q) t (λ v. equal_from (B v) (won_by (without U (without U B)) won q v) (put v) (λ i. taken v (both (without U (without U B) v) (same_player (won v) q) i).0)) grown_held)
-      | inr e ↦ Holds-none g U p (won_by (without U (without U B)) won p) t (λ v i.
+      | inl e ↦ subst (λ x. WinsOn g U x (won_inside (without U (without U B)) won x) t) e
+          (Holds-subst g U q B (won_inside (without U (without U B)) won q) t (λ v. equal_from (B v) (won_inside (without U (without U B)) won q v) (put v) (λ i. taken v (both (without U (without U B) v) (same_player (won v) q) i).0)) grown_held)
+      | inr e ↦ Holds-none g U p (won_inside (without U (without U B)) won p) t (λ v i.
           (let b = both (without U (without U B) v) (same_player (won v) p) i in
           not_both q p (sym (his v (taken v b.0)) ∙ same_is (won v) p b.1) e))
     ];
@@ -257,14 +258,14 @@ module _ (g : Graph) (q : Player) (U A L B : VertexSet) (won : Winners) (s t : C
       taken : (v : ℕ) → In (without U (without U B)) v → In B v
       taken v i = back (U v) (B v) i
 
-      put : (v : ℕ) → In B v → won_by (without U (without U B)) won q v ≡ true
+      put : (v : ℕ) → In B v → won_inside (without U (without U B)) won q v ≡ true
       put v i = twice_out (U v) (B v) (same_player (won v) q) (a.inside v i) i (is_same (won v) q (his v i))
         where
           twice_out : (a b c : Bool) → a ≡ true → b ≡ true → c ≡ true → ((a && not (a && not b)) && c) ≡ true
           twice_out a b c x y z = rw (x, y, z) refl
 
 -- The player of the greatest priority wins all of U, where he wins all that the attractor of its vertices leaves.
-module _ (g : Graph) (p : Player) (U T A : VertexSet) (won : Winners) (s : Choices) (rank : ℕ → ℕ) (above : (t v : ℕ) → In T t → In U v → priority_of g t ≤ priority_of g v → of_parity (priority_of g v) ≡ p) (a : IsAttracted g p U T A s rank) (chosen : (v : ℕ) → In T v → owner_of g v ≡ p → (w : ℕ) × (s v ≡ Some w) × HasEdge g v w × In U w) (sub : Holds g (without U A) p (without U A) s) where
+module _ (g : Graph) (p : Player) (U T A : VertexSet) (won : Winners) (s : Choices) (rank : ℕ → ℕ) (above : (t v : ℕ) → In T t → In U v → priority_of g t ≤ priority_of g v → of_parity (priority_of g v) ≡ p) (a : IsAttracted g p U T A s rank) (chosen : (v : ℕ) → In T v → owner_of g v ≡ p → (w : ℕ) × (s v ≡ Some w) × HasEdge g v w × In U w) (sub : WinsOn g (without U A) p (without U A) s) where
   abbrev G : ℕ → ℕ → Type 0
   G = Among (KeptEdge g p U s) (λ v. In U v × (T v ≡ false))
 
@@ -280,7 +281,7 @@ module _ (g : Graph) (p : Player) (U T A : VertexSet) (won : Winners) (s : Choic
     | inr (o, e) ↦ (a.pushed v w y i.1 o e j.0).1
   ]
 
-  pub all_held : Holds g U p U s
+  pub all_held : WinsOn g U p U s
   all_held = record {
     within = λ v i. i;
     choices = λ v i o. elim (test (A v)) [
@@ -304,9 +305,9 @@ module _ (g : Graph) (p : Player) (U T A : VertexSet) (won : Winners) (s : Choic
 
   pub solved_all : ((v : ℕ) → In U v → won v ≡ p) → IsSolvedTo g U no_vertices won s
   solved_all his = whole_solved g U won s (λ q. elim (own_or_other p q) [
-    | inl e ↦ subst (λ x. Holds g U x (won_by U won x) s) e (Holds-subst g U p U (won_by U won p) s (λ v. equal_from (U v) (won_by U won p v)
+    | inl e ↦ subst (λ x. WinsOn g U x (won_inside U won x) s) e (Holds-subst g U p U (won_inside U won p) s (λ v. equal_from (U v) (won_inside U won p v)
         (λ i. pair (U v) (same_player (won v) p) i (is_same (won v) p (his v i))) (λ i. (both (U v) (same_player (won v) p) i).0)) all_held)
-    | inr e ↦ Holds-none g U q (won_by U won q) s (λ v i. (let b = both (U v) (same_player (won v) q) i in not_both p q (sym (his v b.0) ∙ same_is (won v) q b.1) e))
+    | inr e ↦ Holds-none g U q (won_inside U won q) s (λ v i. (let b = both (U v) (same_player (won v) q) i in not_both p q (sym (his v b.0) ∙ same_is (won v) q b.1) e))
   ])
 
 -- the facts of an attraction are those of its choices where it is not the target
@@ -368,29 +369,29 @@ module _ (g : Graph) (U L : VertexSet) (p : Player) (won : Winners) (s : Choices
       no_both (A v) (begun.attracted.own v w h.0 (o ∙ sym x) e j) h.1
 
   -- the player won all that was left, so he wins all
-  pub all_won : IsSolved g L won s → ((v : ℕ) → In L v → won v ≡ p) → IsSolvedTo g U no_vertices won s
+  pub all_won : IsSolvedInside g L won s → ((v : ℕ) → In L v → won v ≡ p) → IsSolvedTo g U no_vertices won s
   all_won solved his = solved_all g p U begun.target A won s begun.rank begun.above begun.attracted begun.chosen rest
       (λ v u. elim (test (L v)) [ inl l ↦ his v l | inr n ↦ begun.his v (minus (U v) (L v) u n) ])
     where
-      mine : (v : ℕ) → won_by L won p v ≡ without U A v
-      mine v = equal_from (won_by L won p v) (without U A v) (λ i. left_is v ∙ (both (L v) (same_player (won v) p) i).0)
+      mine : (v : ℕ) → won_inside L won p v ≡ without U A v
+      mine v = equal_from (won_inside L won p v) (without U A v) (λ i. left_is v ∙ (both (L v) (same_player (won v) p) i).0)
           (λ i. (let l : L v ≡ true = sym (left_is v) ∙ i in pair (L v) (same_player (won v) p) l (is_same (won v) p (his v l))))
 
-      rest : Holds g (without U A) p (without U A) s
-      rest = Holds-subst g (without U A) p (won_by L won p) (without U A) s mine (subst (λ Z. Holds g Z p (won_by L won p) s) (sym (fun_ext left_is)) (solved p))
+      rest : WinsOn g (without U A) p (without U A) s
+      rest = Holds-subst g (without U A) p (won_inside L won p) (without U A) s mine (subst (λ Z. WinsOn g Z p (won_inside L won p) s) (sym (fun_ext left_is)) (solved p))
 
   -- what the opponent won of it, and all that this attracts, is his
-  pub part_lost : (B : VertexSet) (won' : Winners) (t : Choices) (rank : ℕ → ℕ) → IsSolved g L won s → IsAttracted g (opponent p) U (won_by L won (opponent p)) B t rank → ((v : ℕ) → In (won_by L won (opponent p)) v → t v ≡ s v) → ((v : ℕ) → In B v → won' v ≡ opponent p) → IsSolvedTo g U (without U B) won' t
+  pub part_lost : (B : VertexSet) (won' : Winners) (t : Choices) (rank : ℕ → ℕ) → IsSolvedInside g L won s → IsAttracted g (opponent p) U (won_inside L won (opponent p)) B t rank → ((v : ℕ) → In (won_inside L won (opponent p)) v → t v ≡ s v) → ((v : ℕ) → In B v → won' v ≡ opponent p) → IsSolvedTo g U (without U B) won' t
   part_lost B won' t rank solved a keeps his =
-      solved_but g (opponent p) U A (won_by L won (opponent p)) B won' s t rank (no_way_in (opponent p) (sym (twice p)))
-      (subst (λ Z. Holds g Z (opponent p) (won_by L won (opponent p)) s) (sym (fun_ext left_is)) (solved (opponent p))) a keeps his
+      solved_but g (opponent p) U A (won_inside L won (opponent p)) B won' s t rank (no_way_in (opponent p) (sym (twice p)))
+      (subst (λ Z. WinsOn g Z (opponent p) (won_inside L won (opponent p)) s) (sym (fun_ext left_is)) (solved (opponent p))) a keeps his
 
 -- what is solved up to R stays so while R is worked on
 pub IsSolvedTo-same : (g : Graph) (U R : VertexSet) (won won' : Winners) (s s' : Choices) → ((v : ℕ) → R v ≡ false → (won' v ≡ won v) × (s' v ≡ s v)) → IsSolvedTo g U R won s → IsSolvedTo g U R won' s'
 IsSolvedTo-same g U R won won' s s' same h = record {
   rest = h.rest;
-  holds = λ p. Holds-same g U p (won_by (without U R) won' p) s s' (λ v i. (same v (outside v (both (without U R v) (same_player (won' v) p) i).0)).1)
-      (Holds-subst g U p (won_by (without U R) won p) (won_by (without U R) won' p) s (λ v. equal v p (without U R v) refl) (h.holds p));
+  holds = λ p. Holds-same g U p (won_inside (without U R) won' p) s s' (λ v i. (same v (outside v (both (without U R v) (same_player (won' v) p) i).0)).1)
+      (Holds-subst g U p (won_inside (without U R) won p) (won_inside (without U R) won' p) s (λ v. equal v p (without U R v) refl) (h.holds p));
   away = λ v w i e j. (same w (outside w j)).0 ∙ h.away v w i e j;
 }
   where

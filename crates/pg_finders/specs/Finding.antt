@@ -4,7 +4,7 @@ use Rattle.pg_game.specs.declared.player.Player.{Player}
 use Rattle.pg_game.specs.Player.{of_parity}
 use Rattle.pg_game.specs.Graph.{Graph, HasEdge, owner_of, priority_of, successors_of}
 use Rattle.pg_game.specs.VertexSet.{VertexSet, In}
-use Rattle.pg_dominion.specs.Claim.{Rows, named, IsGoodIn}
+use Rattle.pg_dominion.specs.Claim.{ClaimRows, named, IsGoodIn}
 
 -- the vertex alone is a dominion of the player in the subgame
 pub record IsLoop (g : Graph) (U : VertexSet) (p : Player) (v : ℕ) : Type 0 where
@@ -21,7 +21,7 @@ abbrev pub IsSolitaire : Graph → VertexSet → Type 0
 IsSolitaire g U = ((v : ℕ) × In U v) × ((p : Player) × HasOneSuccessor g U p)
 
 -- a good claim of at most this many vertices, with a seed in it
-abbrev pub IsSmall : Graph → VertexSet → Player → List ℕ → ℕ → Rows → Type 0
+abbrev pub IsSmall : Graph → VertexSet → Player → List ℕ → ℕ → ClaimRows → Type 0
 IsSmall g U p seeds bound rows = IsGoodIn g U p rows × (length rows ≤ bound) × ((v : ℕ) × Contains seeds v × In (named rows) v)
 
 -- the choices that a search of this depth tries at most, with so many successors at each vertex

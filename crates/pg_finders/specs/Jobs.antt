@@ -8,7 +8,7 @@ use Rattle.pg_game.specs.Graph.{Graph, owner_of}
 use Rattle.pg_game.specs.VertexSet.{VertexSet, In}
 use Rattle.pg_game.specs.Least.{NoneHas}
 use Rattle.pg_dominion.specs.declared.claim.Claim.{Claim}
-use Rattle.pg_dominion.specs.Claim.{Rows, named, choice_in, IsGoodIn}
+use Rattle.pg_dominion.specs.Claim.{ClaimRows, named, choice_in, IsGoodIn}
 use Rattle.pg_finders.specs.declared.finder.Job.{Job}
 use Rattle.pg_finders.specs.declared.finder.Job.TheVariants.{Loops, Solitaire, Small, Recursion}
 use Rattle.pg_finders.specs.Claims.{AreClaims}
@@ -77,7 +77,7 @@ seeds_of n first count = range_with_len first (min count (n - first))
 
 -- one small claim of the player; or none, and there is none, or it gave up, since the budget doesn't cover all choices
 abbrev pub IsOfSmall : Graph → VertexSet → Player → List ℕ → ℕ → ℕ → List Claim → Bool → Type 0
-IsOfSmall g U p seeds bound budget [] false = (rows : Rows) → IsSmall g U p seeds bound rows → ⊥
+IsOfSmall g U p seeds bound budget [] false = (rows : ClaimRows) → IsSmall g U p seeds bound rows → ⊥
 IsOfSmall g U p seeds bound budget [] true = (degree : ℕ) → AtMostInside g U degree → budget < length seeds * most_choices degree bound
 IsOfSmall g U p seeds bound budget (claim ∷ []) false = (claim.player ≡ p) × IsSmall g U p seeds bound claim.rows
 IsOfSmall g U p seeds bound budget (claim ∷ []) true = ⊥

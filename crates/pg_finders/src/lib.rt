@@ -3,33 +3,22 @@
 //! its subgame.
 #![tactic(auto)]
 
-mod begin;
 mod choice;
-mod chosen;
-mod claims;
 mod finder;
 mod inside;
-mod leading;
-mod order;
+mod loops;
 mod parts;
-mod plan;
-mod search;
-mod settled;
-mod single;
+mod recursion;
 mod small;
 mod solitaire;
-mod solver;
 mod standard;
-mod subgame;
 #[cfg(test)]
 mod tests;
-mod walks;
-mod watches;
 
-pub use claims::{Solved, zielonka};
 pub use finder::{Finder, Found, Job};
 pub use inside::{Copied, Inside};
-pub use single::find_loop;
+pub use loops::find_loop;
+pub use recursion::{Solved, zielonka};
 pub use small::{Small, find_small};
 pub use solitaire::find_solitaire;
 pub use standard::Standard;

@@ -11,15 +11,17 @@ ghost use Rattle.pg_game.specs.Subgame.{IsSubgame};
 ghost use Rattle.pg_dominion.specs.Claim.{IsGoodIn};
 ghost use Rattle.pg_dominion.specs.KeptEdges.{IsKept};
 ghost use Rattle.pg_finders.specs.Part.{IsOut};
-ghost use Rattle.pg_finders.specs.Planned.{HoldsSet};
+ghost use Rattle.pg_finders.specs.private.recursion.Planned.{HoldsSet};
 ghost use Rattle.pg_finders.specs.Claims.{own_choices, rows_below};
 ghost use Rattle.pg_finders.specs.Finding.{HasOneSuccessor, IsSolitaire};
-ghost use Rattle.pg_finders.specs.Solitaire.{HasOneAt, IsSingle, owned, good_for, choices_by};
+ghost use Rattle.pg_finders.specs.private.solitaire.Solitaire.{HasOneAt, IsSingle, owned, good_for, choices_by};
+
+mod leading;
 
 use crate::choice::own_choice;
 use crate::inside::Inside;
-use crate::leading::lead_to;
 use crate::parts::is_empty;
+use crate::solitaire::leading::lead_to;
 use pg_dominion::{Claim, Kept, first_worst};
 use pg_game::{Game, Mask, Player, Sequence};
 use std::alloc::{AllocError, Global};

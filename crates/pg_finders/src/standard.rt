@@ -4,10 +4,10 @@ ghost use Rattle.std.specs.Option.{option_to_list};
 ghost use Rattle.pg_game.specs.VertexSet.{members};
 ghost use Rattle.pg_finders.specs.Jobs.{IfLoops, IfSolitaire, IfSmall, IfRecursion, is_small, AreLoops, AreOfSolitaire, AreOfRecursion, IsOfSmall, seeds_of, with_rows};
 
-use crate::claims::zielonka;
 use crate::finder::{Finder, Found, Job};
 use crate::inside::{Copied, Inside};
-use crate::single::find_loop;
+use crate::loops::find_loop;
+use crate::recursion::zielonka;
 use crate::small::{Small, find_small};
 use crate::solitaire::find_solitaire;
 use pg_dominion::Claim;

@@ -1,24 +1,22 @@
 -- Predecessors are the sources of rows.
-use Rattle.std.proofs.Common.{◌≡◌, ℕ, ◌<◌, ◌≤◌, ◌⊎◌, inl, inr, List, [], length, get_or, refl, ◌∙◌, sym, subst, arith}
+use Rattle.std.proofs.Common.{◌≡◌, ℕ, ◌<◌, inl, inr, List, [], length, get_or, refl, ◌∙◌, sym, subst, arith}
 use Rattle.std.specs.List.{Contains}
 use Rattle.std.proofs.lemmas.List.{get_or_past}
 use Rattle.std.proofs.lemmas.List.Elements.{Contains-get_or}
+use Rattle.std.proofs.lemmas.Bool.{cases_lt}
 use Rattle.pg_game.specs.declared.player.Player.{Player}
 use Rattle.pg_game.specs.Graph.{Graph, IsGame, AreSuccessors, successors_of}
 use Rattle.pg_game.specs.Predecessors.{ArePredecessors}
-use Rattle.pg_game.specs.Rows.{row_at, AreRows, AreSources}
+use Rattle.pg_game.specs.private.Rows.{row_at, AreRisingRows, AreSources}
 use Rattle.pg_game.specs.View.{graph_of}
-use Rattle.pg_game.specs.Stored.{AreParts, IsStored}
-use Rattle.pg_game.specs.Flat.{IsListed}
+use Rattle.pg_game.specs.private.Stored.{AreParts, IsStored}
+use Rattle.pg_game.specs.private.Flat.{IsListed}
 use Rattle.pg_game.proofs.Members.{Contains-nil}
 use Rattle.pg_game.proofs.Look as look
 
-below_or : (a b : ℕ) → (a < b) ⊎ (b ≤ a)
-below_or a b = grind arith
-
 -- a row that has something is one of the rows
 begins : (rows : List (List ℕ)) (u x : ℕ) → Contains (row_at rows u) x → u < length rows
-begins rows u x m = elim (below_or u (length rows)) [
+begins rows u x m = elim (cases_lt u (length rows)) [
   | inl l ↦ l
   | inr l ↦ absurd (let e : row_at rows u ≡ [] = get_or_past rows u [] l in Contains-nil x (subst (λ (xs : List ℕ). Contains xs x) e m))
 ]
@@ -44,7 +42,7 @@ module _ (ids ps : List ℕ) (os : List Player) (rows : List (List ℕ)) (a : Ar
   row_of : IsGame g → (v : ℕ) → v < length rows → AreSuccessors (length rows) (row_at rows v)
   row_of game v l = subst (λ (n : ℕ). AreSuccessors n (row_at rows v)) length_g (subst (λ (ws : List ℕ). AreSuccessors (length g) ws) (row_is v) (game.successors v (omega (arith, l, length_g))))
 
-  pub game_rows : IsGame g → AreRows rows
+  pub game_rows : IsGame g → AreRisingRows rows
   game_rows game = record {
     below = λ v k l m. (row_of game v l).below k m;
     rising = λ v l. (row_of game v l).rising;

@@ -1,23 +1,23 @@
 -- A game is the only game of the specifications that describe it, and these are without fault.
-use Rattle.std.proofs.Common.{◌≡◌, ℕ, zero, suc, ◌<◌, ◌≤◌, inl, inr, Bool, true, false, List, [], ◌∷◌, length, map, get_or, refl, sym, ◌∙◌, ap, subst, arith}
-use Rattle.std.specs.Prelude.{Some, None, slice_get, find, not, sum_by, ◌||◌, ◌==◌}
-use Rattle.std.specs.List.{Contains, list_any}
+use Rattle.std.proofs.Common.{◌≡◌, ℕ, zero, suc, ◌<◌, ◌≤◌, Bool, true, false, List, [], ◌∷◌, length, map, get_or, refl, sym, ◌∙◌, ap, subst, arith}
+use Rattle.std.specs.Prelude.{Some, None, slice_get, find, not, sum_by, ◌==◌}
+use Rattle.std.specs.List.{Contains}
 use Rattle.std.specs.List.Sorted.{IsStrictlyIncreasing}
-use Rattle.std.proofs.lemmas.Bool.{eq-eqb, false_from_ne_true}
+use Rattle.std.proofs.lemmas.Bool.{eq-eqb, or_left, or_right}
 use Rattle.std.proofs.lemmas.List.Sums.{sum_by-cons}
 use Rattle.std.proofs.lemmas.List.{length-map, get_or-map, get_or_default, ext_get_or}
 use Rattle.std.proofs.lemmas.List.Elements.{Contains-get_or}
 use Rattle.std.proofs.lemmas.List.Sorted.{IsPermutation-refl}
 use Rattle.std.proofs.lemmas.Option.{slice_get-get_or, get_or_from_slice_get}
+use Rattle.pg_game.proofs.Plain.{not_empty, none_repeated}
 use Rattle.pg_game.specs.declared.game.Spec.{Spec}
 use Rattle.pg_game.specs.Graph.{Graph, Vertex, IsGame, no_vertex, vertex_at, id_of, successors_of}
-use Rattle.pg_game.specs.Specification.{IsGameOf, IsVertexOf, number_of, is_empty, first_repeated, first_without, first_unspecified, first_unknown, IsSpecified, edges, different, first_fault}
+use Rattle.pg_game.specs.Specification.{IsGameOf, IsVertexOf, number_of, is_empty, first_without, first_unspecified, first_unknown, IsSpecified, edges, different, first_fault}
 use Rattle.pg_game.specs.Limits.{IsWithinLimits}
-use Rattle.pg_game.specs.Identifiers.{ids_of}
-use Rattle.pg_game.specs.Described.{spec_at, specs_of}
-use Rattle.pg_game.proofs.Members.{Contains-nil, Contains-head, Contains-tail, Contains-cons}
-use Rattle.pg_game.proofs.Gathered.{any_from}
-use Rattle.pg_game.proofs.Different.{rising_tail, below_first}
+use Rattle.pg_game.specs.private.Identifiers.{ids_of}
+use Rattle.pg_game.specs.private.Described.{spec_at, specs_of}
+use Rattle.pg_game.proofs.Members.{Contains-nil, Contains-head, Contains-tail}
+use Rattle.pg_game.proofs.Different.{different_most}
 use Rattle.pg_game.proofs.Sound.{sound_has_none}
 use Rattle.pg_game.proofs.Rising.{number_is, same_rising}
 
@@ -102,23 +102,6 @@ module _ (g : Graph) (game : IsGame g) where
       let at : slice_get h v ≡ Some y = subst (λ k. slice_get h k ≡ Some y) (described_number v m) get in
       get_or_from_slice_get h v y no_vertex at ∙ same_vertex (spec_at g (vertex_at g v)) y (vertex_at g v) is (described_vertex v m))
 
--- a list of rising numbers has no number twice
-not_among : (earlier : List ℕ) (n : ℕ) → ((m : ℕ) → Contains earlier m → m < n) → list_any (λ m. m == n) earlier ≡ false
-not_among earlier n low = false_from_ne_true (list_any (λ m. m == n) earlier) (λ t. let m = any_from earlier n t in let l = low n m in omega (arith, l))
-
-once_rising : (earlier xs : List ℕ) → IsStrictlyIncreasing xs → ((m x : ℕ) → Contains earlier m → Contains xs x → m < x) → first_repeated earlier xs ≡ None
-once_rising earlier [] up low = refl
-once_rising earlier (x ∷ xs) up low =
-    let f = not_among earlier x (λ m h. low m x h (Contains-head x xs)) in
-    rw f (once_rising (x ∷ earlier) xs (rising_tail x xs up) (λ m y h k. elim (Contains-cons x m earlier h) [
-      | inl q ↦ (let b = below_first x xs up y k in omega (arith, b, q))
-      | inr n ↦ low m y n (Contains-tail x y xs k)
-    ]))
-
-some_member : (ws : List ℕ) → 0 < length ws → is_empty ws ≡ false
-some_member [] l = absurd (omega arith)
-some_member (w ∷ ws) l = refl
-
 none_without : (specs : List Spec) → ((s : Spec) → Contains specs s → is_empty s.successors ≡ false) → first_without specs ≡ None
 none_without [] h = refl
 none_without (s ∷ specs) h = rw (h s (zero, omega arith, refl)) (none_without specs (λ t (k, l, e). h t (suc k, omega arith, e)))
@@ -133,33 +116,17 @@ none_unknown all (s ∷ specs) h =
     let f : first_unspecified all s.successors ≡ None = find_none (λ i. not (IsSpecified all i)) s.successors (λ i m. ap not (h s (zero, omega arith, refl) i m)) in
     rw f (none_unknown all specs (λ t (k, l, e). h t (suc k, omega arith, e)))
 
-or_first : (a b : Bool) → a ≡ true → (a || b) ≡ true
-or_first true b e = refl
-or_first false b e = absurd (cc e)
-
-or_second : (a b : Bool) → b ≡ true → (a || b) ≡ true
-or_second true b e = refl
-or_second false b e = e
-
 specified_here : (specs : List Spec) (s : Spec) → Contains specs s → IsSpecified specs s.id ≡ true
 specified_here [] s (k, l, e) = absurd (omega arith)
-specified_here (t ∷ specs) s (zero, l, e) = or_first (t.id == s.id) (IsSpecified specs s.id) (eq-eqb t.id s.id (ap (λ (x : Spec). x.id) e))
-specified_here (t ∷ specs) s (suc k, l, e) = or_second (t.id == s.id) (IsSpecified specs s.id) (specified_here specs s (k, omega arith, e))
-
-different_few : (xs : List ℕ) → different xs ≤ length xs
-different_few [] = omega arith
-different_few (x ∷ xs) = go (list_any (λ m. m == x) xs) refl (different_few xs)
-  where
-    go : (b : Bool) → list_any (λ m. m == x) xs ≡ b → different xs ≤ length xs → different (x ∷ xs) ≤ length (x ∷ xs)
-    go true e h = rw e (omega arith)
-    go false e h = rw e (omega arith)
+specified_here (t ∷ specs) s (zero, l, e) = or_left (t.id == s.id) (IsSpecified specs s.id) (eq-eqb t.id s.id (ap (λ (x : Spec). x.id) e))
+specified_here (t ∷ specs) s (suc k, l, e) = or_right (t.id == s.id) (IsSpecified specs s.id) (specified_here specs s (k, omega arith, e))
 
 edges_few : (g : Graph) (xs : List Vertex) → edges (map (λ x. spec_at g x) xs) ≤ sum_by (λ (x : Vertex). length x.successors) xs
 edges_few g [] = omega arith
 edges_few g (x ∷ xs) =
     let a = sum_by-cons (λ (s : Spec). different s.successors) (spec_at g x) (map (λ y. spec_at g y) xs) in
     let b = sum_by-cons (λ (y : Vertex). length y.successors) x xs in
-    let c = different_few (map (λ w. id_of g w) x.successors) in
+    let c = different_most (map (λ w. id_of g w) x.successors) in
     let d = length-map x.successors (λ w. id_of g w) in
     omega (arith, a, b, c, d, edges_few g xs)
 
@@ -172,11 +139,11 @@ described_sound g game limits =
     sound_has_none (specs_of g) record {
       nonempty = omega (arith, n, some);
       vertices = omega (arith, n, limits.vertices);
-      once = once_rising [] (ids_of (specs_of g)) up (λ m x h k. absurd (Contains-nil m h));
+      once = none_repeated [] (ids_of (specs_of g)) up (λ m x h k. absurd (Contains-nil m h));
       successors = none_without (specs_of g) (λ s m. (
           let (v, l, e) = spec_place g game s m in
           let h = (game.successors v l).nonempty in
-          subst (λ (t : Spec). is_empty t.successors ≡ false) e (some_member (map (λ w. id_of g w) (successors_of g v)) (omega (arith, h, length-map (successors_of g v) (λ w. id_of g w))))));
+          subst (λ (t : Spec). is_empty t.successors ≡ false) e (not_empty (map (λ w. id_of g w) (successors_of g v)) (omega (arith, h, length-map (successors_of g v) (λ w. id_of g w))))));
       edges_fit = omega (arith, edges_few g g, limits.edges);
       known = none_unknown (specs_of g) (specs_of g) (λ s m i k. (
           let (v, l, e) = spec_place g game s m in

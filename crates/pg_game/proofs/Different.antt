@@ -3,7 +3,7 @@ use Rattle.std.proofs.Common.{◌≡◌, ◌≢◌, ℕ, zero, suc, ◌+◌, ◌
 use Rattle.std.specs.Prelude.{◌==◌, nat_lt, count_by}
 use Rattle.std.specs.List.{Contains, list_any, filter}
 use Rattle.std.specs.List.Sorted.{IsStrictlyIncreasing}
-use Rattle.std.proofs.lemmas.Bool.{eqb-true, eq-eqb, false_from_ne_true, ltb-true}
+use Rattle.std.proofs.lemmas.Bool.{eqb-true, eq-eqb, false_from_ne_true, le-ltb}
 use Rattle.std.proofs.lemmas.List.{get_or_default}
 use Rattle.std.proofs.lemmas.List.Sums.{length-filter}
 use Rattle.std.proofs.lemmas.List.Kept.{IsStrictlyIncreasing-filter}
@@ -90,14 +90,11 @@ filter_none : (p : ℕ → Bool) (xs : List ℕ) → ((y : ℕ) → Contains xs 
 filter_none p [] none = refl
 filter_none p (x ∷ xs) none = rw (none x (Contains-head x xs)) (filter_none p xs (λ y m. none y (Contains-tail x y xs m)))
 
-not_less : (a b : ℕ) → b ≤ a → nat_lt a b ≡ false
-not_less a b l = false_from_ne_true (nat_lt a b) (λ t. let h : a < b = ltb-true a b t in omega arith)
-
 smaller : (xs : List ℕ) (i : ℕ) → IsStrictlyIncreasing xs → i < length xs → length (filter (λ x. nat_lt x (get_or xs i 0)) xs) ≡ i
 smaller [] i up l = absurd (omega arith)
 smaller (x ∷ xs) zero up l =
-    let f = not_less x x (omega arith) in
-    let e = filter_none (λ y. nat_lt y x) xs (λ y m. let h = below_first x xs up y m in not_less y x (omega arith)) in
+    let f = le-ltb x x (omega arith) in
+    let e = filter_none (λ y. nat_lt y x) xs (λ y m. let h = below_first x xs up y m in le-ltb y x (omega arith)) in
     rw (f, e) refl
 smaller (x ∷ xs) (suc i) up l =
     let h : x < get_or xs i 0 = below_from_sorted (x ∷ xs) 0 (suc i) 0 (sorted_from_strictly_increasing (x ∷ xs) up) (omega arith) l in

@@ -3,19 +3,15 @@ use Rattle.std.proofs.Common.{◌≡◌, ℕ, Bool, true, false, ◌&&◌, List,
 use Rattle.std.specs.Prelude.{nat_eq, not}
 use Rattle.std.specs.Bool.{Decides}
 use Rattle.std.specs.Cmp.Lexicographic.{pointwise, pointwise_decides}
-use Rattle.std.proofs.lemmas.Bool.{eqb-true, eq-eqb}
+use Rattle.std.proofs.lemmas.Bool.{eqb-true, eq-eqb, not-false, and_parts, and_from}
 use Rattle.pg_game.specs.declared.player.Player.{Player}
 use Rattle.pg_game.specs.declared.player.Player.TheVariants.{Even, Odd}
 use Rattle.pg_game.specs.Player.{digit_of}
 use Rattle.pg_game.specs.Graph.{Graph, Vertex}
 use Rattle.pg_game.specs.View.{graph_of}
-use Rattle.pg_game.specs.Stored.{AreParts}
+use Rattle.pg_game.specs.private.Stored.{AreParts}
 use Rattle.pg_game.specs.Same.{same_vertex, same_graph}
 use Rattle.pg_game.proofs.Parts.{ids-graph_of, priorities-graph_of, owners-graph_of, rows-graph_of}
-
-not_false : (b : Bool) → not b ≡ false → b ≡ true
-not_false true e = refl
-not_false false e = absurd (cc e)
 
 same_digit : (p q : Player) → digit_of p ≡ digit_of q → p ≡ q
 same_digit Even Even e = refl
@@ -23,32 +19,24 @@ same_digit Even Odd e = absurd (cc e)
 same_digit Odd Even e = absurd (cc e)
 same_digit Odd Odd e = refl
 
-both : (a b : Bool) → (a && b) ≡ true → (a ≡ true) × (b ≡ true)
-both true b e = (refl, e)
-both false b e = absurd (cc e)
-
-and_true : (a b : Bool) → a ≡ true → b ≡ true → (a && b) ≡ true
-and_true true b e f = f
-and_true false b e f = absurd (cc e)
-
 numbers_decide : (xs ys : List ℕ) → Decides (pointwise nat_eq xs ys) (xs ≡ ys)
 numbers_decide xs ys = pointwise_decides (λ x y. (eqb-true x y, eq-eqb x y)) xs ys
 
 vertices_decide : (x y : Vertex) → Decides (same_vertex x y) (x ≡ y)
 vertices_decide x y = (
   λ t.
-      let a = both (nat_eq x.id y.id) (nat_eq x.priority y.priority && (nat_eq (digit_of x.owner) (digit_of y.owner) && pointwise nat_eq x.successors y.successors)) t in
-      let b = both (nat_eq x.priority y.priority) (nat_eq (digit_of x.owner) (digit_of y.owner) && pointwise nat_eq x.successors y.successors) a.1 in
-      let c = both (nat_eq (digit_of x.owner) (digit_of y.owner)) (pointwise nat_eq x.successors y.successors) b.1 in
+      let a = and_parts (nat_eq x.id y.id) (nat_eq x.priority y.priority && (nat_eq (digit_of x.owner) (digit_of y.owner) && pointwise nat_eq x.successors y.successors)) t in
+      let b = and_parts (nat_eq x.priority y.priority) (nat_eq (digit_of x.owner) (digit_of y.owner) && pointwise nat_eq x.successors y.successors) a.1 in
+      let c = and_parts (nat_eq (digit_of x.owner) (digit_of y.owner)) (pointwise nat_eq x.successors y.successors) b.1 in
       let id = eqb-true x.id y.id a.0 in
       let priority = eqb-true x.priority y.priority b.0 in
       let owner = same_digit x.owner y.owner (eqb-true (digit_of x.owner) (digit_of y.owner) c.0) in
       let successors = (numbers_decide x.successors y.successors).0 c.1 in
       λ i. record { id = id i; priority = priority i; owner = owner i; successors = successors i },
   λ e.
-      and_true (nat_eq x.id y.id) (nat_eq x.priority y.priority && (nat_eq (digit_of x.owner) (digit_of y.owner) && pointwise nat_eq x.successors y.successors)) (eq-eqb x.id y.id (ap (λ (z : Vertex). z.id) e))
-      (and_true (nat_eq x.priority y.priority) (nat_eq (digit_of x.owner) (digit_of y.owner) && pointwise nat_eq x.successors y.successors) (eq-eqb x.priority y.priority (ap (λ (z : Vertex). z.priority) e))
-      (and_true (nat_eq (digit_of x.owner) (digit_of y.owner)) (pointwise nat_eq x.successors y.successors) (eq-eqb (digit_of x.owner) (digit_of y.owner) (ap (λ (z : Vertex). digit_of z.owner) e))
+      and_from (nat_eq x.id y.id) (nat_eq x.priority y.priority && (nat_eq (digit_of x.owner) (digit_of y.owner) && pointwise nat_eq x.successors y.successors)) (eq-eqb x.id y.id (ap (λ (z : Vertex). z.id) e))
+      (and_from (nat_eq x.priority y.priority) (nat_eq (digit_of x.owner) (digit_of y.owner) && pointwise nat_eq x.successors y.successors) (eq-eqb x.priority y.priority (ap (λ (z : Vertex). z.priority) e))
+      (and_from (nat_eq (digit_of x.owner) (digit_of y.owner)) (pointwise nat_eq x.successors y.successors) (eq-eqb (digit_of x.owner) (digit_of y.owner) (ap (λ (z : Vertex). digit_of z.owner) e))
       ((numbers_decide x.successors y.successors).1 (ap (λ (z : Vertex). z.successors) e)))),
 )
 
@@ -69,4 +57,4 @@ pub differ : (xs ys : List ℕ) (r : Bool) → r ≡ not (pointwise nat_eq xs ys
 differ xs ys r is t e = let p : pointwise nat_eq xs ys ≡ true = (numbers_decide xs ys).1 e in let q : r ≡ false = is ∙ ap not p in cc (t, q)
 
 pub agree : (xs ys : List ℕ) (r : Bool) → r ≡ not (pointwise nat_eq xs ys) → r ≡ false → xs ≡ ys
-agree xs ys r is f = (numbers_decide xs ys).0 (not_false (pointwise nat_eq xs ys) (sym is ∙ f))
+agree xs ys r is f = (numbers_decide xs ys).0 (not-false (pointwise nat_eq xs ys) (sym is ∙ f))

@@ -12,12 +12,13 @@ use Rattle.pg_game.specs.declared.game.Spec.{Spec}
 use Rattle.pg_game.specs.Graph.{Graph, IsGame, no_vertex, successors_of}
 use Rattle.pg_game.specs.Limits.{IsWithinLimits}
 use Rattle.pg_game.specs.Specification.{AreNumbers, IsGameOf, IsSpecified, first_fault, first_repeated, edges, different}
-use Rattle.pg_game.specs.Identifiers.{ids_of, priorities_of, owners_of, ArePlaces}
-use Rattle.pg_game.specs.Rows.{row_at, size_of}
+use Rattle.pg_game.specs.private.Identifiers.{ids_of, priorities_of, owners_of, ArePlaces}
+use Rattle.pg_game.specs.private.Rows.{row_at, size_of}
 use Rattle.pg_game.specs.View.{graph_of}
-use Rattle.pg_game.specs.Stored.{AreParts}
-use Rattle.pg_game.specs.Flat.{spec_from, specs_from, IsListed}
-use Rattle.pg_game.specs.Placed.{AreAllPlaces, ArePlaced}
+use Rattle.pg_game.specs.private.Stored.{AreParts}
+use Rattle.pg_game.specs.Flat.{spec_from, specs_from}
+use Rattle.pg_game.specs.private.Flat.{IsListed}
+use Rattle.pg_game.specs.private.Placed.{AreAllPlaces, ArePlaced}
 use Rattle.pg_game.proofs.Members.{Contains-nil}
 use Rattle.pg_game.proofs.Different.{different_is}
 use Rattle.pg_game.proofs.Places.{rises, same_place}

@@ -27,6 +27,7 @@ pub mod Laid
 pub mod Moved
 pub mod Ordered
 pub mod Pushed
+pub mod Opened
 pub mod Taken
 pub mod Sorting
 pub mod Described

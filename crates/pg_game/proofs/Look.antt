@@ -4,7 +4,7 @@ use Rattle.pg_game.specs.declared.player.Player.{Player}
 use Rattle.pg_game.specs.declared.player.Player.TheVariants.{Even}
 use Rattle.pg_game.specs.Graph.{Graph, Vertex, id_of, priority_of, owner_of, successors_of}
 use Rattle.pg_game.specs.View.{graph_of}
-use Rattle.pg_game.specs.Stored.{AreParts}
+use Rattle.pg_game.specs.private.Stored.{AreParts}
 use Rattle.pg_game.proofs.Parts.{part_at, length-graph_of}
 
 module _ (ids ps : List ℕ) (os : List Player) (rows : List (List ℕ)) (a : AreParts ids ps os rows) (g : Graph) (is : graph_of ids ps os rows ≡ g) where

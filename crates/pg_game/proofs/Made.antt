@@ -14,13 +14,13 @@ use Rattle.pg_game.specs.declared.player.Player.{Player}
 use Rattle.pg_game.specs.declared.player.Player.TheVariants.{Even}
 use Rattle.pg_game.specs.declared.game.Spec.{Spec}
 use Rattle.pg_game.specs.Specification.{AreNumbers, IsSpecified, IsGameOf, IsVertexOf, number_of, edges, different}
-use Rattle.pg_game.specs.Identifiers.{ids_of, priorities_of, owners_of, ArePlaces}
-use Rattle.pg_game.specs.Rows.{row_at, size_of, AreRows, AreSources}
+use Rattle.pg_game.specs.private.Identifiers.{ids_of, priorities_of, owners_of, ArePlaces}
+use Rattle.pg_game.specs.private.Rows.{row_at, size_of, AreRisingRows, AreSources}
 use Rattle.pg_game.specs.Limits.{IsWithinLimits}
 use Rattle.pg_game.specs.Predecessors.{ArePredecessors}
 use Rattle.pg_game.specs.Graph.{Graph, Vertex, IsGame, AreSuccessors, no_vertex, vertex_at, id_of, priority_of, owner_of, successors_of}
 use Rattle.pg_game.specs.View.{graph_of}
-use Rattle.pg_game.specs.Stored.{AreParts}
+use Rattle.pg_game.specs.private.Stored.{AreParts}
 use Rattle.pg_game.proofs.Sound.{IsSound, each_has, each_known}
 use Rattle.pg_game.proofs.Rising.{number_is}
 use Rattle.pg_game.proofs.Unknown.{specified_is}
@@ -113,7 +113,7 @@ module _ (specs sorted : List Spec) (ids : List ℕ) (rows : List (List ℕ)) (l
         rising = places.rising;
       }
 
-  pub made_rows : AreRows rows
+  pub made_rows : AreRisingRows rows
   made_rows = record {
     below = λ v k l h. (let r = row_game v (omega (arith, l, laid.size)) in let b = r.below k h in omega (arith, b, laid.size, length_ids));
     rising = λ v l. (row_game v (omega (arith, l, laid.size))).rising;

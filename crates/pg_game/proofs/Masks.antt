@@ -1,34 +1,24 @@
 -- The set that a mask has, after a write.
-use Rattle.std.proofs.Common.{◌≡◌, ◌≢◌, ℕ, ◌<◌, ◌≤◌, Bool, true, false, ◌||◌, ◌⊎◌, inl, inr, List, length, set, refl, sym, arith, get_or-set_same, get_or-set_other}
+use Rattle.std.proofs.Common.{◌≡◌, ◌≢◌, ℕ, ◌<◌, Bool, true, false, ◌||◌, ◌⊎◌, inl, inr, List, length, set, refl, sym, get_or-set_same, get_or-set_other}
 use Rattle.std.specs.Prelude.{◌==◌}
-use Rattle.std.proofs.lemmas.Bool.{eqb-true, eq-eqb}
+use Rattle.std.proofs.lemmas.Bool.{eqb-true, eq-eqb, cases_lt}
 use Rattle.std.proofs.lemmas.List.{get_or_past}
+use Rattle.std.proofs.Math.Bool.{or-true, or-false}
 use Rattle.pg_game.specs.VertexSet.{In, members}
 
 pub true_or_false : (b : Bool) → (b ≡ true) ⊎ (b ≡ false)
 true_or_false true = inl refl
 true_or_false false = inr refl
 
-or_true : (b : Bool) → (b || true) ≡ true
-or_true true = refl
-or_true false = refl
-
-or_none : (b : Bool) → (b || false) ≡ b
-or_none true = refl
-or_none false = refl
-
 pub members-set : (mask : List Bool) (v : ℕ) → v < length mask → (x : ℕ) → members (set mask v true) x ≡ (members mask x || (v == x))
 members-set mask v l x = elim (true_or_false (v == x)) [
-  | inl e ↦ (let q : v ≡ x = eqb-true v x e in rw e (rw (or_true, ← q) (get_or-set_same mask v true false l)))
-  | inr e ↦ (let n : x ≢ v = λ h. (let t : (v == x) ≡ true = eq-eqb v x (sym h) in cc (t, e)) in rw (e, or_none) (get_or-set_other mask v x true false n))
+  | inl e ↦ (let q : v ≡ x = eqb-true v x e in rw e (rw (or-true, ← q) (get_or-set_same mask v true false l)))
+  | inr e ↦ (let n : x ≢ v = λ h. (let t : (v == x) ≡ true = eq-eqb v x (sym h) in cc (t, e)) in rw (e, or-false) (get_or-set_other mask v x true false n))
 ]
-
-below_or : (a b : ℕ) → (a < b) ⊎ (b ≤ a)
-below_or a b = grind arith
 
 -- a member is below the length
 pub member_below : (mask : List Bool) (v : ℕ) → In (members mask) v → v < length mask
-member_below mask v i = elim (below_or v (length mask)) [
+member_below mask v i = elim (cases_lt v (length mask)) [
   | inl h ↦ h
   | inr h ↦ absurd (let e : members mask v ≡ false = get_or_past mask v false h in cc (i, e))
 ]

@@ -1,6 +1,6 @@
 -- Membership in a list, by cases on the list; a search in a list.
-use Rattle.std.proofs.Common.{◌≡◌, ℕ, zero, suc, ◌<◌, length, get_or, ◌||◌, Bool, true, false, ◌⊎◌, inl, inr, List, [], ◌∷◌, refl, arith}
-use Rattle.std.specs.List.{Contains, list_any}
+use Rattle.std.proofs.Common.{◌≡◌, ℕ, zero, suc, ◌||◌, Bool, true, false, ◌⊎◌, inl, inr, List, [], ◌∷◌, refl, arith}
+use Rattle.std.specs.List.{Contains}
 
 pub Contains-nil : (w : ℕ) → Contains [] w → ⊥
 Contains-nil w (k, lt, e) = omega arith
@@ -34,9 +34,3 @@ some_or_none test (x ∷ xs) = some_or_none-cons test x xs (test x) refl (some_o
 pub none_first : (a b : Bool) → (a || b) ≡ false → (a ≡ false) × (b ≡ false)
 none_first true b e = absurd (cc e)
 none_first false b e = (refl, e)
-
--- where no member passes the test, none at a place does
-pub none_at : (test : ℕ → Bool) (xs : List ℕ) (k : ℕ) → list_any test xs ≡ false → k < length xs → test (get_or xs k 0) ≡ false
-none_at test [] k e l = absurd (omega arith)
-none_at test (x ∷ xs) zero e l = (none_first (test x) (list_any test xs) e).0
-none_at test (x ∷ xs) (suc k) e l = none_at test xs k (none_first (test x) (list_any test xs) e).1 (omega arith)

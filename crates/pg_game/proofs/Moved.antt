@@ -1,9 +1,9 @@
 -- Specifications in another order describe the same game.
-use Rattle.std.proofs.Common.{◌≡◌, ℕ, ◌<◌, ◌||◌, Bool, true, false, inl, inr, List, [], ◌∷◌, length, get_or, nat_eq, refl, sym, ◌∙◌, subst, arith, zero, suc}
+use Rattle.std.proofs.Common.{◌≡◌, ℕ, ◌<◌, true, false, inl, inr, List, [], ◌∷◌, length, get_or, nat_eq, refl, sym, ◌∙◌, subst, arith, zero, suc}
 use Rattle.std.specs.Prelude.{None, Some, slice_get, ◌==◌, if◌then◌else◌, nat_lt}
 use Rattle.std.specs.List.{Contains, IsDistinct, AllByRecursion, list_any}
 use Rattle.std.specs.List.Sorted.{IsPermutation}
-use Rattle.std.proofs.lemmas.Bool.{eqb-true}
+use Rattle.std.proofs.lemmas.Bool.{eqb-true, or_from}
 use Rattle.std.proofs.lemmas.List.Elements.{recursion_from_All, Contains-get_or}
 use Rattle.std.proofs.lemmas.List.Sorted.{length_permutation, Contains-permutation, IsPermutation-sym, IsPermutation-map, sum_by-IsPermutation}
 use Rattle.std.proofs.lemmas.Map.Keys.{IsDistinct-IsPermutation, IsDistinct-cons, IsDistinct-head, IsDistinct-tail}
@@ -11,7 +11,7 @@ use Rattle.std.proofs.lemmas.Map.Views.{Contains-from_any}
 use Rattle.pg_game.specs.declared.game.Spec.{Spec}
 use Rattle.pg_game.specs.Graph.{Graph}
 use Rattle.pg_game.specs.Specification.{IsGameOf, IsSpecified, number_of, first_fault, first_repeated, first_without, first_unknown, different}
-use Rattle.pg_game.specs.Identifiers.{ids_of}
+use Rattle.pg_game.specs.private.Identifiers.{ids_of}
 use Rattle.pg_game.proofs.Members.{Contains-nil, Contains-head, Contains-tail, Contains-cons, none_first}
 use Rattle.pg_game.proofs.Seen.{eqb_flip}
 use Rattle.pg_game.proofs.Unknown.{specified_is}
@@ -27,9 +27,6 @@ each_apart x (z ∷ zs) a y m = elim (Contains-cons z y zs m) [
   | inl q ↦ subst (λ (u : ℕ). nat_eq x u ≡ false) q a.0
   | inr n ↦ each_apart x zs a.1 y n
 ]
-
-both_false : (a b : Bool) → a ≡ false → b ≡ false → (a || b) ≡ false
-both_false a b e f = rw (e, f) refl
 
 -- numbers none of which is repeated differ, also from those before
 none_distinct : (earlier xs : List ℕ) → first_repeated earlier xs ≡ None → IsDistinct nat_eq xs × ((x : ℕ) → Contains xs x → list_any (λ m. m == x) earlier ≡ false)
@@ -48,7 +45,7 @@ none_distinct earlier (x ∷ xs) e =
 distinct_none : (earlier xs : List ℕ) → IsDistinct nat_eq xs → ((x : ℕ) → Contains xs x → list_any (λ m. m == x) earlier ≡ false) → first_repeated earlier xs ≡ None
 distinct_none earlier [] d h = refl
 distinct_none earlier (x ∷ xs) d h =
-    rw (h x (Contains-head x xs)) (distinct_none (x ∷ earlier) xs (IsDistinct-tail nat_eq x xs d) (λ y m. both_false (x == y) (list_any (λ n. n == y) earlier) (each_apart x xs (IsDistinct-head nat_eq x xs d) y m) (h y (Contains-tail x y xs m))))
+    rw (h x (Contains-head x xs)) (distinct_none (x ∷ earlier) xs (IsDistinct-tail nat_eq x xs d) (λ y m. or_from (x == y) (list_any (λ n. n == y) earlier) (each_apart x xs (IsDistinct-head nat_eq x xs d) y m) (h y (Contains-tail x y xs m))))
 
 none_without : (specs : List Spec) → ((s : Spec) → Contains specs s → 0 < length s.successors) → first_without specs ≡ None
 none_without [] h = refl

@@ -4,7 +4,7 @@ use Rattle.pg_game.specs.declared.player.Player.{Player}
 use Rattle.pg_game.specs.declared.player.Player.TheVariants.{Even}
 use Rattle.pg_game.specs.Graph.{Vertex, vertex_at}
 use Rattle.pg_game.specs.View.{graph_of}
-use Rattle.pg_game.specs.Stored.{AreParts}
+use Rattle.pg_game.specs.private.Stored.{AreParts}
 
 -- the parts without the first of each
 tails : (i p : ℕ) (o : Player) (ws : List ℕ) (ids ps : List ℕ) (os : List Player) (rows : List (List ℕ)) → AreParts (i ∷ ids) (p ∷ ps) (o ∷ os) (ws ∷ rows) → AreParts ids ps os rows

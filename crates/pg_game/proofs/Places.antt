@@ -10,7 +10,7 @@ use Rattle.std.proofs.lemmas.List.Elements.{Contains-get_or}
 use Rattle.std.proofs.lemmas.List.Quantifiers.{position-Some}
 use Rattle.std.proofs.lemmas.Map.Keys.{sorted_from_strictly_increasing, below_from_sorted}
 use Rattle.pg_game.specs.Specification.{different}
-use Rattle.pg_game.specs.Identifiers.{places_of, ArePlaces}
+use Rattle.pg_game.specs.private.Identifiers.{places_of, ArePlaces}
 use Rattle.pg_game.proofs.Members.{Contains-nil, Contains-head, Contains-tail, Contains-cons}
 use Rattle.pg_game.proofs.Masks.{true_or_false}
 use Rattle.pg_game.proofs.Different.{rising_tail, below_first}

@@ -1,5 +1,5 @@
 -- Specifications that are a game as they stand.
-use Rattle.std.proofs.Common.{◌≡◌, ℕ, suc, ◌+◌, ◌<◌, ◌||◌, Bool, true, false, inl, inr, List, [], ◌∷◌, length, map, get_or, nat_eq, refl, sym, ◌∙◌, ap, subst, arith}
+use Rattle.std.proofs.Common.{◌≡◌, ℕ, suc, ◌+◌, ◌<◌, true, false, inl, inr, List, [], ◌∷◌, length, map, get_or, nat_eq, refl, sym, ◌∙◌, ap, subst, arith}
 use Rattle.std.specs.Prelude.{All, None, sum_by, ◌==◌}
 use Rattle.std.specs.List.{Contains, list_any}
 use Rattle.std.specs.List.Sorted.{IsStrictlyIncreasing}
@@ -7,16 +7,18 @@ use Rattle.std.proofs.lemmas.Bool.{eq-eqb, false_from_ne_true}
 use Rattle.std.proofs.lemmas.List.{length-map, get_or-map, get_or_default}
 use Rattle.std.proofs.lemmas.List.Sorted.{IsPermutation-refl}
 use Rattle.std.proofs.lemmas.List.Sums.{sum_by-cons}
+use Rattle.std.proofs.Math.Bool.{or-true}
 use Rattle.pg_game.specs.declared.player.Player.{Player}
 use Rattle.pg_game.specs.declared.game.Spec.{Spec}
 use Rattle.pg_game.specs.Graph.{Graph, Vertex, IsGame, AreSuccessors, no_vertex, successors_of}
 use Rattle.pg_game.specs.Limits.{IsWithinLimits}
 use Rattle.pg_game.specs.Specification.{AreNumbers, IsGameOf, IsSpecified, first_fault, first_repeated, first_without, first_unspecified, first_unknown, is_empty, edges, different}
-use Rattle.pg_game.specs.Identifiers.{ids_of, priorities_of, owners_of, ArePlaces}
-use Rattle.pg_game.specs.Rows.{row_at, size_of}
+use Rattle.pg_game.specs.private.Identifiers.{ids_of, priorities_of, owners_of, ArePlaces}
+use Rattle.pg_game.specs.private.Rows.{row_at, size_of}
 use Rattle.pg_game.specs.View.{graph_of}
-use Rattle.pg_game.specs.Stored.{AreParts}
-use Rattle.pg_game.specs.Flat.{spec_from, specs_from, ArePlain, IsListed}
+use Rattle.pg_game.specs.private.Stored.{AreParts}
+use Rattle.pg_game.specs.Flat.{spec_from, specs_from}
+use Rattle.pg_game.specs.private.Flat.{ArePlain, IsListed}
 use Rattle.pg_game.proofs.Members.{Contains-nil, Contains-head, Contains-tail, Contains-cons}
 use Rattle.pg_game.proofs.Gathered.{any_from}
 use Rattle.pg_game.proofs.Different.{rising_tail, below_first, different_is}
@@ -76,15 +78,11 @@ pub none_unknown : (all : List Spec) (g : Graph) → ((v i : ℕ) → v < length
 none_unknown all [] has = refl
 none_unknown all (x ∷ g) has = rw (all_specified all x.successors (λ i m. has 0 i (omega arith) m)) (none_unknown all g (λ v i l m. has (suc v) i (omega arith) m))
 
-or_true : (b : Bool) → (b || true) ≡ true
-or_true true = refl
-or_true false = refl
-
 pub any_member : (xs : List ℕ) (i : ℕ) → Contains xs i → list_any (nat_eq i) xs ≡ true
 any_member [] i m = absurd (Contains-nil i m)
 any_member (x ∷ xs) i m = elim (Contains-cons x i xs m) [
   | inl q ↦ (let e : nat_eq i x ≡ true = eq-eqb i x (sym q) in rw e refl)
-  | inr k ↦ rw (any_member xs i k) (or_true (nat_eq i x))
+  | inr k ↦ rw (any_member xs i k) (or-true (nat_eq i x))
 ]
 
 module _ (ids ps : List ℕ) (os : List Player) (rows : List (List ℕ)) (a : AreParts ids ps os rows) (p : ArePlain ids rows) where

@@ -4,7 +4,7 @@ use Rattle.std.proofs.lemmas.List.{map_push}
 use Rattle.pg_game.specs.declared.player.Player.{Player}
 use Rattle.pg_game.specs.Graph.{Graph, Vertex}
 use Rattle.pg_game.specs.View.{graph_of}
-use Rattle.pg_game.specs.Stored.{AreParts}
+use Rattle.pg_game.specs.private.Stored.{AreParts}
 use Rattle.pg_game.specs.Flat.{spec_from, specs_from}
 
 abbrev pub vertex_from : ℕ → ℕ → Player → List ℕ → Vertex

@@ -4,7 +4,8 @@ use Rattle.std.specs.Prelude.{slice_range}
 use Rattle.std.proofs.lemmas.List.{take-append-le, ext_get_or, get_or_append_left, get_or_push, get_or_default, drop-append-le, length-drop, length-take-le}
 use Rattle.std.proofs.lemmas.List.Sums.{sum_by-cons}
 use Rattle.std.proofs.Math.Seq.{drop-append_seam, take-length}
-use Rattle.pg_game.specs.Rows.{rows_of, IsCompressed, size_of}
+use Rattle.pg_game.specs.Rows.{rows_of}
+use Rattle.pg_game.specs.private.Rows.{IsCompressed, size_of}
 
 pub length-rows_of : (os ts : List ℕ) → length (rows_of os ts) ≡ length os - 1
 length-rows_of [] ts = refl
@@ -29,6 +30,9 @@ take_all xs n e = rw e (take-length xs)
 -- and what was added is the range from its old end on
 range_added : (ts xs : List ℕ) (a b : ℕ) → a ≡ length ts → b ≡ length ts + length xs → slice_range (ts ++ xs) a b ≡ xs
 range_added ts xs a b e f = rw e (let g : drop (length ts) (ts ++ xs) ≡ xs = drop-append_seam ts xs in rw g (take_all xs (b - length ts) (omega arith)))
+
+pub below_or_last : (n k : ℕ) → k < n + 1 → (k < n) ⊎ (k ≡ n)
+below_or_last n k l = grind arith
 
 last_of : (n k : ℕ) → k < n → (k + 1 < n) ⊎ (k + 1 ≡ n)
 last_of n k l = grind arith
@@ -94,9 +98,6 @@ IsCompressed-push os ts xs e c q small few =
       ];
       last = λ k l. (let at = get_or_push os e 0 k (omega (arith, grown)) in omega (arith, at, targets));
     }
-  where
-    below_or_last : (n k : ℕ) → k < n + 1 → (k < n) ⊎ (k ≡ n)
-    below_or_last n k l = grind arith
 
 -- the two offsets of a row that are read, and the row
 pub row_bounds : (os ts : List ℕ) (v a b : ℕ) → IsCompressed os ts → v + 1 < length os → a ≡ get_or os v a → b ≡ get_or os (v + 1) b → (a ≤ b) × (b ≤ length ts) × (get_or (rows_of os ts) v [] ≡ slice_range ts a b)

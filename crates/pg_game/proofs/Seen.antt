@@ -8,7 +8,7 @@ use Rattle.std.proofs.lemmas.List.{take_more, drop_more, take-map, drop-map, map
 use Rattle.std.proofs.lemmas.List.Sorted.{IsPermutation-reverse, list_any-IsPermutation}
 use Rattle.pg_game.specs.declared.game.Spec.{Spec}
 use Rattle.pg_game.specs.Specification.{first_repeated}
-use Rattle.pg_game.specs.Identifiers.{ids_of}
+use Rattle.pg_game.specs.private.Identifiers.{ids_of}
 
 -- the first identifiers, the newest first
 abbrev pub earlier : List Spec → ℕ → List ℕ

@@ -8,8 +8,8 @@ use Rattle.std.proofs.lemmas.List.Sorted.{IsNonDecreasingBy-from_sort, IsPermuta
 use Rattle.std.proofs.lemmas.Map.Keys.{IsStrictlyIncreasing-from_distinct, IsDistinct-IsPermutation}
 use Rattle.pg_game.specs.declared.game.Spec.{Spec}
 use Rattle.pg_game.specs.Specification.{AreNumbers, first_fault, edges}
-use Rattle.pg_game.specs.Identifiers.{ids_of, ArePlaces}
-use Rattle.pg_game.specs.Rows.{row_at, size_of}
+use Rattle.pg_game.specs.private.Identifiers.{ids_of, ArePlaces}
+use Rattle.pg_game.specs.private.Rows.{row_at, size_of}
 use Rattle.pg_game.proofs.Sound.{sound_is}
 use Rattle.pg_game.proofs.Seen.{eqb_flip}
 use Rattle.pg_game.proofs.Made.{no_spec, IsLaid}

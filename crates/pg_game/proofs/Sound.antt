@@ -1,13 +1,14 @@
 -- Specifications without fault, test by test.
-use Rattle.std.proofs.Common.{◌≡◌, ℕ, zero, suc, ◌<◌, ◌≤◌, Bool, true, false, ◌⊎◌, inl, inr, List, [], ◌∷◌, length, refl, sym, subst, arith, ltb-true}
+use Rattle.std.proofs.Common.{◌≡◌, ℕ, zero, suc, ◌<◌, ◌≤◌, Bool, true, false, ◌⊎◌, inl, inr, List, [], ◌∷◌, length, refl, sym, subst, arith}
 use Rattle.std.specs.Prelude.{Option, Some, None, if◌then◌else◌, nat_lt, not, find}
 use Rattle.std.specs.List.{Contains}
-use Rattle.std.proofs.lemmas.Bool.{ltb-false, false_from_ne_true}
+use Rattle.std.proofs.lemmas.Bool.{ltb-false, le-ltb, not-false}
+use Rattle.pg_game.proofs.Members.{Contains-cons}
 use Rattle.pg_game.specs.declared.game.Spec.{Spec}
 use Rattle.pg_game.specs.declared.game.GameFault.{GameFault}
 use Rattle.pg_game.specs.declared.game.GameFault.TheVariants.{NoVertex, TooManyVertices, Twice, NoSuccessor, TooManyEdges, Unknown}
 use Rattle.pg_game.specs.Specification.{first_fault, fault_or, is_empty, first_repeated, first_without, first_unknown, first_unspecified, paired_or, IsSpecified, edges, max_vertices, max_edges}
-use Rattle.pg_game.specs.Identifiers.{ids_of}
+use Rattle.pg_game.specs.private.Identifiers.{ids_of}
 
 pub record IsSound (specs : List Spec) : Type 0 where
   pub nonempty : 0 < length specs
@@ -46,16 +47,13 @@ sound_is specs e =
       known = h.0;
     }
 
-not_more : (a b : ℕ) → b ≤ a → nat_lt a b ≡ false
-not_more a b l = false_from_ne_true (nat_lt a b) (λ t. let h : a < b = ltb-true a b t in omega arith)
-
 none_empty : (specs : List Spec) → 0 < length specs → is_empty specs ≡ false
 none_empty [] l = absurd (omega arith)
 none_empty (s ∷ specs) l = refl
 
 pub sound_has_none : (specs : List Spec) → IsSound specs → first_fault specs ≡ None
 sound_has_none specs s =
-    rw (none_empty specs s.nonempty, not_more max_vertices (length specs) s.vertices, s.once, s.successors, not_more max_edges (edges specs) s.edges_fit, s.known) refl
+    rw (none_empty specs s.nonempty, le-ltb max_vertices (length specs) s.vertices, s.once, s.successors, le-ltb max_edges (edges specs) s.edges_fit, s.known) refl
 
 head_of : (s t : Spec) (specs : List Spec) → Contains (s ∷ specs) t → (s ≡ t) ⊎ Contains specs t
 head_of s t specs (zero, l, e) = inl e
@@ -83,19 +81,11 @@ none_pair : (id : ℕ) (o : Option ℕ) (p : Option (ℕ × ℕ)) → paired_or 
 none_pair id None p e = (refl, e)
 none_pair id (Some i) p e = absurd (cc e)
 
-not_false : (b : Bool) → not b ≡ false → b ≡ true
-not_false true e = refl
-not_false false e = absurd (cc e)
-
-number_head : (x i : ℕ) (xs : List ℕ) → Contains (x ∷ xs) i → (x ≡ i) ⊎ Contains xs i
-number_head x i xs (zero, l, e) = inl e
-number_head x i xs (suc k, l, e) = inr (k, omega arith, e)
-
 none_found : (p : ℕ → Bool) (xs : List ℕ) → find p xs ≡ None → (i : ℕ) → Contains xs i → p i ≡ false
 none_found p [] e i (k, l, q) = absurd (omega arith)
 none_found p (x ∷ xs) e i m =
     let h = none_or (p x) x (find p xs) e in
-    elim (number_head x i xs m) [
+    elim (Contains-cons x i xs m) [
       | inl q ↦ subst (λ (y : ℕ). p y ≡ false) q h.0
       | inr n ↦ none_found p xs h.1 i n
     ]
@@ -106,6 +96,6 @@ each_known all [] e s (k, l, q) i m = absurd (omega arith)
 each_known all (t ∷ specs) e s n i m =
     let h = none_pair t.id (first_unspecified all t.successors) (first_unknown all specs) e in
     elim (head_of t s specs n) [
-      | inl q ↦ not_false (IsSpecified all i) (none_found (λ j. not (IsSpecified all j)) t.successors h.0 i (subst (λ (x : Spec). Contains x.successors i) (sym q) m))
+      | inl q ↦ not-false (IsSpecified all i) (none_found (λ j. not (IsSpecified all j)) t.successors h.0 i (subst (λ (x : Spec). Contains x.successors i) (sym q) m))
       | inr r ↦ each_known all specs h.1 s r i m
     ]

@@ -6,9 +6,12 @@ use Rattle.pg_game.specs.declared.player.Player.TheVariants.{Even}
 use Rattle.pg_game.specs.declared.game.Spec.{Spec}
 use Rattle.pg_game.specs.Graph.{no_vertex}
 use Rattle.pg_game.specs.View.{graph_of}
-use Rattle.pg_game.specs.Stored.{AreParts}
+use Rattle.pg_game.specs.private.Stored.{AreParts}
 use Rattle.pg_game.specs.Flat.{spec_from, specs_from}
 use Rattle.pg_game.proofs.Parts.{part_at, length-graph_of}
+
+abbrev pub spec_of : ℕ → ℕ → Player → List ℕ → Spec
+spec_of i p o ws = record { id = i; priority = p; owner = o; successors = ws }
 
 module _ (ids ps : List ℕ) (os : List Player) (rows : List (List ℕ)) (a : AreParts ids ps os rows) where
   pub length_specs : length (specs_from ids ps os rows) ≡ length ids

@@ -5,7 +5,7 @@ use Rattle.std.specs.List.{list_any}
 use Rattle.std.proofs.lemmas.List.{drop_more}
 use Rattle.pg_game.specs.declared.game.Spec.{Spec}
 use Rattle.pg_game.specs.Specification.{IsSpecified, first_unspecified, first_unknown}
-use Rattle.pg_game.specs.Identifiers.{ids_of, first_outside}
+use Rattle.pg_game.specs.private.Identifiers.{ids_of, first_outside}
 use Rattle.pg_game.proofs.Seen.{eqb_flip}
 
 pub specified_is : (specs : List Spec) (i : ℕ) → list_any (nat_eq i) (ids_of specs) ≡ IsSpecified specs i

@@ -11,12 +11,8 @@ pub mod View
 pub mod Limits
 pub mod Least
 pub mod Predecessors
-pub mod Stored
-pub mod Gathered
-pub mod Identifiers
 pub mod Rows
-pub mod Described
 pub mod Same
-pub mod Names
 pub mod Flat
-pub mod Placed
+pub mod Opened
+pub mod private

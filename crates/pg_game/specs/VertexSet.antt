@@ -18,10 +18,6 @@ no_vertices v = false
 abbrev pub union : VertexSet → VertexSet → VertexSet
 union X Y v = X v || Y v
 
--- the vertices of X that are not in Y
-abbrev pub without : VertexSet → VertexSet → VertexSet
-without X Y v = X v && not (Y v)
-
 -- the set that a mask has: the places of its true entries
 abbrev pub members : List Bool → VertexSet
 members mask v = slice_index_or mask v false

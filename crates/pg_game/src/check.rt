@@ -3,7 +3,7 @@
 ghost use Rattle.std.specs.Prelude.{◌≡◌, ◌≤◌, nat_eq, IfOk, IfErr, OnOk, Some, None};
 ghost use Rattle.std.specs.List.{IsDistinct};
 ghost use Rattle.pg_game.specs.Specification.{first_fault, edges, OrMemory};
-ghost use Rattle.pg_game.specs.Identifiers.{ids_of};
+ghost use Rattle.pg_game.specs.private.Identifiers.{ids_of};
 
 use crate::faults::{count_edges, first_unknown, first_without, identifiers};
 use crate::game::{GameFault, Spec};

@@ -4,7 +4,7 @@ ghost use Rattle.std.specs.Prelude.{◌≡◌, ◌<◌, ◌≤◌, ◌↔◌, �
 ghost use Rattle.std.specs.List.{IsDistinct};
 ghost use Rattle.std.specs.List.Sorted.{IsStrictlyIncreasing};
 ghost use Rattle.pg_game.specs.Specification.{first_without, first_repeated, first_unknown, different, edges, max_edges, OrMemory};
-ghost use Rattle.pg_game.specs.Identifiers.{ids_of, twice_of, first_outside};
+ghost use Rattle.pg_game.specs.private.Identifiers.{ids_of, twice_of, first_outside};
 
 use crate::Memory;
 use crate::game::{GameFault, Spec};

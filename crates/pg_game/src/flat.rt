@@ -6,8 +6,10 @@ ghost use Rattle.std.specs.List.Sorted.{IsPermutation};
 ghost use Rattle.pg_game.specs.declared.game.Spec.{Spec};
 ghost use Rattle.pg_game.specs.Graph.{IsGame, AreSuccessors};
 ghost use Rattle.pg_game.specs.Specification.{AreNumbers, IsGameOf, first_fault, max_vertices};
-ghost use Rattle.pg_game.specs.Rows.{size_of};
-ghost use Rattle.pg_game.specs.Flat.{AreSuccessorRows, ArePlain};
+ghost use Rattle.pg_game.specs.private.Rows.{size_of};
+ghost use Rattle.pg_game.specs.Flat.{specs_from};
+ghost use Rattle.pg_game.specs.private.Flat.{AreSuccessorRows, ArePlain};
+ghost use Rattle.pg_game.specs.private.Stored.{AreParts};
 
 use crate::Memory;
 use crate::adjacency::Adjacency;
@@ -36,7 +38,7 @@ impl Model for Specs {
     ghost Value = { List Spec };
 
     ghost use Rattle.pg_game.specs.Flat.{specs_from};
-    ghost use Rattle.pg_game.specs.Stored.{AreParts};
+    ghost use Rattle.pg_game.specs.private.Stored.{AreParts};
 
     ghost view = { λ s. specs_from s.ids.items s.priorities.items s.owners.items s.rows };
 
@@ -58,7 +60,7 @@ impl Model for Listed {
     ghost Value = { Graph };
 
     ghost use Rattle.pg_game.specs.View.{graph_of};
-    ghost use Rattle.pg_game.specs.Flat.{IsListed};
+    ghost use Rattle.pg_game.specs.private.Flat.{IsListed};
 
     ghost view = { λ g. graph_of g.ids.items g.priorities.items g.owners.items g.rows };
 
@@ -130,6 +132,24 @@ impl Specs {
             owners: Vec::with_capacity(alloc, n as usize)?,
             rows: Adjacency::with_capacity(alloc, n, edges)?,
         })
+    }
+
+    /// Those of these parts.
+    pub(crate) fn of_parts(
+        ids: Vec<u32>,
+        priorities: Vec<u32>,
+        owners: Vec<Player>,
+        rows: Adjacency,
+    ) -> Specs
+        requires { AreParts ids.items priorities.items owners.items rows }
+        ensures { result ≡ specs_from ids.items priorities.items owners.items rows }
+    {
+        Specs {
+            ids,
+            priorities,
+            owners,
+            rows,
+        }
     }
 
     /// Adds one at the end. `Memory` is its one refusal, and comes also where 4,294,967,295 specifications or successors

@@ -3,7 +3,7 @@
 
 ghost use Rattle.std.specs.Prelude.{◌≡◌, ◌<◌, ◌^◌, ◌↔◌, ℕ, length, slice_index, IfOk, IsTrue, IfErr, IfSome, IfNone, All, Some, None, nat_eq};
 ghost use Rattle.std.specs.List.{IsDistinct};
-ghost use Rattle.pg_game.specs.Identifiers.{ids_of};
+ghost use Rattle.pg_game.specs.private.Identifiers.{ids_of};
 ghost use Rattle.pg_game.specs.Predecessors.{ArePredecessors};
 ghost use Rattle.pg_game.specs.Specification.{AreNumbers, IsGameOf, first_fault, OrMemory, edges};
 ghost use Rattle.pg_game.specs.Limits.{IsWithinLimits};
@@ -96,7 +96,7 @@ impl Model for Game {
     ghost Value = { Graph };
 
     ghost use Rattle.pg_game.specs.View.{graph_of};
-    ghost use Rattle.pg_game.specs.Stored.{IsStored};
+    ghost use Rattle.pg_game.specs.private.Stored.{IsStored};
 
     ghost view = { λ g. graph_of g.ids g.priorities.items g.owners.items g.successors };
 

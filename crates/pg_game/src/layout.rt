@@ -4,8 +4,8 @@ ghost use Rattle.std.specs.Prelude.{◌≡◌, ◌<◌, ◌≤◌, ◌^◌, ℕ,
 ghost use Rattle.std.specs.List.Sorted.{IsStrictlyIncreasing};
 ghost use Rattle.pg_game.specs.declared.game.Spec.{Spec};
 ghost use Rattle.pg_game.specs.Specification.{edges, max_edges, max_vertices};
-ghost use Rattle.pg_game.specs.Identifiers.{priorities_of, owners_of, ArePlaces};
-ghost use Rattle.pg_game.specs.Rows.{row_at, size_of};
+ghost use Rattle.pg_game.specs.private.Identifiers.{priorities_of, owners_of, ArePlaces};
+ghost use Rattle.pg_game.specs.private.Rows.{row_at, size_of};
 
 use crate::Memory;
 use crate::adjacency::Adjacency;

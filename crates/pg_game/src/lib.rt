@@ -13,6 +13,7 @@ mod limits;
 mod lookup;
 mod mask;
 mod names;
+mod open;
 mod placed;
 mod player;
 mod sequence;
@@ -22,6 +23,7 @@ mod tests;
 pub use flat::Specs;
 pub use game::{Game, GameFault, Spec};
 pub use mask::Mask;
+pub use open::OpenSpecs;
 pub use player::Player;
 pub use sequence::Sequence;
 

@@ -4,7 +4,7 @@
 ghost use Rattle.std.specs.Prelude.{◌≡◌, ◌<◌, ◌↔◌, ℕ, IfNone, IfSome, IsTrue, length, nat_eq, position, slice_index};
 ghost use Rattle.std.specs.List.{list_any};
 ghost use Rattle.std.specs.List.Sorted.{IsStrictlyIncreasing};
-ghost use Rattle.pg_game.specs.Names.{AreOwnPlaces};
+ghost use Rattle.pg_game.specs.private.Names.{AreOwnPlaces};
 
 use indexmap::IndexSet;
 

@@ -3,7 +3,9 @@
 ghost use Rattle.std.specs.Prelude.{◌<◌, length, All, IfOk};
 ghost use Rattle.pg_game.specs.Specification.{AreNumbers};
 
+mod bands;
 mod memory;
+mod open;
 
 use crate::{Game, GameFault, Mask, Player, Sequence, Spec, Specs};
 use std::alloc::Global;

@@ -4,11 +4,11 @@ use Rattle.pg_text.specs.declared.fault.TextFault.{TextFault}
 use Rattle.pg_text.specs.declared.fault.TextFault.TheVariants.{Memory}
 use Rattle.pg_text.specs.declared.game_reader.Reader.{Reader}
 use Rattle.pg_text.specs.Token.{Token}
-use Rattle.pg_text.specs.Piece.{IsToken}
-use Rattle.pg_text.specs.FirstFault.{placed}
+use Rattle.pg_text.specs.private.Piece.{IsToken}
+use Rattle.pg_text.specs.private.FirstFault.{placed}
 use Rattle.pg_text.specs.Reading.{IsFaultOf}
-use Rattle.pg_text.specs.GameKeeps.{Takes, IsUnexpected}
-use Rattle.pg_text.specs.GameAdvance.{Advances, FailsWith}
+use Rattle.pg_text.specs.private.GameKeeps.{Takes, IsUnexpected}
+use Rattle.pg_text.specs.private.GameAdvance.{Advances, FailsWith}
 use Rattle.pg_text.proofs.Reach.{reaches_more}
 use Rattle.pg_text.proofs.GameKeeps.{unexpected}
 

@@ -5,22 +5,23 @@ use Rattle.std.specs.Str.{bytes_eq}
 use Rattle.std.specs.Option.{is_none, unwrap_or}
 use Rattle.std.proofs.lemmas.Bool.{ltb-true, ltb-false}
 use Rattle.std.proofs.lemmas.List.{map-append}
+use Rattle.pg_text.proofs.Once.{tokens_append}
 use Rattle.pg_game.specs.declared.player.Player.{Player}
 use Rattle.pg_game.specs.declared.game.Spec.{Spec}
 use Rattle.pg_text.specs.declared.game_reader.State.{State}
 use Rattle.pg_text.specs.declared.game_reader.State.TheVariants as state
 use Rattle.pg_text.specs.Token.{Token, Number, Word, Name, Comma, Semicolon, Placed, tokens_of, Spells}
-use Rattle.pg_text.specs.GameText.{Line, player_of, spec_of, IsBeforeOwner, IsGameText, BeginsGameText}
+use Rattle.pg_text.specs.GameText.{WrittenGameLine, player_of, spec_of, IsBeforeOwner, IsGameText, BeginsGameText}
 use Rattle.pg_text.specs.Reading.{IsSomeGameText}
-use Rattle.pg_text.specs.Reach.{Reaches}
+use Rattle.pg_text.specs.private.Reach.{ReadsTo}
 use Rattle.pg_text.specs.Fault.{fits, IsSyntaxFault, IsNumberFault, IsPlayerFault}
-use Rattle.pg_text.specs.Piece.{fitting, IsToken}
-use Rattle.pg_text.specs.FirstFault.{placed, first_at, FirstLarge, FirstPlayer}
-use Rattle.pg_text.specs.GameKeeps.{Keeps, Stops, IsUnexpected, SpellsSpecs}
-use Rattle.pg_text.specs.GameStates.{state_of, is_complete, AreLines, Agrees}
-use Rattle.pg_text.proofs.FirstFaults.{tokens-more, all-push, first_large-fit, first_large-number, none_known, fitting-some, first_player-more, first_player-number, syntax_end, number_fault, player_fault}
-use Rattle.pg_text.specs.GameRun as reading
-use Rattle.pg_text.specs.GameRun.{Front, front, with_line, Reading, line, step, run, on_start}
+use Rattle.pg_text.specs.private.Piece.{fitting, IsToken}
+use Rattle.pg_text.specs.private.FirstFault.{placed, first_at, FirstLarge, FirstPlayer}
+use Rattle.pg_text.specs.private.GameKeeps.{Keeps, Stops, IsUnexpected, SpellsSpecs}
+use Rattle.pg_text.specs.private.GameStates.{reader_state, is_complete, AreLines, HoldsRead}
+use Rattle.pg_text.proofs.FirstFaults.{all-push, first_large-fit, first_large-number, none_known, fitting-some, first_player-more, first_player-number, syntax_end, number_fault, player_fault}
+use Rattle.pg_text.specs.private.GameRun as reading
+use Rattle.pg_text.specs.private.GameRun.{Front, front, with_line, Reading, line, step, run, on_start}
 use Rattle.pg_text.proofs.GameRun.{run-append, tokens_are, spelled, finished, text_begins, text_is, lines_are, begins_none}
 
 -- what a reading in a state is
@@ -40,7 +41,7 @@ Shape state.Listing r = (f : Front) × (i : ℕ) × (p : ℕ) × (o : ℕ) × (w
 Shape state.Successor r = (f : Front) × (i : ℕ) × (p : ℕ) × (o : ℕ) × (w : ℕ) × (vs : List ℕ) × (r ≡ reading.Successor f i p o w vs)
 Shape state.Named r = (f : Front) × (i : ℕ) × (p : ℕ) × (o : ℕ) × (w : ℕ) × (vs : List ℕ) × (b : List ℕ) × (r ≡ reading.Named f i p o w vs b)
 
-shape : (r : Reading) → Shape (state_of r) r
+shape : (r : Reading) → Shape (reader_state r) r
 shape reading.Start = refl
 shape reading.HeadWord = refl
 shape (reading.HeadNumber m) = (m, refl)
@@ -56,14 +57,14 @@ shape (reading.Listing f i p o w vs) = (f, i, p, o, w, vs, refl)
 shape (reading.Successor f i p o w vs) = (f, i, p, o, w, vs, refl)
 shape (reading.Named f i p o w vs b) = (f, i, p, o, w, vs, b, refl)
 
-pub shape_in : (r : Reading) (s : State) → state_of r ≡ s → Shape s r
+pub shape_in : (r : Reading) (s : State) → reader_state r ≡ s → Shape s r
 shape_in r s e = subst (λ (q : State). Shape q r) e (shape r)
 
 owner_is : (n m : ℕ) → n ≡ m → player_of n ≡ player_of m
 owner_is n m e = ap player_of e
 
 -- one more line
-lines_more : (specs : List Spec) (lines : List Line) (spec : Spec) (l : Line) → AreLines specs lines → spec ≡ spec_of l → l.owner < 2 → AreLines (specs ++ spec ∷ []) (lines ++ l ∷ [])
+lines_more : (specs : List Spec) (lines : List WrittenGameLine) (spec : Spec) (l : WrittenGameLine) → AreLines specs lines → spec ≡ spec_of l → l.owner < 2 → AreLines (specs ++ spec ∷ []) (lines ++ l ∷ [])
 lines_more specs lines spec l a e h = (ap (λ ss. ss ++ spec ∷ []) a.0 ∙ (ap (λ s. map spec_of lines ++ s ∷ []) e ∙ sym (map-append spec_of lines (l ∷ []))), all-push (λ k. k.owner < 2) lines l a.1 h)
 
 module _ (ts : List Placed) (s : State) (specs : List Spec) (id priority : ℕ) (owner : Player) (successors : List ℕ) (large wrong : Option ℕ) (k : Keeps ts s specs id priority owner successors large wrong) where
@@ -74,13 +75,13 @@ module _ (ts : List Placed) (s : State) (specs : List Spec) (id priority : ℕ) 
   stops t r e f = ran-more t r None e f
 
   goes : (t : Token) (place : ℕ) (r q : Reading) → k.read ≡ r → step r t ≡ Some q → run (Some reading.Start) (tokens_of (ts ++ placed t place ∷ [])) ≡ Some q
-  goes t place r q e f = ap (run (Some reading.Start)) (tokens-more ts (placed t place ∷ [])) ∙ ran-more t r (Some q) e f
+  goes t place r q e f = ap (run (Some reading.Start)) (tokens_append ts (placed t place ∷ [])) ∙ ran-more t r (Some q) e f
 
-  as_read : (r : Reading) → k.read ≡ r → large ≡ None → wrong ≡ None → Agrees r specs id priority owner successors
-  as_read r e l w = subst (λ (q : Reading). Agrees q specs id priority owner successors) e (k.agrees l w)
+  as_read : (r : Reading) → k.read ≡ r → large ≡ None → wrong ≡ None → HoldsRead r specs id priority owner successors
+  as_read r e l w = subst (λ (q : Reading). HoldsRead q specs id priority owner successors) e (k.agrees l w)
 
   -- a token that is no number
-  other : (t : Token) (place : ℕ) (q r : Reading) (specs' : List Spec) (id' priority' : ℕ) (owner' : Player) (successors' : List ℕ) → fits t ≡ true → k.read ≡ r → step r t ≡ Some q → (large ≡ None → wrong ≡ None → Agrees q specs' id' priority' owner' successors') → Keeps (ts ++ placed t place ∷ []) (state_of q) specs' id' priority' owner' successors' large wrong
+  other : (t : Token) (place : ℕ) (q r : Reading) (specs' : List Spec) (id' priority' : ℕ) (owner' : Player) (successors' : List ℕ) → fits t ≡ true → k.read ≡ r → step r t ≡ Some q → (large ≡ None → wrong ≡ None → HoldsRead q specs' id' priority' owner' successors') → Keeps (ts ++ placed t place ∷ []) (reader_state q) specs' id' priority' owner' successors' large wrong
   other t place q r specs' id' priority' owner' successors' f e g a = record {
     read = q;
     ran = goes t place r q e g;
@@ -91,7 +92,7 @@ module _ (ts : List Placed) (s : State) (specs : List Spec) (id priority : ℕ) 
   }
 
   -- a number that is no owner
-  number : (n place : ℕ) (q r : Reading) (specs' : List Spec) (id' priority' : ℕ) (owner' : Player) (successors' : List ℕ) → k.read ≡ r → step r (Number n) ≡ Some q → (large ≡ None → wrong ≡ None → fitting n ≡ Some n → Agrees q specs' id' priority' owner' successors') → Keeps (ts ++ placed (Number n) place ∷ []) (state_of q) specs' id' priority' owner' successors' (first_at large (is_none (fitting n)) place) wrong
+  number : (n place : ℕ) (q r : Reading) (specs' : List Spec) (id' priority' : ℕ) (owner' : Player) (successors' : List ℕ) → k.read ≡ r → step r (Number n) ≡ Some q → (large ≡ None → wrong ≡ None → fitting n ≡ Some n → HoldsRead q specs' id' priority' owner' successors') → Keeps (ts ++ placed (Number n) place ∷ []) (reader_state q) specs' id' priority' owner' successors' (first_at large (is_none (fitting n)) place) wrong
   number n place q r specs' id' priority' owner' successors' e g a = record {
     read = q;
     ran = goes (Number n) place r q e g;
@@ -181,15 +182,15 @@ module _ (ts : List Placed) (s : State) (specs : List Spec) (id priority : ℕ) 
       let (h, k', e) = shape_in k.read state.StartNumber (k.state_is ∙ is) in
       other Semicolon place (reading.Started h k') (reading.StartNumber h k') specs id priority owner successors refl e refl (λ l w'. let a = as_read (reading.StartNumber h k') e l w' in a)
 
-  pub semicolon_Successor : (spec : Spec) → spec ≡ record { id = id; priority = priority; owner = owner; successors = successors } → s ≡ state.Successor → (place : ℕ) → Keeps (ts ++ placed Semicolon place ∷ []) state.Ready (specs ++ spec ∷ []) id priority owner successors large wrong
-  semicolon_Successor spec is_spec is place =
+  pub semicolon_Successor : (spec : Spec) → spec ≡ record { id = id; priority = priority; owner = owner; successors = successors } → s ≡ state.Successor → (place : ℕ) (left : List ℕ) → Keeps (ts ++ placed Semicolon place ∷ []) state.Ready (specs ++ spec ∷ []) id priority owner left large wrong
+  semicolon_Successor spec is_spec is place left =
       let (f, i, p, o, w, vs, e) = shape_in k.read state.Successor (k.state_is ∙ is) in
-      other Semicolon place (reading.Ready (with_line f (line i p o (w ∷ vs) None))) (reading.Successor f i p o w vs) (specs ++ spec ∷ []) id priority owner successors refl e refl (λ l w'. let a = as_read (reading.Successor f i p o w vs) e l w' in lines_more specs f.lines spec (line i p o (w ∷ vs) None) a.0 (is_spec ∙ cc (a.1, a.2, a.3, a.5)) a.4)
+      other Semicolon place (reading.Ready (with_line f (line i p o (w ∷ vs) None))) (reading.Successor f i p o w vs) (specs ++ spec ∷ []) id priority owner left refl e refl (λ l w'. let a = as_read (reading.Successor f i p o w vs) e l w' in lines_more specs f.lines spec (line i p o (w ∷ vs) None) a.0 (is_spec ∙ cc (a.1, a.2, a.3, a.5)) a.4)
 
-  pub semicolon_Named : (spec : Spec) → spec ≡ record { id = id; priority = priority; owner = owner; successors = successors } → s ≡ state.Named → (place : ℕ) → Keeps (ts ++ placed Semicolon place ∷ []) state.Ready (specs ++ spec ∷ []) id priority owner successors large wrong
-  semicolon_Named spec is_spec is place =
+  pub semicolon_Named : (spec : Spec) → spec ≡ record { id = id; priority = priority; owner = owner; successors = successors } → s ≡ state.Named → (place : ℕ) (left : List ℕ) → Keeps (ts ++ placed Semicolon place ∷ []) state.Ready (specs ++ spec ∷ []) id priority owner left large wrong
+  semicolon_Named spec is_spec is place left =
       let (f, i, p, o, w, vs, b, e) = shape_in k.read state.Named (k.state_is ∙ is) in
-      other Semicolon place (reading.Ready (with_line f (line i p o (w ∷ vs) (Some b)))) (reading.Named f i p o w vs b) (specs ++ spec ∷ []) id priority owner successors refl e refl (λ l w'. let a = as_read (reading.Named f i p o w vs b) e l w' in lines_more specs f.lines spec (line i p o (w ∷ vs) (Some b)) a.0 (is_spec ∙ cc (a.1, a.2, a.3, a.5)) a.4)
+      other Semicolon place (reading.Ready (with_line f (line i p o (w ∷ vs) (Some b)))) (reading.Named f i p o w vs b) (specs ++ spec ∷ []) id priority owner left refl e refl (λ l w'. let a = as_read (reading.Named f i p o w vs b) e l w' in lines_more specs f.lines spec (line i p o (w ∷ vs) (Some b)) a.0 (is_spec ∙ cc (a.1, a.2, a.3, a.5)) a.4)
 
   pub comma_Successor : s ≡ state.Successor → (place : ℕ) → Keeps (ts ++ placed Comma place ∷ []) state.Listing specs id priority owner successors large wrong
   comma_Successor is place =
@@ -220,18 +221,18 @@ module _ (ts : List Placed) (s : State) (specs : List Spec) (id priority : ℕ) 
   number_stops n x0 x1 x2 x3 x4 x5 x6 x7 x8 x9 = go k.read refl
     where
       go : (d : Reading) → k.read ≡ d → Stops ts (Number n)
-      go reading.Start e = absurd (x0 (sym k.state_is ∙ ap state_of e))
-      go reading.HeadWord e = absurd (x1 (sym k.state_is ∙ ap state_of e))
+      go reading.Start e = absurd (x0 (sym k.state_is ∙ ap reader_state e))
+      go reading.HeadWord e = absurd (x1 (sym k.state_is ∙ ap reader_state e))
       go (reading.HeadNumber m) e = stops (Number n) (reading.HeadNumber m) e refl
-      go (reading.Headed m) e = absurd (x2 (sym k.state_is ∙ ap state_of e))
-      go (reading.StartWord h) e = absurd (x3 (sym k.state_is ∙ ap state_of e))
+      go (reading.Headed m) e = absurd (x2 (sym k.state_is ∙ ap reader_state e))
+      go (reading.StartWord h) e = absurd (x3 (sym k.state_is ∙ ap reader_state e))
       go (reading.StartNumber h k') e = stops (Number n) (reading.StartNumber h k') e refl
-      go (reading.Started h k') e = absurd (x4 (sym k.state_is ∙ ap state_of e))
-      go (reading.Ready f) e = absurd (x5 (sym k.state_is ∙ ap state_of e))
-      go (reading.Id f i) e = absurd (x6 (sym k.state_is ∙ ap state_of e))
-      go (reading.Priority f i p) e = absurd (x7 (sym k.state_is ∙ ap state_of e))
-      go (reading.Owner f i p o) e = absurd (x8 (sym k.state_is ∙ ap state_of e))
-      go (reading.Listing f i p o w vs) e = absurd (x9 (sym k.state_is ∙ ap state_of e))
+      go (reading.Started h k') e = absurd (x4 (sym k.state_is ∙ ap reader_state e))
+      go (reading.Ready f) e = absurd (x5 (sym k.state_is ∙ ap reader_state e))
+      go (reading.Id f i) e = absurd (x6 (sym k.state_is ∙ ap reader_state e))
+      go (reading.Priority f i p) e = absurd (x7 (sym k.state_is ∙ ap reader_state e))
+      go (reading.Owner f i p o) e = absurd (x8 (sym k.state_is ∙ ap reader_state e))
+      go (reading.Listing f i p o w vs) e = absurd (x9 (sym k.state_is ∙ ap reader_state e))
       go (reading.Successor f i p o w vs) e = stops (Number n) (reading.Successor f i p o w vs) e refl
       go (reading.Named f i p o w vs b) e = stops (Number n) (reading.Named f i p o w vs b) e refl
 
@@ -241,18 +242,18 @@ module _ (ts : List Placed) (s : State) (specs : List Spec) (id priority : ℕ) 
       go : (d : Reading) → k.read ≡ d → Stops ts Semicolon
       go reading.Start e = stops Semicolon reading.Start e refl
       go reading.HeadWord e = stops Semicolon reading.HeadWord e refl
-      go (reading.HeadNumber m) e = absurd (x0 (sym k.state_is ∙ ap state_of e))
+      go (reading.HeadNumber m) e = absurd (x0 (sym k.state_is ∙ ap reader_state e))
       go (reading.Headed m) e = stops Semicolon (reading.Headed m) e refl
       go (reading.StartWord h) e = stops Semicolon (reading.StartWord h) e refl
-      go (reading.StartNumber h k') e = absurd (x1 (sym k.state_is ∙ ap state_of e))
+      go (reading.StartNumber h k') e = absurd (x1 (sym k.state_is ∙ ap reader_state e))
       go (reading.Started h k') e = stops Semicolon (reading.Started h k') e refl
       go (reading.Ready f) e = stops Semicolon (reading.Ready f) e refl
       go (reading.Id f i) e = stops Semicolon (reading.Id f i) e refl
       go (reading.Priority f i p) e = stops Semicolon (reading.Priority f i p) e refl
       go (reading.Owner f i p o) e = stops Semicolon (reading.Owner f i p o) e refl
       go (reading.Listing f i p o w vs) e = stops Semicolon (reading.Listing f i p o w vs) e refl
-      go (reading.Successor f i p o w vs) e = absurd (x2 (sym k.state_is ∙ ap state_of e))
-      go (reading.Named f i p o w vs b) e = absurd (x3 (sym k.state_is ∙ ap state_of e))
+      go (reading.Successor f i p o w vs) e = absurd (x2 (sym k.state_is ∙ ap reader_state e))
+      go (reading.Named f i p o w vs b) e = absurd (x3 (sym k.state_is ∙ ap reader_state e))
 
   pub comma_stops : (s ≡ state.Successor → ⊥) → Stops ts Comma
   comma_stops x0 = go k.read refl
@@ -270,7 +271,7 @@ module _ (ts : List Placed) (s : State) (specs : List Spec) (id priority : ℕ) 
       go (reading.Priority f i p) e = stops Comma (reading.Priority f i p) e refl
       go (reading.Owner f i p o) e = stops Comma (reading.Owner f i p o) e refl
       go (reading.Listing f i p o w vs) e = stops Comma (reading.Listing f i p o w vs) e refl
-      go (reading.Successor f i p o w vs) e = absurd (x0 (sym k.state_is ∙ ap state_of e))
+      go (reading.Successor f i p o w vs) e = absurd (x0 (sym k.state_is ∙ ap reader_state e))
       go (reading.Named f i p o w vs b) e = stops Comma (reading.Named f i p o w vs b) e refl
 
   pub name_stops : (bytes : List ℕ) → (s ≡ state.Successor → ⊥) → Stops ts (Name bytes)
@@ -289,17 +290,17 @@ module _ (ts : List Placed) (s : State) (specs : List Spec) (id priority : ℕ) 
       go (reading.Priority f i p) e = stops (Name bytes) (reading.Priority f i p) e refl
       go (reading.Owner f i p o) e = stops (Name bytes) (reading.Owner f i p o) e refl
       go (reading.Listing f i p o w vs) e = stops (Name bytes) (reading.Listing f i p o w vs) e refl
-      go (reading.Successor f i p o w vs) e = absurd (x0 (sym k.state_is ∙ ap state_of e))
+      go (reading.Successor f i p o w vs) e = absurd (x0 (sym k.state_is ∙ ap reader_state e))
       go (reading.Named f i p o w vs b) e = stops (Name bytes) (reading.Named f i p o w vs b) e refl
 
   pub word_stops : (letters : List ℕ) → (s ≡ state.Start → bytes_eq letters (codes "parity") ≡ false) → (s ≡ state.Start → bytes_eq letters (codes "start") ≡ false) → (s ≡ state.Headed → bytes_eq letters (codes "start") ≡ false) → Stops ts (Word letters)
   word_stops letters x0 x1 x2 = go k.read refl
     where
       go : (d : Reading) → k.read ≡ d → Stops ts (Word letters)
-      go reading.Start e = stops (Word letters) reading.Start e (let t = x0 (sym k.state_is ∙ ap state_of e) in let u = x1 (sym k.state_is ∙ ap state_of e) in rw (t, u) refl)
+      go reading.Start e = stops (Word letters) reading.Start e (let t = x0 (sym k.state_is ∙ ap reader_state e) in let u = x1 (sym k.state_is ∙ ap reader_state e) in rw (t, u) refl)
       go reading.HeadWord e = stops (Word letters) reading.HeadWord e refl
       go (reading.HeadNumber m) e = stops (Word letters) (reading.HeadNumber m) e refl
-      go (reading.Headed m) e = stops (Word letters) (reading.Headed m) e (let t = x2 (sym k.state_is ∙ ap state_of e) in rw t refl)
+      go (reading.Headed m) e = stops (Word letters) (reading.Headed m) e (let t = x2 (sym k.state_is ∙ ap reader_state e) in rw t refl)
       go (reading.StartWord h) e = stops (Word letters) (reading.StartWord h) e refl
       go (reading.StartNumber h k') e = stops (Word letters) (reading.StartNumber h k') e refl
       go (reading.Started h k') e = stops (Word letters) (reading.Started h k') e refl
@@ -322,7 +323,7 @@ keeps_none specs id priority owner successors e = record {
 }
 
 -- where a text may end, the lines that were read
-finished_lines : (r : Reading) → is_complete (state_of r) ≡ true → (f : Front) × (r ≡ reading.Ready f)
+finished_lines : (r : Reading) → is_complete (reader_state r) ≡ true → (f : Front) × (r ≡ reading.Ready f)
 finished_lines reading.Start e = absurd (cc e)
 finished_lines reading.HeadWord e = absurd (cc e)
 finished_lines (reading.HeadNumber m) e = absurd (cc e)
@@ -338,7 +339,7 @@ finished_lines (reading.Listing f i p o w vs) e = absurd (cc e)
 finished_lines (reading.Successor f i p o w vs) e = absurd (cc e)
 finished_lines (reading.Named f i p o w vs b) e = absurd (cc e)
 
-finished_none : (r : Reading) → is_complete (state_of r) ≡ false → finished r ≡ None
+finished_none : (r : Reading) → is_complete (reader_state r) ≡ false → finished r ≡ None
 finished_none reading.Start e = refl
 finished_none reading.HeadWord e = refl
 finished_none (reading.HeadNumber m) e = refl
@@ -372,7 +373,7 @@ module _ (text : List ℕ) (ts : List Placed) (s : State) (specs : List Spec) (i
   pub ends_well : is_complete s ≡ true → large ≡ None → wrong ≡ None → SpellsSpecs text specs
   ends_well e l w =
       let (f, g, i) = some_text e in
-      let a : AreLines specs f.lines = subst (λ (q : Reading). Agrees q specs id priority owner successors) g (k.agrees l w) in (
+      let a : AreLines specs f.lines = subst (λ (q : Reading). HoldsRead q specs id priority owner successors) g (k.agrees l w) in (
         f.lines,
         record {
           tokens = ts;
@@ -385,7 +386,7 @@ module _ (text : List ℕ) (ts : List Placed) (s : State) (specs : List Spec) (i
       )
 
 -- a token that stops the reader begins no text with those before it
-pub unexpected : (text : List ℕ) (ts : List Placed) (at from to : ℕ) (t : Token) (s : State) (specs : List Spec) (id priority : ℕ) (owner : Player) (successors : List ℕ) (large wrong : Option ℕ) → Keeps ts s specs id priority owner successors large wrong → Reaches text 0 ts at → IsToken text at from to t → Stops ts t → IsUnexpected text from to
+pub unexpected : (text : List ℕ) (ts : List Placed) (at from to : ℕ) (t : Token) (s : State) (specs : List Spec) (id priority : ℕ) (owner : Player) (successors : List ℕ) (large wrong : Option ℕ) → Keeps ts s specs id priority owner successors large wrong → ReadsTo text 0 ts at → IsToken text at from to t → Stops ts t → IsUnexpected text from to
 unexpected text ts at from to t s specs id priority owner successors large wrong k r i n = record {
   before = ts;
   at = at;

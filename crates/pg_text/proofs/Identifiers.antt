@@ -8,11 +8,11 @@ use Rattle.std.proofs.lemmas.Grind.{flat_map-append}
 use Rattle.std.proofs.lemmas.List.{get_or-map, length-map}
 use Rattle.std.proofs.lemmas.List.Folds.{find-append, fold-map, list_any_at}
 use Rattle.pg_game.specs.Graph.{Graph, IsGame, id_of, no_vertex}
-use Rattle.pg_game.specs.Kept.{listed}
+use Rattle.pg_game.specs.Kept.{option_list}
 use Rattle.pg_game.proofs.Different.{smaller_before}
-use Rattle.pg_text.specs.SolutionText.{Line}
+use Rattle.pg_text.specs.SolutionText.{WrittenSolutionLine}
 use Rattle.pg_text.specs.SolutionLines.{is_id, number_in, first_stranger}
-use Rattle.pg_text.specs.SolutionTable.{IsNamed}
+use Rattle.pg_text.specs.private.SolutionTable.{IsNamed}
 
 -- where a test passes
 pub some_at : {X : Type 0} (p : X → Bool) (xs : List X) (d : X) → list_any p xs ≡ true → (i : ℕ) × (i < length xs) × (p (get_or xs i d) ≡ true)
@@ -45,13 +45,13 @@ number_at g id v i n =
     sym (count-ids g id) ∙ (ap (λ k. count_by (λ x. nat_lt x k) ids) (sym e) ∙ smaller_before ids v i.ids l)
 
 -- strangers of more lines
-pub stranger-append : (g : Graph) (xs ys : List Line) → first_stranger g (xs ++ ys) ≡ option_or (first_stranger g xs) (first_stranger g ys)
+pub stranger-append : (g : Graph) (xs ys : List WrittenSolutionLine) → first_stranger g (xs ++ ys) ≡ option_or (first_stranger g xs) (first_stranger g ys)
 stranger-append g xs ys =
-    let f : Line → List ℕ = λ l. l.id ∷ listed l.choice in
+    let f : WrittenSolutionLine → List ℕ = λ l. l.id ∷ option_list l.choice in
     ap (find (λ i. not (is_id g i))) (flat_map-append f xs ys) ∙ find-append (λ i. not (is_id g i)) (flat_map f xs) (flat_map f ys)
 
 -- where no line names a stranger, none of them does
-home_at : (g : Graph) (lines : List Line) (k : ℕ) (d : Line) → first_stranger g lines ≡ None → k < length lines → first_stranger g (get_or lines k d ∷ []) ≡ None
+home_at : (g : Graph) (lines : List WrittenSolutionLine) (k : ℕ) (d : WrittenSolutionLine) → first_stranger g lines ≡ None → k < length lines → first_stranger g (get_or lines k d ∷ []) ≡ None
 home_at g [] k d e l = absurd (omega arith)
 home_at g (x ∷ xs) zero d e l = first (first_stranger g (x ∷ [])) (first_stranger g xs) (sym (stranger-append g (x ∷ []) xs) ∙ e)
   where
@@ -80,13 +80,13 @@ home_choice g id winner (Some i) e = go (is_id g i) refl
     go true f = f
     go false f = let t = home_id g id winner (Some i) e in let k : Some i ≡ None = rw (t, f) at e in absurd (cc k)
 
-pub line_home : (g : Graph) (lines : List Line) (l : Line) → first_stranger g lines ≡ None → Contains lines l → first_stranger g (l ∷ []) ≡ None
-line_home g lines l e (k, h, is) = subst (λ (x : Line). first_stranger g (x ∷ []) ≡ None) is (home_at g lines k l e h)
+pub line_home : (g : Graph) (lines : List WrittenSolutionLine) (l : WrittenSolutionLine) → first_stranger g lines ≡ None → Contains lines l → first_stranger g (l ∷ []) ≡ None
+line_home g lines l e (k, h, is) = subst (λ (x : WrittenSolutionLine). first_stranger g (x ∷ []) ≡ None) is (home_at g lines k l e h)
 
-pub line_named : (g : Graph) (lines : List Line) (l : Line) → first_stranger g lines ≡ None → Contains lines l → (v : ℕ) × IsNamed g l.id v
+pub line_named : (g : Graph) (lines : List WrittenSolutionLine) (l : WrittenSolutionLine) → first_stranger g lines ≡ None → Contains lines l → (v : ℕ) × IsNamed g l.id v
 line_named g lines l e m = named_at g l.id (home_id g l.id l.winner l.choice (line_home g lines l e m))
 
-pub choice_below : (g : Graph) (l : Line) → IsGame g → first_stranger g (l ∷ []) ≡ None → IfSome (option_map (λ i. number_in g i) l.choice) (λ w. w < length g)
+pub choice_below : (g : Graph) (l : WrittenSolutionLine) → IsGame g → first_stranger g (l ∷ []) ≡ None → IfSome (option_map (λ i. number_in g i) l.choice) (λ w. w < length g)
 choice_below g l i e = go l.choice (home_choice g l.id l.winner l.choice e)
   where
     go : (c : Option ℕ) → IfSome c (λ k. is_id g k ≡ true) → IfSome (option_map (λ k. number_in g k) c) (λ w. w < length g)

@@ -12,7 +12,7 @@ use Rattle.pg_game.specs.Player.{digit_of}
 use Rattle.pg_game.specs.Graph.{Graph, Vertex, IsGame, id_of, no_vertex, successors_of}
 use Rattle.pg_game.specs.Specification.{max_number, max_vertices}
 use Rattle.pg_game.specs.Limits.{IsWithinLimits}
-use Rattle.pg_text.specs.Solution.{Rows, AreRows}
+use Rattle.pg_text.specs.Solution.{SolutionRows, AreSolutionRows}
 use Rattle.pg_text.specs.Written.{greatest_id, written_vertex, written_game, written_choice, written_rows, written_solution, written_winners}
 use Rattle.pg_text.specs.Lengths.{most_digits, greatest_header, greatest_game_text, greatest_winners_text, greatest_solution_text}
 use Rattle.pg_text.proofs.WrittenSpells.{all_from_places, all_imply}
@@ -92,7 +92,7 @@ module _ (g : Graph) (i : IsGame g) (w : IsWithinLimits g) where
       omega arith
 
   -- rows whose choices are at most so long
-  short_rows : (long : ℕ) (xs : List Vertex) (rows : Rows) → AllByRecursion (λ x. x.id ≤ max_number) xs → AllByRecursion (λ r. length (written_choice g r.1) ≤ long) rows → length (written_rows g xs rows) ≤ length xs * (most_digits + 4 + long)
+  short_rows : (long : ℕ) (xs : List Vertex) (rows : SolutionRows) → AllByRecursion (λ x. x.id ≤ max_number) xs → AllByRecursion (λ r. length (written_choice g r.1) ≤ long) rows → length (written_rows g xs rows) ≤ length xs * (most_digits + 4 + long)
   short_rows long [] rows a b = omega arith
   short_rows long (x ∷ xs) [] a b = omega arith
   short_rows long (x ∷ xs) (r ∷ rows) a b =
@@ -112,23 +112,23 @@ module _ (g : Graph) (i : IsGame g) (w : IsWithinLimits g) where
   short_choice (Some v) h = let k = short_number (id_of g v) (w.ids v h) in omega arith
 
   -- a text of rows whose choices are at most so long
-  short_text : (long : ℕ) (rows : Rows) → AllByRecursion (λ r. length (written_choice g r.1) ≤ long) rows → length (written_solution g rows) ≤ greatest_header (codes "paritysol ") + max_vertices * (most_digits + 4 + long)
+  short_text : (long : ℕ) (rows : SolutionRows) → AllByRecursion (λ r. length (written_choice g r.1) ≤ long) rows → length (written_solution g rows) ≤ greatest_header (codes "paritysol ") + max_vertices * (most_digits + 4 + long)
   short_text long rows a =
       let h = short_header (codes "paritysol ") (greatest_id g) (written_rows g g rows) short_last in
       let l = short_rows long g rows short_ids a in
       let m = mul-le-mul_right {m = length g} {n = max_vertices} (most_digits + 4 + long) w.vertices in
       omega arith
 
-  pub short_solution : (rows : Rows) → AreRows g rows → length (written_solution g rows) ≤ greatest_solution_text
+  pub short_solution : (rows : SolutionRows) → AreSolutionRows g rows → length (written_solution g rows) ≤ greatest_solution_text
   short_solution rows are =
       let t = short_text (1 + most_digits) rows (all_imply (λ r. IfSome r.1 (λ v. v < length g)) (λ r. length (written_choice g r.1) ≤ 1 + most_digits) rows (λ r h. short_choice r.1 h) are.choices) in
       omega arith
 
-  pub short_winners : (rows : Rows) → length (written_winners g rows) ≤ greatest_winners_text
+  pub short_winners : (rows : SolutionRows) → length (written_winners g rows) ≤ greatest_winners_text
   short_winners rows =
       let t = short_text 0 (map (λ r. (r.0, None)) rows) (no_choices rows) in
       omega arith
     where
-      no_choices : (rows : Rows) → AllByRecursion (λ (r : Player × Option ℕ). length (written_choice g r.1) ≤ 0) (map (λ (r : Player × Option ℕ). (r.0, None)) rows)
+      no_choices : (rows : SolutionRows) → AllByRecursion (λ (r : Player × Option ℕ). length (written_choice g r.1) ≤ 0) (map (λ (r : Player × Option ℕ). (r.0, None)) rows)
       no_choices [] = tt
       no_choices (r ∷ rows) = (omega arith, no_choices rows)

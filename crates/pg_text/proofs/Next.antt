@@ -8,7 +8,7 @@ use Rattle.pg_text.specs.declared.lexer.Kind.{Kind}
 use Rattle.pg_text.specs.declared.lexer.Kind.TheVariants as kind
 use Rattle.pg_text.specs.Token.{Token, Number, Word, Name, Comma, Semicolon, IsSpelling, IsWhole}
 use Rattle.pg_text.specs.Bytes.{is_blank, is_digit, is_letter, is_no_quote, is_quote, begins_token, AllAre, EndsRun, value_of}
-use Rattle.pg_text.specs.Piece.{IsRun, IsToken, IsNoToken, IsPieceOf}
+use Rattle.pg_text.specs.private.Piece.{IsRun, IsToken, IsNoToken, IsPieceOf}
 use Rattle.pg_text.proofs.Runs.{all-append}
 
 -- a run whose first byte passes has a byte

@@ -7,10 +7,10 @@ use Rattle.pg_text.specs.declared.fault.SolutionTextFault.TheVariants.{Lexical, 
 use Rattle.pg_text.specs.Token as token
 use Rattle.pg_text.specs.Token.{Token, Semicolon, Placed, tokens_of, Spells}
 use Rattle.pg_text.specs.Fault.{IsPlayerFault}
-use Rattle.pg_text.specs.SolutionText.{Line, solution_tokens, IsSolutionText, BeginsSolutionText, IsBeforeWinner}
+use Rattle.pg_text.specs.SolutionText.{WrittenSolutionLine, solution_tokens, IsSolutionText, BeginsSolutionText, IsBeforeWinner}
 use Rattle.pg_text.specs.SolutionLines.{first_stranger, first_twice, first_missing}
-use Rattle.pg_text.specs.SolutionRun as state
-use Rattle.pg_text.specs.SolutionRun.{Reading, Start, HeadWord, HeadNumber, Ready, Id, Choice, line, on_word, step, run}
+use Rattle.pg_text.specs.private.SolutionRun as state
+use Rattle.pg_text.specs.private.SolutionRun.{Reading, Start, HeadWord, HeadNumber, Ready, Id, Choice, line, on_word, step, run}
 use Rattle.pg_text.specs.Reading.{SpellsSolution, IsSomeSolutionText}
 use Rattle.pg_text.specs.Laws.{OneSolutionFault, SolutionTextOrFault}
 use Rattle.pg_text.proofs.Spelling.{one_spelling}
@@ -18,14 +18,14 @@ use Rattle.pg_text.proofs.Faults.{lexical_once, lexical_or_tokens}
 use Rattle.pg_text.proofs.Once.{places, tokens_append, syntax_once, syntax_or_grammar, number_once, number_or_fit, solution_prefix, solution_begins}
 use Rattle.pg_text.proofs.SolutionRun.{run-append, run-text, end_of, one_lines}
 
-abbrev Won : List Line → Type 0
+abbrev Won : List WrittenSolutionLine → Type 0
 Won ls = AllByRecursion (λ l. l.winner < 2) ls
 
-won_front : (ls : List Line) (l : Line) → Won (ls ++ l ∷ []) → Won ls
+won_front : (ls : List WrittenSolutionLine) (l : WrittenSolutionLine) → Won (ls ++ l ∷ []) → Won ls
 won_front [] l w = tt
 won_front (k ∷ ls) l w = (w.0, won_front ls l w.1)
 
-won_last : (ls : List Line) (l : Line) → Won (ls ++ l ∷ []) → l.winner < 2
+won_last : (ls : List WrittenSolutionLine) (l : WrittenSolutionLine) → Won (ls ++ l ∷ []) → l.winner < 2
 won_last [] l w = w.0
 won_last (k ∷ ls) l w = won_last ls l w.1
 
@@ -79,12 +79,12 @@ below_run r s (t ∷ ts) e b = go (λ q f. below_run q s ts f b) (step r t) refl
     go later None f = absurd (let g : run None ts ≡ Some s = ap (λ o. run o ts) (sym f) ∙ e in cc g)
     go later (Some q) f = below_step r q t f (later q (ap (λ o. run o ts) (sym f) ∙ e))
 
-next_line : (h : Option ℕ) (ls : List Line) (i : ℕ) → run (Some (end_of h ls)) (token.Number i ∷ []) ≡ Some (Id h ls i)
+next_line : (h : Option ℕ) (ls : List WrittenSolutionLine) (i : ℕ) → run (Some (end_of h ls)) (token.Number i ∷ []) ≡ Some (Id h ls i)
 next_line None [] i = refl
 next_line None (l ∷ ls) i = refl
 next_line (Some n) ls i = refl
 
-before_run : (h : Option ℕ) (ls : List Line) (i : ℕ) (more : List Token) → run (Some Start) ((solution_tokens h ls ++ token.Number i ∷ []) ++ more) ≡ run (Some (Id h ls i)) more
+before_run : (h : Option ℕ) (ls : List WrittenSolutionLine) (i : ℕ) (more : List Token) → run (Some Start) ((solution_tokens h ls ++ token.Number i ∷ []) ++ more) ≡ run (Some (Id h ls i)) more
 before_run h ls i more =
     run-append (Some Start) (solution_tokens h ls ++ token.Number i ∷ []) more
     ∙ ap (λ o. run o more) (run-append (Some Start) (solution_tokens h ls) (token.Number i ∷ []) ∙ (ap (λ o. run o (token.Number i ∷ [])) (run-text h ls) ∙ next_line h ls i))
@@ -110,13 +110,13 @@ winner_once text a b (ts, s, g, f, (b1, a1, t1, n1, e1, p1, y1, k1, c1)) (us, z,
       | inr (inr (m, q)) ↦ absurd (let l = later_winner (tokens_of b2) (tokens_of b1) (tokens_of m) n2 y2 y1 (ap tokens_of q ∙ (tokens_append b2 (t2 ∷ m) ∙ ap (λ x. tokens_of b2 ++ x ∷ tokens_of m) k2)) in omega (arith, l, c2))
     ]
 
-below_end : (h : Option ℕ) (ls : List Line) → Won ls → Below (end_of h ls)
+below_end : (h : Option ℕ) (ls : List WrittenSolutionLine) → Won ls → Below (end_of h ls)
 below_end None [] w = tt
 below_end None (l ∷ ls) w = w
 below_end (Some n) ls w = w
 
 -- a wrong winner is in no text whose winners are 0 and 1
-winner_or_lines : (text : List ℕ) (a : ℕ) (us : List Placed) (lines : List Line) → IsPlayerFault IsSomeSolutionText IsBeforeWinner text a → Spells 0 text us → IsSolutionText (tokens_of us) lines → Won lines → ⊥
+winner_or_lines : (text : List ℕ) (a : ℕ) (us : List Placed) (lines : List WrittenSolutionLine) → IsPlayerFault IsSomeSolutionText IsBeforeWinner text a → Spells 0 text us → IsSolutionText (tokens_of us) lines → Won lines → ⊥
 winner_or_lines text a us lines (ts, s, g, f, (b1, a1, t1, n1, e1, p1, y1, k1, c1)) z (h, w) o =
     let q = one_spelling 0 text us ts z s in
     let d : tokens_of us ≡ tokens_of b1 ++ token.Number n1 ∷ tokens_of a1 = ap tokens_of (q ∙ e1) ∙ (tokens_append b1 (t1 ∷ a1) ∙ ap (λ y. tokens_of b1 ++ y ∷ tokens_of a1) k1) in
@@ -124,16 +124,16 @@ winner_or_lines text a us lines (ts, s, g, f, (b1, a1, t1, n1, e1, p1, y1, k1, c
     let l = inner_winner (tokens_of b1) (tokens_of a1) n1 (end_of h lines) y1 r (below_end h lines o) in
     omega (arith, l, c1)
 
-lines_of : (text : List ℕ) (ls ks : List Line) → SpellsSolution text ls → SpellsSolution text ks → ls ≡ ks
+lines_of : (text : List ℕ) (ls ks : List WrittenSolutionLine) → SpellsSolution text ls → SpellsSolution text ks → ls ≡ ks
 lines_of text ls ks a b =
     let o = one_spelling 0 text a.tokens b.tokens a.spelled b.spelled in
     one_lines (tokens_of a.tokens) ls ks a.grammar (subst (λ ts. IsSolutionText (tokens_of ts) ks) (sym o) b.grammar)
 
 -- two answers on the same lines
-differ : (text : List ℕ) (ls ks : List Line) (x : ℕ) (what : List Line → Option ℕ) → SpellsSolution text ls → SpellsSolution text ks → what ls ≡ Some x → what ks ≡ None → ⊥
+differ : (text : List ℕ) (ls ks : List WrittenSolutionLine) (x : ℕ) (what : List WrittenSolutionLine → Option ℕ) → SpellsSolution text ls → SpellsSolution text ks → what ls ≡ Some x → what ks ≡ None → ⊥
 differ text ls ks x what s z a b = let k : Some x ≡ None = sym a ∙ (ap what (lines_of text ls ks s z) ∙ b) in cc k
 
-agree : (text : List ℕ) (ls ks : List Line) (x y : ℕ) (what : List Line → Option ℕ) → SpellsSolution text ls → SpellsSolution text ks → what ls ≡ Some x → what ks ≡ Some y → x ≡ y
+agree : (text : List ℕ) (ls ks : List WrittenSolutionLine) (x y : ℕ) (what : List WrittenSolutionLine → Option ℕ) → SpellsSolution text ls → SpellsSolution text ks → what ls ≡ Some x → what ks ≡ Some y → x ≡ y
 agree text ls ks x y what s z a b = let k : Some x ≡ Some y = sym a ∙ (ap what (lines_of text ls ks s z) ∙ b) in cc k
 
 pub one_solution_fault : OneSolutionFault

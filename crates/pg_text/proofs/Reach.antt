@@ -5,22 +5,22 @@ use Rattle.pg_text.specs.declared.lexer.Kind.TheVariants as kind
 use Rattle.pg_text.specs.Token.{Token, Number, Word, Name, Comma, Semicolon, IsWhole, Placed, Begins, Spells}
 use Rattle.pg_text.specs.Bytes.{is_blank, is_digit, is_letter, AllAre, EndsRun}
 use Rattle.pg_text.specs.Fault.{IsLexicalFault}
-use Rattle.pg_text.specs.FirstFault.{placed}
-use Rattle.pg_text.specs.Piece.{IsToken, IsNoToken, IsPieceOf, IsNext}
+use Rattle.pg_text.specs.private.FirstFault.{placed}
+use Rattle.pg_text.specs.private.Piece.{IsToken, IsNoToken, IsPieceOf, IsNextPiece}
 use Rattle.pg_text.specs.declared.lexer.Piece.{Piece}
-use Rattle.pg_text.specs.Reach.{Reaches, IsBadFrom}
+use Rattle.pg_text.specs.private.Reach.{ReadsTo, IsBadFrom}
 use Rattle.std.proofs.lemmas.List.{append-nil}
 
-pub reaches_more : (text : List ℕ) (at mid from to : ℕ) (ts : List Placed) (t : Token) → Reaches text at ts mid → IsToken text mid from to t → Reaches text at (ts ++ placed t from ∷ []) to
+pub reaches_more : (text : List ℕ) (at mid from to : ℕ) (ts : List Placed) (t : Token) → ReadsTo text at ts mid → IsToken text mid from to t → ReadsTo text at (ts ++ placed t from ∷ []) to
 reaches_more text at mid from to [] t r i = (to, subst (λ m. IsToken text m from to t) r i, refl)
 reaches_more text at mid from to (u ∷ ts) t (m, j, r) i = (m, j, reaches_more text m mid from to ts t r i)
 
-pub reaches_all : (text : List ℕ) (at mid to : ℕ) (ts us : List Placed) → Reaches text at ts mid → Reaches text mid us to → Reaches text at (ts ++ us) to
-reaches_all text at mid to [] us r s = subst (λ m. Reaches text m us to) r s
+pub reaches_all : (text : List ℕ) (at mid to : ℕ) (ts us : List Placed) → ReadsTo text at ts mid → ReadsTo text mid us to → ReadsTo text at (ts ++ us) to
+reaches_all text at mid to [] us r s = subst (λ m. ReadsTo text m us to) r s
 reaches_all text at mid to (t ∷ ts) us (m, i, r) s = (m, i, reaches_all text m mid to ts us r s)
 
 -- what spells the rest makes a spelling of all
-pub reaches_spells : (text : List ℕ) (at to : ℕ) (ts us : List Placed) → Reaches text at ts to → Spells to (drop to text) us → Spells at (drop at text) (ts ++ us)
+pub reaches_spells : (text : List ℕ) (at to : ℕ) (ts us : List Placed) → ReadsTo text at ts to → Spells to (drop to text) us → Spells at (drop at text) (ts ++ us)
 reaches_spells text at to [] us r s = subst (λ m. Spells m (drop m text) us) r s
 reaches_spells text at to (t ∷ ts) us (m, i, r) s =
     (i.blanks, i.body, drop m text, i.begins, subst (λ n. Spells n (drop m text) (ts ++ us)) i.end (reaches_spells text m to ts us r s))
@@ -41,7 +41,7 @@ whole_sooner Semicolon xs ys w = tt
 abbrev Cut : List ℕ → ℕ → List Placed → List ℕ → ℕ → Type 0
 Cut text at ts back end = (front : List ℕ) × (drop at text ≡ front ++ back) × Spells at front ts × (at + length front ≡ end)
 
-pub reaches_cut : (text : List ℕ) (at stop : ℕ) (ts : List Placed) (blanks back : List ℕ) → Reaches text at ts stop → drop stop text ≡ blanks ++ back → AllAre is_blank blanks → Cut text at ts back (stop + length blanks)
+pub reaches_cut : (text : List ℕ) (at stop : ℕ) (ts : List Placed) (blanks back : List ℕ) → ReadsTo text at ts stop → drop stop text ≡ blanks ++ back → AllAre is_blank blanks → Cut text at ts back (stop + length blanks)
 reaches_cut text at stop [] blanks back r e b = (blanks, subst (λ m. drop m text ≡ blanks ++ back) r e, b, omega arith)
 reaches_cut text at stop (t ∷ ts) blanks back (m, i, r) e b =
     let rest = reaches_cut text m stop ts blanks back r e b in
@@ -55,7 +55,7 @@ reaches_cut text at stop (t ∷ ts) blanks back (m, i, r) e b =
       (let p = length-append i.blanks (i.body ++ rest.0) in let q = length-append i.body rest.0 in let f = i.end in let g = rest.3 in omega arith),
     )
 
-pub lexical_fault : (text : List ℕ) (ts : List Placed) (stop bad : ℕ) → Reaches text 0 ts stop → IsNoToken text stop bad → IsLexicalFault text bad
+pub lexical_fault : (text : List ℕ) (ts : List Placed) (stop bad : ℕ) → ReadsTo text 0 ts stop → IsNoToken text stop bad → IsLexicalFault text bad
 lexical_fault text ts stop bad r n =
     let c = reaches_cut text 0 stop ts n.blanks (n.byte ∷ n.after) r n.split n.blank in
     record {
@@ -70,7 +70,7 @@ lexical_fault text ts stop bad r n =
       wrong = n.wrong;
     }
 
-pub later_fault : (text : List ℕ) (ts : List Placed) (at bad : ℕ) → Reaches text 0 ts at → IsBadFrom text at bad → IsLexicalFault text bad
+pub later_fault : (text : List ℕ) (ts : List Placed) (at bad : ℕ) → ReadsTo text 0 ts at → IsBadFrom text at bad → IsLexicalFault text bad
 later_fault text ts at bad r (us, stop, s, n) = lexical_fault text (ts ++ us) stop bad (reaches_all text 0 at stop ts us r s) n
 
 -- a piece that is neither the end nor a fault is a token
@@ -84,9 +84,9 @@ piece_token kind.End text at from to i b d = absurd (d refl)
 piece_token kind.Bad text at from to i b d = absurd (b refl)
 
 -- where only blanks follow
-pub reaches_end : (text : List ℕ) (at to : ℕ) (ts : List Placed) → Reaches text at ts to → AllAre is_blank (drop to text) → Spells at (drop at text) ts
+pub reaches_end : (text : List ℕ) (at to : ℕ) (ts : List Placed) → ReadsTo text at ts to → AllAre is_blank (drop to text) → Spells at (drop at text) ts
 reaches_end text at to ts r b = subst (λ us. Spells at (drop at text) us) (append-nil ts) (reaches_spells text at to ts [] r b)
 
 -- what a piece of this kind says
-pub of_kind : (k : Kind) (text : List ℕ) (at : ℕ) (p : Piece) → p.kind ≡ k → IsNext text at p → IsPieceOf k text at p.from p.to
+pub of_kind : (k : Kind) (text : List ℕ) (at : ℕ) (p : Piece) → p.kind ≡ k → IsNextPiece text at p → IsPieceOf k text at p.from p.to
 of_kind k text at p e n = subst (λ (j : Kind). IsPieceOf j text at p.from p.to) e n

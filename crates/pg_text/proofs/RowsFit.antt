@@ -2,7 +2,7 @@
 use Rattle.std.proofs.Common.{◌≡◌, ℕ, zero, suc, ◌<◌, Bool, true, false, not, List, [], ◌∷◌, length, map, get_or, refl, sym, subst, arith}
 use Rattle.std.specs.Prelude.{◌==◌, Option, Some, None, IfSome, IfOk, MatchResult, Result, Ok, Err, find, slice_get}
 use Rattle.std.specs.List.{Contains}
-use Rattle.std.proofs.lemmas.Bool.{eqb-true}
+use Rattle.std.proofs.lemmas.Bool.{eqb-true, not-false}
 use Rattle.std.proofs.lemmas.List.{get_or-map, length-map}
 use Rattle.std.proofs.lemmas.List.Elements.{Contains-get_or}
 use Rattle.std.proofs.lemmas.Option.{get_or_from_slice_get}
@@ -11,13 +11,13 @@ use Rattle.pg_game.specs.declared.player.Player.TheVariants.{Even}
 use Rattle.pg_game.specs.Graph.{Graph, IsGame, id_of, no_vertex}
 use Rattle.pg_text.specs.declared.fault.SolutionTextFault.{SolutionTextFault}
 use Rattle.pg_text.specs.declared.solution.Solution.{Solution}
-use Rattle.pg_text.specs.SolutionText.{Line}
-use Rattle.pg_text.specs.Solution.{Rows, AreRows}
-use Rattle.pg_text.specs.SolutionLines.{AreLinesOf, has_line, row_of}
+use Rattle.pg_text.specs.SolutionText.{WrittenSolutionLine}
+use Rattle.pg_text.specs.Solution.{SolutionRows, AreSolutionRows}
+use Rattle.pg_text.specs.SolutionLines.{AreLinesOf, has_line, row_of_line}
 use Rattle.pg_text.proofs.Identifiers.{some_at, number_at, line_home, choice_below}
 use Rattle.pg_text.proofs.WrittenSpells.{all_from_places}
 
-no_line : Line
+no_line : WrittenSolutionLine
 no_line = record { id = 0; winner = 0; choice = None }
 
 -- what no number passes
@@ -30,33 +30,29 @@ none_passes p (x ∷ xs) k e l = go (p x) refl k l (none_passes p xs)
     go false f zero l h = f
     go false f (suc k) l h = let i : find p xs ≡ None = rw f at e in h k i (omega arith)
 
-module _ (g : Graph) (lines : List Line) (rows : Rows) (i : IsGame g) (are : AreLinesOf g lines rows) where
+module _ (g : Graph) (lines : List WrittenSolutionLine) (rows : SolutionRows) (i : IsGame g) (are : AreLinesOf g lines rows) where
   has_line_of : (v : ℕ) → v < length g → has_line lines (id_of g v) ≡ true
   has_line_of v l =
       let n : length (map (λ x. x.id) g) ≡ length g = length-map g (λ x. x.id) in
       let e : get_or (map (λ x. x.id) g) v 0 ≡ id_of g v = get_or-map (λ x. x.id) g v no_vertex 0 l in
       let f : not (has_line lines (get_or (map (λ x. x.id) g) v 0)) ≡ false = none_passes (λ id. not (has_line lines id)) (map (λ x. x.id) g) v are.complete (omega arith) in
-      back (has_line lines (id_of g v)) (subst (λ id. not (has_line lines id) ≡ false) e f)
-    where
-      back : (b : Bool) → not b ≡ false → b ≡ true
-      back true h = refl
-      back false h = absurd (cc h)
+      not-false (has_line lines (id_of g v)) (subst (λ id. not (has_line lines id) ≡ false) e f)
 
-  pub are_rows : AreRows g rows
+  pub are_rows : AreSolutionRows g rows
   are_rows = record {
     size = are.says.size;
     choices = all_from_places (λ r. IfSome r.1 (λ w. w < length g)) (Even, None) rows (λ v l.
         let s = are.says.size in
         let h : v < length g = omega arith in
         let (k, lk, e) = some_at (λ x. x.id == id_of g v) lines no_line (has_line_of v h) in
-        let x : Line = get_or lines k no_line in
+        let x : WrittenSolutionLine = get_or lines k no_line in
         let q : x.id ≡ id_of g v = eqb-true x.id (id_of g v) e in
         let m : Contains lines x = Contains-get_or lines k no_line lk in
-        let at : slice_get rows v ≡ Some (row_of g x) = subst (λ u. slice_get rows u ≡ Some (row_of g x)) (number_at g x.id v i (record { vertex = h; id_is = sym q })) (are.says.each x m) in
-        subst (λ (r : Player × Option ℕ). IfSome r.1 (λ w. w < length g)) (sym (get_or_from_slice_get rows v (row_of g x) (Even, None) at)) (choice_below g x i (line_home g lines x are.no_stranger m)));
+        let at : slice_get rows v ≡ Some (row_of_line g x) = subst (λ u. slice_get rows u ≡ Some (row_of_line g x)) (number_at g x.id v i (record { vertex = h; id_is = sym q })) (are.says.each x m) in
+        subst (λ (r : Player × Option ℕ). IfSome r.1 (λ w. w < length g)) (sym (get_or_from_slice_get rows v (row_of_line g x) (Even, None) at)) (choice_below g x i (line_home g lines x are.no_stranger m)));
   }
 
 -- where the rows of lines are answered
-pub fit_answer : (g : Graph) (lines : List Line) (r : Result Solution SolutionTextFault) (Q : SolutionTextFault → Type 0) → IsGame g → MatchResult r (λ s. AreLinesOf g lines s.rows) Q → IfOk r (λ s. AreRows g s.rows)
+pub fit_answer : (g : Graph) (lines : List WrittenSolutionLine) (r : Result Solution SolutionTextFault) (Q : SolutionTextFault → Type 0) → IsGame g → MatchResult r (λ s. AreLinesOf g lines s.rows) Q → IfOk r (λ s. AreSolutionRows g s.rows)
 fit_answer g lines (Ok s) Q i a = are_rows g lines s.rows i a
 fit_answer g lines (Err e) Q i a = tt

@@ -1,10 +1,13 @@
 -- Runs of bytes that pass a test.
-use Rattle.std.proofs.Common.{◌≡◌, ℕ, ◌+◌, ◌*◌, ◌-◌, ◌^◌, ◌<◌, ◌≤◌, Bool, true, List, [], ◌∷◌, ◌++◌, length, drop, get_or, refl, sym, ◌∙◌, ap, arith, inl, inr, append_assoc, length-append}
+use Rattle.std.proofs.Common.{◌≡◌, ℕ, ◌+◌, ◌*◌, ◌-◌, ◌^◌, ◌<◌, ◌≤◌, Bool, true, false, List, [], ◌∷◌, ◌++◌, length, drop, get_or, refl, sym, ◌∙◌, ap, arith, add-one, inl, inr, append_assoc, length-append}
 use Rattle.std.specs.Prelude.{fold}
 use Rattle.std.proofs.lemmas.Bool.{cases_lt}
 use Rattle.std.proofs.lemmas.List.{drop_more}
-use Rattle.pg_text.specs.Bytes.{AllAre, value_of}
-use Rattle.pg_text.specs.Piece.{IsRun}
+use Rattle.std.specs.Prelude.{◌&&◌, nat_le}
+use Rattle.std.proofs.lemmas.Bool.{leb-true}
+use Rattle.std.proofs.Math.Nat.{pow-succ'}
+use Rattle.pg_text.specs.Bytes.{AllAre, is_digit, value_of}
+use Rattle.pg_text.specs.private.Piece.{IsRun}
 
 pub all-append : (test : ℕ → Bool) (xs ys : List ℕ) → AllAre test xs → AllAre test ys → AllAre test (xs ++ ys)
 all-append test [] ys a b = b
@@ -51,3 +54,15 @@ counts_same value d ds c h =
       large = λ s. h;
       bound = c.bound;
     }
+
+-- digits of a number with so few of them
+pub digits_more : (value k d n : ℕ) (ds : List ℕ) → value < 10 ^ k → value ≡ value_of ds → is_digit d ≡ true → n ≡ d - 48 → (value * 10 + n < 10 ^ (k + 1)) × (value * 10 + n ≡ value_of (ds ++ d ∷ []))
+digits_more value k d n ds b e t m =
+    let low : d ≤ 57 = leb-true d 57 (and_right (nat_le 48 d) (nat_le d 57) t) in
+    let p : 10 ^ (k + 1) ≡ 10 * 10 ^ k = ap (λ i. 10 ^ i) (add-one k) ∙ pow-succ' 10 k in
+    let v = value-push ds d in
+    (omega (arith, low, p, b, m), omega (arith, v, e, m))
+  where
+    and_right : (x y : Bool) → (x && y) ≡ true → y ≡ true
+    and_right true y h = h
+    and_right false y h = absurd (cc h)

@@ -4,11 +4,11 @@ use Rattle.pg_text.specs.declared.fault.SolutionTextFault.{SolutionTextFault}
 use Rattle.pg_text.specs.declared.fault.SolutionTextFault.TheVariants.{Memory}
 use Rattle.pg_text.specs.declared.solution_reader.Reader.{Reader}
 use Rattle.pg_text.specs.Token.{Token}
-use Rattle.pg_text.specs.Piece.{IsToken}
-use Rattle.pg_text.specs.FirstFault.{placed}
-use Rattle.pg_text.specs.SolutionKeeps.{Takes}
-use Rattle.pg_text.specs.SolutionReading.{IsLineFaultOf, IsUnexpected}
-use Rattle.pg_text.specs.SolutionAdvance.{Advances, FailsWith}
+use Rattle.pg_text.specs.private.Piece.{IsToken}
+use Rattle.pg_text.specs.private.FirstFault.{placed}
+use Rattle.pg_text.specs.private.SolutionKeeps.{Takes}
+use Rattle.pg_text.specs.private.SolutionReading.{IsLineFaultOf, IsUnexpected}
+use Rattle.pg_text.specs.private.SolutionAdvance.{Advances, FailsWith}
 use Rattle.pg_text.proofs.Reach.{reaches_more}
 use Rattle.pg_text.proofs.SolutionKeeps.{unexpected}
 

@@ -8,6 +8,7 @@ use Rattle.std.proofs.lemmas.List.{map-append, get_or-map, length-map, take-map,
 use Rattle.std.proofs.lemmas.Option.{slice_get-get_or}
 use Rattle.std.proofs.lemmas.List.Elements.{Contains-push_cases}
 use Rattle.std.proofs.lemmas.List.Folds.{list_any-append, list_any_at}
+use Rattle.std.proofs.Math.Bool.{or-false, or-true}
 use Rattle.pg_game.specs.declared.player.Player.{Player}
 use Rattle.pg_game.specs.declared.player.Player.TheVariants.{Even, Odd}
 use Rattle.pg_game.specs.Player.{digit_of}
@@ -19,27 +20,19 @@ use Rattle.pg_text.specs.declared.fault.SolutionTextFault.{SolutionTextFault}
 use Rattle.pg_text.specs.declared.fault.SolutionTextFault.TheVariants as fault
 use Rattle.pg_text.specs.declared.solution_reader.SolutionLine.{SolutionLine}
 use Rattle.pg_text.specs.GameText.{player_of}
-use Rattle.pg_text.specs.SolutionText.{Line}
-use Rattle.pg_text.specs.Solution.{Rows}
-use Rattle.pg_text.specs.SolutionLines.{AreLinesOf, first_stranger, first_twice, first_missing, has_line, row_of}
-use Rattle.pg_text.specs.SolutionTable.{Holds, IsNamed, IsStrangerOf, IsLookUpFaultOf}
-use Rattle.pg_text.specs.SolutionKeeps.{line_of}
+use Rattle.pg_text.specs.SolutionText.{WrittenSolutionLine}
+use Rattle.pg_text.specs.Solution.{SolutionRows}
+use Rattle.pg_text.specs.SolutionLines.{AreLinesOf, first_stranger, first_twice, first_missing, has_line, row_of_line}
+use Rattle.pg_text.specs.private.SolutionTable.{HoldsLines, IsNamed, IsStrangerOf, IsLookUpFaultOf}
+use Rattle.pg_text.specs.private.SolutionKeeps.{line_of}
 use Rattle.pg_text.proofs.Identifiers.{number_at, named_is, stranger-append, line_named}
 
 abbrev among : List ℕ → ℕ → Bool
 among ns n = list_any (λ m. m == n) ns
 
-or_none : (b : Bool) → (b || false) ≡ b
-or_none true = refl
-or_none false = refl
-
-or_true : (b : Bool) → (b || true) ≡ true
-or_true true = refl
-or_true false = refl
-
 -- one more number at the end of a list: what is repeated first
 repeated-push : (earlier ns : List ℕ) (n : ℕ) → first_repeated earlier (ns ++ n ∷ []) ≡ option_or (first_repeated earlier ns) (if among earlier n || among ns n then Some n else None)
-repeated-push earlier [] n = rw or_none refl
+repeated-push earlier [] n = rw or-false refl
 repeated-push earlier (x ∷ ns) n = go (among earlier x) refl (repeated-push (x ∷ earlier) ns n)
   where
     turn : (a b c : Bool) → ((a || b) || c) ≡ (b || (a || c))
@@ -52,26 +45,26 @@ repeated-push earlier (x ∷ ns) n = go (among earlier x) refl (repeated-push (x
     go true e h = rw e refl
     go false e h = rw e (h ∙ ap (λ (b : Bool). option_or (first_repeated (x ∷ earlier) ns) (if b then Some n else None)) (turn (x == n) (among earlier n) (among ns n)))
 
-any-ids : (lines : List Line) (n : ℕ) → among (map (λ l. l.id) lines) n ≡ has_line lines n
+any-ids : (lines : List WrittenSolutionLine) (n : ℕ) → among (map (λ l. l.id) lines) n ≡ has_line lines n
 any-ids [] n = refl
 any-ids (l ∷ lines) n = ap (λ b. (l.id == n) || b) (any-ids lines n)
 
 -- one more line: which identifier has two first
-pub twice-push : (lines : List Line) (l : Line) → first_twice (lines ++ l ∷ []) ≡ option_or (first_twice lines) (if has_line lines l.id then Some l.id else None)
+pub twice-push : (lines : List WrittenSolutionLine) (l : WrittenSolutionLine) → first_twice (lines ++ l ∷ []) ≡ option_or (first_twice lines) (if has_line lines l.id then Some l.id else None)
 twice-push lines l =
-    let f : Line → ℕ = λ x. x.id in
+    let f : WrittenSolutionLine → ℕ = λ x. x.id in
     ap (first_repeated []) (map-append f lines (l ∷ []))
     ∙ (repeated-push [] (map f lines) l.id
     ∙ ap (λ (b : Bool). option_or (first_twice lines) (if b then Some l.id else None)) (any-ids lines l.id))
 
-pub has_line-push : (lines : List Line) (l : Line) (id : ℕ) → has_line (lines ++ l ∷ []) id ≡ (has_line lines id || (l.id == id))
-has_line-push lines l id = list_any-append (λ x. x.id == id) lines (l ∷ []) ∙ ap (λ b. has_line lines id || b) (or_none (l.id == id))
+pub has_line-push : (lines : List WrittenSolutionLine) (l : WrittenSolutionLine) (id : ℕ) → has_line (lines ++ l ∷ []) id ≡ (has_line lines id || (l.id == id))
+has_line-push lines l id = list_any-append (λ x. x.id == id) lines (l ∷ []) ∙ ap (λ b. has_line lines id || b) (or-false (l.id == id))
 
 -- a line is found by its identifier
-pub has_line_at : (lines : List Line) (l : Line) → Contains lines l → has_line lines l.id ≡ true
-has_line_at lines l (k, h, e) = list_any_at (λ x. x.id == l.id) lines k l h (eq-eqb (slice_index_or lines k l).id l.id (ap (λ (x : Line). x.id) e))
+pub has_line_at : (lines : List WrittenSolutionLine) (l : WrittenSolutionLine) → Contains lines l → has_line lines l.id ≡ true
+has_line_at lines l (k, h, e) = list_any_at (λ x. x.id == l.id) lines k l h (eq-eqb (slice_index_or lines k l).id l.id (ap (λ (x : WrittenSolutionLine). x.id) e))
 
-module _ (g : Graph) (lines : List Line) (rows : Rows) (said : List Bool) (twice : Option ℕ) (h : Holds g lines rows said twice) (l : Line) (v : ℕ) (n : IsNamed g l.id v) (home : first_stranger g (l ∷ []) ≡ None) where
+module _ (g : Graph) (lines : List WrittenSolutionLine) (rows : SolutionRows) (said : List Bool) (twice : Option ℕ) (h : HoldsLines g lines rows said twice) (l : WrittenSolutionLine) (v : ℕ) (n : IsNamed g l.id v) (home : first_stranger g (l ∷ []) ≡ None) where
   still_none : first_stranger g (lines ++ l ∷ []) ≡ None
   still_none = stranger-append g lines (l ∷ []) ∙ rw (h.no_stranger, home) refl
 
@@ -83,7 +76,7 @@ module _ (g : Graph) (lines : List Line) (rows : Rows) (said : List Bool) (twice
   mark_is = h.marked v n.vertex ∙ ap (has_line lines) n.id_is
 
   -- a line of a vertex that has one already
-  pub holds_again : members said v ≡ true → Holds g (lines ++ l ∷ []) rows said (option_or twice (Some l.id))
+  pub holds_again : members said v ≡ true → HoldsLines g (lines ++ l ∷ []) rows said (option_or twice (Some l.id))
   holds_again t =
       let some : has_line lines l.id ≡ true = sym mark_is ∙ t in
       record {
@@ -102,25 +95,25 @@ module _ (g : Graph) (lines : List Line) (rows : Rows) (said : List Bool) (twice
 
       already : (u : ℕ) → u < length g → has_line lines l.id ≡ true → (b : Bool) → (l.id == id_of g u) ≡ b → has_line lines (id_of g u) ≡ (has_line lines (id_of g u) || (l.id == id_of g u))
       already u lu some true e = let q : l.id ≡ id_of g u = eqb-true l.id (id_of g u) e in rw (e, ← q, some) refl
-      already u lu some false e = rw (e, or_none) refl
+      already u lu some false e = rw (e, or-false) refl
 
   -- the first line of a vertex
-  pub holds_more : members said v ≡ false → Holds g (lines ++ l ∷ []) (set rows v (row_of g l)) (set said v true) twice
+  pub holds_more : members said v ≡ false → HoldsLines g (lines ++ l ∷ []) (set rows v (row_of_line g l)) (set said v true) twice
   holds_more t =
       let none : has_line lines l.id ≡ false = sym mark_is ∙ t in
       let lv : v < length said = let e = h.marks in let k = n.vertex in omega arith in
       let lr : v < length rows = let e = h.size in let k = n.vertex in omega arith in
       record {
         game = h.game;
-        size = length-set rows v (row_of g l) ∙ h.size;
+        size = length-set rows v (row_of_line g l) ∙ h.size;
         marks = length-set said v true ∙ h.marks;
         no_stranger = still_none;
         first = h.first ∙ sym (twice-push lines l ∙ ap (λ (b : Bool). option_or (first_twice lines) (if b then Some l.id else None)) none ∙ or_nothing (first_twice lines));
         marked = λ u lu. members-set said v lv u ∙ (marks_are u lu (l.id == id_of g u) refl ∙ sym (has_line-push lines l (id_of g u)));
         says = λ e u lu k m is. elim (Contains-push_cases lines l k m) [
-          | inl m ↦ get_or-set_other rows v u (row_of g l) (Even, None) (λ q. (let a : has_line lines l.id ≡ true = subst (λ i. has_line lines i ≡ true) (is ∙ (ap (id_of g) q ∙ n.id_is)) (has_line_at lines k m) in cc (a, none))) ∙ h.says e u lu k m is
-          | inr q ↦ (let w : u ≡ v = same_vertex u lu (sym is ∙ ap (λ (x : Line). x.id) (sym q)) in
-              rw w (get_or-set_same rows v (row_of g l) (Even, None) lr ∙ ap (row_of g) q))
+          | inl m ↦ get_or-set_other rows v u (row_of_line g l) (Even, None) (λ q. (let a : has_line lines l.id ≡ true = subst (λ i. has_line lines i ≡ true) (is ∙ (ap (id_of g) q ∙ n.id_is)) (has_line_at lines k m) in cc (a, none))) ∙ h.says e u lu k m is
+          | inr q ↦ (let w : u ≡ v = same_vertex u lu (sym is ∙ ap (λ (x : WrittenSolutionLine). x.id) (sym q)) in
+              rw w (get_or-set_same rows v (row_of_line g l) (Even, None) lr ∙ ap (row_of_line g) q))
         ];
       }
     where
@@ -133,10 +126,10 @@ module _ (g : Graph) (lines : List Line) (rows : Rows) (said : List Bool) (twice
           let q : l.id ≡ id_of g u = eqb-true l.id (id_of g u) e in
           let w : u ≡ v = same_vertex u lu (sym q) in
           let f : (v == u) ≡ true = eq-eqb v u (sym w) in
-          rw (e, f, or_true, or_true) refl
+          rw (e, f, or-true, or-true) refl
       marks_are u lu false e =
           let f : (v == u) ≡ false = false_from_ne_true (v == u) (λ s. (let q : v ≡ u = eqb-true v u s in let k : (l.id == id_of g u) ≡ true = eq-eqb l.id (id_of g u) (sym n.id_is ∙ ap (id_of g) q) in cc (k, e))) in
-          rw (e, f, or_none, or_none) (h.marked u lu)
+          rw (e, f, or-false, or-false) (h.marked u lu)
 
 -- the first number that passes a test, by its place
 find_at : (p : ℕ → Bool) (xs : List ℕ) (v : ℕ) → v < length xs → p (get_or xs v 0) ≡ true → ((u : ℕ) → u < v → p (get_or xs u 0) ≡ false) → find p xs ≡ Some (get_or xs v 0)
@@ -148,7 +141,7 @@ pub find_none : (p : ℕ → Bool) (xs : List ℕ) → ((u : ℕ) → u < length
 find_none p [] f = refl
 find_none p (x ∷ xs) f = let e : p x ≡ false = f 0 (omega arith) in rw e (find_none p xs (λ u h. f (suc u) (omega arith)))
 
-module _ (g : Graph) (lines : List Line) (rows : Rows) (said : List Bool) (twice : Option ℕ) (h : Holds g lines rows said twice) (none : twice ≡ None) where
+module _ (g : Graph) (lines : List WrittenSolutionLine) (rows : SolutionRows) (said : List Bool) (twice : Option ℕ) (h : HoldsLines g lines rows said twice) (none : twice ≡ None) where
   once : first_twice lines ≡ None
   once = sym h.first ∙ none
 
@@ -176,7 +169,7 @@ module _ (g : Graph) (lines : List Line) (rows : Rows) (said : List Bool) (twice
         says = record {
           size = h.size;
           each = λ l m. let (v, n) = line_named g lines l h.no_stranger m in let lr : v < length rows = let e = h.size in let d = n.vertex in omega arith in
-              subst (λ i. slice_get rows i ≡ Some (row_of g l)) (sym (number_at g l.id v h.game n))
+              subst (λ i. slice_get rows i ≡ Some (row_of_line g l)) (sym (number_at g l.id v h.game n))
               (slice_get-get_or rows v (Even, None) lr ∙ ap (λ r. Some r) (h.says none v n.vertex l m (sym n.id_is)));
         };
       }
@@ -193,7 +186,7 @@ player_back Even = refl
 player_back Odd = refl
 
 -- a line whose identifiers are the game's says its row, and is no stranger
-pub row_is : (g : Graph) (id : ℕ) (winner : Player) (c w : Option ℕ) → IsGame g → IsChoice g c w → (winner, w) ≡ row_of g (record { id = id; winner = digit_of winner; choice = c })
+pub row_is : (g : Graph) (id : ℕ) (winner : Player) (c w : Option ℕ) → IsGame g → IsChoice g c w → (winner, w) ≡ row_of_line g (record { id = id; winner = digit_of winner; choice = c })
 row_is g id winner None None i k = ap (λ p. (p, None)) (player_back winner)
 row_is g id winner (Some k) (Some v) i n = ap (λ p. (p, Some v)) (player_back winner) ∙ ap (λ u. (player_of (digit_of winner), Some u)) (sym (number_at g k v i n))
 row_is g id winner None (Some v) i n = absurd n
@@ -211,13 +204,13 @@ next_line ls i d l =
     take-map line_of (i + 1) ls
     ∙ (ap (map line_of) (take_more ls i d l)
     ∙ (map-append line_of (take i ls) (get_or ls i d ∷ [])
-    ∙ ap (λ (xs : List Line). xs ++ line_of (get_or ls i d) ∷ []) (sym (take-map line_of i ls))))
+    ∙ ap (λ (xs : List WrittenSolutionLine). xs ++ line_of (get_or ls i d) ∷ []) (sym (take-map line_of i ls))))
 
 -- a stranger's line ends the reading
 pub is_stranger : (g : Graph) (ls : List SolutionLine) (i : ℕ) (d : SolutionLine) (e : SolutionTextFault) → i < length ls → first_stranger g (take i (map line_of ls)) ≡ None → IsStrangerOf g (line_of (get_or ls i d)) e → IsLookUpFaultOf g (map line_of ls) e
 is_stranger g ls i d (fault.Stranger id) l none s =
-    let lines : List Line = map line_of ls in
-    let more : List Line = drop (i + 1) lines in
+    let lines : List WrittenSolutionLine = map line_of ls in
+    let more : List WrittenSolutionLine = drop (i + 1) lines in
     ap (first_stranger g) (sym (take-append-drop (i + 1) lines))
     ∙ (stranger-append g (take (i + 1) lines) more
     ∙ (ap (λ xs. option_or (first_stranger g xs) (first_stranger g more)) (next_line ls i d l)

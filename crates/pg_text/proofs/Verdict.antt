@@ -1,37 +1,21 @@
 -- Winners and choices without a fault are a solution, and a solution has no fault.
-use Rattle.std.proofs.Common.{◌≡◌, ℕ, ◌<◌, Bool, true, false, ◌&&◌, ◌⊎◌, inl, inr, List, [], ◌∷◌, length, lt-ltb, refl, sym, ◌∙◌, subst, arith}
+use Rattle.std.proofs.Common.{◌≡◌, ℕ, ◌<◌, Bool, true, false, ◌⊎◌, inl, inr, List, [], ◌∷◌, length, lt-ltb, refl, sym, ◌∙◌, subst, arith}
 use Rattle.std.specs.Prelude.{Option, Some, None, nat_lt, nat_eq}
 use Rattle.std.specs.List.{Contains}
-use Rattle.std.proofs.lemmas.Bool.{ltb-true, eqb-true, eq-eqb}
+use Rattle.std.proofs.lemmas.Bool.{ltb-true, eqb-true, eq-eqb, and_parts}
+use Rattle.pg_game.proofs.Players.{same_is, is_same}
 use Rattle.pg_game.specs.declared.player.Player.{Player}
-use Rattle.pg_game.specs.declared.player.Player.TheVariants.{Even, Odd}
 use Rattle.pg_game.specs.Player.{same_player}
 use Rattle.pg_game.specs.Graph.{Graph, HasEdge, owner_of, successors_of}
 use Rattle.pg_game.specs.VertexSet.{In}
-use Rattle.pg_game.specs.Kept.{KeptEdge, listed}
+use Rattle.pg_game.specs.Kept.{KeptEdge, option_list}
 use Rattle.pg_game.specs.Walk.{ClosedWalk}
 use Rattle.pg_game.specs.Region.{OnBadWalk}
 use Rattle.pg_game.specs.Least.{NoneHas}
 use Rattle.pg_game.proofs.Members.{some_or_none, Contains-one}
 use Rattle.pg_game.proofs.Rotate.{good_from_none}
-use Rattle.pg_text.specs.Solution.{Rows, winner_of, choice_of, won_by, IsSolution}
+use Rattle.pg_text.specs.Solution.{SolutionRows, winner_of, choice_of, won_by, IsSolution}
 use Rattle.pg_text.specs.Verdict.{LacksChoice, HasBadChoice, Leaves, IsOnBadWalk}
-
-both_true : (a b : Bool) → (a && b) ≡ true → (a ≡ true) × (b ≡ true)
-both_true true b e = (refl, e)
-both_true false b e = absurd (cc e)
-
-same_is : (p q : Player) → same_player p q ≡ true → p ≡ q
-same_is Even Even e = refl
-same_is Even Odd e = absurd (cc e)
-same_is Odd Even e = absurd (cc e)
-same_is Odd Odd e = refl
-
-is_same : (p q : Player) → p ≡ q → same_player p q ≡ true
-is_same Even Even e = refl
-is_same Even Odd e = absurd (cc e)
-is_same Odd Even e = absurd (cc e)
-is_same Odd Odd e = refl
 
 -- a list has the number or does not
 pub has_or_not : (ws : List ℕ) (w : ℕ) → Contains ws w ⊎ (Contains ws w → ⊥)
@@ -40,11 +24,11 @@ has_or_not ws w = elim (some_or_none (λ x. nat_eq x w) ws) [
   | inr none ↦ inr (λ m. let e : nat_eq w w ≡ true = eq-eqb w w refl in cc (e, none w m))
 ]
 
-module _ (g : Graph) (rows : Rows) (size : length rows ≡ length g) where
+module _ (g : Graph) (rows : SolutionRows) (size : length rows ≡ length g) where
   -- a vertex of the player's set is one of the game, and he is its winner
   pub won : (p : Player) (v : ℕ) → In (won_by rows p) v → (v < length g) × (winner_of rows v ≡ p)
   won p v i =
-      let h = both_true (nat_lt v (length rows)) (same_player (winner_of rows v) p) i in
+      let h = and_parts (nat_lt v (length rows)) (same_player (winner_of rows v) p) i in
       let l : v < length rows = ltb-true v (length rows) h.0 in
       (omega arith, same_is (winner_of rows v) p h.1)
 
@@ -67,8 +51,8 @@ module _ (g : Graph) (rows : Rows) (size : length rows ≡ length g) where
         go false e = rw e at m
         go true e =
             let c = choice_is p v i (same_is (owner_of g v) p e) in
-            let n : Contains (listed (choice_of rows v)) w = rw e at m in
-            let one : Contains (c.0 ∷ []) w = subst (λ o. Contains (listed o) w) c.1 n in
+            let n : Contains (option_list (choice_of rows v)) w = rw e at m in
+            let one : Contains (c.0 ∷ []) w = subst (λ o. Contains (option_list o) w) c.1 n in
             subst (HasEdge g v) (Contains-one c.0 w one) c.2
 
     -- the winner of a vertex that the player wins is the player

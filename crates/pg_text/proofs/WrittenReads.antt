@@ -8,6 +8,7 @@ use Rattle.std.proofs.lemmas.List.{length-map, get_or-map, same_lists}
 use Rattle.std.proofs.lemmas.List.Folds.{list_any_at}
 use Rattle.std.proofs.lemmas.Option.{slice_get-get_or, get_or_from_slice_get}
 use Rattle.std.proofs.lemmas.Map.Keys.{sorted_from_strictly_increasing, below_from_sorted}
+use Rattle.pg_text.proofs.SolutionKeeps.{owner_small}
 use Rattle.pg_game.specs.declared.player.Player.{Player}
 use Rattle.pg_game.specs.declared.player.Player.TheVariants.{Even}
 use Rattle.pg_game.specs.declared.game.Spec.{Spec}
@@ -19,20 +20,20 @@ use Rattle.pg_text.specs.Token.{Placed, tokens_of}
 use Rattle.pg_text.specs.GameText.{IsGameText, spec_of}
 use Rattle.pg_text.specs.SolutionText as solutions
 use Rattle.pg_text.specs.SolutionText.{IsSolutionText}
-use Rattle.pg_text.specs.Solution.{Rows, AreRows}
+use Rattle.pg_text.specs.Solution.{SolutionRows, AreSolutionRows}
 use Rattle.pg_text.specs.Written.{greatest_id, written_game, written_solution}
 use Rattle.pg_text.specs.Reading.{IsTextOf, IsSolutionTextOf}
-use Rattle.pg_text.specs.SolutionLines.{AreLinesOf, AreRowsOf, first_stranger, first_twice, first_missing, has_line, number_in, row_of}
-use Rattle.pg_text.specs.SolutionTable.{IsNamed}
+use Rattle.pg_text.specs.SolutionLines.{AreLinesOf, AreRowsOf, first_stranger, first_twice, first_missing, has_line, number_in, row_of_line}
+use Rattle.pg_text.specs.private.SolutionTable.{IsNamed}
 use Rattle.pg_text.specs.Laws.{HasShortNumbers, WrittenGameReads, WrittenSolutionReads, WrittenGameIsText, WrittenSolutionIsText}
-use Rattle.pg_game.specs.Described.{spec_at, specs_of}
+use Rattle.pg_game.specs.private.Described.{spec_at, specs_of}
 use Rattle.pg_game.proofs.Described.{described_game, one_described, described_sound}
 use Rattle.pg_text.proofs.Spelling.{one_spelling}
 use Rattle.pg_text.proofs.GameRun.{one_reading}
 use Rattle.pg_text.proofs.SolutionRun.{one_lines}
 use Rattle.pg_text.proofs.Identifiers.{number_at, stranger-append}
 use Rattle.pg_text.proofs.SolutionTable.{IsChoice, player_back, find_none, row_is, at_home}
-use Rattle.pg_text.proofs.WrittenSpells.{IsShort, line_of, row_line, row_lines, spells_game, spells_solution, all_from_places, all-map, all_imply, length-ids, owner_small, small_winners, written_game_spells, written_solution_spells}
+use Rattle.pg_text.proofs.WrittenSpells.{IsShort, line_of, row_line, row_lines, spells_game, spells_solution, all_from_places, all-map, all_imply, length-ids, small_winners, written_game_spells, written_solution_spells}
 
 module _ (g : Graph) (i : IsGame g) (short : HasShortNumbers g) where
   short_vertices : AllByRecursion (λ x. IsShort g x) g
@@ -79,21 +80,21 @@ written_game_reads g i short =
 no_row : Player × Option ℕ
 no_row = (Even, None)
 
-no_line : solutions.Line
+no_line : solutions.WrittenSolutionLine
 no_line = record { id = 0; winner = 0; choice = None }
 
-length-row_lines : (g : Graph) (xs : List Vertex) (rows : Rows) → length rows ≡ length xs → length (row_lines g xs rows) ≡ length xs
+length-row_lines : (g : Graph) (xs : List Vertex) (rows : SolutionRows) → length rows ≡ length xs → length (row_lines g xs rows) ≡ length xs
 length-row_lines g [] rows e = refl
 length-row_lines g (x ∷ xs) [] e = absurd (omega arith)
 length-row_lines g (x ∷ xs) (r ∷ rows) e = let k = length-row_lines g xs rows (omega arith) in omega arith
 
-row_line_at : (g : Graph) (xs : List Vertex) (rows : Rows) (k : ℕ) (x : Vertex) (r : Player × Option ℕ) (d : solutions.Line) → length rows ≡ length xs → k < length xs → get_or (row_lines g xs rows) k d ≡ row_line g (get_or xs k x) (get_or rows k r)
+row_line_at : (g : Graph) (xs : List Vertex) (rows : SolutionRows) (k : ℕ) (x : Vertex) (r : Player × Option ℕ) (d : solutions.WrittenSolutionLine) → length rows ≡ length xs → k < length xs → get_or (row_lines g xs rows) k d ≡ row_line g (get_or xs k x) (get_or rows k r)
 row_line_at g [] rows k x r d e l = absurd (omega arith)
 row_line_at g (y ∷ ys) [] k x r d e l = absurd (omega arith)
 row_line_at g (y ∷ ys) (q ∷ rows) zero x r d e l = refl
 row_line_at g (y ∷ ys) (q ∷ rows) (suc k) x r d e l = row_line_at g ys rows k x r d (omega arith) (omega arith)
 
-row_line-ids : (g : Graph) (xs : List Vertex) (rows : Rows) → length rows ≡ length xs → map (λ l. l.id) (row_lines g xs rows) ≡ map (λ x. x.id) xs
+row_line-ids : (g : Graph) (xs : List Vertex) (rows : SolutionRows) → length rows ≡ length xs → map (λ l. l.id) (row_lines g xs rows) ≡ map (λ x. x.id) xs
 row_line-ids g [] rows e = refl
 row_line-ids g (x ∷ xs) [] e = absurd (omega arith)
 row_line-ids g (x ∷ xs) (r ∷ rows) e = ap (λ (is : List ℕ). x.id ∷ is) (row_line-ids g xs rows (omega arith))
@@ -118,18 +119,18 @@ choice_named : (g : Graph) (c : Option ℕ) → IfSome c (λ w. w < length g) �
 choice_named g None h = tt
 choice_named g (Some w) h = record { vertex = h; id_is = refl }
 
-none_home : (g : Graph) (lines : List solutions.Line) → AllByRecursion (λ l. first_stranger g (l ∷ []) ≡ None) lines → first_stranger g lines ≡ None
+none_home : (g : Graph) (lines : List solutions.WrittenSolutionLine) → AllByRecursion (λ l. first_stranger g (l ∷ []) ≡ None) lines → first_stranger g lines ≡ None
 none_home g [] a = refl
 none_home g (l ∷ lines) a = let h = a.0 in let t = none_home g lines a.1 in stranger-append g (l ∷ []) lines ∙ rw (h, t) refl
 
-module _ (g : Graph) (rows : Rows) (i : IsGame g) (are : AreRows g rows) where
+module _ (g : Graph) (rows : SolutionRows) (i : IsGame g) (are : AreSolutionRows g rows) where
   choice_at : (v : ℕ) → v < length g → IsChoice g (option_map (λ w. id_of g w) (get_or rows v no_row).1) (get_or rows v no_row).1
   choice_at v l = choice_named g (get_or rows v no_row).1 (let e = are.size in all_at (λ r. IfSome r.1 (λ w. w < length g)) rows v no_row are.choices (omega arith))
 
   named : (v : ℕ) → v < length g → IsNamed g (id_of g v) v
   named v l = record { vertex = l; id_is = refl }
 
-  stands_at : (v : ℕ) (d : solutions.Line) → v < length g → get_or (row_lines g g rows) v d ≡ row_line g (vertex_at g v) (get_or rows v no_row)
+  stands_at : (v : ℕ) (d : solutions.WrittenSolutionLine) → v < length g → get_or (row_lines g g rows) v d ≡ row_line g (vertex_at g v) (get_or rows v no_row)
   stands_at v d l = row_line_at g g rows v no_vertex no_row d are.size l
 
   no_strangers : first_stranger g (row_lines g g rows) ≡ None
@@ -137,7 +138,7 @@ module _ (g : Graph) (rows : Rows) (i : IsGame g) (are : AreRows g rows) where
       let n = length-row_lines g g rows are.size in
       none_home g (row_lines g g rows) (all_from_places (λ l. first_stranger g (l ∷ []) ≡ None) no_line (row_lines g g rows) (λ v l.
       let h : v < length g = omega arith in
-      subst (λ (x : solutions.Line). first_stranger g (x ∷ []) ≡ None) (sym (stands_at v no_line h)) (at_home g (id_of g v) v (digit_of (get_or rows v no_row).0) (option_map (λ w. id_of g w) (get_or rows v no_row).1) (get_or rows v no_row).1 (named v h) (choice_at v h))))
+      subst (λ (x : solutions.WrittenSolutionLine). first_stranger g (x ∷ []) ≡ None) (sym (stands_at v no_line h)) (at_home g (id_of g v) v (digit_of (get_or rows v no_row).0) (option_map (λ w. id_of g w) (get_or rows v no_row).1) (get_or rows v no_row).1 (named v h) (choice_at v h))))
 
   once : first_twice (row_lines g g rows) ≡ None
   once = ap (first_repeated []) (row_line-ids g g rows are.size) ∙ rising_once [] (map (λ x. x.id) g) i.ids (λ k l. refl)
@@ -149,10 +150,10 @@ module _ (g : Graph) (rows : Rows) (i : IsGame g) (are : AreRows g rows) where
       find_none (λ id. not (has_line (row_lines g g rows) id)) (map (λ x. x.id) g) (λ v l.
       let h : v < length g = omega arith in
       let e : get_or (map (λ x. x.id) g) v 0 ≡ id_of g v = get_or-map (λ x. x.id) g v no_vertex 0 h in
-      let f : (get_or (row_lines g g rows) v no_line).id ≡ get_or (map (λ x. x.id) g) v 0 = ap (λ (x : solutions.Line). x.id) (stands_at v no_line h) ∙ sym e in
+      let f : (get_or (row_lines g g rows) v no_line).id ≡ get_or (map (λ x. x.id) g) v 0 = ap (λ (x : solutions.WrittenSolutionLine). x.id) (stands_at v no_line h) ∙ sym e in
       ap not (list_any_at (λ x. x.id == get_or (map (λ x. x.id) g) v 0) (row_lines g g rows) v no_line (omega arith) (eq-eqb (get_or (row_lines g g rows) v no_line).id (get_or (map (λ x. x.id) g) v 0) f)))
 
-  row_back : (v : ℕ) → v < length g → get_or rows v no_row ≡ row_of g (row_line g (vertex_at g v) (get_or rows v no_row))
+  row_back : (v : ℕ) → v < length g → get_or rows v no_row ≡ row_of_line g (row_line g (vertex_at g v) (get_or rows v no_row))
   row_back v l = row_is g (id_of g v) (get_or rows v no_row).0 (option_map (λ w. id_of g w) (get_or rows v no_row).1) (get_or rows v no_row).1 i (choice_at v l)
 
   says : AreRowsOf g (row_lines g g rows) rows
@@ -164,22 +165,22 @@ module _ (g : Graph) (rows : Rows) (i : IsGame g) (are : AreRows g rows) where
         let m = are.size in
         let is : l ≡ row_line g (vertex_at g k) (get_or rows k no_row) = sym e ∙ stands_at k l h in
         let at : number_in g (id_of g k) ≡ k = number_at g (id_of g k) k i (named k h) in
-        subst (λ (x : solutions.Line). slice_get rows (number_in g x.id) ≡ Some (row_of g x)) (sym is)
-        (subst (λ v. slice_get rows v ≡ Some (row_of g (row_line g (vertex_at g k) (get_or rows k no_row)))) (sym at)
+        subst (λ (x : solutions.WrittenSolutionLine). slice_get rows (number_in g x.id) ≡ Some (row_of_line g x)) (sym is)
+        (subst (λ v. slice_get rows v ≡ Some (row_of_line g (row_line g (vertex_at g k) (get_or rows k no_row)))) (sym at)
         (slice_get-get_or rows k no_row (omega arith) ∙ ap (λ r. Some r) (row_back k h)));
   }
 
-  no_others : (others : Rows) → AreRowsOf g (row_lines g g rows) others → others ≡ rows
+  no_others : (others : SolutionRows) → AreRowsOf g (row_lines g g rows) others → others ≡ rows
   no_others others o = same_lists others rows (o.size ∙ sym are.size) (λ k d l.
       let n = length-row_lines g g rows are.size in
       let m = o.size in
       let h : k < length g = omega arith in
-      let x : solutions.Line = row_line g (vertex_at g k) (get_or rows k no_row) in
+      let x : solutions.WrittenSolutionLine = row_line g (vertex_at g k) (get_or rows k no_row) in
       let at : number_in g (id_of g k) ≡ k = number_at g (id_of g k) k i (named k h) in
       let c : Contains (row_lines g g rows) x = (k, omega arith, stands_at k x h) in
-      let a : slice_get others k ≡ Some (row_of g x) = subst (λ v. slice_get others v ≡ Some (row_of g x)) at (o.each x c) in
-      let b : slice_get rows k ≡ Some (row_of g x) = subst (λ v. slice_get rows v ≡ Some (row_of g x)) at (says.each x c) in
-      get_or_from_slice_get others k (row_of g x) d a ∙ sym (get_or_from_slice_get rows k (row_of g x) d b))
+      let a : slice_get others k ≡ Some (row_of_line g x) = subst (λ v. slice_get others v ≡ Some (row_of_line g x)) at (o.each x c) in
+      let b : slice_get rows k ≡ Some (row_of_line g x) = subst (λ v. slice_get rows v ≡ Some (row_of_line g x)) at (says.each x c) in
+      get_or_from_slice_get others k (row_of_line g x) d a ∙ sym (get_or_from_slice_get rows k (row_of_line g x) d b))
 
 pub written_solution_reads : WrittenSolutionReads
 written_solution_reads g rows i short are =
@@ -224,7 +225,7 @@ written_game_back g h i w (lines, s, of, none) =
     r.one_game h (subst (λ ls. IsGameOf (map spec_of ls) h) e of)
 
 -- and winners and choices that a written solution is a text of are those
-pub written_solution_back : (g : Graph) (rows others : Rows) → IsGame g → IsWithinLimits g → AreRows g rows → IsSolutionTextOf g (written_solution g rows) others → others ≡ rows
+pub written_solution_back : (g : Graph) (rows others : SolutionRows) → IsGame g → IsWithinLimits g → AreSolutionRows g rows → IsSolutionTextOf g (written_solution g rows) others → others ≡ rows
 written_solution_back g rows others i w are text =
     let r = written_solution_reads g rows i (short_numbers g w) are in
     let e = r.one_text text.lines (text.spelled.tokens, text.spelled.spelled, text.spelled.grammar) in

@@ -6,13 +6,15 @@ use Rattle.std.proofs.lemmas.Bool.{le-leb}
 use Rattle.std.proofs.lemmas.Bool.Decides.{nat_tests}
 use Rattle.std.proofs.lemmas.Fmt.{decimal_by_steps_wide}
 use Rattle.std.proofs.lemmas.List.{length-map}
+use Rattle.pg_text.proofs.SolutionKeeps.{owner_small}
+use Rattle.pg_text.proofs.FirstFaults.{all-append}
 use Rattle.pg_game.specs.declared.player.Player.{Player}
 use Rattle.pg_game.specs.declared.player.Player.TheVariants.{Even, Odd}
 use Rattle.pg_game.specs.Player.{digit_of}
 use Rattle.pg_game.specs.Graph.{Graph, Vertex, id_of, IsGame, no_vertex, successors_of}
 use Rattle.pg_text.specs.Token.{Token, Number, Word, Comma, Semicolon, IsSpelling, IsWhole, Placed, tokens_of, Spells}
 use Rattle.pg_text.specs.Bytes.{is_blank, is_digit, is_letter, AllAre, EndsRun, value_of}
-use Rattle.pg_text.specs.FirstFault.{placed}
+use Rattle.pg_text.specs.private.FirstFault.{placed}
 use Rattle.pg_game.specs.Specification.{max_number}
 use Rattle.pg_game.specs.Limits.{IsWithinLimits}
 use Rattle.pg_text.specs.Fault.{fits, AllFit}
@@ -22,8 +24,8 @@ use Rattle.pg_text.specs.SolutionText.{IsSolutionText}
 use Rattle.pg_text.specs.GameText as games
 use Rattle.pg_text.specs.GameText.{separated, headed}
 use Rattle.pg_text.specs.SolutionText as solutions
-use Rattle.pg_text.specs.Solution.{Rows}
-use Rattle.pg_text.specs.Solution.{AreRows}
+use Rattle.pg_text.specs.Solution.{SolutionRows}
+use Rattle.pg_text.specs.Solution.{AreSolutionRows}
 use Rattle.pg_text.specs.Written.{greatest_id, written_vertex, written_game, written_choice, written_rows, written_solution}
 use Rattle.pg_text.proofs.Runs.{value-push}
 use Rattle.pg_text.proofs.Runs as runs
@@ -129,7 +131,7 @@ spells_list (n ∷ ns) rest ts h a w s =
     ends (m ∷ ms) = refl
 
 -- the line that the written text has for a vertex
-abbrev pub line_of : Graph → Vertex → games.Line
+abbrev pub line_of : Graph → Vertex → games.WrittenGameLine
 line_of g x = record { id = x.id; priority = x.priority; owner = digit_of x.owner; successors = map (λ w. id_of g w) x.successors; name = None }
 
 -- its numbers are within 64 bits, and it has a successor
@@ -154,7 +156,7 @@ length-ids g (w ∷ ws) = let e = length-ids g ws in omega arith
 regroup : (a b c d e rest : List ℕ) → (a ++ (32 ∷ b ++ (32 ∷ c ++ (32 ∷ d ++ e)))) ++ rest ≡ a ++ (32 ∷ (b ++ (32 ∷ (c ++ (32 ∷ (d ++ (e ++ rest)))))))
 regroup a b c d e rest = simp append_assoc
 
-pub spells_line : (g : Graph) (x : Vertex) (rest : List ℕ) (ts : List Token) → IsShort g x → SpellsTokens rest ts → SpellsTokens (written_vertex g x ++ rest) (games.line_tokens (line_of g x) ++ ts)
+pub spells_line : (g : Graph) (x : Vertex) (rest : List ℕ) (ts : List Token) → IsShort g x → SpellsTokens rest ts → SpellsTokens (written_vertex g x ++ rest) (games.game_line_tokens (line_of g x) ++ ts)
 spells_line g x rest ts h s =
     let ids : List ℕ = map (λ w. id_of g w) x.successors in
     let some : 0 < length ids = let e = length-ids g x.successors in let f = h.some in omega arith in
@@ -162,7 +164,7 @@ spells_line g x rest ts h s =
     let e : written_vertex g x ++ rest ≡ decimal x.id ++ (32 ∷ (decimal x.priority ++ (32 ∷ (decimal (digit_of x.owner) ++ (32 ∷ (list ++ (59 ∷ 10 ∷ rest))))))) =
     ap (λ ds. (decimal x.id ++ (32 ∷ decimal x.priority ++ (32 ∷ decimal (digit_of x.owner) ++ (32 ∷ join_with_byte 44 ds ++ codes ";\n")))) ++ rest) (map-twice g x.successors)
     ∙ regroup (decimal x.id) (decimal x.priority) (decimal (digit_of x.owner)) list (codes ";\n") rest in
-    let f : games.line_tokens (line_of g x) ++ ts ≡ Number x.id ∷ Number x.priority ∷ Number (digit_of x.owner) ∷ (separated ids ++ Semicolon ∷ ts) =
+    let f : games.game_line_tokens (line_of g x) ++ ts ≡ Number x.id ∷ Number x.priority ∷ Number (digit_of x.owner) ∷ (separated ids ++ Semicolon ∷ ts) =
     ap (λ us. Number x.id ∷ Number x.priority ∷ Number (digit_of x.owner) ∷ us) (append_assoc (separated ids) (Semicolon ∷ []) ts) in
     let a = spells_list ids (59 ∷ 10 ∷ rest) (Semicolon ∷ ts) some h.successors refl (spells_end rest ts s) in
     let b = spells_number (digit_of x.owner) (32 ∷ (list ++ (59 ∷ 10 ∷ rest))) (separated ids ++ Semicolon ∷ ts) (digit_short x.owner) refl (spells_blank 32 (list ++ (59 ∷ 10 ∷ rest)) (separated ids ++ Semicolon ∷ ts) refl a) in
@@ -170,20 +172,20 @@ spells_line g x rest ts h s =
     let d = spells_number x.id (32 ∷ (decimal x.priority ++ (32 ∷ (decimal (digit_of x.owner) ++ (32 ∷ (list ++ (59 ∷ 10 ∷ rest))))))) (Number x.priority ∷ Number (digit_of x.owner) ∷ (separated ids ++ Semicolon ∷ ts)) h.id refl (spells_blank 32 (decimal x.priority ++ (32 ∷ (decimal (digit_of x.owner) ++ (32 ∷ (list ++ (59 ∷ 10 ∷ rest)))))) (Number x.priority ∷ Number (digit_of x.owner) ∷ (separated ids ++ Semicolon ∷ ts)) refl c) in
     subst (λ us. SpellsTokens (written_vertex g x ++ rest) us) (sym f) (subst (λ (xs : List ℕ). SpellsTokens xs (Number x.id ∷ Number x.priority ∷ Number (digit_of x.owner) ∷ (separated ids ++ Semicolon ∷ ts))) (sym e) d)
 
-spells_lines : (g : Graph) (xs : List Vertex) → AllByRecursion (λ x. IsShort g x) xs → SpellsTokens (flat_map (written_vertex g) xs) (flat_map games.line_tokens (map (λ x. line_of g x) xs))
+spells_lines : (g : Graph) (xs : List Vertex) → AllByRecursion (λ x. IsShort g x) xs → SpellsTokens (flat_map (written_vertex g) xs) (flat_map games.game_line_tokens (map (λ x. line_of g x) xs))
 spells_lines g [] a = spells_nothing
-spells_lines g (x ∷ xs) a = spells_line g x (flat_map (written_vertex g) xs) (flat_map games.line_tokens (map (λ x. line_of g x) xs)) a.0 (spells_lines g xs a.1)
+spells_lines g (x ∷ xs) a = spells_line g x (flat_map (written_vertex g) xs) (flat_map games.game_line_tokens (map (λ x. line_of g x) xs)) a.0 (spells_lines g xs a.1)
 
 -- the written text of a game spells its own lines
 pub spells_game : (g : Graph) → AllByRecursion (λ x. IsShort g x) g → greatest_id g < 10 ^ 64 → SpellsTokens (written_game g) (games.game_tokens (Some (greatest_id g)) None (map (λ x. line_of g x) g))
 spells_game g a h =
-    spells_header (codes "parity") (greatest_id g) (flat_map (written_vertex g) g) (flat_map games.line_tokens (map (λ x. line_of g x) g)) (omega arith) (refl, (refl, (refl, (refl, (refl, (refl, tt)))))) h (spells_lines g g a)
+    spells_header (codes "parity") (greatest_id g) (flat_map (written_vertex g) g) (flat_map games.game_line_tokens (map (λ x. line_of g x) g)) (omega arith) (refl, (refl, (refl, (refl, (refl, (refl, tt)))))) h (spells_lines g g a)
 
 -- the line that the written text has for a row
-abbrev pub row_line : Graph → Vertex → Player × Option ℕ → solutions.Line
+abbrev pub row_line : Graph → Vertex → Player × Option ℕ → solutions.WrittenSolutionLine
 row_line g x r = record { id = x.id; winner = digit_of r.0; choice = option_map (λ w. id_of g w) r.1 }
 
-abbrev pub row_lines : Graph → List Vertex → Rows → List solutions.Line
+abbrev pub row_lines : Graph → List Vertex → SolutionRows → List solutions.WrittenSolutionLine
 row_lines g [] rows = []
 row_lines g (x ∷ xs) [] = []
 row_lines g (x ∷ xs) (r ∷ rows) = row_line g x r ∷ row_lines g xs rows
@@ -197,7 +199,7 @@ choice_ends : (g : Graph) (c : Option ℕ) (rest : List ℕ) → EndsRun is_digi
 choice_ends g None rest = refl
 choice_ends g (Some w) rest = refl
 
-spells_row : (g : Graph) (x : Vertex) (r : Player × Option ℕ) (rest : List ℕ) (ts : List Token) → x.id < 10 ^ 64 → IfSome r.1 (λ w. id_of g w < 10 ^ 64) → SpellsTokens rest ts → SpellsTokens (decimal x.id ++ (32 ∷ decimal (digit_of r.0) ++ (written_choice g r.1 ++ (codes ";\n" ++ rest)))) (solutions.line_tokens (row_line g x r) ++ ts)
+spells_row : (g : Graph) (x : Vertex) (r : Player × Option ℕ) (rest : List ℕ) (ts : List Token) → x.id < 10 ^ 64 → IfSome r.1 (λ w. id_of g w < 10 ^ 64) → SpellsTokens rest ts → SpellsTokens (decimal x.id ++ (32 ∷ decimal (digit_of r.0) ++ (written_choice g r.1 ++ (codes ";\n" ++ rest)))) (solutions.solution_line_tokens (row_line g x r) ++ ts)
 spells_row g x r rest ts i h s =
     let cs : List Token = (solutions.choice_tokens (option_map (λ w. id_of g w) r.1) ++ Semicolon ∷ []) ++ ts in
     let tail : List ℕ = written_choice g r.1 ++ (59 ∷ 10 ∷ rest) in
@@ -205,15 +207,15 @@ spells_row g x r rest ts i h s =
     (spells_blank 32 (decimal (digit_of r.0) ++ tail) (Number (digit_of r.0) ∷ cs) refl
     (spells_number (digit_of r.0) tail cs (digit_short r.0) (choice_ends g r.1 rest) (spells_choice g r.1 rest ts h s)))
 
-spells_rows : (g : Graph) (xs : List Vertex) (rows : Rows) → AllByRecursion (λ x. x.id < 10 ^ 64) xs → AllByRecursion (λ r. IfSome r.1 (λ w. id_of g w < 10 ^ 64)) rows → SpellsTokens (written_rows g xs rows) (flat_map solutions.line_tokens (row_lines g xs rows))
+spells_rows : (g : Graph) (xs : List Vertex) (rows : SolutionRows) → AllByRecursion (λ x. x.id < 10 ^ 64) xs → AllByRecursion (λ r. IfSome r.1 (λ w. id_of g w < 10 ^ 64)) rows → SpellsTokens (written_rows g xs rows) (flat_map solutions.solution_line_tokens (row_lines g xs rows))
 spells_rows g [] rows a b = spells_nothing
 spells_rows g (x ∷ xs) [] a b = spells_nothing
-spells_rows g (x ∷ xs) (r ∷ rows) a b = spells_row g x r (written_rows g xs rows) (flat_map solutions.line_tokens (row_lines g xs rows)) a.0 b.0 (spells_rows g xs rows a.1 b.1)
+spells_rows g (x ∷ xs) (r ∷ rows) a b = spells_row g x r (written_rows g xs rows) (flat_map solutions.solution_line_tokens (row_lines g xs rows)) a.0 b.0 (spells_rows g xs rows a.1 b.1)
 
 -- the written text of winners and choices spells their own lines
-pub spells_solution : (g : Graph) (rows : Rows) → AllByRecursion (λ x. x.id < 10 ^ 64) g → AllByRecursion (λ r. IfSome r.1 (λ w. id_of g w < 10 ^ 64)) rows → greatest_id g < 10 ^ 64 → SpellsTokens (written_solution g rows) (solutions.solution_tokens (Some (greatest_id g)) (row_lines g g rows))
+pub spells_solution : (g : Graph) (rows : SolutionRows) → AllByRecursion (λ x. x.id < 10 ^ 64) g → AllByRecursion (λ r. IfSome r.1 (λ w. id_of g w < 10 ^ 64)) rows → greatest_id g < 10 ^ 64 → SpellsTokens (written_solution g rows) (solutions.solution_tokens (Some (greatest_id g)) (row_lines g g rows))
 spells_solution g rows a b h =
-    spells_header (codes "paritysol") (greatest_id g) (written_rows g g rows) (flat_map solutions.line_tokens (row_lines g g rows)) (omega arith) (refl, (refl, (refl, (refl, (refl, (refl, (refl, (refl, (refl, tt))))))))) h (spells_rows g g rows a b)
+    spells_header (codes "paritysol") (greatest_id g) (written_rows g g rows) (flat_map solutions.solution_line_tokens (row_lines g g rows)) (omega arith) (refl, (refl, (refl, (refl, (refl, (refl, (refl, (refl, (refl, tt))))))))) h (spells_rows g g rows a b)
 
 pub all_from_places : {X : Type 0} (P : X → Type 0) (d : X) (xs : List X) → ((k : ℕ) → k < length xs → P (get_or xs k d)) → AllByRecursion P xs
 all_from_places P d [] h = tt
@@ -226,10 +228,6 @@ all_imply P Q (x ∷ xs) f a = (f x a.0, all_imply P Q xs f a.1)
 pub all-map : {X Y : Type 0} (f : X → Y) (P : Y → Type 0) (xs : List X) → AllByRecursion (λ x. P (f x)) xs → AllByRecursion P (map f xs)
 all-map f P [] a = tt
 all-map f P (x ∷ xs) a = (a.0, all-map f P xs a.1)
-
-all-append : {X : Type 0} (P : X → Type 0) (xs ys : List X) → AllByRecursion P xs → AllByRecursion P ys → AllByRecursion P (xs ++ ys)
-all-append P [] ys a b = b
-all-append P (x ∷ xs) ys a b = (a.0, all-append P xs ys a.1 b)
 
 -- the vertex's numbers are within the limit, and it has a successor
 pub record IsSmall (g : Graph) (x : Vertex) : Type 0 where
@@ -267,17 +265,13 @@ digit_small : (p : Player) → digit_of p ≤ max_number
 digit_small Even = omega arith
 digit_small Odd = omega arith
 
-fits_lines : (g : Graph) (xs : List Vertex) → AllByRecursion (λ x. IsSmall g x) xs → AllFit (flat_map games.line_tokens (map (λ x. line_of g x) xs))
+fits_lines : (g : Graph) (xs : List Vertex) → AllByRecursion (λ x. IsSmall g x) xs → AllFit (flat_map games.game_line_tokens (map (λ x. line_of g x) xs))
 fits_lines g [] a = tt
 fits_lines g (x ∷ xs) a =
     let s = a.0 in
-    all-append (λ t. fits t ≡ true) (games.line_tokens (line_of g x)) (flat_map games.line_tokens (map (λ x. line_of g x) xs))
+    all-append (λ t. fits t ≡ true) (games.game_line_tokens (line_of g x)) (flat_map games.game_line_tokens (map (λ x. line_of g x) xs))
     (fits_number x.id s.id, (fits_number x.priority s.priority, (fits_number (digit_of x.owner) (digit_small x.owner), all-append (λ t. fits t ≡ true) (separated (map (λ w. id_of g w) x.successors)) (Semicolon ∷ []) (fits_separated (map (λ w. id_of g w) x.successors) s.successors) (refl, tt))))
     (fits_lines g xs a.1)
-
-pub owner_small : (p : Player) → digit_of p < 2
-owner_small Even = omega arith
-owner_small Odd = omega arith
 
 -- the written text of a game spells a game text of its own lines
 pub written_game_spells : (g : Graph) → IsGame g → IsWithinLimits g → SpellsGame (written_game g) (map (λ x. line_of g x) g)
@@ -312,21 +306,21 @@ fits_choice : (g : Graph) (c : Option ℕ) → IfSome c (λ w. id_of g w ≤ max
 fits_choice g None h = (refl, tt)
 fits_choice g (Some w) h = (fits_number (id_of g w) h, (refl, tt))
 
-fits_rows : (g : Graph) (xs : List Vertex) (rows : Rows) → AllByRecursion (λ x. IsSmall g x) xs → AllByRecursion (λ r. IfSome r.1 (λ w. id_of g w ≤ max_number)) rows → AllFit (flat_map solutions.line_tokens (row_lines g xs rows))
+fits_rows : (g : Graph) (xs : List Vertex) (rows : SolutionRows) → AllByRecursion (λ x. IsSmall g x) xs → AllByRecursion (λ r. IfSome r.1 (λ w. id_of g w ≤ max_number)) rows → AllFit (flat_map solutions.solution_line_tokens (row_lines g xs rows))
 fits_rows g [] rows a b = tt
 fits_rows g (x ∷ xs) [] a b = tt
 fits_rows g (x ∷ xs) (r ∷ rows) a b =
-    all-append (λ t. fits t ≡ true) (solutions.line_tokens (row_line g x r)) (flat_map solutions.line_tokens (row_lines g xs rows))
+    all-append (λ t. fits t ≡ true) (solutions.solution_line_tokens (row_line g x r)) (flat_map solutions.solution_line_tokens (row_lines g xs rows))
     (fits_number x.id a.0.id, (fits_number (digit_of r.0) (digit_small r.0), fits_choice g r.1 b.0))
     (fits_rows g xs rows a.1 b.1)
 
-pub small_winners : (g : Graph) (xs : List Vertex) (rows : Rows) → AllByRecursion (λ l. l.winner < 2) (row_lines g xs rows)
+pub small_winners : (g : Graph) (xs : List Vertex) (rows : SolutionRows) → AllByRecursion (λ l. l.winner < 2) (row_lines g xs rows)
 small_winners g [] rows = tt
 small_winners g (x ∷ xs) [] = tt
 small_winners g (x ∷ xs) (r ∷ rows) = (owner_small r.0, small_winners g xs rows)
 
 -- the written text of winners and choices spells a solution text of their own lines
-pub written_solution_spells : (g : Graph) (rows : Rows) → IsGame g → IsWithinLimits g → AreRows g rows → SpellsSolution (written_solution g rows) (row_lines g g rows)
+pub written_solution_spells : (g : Graph) (rows : SolutionRows) → IsGame g → IsWithinLimits g → AreSolutionRows g rows → SpellsSolution (written_solution g rows) (row_lines g g rows)
 written_solution_spells g rows i w r =
     let a = small_vertices g i w in
     let last : greatest_id g ≤ max_number = let h = i.nonempty in w.ids (length g - 1) (omega arith) in

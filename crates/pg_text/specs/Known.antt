@@ -8,8 +8,8 @@ use Rattle.pg_game.specs.VertexSet.{VertexSet}
 use Rattle.pg_game.specs.Kept.{Choices}
 use Rattle.pg_text.specs.declared.fault.SolutionTextFault.{SolutionTextFault}
 use Rattle.pg_text.specs.declared.fault.SolutionTextFault.TheVariants as fault
-use Rattle.pg_text.specs.SolutionText.{Line}
-use Rattle.pg_text.specs.SolutionLines.{first_stranger, first_twice, has_line, row_of}
+use Rattle.pg_text.specs.SolutionText.{WrittenSolutionLine}
+use Rattle.pg_text.specs.SolutionLines.{first_stranger, first_twice, has_line, row_of_line}
 use Rattle.pg_text.specs.Reading.{SpellsSolution, IsSolutionFaultOf}
 
 -- for each vertex its winner, and a choice or none; or nothing
@@ -36,16 +36,16 @@ abbrev pub known_choice : KnownRows → Choices
 known_choice rows v = choice_in_row (known_at rows v)
 
 -- the lines name vertices of the game alone, and each once; they say the rows of these, and of no other vertex is there anything
-pub record AreKnownLinesOf (g : Graph) (lines : List Line) (rows : KnownRows) : Type 0 where
+pub record AreKnownLinesOf (g : Graph) (lines : List WrittenSolutionLine) (rows : KnownRows) : Type 0 where
   pub no_stranger : first_stranger g lines ≡ None
   pub once : first_twice lines ≡ None
   pub size : length rows ≡ length g
-  pub said : (v : ℕ) → v < length g → (l : Line) → Contains lines l → l.id ≡ id_of g v → slice_get rows v ≡ Some (Some (row_of g l))
+  pub said : (v : ℕ) → v < length g → (l : WrittenSolutionLine) → Contains lines l → l.id ≡ id_of g v → slice_get rows v ≡ Some (Some (row_of_line g l))
   pub unsaid : (v : ℕ) → v < length g → has_line lines (id_of g v) ≡ false → slice_get rows v ≡ Some None
 
 -- the text is one of what is known
 pub record IsKnownTextOf (g : Graph) (text : List ℕ) (rows : KnownRows) : Type 0 where
-  pub lines : List Line
+  pub lines : List WrittenSolutionLine
   pub spelled : SpellsSolution text lines
   pub says : AreKnownLinesOf g lines rows
 

@@ -16,7 +16,7 @@ use Rattle.pg_text.specs.GameText as games
 use Rattle.pg_text.specs.GameText.{IsGameText, spec_of}
 use Rattle.pg_text.specs.SolutionText as solutions
 use Rattle.pg_text.specs.SolutionText.{IsSolutionText}
-use Rattle.pg_text.specs.Solution.{Rows, AreRows}
+use Rattle.pg_text.specs.Solution.{SolutionRows, AreSolutionRows}
 use Rattle.pg_text.specs.Written.{written_game, written_solution}
 use Rattle.pg_text.specs.SolutionLines.{AreLinesOf}
 
@@ -25,30 +25,30 @@ abbrev pub OneSpelling : Type 0
 OneSpelling = (text : List ℕ) (ts us : List Placed) → Spells 0 text ts → Spells 0 text us → ts ≡ us
 
 -- the text spells a game text of these lines, with numbers of whatever size
-abbrev pub SpellsLines : List ℕ → List games.Line → Type 0
+abbrev pub SpellsLines : List ℕ → List games.WrittenGameLine → Type 0
 SpellsLines text lines = (ts : List Placed) × Spells 0 text ts × IsGameText (tokens_of ts) lines
 
 -- the text spells one game text, and its game is this and no other
 pub record SpellsOneGame (text : List ℕ) (g : Graph) : Type 0 where
-  pub lines : List games.Line
+  pub lines : List games.WrittenGameLine
   pub spells : SpellsLines text lines
-  pub one_text : (others : List games.Line) → SpellsLines text others → others ≡ lines
+  pub one_text : (others : List games.WrittenGameLine) → SpellsLines text others → others ≡ lines
   pub owners : AllByRecursion (λ l. l.owner < 2) lines
   pub game : IsGameOf (map spec_of lines) g
   pub one_game : (h : Graph) → IsGameOf (map spec_of lines) h → h ≡ g
 
 -- the text spells a solution text of these lines, with numbers of whatever size
-abbrev pub SpellsRows : List ℕ → List solutions.Line → Type 0
+abbrev pub SpellsRows : List ℕ → List solutions.WrittenSolutionLine → Type 0
 SpellsRows text lines = (ts : List Placed) × Spells 0 text ts × IsSolutionText (tokens_of ts) lines
 
 -- the text spells one solution text, and its rows for the game are these and no others
-pub record SpellsOneSolution (text : List ℕ) (g : Graph) (rows : Rows) : Type 0 where
-  pub lines : List solutions.Line
+pub record SpellsOneSolution (text : List ℕ) (g : Graph) (rows : SolutionRows) : Type 0 where
+  pub lines : List solutions.WrittenSolutionLine
   pub spells : SpellsRows text lines
-  pub one_text : (others : List solutions.Line) → SpellsRows text others → others ≡ lines
+  pub one_text : (others : List solutions.WrittenSolutionLine) → SpellsRows text others → others ≡ lines
   pub winners : AllByRecursion (λ l. l.winner < 2) lines
   pub says : AreLinesOf g lines rows
-  pub one_solution : (others : Rows) → AreLinesOf g lines others → others ≡ rows
+  pub one_solution : (others : SolutionRows) → AreLinesOf g lines others → others ≡ rows
 
 -- identifiers and priorities have at most 64 digits, as many as a decimal of the library has
 pub record HasShortNumbers (g : Graph) : Type 0 where
@@ -59,7 +59,7 @@ abbrev pub WrittenGameReads : Type 0
 WrittenGameReads = (g : Graph) → IsGame g → HasShortNumbers g → SpellsOneGame (written_game g) g
 
 abbrev pub WrittenSolutionReads : Type 0
-WrittenSolutionReads = (g : Graph) (rows : Rows) → IsGame g → HasShortNumbers g → AreRows g rows → SpellsOneSolution (written_solution g rows) g rows
+WrittenSolutionReads = (g : Graph) (rows : SolutionRows) → IsGame g → HasShortNumbers g → AreSolutionRows g rows → SpellsOneSolution (written_solution g rows) g rows
 
 -- within the limits of games the written text is a text of the game, without fault
 abbrev pub WrittenGameIsText : Type 0
@@ -67,7 +67,7 @@ WrittenGameIsText = (g : Graph) → IsGame g → IsWithinLimits g → IsTextOf (
 
 -- and that of winners and choices is a text of these
 abbrev pub WrittenSolutionIsText : Type 0
-WrittenSolutionIsText = (g : Graph) (rows : Rows) → IsGame g → IsWithinLimits g → AreRows g rows → IsSolutionTextOf g (written_solution g rows) rows
+WrittenSolutionIsText = (g : Graph) (rows : SolutionRows) → IsGame g → IsWithinLimits g → AreSolutionRows g rows → IsSolutionTextOf g (written_solution g rows) rows
 
 -- every text spells tokens or has a lexical fault
 abbrev pub TokensOrLexical : Type 0
@@ -87,7 +87,7 @@ NoGameWantsMemory = (text : List ℕ) → IsFaultOf text (Game GameFault.Memory)
 
 -- a solution text of a game has no fault for it
 abbrev pub SolutionTextOrFault : Type 0
-SolutionTextOrFault = (g : Graph) (text : List ℕ) (rows : Rows) (fault : SolutionTextFault) → IsSolutionTextOf g text rows → IsSolutionFaultOf g text fault → fault ≡ solution.Memory
+SolutionTextOrFault = (g : Graph) (text : List ℕ) (rows : SolutionRows) (fault : SolutionTextFault) → IsSolutionTextOf g text rows → IsSolutionFaultOf g text fault → fault ≡ solution.Memory
 
 -- two faults of one text for one game are the same
 abbrev pub OneSolutionFault : Type 0

@@ -8,16 +8,16 @@
 //! none of these is left to the lexer.
 ghost use Rattle.std.specs.Prelude.{◌≡◌, ℕ, ◌≤◌, length, true, false, IfOk, IfErr, IfSome, MatchResult, ◌<◌, None, List, []};
 ghost use Rattle.pg_text.specs.Token.{Number, Word, Name, Comma, Semicolon, Placed, Spells};
-ghost use Rattle.pg_text.specs.Piece.{fitting};
+ghost use Rattle.pg_text.specs.private.Piece.{fitting};
 ghost use Rattle.pg_text.specs.Reading.{IsFaultOf};
-ghost use Rattle.pg_text.specs.GameKeeps.{KeepsReader, Takes, TakesPiece, IsUnexpected, SpellsSpecs};
-ghost use Rattle.pg_text.specs.GameAdvance.{Advances, AdvancesTo, FailsWith};
-ghost use Rattle.pg_text.specs.GameStates.{is_complete};
+ghost use Rattle.pg_text.specs.private.GameKeeps.{KeepsReader, Takes, TakesPiece, IsUnexpected, SpellsSpecs};
+ghost use Rattle.pg_text.specs.private.GameAdvance.{Advances, AdvancesTo, FailsWith};
+ghost use Rattle.pg_text.specs.private.GameStates.{is_complete};
 
 use crate::fault::TextFault;
 use crate::lexer::{Kind, Piece, first_bad, next_token, number_near};
 use crate::numbers::{first_of, player};
-use pg_game::{Memory, Player, Specs};
+use pg_game::{Memory, OpenSpecs, Player, Specs};
 use std::alloc::Global;
 
 /// What of a game text was read last.
@@ -43,11 +43,10 @@ enum State {
 #[derive(Drop)]
 struct Reader {
     state: State,
-    specs: Specs,
+    specs: OpenSpecs,
     id: u32,
     priority: u32,
     owner: Player,
-    successors: Vec<u32>,
     large: Option<u32>,
     wrong: Option<u32>,
 }
@@ -79,14 +78,12 @@ impl Reader {
     fn new(alloc: Global) -> Result<Reader, Memory>
         ensures { IfOk result (λ reader. KeepsReader [] reader) }
     {
-        let specs = Specs::with_capacity(alloc, 0, 0)?;
         Ok(Reader {
             state: State::Start,
-            specs,
+            specs: OpenSpecs::new(alloc)?,
             id: 0,
             priority: 0,
             owner: Player::Even,
-            successors: Vec::new(alloc),
             large: None,
             wrong: None,
         })
@@ -137,18 +134,18 @@ impl Reader {
             State::Priority => {
                 self.wrong = first_of(self.wrong, 1 < small, place);
                 self.owner = player(small);
-                self.successors.clear();
+                self.specs.clear();
                 self.state = State::Owner;
                 Ok(true)
             }
-            State::Owner => match self.successors.push(small) {
+            State::Owner => match self.specs.push(small) {
                 Ok(_) => {
                     self.state = State::Successor;
                     Ok(true)
                 }
                 Err(_) => Err(TextFault::Memory),
             },
-            State::Listing => match self.successors.push(small) {
+            State::Listing => match self.specs.push(small) {
                 Ok(_) => {
                     self.state = State::Successor;
                     Ok(true)
@@ -175,14 +172,12 @@ impl Reader {
                 Ok(true)
             }
             State::Successor => {
-                self.specs
-                    .push(self.id, self.priority, self.owner, &self.successors)?;
+                self.specs.close(self.id, self.priority, self.owner)?;
                 self.state = State::Ready;
                 Ok(true)
             }
             State::Named => {
-                self.specs
-                    .push(self.id, self.priority, self.owner, &self.successors)?;
+                self.specs.close(self.id, self.priority, self.owner)?;
                 self.state = State::Ready;
                 Ok(true)
             }
@@ -397,7 +392,7 @@ impl Reader {
         if let Some(at) = self.wrong {
             return Err(TextFault::Owner(at));
         }
-        Ok(self.specs)
+        Ok(self.specs.finish())
     }
 }
 

@@ -4,14 +4,17 @@
 //! A number of any length is read in 64 bits, since its value stops growing once it is above the limit.
 ghost use Rattle.std.specs.Prelude.{◌≡◌, ◌≢◌, ℕ, ◌+◌, ◌<◌, ◌≤◌, length, drop, List, slice_index, false, MatchOption, IfSome, Some};
 ghost use Rattle.pg_text.specs.Bytes.{is_blank, is_digit, is_letter, EndsRun, value_of};
-ghost use Rattle.pg_text.specs.Piece.{IsNext, IsPieceOf, IsRun, IsToken, fitting};
+ghost use Rattle.pg_text.specs.private.Piece.{IsNextPiece, IsPieceOf, IsRun, IsToken, fitting};
 ghost use Rattle.pg_text.specs.Token.{Number};
-ghost use Rattle.pg_text.specs.Reach.{SpellsRest, IsBadFrom};
+ghost use Rattle.pg_text.specs.private.Reach.{SpellsRest, IsBadFrom};
 
 use memchr::memchr;
 
 /// The greatest number that a text may hold.
 const GREATEST: u64 = 2147483647;
+
+/// How many bytes a number within the limit takes at most, with a blank before it and the byte behind it.
+const NEAR: usize = 12;
 
 /// What a token is. A number above the limit has no value here.
 #[derive(Clone, Copy)]
@@ -83,11 +86,27 @@ fn blank_end(text: &[u8], from: usize) -> usize
     requires { from ≤ length text.now }
     ensures run { (run : List ℕ) × IsRun is_blank text.now from result run }
     ensures within { result ≤ length text.now }
+    ensures near { result ≤ from + 1 }
 {
     if from < text.len() && !digit(text[from]) && blank(text[from]) {
         from + 1
     } else {
         from
+    }
+}
+
+/// The same of a place within the text. A space is looked for first, since it stands before most numbers.
+#[inline(always)]
+fn space_end(text: &[u8], from: usize) -> usize
+    requires { from < length text.now }
+    ensures run { (run : List ℕ) × IsRun is_blank text.now from result run }
+    ensures within { result ≤ length text.now }
+    ensures near { result ≤ from + 1 }
+{
+    if text[from] == b' ' {
+        from + 1
+    } else {
+        blank_end(text, from)
     }
 }
 
@@ -129,9 +148,32 @@ fn number(text: &[u8], from: usize) -> (Option<u32>, usize)
     }
 }
 
-/// The number at a place, behind at most one blank, where it is within the limit.
-#[inline]
-pub fn number_near(text: &[u8], at: usize) -> Option<Numeral>
+/// The number at a place before the last ten bytes, and the place behind it. None where there is no digit, more than ten, or a
+/// number above the limit. So few digits are read without a test of the value or for the text's end between them.
+#[inline(always)]
+fn short_number(text: &[u8], from: usize) -> Option<(u32, usize)>
+    requires { from + 11 ≤ length text.now }
+    ensures run { IfSome result (λ n. (run : List ℕ) × IsRun is_digit text.now from n.1 run × (Some n.0 ≡ fitting (value_of run))) }
+    ensures ends { IfSome result (λ n. EndsRun is_digit (drop n.1 text.now)) }
+    ensures ahead { IfSome result (λ n. (from < n.1) × (n.1 < length text.now)) }
+{
+    let mut value = 0u64;
+    'digits: for k in 0..11usize {
+        let byte = text[from + k];
+        if !digit(byte) {
+            if k == 0 || value > GREATEST {
+                return None;
+            }
+            return Some((value as u32, from + k));
+        }
+        value = value * 10 + u64::from(byte - b'0');
+    }
+    None
+}
+
+/// The number at a place near the text's end, behind at most one blank, where it is within the limit.
+#[inline(never)]
+fn last_number(text: &[u8], at: usize) -> Option<Numeral>
     requires { at ≤ length text.now }
     ensures token { IfSome result (λ n. (m : ℕ) × (Some n.value ≡ fitting m) × IsToken text.now at n.from n.to (Number m)) }
     ensures order { IfSome result (λ n. n.from ≤ n.to) }
@@ -147,6 +189,23 @@ pub fn number_near(text: &[u8], at: usize) -> Option<Numeral>
     Some(Numeral { value, from, to })
 }
 
+/// The number at a place, behind at most one blank, where it is within the limit. One of more than ten digits may be left to the
+/// token's way.
+#[inline(always)]
+pub fn number_near(text: &[u8], at: usize) -> Option<Numeral>
+    requires { at ≤ length text.now }
+    ensures token { IfSome result (λ n. (m : ℕ) × (Some n.value ≡ fitting m) × IsToken text.now at n.from n.to (Number m)) }
+    ensures order { IfSome result (λ n. n.from ≤ n.to) }
+    ensures ahead { IfSome result (λ n. (at < n.to) × (n.to ≤ length text.now)) }
+{
+    if text.len() - at < NEAR {
+        return last_number(text, at);
+    }
+    let from = space_end(text, at);
+    let (value, to) = short_number(text, from)?;
+    Some(Numeral { value, from, to })
+}
+
 /// The word or the name at a place, or that there is none.
 #[inline(never)]
 fn word_or_name(text: &[u8], from: usize) -> Piece
@@ -155,7 +214,7 @@ fn word_or_name(text: &[u8], from: usize) -> Piece
     requires no_digit { is_digit (slice_index text.now from) ≡ false }
     requires no_comma { slice_index text.now from ≢ 44 }
     requires no_semicolon { slice_index text.now from ≢ 59 }
-    ensures token { IsNext text.now from result }
+    ensures token { IsNextPiece text.now from result }
     ensures order { result.from ≤ result.to }
     ensures within { result.to ≤ length text.now }
 {
@@ -193,7 +252,7 @@ fn word_or_name(text: &[u8], from: usize) -> Piece
 #[inline]
 pub fn next_token(text: &[u8], at: usize) -> Piece
     requires { at ≤ length text.now }
-    ensures token { IsNext text.now at result }
+    ensures token { IsNextPiece text.now at result }
     ensures order { result.from ≤ result.to }
     ensures within { result.to ≤ length text.now }
 {

@@ -2,7 +2,7 @@
 
 ghost use Rattle.std.specs.Prelude.{◌≡◌};
 ghost use Rattle.pg_text.specs.GameText.{player_of};
-ghost use Rattle.pg_text.specs.FirstFault.{first_at};
+ghost use Rattle.pg_text.specs.private.FirstFault.{first_at};
 
 use pg_game::Player;
 

@@ -1,7 +1,7 @@
 //! Games and solutions from their texts.
 ghost use Rattle.std.specs.Prelude.{◌≡◌, ◌≤◌, length, IfOk, IfErr};
 ghost use Rattle.pg_game.specs.Graph.{IsGame};
-ghost use Rattle.pg_text.specs.Solution.{AreRows};
+ghost use Rattle.pg_text.specs.Solution.{AreSolutionRows};
 ghost use Rattle.pg_text.specs.Reading.{IsTextOf, IsFaultOf, IsSolutionTextOf, IsSolutionFaultOf};
 ghost use Rattle.pg_text.specs.Known.{IsKnownTextOf, IsKnownFaultOf};
 
@@ -39,7 +39,7 @@ pub fn read_game(alloc: Global, text: &[u8]) -> Result<Game, TextFault>
 /// `Missing`; or with `Memory`.
 pub fn read_solution(alloc: Global, game: &Game, text: &[u8]) -> Result<Solution, SolutionTextFault>
     requires { length text.now ≤ 268435456 }
-    ensures fit { IfOk result (λ s. AreRows game.now s.rows) }
+    ensures fit { IfOk result (λ s. AreSolutionRows game.now s.rows) }
     ensures rows { IfOk result (λ s. IsSolutionTextOf game.now text.now s.rows) }
     ensures fault { IfErr result (λ e. IsSolutionFaultOf game.now text.now e) }
 {

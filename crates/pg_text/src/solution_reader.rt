@@ -8,11 +8,11 @@
 //! left to the lexer.
 ghost use Rattle.std.specs.Prelude.{◌≡◌, ℕ, ◌+◌, ◌<◌, ◌≤◌, length, true, false, map, IfOk, IfErr, IfSome, MatchResult, None, List, []};
 ghost use Rattle.pg_text.specs.Token.{Number, Word, Semicolon, Placed, Spells};
-ghost use Rattle.pg_text.specs.Piece.{fitting};
-ghost use Rattle.pg_text.specs.SolutionKeeps.{KeepsReader, Takes, line_of, is_complete};
+ghost use Rattle.pg_text.specs.private.Piece.{fitting};
+ghost use Rattle.pg_text.specs.private.SolutionKeeps.{KeepsReader, Takes, line_of, is_complete};
 ghost use Rattle.pg_text.specs.Reading.{SpellsSolution};
-ghost use Rattle.pg_text.specs.SolutionReading.{IsLineFaultOf, IsUnexpected, TakesPiece};
-ghost use Rattle.pg_text.specs.SolutionAdvance.{Advances, AdvancesTo, FailsWith};
+ghost use Rattle.pg_text.specs.private.SolutionReading.{IsLineFaultOf, IsUnexpected, TakesPiece};
+ghost use Rattle.pg_text.specs.private.SolutionAdvance.{Advances, AdvancesTo, FailsWith};
 
 use crate::fault::SolutionTextFault;
 use crate::lexer::{Kind, Piece, first_bad, next_token, number_near};

@@ -7,11 +7,11 @@ ghost use Rattle.std.specs.Prelude.{◌≡◌, ℕ, ◌<◌, ◌++◌, ◌∷◌
 ghost use Rattle.pg_game.specs.declared.player.Player.TheVariants.{Even};
 ghost use Rattle.pg_game.specs.VertexSet.{members};
 ghost use Rattle.pg_game.specs.Graph.{Graph, id_of};
-ghost use Rattle.pg_text.specs.Solution.{AreRows};
-ghost use Rattle.pg_text.specs.SolutionText.{Line};
-ghost use Rattle.pg_text.specs.SolutionKeeps.{line_of};
-ghost use Rattle.pg_text.specs.SolutionLines.{is_id, row_of, first_stranger, AreLinesOf};
-ghost use Rattle.pg_text.specs.SolutionTable.{HoldsTable, IsNamed, IsStrangerOf, IsLookUpFaultOf, IsRowFaultOf, IsKnownRowFaultOf};
+ghost use Rattle.pg_text.specs.Solution.{AreSolutionRows};
+ghost use Rattle.pg_text.specs.SolutionText.{WrittenSolutionLine};
+ghost use Rattle.pg_text.specs.private.SolutionKeeps.{line_of};
+ghost use Rattle.pg_text.specs.SolutionLines.{is_id, row_of_line, first_stranger, AreLinesOf};
+ghost use Rattle.pg_text.specs.private.SolutionTable.{HoldsTable, IsNamed, IsStrangerOf, IsLookUpFaultOf, IsRowFaultOf, IsKnownRowFaultOf};
 ghost use Rattle.pg_text.specs.Known.{AreKnownLinesOf};
 
 use crate::fault::SolutionTextFault;
@@ -52,7 +52,7 @@ impl Table {
     fn take(&mut self, game: &Game, line: &SolutionLine) -> Result<(), SolutionTextFault>
         requires rows { length self.old.rows.items ≡ length game.now }
         requires marks { length self.old.said ≡ length game.now }
-        ensures { (lines : List Line) → HoldsTable game.now lines self.old → MatchResult result (λ _. HoldsTable game.now (lines ++ line_of line.now ∷ []) self.new) (λ e. IsStrangerOf game.now (line_of line.now) e) }
+        ensures { (lines : List WrittenSolutionLine) → HoldsTable game.now lines self.old → MatchResult result (λ _. HoldsTable game.now (lines ++ line_of line.now ∷ []) self.new) (λ e. IsStrangerOf game.now (line_of line.now) e) }
     {
         let v = named(game, line.id)?;
         let choice = match line.choice {
@@ -67,7 +67,7 @@ impl Table {
     fn put(&mut self, v: u32, id: u32, row: (Player, Option<u32>))
         requires row { v < length self.old.rows.items }
         requires mark { v < length self.old.said }
-        ensures { (g : Graph) (lines : List Line) (l : Line) → HoldsTable g lines self.old → IsNamed g l.id v → l.id ≡ id → row ≡ row_of g l → first_stranger g (l ∷ []) ≡ None → HoldsTable g (lines ++ l ∷ []) self.new }
+        ensures { (g : Graph) (lines : List WrittenSolutionLine) (l : WrittenSolutionLine) → HoldsTable g lines self.old → IsNamed g l.id v → l.id ≡ id → row ≡ row_of_line g l → first_stranger g (l ∷ []) ≡ None → HoldsTable g (lines ++ l ∷ []) self.new }
     {
         if self.said.has(v) {
             if self.twice.is_none() {
@@ -82,7 +82,7 @@ impl Table {
     /// The rows, where each vertex has one line.
     fn finish(self, game: &Game) -> Result<Solution, SolutionTextFault>
         requires { length self.said ≡ length game.now }
-        ensures { (lines : List Line) → HoldsTable game.now lines self → MatchResult result (λ s. AreLinesOf game.now lines s.rows) (λ e. IsRowFaultOf game.now lines e) }
+        ensures { (lines : List WrittenSolutionLine) → HoldsTable game.now lines self → MatchResult result (λ s. AreLinesOf game.now lines s.rows) (λ e. IsRowFaultOf game.now lines e) }
     {
         if let Some(id) = self.twice {
             return Err(SolutionTextFault::Twice(id));
@@ -114,7 +114,7 @@ impl Table {
     fn known(self, alloc: Global, game: &Game) -> Result<Known, SolutionTextFault>
         requires rows { length self.rows.items ≡ length game.now }
         requires marks { length self.said ≡ length game.now }
-        ensures { (lines : List Line) → HoldsTable game.now lines self → MatchResult result (λ k. AreKnownLinesOf game.now lines k.rows) (λ e. IsKnownRowFaultOf game.now lines e) }
+        ensures { (lines : List WrittenSolutionLine) → HoldsTable game.now lines self → MatchResult result (λ k. AreKnownLinesOf game.now lines k.rows) (λ e. IsKnownRowFaultOf game.now lines e) }
     {
         if let Some(id) = self.twice {
             return Err(SolutionTextFault::Twice(id));
@@ -147,7 +147,7 @@ pub fn rows_of(
     game: &Game,
     lines: &[SolutionLine],
 ) -> Result<Solution, SolutionTextFault>
-    ensures fit { IfOk result (λ s. AreRows game.now s.rows) }
+    ensures fit { IfOk result (λ s. AreSolutionRows game.now s.rows) }
     ensures rows { MatchResult result (λ s. AreLinesOf game.now (map line_of lines.now) s.rows) (λ e. IsRowFaultOf game.now (map line_of lines.now) e) }
 {
     table_of(alloc, game, lines)?.finish(game)

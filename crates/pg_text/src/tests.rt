@@ -1,7 +1,7 @@
 //! Texts and their answers, read off the formats by hand.
 
 ghost use Rattle.std.specs.Prelude.{IfOk};
-ghost use Rattle.pg_text.specs.Solution.{AreRows};
+ghost use Rattle.pg_text.specs.Solution.{AreSolutionRows};
 
 // As `assert_eq!` and `assert!`.
 macro_rules! check_eq {
@@ -57,7 +57,7 @@ pub fn game_fault(alloc: Global, text: &[u8]) -> Option<TextFault> {
 
 /// The winners and choices of a short text.
 pub fn solution(alloc: Global, game: &Game, text: &[u8]) -> Result<Solution, SolutionTextFault>
-    ensures { IfOk result (λ s. AreRows game.now s.rows) }
+    ensures { IfOk result (λ s. AreSolutionRows game.now s.rows) }
 {
     if text.len() > 1000 {
         return Err(SolutionTextFault::Memory);

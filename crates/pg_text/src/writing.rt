@@ -6,7 +6,7 @@ ghost use Rattle.pg_game.specs.Graph.{id_of, priority_of, owner_of, successors_o
 ghost use Rattle.pg_game.specs.Player.{digit_of};
 ghost use Rattle.pg_text.specs.Written.{greatest_id, written_game, written_vertex, written_solution, written_rows, written_winners};
 ghost use Rattle.pg_text.specs.Lengths.{greatest_game_text, greatest_solution_text, greatest_winners_text};
-ghost use Rattle.pg_text.specs.Solution.{AreRows};
+ghost use Rattle.pg_text.specs.Solution.{AreSolutionRows};
 
 use crate::line::{byte_before, choice_before, end_before, field_before, number_before};
 use crate::solution::Solution;
@@ -56,7 +56,7 @@ fn put_row(out: &mut Vec<u8>, game: &Game, v: u32, row: (Player, Option<u32>)) -
 /// The written winners and choices of a game, with a choice where the solution has one: at most 1,638,422 bytes. Refused with
 /// `Memory` alone.
 pub fn write_solution(alloc: Global, game: &Game, solution: &Solution) -> Result<Vec<u8>, Memory>
-    requires { AreRows game.now solution.now.rows }
+    requires { AreSolutionRows game.now solution.now.rows }
     ensures text { IfOk result (λ text. text.items ≡ written_solution game.now solution.now.rows) }
     ensures short { IfOk result (λ text. length text.items ≤ greatest_solution_text) }
 {
@@ -71,7 +71,7 @@ pub fn write_solution(alloc: Global, game: &Game, solution: &Solution) -> Result
 
 /// The written winners of a game, without any choice: at most 917,526 bytes. Refused with `Memory` alone.
 pub fn write_winners(alloc: Global, game: &Game, solution: &Solution) -> Result<Vec<u8>, Memory>
-    requires { AreRows game.now solution.now.rows }
+    requires { AreSolutionRows game.now solution.now.rows }
     ensures text { IfOk result (λ text. text.items ≡ written_winners game.now solution.now.rows) }
     ensures short { IfOk result (λ text. length text.items ≤ greatest_winners_text) }
 {

@@ -12,8 +12,8 @@ use Rattle.pg_board.specs.Play.{Play}
 use Rattle.pg_workers.specs.declared.report.ReportRow.{ReportRow}
 use Rattle.pg_workers.specs.declared.solve.Outcome.{Outcome}
 use Rattle.pg_workers.specs.Report.{AddsUp, AreNumbered, IsReport, settled_in}
-use Rattle.pg_workers.specs.Rest.{IsLater}
-use Rattle.pg_workers.specs.Known.{HasSettled}
+use Rattle.pg_workers.specs.private.Rest.{IsLater}
+use Rattle.pg_workers.specs.private.Known.{HasSettled}
 use Rattle.pg_workers.specs.Outcomes.{IsOutcome}
 
 pub adds_up : (old new : Play) (report : List ReportRow) (known : ℕ) → IsLater 2 old new → settled_in report + known ≡ number_settled old.journal → AddsUp known new.journal report

@@ -13,7 +13,7 @@ use Rattle.pg_game.specs.declared.player.Player.TheVariants.{Even, Odd}
 use Rattle.pg_game.specs.Player.{opponent, same_player}
 use Rattle.pg_game.specs.Graph.{Graph, IsGame, owner_of, successors_of}
 use Rattle.pg_game.specs.VertexSet.{VertexSet, In, all_vertices, no_vertices, union}
-use Rattle.pg_game.specs.Kept.{Choices, kept, listed, KeptEdge}
+use Rattle.pg_game.specs.Kept.{Choices, kept, option_list, KeptEdge}
 use Rattle.pg_game.specs.Attractor.{Attractor}
 use Rattle.pg_game.specs.Region.{IsRegion}
 use Rattle.pg_game.proofs.Edges.{edge_inside}
@@ -21,9 +21,9 @@ use Rattle.pg_game.proofs.Walks.{ClosedWalk-weaker}
 use Rattle.pg_game.proofs.Disjoint.{kept_own, kept_other}
 use Rattle.pg_text.specs.Known.{KnownRows, known_of, known_choice}
 use Rattle.pg_dominion.specs.declared.claim.Claim.{Claim}
-use Rattle.pg_dominion.specs.Claim.{Rows, named, choice_in}
+use Rattle.pg_dominion.specs.Claim.{ClaimRows, named, choice_in}
 use Rattle.pg_finders.specs.Claims.{own_choices}
-use Rattle.pg_finders.specs.Solved.{Holds}
+use Rattle.pg_finders.specs.private.Solved.{WinsOn}
 use Rattle.pg_finders.proofs.Good.{good_rows}
 use Rattle.pg_finders.proofs.Rows.{RowsOf, rows_of_below}
 use Rattle.pg_finders.proofs.Sets.{is_same, not_same, test, equal_from, pair}
@@ -42,7 +42,8 @@ use Rattle.pg_board.proofs.Numbers.{lawful_now, in_vertices}
 use Rattle.pg_board.proofs.Opening.{none_distinct, no_region, attracts_none, lawful_none}
 use Rattle.pg_board.proofs.Push.{neither_open, once_rows, ours_named}
 use Rattle.pg_board.proofs.RestIsGood.{vertices, in_rest, to_rest}
-use Rattle.pg_workers.specs.Known.{IsKnownRegion, known_rows, IsAttractedToKnown, HasSize, HasNone, SettlesKnown, IsRefusedKnown, IsKnownFault, HasKnown, IsBefore, IsSolveFault, fault_of}
+use Rattle.pg_workers.specs.Known.{IsKnownRegion, known_rows, IsAttractedToKnown, HasCount, HasNone, IsRefusedKnown, IsBefore, IsSolveFault}
+use Rattle.pg_workers.specs.private.Known.{SettlesKnown, IsKnownFault, HasKnown, fault_of}
 use Rattle.pg_workers.specs.declared.known.SolveFault.{SolveFault}
 use Rattle.pg_workers.specs.declared.known.SolveFault.TheVariants as fault
 
@@ -57,15 +58,15 @@ or_none true b h = absurd (cc h)
 or_none false b h = refl
 
 -- the vertices of rows as a list
-in_rows : (rows : Rows) (v : ℕ) → Contains (vertices rows) v ↔ In (named rows) v
+in_rows : (rows : ClaimRows) (v : ℕ) → Contains (vertices rows) v ↔ In (named rows) v
 in_rows rows v = (
   λ m. sym (in_vertices rows v) ∙ list_any-from_Contains nat_eq_equiv v (vertices rows) m,
   λ i. Contains-from_any eqb-true v (vertices rows) (in_vertices rows v ∙ i),
 )
 
 -- what is said of a claim, of its player and its rows
-said_of : (P : Claim → Type 0) (claim : Claim) (p : Player) (rows : Rows) → claim.player ≡ p → claim.rows ≡ rows → P claim → P (record { player = p; rows = rows })
-said_of P claim p rows player is h = subst (λ (q : Player). P (record { player = q; rows = rows })) player (subst (λ (xs : Rows). P (record { player = claim.player; rows = xs })) is h)
+said_of : (P : Claim → Type 0) (claim : Claim) (p : Player) (rows : ClaimRows) → claim.player ≡ p → claim.rows ≡ rows → P claim → P (record { player = p; rows = rows })
+said_of P claim p rows player is h = subst (λ (q : Player). P (record { player = q; rows = rows })) player (subst (λ (xs : ClaimRows). P (record { player = claim.player; rows = xs })) is h)
 
 module _ (g : Graph) (game : IsGame g) (known : KnownRows) (sized : length known ≡ length g) (p : Player) where
   abbrev K : VertexSet
@@ -74,7 +75,7 @@ module _ (g : Graph) (game : IsGame g) (known : KnownRows) (sized : length known
   abbrev s : Choices
   s = known_choice known
 
-  abbrev rows : Rows
+  abbrev rows : ClaimRows
   rows = known_rows g known p
 
   inside : (v : ℕ) → In K v → v < length g
@@ -96,11 +97,11 @@ module _ (g : Graph) (game : IsGame g) (known : KnownRows) (sized : length known
   same_kept v i = go (test (same_player (owner_of g v) p))
     where
       go : (same_player (owner_of g v) p ≡ true) ⊎ (same_player (owner_of g v) p ≡ false) → kept g p (choice_in rows) v ≡ kept g p s v
-      go (inl y) = ap (λ o. if same_player (owner_of g v) p then listed o else successors_of g v) (own_choice v i y)
+      go (inl y) = ap (λ o. if same_player (owner_of g v) p then option_list o else successors_of g v) (own_choice v i y)
       go (inr n) = rw n refl
 
   -- a known region is a dominion where nothing is settled
-  region_held : IsKnownRegion g known p → Holds g (unsettled g (state_of [])) p K s
+  region_held : IsKnownRegion g known p → WinsOn g (unsettled g (state_of [])) p K s
   region_held region = record {
     within = λ v i. pair (nat_lt v (length g)) true (region.vertices v i) refl;
     choices = λ v i o. (let c = region.choices v i o in (c.0, c.1, c.2, region.closed v c.0 (kept_own g p K s v c.0 i (is_same (owner_of g v) p o) c.1)));
@@ -122,7 +123,7 @@ module _ (g : Graph) (game : IsGame g) (known : KnownRows) (sized : length known
 
   -- where no vertex is known, there is nothing to post
   module _ (empty : length rows ≡ 0) where
-    none_named : (xs : Rows) (v : ℕ) → length xs ≡ 0 → named xs v ≡ false
+    none_named : (xs : ClaimRows) (v : ℕ) → length xs ≡ 0 → named xs v ≡ false
     none_named [] v h = refl
     none_named (r ∷ xs) v h = absurd (omega arith)
 
@@ -176,7 +177,7 @@ module _ (g : Graph) (game : IsGame g) (known : KnownRows) (sized : length known
         let o = open_named r.0 r.1 (not_lost r.0 r.1) in
         none_left (rest_of st rows) r.0 h.2 (to_rest st rows r.0 r.1 o)
       where
-        first : (xs : Rows) → 0 < length xs → (v : ℕ) × In (named xs) v
+        first : (xs : ClaimRows) → 0 < length xs → (v : ℕ) × In (named xs) v
         first [] l = absurd (omega (arith, l))
         first (x ∷ xs) l = (x.0, rw (eq-eqb x.0 x.0 refl) refl)
 
@@ -187,7 +188,7 @@ module _ (g : Graph) (game : IsGame g) (known : KnownRows) (sized : length known
             go (inl y) = absurd (h.1 v (i, y))
             go (inr n) = n
 
-        none_left : (xs : Rows) (v : ℕ) → xs ≡ [] → In (named xs) v → ⊥
+        none_left : (xs : ClaimRows) (v : ℕ) → xs ≡ [] → In (named xs) v → ⊥
         none_left [] v e i = absurd (cc i)
         none_left (x ∷ xs) v e i = absurd (cc e)
 
@@ -248,7 +249,7 @@ module _ (g : Graph) (game : IsGame g) (known : KnownRows) (sized : length known
 
     -- a refused set is no region, and not stale
     pub refused_known : (new : Play) (e : Refusal) (claim : Claim) → claim.player ≡ p → claim.rows ≡ rows → 0 < length claim.rows → Refuted new e claim → IsKnownFault g journal known p (fault_of p e)
-    refused_known new e claim player is n refuted = refused_rows (subst (λ (xs : Rows). 0 < length xs) is n) new e (said_of (Refuted new e) claim p rows player is refuted)
+    refused_known new e claim player is n refuted = refused_rows (subst (λ (xs : ClaimRows). 0 < length xs) is n) new e (said_of (Refuted new e) claim p rows player is refuted)
 
 module _ (g : Graph) (known : KnownRows) (opened mid : Play) (here : opened.graph ≡ g) (new_board : opened.journal ≡ []) (first : SettlesKnown opened mid known Even) where
   -- what the post of Even's known set leaves is what stands before Odd's
@@ -274,8 +275,8 @@ module _ (g : Graph) (known : KnownRows) (opened mid : Play) (here : opened.grap
     number = (
       first.more,
       second.more,
-      subst (λ (h : Graph). HasSize (IsAttractedToKnown h known Even) first.more) here first.size,
-      subst (λ (h : Graph). HasSize (IsAttractedToKnown h known Odd) second.more) same second.size,
+      subst (λ (h : Graph). HasCount (IsAttractedToKnown h known Even) first.more) here first.size,
+      subst (λ (h : Graph). HasCount (IsAttractedToKnown h known Odd) second.more) same second.size,
       (let none : number_settled opened.journal ≡ 0 = ap number_settled new_board in omega (arith, first.number, second.number)),
     );
   }

@@ -9,7 +9,7 @@ use Rattle.atomic_table.specs.Table.{State, Step, keeps, opening, Allows, Splits
 use Rattle.atomic_table.proofs.Lists.{at_set, at_snoc}
 use Rattle.pg_workers.specs.declared.drawing.Drawer.{Drawer}
 use Rattle.pg_workers.specs.Counting.{times, once_below}
-use Rattle.pg_workers.specs.Drawing.{drawer, IsDrawer, IsDrawn, Draws, AtSeat, one_less, one_ticket, both_drawers, spent_drawer}
+use Rattle.pg_workers.specs.private.Drawing.{drawer, IsDrawer, IsDrawn, Draws, AtSeat, one_less, one_ticket, both_drawers, spent_drawer}
 use Rattle.std.proofs.lemmas.List.Sums.{sum_by-append}
 use Rattle.pg_workers.proofs.Counts.{sum_by-set_at, sum_by-at, sum_by-le_each, alone, once_more, once_none}
 

@@ -9,8 +9,9 @@ use Rattle.pg_dominion.specs.declared.claim.Claim.{Claim}
 use Rattle.pg_board.specs.declared.refusal.Refusal.{Refusal}
 use Rattle.pg_board.specs.declared.refusal.Refusal.TheVariants as refusal
 use Rattle.pg_workers.specs.declared.report.ReportRow.{ReportRow}
-use Rattle.pg_workers.specs.Answers.{AreNoted, IsAnswerTo}
-use Rattle.pg_workers.specs.Report.{AreCounts, answered, noted}
+use Rattle.pg_workers.specs.private.Answers.{AreNoted, IsAnswerTo}
+use Rattle.pg_workers.specs.Report.{AreCounts}
+use Rattle.pg_workers.specs.private.Report.{answered, noted}
 
 abbrev Added : ℕ → ℕ → Result ℕ Refusal → Type 0
 Added before after answer = IfOk answer (λ n. (1 ≤ n) × (after ≡ before + n))

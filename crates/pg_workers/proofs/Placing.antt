@@ -7,23 +7,24 @@ use Rattle.std.proofs.lemmas.List.Sums.{sum_by-append, sum_by-cons, sum_by-set, 
 use Rattle.std.proofs.lemmas.Option.{none-some, same_Some, slice_get_within, slice_get-get_or, get_or_from_slice_get}
 use Rattle.pg_workers.specs.declared.report.ReportRow.{ReportRow}
 use Rattle.pg_workers.specs.Counting.{times, once_below}
-use Rattle.pg_workers.specs.Report.{AreBlank, AreNumbered, AreOfFront, ArePlaced, HasPlaces, IsDone, IsReport, blank_row, jobs_in, rows_in, rows_of, settled_in}
+use Rattle.pg_workers.specs.Report.{AreNumbered, IsDrawnRow, IsReport, blank_row, settled_in}
+use Rattle.pg_workers.specs.private.Report.{AreBlank, AreOfFront, AreNotedRows, HasPlaces, jobs_in, rows_in, how_many_of_job}
 use Rattle.pg_workers.proofs.Closing.{flat_map-push}
 use Rattle.pg_workers.proofs.Counts.{sum_by-of_map}
 use Rattle.pg_workers.proofs.Rows.{at_job, get_set_same, get_set_other, get_append, counted, found_row, rows_of-append, rows_of-rows_in}
 
-pub none_placed : (report : List ReportRow) → ArePlaced report report []
+pub none_placed : (report : List ReportRow) → AreNotedRows report report []
 none_placed report = record { size = refl; placed = λ i r e. absurd (none-some r e); others = λ j e. refl }
 
 -- one row more, of a job of which there was none
-pub one_placed : (before now rows : List ReportRow) (r : ReportRow) → ArePlaced before now rows → rows_of r.job rows ≡ 0 → r.job < length before → ArePlaced before (set now r.job r) (rows ++ r ∷ [])
+pub one_placed : (before now rows : List ReportRow) (r : ReportRow) → AreNotedRows before now rows → how_many_of_job r.job rows ≡ 0 → r.job < length before → AreNotedRows before (set now r.job r) (rows ++ r ∷ [])
 one_placed before now rows r p new lt = record {
   size = length-set now r.job r ∙ p.size;
   placed = λ i x e.
       elim (get_append rows (r ∷ []) i x e) [
         | inl here ↦
             let c = counted rows i x here in
-            let apart : x.job ≢ r.job = λ same. let s = ap (λ (j : ℕ). rows_of j rows) same in omega arith in
+            let apart : x.job ≢ r.job = λ same. let s = ap (λ (j : ℕ). how_many_of_job j rows) same in omega arith in
             get_set_other now r.job x.job r apart ∙ p.placed i x here
         | inr there ↦ last there.0 x there.1
       ];
@@ -46,44 +47,44 @@ apart_from zero b h some = refl
 apart_from (suc a) b h some = absurd (let none = h (omega arith) in omega arith)
 
 -- rows of other jobs are put into the report that was made
-pub then_placed : (before mid after xs ys : List ReportRow) → ArePlaced before mid xs → ArePlaced mid after ys → ((j : ℕ) → 0 < rows_of j ys → rows_of j xs ≡ 0) → ArePlaced before after (xs ++ ys)
+pub then_placed : (before mid after xs ys : List ReportRow) → AreNotedRows before mid xs → AreNotedRows mid after ys → ((j : ℕ) → 0 < how_many_of_job j ys → how_many_of_job j xs ≡ 0) → AreNotedRows before after (xs ++ ys)
 then_placed before mid after xs ys p q apart = record {
   size = q.size ∙ p.size;
   placed = λ i r e.
       elim (get_append xs ys i r e) [
         | inl here ↦
-            q.others r.job (apart_from (rows_of r.job ys) (rows_of r.job xs) (apart r.job) (counted xs i r here)) ∙ p.placed i r here
+            q.others r.job (apart_from (how_many_of_job r.job ys) (how_many_of_job r.job xs) (apart r.job) (counted xs i r here)) ∙ p.placed i r here
         | inr there ↦ q.placed there.0 r there.1
       ];
   others = λ j none. let a = rows_of-append j xs ys in q.others j (omega arith) ∙ p.others j (omega arith);
 }
 
 -- the row at i is of a job of which none of the rows before it is
-next_free : (rows : List ReportRow) (i : ℕ) (r : ReportRow) → i < length rows → r ≡ get_or rows i r → rows_of r.job rows ≤ 1 → rows_of r.job (take i rows) ≡ 0
+next_free : (rows : List ReportRow) (i : ℕ) (r : ReportRow) → i < length rows → r ≡ get_or rows i r → how_many_of_job r.job rows ≤ 1 → how_many_of_job r.job (take i rows) ≡ 0
 next_free rows i r lt is once =
-    let whole : rows_of r.job rows ≡ rows_of r.job (take (i + 1) rows) + rows_of r.job (drop (i + 1) rows) =
-    ap (rows_of r.job) (sym (take-append-drop (i + 1) rows)) ∙ rows_of-append r.job (take (i + 1) rows) (drop (i + 1) rows) in
-    let more : rows_of r.job (take (i + 1) rows) ≡ rows_of r.job (take i rows) + rows_of r.job (r ∷ []) =
-    ap (rows_of r.job) (take_more rows i r lt ∙ ap (λ (x : ReportRow). take i rows ++ x ∷ []) (sym is)) ∙ rows_of-append r.job (take i rows) (r ∷ []) in
+    let whole : how_many_of_job r.job rows ≡ how_many_of_job r.job (take (i + 1) rows) + how_many_of_job r.job (drop (i + 1) rows) =
+    ap (how_many_of_job r.job) (sym (take-append-drop (i + 1) rows)) ∙ rows_of-append r.job (take (i + 1) rows) (drop (i + 1) rows) in
+    let more : how_many_of_job r.job (take (i + 1) rows) ≡ how_many_of_job r.job (take i rows) + how_many_of_job r.job (r ∷ []) =
+    ap (how_many_of_job r.job) (take_more rows i r lt ∙ ap (λ (x : ReportRow). take i rows ++ x ∷ []) (sym is)) ∙ rows_of-append r.job (take i rows) (r ∷ []) in
     let one = counted (r ∷ []) 0 r refl in omega arith
 
 -- where the report's rows of these jobs are free, so is that of the row at i, after the rows before it were put in their places
-pub next_blank : (before now rows : List ReportRow) (i : ℕ) (r : ReportRow) → HasPlaces before rows → i < length rows → r ≡ get_or rows i r → ArePlaced before now (take i rows) → slice_get now r.job ≡ Some (blank_row r.job)
+pub next_blank : (before now rows : List ReportRow) (i : ℕ) (r : ReportRow) → HasPlaces before rows → i < length rows → r ≡ get_or rows i r → AreNotedRows before now (take i rows) → slice_get now r.job ≡ Some (blank_row r.job)
 next_blank before now rows i r h lt is p =
     p.others r.job (next_free rows i r lt is (h.once r.job)) ∙ h.free r.job (counted rows i r (slice_get-get_or rows i r lt ∙ ap Some (sym is)))
 
-pub next_place : (before now rows : List ReportRow) (i : ℕ) (r : ReportRow) → HasPlaces before rows → i < length rows → r ≡ get_or rows i r → ArePlaced before now (take i rows) → r.job < length now
+pub next_place : (before now rows : List ReportRow) (i : ℕ) (r : ReportRow) → HasPlaces before rows → i < length rows → r ≡ get_or rows i r → AreNotedRows before now (take i rows) → r.job < length now
 next_place before now rows i r h lt is p = slice_get_within now r.job (blank_row r.job) (next_blank before now rows i r h lt is p)
 
-pub next_placed : (before now rows : List ReportRow) (i : ℕ) (r : ReportRow) → HasPlaces before rows → i < length rows → r ≡ get_or rows i r → ArePlaced before now (take i rows) → ArePlaced before (set now r.job r) (take (i + 1) rows)
+pub next_placed : (before now rows : List ReportRow) (i : ℕ) (r : ReportRow) → HasPlaces before rows → i < length rows → r ≡ get_or rows i r → AreNotedRows before now (take i rows) → AreNotedRows before (set now r.job r) (take (i + 1) rows)
 next_placed before now rows i r h lt is p =
     let here = next_place before now rows i r h lt is p in
     let size = p.size in
-    subst (ArePlaced before (set now r.job r)) (sym (take_more rows i r lt ∙ ap (λ (x : ReportRow). take i rows ++ x ∷ []) (sym is)))
+    subst (AreNotedRows before (set now r.job r)) (sym (take_more rows i r lt ∙ ap (λ (x : ReportRow). take i rows ++ x ∷ []) (sym is)))
     (one_placed before now (take i rows) r p (next_free rows i r lt is (h.once r.job)) (omega arith))
 
 -- what a row settled comes to a place where nothing was settled
-pub next_settled : (before now rows : List ReportRow) (i : ℕ) (r : ReportRow) → HasPlaces before rows → i < length rows → r ≡ get_or rows i r → ArePlaced before now (take i rows)
+pub next_settled : (before now rows : List ReportRow) (i : ℕ) (r : ReportRow) → HasPlaces before rows → i < length rows → r ≡ get_or rows i r → AreNotedRows before now (take i rows)
     → settled_in now ≡ settled_in before + settled_in (take i rows) → settled_in (set now r.job r) ≡ settled_in before + settled_in (take (i + 1) rows)
 next_settled before now rows i r h lt is p sum =
     let here = next_place before now rows i r h lt is p in
@@ -106,7 +107,7 @@ not_below j n le = grind (arith, nat_tests)
 
 -- the rows of the next worker have free places in the report
 pub has_places : (n : ℕ) (before now : List ReportRow) (all : List (Vec ReportRow Global)) (i : ℕ) (v : Vec ReportRow Global) → AreBlank before → n ≤ length before → AreOfFront n (rows_in all)
-    → i < length all → v ≡ get_or all i v → ArePlaced before now (rows_in (take i all)) → HasPlaces now v.items
+    → i < length all → v ≡ get_or all i v → AreNotedRows before now (rows_in (take i all)) → HasPlaces now v.items
 has_places n before now all i v blank few front lt is p = record {
   once = λ j. let s = share j in let f = front j in let o = below_once j n in omega arith;
   free = λ j some.
@@ -118,12 +119,12 @@ has_places n before now all i v blank few front lt is p = record {
       p.others j (omega arith) ∙ at ∙ ap Some (blank j (get_or before j (blank_row j)) at);
 }
   where
-    share : (j : ℕ) → rows_of j (rows_in (take i all)) + rows_of j v.items ≤ rows_of j (rows_in all)
+    share : (j : ℕ) → how_many_of_job j (rows_in (take i all)) + how_many_of_job j v.items ≤ how_many_of_job j (rows_in all)
     share j =
-        let a = sum_by_more_le (λ (w : Vec ReportRow Global). rows_of j w.items) all i v lt in
+        let a = sum_by_more_le (λ (w : Vec ReportRow Global). how_many_of_job j w.items) all i v lt in
         let b = rows_of-rows_in j all in
         let c = rows_of-rows_in j (take i all) in
-        let d : rows_of j (get_or all i v).items ≡ rows_of j v.items = ap (λ (w : Vec ReportRow Global). rows_of j w.items) (sym is) in omega arith
+        let d : how_many_of_job j (get_or all i v).items ≡ how_many_of_job j v.items = ap (λ (w : Vec ReportRow Global). how_many_of_job j w.items) (sym is) in omega arith
 
 rows_in-more : (all : List (Vec ReportRow Global)) (i : ℕ) (v : Vec ReportRow Global) → i < length all → v ≡ get_or all i v → rows_in (take (i + 1) all) ≡ rows_in (take i all) ++ v.items
 rows_in-more all i v lt is =
@@ -131,14 +132,14 @@ rows_in-more all i v lt is =
 
 -- the rows of one worker more
 pub more_placed : (n : ℕ) (before now after : List ReportRow) (all : List (Vec ReportRow Global)) (i : ℕ) (v : Vec ReportRow Global) → AreOfFront n (rows_in all) → i < length all → v ≡ get_or all i v
-    → ArePlaced before now (rows_in (take i all)) → ArePlaced now after v.items → ArePlaced before after (rows_in (take (i + 1) all))
+    → AreNotedRows before now (rows_in (take i all)) → AreNotedRows now after v.items → AreNotedRows before after (rows_in (take (i + 1) all))
 more_placed n before now after all i v front lt is p q =
-    subst (ArePlaced before after) (sym (rows_in-more all i v lt is))
+    subst (AreNotedRows before after) (sym (rows_in-more all i v lt is))
     (then_placed before now after (rows_in (take i all)) v.items p q (λ j some.
-    let a = sum_by_more_le (λ (w : Vec ReportRow Global). rows_of j w.items) all i v lt in
+    let a = sum_by_more_le (λ (w : Vec ReportRow Global). how_many_of_job j w.items) all i v lt in
     let b = rows_of-rows_in j all in
     let c = rows_of-rows_in j (take i all) in
-    let d : rows_of j (get_or all i v).items ≡ rows_of j v.items = ap (λ (w : Vec ReportRow Global). rows_of j w.items) (sym is) in
+    let d : how_many_of_job j (get_or all i v).items ≡ how_many_of_job j v.items = ap (λ (w : Vec ReportRow Global). how_many_of_job j w.items) (sym is) in
     let f = front j in
     let o = below_once j n in omega arith))
 
@@ -152,10 +153,10 @@ of_front n numbers ts all fair same = λ j.
     rows_of-rows_in j all ∙ sym (sum_by-of_map (times j) (λ (v : Vec ReportRow Global). jobs_in v.items) all) ∙ ap (sum_by (times j)) same ∙ sum_by-of_map (times j) numbers ts ∙ fair j
 
 -- a row that was placed is still of its place's job
-pub placed_numbered : (before after rows : List ReportRow) → AreBlank before → ArePlaced before after rows → AreNumbered after
-placed_numbered before after rows blank p = λ k r e. go k r e (rows_of k rows) refl
+pub placed_numbered : (before after rows : List ReportRow) → AreBlank before → AreNotedRows before after rows → AreNumbered after
+placed_numbered before after rows blank p = λ k r e. go k r e (how_many_of_job k rows) refl
   where
-    go : (k : ℕ) (r : ReportRow) → slice_get after k ≡ Some r → (m : ℕ) → rows_of k rows ≡ m → r.job ≡ k
+    go : (k : ℕ) (r : ReportRow) → slice_get after k ≡ Some r → (m : ℕ) → how_many_of_job k rows ≡ m → r.job ≡ k
     go k r e zero none = ap (λ (x : ReportRow). x.job) (blank k r (sym (p.others k none) ∙ e))
     go k r e (suc m) some =
         let w = found_row k rows (omega arith) in
@@ -164,7 +165,7 @@ placed_numbered before after rows blank p = λ k r e. go k r e (rows_of k rows) 
         sym (ap (λ (x : ReportRow). x.job) same) ∙ w.3
 
 -- where the workers' rows are of a front of the jobs, they are the report of that front
-pub is_report : (workers n : ℕ) (before after rows : List ReportRow) → AreBlank before → ArePlaced before after rows → AreOfFront n rows → ((i : ℕ) (r : ReportRow) → slice_get rows i ≡ Some r → IsDone workers r) → IsReport workers after
+pub is_report : (workers n : ℕ) (before after rows : List ReportRow) → AreBlank before → AreNotedRows before after rows → AreOfFront n rows → ((i : ℕ) (r : ReportRow) → slice_get rows i ≡ Some r → IsDrawnRow workers r) → IsReport workers after
 is_report workers n before after rows blank p front done = record {
   drawn = n;
   done = λ k r e lt.
@@ -172,6 +173,6 @@ is_report workers n before after rows blank p front done = record {
       let o = is_below k n lt in
       let w = found_row k rows (omega arith) in
       let at = p.placed w.0 w.1 w.2 in
-      subst (IsDone workers) (same_Some w.1 r (sym at ∙ ap (slice_get after) w.3 ∙ e)) (done w.0 w.1 w.2);
+      subst (IsDrawnRow workers) (same_Some w.1 r (sym at ∙ ap (slice_get after) w.3 ∙ e)) (done w.0 w.1 w.2);
   blank = λ k r e le. blank k r (sym (p.others k (front k ∙ not_below k n le)) ∙ e);
 }

@@ -8,7 +8,8 @@ use Rattle.std.proofs.lemmas.List.Sums.{sum_by-cons, sum_by-append}
 use Rattle.std.proofs.lemmas.Option.{none-some, same_Some, slice_get_within, get_or_from_slice_get}
 use Rattle.pg_workers.specs.declared.report.ReportRow.{ReportRow}
 use Rattle.pg_workers.specs.Counting.{times}
-use Rattle.pg_workers.specs.Report.{AreIdle, AreNumbered, IsDone, IsReport, forgotten, jobs_in, rows_in, rows_of, settled_in}
+use Rattle.pg_workers.specs.Report.{AreNumbered, IsDrawnRow, IsReport, settled_in}
+use Rattle.pg_workers.specs.private.Report.{AreIdle, forgotten, jobs_in, rows_in, how_many_of_job}
 
 -- rows that settled nothing add up to nothing
 pub none_settled : (rows : List ReportRow) → AreIdle (length rows) rows → settled_in rows ≡ 0
@@ -45,7 +46,7 @@ is_one : (j : ℕ) → at_job j j ≡ 1
 is_one j = grind (arith, nat_tests)
 
 -- a row is counted at its job
-pub counted : (rows : List ReportRow) (i : ℕ) (r : ReportRow) → slice_get rows i ≡ Some r → 0 < rows_of r.job rows
+pub counted : (rows : List ReportRow) (i : ℕ) (r : ReportRow) → slice_get rows i ≡ Some r → 0 < how_many_of_job r.job rows
 counted [] i r e = absurd (none-some r e)
 counted (x ∷ rows) zero r e =
     let c = sum_by-cons (at_job r.job) x.job (jobs_in rows) in
@@ -58,26 +59,26 @@ abbrev Found : ℕ → List ReportRow → Type 0
 Found j rows = (i : ℕ) × (r : ReportRow) × (slice_get rows i ≡ Some r) × (r.job ≡ j)
 
 -- a row of a job that is counted stands in the list
-pub found_row : (j : ℕ) (rows : List ReportRow) → 0 < rows_of j rows → (i : ℕ) × (r : ReportRow) × (slice_get rows i ≡ Some r) × (r.job ≡ j)
+pub found_row : (j : ℕ) (rows : List ReportRow) → 0 < how_many_of_job j rows → (i : ℕ) × (r : ReportRow) × (slice_get rows i ≡ Some r) × (r.job ≡ j)
 found_row j [] h = absurd (omega arith)
 found_row j (x ∷ rows) h = go (λ some. found_row j rows some) (x.job == j) refl
   where
-    go : (0 < rows_of j rows → Found j rows) → (b : Bool) → (x.job == j) ≡ b → Found j (x ∷ rows)
+    go : (0 < how_many_of_job j rows → Found j rows) → (b : Bool) → (x.job == j) ≡ b → Found j (x ∷ rows)
     go rest true e = (0, x, refl, grind (arith, nat_tests, e))
     go rest false e =
         let c = sum_by-cons (at_job j) x.job (jobs_in rows) in
         let o : at_job j x.job ≡ 0 = ap (λ (b : Bool). cond b 1 0) e in
         let w = rest (omega arith) in (suc w.0, w.1, w.2, w.3)
 
-pub rows_of-append : (j : ℕ) (xs ys : List ReportRow) → rows_of j (xs ++ ys) ≡ rows_of j xs + rows_of j ys
+pub rows_of-append : (j : ℕ) (xs ys : List ReportRow) → how_many_of_job j (xs ++ ys) ≡ how_many_of_job j xs + how_many_of_job j ys
 rows_of-append j xs ys = ap (times j) (map-append (λ (r : ReportRow). r.job) xs ys) ∙ sum_by-append (at_job j) (jobs_in xs) (jobs_in ys)
 
 -- a job's rows of all workers
-pub rows_of-rows_in : (j : ℕ) (all : List (Vec ReportRow Global)) → rows_of j (rows_in all) ≡ sum_by (λ (v : Vec ReportRow Global). rows_of j v.items) all
+pub rows_of-rows_in : (j : ℕ) (all : List (Vec ReportRow Global)) → how_many_of_job j (rows_in all) ≡ sum_by (λ (v : Vec ReportRow Global). how_many_of_job j v.items) all
 rows_of-rows_in j [] = refl
 rows_of-rows_in j (v ∷ all) =
     let a = rows_of-append j v.items (rows_in all) in
-    let b = sum_by-cons (λ (w : Vec ReportRow Global). rows_of j w.items) v all in
+    let b = sum_by-cons (λ (w : Vec ReportRow Global). how_many_of_job j w.items) v all in
     let c = rows_of-rows_in j all in a ∙ omega arith
 
 pub settled_in-rows_in : (all : List (Vec ReportRow Global)) → settled_in (rows_in all) ≡ sum_by (λ (v : Vec ReportRow Global). settled_in v.items) all
@@ -114,7 +115,7 @@ forgotten_report n report h = record {
   done = λ k r e lt.
       let w = was report k r e in
       let d = h.done k w.0 w.1 lt in
-      subst (IsDone n) w.2 record { drawn = d.drawn; numbered = d.numbered; counts = (omega arith, (λ _. refl)) };
+      subst (IsDrawnRow n) w.2 record { drawn = d.drawn; numbered = d.numbered; counts = (omega arith, (λ _. refl)) };
   blank = λ k r e le. let w = was report k r e in sym w.2 ∙ ap forgotten (h.blank k w.0 w.1 le);
 }
 

@@ -8,7 +8,7 @@ use Rattle.pg_game.specs.VertexSet.{VertexSet, all_vertices, union}
 use Rattle.pg_game.proofs.Attract.{target_attracted}
 use Rattle.pg_game.proofs.Grown.{in_second}
 use Rattle.pg_game.specs.declared.player.Player.TheVariants.{Odd}
-use Rattle.pg_dominion.specs.Claim.{Rows, named, IsGoodIn}
+use Rattle.pg_dominion.specs.Claim.{ClaimRows, named, IsGoodIn}
 use Rattle.pg_dominion.specs.declared.claim.Claim.{Claim}
 use Rattle.pg_finders.specs.Claims.{AreClaims}
 use Rattle.pg_board.specs.Play.{Play}
@@ -18,15 +18,15 @@ use Rattle.pg_board.specs.Post.{SettlesDominion}
 use Rattle.pg_board.specs.Full.{IsFull}
 use Rattle.pg_board.proofs.Push.{settled_shut}
 use Rattle.pg_board.proofs.Dominion.{state_append}
-use Rattle.pg_workers.specs.Rest.{Settles, IsLater}
+use Rattle.pg_workers.specs.private.Rest.{Settles, IsLater}
 
 -- a claim's vertices are settled once it was posted
-pub settles_claim : (old new : Play) (p : Player) (rows : Rows) → SettlesDominion old new p rows → Settles new.journal p rows
+pub settles_claim : (old new : Play) (p : Player) (rows : ClaimRows) → SettlesDominion old new p rows → Settles new.journal p rows
 settles_claim old new p rows s = λ v i.
     (s.own v).1 (target_attracted old.graph p (all_vertices old.graph) (union (settled (state_of old.journal) p) (named rows)) v (in_second (settled (state_of old.journal) p v) (named rows v) i))
 
 -- further entries change nothing of what came before
-dominion_later : (g : Graph) (journal added : Journal) (k : ℕ) (p : Player) (rows : Rows) → IsDominionAfter g journal k p rows → IsDominionAfter g (journal ++ added) k p rows
+dominion_later : (g : Graph) (journal added : Journal) (k : ℕ) (p : Player) (rows : ClaimRows) → IsDominionAfter g journal k p rows → IsDominionAfter g (journal ++ added) k p rows
 dominion_later g journal added k p rows (within, dominion) =
     (omega (arith, length-append journal added), subst (λ (j : Journal). IsDominion g (state_of j) p rows) (sym (take-append-le k journal added within)) dominion)
 
@@ -56,7 +56,7 @@ full_after g journal first second U even odd is claims a b = λ v lt. go v lt (i
 
 -- a claim of the subgame that was left is still a dominion after further entries
 pub still_dominion : (old new : Play) (most : ℕ) (h : Graph) (U : VertexSet) (even odd : Claim) (at : ℕ) → IsLater most old new → h ≡ old.graph → AreClaims h U even odd
-    → ((p : Player) (rows : Rows) → IsGoodIn old.graph U p rows → IsDominionAfter old.graph old.journal at p rows)
+    → ((p : Player) (rows : ClaimRows) → IsGoodIn old.graph U p rows → IsDominionAfter old.graph old.journal at p rows)
     → 0 < length odd.rows → IsDominionAfter new.graph new.journal at odd.player odd.rows
 still_dominion old new most h U even odd at later is claims dominions some =
     let good : IsGoodIn old.graph U odd.player odd.rows =

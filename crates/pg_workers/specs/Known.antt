@@ -9,7 +9,7 @@ use Rattle.pg_game.specs.VertexSet.{In, all_vertices}
 use Rattle.pg_game.specs.Attractor.{Attractor}
 use Rattle.pg_game.specs.Region.{IsRegion}
 use Rattle.pg_text.specs.Known.{KnownRows, known_of, known_choice}
-use Rattle.pg_dominion.specs.Claim.{Rows}
+use Rattle.pg_dominion.specs.Claim.{ClaimRows}
 use Rattle.pg_finders.specs.Claims.{own_choices, rows_below}
 use Rattle.pg_board.specs.declared.refusal.Refusal.{Refusal}
 use Rattle.pg_board.specs.declared.refusal.Refusal.TheVariants as refusal
@@ -27,7 +27,7 @@ abbrev pub IsKnownRegion : Graph → KnownRows → Player → Type 0
 IsKnownRegion g known p = IsRegion g p (known_of known p) (known_choice known)
 
 -- the known set as rows: its vertices in order, with the choices at those that the player owns
-abbrev pub known_rows : Graph → KnownRows → Player → Rows
+abbrev pub known_rows : Graph → KnownRows → Player → ClaimRows
 known_rows g known p = rows_below (known_of known p) (own_choices g p (known_choice known)) (length g)
 
 -- the player attracts the vertex to his known set
@@ -35,25 +35,16 @@ abbrev pub IsAttractedToKnown : Graph → KnownRows → Player → ℕ → Type 
 IsAttractedToKnown g known p v = Attractor g p (all_vertices g) (known_of known p) v
 
 -- so many numbers have the property
-abbrev pub HasSize : (ℕ → Type 0) → ℕ → Type 0
-HasSize P n = (vs : List ℕ) × IsDistinct nat_eq vs × ((v : ℕ) → Contains vs v ↔ P v) × (length vs ≡ n)
+abbrev pub HasCount : (ℕ → Type 0) → ℕ → Type 0
+HasCount P n = (vs : List ℕ) × IsDistinct nat_eq vs × ((v : ℕ) → Contains vs v ↔ P v) × (length vs ≡ n)
 
 -- so many vertices are attracted to the known sets, each by its player
 abbrev pub IsKnownSize : Graph → KnownRows → ℕ → Type 0
-IsKnownSize g known n = (a : ℕ) × (b : ℕ) × HasSize (IsAttractedToKnown g known Even) a × HasSize (IsAttractedToKnown g known Odd) b × (n ≡ a + b)
+IsKnownSize g known n = (a : ℕ) × (b : ℕ) × HasCount (IsAttractedToKnown g known Even) a × HasCount (IsAttractedToKnown g known Odd) b × (n ≡ a + b)
 
 -- nothing is settled for the player
 abbrev pub HasNone : Journal → Player → Type 0
 HasNone journal p = (v : ℕ) → settled (state_of journal) p v ≡ false
-
--- the known set is a region, the player has what he attracts to it, and the opponent what he had
-pub record SettlesKnown (old new : Play) (known : KnownRows) (p : Player) : Type 0 where
-  pub region : IsKnownRegion old.graph known p
-  pub own : (v : ℕ) → In (settled (state_of new.journal) p) v ↔ IsAttractedToKnown old.graph known p v
-  pub other : (v : ℕ) → settled (state_of new.journal) (opponent p) v ≡ settled (state_of old.journal) (opponent p) v
-  pub more : ℕ
-  pub size : HasSize (IsAttractedToKnown old.graph known p) more
-  pub number : number_settled new.journal ≡ number_settled old.journal + more
 
 -- a reason for which a set that is no region may be refused where nothing is settled for its player
 abbrev pub IsOfPost : Refusal → Type 0
@@ -70,25 +61,6 @@ pub record IsRefusedKnown (g : Graph) (journal : Journal) (known : KnownRows) (p
   pub refused : Refuses g (state_of journal) p (known_rows g known p) e
   pub of_post : IsOfPost e
 
--- what a post of the player's known set may fail with
-abbrev pub IsKnownFault : Graph → Journal → KnownRows → Player → SolveFault → Type 0
-IsKnownFault g journal known p fault.Memory = Unit {0}
-IsKnownFault g journal known p (fault.Known q e) = (q ≡ p) × IsRefusedKnown g journal known p e
-
--- memory is never wrapped
-abbrev pub fault_of : Player → Refusal → SolveFault
-fault_of p refusal.Memory = fault.Memory
-fault_of p (refusal.Claim e) = fault.Known p (refusal.Claim e)
-fault_of p (refusal.Foreign v) = fault.Known p (refusal.Foreign v)
-fault_of p (refusal.Lost v) = fault.Known p (refusal.Lost v)
-fault_of p refusal.Stale = fault.Known p refusal.Stale
-fault_of p (refusal.Open v w) = fault.Known p (refusal.Open v w)
-
--- both known sets are regions, and what they attract is all that is settled
-pub record HasKnown (g : Graph) (known : KnownRows) (journal : Journal) : Type 0 where
-  pub regions : (p : Player) → IsKnownRegion g known p
-  pub number : IsKnownSize g known (number_settled journal)
-
 -- what is settled before the player's known set is posted: nothing before Even's, and before Odd's what Even attracts to his, a region
 abbrev pub IsBefore : Graph → KnownRows → Player → Journal → Type 0
 IsBefore g known Even journal = journal ≡ []
@@ -98,7 +70,3 @@ IsBefore g known Odd journal = IsKnownRegion g known Even × ((v : ℕ) → In (
 abbrev pub IsSolveFault : Graph → KnownRows → SolveFault → Type 0
 IsSolveFault g known fault.Memory = Unit {0}
 IsSolveFault g known (fault.Known p e) = (journal : Journal) × IsLawful g journal × IsBefore g known p journal × IsRefusedKnown g journal known p e
-
--- the rows' column `settled` and what the known sets attract are together the number settled
-abbrev pub HasSettled : Graph → KnownRows → List ReportRow → Journal → Type 0
-HasSettled g known report journal = (n : ℕ) × IsKnownSize g known n × (settled_in report + n ≡ number_settled journal)

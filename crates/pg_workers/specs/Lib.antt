@@ -1,10 +1,8 @@
 pub mod Counting
-pub mod Drawing
 pub mod Work
 pub mod Report
-pub mod Answers
 pub mod Tickets
 pub mod TicketFields
-pub mod Rest
 pub mod Known
 pub mod Outcomes
+pub mod private

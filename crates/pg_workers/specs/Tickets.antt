@@ -8,9 +8,6 @@ pub record Series : Type 0 where
   pub table : TableId
   pub total : ℕ
 
-abbrev pub no_series : Series
-no_series = record { table = record { words = 0; slots = 0; views_name = 0; atom = 0; block = 0; offset = 0; slot_names = [] }; total = 0 }
-
 -- which jobs, and how many tickets were handed out
 pub record JobNumbers : Type 0 where
   pub series : Series

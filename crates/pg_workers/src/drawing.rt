@@ -22,7 +22,7 @@ pub(crate) struct Drawing;
 
 impl TableRule<(), Drawer, About> for Drawing {
     ghost use Rattle.std.specs.Prelude.{[]};
-    ghost use Rattle.pg_workers.specs.Drawing.{IsDrawn, drawer};
+    ghost use Rattle.pg_workers.specs.private.Drawing.{IsDrawn, drawer};
 
     ghost holds = { λ about s. IsDrawn about.total about.seats s };
 
@@ -33,7 +33,7 @@ impl TableRule<(), Drawer, About> for Drawing {
 pub(crate) struct Draw;
 
 impl Play<(), Drawer> for Draw {
-    ghost use Rattle.pg_workers.specs.Drawing.{Draws};
+    ghost use Rattle.pg_workers.specs.private.Drawing.{Draws};
 
     ghost then = { Draws };
 }
@@ -42,7 +42,7 @@ impl Play<(), Drawer> for Draw {
 pub(crate) struct OneTicket;
 
 impl Split<Drawer> for OneTicket {
-    ghost use Rattle.pg_workers.specs.Drawing.{one_less, one_ticket};
+    ghost use Rattle.pg_workers.specs.private.Drawing.{one_less, one_ticket};
 
     ghost left = { one_less };
 
@@ -50,7 +50,7 @@ impl Split<Drawer> for OneTicket {
 }
 
 impl Join<Drawer> for OneTicket {
-    ghost use Rattle.pg_workers.specs.Drawing.{both_drawers, spent_drawer};
+    ghost use Rattle.pg_workers.specs.private.Drawing.{both_drawers, spent_drawer};
 
     ghost both = { both_drawers };
 

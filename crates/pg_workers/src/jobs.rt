@@ -1,7 +1,7 @@
 //! Job numbers, drawn from one atomic word. Each worker draws by a ticket of its own, which keeps the numbers that it
 //! drew. A draw is one step on the word and waits for nobody.
 ghost use Rattle.std.specs.Prelude.{◌≡◌, ◌≤◌, ◌<◌, ◌+◌, [], true, All, IfOk, IfSome, IfNone, None, length, map, replicate, vec_len};
-ghost use Rattle.pg_workers.specs.Drawing.{drawer};
+ghost use Rattle.pg_workers.specs.private.Drawing.{drawer};
 ghost use Rattle.pg_workers.specs.Tickets.{fresh, drew, told, AreDrawn};
 
 use crate::drawing::{About, Draw, Drawer, Drawing, OneTicket};
@@ -31,7 +31,8 @@ impl Model for Ticket {
 
     ghost Value = { HeldTicket };
 
-    ghost use Rattle.pg_workers.specs.TicketFields.{held_of, IsTicket};
+    ghost use Rattle.pg_workers.specs.TicketFields.{held_of};
+    ghost use Rattle.pg_workers.specs.private.TicketFields.{IsTicket};
 
     ghost view = { held_of };
 
@@ -77,11 +78,12 @@ impl Model for Jobs {
 
     ghost Value = { JobNumbers };
 
-    ghost use Rattle.pg_workers.specs.TicketFields.{numbers_of, HasRoom};
+    ghost use Rattle.pg_workers.specs.TicketFields.{numbers_of};
+    ghost use Rattle.pg_workers.specs.private.TicketFields.{HasTicketRoom};
 
     ghost view = { numbers_of };
 
-    ghost invariant = { HasRoom };
+    ghost invariant = { HasTicketRoom };
 }
 
 impl Jobs {

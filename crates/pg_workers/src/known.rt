@@ -1,6 +1,7 @@
 //! What is known of a game is posted as any claim is, Even's set and then Odd's, before a worker starts.
 ghost use Rattle.std.specs.Prelude.{◌≡◌, length, IfOk, IfErr, OnOk};
-ghost use Rattle.pg_workers.specs.Known.{known_rows, fault_of, HasKnown, HasNone, IsKnownFault, IsSolveFault, SettlesKnown};
+ghost use Rattle.pg_workers.specs.Known.{known_rows, HasNone, IsSolveFault};
+ghost use Rattle.pg_workers.specs.private.Known.{fault_of, HasKnown, IsKnownFault, SettlesKnown};
 
 use pg_board::{Board, Refusal};
 use pg_dominion::Claim;

@@ -1,6 +1,7 @@
 //! What became of each job of a run. Each row of a worker has its place in the report by its job's number.
 ghost use Rattle.std.specs.Prelude.{◌≡◌, ◌+◌, ◌^◌, ◌≤◌, ◌<◌, ℕ, IfOk, length, map, vec_len};
-ghost use Rattle.pg_workers.specs.Report.{AreBlank, AreOfFront, ArePlaced, HasPlaces, IsInOrder, answered, blank_row, forgotten, noted, rows_in, settled_in};
+ghost use Rattle.pg_workers.specs.Report.{IsInOrder, blank_row, settled_in};
+ghost use Rattle.pg_workers.specs.private.Report.{AreBlank, AreOfFront, AreNotedRows, HasPlaces, answered, forgotten, noted, rows_in};
 
 use pg_board::Refusal;
 use pg_game::Memory;
@@ -73,7 +74,7 @@ pub(crate) fn blank_report(alloc: Global, total: u64) -> Result<Vec<ReportRow>, 
 /// Puts each row at the place of its job.
 fn place_rows(report: &mut [ReportRow], rows: &[ReportRow])
     requires { HasPlaces report.old rows.now }
-    ensures placed { ArePlaced report.old report.new rows.now }
+    ensures placed { AreNotedRows report.old report.new rows.now }
     ensures settled { settled_in report.new ≡ settled_in report.old + settled_in rows.now }
 {
     for row in rows {
@@ -86,7 +87,7 @@ pub(crate) fn with_rows(mut report: Vec<ReportRow>, all: &[Vec<ReportRow>]) -> V
     requires blank { AreBlank report.items }
     requires front { (n : ℕ) × (n ≤ length report.items) × AreOfFront n (rows_in all.now) }
     ensures length { vec_len result ≡ vec_len report }
-    ensures placed { ArePlaced report.items result.items (rows_in all.now) }
+    ensures placed { AreNotedRows report.items result.items (rows_in all.now) }
     ensures settled { settled_in result.items ≡ settled_in report.items + settled_in (rows_in all.now) }
 {
     for rows in all {

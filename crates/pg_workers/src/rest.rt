@@ -3,7 +3,7 @@ ghost use Rattle.std.specs.Prelude.{◌≡◌, ◌<◌, ℕ, length, OnOk};
 ghost use Rattle.pg_board.specs.State.{is_unsettled};
 ghost use Rattle.pg_board.specs.Journal.{state_of, IsDominionAfter, IsLawful};
 ghost use Rattle.pg_board.specs.Full.{IsFull};
-ghost use Rattle.pg_workers.specs.Rest.{Settles, IsLater};
+ghost use Rattle.pg_workers.specs.private.Rest.{Settles, IsLater};
 
 use pg_board::{Board, Refusal};
 use pg_dominion::Claim;

@@ -1,7 +1,7 @@
 //! Slots for the workers, threads that work on them, and what the slots hold once all threads have ended.
 ghost use Rattle.std.specs.Prelude.{◌≡◌, ◌+◌, ◌≤◌, ◌<◌, [], All, IfOk, map, replicate, vec_len};
 ghost use Rattle.std.specs.Vec.{vec_capacity};
-ghost use Rattle.pg_workers.specs.Report.{IsDone, settled_in};
+ghost use Rattle.pg_workers.specs.Report.{IsDrawnRow, settled_in};
 ghost use Rattle.pg_workers.specs.Tickets.{fresh};
 ghost use Rattle.pg_workers.specs.Work.{total_of};
 
@@ -107,7 +107,7 @@ pub(crate) fn take_apart<L: Ledger, J: Naming>(
     ensures tickets { (vec_len result.1 ≡ vec_len slots) × All (λ t. t.series ≡ J.series) result.1.items }
     ensures amounts { map (λ rows. settled_in rows.items) result.2.items ≡ result.0.items }
     ensures numbers { map (λ rows. map (λ r. r.job) rows.items) result.2.items ≡ map (λ t. t.numbers) result.1.items }
-    ensures done { All (λ rows. All (IsDone J.workers) rows.items) result.2.items }
+    ensures done { All (λ rows. All (IsDrawnRow J.workers) rows.items) result.2.items }
 {
     while let Some(slot) = slots.pop() {
         let Slot {

@@ -3,8 +3,9 @@
 ghost use Rattle.std.specs.Prelude.{◌≡◌, ◌+◌, ◌^◌, ◌≤◌, ◌<◌, ℕ, All, false, IfOk, OnErr, Result, Some, length, map};
 ghost use Rattle.std.specs.Vec.{vec_capacity};
 ghost use Rattle.pg_board.specs.declared.refusal.Refusal.{Refusal};
-ghost use Rattle.pg_workers.specs.Answers.{AreNoted, IsAnswerTo};
-ghost use Rattle.pg_workers.specs.Report.{AreCounts, IsDone, answered, noted, settled_in};
+ghost use Rattle.pg_workers.specs.private.Answers.{AreNoted, IsAnswerTo};
+ghost use Rattle.pg_workers.specs.Report.{AreCounts, IsDrawnRow, settled_in};
+ghost use Rattle.pg_workers.specs.private.Report.{answered, noted};
 ghost use Rattle.pg_game.specs.Specification.{max_vertices};
 ghost use Rattle.pg_workers.specs.Work.{job_of, total_of};
 
@@ -32,7 +33,7 @@ pub(crate) trait Naming {
 }
 
 impl Naming for Brand {
-    ghost use Rattle.pg_workers.specs.Tickets.{no_series};
+    ghost use Rattle.pg_workers.specs.private.Tickets.{no_series};
 
     ghost series = { no_series };
 
@@ -51,7 +52,7 @@ pub(crate) struct Slot<L: Ledger, J: Naming> {
     ghost of_jobs: { ticket.series ≡ J.series },
     ghost settled: { share ≡ settled_in rows.items },
     ghost numbers: { map (λ r. r.job) rows.items ≡ ticket.numbers },
-    ghost done: { All (IsDone J.workers) rows.items },
+    ghost done: { All (IsDrawnRow J.workers) rows.items },
     ghost room: { J.series.total ≤ vec_capacity rows },
 }
 

@@ -8,12 +8,12 @@ use Rattle.pg_game.specs.declared.player.Player.TheVariants.{Even, Odd}
 use Rattle.pg_game.specs.Graph.{Graph, IsGame, HasEdge, owner_of}
 use Rattle.pg_game.proofs.Edges.{edge_inside}
 use Rattle.pg_game.specs.VertexSet.{VertexSet, all_vertices, union}
-use Rattle.pg_dominion.specs.Claim.{Rows, named, IsRightRow}
-use Rattle.pg_dominion.specs.Attraction.{LeadsTo, AttractInTurn}
+use Rattle.pg_dominion.specs.Claim.{ClaimRows, named, IsRightRow}
+use Rattle.pg_dominion.specs.Attraction.{IsAttractedRow, AttractInTurn}
 use Rattle.pg_board.specs.declared.entry.Entry.{Entry}
 use Rattle.pg_board.specs.State.{settled}
 use Rattle.pg_board.specs.Journal.{Journal, state_of, claimed_rows, attracted_rows, IsLawful}
-use Rattle.pgboard.specs.Trace.{AreVertices}
+use Rattle.pgboard.specs.private.Trace.{AreVertices}
 
 pub edge_below : (g : Graph) → IsGame g → (v w : ℕ) → v < length g → HasEdge g v w → w < length g
 edge_below g game v w lt e = let h : nat_lt w (length g) ≡ true = edge_inside g game v w lt e in search rules
@@ -39,7 +39,7 @@ right_row g game p r right = record {
   ];
 }
 
-led_row : (g : Graph) → IsGame g → (p : Player) (S : VertexSet) (r : ℕ × Option ℕ) → LeadsTo g p (all_vertices g) S r → AreVertices (length g) r
+led_row : (g : Graph) → IsGame g → (p : Player) (S : VertexSet) (r : ℕ × Option ℕ) → IsAttractedRow g p (all_vertices g) S r → AreVertices (length g) r
 led_row g game p S r leads =
     let lt : r.0 < length g = (let h : nat_lt r.0 (length g) ≡ true = leads.inside in search rules) in record {
       vertex = lt;
@@ -49,16 +49,16 @@ led_row g game p S r leads =
       ];
     }
 
-right_rows : (g : Graph) → IsGame g → (p : Player) (rows : Rows) → AllByRecursion (IsRightRow g p) rows → AllByRecursion (AreVertices (length g)) rows
+right_rows : (g : Graph) → IsGame g → (p : Player) (rows : ClaimRows) → AllByRecursion (IsRightRow g p) rows → AllByRecursion (AreVertices (length g)) rows
 right_rows g game p [] all = tt
 right_rows g game p (r ∷ rows) (one, all) = (right_row g game p r one, right_rows g game p rows all)
 
-led_rows : (g : Graph) → IsGame g → (p : Player) (S : VertexSet) (all before rows : Rows) → all ≡ before ++ rows → AttractInTurn g p (all_vertices g) S all → AllByRecursion (AreVertices (length g)) rows
+led_rows : (g : Graph) → IsGame g → (p : Player) (S : VertexSet) (all before rows : ClaimRows) → all ≡ before ++ rows → AttractInTurn g p (all_vertices g) S all → AllByRecursion (AreVertices (length g)) rows
 led_rows g game p S all before [] e turns = tt
 led_rows g game p S all before (r ∷ rows) e turns =
     (led_row g game p (union S (named before)) r (turns before rows r e), led_rows g game p S all (before ++ r ∷ []) rows (e ∙ sym (append_assoc before (r ∷ []) rows)) turns)
 
-both : (n : ℕ) (xs ys : Rows) → AllByRecursion (AreVertices n) xs → AllByRecursion (AreVertices n) ys → AllByRecursion (AreVertices n) (xs ++ ys)
+both : (n : ℕ) (xs ys : ClaimRows) → AllByRecursion (AreVertices n) xs → AllByRecursion (AreVertices n) ys → AllByRecursion (AreVertices n) (xs ++ ys)
 both n [] ys a b = b
 both n (x ∷ xs) ys (one, a) b = (one, both n xs ys a b)
 
@@ -72,7 +72,7 @@ entry_rows g game journal lawful k e is =
     let answer = lawful.answered k e is in
     let first = right_rows g game e.player (claimed_rows e) good.shape.right.each in
     let second = led_rows g game e.player (union (settled (state_of (take k journal)) e.player) (named (claimed_rows e))) (attracted_rows e) [] (attracted_rows e) refl answer.turns in
-    subst (λ (rows : Rows). AllByRecursion (AreVertices (length g)) rows) (take-append-drop e.claimed e.rows) (both (length g) (claimed_rows e) (attracted_rows e) first second)
+    subst (λ (rows : ClaimRows). AllByRecursion (AreVertices (length g)) rows) (take-append-drop e.claimed e.rows) (both (length g) (claimed_rows e) (attracted_rows e) first second)
 
 pub journal_rows : (g : Graph) → IsGame g → (journal : Journal) → IsLawful g journal → AllByRecursion (λ e. AllByRecursion (AreVertices (length g)) e.rows) journal
 journal_rows g game journal lawful = all_by_index (λ e. AllByRecursion (AreVertices (length g)) e.rows) journal (entry_rows g game journal lawful)

@@ -7,7 +7,8 @@ use Rattle.pgboard.specs.declared.fault.RunFault.{RunFault}
 use Rattle.pgboard.specs.declared.fault.RunFault.TheVariants as fault
 use Rattle.pgboard.specs.declared.verdict.Verdict.{Verdict}
 use Rattle.pgboard.specs.Joined.{game_part, solution_part, IsJudged, JudgingFailed, max_text}
-use Rattle.pgboard.specs.Run.{IsRefusedGame, IsRefusedSolution, IsVerdictOn, IsReadGame, IsNoSolution}
+use Rattle.pgboard.specs.Run.{IsReadGame, IsNoSolution}
+use Rattle.pgboard.specs.private.Run.{IsRefusedGame, IsRefusedSolution, IsVerdictOn}
 
 -- what holds of the text that was read holds of the text that the source had
 pub of_known : (known : Option (List ℕ)) (text : List ℕ) (P : List ℕ → Type 0) → IfSome known (λ bytes. text ≡ bytes) → P text → IfSome known P

@@ -10,10 +10,11 @@ use Rattle.pg_workers.specs.Known.{IsKnownRegion}
 use Rattle.pgboard.specs.declared.fault.RunFault.{RunFault}
 use Rattle.pgboard.specs.declared.fault.RunFault.TheVariants as fault
 use Rattle.pgboard.specs.Joined.{max_text}
-use Rattle.pgboard.specs.Known.{IsRefusedText}
-use Rattle.pgboard.specs.Refused.{IsRefusedSet, IsUnsolved, IsNotKnown}
+use Rattle.pgboard.specs.private.Known.{IsRefusedText}
+use Rattle.pgboard.specs.Refused.{IsRefusedSet, IsNotKnown}
+use Rattle.pgboard.specs.private.Refused.{IsUnsolved}
 use Rattle.pgboard.specs.Run.{IsReadGame, IsNoGame}
-use Rattle.pgboard.specs.Solving.{IsSolveText, IsSolved}
+use Rattle.pgboard.specs.Solving.{IsSolveText, IsSolveOutput}
 use Rattle.pgboard.proofs.Judging.{of_known}
 use Rattle.pgboard.proofs.Unknown.{never_refused}
 
@@ -38,7 +39,7 @@ module _ (known : Option (List ℕ)) (text : List ℕ) (read : IfSome known (λ 
     not_solved (fault.Solution f) h = absurd h
     not_solved fault.Write h = absurd h
 
-    pub solved : (games : Option (List ℕ)) (winners : Bool) (out : List ℕ) → IsReadGame games g → ((p : Player) → IsKnownRegion g rows p) → IsSolveText winners g out → IsSolved games known winners out
+    pub solved : (games : Option (List ℕ)) (winners : Bool) (out : List ℕ) → IsReadGame games g → ((p : Player) → IsKnownRegion g rows p) → IsSolveText winners g out → IsSolveOutput games known winners out
     solved games winners out game regions written = record {
       graph = g;
       rows = rows;

@@ -7,7 +7,7 @@ use Rattle.pg_text.specs.declared.fault.SolutionTextFault.{SolutionTextFault}
 use Rattle.pg_text.specs.declared.fault.SolutionTextFault.TheVariants as fault
 use Rattle.pg_text.specs.Token.{Token, Placed, tokens_of, Spells, IsSpelling}
 use Rattle.pg_text.specs.Token as token
-use Rattle.pg_text.specs.SolutionText.{Line, solution_tokens, IsSolutionText}
+use Rattle.pg_text.specs.SolutionText.{WrittenSolutionLine, solution_tokens, IsSolutionText}
 use Rattle.pg_text.specs.SolutionLines.{first_missing}
 use Rattle.pg_text.specs.Reading.{SpellsSolution, IsSolutionFaultOf}
 use Rattle.pg_text.specs.Known.{KnownRows, IsKnownTextOf, IsKnownFaultOf}
@@ -30,7 +30,7 @@ no_tokens [] s = refl
 no_tokens (t ∷ ts) (blanks, body, rest, begins, more) =
     absurd (no_empty_token t.token body begins.spelled (none_of_two body rest (none_of_two blanks (body ++ rest) (sym begins.split)).1).0)
 
-no_lines : (lines : List Line) → SpellsSolution [] lines → lines ≡ []
+no_lines : (lines : List WrittenSolutionLine) → SpellsSolution [] lines → lines ≡ []
 no_lines [] s = refl
 no_lines (l ∷ lines) s = absurd (go s.grammar.0 (sym (ap tokens_of (no_tokens s.tokens s.spelled)) ∙ s.grammar.1))
   where

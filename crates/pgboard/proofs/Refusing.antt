@@ -6,12 +6,12 @@ use Rattle.pg_game.specs.declared.player.Player.{Player}
 use Rattle.pg_game.specs.Player.{same_player}
 use Rattle.pg_game.specs.Graph.{Graph, IsGame, HasEdge, owner_of, successors_of}
 use Rattle.pg_game.specs.VertexSet.{In}
-use Rattle.pg_game.specs.Kept.{listed, KeptEdge}
+use Rattle.pg_game.specs.Kept.{option_list, KeptEdge}
 use Rattle.pg_game.specs.Walk.{Walk}
 use Rattle.pg_game.proofs.Members.{Contains-one}
 use Rattle.pg_text.specs.Known.{KnownRows}
 use Rattle.pg_dominion.specs.declared.claim.ClaimFault.TheVariants.{Shape, Cycle}
-use Rattle.pg_dominion.specs.Claim.{Rows, named, choice_in, HasShape, IsFirstOnBadWalk, IsRightRow}
+use Rattle.pg_dominion.specs.Claim.{ClaimRows, named, choice_in, HasShape, IsFirstOnBadWalk, IsRightRow}
 use Rattle.pg_finders.proofs.Sets.{is_same, not_same, own_or_other}
 use Rattle.pg_board.specs.declared.refusal.Refusal.{Refusal}
 use Rattle.pg_board.specs.declared.refusal.Refusal.TheVariants as refusal
@@ -29,18 +29,18 @@ first_edge : (Edge : ℕ → ℕ → Type 0) (v : ℕ) (ws : List ℕ) (end : �
 first_edge Edge v [] end e = (end, e)
 first_edge Edge v (w ∷ ws) end (e, more) = (w, e)
 
-module _ (g : Graph) (game : IsGame g) (p : Player) (rows : Rows) (shape : HasShape g p rows) where
+module _ (g : Graph) (game : IsGame g) (p : Player) (rows : ClaimRows) (shape : HasShape g p rows) where
   right : (v : ℕ) → In (named rows) v → IsRightRow g p (v, choice_in rows v)
   right v i = named_right g p rows v shape.right.each i
 
   pub named_below : (v : ℕ) → In (named rows) v → v < length g
   named_below v i = (right v i).vertex
 
-  kept_below : (v w : ℕ) → In (named rows) v → Contains (if same_player (owner_of g v) p then listed (choice_in rows v) else successors_of g v) w → w < length g
+  kept_below : (v w : ℕ) → In (named rows) v → Contains (if same_player (owner_of g v) p then option_list (choice_in rows v) else successors_of g v) w → w < length g
   kept_below v w i m = elim (own_or_other (owner_of g v) p) [
     | inl own ↦
         (let c = (right v i).own own in
-        let only : Contains (listed (choice_in rows v)) w = rw (is_same (owner_of g v) p own) at m in
+        let only : Contains (option_list (choice_in rows v)) w = rw (is_same (owner_of g v) p own) at m in
         let one : Contains (c.0 ∷ []) w = rw c.1 at only in
         subst (λ (x : ℕ). x < length g) (Contains-one c.0 w one) (edge_below g game v c.0 (named_below v i) c.2))
     | inr other ↦
@@ -51,7 +51,7 @@ module _ (g : Graph) (game : IsGame g) (p : Player) (rows : Rows) (shape : HasSh
   pub open_below : (st : State) (v w : ℕ) → KeptEdge g p (named (rest_of st rows)) (choice_in rows) v w → (v < length g) × (w < length g)
   open_below st v w (i, m) = let n = (in_rest st rows v i).0 in (named_below v n, kept_below v w n m)
 
-pub cycle_below : (g : Graph) (game : IsGame g) (p : Player) (rows : Rows) (v : ℕ) → IsFirstOnBadWalk g p rows v → v < length g
+pub cycle_below : (g : Graph) (game : IsGame g) (p : Player) (rows : ClaimRows) (v : ℕ) → IsFirstOnBadWalk g p rows v → v < length g
 cycle_below g game p rows v (shape, least) =
     let walk = least.has in
     let edge = first_edge (KeptEdge g p (named rows) (choice_in rows)) v walk.0 v walk.1 in
@@ -59,7 +59,7 @@ cycle_below g game p rows v (shape, least) =
 
 -- what the post of a player's known set was refused for
 module _ (g : Graph) (game : IsGame g) (known : KnownRows) (sized : length known ≡ length g) (p : Player) where
-  abbrev rows_of : Rows
+  abbrev rows_of : ClaimRows
   rows_of = known_rows g known p
 
   abbrev RefusedFor : Refusal → Type 0

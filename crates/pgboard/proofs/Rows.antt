@@ -4,16 +4,16 @@ use Rattle.std.specs.Prelude.{Option, Some, slice_get}
 use Rattle.std.proofs.lemmas.Bool.{cases_lt}
 use Rattle.pg_game.specs.VertexSet.{VertexSet}
 use Rattle.pg_game.specs.Kept.{Choices}
-use Rattle.pg_dominion.specs.Claim.{Rows}
+use Rattle.pg_dominion.specs.Claim.{ClaimRows}
 use Rattle.pg_finders.specs.Claims.{rows_below}
 use Rattle.pg_finders.proofs.Sets.{test}
 
-slice_front : (xs ys : Rows) (k : ℕ) (r : ℕ × Option ℕ) → slice_get xs k ≡ Some r → slice_get (xs ++ ys) k ≡ Some r
+slice_front : (xs ys : ClaimRows) (k : ℕ) (r : ℕ × Option ℕ) → slice_get xs k ≡ Some r → slice_get (xs ++ ys) k ≡ Some r
 slice_front [] ys k r is = absurd (cc is)
 slice_front (x ∷ xs) ys zero r is = is
 slice_front (x ∷ xs) ys (suc k) r is = slice_front xs ys k r is
 
-slice_end : (xs : Rows) (r : ℕ × Option ℕ) → slice_get (xs ++ r ∷ []) (length xs) ≡ Some r
+slice_end : (xs : ClaimRows) (r : ℕ × Option ℕ) → slice_get (xs ++ r ∷ []) (length xs) ≡ Some r
 slice_end [] r = refl
 slice_end (x ∷ xs) r = slice_end xs r
 

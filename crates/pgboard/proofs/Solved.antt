@@ -8,20 +8,20 @@ use Rattle.pg_game.specs.declared.player.Player.TheVariants.{Even}
 use Rattle.pg_game.specs.Player.{same_player}
 use Rattle.pg_game.specs.Graph.{Graph, IsGame, owner_of}
 use Rattle.pg_game.specs.VertexSet.{In}
-use Rattle.pg_text.specs.Solution.{Rows, AreRows, IsExactSolution, winner_of, choice_of, won_by}
+use Rattle.pg_text.specs.Solution.{SolutionRows, AreSolutionRows, IsExactSolution, winner_of, choice_of, won_by}
 use Rattle.pg_text.specs.Winners.{IsWinnersText}
 use Rattle.pg_text.specs.Written.{written_winners}
 use Rattle.pg_board.proofs.Push.{same_self}
 use Rattle.pgboard.proofs.Journals.{edge_below, same_or_not, chosen_below, none_below}
 
-rows_by_index : (n : ℕ) (rows : Rows) → ((k : ℕ) (r : Player × Option ℕ) → slice_get rows k ≡ Some r → IfSome r.1 (λ w. w < n)) → AllByRecursion (λ r. IfSome r.1 (λ w. w < n)) rows
+rows_by_index : (n : ℕ) (rows : SolutionRows) → ((k : ℕ) (r : Player × Option ℕ) → slice_get rows k ≡ Some r → IfSome r.1 (λ w. w < n)) → AllByRecursion (λ r. IfSome r.1 (λ w. w < n)) rows
 rows_by_index n [] h = tt
 rows_by_index n (r ∷ rows) h = (h zero r refl, rows_by_index n rows (λ k x is. h (suc k) x is))
 
-own_inside : (rows : Rows) (v : ℕ) → v < length rows → In (won_by rows (winner_of rows v)) v
+own_inside : (rows : SolutionRows) (v : ℕ) → v < length rows → In (won_by rows (winner_of rows v)) v
 own_inside rows v lt = let l : nat_lt v (length rows) ≡ true = search rules in rw (l, same_self (winner_of rows v)) refl
 
-choice_below : (g : Graph) (rows : Rows) → IsGame g → IsExactSolution g rows → (v : ℕ) → v < length rows → IfSome (choice_of rows v) (λ w. w < length g)
+choice_below : (g : Graph) (rows : SolutionRows) → IsGame g → IsExactSolution g rows → (v : ℕ) → v < length rows → IfSome (choice_of rows v) (λ w. w < length g)
 choice_below g rows game exact v lt =
     let n : v < length g = subst (λ (k : ℕ). v < k) exact.solution.size lt in
     elim (same_or_not (owner_of g v) (winner_of rows v)) [
@@ -29,7 +29,7 @@ choice_below g rows game exact v lt =
       | inr ne ↦ none_below (length g) (choice_of rows v) (exact.choices v n ne)
     ]
 
-pub exact_rows : (g : Graph) (rows : Rows) → IsGame g → IsExactSolution g rows → AreRows g rows
+pub exact_rows : (g : Graph) (rows : SolutionRows) → IsGame g → IsExactSolution g rows → AreSolutionRows g rows
 exact_rows g rows game exact = record {
   size = exact.solution.size;
   choices = rows_by_index (length g) rows (λ k r is.
@@ -37,5 +37,5 @@ exact_rows g rows game exact = record {
       (choice_below g rows game exact k (slice_get_within rows k r is)));
 }
 
-pub winners_text : (g : Graph) (rows : Rows) (text : List ℕ) → IsExactSolution g rows → text ≡ written_winners g rows → IsWinnersText g text
+pub winners_text : (g : Graph) (rows : SolutionRows) (text : List ℕ) → IsExactSolution g rows → text ≡ written_winners g rows → IsWinnersText g text
 winners_text g rows text exact is = record { rows = rows; size = exact.solution.size; winners = λ v lt. exact.winners Even v lt; text_is = is }

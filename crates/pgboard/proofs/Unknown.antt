@@ -17,7 +17,7 @@ use Rattle.pg_finders.proofs.Sets.{test}
 use Rattle.pg_board.specs.declared.refusal.Refusal.{Refusal}
 use Rattle.pg_board.proofs.Opening.{no_region, attracts_none}
 use Rattle.pg_workers.specs.declared.known.SolveFault.TheVariants as solving
-use Rattle.pg_workers.specs.Known.{known_rows, IsKnownRegion, HasSize, IsAttractedToKnown, IsKnownSize, IsSolveFault}
+use Rattle.pg_workers.specs.Known.{known_rows, IsKnownRegion, HasCount, IsAttractedToKnown, IsKnownSize, IsSolveFault}
 use Rattle.pgboard.proofs.Rows.{row_of_vertex}
 
 -- a set without vertices is a region, and attracts none
@@ -54,7 +54,7 @@ nothing_at zero v = refl
 nothing_at (suc n) zero = refl
 nothing_at (suc n) (suc v) = nothing_at n v
 
-no_size : (P : ℕ → Type 0) (n : ℕ) → ((v : ℕ) → P v → ⊥) → HasSize P n → n ≡ 0
+no_size : (P : ℕ → Type 0) (n : ℕ) → ((v : ℕ) → P v → ⊥) → HasCount P n → n ≡ 0
 no_size P n none ([], distinct, listed, size) = sym size
 no_size P n none (v ∷ vs, distinct, listed, size) = absurd (none v ((listed v).0 (Contains-head v vs)))
 
@@ -65,7 +65,7 @@ module _ (g : Graph) (game : IsGame g) (known : KnownRows) (nothing : known ≡ 
   pub never_refused : (p : Player) (e : Refusal) → IsSolveFault g known (solving.Known p e) → ⊥
   never_refused p e (journal, lawful, before, why) = why.no_region (empty_region g game known p (not_known p))
 
-  attracts_nothing : (p : Player) (n : ℕ) → HasSize (IsAttractedToKnown g known p) n → n ≡ 0
+  attracts_nothing : (p : Player) (n : ℕ) → HasCount (IsAttractedToKnown g known p) n → n ≡ 0
   attracts_nothing p n size = no_size (IsAttractedToKnown g known p) n (none_attracted g game known p (not_known p)) size
 
   pub settles_nothing : (n : ℕ) → IsKnownSize g known n → n ≡ 0

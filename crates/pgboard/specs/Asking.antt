@@ -14,15 +14,6 @@ IsInRange (Solve workers bound winners known game) = (1 ≤ workers) × (workers
 IsInRange (Trace workers game) = (1 ≤ workers) × (workers ≤ 64)
 IsInRange (Help text) = Unit {0}
 
--- the path of the file of the game, where one was given
-abbrev pub path_of : Asked → Option (List ℕ)
-path_of Joined = None
-path_of (Verify game solution) = Some (string_bytes game)
-path_of (Tidy game) = option_map (λ path. string_bytes path) game
-path_of (Solve workers bound winners known game) = option_map (λ path. string_bytes path) game
-path_of (Trace workers game) = option_map (λ path. string_bytes path) game
-path_of (Help text) = None
-
 -- the path of a second file, of the solution that is verified or of what is known, where one was given
 abbrev pub second_path_of : Asked → Option (List ℕ)
 second_path_of (Verify game solution) = Some (string_bytes solution)

@@ -19,5 +19,5 @@ abbrev pub AppendsFront : Option (List ℕ) → Option (List ℕ) → List ℕ �
 AppendsFront old new text = (front back : List ℕ) × (text ≡ front ++ back) × Appends old new front
 
 -- a reader or a writer whose failures are not counted yet, and of whose bytes none are expected
-abbrev pub fresh : {T : Type 0} → T → Std T
-fresh inner = record { inner = inner; failures = 0; expected = 0 }
+abbrev pub untouched : {T : Type 0} → T → Std T
+untouched inner = record { inner = inner; failures = 0; expected = 0 }

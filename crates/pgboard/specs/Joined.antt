@@ -2,7 +2,7 @@
 use Rattle.std.specs.Prelude.{ℕ, ◌≢◌, ◌<◌, ◌≤◌, ◌==◌, List, [], ◌++◌, codes, decimal}
 use Rattle.std.specs.List.{before_first, after_first}
 use Rattle.pg_game.specs.Graph.{Graph}
-use Rattle.pg_text.specs.Solution.{Rows, IsSolution}
+use Rattle.pg_text.specs.Solution.{SolutionRows, IsSolution}
 use Rattle.pg_text.specs.Reading.{IsTextOf, IsFaultOf, IsSolutionTextOf, IsSolutionFaultOf}
 use Rattle.pg_text.specs.declared.fault.TextFault.TheVariants as game_fault
 use Rattle.pg_text.specs.declared.fault.SolutionTextFault.TheVariants as solution_fault
@@ -21,7 +21,7 @@ game_part text = before_first (λ b. b == 37) text
 abbrev pub solution_part : List ℕ → List ℕ
 solution_part text = after_first (λ b. b == 37) text
 
-abbrev pub IsVerdict : Graph → Rows → Verdict → Type 0
+abbrev pub IsVerdict : Graph → SolutionRows → Verdict → Type 0
 IsVerdict g rows Holds = IsSolution g rows
 IsVerdict g rows (Fails fault) = FailsBy g rows fault × (fault ≢ Memory)
 
@@ -39,7 +39,7 @@ verdict_line (Fails fault) = codes "not a solution: " ++ (fault_text fault ++ co
 -- the texts spell a game, and winners and choices for it, of which the verdict is true
 pub record IsJudged (game solution : List ℕ) (verdict : Verdict) : Type 0 where
   pub graph : Graph
-  pub rows : Rows
+  pub rows : SolutionRows
   pub game_is : IsTextOf game graph
   pub solution_is : IsSolutionTextOf graph solution rows
   pub verdict_is : IsVerdict graph rows verdict

@@ -29,9 +29,3 @@ OnGiven R (Some source) _ = ⊥
 -- the text, where it is known, is within the limit and says that this is known of the game
 abbrev pub IsReadKnown : Graph → Option (List ℕ) → KnownRows → Type 0
 IsReadKnown g known rows = IfSome known (λ text. (length text ≤ max_text) × IsKnownTextOf g text rows)
-
--- why the text says nothing that is known of the game
-abbrev pub IsRefusedText : Graph → List ℕ → RunFault → Type 0
-IsRefusedText g text (fault.Solution f) = IsKnownFaultOf g text f × (f ≢ solution_fault.Memory)
-IsRefusedText g text fault.Memory = Unit {0}
-IsRefusedText g text _ = ⊥

@@ -8,3 +8,4 @@ pub mod Trace
 pub mod Solving
 pub mod Asking
 pub mod Answer
+pub mod private

@@ -4,7 +4,7 @@ use Rattle.pg_game.specs.declared.player.Player.{Player}
 use Rattle.pg_game.specs.Graph.{Graph, id_of}
 use Rattle.pg_text.specs.Known.{KnownRows, IsKnownTextOf, IsKnownFaultOf}
 use Rattle.pg_text.specs.declared.fault.SolutionTextFault.TheVariants as solution_fault
-use Rattle.pg_dominion.specs.Claim.{Rows}
+use Rattle.pg_dominion.specs.Claim.{ClaimRows}
 use Rattle.pg_dominion.specs.declared.claim.ClaimFault.TheVariants.{Shape, Cycle}
 use Rattle.pg_board.specs.declared.refusal.Refusal.{Refusal}
 use Rattle.pg_board.specs.declared.refusal.Refusal.TheVariants as refusal
@@ -18,7 +18,7 @@ use Rattle.pgboard.specs.Joined.{max_text}
 use Rattle.pgboard.specs.Run.{IsUnread}
 
 -- the fault says by identifiers what the claim of these rows was refused for
-abbrev pub Names : Graph → Rows → Refusal → KnownFault → Type 0
+abbrev pub Names : Graph → ClaimRows → Refusal → KnownFault → Type 0
 Names g rows (refusal.Claim (Shape i)) (known_fault.Choice id) = (v : ℕ) × (option_map (λ r. r.0) (slice_get rows i) ≡ Some v) × (id ≡ id_of g v)
 Names g rows (refusal.Claim (Cycle v)) (known_fault.Cycle id) = id ≡ id_of g v
 Names g rows (refusal.Lost v) (known_fault.Lost id) = id ≡ id_of g v
@@ -28,12 +28,6 @@ Names g rows _ _ = ⊥
 -- a player's known set is no region, and this is what its post was refused for
 abbrev pub IsRefusedSet : Graph → KnownRows → KnownFault → Type 0
 IsRefusedSet g known f = (p : Player) × (e : Refusal) × IsSolveFault g known (solving.Known p e) × Names g (known_rows g known p) e f
-
--- why the game was not solved from what is known of it
-abbrev pub IsUnsolved : Graph → KnownRows → RunFault → Type 0
-IsUnsolved g known (fault.Known f) = IsRefusedSet g known f
-IsUnsolved g known fault.Memory = Unit {0}
-IsUnsolved g known _ = ⊥
 
 -- why the game was not solved from what a source says that is known of it
 abbrev pub IsNotKnown : Graph → Option (List ℕ) → RunFault → Type 0

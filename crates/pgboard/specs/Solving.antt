@@ -3,7 +3,7 @@ use Rattle.std.specs.Prelude.{ℕ, ◌≡◌, Bool, true, false, List, length, O
 use Rattle.pg_game.specs.declared.player.Player.{Player}
 use Rattle.pg_game.specs.Graph.{Graph}
 use Rattle.pg_text.specs.Known.{KnownRows}
-use Rattle.pg_text.specs.Solution.{Rows, IsExactSolution}
+use Rattle.pg_text.specs.Solution.{SolutionRows, IsExactSolution}
 use Rattle.pg_text.specs.Written.{written_solution}
 use Rattle.pg_text.specs.Winners.{IsWinnersText}
 use Rattle.pg_board.specs.Journal.{Journal, state_of, IsLawful}
@@ -19,10 +19,10 @@ use Rattle.pgboard.specs.Trace.{trace_text}
 -- the winners alone, or the written text of a solution with choices exactly where the winner owns the vertex
 abbrev pub IsSolveText : Bool → Graph → List ℕ → Type 0
 IsSolveText true g text = IsWinnersText g text
-IsSolveText false g text = (rows : Rows) × IsExactSolution g rows × (text ≡ written_solution g rows)
+IsSolveText false g text = (rows : SolutionRows) × IsExactSolution g rows × (text ≡ written_solution g rows)
 
 -- the sources had a game and what is known of it, each player's known set is a region of his, and the text is of the game's solution
-pub record IsSolved (game known : Option (List ℕ)) (winners : Bool) (text : List ℕ) : Type 0 where
+pub record IsSolveOutput (game known : Option (List ℕ)) (winners : Bool) (text : List ℕ) : Type 0 where
   pub graph : Graph
   pub rows : KnownRows
   pub game_is : IsReadGame game graph

@@ -8,13 +8,8 @@ use Rattle.pg_board.specs.Journal.{Journal, number_settled}
 use Rattle.pg_workers.specs.declared.report.ReportRow.{ReportRow}
 
 -- words between single spaces, and a line feed
-abbrev pub line : List (List ℕ) → List ℕ
-line words = join_with_byte 32 words ++ codes "\n"
-
--- the row names vertices below the number
-pub record AreVertices (n : ℕ) (r : ℕ × Option ℕ) : Type 0 where
-  pub vertex : r.0 < n
-  pub choice : IfSome r.1 (λ w. w < n)
+abbrev pub trace_line : List (List ℕ) → List ℕ
+trace_line words = join_with_byte 32 words ++ codes "\n"
 
 abbrev pub choice_words : Graph → Option ℕ → List (List ℕ)
 choice_words g None = []
@@ -25,7 +20,7 @@ row_line g r = join_with_byte 32 (decimal (id_of g r.0) ∷ choice_words g r.1) 
 
 abbrev pub entry_text : Graph → ℕ → Entry → List ℕ
 entry_text g k e =
-    line (codes "entry" ∷ decimal k ∷ decimal e.worker ∷ decimal (digit_of e.player) ∷ decimal e.claimed ∷ decimal (length e.rows) ∷ [])
+    trace_line (codes "entry" ∷ decimal k ∷ decimal e.worker ∷ decimal (digit_of e.player) ∷ decimal e.claimed ∷ decimal (length e.rows) ∷ [])
     ++ flat_map (row_line g) e.rows
 
 abbrev pub entries_text : Graph → ℕ → Journal → List ℕ
@@ -41,14 +36,14 @@ flag_word false = codes "0"
 flag_word true = codes "1"
 
 abbrev pub job_line : ReportRow → List ℕ
-job_line r = line (codes "job" ∷ decimal r.job ∷ worker_word r.worker ∷ decimal r.posted ∷ decimal r.settled ∷ decimal r.stale ∷ decimal r.refused ∷ flag_word r.gave_up ∷ flag_word r.memory ∷ [])
+job_line r = trace_line (codes "job" ∷ decimal r.job ∷ worker_word r.worker ∷ decimal r.posted ∷ decimal r.settled ∷ decimal r.stale ∷ decimal r.refused ∷ flag_word r.gave_up ∷ flag_word r.memory ∷ [])
 
 abbrev pub total_line : List ReportRow → List ℕ
-total_line report = line (codes "total" ∷ decimal (sum_by (λ r. r.posted) report) ∷ decimal (sum_by (λ r. r.settled) report) ∷ decimal (sum_by (λ r. r.stale) report) ∷ decimal (sum_by (λ r. r.refused) report) ∷ [])
+total_line report = trace_line (codes "total" ∷ decimal (sum_by (λ r. r.posted) report) ∷ decimal (sum_by (λ r. r.settled) report) ∷ decimal (sum_by (λ r. r.stale) report) ∷ decimal (sum_by (λ r. r.refused) report) ∷ [])
 
 abbrev pub trace_text : Graph → Journal → List ReportRow → List ℕ
 trace_text g journal report =
-    line (codes "journal" ∷ decimal (length journal) ∷ decimal (number_settled journal) ∷ [])
+    trace_line (codes "journal" ∷ decimal (length journal) ∷ decimal (number_settled journal) ∷ [])
     ++ (entries_text g 0 journal
-    ++ (line (codes "report" ∷ decimal (length report) ∷ [])
+    ++ (trace_line (codes "report" ∷ decimal (length report) ∷ [])
     ++ (flat_map job_line report ++ total_line report)))

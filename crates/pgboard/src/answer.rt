@@ -1,7 +1,7 @@
 //! Doing what was asked for, over any sources and sink.
 ghost use Rattle.std.specs.Prelude.{◌≡◌, ◌≢◌, None, IfOk, IfErr};
 ghost use Rattle.std.specs.Io.KnownBytes.{Keeps};
-ghost use Rattle.pgboard.specs.Answer.{IsAnswer};
+ghost use Rattle.pgboard.specs.Answer.{IsProgramAnswer};
 ghost use Rattle.pgboard.specs.Asking.{IsInRange, second_path_of};
 
 use crate::asked::Asked;
@@ -29,7 +29,7 @@ pub fn run_asked<I: Source, S: Source, O: Sink, R: Threads + Wait + Sync>(
     finder: &impl Finder,
 ) -> Result<u8, RunFault>
     requires { IsInRange asked.now }
-    ensures answer { IfOk result (λ status. IsAnswer asked.now (I.left input.old) (S.left second.old) (O.taken out.old) (O.taken out.new) status) }
+    ensures answer { IfOk result (λ status. IsProgramAnswer asked.now (I.left input.old) (S.left second.old) (O.taken out.old) (O.taken out.new) status) }
     ensures one_text { second_path_of asked.now ≡ None → second.new ≡ second.old }
     ensures nothing { IfErr result (λ e. e ≢ RunFault.Write → Keeps (O.taken out.old) (O.taken out.new)) }
 {

@@ -1,7 +1,8 @@
 //! What a command line may ask for.
 ghost use Rattle.std.specs.Prelude.{◌≡◌, ◌≢◌, ◌≤◌, Some, IfOk, is_some, option_map, string_bytes};
 ghost use Rattle.clap.specs.Matches.{found_of, first_value, matched_of};
-ghost use Rattle.pgboard.specs.Asking.{IsInRange, path_of, second_path_of};
+ghost use Rattle.pgboard.specs.Asking.{IsInRange, second_path_of};
+ghost use Rattle.pgboard.specs.private.Asking.{path_of};
 
 use crate::fault::AskedFault;
 use clap::ArgMatches;

@@ -2,7 +2,7 @@
 ghost use Rattle.std.specs.Prelude.{ℕ, ◌≤◌, ◌<◌, ◌≡◌, length, List, Option, IfOk};
 ghost use Rattle.std.specs.Io.KnownBytes.{ReadConsumes, WriteAppends};
 ghost use Rattle.std.specs.Io.{ReadsAtMost};
-ghost use Rattle.pgboard.specs.Device.{CountsFailure, fresh};
+ghost use Rattle.pgboard.specs.Device.{CountsFailure, untouched};
 
 use std::io::{Read, Write};
 
@@ -56,7 +56,7 @@ pub struct Std<T> {
 impl<T> Std<T> {
     /// No failure is counted yet, and nothing is known of how many bytes there are.
     pub fn new(inner: T) -> Std<T>
-        ensures { result ≡ fresh inner }
+        ensures { result ≡ untouched inner }
     {
         Std {
             inner,

@@ -3,8 +3,9 @@ ghost use Rattle.std.specs.Prelude.{◌≡◌, ◌≤◌, ◌<◌, [], length, r
 ghost use Rattle.pg_text.specs.Known.{IsKnownTextOf};
 ghost use Rattle.pg_workers.specs.Known.{known_rows, IsSolveFault};
 ghost use Rattle.pgboard.specs.Joined.{max_text};
-ghost use Rattle.pgboard.specs.Known.{IsRefusedText};
-ghost use Rattle.pgboard.specs.Refused.{Names, IsUnsolved};
+ghost use Rattle.pgboard.specs.private.Known.{IsRefusedText};
+ghost use Rattle.pgboard.specs.Refused.{Names};
+ghost use Rattle.pgboard.specs.private.Refused.{IsUnsolved};
 
 use crate::fault::{KnownFault, RunFault};
 use pg_board::Refusal;

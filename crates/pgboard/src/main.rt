@@ -12,6 +12,7 @@ mod asked;
 mod command;
 mod device;
 mod fault;
+mod input;
 mod judge;
 mod known;
 mod reading;
@@ -19,6 +20,7 @@ mod run;
 mod solve;
 #[cfg(test)]
 mod tests;
+mod texts;
 mod trace;
 mod verdict;
 mod words;
@@ -26,8 +28,9 @@ mod writing;
 
 use answer::run_asked;
 use asked::Asked;
-use device::{Source, Std};
+use device::Std;
 use fault::{AskedFault, RunFault};
+use input::Input;
 use pg_finders::Standard;
 use pg_workers::Pass;
 use std::alloc::Global;
@@ -70,60 +73,19 @@ fn asked_by(rt: &HostRuntime) -> Result<Asked, AskedFault>
     words::asked(alloc, words.as_slice())
 }
 
-/// A file to read.
-fn open(rt: &HostRuntime, path: &str) -> Result<Std<File>, RunFault>
+/// The file of this path, or where none was given the other input.
+fn open(rt: &HostRuntime, path: Option<&str>, other: Input) -> Result<Std<Input>, RunFault>
     ensures { IfErr result (λ fault. fault ≡ RunFault.Read) }
 {
+    let Some(path) = path else {
+        return Ok(Std::new(other));
+    };
     match File::open(rt, path) {
         Ok(file) => {
             let size = file.metadata().map_or(0, |it| it.len());
-            Ok(Std::new(file).expecting(size))
+            Ok(Std::new(Input::File(file)).expecting(size))
         }
         Err(_) => Err(RunFault::Read),
-    }
-}
-
-/// Runs what was asked for on these sources and standard output. The status of the outcome.
-fn run_on<I: Source, S: Source, T: Threads + Wait + Sync>(
-    rt: &HostRuntime,
-    threads: &T,
-    asked: &Asked,
-    input: &mut I,
-    second: &mut S,
-) -> Result<u8, RunFault>
-    requires { IsInRange asked.now }
-{
-    let mut out = Std::new(rt.stdout());
-    run_asked(
-        threads,
-        rt.alloc(),
-        asked,
-        input,
-        second,
-        &mut out,
-        &Pass,
-        &Standard,
-    )
-}
-
-/// Opens the second file, where one was given, and then runs what was asked for. The status of the outcome.
-fn run_with<I: Source, T: Threads + Wait + Sync>(
-    rt: &HostRuntime,
-    threads: &T,
-    asked: &Asked,
-    input: &mut I,
-) -> Result<u8, RunFault>
-    requires { IsInRange asked.now }
-{
-    match asked.second_path() {
-        Some(path) => {
-            let mut second = open(rt, path)?;
-            run_on(rt, threads, asked, input, &mut second)
-        }
-        None => {
-            let mut none = Std::new(b"".as_slice());
-            run_on(rt, threads, asked, input, &mut none)
-        }
     }
 }
 
@@ -135,16 +97,19 @@ fn run_on_files<T: Threads + Wait + Sync>(
 ) -> Result<u8, RunFault>
     requires { IsInRange asked.now }
 {
-    match asked.path() {
-        Some(path) => {
-            let mut file = open(rt, path)?;
-            run_with(rt, threads, asked, &mut file)
-        }
-        None => {
-            let mut input = Std::new(rt.stdin());
-            run_with(rt, threads, asked, &mut input)
-        }
-    }
+    let mut input = open(rt, asked.path(), Input::Standard(rt.stdin()))?;
+    let mut second = open(rt, asked.second_path(), Input::Nothing)?;
+    let mut out = Std::new(rt.stdout());
+    run_asked(
+        threads,
+        rt.alloc(),
+        asked,
+        &mut input,
+        &mut second,
+        &mut out,
+        &Pass,
+        &Standard,
+    )
 }
 
 /// Runs what was asked for and prints a fault. The status of the outcome, and of a refused command line its own.

@@ -9,8 +9,9 @@ ghost use Rattle.pgboard.specs.Run.{IsReadGame, IsNoGame, IsNoSolution, IsGameFa
 
 use crate::device::{Sink, Source};
 use crate::fault::RunFault;
-use crate::judge::{game_from, game_of, parts, verdict_of, write_verdict};
+use crate::judge::{verdict_of, write_verdict};
 use crate::reading::read_text;
+use crate::texts::{game_from, game_of, parts};
 use crate::verdict::Verdict;
 use crate::writing::write_all;
 use pg_text::write_game;

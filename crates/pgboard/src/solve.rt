@@ -6,15 +6,16 @@ ghost use Rattle.pg_game.specs.Graph.{Graph};
 ghost use Rattle.pg_workers.specs.Known.{IsKnownRegion};
 ghost use Rattle.pgboard.specs.Device.{HasFailed, AppendsFront};
 ghost use Rattle.pgboard.specs.Known.{left_in, IfGiven, OnGiven};
-ghost use Rattle.pgboard.specs.Refused.{IsUnsolved, IsNotKnown};
+ghost use Rattle.pgboard.specs.Refused.{IsNotKnown};
+ghost use Rattle.pgboard.specs.private.Refused.{IsUnsolved};
 ghost use Rattle.pgboard.specs.Run.{IsReadGame, IsNoGame, IsGameFault};
-ghost use Rattle.pgboard.specs.Solving.{IsSolveText, IsSolved, IsTraceText};
+ghost use Rattle.pgboard.specs.Solving.{IsSolveText, IsSolveOutput, IsTraceText};
 
 use crate::device::{Sink, Source};
 use crate::fault::RunFault;
-use crate::judge::game_from;
 use crate::known::{known_of, nothing_known, only_memory, unsolved};
 use crate::reading::read_text;
+use crate::texts::game_from;
 use crate::trace::write_trace;
 use crate::writing::write_all;
 use pg_finders::Finder;
@@ -120,7 +121,7 @@ fn solve_knowing<I: Source, K: Source, O: Sink, R: Threads + Wait + Sync>(
 ) -> Result<(), RunFault>
     requires workers { (1 ≤ options.now.workers) × (options.now.workers ≤ 64) }
     requires bound { options.now.bound ≤ 8 }
-    ensures written { OnOk result ((text : List ℕ) × IsSolved (I.left input.old) (K.left known.old) options.now.winners text × Appends (O.taken out.old) (O.taken out.new) text) }
+    ensures written { OnOk result ((text : List ℕ) × IsSolveOutput (I.left input.old) (K.left known.old) options.now.winners text × Appends (O.taken out.old) (O.taken out.new) text) }
     ensures no_read_failure { (IsErrOf result RunFault.Read → ⊥) → I.read_failures input.new ≡ I.read_failures input.old }
     ensures no_known_failure { (IsErrOf result RunFault.Read → ⊥) → K.read_failures known.new ≡ K.read_failures known.old }
     ensures no_write_failure { (IsErrOf result RunFault.Write → ⊥) → O.write_failures out.new ≡ O.write_failures out.old }
@@ -129,7 +130,7 @@ fn solve_knowing<I: Source, K: Source, O: Sink, R: Threads + Wait + Sync>(
     ensures unread { IfErr result (λ e. IsGameFault e → known.new ≡ known.old) }
     ensures read { IsErrOf result RunFault.Read → (HasFailed (I.read_failures input.old) (I.read_failures input.new) × (known.new ≡ known.old)) ⊎ ((g : Graph) × IsReadGame (I.left input.old) g × HasFailed (K.read_failures known.old) (K.read_failures known.new)) }
     ensures write { IsErrOf result RunFault.Write → HasFailed (O.write_failures out.old) (O.write_failures out.new) }
-    ensures cut { IsErrOf result RunFault.Write → (text : List ℕ) × IsSolved (I.left input.old) (K.left known.old) options.now.winners text × AppendsFront (O.taken out.old) (O.taken out.new) text }
+    ensures cut { IsErrOf result RunFault.Write → (text : List ℕ) × IsSolveOutput (I.left input.old) (K.left known.old) options.now.winners text × AppendsFront (O.taken out.old) (O.taken out.new) text }
     ensures nothing { IfErr result (λ e. e ≢ RunFault.Write → Keeps (O.taken out.old) (O.taken out.new)) }
 {
     let game = game_from(alloc, input)?;
@@ -151,13 +152,13 @@ fn solve_alone<I: Source, O: Sink, R: Threads + Wait + Sync>(
 ) -> Result<(), RunFault>
     requires workers { (1 ≤ options.now.workers) × (options.now.workers ≤ 64) }
     requires bound { options.now.bound ≤ 8 }
-    ensures written { OnOk result ((text : List ℕ) × IsSolved (I.left input.old) (Some []) options.now.winners text × Appends (O.taken out.old) (O.taken out.new) text) }
+    ensures written { OnOk result ((text : List ℕ) × IsSolveOutput (I.left input.old) (Some []) options.now.winners text × Appends (O.taken out.old) (O.taken out.new) text) }
     ensures no_read_failure { (IsErrOf result RunFault.Read → ⊥) → I.read_failures input.new ≡ I.read_failures input.old }
     ensures no_write_failure { (IsErrOf result RunFault.Write → ⊥) → O.write_failures out.new ≡ O.write_failures out.old }
     ensures fault { IfErr result (λ e. (e ≡ RunFault.Write) ⊎ IsNoGame (I.left input.old) e) }
     ensures read { IsErrOf result RunFault.Read → HasFailed (I.read_failures input.old) (I.read_failures input.new) }
     ensures write { IsErrOf result RunFault.Write → HasFailed (O.write_failures out.old) (O.write_failures out.new) }
-    ensures cut { IsErrOf result RunFault.Write → (text : List ℕ) × IsSolved (I.left input.old) (Some []) options.now.winners text × AppendsFront (O.taken out.old) (O.taken out.new) text }
+    ensures cut { IsErrOf result RunFault.Write → (text : List ℕ) × IsSolveOutput (I.left input.old) (Some []) options.now.winners text × AppendsFront (O.taken out.old) (O.taken out.new) text }
     ensures nothing { IfErr result (λ e. e ≢ RunFault.Write → Keeps (O.taken out.old) (O.taken out.new)) }
 {
     let game = game_from(alloc, input)?;
@@ -184,7 +185,7 @@ pub fn run_solve<I: Source, K: Source, O: Sink, R: Threads + Wait + Sync>(
 ) -> Result<(), RunFault>
     requires workers { (1 ≤ options.now.workers) × (options.now.workers ≤ 64) }
     requires bound { options.now.bound ≤ 8 }
-    ensures written { OnOk result ((text : List ℕ) × IsSolved (I.left input.old) (left_in K.left known.entry) options.now.winners text × Appends (O.taken out.old) (O.taken out.new) text) }
+    ensures written { OnOk result ((text : List ℕ) × IsSolveOutput (I.left input.old) (left_in K.left known.entry) options.now.winners text × Appends (O.taken out.old) (O.taken out.new) text) }
     ensures no_read_failure { (IsErrOf result RunFault.Read → ⊥) → I.read_failures input.new ≡ I.read_failures input.old }
     ensures no_known_failure { (IsErrOf result RunFault.Read → ⊥) → IfGiven (λ old new. K.read_failures new ≡ K.read_failures old) known.entry known.exit }
     ensures no_write_failure { (IsErrOf result RunFault.Write → ⊥) → O.write_failures out.new ≡ O.write_failures out.old }
@@ -194,7 +195,7 @@ pub fn run_solve<I: Source, K: Source, O: Sink, R: Threads + Wait + Sync>(
     ensures unread { IfErr result (λ e. IsGameFault e → IfGiven (λ old new. new ≡ old) known.entry known.exit) }
     ensures read { IsErrOf result RunFault.Read → (HasFailed (I.read_failures input.old) (I.read_failures input.new) × IfGiven (λ old new. new ≡ old) known.entry known.exit) ⊎ ((g : Graph) × IsReadGame (I.left input.old) g × OnGiven (λ old new. HasFailed (K.read_failures old) (K.read_failures new)) known.entry known.exit) }
     ensures write { IsErrOf result RunFault.Write → HasFailed (O.write_failures out.old) (O.write_failures out.new) }
-    ensures cut { IsErrOf result RunFault.Write → (text : List ℕ) × IsSolved (I.left input.old) (left_in K.left known.entry) options.now.winners text × AppendsFront (O.taken out.old) (O.taken out.new) text }
+    ensures cut { IsErrOf result RunFault.Write → (text : List ℕ) × IsSolveOutput (I.left input.old) (left_in K.left known.entry) options.now.winners text × AppendsFront (O.taken out.old) (O.taken out.new) text }
     ensures nothing { IfErr result (λ e. e ≢ RunFault.Write → Keeps (O.taken out.old) (O.taken out.new)) }
 {
     match known {

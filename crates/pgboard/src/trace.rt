@@ -6,7 +6,8 @@ ghost use Rattle.std.specs.List.{AllByRecursion};
 ghost use Rattle.pg_game.specs.Player.{digit_of};
 ghost use Rattle.pg_game.specs.Graph.{id_of};
 ghost use Rattle.pg_board.specs.Journal.{number_settled};
-ghost use Rattle.pgboard.specs.Trace.{line, AreVertices, row_line, entry_text, entries_text, job_line, total_line, trace_text, flag_word, worker_word};
+ghost use Rattle.pgboard.specs.Trace.{trace_line, row_line, entry_text, entries_text, job_line, total_line, trace_text, flag_word, worker_word};
+ghost use Rattle.pgboard.specs.private.Trace.{AreVertices};
 
 use itoa::Buffer;
 use pg_board::Entry;
@@ -74,7 +75,7 @@ fn put_row(out: &mut Vec<u8>, game: &Game, row: &(u32, Option<u32>)) -> Result<(
 
 /// The line above an entry's rows.
 fn put_entry_head(out: &mut Vec<u8>, number: u64, entry: &Entry) -> Result<(), AllocError>
-    ensures { OnOk result (out.new.items ≡ out.old.items ++ line (codes "entry" ∷ decimal number ∷ decimal entry.now.worker ∷ decimal (digit_of entry.now.player) ∷ decimal entry.now.claimed ∷ decimal (length entry.now.rows) ∷ [])) }
+    ensures { OnOk result (out.new.items ≡ out.old.items ++ trace_line (codes "entry" ∷ decimal number ∷ decimal entry.now.worker ∷ decimal (digit_of entry.now.player) ∷ decimal entry.now.claimed ∷ decimal (length entry.now.rows) ∷ [])) }
 {
     out.extend_from_slice(b"entry")?;
     put_next(out, number)?;
@@ -239,7 +240,7 @@ fn settled_in(entries: &[Entry]) -> u128
 
 /// The first line.
 fn put_journal_head(out: &mut Vec<u8>, entries: u64, settled: u128) -> Result<(), AllocError>
-    ensures { OnOk result (out.new.items ≡ out.old.items ++ line (codes "journal" ∷ decimal entries ∷ decimal settled ∷ [])) }
+    ensures { OnOk result (out.new.items ≡ out.old.items ++ trace_line (codes "journal" ∷ decimal entries ∷ decimal settled ∷ [])) }
 {
     out.extend_from_slice(b"journal")?;
     put_next(out, entries)?;
@@ -250,7 +251,7 @@ fn put_journal_head(out: &mut Vec<u8>, entries: u64, settled: u128) -> Result<()
 
 /// The line above the jobs.
 fn put_report_head(out: &mut Vec<u8>, jobs: u64) -> Result<(), AllocError>
-    ensures { OnOk result (out.new.items ≡ out.old.items ++ line (codes "report" ∷ decimal jobs ∷ [])) }
+    ensures { OnOk result (out.new.items ≡ out.old.items ++ trace_line (codes "report" ∷ decimal jobs ∷ [])) }
 {
     out.extend_from_slice(b"report")?;
     put_next(out, jobs)?;

@@ -8,7 +8,7 @@ use Rattle.pg_game.specs.declared.player.Player.TheVariants.{Even, Odd}
 use Rattle.pg_game.specs.Graph.{Graph, IsGame, HasEdge, owner_of}
 use Rattle.pg_game.specs.VertexSet.{In}
 use Rattle.pg_game.proofs.Edges.{edge_inside}
-use Rattle.pg_text.specs.Solution.{Rows, AreRows, IsExactSolution, winner_of, choice_of, won_by}
+use Rattle.pg_text.specs.Solution.{SolutionRows, AreSolutionRows, IsExactSolution, winner_of, choice_of, won_by}
 use Rattle.pg_finders.proofs.Sets.{is_same}
 
 pub edge_below : (g : Graph) → IsGame g → (v w : ℕ) → v < length g → HasEdge g v w → w < length g
@@ -26,10 +26,10 @@ chosen_below n w o is lt = rw is lt
 none_below : (n : ℕ) (o : Option ℕ) → o ≡ None → IfSome o (λ x. x < n)
 none_below n o is = rw is tt
 
-own_inside : (rows : Rows) (v : ℕ) → v < length rows → In (won_by rows (winner_of rows v)) v
+own_inside : (rows : SolutionRows) (v : ℕ) → v < length rows → In (won_by rows (winner_of rows v)) v
 own_inside rows v lt = let l : nat_lt v (length rows) ≡ true = search rules in rw (l, is_same (winner_of rows v) (winner_of rows v) refl) refl
 
-choice_below : (g : Graph) (rows : Rows) → IsGame g → IsExactSolution g rows → (v : ℕ) → v < length rows → IfSome (choice_of rows v) (λ w. w < length g)
+choice_below : (g : Graph) (rows : SolutionRows) → IsGame g → IsExactSolution g rows → (v : ℕ) → v < length rows → IfSome (choice_of rows v) (λ w. w < length g)
 choice_below g rows game exact v lt =
     let n : v < length g = subst (λ (k : ℕ). v < k) exact.solution.size lt in
     elim (same_or_not (owner_of g v) (winner_of rows v)) [
@@ -42,17 +42,17 @@ wider m n None le h = tt
 wider m n (Some w) le h = omega (arith, le, h)
 
 -- they are below each number that is no less than the number of vertices
-pub choices_below : (g : Graph) (rows : Rows) (n : ℕ) → IsGame g → IsExactSolution g rows → length g ≤ n → (v : ℕ) → v < length rows
+pub choices_below : (g : Graph) (rows : SolutionRows) (n : ℕ) → IsGame g → IsExactSolution g rows → length g ≤ n → (v : ℕ) → v < length rows
     → IfSome (choice_of rows v) (λ w. w < n)
 choices_below g rows n game exact few v lt = wider (length g) n (choice_of rows v) few (choice_below g rows game exact v lt)
 
-rows_by_index : (n : ℕ) (rows : Rows) → ((k : ℕ) (r : Player × Option ℕ) → slice_get rows k ≡ Some r → IfSome r.1 (λ w. w < n))
+rows_by_index : (n : ℕ) (rows : SolutionRows) → ((k : ℕ) (r : Player × Option ℕ) → slice_get rows k ≡ Some r → IfSome r.1 (λ w. w < n))
     → AllByRecursion (λ r. IfSome r.1 (λ w. w < n)) rows
 rows_by_index n [] h = tt
 rows_by_index n (r ∷ rows) h = (h zero r refl, rows_by_index n rows (λ k x is. h (suc k) x is))
 
 -- what an exact solution gives to the writer of its text
-pub exact_rows : (g : Graph) (rows : Rows) → IsGame g → IsExactSolution g rows → AreRows g rows
+pub exact_rows : (g : Graph) (rows : SolutionRows) → IsGame g → IsExactSolution g rows → AreSolutionRows g rows
 exact_rows g rows game exact = record {
   size = exact.solution.size;
   choices = rows_by_index (length g) rows (λ k r is.

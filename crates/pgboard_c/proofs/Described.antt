@@ -7,13 +7,13 @@ use Rattle.pg_game.specs.declared.game.Spec.{Spec}
 use Rattle.pg_game.specs.declared.game.GameFault.TheVariants.{TooManyVertices}
 use Rattle.pg_game.specs.Specification.{AreNumbers, max_number, max_vertices, first_fault}
 use Rattle.pg_game.specs.Least.{NoneHas}
-use Rattle.pgboard_c.specs.Arrays.{Lists, IsBadPriority, specs_below, spec_at}
+use Rattle.pgboard_c.specs.Arrays.{GameArrays, IsBadPriority, specs_below, array_spec}
 
-pub length_specs : (a : Lists) (v : ℕ) → length (specs_below a v) ≡ v
+pub length_specs : (a : GameArrays) (v : ℕ) → length (specs_below a v) ≡ v
 length_specs a zero = refl
-length_specs a (suc v) = let l = length_specs a v in let e = length-append (specs_below a v) (spec_at a v ∷ []) in omega (arith, l, e)
+length_specs a (suc v) = let l = length_specs a v in let e = length-append (specs_below a v) (array_spec a v ∷ []) in omega (arith, l, e)
 
-number_at : (a : Lists) (v : ℕ) → NoneHas (IsBadPriority a) → v < length a.owners → v ≤ max_number → AreNumbers (spec_at a v)
+number_at : (a : GameArrays) (v : ℕ) → NoneHas (IsBadPriority a) → v < length a.owners → v ≤ max_number → AreNumbers (array_spec a v)
 number_at a v good lt few = record { id = few; priority = small (cases_lt max_number (get_or a.priorities v 0)) }
   where
     small : (max_number < get_or a.priorities v 0) ⊎ (get_or a.priorities v 0 ≤ max_number) → get_or a.priorities v 0 ≤ max_number
@@ -21,9 +21,9 @@ number_at a v good lt few = record { id = few; priority = small (cases_lt max_nu
     small (inr le) = le
 
 -- identifiers and priorities are within the limit
-pub numbers_below : (a : Lists) → NoneHas (IsBadPriority a) → (v : ℕ) → v ≤ length a.owners → v ≤ 2147483648 → All AreNumbers (specs_below a v)
+pub numbers_below : (a : GameArrays) → NoneHas (IsBadPriority a) → (v : ℕ) → v ≤ length a.owners → v ≤ 2147483648 → All AreNumbers (specs_below a v)
 numbers_below a good zero le few = All-nil AreNumbers
-numbers_below a good (suc v) le few = All-push AreNumbers (specs_below a v) (spec_at a v)
+numbers_below a good (suc v) le few = All-push AreNumbers (specs_below a v) (array_spec a v)
     (numbers_below a good v (omega (arith, le)) (omega (arith, few))) (number_at a v good (omega (arith, le)) (omega (arith, few)))
 
 -- more specifications than there may be vertices

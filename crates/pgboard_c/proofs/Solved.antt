@@ -11,21 +11,21 @@ use Rattle.pg_game.specs.Player.{opponent, same_player}
 use Rattle.pg_game.specs.Graph.{Graph, IsGame, HasEdge, owner_of, successors_of}
 use Rattle.pg_game.specs.VertexSet.{VertexSet, In, members}
 use Rattle.pg_game.specs.Subgame.{IsSubgame}
-use Rattle.pg_game.specs.Kept.{Choices, listed, KeptEdge}
+use Rattle.pg_game.specs.Kept.{Choices, option_list, KeptEdge}
 use Rattle.pg_game.specs.Region.{IsRegion, Wins}
 use Rattle.pg_game.proofs.Disjoint.{wins_disjoint}
 use Rattle.pg_game.proofs.Edges.{some_edge}
 use Rattle.pg_game.proofs.Walks.{ClosedWalk-weaker}
-use Rattle.pg_text.specs.Solution.{winner_of, choice_of, won_by, IsExactSolution, Rows as Solved}
+use Rattle.pg_text.specs.Solution.{winner_of, choice_of, won_by, IsExactSolution, SolutionRows as Solved}
 use Rattle.pg_dominion.specs.declared.claim.Claim.{Claim}
-use Rattle.pg_dominion.specs.Claim.{Rows, named, choice_in, IsRightRow, IsGoodIn}
+use Rattle.pg_dominion.specs.Claim.{ClaimRows, named, choice_in, IsRightRow, IsGoodIn}
 use Rattle.pg_dominion.proofs.Rows.{named_right}
 use Rattle.pg_finders.specs.Claims.{AreClaims}
-use Rattle.pg_finders.proofs.Loops.{never_empty}
+use Rattle.pg_finders.proofs.ClosedWalks.{never_empty}
 use Rattle.pg_finders.proofs.Masks.{inside_mask}
 use Rattle.pg_finders.proofs.Sets.{own_or_other, is_same, same_is, both, pair, either, equal_from}
 use Rattle.pg_finders.proofs.Solving.{kept_leads, choice_leads}
-use Rattle.pgboard_c.specs.Put.{IsPut}
+use Rattle.pgboard_c.specs.private.Put.{IsPut}
 use Rattle.pgboard_c.proofs.Choices.{edge_below}
 
 -- all vertices
@@ -51,7 +51,7 @@ claims_of g h mask even odd same all claims = subst (λ (m : List Bool). AreClai
     (subst (λ (x : Graph). AreClaims x (members mask) even odd) same claims)
 
 -- the vertices of a good claim, or of none
-pub rows_below : (g : Graph) (U : VertexSet) (p : Player) (rows : Rows) → (0 < length rows → IsGoodIn g U p rows) → All (λ r. r.0 < length g) rows
+pub rows_below : (g : Graph) (U : VertexSet) (p : Player) (rows : ClaimRows) → (0 < length rows → IsGoodIn g U p rows) → All (λ r. r.0 < length g) rows
 rows_below g U p [] good = All-nil (λ (r : ℕ × Option ℕ). r.0 < length g)
 rows_below g U p (r ∷ rows) good =
     let some : 0 < length (r ∷ rows) = omega arith in
@@ -68,11 +68,11 @@ region_same g p X s t same r = record {
 }
   where
     as_old : (v w : ℕ) → KeptEdge g p X t v w → KeptEdge g p X s v w
-    as_old v w (i, m) = (i, subst (λ o. Contains (if same_player (owner_of g v) p then listed o else successors_of g v) w) (same v i) m)
+    as_old v w (i, m) = (i, subst (λ o. Contains (if same_player (owner_of g v) p then option_list o else successors_of g v) w) (same v i) m)
 
 module _ (g : Graph) (game : IsGame g) (U : VertexSet) (below : (v : ℕ) → In U v → v < length g) (whole : (v : ℕ) → v < length g → In U v) where
   -- where a kept edge of a right claim leads
-  kept_below : (p : Player) (rows : Rows) → AllByRecursion (IsRightRow g p) rows → (v w : ℕ) → v < length g
+  kept_below : (p : Player) (rows : ClaimRows) → AllByRecursion (IsRightRow g p) rows → (v w : ℕ) → v < length g
       → KeptEdge g p (named rows) (choice_in rows) v w → w < length g
   kept_below p rows right v w lt k = elim (kept_leads g p (choice_in rows) v w k.1) [
     | inl (o, m) ↦ (let c = (named_right g p rows v right k.0).own o in
@@ -81,7 +81,7 @@ module _ (g : Graph) (game : IsGame g) (U : VertexSet) (below : (v : ℕ) → In
   ]
 
   -- a claim that is good in the whole game is a region
-  region_of : (p : Player) (rows : Rows) → (0 < length rows → IsGoodIn g U p rows) → IsRegion g p (named rows) (choice_in rows)
+  region_of : (p : Player) (rows : ClaimRows) → (0 < length rows → IsGoodIn g U p rows) → IsRegion g p (named rows) (choice_in rows)
   region_of p [] good = record {
     vertices = λ v i. absurd (let h : false ≡ true = i in cc h);
     choices = λ v i o. absurd (let h : false ≡ true = i in cc h);
@@ -99,7 +99,7 @@ module _ (g : Graph) (game : IsGame g) (U : VertexSet) (below : (v : ℕ) → In
 
   module _ (even odd : Claim) (claims : AreClaims g U even odd) (old mid rows : Solved) (size : length old ≡ length g)
       (first : IsPut even.player even.rows old mid) (second : IsPut odd.player odd.rows mid rows) where
-    abbrev claimed : Player → Rows
+    abbrev claimed : Player → ClaimRows
     claimed Even = even.rows
     claimed Odd = odd.rows
 
@@ -166,7 +166,7 @@ module _ (g : Graph) (game : IsGame g) (U : VertexSet) (below : (v : ℕ) → In
       | inr e ↦ absurd (not_both p v w (winner_wins (opponent p) v l e))
     ]
 
-    others_none : (p : Player) (v : ℕ) (xs : Rows) → (0 < length xs → IsGoodIn g U p xs) → In (named xs) v → owner_of g v ≢ p → choice_in xs v ≡ None
+    others_none : (p : Player) (v : ℕ) (xs : ClaimRows) → (0 < length xs → IsGoodIn g U p xs) → In (named xs) v → owner_of g v ≢ p → choice_in xs v ≡ None
     others_none p v [] good i other = absurd (let h : false ≡ true = i in cc h)
     others_none p v (x ∷ xs) good i other =
         (named_right g p (x ∷ xs) v (good (let some : 0 < length (x ∷ xs) = omega arith in some)).shape.right.each i).other other

@@ -7,56 +7,56 @@ use Rattle.pg_game.specs.Graph.{Graph, IsGame}
 use Rattle.pg_game.specs.Specification.{IsGameOf, max_number}
 use Rattle.pg_game.specs.Least.{NoneHas}
 use Rattle.pg_text.specs.GameText.{player_of}
-use Rattle.pg_text.specs.Solution.{Rows, winner_of, choice_of}
+use Rattle.pg_text.specs.Solution.{SolutionRows, winner_of, choice_of}
 
 -- vertex v has the targets from starts[v] on, before starts[v + 1]
-pub record Lists : Type 0 where
+pub record GameArrays : Type 0 where
   pub owners : List ℕ
   pub priorities : List ℕ
   pub starts : List ℕ
   pub targets : List ℕ
 
-abbrev pub row_of : Lists → ℕ → List ℕ
-row_of a v = slice_range a.targets (slice_index a.starts v) (slice_index a.starts (v + 1))
+abbrev pub targets_of : GameArrays → ℕ → List ℕ
+targets_of a v = slice_range a.targets (slice_index a.starts v) (slice_index a.starts (v + 1))
 
 -- the arrays fit one another: an owner, a priority and a start for each vertex, and one start more; from 0 to the number of targets
-pub record HaveLengths (a : Lists) : Type 0 where
+pub record HaveLengths (a : GameArrays) : Type 0 where
   pub priorities : length a.priorities ≡ length a.owners
   pub starts : length a.starts ≡ length a.owners + 1
   pub first : slice_index a.starts 0 ≡ 0
   pub last : slice_index a.starts (length a.owners) ≡ length a.targets
 
 -- the vertex's row ends before it begins, or behind the targets
-abbrev pub IsBadRow : Lists → ℕ → Type 0
+abbrev pub IsBadRow : GameArrays → ℕ → Type 0
 IsBadRow a v = (v < length a.owners) × ((slice_index a.starts (v + 1) < slice_index a.starts v) ⊎ (length a.targets < slice_index a.starts (v + 1)))
 
-abbrev pub IsBadOwner : Lists → ℕ → Type 0
+abbrev pub IsBadOwner : GameArrays → ℕ → Type 0
 IsBadOwner a v = (v < length a.owners) × (1 < slice_index a.owners v)
 
-abbrev pub IsBadPriority : Lists → ℕ → Type 0
+abbrev pub IsBadPriority : GameArrays → ℕ → Type 0
 IsBadPriority a v = (v < length a.owners) × (max_number < slice_index a.priorities v)
 
-pub record AreWellFormed (a : Lists) : Type 0 where
+pub record AreWellFormed (a : GameArrays) : Type 0 where
   pub lengths : HaveLengths a
   pub rows : NoneHas (IsBadRow a)
   pub owners : NoneHas (IsBadOwner a)
   pub priorities : NoneHas (IsBadPriority a)
 
 -- what the arrays say of a vertex: its identifier is its number
-abbrev pub spec_at : Lists → ℕ → Spec
-spec_at a v = record { id = v; priority = slice_index a.priorities v; owner = player_of (slice_index a.owners v); successors = row_of a v }
+abbrev pub array_spec : GameArrays → ℕ → Spec
+array_spec a v = record { id = v; priority = slice_index a.priorities v; owner = player_of (slice_index a.owners v); successors = targets_of a v }
 
 -- what they say of the vertices below a number, in order
-abbrev pub specs_below : Lists → ℕ → List Spec
+abbrev pub specs_below : GameArrays → ℕ → List Spec
 specs_below a zero = []
-specs_below a (suc v) = specs_below a v ++ spec_at a v ∷ []
+specs_below a (suc v) = specs_below a v ++ array_spec a v ∷ []
 
-abbrev pub specs_of : Lists → List Spec
-specs_of a = specs_below a (length a.owners)
+abbrev pub array_specs : GameArrays → List Spec
+array_specs a = specs_below a (length a.owners)
 
 -- the game that the arrays say
-abbrev pub IsGameOfArrays : Lists → Graph → Type 0
-IsGameOfArrays a g = AreWellFormed a × IsGame g × IsGameOf (specs_of a) g
+abbrev pub IsGameOfArrays : GameArrays → Graph → Type 0
+IsGameOfArrays a g = AreWellFormed a × IsGame g × IsGameOf (array_specs a) g
 
 -- the number that stands where there is no choice
 abbrev pub no_choice : ℕ
@@ -66,7 +66,7 @@ abbrev pub choice_from : ℕ → Option ℕ
 choice_from n = if n == no_choice then None else Some n
 
 -- winners as digits, and choices, of all vertices
-pub record AreResults (winners choices : List ℕ) (rows : Rows) : Type 0 where
+pub record AreResults (winners choices : List ℕ) (rows : SolutionRows) : Type 0 where
   pub winners_size : length winners ≡ length rows
   pub choices_size : length choices ≡ length rows
   pub winners_are : (v : ℕ) → v < length rows → slice_index winners v ≡ digit_of (winner_of rows v)

@@ -1,5 +1,5 @@
 pub mod Arrays
 pub mod Numbers
 pub mod Answers
-pub mod Put
 pub mod Texts
+pub mod private

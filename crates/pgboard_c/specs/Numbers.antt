@@ -46,21 +46,21 @@ solution_number (solution.Missing id) = 47
 solution_number solution.Memory = 1
 
 -- the answer
-abbrev pub number_of : Fault → ℕ
-number_of fault.Memory = 1
-number_of fault.Lengths = 2
-number_of (fault.Row v) = 3
-number_of (fault.Owner v) = 4
-number_of (fault.Priority v) = 5
-number_of fault.Results = 6
-number_of (fault.Winner v) = 7
-number_of (fault.Game f) = game_number f
-number_of (fault.Verdict f) = verdict_number f
-number_of fault.GameTooLong = 30
-number_of (fault.GameText f) = text_number f
-number_of fault.SolutionTooLong = 40
-number_of (fault.SolutionText f) = solution_number f
-number_of (fault.Room size) = 50
+abbrev pub answer_number : Fault → ℕ
+answer_number fault.Memory = 1
+answer_number fault.Lengths = 2
+answer_number (fault.Row v) = 3
+answer_number (fault.Owner v) = 4
+answer_number (fault.Priority v) = 5
+answer_number fault.Results = 6
+answer_number (fault.Winner v) = 7
+answer_number (fault.Game f) = game_number f
+answer_number (fault.Verdict f) = verdict_number f
+answer_number fault.GameTooLong = 30
+answer_number (fault.GameText f) = text_number f
+answer_number fault.SolutionTooLong = 40
+answer_number (fault.SolutionText f) = solution_number f
+answer_number (fault.Room size) = 50
 
 abbrev pub game_at : GameFault → ℕ
 game_at (game.Twice id) = id

@@ -1,7 +1,7 @@
 -- What the calls on texts answer, and why they refuse.
 use Rattle.std.specs.Prelude.{ℕ, ◌≡◌, ◌<◌, ◌≤◌, List, length, take}
 use Rattle.pg_game.specs.Graph.{Graph}
-use Rattle.pg_text.specs.Solution.{Rows, IsSolution, IsExactSolution}
+use Rattle.pg_text.specs.Solution.{SolutionRows, IsSolution, IsExactSolution}
 use Rattle.pg_text.specs.Reading.{IsTextOf, IsFaultOf, IsSolutionTextOf, IsSolutionFaultOf}
 use Rattle.pg_text.specs.Written.{written_game, written_solution}
 use Rattle.pg_dominion.specs.Verdict.{FailsBy}
@@ -12,36 +12,36 @@ abbrev pub max_text : ℕ
 max_text = 268435456
 
 -- the first bytes of the buffer are the text
-abbrev pub Holds : List ℕ → ℕ → List ℕ → Type 0
-Holds buffer size text = (size ≡ length text) × (take size buffer ≡ text)
+abbrev pub BeginsWith : List ℕ → ℕ → List ℕ → Type 0
+BeginsWith buffer size text = (size ≡ length text) × (take size buffer ≡ text)
 
 -- a solution of the game that a text spells, with a choice exactly where the winner owns the vertex
 abbrev pub IsSolvedText : List ℕ → List ℕ → Type 0
-IsSolvedText text answer = (g : Graph) × (rows : Rows) × IsTextOf text g × IsExactSolution g rows × (answer ≡ written_solution g rows)
+IsSolvedText text answer = (g : Graph) × (rows : SolutionRows) × IsTextOf text g × IsExactSolution g rows × (answer ≡ written_solution g rows)
 
 -- the game that a text spells, in its one written form
 abbrev pub IsTidyText : List ℕ → List ℕ → Type 0
 IsTidyText text answer = (g : Graph) × IsTextOf text g × (answer ≡ written_game g)
 
 -- why a text gives no game; want of memory says nothing of it
-abbrev pub IsRefusedGame : List ℕ → Fault → Type 0
-IsRefusedGame text fault.Memory = Unit {0}
-IsRefusedGame text fault.GameTooLong = max_text < length text
-IsRefusedGame text (fault.GameText f) = (length text ≤ max_text) × IsFaultOf text f
-IsRefusedGame text other = ⊥
+abbrev pub IsRefusedGameText : List ℕ → Fault → Type 0
+IsRefusedGameText text fault.Memory = Unit {0}
+IsRefusedGameText text fault.GameTooLong = max_text < length text
+IsRefusedGameText text (fault.GameText f) = (length text ≤ max_text) × IsFaultOf text f
+IsRefusedGameText text other = ⊥
 
 -- why a text gives no answer of the kind, where there is so much room
 abbrev pub IsTextFault : (List ℕ → List ℕ → Type 0) → List ℕ → ℕ → Fault → Type 0
 IsTextFault Is text room (fault.Room size) = (answer : List ℕ) × Is text answer × (size ≡ length answer) × (room < size)
-IsTextFault Is text room other = IsRefusedGame text other
+IsTextFault Is text room other = IsRefusedGameText text other
 
 -- the texts spell a game and a solution of it
 abbrev pub AreVerified : List ℕ → List ℕ → Type 0
-AreVerified game solution = (g : Graph) × (rows : Rows) × IsTextOf game g × IsSolutionTextOf g solution rows × IsSolution g rows
+AreVerified game solution = (g : Graph) × (rows : SolutionRows) × IsTextOf game g × IsSolutionTextOf g solution rows × IsSolution g rows
 
 -- why they don't; the game is read before the solution's text is looked at
 abbrev pub IsVerifyFault : List ℕ → List ℕ → Fault → Type 0
 IsVerifyFault game solution fault.SolutionTooLong = (g : Graph) × IsTextOf game g × (max_text < length solution)
 IsVerifyFault game solution (fault.SolutionText f) = (g : Graph) × IsTextOf game g × (length solution ≤ max_text) × IsSolutionFaultOf g solution f
-IsVerifyFault game solution (fault.Verdict f) = (g : Graph) × (rows : Rows) × IsTextOf game g × IsSolutionTextOf g solution rows × FailsBy g rows f
-IsVerifyFault game solution other = IsRefusedGame game other
+IsVerifyFault game solution (fault.Verdict f) = (g : Graph) × (rows : SolutionRows) × IsTextOf game g × IsSolutionTextOf g solution rows × FailsBy g rows f
+IsVerifyFault game solution other = IsRefusedGameText game other

@@ -3,7 +3,7 @@ ghost use Rattle.std.specs.Prelude.{◌≡◌, ◌+◌, ◌<◌, ◌≤◌, ℕ,
 ghost use Rattle.pg_game.specs.Specification.{AreNumbers};
 ghost use Rattle.pg_game.specs.Least.{NoneHas, IsLeast};
 ghost use Rattle.pg_text.specs.GameText.{player_of};
-ghost use Rattle.pgboard_c.specs.Arrays.{HaveLengths, IsBadRow, IsBadOwner, IsBadPriority, AreWellFormed, row_of, specs_of, IsGameOfArrays};
+ghost use Rattle.pgboard_c.specs.Arrays.{HaveLengths, IsBadRow, IsBadOwner, IsBadPriority, AreWellFormed, targets_of, array_specs, IsGameOfArrays};
 ghost use Rattle.pgboard_c.specs.Answers.{IsArraysFault};
 
 use crate::fault::Fault;
@@ -28,9 +28,9 @@ pub struct Arrays<'a> {
 }
 
 impl<'a> Model for Arrays<'a> {
-    ghost use Rattle.pgboard_c.specs.Arrays.{Lists};
+    ghost use Rattle.pgboard_c.specs.Arrays.{GameArrays};
 
-    ghost Value = { Lists };
+    ghost Value = { GameArrays };
 
     ghost view = { λ a. record { owners = a.owners.now; priorities = a.priorities.now; starts = a.starts.now; targets = a.targets.now } };
 }
@@ -148,7 +148,7 @@ impl<'a> Arrays<'a> {
     fn row(&self, v: usize) -> &[u32]
         requires formed { AreWellFormed self.now }
         requires vertex { v < length self.now.owners }
-        ensures { result.now ≡ row_of self.now v }
+        ensures { result.now ≡ targets_of self.now v }
     {
         let _n = self.starts.len();
         let from = self.starts[v] as usize;
@@ -160,7 +160,7 @@ impl<'a> Arrays<'a> {
     fn specs(&self, alloc: Global) -> Result<Specs, Memory>
         requires formed { AreWellFormed self.now }
         requires few { length self.now.owners ≤ 2147483648 }
-        ensures specs { IfOk result (λ specs. specs ≡ specs_of self.now) }
+        ensures specs { IfOk result (λ specs. specs ≡ array_specs self.now) }
         ensures numbers { IfOk result (λ specs. All AreNumbers specs) }
     {
         let n = self.owners.len();

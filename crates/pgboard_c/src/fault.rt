@@ -1,6 +1,6 @@
 //! Why a call gave nothing, or what is wrong with winners and choices, and the numbers that say so.
 ghost use Rattle.std.specs.Prelude.{◌≡◌, ◌<◌};
-ghost use Rattle.pgboard_c.specs.Numbers.{game_number, verdict_number, text_number, solution_number, number_of};
+ghost use Rattle.pgboard_c.specs.Numbers.{game_number, verdict_number, text_number, solution_number, answer_number};
 ghost use Rattle.pgboard_c.specs.Numbers.{game_at, verdict_at, text_at, solution_at, at_of, game_to, verdict_to, text_to, to_of};
 
 use pg_dominion::SolutionFault;
@@ -218,7 +218,7 @@ fn solution_at(fault: SolutionTextFault) -> u64
 impl Fault {
     /// The answer of a call.
     fn number(self) -> u32
-        ensures number { result ≡ number_of self }
+        ensures number { result ≡ answer_number self }
         ensures above { 0 < result }
     {
         match self {
@@ -296,7 +296,7 @@ pub struct Told {
 
 /// Says the fault, and gives its number.
 pub fn tell(told: &mut Told, fault: Fault) -> u32
-    ensures number { result ≡ number_of fault }
+    ensures number { result ≡ answer_number fault }
     ensures above { 0 < result }
     ensures at { told.new.at ≡ at_of fault }
     ensures to { told.new.to ≡ to_of fault }

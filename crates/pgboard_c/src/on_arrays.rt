@@ -1,8 +1,8 @@
 //! The exports on arrays: owners, priorities, and the rows of targets; winners and choices.
 ghost use Rattle.std.specs.Prelude.{◌≡◌, ◌≢◌, length, OnOk, OnErr, IfErr};
 ghost use Rattle.pgboard_c.specs.declared.fault.Fault.{Fault};
-ghost use Rattle.pgboard_c.specs.Numbers.{number_of, at_of, to_of};
-ghost use Rattle.pgboard_c.specs.Answers.{AreSolved, IsSolveFault, AreSolution, IsCheckFault};
+ghost use Rattle.pgboard_c.specs.Numbers.{answer_number, at_of, to_of};
+ghost use Rattle.pgboard_c.specs.Answers.{AreSolved, IsArraysSolveFault, AreSolution, IsCheckFault};
 
 use crate::arrays::Arrays;
 use crate::fault::{Fault, Told, tell};
@@ -19,7 +19,7 @@ fn solve(
     choices: &mut [u32],
 ) -> Result<(), Fault>
     ensures solved { OnOk result (AreSolved arrays.now winners.new choices.new) }
-    ensures fault { IfErr result (λ e. IsSolveFault arrays.now (length winners.old) (length choices.old) e) }
+    ensures fault { IfErr result (λ e. IsArraysSolveFault arrays.now (length winners.old) (length choices.old) e) }
     ensures winners_kept { OnErr result (winners.new ≡ winners.old) }
     ensures choices_kept { OnErr result (choices.new ≡ choices.old) }
 {
@@ -69,7 +69,7 @@ pub extern "C" fn pgboard_solve(
 ) -> u32
     ensures solved { result ≡ 0 → AreSolved (record { owners = owners.now; priorities = priorities.now; starts = starts.now; targets = targets.now }) winners.new choices.new }
     ensures untold { result ≡ 0 → told.new ≡ told.old }
-    ensures refused { result ≢ 0 → (e : Fault) × (result ≡ number_of e) × (told.new.at ≡ at_of e) × (told.new.to ≡ to_of e) × IsSolveFault (record { owners = owners.now; priorities = priorities.now; starts = starts.now; targets = targets.now }) (length winners.old) (length choices.old) e }
+    ensures refused { result ≢ 0 → (e : Fault) × (result ≡ answer_number e) × (told.new.at ≡ at_of e) × (told.new.to ≡ to_of e) × IsArraysSolveFault (record { owners = owners.now; priorities = priorities.now; starts = starts.now; targets = targets.now }) (length winners.old) (length choices.old) e }
     ensures winners_kept { result ≢ 0 → winners.new ≡ winners.old }
     ensures choices_kept { result ≢ 0 → choices.new ≡ choices.old }
 {
@@ -94,7 +94,7 @@ pub extern "C" fn pgboard_check(
 ) -> u32
     ensures holds { result ≡ 0 → AreSolution (record { owners = owners.now; priorities = priorities.now; starts = starts.now; targets = targets.now }) winners.now choices.now }
     ensures untold { result ≡ 0 → told.new ≡ told.old }
-    ensures refused { result ≢ 0 → (e : Fault) × (result ≡ number_of e) × (told.new.at ≡ at_of e) × (told.new.to ≡ to_of e) × IsCheckFault (record { owners = owners.now; priorities = priorities.now; starts = starts.now; targets = targets.now }) winners.now choices.now e }
+    ensures refused { result ≢ 0 → (e : Fault) × (result ≡ answer_number e) × (told.new.at ≡ at_of e) × (told.new.to ≡ to_of e) × IsCheckFault (record { owners = owners.now; priorities = priorities.now; starts = starts.now; targets = targets.now }) winners.now choices.now e }
 {
     let arrays = Arrays::new(owners, priorities, starts, targets);
     match check(alloc, &arrays, winners, choices) {

@@ -1,11 +1,11 @@
 //! The exports on texts in PGSolver's formats, which stand in the caller's memory.
 ghost use Rattle.std.specs.Prelude.{◌≡◌, ◌≢◌, ◌<◌, ℕ, List, length, IfOk, OnOk, OnErr, IfErr};
 ghost use Rattle.pg_game.specs.Graph.{IsGame};
-ghost use Rattle.pg_text.specs.Solution.{Rows, IsSolution};
+ghost use Rattle.pg_text.specs.Solution.{SolutionRows, IsSolution};
 ghost use Rattle.pg_text.specs.Reading.{IsTextOf, IsSolutionTextOf};
 ghost use Rattle.pgboard_c.specs.declared.fault.Fault.{Fault};
-ghost use Rattle.pgboard_c.specs.Numbers.{number_of, at_of, to_of};
-ghost use Rattle.pgboard_c.specs.Texts.{Holds, IsSolvedText, IsTidyText, IsRefusedGame, IsTextFault, AreVerified, IsVerifyFault};
+ghost use Rattle.pgboard_c.specs.Numbers.{answer_number, at_of, to_of};
+ghost use Rattle.pgboard_c.specs.Texts.{BeginsWith, IsSolvedText, IsTidyText, IsRefusedGameText, IsTextFault, AreVerified, IsVerifyFault};
 
 use crate::fault::{Fault, Told, tell};
 use crate::solving::solution_of;
@@ -20,7 +20,7 @@ const MAX_TEXT: usize = 268_435_456;
 /// The game that a text spells.
 fn game_of(alloc: Global, text: &[u8]) -> Result<Game, Fault>
     ensures game { IfOk result (λ g. IsGame g × IsTextOf text.now g) }
-    ensures fault { IfErr result (λ e. IsRefusedGame text.now e) }
+    ensures fault { IfErr result (λ e. IsRefusedGameText text.now e) }
 {
     if text.len() > MAX_TEXT {
         return Err(Fault::GameTooLong);
@@ -34,7 +34,7 @@ fn game_of(alloc: Global, text: &[u8]) -> Result<Game, Fault>
 
 /// Copies the text to the front of the buffer, and answers its size.
 fn put(text: &[u8], into: &mut [u8]) -> Result<usize, Fault>
-    ensures held { IfOk result (λ n. Holds into.new n text.now) }
+    ensures held { IfOk result (λ n. BeginsWith into.new n text.now) }
     ensures small { IfErr result (λ e. (e ≡ Fault.Room (length text.now)) × (length into.old < length text.now)) }
     ensures kept { OnErr result (into.new ≡ into.old) }
 {
@@ -48,7 +48,7 @@ fn put(text: &[u8], into: &mut [u8]) -> Result<usize, Fault>
 
 /// Writes a solution of the game that a text spells, and answers its size.
 fn solve(alloc: Global, text: &[u8], into: &mut [u8]) -> Result<usize, Fault>
-    ensures solved { IfOk result (λ n. (answer : List ℕ) × IsSolvedText text.now answer × Holds into.new n answer) }
+    ensures solved { IfOk result (λ n. (answer : List ℕ) × IsSolvedText text.now answer × BeginsWith into.new n answer) }
     ensures fault { IfErr result (λ e. IsTextFault IsSolvedText text.now (length into.old) e) }
     ensures kept { OnErr result (into.new ≡ into.old) }
 {
@@ -61,7 +61,7 @@ fn solve(alloc: Global, text: &[u8], into: &mut [u8]) -> Result<usize, Fault>
 
 /// Writes the game that a text spells in its one written form, and answers its size.
 fn tidy(alloc: Global, text: &[u8], into: &mut [u8]) -> Result<usize, Fault>
-    ensures tidied { IfOk result (λ n. (answer : List ℕ) × IsTidyText text.now answer × Holds into.new n answer) }
+    ensures tidied { IfOk result (λ n. (answer : List ℕ) × IsTidyText text.now answer × BeginsWith into.new n answer) }
     ensures fault { IfErr result (λ e. IsTextFault IsTidyText text.now (length into.old) e) }
     ensures kept { OnErr result (into.new ≡ into.old) }
 {
@@ -72,7 +72,7 @@ fn tidy(alloc: Global, text: &[u8], into: &mut [u8]) -> Result<usize, Fault>
 
 /// Whether a text is a solution of a game.
 fn verify_on(alloc: Global, game: &Game, text: &[u8]) -> Result<(), Fault>
-    ensures holds { OnOk result ((rows : Rows) × IsSolutionTextOf game.now text.now rows × IsSolution game.now rows) }
+    ensures holds { OnOk result ((rows : SolutionRows) × IsSolutionTextOf game.now text.now rows × IsSolution game.now rows) }
     ensures fault { IfErr result (λ e. (text_of : List ℕ) → IsTextOf text_of game.now → IsVerifyFault text_of text.now e) }
 {
     if text.len() > MAX_TEXT {
@@ -108,8 +108,8 @@ pub extern "C" fn pgboard_solve_text(
     into: &mut [u8],
     told: &mut Told,
 ) -> u32
-    ensures solved { result ≡ 0 → (answer : List ℕ) × IsSolvedText game.now answer × Holds into.new told.new.at answer }
-    ensures refused { result ≢ 0 → (e : Fault) × (result ≡ number_of e) × (told.new.at ≡ at_of e) × (told.new.to ≡ to_of e) × IsTextFault IsSolvedText game.now (length into.old) e }
+    ensures solved { result ≡ 0 → (answer : List ℕ) × IsSolvedText game.now answer × BeginsWith into.new told.new.at answer }
+    ensures refused { result ≢ 0 → (e : Fault) × (result ≡ answer_number e) × (told.new.at ≡ at_of e) × (told.new.to ≡ to_of e) × IsTextFault IsSolvedText game.now (length into.old) e }
     ensures kept { result ≢ 0 → into.new ≡ into.old }
 {
     match solve(alloc, game, into) {
@@ -131,8 +131,8 @@ pub extern "C" fn pgboard_tidy_text(
     into: &mut [u8],
     told: &mut Told,
 ) -> u32
-    ensures tidied { result ≡ 0 → (answer : List ℕ) × IsTidyText game.now answer × Holds into.new told.new.at answer }
-    ensures refused { result ≢ 0 → (e : Fault) × (result ≡ number_of e) × (told.new.at ≡ at_of e) × (told.new.to ≡ to_of e) × IsTextFault IsTidyText game.now (length into.old) e }
+    ensures tidied { result ≡ 0 → (answer : List ℕ) × IsTidyText game.now answer × BeginsWith into.new told.new.at answer }
+    ensures refused { result ≢ 0 → (e : Fault) × (result ≡ answer_number e) × (told.new.at ≡ at_of e) × (told.new.to ≡ to_of e) × IsTextFault IsTidyText game.now (length into.old) e }
     ensures kept { result ≢ 0 → into.new ≡ into.old }
 {
     match tidy(alloc, game, into) {
@@ -156,7 +156,7 @@ pub extern "C" fn pgboard_verify_text(
 ) -> u32
     ensures holds { result ≡ 0 → AreVerified game.now solution.now }
     ensures untold { result ≡ 0 → told.new ≡ told.old }
-    ensures refused { result ≢ 0 → (e : Fault) × (result ≡ number_of e) × (told.new.at ≡ at_of e) × (told.new.to ≡ to_of e) × IsVerifyFault game.now solution.now e }
+    ensures refused { result ≢ 0 → (e : Fault) × (result ≡ answer_number e) × (told.new.at ≡ at_of e) × (told.new.to ≡ to_of e) × IsVerifyFault game.now solution.now e }
 {
     match verify(alloc, game, solution) {
         Ok(()) => 0,

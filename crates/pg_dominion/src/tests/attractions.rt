@@ -26,6 +26,23 @@ fn attracted(
     Ok(None)
 }
 
+/// Compares what is attracted with rows.
+fn compare_rows(
+    rt: &impl Abort,
+    alloc: Global,
+    game: &Game,
+    player: Player,
+    inside: u32,
+    target: u32,
+    want: &[(u32, Option<u32>)],
+) -> Result<(), Fail> {
+    let Some(rows) = attracted(alloc, game, inside, player, target)? else {
+        return Err(Fail::from("the masks are no subgame and target"));
+    };
+    check_eq!(rt; rows.as_slice(), want, "{player:?} {inside:b} {target:b}");
+    Ok(())
+}
+
 /// Compares what is attracted with the rows of a table, which has a player, the vertices inside and a target.
 fn rows_are(
     rt: &impl Abort,
@@ -34,10 +51,7 @@ fn rows_are(
     table: &[(Player, u32, u32, &[(u32, Option<u32>)])],
 ) -> Result<(), Fail> {
     for (player, inside, target, want) in table {
-        let Some(rows) = attracted(alloc, &game, *inside, *player, *target)? else {
-            return Err(Fail::from("the masks are no subgame and target"));
-        };
-        assert_eq!(rt; rows.as_slice(), *want, "{player:?} {inside:b} {target:b}");
+        compare_rows(rt, alloc, &game, *player, *inside, *target, *want)?;
     }
     Ok(())
 }
@@ -115,6 +129,21 @@ fn is_right(
     Ok(Some(are_right(small, inside, player, target, set, rows)))
 }
 
+/// Compares the attraction in a subgame to a target. Whether the masks are a subgame and target.
+fn is_compared(
+    rt: &impl Abort,
+    alloc: Global,
+    small: &Small,
+    game: &Game,
+    inside: u32,
+    player: Player,
+    target: u32,
+) -> Result<bool, Fail> {
+    let found = is_right(alloc, small, game, inside, player, target)?;
+    check!(rt; found != Some(false), "{inside:b} {target:b} {player:?}");
+    Ok(found.is_some())
+}
+
 /// Compares all subgames, targets and players of a game of three vertices. Gives how many there were.
 fn compare(rt: &impl Abort, alloc: Global, small: &Small) -> Result<u32, Fail> {
     let game = game_of_small(alloc, small)?;
@@ -123,9 +152,7 @@ fn compare(rt: &impl Abort, alloc: Global, small: &Small) -> Result<u32, Fail> {
         let inside = number / 8;
         let target = number % 8;
         for player in [Player::Even, Player::Odd] {
-            let found = is_right(alloc, small, &game, inside, player, target)?;
-            assert!(rt; found != Some(false), "{inside:b} {target:b} {player:?}");
-            if found.is_some() {
+            if is_compared(rt, alloc, small, &game, inside, player, target)? {
                 count = count.saturating_add(1);
             }
         }
@@ -143,6 +170,6 @@ fn every_attraction_over_every_arena_of_three_vertices(rt: HostRuntime) -> Resul
             count = count.saturating_add(compare(&rt, alloc, &small)?);
         }
     }
-    assert!(rt; count > 50_000);
+    check!(rt; count > 50_000);
     Ok(())
 }

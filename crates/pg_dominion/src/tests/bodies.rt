@@ -36,39 +36,59 @@ fn edges_of<'g>(alloc: Global, game: &'g Game, claim: &Claim) -> Result<Kept<'g>
     }
 }
 
+/// What the search with so much patience finds.
+fn found_within(alloc: Global, kept: &Kept, patience: u64) -> Result<Option<u32>, Fail>
+    requires { IsKept kept.now }
+{
+    Ok(first_within(alloc, kept, patience)?)
+}
+
 /// What the search from each vertex finds, which each other body must find.
-fn agreed(rt: &impl Abort, alloc: Global, game: &Game) -> Result<Option<u32>, Fail> {
-    let claim = whole_claim(alloc, game)?;
-    let kept = edges_of(alloc, game, &claim)?;
-    let plain = first_within(alloc, &kept, u64::MAX)?;
-    let at_once = first_within(alloc, &kept, 0)?;
-    assert_eq!(rt; at_once, plain, "the ranking at once");
-    let late = first_within(alloc, &kept, 40)?;
-    assert_eq!(rt; late, plain, "the ranking after some searches");
-    let is_shown = first_by_ranking(alloc, &kept)?.is_some();
-    assert!(rt; is_shown, "the ranking was not accepted");
+fn compare_bodies(rt: &impl Abort, alloc: Global, kept: &Kept) -> Result<Option<u32>, Fail>
+    requires { IsKept kept.now }
+{
+    let plain = found_within(alloc, kept, u64::MAX)?;
+    let at_once = found_within(alloc, kept, 0)?;
+    check_eq!(rt; at_once, plain, "the ranking at once");
+    let late = found_within(alloc, kept, 40)?;
+    check_eq!(rt; late, plain, "the ranking after some searches");
+    let is_shown = first_by_ranking(alloc, kept)?.is_some();
+    check!(rt; is_shown, "the ranking was not accepted");
     Ok(plain)
 }
 
+/// What each body finds in the claim of all vertices.
+fn agreed(rt: &impl Abort, alloc: Global, game: &Game) -> Result<Option<u32>, Fail> {
+    let claim = whole_claim(alloc, game)?;
+    let kept = edges_of(alloc, game, &claim)?;
+    compare_bodies(rt, alloc, &kept)
+}
+
 /// Whether each body finds what is wanted.
-fn finds(rt: &impl Abort, alloc: Global, game: Game, want: Option<u32>) -> Result<(), Fail> {
+fn finds(
+    rt: &impl Abort,
+    alloc: Global,
+    made: Result<Game, Fail>,
+    want: Option<u32>,
+) -> Result<(), Fail> {
+    let game = made?;
     let found = agreed(rt, alloc, &game)?;
-    assert_eq!(rt; found, want, "{} vertices", game.len());
+    check_eq!(rt; found, want, "{} vertices", game.len());
     Ok(())
 }
 
 #[test]
 fn hostile_games_have_the_same_answer_in_each_body(rt: HostRuntime) -> Result<(), Fail> {
     let alloc = rt.alloc();
-    finds(&rt, alloc, long_cycle(alloc, 300, 2)?, None)?;
-    finds(&rt, alloc, long_cycle(alloc, 300, 1)?, Some(0))?;
-    finds(&rt, alloc, long_cycle(alloc, 300, 3)?, Some(299))?;
-    finds(&rt, alloc, downward(alloc, 200)?, None)?;
-    finds(&rt, alloc, ladder(alloc, 60, None)?, None)?;
-    finds(&rt, alloc, ladder(alloc, 60, Some(0))?, Some(62))?;
-    finds(&rt, alloc, ladder(alloc, 60, Some(59))?, Some(180))?;
-    finds(&rt, alloc, dense(alloc, 40, 2)?, None)?;
-    finds(&rt, alloc, dense(alloc, 40, 1)?, Some(1))
+    finds(&rt, alloc, long_cycle(alloc, 300, 2), None)?;
+    finds(&rt, alloc, long_cycle(alloc, 300, 1), Some(0))?;
+    finds(&rt, alloc, long_cycle(alloc, 300, 3), Some(299))?;
+    finds(&rt, alloc, downward(alloc, 200), None)?;
+    finds(&rt, alloc, ladder(alloc, 60, None), None)?;
+    finds(&rt, alloc, ladder(alloc, 60, Some(0)), Some(62))?;
+    finds(&rt, alloc, ladder(alloc, 60, Some(59)), Some(180))?;
+    finds(&rt, alloc, dense(alloc, 40, 2), None)?;
+    finds(&rt, alloc, dense(alloc, 40, 1), Some(1))
 }
 
 /// Compares the bodies, and `check_claim`, on one random game. Whether it has no bad closed walk.
@@ -76,7 +96,7 @@ fn is_good(rt: &impl Abort, alloc: Global, game: Game) -> Result<bool, Fail> {
     let found = agreed(rt, alloc, &game)?;
     let claim = whole_claim(alloc, &game)?;
     let want = found.map(ClaimFault::Cycle);
-    assert_eq!(rt; check_claim(alloc, &game, &claim).err(), want);
+    check_eq!(rt; check_claim(alloc, &game, &claim).err(), want);
     Ok(found.is_none())
 }
 
@@ -94,6 +114,6 @@ fn random_games_have_the_same_answer_in_each_body(rt: HostRuntime) -> Result<(),
             good = good.saturating_add(1);
         }
     }
-    assert!(rt; good > 300 && good < 2_700);
+    check!(rt; good > 300 && good < 2_700);
     Ok(())
 }

@@ -2,7 +2,7 @@
 
 use crate::tests::games::{Random, game_of, game_of_small};
 use crate::tests::reference::{Small, vertices_of};
-use crate::{Checked, Claim, check_claim};
+use crate::{Checked, CheckedRow, Claim, check_claim};
 use pg_game::{Game, Player, Sequence};
 use std::alloc::Global;
 use std::process::Abort;
@@ -22,6 +22,17 @@ fn checked<'g>(
     Ok(check_claim(alloc, game, &claim).ok())
 }
 
+/// Vertex, owner, priority and kept successors of a row.
+type Told<'a> = (u32, Player, u32, &'a [u32]);
+
+fn compare_row(rt: &impl Abort, row: &CheckedRow, want: Told) {
+    let (vertex, owner, priority, kept) = want;
+    check_eq!(rt; row.vertex, vertex);
+    check_eq!(rt; row.owner, owner, "the owner of {vertex}");
+    check_eq!(rt; row.priority, priority, "the priority of {vertex}");
+    check_eq!(rt; row.kept.as_slice(), kept, "what is kept at {vertex}");
+}
+
 /// Compares the rows of a checked claim with vertex, owner, priority and kept successors.
 fn rows_are(
     rt: &impl Abort,
@@ -29,19 +40,16 @@ fn rows_are(
     game: &Game,
     player: Player,
     rows: &[(u32, Option<u32>)],
-    want: &[(u32, Player, u32, &[u32])],
+    want: &[Told],
 ) -> Result<(), Fail> {
     let Some(checked) = checked(alloc, game, player, rows)? else {
         return Err(Fail::from("the claim was refused"));
     };
-    assert_eq!(rt; checked.player(), player);
-    assert_eq!(rt; checked.claim().rows.as_slice(), rows);
-    assert_eq!(rt; checked.rows().len(), want.len());
-    for (row, (vertex, owner, priority, kept)) in checked.rows().iter().zip(want.iter()) {
-        assert_eq!(rt; row.vertex, *vertex);
-        assert_eq!(rt; row.owner, *owner, "the owner of {vertex}");
-        assert_eq!(rt; row.priority, *priority, "the priority of {vertex}");
-        assert_eq!(rt; row.kept.as_slice(), *kept, "what is kept at {vertex}");
+    check_eq!(rt; checked.player(), player);
+    check_eq!(rt; checked.claim().rows.as_slice(), rows);
+    check_eq!(rt; checked.rows().len(), want.len());
+    for (row, told) in checked.rows().iter().zip(want.iter()) {
+        compare_row(rt, row, *told);
     }
     Ok(())
 }
@@ -92,6 +100,29 @@ fn game_of_sets(alloc: Global, rows: &[(u32, Player, u32)]) -> Result<Game, Fail
     game_of_small(alloc, &small)
 }
 
+/// Compares what is foreign in another game of the rows of a claim of Even in the first one.
+fn compare_foreign(
+    rt: &impl Abort,
+    alloc: Global,
+    first: &[(u32, Player, u32)],
+    rows: &[(u32, Option<u32>)],
+    second: &[(u32, Player, u32)],
+    want: Option<u32>,
+) -> Result<(), Fail> {
+    let game = game_of_sets(alloc, first)?;
+    let other = game_of_sets(alloc, second)?;
+    let Some(checked) = checked(alloc, &game, Player::Even, rows)? else {
+        return Err(Fail::from("the claim was refused"));
+    };
+    check_eq!(rt;
+        checked.first_foreign(&other),
+        want,
+        "{rows:?} {first:?} {second:?}"
+    );
+    check_eq!(rt; checked.first_foreign(&game), None);
+    Ok(())
+}
+
 /// Compares what is foreign with a table, which has a game, the rows of a claim of Even there, and another game.
 fn foreign_is(
     rt: &impl Abort,
@@ -104,17 +135,7 @@ fn foreign_is(
     )],
 ) -> Result<(), Fail> {
     for (first, rows, second, want) in table {
-        let game = game_of_sets(alloc, *first)?;
-        let Some(checked) = checked(alloc, &game, Player::Even, *rows)? else {
-            return Err(Fail::from("the claim was refused"));
-        };
-        let other = game_of_sets(alloc, *second)?;
-        assert_eq!(rt;
-            checked.first_foreign(&other),
-            *want,
-            "{rows:?} {first:?} {second:?}"
-        );
-        assert_eq!(rt; checked.first_foreign(&game), None);
+        compare_foreign(rt, alloc, *first, *rows, *second, *want)?;
     }
     Ok(())
 }
@@ -241,6 +262,24 @@ fn random_rows(
     Ok(rows)
 }
 
+/// Compares what is foreign in a random game that is mostly as the checked claim's. Whether some row is.
+fn compare_with_another(
+    rt: &impl Abort,
+    alloc: Global,
+    random: &mut Random,
+    small: &Small,
+    checked: &Checked,
+    rows: &[(u32, Option<u32>)],
+) -> Result<bool, Fail> {
+    let n = small.len();
+    let size = n.saturating_add(random.below(3)).saturating_sub(1).max(1);
+    let second = random_small(alloc, random, size, Some(small))?;
+    let want = small.first_foreign(&second, rows);
+    let other = game_of_small(alloc, &second)?;
+    check_eq!(rt; checked.first_foreign(&other), want, "{rows:?}");
+    Ok(want.is_some())
+}
+
 /// Compares what is foreign in a random pair of games. None where the random claim was refused; else whether some row was foreign.
 fn compare(rt: &impl Abort, alloc: Global, random: &mut Random) -> Result<Option<bool>, Fail> {
     let n = random.below(6).saturating_add(1);
@@ -252,12 +291,8 @@ fn compare(rt: &impl Abort, alloc: Global, random: &mut Random) -> Result<Option
     let Some(checked) = checked(alloc, &game, player, rows)? else {
         return Ok(None);
     };
-    let size = n.saturating_add(random.below(3)).saturating_sub(1).max(1);
-    let second = random_small(alloc, random, size, Some(&small))?;
-    let want = small.first_foreign(&second, rows);
-    let other = game_of_small(alloc, &second)?;
-    assert_eq!(rt; checked.first_foreign(&other), want, "{rows:?}");
-    Ok(Some(want.is_some()))
+    let is_foreign = compare_with_another(rt, alloc, random, &small, &checked, rows)?;
+    Ok(Some(is_foreign))
 }
 
 #[test]
@@ -273,6 +308,6 @@ fn what_is_foreign_in_a_thousand_random_pairs_of_games(rt: HostRuntime) -> Resul
             None => {}
         }
     }
-    assert!(rt; foreign > 1_000 && agreeing > 500, "{foreign} {agreeing}");
+    check!(rt; foreign > 1_000 && agreeing > 500, "{foreign} {agreeing}");
     Ok(())
 }

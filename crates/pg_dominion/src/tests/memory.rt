@@ -39,6 +39,11 @@ fn needed<T, E: Drop>(made: Result<T, E>) -> Result<T, Fail> {
     }
 }
 
+/// The game, of which nothing is said.
+fn needed_game(alloc: Global) -> Result<Game, Fail> {
+    needed(read_game(alloc, GAME))
+}
+
 fn claim_of(alloc: Global, rows: &[Row]) -> Result<Claim, Fail> {
     Ok(Claim {
         player: Player::Even,
@@ -54,17 +59,27 @@ fn judged_twice(alloc: Global, game: &Game, claim: &Claim) -> Result<(), ClaimFa
     }
 }
 
+/// What is said of a claim, which stays as it was.
+fn compare_judged(
+    rt: &impl Abort,
+    alloc: Global,
+    game: &Game,
+    rows: &[Row],
+    want: Result<(), ClaimFault>,
+) -> Result<(), Fail> {
+    let claim = claim_of(alloc, rows)?;
+    check_eq!(rt; judged_twice(alloc, game, &claim), want);
+    check!(rt; claim.rows.as_slice() == rows);
+    Ok(())
+}
+
 #[test]
 fn a_claim_is_judged_after_a_refusal(rt: HostRuntime) -> Result<(), Fail> {
     let alloc = rt.alloc();
-    let game = needed(read_game(alloc, GAME))?;
-    let good = claim_of(alloc, GOOD.as_slice())?;
-    let bad = claim_of(alloc, BAD.as_slice())?;
-    assert_eq!(rt; judged_twice(alloc, &game, &good), Ok(()));
-    assert_eq!(rt; judged_twice(alloc, &game, &bad), Err(ClaimFault::Cycle(2)));
-    assert!(rt; good.rows.as_slice() == GOOD.as_slice());
-    assert!(rt; bad.rows.as_slice() == BAD.as_slice());
-    Ok(())
+    let game = needed_game(alloc)?;
+    compare_judged(&rt, alloc, &game, GOOD.as_slice(), Ok(()))?;
+    let fault = Err(ClaimFault::Cycle(2));
+    compare_judged(&rt, alloc, &game, BAD.as_slice(), fault)
 }
 
 fn checked_twice<'g>(
@@ -78,17 +93,22 @@ fn checked_twice<'g>(
     }
 }
 
+/// The good claim, checked on the game.
+fn compare_checked(rt: &impl Abort, game: &Game, checked: &Checked) {
+    check!(rt; checked.player() == Player::Even);
+    check!(rt; checked.claim().rows.as_slice() == GOOD.as_slice());
+    check_eq!(rt; checked.rows().len(), 5);
+    check!(rt; checked.first_foreign(game).is_none());
+}
+
 #[test]
 fn a_claim_is_checked_after_a_refusal(rt: HostRuntime) -> Result<(), Fail> {
     let alloc = rt.alloc();
-    let game = needed(read_game(alloc, GAME))?;
+    let game = needed_game(alloc)?;
     let claim = claim_of(alloc, GOOD.as_slice())?;
     let checked = checked_twice(alloc, &game, &claim)?;
-    assert!(rt; checked.player() == Player::Even);
-    assert!(rt; checked.claim().rows.as_slice() == GOOD.as_slice());
-    assert_eq!(rt; checked.rows().len(), 5);
-    assert!(rt; checked.first_foreign(&game).is_none());
-    assert!(rt; claim.rows.as_slice() == GOOD.as_slice());
+    compare_checked(&rt, &game, &checked);
+    check!(rt; claim.rows.as_slice() == GOOD.as_slice());
     Ok(())
 }
 
@@ -102,6 +122,22 @@ fn solved_twice(alloc: Global, game: &Game, solution: &Solution) -> Result<(), S
     }
 }
 
+fn solution_of(alloc: Global, choices: &[Row]) -> Result<Solution, Fail> {
+    let mut rows = Vec::new(alloc);
+    for row in choices {
+        needed(rows.push((Player::Even, row.1)))?;
+    }
+    Ok(Solution {
+        rows: Sequence::new(rows),
+    })
+}
+
+/// The solution has these choices still.
+fn compare_choices(rt: &impl Abort, solution: &Solution, choices: &[Row]) {
+    let kept = solution.rows.as_slice().iter().map(|row| row.1);
+    check!(rt; kept.eq(choices.iter().map(|row| row.1)));
+}
+
 /// Even wins all of the game by these choices, or not.
 fn compare_solution(
     rt: &impl Abort,
@@ -110,26 +146,19 @@ fn compare_solution(
     choices: &[Row],
     want: Result<(), SolutionFault>,
 ) -> Result<(), Fail> {
-    let mut rows = Vec::new(alloc);
-    for row in choices {
-        needed(rows.push((Player::Even, row.1)))?;
-    }
-    if rows.len() != game.len() as usize {
+    let solution = solution_of(alloc, choices)?;
+    if solution.rows.as_slice().len() != game.len() as usize {
         return Err(Fail::from("there is not one row for each vertex"));
     }
-    let solution = Solution {
-        rows: Sequence::new(rows),
-    };
-    assert_eq!(rt; solved_twice(alloc, game, &solution), want);
-    let kept = solution.rows.as_slice().iter().map(|row| row.1);
-    assert!(rt; kept.eq(choices.iter().map(|row| row.1)));
+    check_eq!(rt; solved_twice(alloc, game, &solution), want);
+    compare_choices(rt, &solution, choices);
     Ok(())
 }
 
 #[test]
 fn a_solution_is_checked_after_a_refusal(rt: HostRuntime) -> Result<(), Fail> {
     let alloc = rt.alloc();
-    let game = needed(read_game(alloc, GAME))?;
+    let game = needed_game(alloc)?;
     compare_solution(&rt, alloc, &game, GOOD.as_slice(), Ok(()))?;
     let fault = Err(SolutionFault::Cycle(2));
     compare_solution(&rt, alloc, &game, BAD.as_slice(), fault)
@@ -166,21 +195,34 @@ fn masks_of(alloc: Global, game: &Game) -> Result<(Mask, Mask), Memory>
     Ok((all, last))
 }
 
+/// What is attracted, where the masks are a subgame and target.
+fn attracted(alloc: Global, game: &Game, inside: &Mask, target: &Mask) -> Result<Vec<Row>, Fail>
+    requires inside_length { length inside.now ≡ length game.now }
+    requires target_length { length target.now ≡ length game.now }
+{
+    if is_subgame(game, inside) && is_within(target, inside, game.len()) {
+        return Ok(attracted_twice(alloc, game, inside, target)?);
+    }
+    Err(Fail::from("the masks are no subgame and target"))
+}
+
+/// What the last vertex attracts; the masks stay as they were.
+fn compare_attracted(rt: &impl Abort, rows: &[Row], inside: &Mask, target: &Mask) {
+    let want = [(2, Some(4)), (3, Some(4)), (0, None), (1, None)];
+    check_eq!(rt; rows, want.as_slice());
+    check_eq!(rt; inside.count(), 5);
+    check_eq!(rt; target.count(), 1);
+}
+
 #[test]
 fn vertices_are_attracted_after_a_refusal(rt: HostRuntime) -> Result<(), Fail> {
     let alloc = rt.alloc();
-    let game = needed(read_game(alloc, GAME))?;
+    let game = needed_game(alloc)?;
     let Ok((inside, target)) = masks_of(alloc, &game) else {
         return Err(Fail::from("no memory for the test itself"));
     };
-    if !is_subgame(&game, &inside) || !is_within(&target, &inside, game.len()) {
-        return Err(Fail::from("the masks are no subgame and target"));
-    }
-    let rows = attracted_twice(alloc, &game, &inside, &target)?;
-    let want = [(2, Some(4)), (3, Some(4)), (0, None), (1, None)];
-    assert_eq!(rt; rows.as_slice(), want.as_slice());
-    assert_eq!(rt; inside.count(), 5);
-    assert_eq!(rt; target.count(), 1);
+    let rows = attracted(alloc, &game, &inside, &target)?;
+    compare_attracted(&rt, rows.as_slice(), &inside, &target);
     Ok(())
 }
 
@@ -206,15 +248,23 @@ fn kept_by<'g>(alloc: Global, game: &'g Game, claim: &Claim) -> Result<Kept<'g>,
     }
 }
 
+fn compare_worst(
+    rt: &impl Abort,
+    alloc: Global,
+    game: &Game,
+    rows: &[Row],
+    want: Option<u32>,
+) -> Result<(), Fail> {
+    let claim = claim_of(alloc, rows)?;
+    let kept = kept_by(alloc, game, &claim)?;
+    check_eq!(rt; worst_twice(alloc, &kept)?, want);
+    Ok(())
+}
+
 #[test]
 fn the_least_bad_vertex_is_found_after_a_refusal(rt: HostRuntime) -> Result<(), Fail> {
     let alloc = rt.alloc();
-    let game = needed(read_game(alloc, GAME))?;
-    let good = claim_of(alloc, GOOD.as_slice())?;
-    let bad = claim_of(alloc, BAD.as_slice())?;
-    let kept = kept_by(alloc, &game, &good)?;
-    assert_eq!(rt; worst_twice(alloc, &kept)?, None);
-    let kept = kept_by(alloc, &game, &bad)?;
-    assert_eq!(rt; worst_twice(alloc, &kept)?, Some(2));
-    Ok(())
+    let game = needed_game(alloc)?;
+    compare_worst(&rt, alloc, &game, GOOD.as_slice(), None)?;
+    compare_worst(&rt, alloc, &game, BAD.as_slice(), Some(2))
 }

@@ -244,10 +244,15 @@ impl Small {
         if let Some(v) = bad_choice {
             return Ok(Some(SolutionFault::BadChoice(v)));
         }
+        Ok(self.walk_fault(kept.as_slice(), even))
+    }
+
+    /// What is wrong first where these successors are kept and Even is said to win these vertices.
+    fn walk_fault(&self, kept: &[u32], even: u32) -> Option<SolutionFault> {
         for v in 0..self.len() {
             for w in 0..self.len() {
-                if has(at(kept.as_slice(), v), w) && has(even, v) != has(even, w) {
-                    return Ok(Some(SolutionFault::Leaves(v, w)));
+                if has(at(kept, v), w) && has(even, v) != has(even, w) {
+                    return Some(SolutionFault::Leaves(v, w));
                 }
             }
         }
@@ -257,11 +262,11 @@ impl Small {
             } else {
                 Player::Odd
             };
-            if self.is_bad(winner, v) && self.is_greatest_on_walk(kept.as_slice(), v) {
-                return Ok(Some(SolutionFault::Cycle(v)));
+            if self.is_bad(winner, v) && self.is_greatest_on_walk(kept, v) {
+                return Some(SolutionFault::Cycle(v));
             }
         }
-        Ok(None)
+        None
     }
 }
 

@@ -4,7 +4,8 @@ ghost use Rattle.std.specs.Prelude.{◌≡◌, ◌<◌};
 
 use crate::inside::Inside;
 use crate::tests::games::{
-    EVEN, ODD, Vertex, chain, even_loops, game_of, inside_of, nothing, self_loops, single, whole,
+    EVEN, ODD, Vertex, chain, even_loops, game_of, inside_of, nothing, self_loops, single, star,
+    whole,
 };
 use crate::tests::reference::{Numbered, has, rows_of_length};
 use crate::{Solved, zielonka};
@@ -21,17 +22,21 @@ fn rows(claim: &Claim) -> &[Row] {
     claim.rows.as_slice()
 }
 
+fn solved_in(alloc: Global, inside: &Inside) -> Result<Solved, Fail> {
+    Ok(zielonka(alloc, inside)?)
+}
+
 fn solved(rt: &impl Abort, alloc: Global, game: &Game) -> Result<Solved, Fail> {
     let inside = whole(rt, alloc, game)?;
-    Ok(zielonka(alloc, &inside)?)
+    solved_in(alloc, &inside)
 }
 
 /// The claims are the players' and have these rows.
-fn assert_rows(rt: &impl Abort, solved: &Solved, even: &[Row], odd: &[Row]) {
-    assert_eq!(*rt; solved.even.player, EVEN);
-    assert_eq!(*rt; solved.odd.player, ODD);
-    assert_eq!(*rt; rows(&solved.even), even);
-    assert_eq!(*rt; rows(&solved.odd), odd);
+fn assert_rows(rt: &impl Abort, solved: Solved, even: &[Row], odd: &[Row]) {
+    check_eq!(*rt; solved.even.player, EVEN);
+    check_eq!(*rt; solved.odd.player, ODD);
+    check_eq!(*rt; rows(&solved.even), even);
+    check_eq!(*rt; rows(&solved.odd), odd);
 }
 
 /// The claims of the whole game have these rows.
@@ -43,8 +48,7 @@ fn assert_solved(
     odd: &[Row],
 ) -> Result<(), Fail> {
     let game = game_of(alloc, vertices)?;
-    let claims = solved(rt, alloc, &game)?;
-    assert_rows(rt, &claims, even, odd);
+    assert_rows(rt, solved(rt, alloc, &game)?, even, odd);
     Ok(())
 }
 
@@ -121,35 +125,57 @@ fn the_greatest_priority_takes_all_through_the_opponents_vertex(
     )
 }
 
+/// Even wins all of five vertices by one choice at the third.
+const FIVE: [Vertex<'static>; 5] = [
+    (6, ODD, &[4, 2]),
+    (8, ODD, &[2, 4, 3]),
+    (7, EVEN, &[3, 1, 0, 4]),
+    (6, EVEN, &[4, 2]),
+    (5, ODD, &[0]),
+];
+
+fn assert_five(rt: &impl Abort, solved: Solved) {
+    check_eq!(*rt; rows(&solved.even).len(), 5);
+    check_eq!(*rt; rows(&solved.even).get(2).copied(), Some((2, Some(1))));
+    check!(*rt; rows(&solved.odd).is_empty());
+}
+
 #[test]
 fn five_vertices_are_all_evens(rt: HostRuntime) -> Result<(), Fail> {
     let alloc = rt.alloc();
-    let vertices = [
-        (6, ODD, [4, 2].as_slice()),
-        (8, ODD, [2, 4, 3].as_slice()),
-        (7, EVEN, [3, 1, 0, 4].as_slice()),
-        (6, EVEN, [4, 2].as_slice()),
-        (5, ODD, [0].as_slice()),
-    ];
-    let game = game_of(alloc, vertices.as_slice())?;
-    let claims = solved(&rt, alloc, &game)?;
-    assert_eq!(rt; rows(&claims.even).len(), 5);
-    assert_eq!(rt; rows(&claims.even).get(2), Some(&(2, Some(1))));
-    assert!(rt; rows(&claims.odd).is_empty());
+    let game = game_of(alloc, FIVE.as_slice())?;
+    assert_five(&rt, solved(&rt, alloc, &game)?);
+    Ok(())
+}
+
+/// The claims of the vertex alone have these rows.
+fn assert_alone(
+    rt: &impl Abort,
+    alloc: Global,
+    game: &Game,
+    v: u32,
+    even: &[Row],
+    odd: &[Row],
+) -> Result<(), Fail> {
+    let one = inside_of(rt, game, single(rt, alloc, game, v)?);
+    assert_rows(rt, solved_in(alloc, &one)?, even, odd);
+    Ok(())
+}
+
+/// The claims of none of the game have no rows.
+fn assert_none(rt: &impl Abort, alloc: Global, game: &Game) -> Result<(), Fail> {
+    let none = nothing(rt, alloc, game)?;
+    assert_rows(rt, solved_in(alloc, &none)?, &[], &[]);
     Ok(())
 }
 
 #[test]
 fn parts_of_a_game_are_solved_alone(rt: HostRuntime) -> Result<(), Fail> {
     let alloc = rt.alloc();
-    let vertices = [(2, EVEN, [0, 1].as_slice()), (1, ODD, [1].as_slice())];
+    let vertices: [Vertex; 2] = [(2, EVEN, &[0, 1]), (1, ODD, &[1])];
     let game = game_of(alloc, vertices.as_slice())?;
-    let one = inside_of(&rt, &game, single(&rt, alloc, &game, 1)?);
-    let row = [(1, Some(1))];
-    assert_rows(&rt, &zielonka(alloc, &one)?, [].as_slice(), row.as_slice());
-    let none = nothing(&rt, alloc, &game)?;
-    assert_rows(&rt, &zielonka(alloc, &none)?, [].as_slice(), [].as_slice());
-    Ok(())
+    assert_alone(&rt, alloc, &game, 1, &[], &[(1, Some(1))])?;
+    assert_none(&rt, alloc, &game)
 }
 
 #[test]
@@ -164,8 +190,8 @@ fn a_vertex_without_successors_inside_is_no_subgame(rt: HostRuntime) -> Result<(
     match Inside::new(&game, single(&rt, alloc, &game, 1)?) {
         Ok(_) => panic!(rt; "a subgame"),
         Err((mask, v)) => {
-            assert_eq!(rt; v, 1);
-            assert_eq!(rt; mask.count(), 1);
+            check_eq!(rt; v, 1);
+            check_eq!(rt; mask.count(), 1);
         }
     }
     Ok(())
@@ -176,23 +202,33 @@ fn is_good(alloc: Global, game: &Game, claim: &Claim) -> bool {
     rows(claim).is_empty() || check_claim(alloc, game, claim).is_ok()
 }
 
+/// Even wins all that she claims, and nothing that Odd claims.
+fn assert_winners(rt: &impl Abort, solved: &Solved, wins: u32) {
+    'even: for row in rows(&solved.even) {
+        check!(*rt; has(wins, row.0));
+    }
+    'odd: for row in rows(&solved.odd) {
+        check!(*rt; !has(wins, row.0));
+    }
+}
+
+/// The claims are good, and name so many vertices.
+fn assert_all_good(rt: &impl Abort, alloc: Global, game: &Game, solved: &Solved, len: u32) {
+    let count = rows(&solved.even)
+        .len()
+        .saturating_add(rows(&solved.odd).len());
+    check_eq!(*rt; count, len as usize);
+    check!(*rt; is_good(alloc, game, &solved.even));
+    check!(*rt; is_good(alloc, game, &solved.odd));
+}
+
 /// The claims are good, and their vertices are those that all strategies win.
 fn assert_as_defined(rt: &impl Abort, alloc: Global, numbered: Numbered) -> Result<(), Fail> {
     let game = numbered.game(alloc)?;
     let claims = solved(rt, alloc, &game)?;
     let wins = numbered.even_wins(alloc)?;
-    'even: for row in rows(&claims.even) {
-        assert!(*rt; has(wins, row.0));
-    }
-    'odd: for row in rows(&claims.odd) {
-        assert!(*rt; !has(wins, row.0));
-    }
-    let count = rows(&claims.even)
-        .len()
-        .saturating_add(rows(&claims.odd).len());
-    assert_eq!(*rt; count, numbered.len as usize);
-    assert!(*rt; is_good(alloc, &game, &claims.even));
-    assert!(*rt; is_good(alloc, &game, &claims.odd));
+    assert_winners(rt, &claims, wins);
+    assert_all_good(rt, alloc, &game, &claims, numbered.len);
     Ok(())
 }
 
@@ -220,9 +256,19 @@ fn a_thousand_loops_are_shared_out(rt: HostRuntime) -> Result<(), Fail> {
     let alloc = rt.alloc();
     let game = self_loops(alloc, 1_000)?;
     let claims = solved(&rt, alloc, &game)?;
-    assert_eq!(rt; rows(&claims.even).len(), 500);
-    assert_eq!(rt; rows(&claims.odd).len(), 500);
+    check_eq!(rt; rows(&claims.even).len(), 500);
+    check_eq!(rt; rows(&claims.odd).len(), 500);
     Ok(())
+}
+
+/// Each of five thousand vertices is chosen at itself.
+fn assert_own_choices(rt: &impl Abort, rows: &[Row]) {
+    let mut v = 0u32;
+    for row in rows {
+        check_eq!(*rt; *row, (v, Some(v)));
+        v = v.saturating_add(1);
+    }
+    check_eq!(*rt; v, 5_000);
 }
 
 #[test]
@@ -230,13 +276,8 @@ fn five_thousand_even_loops_are_all_evens(rt: HostRuntime) -> Result<(), Fail> {
     let alloc = rt.alloc();
     let game = even_loops(alloc, 5_000)?;
     let claims = solved(&rt, alloc, &game)?;
-    assert!(rt; rows(&claims.odd).is_empty());
-    let mut v = 0u32;
-    for row in rows(&claims.even) {
-        assert_eq!(rt; *row, (v, Some(v)));
-        v = v.saturating_add(1);
-    }
-    assert_eq!(rt; v, 5_000);
+    check!(rt; rows(&claims.odd).is_empty());
+    assert_own_choices(&rt, rows(&claims.even));
     Ok(())
 }
 
@@ -247,7 +288,19 @@ fn a_chain_with_as_many_priorities_as_a_game_may_have_is_the_last_vertexs(
     let alloc = rt.alloc();
     let game = chain(alloc, 1_048_576)?;
     let claims = solved(&rt, alloc, &game)?;
-    assert!(rt; rows(&claims.even).is_empty());
-    assert_eq!(rt; rows(&claims.odd).len(), 1_048_576);
+    check!(rt; rows(&claims.even).is_empty());
+    check_eq!(rt; rows(&claims.odd).len(), 1_048_576);
+    Ok(())
+}
+
+#[test]
+fn a_star_with_as_many_levels_as_a_game_may_have_is_its_first_vertexs(
+    rt: HostRuntime,
+) -> Result<(), Fail> {
+    let alloc = rt.alloc();
+    let game = star(alloc, 1_048_576)?;
+    let claims = solved(&rt, alloc, &game)?;
+    assert_eq!(rt; rows(&claims.even).len(), 1_048_576);
+    assert!(rt; rows(&claims.odd).is_empty());
     Ok(())
 }

@@ -7,23 +7,51 @@ use crate::tests::games::{
     EVEN, ODD, Vertex, dense, game_of, inside_of, nothing, ring, rows_of, single, whole,
 };
 use crate::{Small, find_loop, find_small, find_solitaire};
+use pg_dominion::Claim;
 use pg_game::{Game, Player};
 use std::alloc::Global;
 use std::process::Abort;
 use std::test::Fail;
 
+/// The loop that is found for the player.
+fn loop_in(alloc: Global, inside: &Inside, player: Player) -> Result<Option<Claim>, Fail> {
+    Ok(find_loop(alloc, inside, player)?)
+}
+
+/// What is found where one player alone has choices.
+fn solitaire_in(alloc: Global, inside: &Inside) -> Result<Option<Claim>, Fail> {
+    Ok(find_solitaire(alloc, inside)?)
+}
+
+fn assert_no_loop(
+    rt: &impl Abort,
+    alloc: Global,
+    inside: &Inside,
+    player: Player,
+) -> Result<(), Fail> {
+    let found = loop_in(alloc, inside, player)?;
+    check!(*rt; found.is_none());
+    Ok(())
+}
+
+fn assert_no_solitaire(rt: &impl Abort, alloc: Global, inside: &Inside) -> Result<(), Fail> {
+    let found = solitaire_in(alloc, inside)?;
+    check!(*rt; found.is_none());
+    Ok(())
+}
+
+/// A claim of these rows was found.
+fn assert_claimed(rt: &impl Abort, found: Option<Claim>, rows: &[(u32, Option<u32>)]) {
+    check_eq!(*rt; rows_of(&found), rows);
+}
+
 #[test]
 fn loops_are_found_for_their_player(rt: HostRuntime) -> Result<(), Fail> {
     let alloc = rt.alloc();
-    let vertices = [
-        (0, EVEN, [0].as_slice()),
-        (0, ODD, [0].as_slice()),
-        (1, ODD, [2].as_slice()),
-    ];
+    let vertices: [Vertex; 3] = [(0, EVEN, &[0]), (0, ODD, &[0]), (1, ODD, &[2])];
     let game = game_of(alloc, vertices.as_slice())?;
     let inside = whole(&rt, alloc, &game)?;
-    let row = [(2, Some(2))];
-    assert_eq!(rt; rows_of(&find_loop(alloc, &inside, ODD)?), row.as_slice());
+    assert_claimed(&rt, loop_in(alloc, &inside, ODD)?, &[(2, Some(2))]);
     Ok(())
 }
 
@@ -33,34 +61,38 @@ fn an_opponent_without_another_way_inside_is_a_loop(rt: HostRuntime) -> Result<(
     let vertices = [(0, EVEN, [0].as_slice()), (0, ODD, [0, 1].as_slice())];
     let game = game_of(alloc, vertices.as_slice())?;
     let inside = inside_of(&rt, &game, single(&rt, alloc, &game, 1)?);
-    let row = [(1, None)];
-    assert_eq!(rt; rows_of(&find_loop(alloc, &inside, EVEN)?), row.as_slice());
+    assert_claimed(&rt, loop_in(alloc, &inside, EVEN)?, &[(1, None)]);
     Ok(())
 }
 
 #[test]
 fn where_both_players_choose_nothing_is_solitaire(rt: HostRuntime) -> Result<(), Fail> {
     let alloc = rt.alloc();
-    let vertices = [(0, EVEN, [0, 1].as_slice()), (0, ODD, [0, 1].as_slice())];
+    let vertices: [Vertex; 2] = [(0, EVEN, &[0, 1]), (0, ODD, &[0, 1])];
     let game = game_of(alloc, vertices.as_slice())?;
     let inside = whole(&rt, alloc, &game)?;
-    assert!(rt; find_solitaire(alloc, &inside)?.is_none());
-    let row = [(0, Some(0))];
-    assert_eq!(rt; rows_of(&find_loop(alloc, &inside, EVEN)?), row.as_slice());
-    assert!(rt; find_loop(alloc, &inside, ODD)?.is_none());
-    Ok(())
+    assert_no_solitaire(&rt, alloc, &inside)?;
+    assert_claimed(&rt, loop_in(alloc, &inside, EVEN)?, &[(0, Some(0))]);
+    assert_no_loop(&rt, alloc, &inside, ODD)
+}
+
+/// A claim of Even's of these rows was found.
+fn assert_evens(rt: &impl Abort, found: Option<Claim>, rows: &[(u32, Option<u32>)]) {
+    check_eq!(*rt; rows_of(&found), rows);
+    check!(*rt; matches!(&found, Some(claim) if claim.player == EVEN));
 }
 
 #[test]
 fn a_cycle_is_solitaire(rt: HostRuntime) -> Result<(), Fail> {
     let alloc = rt.alloc();
-    let vertices = [(1, EVEN, [1].as_slice()), (2, EVEN, [0].as_slice())];
+    let vertices: [Vertex; 2] = [(1, EVEN, &[1]), (2, EVEN, &[0])];
     let game = game_of(alloc, vertices.as_slice())?;
     let inside = whole(&rt, alloc, &game)?;
-    let found = find_solitaire(alloc, &inside)?;
-    let rows = [(0, Some(1)), (1, Some(0))];
-    assert_eq!(rt; rows_of(&found), rows.as_slice());
-    assert!(rt; matches!(&found, Some(claim) if claim.player == EVEN));
+    assert_evens(
+        &rt,
+        solitaire_in(alloc, &inside)?,
+        &[(0, Some(1)), (1, Some(0))],
+    );
     Ok(())
 }
 
@@ -103,17 +135,21 @@ fn small_of(
     small_in(rt, alloc, &game, bound, budget)
 }
 
+/// A search for Even from vertex 0 finds nothing.
+fn assert_no_small(rt: &impl Abort, alloc: Global, inside: &Inside) -> Result<(), Fail> {
+    let small = from_first(rt, alloc, inside, EVEN, 4, 100)?;
+    check!(*rt; matches!(small, Small::Nothing));
+    Ok(())
+}
+
 #[test]
 fn an_empty_part_has_nothing(rt: HostRuntime) -> Result<(), Fail> {
     let alloc = rt.alloc();
-    let vertices = [(0, EVEN, [0].as_slice())];
-    let game = game_of(alloc, vertices.as_slice())?;
+    let game = game_of(alloc, ITSELF.as_slice())?;
     let inside = nothing(&rt, alloc, &game)?;
-    assert!(rt; find_loop(alloc, &inside, EVEN)?.is_none());
-    assert!(rt; find_solitaire(alloc, &inside)?.is_none());
-    let small = from_first(&rt, alloc, &inside, EVEN, 4, 100)?;
-    assert!(rt; matches!(small, Small::Nothing));
-    Ok(())
+    assert_no_loop(&rt, alloc, &inside, EVEN)?;
+    assert_no_solitaire(&rt, alloc, &inside)?;
+    assert_no_small(&rt, alloc, &inside)
 }
 
 /// The rows that were found.
@@ -124,21 +160,37 @@ fn rows_in(small: &Small) -> &[(u32, Option<u32>)] {
     }
 }
 
+/// The search finds a claim with these rows.
+fn assert_found(
+    rt: &impl Abort,
+    alloc: Global,
+    vertices: &[Vertex],
+    bound: u32,
+    budget: u64,
+    rows: &[(u32, Option<u32>)],
+) -> Result<(), Fail> {
+    let small = small_of(rt, alloc, vertices, bound, budget)?;
+    check_eq!(*rt; rows_in(&small), rows, "bound {bound}, budget {budget}");
+    Ok(())
+}
+
 #[test]
 fn a_forced_vertex_needs_a_bound_of_two_and_one_choice(rt: HostRuntime) -> Result<(), Fail> {
     let alloc = rt.alloc();
     let vertices = [(0, ODD, [1].as_slice()), (2, EVEN, [0].as_slice())];
     let rows = [(0, None), (1, Some(0))];
     'found: for (bound, budget) in [(2, 1_000), (8, 2), (8, 1)] {
-        let small = small_of(&rt, alloc, vertices.as_slice(), bound, budget)?;
-        assert_eq!(rt;
-            rows_in(&small),
+        assert_found(
+            &rt,
+            alloc,
+            vertices.as_slice(),
+            bound,
+            budget,
             rows.as_slice(),
-            "bound {bound}, budget {budget}"
-        );
+        )?;
     }
     let small = small_of(&rt, alloc, vertices.as_slice(), 1, 1_000)?;
-    assert!(rt; matches!(small, Small::Nothing));
+    check!(rt; matches!(small, Small::Nothing));
     Ok(())
 }
 
@@ -152,28 +204,46 @@ fn assert_needs(
     less: u64,
 ) -> Result<(), Fail> {
     let enough = small_of(rt, alloc, vertices, bound, choices)?;
-    assert!(*rt; !matches!(enough, Small::GaveUp), "{choices} are enough");
+    check!(*rt; !matches!(enough, Small::GaveUp), "{choices} are enough");
     let small = small_of(rt, alloc, vertices, bound, less)?;
-    assert!(*rt; matches!(small, Small::GaveUp), "{choices} are needed");
+    check!(*rt; matches!(small, Small::GaveUp), "{choices} are needed");
     Ok(())
 }
+
+const ITSELF: [Vertex<'static>; 1] = [(0, EVEN, &[0])];
+
+const ALL_BAD: [Vertex<'static>; 2] = [(1, EVEN, &[0, 1]), (1, ODD, &[0, 1])];
+
+const BOTH_CHOSEN: [Vertex<'static>; 2] = [(1, EVEN, &[0, 1]), (1, EVEN, &[0, 1])];
+
+const THREE: [Vertex<'static>; 3] = [(0, EVEN, &[1]), (0, EVEN, &[2]), (0, EVEN, &[0])];
 
 #[test]
 fn a_budget_is_used_to_the_last_choice(rt: HostRuntime) -> Result<(), Fail> {
     let alloc = rt.alloc();
-    let itself = [(0, EVEN, [0].as_slice())];
-    assert_needs(&rt, alloc, itself.as_slice(), 1, 1, 0)?;
-    let all_bad = [(1, EVEN, [0, 1].as_slice()), (1, ODD, [0, 1].as_slice())];
-    assert_needs(&rt, alloc, all_bad.as_slice(), 2, 2, 1)?;
-    let both_chosen = [(1, EVEN, [0, 1].as_slice()), (1, EVEN, [0, 1].as_slice())];
-    assert_needs(&rt, alloc, both_chosen.as_slice(), 2, 4, 3)?;
-    let three = [
-        (0, EVEN, [1].as_slice()),
-        (0, EVEN, [2].as_slice()),
-        (0, EVEN, [0].as_slice()),
-    ];
-    assert_needs(&rt, alloc, three.as_slice(), 3, 3, 2)?;
-    assert_needs(&rt, alloc, three.as_slice(), 2, 2, 1)
+    assert_needs(&rt, alloc, ITSELF.as_slice(), 1, 1, 0)?;
+    assert_needs(&rt, alloc, ALL_BAD.as_slice(), 2, 2, 1)?;
+    assert_needs(&rt, alloc, BOTH_CHOSEN.as_slice(), 2, 4, 3)?;
+    assert_needs(&rt, alloc, THREE.as_slice(), 3, 3, 2)?;
+    assert_needs(&rt, alloc, THREE.as_slice(), 2, 2, 1)
+}
+
+/// The search gives up, or else finds that there is nothing.
+fn assert_gives_up(
+    rt: &impl Abort,
+    alloc: Global,
+    vertices: &[Vertex],
+    budget: u64,
+    gives_up: bool,
+) -> Result<(), Fail> {
+    let small = small_of(rt, alloc, vertices, 2, budget)?;
+    check_eq!(*rt; matches!(small, Small::GaveUp), gives_up, "budget {budget}");
+    check_eq!(*rt;
+        matches!(small, Small::Nothing),
+        !gives_up,
+        "budget {budget}"
+    );
+    Ok(())
 }
 
 #[test]
@@ -181,15 +251,16 @@ fn a_budget_that_covers_all_choices_does_not_give_up(rt: HostRuntime) -> Result<
     let alloc = rt.alloc();
     let all_edges = [(1, EVEN, [0, 1].as_slice()), (1, EVEN, [0, 1].as_slice())];
     'budgets: for (budget, gives_up) in [(6, false), (5, false), (4, false), (3, true)] {
-        let small = small_of(&rt, alloc, all_edges.as_slice(), 2, budget)?;
-        assert_eq!(rt; matches!(small, Small::GaveUp), gives_up, "budget {budget}");
-        assert_eq!(rt;
-            matches!(small, Small::Nothing),
-            !gives_up,
-            "budget {budget}"
-        );
+        assert_gives_up(&rt, alloc, all_edges.as_slice(), budget, gives_up)?;
     }
     Ok(())
+}
+
+/// What a search for Even from vertices 0 and 1 answers in the whole game.
+fn from_both(rt: &impl Abort, alloc: Global, game: &Game, budget: u64) -> Result<Small, Fail> {
+    let inside = whole(rt, alloc, game)?;
+    assert!(*rt; 1 < game.len());
+    Ok(find_small(alloc, &inside, EVEN, [0, 1].as_slice(), 8, budget)?)
 }
 
 #[test]
@@ -197,14 +268,11 @@ fn seeds_share_the_budget(rt: HostRuntime) -> Result<(), Fail> {
     let alloc = rt.alloc();
     let vertices = [(1, EVEN, [0].as_slice()), (0, EVEN, [1].as_slice())];
     let game = game_of(alloc, vertices.as_slice())?;
-    let inside = whole(&rt, alloc, &game)?;
-    assert!(rt; 1 < game.len());
-    let seeds = [0, 1];
-    let found = find_small(alloc, &inside, EVEN, seeds.as_slice(), 8, 2)?;
     let row = [(1, Some(1))];
-    assert_eq!(rt; rows_in(&found), row.as_slice());
-    let less = find_small(alloc, &inside, EVEN, seeds.as_slice(), 8, 1)?;
-    assert!(rt; matches!(less, Small::GaveUp));
+    let found = from_both(&rt, alloc, &game, 2)?;
+    check_eq!(rt; rows_in(&found), row.as_slice());
+    let less = from_both(&rt, alloc, &game, 1)?;
+    check!(rt; matches!(less, Small::GaveUp));
     Ok(())
 }
 
@@ -213,10 +281,10 @@ fn eight_vertices_are_the_most(rt: HostRuntime) -> Result<(), Fail> {
     let alloc = rt.alloc();
     let eight = ring(alloc, 8)?;
     let small = small_in(&rt, alloc, &eight, 8, 8)?;
-    assert_eq!(rt; rows_in(&small).len(), 8);
+    check_eq!(rt; rows_in(&small).len(), 8);
     let nine = ring(alloc, 9)?;
     let small = small_in(&rt, alloc, &nine, 8, 1_000)?;
-    assert!(rt; matches!(small, Small::Nothing));
+    check!(rt; matches!(small, Small::Nothing));
     Ok(())
 }
 
@@ -225,6 +293,6 @@ fn a_search_among_too_many_choices_gives_up(rt: HostRuntime) -> Result<(), Fail>
     let alloc = rt.alloc();
     let game = dense(alloc, 200)?;
     let small = small_in(&rt, alloc, &game, 8, 10_000)?;
-    assert!(rt; matches!(small, Small::GaveUp));
+    check!(rt; matches!(small, Small::GaveUp));
     Ok(())
 }

@@ -143,6 +143,15 @@ pub fn chain(alloc: Global, n: u32) -> Result<Game, Fail> {
     draft.game(alloc)
 }
 
+/// Each vertex is Even's and leads to the first, and priorities rise.
+pub fn star(alloc: Global, n: u32) -> Result<Game, Fail> {
+    let mut draft = Draft::new(alloc);
+    'rows: for v in 0..n {
+        draft.add(alloc, v, EVEN, [0].as_slice())?;
+    }
+    draft.game(alloc)
+}
+
 /// Each vertex is Even's, has priority 0 and leads to the next, and the last to the first.
 pub fn ring(alloc: Global, n: u32) -> Result<Game, Fail> {
     let mut draft = Draft::new(alloc);

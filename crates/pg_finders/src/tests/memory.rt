@@ -85,8 +85,8 @@ fn needed_whole<'g>(rt: &impl Abort, alloc: Global, game: &'g Game) -> Result<In
 
 /// The part is all of the game still.
 fn compare_part(rt: &impl Abort, inside: &Inside, game: &Game) {
-    assert!(*rt; *inside.game() == *game);
-    assert_eq!(*rt; inside.mask().count(), game.len());
+    check!(*rt; *inside.game() == *game);
+    check_eq!(*rt; inside.mask().count(), game.len());
 }
 
 const EVENS: [Row; 3] = [(0, Some(0)), (1, Some(2)), (2, None)];
@@ -100,17 +100,21 @@ fn solved_twice(alloc: Global, inside: &Inside) -> Result<Solved, Memory> {
     }
 }
 
+/// The claim is the player's, of these vertices.
+fn compare_vertices(rt: &impl Abort, claim: &Claim, player: Player, rows: &[Row]) {
+    check!(*rt; claim.player == player);
+    let vertices = claim.rows.as_slice().iter().map(|row| row.0);
+    check!(*rt; vertices.eq(rows.iter().map(|row| row.0)));
+}
+
 #[test]
 fn a_game_is_solved_after_a_refusal(rt: HostRuntime) -> Result<(), Fail> {
     let alloc = rt.alloc();
     let game = needed_game(alloc, VERTICES.as_slice())?;
     let inside = needed_whole(&rt, alloc, &game)?;
     let Solved { even, odd } = solved_twice(alloc, &inside)?;
-    assert!(rt; even.player == EVEN && odd.player == ODD);
-    let vertices = even.rows.as_slice().iter().map(|row| row.0);
-    assert!(rt; vertices.eq(EVENS.iter().map(|row| row.0)));
-    let vertices = odd.rows.as_slice().iter().map(|row| row.0);
-    assert!(rt; vertices.eq(ODDS.iter().map(|row| row.0)));
+    compare_vertices(&rt, &even, EVEN, EVENS.as_slice());
+    compare_vertices(&rt, &odd, ODD, ODDS.as_slice());
     compare_part(&rt, &inside, &game);
     Ok(())
 }
@@ -122,15 +126,18 @@ fn loop_twice(alloc: Global, inside: &Inside, player: Player) -> Result<Option<C
     }
 }
 
+/// A claim of these rows was found.
+fn compare_rows(rt: &impl Abort, found: Option<Claim>, rows: &[Row]) {
+    check_eq!(*rt; rows_of(&found), rows);
+}
+
 #[test]
 fn loops_are_found_after_a_refusal(rt: HostRuntime) -> Result<(), Fail> {
     let alloc = rt.alloc();
     let game = needed_game(alloc, VERTICES.as_slice())?;
     let inside = needed_whole(&rt, alloc, &game)?;
-    let even = loop_twice(alloc, &inside, EVEN)?;
-    assert_eq!(rt; rows_of(&even), [(0, Some(0))].as_slice());
-    let odd = loop_twice(alloc, &inside, ODD)?;
-    assert_eq!(rt; rows_of(&odd), [(3, Some(3))].as_slice());
+    compare_rows(&rt, loop_twice(alloc, &inside, EVEN)?, &[(0, Some(0))]);
+    compare_rows(&rt, loop_twice(alloc, &inside, ODD)?, &[(3, Some(3))]);
     compare_part(&rt, &inside, &game);
     Ok(())
 }
@@ -143,15 +150,15 @@ fn solitaire_twice(alloc: Global, inside: &Inside) -> Result<Option<Claim>, Allo
 }
 
 /// Odd has one successor at each vertex of his, and Even wins all by going round.
+const SOLITAIRE: [Vertex<'static>; 3] = [(1, EVEN, &[0, 1]), (1, EVEN, &[2]), (4, ODD, &[0])];
+
 #[test]
 fn a_solitaire_game_is_solved_after_a_refusal(rt: HostRuntime) -> Result<(), Fail> {
     let alloc = rt.alloc();
-    let vertices: [Vertex; 3] = [(1, EVEN, &[0, 1]), (1, EVEN, &[2]), (4, ODD, &[0])];
-    let game = needed_game(alloc, vertices.as_slice())?;
+    let game = needed_game(alloc, SOLITAIRE.as_slice())?;
     let inside = needed_whole(&rt, alloc, &game)?;
-    let found = solitaire_twice(alloc, &inside)?;
     let want = [(0, Some(1)), (1, Some(2)), (2, None)];
-    assert_eq!(rt; rows_of(&found), want.as_slice());
+    compare_rows(&rt, solitaire_twice(alloc, &inside)?, want.as_slice());
     compare_part(&rt, &inside, &game);
     Ok(())
 }
@@ -166,17 +173,22 @@ fn small_twice(alloc: Global, inside: &Inside, seed: u32) -> Result<Small, Alloc
     }
 }
 
+fn small_from_last(rt: &impl Abort, alloc: Global, inside: &Inside) -> Result<Claim, Fail> {
+    assert_eq!(*rt; inside.game().len(), 5);
+    match small_twice(alloc, inside, 4)? {
+        Small::Found(claim) => Ok(claim),
+        _ => Err(Fail::from("nothing was found")),
+    }
+}
+
 #[test]
 fn a_small_dominion_is_found_after_a_refusal(rt: HostRuntime) -> Result<(), Fail> {
     let alloc = rt.alloc();
     let game = needed_game(alloc, VERTICES.as_slice())?;
     let inside = needed_whole(&rt, alloc, &game)?;
-    assert_eq!(rt; inside.game().len(), 5);
-    let Small::Found(claim) = small_twice(alloc, &inside, 4)? else {
-        return Err(Fail::from("nothing was found"));
-    };
-    assert!(rt; claim.player == ODD);
-    assert_eq!(rt; claim.rows.as_slice(), ODDS.as_slice());
+    let claim = small_from_last(&rt, alloc, &inside)?;
+    check!(rt; claim.player == ODD);
+    check_eq!(rt; claim.rows.as_slice(), ODDS.as_slice());
     compare_part(&rt, &inside, &game);
     Ok(())
 }
@@ -186,6 +198,17 @@ fn found_twice(alloc: Global, copied: &Copied, job: &Job) -> Result<Found, Alloc
         Ok(found) => Ok(found),
         Err(_) => Standard.find(alloc, copied, job),
     }
+}
+
+/// Not given up, with claims of these players and of so many vertices.
+fn compare_sizes(rt: &impl Abort, found: &Found, claims: &[(Player, usize)]) {
+    let sizes = found.claims.iter();
+    check!(*rt; !found.gave_up);
+    check!(*rt;
+        sizes
+            .map(|claim| (claim.player, claim.rows.as_slice().len()))
+            .eq(claims.iter().copied())
+    );
 }
 
 /// How many claims the product's finder has for a job, and of how many vertices.
@@ -202,14 +225,8 @@ fn compare_found(
         settled: 11,
     };
     let found = found_twice(alloc, &copied, job)?;
-    let sizes = found.claims.iter();
-    assert!(*rt; !found.gave_up);
-    assert!(*rt;
-        sizes
-            .map(|claim| (claim.player, claim.rows.as_slice().len()))
-            .eq(claims.iter().copied())
-    );
-    assert!(*rt; copied.at == 7 && copied.settled == 11);
+    compare_sizes(rt, &found, claims);
+    check!(*rt; copied.at == 7 && copied.settled == 11);
     compare_part(rt, &copied.inside, &game);
     Ok(())
 }

@@ -28,7 +28,7 @@ fn named(claim: &Claim) -> u32 {
 fn assert_chosen_in(rt: &impl Abort, claim: &Claim, set: u32) {
     for row in claim.rows.as_slice() {
         if let Some(w) = row.1 {
-            assert!(*rt; has(set, w));
+            check!(*rt; has(set, w));
         }
     }
 }
@@ -46,12 +46,12 @@ impl Place<'_, '_> {
     /// The claim is good in the subgame, the player's, within the bound, and holds the seed.
     fn assert_good(self, rt: &impl Abort, alloc: Global, claim: &Claim, seed: u32, bound: u32) {
         let set = named(claim);
-        assert_eq!(*rt; claim.player, self.player);
-        assert!(*rt; claim.rows.as_slice().len() <= bound as usize);
-        assert!(*rt; has(set, seed));
-        assert!(*rt; self.table.is_closed(self.members, self.player, set));
+        check_eq!(*rt; claim.player, self.player);
+        check!(*rt; claim.rows.as_slice().len() <= bound as usize);
+        check!(*rt; has(set, seed));
+        check!(*rt; self.table.is_closed(self.members, self.player, set));
         assert_chosen_in(rt, claim, set);
-        assert!(*rt; check_claim(alloc, self.inside.game(), claim).is_ok());
+        check!(*rt; check_claim(alloc, self.inside.game(), claim).is_ok());
     }
 
     /// What a search from the seed answers, whose budget is ample.
@@ -81,10 +81,10 @@ impl Place<'_, '_> {
     ) -> Result<(), Fail> {
         match self.found(rt, alloc, seed, bound)? {
             Small::Found(claim) => {
-                assert!(*rt; in_dominion, "none has {seed}");
+                check!(*rt; in_dominion, "none has {seed}");
                 self.assert_good(rt, alloc, &claim, seed, bound);
             }
-            Small::Nothing => assert!(*rt; !in_dominion, "one has {seed}"),
+            Small::Nothing => check!(*rt; !in_dominion, "one has {seed}"),
             Small::GaveUp => panic!(*rt; "gave up"),
         }
         Ok(())
@@ -250,6 +250,6 @@ fn searches_in_random_subgames_find_what_all_sets_and_choices_have(
     for _round in 0..1_000u32 {
         parts = parts.saturating_add(random_parts(&rt, alloc, &mut random)?);
     }
-    assert!(rt; parts > 1_000);
+    check!(rt; parts > 1_000);
     Ok(())
 }

@@ -2,6 +2,7 @@
 
 use crate::tests::games::{EVEN, ODD, Vertex, game_of, ring, whole};
 use crate::{Copied, Finder, Found, Job, Standard};
+use pg_dominion::Claim;
 use pg_game::{Game, Player};
 use std::alloc::Global;
 use std::process::Abort;
@@ -16,25 +17,33 @@ fn found_in(rt: &impl Abort, alloc: Global, game: &Game, job: Job) -> Result<Fou
     Ok(Standard.find(alloc, &copied, &job)?)
 }
 
-/// The claims that are given, each by its player and its first row.
+/// A claim by its player and its first row.
+type Told = (Player, u32, Option<u32>);
+
+fn assert_told(rt: &impl Abort, job: Job, claim: &Claim, want: Told) {
+    let (player, vertex, choice) = want;
+    check_eq!(*rt; claim.player, player, "{job:?}");
+    check_eq!(*rt;
+        claim.rows.as_slice().first().copied(),
+        Some((vertex, choice)),
+        "{job:?}"
+    );
+}
+
+/// The claims that are given.
 fn assert_gives(
     rt: &impl Abort,
     alloc: Global,
     vertices: &[Vertex],
     job: Job,
-    claims: &[(Player, u32, Option<u32>)],
+    claims: &[Told],
 ) -> Result<(), Fail> {
     let game = game_of(alloc, vertices)?;
     let found = found_in(rt, alloc, &game, job)?;
-    assert!(*rt; !found.gave_up, "{job:?}");
-    assert_eq!(*rt; found.claims.len(), claims.len(), "{job:?}");
-    'claims: for (claim, (player, vertex, choice)) in found.claims.iter().zip(claims) {
-        assert_eq!(*rt; claim.player, *player, "{job:?}");
-        assert_eq!(*rt;
-            claim.rows.as_slice().first(),
-            Some(&(*vertex, *choice)),
-            "{job:?}"
-        );
+    check!(*rt; !found.gave_up, "{job:?}");
+    check_eq!(*rt; found.claims.len(), claims.len(), "{job:?}");
+    'claims: for (claim, told) in found.claims.iter().zip(claims) {
+        assert_told(rt, job, claim, *told);
     }
     Ok(())
 }
@@ -105,10 +114,10 @@ fn a_bound_above_eight_is_eight(rt: HostRuntime) -> Result<(), Fail> {
     let alloc = rt.alloc();
     let eight = ring(alloc, 8)?;
     let found = found_in(&rt, alloc, &eight, small(0, 64, u32::MAX))?;
-    assert_eq!(rt; found.claims.len(), 1);
+    check_eq!(rt; found.claims.len(), 1);
     let nine = ring(alloc, 9)?;
     let found = found_in(&rt, alloc, &nine, small(0, 64, 9))?;
-    assert!(rt; found.claims.is_empty() && !found.gave_up);
+    check!(rt; found.claims.is_empty() && !found.gave_up);
     Ok(())
 }
 
@@ -125,7 +134,26 @@ fn a_budget_that_ends_gives_up(rt: HostRuntime) -> Result<(), Fail> {
         budget: 0,
     };
     let found = found_in(&rt, alloc, &game, job)?;
-    assert!(rt; found.gave_up && found.claims.is_empty());
+    check!(rt; found.gave_up && found.claims.is_empty());
+    Ok(())
+}
+
+/// So many claims are given, of which the first has these rows, or the search is given up.
+fn assert_claims(
+    rt: &impl Abort,
+    alloc: Global,
+    game: &Game,
+    job: Job,
+    claims: usize,
+    gave_up: bool,
+    rows: &[(u32, Option<u32>)],
+) -> Result<(), Fail> {
+    let found = found_in(rt, alloc, game, job)?;
+    check_eq!(*rt; found.claims.len(), claims, "{job:?}");
+    check_eq!(*rt; found.gave_up, gave_up, "{job:?}");
+    if let Some(claim) = found.claims.first() {
+        check_eq!(*rt; claim.rows.as_slice(), rows, "{job:?}");
+    }
     Ok(())
 }
 
@@ -167,12 +195,7 @@ fn a_dominion_of_four_vertices_takes_thousands_of_choices(rt: HostRuntime) -> Re
             bound,
             budget,
         };
-        let found = found_in(&rt, alloc, &game, job)?;
-        assert_eq!(rt; found.claims.len(), claims, "{job:?}");
-        assert_eq!(rt; found.gave_up, gave_up, "{job:?}");
-        if let Some(claim) = found.claims.first() {
-            assert_eq!(rt; claim.rows.as_slice(), rows.as_slice(), "{job:?}");
-        }
+        assert_claims(&rt, alloc, &game, job, claims, gave_up, rows.as_slice())?;
     }
     Ok(())
 }

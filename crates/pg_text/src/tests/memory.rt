@@ -5,7 +5,7 @@
 //! itself.
 
 ghost use Rattle.std.specs.Prelude.{IfOk};
-ghost use Rattle.pg_text.specs.Solution.{AreRows};
+ghost use Rattle.pg_text.specs.Solution.{AreSolutionRows};
 
 use super::{game, solution};
 use crate::fault::{SolutionTextFault, TextFault};
@@ -44,7 +44,7 @@ fn needed_game(alloc: Global) -> Result<Game, Fail> {
 }
 
 fn needed_solution(alloc: Global, game: &Game) -> Result<Solution, Fail>
-    ensures { IfOk result (λ s. AreRows game.now s.rows) }
+    ensures { IfOk result (λ s. AreSolutionRows game.now s.rows) }
 {
     match solution(alloc, game, SOLUTION) {
         Ok(solution) => Ok(solution),
@@ -160,7 +160,7 @@ fn a_game_is_written_after_a_refusal(rt: HostRuntime) -> Result<(), Fail> {
 }
 
 fn write_solution_twice(alloc: Global, game: &Game, solution: &Solution) -> Result<Vec<u8>, Memory>
-    requires { AreRows game.now solution.now.rows }
+    requires { AreSolutionRows game.now solution.now.rows }
 {
     match write_solution(alloc, game, solution) {
         Ok(text) => Ok(text),
@@ -179,7 +179,7 @@ fn a_solution_is_written_after_a_refusal(rt: HostRuntime) -> Result<(), Fail> {
 }
 
 fn write_winners_twice(alloc: Global, game: &Game, solution: &Solution) -> Result<Vec<u8>, Memory>
-    requires { AreRows game.now solution.now.rows }
+    requires { AreSolutionRows game.now solution.now.rows }
 {
     match write_winners(alloc, game, solution) {
         Ok(text) => Ok(text),

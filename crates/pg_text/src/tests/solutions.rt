@@ -1,7 +1,7 @@
 //! Solution texts that are read, and why others are refused.
 
 ghost use Rattle.std.specs.Prelude.{◌≡◌, IfOk, IfErr};
-ghost use Rattle.pg_text.specs.Solution.{AreRows};
+ghost use Rattle.pg_text.specs.Solution.{AreSolutionRows};
 
 use super::{BOTH_WIN, GAPS, game, solution, solution_fault};
 use crate::fault::SolutionTextFault;
@@ -39,7 +39,7 @@ fn winners_and_choices_are_written_in_one_spelling(rt: HostRuntime) -> Result<()
 
 /// Winners and choices, written and read again. What is written is short enough to be read, so nothing looks at its length.
 fn read_back(alloc: Global, game: &Game, solution: &Solution) -> Result<Solution, SolutionTextFault>
-    requires { AreRows game.now solution.now.rows }
+    requires { AreSolutionRows game.now solution.now.rows }
     ensures same { IfOk result (λ read. read.rows ≡ solution.now.rows) }
     ensures fault { IfErr result (λ e. e ≡ SolutionTextFault.Memory) }
 {
@@ -54,7 +54,7 @@ fn winners_back(
     game: &Game,
     solution: &Solution,
 ) -> Result<Solution, SolutionTextFault>
-    requires { AreRows game.now solution.now.rows }
+    requires { AreSolutionRows game.now solution.now.rows }
 {
     let text = write_winners(alloc, game, solution)?;
     read_solution(alloc, game, text.as_slice())

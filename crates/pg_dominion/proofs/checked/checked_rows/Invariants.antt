@@ -1,9 +1,9 @@
 use Rattle.std.proofs.Common.{◌≡◌, take}
-use Rattle.pg_dominion.specs.Checked.{claim_rows, Agrees}
+use Rattle.pg_dominion.specs.Checked.{claim_rows, AgreesWithGame}
 use Rattle.pg_dominion.proofs.checked.checked_rows.Given as goal
 
 abbrev pub invariant-rows : goal.invariant-rows
 invariant-rows l = record {
-  agree : Agrees l.game l.claim.player l.rows.items;
+  agree : AgreesWithGame l.game l.claim.player l.rows.items;
   rows : claim_rows l.claim.player l.rows.items ≡ take l.row-index l.claimed;
 }

@@ -1,6 +1,6 @@
 use Rattle.std.proofs.Common.{◌≡◌, drop}
 use Rattle.std.specs.List.{list_any}
-use Rattle.pg_dominion.specs.Shape.{is_bad}
+use Rattle.pg_dominion.specs.private.Shape.{is_bad}
 use Rattle.pg_dominion.proofs.claim.names_bad_vertex.Given as goal
 
 abbrev pub invariant-rows : goal.invariant-rows

@@ -1,6 +1,6 @@
 use Rattle.std.proofs.Common.{◌≡◌, ℕ, ◌<◌, inr, length, slice_index, sym, ◌∙◌, subst, arith, below_more}
 use Rattle.std.proofs.lemmas.List.{get_or_read}
-use Rattle.pg_dominion.specs.KeptEdges.{Reaches, IsSpread}
+use Rattle.pg_dominion.specs.private.KeptEdges.{Reaches, IsSpread}
 use Rattle.pg_dominion.proofs.Searching.{no_way_back, IsSpread-later}
 use Rattle.pg_dominion.proofs.cycles.walks_back.Goals as goal
 

@@ -1,6 +1,6 @@
 use Rattle.pg_game.specs.declared.player.Player.TheVariants.{Even, Odd}
 use Rattle.pg_game.specs.VertexSet.{members}
-use Rattle.pg_finders.proofs.Forced.{not_solitaire}
+use Rattle.pg_finders.proofs.solitaire.Forced.{not_solitaire}
 use Rattle.pg_finders.proofs.solitaire.find_solitaire.Goals as goal
 
 pub returns-then-has_one_successor-clause-none : goal.returns-then-has_one_successor-clause-none

@@ -1,7 +1,7 @@
 use Rattle.std.proofs.Common.{◌≡◌, length}
 use Rattle.pg_game.specs.VertexSet.{members}
-use Rattle.pg_finders.specs.Planned.{HasBelow}
-use Rattle.pg_finders.specs.Solitaire.{good_for}
+use Rattle.pg_finders.specs.private.recursion.Planned.{HasBelow}
+use Rattle.pg_finders.specs.private.solitaire.Solitaire.{good_for}
 use Rattle.pg_finders.proofs.solitaire.of_parity.Given as goal
 
 abbrev pub invariant-loop-v : goal.invariant-loop-v

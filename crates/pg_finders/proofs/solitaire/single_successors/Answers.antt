@@ -2,7 +2,7 @@ use Rattle.std.proofs.Common.{◌∷◌, [], length-append, rules, sym, subst, a
 use Rattle.std.proofs.lemmas.List.{get_or_append_left, get_or_push}
 use Rattle.pg_game.specs.VertexSet.{members}
 use Rattle.pg_game.proofs.Masks.{member_below}
-use Rattle.pg_finders.specs.Solitaire.{IsSingle}
+use Rattle.pg_finders.specs.private.solitaire.Solitaire.{IsSingle}
 use Rattle.pg_finders.proofs.solitaire.single_successors.Goals as goal
 
 pub loop-v-preserved : goal.loop-v-preserved

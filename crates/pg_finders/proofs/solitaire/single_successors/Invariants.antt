@@ -1,7 +1,7 @@
 use Rattle.std.proofs.Common.{◌≡◌, ℕ, ◌<◌, length, slice_index}
 use Rattle.pg_game.specs.Graph.{owner_of}
 use Rattle.pg_game.specs.VertexSet.{In, members}
-use Rattle.pg_finders.specs.Solitaire.{IsSingle}
+use Rattle.pg_finders.specs.private.solitaire.Solitaire.{IsSingle}
 use Rattle.pg_finders.proofs.solitaire.single_successors.Given as goal
 
 abbrev pub invariant-loop-v : goal.invariant-loop-v

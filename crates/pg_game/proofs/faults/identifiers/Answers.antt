@@ -3,7 +3,7 @@ use Rattle.std.specs.Prelude.{Option, None, if◌then◌else◌}
 use Rattle.std.specs.List.{list_any}
 use Rattle.pg_game.specs.declared.game.GameFault.TheVariants.{Twice}
 use Rattle.pg_game.specs.Specification.{fault_or}
-use Rattle.pg_game.specs.Identifiers.{ids_of}
+use Rattle.pg_game.specs.private.Identifiers.{ids_of}
 use Rattle.pg_game.proofs.Seen.{one_more, repeated_here, repeated_later}
 use Rattle.pg_game.proofs.faults.identifiers.Goals as goal
 

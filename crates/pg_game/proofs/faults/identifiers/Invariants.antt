@@ -1,7 +1,7 @@
 use Rattle.std.proofs.Common.{◌≡◌, take, drop, nat_eq, []}
 use Rattle.std.specs.List.{IsDistinct}
 use Rattle.pg_game.specs.Specification.{first_repeated}
-use Rattle.pg_game.specs.Identifiers.{ids_of}
+use Rattle.pg_game.specs.private.Identifiers.{ids_of}
 use Rattle.pg_game.proofs.Seen.{earlier}
 use Rattle.pg_game.proofs.faults.identifiers.Given as goal
 

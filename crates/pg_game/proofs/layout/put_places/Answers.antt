@@ -4,7 +4,7 @@ use Rattle.std.specs.List.{Contains}
 use Rattle.std.proofs.lemmas.List.{append-nil}
 use Rattle.std.proofs.Math.ListN.{drop_of_length-le}
 use Rattle.pg_game.specs.Specification.{different}
-use Rattle.pg_game.specs.Identifiers.{places_of}
+use Rattle.pg_game.specs.private.Identifiers.{places_of}
 use Rattle.pg_game.proofs.Different.{different_is}
 use Rattle.pg_game.proofs.Places.{are_places, places_more}
 use Rattle.pg_game.proofs.layout.put_places.Goals as goal

@@ -1,13 +1,11 @@
-use Rattle.std.proofs.Common.{◌≡◌, ℕ, ◌+◌, ◌<◌, ◌⊎◌, inl, inr, List, [], ◌∷◌, length, get_or, sym, ◌∙◌, ap, arith, length-append}
+use Rattle.std.proofs.Common.{◌≡◌, ℕ, inl, inr, List, [], ◌∷◌, length, get_or, sym, ◌∙◌, ap, arith, length-append}
 use Rattle.std.specs.Prelude.{slice_index_or}
 use Rattle.std.proofs.lemmas.List.{get_or_append_left, get_or_push, get_or_default}
 use Rattle.std.proofs.lemmas.List.Sums.{sum_by_push}
-use Rattle.pg_game.specs.Identifiers.{ArePlaces}
+use Rattle.pg_game.proofs.Rows.{below_or_last}
+use Rattle.pg_game.specs.private.Identifiers.{ArePlaces}
 use Rattle.pg_game.proofs.Sums.{edges_more}
 use Rattle.pg_game.proofs.layout.successors.Goals as goal
-
-below_or_last : (n k : ℕ) → k < n + 1 → (k < n) ⊎ (k ≡ n)
-below_or_last n k l = grind arith
 
 pub specs-preserved : goal.specs-preserved
 specs-preserved c =

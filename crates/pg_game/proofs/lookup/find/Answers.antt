@@ -2,14 +2,12 @@ use Rattle.std.proofs.Common.{◌≡◌, ℕ, ◌<◌, ◌≤◌, ◌⊎◌, inl
 use Rattle.std.specs.Prelude.{Err}
 use Rattle.std.specs.List.Sorted.{IsStrictlyIncreasing}
 use Rattle.std.proofs.lemmas.List.Sorted.{searched}
+use Rattle.std.proofs.lemmas.Bool.{cases_lt}
 use Rattle.pg_game.proofs.Places.{rises}
 use Rattle.pg_game.proofs.lookup.find.Goals as goal
 
 before_or_same : (i j : ℕ) → i ≤ j → (i < j) ⊎ (i ≡ j)
 before_or_same i j l = grind arith
-
-before_or_past : (v i : ℕ) → (v < i) ⊎ (i ≤ v)
-before_or_past v i = grind arith
 
 no_fall : (xs : List ℕ) → IsStrictlyIncreasing xs → (i j : ℕ) → i ≤ j → j < length xs → get_or xs i 0 ≤ get_or xs j 0
 no_fall xs up i j l m = elim (before_or_same i j l) [
@@ -22,7 +20,7 @@ returns-in-Err-clause-missing c = λ v l e.
     let ids = c.args.ids.now in
     let at = c.in-Err.field-0 in
     let h = searched ids c.args.id (Err at) c.in-Err.ensures.position (no_fall ids c.requires) in
-    elim (before_or_past v at) [
+    elim (cases_lt v at) [
       | inl b ↦ (let k = h.1 v b in omega (arith, k, e))
       | inr p ↦ (let k = h.2 v p l in omega (arith, k, e))
     ]

@@ -1,13 +1,11 @@
-use Rattle.std.proofs.Common.{◌≡◌, ℕ, ◌+◌, ◌<◌, ◌≤◌, ◌⊎◌, inl, inr, List, [], ◌∷◌, ◌++◌, length, arith, length-append, true}
+use Rattle.std.proofs.Common.{◌≡◌, ℕ, ◌+◌, ◌<◌, ◌≤◌, inl, inr, List, [], ◌∷◌, ◌++◌, length, arith, length-append, true}
 use Rattle.std.proofs.lemmas.List.{get_or_append_left, get_or_push}
 use Rattle.std.proofs.lemmas.List.Sums.{sum_by_push}
+use Rattle.pg_game.proofs.Rows.{below_or_last}
 use Rattle.pg_game.specs.Specification.{max_edges}
-use Rattle.pg_game.specs.Rows.{row_at, size_of}
-use Rattle.pg_game.specs.Placed.{AreAllPlaces}
+use Rattle.pg_game.specs.private.Rows.{row_at, size_of}
+use Rattle.pg_game.specs.private.Placed.{AreAllPlaces}
 use Rattle.pg_game.proofs.placed.place_rows.Goals as goal
-
-below_or_last : (n k : ℕ) → k < n + 1 → (k < n) ⊎ (k ≡ n)
-below_or_last n k l = grind arith
 
 more_rows : (ids : List ℕ) (rows old : List (List ℕ)) (row : List ℕ) (v : ℕ) → length old ≡ v → ((k : ℕ) → k < v → AreAllPlaces ids (row_at rows k) (row_at old k)) → AreAllPlaces ids (row_at rows v) row → (k : ℕ) → k < v + 1 → AreAllPlaces ids (row_at rows k) (row_at (old ++ row ∷ []) k)
 more_rows ids rows old row v n each places k l = elim (below_or_last v k l) [

@@ -1,7 +1,7 @@
 use Rattle.std.proofs.Common.{◌≡◌, ℕ, ◌<◌, ◌≤◌, length}
 use Rattle.pg_game.specs.Specification.{max_edges}
-use Rattle.pg_game.specs.Rows.{row_at, size_of}
-use Rattle.pg_game.specs.Placed.{AreAllPlaces}
+use Rattle.pg_game.specs.private.Rows.{row_at, size_of}
+use Rattle.pg_game.specs.private.Placed.{AreAllPlaces}
 use Rattle.pg_game.proofs.placed.place_rows.Given as goal
 
 abbrev pub invariant-rows : goal.invariant-rows

@@ -4,14 +4,14 @@ use Rattle.pg_game.specs.Graph.{Graph}
 use Rattle.pg_text.specs.declared.fault.SolutionTextFault.{SolutionTextFault}
 use Rattle.pg_text.specs.declared.solution.Solution.{Solution}
 use Rattle.pg_text.specs.declared.solution_reader.SolutionLine.{SolutionLine}
-use Rattle.pg_text.specs.SolutionKeeps.{line_of}
+use Rattle.pg_text.specs.private.SolutionKeeps.{line_of}
 use Rattle.pg_text.specs.SolutionText as solutions
 use Rattle.pg_text.specs.SolutionLines.{AreLinesOf}
 use Rattle.pg_text.specs.Reading.{SpellsSolution, IsSolutionTextOf}
 use Rattle.pg_text.proofs.reading.read_solution.Goals as goal
 
 -- lines that the text spells, and that say the rows
-rows_read : (g : Graph) (text : List ℕ) (lines : List solutions.Line) (F : SolutionTextFault → Type 0) (r : Result Solution SolutionTextFault)
+rows_read : (g : Graph) (text : List ℕ) (lines : List solutions.WrittenSolutionLine) (F : SolutionTextFault → Type 0) (r : Result Solution SolutionTextFault)
     → SpellsSolution text lines → MatchResult r (λ s. AreLinesOf g lines s.rows) F → IfOk r (λ s. IsSolutionTextOf g text s.rows)
 rows_read g text lines F (Ok s) spelled says = record { lines = lines; spelled = spelled; says = says }
 rows_read g text lines F (Err e) spelled says = tt

@@ -4,7 +4,7 @@ use Rattle.std.specs.Option.{ok_or}
 use Rattle.pg_game.specs.Graph.{Graph, id_of}
 use Rattle.pg_text.specs.declared.fault.SolutionTextFault.TheVariants.{Stranger}
 use Rattle.pg_text.specs.SolutionLines.{is_id}
-use Rattle.pg_text.specs.SolutionTable.{IsNamed}
+use Rattle.pg_text.specs.private.SolutionTable.{IsNamed}
 use Rattle.pg_text.proofs.Identifiers.{not_named}
 use Rattle.pg_text.proofs.solution_rows.named.Goals as goal
 

@@ -1,6 +1,6 @@
 use Rattle.std.proofs.Common.{map, take}
-use Rattle.pg_text.specs.SolutionKeeps.{line_of}
-use Rattle.pg_text.specs.SolutionTable.{HoldsTable}
+use Rattle.pg_text.specs.private.SolutionKeeps.{line_of}
+use Rattle.pg_text.specs.private.SolutionTable.{HoldsTable}
 use Rattle.pg_text.proofs.solution_rows.table_of.Given as goal
 
 abbrev pub invariant-lines : goal.invariant-lines

@@ -1,7 +1,8 @@
 use Rattle.std.proofs.Common.{rules, ◌≡◌, ◌<◌, ◌∙◌, length, sym, ap, subst}
 use Rattle.pg_game.specs.Graph.{Graph}
-use Rattle.pg_dominion.specs.Claim.{Rows}
-use Rattle.pg_workers.specs.Known.{known_rows, IsKnownFault}
+use Rattle.pg_dominion.specs.Claim.{ClaimRows}
+use Rattle.pg_workers.specs.Known.{known_rows}
+use Rattle.pg_workers.specs.private.Known.{IsKnownFault}
 use Rattle.pg_workers.specs.declared.known.SolveFault.{SolveFault}
 use Rattle.pg_workers.proofs.Knowing.{settles_nothing, settles_known, refused_known}
 use Rattle.pg_workers.proofs.known.post_known.Goals as goal
@@ -13,7 +14,7 @@ returns-then-is_empty-clause-settles c =
     let claim = c.in_ok-claim.claim in
     let is : claim.rows ≡ known_rows old.graph known c.args.player = subst (λ (g : Graph). claim.rows ≡ known_rows g known c.args.player) c.game-game.ensures.graph c.in_ok-claim.ensures.rows in
     let none : length claim.rows ≡ 0 = search rules in
-    settles_nothing old.graph c.game-game.ensures.game known c.requires.size c.args.player (sym (ap (λ (xs : Rows). length xs) is) ∙ none) old.journal c.requires.none
+    settles_nothing old.graph c.game-game.ensures.game known c.requires.size c.args.player (sym (ap (λ (xs : ClaimRows). length xs) is) ∙ none) old.journal c.requires.none
 
 pub returns-in-Ok-clause-settles : goal.returns-in-Ok-clause-settles
 returns-in-Ok-clause-settles c =

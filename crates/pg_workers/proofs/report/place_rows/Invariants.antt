@@ -1,7 +1,8 @@
 use Rattle.std.proofs.Common.{◌≡◌, ◌+◌, take}
-use Rattle.pg_workers.specs.Report.{ArePlaced, settled_in}
+use Rattle.pg_workers.specs.Report.{settled_in}
+use Rattle.pg_workers.specs.private.Report.{AreNotedRows}
 use Rattle.pg_workers.proofs.report.place_rows.Given as goal
 
 abbrev pub invariant-loop-row : goal.invariant-loop-row
 invariant-loop-row l =
-    ArePlaced l.initial.report l.report (take l.row-index l.rows) × (settled_in l.report ≡ settled_in l.initial.report + settled_in (take l.row-index l.rows))
+    AreNotedRows l.initial.report l.report (take l.row-index l.rows) × (settled_in l.report ≡ settled_in l.initial.report + settled_in (take l.row-index l.rows))

@@ -1,6 +1,7 @@
 use Rattle.std.proofs.Common.{◌≡◌, ◌+◌, List, ◌++◌, length, take, drop, sym, ap, ◌∙◌, subst, arith}
 use Rattle.pg_workers.specs.declared.report.ReportRow.{ReportRow}
-use Rattle.pg_workers.specs.Report.{ArePlaced, HasPlaces, rows_in, settled_in}
+use Rattle.pg_workers.specs.Report.{settled_in}
+use Rattle.pg_workers.specs.private.Report.{AreNotedRows, HasPlaces, rows_in}
 use Rattle.pg_workers.proofs.Placing.{has_places, more_placed, more_settled}
 use Rattle.pg_workers.proofs.Rows.{written}
 use Rattle.pg_workers.proofs.report.with_rows.Goals as goal
@@ -23,15 +24,15 @@ loop-rows-preserved c =
     let here = c.as_mut_slice.ensures.value in
     let theirs = c.as_slice.ensures.value in
     let p = c.place_rows.ensures in
-    let placed : ArePlaced at.report.items new rows.items =
-    subst (λ (now : List ReportRow). ArePlaced now new rows.items) here (subst (ArePlaced c.as_mut_slice.result.now new) theirs p.placed) in
+    let placed : AreNotedRows at.report.items new rows.items =
+    subst (λ (now : List ReportRow). AreNotedRows now new rows.items) here (subst (AreNotedRows c.as_mut_slice.result.now new) theirs p.placed) in
     let long = p.placed.size ∙ c.as_mut_slice.ensures.len in
     let back : take at.report.len (new ++ drop (length new) at.report.items) ≡ new = written new (drop (length new) at.report.items) at.report.len long in
     let more = more_settled c.args.all.now at.rows-index rows c.loop-rows-test.true c.rows-item.is in
     let sum : settled_in new ≡ settled_in at.report.items + settled_in rows.items = p.settled ∙ ap (λ (l : List ReportRow). settled_in l + settled_in c.as_slice.result.now) here ∙ ap (λ (l : List ReportRow). settled_in at.report.items + settled_in l) theirs in
     let before = i.2 in (
       i.0,
-      subst (λ (now : List ReportRow). ArePlaced c.args.report.items now (rows_in (take (at.rows-index + 1) c.args.all.now))) (sym back)
+      subst (λ (now : List ReportRow). AreNotedRows c.args.report.items now (rows_in (take (at.rows-index + 1) c.args.all.now))) (sym back)
           (more_placed front.0 c.args.report.items at.report.items new c.args.all.now at.rows-index rows front.2 c.loop-rows-test.true c.rows-item.is i.1 placed),
       ap settled_in back ∙ omega arith,
     )

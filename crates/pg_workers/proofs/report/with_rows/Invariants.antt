@@ -1,9 +1,10 @@
 use Rattle.std.proofs.Common.{◌≡◌, ◌+◌, take, vec_len}
-use Rattle.pg_workers.specs.Report.{ArePlaced, rows_in, settled_in}
+use Rattle.pg_workers.specs.Report.{settled_in}
+use Rattle.pg_workers.specs.private.Report.{AreNotedRows, rows_in}
 use Rattle.pg_workers.proofs.report.with_rows.Given as goal
 
 abbrev pub invariant-loop-rows : goal.invariant-loop-rows
 invariant-loop-rows l =
     (vec_len l.report ≡ vec_len l.initial.report)
-    × ArePlaced l.initial.report.items l.report.items (rows_in (take l.rows-index l.all))
+    × AreNotedRows l.initial.report.items l.report.items (rows_in (take l.rows-index l.all))
     × (settled_in l.report.items ≡ settled_in l.initial.report.items + settled_in (rows_in (take l.rows-index l.all)))

@@ -3,7 +3,8 @@ use Rattle.std.proofs.lemmas.List.{map-append}
 use Rattle.std.proofs.lemmas.List.Elements.{All-push}
 use Rattle.pg_workers.specs.declared.report.ReportRow.{ReportRow}
 use Rattle.pg_workers.specs.Tickets.{HeldTicket}
-use Rattle.pg_workers.specs.Report.{IsDone, jobs_in, settled_in}
+use Rattle.pg_workers.specs.Report.{IsDrawnRow, settled_in}
+use Rattle.pg_workers.specs.private.Report.{jobs_in}
 use Rattle.pg_workers.proofs.scope.take_apart.Goals as goal
 
 pub loop-slot-preserved : goal.loop-slot-preserved
@@ -26,5 +27,5 @@ loop-slot-preserved g c =
       rw b.items (All-push (λ (t : HeldTicket). t.series ≡ g.J.Naming.series) c.loop-slot.tickets.items slot.ticket i.7 slot.of_jobs),
       ap (map (λ rs. map (λ r. r.job) rs.items)) d.items ∙ map-append _ c.loop-slot.rows.items _ ∙ ap (λ l. l ++ jobs_in slot.rows.items ∷ []) i.8
           ∙ ap (λ n. map (λ (t : HeldTicket). t.numbers) c.loop-slot.tickets.items ++ n ∷ []) slot.numbers ∙ sym (ap (map (λ (t : HeldTicket). t.numbers)) b.items ∙ map-append _ c.loop-slot.tickets.items _),
-      rw d.items (All-push (λ (rs : Vec ReportRow Global). All (IsDone g.J.Naming.workers) rs.items) c.loop-slot.rows.items slot.rows i.9 slot.done),
+      rw d.items (All-push (λ (rs : Vec ReportRow Global). All (IsDrawnRow g.J.Naming.workers) rs.items) c.loop-slot.rows.items slot.rows i.9 slot.done),
     )

@@ -1,6 +1,6 @@
 use Rattle.std.proofs.Common.{◌≡◌, ◌+◌, ◌≤◌, All, map, vec_len}
 use Rattle.std.specs.Vec.{vec_capacity}
-use Rattle.pg_workers.specs.Report.{IsDone, settled_in}
+use Rattle.pg_workers.specs.Report.{IsDrawnRow, settled_in}
 use Rattle.pg_workers.proofs.scope.take_apart.Given as goal
 
 abbrev pub invariant-loop-slot : goal.invariant-loop-slot
@@ -14,7 +14,7 @@ invariant-loop-slot g l =
     × (map (λ rows. settled_in rows.items) l.rows.items ≡ l.shares.items)
     × All (λ t. t.series ≡ g.J.Naming.series) l.tickets.items
     × (map (λ rows. map (λ r. r.job) rows.items) l.rows.items ≡ map (λ t. t.numbers) l.tickets.items)
-    × All (λ rows. All (IsDone g.J.Naming.workers) rows.items) l.rows.items
+    × All (λ rows. All (IsDrawnRow g.J.Naming.workers) rows.items) l.rows.items
 
 abbrev pub decreases-loop-slot : goal.decreases-loop-slot
 decreases-loop-slot g l = vec_len l.slots

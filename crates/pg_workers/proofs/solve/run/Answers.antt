@@ -2,7 +2,8 @@ use Rattle.std.proofs.Common.{◌≡◌, ℕ, ◌+◌, List, Vec, Global, sum, s
 use Rattle.std.specs.Prelude.{min}
 use Rattle.std.proofs.lemmas.List.Sums.{sum-map, sum_by_push}
 use Rattle.pg_workers.specs.declared.report.ReportRow.{ReportRow}
-use Rattle.pg_workers.specs.Report.{AreOfFront, ArePlaced, IsDone, settled_in, rows_in}
+use Rattle.pg_workers.specs.Report.{IsDrawnRow, settled_in}
+use Rattle.pg_workers.specs.private.Report.{AreOfFront, AreNotedRows, rows_in}
 use Rattle.pg_workers.specs.Tickets.{HeldTicket}
 use Rattle.pg_workers.proofs.Placing.{is_report, of_front, placed_numbered}
 use Rattle.pg_workers.proofs.Rows.{all_rows, settled_in-rows_in}
@@ -46,6 +47,6 @@ returns-clause-rows g c =
     let n : ℕ = min c.args.jobs.series.total drawn.word in
     let front = of_front n (λ (t : HeldTicket). t.numbers) back.result.1.items rows drawn.fair back.ensures.numbers in
     let made = c.with_rows in
-    let placed : ArePlaced c.in_ok-report.report.items made.result.items (rows_in rows) =
-    subst (λ (all : List (Vec ReportRow Global)). ArePlaced c.in_ok-report.report.items made.result.items (rows_in all)) c.as_slice.ensures.value made.ensures.placed in
-    is_report workers n c.in_ok-report.report.items made.result.items (rows_in rows) c.in_ok-report.ensures.blank placed front (all_rows (IsDone workers) rows back.ensures.done)
+    let placed : AreNotedRows c.in_ok-report.report.items made.result.items (rows_in rows) =
+    subst (λ (all : List (Vec ReportRow Global)). AreNotedRows c.in_ok-report.report.items made.result.items (rows_in all)) c.as_slice.ensures.value made.ensures.placed in
+    is_report workers n c.in_ok-report.report.items made.result.items (rows_in rows) c.in_ok-report.ensures.blank placed front (all_rows (IsDrawnRow workers) rows back.ensures.done)

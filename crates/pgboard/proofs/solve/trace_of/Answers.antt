@@ -3,7 +3,8 @@ use Rattle.std.specs.List.{AllByRecursion}
 use Rattle.pg_board.specs.Journal.{Journal}
 use Rattle.pg_workers.specs.declared.report.ReportRow.{ReportRow}
 use Rattle.pg_workers.specs.Report.{AddsUp}
-use Rattle.pgboard.specs.Trace.{AreVertices, trace_text}
+use Rattle.pgboard.specs.Trace.{trace_text}
+use Rattle.pgboard.specs.private.Trace.{AreVertices}
 use Rattle.pgboard.proofs.Journals.{journal_rows}
 use Rattle.pgboard.proofs.Unknown.{settles_nothing}
 use Rattle.pgboard.proofs.solve.trace_of.Goals as goal

@@ -1,10 +1,10 @@
 use Rattle.std.proofs.Common.{subst}
-use Rattle.pgboard_c.specs.Arrays.{Lists}
+use Rattle.pgboard_c.specs.Arrays.{GameArrays}
 use Rattle.pgboard_c.specs.Answers.{IsCheckFault}
 use Rattle.pgboard_c.proofs.on_arrays.pgboard_check.Goals as goal
 
 pub returns-in-Err-clause-refused : goal.returns-in-Err-clause-refused
 returns-in-Err-clause-refused c = λ other.
     let e = c.in-Err.fault in
-    let why = subst (λ (a : Lists). IsCheckFault a c.args.winners.now c.args.choices.now e) c.new-arrays.ensures c.in-Err.ensures.fault in
+    let why = subst (λ (a : GameArrays). IsCheckFault a c.args.winners.now c.args.choices.now e) c.new-arrays.ensures c.in-Err.ensures.fault in
     (e, c.tell.ensures.number, c.tell.ensures.at, c.tell.ensures.to, why)

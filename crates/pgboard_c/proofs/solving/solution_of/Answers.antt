@@ -3,7 +3,7 @@ use Rattle.std.specs.Prelude.{Option, All}
 use Rattle.pg_game.specs.declared.player.Player.TheVariants.{Even, Odd}
 use Rattle.pg_game.specs.VertexSet.{members}
 use Rattle.pg_game.specs.Subgame.{IsSubgame}
-use Rattle.pg_text.specs.Solution.{Rows, IsExactSolution}
+use Rattle.pg_text.specs.Solution.{SolutionRows, IsExactSolution}
 use Rattle.pgboard_c.proofs.Solved.{all_inside, inside_all, all_subgame, claims_of, rows_below, exact_solution}
 use Rattle.pgboard_c.proofs.solving.solution_of.Goals as goal
 
@@ -50,4 +50,4 @@ returns c =
     let whole = inside_all (length g) in
     let all = members (replicate (length g) true) in
     let exact = exact_solution g c.len-n.ensures.game all below whole even odd claims blank mid rows size c.put_claim.ensures c.put_claim-2.ensures in
-    subst (λ (r : Rows). IsExactSolution g r) (sym c.new.ensures) exact
+    subst (λ (r : SolutionRows). IsExactSolution g r) (sym c.new.ensures) exact

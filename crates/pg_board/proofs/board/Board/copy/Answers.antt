@@ -6,17 +6,17 @@ use Rattle.pg_game.specs.Graph.{Graph}
 use Rattle.pg_game.specs.VertexSet.{VertexSet, members}
 use Rattle.pg_game.specs.Subgame.{IsSubgame}
 use Rattle.pg_game.proofs.Edges.{edge_inside}
-use Rattle.pg_dominion.specs.Claim.{Rows, IsGoodIn}
+use Rattle.pg_dominion.specs.Claim.{ClaimRows, IsGoodIn}
 use Rattle.pg_board.specs.Play.{Play}
 use Rattle.pg_board.specs.State.{State, unsettled}
 use Rattle.pg_board.specs.Journal.{state_of, IsDominionAfter}
-use Rattle.pg_board.specs.Regions.{told}
+use Rattle.pg_board.specs.private.Regions.{table_state}
 use Rattle.pg_board.proofs.Numbers.{lawful_now}
 use Rattle.pg_board.proofs.Copies.{dominion_now}
 use Rattle.pg_board.proofs.board.Board.copy.Goals as goal
 
 -- the mask has the unsettled vertices
-same_set : (g : Graph) (st : State) (table : List (Option (Player × Option ℕ))) (old new : List Bool) → new ≡ old → ((v : ℕ) → members old v ≡ unsettled g (told table) v) → ((v : ℕ) → told table v ≡ st v) → unsettled g st ≡ members new
+same_set : (g : Graph) (st : State) (table : List (Option (Player × Option ℕ))) (old new : List Bool) → new ≡ old → ((v : ℕ) → members old v ≡ unsettled g (table_state table) v) → ((v : ℕ) → table_state table v ≡ st v) → unsettled g st ≡ members new
 same_set g st table old new e mask state = fun_ext (λ v. sym (ap (λ m. members m v) e ∙ (mask v ∙ ap (λ (s : State). unsettled g s v) (fun_ext state))))
 
 pub of_subgame-requires-clause-subgame : goal.of_subgame-requires-clause-subgame
@@ -32,6 +32,6 @@ returns-clause-dominions c =
     let i = c.self.invariant.0 in
     let same = same_set b.game.now (state_of b.entries.items) b.regions.table.items b.regions.unsettled c.of_subgame.result.mask (c.of_subgame.ensures.mask ∙ c.in_ok-mask.ensures) i.regions.mask i.state in
     let at : c.len.result ≡ length b.entries.items = omega (arith, c.len.ensures, b.entries.ok.0) in
-    subst (λ (x : Play). (p : Player) (rows : Rows) → IsGoodIn x.graph (members c.of_subgame.result.mask) p rows → IsDominionAfter x.graph x.journal c.len.result p rows) c.self.view_is
+    subst (λ (x : Play). (p : Player) (rows : ClaimRows) → IsGoodIn x.graph (members c.of_subgame.result.mask) p rows → IsDominionAfter x.graph x.journal c.len.result p rows) c.self.view_is
     (λ p rows good. subst (λ (n : ℕ). IsDominionAfter b.game.now b.entries.items n p rows) (sym at)
     (dominion_now b.game.now (edge_inside b.game.now c.len-n.ensures.game) b.entries.items i.lawful p rows (subst (λ (U : VertexSet). IsGoodIn b.game.now U p rows) (sym same) good)))

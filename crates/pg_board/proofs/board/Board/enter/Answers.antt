@@ -5,7 +5,7 @@ use Rattle.std.specs.List.{IsDistinct}
 use Rattle.pg_game.specs.declared.player.Player.{Player}
 use Rattle.pg_game.specs.Graph.{Graph}
 use Rattle.pg_game.specs.VertexSet.{VertexSet, Within, members}
-use Rattle.pg_dominion.specs.Claim.{Rows, named}
+use Rattle.pg_dominion.specs.Claim.{ClaimRows, named}
 use Rattle.pg_dominion.specs.Attraction.{IsAttraction}
 use Rattle.pg_board.specs.declared.entry.Entry.{Entry}
 use Rattle.pg_board.specs.declared.regions.Regions.{Regions}
@@ -15,9 +15,9 @@ use Rattle.pg_board.specs.Journal.{Journal, state_of}
 use Rattle.std.proofs.Common.{drop}
 use Rattle.std.specs.Prelude.{vec_capacity}
 use Rattle.pg_game.specs.Subgame.{IsSubgame}
-use Rattle.pg_dominion.specs.Attracting.{IsDone}
-use Rattle.pg_board.specs.Growth.{open_before, IsGrowing, Grows}
-use Rattle.pg_board.specs.Regions.{told, state_with, AreRegions, IsBoard}
+use Rattle.pg_dominion.specs.private.Attracting.{AttractsNoFurther}
+use Rattle.pg_board.specs.private.Growth.{open_before, IsGrowing, Grows}
+use Rattle.pg_board.specs.private.Regions.{table_state, state_with, AreRegions, IsBoard}
 use Rattle.pg_board.proofs.Push.{distinct_rising}
 use Rattle.pg_board.proofs.Posting.{few_rows}
 use Rattle.pg_board.specs.Post.{Adds}
@@ -26,24 +26,24 @@ use Rattle.pg_board.proofs.Entering.{board_subgame, rest_within, are_entered, en
 use Rattle.pg_board.proofs.board.Board.enter.Goals as goal
 
 -- what is required, said of the fields
-record IsEntering (g : Graph) (j : Journal) (p : Player) (R : Rows) : Type 0 where
+record IsEntering (g : Graph) (j : Journal) (p : Player) (R : ClaimRows) : Type 0 where
   good : IsGoodOn g (state_of j) p R
   twice : rest_of (state_of j) R ≡ R
 
-entering : (x : Play) (g : Graph) (j : Journal) (p : Player) (R : Rows) → record { graph = g; journal = j } ≡ x → IsGoodOn x.graph (state_of x.journal) p R → rest_of (state_of x.journal) R ≡ R → IsEntering g j p R
+entering : (x : Play) (g : Graph) (j : Journal) (p : Player) (R : ClaimRows) → record { graph = g; journal = j } ≡ x → IsGoodOn x.graph (state_of x.journal) p R → rest_of (state_of x.journal) R ≡ R → IsEntering g j p R
 entering x g j p R view good twice = subst (λ (y : Play). IsEntering y.graph y.journal p R) (sym view) (record { good = good; twice = twice })
 
 -- what the steps in place have done
-record HasGrown (g : Graph) (p : Player) (r r2 : Regions) (R rows : Rows) : Type 0 where
+record HasGrown (g : Graph) (p : Player) (r r2 : Regions) (R rows : ClaimRows) : Type 0 where
   regions : AreRegions g r2
   attraction : IsAttraction g p (members r.unsettled) (named R) (drop (length R) rows)
   parts : rows ≡ R ++ drop (length R) rows
-  tells : (v : ℕ) → told r2.table.items v ≡ state_with (told r.table.items) p rows v
+  tells : (v : ℕ) → table_state r2.table.items v ≡ state_with (table_state r.table.items) p rows v
 
-grew : (g : Graph) (p : Player) (r r1 r2 : Regions) (R slice rows : Rows) → slice ≡ R → ((v : ℕ) → open_before r1 slice v ≡ members r.unsettled v) → ((v : ℕ) → told r1.table.items v ≡ state_with (told r.table.items) p slice v) → AreRegions g r2 → Grows g p r1 R r2 rows → IsDone g p (open_before r1 R) (named rows) (named rows) → HasGrown g p r r2 R rows
+grew : (g : Graph) (p : Player) (r r1 r2 : Regions) (R slice rows : ClaimRows) → slice ≡ R → ((v : ℕ) → open_before r1 slice v ≡ members r.unsettled v) → ((v : ℕ) → table_state r1.table.items v ≡ state_with (table_state r.table.items) p slice v) → AreRegions g r2 → Grows g p r1 R r2 rows → AttractsNoFurther g p (open_before r1 R) (named rows) (named rows) → HasGrown g p r r2 R rows
 grew g p r r1 r2 R slice rows value same tells regions grows done =
-    let same_here = subst (λ (xs : Rows). (v : ℕ) → open_before r1 xs v ≡ members r.unsettled v) value same in
-    let tells_here = subst (λ (xs : Rows). (v : ℕ) → told r1.table.items v ≡ state_with (told r.table.items) p xs v) value tells in
+    let same_here = subst (λ (xs : ClaimRows). (v : ℕ) → open_before r1 xs v ≡ members r.unsettled v) value same in
+    let tells_here = subst (λ (xs : ClaimRows). (v : ℕ) → table_state r1.table.items v ≡ state_with (table_state r.table.items) p xs v) value tells in
     record {
       regions = regions;
       attraction = attracted_rest g p r r1 r2 R R rows refl same_here tells_here grows done;
@@ -55,7 +55,7 @@ pub attract-requires-clause-growing : goal.attract-requires-clause-growing
 attract-requires-clause-growing c =
     let b = c.self.inside in
     let room : length b.game.now ≤ vec_capacity c.args.rows.now = subst (λ (x : Play). length x.graph ≤ vec_capacity c.args.rows.now) (sym c.self.view_is) c.requires.room in
-    subst (λ (xs : Rows). IsGrowing b.game.now c.settle_all.new.self xs (vec_capacity c.args.rows.now)) c.as_slice.ensures.value
+    subst (λ (xs : ClaimRows). IsGrowing b.game.now c.settle_all.new.self xs (vec_capacity c.args.rows.now)) c.as_slice.ensures.value
     (IsGrowing-more b.game.now c.settle_all.new.self c.as_slice.result.now (length b.game.now) (vec_capacity c.args.rows.now) room c.settle_all.ensures.growing)
 
 pub settle_all-requires-clause-unsettled : goal.settle_all-requires-clause-unsettled
@@ -63,7 +63,7 @@ settle_all-requires-clause-unsettled c =
     let b = c.self.inside in
     let r = c.args.rows.now.items in
     let q = entering c.args.self.now b.game.now b.entries.items c.args.player r c.self.view_is c.requires.good c.requires.unsettled in
-    subst (λ (xs : Rows). Within (named xs) (members b.regions.unsettled)) (sym c.as_slice.ensures.value)
+    subst (λ (xs : ClaimRows). Within (named xs) (members b.regions.unsettled)) (sym c.as_slice.ensures.value)
     (rest_within b.game.now c.len-n.ensures.game b.entries.items b.regions b.number c.self.invariant.0 c.args.player r q.good q.twice)
 
 pub settle_all-requires-clause-distinct : goal.settle_all-requires-clause-distinct
@@ -71,7 +71,7 @@ settle_all-requires-clause-distinct c =
     let b = c.self.inside in
     let r = c.args.rows.now.items in
     let q = entering c.args.self.now b.game.now b.entries.items c.args.player r c.self.view_is c.requires.good c.requires.unsettled in
-    subst (λ (xs : Rows). IsDistinct nat_eq (vertices xs)) (sym c.as_slice.ensures.value) (distinct_rising (vertices r) q.good.shape.right.rising)
+    subst (λ (xs : ClaimRows). IsDistinct nat_eq (vertices xs)) (sym c.as_slice.ensures.value) (distinct_rising (vertices r) q.good.shape.right.rising)
 
 pub attract-requires-clause-subgame : goal.attract-requires-clause-subgame
 attract-requires-clause-subgame c =
@@ -79,7 +79,7 @@ attract-requires-clause-subgame c =
     let r = c.args.rows.now.items in
     let q = entering c.args.self.now b.game.now b.entries.items c.args.player r c.self.view_is c.requires.good c.requires.unsettled in
     let e : open_before c.settle_all.new.self r ≡ members b.regions.unsettled =
-    fun_ext (λ v. subst (λ (xs : Rows). open_before c.settle_all.new.self xs v ≡ members b.regions.unsettled v) c.as_slice.ensures.value (c.settle_all.ensures.same v)) in
+    fun_ext (λ v. subst (λ (xs : ClaimRows). open_before c.settle_all.new.self xs v ≡ members b.regions.unsettled v) c.as_slice.ensures.value (c.settle_all.ensures.same v)) in
     subst (λ (U : VertexSet). IsSubgame b.game.now U) (sym e)
     (board_subgame b.game.now c.len-n.ensures.game b.entries.items b.regions b.number c.self.invariant.0 c.args.player r q.good q.twice)
 
@@ -101,9 +101,9 @@ overflow_cast-settled c =
     let attracted = drop (length r) c.attract.new.rows.items in
     let facts = are_entered b.game.now c.len-n.ensures.game b.entries.items b.regions b.number c.self.invariant.0 c.args.player r q.good q.twice attracted w.attraction in
     let parts = length-append r attracted in
-    let all : length c.attract.new.rows.items ≡ length (r ++ attracted) = ap (λ (xs : Rows). length xs) w.parts in
+    let all : length c.attract.new.rows.items ≡ length (r ++ attracted) = ap (λ (xs : ClaimRows). length xs) w.parts in
     let limit = c.len-n.ensures.limits.vertices in
-    let shrunk : length c.copy_or_take-entered.result.items ≡ length c.attract.new.rows.items = ap (λ (xs : Rows). length xs) c.copy_or_take-entered.ensures in
+    let shrunk : length c.copy_or_take-entered.result.items ≡ length c.attract.new.rows.items = ap (λ (xs : ClaimRows). length xs) c.copy_or_take-entered.ensures in
     omega (arith, facts.fits, parts, all, shrunk, c.len-settled.ensures, c.copy_or_take-entered.result.ok.0)
 
 pub overflow_add-self : goal.overflow_add-self
@@ -115,9 +115,9 @@ overflow_add-self c =
     let attracted = drop (length r) c.attract.new.rows.items in
     let facts = are_entered b.game.now c.len-n.ensures.game b.entries.items b.regions b.number c.self.invariant.0 c.args.player r q.good q.twice attracted w.attraction in
     let parts = length-append r attracted in
-    let all : length c.attract.new.rows.items ≡ length (r ++ attracted) = ap (λ (xs : Rows). length xs) w.parts in
+    let all : length c.attract.new.rows.items ≡ length (r ++ attracted) = ap (λ (xs : ClaimRows). length xs) w.parts in
     let limit = c.len-n.ensures.limits.vertices in
-    let shrunk : length c.copy_or_take-entered.result.items ≡ length c.attract.new.rows.items = ap (λ (xs : Rows). length xs) c.copy_or_take-entered.ensures in
+    let shrunk : length c.copy_or_take-entered.result.items ≡ length c.attract.new.rows.items = ap (λ (xs : ClaimRows). length xs) c.copy_or_take-entered.ensures in
     omega (arith, facts.fits, parts, all, shrunk, c.len-settled.ensures, c.copy_or_take-entered.result.ok.0, c.self.invariant.0.number_is)
 
 pub invariant_of-self-2 : goal.invariant_of-self-2
@@ -127,15 +127,15 @@ invariant_of-self-2 c =
     let q = entering c.args.self.now b.game.now b.entries.items c.args.player r c.self.view_is c.requires.good c.requires.unsettled in
     let w = grew b.game.now c.args.player b.regions c.settle_all.new.self c.attract.new.self r c.as_slice.result.now c.attract.new.rows.items c.as_slice.ensures.value c.settle_all.ensures.same c.settle_all.ensures.told c.attract.ensures.growing.regions c.attract.ensures.grows c.attract.ensures.done in
     let attracted = drop (length r) c.attract.new.rows.items in
-    let shrunk : length c.copy_or_take-entered.result.items ≡ length c.attract.new.rows.items = ap (λ (xs : Rows). length xs) c.copy_or_take-entered.ensures in
+    let shrunk : length c.copy_or_take-entered.result.items ≡ length c.attract.new.rows.items = ap (λ (xs : ClaimRows). length xs) c.copy_or_take-entered.ensures in
     let e : Entry = record { worker = c.args.worker; player = c.args.player; claimed = c.len-claimed.result; rows = c.new.result } in
     let same : c.new.result ≡ c.attract.new.rows.items = c.new.ensures ∙ c.copy_or_take-entered.ensures in
     let claimed : c.len-claimed.result ≡ length r = omega (arith, c.len-claimed.ensures, c.args.rows.now.ok.0) in
-    let size : c.len-settled.result ≡ length c.new.result = (let n : length c.new.result ≡ length c.attract.new.rows.items = ap (λ (xs : Rows). length xs) same in omega (arith, n, shrunk, c.len-settled.ensures, c.copy_or_take-entered.result.ok.0)) in
+    let size : c.len-settled.result ≡ length c.new.result = (let n : length c.new.result ≡ length c.attract.new.rows.items = ap (λ (xs : ClaimRows). length xs) same in omega (arith, n, shrunk, c.len-settled.ensures, c.copy_or_take-entered.result.ok.0)) in
     let journal : c.push_reserved.new.self.items ≡ b.entries.items ++ e ∷ [] = search rules in (
       subst (λ (j : Journal). IsBoard b.game.now j c.attract.new.self (b.number + c.len-settled.result)) (sym journal)
           (board_entered b.game.now c.len-n.ensures.game b.entries.items b.regions b.number c.self.invariant.0 c.args.player r q.good q.twice attracted w.attraction e refl claimed (same ∙ w.parts) c.attract.new.self (b.number + c.len-settled.result) w.regions
-          (subst (λ (xs : Rows). (v : ℕ) → told c.attract.new.self.table.items v ≡ state_with (told b.regions.table.items) c.args.player xs v) (sym same) w.tells)
+          (subst (λ (xs : ClaimRows). (v : ℕ) → table_state c.attract.new.self.table.items v ≡ state_with (table_state b.regions.table.items) c.args.player xs v) (sym same) w.tells)
           (omega (arith, size))),
       c.self.invariant.1,
     )
@@ -147,11 +147,11 @@ returns-clause-added c =
     let q = entering c.args.self.now b.game.now b.entries.items c.args.player r c.self.view_is c.requires.good c.requires.unsettled in
     let w = grew b.game.now c.args.player b.regions c.settle_all.new.self c.attract.new.self r c.as_slice.result.now c.attract.new.rows.items c.as_slice.ensures.value c.settle_all.ensures.same c.settle_all.ensures.told c.attract.ensures.growing.regions c.attract.ensures.grows c.attract.ensures.done in
     let attracted = drop (length r) c.attract.new.rows.items in
-    let shrunk : length c.copy_or_take-entered.result.items ≡ length c.attract.new.rows.items = ap (λ (xs : Rows). length xs) c.copy_or_take-entered.ensures in
+    let shrunk : length c.copy_or_take-entered.result.items ≡ length c.attract.new.rows.items = ap (λ (xs : ClaimRows). length xs) c.copy_or_take-entered.ensures in
     let e : Entry = record { worker = c.args.worker; player = c.args.player; claimed = c.len-claimed.result; rows = c.new.result } in
     let same : c.new.result ≡ c.attract.new.rows.items = c.new.ensures ∙ c.copy_or_take-entered.ensures in
     let claimed : c.len-claimed.result ≡ length r = omega (arith, c.len-claimed.ensures, c.args.rows.now.ok.0) in
-    let size : c.len-settled.result ≡ length c.new.result = (let n : length c.new.result ≡ length c.attract.new.rows.items = ap (λ (xs : Rows). length xs) same in omega (arith, n, shrunk, c.len-settled.ensures, c.copy_or_take-entered.result.ok.0)) in
+    let size : c.len-settled.result ≡ length c.new.result = (let n : length c.new.result ≡ length c.attract.new.rows.items = ap (λ (xs : ClaimRows). length xs) same in omega (arith, n, shrunk, c.len-settled.ensures, c.copy_or_take-entered.result.ok.0)) in
     let old : length c.reserve.new.self.items ≡ length b.entries.items = ap (λ (xs : Journal). length xs) c.reserve.ensures.items in
     let number : c.len-entry.result ≡ length b.entries.items = omega (arith, old, c.len-entry.ensures, c.reserve.new.self.ok.0) in
     let journal : c.push_reserved.new.self.items ≡ b.entries.items ++ e ∷ [] = search rules in

@@ -1,7 +1,7 @@
 use Rattle.std.proofs.Common.{sym, subst, refl, arith}
 use Rattle.std.specs.Prelude.{List}
 use Rattle.pg_board.specs.declared.entry.Entry.{Entry}
-use Rattle.pg_board.specs.Regions.{IsBoard}
+use Rattle.pg_board.specs.private.Regions.{IsBoard}
 use Rattle.pg_board.proofs.Opening.{lawful_none}
 use Rattle.pg_board.proofs.board.Board.open.Goals as goal
 

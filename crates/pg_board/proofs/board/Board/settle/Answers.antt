@@ -3,7 +3,7 @@ use Rattle.std.specs.Prelude.{IfOk, IfErr}
 use Rattle.pg_game.specs.Graph.{IsGame}
 use Rattle.pg_dominion.specs.declared.claim.Claim.{Claim}
 use Rattle.pg_dominion.specs.Claim.{IsSound}
-use Rattle.pg_dominion.specs.Checked.{claim_of, claim_rows, Agrees, IsForeign}
+use Rattle.pg_dominion.specs.Checked.{claim_of, claim_rows, AgreesWithGame, IsForeign}
 use Rattle.pg_dominion.proofs.Agreed.{sound}
 use Rattle.pg_dominion.proofs.Recorded.{never_foreign}
 use Rattle.pg_board.specs.Play.{Play}
@@ -38,7 +38,7 @@ pub returns-clause-refused : goal.returns-clause-refused
 returns-clause-refused c =
     let q = c.args.checked.now in
     let x = c.args.self.now in
-    let agrees : Agrees x.graph q.player q.rows = subst (λ (y : Play). Agrees y.graph q.player q.rows) c.self.view_is c.in_default.ensures in
+    let agrees : AgreesWithGame x.graph q.player q.rows = subst (λ (y : Play). AgreesWithGame y.graph q.player q.rows) c.self.view_is c.in_default.ensures in
     checked_refusal x.graph (state_of x.journal) q agrees c.settle_sound.result c.settle_sound.ensures.of_state
     (subst (λ (k : Claim). IfErr c.settle_sound.result (λ e. Refuses x.graph (state_of x.journal) k.player k.rows e)) c.claim.ensures.claim c.settle_sound.ensures.refused)
 

@@ -1,6 +1,6 @@
 use Rattle.std.proofs.Common.{◌≡◌, length, ◌∙◌, ap, subst, arith}
 use Rattle.std.specs.Prelude.{slice_get}
-use Rattle.pg_text.specs.Solution.{Rows, IsExactSolution}
+use Rattle.pg_text.specs.Solution.{SolutionRows, IsExactSolution}
 use Rattle.pg_board.specs.Play.{Play}
 use Rattle.pg_board.specs.Journal.{state_of}
 use Rattle.pg_board.specs.Full.{AreStateRows}
@@ -11,9 +11,9 @@ pub returns-clause-solution : goal.returns-clause-solution
 returns-clause-solution c =
     let b = c.self.inside in
     let i = c.self.invariant.0 in
-    let size : length c.new.result ≡ length c.in_ok-rows.rows.items = ap (λ (xs : Rows). length xs) c.new.ensures in
+    let size : length c.new.result ≡ length c.in_ok-rows.rows.items = ap (λ (xs : SolutionRows). length xs) c.new.ensures in
     let are : AreStateRows b.game.now (state_of b.entries.items) c.new.result = record {
       size = size ∙ (c.in_ok-rows.ensures.size ∙ i.regions.size);
-      each = λ v l. ap (λ (xs : Rows). slice_get xs v) c.new.ensures ∙ (c.in_ok-rows.ensures.each v (omega (arith, i.regions.size)) ∙ i.state v);
+      each = λ v l. ap (λ (xs : SolutionRows). slice_get xs v) c.new.ensures ∙ (c.in_ok-rows.ensures.each v (omega (arith, i.regions.size)) ∙ i.state v);
     } in
     subst (λ (x : Play). IsExactSolution x.graph c.new.result) c.self.view_is (exact_solution b.game.now b.entries.items i.lawful c.new.result are)

@@ -2,8 +2,8 @@ use Rattle.std.proofs.Common.{◌≡◌, ℕ, ◌<◌, true, get_or}
 use Rattle.pg_game.specs.VertexSet.{union}
 use Rattle.pg_dominion.specs.Claim.{named}
 use Rattle.pg_board.specs.State.{settled}
-use Rattle.pg_board.specs.Regions.{told}
+use Rattle.pg_board.specs.private.Regions.{table_state}
 use Rattle.pg_board.proofs.open_edges.Bounds.first_end.Given as goal
 
 abbrev pub invariant-row : goal.invariant-row
-invariant-row l = (k : ℕ) → k < l.w-index → union (named l.self.rest.now) (settled (told l.self.regions.now.table.items) l.self.player) (get_or l.w-items k 0) ≡ true
+invariant-row l = (k : ℕ) → k < l.w-index → union (named l.self.rest.now) (settled (table_state l.self.regions.now.table.items) l.self.player) (get_or l.w-items k 0) ≡ true

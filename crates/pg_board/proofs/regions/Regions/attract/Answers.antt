@@ -3,8 +3,8 @@ use Rattle.std.proofs.Common.{ℕ, length, refl, sym, ◌∙◌, subst, arith, l
 use Rattle.pg_game.specs.VertexSet.{VertexSet, In}
 use Rattle.pg_game.specs.Graph.{HasEdge}
 use Rattle.pg_dominion.specs.Claim.{named}
-use Rattle.pg_dominion.specs.Attracting.{IsSettled}
-use Rattle.pg_board.specs.Growth.{open_before}
+use Rattle.pg_dominion.specs.private.Attracting.{IsTakenOrOpen}
+use Rattle.pg_board.specs.private.Growth.{open_before}
 use Rattle.pg_board.proofs.Growing.{Grows-same, Grows-then, next_reached, next_named, nothing_done, in_before}
 use Rattle.pg_board.proofs.regions.Regions.attract.Goals as goal
 
@@ -35,7 +35,7 @@ rows-preserved c =
     let v = c.index-row.result.now.0 in
     let mid = named c.rows.rows.items in
     let now = named c.reach.new.rows.items in
-    let settled = subst (λ (X : VertexSet). (u : ℕ) → In X u → HasEdge g u v → IsSettled g p X mid now u) (fun_ext old.grows.same) h.settled in
+    let settled = subst (λ (X : VertexSet). (u : ℕ) → In X u → HasEdge g u v → IsTakenOrOpen g p X mid now u) (fun_ext old.grows.same) h.settled in
     record {
       growing = h.growing;
       grows = Grows-then g p c.args.self.now c.rows.self c.reach.new.self c.args.rows.now.items c.rows.rows.items c.reach.new.rows.items old.grows h.grows;

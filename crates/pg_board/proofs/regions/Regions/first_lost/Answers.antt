@@ -1,13 +1,13 @@
 use Rattle.std.proofs.Common.{◌≡◌, true, sym, ◌∙◌}
 use Rattle.pg_board.specs.State.{settled}
-use Rattle.pg_board.specs.Regions.{told}
+use Rattle.pg_board.specs.private.Regions.{table_state}
 use Rattle.pg_board.proofs.Places.{row_at}
 use Rattle.pg_board.proofs.Lost.{none_lost, least_lost}
 use Rattle.pg_board.proofs.regions.Regions.first_lost.Goals as goal
 
 pub returns-then-is_settled_for : goal.returns-then-is_settled_for
 returns-then-is_settled_for c =
-    let st = told c.args.self.now.table.items in
+    let st = table_state c.args.self.now.table.items in
     let claim = c.args.claim.now in
     let e = c.as_slice-row-items.ensures in
     let i = c.rows.row-index in
@@ -18,5 +18,5 @@ returns-then-is_settled_for c =
 pub returns : goal.returns
 returns c =
     let e = c.as_slice-row-items.ensures in
-    none_lost (told c.args.self.now.table.items) c.args.claim.now.player c.args.claim.now.rows c.rows.row-index (rw e at c.rows-test.false)
+    none_lost (table_state c.args.self.now.table.items) c.args.claim.now.player c.args.claim.now.rows c.rows.row-index (rw e at c.rows-test.false)
     (rw (e, c.other-opponent.ensures) at c.rows.invariant)

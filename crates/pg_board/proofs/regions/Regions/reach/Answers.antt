@@ -4,9 +4,9 @@ use Rattle.std.proofs.lemmas.List.{get_or_default}
 use Rattle.std.proofs.lemmas.List.Elements.{Contains-get_or}
 use Rattle.pg_game.specs.VertexSet.{VertexSet, In, no_vertices}
 use Rattle.pg_dominion.specs.Claim.{named}
-use Rattle.pg_dominion.specs.Attracting.{IsSettled}
+use Rattle.pg_dominion.specs.private.Attracting.{IsTakenOrOpen}
 use Rattle.pg_dominion.proofs.Attracting.{IsSettled-before, IsSettled-later}
-use Rattle.pg_board.specs.Growth.{open_before}
+use Rattle.pg_board.specs.private.Growth.{open_before}
 use Rattle.pg_board.proofs.Growing.{Grows-same, Grows-then}
 use Rattle.pg_board.proofs.regions.Regions.reach.Goals as goal
 
@@ -35,7 +35,7 @@ loop-from-preserved c =
     let was = named c.args.rows.now.items in
     let mid = named c.loop-from.rows.items in
     let now = named c.consider.new.rows.items in
-    let here = subst (λ (X : VertexSet). In X from → IsSettled g p X mid now from) (fun_ext old.grows.same) h.settled in
+    let here = subst (λ (X : VertexSet). In X from → IsTakenOrOpen g p X mid now from) (fun_ext old.grows.same) h.settled in
     record {
       growing = h.growing;
       grows = Grows-then g p c.args.self.now c.loop-from.self c.consider.new.self c.args.rows.now.items c.loop-from.rows.items c.consider.new.rows.items old.grows h.grows;
@@ -49,5 +49,5 @@ returns-clause-settled c = λ u i e.
     let m = (c.predecessors-from-items.ensures.exact u).1 e in
     let q : slice_index us m.0 ≡ u = get_or_default us m.0 0 u m.1 ∙ m.2 in
     let U = open_before c.args.self.now c.args.rows.now.items in
-    subst (λ (x : ℕ). IsSettled c.args.game.now c.args.player U (named c.args.rows.now.items) (named c.loop-from.rows.items) x) q
+    subst (λ (x : ℕ). IsTakenOrOpen c.args.game.now c.args.player U (named c.args.rows.now.items) (named c.loop-from.rows.items) x) q
     (c.loop-from.invariant.settled m.0 (omega (arith, m.1, c.loop-from-test.false)) (subst (λ (x : ℕ). In U x) (sym q) i))

@@ -1,8 +1,8 @@
 use Rattle.std.proofs.Common.{◌≡◌, ℕ, ◌<◌, ◌++◌, ◌∷◌, [], length, set, None, Option, sym, ◌∙◌, ap, subst, arith, length-set, length-append}
 use Rattle.std.proofs.lemmas.List.Elements.{All-get_or}
-use Rattle.pg_dominion.specs.Claim.{Rows}
-use Rattle.pg_board.specs.Regions.{told}
-use Rattle.pg_board.specs.OpenEdges.{ArePlaced}
+use Rattle.pg_dominion.specs.Claim.{ClaimRows}
+use Rattle.pg_board.specs.private.Regions.{table_state}
+use Rattle.pg_board.specs.private.OpenEdges.{HavePlaces}
 use Rattle.pg_board.proofs.Places.{row_at}
 use Rattle.pg_board.proofs.RestPlaces.{ArePlaced-push, rest_kept}
 use Rattle.pg_board.proofs.regions.Regions.rest_of.Goals as goal
@@ -18,13 +18,13 @@ rows-preserved c =
     let below : r.0 < length c.args.places.now.items = rw e (All-get_or (λ (r : ℕ × Option ℕ). r.0 < length c.args.places.now.items) c.args.claim.now.rows i (0, None) l c.requires.rows) in
     let at : c.len.result ≡ length c.rows.rest.items = omega (arith, c.len.ensures, c.rows.rest.ok.0) in
     let more : c.push_reserved.new.self.items ≡ c.rows.rest.items ++ r ∷ [] = c.push_reserved.ensures.items in
-    let size : length c.push_reserved.new.self.items ≡ length (c.rows.rest.items ++ r ∷ []) = ap (λ (xs : Rows). length xs) more in
+    let size : length c.push_reserved.new.self.items ≡ length (c.rows.rest.items ++ r ∷ []) = ap (λ (xs : ClaimRows). length xs) more in
     record {
-      rows = more ∙ (rw old.rows (sym (rest_kept (told c.args.self.now.table.items) rows i c.rows-test.true (sym c.is_unsettled.ensures ∙ c.if-not-is_unsettled.false))));
+      rows = more ∙ (rw old.rows (sym (rest_kept (table_state c.args.self.now.table.items) rows i c.rows-test.true (sym c.is_unsettled.ensures ∙ c.if-not-is_unsettled.false))));
       room = c.push_reserved.ensures.capacity ∙ old.room;
       size = length-set c.rows.places.items r.0 c.len.result ∙ old.size;
-      placed = subst (λ (xs : Rows). ArePlaced xs (set c.rows.places.items r.0 c.len.result)) (sym more)
-          (subst (λ (n : ℕ). ArePlaced (c.rows.rest.items ++ r ∷ []) (set c.rows.places.items r.0 n)) (sym at)
+      placed = subst (λ (xs : ClaimRows). HavePlaces xs (set c.rows.places.items r.0 c.len.result)) (sym more)
+          (subst (λ (n : ℕ). HavePlaces (c.rows.rest.items ++ r ∷ []) (set c.rows.places.items r.0 n)) (sym at)
           (ArePlaced-push c.rows.rest.items c.rows.places.items r (omega (arith, below, old.size)) old.placed));
       few = omega (arith, size, length-append c.rows.rest.items (r ∷ []), old.few);
     }

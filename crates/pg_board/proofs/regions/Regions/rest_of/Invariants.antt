@@ -1,15 +1,15 @@
 use Rattle.std.proofs.Common.{◌≡◌, ◌≤◌, length, take}
 use Rattle.std.specs.Prelude.{vec_capacity}
 use Rattle.pg_board.specs.State.{rest_of}
-use Rattle.pg_board.specs.Regions.{told}
-use Rattle.pg_board.specs.OpenEdges.{ArePlaced}
+use Rattle.pg_board.specs.private.Regions.{table_state}
+use Rattle.pg_board.specs.private.OpenEdges.{HavePlaces}
 use Rattle.pg_board.proofs.regions.Regions.rest_of.Given as goal
 
 abbrev pub invariant-rows : goal.invariant-rows
 invariant-rows l = record {
-  rows : l.rest.items ≡ rest_of (told l.self.table.items) (take l.row-index l.row-items);
+  rows : l.rest.items ≡ rest_of (table_state l.self.table.items) (take l.row-index l.row-items);
   room : vec_capacity l.rest ≡ vec_capacity l.fn.rest;
   size : length l.places.items ≡ length l.fn.places.items;
-  placed : ArePlaced l.rest.items l.places.items;
+  placed : HavePlaces l.rest.items l.places.items;
   few : length l.rest.items ≤ l.row-index;
 }

@@ -1,10 +1,10 @@
 use Rattle.std.proofs.Common.{◌≡◌, ℕ, ◌<◌, length}
 use Rattle.std.specs.Prelude.{slice_get}
-use Rattle.pg_board.specs.Regions.{told}
+use Rattle.pg_board.specs.private.Regions.{table_state}
 use Rattle.pg_board.proofs.regions.Regions.rows.Given as goal
 
 abbrev pub invariant-table : goal.invariant-table
 invariant-table l = record {
   size : length l.rows.items ≡ l.settled-index;
-  each : (v : ℕ) → v < l.settled-index → slice_get l.rows.items v ≡ told l.settled-items v;
+  each : (v : ℕ) → v < l.settled-index → slice_get l.rows.items v ≡ table_state l.settled-items v;
 }

@@ -4,10 +4,10 @@ use Rattle.std.specs.Prelude.{nat_eq, map}
 use Rattle.std.specs.List.{IsDistinct}
 use Rattle.pg_game.specs.VertexSet.{In, Within, members}
 use Rattle.pg_game.proofs.Masks.{member_below}
-use Rattle.pg_dominion.specs.Claim.{Rows, named}
+use Rattle.pg_dominion.specs.Claim.{ClaimRows, named}
 use Rattle.pg_board.specs.declared.regions.Regions.{Regions}
-use Rattle.pg_board.specs.Regions.{told, state_with}
-use Rattle.pg_board.specs.Growth.{open_before, IsGrowing}
+use Rattle.pg_board.specs.private.Regions.{table_state, state_with}
+use Rattle.pg_board.specs.private.Growth.{open_before, IsGrowing}
 use Rattle.pg_board.proofs.Places.{row_at, named_at, fresh_at}
 use Rattle.pg_board.proofs.Tables.{state_with-none}
 use Rattle.pg_board.proofs.Growing.{still_unsettled, before_none, IsGrowing-take, same-take, told-take}
@@ -18,11 +18,11 @@ pub rows-init : goal.rows-init
 rows-init c = record {
   growing = IsGrowing-start c.args.game.now c.args.self.now [] (length c.args.game.now) c.requires.regions refl (omega arith);
   same = λ v. before_none c.args.self.now v;
-  told = λ v. sym (state_with-none (told c.args.self.now.table.items) c.args.player v);
+  told = λ v. sym (state_with-none (table_state c.args.self.now.table.items) c.args.player v);
 }
 
 -- the row of the loop is unsettled
-row_open : (r old : Regions) (rows : Rows) (i : ℕ) → i < length rows → ((v : ℕ) → open_before r (take i rows) v ≡ members old.unsettled v) → Within (named rows) (members old.unsettled) → IsDistinct nat_eq (map (λ x. x.0) rows) → In (members r.unsettled) (row_at rows i).0
+row_open : (r old : Regions) (rows : ClaimRows) (i : ℕ) → i < length rows → ((v : ℕ) → open_before r (take i rows) v ≡ members old.unsettled v) → Within (named rows) (members old.unsettled) → IsDistinct nat_eq (map (λ x. x.0) rows) → In (members r.unsettled) (row_at rows i).0
 row_open r old rows i l same within distinct =
     let v = (row_at rows i).0 in
     still_unsettled r (take i rows) v (same v ∙ within v (named_at rows i l)) (fresh_at rows i distinct l)
@@ -53,19 +53,19 @@ rows-preserved c =
     let unsettled = row_open c.rows.self c.args.self.now rows i c.rows-test.true old.same c.requires.unsettled c.requires.distinct in
     let more : take (i + 1) rows ≡ front ++ r ∷ [] = take_more rows i (0, None) c.rows-test.true in
     record {
-      growing = subst (λ (xs : Rows). IsGrowing g c.settle.new.self xs (length g)) (sym more)
+      growing = subst (λ (xs : ClaimRows). IsGrowing g c.settle.new.self xs (length g)) (sym more)
           (IsGrowing-take g p c.rows.self c.settle.new.self front r (length g) h.table h.mask h.passed unsettled old.growing);
-      same = λ v. ap (λ (xs : Rows). open_before c.settle.new.self xs v) more
+      same = λ v. ap (λ (xs : ClaimRows). open_before c.settle.new.self xs v) more
           ∙ (same-take g p c.rows.self c.settle.new.self front r (length g) h.table h.mask h.passed unsettled old.growing v ∙ old.same v);
-      told = λ v. subst (λ (xs : Rows). told c.settle.new.self.table.items v ≡ state_with (told c.args.self.now.table.items) p xs v) (sym more)
-          (told-take g p c.rows.self c.settle.new.self front r (length g) h.table h.mask h.passed unsettled old.growing (told c.args.self.now.table.items) old.told v);
+      told = λ v. subst (λ (xs : ClaimRows). table_state c.settle.new.self.table.items v ≡ state_with (table_state c.args.self.now.table.items) p xs v) (sym more)
+          (told-take g p c.rows.self c.settle.new.self front r (length g) h.table h.mask h.passed unsettled old.growing (table_state c.args.self.now.table.items) old.told v);
     }
 
 pub returns : goal.returns
 returns c =
     let all : take c.rows.row-index c.args.rows.now ≡ c.args.rows.now = take_all c.rows.row-index c.args.rows.now c.rows-test.false in
     record {
-      growing = subst (λ (xs : Rows). IsGrowing c.args.game.now c.rows.self xs (length c.args.game.now)) all c.rows.invariant.growing;
-      same = λ v. subst (λ (xs : Rows). open_before c.rows.self xs v ≡ members c.args.self.now.unsettled v) all (c.rows.invariant.same v);
-      told = λ v. subst (λ (xs : Rows). told c.rows.self.table.items v ≡ state_with (told c.args.self.now.table.items) c.args.player xs v) all (c.rows.invariant.told v);
+      growing = subst (λ (xs : ClaimRows). IsGrowing c.args.game.now c.rows.self xs (length c.args.game.now)) all c.rows.invariant.growing;
+      same = λ v. subst (λ (xs : ClaimRows). open_before c.rows.self xs v ≡ members c.args.self.now.unsettled v) all (c.rows.invariant.same v);
+      told = λ v. subst (λ (xs : ClaimRows). table_state c.rows.self.table.items v ≡ state_with (table_state c.args.self.now.table.items) c.args.player xs v) all (c.rows.invariant.told v);
     }

@@ -1,12 +1,12 @@
 use Rattle.std.proofs.Common.{◌≡◌, ℕ, length, take}
 use Rattle.pg_game.specs.VertexSet.{members}
-use Rattle.pg_board.specs.Regions.{told, state_with}
-use Rattle.pg_board.specs.Growth.{open_before, IsGrowing}
+use Rattle.pg_board.specs.private.Regions.{table_state, state_with}
+use Rattle.pg_board.specs.private.Growth.{open_before, IsGrowing}
 use Rattle.pg_board.proofs.regions.Regions.settle_all.Given as goal
 
 abbrev pub invariant-rows : goal.invariant-rows
 invariant-rows l = record {
   growing : IsGrowing l.game l.self (take l.row-index l.rows) (length l.game);
   same : (v : ℕ) → open_before l.self (take l.row-index l.rows) v ≡ members l.fn.self.unsettled v;
-  told : (v : ℕ) → told l.self.table.items v ≡ state_with (told l.fn.self.table.items) l.player (take l.row-index l.rows) v;
+  told : (v : ℕ) → table_state l.self.table.items v ≡ state_with (table_state l.fn.self.table.items) l.player (take l.row-index l.rows) v;
 }

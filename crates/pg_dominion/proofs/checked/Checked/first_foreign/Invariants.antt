@@ -1,6 +1,6 @@
 use Rattle.std.proofs.Common.{take}
-use Rattle.pg_dominion.specs.Checked.{Agrees}
+use Rattle.pg_dominion.specs.Checked.{AgreesWithGame}
 use Rattle.pg_dominion.proofs.checked.Checked.first_foreign.Given as goal
 
 abbrev pub invariant-rows : goal.invariant-rows
-invariant-rows l = Agrees l.game l.player (take l.row-index l.row-items)
+invariant-rows l = AgreesWithGame l.game l.player (take l.row-index l.row-items)

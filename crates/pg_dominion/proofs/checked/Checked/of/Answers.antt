@@ -1,5 +1,5 @@
 use Rattle.std.proofs.Common.{◌≡◌, sym, ◌∙◌, subst}
-use Rattle.pg_dominion.specs.Claim.{Rows, IsSound}
+use Rattle.pg_dominion.specs.Claim.{ClaimRows, IsSound}
 use Rattle.pg_dominion.proofs.Recorded.{checked}
 use Rattle.pg_dominion.proofs.checked.Checked.of.Goals as goal
 
@@ -8,5 +8,5 @@ invariant_of-result c =
     let claim = c.args.claim.now in
     let same = c.in_ok-rows.ensures.rows in
     let held : c.new.result ≡ claim.rows = c.new.ensures ∙ (c.in_ok-claimed.ensures.items ∙ c.as_slice.ensures) in
-    let sound = subst (λ (xs : Rows). IsSound c.args.game.now claim.player xs) (sym same) c.requires in
+    let sound = subst (λ (xs : ClaimRows). IsSound c.args.game.now claim.player xs) (sym same) c.requires in
     (checked c.args.game.now claim.player c.in_ok-rows.rows.items c.in_ok-rows.ensures.agree sound, held ∙ sym same)

@@ -3,7 +3,7 @@ use Rattle.std.specs.Prelude.{All, None}
 use Rattle.pg_game.specs.declared.game.Spec.{Spec}
 use Rattle.pg_game.specs.Specification.{AreNumbers, IsGameOf, first_fault}
 use Rattle.pg_game.specs.View.{graph_of}
-use Rattle.pg_game.specs.Flat.{ArePlain}
+use Rattle.pg_game.specs.private.Flat.{ArePlain}
 use Rattle.pg_game.proofs.Plain.{plain_none, plain_game, plain_of, plain_listed}
 use Rattle.pg_game.proofs.flat.Specs.into_listed.Goals as goal
 

@@ -3,7 +3,7 @@ use Rattle.std.specs.Prelude.{All, None}
 use Rattle.pg_game.specs.declared.game.Spec.{Spec}
 use Rattle.pg_game.specs.Specification.{AreNumbers, IsGameOf, first_fault}
 use Rattle.pg_game.specs.View.{graph_of}
-use Rattle.pg_game.specs.Placed.{ArePlaced}
+use Rattle.pg_game.specs.private.Placed.{ArePlaced}
 use Rattle.pg_game.proofs.Laid.{placed_none, placed_game, placed_of, placed_listed}
 use Rattle.pg_game.proofs.flat.Specs.placed.Goals as goal
 

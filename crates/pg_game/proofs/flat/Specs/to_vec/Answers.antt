@@ -1,14 +1,9 @@
-use Rattle.std.proofs.Common.{◌≡◌, ℕ, ◌<◌, [], ◌∷◌, ◌++◌, List, length, take, get_or, sym, ◌∙◌, arith}
+use Rattle.std.proofs.Common.{◌≡◌, ◌<◌, [], ◌∷◌, ◌++◌, length, take, get_or, sym, ◌∙◌, arith}
 use Rattle.std.proofs.lemmas.List.{get_or_read, take_all}
-use Rattle.pg_game.specs.declared.player.Player.{Player}
 use Rattle.pg_game.specs.declared.player.Player.TheVariants.{Even}
-use Rattle.pg_game.specs.declared.game.Spec.{Spec}
 use Rattle.pg_game.specs.Flat.{specs_from}
-use Rattle.pg_game.proofs.Taken.{length_specs, spec_in, specs_taken}
+use Rattle.pg_game.proofs.Taken.{length_specs, spec_in, specs_taken, spec_of}
 use Rattle.pg_game.proofs.flat.Specs.to_vec.Goals as goal
-
-abbrev spec_of : ℕ → ℕ → Player → List ℕ → Spec
-spec_of i p o ws = record { id = i; priority = p; owner = o; successors = ws }
 
 pub lines-preserved : goal.lines-preserved
 lines-preserved c =

@@ -4,8 +4,8 @@ use Rattle.std.proofs.lemmas.List.{length-map}
 use Rattle.std.proofs.lemmas.List.Sorted.{IsNonDecreasingBy-from_sort, IsNonDecreasingBy-from_sort_by_key, sum_by-IsPermutation, length_permutation}
 use Rattle.pg_game.specs.declared.game.Spec.{Spec}
 use Rattle.pg_game.specs.Specification.{different}
-use Rattle.pg_game.specs.Identifiers.{ids_of, priorities_of, owners_of}
-use Rattle.pg_game.specs.Rows.{row_at}
+use Rattle.pg_game.specs.private.Identifiers.{ids_of, priorities_of, owners_of}
+use Rattle.pg_game.specs.private.Rows.{row_at}
 use Rattle.pg_game.proofs.Made.{IsLaid, made_rows, made_game, made_of, made_limits, made_back, parts, length_ids}
 use Rattle.pg_game.proofs.Sorting.{ids_agree, laid_from}
 use Rattle.pg_game.proofs.Sound.{sound_is}

@@ -1,5 +1,5 @@
 use Rattle.std.proofs.Common.{◌≡◌, true, false, rules}
-use Rattle.pg_text.specs.GameStates.{is_complete}
+use Rattle.pg_text.specs.private.GameStates.{is_complete}
 use Rattle.pg_text.proofs.GameKeeps.{ends_early, ends_large, ends_wrong, ends_well}
 use Rattle.pg_text.proofs.game_reader.Reader.finish.Goals as goal
 
@@ -13,4 +13,4 @@ pub returns-in-Some-wrong : goal.returns-in-Some-wrong
 returns-in-Some-wrong c text ts s e k = let f : is_complete c.args.self.state ≡ true = search rules in ends_wrong text ts _ _ _ _ _ _ _ _ k s f c.in-Some-wrong.at c.in_default.is c.in-Some-wrong.is
 
 pub returns : goal.returns
-returns c text ts s e k = let f : is_complete c.args.self.state ≡ true = search rules in ends_well text ts _ _ _ _ _ _ _ _ k s f c.in_default.is c.in_default-wrong.is
+returns c text ts s e k = let f : is_complete c.args.self.state ≡ true = search rules in rw c.finish.ensures (ends_well text ts _ _ _ _ _ _ _ _ k s f c.in_default.is c.in_default-wrong.is)

@@ -1,5 +1,5 @@
 use Rattle.std.proofs.Common.{length, ◌-◌, ◌≤◌}
-use Rattle.pg_text.specs.GameAdvance.{Advances}
+use Rattle.pg_text.specs.private.GameAdvance.{Advances}
 use Rattle.pg_text.proofs.game_reader.Reader.lines.Given as goal
 
 abbrev pub invariant-lines : goal.invariant-lines

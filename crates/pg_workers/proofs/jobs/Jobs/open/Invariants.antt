@@ -1,6 +1,6 @@
 use Rattle.std.specs.Prelude.{◌≡◌, ◌+◌, ◌-◌, [], replicate, vec_len}
 use Rattle.std.specs.Vec.{vec_capacity}
-use Rattle.pg_workers.specs.Drawing.{drawer}
+use Rattle.pg_workers.specs.private.Drawing.{drawer}
 use Rattle.pg_workers.specs.Tickets.{fresh}
 use Rattle.pg_workers.proofs.jobs.Jobs.open.Given as goal
 

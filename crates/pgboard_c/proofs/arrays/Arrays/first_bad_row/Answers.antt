@@ -1,5 +1,5 @@
 use Rattle.std.proofs.Common.{◌≡◌, length, refl, ap, arith, below_more}
-use Rattle.pgboard_c.specs.Arrays.{Lists}
+use Rattle.pgboard_c.specs.Arrays.{GameArrays}
 use Rattle.pgboard_c.proofs.arrays.Arrays.first_bad_row.Goals as goal
 
 pub loop-v-preserved : goal.loop-v-preserved
@@ -7,5 +7,5 @@ loop-v-preserved c = below_more _ _ c.loop-v.invariant (c.if-is_bad_row.ensures.
 
 pub returns : goal.returns
 returns c = λ v bad.
-    let n : length c.self.inside.owners.now ≡ length c.args.self.now.owners = ap (λ (a : Lists). length a.owners) c.self.view_is in
+    let n : length c.self.inside.owners.now ≡ length c.args.self.now.owners = ap (λ (a : GameArrays). length a.owners) c.self.view_is in
     c.loop-v.invariant v (omega (arith, bad.0, c.loop-v-test.false, n)) bad

@@ -1,5 +1,5 @@
 use Rattle.std.proofs.Common.{rules, ◌<◌, length, arith}
-use Rattle.pgboard_c.specs.Arrays.{specs_of}
+use Rattle.pgboard_c.specs.Arrays.{array_specs}
 use Rattle.pgboard_c.proofs.Described.{length_specs, too_many}
 use Rattle.pgboard_c.proofs.arrays.Arrays.game.Goals as goal
 
@@ -8,4 +8,4 @@ returns-then-self-gt-MAX_IDS-clause-fault c =
     let a = c.args.self.now in
     let n = length_specs a (length a.owners) in
     let l : 2147483648 < length a.owners = search rules in
-    (c.in_ok-check.ensures.formed, too_many (specs_of a) (omega (arith, n, l)))
+    (c.in_ok-check.ensures.formed, too_many (array_specs a) (omega (arith, n, l)))

@@ -1,0 +1,5 @@
+-- Definitions that only private functions and proofs cite: no public contract stands on them.
+pub mod Regions
+pub mod OpenEdges
+pub mod Growth
+pub mod Office

@@ -1,0 +1,56 @@
+use Rattle.std.proofs.Common.{◌≡◌, ◌∷◌, [], ℕ, true, List, slice_index, refl, sym, ◌∙◌, subst, arith, below_more}
+use Rattle.std.specs.Prelude.{Option, ◌==◌}
+use Rattle.std.specs.List.{list_any}
+use Rattle.std.proofs.lemmas.List.Elements.{Contains-append_left, Contains-append_right}
+use Rattle.pg_game.specs.VertexSet.{In}
+use Rattle.pg_dominion.specs.Claim.{ClaimRows, IsRightRow, named, choice_in}
+use Rattle.pg_game.proofs.Gathered.{any_from}
+use Rattle.pg_dominion.proofs.Rows.{named_right}
+use Rattle.pg_dominion.proofs.Staying.{kept_in_row, Stays-from_row, longer_push, AreNamed-push}
+use Rattle.pg_dominion.proofs.small.stays.Goals as goal
+use Rattle.pg_dominion.proofs.small.stays.Goals.{then-priority-top-via-then-priority-top, then-priority-top-via-else-priority-top+then-contains}
+
+pub of-row-requires : goal.of-row-requires
+of-row-requires c =
+    let claim = c.args.claim.now in
+    let h = c.in-Some.ensures in
+    let e : choice_in claim.rows c.args.v ≡ c.in-Some.choice = subst (λ (xs : ClaimRows). choice_in xs c.args.v ≡ c.in-Some.choice) c.as_slice-rows.ensures h.1 in
+    subst (λ (o : Option ℕ). IsRightRow c.args.game.now claim.player (c.args.v, o)) e (named_right c.args.game.now claim.player claim.rows c.args.v c.requires.shape.right.each c.requires.vertex)
+
+pub returns-clause-stays : goal.returns-clause-stays
+returns-clause-stays c = λ _.
+    let claim = c.args.claim.now in
+    let g = c.args.game.now in
+    let h = c.in-Some.ensures in
+    let e : choice_in claim.rows c.args.v ≡ c.in-Some.choice = subst (λ (xs : ClaimRows). choice_in xs c.args.v ≡ c.in-Some.choice) c.as_slice-rows.ensures h.1 in
+    Stays-from_row g claim.player claim.rows c.args.start c.ends.list.items c.args.v c.as_slice-ends.result.now c.ends.end-index
+    (c.as_slice-ends.ensures ∙ kept_in_row g claim.player claim.rows c.of-row.result c.args.v c.in-Some.choice c.of-row.ensures.agrees c.of-row.ensures.row e)
+    (omega (arith, c.ends-test.false)) c.ends.invariant.stays
+
+pub ends-preserved-then-priority-top : goal.ends-preserved-then-priority-top
+ends-preserved-then-priority-top c =
+    let q = c.ends.list.items in
+    let u = slice_index c.as_slice-ends.result.now c.ends.end-index in
+    record {
+      within = c.ends.invariant.within;
+      longer = c.ends.invariant.longer;
+      stays = below_more _ _ c.ends.invariant.stays (λ n low. elim c.then-priority-top.branch [
+        | then-priority-top-via-then-priority-top w ↦ absurd (omega (arith, low, w.if-priority-top.true, c.priority.ensures, c.priority-top.ensures))
+        | then-priority-top-via-else-priority-top+then-contains w ↦ (let t : list_any (λ (y : ℕ). y == u) q ≡ true = subst (λ (xs : List ℕ). list_any (λ (y : ℕ). y == u) xs ≡ true) w.as_slice.ensures.value (sym w.contains.ensures.value ∙ w.if-contains.true) in (c.if-w-start.false, any_from q u t))
+      ]);
+    }
+
+pub ends-preserved : goal.ends-preserved
+ends-preserved c =
+    let claim = c.args.claim.now in
+    let q = c.ends.list.items in
+    let ws = c.as_slice-ends.result.now in
+    let u = slice_index ws c.ends.end-index in
+    let h = c.in-Some-choice_at.ensures in
+    let i : In (named claim.rows) u = subst (λ (xs : ClaimRows). In (named xs) u) c.as_slice-rows.ensures h.0 in
+    rw c.in_ok-push.ensures.items record {
+      within = AreNamed-push claim.rows q u c.ends.invariant.within i;
+      longer = longer_push c.args.list.now.items q u c.ends.invariant.longer;
+      stays = below_more _ _ (λ k lk n low. let old = c.ends.invariant.stays k lk n low in (old.0, Contains-append_left q (u ∷ []) (slice_index ws k) old.1))
+          (λ n low. (c.if-w-start.false, Contains-append_right q (u ∷ []) u (0, omega arith, refl)));
+    }

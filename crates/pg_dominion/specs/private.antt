@@ -1,0 +1,7 @@
+-- Definitions that only private functions and proofs cite: no public contract stands on them.
+pub mod Attracting
+pub mod KeptEdges
+pub mod Shape
+pub mod Plan
+pub mod Ranking
+pub mod Staying

@@ -1,0 +1,127 @@
+//! Closed walks in a small claim, looked for along its rows: nothing is laid out that has one place for each vertex of the
+//! game.
+//!
+//! What is shown is that there is no bad closed walk. Where a walk is found, or many steps were taken, nothing is said, and
+//! the rows are laid out after all.
+
+ghost use Rattle.std.specs.Prelude.{◌≡◌, ℕ, ◌<◌, ◌++◌, IfOk, List, MatchOption, length, slice_index, true, false};
+ghost use Rattle.pg_game.specs.Least.{NoneHas};
+ghost use Rattle.pg_game.specs.VertexSet.{In};
+ghost use Rattle.pg_game.specs.Region.{OnBadWalk};
+ghost use Rattle.pg_dominion.specs.Claim.{HasShape, named, choice_in};
+ghost use Rattle.pg_dominion.specs.private.Staying.{Stays, AreNamed};
+
+use crate::checked::CheckedRow;
+use crate::claim::{Claim, is_bad};
+use pg_game::Game;
+use std::alloc::{AllocError, Global};
+
+/// How many rows a claim may have to be looked at so.
+const MOST_ROWS: usize = 64;
+
+/// How many rows are compared at most.
+const MOST_STEPS: usize = 16_384;
+
+/// The choice in the row that names the vertex; none where no row does.
+fn choice_at(rows: &[(u32, Option<u32>)], v: u32) -> Option<Option<u32>>
+    ensures { MatchOption result (named rows.now v ≡ false) (λ c. (named rows.now v ≡ true) × (choice_in rows.now v ≡ c)) }
+{
+    'rows: for row in rows {
+        if row.0 == v {
+            return Some(row.1);
+        }
+    }
+    None
+}
+
+/// Adds to the list what the vertex leads to in the claim, of at most the start's priority. Whether the start is not there.
+fn stays(
+    game: &Game,
+    claim: &Claim,
+    start: u32,
+    v: u32,
+    list: &mut Vec<u32>,
+    steps: &mut usize,
+) -> Result<bool, AllocError>
+    requires shape { HasShape game.now claim.now.player claim.now.rows }
+    requires start { start < length game.now }
+    requires vertex { In (named claim.now.rows) v }
+    requires named { AreNamed claim.now.rows list.old.items }
+    ensures named { IfOk result (λ shown. AreNamed claim.now.rows list.new.items) }
+    ensures longer { IfOk result (λ shown. (more : List ℕ) × (list.new.items ≡ list.old.items ++ more)) }
+    ensures stays { IfOk result (λ shown. shown ≡ true → Stays game.now claim.now.player claim.now.rows start list.new.items v) }
+{
+    let _n = game.len();
+    let rows = claim.rows.as_slice();
+    let Some(choice) = choice_at(rows, v) else {
+        unreachable!()
+    };
+    let row = CheckedRow::of(game, claim.player, (v, choice));
+    let ends = row.kept.as_slice();
+    let top = game.priority(start);
+    'ends: for end in ends {
+        let w = *end;
+        *steps = steps.saturating_add(rows.len());
+        if *steps > MOST_STEPS || w == start {
+            return Ok(false);
+        }
+        let Some(_) = choice_at(rows, w) else {
+            continue;
+        };
+        if game.priority(w) > top || list.as_slice().contains(&w) {
+            continue;
+        }
+        list.push(w)?;
+    }
+    Ok(true)
+}
+
+/// Whether no closed walk of the claim's kept edges was found on which the vertex is the greatest.
+fn never_returns(
+    game: &Game,
+    claim: &Claim,
+    start: u32,
+    list: &mut Vec<u32>,
+    steps: &mut usize,
+) -> Result<bool, AllocError>
+    requires shape { HasShape game.now claim.now.player claim.now.rows }
+    requires start { start < length game.now }
+    requires vertex { In (named claim.now.rows) start }
+    ensures { IfOk result (λ shown. shown ≡ true → OnBadWalk game.now claim.now.player (named claim.now.rows) (choice_in claim.now.rows) start → ⊥) }
+{
+    list.clear();
+    if !stays(game, claim, start, start, list, steps)? {
+        return Ok(false);
+    }
+    'list: for next in 0..usize::MAX {
+        if next >= list.len() {
+            return Ok(true);
+        }
+        let v = list[next];
+        if !stays(game, claim, start, v, list, steps)? {
+            return Ok(false);
+        }
+    }
+    Ok(false)
+}
+
+/// Whether a small claim was shown to have no bad closed walk.
+pub fn is_shown_small(alloc: Global, game: &Game, claim: &Claim) -> Result<bool, AllocError>
+    requires { HasShape game.now claim.now.player claim.now.rows }
+    ensures { IfOk result (λ shown. shown ≡ true → NoneHas (OnBadWalk game.now claim.now.player (named claim.now.rows) (choice_in claim.now.rows))) }
+{
+    let _n = game.len();
+    let rows = claim.rows.as_slice();
+    if rows.len() > MOST_ROWS {
+        return Ok(false);
+    }
+    let mut list = Vec::new(alloc);
+    let mut steps = 0usize;
+    'rows: for row in rows {
+        let v = row.0;
+        if is_bad(game, claim.player, v) && !never_returns(game, claim, v, &mut list, &mut steps)? {
+            return Ok(false);
+        }
+    }
+    Ok(true)
+}

@@ -1,6 +1,0 @@
-use Rattle.std.proofs.Common.{◌≡◌, false, take}
-use Rattle.pg_dominion.specs.Claim.{named}
-use Rattle.pg_finders.proofs.chosen.Chosen.has.Given as goal
-
-abbrev pub invariant-loop-at : goal.invariant-loop-at
-invariant-loop-at l = named (take l.at l.self) l.v ≡ false

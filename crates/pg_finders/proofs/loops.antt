@@ -1,0 +1,2 @@
+-- Dominions of a single vertex: lemmas.
+pub mod Singles

@@ -1,0 +1,177 @@
+-- The vertices that are dominions alone, as a set; together they are a good claim.
+use Rattle.std.proofs.Common.{◌≡◌, ◌≢◌, ℕ, zero, suc, ◌<◌, ◌≤◌, Bool, true, false, ◌&&◌, ◌||◌, not, ◌↔◌, inl, inr, List, [], ◌∷◌, length, refl, sym, ◌∙◌, subst, ap, arith, ltb-true}
+use Rattle.std.specs.Prelude.{Some, ◌==◌}
+use Rattle.std.specs.List.{list_any, Contains}
+use Rattle.std.proofs.lemmas.Bool.{eqb-true, eq-eqb}
+use Rattle.pg_game.specs.declared.player.Player.{Player}
+use Rattle.pg_game.specs.Player.{of_parity, same_player}
+use Rattle.pg_game.specs.Graph.{Graph, HasEdge, owner_of, priority_of, successors_of}
+use Rattle.pg_game.specs.VertexSet.{VertexSet, In, members}
+use Rattle.pg_game.specs.Kept.{KeptEdge}
+use Rattle.pg_game.specs.Walk.{Walk, ClosedWalk, greatest_priority}
+use Rattle.pg_game.proofs.Members.{Contains-head, Contains-tail, Contains-cons, Contains-nil}
+use Rattle.pg_dominion.specs.Claim.{ClaimRows, named, choice_in, IsGoodIn}
+use Rattle.pg_finders.specs.Part.{IsPart}
+use Rattle.pg_finders.specs.Finding.{IsLoop}
+use Rattle.pg_finders.specs.Claims.{own_choices, rows_below}
+use Rattle.pg_finders.specs.private.Solved.{WinsOn}
+use Rattle.pg_finders.specs.private.loops.Singles.{loops, leads_away, leads_to_itself, itself}
+use Rattle.pg_finders.proofs.Sets.{own_or_other, not_both, same_is, is_same, both, pair, minus, in_first, test}
+use Rattle.pg_finders.proofs.ClosedWalks.{Among, closed_inside, greatest_reached}
+use Rattle.pg_finders.proofs.Solving.{kept_leads, choice_leads}
+use Rattle.pg_finders.proofs.Rows.{rows_of_below}
+use Rattle.pg_finders.proofs.Good.{rows_named, good_rows}
+
+pub any_some : (t : ℕ → Bool) (ws : List ℕ) → list_any t ws ≡ true → (w : ℕ) × Contains ws w × (t w ≡ true)
+any_some t [] e = absurd (cc e)
+any_some t (x ∷ xs) e = elim (test (t x)) [
+  | inl y ↦ (x, Contains-head x xs, y)
+  | inr n ↦ (let r = any_some t xs (rw n at e) in (r.0, Contains-tail x r.0 xs r.1, r.2))
+]
+
+pub some_any : (t : ℕ → Bool) (ws : List ℕ) (w : ℕ) → Contains ws w → t w ≡ true → list_any t ws ≡ true
+some_any t [] w m y = absurd (Contains-nil w m)
+some_any t (x ∷ xs) w m y = elim (Contains-cons x w xs m) [
+  | inl q ↦ (let z : t x ≡ true = rw q y in rw z refl)
+  | inr k ↦ or_true (t x) (list_any t xs) (some_any t xs w k y)
+]
+  where
+    or_true : (a b : Bool) → b ≡ true → (a || b) ≡ true
+    or_true true b e = refl
+    or_true false b e = e
+
+or_not : (a b : Bool) → (a || not b) ≡ true → a ≡ false → b ≡ false
+or_not true b e f = absurd (cc f)
+or_not false true e f = absurd (cc e)
+or_not false false e f = refl
+
+or_right : (a b : Bool) → b ≡ false → (a || not b) ≡ true
+or_right true b e = refl
+or_right false true e = absurd (cc e)
+or_right false false e = refl
+
+module _ (g : Graph) (U : VertexSet) (p : Player) (v : ℕ) where
+  -- no successor in the set is another vertex
+  pub stays_from_test : leads_away g U v ≡ false → (w : ℕ) → HasEdge g v w → In U w → w ≡ v
+  stays_from_test n w m i = elim (test (w == v)) [
+    | inl y ↦ eqb-true w v y
+    | inr z ↦ absurd (let a = some_any (λ x. U x && not (x == v)) (successors_of g v) w m (minus (U w) (w == v) i z) in cc (a, n))
+  ]
+
+  pub test_from_stays : ((w : ℕ) → HasEdge g v w → In U w → w ≡ v) → leads_away g U v ≡ false
+  test_from_stays h = elim (test (leads_away g U v)) [
+    | inr n ↦ n
+    | inl y ↦ absurd (let a = any_some (λ x. U x && not (x == v)) (successors_of g v) y in
+        let b = both (U a.0) (not (a.0 == v)) a.2 in
+        let q = eq-eqb a.0 v (h a.0 a.1 b.0) in
+        let c : not true ≡ true = subst (λ z. not z ≡ true) q b.1 in
+        cc c)
+  ]
+
+  pub itself_from_test : leads_to_itself g v ≡ true → HasEdge g v v
+  itself_from_test y =
+      let a = any_some (λ w. w == v) (successors_of g v) y in
+      subst (λ w. HasEdge g v w) (eqb-true a.0 v a.2) a.1
+
+  pub test_from_itself : HasEdge g v v → leads_to_itself g v ≡ true
+  test_from_itself m = some_any (λ w. w == v) (successors_of g v) v m (eq-eqb v v refl)
+
+  pub loop_from_test : loops g U p v ≡ true → IsLoop g U p v
+  loop_from_test y =
+      let a = both (U v && same_player (of_parity (priority_of g v)) p && leads_to_itself g v) (same_player (owner_of g v) p || not (leads_away g U v)) y in
+      let b = both (U v && same_player (of_parity (priority_of g v)) p) (leads_to_itself g v) a.0 in
+      let c = both (U v) (same_player (of_parity (priority_of g v)) p) b.0 in
+      record {
+        inside = c.0;
+        parity = same_is (of_parity (priority_of g v)) p c.1;
+        itself = itself_from_test b.1;
+        only = λ o. stays_from_test (or_not (same_player (owner_of g v) p) (leads_away g U v) a.1 (not_owned o));
+      }
+    where
+      not_owned : owner_of g v ≢ p → same_player (owner_of g v) p ≡ false
+      not_owned o = elim (test (same_player (owner_of g v) p)) [ inr n ↦ n | inl z ↦ absurd (o (same_is (owner_of g v) p z)) ]
+
+  pub test_from_loop : IsLoop g U p v → loops g U p v ≡ true
+  test_from_loop h =
+      pair (U v && same_player (of_parity (priority_of g v)) p && leads_to_itself g v) (same_player (owner_of g v) p || not (leads_away g U v))
+      (pair (U v && same_player (of_parity (priority_of g v)) p) (leads_to_itself g v)
+      (pair (U v) (same_player (of_parity (priority_of g v)) p) h.inside (is_same (of_parity (priority_of g v)) p h.parity))
+      (test_from_itself h.itself))
+      (elim (own_or_other (owner_of g v) p) [
+        | inl o ↦ in_first (same_player (owner_of g v) p) (not (leads_away g U v)) (is_same (owner_of g v) p o)
+        | inr o ↦ or_right (same_player (owner_of g v) p) (leads_away g U v) (test_from_stays (h.only (λ q. not_both (owner_of g v) p q o)))
+      ])
+
+-- where each edge leads back to its beginning, a closed walk has one vertex
+one_vertex : (E : ℕ → ℕ → Type 0) → ((v w : ℕ) → E v w → w ≡ v) → (v : ℕ) (ws : List ℕ) (end : ℕ) → Walk E v ws end → (u : ℕ) → Contains (v ∷ ws) u → u ≡ v
+one_vertex E f v [] end e u m = elim (Contains-cons v u [] m) [ inl q ↦ sym q | inr k ↦ absurd (Contains-nil u k) ]
+one_vertex E f v (w ∷ ws) end e u m = elim (Contains-cons v u (w ∷ ws) m) [
+  | inl q ↦ sym q
+  | inr k ↦ one_vertex E f w ws end e.1 u k ∙ f v w e.0
+]
+
+module _ (g : Graph) (U : VertexSet) (p : Player) where
+  stays_there : (v w : ℕ) → Among (KeptEdge g p (loops g U p) itself) (In (loops g U p)) v w → w ≡ v
+  stays_there v w (k, i, j) = elim (kept_leads g p itself v w k.1) [
+    | inl (o, m) ↦ sym (choice_leads (Some v) v w refl m)
+    | inr (o, m) ↦ (loop_from_test g U p v i).only (λ q. not_both (owner_of g v) p q o) w m (loop_from_test g U p w j).inside
+  ]
+
+  good : (walk : List ℕ) → ClosedWalk (KeptEdge g p (loops g U p) itself) walk → of_parity (greatest_priority g walk) ≡ p
+  good [] c = absurd c
+  good (v ∷ vs) c =
+      let d = closed_inside (KeptEdge g p (loops g U p) itself) (In (loops g U p)) (λ a b k. k.0) (v ∷ vs) c in
+      let same = one_vertex (Among (KeptEdge g p (loops g U p) itself) (In (loops g U p))) stays_there v vs v d in
+      let e = greatest_reached g (priority_of g v) (v ∷ vs) (λ u m. rw (same u m) (omega arith)) v (Contains-head v vs) refl in
+      ap of_parity e ∙ (loop_from_test g U p v (begins vs c)).parity
+    where
+      begins : (ws : List ℕ) → Walk (KeptEdge g p (loops g U p) itself) v ws v → In (loops g U p) v
+      begins [] k = k.0
+      begins (w ∷ ws) k = k.0.0
+
+  -- the player holds them, where each is its own choice
+  pub loops_held : WinsOn g U p (loops g U p) itself
+  loops_held = record {
+    within = λ v i. (loop_from_test g U p v i).inside;
+    choices = λ v i o. (v, refl, (loop_from_test g U p v i).itself, i);
+    closed = λ v w i o m u. (let e = (loop_from_test g U p v i).only (λ q. not_both (owner_of g v) p q o) w m u in subst (In (loops g U p)) (sym e) i);
+    good = good;
+  }
+
+-- the rows that are gathered over all vertices
+pub all_rows : (g h : Graph) (mask bits : List Bool) (p : Player) (rows : ClaimRows) (i n : ℕ) → h ≡ g → bits ≡ mask → n ≡ length h → n ≤ i → i ≤ n → rows ≡ rows_below (loops h (members bits) p) (own_choices h p itself) i → rows ≡ rows_below (loops g (members mask) p) (own_choices g p itself) (length g)
+all_rows g h mask bits p rows i n a b c d e r =
+    let l : i ≡ length g = omega (arith, ap length a) in
+    subst (λ k. rows ≡ rows_below (loops g (members mask) p) (own_choices g p itself) k) l
+    (subst (λ m. rows ≡ rows_below (loops g (members m) p) (own_choices g p itself) i) b
+    (subst (λ z. rows ≡ rows_below (loops z (members bits) p) (own_choices z p itself) i) a r))
+
+module _ (g : Graph) (mask : List Bool) (p : Player) (part : IsPart (record { graph = g; mask = mask })) (rows : ClaimRows) (all : rows ≡ rows_below (loops g (members mask) p) (own_choices g p itself) (length g)) where
+  inside : (v : ℕ) → In (members mask) v → v < length g
+  inside v i = ltb-true v (length g) (part.subgame.vertices v i)
+
+  pub names_loops : (v : ℕ) → named rows v ≡ loops g (members mask) p v
+  names_loops v = ap (λ (xs : ClaimRows). named xs v) all ∙ rows_named g (members mask) p (loops g (members mask) p) itself (loops_held g (members mask) p) inside v
+
+  pub exactly_loops : (v : ℕ) → In (named rows) v ↔ IsLoop g (members mask) p v
+  exactly_loops v = (λ m. loop_from_test g (members mask) p v (sym (names_loops v) ∙ m), λ h. names_loops v ∙ test_from_loop g (members mask) p v h)
+
+  pub chooses_itself : (v : ℕ) → In (named rows) v → owner_of g v ≡ p → choice_in rows v ≡ Some v
+  chooses_itself v m o =
+      let f = rows_of_below (loops g (members mask) p) (own_choices g p itself) (length g) in
+      let n : named (rows_below (loops g (members mask) p) (own_choices g p itself) (length g)) v ≡ true = subst (λ (xs : ClaimRows). named xs v ≡ true) all m in
+      ap (λ (xs : ClaimRows). choice_in xs v) all ∙ (f.choice v n ∙ rw (is_same (owner_of g v) p o) refl)
+
+  pub loops_good : 0 < length rows → IsGoodIn g (members mask) p rows
+  loops_good n = subst (IsGoodIn g (members mask) p) (sym all) (good_rows g (members mask) p (loops g (members mask) p) itself (loops_held g (members mask) p) inside (subst (λ (xs : ClaimRows). 0 < length xs) all n))
+
+  pub no_loops : rows ≡ [] → (v : ℕ) → IsLoop g (members mask) p v → ⊥
+  no_loops e v h =
+      let m : named rows v ≡ true = names_loops v ∙ test_from_loop g (members mask) p v h in
+      let z : false ≡ true = subst (λ (xs : ClaimRows). named xs v ≡ true) e m in
+      cc z
+
+-- a length that is not 0
+pub positive : (n k : ℕ) → (n == 0) ≡ false → n ≡ k → 0 < k
+positive zero k e q = absurd (cc e)
+positive (suc n) k e q = omega (arith, q)

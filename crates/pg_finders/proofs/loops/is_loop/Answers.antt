@@ -1,0 +1,35 @@
+use Rattle.std.proofs.Common.{◌≡◌, ◌≢◌, subst, rules}
+use Rattle.pg_game.specs.Player.{of_parity}
+use Rattle.pg_game.specs.Graph.{HasEdge, owner_of, priority_of}
+use Rattle.pg_game.specs.VertexSet.{In, members}
+use Rattle.pg_finders.specs.private.loops.Singles.{loops}
+use Rattle.pg_finders.proofs.Sets.{equal_from}
+use Rattle.pg_finders.proofs.loops.Singles.{loop_from_test, test_from_loop}
+use Rattle.pg_finders.proofs.loops.is_loop.Goals as goal
+
+pub returns-then-eq : goal.returns-then-eq
+returns-then-eq c =
+    let g = c.args.game.now in
+    let U = members c.args.mask.now in
+    let p = c.args.player in
+    let v = c.args.v in
+    let i : In U v = cc (c.has.ensures, c.if-not-has.false) in
+    let q : of_parity (priority_of g v) ≡ p = search rules in
+    let o : owner_of g v ≡ p = search rules in
+    equal_from c.has_edge.result (loops g U p v)
+    (λ y. test_from_loop g U p v record { inside = i; parity = q; itself = c.has_edge.ensures.0 y; only = λ n. absurd (n o) })
+    (λ y. c.has_edge.ensures.1 (loop_from_test g U p v y).itself)
+
+pub returns : goal.returns
+returns c =
+    let g = c.args.game.now in
+    let U = members c.args.mask.now in
+    let p = c.args.player in
+    let v = c.args.v in
+    let i : In U v = cc (c.has.ensures, c.if-not-has.false) in
+    let q : of_parity (priority_of g v) ≡ p = search rules in
+    let n : owner_of g v ≢ p = search rules in
+    let s = c.requires.subgame.successor v i in
+    equal_from c.stays.result (loops g U p v)
+    (λ y. (let only = c.stays.ensures.0 y in test_from_loop g U p v record { inside = i; parity = q; itself = subst (λ x. HasEdge g v x) (only s.0 s.1 s.2) s.1; only = λ _. only }))
+    (λ y. c.stays.ensures.1 ((loop_from_test g U p v y).only n))

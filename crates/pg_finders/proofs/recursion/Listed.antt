@@ -1,0 +1,128 @@
+-- Lists of vertices as sets.
+use Rattle.std.proofs.Common.{◌≡◌, ℕ, zero, suc, ◌<◌, ◌≤◌, Bool, true, false, ◌||◌, ◌⊎◌, inl, inr, List, [], ◌∷◌, ◌++◌, length, take, drop, get_or, All, refl, sym, ◌∙◌, subst, arith}
+use Rattle.std.specs.Prelude.{◌==◌, slice_set}
+use Rattle.std.proofs.lemmas.Bool.{eqb-true, eq-eqb}
+use Rattle.std.proofs.lemmas.List.{take-append-drop, get_or-set_other}
+use Rattle.std.proofs.lemmas.List.Folds.{list_any-append}
+use Rattle.pg_game.specs.VertexSet.{In, members}
+use Rattle.pg_game.proofs.Walks.{or_false}
+use Rattle.pg_finders.specs.private.recursion.Listed.{listed, Once, Apart}
+use Rattle.pg_finders.specs.private.recursion.Planned.{size}
+use Rattle.pg_finders.proofs.Sets.{no_both, test, either, in_first, in_second}
+use Rattle.pg_finders.proofs.Masks.{inside_mask}
+use Rattle.pg_finders.proofs.Sizes.{size_drop}
+
+pub listed-append : (xs ys : List ℕ) (v : ℕ) → listed (xs ++ ys) v ≡ (listed xs v || listed ys v)
+listed-append xs ys v = list_any-append (λ u. u == v) xs ys
+
+pub in_front : (xs ys : List ℕ) (v : ℕ) → In (listed xs) v → In (listed (xs ++ ys)) v
+in_front xs ys v i = listed-append xs ys v ∙ in_first (listed xs v) (listed ys v) i
+
+pub in_back : (xs ys : List ℕ) (v : ℕ) → In (listed ys) v → In (listed (xs ++ ys)) v
+in_back xs ys v i = listed-append xs ys v ∙ in_second (listed xs v) (listed ys v) i
+
+pub front_or_back : (xs ys : List ℕ) (v : ℕ) → In (listed (xs ++ ys)) v → In (listed xs) v ⊎ In (listed ys) v
+front_or_back xs ys v i = either (listed xs v) (listed ys v) (sym (listed-append xs ys v) ∙ i)
+
+pub in_take : (k : ℕ) (xs : List ℕ) (v : ℕ) → In (listed (take k xs)) v → In (listed xs) v
+in_take k xs v i = subst (λ ys. In (listed ys) v) (take-append-drop k xs) (in_front (take k xs) (drop k xs) v i)
+
+pub in_drop : (k : ℕ) (xs : List ℕ) (v : ℕ) → In (listed (drop k xs)) v → In (listed xs) v
+in_drop k xs v i = subst (λ ys. In (listed ys) v) (take-append-drop k xs) (in_back (take k xs) (drop k xs) v i)
+
+pub take_or_drop : (k : ℕ) (xs : List ℕ) (v : ℕ) → In (listed xs) v → In (listed (take k xs)) v ⊎ In (listed (drop k xs)) v
+take_or_drop k xs v i = front_or_back (take k xs) (drop k xs) v (subst (λ ys. In (listed ys) v) (sym (take-append-drop k xs)) i)
+
+pub one_listed : (u v : ℕ) → In (listed (u ∷ [])) v → u ≡ v
+one_listed u v i = elim (either (u == v) false i) [ inl y ↦ eqb-true u v y | inr n ↦ absurd (cc n) ]
+
+pub some_length : (xs : List ℕ) (v : ℕ) → In (listed xs) v → 0 < length xs
+some_length [] v i = absurd (cc i)
+some_length (x ∷ xs) v i = omega arith
+
+pub listed_some : (xs : List ℕ) → 0 < length xs → (v : ℕ) × In (listed xs) v
+listed_some [] l = absurd (omega (arith, l))
+listed_some (x ∷ xs) l = (x, in_first (x == x) (listed xs x) (eq-eqb x x refl))
+
+-- nothing of the one is in the other, the other way round
+pub apart_back : (xs ys : List ℕ) → Apart xs ys → Apart ys xs
+apart_back xs ys f v i = go (test (listed xs v))
+  where
+    go : (listed xs v ≡ true) ⊎ (listed xs v ≡ false) → listed xs v ≡ false
+    go (inl y) = absurd (no_both (listed ys v) i (f v y))
+    go (inr n) = n
+
+-- where a member of both is absurd
+pub apart_from : (xs ys : List ℕ) → ((v : ℕ) → In (listed xs) v → In (listed ys) v → ⊥) → Apart xs ys
+apart_from xs ys f v i = go (test (listed ys v))
+  where
+    go : (listed ys v ≡ true) ⊎ (listed ys v ≡ false) → listed ys v ≡ false
+    go (inl y) = absurd (f v i y)
+    go (inr n) = n
+
+pub once_apart : (xs ys : List ℕ) → Once (xs ++ ys) → Apart xs ys
+once_apart [] ys h v i = absurd (cc i)
+once_apart (x ∷ xs) ys h v i = go (x == v) refl (once_apart xs ys h.1 v)
+  where
+    fresh : listed ys x ≡ false
+    fresh = (or_false (listed xs x) (listed ys x) (sym (listed-append xs ys x) ∙ h.0)).1
+
+    go : (b : Bool) → (x == v) ≡ b → (In (listed xs) v → listed ys v ≡ false) → listed ys v ≡ false
+    go true e f = subst (λ u. listed ys u ≡ false) (eqb-true x v e) fresh
+    go false e f = f (let j : listed xs v ≡ true = rw e at i in j)
+
+pub once_left : (xs ys : List ℕ) → Once (xs ++ ys) → Once xs
+once_left [] ys h = tt
+once_left (x ∷ xs) ys h = ((or_false (listed xs x) (listed ys x) (sym (listed-append xs ys x) ∙ h.0)).0, once_left xs ys h.1)
+
+pub once_right : (xs ys : List ℕ) → Once (xs ++ ys) → Once ys
+once_right [] ys h = h
+once_right (x ∷ xs) ys h = once_right xs ys h.1
+
+pub once_join : (xs ys : List ℕ) → Once xs → Once ys → Apart xs ys → Once (xs ++ ys)
+once_join [] ys a b f = b
+once_join (x ∷ xs) ys a b f = (
+  listed-append xs ys x ∙ rw (a.0, f x (in_first (x == x) (listed xs x) (eq-eqb x x refl))) refl,
+  once_join xs ys a.1 b (λ v i. f v (in_second (x == v) (listed xs v) i)),
+)
+
+pub once_take : (k : ℕ) (xs : List ℕ) → Once xs → Once (take k xs)
+once_take k xs o = once_left (take k xs) (drop k xs) (subst Once (sym (take-append-drop k xs)) o)
+
+pub once_drop : (k : ℕ) (xs : List ℕ) → Once xs → Once (drop k xs)
+once_drop k xs o = once_right (take k xs) (drop k xs) (subst Once (sym (take-append-drop k xs)) o)
+
+-- the front has nothing of the rest
+pub take_apart : (k : ℕ) (xs : List ℕ) → Once xs → Apart (take k xs) (drop k xs)
+take_apart k xs o = once_apart (take k xs) (drop k xs) (subst Once (sym (take-append-drop k xs)) o)
+
+-- a list of different vertices of a mask is no longer than the mask has vertices
+pub once_fits : (xs : List ℕ) (mask : List Bool) → Once xs → ((v : ℕ) → In (listed xs) v → members mask v ≡ true) → length xs ≤ size mask
+once_fits [] mask o f = omega arith
+once_fits (x ∷ xs) mask o f =
+    let here : members mask x ≡ true = f x (rw (eq-eqb x x refl) refl) in
+    let n = inside_mask mask x here in
+    let h = once_fits xs (slice_set mask x false) o.1 (λ v i. kept v i (x == v) refl (f v)) in
+    let e = size_drop mask x here in
+    omega (arith, h, e)
+  where
+    kept : (v : ℕ) → listed xs v ≡ true → (b : Bool) → (x == v) ≡ b → (((x == v) || listed xs v) ≡ true → members mask v ≡ true) → members (slice_set mask x false) v ≡ true
+    kept v i true e f = absurd (let q = eqb-true x v e in let m : listed xs x ≡ true = subst (λ u. listed xs u ≡ true) (sym q) i in no_both (listed xs x) m o.0)
+    kept v i false e f = get_or-set_other mask x v false false (λ q. grind (arith, eq-eqb x v (sym q))) ∙ f (rw (e, i) refl)
+
+pub listed_at : (xs : List ℕ) (k : ℕ) (x : ℕ) → k < length xs → x ≡ get_or xs k x → In (listed xs) x
+listed_at xs k x l e = subst (λ y. In (listed xs) y) (sym e) (at xs k x l)
+  where
+    at : (xs : List ℕ) (k d : ℕ) → k < length xs → listed xs (get_or xs k d) ≡ true
+    at [] k d l = absurd (omega (arith, l))
+    at (x ∷ xs) zero d l = rw (eq-eqb x x refl) refl
+    at (x ∷ xs) (suc k) d l = in_second (x == get_or xs k d) (listed xs (get_or xs k d)) (at xs k d (omega (arith, l)))
+
+-- where all that is listed is below a number, each item is
+pub all_below : (n : ℕ) (xs : List ℕ) → ((v : ℕ) → In (listed xs) v → v < n) → All (λ v. v < n) xs
+all_below n xs f k d l = f (get_or xs k d) (at xs k d l)
+  where
+    at : (xs : List ℕ) (k d : ℕ) → k < length xs → listed xs (get_or xs k d) ≡ true
+    at [] k d l = absurd (omega (arith, l))
+    at (x ∷ xs) zero d l = rw (eq-eqb x x refl) refl
+    at (x ∷ xs) (suc k) d l = in_second (x == get_or xs k d) (listed xs (get_or xs k d)) (at xs k d (omega (arith, l)))

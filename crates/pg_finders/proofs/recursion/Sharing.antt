@@ -1,0 +1,96 @@
+-- Lists that are shared: what stops in a row say of them, and which levels stay the same.
+use Rattle.std.proofs.Common.{◌≡◌, ℕ, ◌≤◌, true, false, ◌||◌, ◌⊎◌, inl, inr, List, [], ◌∷◌, ◌++◌, take, map, refl, sym, ◌∙◌, ap, arith}
+use Rattle.pg_game.specs.declared.player.Player.{Player}
+use Rattle.pg_game.specs.declared.player.Player.TheVariants.{Even, Odd}
+use Rattle.pg_game.specs.Player.{opponent, same_player}
+use Rattle.std.specs.Prelude.{if◌then◌else◌}
+use Rattle.pg_game.specs.VertexSet.{VertexSet, In}
+use Rattle.pg_finders.specs.declared.recursion.solver.Stop.{Stop}
+use Rattle.pg_finders.specs.private.recursion.Listed.{listed}
+use Rattle.pg_finders.specs.private.recursion.Settled.{SettledLists}
+use Rattle.pg_finders.specs.private.recursion.UnderWay.{gone, part, count_at, prefix, level_at, Linked}
+use mathlib.Core.Path.{fun_ext}
+use Rattle.pg_finders.proofs.Sets.{no_both, test, either, in_first, in_second, minus, only}
+
+-- what holds for a player and for the opponent holds for each player
+pub by_player : (P : Player → Type 0) (p : Player) → P p → P (opponent p) → (q : Player) → P q
+by_player P Even a b Even = a
+by_player P Even a b Odd = b
+by_player P Odd a b Even = b
+by_player P Odd a b Odd = a
+
+-- one list for the player, another for the opponent
+abbrev pub pick : Player → List ℕ → List ℕ → SettledLists
+pick p xs ys q = if same_player q p then xs else ys
+
+pub pick_own : (p : Player) (xs ys : List ℕ) → pick p xs ys p ≡ xs
+pick_own Even xs ys = refl
+pick_own Odd xs ys = refl
+
+pub pick_other : (p : Player) (xs ys : List ℕ) → pick p xs ys (opponent p) ≡ ys
+pick_other Even xs ys = refl
+pick_other Odd xs ys = refl
+
+pub gone_settled : (settled : SettledLists) (aside : List ℕ) (p : Player) (v : ℕ) → In (listed (settled p)) v → In (gone settled aside) v
+gone_settled settled aside Even v i = in_first (listed (settled Even) v || listed (settled Odd) v) (listed aside v) (in_first (listed (settled Even) v) (listed (settled Odd) v) i)
+gone_settled settled aside Odd v i = in_first (listed (settled Even) v || listed (settled Odd) v) (listed aside v) (in_second (listed (settled Even) v) (listed (settled Odd) v) i)
+
+pub gone_aside : (settled : SettledLists) (aside : List ℕ) (v : ℕ) → In (listed aside) v → In (gone settled aside) v
+gone_aside settled aside v i = in_second (listed (settled Even) v || listed (settled Odd) v) (listed aside v) i
+
+pub gone_cases : (settled : SettledLists) (aside : List ℕ) (v : ℕ) → In (gone settled aside) v → ((p : Player) × In (listed (settled p)) v) ⊎ In (listed aside) v
+gone_cases settled aside v i = elim (either (listed (settled Even) v || listed (settled Odd) v) (listed aside v) i) [
+  | inl y ↦ elim (either (listed (settled Even) v) (listed (settled Odd) v) y) [ inl x ↦ inl (Even, x) | inr x ↦ inl (Odd, x) ]
+  | inr y ↦ inr y
+]
+
+pub gone_none : (settled : SettledLists) (aside : List ℕ) (v : ℕ) → ((p : Player) → listed (settled p) v ≡ false) → listed aside v ≡ false → gone settled aside v ≡ false
+gone_none settled aside v f a = rw (f Even, f Odd, a) refl
+
+pub not_gone : (settled : SettledLists) (aside : List ℕ) (v : ℕ) → gone settled aside v ≡ false → ((p : Player) → listed (settled p) v ≡ false) × (listed aside v ≡ false)
+not_gone settled aside v n = (λ p. out_of (settled p) (λ i. gone_settled settled aside p v i), out_of aside (λ i. gone_aside settled aside v i))
+  where
+    out_of : (xs : List ℕ) → (In (listed xs) v → In (gone settled aside) v) → listed xs v ≡ false
+    out_of xs f = go (test (listed xs v))
+      where
+        go : (listed xs v ≡ true) ⊎ (listed xs v ≡ false) → listed xs v ≡ false
+        go (inl y) = absurd (no_both (gone settled aside v) (f y) n)
+        go (inr m) = m
+
+-- a vertex of the part is in the set and in no list
+pub part_of : (U : VertexSet) (settled : SettledLists) (aside : List ℕ) (v : ℕ) → In (part U settled aside) v → In U v × ((p : Player) → listed (settled p) v ≡ false) × (listed aside v ≡ false)
+part_of U settled aside v i = (let a = only (U v) (gone settled aside v) i in let b = not_gone settled aside v a.1 in (a.0, b.0, b.1))
+
+pub in_part : (U : VertexSet) (settled : SettledLists) (aside : List ℕ) (v : ℕ) → In U v → ((p : Player) → listed (settled p) v ≡ false) → listed aside v ≡ false → In (part U settled aside) v
+in_part U settled aside v u f a = minus (U v) (gone settled aside v) u (gone_none settled aside v f a)
+
+linked_le : (i n : Player → ℕ) (first : ℕ) (stops : List Stop) (last : ℕ) → Linked i n first stops last → ((p : Player) → i p ≤ n p) × (first ≤ last)
+linked_le i n first [] last l = (l.0, omega (arith, l.1))
+linked_le i n first (x ∷ xs) last l = let h = linked_le (count_at x) n x.upto xs last l.3 in (λ p. (let a = l.0 p in let b = h.0 p in omega (arith, a, b)), omega (arith, l.1, l.2, h.1))
+
+pub linked_more : (i n m : Player → ℕ) (first : ℕ) (stops : List Stop) (last : ℕ) → ((p : Player) → n p ≤ m p) → Linked i n first stops last → Linked i m first stops last
+linked_more i n m first [] last e l = (λ p. (let a = e p in let b = l.0 p in omega (arith, a, b)), l.1)
+linked_more i n m first (x ∷ xs) last e l = (l.0, l.1, l.2, linked_more (count_at x) n m x.upto xs last e l.3)
+
+pub linked_push : (i n : Player → ℕ) (first : ℕ) (stops : List Stop) (last : ℕ) (f : Stop) → Linked i n first stops last → f.aside ≡ last → f.aside ≤ f.upto → ((p : Player) → count_at f p ≡ n p) → Linked i n first (stops ++ f ∷ []) f.upto
+linked_push i n first [] last f l a b c = (λ p. (let x = l.0 p in let y = c p in omega (arith, x, y)), a ∙ sym l.1, b, (λ p. (let y = c p in omega (arith, y)), refl))
+linked_push i n first (x ∷ xs) last f l a b c = (l.0, l.1, l.2, linked_push (count_at x) n x.upto xs last f l.3 a b c)
+
+pub linked_pop : (i n : Player → ℕ) (first : ℕ) (stops : List Stop) (last : ℕ) (f : Stop) → Linked i n first (stops ++ f ∷ []) last → Linked i (count_at f) first stops f.aside × (f.aside ≤ f.upto) × ((p : Player) → count_at f p ≤ n p) × (f.upto ≡ last)
+linked_pop i n first [] last f l = ((l.0, sym l.1), l.2, l.3.0, l.3.1)
+linked_pop i n first (x ∷ xs) last f l = let h = linked_pop (count_at x) n x.upto xs last f l.3 in ((l.0, l.1, l.2, h.0), h.1, h.2, h.3)
+
+-- the levels are the same where the lists agree up to the stops
+pub levels_same : (U : VertexSet) (settled : SettledLists) (aside : List ℕ) (settled' : SettledLists) (aside' : List ℕ) (i n : Player → ℕ) (first last : ℕ) (stops : List Stop) → Linked i n first stops last → ((p : Player) (k : ℕ) → k ≤ n p → take k (settled' p) ≡ take k (settled p)) → ((k : ℕ) → k ≤ last → take k aside' ≡ take k aside) → map (level_at U settled' aside') stops ≡ map (level_at U settled aside) stops
+levels_same U settled aside settled' aside' i n first last [] l f h = refl
+levels_same U settled aside settled' aside' i n first last (x ∷ xs) l f h =
+    let le = linked_le (count_at x) n x.upto xs last l.3 in
+    let a : prefix x settled' ≡ prefix x settled = fun_ext (λ p. f p (count_at x p) (le.0 p)) in
+    let b = h x.aside (omega (arith, l.2, le.1)) in
+    let c = h x.upto le.1 in
+    let here : level_at U settled' aside' x ≡ level_at U settled aside x =
+    ap (λ s. record { inside = part U s (take x.aside aside'); left = part U s (take x.upto aside'); player = x.player }) a
+    ∙ (ap (λ xs. record { inside = part U (prefix x settled) xs; left = part U (prefix x settled) (take x.upto aside'); player = x.player }) b
+    ∙ ap (λ xs. record { inside = part U (prefix x settled) (take x.aside aside); left = part U (prefix x settled) xs; player = x.player }) c) in
+    ap (λ y. y ∷ map (level_at U settled' aside') xs) here
+    ∙ ap (λ ys. level_at U settled aside x ∷ ys) (levels_same U settled aside settled' aside' (count_at x) n x.upto last xs l.3 f h)

@@ -1,0 +1,9 @@
+use Rattle.pg_finders.specs.private.recursion.Planned.{size}
+use Rattle.pg_finders.specs.private.recursion.Running.{IsRunning, work}
+use Rattle.pg_finders.proofs.recursion.solver.Solver.run.Given as goal
+
+abbrev pub invariant-steps : goal.invariant-steps
+invariant-steps l = IsRunning l.game l.inside l.self l.self.stops.items
+
+abbrev pub decreases-steps : goal.decreases-steps
+decreases-steps l = work (size l.inside) l.self l.self.stops.items

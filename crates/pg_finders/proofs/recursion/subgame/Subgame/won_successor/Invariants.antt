@@ -1,0 +1,8 @@
+use Rattle.std.proofs.Common.{◌≡◌, ℕ, ◌<◌, false, get_or}
+use Rattle.pg_game.specs.Graph.{successors_of}
+use Rattle.pg_game.specs.VertexSet.{members}
+use Rattle.pg_finders.specs.private.recursion.Growing.{active_of, won_of}
+use Rattle.pg_finders.proofs.recursion.subgame.Subgame.won_successor.Given as goal
+
+abbrev pub invariant-loop-w : goal.invariant-loop-w
+invariant-loop-w l = (k : ℕ) → k < l.w-index → won_of (members l.inside) (active_of l.self) l.self.plan l.player (get_or (successors_of l.game l.v) k 0) ≡ false

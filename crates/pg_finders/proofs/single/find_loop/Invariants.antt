@@ -1,8 +1,0 @@
-use Rattle.std.proofs.Common.{◌≡◌}
-use Rattle.pg_game.specs.VertexSet.{members}
-use Rattle.pg_finders.specs.Claims.{own_choices, rows_below}
-use Rattle.pg_finders.specs.Singles.{loops, itself}
-use Rattle.pg_finders.proofs.single.find_loop.Given as goal
-
-abbrev pub invariant-loop-v : goal.invariant-loop-v
-invariant-loop-v l = l.rows.items ≡ rows_below (loops l.game (members l.mask) l.player) (own_choices l.game l.player itself) l.v

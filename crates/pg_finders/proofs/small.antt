@@ -1,0 +1,5 @@
+-- The search for small dominions: lemmas.
+pub mod Walked
+pub mod Extended
+pub mod Counted
+pub mod Gathered

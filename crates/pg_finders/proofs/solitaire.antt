@@ -1,0 +1,3 @@
+-- Solitaire subgames: lemmas.
+pub mod Backward
+pub mod Forced

@@ -1,9 +1,0 @@
-use Rattle.pg_finders.specs.Planned.{size}
-use Rattle.pg_finders.specs.Running.{IsRunning, work}
-use Rattle.pg_finders.proofs.solver.Solver.run.Given as goal
-
-abbrev pub invariant-steps : goal.invariant-steps
-invariant-steps l = IsRunning l.game l.inside l.self l.self.stops.items
-
-abbrev pub decreases-steps : goal.decreases-steps
-decreases-steps l = work (size l.inside) l.self l.self.stops.items

@@ -1,9 +1,0 @@
-use Rattle.std.proofs.Common.{◌≢◌, ℕ, ◌<◌}
-use Rattle.pg_game.specs.Player.{of_parity}
-use Rattle.pg_game.specs.Graph.{priority_of}
-use Rattle.pg_finders.specs.Partial.{vertex_in}
-use Rattle.pg_finders.specs.Walked.{WalksBack}
-use Rattle.pg_finders.proofs.walks.Search.is_good.Given as goal
-
-abbrev pub invariant-loop-start : goal.invariant-loop-start
-invariant-loop-start l = (k : ℕ) → k < l.start → of_parity (priority_of l.self.game.now (vertex_in l.chosen k)) ≢ l.self.player → WalksBack l.self.game.now l.self.player l.chosen l.done k → ⊥

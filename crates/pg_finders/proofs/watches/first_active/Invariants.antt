@@ -1,6 +1,0 @@
-use Rattle.std.proofs.Common.{◌≡◌, ◌<◌, ◌≤◌, ℕ, slice_index, false}
-use Rattle.pg_game.specs.VertexSet.{members}
-use Rattle.pg_finders.proofs.watches.first_active.Given as goal
-
-abbrev pub invariant-loop-at : goal.invariant-loop-at
-invariant-loop-at l = (k : ℕ) → l.begin ≤ k → k < l.at → members l.active (slice_index l.successors k) ≡ false

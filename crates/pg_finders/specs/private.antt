@@ -1,0 +1,6 @@
+-- Definitions that only private functions and proofs cite: no public contract stands on them.
+pub mod Solved
+pub mod recursion
+pub mod small
+pub mod solitaire
+pub mod loops

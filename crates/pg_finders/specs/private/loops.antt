@@ -1,0 +1,2 @@
+-- Dominions of a single vertex, as a set.
+pub mod Singles

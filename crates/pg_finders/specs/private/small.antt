@@ -1,0 +1,6 @@
+-- What the search for small dominions keeps.
+pub mod Few
+pub mod Partial
+pub mod Walked
+pub mod Searched
+pub mod Small

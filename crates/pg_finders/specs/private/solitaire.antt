@@ -1,0 +1,3 @@
+-- What the search in solitaire subgames keeps.
+pub mod Solitaire
+pub mod Leading

@@ -1,0 +1,110 @@
+//! A few vertices, in the order in which they were added, each with a choice or none. Takes no memory.
+ghost use Rattle.std.specs.Prelude.{◌≡◌, ◌≤◌, ◌<◌, ◌++◌, ◌∷◌, [], length, slice_set, slice_index_or, Some, None};
+ghost use Rattle.pg_dominion.specs.Claim.{named};
+ghost use Rattle.pg_finders.specs.private.small.Partial.{no_row, vertex_in, choice_at};
+
+use std::marker::Model;
+
+/// At most eight vertices, each with a choice or none.
+#[derive(Drop)]
+pub struct Chosen {
+    rows: [(u32, Option<u32>); 8],
+    len: usize,
+}
+
+impl Model for Chosen {
+    ghost use Rattle.std.specs.Prelude.{List, ℕ, Option, take};
+
+    ghost Value = { List (ℕ × Option ℕ) };
+
+    ghost view = { λ c. take c.len c.rows };
+
+    ghost use Rattle.pg_finders.specs.private.small.Few.{IsFew};
+
+    ghost invariant = { λ c. IsFew c.rows c.len };
+}
+
+impl Chosen {
+    /// One vertex, without a choice.
+    pub fn one(v: u32) -> Chosen
+        ensures { result ≡ (v, None) ∷ [] }
+    {
+        let mut rows = [(0, None); 8];
+        rows[0] = (v, None);
+        Chosen { rows, len: 1 }
+    }
+
+    /// The same anew.
+    pub fn copy(&self) -> Chosen
+        ensures { result ≡ self.now }
+    {
+        Chosen {
+            rows: self.rows,
+            len: self.len,
+        }
+    }
+
+    /// How many vertices there are.
+    pub fn len(&self) -> usize
+        ensures number { result ≡ length self.now }
+        ensures few { result ≤ 8 }
+    {
+        self.len
+    }
+
+    /// The vertex and the choice at a place.
+    fn row(&self, at: usize) -> (u32, Option<u32>)
+        requires { at < length self.now }
+        ensures { result ≡ slice_index_or self.now at no_row }
+    {
+        let _len = self.len;
+        self.rows[at]
+    }
+
+    /// The vertex at a place.
+    pub fn vertex(&self, at: usize) -> u32
+        requires { at < length self.now }
+        ensures { result ≡ vertex_in self.now at }
+    {
+        self.row(at).0
+    }
+
+    /// The choice at a place.
+    pub fn choice(&self, at: usize) -> Option<u32>
+        requires { at < length self.now }
+        ensures { result ≡ choice_at self.now at }
+    {
+        self.row(at).1
+    }
+
+    /// Whether the vertex is there.
+    pub fn has(&self, v: u32) -> bool
+        ensures { result ≡ named self.now v }
+    {
+        for at in 0..self.len() {
+            if self.vertex(at) == v {
+                return true;
+            }
+        }
+        false
+    }
+
+    /// Adds a vertex at the end, without a choice.
+    pub fn push(&mut self, v: u32)
+        requires { length self.old < 8 }
+        ensures { self.new ≡ self.old ++ (v, None) ∷ [] }
+    {
+        self.rows[self.len] = (v, None);
+        self.len += 1;
+    }
+
+    /// Sets the choice at a place.
+    pub fn choose(&mut self, at: usize, w: u32)
+        requires { at < length self.old }
+        ensures { self.new ≡ slice_set self.old at (vertex_in self.old at, Some w) }
+    {
+        let v = self.row(at).0;
+        let _len = self.len;
+        self.rows[at] = (v, Some(w));
+    }
+}

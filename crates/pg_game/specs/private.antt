@@ -1,0 +1,11 @@
+-- Definitions that only private functions and proofs cite: no public contract stands on them.
+pub mod VertexSet
+pub mod Stored
+pub mod Gathered
+pub mod Identifiers
+pub mod Rows
+pub mod Described
+pub mod Names
+pub mod Flat
+pub mod Placed
+pub mod Opened

@@ -1,0 +1,117 @@
+//! Specifications in the making. The successors of the one that is open stand behind those of the others, so that each is
+//! written once, and its row begins to count where it is closed.
+
+ghost use Rattle.std.specs.Prelude.{◌≡◌, ◌++◌, ◌∷◌, [], IfOk, OnOk, OnErr};
+
+use crate::Memory;
+use crate::adjacency::Adjacency;
+use crate::flat::Specs;
+use crate::player::Player;
+use std::alloc::{AllocError, Global};
+use std::marker::Model;
+
+/// Specifications in their order, and successors of one more.
+#[derive(Drop)]
+pub struct OpenSpecs {
+    ids: Vec<u32>,
+    priorities: Vec<u32>,
+    owners: Vec<Player>,
+    offsets: Vec<u32>,
+    closed: u32,
+    targets: Vec<u32>,
+}
+
+impl Model for OpenSpecs {
+    ghost use Rattle.pg_game.specs.Opened.{Opened, opened_from};
+    ghost use Rattle.pg_game.specs.private.Opened.{IsOpened};
+
+    ghost Value = { Opened };
+
+    ghost view = { λ s. opened_from s.ids.items s.priorities.items s.owners.items s.offsets.items s.closed s.targets.items };
+
+    ghost invariant = { λ s. IsOpened s.ids.items s.priorities.items s.owners.items s.offsets.items s.closed s.targets.items };
+}
+
+impl OpenSpecs {
+    /// None, and no successor. `Memory` is its one refusal.
+    pub fn new(alloc: Global) -> Result<OpenSpecs, Memory>
+        ensures specs { IfOk result (λ s. s.specs ≡ []) }
+        ensures successors { IfOk result (λ s. s.successors ≡ []) }
+    {
+        let mut offsets = Vec::new(alloc);
+        offsets.push(0)?;
+        Ok(OpenSpecs {
+            ids: Vec::new(alloc),
+            priorities: Vec::new(alloc),
+            owners: Vec::new(alloc),
+            offsets,
+            closed: 0,
+            targets: Vec::new(alloc),
+        })
+    }
+
+    /// Adds a successor of the one that is open. `Memory` is its one refusal.
+    #[inline]
+    pub fn push(&mut self, successor: u32) -> Result<(), Memory>
+        ensures specs { self.new.specs ≡ self.old.specs }
+        ensures pushed { OnOk result (self.new.successors ≡ self.old.successors ++ successor ∷ []) }
+        ensures kept { OnErr result (self.new ≡ self.old) }
+    {
+        self.targets.push(successor)?;
+        Ok(())
+    }
+
+    /// Drops the successors of the one that is open.
+    #[inline]
+    pub fn clear(&mut self)
+        ensures specs { self.new.specs ≡ self.old.specs }
+        ensures successors { self.new.successors ≡ [] }
+    {
+        self.targets.truncate(self.closed as usize);
+    }
+
+    /// Closes the one that is open, with these parts and its successors. `Memory` is its one refusal, and comes also where
+    /// 4,294,967,295 specifications or successors would be passed.
+    #[inline]
+    pub fn close(&mut self, id: u32, priority: u32, owner: Player) -> Result<(), Memory>
+        ensures specs { OnOk result (self.new.specs ≡ self.old.specs ++ record { id = id; priority = priority; owner = owner; successors = self.old.successors } ∷ []) }
+        ensures successors { OnOk result (self.new.successors ≡ []) }
+        ensures kept { OnErr result (self.new ≡ self.old) }
+    {
+        let end = self.targets.len();
+        if end > u32::MAX as usize || self.offsets.len() > u32::MAX as usize {
+            return Err(AllocError);
+        }
+        self.ids.reserve(1)?;
+        self.priorities.reserve(1)?;
+        self.owners.reserve(1)?;
+        self.offsets.reserve(1)?;
+        self.ids.push_reserved(id);
+        self.priorities.push_reserved(priority);
+        self.owners.push_reserved(owner);
+        self.offsets.push_reserved(end as u32);
+        self.closed = end as u32;
+        Ok(())
+    }
+
+    /// The specifications, without successors of one that is open.
+    pub fn finish(self) -> Specs
+        ensures { result ≡ self.specs }
+    {
+        let OpenSpecs {
+            ids,
+            priorities,
+            owners,
+            offsets,
+            closed,
+            mut targets,
+        } = self;
+        targets.truncate(closed as usize);
+        Specs::of_parts(
+            ids,
+            priorities,
+            owners,
+            Adjacency::of_parts(offsets, targets),
+        )
+    }
+}

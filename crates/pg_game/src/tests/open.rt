@@ -1,0 +1,40 @@
+//! Specifications whose successors are pushed one by one.
+
+ghost use Rattle.std.specs.Prelude.{All};
+ghost use Rattle.pg_game.specs.Specification.{AreNumbers};
+
+use crate::tests::{EVEN, ODD, look};
+use crate::{Game, Memory, OpenSpecs, Player};
+use std::test::Fail;
+
+/// Closes a specification with two successors, after another that was dropped.
+fn close_two(
+    specs: &mut OpenSpecs,
+    id: u32,
+    priority: u32,
+    owner: Player,
+    successors: (u32, u32),
+) -> Result<(), Memory>
+    requires { All AreNumbers specs.old.specs }
+    ensures { All AreNumbers specs.new.specs }
+{
+    specs.push(9)?;
+    specs.clear();
+    specs.push(successors.0)?;
+    specs.push(successors.1)?;
+    specs.close(id.min(2_147_483_647), priority.min(2_147_483_647), owner)
+}
+
+#[test]
+fn what_is_dropped_or_left_open_is_in_no_specification(rt: HostRuntime) -> Result<(), Fail> {
+    let alloc = rt.alloc();
+    let mut specs = OpenSpecs::new(alloc)?;
+    close_two(&mut specs, 0, 3, ODD, (0, 1))?;
+    close_two(&mut specs, 1, 4, EVEN, (1, 0))?;
+    specs.push(7)?;
+    let game = Game::from_rows(alloc, specs.finish())?;
+    assert_eq!(rt; game.len(), 2);
+    look(&rt, &game, 0, (0, 3, ODD, &[0, 1]), &[0, 1]);
+    look(&rt, &game, 1, (1, 4, EVEN, &[0, 1]), &[0, 1]);
+    Ok(())
+}

@@ -1,0 +1,16 @@
+use Rattle.std.proofs.Common.{◌≡◌, ◌+◌, ◌++◌, ◌∷◌, [], ℕ, get_or, sym, subst, ◌∙◌, arith, true}
+use Rattle.pg_text.specs.Bytes.{is_digit}
+use Rattle.pg_text.specs.private.Piece.{IsRun}
+use Rattle.pg_text.proofs.Runs.{run_more, digits_more}
+use Rattle.pg_text.proofs.lexer.short_number.Goals as goal
+
+pub digits-preserved : goal.digits-preserved
+digits-preserved c =
+    let text = c.args.text.now in
+    let at = c.args.from + c.digits.k in
+    let (below, run, is_run, value) = c.digits.invariant in
+    let d = get_or text at 0 in
+    let t : is_digit d ≡ true = sym c.digit.ensures ∙ c.if-not-digit.false in
+    let more = run_more is_digit text c.args.from at run is_run (omega (arith, c.digits-test.true, c.requires)) t in
+    let (small, same) = digits_more c.digits.value c.digits.k d c.from.result run below value t c.from.ensures in
+    (small, run ++ d ∷ [], subst (λ (to : ℕ). IsRun is_digit text c.args.from to (run ++ d ∷ [])) (omega arith) more, same)

@@ -1,0 +1,49 @@
+-- What the private lexer tells of the next token of a text: its kind, and the places where it begins and ends.
+use Rattle.std.specs.Prelude.{ℕ, ◌≡◌, ◌+◌, Bool, false, nat_le, if◌then◌else◌, List, ◌∷◌, ◌++◌, length, drop, Option, Some, None, ◌⊎◌}
+use Rattle.pg_game.specs.Specification.{max_number}
+use Rattle.pg_text.specs.declared.lexer.Kind.{Kind}
+use Rattle.pg_text.specs.declared.lexer.Kind.TheVariants as kind
+use Rattle.pg_text.specs.declared.lexer.Piece.{Piece}
+use Rattle.pg_text.specs.Token.{Token, Number, Word, Name, Comma, Semicolon, Begins}
+use Rattle.pg_text.specs.Bytes.{AllAre, is_blank, is_no_quote, begins_token}
+
+-- the number, where it is within the limit
+abbrev pub fitting : ℕ → Option ℕ
+fitting n = if nat_le n max_number then Some n else None
+
+-- behind the place `at` of the text, past blanks, stands this token, and it is whole
+pub record IsToken (text : List ℕ) (at from to : ℕ) (t : Token) : Type 0 where
+  pub blanks : List ℕ
+  pub body : List ℕ
+  pub begins : Begins at (drop at text) (record { token = t; place = from }) blanks body (drop to text)
+  pub end : to ≡ at + length blanks + length body
+
+-- behind the place `at` of the text, past blanks, stands a byte that begins no token, or a quote with no later quote
+pub record IsNoToken (text : List ℕ) (at from : ℕ) : Type 0 where
+  pub blanks : List ℕ
+  pub byte : ℕ
+  pub after : List ℕ
+  pub split : drop at text ≡ blanks ++ byte ∷ after
+  pub blank : AllAre is_blank blanks
+  pub placed : from ≡ at + length blanks
+  pub solid : is_blank byte ≡ false
+  pub wrong : (begins_token byte ≡ false) ⊎ ((byte ≡ 34) × AllAre is_no_quote after)
+
+abbrev pub IsPieceOf : Kind → List ℕ → ℕ → ℕ → ℕ → Type 0
+IsPieceOf (kind.Number value) text at from to = (n : ℕ) × (value ≡ fitting n) × IsToken text at from to (Number n)
+IsPieceOf kind.Word text at from to = (letters : List ℕ) × IsToken text at from to (Word letters)
+IsPieceOf kind.Name text at from to = (bytes : List ℕ) × IsToken text at from to (Name bytes)
+IsPieceOf kind.Comma text at from to = IsToken text at from to Comma
+IsPieceOf kind.Semicolon text at from to = IsToken text at from to Semicolon
+IsPieceOf kind.End text at from to = AllAre is_blank (drop at text)
+IsPieceOf kind.Bad text at from to = IsNoToken text at from
+
+-- the next token of the text behind the place
+abbrev pub IsNextPiece : List ℕ → ℕ → Piece → Type 0
+IsNextPiece text at piece = IsPieceOf piece.kind text at piece.from piece.to
+
+-- the bytes of the text between the places are a run that passes the test, which ends there
+pub record IsRun (test : ℕ → Bool) (text : List ℕ) (from to : ℕ) (run : List ℕ) : Type 0 where
+  pub split : drop from text ≡ run ++ drop to text
+  pub passes : AllAre test run
+  pub end : to ≡ from + length run

@@ -1,0 +1,8 @@
+-- Definitions that only private functions and proofs cite: no public contract stands on them.
+pub mod Drawing
+pub mod Report
+pub mod Answers
+pub mod Tickets
+pub mod TicketFields
+pub mod Rest
+pub mod Known

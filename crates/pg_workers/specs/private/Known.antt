@@ -1,0 +1,56 @@
+-- What is known of a game before it is solved: as regions, as rows of claims, and what is answered where it is posted (private).
+use Rattle.std.specs.Prelude.{ℕ, ◌≡◌, ◌+◌, ◌↔◌, false, List, [], length, nat_eq}
+use Rattle.std.specs.List.{Contains, IsDistinct}
+use Rattle.pg_game.specs.declared.player.Player.{Player}
+use Rattle.pg_game.specs.declared.player.Player.TheVariants.{Even, Odd}
+use Rattle.pg_game.specs.Player.{opponent}
+use Rattle.pg_game.specs.Graph.{Graph}
+use Rattle.pg_game.specs.VertexSet.{In, all_vertices}
+use Rattle.pg_game.specs.Attractor.{Attractor}
+use Rattle.pg_game.specs.Region.{IsRegion}
+use Rattle.pg_text.specs.Known.{KnownRows, known_of, known_choice}
+use Rattle.pg_dominion.specs.Claim.{ClaimRows}
+use Rattle.pg_finders.specs.Claims.{own_choices, rows_below}
+use Rattle.pg_board.specs.declared.refusal.Refusal.{Refusal}
+use Rattle.pg_board.specs.declared.refusal.Refusal.TheVariants as refusal
+use Rattle.pg_board.specs.Play.{Play}
+use Rattle.pg_board.specs.State.{settled}
+use Rattle.pg_board.specs.Journal.{Journal, state_of, IsLawful, number_settled}
+use Rattle.pg_board.specs.Refusal.{Refuses}
+use Rattle.pg_workers.specs.declared.report.ReportRow.{ReportRow}
+use Rattle.pg_workers.specs.Report.{settled_in}
+use Rattle.pg_workers.specs.declared.known.SolveFault.{SolveFault}
+use Rattle.pg_workers.specs.declared.known.SolveFault.TheVariants as fault
+use Rattle.pg_workers.specs.Known.{IsKnownRegion, known_rows, IsAttractedToKnown, HasCount, IsKnownSize, HasNone, IsOfPost, IsRefusedKnown, IsBefore, IsSolveFault}
+
+-- the known set is a region, the player has what he attracts to it, and the opponent what he had
+pub record SettlesKnown (old new : Play) (known : KnownRows) (p : Player) : Type 0 where
+  pub region : IsKnownRegion old.graph known p
+  pub own : (v : ℕ) → In (settled (state_of new.journal) p) v ↔ IsAttractedToKnown old.graph known p v
+  pub other : (v : ℕ) → settled (state_of new.journal) (opponent p) v ≡ settled (state_of old.journal) (opponent p) v
+  pub more : ℕ
+  pub size : HasCount (IsAttractedToKnown old.graph known p) more
+  pub number : number_settled new.journal ≡ number_settled old.journal + more
+
+-- what a post of the player's known set may fail with
+abbrev pub IsKnownFault : Graph → Journal → KnownRows → Player → SolveFault → Type 0
+IsKnownFault g journal known p fault.Memory = Unit {0}
+IsKnownFault g journal known p (fault.Known q e) = (q ≡ p) × IsRefusedKnown g journal known p e
+
+-- memory is never wrapped
+abbrev pub fault_of : Player → Refusal → SolveFault
+fault_of p refusal.Memory = fault.Memory
+fault_of p (refusal.Claim e) = fault.Known p (refusal.Claim e)
+fault_of p (refusal.Foreign v) = fault.Known p (refusal.Foreign v)
+fault_of p (refusal.Lost v) = fault.Known p (refusal.Lost v)
+fault_of p refusal.Stale = fault.Known p refusal.Stale
+fault_of p (refusal.Open v w) = fault.Known p (refusal.Open v w)
+
+-- both known sets are regions, and what they attract is all that is settled
+pub record HasKnown (g : Graph) (known : KnownRows) (journal : Journal) : Type 0 where
+  pub regions : (p : Player) → IsKnownRegion g known p
+  pub number : IsKnownSize g known (number_settled journal)
+
+-- the rows' column `settled` and what the known sets attract are together the number settled
+abbrev pub HasSettled : Graph → KnownRows → List ReportRow → Journal → Type 0
+HasSettled g known report journal = (n : ℕ) × IsKnownSize g known n × (settled_in report + n ≡ number_settled journal)

@@ -1,0 +1,60 @@
+-- The report of a run: one row for each piece of work (private).
+use Rattle.std.specs.Prelude.{ℕ, ◌≡◌, ◌≤◌, ◌<◌, ◌+◌, true, false, List, length, map, sum_by, flat_map, take, drop, slice_get, Some, None, ◌≢◌, Result, Ok, Err, Vec}
+use Rattle.std.specs.Global.{Global}
+use Rattle.std.specs.List.{AllByRecursion}
+use Rattle.pg_workers.specs.declared.report.ReportRow.{ReportRow}
+use Rattle.pg_workers.specs.Counting.{times, once_below}
+use Rattle.pg_board.specs.Journal.{Journal, number_settled}
+use Rattle.pg_board.specs.declared.refusal.Refusal.{Refusal}
+use Rattle.pg_board.specs.declared.refusal.Refusal.TheVariants as refusal
+use Rattle.pg_workers.specs.Report.{blank_row, AreNumbered, IsInOrder, settled_in, AreCounts, IsDrawnRow, IsReport, AddsUp}
+
+-- nobody drew a job
+abbrev pub AreBlank : List ReportRow → Type 0
+AreBlank report = (k : ℕ) (r : ReportRow) → slice_get report k ≡ Some r → r ≡ blank_row k
+
+-- the first n rows settled nothing
+abbrev pub AreIdle : ℕ → List ReportRow → Type 0
+AreIdle n rows = (k : ℕ) (r : ReportRow) → slice_get rows k ≡ Some r → k < n → r.settled ≡ 0
+
+-- the numbers of the rows' jobs
+abbrev pub jobs_in : List ReportRow → List ℕ
+jobs_in rows = map (λ r. r.job) rows
+
+-- how many of the rows are of job j
+abbrev pub how_many_of_job : ℕ → List ReportRow → ℕ
+how_many_of_job j rows = times j (jobs_in rows)
+
+-- the rows of all workers
+abbrev pub rows_in : List (Vec ReportRow Global) → List ReportRow
+rows_in all = flat_map (λ rows. rows.items) all
+
+-- of each of the first n jobs there is one row, and of no other job
+abbrev pub AreOfFront : ℕ → List ReportRow → Type 0
+AreOfFront n rows = (j : ℕ) → how_many_of_job j rows ≡ once_below j n
+
+-- no two rows are of one job, and the report's row of each is still that of a job that nobody drew
+pub record HasPlaces (report rows : List ReportRow) : Type 0 where
+  pub once : (j : ℕ) → how_many_of_job j rows ≤ 1
+  pub free : (j : ℕ) → 0 < how_many_of_job j rows → slice_get report j ≡ Some (blank_row j)
+
+-- each row stands at the place of its job, and every other place is as it was
+pub record AreNotedRows (before after rows : List ReportRow) : Type 0 where
+  pub size : length after ≡ length before
+  pub placed : (i : ℕ) (r : ReportRow) → slice_get rows i ≡ Some r → slice_get after r.job ≡ Some r
+  pub others : (j : ℕ) → how_many_of_job j rows ≡ 0 → slice_get after j ≡ slice_get before j
+
+-- the row of a run whose posts do not count
+abbrev pub forgotten : ReportRow → ReportRow
+forgotten r = record r { posted = 0; settled = 0 }
+
+-- the row after one claim was answered
+abbrev pub noted : ReportRow → Result ℕ Refusal → ReportRow
+noted r (Ok n) = record r { posted = r.posted + 1; settled = r.settled + n }
+noted r (Err refusal.Stale) = record r { stale = r.stale + 1 }
+noted r (Err refusal.Memory) = record r { memory = true }
+noted r (Err fault) = record r { refused = r.refused + 1 }
+
+-- how many claims of the job were posted, stale or refused
+abbrev pub answered : ReportRow → ℕ
+answered r = r.posted + r.stale + r.refused

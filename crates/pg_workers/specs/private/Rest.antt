@@ -1,0 +1,22 @@
+-- What the calling thread adds to a board.
+use Rattle.std.specs.Prelude.{ℕ, ◌≡◌, ◌≤◌, ◌++◌, List, length}
+use Rattle.std.specs.List.{AllByRecursion}
+use Rattle.pg_game.specs.declared.player.Player.{Player}
+use Rattle.pg_game.specs.VertexSet.{In}
+use Rattle.pg_dominion.specs.Claim.{ClaimRows, named}
+use Rattle.pg_board.specs.declared.entry.Entry.{Entry}
+use Rattle.pg_board.specs.Play.{Play}
+use Rattle.pg_board.specs.State.{settled}
+use Rattle.pg_board.specs.Journal.{Journal, state_of}
+
+-- the rows' vertices are settled for the player
+abbrev pub Settles : Journal → Player → ClaimRows → Type 0
+Settles journal p rows = (v : ℕ) → In (named rows) v → In (settled (state_of journal) p) v
+
+-- the same board with at most so many entries more, of worker 0
+pub record IsLater (most : ℕ) (old new : Play) : Type 0 where
+  pub graph : new.graph ≡ old.graph
+  pub added : List Entry
+  pub journal : new.journal ≡ old.journal ++ added
+  pub few : length added ≤ most
+  pub by_caller : AllByRecursion (λ e. e.worker ≡ 0) added

@@ -1,0 +1,6 @@
+-- Definitions that only private functions and proofs cite: no public contract stands on them.
+pub mod Run
+pub mod Known
+pub mod Refused
+pub mod Trace
+pub mod Asking

@@ -1,0 +1,28 @@
+-- What a run learns of the texts that its sources have, and why it gives no answer (private).
+use Rattle.std.specs.Prelude.{ℕ, ◌≢◌, ◌<◌, ◌≤◌, List, length, Option, IfSome}
+use Rattle.pg_game.specs.Graph.{Graph}
+use Rattle.pg_text.specs.Solution.{SolutionRows}
+use Rattle.pg_text.specs.Reading.{IsTextOf, IsFaultOf, IsSolutionTextOf, IsSolutionFaultOf}
+use Rattle.pg_text.specs.declared.fault.TextFault.TheVariants as game_fault
+use Rattle.pg_text.specs.declared.fault.SolutionTextFault.TheVariants as solution_fault
+use Rattle.pgboard.specs.declared.verdict.Verdict.{Verdict}
+use Rattle.pgboard.specs.declared.fault.RunFault.{RunFault}
+use Rattle.pgboard.specs.declared.fault.RunFault.TheVariants as fault
+use Rattle.pgboard.specs.Joined.{max_text, IsVerdict}
+use Rattle.pgboard.specs.Run.{IsReadGame, IsUnread, IsNoGame, IsNoSolution, IsGameFault}
+
+-- why the text is no game's
+abbrev pub IsRefusedGame : List ℕ → RunFault → Type 0
+IsRefusedGame text (fault.Game f) = IsFaultOf text f × (f ≢ game_fault.Memory)
+IsRefusedGame text fault.Memory = Unit {0}
+IsRefusedGame text _ = ⊥
+
+-- why the text is no solution text of the game
+abbrev pub IsRefusedSolution : Graph → List ℕ → RunFault → Type 0
+IsRefusedSolution g text (fault.Solution f) = IsSolutionFaultOf g text f × (f ≢ solution_fault.Memory)
+IsRefusedSolution g text fault.Memory = Unit {0}
+IsRefusedSolution g text _ = ⊥
+
+-- the verdict is true of the winners and choices that the text spells for the game
+abbrev pub IsVerdictOn : Graph → List ℕ → Verdict → Type 0
+IsVerdictOn g text verdict = (rows : SolutionRows) × IsSolutionTextOf g text rows × IsVerdict g rows verdict

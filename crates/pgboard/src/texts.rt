@@ -1,0 +1,52 @@
+//! The texts of a run: the two parts of a joined one, and the game that one spells.
+ghost use Rattle.std.specs.Prelude.{◌≡◌, ◌≤◌, length, IfOk, IfErr, IsErrOf};
+ghost use Rattle.pg_text.specs.Reading.{IsTextOf};
+ghost use Rattle.pgboard.specs.Device.{HasFailed};
+ghost use Rattle.pgboard.specs.Joined.{max_text, game_part, solution_part};
+ghost use Rattle.pgboard.specs.Run.{IsReadGame, IsNoGame};
+ghost use Rattle.pgboard.specs.private.Run.{IsRefusedGame};
+
+use crate::device::Source;
+use crate::fault::RunFault;
+use crate::reading::read_text;
+use memchr::memchr;
+use pg_game::Game;
+use pg_text::{TextFault, read_game};
+use std::alloc::Global;
+
+/// The parts of a joined text before and after its first `%`.
+pub fn parts(text: &[u8]) -> (&[u8], &[u8])
+    ensures game { result.0.now ≡ game_part text.now }
+    ensures solution { result.1.now ≡ solution_part text.now }
+    ensures shorter { length result.0.now ≤ length text.now }
+    ensures short { length result.1.now ≤ length text.now }
+{
+    match memchr(b'%', text) {
+        Some(at) => (&text[..at], &text[at + 1..]),
+        None => (text, &[]),
+    }
+}
+
+/// The game that a text spells.
+pub fn game_of(alloc: Global, text: &[u8]) -> Result<Game, RunFault>
+    requires { length text.now ≤ max_text }
+    ensures game { IfOk result (λ g. IsTextOf text.now g) }
+    ensures fault { IfErr result (λ e. IsRefusedGame text.now e) }
+{
+    match read_game(alloc, text) {
+        Ok(game) => Ok(game),
+        Err(TextFault::Memory) => Err(RunFault::Memory),
+        Err(fault) => Err(RunFault::Game(fault)),
+    }
+}
+
+/// The game that the text of a source spells.
+pub fn game_from<S: Source>(alloc: Global, source: &mut S) -> Result<Game, RunFault>
+    ensures game { IfOk result (λ g. IsReadGame (S.left source.old) g) }
+    ensures fault { IfErr result (λ e. IsNoGame (S.left source.old) e) }
+    ensures no_failure { (IsErrOf result RunFault.Read → ⊥) → S.read_failures source.new ≡ S.read_failures source.old }
+    ensures failed { IsErrOf result RunFault.Read → HasFailed (S.read_failures source.old) (S.read_failures source.new) }
+{
+    let text = read_text(alloc, source)?;
+    game_of(alloc, text.as_slice())
+}

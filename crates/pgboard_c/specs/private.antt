@@ -1,0 +1,2 @@
+-- Definitions that only private functions and proofs cite: no public contract stands on them.
+pub mod Put
