@@ -15,6 +15,7 @@ use crate::gate::Gate;
 use crate::jobs::{Jobs, Ticket};
 use crate::known::{SolveFault, board_with};
 use crate::options::Options;
+use crate::phases::Phases;
 use crate::report::{ReportRow, blank_report, forget_posts, with_rows};
 use crate::rest::settle_rest;
 use crate::scope::{slots_of, start_all, take_apart};
@@ -162,9 +163,11 @@ fn solve_on<L: Ledger + Send + Sync, G: Gate, F: Finder, R: Threads + Wait + Syn
 {
     let size = game.len();
     let total = options.total(size);
+    let phases = Phases::new(total);
     let task = Task {
         options,
         size,
+        phases: &phases,
         gate,
         finder,
     };

@@ -12,6 +12,7 @@ ghost use Rattle.pg_workers.specs.Work.{job_of, total_of};
 use crate::gate::Gate;
 use crate::jobs::{Jobs, Ticket};
 use crate::options::Options;
+use crate::phases::Phases;
 use crate::report::ReportRow;
 use pg_board::{Office, Refusal, Share};
 use pg_dominion::{Claim, check_claim};
@@ -61,6 +62,7 @@ pub(crate) struct Slot<L: Ledger, J: Naming> {
 pub(crate) struct Task<'x, G, F> {
     pub options: &'x Options,
     pub size: u32,
+    pub phases: &'x Phases,
     pub gate: &'x G,
     pub finder: &'x F,
     ghost small: { size ≤ max_vertices },
@@ -146,7 +148,7 @@ fn search<'g, L: Ledger, F: Finder, R: Wait>(
     Ok((found, copied.inside.game()))
 }
 
-/// Has a copy searched for the job of this number, and tells the gate.
+/// Has a copy searched for the job of this number once no job of an earlier phase is under way, and tells the gate.
 fn search_job<'g, L: Ledger, G: Gate, F: Finder, R: Wait>(
     rt: &R,
     alloc: Global,
@@ -159,8 +161,11 @@ fn search_job<'g, L: Ledger, G: Gate, F: Finder, R: Wait>(
 ) -> Result<(Found, &'g Game), Memory>
     requires { job.now ≡ job_of task.now.options.now.bound task.now.options.now.budget task.now.size number }
 {
+    task.phases.wait(rt, number);
     let found = search(rt, alloc, office, task.finder, share, job);
+    task.phases.pass(rt);
     task.gate.found(rt, worker, number);
+    task.phases.resume(rt);
     found
 }
 
@@ -199,6 +204,7 @@ fn do_job<L: Ledger, G: Gate, F: Finder, R: Wait>(
         }
         Err(AllocError) => row.memory = true,
     }
+    task.phases.pass(rt);
     task.gate.posted(rt, worker, number);
     row
 }
