@@ -1,13 +1,13 @@
-//! Jobs come in three phases: loops and solitaire parts, small dominions, the recursion. While jobs of earlier phases are
-//! under way those of a later one wait: what is settled meanwhile they would search in vain. Nothing is promised of it.
+//! Jobs come in four phases: loops, solitaire parts, small dominions, the recursion. While jobs of earlier phases are under
+//! way those of a later one wait, since they would search once more what is about to be settled. Nothing is promised of it.
 
 use std::sync::{Condvar, Mutex, Wait};
 
-/// How many jobs the first phase has.
-const FIRST: u64 = 2;
+/// How many jobs come before the first search for a small dominion.
+const BEFORE_SMALL: u64 = 2;
 
-/// Counts the jobs that hold nobody up: they are posted, or their worker is in the caller's gate, where he may himself
-/// wait for others.
+/// Counts the jobs that hold nobody up: they are posted, or their worker is in a gate's call, where he may himself wait for
+/// others.
 #[derive(Drop)]
 pub(crate) struct Phases {
     total: u64,
@@ -25,15 +25,14 @@ impl Phases {
         }
     }
 
-    /// How many jobs there are in earlier phases than the job of this number.
+    /// How many jobs come in earlier phases than the job of this number. Loops and solitaire parts are a job each, and the
+    /// recursion is the last.
     fn earlier(&self, number: u64) -> u64 {
-        let all_but_last = self.total.saturating_sub(1);
-        if number >= all_but_last {
-            all_but_last
-        } else if number >= FIRST {
-            FIRST
+        let last = self.total.saturating_sub(1);
+        if number < last {
+            number.min(BEFORE_SMALL)
         } else {
-            0
+            last
         }
     }
 
@@ -44,13 +43,13 @@ impl Phases {
         drop(self.change.wait_while(rt, passed, |passed| *passed < earlier));
     }
 
-    /// A job holds nobody up any more.
+    /// A job holds nobody up any more. Nobody waits for a number of jobs between those of two phases.
     pub(crate) fn pass<R: Wait>(&self, rt: &R) {
         let mut guard = self.passed.lock(rt);
         let passed = guard.saturating_add(1);
         *guard = passed;
         drop(guard);
-        if passed == FIRST || passed >= self.total.saturating_sub(1) {
+        if self.earlier(passed) == passed {
             self.change.notify_all();
         }
     }

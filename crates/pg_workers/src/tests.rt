@@ -12,6 +12,7 @@ mod largest;
 mod memory;
 mod numbers;
 mod orders;
+mod phases;
 mod random;
 mod reference;
 mod replay;

@@ -148,7 +148,7 @@ fn search<'g, L: Ledger, F: Finder, R: Wait>(
     Ok((found, copied.inside.game()))
 }
 
-/// Has a copy searched for the job of this number once no job of an earlier phase is under way, and tells the gate.
+/// Has a copy searched for the job of this number, once no job of an earlier phase is under way, and tells the gate.
 fn search_job<'g, L: Ledger, G: Gate, F: Finder, R: Wait>(
     rt: &R,
     alloc: Global,
@@ -163,9 +163,14 @@ fn search_job<'g, L: Ledger, G: Gate, F: Finder, R: Wait>(
 {
     task.phases.wait(rt, number);
     let found = search(rt, alloc, office, task.finder, share, job);
-    task.phases.pass(rt);
+    let may_hold = task.gate.may_hold();
+    if may_hold {
+        task.phases.pass(rt);
+    }
     task.gate.found(rt, worker, number);
-    task.phases.resume(rt);
+    if may_hold {
+        task.phases.resume(rt);
+    }
     found
 }
 
