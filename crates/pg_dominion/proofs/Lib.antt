@@ -11,3 +11,4 @@ pub mod Ranked
 pub mod Named
 pub mod NoneBad
 mod Staying
+mod Labelled

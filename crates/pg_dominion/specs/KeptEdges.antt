@@ -1,8 +1,8 @@
 -- The edges that are kept of a game, as the private code of the checks lays them out, and its searches along them.
-use Rattle.std.specs.Prelude.{ℕ, ◌≡◌, ◌≢◌, ◌≤◌, ◌<◌, ◌+◌, ◌⊎◌, List, [], ◌∷◌, length, slice_index, Contains, if◌then◌else◌}
+use Rattle.std.specs.Prelude.{ℕ, ◌≡◌, ◌<◌, List, [], ◌∷◌, length, slice_index, Contains, if◌then◌else◌}
 use Rattle.pg_game.specs.Graph.{priority_of, successors_of}
 use Rattle.pg_game.specs.VertexSet.{In, members}
-use Rattle.pg_game.specs.Walk.{Walk, ClosedWalk, greatest_priority}
+use Rattle.pg_game.specs.Walk.{ClosedWalk, greatest_priority}
 use Rattle.pg_dominion.specs.declared.kept.Kept.{Kept}
 
 -- the masks and the choices have one place for each vertex, and each choice is a vertex

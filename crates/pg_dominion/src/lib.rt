@@ -20,6 +20,7 @@ mod solution;
 mod tables;
 #[cfg(test)]
 mod tests;
+mod walks;
 
 pub use attractor::attract;
 pub use checked::{Checked, CheckedRow, KeptSuccessors};

@@ -1,41 +1,69 @@
 -- The edges that are kept of a game, as the private code of the checks lays them out, and its searches along them (private).
-use Rattle.std.specs.Prelude.{ℕ, ◌≡◌, ◌≢◌, ◌≤◌, ◌<◌, ◌+◌, ◌⊎◌, List, [], ◌∷◌, length, slice_index, Contains, if◌then◌else◌}
-use Rattle.pg_game.specs.Graph.{priority_of, successors_of}
-use Rattle.pg_game.specs.VertexSet.{In, members}
-use Rattle.pg_game.specs.Walk.{Walk, ClosedWalk, greatest_priority}
+use Rattle.std.specs.Prelude.{ℕ, ◌≡◌, ◌≢◌, ◌≤◌, ◌<◌, ◌+◌, ◌⊎◌, List, length, slice_index}
+use Rattle.pg_game.specs.Graph.{priority_of}
+use Rattle.pg_game.specs.Walk.{Walk}
 use Rattle.pg_dominion.specs.declared.kept.Kept.{Kept}
-use Rattle.pg_dominion.specs.KeptEdges.{IsKept, kept_row, Edge, OnTop, IsWorst}
+use Rattle.pg_dominion.specs.KeptEdges.{Edge}
 
 -- an edge to a vertex of at most this priority
 abbrev pub EdgeUnder : Kept → ℕ → ℕ → ℕ → Type 0
 EdgeUnder k top v w = Edge k v w × (priority_of k.game.now w ≤ top)
 
+-- a walk over vertices of at most this priority
+abbrev pub Leads : Kept → ℕ → ℕ → ℕ → Type 0
+Leads k top v w = (vs : List ℕ) × Walk (EdgeUnder k top) v vs w
+
 -- a walk from v to w over vertices of at most v's priority
 abbrev pub Reaches : Kept → ℕ → ℕ → Type 0
-Reaches k v w = (vs : List ℕ) × Walk (EdgeUnder k (priority_of k.game.now v)) v vs w
+Reaches k v w = Leads k (priority_of k.game.now v) v w
 
--- a search from the start: the vertices with the mark, in the order in which they were reached
-pub record Searching (k : Kept) (start : ℕ) (stamps queue : List ℕ) : Type 0 where
-  pub size : length stamps ≡ length k.game.now
-  pub bound : (x : ℕ) → slice_index stamps x ≤ start + 1
-  pub known : (x : ℕ) → slice_index stamps x ≡ start + 1 → (i : ℕ) × (i < length queue) × (slice_index queue i ≡ x)
+-- what searches have shown: whoever lies with x on a closed walk of priorities below x's level has x's group and level, and
+-- nobody does where the group is x's own
+pub record AreLabelled (k : Kept) (levels groups : List ℕ) : Type 0 where
+  pub levels_size : length levels ≡ length k.game.now
+  pub groups_size : length groups ≡ length k.game.now
+  pub blank : (x : ℕ) → slice_index groups x ≡ 0 → slice_index levels x ≡ 0
+  pub together : (top x y : ℕ) → top < slice_index levels x → Leads k top x y → Leads k top y x → (slice_index groups y ≡ slice_index groups x) × (slice_index levels y ≡ slice_index levels x)
+  pub alone : (top x : ℕ) → top < slice_index levels x → slice_index groups x ≡ x + 1 → Leads k top x x → ⊥
+
+-- a search under this priority passes over w: no closed walk joins it to a vertex of the search's group, or of none
+abbrev pub IsPassed : (levels groups : List ℕ) → ℕ → ℕ → ℕ → Type 0
+IsPassed levels groups top own w = (top < slice_index levels w) × (slice_index groups w ≢ own)
+
+-- w stands in the queue, at its place below n
+abbrev pub IsBefore : (places queue : List ℕ) → ℕ → ℕ → Type 0
+IsBefore places queue n w = (slice_index places w < n) × (slice_index queue (slice_index places w) ≡ w)
+
+abbrev pub IsQueued : (places queue : List ℕ) → ℕ → Type 0
+IsQueued places queue w = IsBefore places queue (length queue) w
+
+-- a search from the first vertex of the queue, which has what was reached; none of it is passed over
+pub record Searching (k : Kept) (levels groups : List ℕ) (top own : ℕ) (places queue : List ℕ) : Type 0 where
+  pub size : length places ≡ length k.game.now
+  pub some : 0 < length queue
   pub below : (i : ℕ) → i < length queue → slice_index queue i < length k.game.now
-  pub reached : (i : ℕ) → i < length queue → Reaches k start (slice_index queue i)
+  pub placed : (i : ℕ) → i < length queue → slice_index places (slice_index queue i) ≡ i
+  pub counts : (i : ℕ) → i < length queue → top < slice_index levels (slice_index queue i) → slice_index groups (slice_index queue i) ≡ own
+  pub reached : (i : ℕ) → i < length queue → (slice_index queue i ≡ slice_index queue 0) ⊎ Leads k top (slice_index queue 0) (slice_index queue i)
 
--- the search goes on from v: it is the start, or it was reached
-abbrev pub IsSource : Kept → ℕ → ℕ → Type 0
-IsSource k start v = (v ≡ start) ⊎ Reaches k start v
+-- the end of an edge from place i is passed over, or stands at a later place, or at one from the least on
+abbrev pub IsFollowed : (levels groups : List ℕ) → ℕ → ℕ → ℕ → (places queue : List ℕ) → ℕ → ℕ → Type 0
+IsFollowed levels groups top own least places queue i w = IsPassed levels groups top own w ⊎ (IsQueued places queue w × ((i < slice_index places w) ⊎ (least ≤ slice_index places w)))
 
--- w is not the start, and has the mark
-abbrev pub IsMarked : ℕ → List ℕ → ℕ → Type 0
-IsMarked start stamps w = (w ≢ start) × (slice_index stamps w ≡ start + 1)
-
--- what v leads to, under the start's priority, has the mark
-abbrev pub IsSpread : Kept → ℕ → List ℕ → ℕ → Type 0
-IsSpread k start stamps v = (w : ℕ) → EdgeUnder k (priority_of k.game.now start) v w → IsMarked start stamps w
+-- so are all that the vertex at place i leads to
+abbrev pub IsSpread : Kept → (levels groups : List ℕ) → ℕ → ℕ → ℕ → (places queue : List ℕ) → ℕ → Type 0
+IsSpread k levels groups top own least places queue i = (w : ℕ) → EdgeUnder k top (slice_index queue i) w → IsFollowed levels groups top own least places queue i w
 
 -- what was reached stays so
-pub record GoesOn (mark : ℕ) (stamps queue stamps' queue' : List ℕ) : Type 0 where
+pub record GoesOn (queue : List ℕ) (least : ℕ) (queue' : List ℕ) (least' : ℕ) : Type 0 where
   pub longer : length queue ≤ length queue'
   pub front : (i : ℕ) → i < length queue → slice_index queue' i ≡ slice_index queue i
-  pub keeps : (x : ℕ) → slice_index stamps x ≡ mark → slice_index stamps' x ≡ mark
+  pub less : least' ≤ least
+
+-- the vertices at the first n places have the level, and the search's group, or before the least place their own
+pub record AreNoted (levels groups places queue : List ℕ) (level start least n : ℕ) (levels' groups' : List ℕ) : Type 0 where
+  pub levels_size : length levels' ≡ length levels
+  pub groups_size : length groups' ≡ length groups
+  pub inside : (x : ℕ) → IsBefore places queue n x → slice_index levels' x ≡ level
+  pub group : (x : ℕ) → IsBefore places queue n x → ((slice_index places x < least) × (slice_index groups' x ≡ x + 1)) ⊎ ((least ≤ slice_index places x) × (slice_index groups' x ≡ start + 1))
+  pub outside : (x : ℕ) → (IsBefore places queue n x → ⊥) → (slice_index levels' x ≡ slice_index levels x) × (slice_index groups' x ≡ slice_index groups x)

@@ -17,9 +17,19 @@ starts-preserved c =
     let k = c.args.kept.now in
     let h = c.in_ok-walks_back.ensures in
     record {
+      labels = h.labels;
       size = h.size;
-      fresh = h.used;
       none = below_more _ _ c.starts.invariant.none (λ w. h.none (search rules) (Reaches-from_top k c.starts.v w.1));
+    }
+
+pub starts-preserved-then-is_alone : goal.starts-preserved-then-is_alone
+starts-preserved-then-is_alone c =
+    let k = c.args.kept.now in
+    let inv = c.starts.invariant in
+    record {
+      labels = inv.labels;
+      size = inv.size;
+      none = below_more _ _ inv.none (λ w. c.is_alone.ensures c.if-is_alone.true (Reaches-from_top k c.starts.v w.1));
     }
 
 pub returns : goal.returns

@@ -1,0 +1,35 @@
+use Rattle.std.proofs.Common.{arith, below_more}
+use Rattle.pg_dominion.proofs.Searching.{IsSpread-later, GoesOn-then, GoesOn-less}
+use Rattle.pg_dominion.proofs.walks.finds_back.Goals as goal
+
+pub queue-init : goal.queue-init
+queue-init c =
+    let s = c.args.search.now in
+    record {
+      least = c.requires.least;
+      state = c.requires.state;
+      later = GoesOn-less s.queue.items s.least s.least (omega arith);
+      within = omega arith;
+      spread = λ i l. absurd (omega (arith, l));
+    }
+
+pub queue-preserved : goal.queue-preserved
+queue-preserved c =
+    let h = c.in_ok-spread.ensures in
+    let old = c.queue.search in
+    let new = c.spread.new.search in
+    let k = c.args.kept.now in
+    let L = c.args.labels.now.levels.items in
+    let G = c.args.labels.now.groups.items in
+    record {
+      least = h.least;
+      state = h.state;
+      later = GoesOn-then _ old.queue.items new.queue.items _ old.least new.least c.queue.invariant.later h.later;
+      within = omega (arith, h.later.longer);
+      spread = below_more _ _
+          (λ i l. IsSpread-later k L G c.args.top c.args.own old.places.items old.queue.items new.places.items new.queue.items old.least new.least i (omega arith) h.later h.state (c.queue.invariant.spread i l))
+          (h.spread c.if-branch.false);
+    }
+
+pub returns-then-next-len-clause-spread : goal.returns-then-next-len-clause-spread
+returns-then-next-len-clause-spread c = λ _ i l. c.queue.invariant.spread i (omega (arith, l, c.if-next-len.true, c.len.ensures))

@@ -1,0 +1,210 @@
+//! Searches for a way back to a vertex below its priority, each of which leaves what it has shown to the next.
+//!
+//! A search that found none has reached a set, and a closed walk under its priority that meets the set stays in it. So
+//! its vertices get a level and a group: a later search of a lesser priority from outside the group passes over them.
+//! From a place in the queue before the first that was reached twice each edge leads to a later place, so such a vertex
+//! lies on no closed walk, and gets a group of its own: no search from it is needed up to the level.
+
+ghost use Rattle.std.specs.Prelude.{◌≡◌, ℕ, ◌<◌, ◌≤◌, ◌+◌, ◌^◌, length, slice_index, IfOk, true, false};
+ghost use Rattle.pg_dominion.specs.KeptEdges.{IsKept};
+ghost use Rattle.pg_dominion.specs.private.KeptEdges.{Leads, Reaches, AreLabelled, Searching, IsSpread, GoesOn, AreNoted};
+
+use crate::kept::Kept;
+use std::alloc::{AllocError, Global};
+
+/// What searches have shown. Whoever lies with a vertex on a closed walk of priorities below its level has its group and
+/// its level. A vertex whose group is its own number and one more lies on no such walk.
+#[derive(Drop)]
+pub struct Labels {
+    pub levels: Vec<u32>,
+    pub groups: Vec<u32>,
+}
+
+impl Labels {
+    /// Nothing was shown yet.
+    pub fn new(alloc: Global, kept: &Kept) -> Result<Labels, AllocError>
+        ensures { IfOk result (λ l. AreLabelled kept.now l.levels.items l.groups.items) }
+    {
+        let n = kept.game.len();
+        Ok(Labels {
+            levels: vec![in alloc; 0u32; n as usize]?,
+            groups: vec![in alloc; 0u32; n as usize]?,
+        })
+    }
+}
+
+/// The tables of one search after another.
+#[derive(Drop)]
+pub struct Search {
+    /// What was reached, from the start on, and where a vertex stands in it, if it does.
+    pub queue: Vec<u32>,
+    pub places: Vec<u32>,
+    /// The least place that was reached twice.
+    pub least: usize,
+    /// How many edges all searches have looked at.
+    pub steps: u64,
+}
+
+impl Search {
+    pub fn new(alloc: Global, kept: &Kept) -> Result<Search, AllocError>
+        ensures { IfOk result (λ s. length s.places.items ≡ length kept.now.game.now) }
+    {
+        let n = kept.game.len();
+        Ok(Search {
+            queue: Vec::new(alloc),
+            places: vec![in alloc; 0u32; n as usize]?,
+            least: usize::MAX,
+            steps: 0,
+        })
+    }
+}
+
+/// Goes on from a place of the queue with the search for a way back to its first vertex. Whether one was found.
+fn spread(
+    kept: &Kept,
+    labels: &Labels,
+    top: u32,
+    own: u32,
+    at: usize,
+    search: &mut Search,
+) -> Result<bool, AllocError>
+    requires kept { IsKept kept.now }
+    requires labels { AreLabelled kept.now labels.now.levels.items labels.now.groups.items }
+    requires place { at < length search.old.queue.items }
+    requires least { 0 < search.old.least }
+    requires state { Searching kept.now labels.now.levels.items labels.now.groups.items top own search.old.places.items search.old.queue.items }
+    ensures least { IfOk result (λ found. 0 < search.new.least) }
+    ensures state { IfOk result (λ found. Searching kept.now labels.now.levels.items labels.now.groups.items top own search.new.places.items search.new.queue.items) }
+    ensures later { IfOk result (λ found. GoesOn search.old.queue.items search.old.least search.new.queue.items search.new.least) }
+    ensures back { IfOk result (λ found. found ≡ true → Leads kept.now top (slice_index search.old.queue.items 0) (slice_index search.old.queue.items 0)) }
+    ensures spread { IfOk result (λ found. found ≡ false → IsSpread kept.now labels.now.levels.items labels.now.groups.items top own search.new.least search.new.places.items search.new.queue.items at) }
+{
+    let _n = kept.game.len();
+    let v = search.queue[at];
+    let row = kept.row(v);
+    search.steps = search.steps.saturating_add(row.len() as u64);
+    'row: for w in row {
+        let to = *w;
+        if kept.game.priority(to) > top {
+            continue;
+        }
+        if labels.levels[to as usize] > top && labels.groups[to as usize] != own {
+            continue;
+        }
+        let end = search.queue.len();
+        let place = search.places[to as usize] as usize;
+        if place < end && search.queue[place] == to {
+            if place == 0 {
+                return Ok(true);
+            }
+            search.least = search.least.min(place);
+            continue;
+        }
+        search.queue.push(to)?;
+        search.places[to as usize] = end as u32;
+    }
+    Ok(false)
+}
+
+/// Searches for a way back to the first vertex of the queue. Whether one was found.
+fn finds_back(
+    kept: &Kept,
+    labels: &Labels,
+    top: u32,
+    own: u32,
+    search: &mut Search,
+) -> Result<bool, AllocError>
+    requires kept { IsKept kept.now }
+    requires labels { AreLabelled kept.now labels.now.levels.items labels.now.groups.items }
+    requires least { 0 < search.old.least }
+    requires state { Searching kept.now labels.now.levels.items labels.now.groups.items top own search.old.places.items search.old.queue.items }
+    ensures least { IfOk result (λ found. 0 < search.new.least) }
+    ensures state { IfOk result (λ found. Searching kept.now labels.now.levels.items labels.now.groups.items top own search.new.places.items search.new.queue.items) }
+    ensures first { IfOk result (λ found. slice_index search.new.queue.items 0 ≡ slice_index search.old.queue.items 0) }
+    ensures back { IfOk result (λ found. found ≡ true → Leads kept.now top (slice_index search.old.queue.items 0) (slice_index search.old.queue.items 0)) }
+    ensures spread { IfOk result (λ found. found ≡ false → (i : ℕ) → i < length search.new.queue.items → IsSpread kept.now labels.now.levels.items labels.now.groups.items top own search.new.least search.new.places.items search.new.queue.items i) }
+{
+    'queue: for next in 0..usize::MAX {
+        if next >= search.queue.len() {
+            break;
+        }
+        if spread(kept, labels, top, own, next, search)? {
+            return Ok(true);
+        }
+    }
+    Ok(false)
+}
+
+/// Gives what a search has reached the level, and groups: to each before the least place its own, and one to the others.
+fn note(labels: &mut Labels, search: &Search, level: u32, start: u32)
+    requires levels { length labels.old.levels.items ≡ length search.now.places.items }
+    requires groups { length labels.old.groups.items ≡ length search.now.places.items }
+    requires start { start < length search.now.places.items }
+    requires short { length search.now.places.items < 2 ^ 32 }
+    requires below { (i : ℕ) → i < length search.now.queue.items → slice_index search.now.queue.items i < length search.now.places.items }
+    requires placed { (i : ℕ) → i < length search.now.queue.items → slice_index search.now.places.items (slice_index search.now.queue.items i) ≡ i }
+    ensures { AreNoted labels.old.levels.items labels.old.groups.items search.now.places.items search.now.queue.items level start search.now.least (length search.now.queue.items) labels.new.levels.items labels.new.groups.items }
+{
+    'queue: for at in 0..search.queue.len() {
+        let v = search.queue[at];
+        let group = if at < search.least { v + 1 } else { start + 1 };
+        labels.levels[v as usize] = level;
+        labels.groups[v as usize] = group;
+    }
+}
+
+/// Whether it was shown that the vertex isn't the greatest on a closed walk through it.
+pub fn is_alone(kept: &Kept, labels: &Labels, v: u32) -> bool
+    requires labels { AreLabelled kept.now labels.now.levels.items labels.now.groups.items }
+    requires vertex { v < length kept.now.game.now }
+    ensures { result ≡ true → Reaches kept.now v v → ⊥ }
+{
+    let _n = kept.game.len();
+    labels.levels[v as usize] > kept.game.priority(v) && labels.groups[v as usize] == v + 1
+}
+
+/// The group of a vertex whose level is above the priority, and else 0.
+fn group_above(kept: &Kept, labels: &Labels, v: u32, top: u32) -> u32
+    requires labels { AreLabelled kept.now labels.now.levels.items labels.now.groups.items }
+    requires vertex { v < length kept.now.game.now }
+    ensures { top < slice_index labels.now.levels.items v → slice_index labels.now.groups.items v ≡ result }
+{
+    let _n = kept.game.len();
+    if labels.levels[v as usize] > top {
+        labels.groups[v as usize]
+    } else {
+        0
+    }
+}
+
+/// Whether a vertex is the greatest on a closed walk through it. Adds the edges that were looked at to the steps.
+pub fn walks_back(
+    kept: &Kept,
+    start: u32,
+    labels: &mut Labels,
+    search: &mut Search,
+) -> Result<bool, AllocError>
+    requires kept { IsKept kept.now }
+    requires start { start < length kept.now.game.now }
+    requires labels { AreLabelled kept.now labels.old.levels.items labels.old.groups.items }
+    requires size { length search.old.places.items ≡ length kept.now.game.now }
+    ensures labels { IfOk result (λ found. AreLabelled kept.now labels.new.levels.items labels.new.groups.items) }
+    ensures size { IfOk result (λ found. length search.new.places.items ≡ length kept.now.game.now) }
+    ensures back { IfOk result (λ found. found ≡ true → Reaches kept.now start start) }
+    ensures none { IfOk result (λ found. found ≡ false → Reaches kept.now start start → ⊥) }
+{
+    let _n = kept.game.len();
+    let top = kept.game.priority(start);
+    let own = group_above(kept, labels, start, top);
+    search.queue.clear();
+    search.queue.push(start)?;
+    search.places[start as usize] = 0;
+    search.least = usize::MAX;
+    if finds_back(kept, labels, top, own, search)? {
+        return Ok(true);
+    }
+    if own == 0 {
+        note(labels, search, top + 1, start);
+    }
+    Ok(false)
+}
