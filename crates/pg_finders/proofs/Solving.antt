@@ -13,8 +13,9 @@ use Rattle.pg_game.specs.Kept.{Choices, kept, option_list, KeptEdge}
 use Rattle.pg_game.specs.Region.{OnlyGoodWalks}
 use Rattle.pg_game.proofs.Members.{Contains-one, some_or_none}
 use Rattle.pg_game.proofs.Walks.{ClosedWalk-weaker}
+use Rattle.pg_game.proofs.Players.{own_or_other, same_is, is_same}
 use Rattle.pg_finders.specs.private.Solved.{Winners, won_inside, WinsOn, IsSolvedInside, IsSolvedTo, IsAttracted, IsBegun}
-use Rattle.pg_finders.proofs.Sets.{own_or_other, not_both, twice, same_is, is_same, not_same, both, pair, only, minus, back, unless, no_both, test, equal_from}
+use Rattle.pg_finders.proofs.Sets.{not_both, twice, not_same, both, pair, only, minus, back, unless, no_both, test, equal_from}
 use Rattle.pg_finders.proofs.ClosedWalks.{Among, closed_among, closed_inside, closed_begins, in_or_out, never_falls, never_empty, greatest_kept}
 
 -- where a kept edge leads: along the player's choice, or along any edge of the opponent's vertex

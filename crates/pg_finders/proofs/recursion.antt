@@ -1,7 +1,5 @@
 -- The recursion: lemmas.
 pub mod Attracted
-pub mod Begun
-pub mod Planning
 pub mod Waiting
 pub mod UnderWay
 pub mod Listed

@@ -10,13 +10,15 @@ use Rattle.pg_game.specs.VertexSet.{VertexSet, In, members}
 use Rattle.pg_game.specs.Kept.{KeptEdge}
 use Rattle.pg_game.specs.Walk.{Walk, ClosedWalk, greatest_priority}
 use Rattle.pg_game.proofs.Members.{Contains-head, Contains-tail, Contains-cons, Contains-nil}
+use Rattle.pg_game.proofs.Players.{own_or_other, same_is, is_same}
+use Rattle.pg_game.proofs.Grown.{in_first}
 use Rattle.pg_dominion.specs.Claim.{ClaimRows, named, choice_in, IsGoodIn}
 use Rattle.pg_finders.specs.Part.{IsPart}
 use Rattle.pg_finders.specs.Finding.{IsLoop}
 use Rattle.pg_finders.specs.Claims.{own_choices, rows_below}
 use Rattle.pg_finders.specs.private.Solved.{WinsOn}
 use Rattle.pg_finders.specs.private.loops.Singles.{loops, leads_away, leads_to_itself, itself}
-use Rattle.pg_finders.proofs.Sets.{own_or_other, not_both, same_is, is_same, both, pair, minus, in_first, test}
+use Rattle.pg_finders.proofs.Sets.{not_both, both, pair, minus, test}
 use Rattle.pg_finders.proofs.ClosedWalks.{Among, closed_inside, greatest_reached}
 use Rattle.pg_finders.proofs.Solving.{kept_leads, choice_leads}
 use Rattle.pg_finders.proofs.Rows.{rows_of_below}

@@ -1,6 +1,6 @@
 -- An attraction that goes on once other vertices are active: what it knows of the vertices that were won before, and what it is in the
 -- subgame, whose part of the list begins behind a front.
-use Rattle.std.proofs.Common.{◌≡◌, ℕ, suc, ◌+◌, Bool, true, false, ◌&&◌, not, ◌⊎◌, inl, inr, List, [], ◌∷◌, ◌++◌, length, take, All, refl, sym, ◌∙◌, ap, subst, arith, append_assoc}
+use Rattle.std.proofs.Common.{◌≡◌, ℕ, suc, ◌+◌, Bool, true, false, ◌⊎◌, inl, inr, List, [], ◌∷◌, ◌++◌, length, take, All, refl, sym, ◌∙◌, ap, subst, arith, append_assoc}
 use Rattle.std.specs.Prelude.{◌==◌}
 use Rattle.std.proofs.lemmas.Bool.{eqb-true}
 use Rattle.std.proofs.lemmas.List.{take-append-le, take_all}
@@ -10,11 +10,13 @@ use Rattle.pg_game.specs.Graph.{Graph, HasEdge, owner_of}
 use Rattle.pg_game.specs.VertexSet.{VertexSet, In, union}
 use Rattle.pg_game.specs.private.VertexSet.{without}
 use Rattle.pg_game.proofs.Walks.{or_false}
+use Rattle.pg_game.proofs.Grown.{in_first, in_second}
+use Rattle.pg_game.proofs.Players.{same_is, is_same}
 use Rattle.pg_finders.specs.declared.recursion.plan.Plan.{Plan}
 use Rattle.pg_finders.specs.private.recursion.Listed.{listed, Apart}
 use Rattle.pg_finders.specs.private.recursion.Planned.{winners_of}
 use Rattle.pg_finders.specs.private.recursion.Growing.{place, Before, won_of, IsKnown, IsGrown, IsTested, AttractsNoActive}
-use Rattle.pg_finders.proofs.Sets.{not_both, test, no_both, either, in_first, in_second, only, minus, unless, both, pair, same_is, is_same}
+use Rattle.pg_finders.proofs.Sets.{not_both, test, no_both, either, only, minus, unless, both, pair}
 use Rattle.pg_finders.proofs.recursion.Listed.{listed-append, in_front, in_back, front_or_back}
 use Rattle.pg_finders.proofs.recursion.Growing.{grown_active, grown_fewer}
 

@@ -1,8 +1,7 @@
 -- The rows of an attraction, as a set with choices that lead to smaller ranks.
-use Rattle.std.proofs.Common.{◌≡◌, ℕ, zero, suc, ◌<◌, true, false, inl, inr, [], ◌∷◌, ◌++◌, length, get_or, refl, sym, ◌∙◌, ap, subst, arith}
+use Rattle.std.proofs.Common.{◌≡◌, ℕ, zero, suc, ◌<◌, true, false, inl, inr, [], ◌∷◌, ◌++◌, length, refl, sym, ◌∙◌, ap, subst, arith}
 use Rattle.std.specs.Prelude.{Option, if◌then◌else◌}
-use Rattle.std.specs.List.{Contains, All}
-use Rattle.std.proofs.lemmas.List.Elements.{Contains-get_or}
+use Rattle.std.specs.List.{Contains}
 use Rattle.pg_game.specs.declared.player.Player.{Player}
 use Rattle.pg_game.specs.Graph.{Graph, owner_of}
 use Rattle.pg_game.specs.VertexSet.{VertexSet, In, Within, union}
@@ -54,10 +53,6 @@ module _ (g : Graph) (p : Player) (U T : VertexSet) (rows : ClaimRows) (within :
   row_of : (v : ℕ) → In (union T (named rows)) v → T v ≡ false → Leading v
   row_of v i n = leading v (let m : named rows v ≡ true = rw n at i in m)
 
-  -- what the rows name is not in the target
-  pub not_target : (v : ℕ) → In (named rows) v → T v ≡ false
-  not_target v i = (fresh v (leading v i)).0
-
   pub attracted : IsAttracted g p U T (union T (named rows)) s (rank_in T rows)
   attracted = record {
     inside = λ v i. elim (test (T v)) [ inl t ↦ within v t | inr n ↦ (row_of v i n).leads.inside ];
@@ -67,10 +62,3 @@ module _ (g : Graph) (p : Player) (U T : VertexSet) (rows : ClaimRows) (within :
     leads = λ v i n o. (let l = row_of v i n in let c = l.leads.own o in let h = lower v c.0 l c.3 in (c.0, c.1, c.2, h.0, h.1));
     pushed = λ v w i n o e u. (let l = row_of v i n in lower v w l ((l.leads.forced (λ q. not_both (owner_of g v) p q o)).1 w e u));
   }
-
--- the vertex of each row is in the subgame
-pub rows_inside : (g : Graph) (p : Player) (U T : VertexSet) (rows : ClaimRows) → IsAttraction g p U T rows → (n : ℕ) → ((v : ℕ) → In U v → v < n) → All (λ (r : ℕ × Option ℕ). r.0 < n) rows
-rows_inside g p U T rows a n below k d lt =
-    let r = get_or rows k d in
-    let h = row_split rows r (Contains-get_or rows k d lt) in
-    below r.0 (a.turns h.0 h.1 r h.2).inside

@@ -7,12 +7,13 @@ use Rattle.pg_game.specs.Graph.{Graph, priority_of}
 use Rattle.pg_game.specs.VertexSet.{VertexSet, In, union}
 use Rattle.pg_game.specs.private.VertexSet.{without}
 use Rattle.pg_game.specs.Subgame.{IsSubgame}
+use Rattle.pg_game.proofs.Grown.{in_first}
 use Rattle.pg_finders.specs.declared.recursion.plan.Plan.{Plan}
 use Rattle.pg_finders.specs.private.recursion.Listed.{listed}
 use Rattle.pg_finders.specs.private.recursion.Planned.{winners_of, choices_of, SameAt, SameOutside, IsGiven}
 use Rattle.pg_finders.specs.private.Solved.{IsBegun, IsAttracted}
 use Rattle.pg_finders.specs.private.recursion.Growing.{place, IsGrown, AttractsNoActive}
-use Rattle.pg_finders.proofs.Sets.{no_both, test, in_first}
+use Rattle.pg_finders.proofs.Sets.{no_both, test}
 use Rattle.pg_finders.proofs.Solving.{IsAttracted-subst}
 use Rattle.pg_finders.proofs.recursion.Growing.{grown_attracted, grown_union}
 use Rattle.pg_finders.proofs.recursion.Listed.{front_or_back, in_front}

@@ -10,6 +10,8 @@ use Rattle.pg_game.specs.Graph.{Graph, HasEdge, owner_of}
 use Rattle.pg_game.specs.VertexSet.{VertexSet, In, members, no_vertices, union}
 use Rattle.pg_game.specs.private.VertexSet.{without}
 use Rattle.pg_game.specs.Subgame.{IsSubgame}
+use Rattle.pg_game.proofs.Players.{own_or_other, same_is}
+use Rattle.pg_game.proofs.Grown.{in_first, in_second}
 use Rattle.pg_finders.specs.declared.recursion.plan.Plan.{Plan}
 use Rattle.pg_finders.specs.declared.recursion.solver.Stop.{Stop}
 use Rattle.pg_finders.specs.private.recursion.Listed.{listed, Once, Apart}
@@ -20,7 +22,7 @@ use Rattle.pg_finders.specs.private.recursion.Growing.{place, IsKnown, IsGrown, 
 use Rattle.pg_finders.specs.private.recursion.UnderWay.{count_at, prefix, level_at, IsUnderWay}
 use Rattle.pg_finders.specs.private.recursion.Running.{how_many_gone, steps_left}
 use Rattle.pg_finders.specs.private.recursion.Waiting.{steps}
-use Rattle.pg_finders.proofs.Sets.{own_or_other, not_both, twice, same_is, both, test, no_both, either, equal_from, in_first, in_second, only, minus}
+use Rattle.pg_finders.proofs.Sets.{not_both, twice, both, test, no_both, either, equal_from, only, minus}
 use Rattle.pg_finders.proofs.recursion.Listed.{in_front, in_back, front_or_back, in_take, in_drop, take_or_drop, once_join, once_drop, once_right, take_apart, apart_from, apart_back, some_length, listed_some}
 use Rattle.pg_finders.proofs.Solving.{IsSolvedTo-subst, IsSubgame-subst, all_won, part_lost, left_is_subgame}
 use Rattle.pg_finders.proofs.recursion.Growing.{grown_attracted, grown_inside, grown_union}

@@ -6,9 +6,10 @@ use Rattle.std.proofs.lemmas.List.{take-append-drop, get_or-set_other}
 use Rattle.std.proofs.lemmas.List.Folds.{list_any-append}
 use Rattle.pg_game.specs.VertexSet.{In, members}
 use Rattle.pg_game.proofs.Walks.{or_false}
+use Rattle.pg_game.proofs.Grown.{in_first, in_second}
 use Rattle.pg_finders.specs.private.recursion.Listed.{listed, Once, Apart}
 use Rattle.pg_finders.specs.private.recursion.Planned.{size}
-use Rattle.pg_finders.proofs.Sets.{no_both, test, either, in_first, in_second}
+use Rattle.pg_finders.proofs.Sets.{no_both, test, either}
 use Rattle.pg_finders.proofs.Masks.{inside_mask}
 use Rattle.pg_finders.proofs.Sizes.{size_drop}
 

@@ -5,12 +5,13 @@ use Rattle.pg_game.specs.declared.player.Player.TheVariants.{Even, Odd}
 use Rattle.pg_game.specs.Player.{opponent, same_player}
 use Rattle.std.specs.Prelude.{if◌then◌else◌}
 use Rattle.pg_game.specs.VertexSet.{VertexSet, In}
+use Rattle.pg_game.proofs.Grown.{in_first, in_second}
 use Rattle.pg_finders.specs.declared.recursion.solver.Stop.{Stop}
 use Rattle.pg_finders.specs.private.recursion.Listed.{listed}
 use Rattle.pg_finders.specs.private.recursion.Settled.{SettledLists}
 use Rattle.pg_finders.specs.private.recursion.UnderWay.{gone, part, count_at, prefix, level_at, Linked}
 use mathlib.Core.Path.{fun_ext}
-use Rattle.pg_finders.proofs.Sets.{no_both, test, either, in_first, in_second, minus, only}
+use Rattle.pg_finders.proofs.Sets.{no_both, test, either, minus, only}
 
 -- what holds for a player and for the opponent holds for each player
 pub by_player : (P : Player → Type 0) (p : Player) → P p → P (opponent p) → (q : Player) → P q

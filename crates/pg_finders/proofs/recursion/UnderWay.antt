@@ -11,6 +11,7 @@ use Rattle.pg_game.specs.Player.{opponent, same_player}
 use Rattle.pg_game.specs.Graph.{Graph}
 use Rattle.pg_game.specs.VertexSet.{VertexSet, In, members, no_vertices}
 use Rattle.pg_game.specs.Kept.{Choices}
+use Rattle.pg_game.proofs.Players.{same_is, is_same}
 use Rattle.pg_finders.specs.declared.recursion.solver.Stop.{Stop}
 use Rattle.pg_finders.specs.private.Solved.{Winners, IsSolvedInside, IsSolvedTo, IsBegun, won_inside}
 use Rattle.pg_finders.specs.private.recursion.Waiting.{Level, Waits}
@@ -19,7 +20,7 @@ use Rattle.pg_finders.specs.private.recursion.Settled.{SettledLists}
 use Rattle.pg_finders.specs.private.recursion.Planned.{size}
 use Rattle.pg_finders.specs.private.recursion.UnderWay.{gone, part, count_at, prefix, level_at, Linked, AreApart, IsUnderWay}
 use Rattle.pg_finders.specs.private.recursion.Running.{how_many_gone}
-use Rattle.pg_finders.proofs.Sets.{test, no_both, either, equal_from, both, pair, same_is, is_same, unless}
+use Rattle.pg_finders.proofs.Sets.{test, no_both, either, equal_from, both, pair, unless}
 use Rattle.pg_finders.proofs.recursion.Listed.{listed-append, front_or_back, in_take, in_drop, take_or_drop, once_join, once_take, take_apart, apart_from, once_fits}
 use Rattle.pg_finders.proofs.Solving.{solved_none, solved_whole, IsSolvedTo-subst}
 use Rattle.pg_finders.proofs.recursion.Waiting.{Agree, waits_on, waits_push, waits_pop}

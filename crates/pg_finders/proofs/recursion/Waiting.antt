@@ -6,9 +6,10 @@ use Rattle.pg_game.specs.Graph.{Graph, HasEdge, owner_of}
 use Rattle.pg_game.specs.VertexSet.{VertexSet, In, Within}
 use Rattle.pg_game.specs.private.VertexSet.{without}
 use Rattle.pg_game.specs.Kept.{Choices}
+use Rattle.pg_game.proofs.Players.{own_or_other}
 use Rattle.pg_finders.specs.private.Solved.{Winners, IsSolvedTo, IsBegun}
 use Rattle.pg_finders.specs.private.recursion.Waiting.{Level, Waits, steps, steps_after}
-use Rattle.pg_finders.proofs.Sets.{own_or_other, twice, test, no_both, only, minus}
+use Rattle.pg_finders.proofs.Sets.{twice, test, no_both, only, minus}
 use Rattle.pg_finders.proofs.Solving.{IsSolvedTo-same, solved_append, begun_same}
 
 -- what two plans agree on

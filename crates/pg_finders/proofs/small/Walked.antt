@@ -5,12 +5,13 @@ use Rattle.std.specs.List.{Contains}
 use Rattle.std.proofs.lemmas.Bool.{cases_eq, eqb-true, eq-eqb}
 use Rattle.pg_game.specs.declared.player.Player.{Player}
 use Rattle.pg_game.specs.Player.{opponent, of_parity}
-use Rattle.pg_game.specs.Graph.{Graph, owner_of, priority_of}
+use Rattle.pg_game.specs.Graph.{Graph, owner_of, priority_of, successors_of}
 use Rattle.pg_game.specs.VertexSet.{In, members}
 use Rattle.pg_game.specs.Kept.{Choices, kept, KeptEdge}
 use Rattle.pg_game.specs.Walk.{Walk, ClosedWalk, greatest_priority}
 use Rattle.pg_game.specs.Region.{OnlyGoodWalks}
 use Rattle.pg_game.proofs.Members.{Contains-head, Contains-one}
+use Rattle.pg_game.proofs.Players.{other_from_not, is_same}
 use Rattle.pg_game.proofs.Walks.{ClosedWalk-weaker}
 use Rattle.pg_game.proofs.Rotate.{good_from_none}
 use Rattle.pg_dominion.specs.Claim.{ClaimRows, named, choice_in}
@@ -18,7 +19,7 @@ use Rattle.pg_dominion.proofs.Searching.{Walk-push}
 use Rattle.pg_finders.specs.private.recursion.Planned.{size}
 use Rattle.pg_finders.specs.private.small.Partial.{vertex_in, AreDifferent}
 use Rattle.pg_finders.specs.private.small.Walked.{RowLeadsTo, Under, WalksBack, IsFrom, IsReached}
-use Rattle.pg_finders.proofs.Sets.{is_same, either, not_both, test}
+use Rattle.pg_finders.proofs.Sets.{not_same, either, not_both, test}
 use Rattle.pg_finders.proofs.Sizes.{size_less}
 use Rattle.pg_finders.proofs.ClosedWalks.{Among, closed_inside}
 use Rattle.pg_finders.proofs.Apart.{front_named, front_place, same_place, named_more}
@@ -38,6 +39,12 @@ leads_none g p s v w o e m =
     let k : kept g p s v ≡ [] = rw (y, e) refl in
     let n : Contains [] w = subst (λ (xs : List ℕ). Contains xs w) k m in
     absurd (omega (arith, n.1))
+
+pub leads_other : (g : Graph) (p : Player) (s : Choices) (v w : ℕ) → owner_of g v ≢ p → Contains (kept g p s v) w → Contains (successors_of g v) w
+leads_other g p s v w o m =
+    let n = not_same (owner_of g v) p (other_from_not p (owner_of g v) o) in
+    let k : kept g p s v ≡ successors_of g v = rw n refl in
+    subst (λ (xs : List ℕ). Contains xs w) k m
 
 module _ (g : Graph) (p : Player) (rows : ClaimRows) (done : ℕ) (within : done ≤ length rows) where
   edge : (top from to : ℕ) → from < done → to < done → RowLeadsTo g p rows from to → priority_of g (vertex_in rows to) ≤ top → Under g p rows done top (vertex_in rows from) (vertex_in rows to)

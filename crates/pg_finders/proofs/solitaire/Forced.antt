@@ -16,6 +16,7 @@ use Rattle.pg_game.specs.Region.{OnlyGoodWalks, OnBadWalk}
 use Rattle.pg_game.proofs.Members.{Contains-nil, some_or_none}
 use Rattle.pg_game.proofs.Walks.{ClosedWalk-weaker}
 use Rattle.pg_game.proofs.Rotate.{good_from_none}
+use Rattle.pg_game.proofs.Players.{same_is, is_same}
 use Rattle.pg_dominion.specs.declared.claim.Claim.{Claim}
 use Rattle.pg_dominion.specs.declared.kept.Kept.{Kept}
 use Rattle.pg_dominion.specs.Claim.{ClaimRows, named, IsGoodIn}
@@ -24,7 +25,7 @@ use Rattle.pg_finders.specs.Finding.{HasOneSuccessor, IsSolitaire}
 use Rattle.pg_finders.specs.private.Solved.{WinsOn}
 use Rattle.pg_finders.specs.Claims.{own_choices, rows_below}
 use Rattle.pg_finders.specs.private.solitaire.Solitaire.{HasOneAt, IsSingle, owned, good_for, choices_by, EdgeBelow, AreLeading}
-use Rattle.pg_finders.proofs.Sets.{twice, same_is, is_same, both, pair}
+use Rattle.pg_finders.proofs.Sets.{twice, both, pair}
 use Rattle.pg_finders.proofs.ClosedWalks.{Among, closed_among, closed_inside, closed_begins, never_falls, greatest_reached}
 use Rattle.pg_finders.proofs.Solving.{kept_leads, choice_leads}
 use Rattle.pg_finders.proofs.Good.{rows_named, good_rows}
@@ -102,9 +103,6 @@ module _ (k : Kept) (U : VertexSet) (q : Player) (inside : (v : ℕ) → members
   -- what a bad closed walk says of its greatest vertex
   pub worst_leads : (v : ℕ) → IsWorst k v → (vs : List ℕ) × Walk (EdgeBelow k.game.now U (priority_of k.game.now v)) v vs v
   worst_leads v h = (h.1.0, walk_below (priority_of k.game.now v) v h.1.0 v h.1.1 (omega arith) (omega (arith, h.1.2)))
-
-  pub worst_inside : (v : ℕ) → IsWorst k v → In U v
-  worst_inside v h = (both (U v) (same_player (of_parity (priority_of k.game.now v)) (opponent q)) (sym (bad v) ∙ h.0)).0
 
   pub worst_parity : (v : ℕ) → IsWorst k v → of_parity (priority_of k.game.now v) ≡ opponent q
   worst_parity v h = same_is (of_parity (priority_of k.game.now v)) (opponent q) (both (U v) (same_player (of_parity (priority_of k.game.now v)) (opponent q)) (sym (bad v) ∙ h.0)).1

@@ -1,5 +1,5 @@
 //! A few vertices, in the order in which they were added, each with a choice or none. Takes no memory.
-ghost use Rattle.std.specs.Prelude.{◌≡◌, ◌≤◌, ◌<◌, ◌++◌, ◌∷◌, [], length, slice_set, slice_index_or, Some, None};
+ghost use Rattle.std.specs.Prelude.{◌≡◌, ◌≢◌, ℕ, ◌≤◌, ◌<◌, ◌++◌, ◌∷◌, [], length, slice_set, slice_index_or, Some, None, IsTrue, IsFalse};
 ghost use Rattle.pg_dominion.specs.Claim.{named};
 ghost use Rattle.pg_finders.specs.private.small.Partial.{no_row, vertex_in, choice_at};
 
@@ -82,6 +82,20 @@ impl Chosen {
         ensures { result ≡ named self.now v }
     {
         for at in 0..self.len() {
+            if self.vertex(at) == v {
+                return true;
+            }
+        }
+        false
+    }
+
+    /// Whether the vertex stands before the place.
+    pub fn stands_before(&self, end: usize, v: u32) -> bool
+        requires { end ≤ length self.now }
+        ensures found { IsTrue result → (k : ℕ) × (k < end) × (vertex_in self.now k ≡ v) }
+        ensures none { IsFalse result → (k : ℕ) → k < end → vertex_in self.now k ≢ v }
+    {
+        for at in 0..end {
             if self.vertex(at) == v {
                 return true;
             }

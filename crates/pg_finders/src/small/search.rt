@@ -42,6 +42,33 @@ impl<'a> Search<'a> {
         true
     }
 
+    /// Whether the vertex is there, or the bound allows one more. Where not, a search ends before it copies the rows.
+    fn has_room(&self, chosen: &Chosen, w: u32) -> bool
+        requires { length chosen.now ≤ self.now.bound }
+        ensures full { IsFalse result → HasNoRoom chosen.now self.now.bound w }
+        ensures room { HasNoRoom chosen.now self.now.bound w → IsFalse result }
+    {
+        chosen.len() < self.bound || chosen.has(w)
+    }
+
+    /// Whether the rows are full, and a successor inside is none of them.
+    fn lacks_room(&self, chosen: &Chosen, v: u32) -> bool
+        requires size { length self.now.mask.now ≡ length self.now.game.now }
+        requires bounded { length chosen.now ≤ self.now.bound }
+        requires vertex { v < length self.now.game.now }
+        ensures { IsTrue result → LacksRoom self.now.game.now (members self.now.mask.now) chosen.now self.now.bound v }
+    {
+        if chosen.len() < self.bound {
+            return false;
+        }
+        for w in self.game.successors(v) {
+            if self.mask.has(*w) && !chosen.has(*w) {
+                return true;
+            }
+        }
+        false
+    }
+
     /// Adds all successors inside of a row's vertex. Whether the bound allows it.
     fn add_successors(&self, chosen: &mut Chosen, v: u32) -> bool
         requires bound { self.now.bound ≤ 8 }
@@ -76,8 +103,12 @@ impl<'a> Search<'a> {
         ensures agrees { IfSome result (λ next. StillAgrees self.now.game.now (members self.now.mask.now) self.now.player chosen.now at next) }
         ensures none { IsNone result → NoneAgrees self.now.game.now (members self.now.mask.now) self.now.player self.now.bound chosen.now at }
     {
+        let v = chosen.vertex(at);
+        if self.lacks_room(chosen, v) {
+            return None;
+        }
         let mut next = chosen.copy();
-        if !self.add_successors(&mut next, chosen.vertex(at)) {
+        if !self.add_successors(&mut next, v) {
             return None;
         }
         if !self.stays_good(&next, at) {
@@ -102,6 +133,9 @@ impl<'a> Search<'a> {
         ensures none { IsNone result → NoneAgreesAt self.now.game.now (members self.now.mask.now) self.now.player self.now.bound chosen.now at (vertex_in chosen.now at) w }
     {
         *left -= 1;
+        if !self.has_room(chosen, w) {
+            return None;
+        }
         let mut next = chosen.copy();
         next.choose(at, w);
         if !self.add(&mut next, w) {

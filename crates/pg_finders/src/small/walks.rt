@@ -131,8 +131,15 @@ impl<'a> Search<'a> {
         requires at { at < length chosen.now }
         ensures none { IsFalse result → (to : ℕ) → to ≤ at → RowLeadsTo self.now.game.now self.now.player chosen.now at to → ⊥ }
     {
-        for to in 0..at + 1 {
-            if self.leads(chosen, at, to) {
+        let v = chosen.vertex(at);
+        if self.game.owner(v) == self.player {
+            return match chosen.choice(at) {
+                Some(w) => chosen.stands_before(at + 1, w),
+                None => false,
+            };
+        }
+        for w in self.game.successors(v) {
+            if chosen.stands_before(at + 1, *w) {
                 return true;
             }
         }

@@ -4,11 +4,12 @@ use Rattle.pg_game.specs.Graph.{owner_of}
 use Rattle.pg_game.specs.Least.{NoneHas, IsLeast}
 use Rattle.pg_game.specs.VertexSet.{members}
 use Rattle.pg_game.proofs.Masks.{member_below}
+use Rattle.pg_game.proofs.Players.{same_is}
 use Rattle.pg_dominion.specs.declared.kept.Kept.{Kept}
 use Rattle.pg_dominion.specs.KeptEdges.{IsWorst}
 use Rattle.pg_finders.specs.Claims.{own_choices, rows_below}
 use Rattle.pg_finders.specs.private.solitaire.Solitaire.{good_for, choices_by}
-use Rattle.pg_finders.proofs.Sets.{both, same_is}
+use Rattle.pg_finders.proofs.Sets.{both}
 use Rattle.pg_finders.proofs.solitaire.Forced.{all_held, worst_leads, worst_parity, lead_held, held_good, ok_good}
 use Rattle.pg_finders.proofs.solitaire.solve.Goals as goal
 

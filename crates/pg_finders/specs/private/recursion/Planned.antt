@@ -1,10 +1,10 @@
 -- What a plan says of each vertex.
-use Rattle.std.specs.Prelude.{ℕ, ◌≡◌, ◌<◌, ◌≤◌, ◌+◌, ◌==◌, ◌&&◌, List, [], ◌∷◌, Bool, false, length, slice_index_or, Some, None, if◌then◌else◌}
+use Rattle.std.specs.Prelude.{ℕ, ◌≡◌, ◌<◌, ◌≤◌, ◌+◌, List, [], ◌∷◌, Bool, false, length, slice_index_or, Some, None, if◌then◌else◌}
 use Rattle.pg_game.specs.declared.player.Player.{Player}
 use Rattle.pg_game.specs.declared.player.Player.TheVariants.{Even}
 use Rattle.pg_game.specs.Kept.{Choices}
 use Rattle.pg_game.specs.VertexSet.{VertexSet, In, members}
-use Rattle.pg_game.specs.Graph.{Graph, HasEdge, priority_of}
+use Rattle.pg_game.specs.Graph.{Graph, HasEdge}
 use Rattle.pg_finders.specs.declared.recursion.plan.Plan.{Plan}
 use Rattle.pg_finders.specs.private.Solved.{Winners}
 
@@ -39,10 +39,6 @@ HoldsSet mask n X = (length mask ≡ n) × ((v : ℕ) → members mask v ≡ X v
 pub record HasBelow (X : VertexSet) (i : ℕ) (mask : List Bool) : Type 0 where
   pub below : (v : ℕ) → v < i → members mask v ≡ X v
   pub above : (v : ℕ) → i ≤ v → members mask v ≡ false
-
--- the vertices of a priority
-abbrev pub of_priority : Graph → VertexSet → ℕ → VertexSet
-of_priority g U d v = U v && (priority_of g v == d)
 
 -- the vertex is the player's, and its choice is a successor in the set
 abbrev pub IsGiven : Graph → VertexSet → Player → Plan → ℕ → Type 0

@@ -1,12 +1,8 @@
 -- What a small search answers (private).
 use Rattle.std.specs.Prelude.{ℕ, ◌≤◌, ◌<◌, length, Option, Some, None}
 use Rattle.pg_game.specs.VertexSet.{In}
-use Rattle.pg_dominion.specs.declared.claim.Claim.{Claim}
 use Rattle.pg_dominion.specs.Claim.{ClaimRows, named}
-use Rattle.pg_finders.specs.declared.small.Small.{Small}
-use Rattle.pg_finders.specs.declared.small.Small.TheVariants.{Found, Nothing, GaveUp}
 use Rattle.pg_finders.specs.private.small.Partial.{vertex_in}
-use Rattle.pg_finders.specs.Small.{MatchSmall}
 
 -- the place of the least vertex that is not below the number
 pub record IsLeastFrom (rows : ClaimRows) (low at : ℕ) : Type 0 where

@@ -3,12 +3,13 @@ use Rattle.std.specs.Prelude.{slice_index_or}
 use Rattle.pg_game.specs.Graph.{priority_of}
 use Rattle.pg_game.specs.Player.{of_parity}
 use Rattle.pg_game.specs.VertexSet.{In, members, union}
+use Rattle.pg_game.proofs.Grown.{in_first, in_second}
 use Rattle.pg_finders.specs.private.recursion.Listed.{listed}
 use Rattle.pg_finders.specs.private.recursion.Order.{vertex_at_place, priority_at, no_rank}
 use Rattle.pg_finders.specs.private.recursion.Planned.{IsGiven, SameOutside}
 use Rattle.pg_finders.specs.private.recursion.Growing.{active_of}
 use Rattle.pg_finders.specs.declared.recursion.order.Ranked.{Ranked}
-use Rattle.pg_finders.proofs.Sets.{no_both, in_first, in_second, either}
+use Rattle.pg_finders.proofs.Sets.{no_both, either}
 use Rattle.pg_finders.proofs.Solving.{IsSubgame-subst}
 use Rattle.pg_finders.proofs.recursion.Growing.{grown_active}
 use Rattle.pg_finders.proofs.recursion.Beginning.{listed_is, begun_same_outside, in_place_begun}

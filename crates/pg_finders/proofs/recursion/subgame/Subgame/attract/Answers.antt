@@ -1,9 +1,9 @@
 use Rattle.std.proofs.Common.{take, refl}
 use Rattle.pg_game.specs.VertexSet.{union}
+use Rattle.pg_game.proofs.Grown.{in_first}
 use Rattle.pg_finders.specs.private.recursion.Listed.{listed}
 use Rattle.pg_finders.specs.private.recursion.Growing.{active_of}
 use Rattle.pg_finders.proofs.recursion.Growing.{done_none}
-use Rattle.pg_finders.proofs.Sets.{in_first}
 use Rattle.pg_finders.proofs.recursion.subgame.Subgame.attract.Goals as goal
 
 pub attract_from-requires-clause-below : goal.attract_from-requires-clause-below

@@ -1,6 +1,6 @@
-use Rattle.std.proofs.Common.{ℕ, ◌<◌}
-use Rattle.pg_finders.specs.private.small.Walked.{RowLeadsTo}
+use Rattle.std.proofs.Common.{ℕ, ◌≢◌, ◌<◌, ◌≤◌, slice_index}
+use Rattle.pg_finders.specs.private.small.Partial.{vertex_in}
 use Rattle.pg_finders.proofs.small.walks.Search.closes.Given as goal
 
-abbrev pub invariant-loop-to : goal.invariant-loop-to
-invariant-loop-to l = (k : ℕ) → k < l.to → RowLeadsTo l.self.game.now l.self.player l.chosen l.at k → ⊥
+abbrev pub invariant-loop-w : goal.invariant-loop-w
+invariant-loop-w l = (k : ℕ) → k < l.w-index → (to : ℕ) → to ≤ l.at → vertex_in l.chosen to ≢ slice_index l.w-items k

@@ -9,6 +9,21 @@ use Rattle.pg_finders.proofs.Apart.{named_here}
 use Rattle.pg_finders.proofs.small.Extended.{no_room, good_before, next_partial, agrees_next, agrees_good, claim_next, chosen_named, chosen_here, chosen_apart, chosen_partial, chosen_agrees, chosen_vertex}
 use Rattle.pg_finders.proofs.small.walks.Search.with_choice.Goals as goal
 
+pub has_room-requires : goal.has_room-requires
+has_room-requires c = c.requires.state.apart.bounded
+
+pub returns-then-not-has_room-clause-none : goal.returns-then-not-has_room-clause-none
+returns-then-not-has_room-clause-none c = λ _ claim good len ch a.
+    let s = c.args.self.now in
+    let g = s.game.now in
+    let U = members s.mask.now in
+    let p = s.player in
+    let rows = c.args.chosen.now in
+    let v = vertex_in rows c.args.at in
+    let i : In (named claim) v = a.vertices v (named_here rows c.args.at v c.requires.at refl) in
+    let iw : In (named claim) c.args.w = claim_next g U p s.bound claim good v c.args.w i c.requires.owner ch in
+    no_room rows claim s.bound c.args.w (c.has_room.ensures.full c.if-not-has_room.true) c.requires.state.apart.small.different a.vertices iw len
+
 pub add-requires-clause-rows : goal.add-requires-clause-rows
 add-requires-clause-rows c =
     let s = c.args.self.now in
