@@ -26,10 +26,10 @@ import harness
 ALLOWED = {
     "pg_game": (2, 6, 0),
     "pg_text": (0, 0, 23),
-    "pg_dominion": (6, 8, 2),
+    "pg_dominion": (6, 8, 1),
     "pg_finders": (22, 10, 0),
-    "pg_board": (38, 13, 5),
-    "pg_workers": (2, 2, 9),
+    "pg_board": (4, 0, 0),
+    "pg_workers": (1, 2, 9),
     "pgboard": (0, 0, 0),
     "pgboard_c": (10, 0, 0),
 }

@@ -3,6 +3,7 @@ use Rattle.std.proofs.Common.{◌≡◌, ℕ, ◌<◌, true, false, inl, inr, le
 use Rattle.std.proofs.Common.{[], ◌∷◌, ◌∙◌, ap}
 use Rattle.std.specs.Prelude.{Some, Contains}
 use Rattle.std.proofs.Math.Seq.{take-length}
+use Rattle.std.proofs.lemmas.Bool.{or_left, or_right}
 use Rattle.pg_game.specs.declared.player.Player.{Player}
 use Rattle.pg_game.specs.Player.{same_player}
 use Rattle.pg_game.specs.Graph.{Graph, HasEdge, owner_of}
@@ -10,7 +11,6 @@ use Rattle.pg_game.specs.VertexSet.{In, all_vertices, union}
 use Rattle.pg_game.specs.Kept.{option_list, KeptEdge}
 use Rattle.pg_game.proofs.Players.{own_or_other, not_own, is_same, not_same}
 use Rattle.pg_game.proofs.Members.{Contains-one}
-use Rattle.pg_game.proofs.Grown.{in_first, in_second}
 use Rattle.pg_dominion.proofs.Rows.{named_right}
 use Rattle.pg_dominion.specs.Claim.{ClaimRows, named, choice_in, IsGoodIn}
 use Rattle.pg_board.specs.State.{State, settled, unsettled, IsLawfulState, IsDominion}
@@ -27,17 +27,17 @@ module _ (g : Graph) (edges : (v w : ℕ) → v < length g → HasEdge g v w →
         let n : Contains (option_list (choice_in rows v)) w = rw y at m in
         let one : Contains (c.0 ∷ []) w = rw c.1 at n in
         let e : choice_in rows v ≡ Some w = c.1 ∙ ap (λ x. Some x) (Contains-one c.0 w one) in
-        in_first (named rows w) (settled st p w) (good.closed v w (i, m) (good.choices v w i e)))
+        or_left (named rows w) (settled st p w) (good.closed v w (i, m) (good.choices v w i e)))
     | inr o ↦
         (let y : same_player (owner_of g v) p ≡ false = not_same (owner_of g v) p (not_own p (owner_of g v) o) in
         let n : HasEdge g v w = rw y at m in
         let u = good.vertices v i in
         elim (part_of g edges st lawful p w (edges v w (ltb-true v (length g) (all_of g edges st lawful p v u)) n)) [
           | inl a ↦ elim a [
-            | inl b ↦ in_second (named rows w) (settled st p w) b
+            | inl b ↦ or_right (named rows w) (settled st p w) b
             | inr b ↦ absurd (not_to_other g edges st lawful p v w u o n b)
           ]
-          | inr b ↦ in_first (named rows w) (settled st p w) (good.closed v w (i, m) b)
+          | inr b ↦ or_left (named rows w) (settled st p w) (good.closed v w (i, m) b)
         ])
   ]
 

@@ -14,8 +14,8 @@ use Rattle.pg_game.specs.VertexSet.{VertexSet}
 use Rattle.pg_game.specs.Kept.{kept, option_list}
 use Rattle.pg_game.proofs.Players.{own_or_other, not_own, not_same}
 use Rattle.pg_dominion.specs.Claim.{ClaimRows, choice_in, IsRightRow, AreRight}
+use Rattle.pg_dominion.proofs.Named.{choice-back}
 use Rattle.pg_board.specs.private.OpenEdges.{ends_of, EndsOutside, IsFirstEnd, LeadsOutside, IsFirstOutside}
-use Rattle.pg_board.proofs.Named.{choice-back}
 use Rattle.pg_board.proofs.RestIsGood.{vertices}
 use Rattle.pg_board.proofs.Push.{distinct_rising}
 use Rattle.pg_board.proofs.Places.{row_at, named_at, place_at, fresh_at, rises_or}

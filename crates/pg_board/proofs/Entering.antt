@@ -1,6 +1,6 @@
 -- The entry of a good rest and of what it attracts.
 use mathlib.Core.Path.{fun_ext}
-use Rattle.std.proofs.Common.{◌≡◌, ℕ, ◌+◌, ◌≤◌, Bool, true, false, ◌&&◌, ◌||◌, [], ◌∷◌, ◌++◌, length, take, drop, refl, sym, ◌∙◌, ap, subst, arith, lt-ltb, length-append}
+use Rattle.std.proofs.Common.{◌≡◌, ℕ, ◌+◌, ◌≤◌, Bool, true, false, [], ◌∷◌, ◌++◌, length, take, drop, refl, sym, ◌∙◌, ap, subst, arith, lt-ltb, length-append}
 use Rattle.std.specs.Prelude.{nat_eq, nat_lt, ◌↔◌}
 use Rattle.std.specs.List.{IsDistinct}
 use Rattle.std.proofs.lemmas.List.Sums.{sum_by_push}
@@ -20,7 +20,6 @@ use Rattle.pg_board.specs.Journal.{Journal, state_of, claimed_rows, attracted_ro
 use Rattle.pg_board.specs.declared.regions.Regions.{Regions}
 use Rattle.pg_board.specs.private.Regions.{table_state, state_with, AreRegions, IsBoard}
 use Rattle.pg_board.proofs.RestIsGood.{vertices, in_rest}
-use Rattle.pg_board.proofs.Named.{named-append}
 use Rattle.pg_board.proofs.Push.{state_push, once_rows}
 use Rattle.pg_board.proofs.Lawful.{lawful_push}
 use Rattle.pg_board.proofs.Numbers.{lawful_now, number_within}
@@ -29,23 +28,18 @@ use Rattle.std.specs.Prelude.{if◌then◌else◌}
 use Rattle.std.proofs.Math.Seq.{take-length}
 use Rattle.std.proofs.lemmas.List.Sums.{sum_by-le}
 use Rattle.std.proofs.lemmas.List.Elements.{All-from_get_or}
+use Rattle.std.proofs.lemmas.Bool.{and_from}
+use Rattle.std.proofs.Math.Bool.{or_assoc}
 use Rattle.pg_dominion.specs.private.Attracting.{AttractsNoFurther}
+use Rattle.pg_dominion.proofs.Named.{named-append}
 use Rattle.pg_board.specs.private.Growth.{open_before, IsGrowing, LeadFrom, Grows}
 use Rattle.pg_board.proofs.Growing.{grown_attraction, grown_rows}
 use Rattle.pg_board.proofs.Whole.{whole, taken_inside}
 
-both : (a b : Bool) → a ≡ true → b ≡ true → (a && b) ≡ true
-both true b x y = y
-both false b x y = absurd (cc x)
-
-or_assoc : (a b c : Bool) → ((a || b) || c) ≡ (a || (b || c))
-or_assoc true b c = refl
-or_assoc false b c = refl
-
 -- a rest lies in the unsettled part
 pub rest_inside : (g : Graph) (st : State) (p : Player) (R : ClaimRows) → IsGoodOn g st p R → rest_of st R ≡ R → Within (named R) (unsettled g st)
 rest_inside g st p R good twice v i =
-    both (nat_lt v (length g)) (is_unsettled (st v)) (lt-ltb v (length g) (named_right g p R v good.shape.right.each i).vertex)
+    and_from (nat_lt v (length g)) (is_unsettled (st v)) (lt-ltb v (length g) (named_right g p R v good.shape.right.each i).vertex)
     (in_rest st R v (subst (λ (xs : ClaimRows). In (named xs) v) (sym twice) i)).1
 
 module _ (g : Graph) (game : IsGame g) (j : Journal) (lawful : IsLawful g j) (p : Player) (R : ClaimRows) (good : IsGoodOn g (state_of j) p R) (twice : rest_of (state_of j) R ≡ R) (A : ClaimRows) (attraction : IsAttraction g p (unsettled g (state_of j)) (named R) A) (e : Entry) (player : e.player ≡ p) (claimed : e.claimed ≡ length R) (rows : e.rows ≡ R ++ A) where

@@ -1,10 +1,11 @@
 -- The steps of a region that grows in place, and what it is when nothing is left to do.
 use mathlib.Core.Path.{fun_ext}
-use Rattle.std.proofs.Common.{◌≡◌, ◌≢◌, ℕ, ◌+◌, ◌<◌, ◌≤◌, Bool, true, false, ◌||◌, ◌⊎◌, inl, inr, List, [], ◌∷◌, ◌++◌, length, take, drop, get_or, set, refl, sym, ◌∙◌, ap, subst, arith, append_assoc, length-append}
+use Rattle.std.proofs.Common.{◌≡◌, ◌≢◌, ℕ, ◌+◌, ◌<◌, Bool, true, false, ◌||◌, ◌⊎◌, inl, inr, List, [], ◌∷◌, ◌++◌, length, take, drop, get_or, set, refl, sym, ◌∙◌, ap, subst, arith, append_assoc, length-append}
 use Rattle.std.specs.Prelude.{Option, Some, None, ◌==◌, nat_lt, if◌then◌else◌}
-use Rattle.std.proofs.lemmas.Bool.{eqb-true, eq-eqb, false_from_ne_true}
-use Rattle.std.proofs.lemmas.List.{take_more, take_all, append-nil, take-append-drop}
+use Rattle.std.proofs.lemmas.Bool.{eqb-true, eq-eqb, false_from_ne_true, and_parts, or_left, or_right, or_cases, cases_Bool}
+use Rattle.std.proofs.lemmas.List.{take_more, append-nil, take-append-drop}
 use Rattle.std.proofs.lemmas.List.Sums.{sum_by-set}
+use Rattle.std.proofs.Math.Bool.{or-false}
 use Rattle.pg_game.specs.declared.player.Player.{Player}
 use Rattle.pg_game.specs.Graph.{Graph, HasEdge, owner_of}
 use Rattle.pg_game.specs.VertexSet.{VertexSet, In, Within, members, union, no_vertices}
@@ -22,24 +23,7 @@ use Rattle.pg_board.specs.declared.regions.Regions.{Regions}
 use Rattle.pg_board.specs.State.{State, is_unsettled}
 use Rattle.pg_board.specs.private.Regions.{table_state, state_with, AreRegions}
 use Rattle.pg_board.specs.private.Growth.{open_before, members_left, IsGrowing, LeadFrom, Grows}
-use Rattle.pg_board.proofs.RestIsGood.{both_true}
 use Rattle.pg_board.proofs.Tables.{AreRegions-settle, members-settle, told-push}
-
-or_left : (a b : Bool) → a ≡ true → (a || b) ≡ true
-or_left true b e = refl
-or_left false b e = absurd (cc e)
-
-or_right : (a b : Bool) → b ≡ true → (a || b) ≡ true
-or_right true b e = refl
-or_right false b e = e
-
-or_cases : (a b : Bool) → (a || b) ≡ true → (a ≡ true) ⊎ (b ≡ true)
-or_cases true b e = inl refl
-or_cases false b e = inr e
-
-true_or_false : (b : Bool) → (b ≡ true) ⊎ (b ≡ false)
-true_or_false true = inl refl
-true_or_false false = inr refl
 
 -- one member less
 left_less : (mask : List Bool) (v : ℕ) → In (members mask) v → members_left (set mask v false) + 1 ≡ members_left mask
@@ -82,8 +66,8 @@ module _ (g : Graph) (p : Player) (r r' : Regions) (rows : ClaimRows) (row : ℕ
       gone v true e n = refl
       gone v false e n = elim (or_cases (named rows v) (row.0 == v) n) [ inl h ↦ growing.apart v h | inr h ↦ absurd (cc (e, h)) ]
 
-  open_same : (v : ℕ) → open_before r' (rows ++ row ∷ []) v ≡ open_before r rows v
-  open_same v = ap (λ b. members r'.unsettled v || b) (named-push rows row v) ∙ (ap (λ b. b || (named rows v || (row.0 == v))) (mask_now v) ∙ go (row.0 == v) refl)
+  pub same-take : (v : ℕ) → open_before r' (rows ++ row ∷ []) v ≡ open_before r rows v
+  same-take v = ap (λ b. members r'.unsettled v || b) (named-push rows row v) ∙ (ap (λ b. b || (named rows v || (row.0 == v))) (mask_now v) ∙ go (row.0 == v) refl)
     where
       here : (a n : Bool) → a ≡ true → (false || (n || true)) ≡ (a || n)
       here true true e = refl
@@ -101,7 +85,7 @@ module _ (g : Graph) (p : Player) (r r' : Regions) (rows : ClaimRows) (row : ℕ
 
   was_unsettled : (st : State) → ((v : ℕ) → table_state r.table.items v ≡ state_with st p rows v) → is_unsettled (st row.0) ≡ true
   was_unsettled st h =
-      let u = (both_true (nat_lt row.0 (length g)) (is_unsettled (table_state r.table.items row.0)) (sym (growing.regions.mask row.0) ∙ i)).1 in
+      let u = (and_parts (nat_lt row.0 (length g)) (is_unsettled (table_state r.table.items row.0)) (sym (growing.regions.mask row.0) ∙ i)).1 in
       go (st row.0) (named rows row.0) (Some (p, choice_in rows row.0)) row_fresh (subst (λ (o : Option (Player × Option ℕ)). is_unsettled o ≡ true) (h row.0) u)
     where
       go : (o : Option (Player × Option ℕ)) (n : Bool) (a : Option (Player × Option ℕ)) → n ≡ false → is_unsettled (if is_unsettled o then (if n then a else None) else o) ≡ true → is_unsettled o ≡ true
@@ -111,12 +95,9 @@ module _ (g : Graph) (p : Player) (r r' : Regions) (rows : ClaimRows) (row : ℕ
   pub told-take : (st : State) → ((v : ℕ) → table_state r.table.items v ≡ state_with st p rows v) → (v : ℕ) → table_state r'.table.items v ≡ state_with st p (rows ++ row ∷ []) v
   told-take st h = told-push g r r' p row table mask passed row_below growing.regions st rows h (was_unsettled st h) row_fresh
 
-  pub same-take : (v : ℕ) → open_before r' (rows ++ row ∷ []) v ≡ open_before r rows v
-  same-take = open_same
-
   pub Grows-take : IsAttractedRow g p (open_before r rows) (named rows) row → Grows g p r rows r' (rows ++ row ∷ [])
   Grows-take leads = record {
-    same = open_same;
+    same = same-take;
     more = Continues-push rows row;
     within = λ v n. named-push rows row v ∙ or_left (named rows v) (row.0 == v) n;
     turns = λ n l turns before after x e m. elim (split_push rows row before x after e) [
@@ -125,9 +106,6 @@ module _ (g : Graph) (p : Player) (r r' : Regions) (rows : ClaimRows) (row : ℕ
     ];
     tells = told-take;
   }
-
-  pub taken_named : In (named (rows ++ row ∷ [])) row.0
-  taken_named = named-push rows row row.0 ∙ or_right (named rows row.0) (row.0 == row.0) (eq-eqb row.0 row.0 refl)
 
 pub Grows-same : (g : Graph) (p : Player) (r r' : Regions) (rows : ClaimRows) → r'.table.items ≡ r.table.items → r'.unsettled ≡ r.unsettled → Grows g p r rows r' rows
 Grows-same g p r r' rows table mask = record {
@@ -177,9 +155,6 @@ next_named rows n r l e =
 pub nothing_done : (g : Graph) (p : Player) (U : VertexSet) (rows : ClaimRows) → IsSubgame g U → AttractsNoFurther g p U (named (take 0 rows)) (named rows)
 nothing_done g p U rows sub = IsDone-none g p U no_vertices (named (take 0 rows)) (named rows) sub (λ x. refl)
 
-pub all_done : (g : Graph) (p : Player) (U : VertexSet) (rows : ClaimRows) (n : ℕ) → length rows ≤ n → AttractsNoFurther g p U (named (take n rows)) (named rows) → AttractsNoFurther g p U (named rows) (named rows)
-all_done g p U rows n l d = subst (λ (xs : ClaimRows). AttractsNoFurther g p U (named xs) (named rows)) (take_all n rows l) d
-
 -- the rows after the first are what those attract
 module _ (g : Graph) (p : Player) (U : VertexSet) (R rows : ClaimRows) (front : take (length R) rows ≡ R) (turns : LeadFrom g p U (length R) rows) (done : AttractsNoFurther g p U (named rows) (named rows)) where
   abbrev A : ClaimRows
@@ -218,11 +193,11 @@ module _ (g : Graph) (p : Player) (U : VertexSet) (R rows : ClaimRows) (front : 
   attracts : Attracts g p U (named R) (named rows)
   attracts = record {
     target = λ v t. sym (names v) ∙ or_left (named R v) (named A v) t;
-    own = λ v w u o e i. elim (true_or_false (named rows v)) [
+    own = λ v w u o e i. elim (cases_Bool (named rows v)) [
       | inl t ↦ t
       | inr f ↦ absurd (let h = done.own v w u f o e in cc (h, i))
     ];
-    forced = λ v u o h. elim (true_or_false (named rows v)) [
+    forced = λ v u o h. elim (cases_Bool (named rows v)) [
       | inl t ↦ t
       | inr f ↦ absurd (let q = done.other v u f (not_own p (owner_of g v) o) in let i = h q.0 q.1 q.2 in cc (i, q.3))
     ];
@@ -232,14 +207,10 @@ module _ (g : Graph) (p : Player) (U : VertexSet) (R rows : ClaimRows) (front : 
   grown_attraction = record {
     turns = in_turn;
     exact = λ v. (
-      λ i S at. lies S at [] A refl (λ x h. at.target x (only_first (named R x) h)) v i,
+      λ i S at. lies S at [] A refl (λ x h. at.target x (sym (or-false (named R x)) ∙ h)) v i,
       λ h. names v ∙ h (named rows) attracts,
     );
   }
-    where
-      only_first : (b : Bool) → (b || false) ≡ true → b ≡ true
-      only_first true h = refl
-      only_first false h = absurd (cc h)
 
   pub grown_rows : rows ≡ R ++ A
   grown_rows = sym all
@@ -276,8 +247,4 @@ pub still_unsettled : (r : Regions) (rows : ClaimRows) (v : ℕ) → In (open_be
 still_unsettled r rows v i f = elim (or_cases (members r.unsettled v) (named rows v) i) [ inl m ↦ m | inr n ↦ absurd (cc (n, f)) ]
 
 pub before_none : (r : Regions) (v : ℕ) → open_before r [] v ≡ members r.unsettled v
-before_none r v = or_false (members r.unsettled v)
-  where
-    or_false : (b : Bool) → (b || false) ≡ b
-    or_false true = refl
-    or_false false = refl
+before_none r v = or-false (members r.unsettled v)

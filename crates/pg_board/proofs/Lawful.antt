@@ -15,6 +15,7 @@ use Rattle.pg_board.specs.State.{IsGoodOn, IsLawfulState, is_unsettled}
 use Rattle.pg_board.specs.Journal.{Journal, state_of, claimed_rows, Answers, IsLawful}
 use Rattle.pg_board.proofs.RestIsGood.{vertices}
 use Rattle.pg_board.proofs.Distinct.{AllRows, distinct-append, each_settled}
+use Rattle.pg_board.proofs.Numbers.{lawful_now}
 use Rattle.pg_board.proofs.Push.{lawful_state, own_claim_good, own_claim_answered, once_rows, each_open}
 
 last_cases : (j : Journal) (e f : Entry) (k : ℕ) → slice_get (j ++ e ∷ []) k ≡ Some f → (slice_get j k ≡ Some f) ⊎ ((k ≡ length j) × (e ≡ f))
@@ -28,27 +29,24 @@ length-snoc [] e = refl
 length-snoc (x ∷ xs) e = ap suc (length-snoc xs e)
 
 module _ (g : Graph) (edges : (v w : ℕ) → v < length g → HasEdge g v w → In (all_vertices g) w) (some : (v : ℕ) → v < length g → (w : ℕ) × HasEdge g v w) (j : Journal) (lawful : IsLawful g j) (p : Player) (rows : ClaimRows) where
-  state : IsLawfulState g (state_of j)
-  state = subst (λ xs. IsLawfulState g (state_of xs)) (take-length j) (lawful.states (length j) (omega arith))
-
   pub lawful_push : IsGoodOn g (state_of j) p rows → (e : Entry) → Answers g (state_of j) p rows e → IsLawful g (j ++ e ∷ [])
   lawful_push posted e answers = record {
     once = subst (IsDistinct nat_eq) (sym all_vertices_are)
         (distinct-append (λ v. is_unsettled (state_of j v)) (vertices (AllRows j)) (vertices e.rows) lawful.once
-        (once_rows g edges j state p rows posted e answers) (each_settled j) (each_open g edges j state p rows posted e answers));
+        (once_rows g edges j (lawful_now g j lawful) p rows posted e answers) (each_settled j) (each_open g edges j (lawful_now g j lawful) p rows posted e answers));
     good = λ k f h. elim (last_cases j e f k h) [
       | inl a ↦ subst (λ xs. IsGoodOn g (state_of xs) f.player (claimed_rows f)) (sym (before k (slice_get_within j k f a))) (lawful.good k f a)
       | inr (a, b) ↦ subst (λ x. IsGoodOn g (state_of (take k (j ++ e ∷ []))) x.player (claimed_rows x)) b
-          (subst (λ xs. IsGoodOn g (state_of xs) e.player (claimed_rows e)) (sym (at_end k a)) (own_claim_good g edges j state p rows posted e answers))
+          (subst (λ xs. IsGoodOn g (state_of xs) e.player (claimed_rows e)) (sym (at_end k a)) (own_claim_good g edges j (lawful_now g j lawful) p rows posted e answers))
     ];
     answered = λ k f h. elim (last_cases j e f k h) [
       | inl a ↦ subst (λ xs. Answers g (state_of xs) f.player (claimed_rows f) f) (sym (before k (slice_get_within j k f a))) (lawful.answered k f a)
       | inr (a, b) ↦ subst (λ x. Answers g (state_of (take k (j ++ e ∷ []))) x.player (claimed_rows x) x) b
-          (subst (λ xs. Answers g (state_of xs) e.player (claimed_rows e) e) (sym (at_end k a)) (own_claim_answered g edges j state p rows posted e answers))
+          (subst (λ xs. Answers g (state_of xs) e.player (claimed_rows e) e) (sym (at_end k a)) (own_claim_answered g edges j (lawful_now g j lawful) p rows posted e answers))
     ];
     states = λ k h. elim (split_le k (length j) (subst (λ n. k ≤ n) (length-snoc j e) h)) [
       | inl a ↦ subst (λ xs. IsLawfulState g (state_of xs)) (sym (take-append-le k j (e ∷ []) a)) (lawful.states k a)
-      | inr a ↦ subst (λ xs. IsLawfulState g (state_of xs)) (sym (whole k a)) (lawful_state g edges j state p rows posted e answers some)
+      | inr a ↦ subst (λ xs. IsLawfulState g (state_of xs)) (sym (whole k a)) (lawful_state g edges j (lawful_now g j lawful) p rows posted e answers some)
     ];
   }
     where

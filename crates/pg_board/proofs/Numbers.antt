@@ -14,6 +14,7 @@ use Rattle.std.proofs.lemmas.Map.Steps.{length-le_from_distinct_below, le-length
 use Rattle.std.proofs.Math.Seq.{take-length}
 use Rattle.pg_game.specs.declared.player.Player.{Player}
 use Rattle.pg_game.specs.Graph.{Graph}
+use Rattle.pg_game.proofs.Players.{is_same}
 use Rattle.pg_dominion.specs.Claim.{ClaimRows, named, choice_in}
 use Rattle.pg_board.specs.declared.entry.Entry.{Entry}
 use Rattle.pg_board.specs.State.{settled_for, is_unsettled, IsLawfulState}
@@ -21,7 +22,6 @@ use Rattle.pg_board.specs.Journal.{Journal, state_of, IsLawful, number_settled, 
 use Rattle.pg_board.specs.Full.{IsFull}
 use Rattle.pg_board.proofs.RestIsGood.{vertices}
 use Rattle.pg_board.proofs.Distinct.{AllRows}
-use Rattle.pg_board.proofs.Push.{same_self}
 
 pub lawful_now : (g : Graph) (j : Journal) → IsLawful g j → IsLawfulState g (state_of j)
 lawful_now g j lawful = subst (λ xs. IsLawfulState g (state_of xs)) (take-length j) (lawful.states (length j) (omega arith))
@@ -57,7 +57,7 @@ settled_vertices (e ∷ es) v =
 
 whose : (o : Option (Player × Option ℕ)) → not (is_unsettled o) ≡ true → (p : Player) × (settled_for p o ≡ true)
 whose None h = absurd (cc h)
-whose (Some r) h = (r.0, same_self r.0)
+whose (Some r) h = (r.0, is_same r.0 r.0 refl)
 
 module _ (g : Graph) (j : Journal) (lawful : IsLawful g j) where
   below : (q : ℕ) → list_any (nat_eq q) (Settled j) ≡ true → q < length g

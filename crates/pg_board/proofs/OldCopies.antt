@@ -1,10 +1,9 @@
 -- A claim that was a dominion after some entries is posted, or it is stale: it is refused for no other reason.
 use mathlib.Core.Path.{fun_ext}
-use Rattle.std.proofs.Common.{◌≡◌, ℕ, zero, suc, ◌+◌, Bool, true, false, ◌||◌, ◌↔◌, inl, inr, List, [], ◌∷◌, length, take, refl, sym, ◌∙◌, ap, subst, arith, Ok, Err, Result, length-take}
-use Rattle.std.specs.Prelude.{Option, IfOk, IfErr, OnErr}
-use Rattle.std.specs.List.{AllByRecursion}
-use Rattle.std.specs.List.Sorted.{IsStrictlyIncreasing}
-use Rattle.std.proofs.lemmas.List.{get_or-take}
+use Rattle.std.proofs.Common.{◌≡◌, ℕ, ◌+◌, ◌||◌, ◌↔◌, inl, inr, [], ◌∷◌, length, take, refl, sym, ◌∙◌, ap, subst, arith, Ok, Err, Result, length-take, drop}
+use Rattle.std.specs.Prelude.{IfOk, IfErr, OnErr}
+use Rattle.std.proofs.lemmas.List.{take-append-drop}
+use Rattle.std.proofs.Math.Bool.{or-false}
 use Rattle.pg_game.specs.declared.player.Player.{Player}
 use Rattle.pg_game.specs.Player.{opponent}
 use Rattle.pg_game.specs.Graph.{Graph, IsGame}
@@ -12,12 +11,14 @@ use Rattle.pg_game.specs.VertexSet.{VertexSet, In, all_vertices, union}
 use Rattle.pg_game.specs.Attractor.{Attractor}
 use Rattle.pg_game.proofs.Edges.{edge_inside, some_edge}
 use Rattle.pg_game.proofs.Rotate.{none_from_good}
+use Rattle.pg_game.proofs.Players.{is_same}
 use Rattle.pg_dominion.specs.declared.claim.Claim.{Claim}
 use Rattle.pg_dominion.specs.declared.claim.ClaimFault.{ClaimFault}
 use Rattle.pg_dominion.specs.declared.claim.ClaimFault.TheVariants as claim_fault
-use Rattle.pg_dominion.specs.Claim.{ClaimRows, named, choice_in, IsRightRow, AreRight, HasShape, IsFirstWrongRow}
+use Rattle.pg_dominion.specs.Claim.{ClaimRows, named, choice_in, AreRight, HasShape, IsFirstWrongRow}
 use Rattle.pg_dominion.specs.Fault.{IsClaimFault}
 use Rattle.pg_dominion.specs.Checked.{CheckedClaim, claim_rows, AgreesWithGame}
+use Rattle.pg_dominion.proofs.Shape.{AreRight-front}
 use Rattle.pg_board.specs.declared.entry.Posted.{Posted}
 use Rattle.pg_board.specs.declared.refusal.Refusal.{Refusal}
 use Rattle.pg_board.specs.declared.refusal.Refusal.TheVariants as refusal
@@ -27,39 +28,15 @@ use Rattle.pg_board.specs.Order.{Posts}
 use Rattle.pg_board.specs.Play.{Play}
 use Rattle.pg_board.specs.Post.{Adds, AnswersDominion, SettlesDominion, SettlesUnlessMemory}
 use Rattle.pg_board.specs.Refusal.{Refuses, refusal_of, IsOfState, RefusesChecked}
-use Rattle.pg_board.proofs.RestIsGood.{vertices}
 use Rattle.pg_board.proofs.Numbers.{lawful_now}
-use Rattle.pg_board.proofs.Push.{theirs, same_self}
+use Rattle.pg_board.proofs.Push.{theirs}
 use Rattle.pg_board.proofs.Lawful.{lawful_push}
 use Rattle.pg_board.proofs.Dominion.{never_lost, stays_closed}
 use Rattle.pg_board.proofs.Order.{Target, order}
 
-all_take : (P : ℕ × Option ℕ → Type 0) (rows : ClaimRows) (n : ℕ) → AllByRecursion P rows → AllByRecursion P (take n rows)
-all_take P [] zero a = tt
-all_take P [] (suc n) a = tt
-all_take P (r ∷ rows) zero a = tt
-all_take P (r ∷ rows) (suc n) a = (a.0, all_take P rows n a.1)
-
-vertices_take : (rows : ClaimRows) (n : ℕ) → vertices (take n rows) ≡ take n (vertices rows)
-vertices_take [] zero = refl
-vertices_take [] (suc n) = refl
-vertices_take (r ∷ rows) zero = refl
-vertices_take (r ∷ rows) (suc n) = ap (λ xs. r.0 ∷ xs) (vertices_take rows n)
-
-right_take : (g : Graph) (p : Player) (rows : ClaimRows) (n : ℕ) → AreRight g p rows → AreRight g p (take n rows)
-right_take g p rows n a = record {
-  each = all_take (IsRightRow g p) rows n a.each;
-  rising = subst (λ (xs : List ℕ). IsStrictlyIncreasing xs) (sym (vertices_take rows n)) (λ k l.
-      (let size = length-take n (vertices rows) in
-      let e = get_or-take n (vertices rows) k 0 (omega (arith, size)) in
-      let f = get_or-take n (vertices rows) (k + 1) 0 (omega (arith, size)) in
-      let h = a.rising k (omega (arith, size)) in
-      rw (e, f) h));
-}
-
 shape_is_right : (g : Graph) (p : Player) (rows : ClaimRows) (i : ℕ) → HasShape g p rows → IsFirstWrongRow g p rows i → ⊥
 shape_is_right g p rows i shape (inl (e, z)) = let n = shape.nonempty in let l : length rows ≡ 0 = ap (λ (xs : ClaimRows). length xs) e in omega arith
-shape_is_right g p rows i shape (inr (l, a, wrong)) = wrong (right_take g p rows (i + 1) shape.right)
+shape_is_right g p rows i shape (inr (l, a, wrong)) = wrong (AreRight-front g p (take (i + 1) rows) (drop (i + 1) rows) (subst (λ (xs : ClaimRows). AreRight g p xs) (sym (take-append-drop (i + 1) rows)) shape.right))
 
 module _ (g : Graph) (game : IsGame g) (old : Journal) (lawful : IsLawful g old) (claim : Claim) (k : ℕ) (d : IsDominionAfter g old k claim.player claim.rows) where
   abbrev p : Player
@@ -74,11 +51,7 @@ module _ (g : Graph) (game : IsGame g) (old : Journal) (lawful : IsLawful g old)
   no_fault claim_fault.Memory h n = n refl
 
   target_is : Target p old (claim ∷ []) ≡ union (settled (state_of old) p) (named rows)
-  target_is = fun_ext (λ v. ap (λ b. settled (state_of old) p v || b) (rw (same_self p) (or_none (named rows v))))
-    where
-      or_none : (b : Bool) → (b || false) ≡ b
-      or_none true = refl
-      or_none false = refl
+  target_is = fun_ext (λ v. ap (λ b. settled (state_of old) p v || b) (rw (is_same p p refl) (or-false (named rows v))))
 
   own : (new : Journal) → Posts g old (claim ∷ []) new → (v : ℕ) → In (settled (state_of new) p) v ↔ Attractor g p (all_vertices g) (union (settled (state_of old) p) (named rows)) v
   own new posts v = subst (λ (T : VertexSet). In (settled (state_of new) p) v ↔ Attractor g p (all_vertices g) T v) target_is

@@ -1,5 +1,5 @@
 -- The state in which nothing is settled.
-use Rattle.std.proofs.Common.{◌≡◌, ℕ, Bool, true, false, ◌&&◌, List, [], ◌∷◌, length, take, refl, sym, subst, arith, ltb-true}
+use Rattle.std.proofs.Common.{◌≡◌, ℕ, true, false, List, [], ◌∷◌, length, take, sym, subst, arith, ltb-true, ◌∙◌}
 use Rattle.std.specs.Prelude.{nat_eq, nat_lt, slice_get}
 use Rattle.std.specs.List.{IsDistinct}
 use Rattle.pg_game.specs.declared.player.Player.{Player}
@@ -12,6 +12,7 @@ use Rattle.pg_game.specs.Region.{IsRegion}
 use Rattle.pg_game.proofs.Edges.{edge_inside, some_edge}
 use Rattle.std.specs.Prelude.{Some}
 use Rattle.std.proofs.lemmas.Option.{slice_get_within}
+use Rattle.std.proofs.Math.Bool.{and-true}
 use Rattle.pg_board.specs.declared.entry.Entry.{Entry}
 use Rattle.pg_board.specs.State.{choices, IsLawfulState}
 use Rattle.pg_board.specs.Journal.{state_of, IsLawful}
@@ -41,24 +42,16 @@ module _ (g : Graph) (game : IsGame g) where
     forced = λ x i o h. (let e = some_edge g game x (ltb-true x (length g) i) in h e.0 e.1 (edge_inside g game x e.0 (ltb-true x (length g) i) e.1));
   })
 
-  all_unsettled : (b : Bool) → b ≡ true → (b && true) ≡ true
-  all_unsettled true h = refl
-  all_unsettled false h = h
-
-  in_all : (b : Bool) → (b && true) ≡ true → b ≡ true
-  in_all true h = refl
-  in_all false h = h
-
   opening : IsLawfulState g (state_of [])
   opening = record {
     regions = λ p. no_region g p (choices (state_of []));
     attracted = attracts_none;
     open_part = record {
-      vertices = λ v i. in_all (nat_lt v (length g)) i;
+      vertices = λ v i. sym (and-true (nat_lt v (length g))) ∙ i;
       successor = λ v i.
-          let l = ltb-true v (length g) (in_all (nat_lt v (length g)) i) in
+          let l = ltb-true v (length g) (sym (and-true (nat_lt v (length g))) ∙ i) in
           let e = some_edge g game v l in
-          (e.0, e.1, all_unsettled (nat_lt e.0 (length g)) (edge_inside g game v e.0 l e.1));
+          (e.0, e.1, and-true (nat_lt e.0 (length g)) ∙ edge_inside g game v e.0 l e.1);
     };
   }
 

@@ -1,31 +1,27 @@
 -- The order in which claims that were dominions are posted has no effect on the regions.
-use Rattle.std.proofs.Common.{◌≡◌, ℕ, ◌<◌, ◌≤◌, Bool, true, false, ◌||◌, ◌⊎◌, ◌↔◌, inl, inr, List, [], ◌∷◌, ◌++◌, length, refl, sym, ◌∙◌, ap, subst, arith}
+use Rattle.std.proofs.Common.{◌≡◌, ℕ, ◌<◌, ◌≤◌, Bool, true, false, ◌||◌, ◌↔◌, inl, inr, List, [], ◌∷◌, ◌++◌, length, refl, sym, ◌∙◌, subst, arith}
 use Rattle.std.specs.Prelude.{if◌then◌else◌}
 use Rattle.std.proofs.lemmas.List.{take-append-le}
-use Rattle.std.proofs.Math.Seq.{take-length}
+use Rattle.std.proofs.lemmas.Bool.{or_cases, or_left, or_right}
+use Rattle.std.proofs.Math.Bool.{or-false}
 use Rattle.pg_game.specs.declared.player.Player.{Player}
-use Rattle.pg_game.specs.declared.player.Player.TheVariants.{Even, Odd}
 use Rattle.pg_game.specs.Player.{opponent, same_player}
 use Rattle.pg_game.specs.Graph.{Graph, HasEdge}
 use Rattle.pg_game.specs.VertexSet.{VertexSet, In, all_vertices, no_vertices, union}
 use Rattle.pg_game.specs.Attractor.{Attractor}
 use Rattle.pg_game.proofs.Attract.{target_attracted, Attractor-monotone, Attractor-idempotent}
-use Rattle.pg_game.proofs.Grown.{in_first, in_second}
+use Rattle.pg_game.proofs.Players.{own_or_other, same_is, is_same}
 use Rattle.pg_dominion.specs.declared.claim.Claim.{Claim}
 use Rattle.pg_dominion.specs.Claim.{named}
 use Rattle.pg_board.specs.declared.entry.Entry.{Entry}
-use Rattle.pg_board.specs.State.{settled, is_unsettled, rest_of, IsLawfulState, IsGoodOn, IsDominion}
+use Rattle.pg_board.specs.State.{settled, is_unsettled, rest_of, IsGoodOn, IsDominion}
 use Rattle.pg_board.specs.Journal.{Journal, state_of, claimed_rows, Answers, IsLawful, IsDominionAfter}
 use Rattle.pg_board.specs.Order.{Posts, claimed_by, WereDominions}
 use Rattle.pg_board.proofs.RestIsGood.{in_rest}
-use Rattle.pg_board.proofs.Push.{ours_named, theirs, same_self}
-use Rattle.pg_board.proofs.Turns.{own_or_other}
+use Rattle.pg_board.proofs.Numbers.{lawful_now}
+use Rattle.pg_board.proofs.Push.{ours_named, theirs}
 use Rattle.pg_board.proofs.Lawful.{lawful_push, length-snoc}
 use Rattle.pg_board.proofs.Dominion.{dominion_good, ours_or_open, stays_settled}
-
-either : (a b : Bool) → (a || b) ≡ true → (a ≡ true) ⊎ (b ≡ true)
-either true b h = inl refl
-either false b h = inr h
 
 -- the vertices of one claim, where it is the player's
 abbrev pub of_claim : Player → Claim → VertexSet
@@ -41,12 +37,6 @@ still_dominion g old e c (k, (l, d)) = (k, (subst (λ n. k ≤ n) (sym (length-s
 still_dominions : (g : Graph) (old : Journal) (e : Entry) (cs : List Claim) → WereDominions g old cs → WereDominions g (old ++ e ∷ []) cs
 still_dominions g old e [] h = tt
 still_dominions g old e (c ∷ cs) h = (still_dominion g old e c h.0, still_dominions g old e cs h.1)
-
-same_is : (p q : Player) → same_player p q ≡ true → p ≡ q
-same_is Even Even e = refl
-same_is Even Odd e = absurd (cc e)
-same_is Odd Even e = absurd (cc e)
-same_is Odd Odd e = refl
 
 -- a vertex of the claim, where the claim is the player's
 own_claim : (q : Player) (c : Claim) (v : ℕ) → In (of_claim q c) v → (c.player ≡ q) × In (named c.rows) v
@@ -64,21 +54,18 @@ same_attractor : (g : Graph) (q : Player) (T T' : VertexSet) → ((v : ℕ) → 
 same_attractor g q T T' a b v = (Attractor-idempotent g q (all_vertices g) T' T a v, Attractor-idempotent g q (all_vertices g) T T' b v)
 
 module _ (g : Graph) (edges : (v w : ℕ) → v < length g → HasEdge g v w → In (all_vertices g) w) (some : (v : ℕ) → v < length g → (w : ℕ) × HasEdge g v w) where
-  lawful_now : (old : Journal) → IsLawful g old → IsLawfulState g (state_of old)
-  lawful_now old lawful = subst (λ xs. IsLawfulState g (state_of xs)) (take-length old) (lawful.states (length old) (omega arith))
-
   -- a claim of which nothing is open adds nothing to the target
   stale_target : (q : Player) (old : Journal) (lawful : IsLawful g old) (c : Claim) (cs : List Claim) → (k : ℕ) × IsDominionAfter g old k c.player c.rows → rest_of (state_of old) c.rows ≡ [] → SameAttractor g q (Target q old cs) (Target q old (c ∷ cs))
   stale_target q old lawful c cs (k, d) none = same_attractor g q (Target q old cs) (Target q old (c ∷ cs))
-      (λ v i. target_attracted g q (all_vertices g) (Target q old (c ∷ cs)) v (elim (either (settled (state_of old) q v) (claimed_by q cs v) i) [
-        | inl a ↦ in_first (settled (state_of old) q v) (of_claim q c v || claimed_by q cs v) a
-        | inr a ↦ in_second (settled (state_of old) q v) (of_claim q c v || claimed_by q cs v) (in_second (of_claim q c v) (claimed_by q cs v) a)
+      (λ v i. target_attracted g q (all_vertices g) (Target q old (c ∷ cs)) v (elim (or_cases (settled (state_of old) q v) (claimed_by q cs v) i) [
+        | inl a ↦ or_left (settled (state_of old) q v) (of_claim q c v || claimed_by q cs v) a
+        | inr a ↦ or_right (settled (state_of old) q v) (of_claim q c v || claimed_by q cs v) (or_right (of_claim q c v) (claimed_by q cs v) a)
       ]))
-      (λ v i. target_attracted g q (all_vertices g) (Target q old cs) v (elim (either (settled (state_of old) q v) (of_claim q c v || claimed_by q cs v) i) [
-        | inl a ↦ in_first (settled (state_of old) q v) (claimed_by q cs v) a
-        | inr a ↦ elim (either (of_claim q c v) (claimed_by q cs v) a) [
-          | inl b ↦ in_first (settled (state_of old) q v) (claimed_by q cs v) (stale_vertex v b)
-          | inr b ↦ in_second (settled (state_of old) q v) (claimed_by q cs v) b
+      (λ v i. target_attracted g q (all_vertices g) (Target q old cs) v (elim (or_cases (settled (state_of old) q v) (of_claim q c v || claimed_by q cs v) i) [
+        | inl a ↦ or_left (settled (state_of old) q v) (claimed_by q cs v) a
+        | inr a ↦ elim (or_cases (of_claim q c v) (claimed_by q cs v) a) [
+          | inl b ↦ or_left (settled (state_of old) q v) (claimed_by q cs v) (stale_vertex v b)
+          | inr b ↦ or_right (settled (state_of old) q v) (claimed_by q cs v) b
         ]
       ]))
     where
@@ -93,15 +80,15 @@ module _ (g : Graph) (edges : (v w : ℕ) → v < length g → HasEdge g v w →
   -- a claim that was posted moves from the target's claims to its settled vertices, with what it attracts
   posted_target : (q : Player) (old : Journal) (lawful : IsLawful g old) (c : Claim) (cs : List Claim) → (d : (k : ℕ) × IsDominionAfter g old k c.player c.rows) → (_ : 0 < length (rest_of (state_of old) c.rows)) → (e : Entry) → Answers g (state_of old) c.player c.rows e → SameAttractor g q (Target q (old ++ e ∷ []) cs) (Target q old (c ∷ cs))
   posted_target q old lawful c cs (k, d) some_open e answers = same_attractor g q (Target q (old ++ e ∷ []) cs) (Target q old (c ∷ cs))
-      (λ v i. elim (either (settled (state_of (old ++ e ∷ [])) q v) (claimed_by q cs v) i) [
+      (λ v i. elim (or_cases (settled (state_of (old ++ e ∷ [])) q v) (claimed_by q cs v) i) [
         | inl a ↦ from_settled v a
-        | inr a ↦ target_attracted g q (all_vertices g) (Target q old (c ∷ cs)) v (in_second (settled (state_of old) q v) (of_claim q c v || claimed_by q cs v) (in_second (of_claim q c v) (claimed_by q cs v) a))
+        | inr a ↦ target_attracted g q (all_vertices g) (Target q old (c ∷ cs)) v (or_right (settled (state_of old) q v) (of_claim q c v || claimed_by q cs v) (or_right (of_claim q c v) (claimed_by q cs v) a))
       ])
-      (λ v i. target_attracted g q (all_vertices g) (Target q (old ++ e ∷ []) cs) v (elim (either (settled (state_of old) q v) (of_claim q c v || claimed_by q cs v) i) [
-        | inl a ↦ in_first (settled (state_of (old ++ e ∷ [])) q v) (claimed_by q cs v) (stays_settled old (e ∷ []) q v a)
-        | inr a ↦ elim (either (of_claim q c v) (claimed_by q cs v) a) [
-          | inl b ↦ in_first (settled (state_of (old ++ e ∷ [])) q v) (claimed_by q cs v) (of_posted v b)
-          | inr b ↦ in_second (settled (state_of (old ++ e ∷ [])) q v) (claimed_by q cs v) b
+      (λ v i. target_attracted g q (all_vertices g) (Target q (old ++ e ∷ []) cs) v (elim (or_cases (settled (state_of old) q v) (of_claim q c v || claimed_by q cs v) i) [
+        | inl a ↦ or_left (settled (state_of (old ++ e ∷ [])) q v) (claimed_by q cs v) (stays_settled old (e ∷ []) q v a)
+        | inr a ↦ elim (or_cases (of_claim q c v) (claimed_by q cs v) a) [
+          | inl b ↦ or_left (settled (state_of (old ++ e ∷ [])) q v) (claimed_by q cs v) (of_posted v b)
+          | inr b ↦ or_right (settled (state_of (old ++ e ∷ [])) q v) (claimed_by q cs v) b
         ]
       ]))
     where
@@ -109,14 +96,14 @@ module _ (g : Graph) (edges : (v w : ℕ) → v < length g → HasEdge g v w →
       good = dominion_good g old lawful k c.player c.rows d some_open
 
       ours : settled (state_of (old ++ e ∷ [])) c.player ≡ union (settled (state_of old) c.player) (named e.rows)
-      ours = ours_named g edges old (lawful_now old lawful) c.player c.rows good e answers
+      ours = ours_named g edges old (lawful_now g old lawful) c.player c.rows good e answers
 
       into : (v : ℕ) → c.player ≡ q → In (union (settled (state_of old) c.player) (named (claimed_rows e))) v → In (Target q old (c ∷ cs)) v
-      into v h i = elim (either (settled (state_of old) c.player v) (named (claimed_rows e) v) i) [
-        | inl a ↦ in_first (settled (state_of old) q v) (of_claim q c v || claimed_by q cs v) (subst (λ x. In (settled (state_of old) x) v) h a)
-        | inr a ↦ in_second (settled (state_of old) q v) (of_claim q c v || claimed_by q cs v) (in_first (of_claim q c v) (claimed_by q cs v)
+      into v h i = elim (or_cases (settled (state_of old) c.player v) (named (claimed_rows e) v) i) [
+        | inl a ↦ or_left (settled (state_of old) q v) (of_claim q c v || claimed_by q cs v) (subst (λ x. In (settled (state_of old) x) v) h a)
+        | inr a ↦ or_right (settled (state_of old) q v) (of_claim q c v || claimed_by q cs v) (or_left (of_claim q c v) (claimed_by q cs v)
             (let n = (in_rest (state_of old) c.rows v (subst (λ xs. In (named xs) v) answers.rest a)).0 in
-            let y : same_player c.player q ≡ true = ap (same_player c.player) (sym h) ∙ same_self c.player in
+            let y : same_player c.player q ≡ true = is_same c.player q h in
             rw y n))
       ]
 
@@ -129,8 +116,8 @@ module _ (g : Graph) (edges : (v w : ℕ) → v < length g → HasEdge g v w →
             Attractor-monotone g q (all_vertices g) (union (settled (state_of old) c.player) (named (claimed_rows e))) (Target q old (c ∷ cs)) (λ x i. into x (sym h) i) v b')
         | inr h ↦
             (let a' : In (settled (state_of (old ++ e ∷ [])) (opponent c.player)) v = subst (λ x. In (settled (state_of (old ++ e ∷ [])) x) v) h a in
-            let b : In (settled (state_of old) (opponent c.player)) v = subst (λ X. In X v) (theirs g edges old (lawful_now old lawful) c.player c.rows good e answers) a' in
-            target_attracted g q (all_vertices g) (Target q old (c ∷ cs)) v (in_first (settled (state_of old) q v) (of_claim q c v || claimed_by q cs v) (subst (λ x. In (settled (state_of old) x) v) (sym h) b)))
+            let b : In (settled (state_of old) (opponent c.player)) v = subst (λ X. In X v) (theirs g edges old (lawful_now g old lawful) c.player c.rows good e answers) a' in
+            target_attracted g q (all_vertices g) (Target q old (c ∷ cs)) v (or_left (settled (state_of old) q v) (of_claim q c v || claimed_by q cs v) (subst (λ x. In (settled (state_of old) x) v) (sym h) b)))
       ]
 
       of_posted : (v : ℕ) → In (of_claim q c) v → In (settled (state_of (old ++ e ∷ [])) q) v
@@ -138,7 +125,7 @@ module _ (g : Graph) (edges : (v w : ℕ) → v < length g → HasEdge g v w →
           let o = own_claim q c v b in
           elim (ours_or_open g old lawful k c.player c.rows d v o.1 (is_unsettled (state_of old v)) refl) [
             | inl r ↦
-                (let t : In (union (settled (state_of old) c.player) (named (claimed_rows e))) v = in_second (settled (state_of old) c.player v) (named (claimed_rows e) v) (subst (λ xs. In (named xs) v) (sym answers.rest) r) in
+                (let t : In (union (settled (state_of old) c.player) (named (claimed_rows e))) v = or_right (settled (state_of old) c.player v) (named (claimed_rows e) v) (subst (λ xs. In (named xs) v) (sym answers.rest) r) in
                 let i = (answers.exact v).1 (target_attracted g c.player (all_vertices g) (union (settled (state_of old) c.player) (named (claimed_rows e))) v t) in
                 subst (λ x. In (settled (state_of (old ++ e ∷ [])) x) v) o.0 (subst (λ X. In X v) (sym ours) i))
             | inr s ↦ stays_settled old (e ∷ []) q v (subst (λ x. In (settled (state_of old) x) v) o.0 s)
@@ -154,15 +141,11 @@ module _ (g : Graph) (edges : (v w : ℕ) → v < length g → HasEdge g v w →
   order old new [] lawful were same = (
     subst (IsLawful g) (sym same) lawful,
     λ q v. (
-      λ i. target_attracted g q (all_vertices g) (Target q old []) v (in_first (settled (state_of old) q v) false (subst (λ xs. In (settled (state_of xs) q) v) same i)),
-      λ a. subst (λ xs. In (settled (state_of xs) q) v) (sym same) ((lawful_now old lawful).attracted q v
-          (Attractor-monotone g q (all_vertices g) (Target q old []) (settled (state_of old) q) (λ x i. only_first (settled (state_of old) q x) i) v a)),
+      λ i. target_attracted g q (all_vertices g) (Target q old []) v (or_left (settled (state_of old) q v) false (subst (λ xs. In (settled (state_of xs) q) v) same i)),
+      λ a. subst (λ xs. In (settled (state_of xs) q) v) (sym same) ((lawful_now g old lawful).attracted q v
+          (Attractor-monotone g q (all_vertices g) (Target q old []) (settled (state_of old) q) (λ x i. sym (or-false (settled (state_of old) q x)) ∙ i) v a)),
     ),
   )
-    where
-      only_first : (a : Bool) → (a || false) ≡ true → a ≡ true
-      only_first true h = refl
-      only_first false h = absurd (cc h)
   order old new (c ∷ cs) lawful were (inl (none, more)) =
       let r = order old new cs lawful were.1 more in
       (r.0, λ q v. both_ways (r.1 q v) (stale_target q old lawful c cs were.0 none v))

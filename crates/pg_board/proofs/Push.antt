@@ -1,17 +1,18 @@
 -- An entry that answers a good claim leaves a lawful state.
 use mathlib.Core.Path.{fun_ext}
-use Rattle.std.proofs.Common.{◌≡◌, ℕ, ◌<◌, Bool, true, false, ◌&&◌, ◌||◌, not, ◌⊎◌, ◌↔◌, inl, inr, List, [], ◌∷◌, ◌++◌, length, refl, sym, ◌∙◌, ap, subst, arith, lt-ltb, ltb-true}
-use Rattle.std.specs.Prelude.{Option, Some, None, ◌==◌, nat_eq, nat_lt, if◌then◌else◌}
-use Rattle.std.specs.List.{list_any, Contains}
-use Rattle.std.proofs.lemmas.Bool.{eqb-true, eq-eqb, false_from_ne_true}
+use Rattle.std.proofs.Common.{◌≡◌, ℕ, ◌<◌, Bool, true, false, ◌&&◌, ◌||◌, not, ◌↔◌, inl, inr, List, [], ◌∷◌, ◌++◌, length, refl, sym, ◌∙◌, ap, subst, arith, lt-ltb, ltb-true}
+use Rattle.std.specs.Prelude.{Option, Some, None, nat_eq, nat_lt, if◌then◌else◌}
+use Rattle.std.specs.List.{Contains}
+use Rattle.std.proofs.lemmas.Bool.{eqb-true, false_from_ne_true, or_cases, or_parts, or_right}
 use Rattle.std.proofs.lemmas.List.{take-append-drop, append-nil, map-append}
-use Rattle.std.specs.List.{AllByRecursion, IsDistinct}
+use Rattle.std.specs.List.{All, IsDistinct}
 use Rattle.std.specs.Cmp.{nat_eq_equiv}
 use Rattle.std.proofs.lemmas.Map.Keys.{IsDistinct-push, IsDistinct-from_apart, sorted_from_strictly_increasing, below_from_sorted}
 use Rattle.std.specs.List.Sorted.{IsStrictlyIncreasing}
 use Rattle.std.proofs.Common.{get_or}
 use Rattle.pg_board.proofs.Distinct.{distinct-append, each_named}
 use Rattle.std.proofs.Common.{append_assoc}
+use Rattle.std.proofs.Math.Bool.{and-true, and-false, or-false}
 use Rattle.pg_game.specs.declared.player.Player.{Player}
 use Rattle.pg_game.specs.declared.player.Player.TheVariants.{Even, Odd}
 use Rattle.pg_game.specs.Player.{opponent, same_player}
@@ -22,25 +23,29 @@ use Rattle.pg_game.specs.Kept.{Choices, kept, option_list, KeptEdge}
 use Rattle.pg_game.specs.Subgame.{IsSubgame}
 use Rattle.pg_game.specs.Attractor.{Attractor}
 use Rattle.pg_game.specs.Region.{IsRegion}
-use Rattle.pg_game.proofs.Walks.{ClosedWalk-weaker, or_false}
+use Rattle.pg_game.proofs.Walks.{ClosedWalk-weaker}
 use Rattle.pg_game.proofs.Members.{Contains-one}
 use Rattle.pg_game.proofs.Attract.{Attractor-idempotent}
 use Rattle.pg_game.proofs.Grown.{Grows, grown_region}
 use Rattle.pg_game.proofs.Rest.{rest_is_subgame}
+use Rattle.pg_game.proofs.Players.{own_or_other, not_own, is_same, not_same}
 use Rattle.pg_dominion.specs.Claim.{ClaimRows, named, choice_in, IsRightRow}
 use Rattle.pg_dominion.specs.Attraction.{IsAttractedRow, AttractInTurn}
+use Rattle.pg_dominion.proofs.Named.{named-append, choice-front, choice-back, place_of, rank, rank_below, rank_at}
+use Rattle.pg_dominion.proofs.Rows.{named_right}
 use Rattle.pg_board.specs.declared.entry.Entry.{Entry}
 use Rattle.pg_board.specs.State.{State, settled, settled_for, chosen, choices, is_unsettled, unsettled, rest_of, IsGoodOn, IsLawfulState}
 use Rattle.pg_board.specs.Journal.{Journal, state_of, claimed_rows, attracted_rows, Answers}
 use Rattle.pg_board.proofs.RestIsGood.{vertices, in_rest, rest_is_good, rest_twice}
-use Rattle.pg_board.proofs.Named.{named-append, choice-front, choice-back, place_of, rank, rank_below, rank_at, named_right}
-use Rattle.pg_board.proofs.Turns.{own_or_other, differs, not_own, avoid}
+use Rattle.pg_board.proofs.Turns.{differs, avoid}
+use Rattle.pg_board.proofs.Opening.{none_distinct}
+use Rattle.pg_board.proofs.Numbers.{in_vertices}
 
 -- what one entry says of a vertex
 abbrev pub entry_state : Entry → State
 entry_state e v = if named e.rows v then Some (e.player, choice_in e.rows v) else None
 
-later : (b : Bool) (a : Player × Option ℕ) (new old E : Option (Player × Option ℕ)) → new ≡ (if is_unsettled old then E else old) → (if b then Some a else new) ≡ (if is_unsettled (if b then Some a else old) then E else (if b then Some a else old))
+pub later : (b : Bool) (a : Player × Option ℕ) (new old E : Option (Player × Option ℕ)) → new ≡ (if is_unsettled old then E else old) → (if b then Some a else new) ≡ (if is_unsettled (if b then Some a else old) then E else (if b then Some a else old))
 later true a new old E h = refl
 later false a new old E h = h
 
@@ -72,25 +77,13 @@ not_both Odd (Some (Even, c)) a = absurd (cc a)
 not_both Odd (Some (Odd, c)) a = refl
 
 pub same_self : (p : Player) → same_player p p ≡ true
-same_self Even = refl
-same_self Odd = refl
+same_self p = is_same p p refl
 
 pub distinct_rising : (xs : List ℕ) → IsStrictlyIncreasing xs → IsDistinct nat_eq xs
 distinct_rising xs h = IsDistinct-from_apart nat_eq xs (λ i j d l m.
     false_from_ne_true (nat_eq (get_or xs i d) (get_or xs j d)) (λ e.
     (let a = below_from_sorted xs i j d (sorted_from_strictly_increasing xs h) l m in
     let b = eqb-true (get_or xs i d) (get_or xs j d) e in omega arith)))
-
-none_distinct : IsDistinct nat_eq []
-unfolding IsDistinct
-none_distinct = tt
-
-unnamed : (rows : ClaimRows) (v : ℕ) → named rows v ≡ false → list_any (nat_eq v) (vertices rows) ≡ false
-unnamed [] v n = refl
-unnamed (r ∷ rows) v n =
-    let h = or_false (r.0 == v) (named rows v) n in
-    let k : nat_eq v r.0 ≡ false = false_from_ne_true (nat_eq v r.0) (λ e. (let f : (r.0 == v) ≡ true = eq-eqb r.0 v (sym (eqb-true v r.0 e)) in cc (f, h.0))) in
-    rw k (unnamed rows v h.1)
 
 -- a region with other choices that agree on it
 pub region_same : (g : Graph) (p : Player) (X : VertexSet) (s t : Choices) → ((v : ℕ) → In X v → t v ≡ s v) → IsRegion g p X s → IsRegion g p X t
@@ -124,6 +117,9 @@ module _ (g : Graph) (edges : (v w : ℕ) → v < length g → HasEdge g v w →
   own_good : IsGoodOn g st p R
   own_good = subst (IsGoodOn g st p) (sym answers.rest) (rest_is_good g st p rows posted)
 
+  own_rest : rest_of st R ≡ R
+  own_rest = subst (λ xs. rest_of st xs ≡ xs) (sym answers.rest) (rest_twice st rows)
+
   claimed_open : (v : ℕ) → In (named R) v → is_unsettled (st v) ≡ true
   claimed_open v i = (in_rest st rows v (subst (λ xs. In (named xs) v) answers.rest i)).1
 
@@ -152,16 +148,11 @@ module _ (g : Graph) (edges : (v w : ℕ) → v < length g → HasEdge g v w →
   attracted_new : (v : ℕ) → In (named A) v → (settled st p v ≡ false) × (named R v ≡ false)
   attracted_new v i =
       let f = (leads v i).fresh in
-      let a = or_false (union (settled st p) (named R) v) (named (place_of A v i).before v) f in
-      or_false (settled st p v) (named R v) a.0
-
-  in_third : (a b c : Bool) → c ≡ true → ((a || b) || c) ≡ true
-  in_third true b c h = refl
-  in_third false true c h = refl
-  in_third false false c h = h
+      let a = or_parts (union (settled st p) (named R) v) (named (place_of A v i).before v) f in
+      or_parts (settled st p v) (named R v) a.0
 
   attracted_open : (v : ℕ) → In (named A) v → is_unsettled (st v) ≡ true
-  attracted_open v i = neither_open p (st v) (attracted_new v i).0 (not_theirs v (in_third (settled st p v) (named R v) (named A v) i))
+  attracted_open v i = neither_open p (st v) (attracted_new v i).0 (not_theirs v (or_right (settled st p v || named R v) (named A v) i))
 
   names : (v : ℕ) → named e.rows v ≡ (named R v || named A v)
   names v = ap (λ xs. named xs v) split ∙ named-append R A v
@@ -186,10 +177,6 @@ module _ (g : Graph) (edges : (v w : ℕ) → v < length g → HasEdge g v w →
   kept_as : (v w : ℕ) (a b : Option ℕ) → a ≡ b → Contains (if same_player (owner_of g v) p then option_list a else successors_of g v) w → Contains (if same_player (owner_of g v) p then option_list b else successors_of g v) w
   kept_as v w a b h m = subst (λ o. Contains (if same_player (owner_of g v) p then option_list o else successors_of g v) w) h m
 
-  either : (a b : Bool) → (a || b) ≡ true → (a ≡ true) ⊎ (b ≡ true)
-  either true b h = inl refl
-  either false b h = inr h
-
   right : (v : ℕ) → In (named R) v → IsRightRow g p (v, choice_in R v)
   right v i = named_right g p R v own_good.shape.right.each i
 
@@ -200,21 +187,15 @@ module _ (g : Graph) (edges : (v w : ℕ) → v < length g → HasEdge g v w →
         (let c = (leads v i).own o in
         let h : choices st' v ≡ Some c.0 = attracted_choice v i ∙ c.1 in
         let n = kept_as v w (choices st' v) (Some c.0) h m in
-        let y : same_player (owner_of g v) p ≡ true = ap (λ q. same_player q p) o ∙ same_self p in
+        let y : same_player (owner_of g v) p ≡ true = is_same (owner_of g v) p o in
         let one : Contains (c.0 ∷ []) w = rw y at n in
         subst (In (union (union (settled st p) (named R)) (named (place_of A v i).before))) (Contains-one c.0 w one) c.3)
     | inr o ↦
         (let f = (leads v i).forced (not_own p (owner_of g v) o) in
-        let y : same_player (owner_of g v) p ≡ false = unlike p (owner_of g v) o in
+        let y : same_player (owner_of g v) p ≡ false = not_same (owner_of g v) p (not_own p (owner_of g v) o) in
         let n : HasEdge g v w = rw y at m in
         f.1 w n (edges v w (ltb-true v (length g) (leads v i).inside) n))
   ]
-    where
-      unlike : (p q : Player) → q ≡ opponent p → same_player q p ≡ false
-      unlike Even Even e = absurd (cc e)
-      unlike Even Odd e = refl
-      unlike Odd Even e = refl
-      unlike Odd Odd e = absurd (cc e)
 
   before_in : (v w : ℕ) (i : In (named A) v) → named (place_of A v i).before w ≡ true → In (named A) w × (rank A w < rank A v)
   before_in v w i n =
@@ -233,13 +214,12 @@ module _ (g : Graph) (edges : (v w : ℕ) → v < length g → HasEdge g v w →
     attracted_choices = λ v i o. (let c = (leads v i).own o in (c.0, attracted_choice v i ∙ c.1, c.2));
     rest_closed = λ v w i m.
         (let k = kept_as v w (choices st' v) (choice_in R v) (claimed_choice v i) m in
-        let same : rest_of st R ≡ R = own_rest in
-        let h : In (union (named R) (settled st p)) w = subst (λ xs. In (union (named xs) (settled st p)) w) same (own_good.closed v w (subst (λ xs. In (named xs) v) (sym same) i, k)) in
-        either (named R w) (settled st p w) h);
+        let h : In (union (named R) (settled st p)) w = subst (λ xs. In (union (named xs) (settled st p)) w) own_rest (own_good.closed v w (subst (λ xs. In (named xs) v) (sym own_rest) i, k)) in
+        or_cases (named R w) (settled st p w) h);
     attracted_falls = λ v w i m.
         (let h = falls_to v w i m in
-        elim (either (union (settled st p) (named R) w) (named (place_of A v i).before w) h) [
-          | inl h' ↦ inl (either (settled st p w) (named R w) h')
+        elim (or_cases (union (settled st p) (named R) w) (named (place_of A v i).before w) h) [
+          | inl h' ↦ inl (or_cases (settled st p w) (named R w) h')
           | inr n ↦ inr (before_in v w i n)
         ]);
     rest_good = λ walk c. own_good.good walk (ClosedWalk-weaker (KeptEdge g p (named R) (choices st')) (KeptEdge g p (named R) (choice_in R)) (λ v w k. (k.0, kept_as v w (choices st' v) (choice_in R v) (claimed_choice v k.0) k.1)) walk c);
@@ -247,35 +227,19 @@ module _ (g : Graph) (edges : (v w : ℕ) → v < length g → HasEdge g v w →
     rest_new = λ v i. open_unsettled p (st v) (claimed_open v i);
     attracted_new = attracted_new;
   }
-    where
-      own_rest : rest_of st R ≡ R
-      own_rest = subst (λ xs. rest_of st xs ≡ xs) (sym answers.rest) (rest_twice st rows)
 
   named_open : (v : ℕ) → named e.rows v ≡ true → is_unsettled (st v) ≡ true
-  named_open v n = elim (either (named R v) (named A v) (sym (names v) ∙ n)) [ inl i ↦ claimed_open v i | inr i ↦ attracted_open v i ]
+  named_open v n = elim (or_cases (named R v) (named A v) (sym (names v) ∙ n)) [ inl i ↦ claimed_open v i | inr i ↦ attracted_open v i ]
 
   -- whose a vertex is after the entry
   abbrev After : Player → ℕ → Option (Player × Option ℕ) → Bool → Type 0
   After q v o n = settled_for q (if is_unsettled o then (if n then Some (e.player, choice_in e.rows v) else None) else o) ≡ (settled_for q o || (same_player p q && n))
 
   after : (q : Player) (v : ℕ) (o : Option (Player × Option ℕ)) (n : Bool) → (n ≡ true → is_unsettled o ≡ true) → After q v o n
-  after q v None true f = ap (λ x. same_player x q) answers.player ∙ and_true (same_player p q)
-    where
-      and_true : (b : Bool) → b ≡ (b && true)
-      and_true true = refl
-      and_true false = refl
-  after q v None false f = sym (and_false (same_player p q))
-    where
-      and_false : (b : Bool) → (b && false) ≡ false
-      and_false true = refl
-      and_false false = refl
+  after q v None true f = ap (λ x. same_player x q) answers.player ∙ sym (and-true (same_player p q))
+  after q v None false f = sym (and-false (same_player p q))
   after q v (Some r) true f = absurd (cc (f refl))
-  after q v (Some r) false f = or_none (same_player r.0 q) (same_player p q)
-    where
-      or_none : (a b : Bool) → a ≡ (a || (b && false))
-      or_none true b = refl
-      or_none false true = refl
-      or_none false false = refl
+  after q v (Some r) false f = rw (and-false (same_player p q)) (sym (or-false (same_player r.0 q)))
 
   whose : (q : Player) (v : ℕ) → settled st' q v ≡ (settled st q v || (same_player p q && named e.rows v))
   whose q v = ap (settled_for q) (state_push j e v) ∙ after q v (st v) (named e.rows v) (named_open v)
@@ -352,18 +316,15 @@ module _ (g : Graph) (edges : (v w : ℕ) → v < length g → HasEdge g v w →
     exact = λ v. subst (λ q. (In (union (settled st q) (named e.rows)) v) ↔ Attractor g q (all_vertices g) (union (settled st q) (named R)) v) (sym answers.player) (answers.exact v);
     turns = subst (λ q. AttractInTurn g q (all_vertices g) (union (settled st q) (named R)) A) (sym answers.player) answers.turns;
   }
-    where
-      own_rest : rest_of st R ≡ R
-      own_rest = subst (λ xs. rest_of st xs ≡ xs) (sym answers.rest) (rest_twice st rows)
 
   -- no two of the entry's rows name one vertex
   all_done : (done rest : ClaimRows) → A ≡ done ++ rest → IsDistinct nat_eq (vertices done) → IsDistinct nat_eq (vertices A)
   all_done done [] q d = subst (λ xs. IsDistinct nat_eq (vertices xs)) (sym (q ∙ append-nil done)) d
   all_done done (r ∷ rest) q d =
       let f = (answers.turns done rest r q).fresh in
-      let n : named done r.0 ≡ false = (or_false (union (settled st p) (named R) r.0) (named done r.0) f).1 in
+      let n : named done r.0 ≡ false = (or_parts (union (settled st p) (named R) r.0) (named done r.0) f).1 in
       all_done (done ++ r ∷ []) rest (q ∙ sym (append_assoc done (r ∷ []) rest))
-      (subst (IsDistinct nat_eq) (sym (map-append (λ (x : ℕ × Option ℕ). x.0) done (r ∷ []))) (IsDistinct-push nat_eq_equiv (vertices done) r.0 d (unnamed done r.0 n)))
+      (subst (IsDistinct nat_eq) (sym (map-append (λ (x : ℕ × Option ℕ). x.0) done (r ∷ []))) (IsDistinct-push nat_eq_equiv (vertices done) r.0 d (in_vertices done r.0 ∙ n)))
 
   pub once_rows : IsDistinct nat_eq (vertices e.rows)
   once_rows = subst (IsDistinct nat_eq) (sym (ap vertices split ∙ map-append (λ (x : ℕ × Option ℕ). x.0) R A))
@@ -373,5 +334,5 @@ module _ (g : Graph) (edges : (v w : ℕ) → v < length g → HasEdge g v w →
       (each_named (λ v. named A v ≡ false) R (λ v i. false_from_ne_true (named A v) (λ a. (let h = (attracted_new v a).1 in cc (i, h)))))
       (each_named (λ v. named A v ≡ true) A (λ v i. i)))
 
-  pub each_open : AllByRecursion (λ v. is_unsettled (st v) ≡ true) (vertices e.rows)
+  pub each_open : All (λ v. is_unsettled (st v) ≡ true) (vertices e.rows)
   each_open = each_named (λ v. is_unsettled (st v) ≡ true) e.rows named_open

@@ -1,10 +1,11 @@
 -- The rest of a claim is a claim that is as good.
-use Rattle.std.proofs.Common.{◌≡◌, ℕ, Bool, true, false, ◌&&◌, ◌||◌, cond, List, [], ◌∷◌, map, refl, sym, ◌∙◌, ap, subst}
+use Rattle.std.proofs.Common.{◌≡◌, ℕ, Bool, true, false, ◌&&◌, ◌||◌, cond, List, [], ◌∷◌, refl, sym, ◌∙◌, ap, subst}
 use Rattle.std.specs.Prelude.{Option, filter, ◌==◌, if◌then◌else◌}
 use Rattle.std.specs.List.{AllByRecursion, Contains}
 use Rattle.std.specs.List.Sorted.{IsStrictlyIncreasing}
-use Rattle.std.proofs.lemmas.Bool.{eqb-true}
+use Rattle.std.proofs.lemmas.Bool.{eqb-true, and_parts}
 use Rattle.std.proofs.lemmas.List.Kept.{IsStrictlyIncreasing-filter}
+use Rattle.std.proofs.Math.Bool.{and-false}
 use Rattle.pg_game.specs.declared.player.Player.{Player}
 use Rattle.pg_game.specs.Player.{same_player}
 use Rattle.pg_game.specs.Graph.{Graph, owner_of, successors_of}
@@ -12,10 +13,8 @@ use Rattle.pg_game.specs.VertexSet.{In, union}
 use Rattle.pg_game.specs.Kept.{option_list, KeptEdge}
 use Rattle.pg_game.proofs.Walks.{ClosedWalk-weaker}
 use Rattle.pg_dominion.specs.Claim.{ClaimRows, named, choice_in, IsRightRow, AreRight}
+pub use Rattle.pg_finders.specs.private.small.Partial.{vertices}
 use Rattle.pg_board.specs.State.{State, is_unsettled, rest_of, settled, IsGoodOn}
-
-abbrev pub vertices : ClaimRows → List ℕ
-vertices rows = map (λ r. r.0) rows
 
 vertices-cond : (b : Bool) (r : ℕ × Option ℕ) (xs : ClaimRows) (ys : List ℕ) → vertices xs ≡ ys → vertices (cond b (r ∷ xs) xs) ≡ cond b (r.0 ∷ ys) ys
 vertices-cond true r xs ys e = ap (λ zs. r.0 ∷ zs) e
@@ -33,11 +32,7 @@ bool_step : (t b o n m : Bool) → (t ≡ true → b ≡ o) → m ≡ (n && o) �
 bool_step true true true n m f e = refl
 bool_step true true false n m f e = absurd (cc (f refl))
 bool_step true false true n m f e = absurd (cc (f refl))
-bool_step true false false n m f e = e ∙ never n
-  where
-    never : (n : Bool) → (n && false) ≡ false
-    never true = refl
-    never false = refl
+bool_step true false false n m f e = e ∙ and-false n
 bool_step false true o n m f e = e
 bool_step false false o n m f e = e
 
@@ -49,12 +44,8 @@ named_rest st (r ∷ rows) v =
     ∙ bool_step (r.0 == v) (is_unsettled (st r.0)) (is_unsettled (st v)) (named rows v) (named (rest_of st rows) v)
     (λ e. ap (λ u. is_unsettled (st u)) (eqb-true r.0 v e)) (named_rest st rows v)
 
-pub both_true : (a b : Bool) → (a && b) ≡ true → (a ≡ true) × (b ≡ true)
-both_true true b e = (refl, e)
-both_true false b e = absurd (cc e)
-
 pub in_rest : (st : State) (rows : ClaimRows) (v : ℕ) → In (named (rest_of st rows)) v → In (named rows) v × (is_unsettled (st v) ≡ true)
-in_rest st rows v i = both_true (named rows v) (is_unsettled (st v)) (sym (named_rest st rows v) ∙ i)
+in_rest st rows v i = and_parts (named rows v) (is_unsettled (st v)) (sym (named_rest st rows v) ∙ i)
 
 pub to_rest : (st : State) (rows : ClaimRows) (v : ℕ) → In (named rows) v → is_unsettled (st v) ≡ true → In (named (rest_of st rows)) v
 to_rest st rows v i o = named_rest st rows v ∙ rw (i, o) refl

@@ -1,33 +1,23 @@
 -- The places of a rest in the making.
-use Rattle.std.proofs.Common.{◌≡◌, ℕ, ◌+◌, ◌<◌, Bool, true, false, ◌||◌, inl, inr, List, [], ◌∷◌, ◌++◌, length, take, get_or, set, refl, sym, ◌∙◌, ap, subst, arith, length-append, get_or-set_same, get_or-set_other}
+use Rattle.std.proofs.Common.{◌≡◌, ℕ, ◌+◌, ◌<◌, true, false, inl, inr, List, [], ◌∷◌, ◌++◌, length, take, get_or, set, refl, sym, ◌∙◌, ap, subst, arith, length-append, get_or-set_same, get_or-set_other}
 use Rattle.std.specs.Prelude.{Option, None, ◌==◌}
-use Rattle.std.proofs.lemmas.Bool.{eqb-true, eq-eqb}
-use Rattle.std.proofs.lemmas.List.{append-nil, get_or_append_left, get_or_push}
+use Rattle.std.proofs.lemmas.Bool.{eqb-true, eq-eqb, cases_Bool}
+use Rattle.std.proofs.lemmas.List.{get_or_append_left, get_or_push}
 use Rattle.std.proofs.lemmas.List.Elements.{filter_more}
+use Rattle.std.proofs.Math.Bool.{or-false}
 use Rattle.pg_game.specs.VertexSet.{In}
-use Rattle.pg_game.proofs.Masks.{true_or_false}
 use Rattle.pg_dominion.specs.Claim.{ClaimRows, named}
 use Rattle.pg_dominion.proofs.Rows.{named-push}
 use Rattle.pg_board.specs.State.{State, is_unsettled, rest_of}
 use Rattle.pg_board.specs.private.OpenEdges.{HavePlaces}
-use Rattle.pg_board.proofs.Places.{row_at, named_at}
+use Rattle.pg_board.proofs.Places.{row_at}
 
 -- one more row of the claim: it is in the rest, or it is left out
 pub rest_kept : (st : State) (rows : ClaimRows) (i : ℕ) → i < length rows → is_unsettled (st (row_at rows i).0) ≡ true → rest_of st (take (i + 1) rows) ≡ rest_of st (take i rows) ++ row_at rows i ∷ []
 rest_kept st rows i l u = filter_more (λ (r : ℕ × Option ℕ). is_unsettled (st r.0)) rows i (0, None) l ∙ rw u refl
 
-pub rest_left : (st : State) (rows : ClaimRows) (i : ℕ) → i < length rows → is_unsettled (st (row_at rows i).0) ≡ false → rest_of st (take (i + 1) rows) ≡ rest_of st (take i rows)
-rest_left st rows i l u = filter_more (λ (r : ℕ × Option ℕ). is_unsettled (st r.0)) rows i (0, None) l ∙ rw u (append-nil (rest_of st (take i rows)))
-
-pub ArePlaced-none : (rest : ClaimRows) (places : List ℕ) → rest ≡ [] → HavePlaces rest places
-ArePlaced-none rest places none v i = absurd (let f : named rest v ≡ false = ap (λ (xs : ClaimRows). named xs v) none in cc (i, f))
-
-or_left : (a b : Bool) → (a || b) ≡ true → b ≡ false → a ≡ true
-or_left true b e f = refl
-or_left false b e f = absurd (cc (e, f))
-
 pub ArePlaced-push : (rest : ClaimRows) (places : List ℕ) (r : ℕ × Option ℕ) → r.0 < length places → HavePlaces rest places → HavePlaces (rest ++ r ∷ []) (set places r.0 (length rest))
-ArePlaced-push rest places r l a v i = elim (true_or_false (r.0 == v)) [
+ArePlaced-push rest places r l a v i = elim (cases_Bool (r.0 == v)) [
   | inl e ↦ new (eqb-true r.0 v e)
   | inr e ↦ old e
 ]
@@ -40,13 +30,9 @@ ArePlaced-push rest places r l a v i = elim (true_or_false (r.0 == v)) [
 
     old : (r.0 == v) ≡ false → (get_or (set places r.0 (length rest)) v 0 < length (rest ++ r ∷ [])) × ((row_at (rest ++ r ∷ []) (get_or (set places r.0 (length rest)) v 0)).0 ≡ v)
     old e =
-        let n : In (named rest) v = or_left (named rest v) (r.0 == v) (sym (named-push rest r v) ∙ i) e in
+        let n : In (named rest) v = sym (or-false (named rest v)) ∙ rw e at (sym (named-push rest r v) ∙ i) in
         let q = a v n in
         let differ : v ≡ r.0 → ⊥ = λ h. (let t : (r.0 == v) ≡ true = eq-eqb r.0 v (sym h) in cc (t, e)) in
         let at : get_or (set places r.0 (length rest)) v 0 ≡ get_or places v 0 = get_or-set_other places r.0 v (length rest) 0 differ in
         let row : row_at (rest ++ r ∷ []) (get_or places v 0) ≡ row_at rest (get_or places v 0) = get_or_append_left rest (r ∷ []) (0, None) (get_or places v 0) q.0 in
         (omega (arith, at, q.0, length-append rest (r ∷ [])), rw at (ap (λ (x : ℕ × Option ℕ). x.0) row ∙ q.1))
-
--- the rows name the vertex only at the place that is noted there
-pub placed_named : (rows : ClaimRows) (places : List ℕ) (v at : ℕ) → at ≡ get_or places v 0 → at < length rows → (row_at rows at).0 ≡ v → named rows v ≡ true
-placed_named rows places v at e l h = subst (λ (x : ℕ). named rows x ≡ true) h (named_at rows at l)

@@ -11,16 +11,16 @@ use Rattle.pg_game.specs.Player.{opponent, same_player}
 use Rattle.pg_game.specs.Graph.{Graph, owner_of}
 use Rattle.pg_game.specs.VertexSet.{VertexSet, In}
 use Rattle.pg_game.specs.Region.{IsRegion, Wins}
-use Rattle.pg_game.proofs.Players.{own_or_other}
+use Rattle.pg_game.proofs.Players.{own_or_other, is_same}
 use Rattle.pg_text.specs.Solution.{winner_of, choice_of, won_by, IsExactSolution, SolutionRows as Solved}
 use Rattle.pg_dominion.specs.Claim.{named, choice_in}
 use Rattle.pg_dominion.proofs.Rows.{named_right}
+use Rattle.pg_dominion.proofs.Named.{named-append, choice-front, choice-back, place_of}
 use Rattle.pg_board.specs.declared.entry.Entry.{Entry}
 use Rattle.pg_board.specs.State.{State, settled, settled_for, chosen, choices}
 use Rattle.pg_board.specs.Journal.{Journal, state_of, claimed_rows, attracted_rows, IsLawful}
 use Rattle.pg_board.specs.Full.{AreStateRows}
-use Rattle.pg_board.proofs.Named.{named-append, choice-front, choice-back, place_of}
-use Rattle.pg_board.proofs.Push.{region_same, same_self}
+use Rattle.pg_board.proofs.Push.{region_same}
 use Rattle.pg_board.proofs.Numbers.{lawful_now}
 use Rattle.pg_board.proofs.Dominion.{disjoint_for}
 
@@ -91,7 +91,7 @@ module _ (g : Graph) (j : Journal) (lawful : IsLawful g j) where
     winner_wins p v l e = (won_by rows p, choice_of rows, regions p, inside)
       where
         inside : In (won_by rows p) v
-        inside = rw (are.size, lt-ltb v (length g) l, e) (same_self p)
+        inside = rw (are.size, lt-ltb v (length g) l, e) (is_same p p refl)
 
     wins_winner : (p : Player) (v : ℕ) → v < length g → Wins g p v → winner_of rows v ≡ p
     wins_winner p v l w = elim (own_or_other (winner_of rows v) p) [

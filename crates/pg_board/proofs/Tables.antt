@@ -2,6 +2,7 @@
 use Rattle.std.proofs.Common.{◌≡◌, ◌≢◌, ℕ, ◌<◌, Bool, true, false, ◌&&◌, ◌||◌, List, [], ◌∷◌, ◌++◌, length, get_or, set, refl, sym, ◌∙◌, ap, arith, length-set, get_or-set_same, get_or-set_other}
 use Rattle.std.specs.Prelude.{Option, Some, None, ◌==◌, nat_lt, slice_index, if◌then◌else◌}
 use Rattle.std.proofs.lemmas.Bool.{eqb-true, eq-eqb}
+use Rattle.std.proofs.Math.Bool.{and-false}
 use Rattle.pg_game.specs.declared.player.Player.{Player}
 use Rattle.pg_game.specs.Graph.{Graph, successors_of}
 use Rattle.pg_game.specs.VertexSet.{members}
@@ -69,12 +70,8 @@ module _ (g : Graph) (r r' : Regions) (p : Player) (row : ℕ × Option ℕ) (ta
           either true h = refl
           either false h = h
 
-      and_false : (b : Bool) → false ≡ (b && false)
-      and_false true = refl
-      and_false false = refl
-
       go : (v : ℕ) (b : Bool) → members r.unsettled v ≡ unsettled g (table_state r.table.items) v → (if b then false else members r.unsettled v) ≡ (nat_lt v (length g) && is_unsettled (if b then Some (p, row.1) else table_state r.table.items v))
-      go v true h = and_false (nat_lt v (length g))
+      go v true h = sym (and-false (nat_lt v (length g)))
       go v false h = h
 
   -- with the rows so far

@@ -1,41 +1,22 @@
 -- Attracted rows never name a vertex of a region of the opponent.
-use Rattle.std.proofs.Common.{◌≡◌, ◌≢◌, ℕ, Bool, true, false, ◌||◌, ◌⊎◌, inl, inr, [], ◌∷◌, ◌++◌, refl, sym, ◌∙◌, subst, append_assoc}
+use Rattle.std.proofs.Common.{◌≡◌, ℕ, Bool, true, false, ◌||◌, inl, inr, [], ◌∷◌, ◌++◌, refl, sym, ◌∙◌, subst, append_assoc}
 use Rattle.std.specs.Prelude.{Option, ◌==◌}
 use Rattle.std.proofs.lemmas.Bool.{eqb-true}
 use Rattle.std.proofs.lemmas.List.{append-nil}
 use Rattle.pg_game.specs.declared.player.Player.{Player}
-use Rattle.pg_game.specs.declared.player.Player.TheVariants.{Even, Odd}
 use Rattle.pg_game.specs.Player.{opponent, same_player}
 use Rattle.pg_game.specs.Graph.{Graph, HasEdge, owner_of}
 use Rattle.pg_game.specs.VertexSet.{VertexSet, In, all_vertices, union}
 use Rattle.pg_game.specs.Kept.{Choices}
 use Rattle.pg_game.specs.Region.{IsRegion}
 use Rattle.pg_game.proofs.Disjoint.{kept_own, kept_other}
+use Rattle.pg_game.proofs.Players.{own_or_other, not_own, is_same, not_same}
 use Rattle.pg_dominion.specs.Claim.{ClaimRows, named}
 use Rattle.pg_dominion.specs.Attraction.{IsAttractedRow, AttractInTurn}
-use Rattle.pg_board.proofs.Named.{named-append}
-
-pub own_or_other : (q p : Player) → (q ≡ p) ⊎ (q ≡ opponent p)
-own_or_other Even Even = inl refl
-own_or_other Even Odd = inr refl
-own_or_other Odd Even = inr refl
-own_or_other Odd Odd = inl refl
+use Rattle.pg_dominion.proofs.Named.{named-append}
 
 pub differs : (p : Player) (q : Player) → q ≡ p → same_player q (opponent p) ≡ false
-differs Even Even e = refl
-differs Even Odd e = absurd (cc e)
-differs Odd Even e = absurd (cc e)
-differs Odd Odd e = refl
-
-pub agrees : (p : Player) (q : Player) → q ≡ opponent p → same_player q (opponent p) ≡ true
-agrees Even Even e = absurd (cc e)
-agrees Even Odd e = refl
-agrees Odd Even e = refl
-agrees Odd Odd e = absurd (cc e)
-
-pub not_own : (p : Player) (q : Player) → q ≡ opponent p → q ≢ p
-not_own Even q e f = cc (e, f)
-not_own Odd q e f = cc (e, f)
+differs p q e = not_same q (opponent p) (λ h. not_own p q h e)
 
 module _ (g : Graph) (p : Player) (S V : VertexSet) (s : Choices) (other : IsRegion g (opponent p) V s) (inside : (v w : ℕ) → In V v → HasEdge g v w → In (all_vertices g) w) where
   -- a row that leads away from the region names none of its vertices
@@ -46,7 +27,7 @@ module _ (g : Graph) (p : Player) (S V : VertexSet) (s : Choices) (other : IsReg
         let i : V c.0 ≡ true = other.closed r.0 c.0 (kept_other g (opponent p) V s r.0 c.0 e (differs p (owner_of g r.0) o) c.2) in
         cc (i, away c.0 c.3))
     | inr o ↦ (let c = other.choices r.0 e o in
-        let i : V c.0 ≡ true = other.closed r.0 c.0 (kept_own g (opponent p) V s r.0 c.0 e (agrees p (owner_of g r.0) o) c.1) in
+        let i : V c.0 ≡ true = other.closed r.0 c.0 (kept_own g (opponent p) V s r.0 c.0 e (is_same (owner_of g r.0) (opponent p) o) c.1) in
         let f = l.forced (not_own p (owner_of g r.0) o) in
         cc (i, away c.0 (f.1 c.0 c.2 (inside r.0 c.0 e c.2))))
   ])

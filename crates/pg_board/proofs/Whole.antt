@@ -1,6 +1,8 @@
 -- What a player attracts to some unsettled vertices in the unsettled part is, beside his region, all that his
 -- region and these vertices attract in the whole game.
-use Rattle.std.proofs.Common.{◌≡◌, ℕ, ◌<◌, Bool, true, false, ◌||◌, ◌⊎◌, inl, inr, length, refl, sym, ◌∙◌, ltb-true}
+use Rattle.std.proofs.Common.{◌≡◌, ℕ, ◌<◌, Bool, true, false, ◌⊎◌, inl, inr, length, refl, sym, ◌∙◌, ltb-true}
+use Rattle.std.proofs.lemmas.Bool.{and_parts, or_left, or_right, or_cases}
+use Rattle.std.proofs.Math.Bool.{or_assoc}
 use Rattle.std.specs.Prelude.{Option, nat_lt}
 use Rattle.pg_game.specs.declared.player.Player.{Player}
 use Rattle.pg_game.specs.Player.{opponent}
@@ -8,32 +10,15 @@ use Rattle.pg_game.specs.Graph.{Graph, HasEdge, owner_of}
 use Rattle.pg_game.specs.VertexSet.{VertexSet, In, Within, all_vertices, union}
 use Rattle.pg_game.specs.Attractor.{Attracts, Attractor}
 use Rattle.pg_game.specs.Region.{IsRegion}
-use Rattle.pg_game.proofs.Players.{other_from_not}
+use Rattle.pg_game.proofs.Players.{other_from_not, is_same}
 use Rattle.pg_game.proofs.Attract.{target_attracted, own_attracted, forced_attracted}
 use Rattle.pg_game.proofs.Disjoint.{kept_own, kept_other}
 use Rattle.pg_dominion.specs.Claim.{ClaimRows, named}
 use Rattle.pg_dominion.specs.Attraction.{IsAttractedRow, IsAttraction}
 use Rattle.pg_dominion.proofs.Rows.{LeadsTo-same}
 use Rattle.pg_board.specs.State.{State, settled, choices, is_unsettled, unsettled, IsLawfulState}
-use Rattle.pg_board.proofs.RestIsGood.{both_true}
 use Rattle.pg_board.proofs.Push.{open_unsettled, neither_open, not_both}
-use Rattle.pg_board.proofs.Turns.{differs, agrees}
-
-or_left : (a b : Bool) → a ≡ true → (a || b) ≡ true
-or_left true b e = refl
-or_left false b e = absurd (cc e)
-
-or_right : (a b : Bool) → b ≡ true → (a || b) ≡ true
-or_right true b e = refl
-or_right false b e = e
-
-or_cases : (a b : Bool) → (a || b) ≡ true → (a ≡ true) ⊎ (b ≡ true)
-or_cases true b e = inl refl
-or_cases false b e = inr e
-
-or_assoc : (a b c : Bool) → ((a || b) || c) ≡ (a || (b || c))
-or_assoc true b c = refl
-or_assoc false b c = refl
+use Rattle.pg_board.proofs.Turns.{differs}
 
 module _ (g : Graph) (edges : (v w : ℕ) → v < length g → HasEdge g v w → In (all_vertices g) w) (st : State) (lawful : IsLawfulState g st) (p : Player) where
   abbrev U : VertexSet
@@ -55,10 +40,10 @@ module _ (g : Graph) (edges : (v w : ℕ) → v < length g → HasEdge g v w →
       go false false x y = inr (rw (i, neither_open p (st v) x y) refl)
 
   open_of : (v : ℕ) → In U v → is_unsettled (st v) ≡ true
-  open_of v u = (both_true (nat_lt v (length g)) (is_unsettled (st v)) u).1
+  open_of v u = (and_parts (nat_lt v (length g)) (is_unsettled (st v)) u).1
 
   pub all_of : (v : ℕ) → In U v → In (all_vertices g) v
-  all_of v u = (both_true (nat_lt v (length g)) (is_unsettled (st v)) u).0
+  all_of v u = (and_parts (nat_lt v (length g)) (is_unsettled (st v)) u).0
 
   edge_in : (v w : ℕ) → In (all_vertices g) v → HasEdge g v w → In (all_vertices g) w
   edge_in v w i e = edges v w (ltb-true v (length g) i) e
@@ -145,7 +130,7 @@ module _ (g : Graph) (edges : (v w : ℕ) → v < length g → HasEdge g v w →
           | inl b ↦ or_left (settled st p v) (Taken v) b
           | inr b ↦ absurd (let c = other.choices v b o in
               not_other Taken taken_inside c.0 (h c.0 c.2 (edge_in v c.0 i c.2))
-              (other.closed v c.0 (kept_own g (opponent p) Other (choices st) v c.0 b (agrees p (owner_of g v) o) c.1)))
+              (other.closed v c.0 (kept_own g (opponent p) Other (choices st) v c.0 b (is_same (owner_of g v) (opponent p) o) c.1)))
         ]
         | inr u ↦ or_right (settled st p v) (Taken v) ((a.exact v).1 (forced_attracted g p U T v u o (λ w e iu. (a.exact w).0 (
             elim (or_cases (settled st p w) (Taken w) (h w e (all_of w iu))) [

@@ -1,5 +1,5 @@
 use Rattle.std.proofs.Common.{◌≡◌, ℕ, suc, ◌-◌, ◌≤◌, ◌∷◌, replicate, sym, ◌∙◌, ap, arith}
-use Rattle.std.specs.Prelude.{Result, Ok, Err, IfOk}
+use Rattle.std.proofs.lemmas.Result.{IfOk-weaker}
 use Rattle.pg_board.specs.Journal.{number_settled}
 use Rattle.pg_board.proofs.office.Office.open.Goals as goal
 
@@ -7,11 +7,7 @@ use Rattle.pg_board.proofs.office.Office.open.Goals as goal
 in_front : {A : Type 0} (n : ℕ) (x : A) → 1 ≤ n → x ∷ replicate (n - 1) x ≡ replicate n x
 in_front n x h = let e : n ≡ suc (n - 1) = omega arith in ap (λ k. replicate k x) (sym e)
 
-if_ok : {A E : Type 0} (r : Result A E) (P Q : A → Type 0) → ((a : A) → P a → Q a) → IfOk r P → IfOk r Q
-if_ok (Ok a) P Q f h = f a h
-if_ok (Err e) P Q f h = tt
-
 pub returns-clause-shares : goal.returns-clause-shares
 returns-clause-shares g c =
     let e : number_settled c.in_ok-board.board.journal ≡ 0 = ap number_settled c.in_ok-board.ensures.journal in
-    if_ok c.open_with.result _ _ (λ o h. h ∙ (ap (λ n. n ∷ replicate (c.args.seats - 1) 0) e ∙ in_front c.args.seats 0 c.requires.seats.0)) c.open_with.ensures.shares
+    IfOk-weaker c.open_with.result _ _ (λ o h. h ∙ (ap (λ n. n ∷ replicate (c.args.seats - 1) 0) e ∙ in_front c.args.seats 0 c.requires.seats.0)) c.open_with.ensures.shares
