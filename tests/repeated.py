@@ -29,7 +29,7 @@ ALLOWED = {
     "pg_dominion": (6, 8, 2),
     "pg_finders": (25, 12, 11),
     "pg_board": (38, 13, 5),
-    "pg_workers": (2, 2, 9),
+    "pg_workers": (0, 0, 0),
     "pgboard": (0, 0, 0),
     "pgboard_c": (10, 0, 0),
 }
