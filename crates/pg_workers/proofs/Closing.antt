@@ -13,10 +13,6 @@ module _ {X : Type 0} where
   remade [] rest x h e r = absurd (omega arith)
   remade (y ∷ ys) rest x h e r = λ i. sym e i ∷ sym r i
 
-  pub nothing_left : (xs : List X) → length xs ≡ 0 → xs ≡ []
-  nothing_left [] h = refl
-  nothing_left (x ∷ xs) h = absurd (omega arith)
-
   at_here : (ys zs : List X) (x : X) → get_or (ys ++ x ∷ zs) (length ys) x ≡ x
   at_here [] zs x = refl
   at_here (y ∷ ys) zs x = at_here ys zs x

@@ -1,6 +1,7 @@
 -- Posting a known set settles it exactly where it is a region, and else is refused for a reason of the set.
 use mathlib.Core.Path.{fun_ext}
 use Rattle.std.proofs.Common.{◌≡◌, ℕ, zero, suc, ◌<◌, Bool, true, false, ◌||◌, ◌&&◌, ◌⊎◌, ◌↔◌, inl, inr, List, [], ◌∷◌, length, refl, sym, ◌∙◌, ap, subst, arith, lt-ltb, ltb-true, Ok, Err}
+use Rattle.std.proofs.Math.Bool.{or-false}
 use Rattle.std.specs.Prelude.{Option, nat_lt, if◌then◌else◌}
 use Rattle.std.specs.List.{Contains}
 use Rattle.std.specs.Cmp.{nat_eq_equiv}
@@ -162,13 +163,11 @@ module _ (g : Graph) (game : IsGame g) (known : KnownRows) (sized : length known
           (let i = to_rows v k.0 in
           let m = subst (λ (xs : List ℕ). Contains xs w) (sym (same_kept v k.0)) k.1 in
           let h = good.closed v w (to_rest st rows v i (open_named v i (good.not_lost v i)), m) in
-          sym (rows_named w) ∙ (in_rest st rows w (left (named (rest_of st rows) w) (settled st p w) h (none w))).0);
+          let rest = named (rest_of st rows) w in
+          let inside : rest ≡ true = sym (or-false rest) ∙ ap (λ (own : Bool). rest || own) (sym (none w)) ∙ h in
+          sym (rows_named w) ∙ (in_rest st rows w inside).0);
       good = λ walk c. good.good walk (ClosedWalk-weaker (KeptEdge g p K s) (KeptEdge g p (named rows) (choice_in rows)) (λ v w k. (to_rows v k.0, subst (λ (xs : List ℕ). Contains xs w) (sym (same_kept v k.0)) k.1)) walk c);
     }
-      where
-        left : (a b : Bool) → (a || b) ≡ true → b ≡ false → a ≡ true
-        left true b h n = refl
-        left false b h n = absurd (cc (h, n))
 
     -- where nothing is settled for the player, no rows of his are stale
     never_stale : 0 < length rows → Refuses g st p rows refusal.Stale → ⊥

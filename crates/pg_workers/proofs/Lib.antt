@@ -6,6 +6,5 @@ pub mod Counts
 pub mod Moves
 pub mod Closing
 pub mod Batches
-pub mod Computed
 pub mod Settling
 pub mod Knowing

@@ -80,9 +80,6 @@ both_push (z ∷ xs) [] x c y a k l e f = absurd (omega arith)
 both_push (z ∷ xs) (w ∷ ys) x c y a zero l e f = inl (e, f)
 both_push (z ∷ xs) (w ∷ ys) x c y a (suc k) l e f = both_push xs ys x c y a k (omega arith) e f
 
-pub none_noted : (g : Graph) (r : ReportRow) → AreNoted g [] r r
-none_noted g r = record { answers = []; number = refl; each = λ k c a e f. absurd (none-some c e); row = refl }
-
 -- one claim more
 pub one_noted : (g : Graph) (claims : List Claim) (i : ℕ) (claim : Claim) (old now : ReportRow) (amount : ℕ) (answer : Result ℕ Refusal) → i < length claims → claim ≡ get_or claims i claim
     → AreNoted g (take i claims) old now → IsAnswerTo g claim amount answer → AreNoted g (take (i + 1) claims) old (noted now answer)

@@ -13,9 +13,6 @@ use Rattle.pg_workers.proofs.Closing.{flat_map-push}
 use Rattle.pg_workers.proofs.Counts.{sum_by-of_map}
 use Rattle.pg_workers.proofs.Rows.{at_job, get_set_same, get_set_other, get_append, counted, found_row, rows_of-append, rows_of-rows_in}
 
-pub none_placed : (report : List ReportRow) → AreNotedRows report report []
-none_placed report = record { size = refl; placed = λ i r e. absurd (none-some r e); others = λ j e. refl }
-
 -- one row more, of a job of which there was none
 pub one_placed : (before now rows : List ReportRow) (r : ReportRow) → AreNotedRows before now rows → how_many_of_job r.job rows ≡ 0 → r.job < length before → AreNotedRows before (set now r.job r) (rows ++ r ∷ [])
 one_placed before now rows r p new lt = record {

@@ -1,6 +1,7 @@
 -- What the calling thread adds settles all that was left.
-use Rattle.std.proofs.Common.{rules, ◌≡◌, ℕ, ◌<◌, Bool, true, false, ◌||◌, ◌⊎◌, inl, inr, ◌++◌, length, refl, ◌∙◌, sym, ap, subst, arith, length-append}
+use Rattle.std.proofs.Common.{rules, ◌≡◌, ℕ, ◌<◌, Bool, true, false, ◌||◌, inl, inr, ◌++◌, length, refl, ◌∙◌, sym, ap, subst, arith, length-append}
 use Rattle.std.specs.Prelude.{nat_lt}
+use Rattle.std.proofs.lemmas.Bool.{or_cases}
 use Rattle.std.proofs.lemmas.List.{take-append-le}
 use Rattle.pg_game.specs.declared.player.Player.{Player}
 use Rattle.pg_game.specs.Graph.{Graph}
@@ -30,10 +31,6 @@ dominion_later : (g : Graph) (journal added : Journal) (k : ℕ) (p : Player) (r
 dominion_later g journal added k p rows (within, dominion) =
     (omega (arith, length-append journal added), subst (λ (j : Journal). IsDominion g (state_of j) p rows) (sym (take-append-le k journal added within)) dominion)
 
-either : (x y : Bool) → (x || y) ≡ true → (x ≡ true) ⊎ (y ≡ true)
-either true y h = inl refl
-either false y h = inr h
-
 stays_shut : (journal added : Journal) (v : ℕ) → is_unsettled (state_of journal v) ≡ false → is_unsettled (state_of (journal ++ added) v) ≡ false
 stays_shut journal added v h = ap is_unsettled (state_append journal added v ∙ rw h refl) ∙ h
 
@@ -49,7 +46,7 @@ full_after g journal first second U even odd is claims a b = λ v lt. go v lt (i
     go v lt false e = later v (stays_shut journal first v e)
     go v lt true e =
         let inside : (named even.rows v || named odd.rows v) ≡ true = claims.together v ∙ is v ∙ rw (e, (let l : nat_lt v (length g) ≡ true = search rules in l)) refl in
-        elim (either (named even.rows v) (named odd.rows v) inside) [
+        elim (or_cases (named even.rows v) (named odd.rows v) inside) [
           | inl i ↦ later v (settled_shut even.player (state_of (journal ++ first) v) (a v i))
           | inr i ↦ settled_shut odd.player (state_of (journal ++ first ++ second) v) (b v i)
         ]

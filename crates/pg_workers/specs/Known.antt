@@ -3,7 +3,6 @@ use Rattle.std.specs.Prelude.{ℕ, ◌≡◌, ◌+◌, ◌↔◌, false, List, [
 use Rattle.std.specs.List.{Contains, IsDistinct}
 use Rattle.pg_game.specs.declared.player.Player.{Player}
 use Rattle.pg_game.specs.declared.player.Player.TheVariants.{Even, Odd}
-use Rattle.pg_game.specs.Player.{opponent}
 use Rattle.pg_game.specs.Graph.{Graph}
 use Rattle.pg_game.specs.VertexSet.{In, all_vertices}
 use Rattle.pg_game.specs.Attractor.{Attractor}
@@ -13,12 +12,9 @@ use Rattle.pg_dominion.specs.Claim.{ClaimRows}
 use Rattle.pg_finders.specs.Claims.{own_choices, rows_below}
 use Rattle.pg_board.specs.declared.refusal.Refusal.{Refusal}
 use Rattle.pg_board.specs.declared.refusal.Refusal.TheVariants as refusal
-use Rattle.pg_board.specs.Play.{Play}
 use Rattle.pg_board.specs.State.{settled}
-use Rattle.pg_board.specs.Journal.{Journal, state_of, IsLawful, number_settled}
+use Rattle.pg_board.specs.Journal.{Journal, state_of, IsLawful}
 use Rattle.pg_board.specs.Refusal.{Refuses}
-use Rattle.pg_workers.specs.declared.report.ReportRow.{ReportRow}
-use Rattle.pg_workers.specs.Report.{settled_in}
 use Rattle.pg_workers.specs.declared.known.SolveFault.{SolveFault}
 use Rattle.pg_workers.specs.declared.known.SolveFault.TheVariants as fault
 

@@ -1,12 +1,8 @@
 -- The report of a run: one row for each piece of work.
-use Rattle.std.specs.Prelude.{ℕ, ◌≡◌, ◌≤◌, ◌<◌, ◌+◌, true, false, List, length, map, sum_by, flat_map, take, drop, slice_get, Some, None, ◌≢◌, Result, Ok, Err, Vec}
-use Rattle.std.specs.Global.{Global}
+use Rattle.std.specs.Prelude.{ℕ, ◌≡◌, ◌≤◌, ◌<◌, ◌+◌, false, List, length, sum_by, take, drop, slice_get, Some, None, ◌≢◌}
 use Rattle.std.specs.List.{AllByRecursion}
 use Rattle.pg_workers.specs.declared.report.ReportRow.{ReportRow}
-use Rattle.pg_workers.specs.Counting.{times, once_below}
 use Rattle.pg_board.specs.Journal.{Journal, number_settled}
-use Rattle.pg_board.specs.declared.refusal.Refusal.{Refusal}
-use Rattle.pg_board.specs.declared.refusal.Refusal.TheVariants as refusal
 
 -- the row of a job that nobody drew
 abbrev pub blank_row : ℕ → ReportRow

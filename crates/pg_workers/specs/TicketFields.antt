@@ -1,7 +1,4 @@
 -- Jobs and tickets by their private fields.
-use Rattle.std.specs.Prelude.{◌≡◌, ◌≤◌, ◌<◌, [], All, if◌then◌else◌}
-use Rattle.std.specs.Vec.{vec_capacity}
-use Rattle.pg_workers.specs.private.Drawing.{drawer}
 use Rattle.pg_workers.specs.Tickets.{JobNumbers, HeldTicket}
 use Rattle.pg_workers.specs.declared.jobs.Ticket.TheInside as ticket
 use Rattle.pg_workers.specs.declared.jobs.Jobs.TheInside as jobs

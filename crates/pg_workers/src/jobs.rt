@@ -58,6 +58,7 @@ impl Ticket {
         ensures numbers { result.now ≡ self.now.numbers }
         ensures below { All (λ j. j < self.now.series.total) result.now }
     {
+        // for the proof: a look at a field tells what the type keeps, and so the numbers are below the total
         let _told_none = self.told_none;
         self.numbers.as_slice()
     }
@@ -88,6 +89,7 @@ impl Model for Jobs {
 
 impl Jobs {
     /// Jobs numbered from 0, and a ticket for each seat, with room for all numbers from the start.
+    #[tactic(auto, using(crate::proofs::Moves::begins))]
     pub fn open(alloc: Global, total: u64, seats: u32) -> Result<(Jobs, Vec<Ticket>), Memory>
         requires total { total ≤ 4096 }
         requires seats { (1 ≤ seats) × (seats ≤ 64) }

@@ -1,5 +1,6 @@
 //! What is known of a game is posted as any claim is, Even's set and then Odd's, before a worker starts.
-ghost use Rattle.std.specs.Prelude.{◌≡◌, length, IfOk, IfErr, OnOk};
+ghost use Rattle.std.specs.Prelude.{◌≡◌, ◌<◌, length, IfOk, IfErr, OnOk};
+ghost use Rattle.pg_finders.specs.Claims.{own_choices};
 ghost use Rattle.pg_workers.specs.Known.{known_rows, HasNone, IsSolveFault};
 ghost use Rattle.pg_workers.specs.private.Known.{fault_of, HasKnown, IsKnownFault, SettlesKnown};
 
@@ -39,6 +40,18 @@ fn refused(player: Player, refusal: Refusal) -> SolveFault
     }
 }
 
+/// The choice where the player owns the vertex, and none where the opponent does.
+fn own_choice(game: &Game, player: Player, v: u32, choice: Option<u32>) -> Option<u32>
+    requires { v < length game.now }
+    ensures { result ≡ own_choices game.now player (λ _. choice) v }
+{
+    if game.owner(v) == player {
+        choice
+    } else {
+        None
+    }
+}
+
 /// The player's known set, as a claim: choices stand at his own vertices alone.
 fn known_claim(alloc: Global, game: &Game, known: &Known, player: Player) -> Result<Claim, Memory>
     requires { length known.now.rows ≡ length game.now }
@@ -50,12 +63,7 @@ fn known_claim(alloc: Global, game: &Game, known: &Known, player: Player) -> Res
     for v in 0..game.len() {
         if let Some((winner, choice)) = of_vertices[v as usize] {
             if winner == player {
-                let own = if game.owner(v) == player {
-                    choice
-                } else {
-                    None
-                };
-                rows.push((v, own))?;
+                rows.push((v, own_choice(game, player, v, choice)))?;
             }
         }
     }
@@ -101,6 +109,7 @@ pub(crate) fn board_with<'g>(
     ensures fault { IfErr result (λ e. IsSolveFault game.now known.now.rows e) }
 {
     let mut board = Board::open(alloc, game)?;
+    // for the proof, here and below: a look at the board tells that its journal is lawful
     let _opened = board.game();
     post_known(alloc, &mut board, known, Player::Even)?;
     let _posted = board.game();

@@ -14,10 +14,11 @@ use pg_finders::Finder;
 use pg_game::Memory;
 use std::alloc::Global;
 use std::marker::PhantomData;
+use std::slice::IterMut;
 use std::sync::Wait;
 use std::sync::ledger::Ledger;
 use std::thread;
-use std::thread::Threads;
+use std::thread::{Scope, Threads};
 
 /// A slot for each pair of a share and a ticket, with the number of its worker and room for a row for each job.
 pub(crate) fn slots_of<L: Ledger, J: Naming>(
@@ -50,8 +51,41 @@ pub(crate) fn slots_of<L: Ledger, J: Naming>(
     Ok(slots)
 }
 
-/// Lends each slot to a thread of its own, and returns once all have ended. A thread that cannot be started is left out,
-/// and its slot is still there.
+/// Starts a worker for each slot on a thread of the scope. One that cannot be started is left out, and its slot is still
+/// there.
+fn start_each<
+    's,
+    'x: 's,
+    'g,
+    E,
+    L: Ledger + Send + Sync,
+    J: Naming + Send + Sync,
+    G: Gate,
+    F: Finder,
+    R: Threads + Wait + Sync,
+>(
+    scope: &Scope<'s, E>,
+    rt: &'x R,
+    alloc: Global,
+    office: &'x Office<'g, L>,
+    jobs: &'x Jobs,
+    task: &'x Task<'x, G, F>,
+    slots: IterMut<'x, Slot<L, J>>,
+)
+    requires jobs { jobs.now.series ≡ J.series }
+    requires task { J.series.total ≡ total_of task.now.options.now.bound task.now.size }
+{
+    for slot in slots {
+        let _ = scope.spawn(
+            move ||
+                requires jobs { jobs.now.series ≡ J.series }
+                requires task { J.series.total ≡ total_of task.now.options.now.bound task.now.size }
+            { slot.work(rt, alloc, office, jobs, task) },
+        );
+    }
+}
+
+/// Lends each slot to a thread of its own, and returns once all have ended.
 pub(crate) fn start_all<
     'x,
     'g,
@@ -80,14 +114,7 @@ pub(crate) fn start_all<
             requires jobs { jobs.now.series ≡ J.series }
             requires task { J.series.total ≡ total_of task.now.options.now.bound task.now.size }
         {
-            for slot in cells {
-                let _ = scope.spawn(
-                    move ||
-                        requires jobs { jobs.now.series ≡ J.series }
-                        requires task { J.series.total ≡ total_of task.now.options.now.bound task.now.size }
-                    { slot.work(rt, alloc, office, jobs, task) },
-                );
-            }
+            start_each(scope, rt, alloc, office, jobs, task, cells);
         },
     );
     slots

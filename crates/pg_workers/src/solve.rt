@@ -89,6 +89,7 @@ fn outcome_of(
     let Some(solution) = board.solution(alloc)? else {
         unreachable!()
     };
+    // for the proof: a look at the board tells that its journal is lawful
     let _game = board.game();
     Ok(Outcome {
         solution,

@@ -1,7 +1,27 @@
 //! Runs with threads: what workers are given and what they note, tickets, and winners that are the same whatever a finder
 //! claims. Runs under random schedules and in every order are replayed by a checker of the tests' own.
 
+// As `assert_eq!` and `assert!`.
+macro_rules! check_eq {
+    ($rt:expr; $found:expr, $want:expr $(,)?) => {
+        $crate::tests::asserting::same(&$rt, $found, $want, stringify!($found))
+    };
+    ($rt:expr; $found:expr, $want:expr, $($note:tt)+) => {
+        $crate::tests::asserting::same(&$rt, $found, $want, format_args!($($note)+))
+    };
+}
+
+macro_rules! check {
+    ($rt:expr; $is_so:expr $(,)?) => {
+        $crate::tests::asserting::holds(&$rt, $is_so, stringify!($is_so))
+    };
+    ($rt:expr; $is_so:expr, $($note:tt)+) => {
+        $crate::tests::asserting::holds(&$rt, $is_so, format_args!($($note)+))
+    };
+}
+
 mod answers;
+mod asserting;
 mod draws;
 mod finders;
 mod games;

@@ -104,6 +104,7 @@ fn post<L: Ledger, R: Wait>(
     ensures settled { share.new + row.old.settled ≡ share.old + row.new.settled }
 {
     let answer = settle_claim(rt, alloc, office, game, share, worker, claim);
+    // for the proof: the share's amount has 64 bits, so the sum of what the row settled fits
     let _amount = share.amount();
     row.note(answer);
 }

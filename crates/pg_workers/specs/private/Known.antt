@@ -1,27 +1,20 @@
 -- What is known of a game before it is solved: as regions, as rows of claims, and what is answered where it is posted (private).
-use Rattle.std.specs.Prelude.{ℕ, ◌≡◌, ◌+◌, ◌↔◌, false, List, [], length, nat_eq}
-use Rattle.std.specs.List.{Contains, IsDistinct}
+use Rattle.std.specs.Prelude.{ℕ, ◌≡◌, ◌+◌, ◌↔◌, List}
 use Rattle.pg_game.specs.declared.player.Player.{Player}
-use Rattle.pg_game.specs.declared.player.Player.TheVariants.{Even, Odd}
 use Rattle.pg_game.specs.Player.{opponent}
 use Rattle.pg_game.specs.Graph.{Graph}
-use Rattle.pg_game.specs.VertexSet.{In, all_vertices}
-use Rattle.pg_game.specs.Attractor.{Attractor}
-use Rattle.pg_game.specs.Region.{IsRegion}
-use Rattle.pg_text.specs.Known.{KnownRows, known_of, known_choice}
-use Rattle.pg_dominion.specs.Claim.{ClaimRows}
-use Rattle.pg_finders.specs.Claims.{own_choices, rows_below}
+use Rattle.pg_game.specs.VertexSet.{In}
+use Rattle.pg_text.specs.Known.{KnownRows}
 use Rattle.pg_board.specs.declared.refusal.Refusal.{Refusal}
 use Rattle.pg_board.specs.declared.refusal.Refusal.TheVariants as refusal
 use Rattle.pg_board.specs.Play.{Play}
 use Rattle.pg_board.specs.State.{settled}
-use Rattle.pg_board.specs.Journal.{Journal, state_of, IsLawful, number_settled}
-use Rattle.pg_board.specs.Refusal.{Refuses}
+use Rattle.pg_board.specs.Journal.{Journal, state_of, number_settled}
 use Rattle.pg_workers.specs.declared.report.ReportRow.{ReportRow}
 use Rattle.pg_workers.specs.Report.{settled_in}
 use Rattle.pg_workers.specs.declared.known.SolveFault.{SolveFault}
 use Rattle.pg_workers.specs.declared.known.SolveFault.TheVariants as fault
-use Rattle.pg_workers.specs.Known.{IsKnownRegion, known_rows, IsAttractedToKnown, HasCount, IsKnownSize, HasNone, IsOfPost, IsRefusedKnown, IsBefore, IsSolveFault}
+use Rattle.pg_workers.specs.Known.{IsKnownRegion, IsAttractedToKnown, HasCount, IsKnownSize, IsRefusedKnown}
 
 -- the known set is a region, the player has what he attracts to it, and the opponent what he had
 pub record SettlesKnown (old new : Play) (known : KnownRows) (p : Player) : Type 0 where

@@ -1,13 +1,11 @@
 -- The report of a run: one row for each piece of work (private).
-use Rattle.std.specs.Prelude.{ℕ, ◌≡◌, ◌≤◌, ◌<◌, ◌+◌, true, false, List, length, map, sum_by, flat_map, take, drop, slice_get, Some, None, ◌≢◌, Result, Ok, Err, Vec}
+use Rattle.std.specs.Prelude.{ℕ, ◌≡◌, ◌≤◌, ◌<◌, ◌+◌, true, List, length, map, flat_map, slice_get, Some, Result, Ok, Err, Vec}
 use Rattle.std.specs.Global.{Global}
-use Rattle.std.specs.List.{AllByRecursion}
 use Rattle.pg_workers.specs.declared.report.ReportRow.{ReportRow}
 use Rattle.pg_workers.specs.Counting.{times, once_below}
-use Rattle.pg_board.specs.Journal.{Journal, number_settled}
 use Rattle.pg_board.specs.declared.refusal.Refusal.{Refusal}
 use Rattle.pg_board.specs.declared.refusal.Refusal.TheVariants as refusal
-use Rattle.pg_workers.specs.Report.{blank_row, AreNumbered, IsInOrder, settled_in, AreCounts, IsDrawnRow, IsReport, AddsUp}
+use Rattle.pg_workers.specs.Report.{blank_row}
 
 -- nobody drew a job
 abbrev pub AreBlank : List ReportRow → Type 0

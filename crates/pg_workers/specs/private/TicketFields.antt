@@ -2,10 +2,8 @@
 use Rattle.std.specs.Prelude.{◌≡◌, ◌≤◌, ◌<◌, [], All, if◌then◌else◌}
 use Rattle.std.specs.Vec.{vec_capacity}
 use Rattle.pg_workers.specs.private.Drawing.{drawer}
-use Rattle.pg_workers.specs.Tickets.{JobNumbers, HeldTicket}
 use Rattle.pg_workers.specs.declared.jobs.Ticket.TheInside as ticket
 use Rattle.pg_workers.specs.declared.jobs.Jobs.TheInside as jobs
-use Rattle.pg_workers.specs.TicketFields.{held_of, numbers_of}
 
 -- the seat knows what the ticket holds; the numbers are of jobs, and there is room for all
 pub record IsTicket (t : ticket.Inside) : Type 0 where

@@ -79,7 +79,7 @@ pub fn check_alone(rt: &impl Abort, game: &[Plain], claims: &[Claim], report: &[
     let mut state = State::NOTHING;
     for row in report {
         let (after, counts) = answer_all(game, state, claims);
-        assert_eq!(rt; counts_of(row), counts, "job {}", row.job);
+        check_eq!(rt; counts_of(row), counts, "job {}", row.job);
         state = after;
     }
 }
@@ -136,15 +136,15 @@ impl Bounds {
 
     /// Checks a run with several workers, who post the same claims in each job.
     pub fn check(&self, rt: &impl Abort, outcome: &Outcome) {
-        assert_eq!(rt;
+        check_eq!(rt;
             self.settled & !settled_by_workers(outcome.entries.as_slice()),
             0
         );
         for row in outcome.report.iter() {
             let answered = row.posted.wrapping_add(row.stale).wrapping_add(row.refused);
-            assert_eq!(rt; answered, self.all, "job {}", row.job);
+            check_eq!(rt; answered, self.all, "job {}", row.job);
             let most = self.refused.wrapping_add(self.open);
-            assert!(rt;
+            check!(rt;
                 self.refused <= row.refused && row.refused <= most,
                 "job {}",
                 row.job

@@ -1,12 +1,12 @@
 //! Tickets: each number is drawn once, by any number of threads.
 
-ghost use Rattle.std.specs.Prelude.{◌≡◌, ◌≤◌, false, true};
+ghost use Rattle.std.specs.Prelude.{◌≡◌, ◌≤◌, All, IfOk, false, true, vec_len};
 
 use crate::{Drawn, Jobs, Ticket};
 use std::alloc::Global;
 use std::process::Abort;
 use std::sync::atomic::{AtomicU64, Ordering};
-use std::test::*;
+use std::test::Fail;
 use std::thread;
 use std::thread::Threads;
 
@@ -15,6 +15,35 @@ fn yield_often(times: u64) {
     for _time in 0..times {
         thread::yield_now();
     }
+}
+
+/// Jobs and their tickets, of which a test is told no more than it needs.
+fn opened(alloc: Global, total: u64, seats: u32) -> Result<(Jobs, Vec<Ticket>), Fail>
+    requires { (total ≤ 4096) × (1 ≤ seats) × (seats ≤ 64) }
+    ensures seats { IfOk result (λ o. vec_len o.1 ≡ o.0.seats) }
+    ensures own { IfOk result (λ o. All (λ t. t.series ≡ o.0.series) o.1.items) }
+{
+    Ok(Jobs::open(alloc, total, seats)?)
+}
+
+/// Jobs with one ticket.
+fn one_ticket(alloc: Global, total: u64) -> Result<(Jobs, Ticket), Fail>
+    requires { total ≤ 4096 }
+    ensures { IfOk result (λ o. o.1.series ≡ o.0.series) }
+{
+    let (jobs, mut tickets) = opened(alloc, total, 1)?;
+    match tickets.pop() {
+        Some(ticket) => Ok((jobs, ticket)),
+        None => Err(Fail::from("no ticket")),
+    }
+}
+
+/// The next number, of which a test is told nothing.
+pub fn next(jobs: &Jobs, ticket: &mut Ticket) -> Option<u64>
+    requires { ticket.old.series ≡ jobs.now.series }
+    ensures { ticket.new.series ≡ ticket.old.series }
+{
+    jobs.draw(ticket)
 }
 
 /// Draws until there are no more, and lets other threads run after each draw, by the number drawn.
@@ -64,7 +93,7 @@ fn drawn_by_many<R: Threads + Abort + Sync>(
 ) -> Result<Vec<Drawn>, Fail>
     requires { (total ≤ 4096) × (1 ≤ seats) × (seats ≤ 64) }
 {
-    let (jobs, tickets) = Jobs::open(alloc, total, seats)?;
+    let (jobs, tickets) = opened(alloc, total, seats)?;
     let shared = &jobs;
     let come = AtomicU64::new(0);
     let before = &come;
@@ -79,6 +108,35 @@ fn drawn_by_many<R: Threads + Abort + Sync>(
     Ok(jobs.close(tickets))
 }
 
+/// How often each number below 4096 was drawn. Each ticket was told that none is left.
+fn counts_of(rt: &impl Abort, alloc: Global, all: &[Drawn]) -> Result<Vec<u8>, Fail> {
+    let mut counts = vec![in alloc; 0u8; 4096]?;
+    for drawn in all {
+        check!(rt; drawn.told_none);
+        count(counts.as_mut_slice(), drawn.numbers.as_slice())?;
+    }
+    Ok(counts)
+}
+
+fn count(counts: &mut [u8], numbers: &[u64]) -> Result<(), Fail> {
+    for number in numbers {
+        let Some(count) = counts.get_mut(*number as usize) else {
+            return Err(Fail::from("too large"));
+        };
+        *count = count.wrapping_add(1);
+    }
+    Ok(())
+}
+
+/// Each number below the total was drawn once, and no other.
+fn compare_counts(rt: &impl Abort, counts: &[u8], total: u64) {
+    let mut number = 0u64;
+    for count in counts {
+        check_eq!(rt; *count, u8::from(number < total), "number {number}");
+        number = number.wrapping_add(1);
+    }
+}
+
 fn each_is_drawn_once<R: Threads + Abort + Sync>(
     rt: &R,
     alloc: Global,
@@ -88,21 +146,9 @@ fn each_is_drawn_once<R: Threads + Abort + Sync>(
 ) -> Result<(), Fail>
     requires { (total ≤ 4096) × (1 ≤ seats) × (seats ≤ 64) }
 {
-    let mut counts = vec![in alloc; 0u8; 4096]?;
-    for drawn in drawn_by_many(rt, alloc, total, seats, stride)?.iter() {
-        assert!(rt; drawn.told_none);
-        for number in drawn.numbers.iter() {
-            let Some(count) = counts.get_mut(*number as usize) else {
-                return Err(Fail::from("too large"));
-            };
-            *count = count.wrapping_add(1);
-        }
-    }
-    let mut number = 0u64;
-    for count in counts.iter() {
-        assert!(rt; *count == u8::from(number < total), "number {number}");
-        number = number.wrapping_add(1);
-    }
+    let drawn = drawn_by_many(rt, alloc, total, seats, stride)?;
+    let counts = counts_of(rt, alloc, drawn.as_slice())?;
+    compare_counts(rt, counts.as_slice(), total);
     Ok(())
 }
 
@@ -138,16 +184,12 @@ fn each_number_is_drawn_once_in_many_orders(rt: HostRuntime) -> Result<(), Fail>
 
 #[test]
 fn a_ticket_keeps_what_it_draws(rt: HostRuntime) -> Result<(), Fail> {
-    let alloc = rt.alloc();
-    let (jobs, mut tickets) = Jobs::open(alloc, 1, 1)?;
-    let Some(mut ticket) = tickets.pop() else {
-        return Err(Fail::from("no ticket"));
-    };
-    assert!(rt; ticket.drawn().is_empty());
-    let _fits = jobs.draw(&mut ticket);
-    assert!(rt; ticket.drawn() == [0].as_slice());
-    assert!(rt; jobs.draw(&mut ticket).is_none());
-    assert!(rt; ticket.drawn() == [0].as_slice());
+    let (jobs, mut ticket) = one_ticket(rt.alloc(), 1)?;
+    check!(rt; ticket.drawn().is_empty());
+    check_eq!(rt; next(&jobs, &mut ticket), Some(0));
+    check!(rt; ticket.drawn() == [0].as_slice());
+    check!(rt; next(&jobs, &mut ticket).is_none());
+    check!(rt; ticket.drawn() == [0].as_slice());
     Ok(())
 }
 
@@ -155,14 +197,10 @@ fn a_ticket_keeps_what_it_draws(rt: HostRuntime) -> Result<(), Fail> {
 fn a_ticket_that_was_told_none_is_told_none_a_thousand_times_more(
     rt: HostRuntime,
 ) -> Result<(), Fail> {
-    let alloc = rt.alloc();
-    let (jobs, mut tickets) = Jobs::open(alloc, 3, 1)?;
-    let Some(ticket) = tickets.pop() else {
-        return Err(Fail::from("no ticket"));
-    };
+    let (jobs, ticket) = one_ticket(rt.alloc(), 3)?;
     let mut ticket = draw_all(&jobs, ticket, 0);
-    assert_eq!(rt; drawn_again(&jobs, &mut ticket, 1_000), 0);
-    assert!(rt; ticket.drawn() == [0, 1, 2].as_slice());
+    check_eq!(rt; drawn_again(&jobs, &mut ticket, 1_000), 0);
+    check!(rt; ticket.drawn() == [0, 1, 2].as_slice());
     Ok(())
 }
 
@@ -172,7 +210,7 @@ fn a_ticket_that_was_told_none_on_a_thread_of_its_own_is_told_none_again(
     rt: HostRuntime,
 ) -> Result<(), Fail> {
     let alloc = rt.alloc();
-    let (jobs, tickets) = Jobs::open(alloc, 3, 2)?;
+    let (jobs, tickets) = opened(alloc, 3, 2)?;
     let shared = &jobs;
     let draw = |ticket: Ticket| -> Ticket
         requires { ticket.series ≡ shared.now.series }
@@ -185,9 +223,9 @@ fn a_ticket_that_was_told_none_on_a_thread_of_its_own_is_told_none_again(
     let tickets = thread::map_vec(&rt, tickets, &draw)?;
     let mut count = 0usize;
     for drawn in jobs.close(tickets).iter() {
-        assert!(rt; drawn.told_none);
+        check!(rt; drawn.told_none);
         count = count.wrapping_add(drawn.numbers.len());
     }
-    assert_eq!(rt; count, 3);
+    check_eq!(rt; count, 3);
     Ok(())
 }

@@ -1,13 +1,13 @@
 //! Games for the tests, and runs on them.
 
-ghost use Rattle.std.specs.Prelude.{◌≤◌, All, IfOk, length};
+ghost use Rattle.std.specs.Prelude.{◌≡◌, ◌≤◌, All, IfOk, length};
 ghost use Rattle.pg_game.specs.Specification.{AreNumbers};
 
 use crate::tests::reference::{Plain, has};
 use crate::{Gate, Options, Outcome, Pass, SolveFault, solve_game};
 use pg_finders::Finder;
 use pg_game::{Game, Player, Sequence, Spec};
-use pg_text::{read_game, read_known};
+use pg_text::{Known, read_game, read_known};
 use std::alloc::Global;
 use std::sync::Wait;
 use std::test::Fail;
@@ -91,6 +91,24 @@ pub fn game_of_sets(alloc: Global, game: &[Plain]) -> Result<Game, Fail> {
     Ok(Game::from_specs(alloc, plain_specs(alloc, game)?)?)
 }
 
+/// The game of a short text.
+pub fn game_of(alloc: Global, text: &[u8]) -> Result<Game, Fail> {
+    if text.len() > 1_000 {
+        return Err(Fail::from("the text is not short"));
+    }
+    Ok(read_game(alloc, text)?)
+}
+
+/// What a short text says is known.
+fn known_of(alloc: Global, game: &Game, text: &[u8]) -> Result<Known, Fail>
+    ensures { IfOk result (λ known. length known.rows ≡ length game.now) }
+{
+    if text.len() > 1_000 {
+        return Err(Fail::from("the text is not short"));
+    }
+    Ok(read_known(alloc, game, text)?)
+}
+
 /// A run on a game of which nothing is known.
 pub fn solved<R: Threads + Wait + Sync>(
     rt: &R,
@@ -119,7 +137,7 @@ pub fn run_on<R: Threads + Wait + Sync>(
     gate: &impl Gate,
     finder: &impl Finder,
 ) -> Result<Outcome, SolveFault>
-    requires workers { (1 ≤ workers) × (workers ≤ 64) }
+    requires { (1 ≤ workers) × (workers ≤ 64) }
 {
     let options = Options {
         workers,
@@ -138,10 +156,9 @@ pub fn gated_outcome<R: Threads + Wait + Sync>(
     gate: &impl Gate,
     finder: &impl Finder,
 ) -> Result<Outcome, Fail>
-    requires text { length text.now ≤ 268435456 }
-    requires workers { (1 ≤ workers) × (workers ≤ 64) }
+    requires { (1 ≤ workers) × (workers ≤ 64) }
 {
-    let game = read_game(alloc, text)?;
+    let game = game_of(alloc, text)?;
     Ok(run_on(rt, alloc, &game, workers, gate, finder)?)
 }
 
@@ -153,8 +170,7 @@ pub fn outcome_of<R: Threads + Wait + Sync>(
     workers: u32,
     finder: &impl Finder,
 ) -> Result<Outcome, Fail>
-    requires text { length text.now ≤ 268435456 }
-    requires workers { (1 ≤ workers) × (workers ≤ 64) }
+    requires { (1 ≤ workers) × (workers ≤ 64) }
 {
     gated_outcome(rt, alloc, text, workers, &Pass, finder)
 }
@@ -168,12 +184,10 @@ pub fn known_run<R: Threads + Wait + Sync>(
     workers: u32,
     finder: &impl Finder,
 ) -> Result<Result<Outcome, SolveFault>, Fail>
-    requires text { length text.now ≤ 268435456 }
-    requires known { length known.now ≤ 268435456 }
-    requires workers { (1 ≤ workers) × (workers ≤ 64) }
+    requires { (1 ≤ workers) × (workers ≤ 64) }
 {
-    let game = read_game(alloc, text)?;
-    let known = read_known(alloc, &game, known)?;
+    let game = game_of(alloc, text)?;
+    let known = known_of(alloc, &game, known)?;
     let options = Options {
         workers,
         bound: 4,

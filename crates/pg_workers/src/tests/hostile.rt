@@ -11,7 +11,7 @@ use pg_game::Player;
 use std::alloc::Global;
 use std::process::Abort;
 use std::sync::Wait;
-use std::test::*;
+use std::test::Fail;
 use std::thread::Threads;
 
 fn even_wins_with<R: Threads + Wait + Abort + Sync>(
@@ -24,8 +24,8 @@ fn even_wins_with<R: Threads + Wait + Abort + Sync>(
 {
     let outcome = outcome_of(rt, alloc, CONTINENTS, workers, finder)?;
     let rows = outcome.solution.rows.as_slice();
-    assert_eq!(rt; rows.len(), 5, "{workers} workers");
-    assert!(rt;
+    check_eq!(rt; rows.len(), 5, "{workers} workers");
+    check!(rt;
         rows.iter().all(|row| row.0 == Player::Even),
         "{workers} workers"
     );

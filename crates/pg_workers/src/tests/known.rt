@@ -1,10 +1,10 @@
 //! What is known is posted before any worker starts, and is taken exactly where it is a region.
 
-ghost use Rattle.std.specs.Prelude.{◌≤◌, length};
+ghost use Rattle.std.specs.Prelude.{◌≤◌};
 
 use crate::tests::finders::{EVEN, ODD, Singles};
 use crate::tests::games::{TWO_LOOPS, known_run};
-use crate::{Outcome, SolveFault};
+use crate::{Outcome, ReportRow, SolveFault};
 use pg_board::{Entry, Refusal};
 use pg_dominion::ClaimFault;
 use pg_finders::{Finder, Standard};
@@ -12,7 +12,7 @@ use pg_game::Player;
 use std::alloc::Global;
 use std::process::Abort;
 use std::sync::Wait;
-use std::test::*;
+use std::test::Fail;
 use std::thread::Threads;
 
 /// Even wins vertex 0 by itself, and attracts 1 and then 2.
@@ -27,14 +27,28 @@ fn taken<R: Threads + Wait + Abort + Sync>(
     workers: u32,
     finder: &impl Finder,
 ) -> Result<Outcome, Fail>
-    requires text { length text.now ≤ 268435456 }
-    requires known { length known.now ≤ 268435456 }
-    requires workers { (1 ≤ workers) × (workers ≤ 64) }
+    requires { (1 ≤ workers) × (workers ≤ 64) }
 {
     match known_run(rt, alloc, text, known, workers, finder)? {
         Ok(outcome) => Ok(outcome),
         Err(_) => Err(Fail::from("what is known was refused")),
     }
+}
+
+/// Compares the fault of a run.
+fn compare_fault<R: Threads + Wait + Abort + Sync>(
+    rt: &R,
+    alloc: Global,
+    text: &[u8],
+    known: &[u8],
+    workers: u32,
+    want: SolveFault,
+) -> Result<(), Fail>
+    requires { (1 ≤ workers) × (workers ≤ 64) }
+{
+    let found = known_run(rt, alloc, text, known, workers, &Standard)?.err();
+    check_eq!(rt; found, Some(want), "{workers} workers");
+    Ok(())
 }
 
 /// A run with the same answer for 1, 2 and 64 workers: the player's known set is refused.
@@ -45,24 +59,11 @@ fn refused<R: Threads + Wait + Abort + Sync>(
     known: &[u8],
     player: Player,
     refusal: Refusal,
-) -> Result<(), Fail>
-    requires text { length text.now ≤ 268435456 }
-    requires known { length known.now ≤ 268435456 }
-{
-    let expected = Some(SolveFault::Known(player, refusal));
-    assert_eq!(rt;
-        known_run(rt, alloc, text, known, 1, &Standard)?.err(),
-        expected
-    );
-    assert_eq!(rt;
-        known_run(rt, alloc, text, known, 2, &Standard)?.err(),
-        expected
-    );
-    assert_eq!(rt;
-        known_run(rt, alloc, text, known, 64, &Standard)?.err(),
-        expected
-    );
-    Ok(())
+) -> Result<(), Fail> {
+    let fault = SolveFault::Known(player, refusal);
+    compare_fault(rt, alloc, text, known, 1, fault)?;
+    compare_fault(rt, alloc, text, known, 2, fault)?;
+    compare_fault(rt, alloc, text, known, 64, fault)
 }
 
 /// What an entry says but for its rows, of which it says how many there are.
@@ -75,31 +76,36 @@ fn told(entry: &Entry) -> (u32, Player, u32, usize) {
     )
 }
 
+/// How many vertices were settled in the jobs.
+fn settled_by_workers(report: &[ReportRow]) -> u64 {
+    let mut settled = 0u64;
+    for row in report {
+        settled = settled.wrapping_add(row.settled);
+    }
+    settled
+}
+
 #[test]
 fn a_known_region_is_the_first_entry_with_all_that_it_attracts(
     rt: HostRuntime,
 ) -> Result<(), Fail> {
     let outcome = taken(&rt, rt.alloc(), LAYERS, b"0 0 0;", 2, &Singles)?;
-    assert_eq!(rt; outcome.entries.len(), 1);
-    assert_eq!(rt; outcome.entries.first().map(told), Some((0, EVEN, 1, 3)));
-    assert_eq!(rt;
+    check_eq!(rt; outcome.entries.len(), 1);
+    check_eq!(rt; outcome.entries.first().map(told), Some((0, EVEN, 1, 3)));
+    check_eq!(rt;
         outcome.solution.rows.as_slice(),
         &[(EVEN, Some(0)), (EVEN, Some(0)), (EVEN, None)][..]
     );
-    let mut settled = 0u64;
-    'rows: for row in outcome.report.iter() {
-        settled = settled.wrapping_add(row.settled);
-    }
-    assert_eq!(rt; settled, 0);
+    check_eq!(rt; settled_by_workers(outcome.report.as_slice()), 0);
     Ok(())
 }
 
 #[test]
 fn both_known_regions_are_posted_evens_first(rt: HostRuntime) -> Result<(), Fail> {
     let outcome = taken(&rt, rt.alloc(), TWO_LOOPS, b"1 1 1; 0 0 0;", 64, &Standard)?;
-    assert_eq!(rt; outcome.entries.len(), 2);
-    assert_eq!(rt; outcome.entries.first().map(told), Some((0, EVEN, 1, 1)));
-    assert_eq!(rt; outcome.entries.last().map(told), Some((0, ODD, 1, 1)));
+    check_eq!(rt; outcome.entries.len(), 2);
+    check_eq!(rt; outcome.entries.first().map(told), Some((0, EVEN, 1, 1)));
+    check_eq!(rt; outcome.entries.last().map(told), Some((0, ODD, 1, 1)));
     Ok(())
 }
 
@@ -107,10 +113,10 @@ fn both_known_regions_are_posted_evens_first(rt: HostRuntime) -> Result<(), Fail
 #[test]
 fn what_is_left_beside_a_known_region_is_solved(rt: HostRuntime) -> Result<(), Fail> {
     let outcome = taken(&rt, rt.alloc(), TWO_LOOPS, b"1 1 1;", 1, &Standard)?;
-    assert_eq!(rt; outcome.entries.first().map(told), Some((0, ODD, 1, 1)));
-    assert_eq!(rt; outcome.entries.last().map(told), Some((1, EVEN, 1, 1)));
-    assert_eq!(rt; outcome.report.first().map(|row| row.settled), Some(1));
-    assert_eq!(rt;
+    check_eq!(rt; outcome.entries.first().map(told), Some((0, ODD, 1, 1)));
+    check_eq!(rt; outcome.entries.last().map(told), Some((1, EVEN, 1, 1)));
+    check_eq!(rt; outcome.report.first().map(|row| row.settled), Some(1));
+    check_eq!(rt;
         outcome.solution.rows.as_slice(),
         &[(EVEN, Some(0)), (ODD, Some(1))][..]
     );
@@ -123,7 +129,7 @@ fn a_known_choice_stands_in_the_solution(rt: HostRuntime) -> Result<(), Fail> {
     let text = b"0 2 0 1,2; 1 2 0 0,2; 2 2 0 0,1;";
     let outcome = taken(&rt, rt.alloc(), text, b"0 0 2; 1 0 2; 2 0 1;", 2, &Standard)?;
     let solution = outcome.solution.rows.as_slice();
-    assert_eq!(rt;
+    check_eq!(rt;
         solution,
         &[(EVEN, Some(2)), (EVEN, Some(2)), (EVEN, Some(1))][..]
     );
@@ -134,8 +140,8 @@ fn a_known_choice_stands_in_the_solution(rt: HostRuntime) -> Result<(), Fail> {
 fn a_choice_at_a_vertex_of_the_opponent_has_no_effect(rt: HostRuntime) -> Result<(), Fail> {
     let text = b"0 2 1 0; 1 1 1 0,1;";
     let outcome = taken(&rt, rt.alloc(), text, b"0 0 0;", 1, &Standard)?;
-    assert_eq!(rt; outcome.entries.first().map(told), Some((0, EVEN, 1, 1)));
-    assert_eq!(rt;
+    check_eq!(rt; outcome.entries.first().map(told), Some((0, EVEN, 1, 1)));
+    check_eq!(rt;
         outcome.solution.rows.as_slice(),
         &[(EVEN, None), (ODD, Some(1))][..]
     );

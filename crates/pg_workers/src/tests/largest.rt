@@ -2,8 +2,26 @@
 
 use crate::tests::finders::Wholes;
 use crate::tests::games::{own_loops, solved};
-use crate::{Options, Pass};
-use std::test::*;
+use crate::{Options, Pass, ReportRow};
+use std::alloc::Global;
+use std::process::Abort;
+use std::test::Fail;
+
+/// Compares what was posted, settled, stale and refused in each job. None lacked memory.
+fn compare_counts(
+    rt: &impl Abort,
+    alloc: Global,
+    report: &[ReportRow],
+    want: &[[u64; 4]],
+) -> Result<(), Fail> {
+    let mut counts = Vec::new(alloc);
+    for row in report {
+        counts.push([row.posted, row.settled, row.stale, row.refused])?;
+        check!(rt; !row.memory);
+    }
+    check!(rt; counts.as_slice() == want);
+    Ok(())
+}
 
 /// Even's claim of all vertices settles them at once; Odd's is refused.
 #[test]
@@ -16,13 +34,8 @@ fn all_vertices_of_the_largest_game_are_settled_by_one_claim(rt: HostRuntime) ->
         budget: 0,
     };
     let outcome = solved(&rt, alloc, &game, &options, &Pass, &Wholes)?;
-    let mut counts = Vec::new(alloc);
-    for row in outcome.report.iter() {
-        counts.push([row.posted, row.settled, row.stale, row.refused])?;
-        assert!(rt; !row.memory);
-    }
     let expected = [[1, 1_048_576, 0, 1], [0, 0, 1, 1], [0, 0, 1, 1]];
-    assert!(rt; counts.as_slice() == expected.as_slice());
-    assert_eq!(rt; outcome.entries.len(), 1);
+    compare_counts(&rt, alloc, outcome.report.as_slice(), &expected)?;
+    check_eq!(rt; outcome.entries.len(), 1);
     Ok(())
 }

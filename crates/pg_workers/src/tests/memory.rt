@@ -6,6 +6,7 @@
 
 ghost use Rattle.std.specs.Prelude.{◌≡◌, ◌≤◌, All, IfOk};
 
+use crate::tests::draws::next;
 use crate::tests::finders::{EVEN, ODD};
 use crate::tests::games::{TWO_LOOPS, run_on};
 use crate::tests::replay::{State, replay};
@@ -42,15 +43,20 @@ fn opened(alloc: Global, total: u64, seats: u32) -> Result<(Jobs, Vec<Ticket>), 
 #[test]
 fn jobs_that_are_opened_after_a_refusal_are_all_drawn(rt: HostRuntime) -> Result<(), Fail> {
     let (jobs, mut tickets) = opened(rt.alloc(), 3, 5)?;
-    assert_eq!(rt; tickets.len(), 5);
+    check_eq!(rt; tickets.len(), 5);
     let Some(mut ticket) = tickets.pop() else {
         return Err(Fail::from("no ticket"));
     };
-    assert_eq!(rt; jobs.draw(&mut ticket), Some(0));
-    assert_eq!(rt; jobs.draw(&mut ticket), Some(1));
-    assert_eq!(rt; jobs.draw(&mut ticket), Some(2));
-    assert!(rt; ticket.drawn() == [0, 1, 2].as_slice());
+    check_eq!(rt; next(&jobs, &mut ticket), Some(0));
+    check_eq!(rt; next(&jobs, &mut ticket), Some(1));
+    check_eq!(rt; next(&jobs, &mut ticket), Some(2));
+    check!(rt; ticket.drawn() == [0, 1, 2].as_slice());
     Ok(())
+}
+
+/// The game of two winners, of which nothing is said.
+fn two_loops(alloc: Global) -> Result<Game, Fail> {
+    needed(read_game(alloc, TWO_LOOPS))
 }
 
 /// A run that is made once more where memory was refused to what the workers don't do.
@@ -77,14 +83,14 @@ fn is_solved<R: Threads + Wait + Abort + Sync>(
 ) -> Result<(), Fail>
     requires { (1 ≤ workers) × (workers ≤ 64) }
 {
-    let game = needed(read_game(alloc, TWO_LOOPS))?;
+    let game = two_loops(alloc)?;
     let outcome = solved_again(rt, alloc, &game, workers)?;
     let solution = [(EVEN, Some(0)), (ODD, Some(1))];
-    assert!(rt; outcome.solution.rows.as_slice() == solution.as_slice());
+    check!(rt; outcome.solution.rows.as_slice() == solution.as_slice());
     let plain = [(2, EVEN, 0b11), (1, ODD, 0b10)];
     let end = replay(plain.as_slice(), outcome.entries.as_slice());
-    assert_eq!(rt; end, Ok(State { even: 1, odd: 2 }));
-    assert_eq!(rt; outcome.report.len(), 5);
+    check_eq!(rt; end, Ok(State { even: 1, odd: 2 }));
+    check_eq!(rt; outcome.report.len(), 5);
     Ok(())
 }
 

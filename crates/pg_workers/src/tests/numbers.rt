@@ -7,7 +7,6 @@ use crate::Options;
 use pg_finders::Job;
 use pg_game::Player;
 use std::process::Abort;
-use std::test::*;
 
 fn with_bound(bound: u32) -> Options {
     Options {
@@ -21,56 +20,53 @@ fn with_bound(bound: u32) -> Options {
 fn job_of(rt: &impl Abort, options: &Options, n: u32, number: u64) -> Job
     requires { n ≤ max_vertices }
 {
-    assert!(*rt; number < options.total(n));
+    // (by no call, since `job` requires it)
+    std::assert!(*rt; number < options.total(n));
     options.job(n, number)
+}
+
+fn compare_total(rt: &impl Abort, bound: u32, n: u32, want: u64)
+    requires { n ≤ max_vertices }
+{
+    check_eq!(rt; with_bound(bound).total(n), want, "{n} vertices");
 }
 
 #[test]
 fn totals_are_those_of_the_batches(rt: HostRuntime) {
-    for (n, total) in [
-        (1, 5),
-        (2, 5),
-        (64, 5),
-        (65, 7),
-        (65_536, 2_051),
-        (130_944, 4_095),
-        (130_945, 2_051),
-        (1_048_576, 2_051),
-    ] {
-        assert_eq!(rt; with_bound(4).total(n), total, "{n} vertices");
-    }
-    for n in [1, 65, 1_048_576] {
-        assert_eq!(rt; with_bound(0).total(n), 3, "{n} vertices");
+    compare_total(&rt, 4, 1, 5);
+    compare_total(&rt, 4, 2, 5);
+    compare_total(&rt, 4, 64, 5);
+    compare_total(&rt, 4, 65, 7);
+    compare_total(&rt, 4, 65_536, 2_051);
+    compare_total(&rt, 4, 130_944, 4_095);
+    compare_total(&rt, 4, 130_945, 2_051);
+    compare_total(&rt, 4, 1_048_576, 2_051);
+    compare_total(&rt, 0, 1, 3);
+    compare_total(&rt, 0, 65, 3);
+    compare_total(&rt, 0, 1_048_576, 3);
+}
+
+fn small(player: Player, first: u32, count: u32) -> Job {
+    Job::Small {
+        player,
+        first,
+        count,
+        bound: 4,
+        budget: 10_000,
     }
 }
 
 #[test]
 fn jobs_have_their_numbers(rt: HostRuntime) {
-    let options = Options {
-        workers: 1,
-        bound: 4,
-        budget: 10_000,
-    };
-    let job = |player: Player, first: u32, count: u32| -> Job {
-        Job::Small {
-            player,
-            first,
-            count,
-            bound: 4,
-            budget: 10_000,
-        }
-    };
-    assert!(rt; job_of(&rt, &options, 65, 0) == Job::Loops);
-    assert!(rt; job_of(&rt, &options, 65, 1) == Job::Solitaire);
-    assert!(rt; job_of(&rt, &options, 65, 3) == job(Player::Odd, 0, 64));
-    assert!(rt; job_of(&rt, &options, 65, 4) == job(Player::Even, 64, 1));
-    assert!(rt; job_of(&rt, &options, 65, 6) == Job::Recursion);
-    assert!(rt; job_of(&rt, &options, 130_945, 2_048) == job(Player::Even, 130_944, 1));
-    assert!(rt; job_of(&rt, &options, 1_048_576, 2_049) == job(Player::Odd, 1_047_552, 1_024));
-    let without_batches = Options {
-        workers: 1,
-        bound: 0,
-        budget: 10_000,
-    };
-    assert!(rt; job_of(&rt, &without_batches, 65, 2) == Job::Recursion);
+    let options = with_bound(4);
+    check_eq!(rt; job_of(&rt, &options, 65, 0), Job::Loops);
+    check_eq!(rt; job_of(&rt, &options, 65, 1), Job::Solitaire);
+    check_eq!(rt; job_of(&rt, &options, 65, 3), small(Player::Odd, 0, 64));
+    check_eq!(rt; job_of(&rt, &options, 65, 4), small(Player::Even, 64, 1));
+    check_eq!(rt; job_of(&rt, &options, 65, 6), Job::Recursion);
+    let last = small(Player::Even, 130_944, 1);
+    check_eq!(rt; job_of(&rt, &options, 130_945, 2_048), last);
+    let largest = small(Player::Odd, 1_047_552, 1_024);
+    check_eq!(rt; job_of(&rt, &options, 1_048_576, 2_049), largest);
+    check_eq!(rt; job_of(&rt, &with_bound(0), 65, 2), Job::Recursion);
 }

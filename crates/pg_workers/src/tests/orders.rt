@@ -167,10 +167,10 @@ fn planned_run<R: Threads + Wait + Abort + Sync, F: Finder>(
     let gate = Ordered::new(plan);
     let workers = plan.workers;
     let outcome = run_on(rt, alloc, &both.game, workers, &gate, finder)?;
-    assert!(rt; !gate.seen.into_inner().gave_up, "{plan:?}");
+    check!(rt; !gate.seen.into_inner().gave_up, "{plan:?}");
     let end = check_outcome(rt, both.plain.as_slice(), &outcome, workers);
     for entry in outcome.entries.iter() {
-        assert_eq!(rt; Some(entry.worker), plan.worker_at(0), "{plan:?}");
+        check_eq!(rt; Some(entry.worker), plan.worker_at(0), "{plan:?}");
     }
     Ok((end, outcome))
 }
@@ -186,16 +186,16 @@ fn runs_of<R: Threads + Wait + Abort + Sync>(
 {
     let [loops, continents] = games;
     let (end, outcome) = planned_run(rt, alloc, loops, plan, &Singles)?;
-    assert_eq!(rt; end, State { even: 1, odd: 2 });
-    assert_eq!(rt; outcome.entries.len(), 2);
+    check_eq!(rt; end, State { even: 1, odd: 2 });
+    check_eq!(rt; outcome.entries.len(), 2);
     let whole = [(0, None), (1, None), (2, Some(1)), (3, Some(4)), (4, None)];
     let finder = Fixed {
         claims: &[(EVEN, whole.as_slice())],
         times: 1,
     };
     let (end, outcome) = planned_run(rt, alloc, continents, plan, &finder)?;
-    assert_eq!(rt; end, State { even: 31, odd: 0 });
-    assert_eq!(rt; outcome.entries.len(), 1);
+    check_eq!(rt; end, State { even: 31, odd: 0 });
+    check_eq!(rt; outcome.entries.len(), 1);
     Ok(())
 }
 

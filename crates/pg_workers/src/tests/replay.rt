@@ -161,10 +161,10 @@ fn state_of(entries: &[Entry], v: u32) -> Option<(Player, Option<u32>)> {
 /// The solution is what the journal settled, of each vertex, and of no other.
 fn check_solution(rt: &impl Abort, game: &[Plain], outcome: &Outcome) {
     let rows = outcome.solution.rows.as_slice();
-    assert_eq!(rt; rows.len() as u64, u64::from(size_of(game)));
+    check_eq!(rt; rows.len() as u64, u64::from(size_of(game)));
     for v in 0..size_of(game) {
         let settled = state_of(outcome.entries.as_slice(), v);
-        assert_eq!(rt; rows.get(v as usize).copied(), settled, "vertex {v}");
+        check_eq!(rt; rows.get(v as usize).copied(), settled, "vertex {v}");
     }
 }
 
@@ -200,7 +200,7 @@ fn check_report(rt: &impl Abort, outcome: &Outcome, workers: u32) {
     let mut posted = 0u64;
     for worker in 1..workers.saturating_add(1) {
         let [more, settled] = posted_by(entries, worker);
-        assert_eq!(rt;
+        check_eq!(rt;
             reported_by(report, worker),
             [more, settled],
             "worker {worker}"
@@ -208,24 +208,24 @@ fn check_report(rt: &impl Abort, outcome: &Outcome, workers: u32) {
         posted = posted.wrapping_add(more);
     }
     let [by_none, _] = posted_by(entries, 0);
-    assert!(rt; by_none <= 2);
-    assert_eq!(rt; entries.len() as u64, posted.wrapping_add(by_none));
+    check!(rt; by_none <= 2);
+    check_eq!(rt; entries.len() as u64, posted.wrapping_add(by_none));
     let places = entries.iter().map(|entry| entry.worker == 0);
-    assert!(rt; places.is_sorted());
+    check!(rt; places.is_sorted());
     check_jobs(rt, report, workers);
 }
 
 fn check_jobs(rt: &impl Abort, report: &[ReportRow], workers: u32) {
     let mut number = 0u64;
     for row in report {
-        assert_eq!(rt; row.job, number);
-        assert!(rt;
+        check_eq!(rt; row.job, number);
+        check!(rt;
             row.worker
                 .is_some_and(|worker| 1 <= worker && worker <= workers)
         );
         number = number.wrapping_add(1);
     }
-    assert_eq!(rt; number, 5);
+    check_eq!(rt; number, 5);
 }
 
 /// Checks what a run on a game with this number of workers gave, and tells the state at the end.
@@ -234,7 +234,7 @@ pub fn check_outcome(rt: &impl Abort, game: &[Plain], outcome: &Outcome, workers
         Ok(state) => state,
         Err(wrong) => panic!(*rt; "{wrong:?}"),
     };
-    assert_eq!(rt; end.even | end.odd, bit(size_of(game)).wrapping_sub(1));
+    check_eq!(rt; end.even | end.odd, bit(size_of(game)).wrapping_sub(1));
     check_solution(rt, game, outcome);
     check_report(rt, outcome, workers);
     end
@@ -279,7 +279,7 @@ fn each_wrong_entry_is_told(rt: HostRuntime) -> Result<(), Fail> {
         (EVEN, 1, [(0, Some(0))].as_slice(), Wrong::Left),
     ] {
         let entries = [entry_of(alloc, player, claimed, rows)?];
-        assert_eq!(rt;
+        check_eq!(rt;
             replay(SHARED.as_slice(), entries.as_slice()),
             Err(wrong),
             "{rows:?}"
@@ -296,9 +296,9 @@ fn an_entry_that_is_posted_twice_is_told(rt: HostRuntime) -> Result<(), Fail> {
     entries.push(entry_of(alloc, EVEN, 1, even.as_slice())?)?;
     entries.push(entry_of(alloc, ODD, 1, [(2, Some(2))].as_slice())?)?;
     let end = replay(SHARED.as_slice(), entries.as_slice());
-    assert_eq!(rt; end, Ok(State { even: 3, odd: 4 }));
+    check_eq!(rt; end, Ok(State { even: 3, odd: 4 }));
     entries.push(entry_of(alloc, EVEN, 1, even.as_slice())?)?;
-    assert_eq!(rt;
+    check_eq!(rt;
         replay(SHARED.as_slice(), entries.as_slice()),
         Err(Wrong::Again)
     );

@@ -8,7 +8,7 @@ use pg_game::Player;
 use std::alloc::Global;
 use std::process::Abort;
 use std::sync::Wait;
-use std::test::*;
+use std::test::Fail;
 use std::thread::Threads;
 
 /// The row of a job of worker 1, with its numbers posted, settled, stale and refused.
@@ -42,7 +42,7 @@ fn assert_counts<R: Threads + Wait + Abort + Sync>(
         row(3, later),
         row(4, later),
     ];
-    assert_eq!(rt; outcome.report.as_slice(), expected.as_slice());
+    check_eq!(rt; outcome.report.as_slice(), expected.as_slice());
     Ok(())
 }
 
@@ -101,7 +101,7 @@ fn memory_that_is_refused_in_each_search_is_noted(rt: HostRuntime) -> Result<(),
     for (number, found) in (0u64..).zip(outcome.report.iter()) {
         let mut expected = row(number, [0; 4]);
         expected.memory = true;
-        assert_eq!(rt; *found, expected);
+        check_eq!(rt; *found, expected);
     }
     Ok(())
 }
@@ -118,7 +118,7 @@ fn each_row_says_whether_its_search_gave_up_or_had_no_memory(rt: HostRuntime) ->
     ];
     expected[1].memory = true;
     expected[2].gave_up = true;
-    assert_eq!(rt; outcome.report.as_slice(), expected.as_slice());
+    check_eq!(rt; outcome.report.as_slice(), expected.as_slice());
     Ok(())
 }
 
@@ -132,17 +132,17 @@ fn told(outcome: &Outcome, entry: usize) -> Option<(u32, Player, u32)> {
 #[test]
 fn an_entry_names_the_worker_who_posted_it(rt: HostRuntime) -> Result<(), Fail> {
     let outcome = outcome_of(&rt, rt.alloc(), TWO_LOOPS, 1, &Standard)?;
-    assert_eq!(rt; outcome.entries.len(), 2);
-    assert_eq!(rt; told(&outcome, 0), Some((1, EVEN, 0)));
-    assert_eq!(rt; told(&outcome, 1), Some((1, ODD, 1)));
+    check_eq!(rt; outcome.entries.len(), 2);
+    check_eq!(rt; told(&outcome, 0), Some((1, EVEN, 0)));
+    check_eq!(rt; told(&outcome, 1), Some((1, ODD, 1)));
     Ok(())
 }
 
 #[test]
 fn the_calling_thread_posts_evens_claim_and_then_odds(rt: HostRuntime) -> Result<(), Fail> {
     let outcome = outcome_of(&rt, rt.alloc(), TWO_LOOPS, 1, &NoMemory)?;
-    assert_eq!(rt; outcome.entries.len(), 2);
-    assert_eq!(rt; told(&outcome, 0), Some((0, EVEN, 0)));
-    assert_eq!(rt; told(&outcome, 1), Some((0, ODD, 1)));
+    check_eq!(rt; outcome.entries.len(), 2);
+    check_eq!(rt; told(&outcome, 0), Some((0, EVEN, 0)));
+    check_eq!(rt; told(&outcome, 1), Some((0, ODD, 1)));
     Ok(())
 }

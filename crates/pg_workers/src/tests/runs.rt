@@ -9,7 +9,7 @@ use pg_game::Player;
 use std::alloc::Global;
 use std::process::Abort;
 use std::sync::{OnceLock, Wait};
-use std::test::*;
+use std::test::Fail;
 use std::thread::Threads;
 
 /// Two workers on the game of two winners, one of which is held. Each job is told of once before and once after its posts.
@@ -22,10 +22,10 @@ fn held_run<R: Threads + Wait + Abort + Sync>(
     let gate = Holder::new(held);
     let outcome = gated_outcome(rt, alloc, TWO_LOOPS, 2, &gate, finder)?;
     let seen = gate.seen.into_inner();
-    assert!(rt; !seen.gave_up);
-    assert!(rt; seen.found == [1; 5]);
-    assert!(rt; seen.posted == [1; 5]);
-    assert!(rt; outcome.report.len() == 5);
+    check!(rt; !seen.gave_up);
+    check!(rt; seen.found == [1; 5]);
+    check!(rt; seen.posted == [1; 5]);
+    check!(rt; outcome.report.len() == 5);
     Ok(())
 }
 
@@ -53,9 +53,9 @@ fn the_gate_is_told_of_posts_only_after_them(rt: HostRuntime) -> Result<(), Fail
         settled: OnceLock::new(),
     };
     let outcome = gated_outcome(&rt, rt.alloc(), TWO_LOOPS, 2, &gate, &finder)?;
-    assert!(rt; !gate.progress.into_inner().gave_up);
-    assert!(rt; outcome.report.len() == 5);
-    assert_eq!(rt; finder.settled.get().copied(), Some(2));
+    check!(rt; !gate.progress.into_inner().gave_up);
+    check!(rt; outcome.report.len() == 5);
+    check_eq!(rt; finder.settled.get().copied(), Some(2));
     Ok(())
 }
 
@@ -85,7 +85,7 @@ fn a_worker_is_given_each_job_in_order(rt: HostRuntime) -> Result<(), Fail> {
     }
     let recorder = Recorder { jobs };
     let outcome = solved(&rt, alloc, &game, &options, &Pass, &recorder)?;
-    assert!(rt; outcome.report.len() == 7);
+    check!(rt; outcome.report.len() == 7);
     let expected = [
         Some(Job::Loops),
         Some(Job::Solitaire),
@@ -97,7 +97,7 @@ fn a_worker_is_given_each_job_in_order(rt: HostRuntime) -> Result<(), Fail> {
         None,
     ];
     for (place, job) in recorder.jobs.iter().zip(&expected) {
-        assert_eq!(rt; place.get().copied(), *job);
+        check_eq!(rt; place.get().copied(), *job);
     }
     Ok(())
 }

@@ -110,8 +110,8 @@ fn claims_on<F: Finder>(
 
 fn check_claims(rt: &impl Abort, bounds: &Option<Bounds>, outcome: &Outcome) {
     for row in outcome.report.iter() {
-        assert!(rt; row.memory == bounds.is_none());
-        assert!(rt; !row.gave_up);
+        check!(rt; row.memory == bounds.is_none());
+        check!(rt; !row.gave_up);
     }
     if let Some(bounds) = bounds {
         bounds.check(rt, outcome);
@@ -170,7 +170,7 @@ fn replay_games<R: Threads + Wait + Abort + Sync, F: Finder>(
         let more = replay_game(rt, alloc, number, finder)?;
         orders = orders.wrapping_add(more);
     }
-    assert!(rt; orders >= LEAST_ORDERS, "{orders} orders");
+    check!(rt; orders >= LEAST_ORDERS, "{orders} orders");
     Ok(())
 }
 
@@ -203,7 +203,7 @@ fn schedules_of_the_first_solution(rt: HostRuntime) -> Result<(), Fail> {
         let more = replay_game(&rt, alloc, number, &FirstSolution::new())?;
         orders = orders.wrapping_add(more);
     }
-    assert!(rt; orders >= LEAST_ORDERS, "{orders} orders");
+    check!(rt; orders >= LEAST_ORDERS, "{orders} orders");
     Ok(())
 }
 
@@ -216,7 +216,7 @@ fn schedules_of_claims_that_are_settled_in_part(rt: HostRuntime) -> Result<(), F
         let more = replay_game(&rt, alloc, number, &Overlapping::new())?;
         orders = orders.wrapping_add(more);
     }
-    assert!(rt; orders >= LEAST_ORDERS, "{orders} orders");
+    check!(rt; orders >= LEAST_ORDERS, "{orders} orders");
     Ok(())
 }
 
@@ -248,7 +248,7 @@ fn schedules_of_another_games_solution(rt: HostRuntime) -> Result<(), Fail> {
         let more = replay_with_another(&rt, alloc, number)?;
         orders = orders.wrapping_add(more);
     }
-    assert!(rt; orders >= LEAST_ORDERS, "{orders} orders");
+    check!(rt; orders >= LEAST_ORDERS, "{orders} orders");
     Ok(())
 }
 
@@ -275,7 +275,7 @@ fn schedules_of_the_products_finder(rt: HostRuntime) -> Result<(), Fail> {
         for seed in 0..SCHEDULES {
             let (outcome, _) = scheduled_run(&rt, alloc, &both, seed, &Standard)?;
             for row in outcome.report.iter() {
-                assert!(rt; row.refused == 0 && !row.memory);
+                check!(rt; row.refused == 0 && !row.memory);
             }
         }
     }

@@ -1,11 +1,12 @@
 use Rattle.std.proofs.Common.{◌≡◌, ℕ, ◌<◌, List, [], ◌∷◌, ◌++◌, All, length, sym, ap, ◌∙◌, subst, arith, length-append, append_assoc, append-nil}
 use Rattle.std.specs.Prelude.{if◌then◌else◌, cond, flat_map}
 use Rattle.std.specs.Vec.Iter.{into_iter_items}
+use Rattle.std.proofs.lemmas.List.{nil_from_length}
 use Rattle.std.proofs.lemmas.List.Sums.{sum_by_push, sum_by-cons}
 use Rattle.pg_workers.specs.declared.jobs.Drawn.{Drawn}
 use Rattle.pg_workers.specs.Tickets.{HeldTicket, AreDrawn}
 use Rattle.pg_workers.proofs.Moves.{joins, knows_all}
-use Rattle.pg_workers.proofs.Closing.{remade, nothing_left, all_here, flat_map-push, listed-push, drawn_by_all}
+use Rattle.pg_workers.proofs.Closing.{remade, all_here, flat_map-push, listed-push, drawn_by_all}
 use Rattle.pg_workers.proofs.jobs.Jobs.close.Goals as goal
 
 -- the ticket and the first one are of these jobs
@@ -66,7 +67,7 @@ returns-clause-fair c =
     let at = c.loop-ticket in
     let i = at.invariant in
     let jobs = c.self.invariant in
-    let empty : into_iter_items at.ticket-iterator ≡ [] = nothing_left _ (sym i.1 ∙ c.in-None.ensures.steps.0) in
+    let empty : into_iter_items at.ticket-iterator ≡ [] = nil_from_length _ (sym i.1 ∙ c.in-None.ensures.steps.0) in
     let done = sym (append-nil at.yielded) ∙ ap (λ l. at.yielded ++ l) (sym empty) ∙ i.0 ∙ c.into_iter-ticket-iterator.ensures.into_iter_gives.0 in
     let some_ticket : 0 < length c.args.tickets.items = let l = c.requires.all in let s = ap (λ o. o.seats) c.self.view_is in omega (arith, jobs.some_seat) in
     let whole : c.args.tickets.items ≡ c.remove.result ∷ at.yielded =
