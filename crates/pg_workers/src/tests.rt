@@ -13,6 +13,7 @@ mod memory;
 mod numbers;
 mod orders;
 mod random;
+mod readme;
 mod reference;
 mod replay;
 mod reports;
