@@ -33,6 +33,7 @@ fn spread(
     ensures back { IfOk result (λ found. found ≡ true → Reaches kept.now start start) }
     ensures spread { IfOk result (λ found. found ≡ false → IsSpread kept.now start stamps.new.items v) }
 {
+    // for the proof: there are so few vertices that the mark fits
     let _n = kept.game.len();
     let top = kept.game.priority(start);
     let mark = start + 1;
