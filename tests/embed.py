@@ -5,7 +5,8 @@
 
 include/pgboard.h declares the exports of crates/pgboard_c, and has the numbers that their contracts name. tests/embed/test.c
 is compiled with warnings as errors, without and with sanitizers, and goes through each answer; on random games it gives the
-winners of the program BINARY. The C program of README.md prints what stands there. The tests of bindings/python pass.
+winners of the program BINARY. The C program of README.md, built by the commands there, prints what stands there. The tests of
+bindings/python pass.
 Needs rt and cc. The last line is 'N passed, M failed'.
 """
 
@@ -128,17 +129,19 @@ def games_fault(test, binary):
     return None
 
 
-def readme_fault(room, archives):
-    """Whether the C program of README.md prints what stands behind it."""
-    found = re.search(r"(?ms)^```c\n(.*?)^```$.*?^```text\n(.*?)^```$", text_of("README.md"))
-    if not found:
-        return "it has no C program with what it prints"
-    path = os.path.join(room, "readme.c")
-    with open(path, "w", encoding="utf-8") as file:
-        file.write(found[1])
-    made = run(["cc", *FLAGS, path, *archives, "-o", f"{room}/readme"])
-    ran = run([f"{room}/readme"]) if made[0] == 0 else made
-    return None if ran == (0, found[2], "") else f"{ran}"
+def readme_fault(tree, room):
+    """Whether the C program of README.md, built as it says there, prints what stands behind it."""
+    program, printed, commands = pages.c_program(text_of("README.md")) or ("", "", "")
+    with open(os.path.join(room, "embed.c"), "w", encoding="utf-8") as file:
+        file.write(program)
+    for name in ("crates", "include"):
+        os.symlink(os.path.join(tree, name), os.path.join(room, name))
+    made = run(["cc", *FLAGS, "-fsyntax-only", f"{room}/embed.c"])
+    if made[0] == 0:
+        built = subprocess.run(["bash", "-e", "-c", commands], cwd=room, stdin=subprocess.DEVNULL, capture_output=True, timeout=3000)
+        made = built.returncode, built.stdout.decode(), built.stderr.decode()
+    ran = run([f"{room}/embed"]) if made[0] == 0 else made
+    return None if printed and ran == (0, printed, "") else f"{ran}"
 
 
 def python_fault(room, archives):
@@ -174,7 +177,7 @@ def faults(tree, binary):
             ran = run([test, *limits()]) if made[0] == 0 else made
             yield name, None if ran[0] == 0 and re.search(r"(?m)^[1-9]\d* passed, 0 failed$", ran[1]) else f"{ran}"
             yield f"random games by {name}", games_fault(test, binary) if made[0] == 0 else "not compiled"
-        yield "README.md", readme_fault(room, archives)
+        yield "README.md", readme_fault(tree, room)
         yield "bindings/python", python_fault(room, archives)
 
 

@@ -58,6 +58,13 @@ def line_of(command, text):
     return " ".join(filter(None, ["pgboard", command, *(f"[{it}]" for it in flags_of(text)), *files]))
 
 
+def synopsis_block(page):
+    """The block of a page of README.md's kind that has its synopsis."""
+    text = pages.text_of(page)
+    part = part_of(text, "commands") if page == "README.md" else text
+    return next((it[2] for it in pages.BLOCK.finditer(part)), "")
+
+
 def synopsis_of(page):
     """The lines of a page's synopsis, without what they say of each command."""
     text = pages.text_of(page)
@@ -67,9 +74,7 @@ def synopsis_of(page):
         words = [it[4:].replace(" ", "") if re.match(r"\.[RBI]{2} ", it) else re.sub(r"^\.[BI] ", "", it) for it in part.splitlines()]
         found = {" ".join(line.split()) for line in " ".join(words).split(".br")}
         return found - {"pgboard [COMMAND] --help"}
-    part = part_of(text, "commands") if page == "README.md" else text
-    block = next((it[2] for it in pages.BLOCK.finditer(part)), "")
-    return {re.split(r" {2,}", line)[0] for line in re.sub(r"\n {2,}\b", "  ", block).splitlines() if line}
+    return {re.split(r" {2,}", line)[0] for line in re.sub(r"\n {2,}\b", "  ", synopsis_block(page)).splitlines() if line}
 
 
 def short_help_fault(binary, name):

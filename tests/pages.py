@@ -29,6 +29,12 @@ def examples(text):
             yield heads[-1] if heads else "", block[2], after[2]
 
 
+def c_program(text):
+    """The C program of a page, what it prints, and the commands that build it where it stands in `embed.c`; None where it has none."""
+    found = re.search(r"(?ms)^```c\n(.*?)^```$.*?^```text\n(.*?)^```$.*?^```sh\n(.*?)^```$", text)
+    return found.groups() if found else None
+
+
 def furnish(room, binary):
     """Makes the folder look like the top of the repository."""
     os.symlink(binary, os.path.join(room, "pgboard"))

@@ -88,6 +88,7 @@ impl<'g> Board<'g> {
         ensures settled { IfOk result (λ c. c.settled ≡ number_settled self.now.journal) }
         ensures dominions { IfOk result (λ c. (p : Player) (rows : ClaimRows) → IsGoodIn self.now.graph (members c.inside.mask) p rows → IsDominionAfter self.now.graph self.now.journal c.at p rows) }
     {
+        // for the proof: the graph is a game, so no edge leaves it
         let _n = self.game.len();
         let mask = self.regions.unsettled.copy(alloc)?;
         Ok(Copied {
@@ -108,6 +109,7 @@ impl<'g> Board<'g> {
         ensures unchanged { OnErr result (self.new ≡ self.old) }
         ensures old_copies { (k : ℕ) → IsDominionAfter self.old.graph self.old.journal k claim.now.player claim.now.rows → AnswersDominion (state_of self.old.journal) claim.now.rows result × SettlesUnlessMemory self.old self.new claim.now.player claim.now.rows result }
     {
+        // for the proof: the graph is a game
         let _n = self.game.len();
         judge_claim(alloc, self.game, claim)?;
         self.settle_sound(alloc, worker, claim)
@@ -129,6 +131,7 @@ impl<'g> Board<'g> {
         ensures unchanged { OnErr result (self.new ≡ self.old) }
         ensures old_copies { (k : ℕ) → AgreesWithGame self.old.graph checked.now.player checked.now.rows → IsDominionAfter self.old.graph self.old.journal k checked.now.player (claim_rows checked.now.player checked.now.rows) → AnswersDominion (state_of self.old.journal) (claim_rows checked.now.player checked.now.rows) result × SettlesUnlessMemory self.old self.new checked.now.player (claim_rows checked.now.player checked.now.rows) result }
     {
+        // for the proof: the graph is a game
         let _n = self.game.len();
         if let Some(v) = checked.first_foreign(self.game) {
             return Err(Refusal::Foreign(v));
@@ -206,6 +209,7 @@ impl<'g> Board<'g> {
         ensures added { IfOk result (Adds self.old self.new worker (record { player = player; rows = rows.old.items })) }
         ensures unchanged { OnErr result (self.new ≡ self.old) }
     {
+        // for the proof: the graph is a game, and so small that the numbers of its vertices add up without overflow
         let _n = self.game.len();
         self.entries.reserve(1)?;
         let entry = self.entries.len() as u64;
@@ -236,7 +240,9 @@ impl<'g> Board<'g> {
         ensures lawful { IsLawful self.now.graph self.now.journal }
         ensures within { number_settled self.now.journal ≤ length self.now.graph }
     {
+        // for the proof: a look at a field tells what the type keeps, and so the journal is lawful
         let _ = &self.entries;
+        // for the proof: the graph is a game, within the limits
         let _n = self.game.len();
         self.game
     }
@@ -268,6 +274,7 @@ impl<'g> Board<'g> {
     pub fn settled_by(&self, worker: u32) -> u64
         ensures { result ≡ settled_by self.now.journal worker }
     {
+        // for the proof: there are so few vertices that their number fits
         let _n = self.game.len();
         let mut total = 0;
         'entries: for entry in &self.entries {

@@ -92,11 +92,13 @@ impl<'g, L: Ledger> Desk<'g, L> {
         } = self;
         let Share { token, amount } = share;
         book.audit(token);
+        // for the proof: what the board keeps before the post
         let _game = board.game();
         let posted = board.post(alloc, worker, claim)?;
         *shared = None;
         let more = u64::from(posted.settled);
         book.add(token, more);
+        // for the proof: no more is settled than there are vertices, so the sum fits
         let _after = board.game();
         *amount += more;
         Ok(posted.settled)
@@ -128,11 +130,13 @@ impl<'g, L: Ledger> Desk<'g, L> {
         } = self;
         let Share { token, amount } = share;
         book.audit(token);
+        // for the proof: what the board keeps before the claim is settled
         let _game = board.game();
         let settled = board.settle(alloc, worker, checked)?.settled;
         *shared = None;
         let added = u64::from(settled);
         book.add(token, added);
+        // for the proof: no more is settled than there are vertices, so the sum fits
         let _after = board.game();
         *amount += added;
         Ok(settled)
@@ -149,6 +153,7 @@ impl<'g, L: Ledger> Desk<'g, L> {
             book: _,
             shared,
         } = self;
+        // for the proof: what the board keeps, of which this is a copy
         let _game = board.game();
         if let Some(copied) = shared {
             return Arc::try_clone(copied);
@@ -240,6 +245,7 @@ impl<'g, L: Ledger> Office<'g, L> {
             all.merge(token);
         }
         book.audit(&mut all);
+        // for the proof: the journal is lawful
         let _game = board.game();
         board
     }
@@ -291,6 +297,7 @@ impl<'g, L: Ledger> Office<'g, L> {
     {
         for _ in rt.forever() {
             let desk = self.desk.lock(rt);
+            // for the proof: what the board keeps, of which this is a copy
             let _game = desk.board.game();
             if desk.board.settled() >= share.amount {
                 return desk.board.copy(alloc);

@@ -47,6 +47,7 @@ impl<'a> Bounds<'a> {
         requires right { IsRightRow self.now.game.now self.now.player row }
         ensures { MatchOption result ((w : ℕ) → EndsOutside self.now.game.now self.now.player (union (named self.now.rest.now) (settled (table_state self.now.regions.now.table.items) self.now.player)) row w → ⊥) (IsFirstEnd self.now.game.now self.now.player (union (named self.now.rest.now) (settled (table_state self.now.regions.now.table.items) self.now.player)) row) }
     {
+        // for the proof: the graph is a game, so successors rise
         let _n = self.game.len();
         if let Some(w) = row.1 {
             return if self.has(w) { None } else { Some(w) };

@@ -28,6 +28,7 @@ mod games;
 mod memory;
 mod offices;
 mod random;
+mod readme;
 mod reference;
 mod sequences;
 mod settling;

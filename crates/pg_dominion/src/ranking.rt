@@ -24,6 +24,7 @@ fn key_of(kept: &Kept, limit: u32, v: u32) -> u32
     requires vertex { v < length kept.now.game.now }
     ensures { result ≡ key_of kept.now limit v }
 {
+    // for the proof: priorities are so small that twice one, and one more, fits
     let _n = kept.game.len();
     let twice = kept.game.priority(v) * 2;
     if v < limit && kept.bad.has(v) {

@@ -51,6 +51,7 @@ fn stays(
     ensures longer { IfOk result (λ shown. (more : List ℕ) × (list.new.items ≡ list.old.items ++ more)) }
     ensures stays { IfOk result (λ shown. shown ≡ true → Stays game.now claim.now.player claim.now.rows start list.new.items v) }
 {
+    // for the proof: the graph is a game, so the ends of edges are vertices
     let _n = game.len();
     let rows = claim.rows.as_slice();
     let Some(choice) = choice_at(rows, v) else {

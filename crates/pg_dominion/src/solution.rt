@@ -157,6 +157,7 @@ fn leaves_to(kept: &Kept, solution: &Solution, v: u32) -> Option<u32>
     ensures first { MatchOption result (NoneHas (LeavesTo kept.now solution.now.rows v)) (IsFirstTo kept.now solution.now.rows v) }
     ensures within { IfSome result (λ w. w < length kept.now.game.now) }
 {
+    // for the proof: the graph is a game, so successors rise
     let _n = kept.game.len();
     let winner = row_at(solution, v).0;
     'row: for w in kept.row(v) {
@@ -191,6 +192,7 @@ pub fn check_solution(alloc: Global, game: &Game, solution: &Solution) -> Result
     ensures holds { OnOk result (IsSolution game.now solution.now.rows) }
     ensures fails { IfErr result (λ e. FailsBy game.now solution.now.rows e) }
 {
+    // for the proof: the graph is a game, so no edge leaves it
     let _n = game.len();
     if let Some(v) = first_without_choice(game, solution) {
         return Err(SolutionFault::NoChoice(game.id(v)));

@@ -26,6 +26,7 @@ mod checked;
 mod claims;
 mod games;
 mod memory;
+mod readme;
 mod reference;
 mod solutions;
 mod subgames;

@@ -28,6 +28,7 @@ mod dominions;
 mod finders;
 mod games;
 mod memory;
+mod readme;
 mod reference;
 mod searches;
 mod standard;

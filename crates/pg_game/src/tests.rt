@@ -6,6 +6,7 @@ ghost use Rattle.pg_game.specs.Specification.{AreNumbers};
 mod bands;
 mod memory;
 mod open;
+mod readme;
 
 use crate::{Game, GameFault, Mask, Player, Sequence, Spec, Specs};
 use std::alloc::Global;

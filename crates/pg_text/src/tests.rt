@@ -28,6 +28,7 @@ mod faults;
 mod games;
 mod known;
 mod memory;
+mod readme;
 mod solutions;
 
 use crate::fault::{SolutionTextFault, TextFault};

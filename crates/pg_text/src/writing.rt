@@ -127,6 +127,7 @@ fn put_vertex(out: &mut Vec<u8>, line: &mut [u8], game: &Game, v: u32) -> Result
     ensures text { OnOk result (out.new.items ≡ out.old.items ++ written_vertex game.now (vertex_at game.now v)) }
     ensures size { length line.new ≡ length line.old }
 {
+    // for the proof: the graph is a game, so each vertex has a successor
     let _n = game.len();
     let at = end_before(line);
     let at = list_before(line, at, game, game.successors(v));

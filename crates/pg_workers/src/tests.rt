@@ -34,6 +34,7 @@ mod numbers;
 mod orders;
 mod phases;
 mod random;
+mod readme;
 mod reference;
 mod replay;
 mod reports;

@@ -105,6 +105,7 @@ impl Solver {
         ensures same { IfOk result (λ entered. entered ≡ false → work (size inside.now) self.new self.new.stops.items ≡ work (size inside.now) self.old self.old.stops.items) }
         ensures none { IfOk result (λ entered. entered ≡ false → (v : ℕ) → active_of self.new.subgame v ≡ false) }
     {
+        // for the proof: there are so few vertices that the numbers listed add up without overflow
         let _n = game.len();
         if self.gone() == self.size {
             return Ok(false);
