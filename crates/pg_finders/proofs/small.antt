@@ -1,5 +1,6 @@
 -- The search for small dominions: lemmas.
 pub mod Walked
 pub mod Extended
+pub mod Fresh
 pub mod Counted
 pub mod Gathered

@@ -139,6 +139,10 @@ closes_none g p rows at l none good walk c =
           absurd (none h.0 (omega (arith, h.1)) (subst (λ x. Contains (kept g p (choice_in rows) (vertex_in rows at)) x) (sym h.2) (subst (λ x. Contains (kept g p (choice_in rows) x) w) (sym z) e.1))))
     ]
 
+-- nor does one whose choice is at none of them
+pub fresh_closes_none : (g : Graph) (p : Player) (rows : ClaimRows) (at w : ℕ) → at < length rows → owner_of g (vertex_in rows at) ≡ p → choice_in rows (vertex_in rows at) ≡ Some w → ((to : ℕ) → to ≤ at → vertex_in rows to ≢ w) → OnlyGoodWalks g p (named (take at rows)) (choice_in rows) → OnlyGoodWalks g p (named (take (at + 1) rows)) (choice_in rows)
+fresh_closes_none g p rows at w l o c away good = closes_none g p rows at l (λ to m e. away to m (sym (eqb-true w (vertex_in rows to) ((leads_some g p (choice_in rows) (vertex_in rows at) w (vertex_in rows to) o c).1 e)))) good
+
 pub left_less : (left : List Bool) (to : ℕ) → to < length left → In (members left) to → size (set left to false) < size left
 left_less left to l i = size_less (set left to false) left (length-set left to false) stays to i (get_or-set_same left to false false l)
   where

@@ -1,6 +1,6 @@
 //! The search for a small claim, depth-first over the choices at the player's vertices. It takes no memory, and
 //! calls itself at most as deep as the bound.
-ghost use Rattle.std.specs.Prelude.{◌≡◌, ◌≢◌, ℕ, ◌≤◌, ◌<◌, ◌+◌, ◌-◌, ◌⊎◌, length, IsTrue, IsFalse, IfSome, IsNone};
+ghost use Rattle.std.specs.Prelude.{◌≡◌, ◌≢◌, ℕ, false, ◌≤◌, ◌<◌, ◌+◌, ◌-◌, ◌⊎◌, length, IsTrue, IsFalse, IfSome, IsNone};
 ghost use Rattle.pg_game.specs.Graph.{HasEdge, owner_of};
 ghost use Rattle.pg_game.specs.VertexSet.{In, Within, members};
 ghost use Rattle.pg_dominion.specs.Claim.{named};
@@ -40,15 +40,6 @@ impl<'a> Search<'a> {
         }
         chosen.push(w);
         true
-    }
-
-    /// Whether the vertex is there, or the bound allows one more. Where not, a search ends before it copies the rows.
-    fn has_room(&self, chosen: &Chosen, w: u32) -> bool
-        requires { length chosen.now ≤ self.now.bound }
-        ensures full { IsFalse result → HasNoRoom chosen.now self.now.bound w }
-        ensures room { HasNoRoom chosen.now self.now.bound w → IsFalse result }
-    {
-        chosen.len() < self.bound || chosen.has(w)
     }
 
     /// Whether the rows are full, and a successor inside is none of them.
@@ -117,6 +108,45 @@ impl<'a> Search<'a> {
         Some(next)
     }
 
+    /// The rows once the player has chosen a vertex that is there, or none.
+    fn with_known(&self, chosen: &Chosen, at: usize, w: u32) -> Option<Chosen>
+        requires state { IsPartial self.now.game.now (members self.now.mask.now) self.now.player self.now.bound chosen.now at }
+        requires at { at < length chosen.now }
+        requires owner { owner_of self.now.game.now (vertex_in chosen.now at) ≡ self.now.player }
+        requires edge { HasEdge self.now.game.now (vertex_in chosen.now at) w }
+        requires known { In (named chosen.now) w }
+        ensures next { IfSome result (λ next. IsNextPartial self.now.game.now (members self.now.mask.now) self.now.player self.now.bound chosen.now at next) }
+        ensures agrees { IfSome result (λ next. StillAgreesAt self.now.game.now (members self.now.mask.now) self.now.player chosen.now at (vertex_in chosen.now at) w next) }
+        ensures none { IsNone result → NoneAgreesAt self.now.game.now (members self.now.mask.now) self.now.player self.now.bound chosen.now at (vertex_in chosen.now at) w }
+    {
+        let mut next = chosen.copy();
+        next.choose(at, w);
+        if !self.stays_good(&next, at) {
+            return None;
+        }
+        Some(next)
+    }
+
+    /// The rows once the player has chosen a vertex that is not there yet. It becomes the last row, so no walk is closed.
+    fn with_fresh(&self, chosen: &Chosen, at: usize, w: u32) -> Chosen
+        requires bound { self.now.bound ≤ 8 }
+        requires state { IsPartial self.now.game.now (members self.now.mask.now) self.now.player self.now.bound chosen.now at }
+        requires at { at < length chosen.now }
+        requires owner { owner_of self.now.game.now (vertex_in chosen.now at) ≡ self.now.player }
+        requires vertex { w < length self.now.game.now }
+        requires edge { HasEdge self.now.game.now (vertex_in chosen.now at) w }
+        requires inside { In (members self.now.mask.now) w }
+        requires fresh { named chosen.now w ≡ false }
+        requires room { length chosen.now < self.now.bound }
+        ensures next { IsNextPartial self.now.game.now (members self.now.mask.now) self.now.player self.now.bound chosen.now at result }
+        ensures agrees { StillAgreesAt self.now.game.now (members self.now.mask.now) self.now.player chosen.now at (vertex_in chosen.now at) w result }
+    {
+        let mut next = chosen.copy();
+        next.choose(at, w);
+        next.push(w);
+        next
+    }
+
     /// The rows once the player has chosen at a place, or none. The choice is tried, so `left` goes down by one.
     fn with_choice(&self, chosen: &Chosen, at: usize, w: u32, left: &mut u64) -> Option<Chosen>
         requires bound { self.now.bound ≤ 8 }
@@ -133,18 +163,13 @@ impl<'a> Search<'a> {
         ensures none { IsNone result → NoneAgreesAt self.now.game.now (members self.now.mask.now) self.now.player self.now.bound chosen.now at (vertex_in chosen.now at) w }
     {
         *left -= 1;
-        if !self.has_room(chosen, w) {
+        if chosen.has(w) {
+            return self.with_known(chosen, at, w);
+        }
+        if self.bound <= chosen.len() {
             return None;
         }
-        let mut next = chosen.copy();
-        next.choose(at, w);
-        if !self.add(&mut next, w) {
-            return None;
-        }
-        if !self.stays_good(&next, at) {
-            return None;
-        }
-        Some(next)
+        Some(self.with_fresh(chosen, at, w))
     }
 
     /// Goes on from the first rows, which are settled. `left` counts the choices that may still be tried: where the player
