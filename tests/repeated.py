@@ -28,7 +28,7 @@ ALLOWED = {
     "pg_text": (0, 0, 23),
     "pg_dominion": (6, 8, 1),
     "pg_finders": (22, 10, 0),
-    "pg_board": (4, 0, 0),
+    "pg_board": (3, 0, 0),
     "pg_workers": (0, 0, 0),
     "pgboard": (0, 0, 0),
     "pgboard_c": (10, 0, 0),

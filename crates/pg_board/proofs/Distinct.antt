@@ -16,7 +16,8 @@ use Rattle.pg_board.proofs.Places.{row_at, named_at}
 abbrev pub AllRows : Journal → ClaimRows
 AllRows journal = flat_map (λ e. e.rows) journal
 
-pub distinct-append : (mark : ℕ → Bool) (xs ys : List ℕ) → IsDistinct nat_eq xs → IsDistinct nat_eq ys → All (λ x. mark x ≡ false) xs → All (λ y. mark y ≡ true) ys → IsDistinct nat_eq (xs ++ ys)
+pub distinct-append : (mark : ℕ → Bool) (xs ys : List ℕ) → IsDistinct nat_eq xs → IsDistinct nat_eq ys → All (λ x. mark x ≡ false) xs
+    → All (λ y. mark y ≡ true) ys → IsDistinct nat_eq (xs ++ ys)
 distinct-append mark [] ys a b m n = b
 distinct-append mark (x ∷ xs) ys a b m n =
     let differs = λ (y : ℕ). nat_eq x y ≡ false in

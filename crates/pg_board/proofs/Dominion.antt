@@ -6,16 +6,17 @@ use Rattle.std.proofs.lemmas.Bool.{false_from_ne_true, and_parts, or_cases, or_l
 use Rattle.std.proofs.lemmas.List.{take-append-drop}
 use Rattle.pg_game.specs.declared.player.Player.{Player}
 use Rattle.pg_game.specs.declared.player.Player.TheVariants.{Even, Odd}
-use Rattle.pg_game.specs.Player.{opponent, same_player}
-use Rattle.pg_game.specs.Graph.{Graph, owner_of, successors_of}
+use Rattle.pg_game.specs.Player.{opponent}
+use Rattle.pg_game.specs.Graph.{Graph}
 use Rattle.pg_game.specs.VertexSet.{In, no_vertices, union}
-use Rattle.pg_game.specs.Kept.{Choices, kept, option_list, KeptEdge}
+use Rattle.pg_game.specs.Kept.{Choices, kept, KeptEdge}
 use Rattle.pg_game.specs.Region.{Wins}
 use Rattle.pg_game.proofs.Walks.{ClosedWalk-weaker}
 use Rattle.pg_game.proofs.Disjoint.{wins_disjoint}
 use Rattle.pg_game.proofs.Grown.{Grows, grown_region}
 use Rattle.pg_dominion.specs.Claim.{ClaimRows, named, choice_in}
 use Rattle.pg_dominion.proofs.Rows.{named_right}
+use Rattle.pg_finders.proofs.Solving.{kept_same}
 use Rattle.pg_board.specs.State.{State, settled, settled_for, choices, is_unsettled, rest_of, IsGoodOn, IsDominion, IsLawfulState}
 use Rattle.pg_board.specs.Journal.{Journal, state_of, IsLawful, IsDominionAfter}
 use Rattle.pg_board.proofs.RestIsGood.{in_rest, to_rest}
@@ -34,7 +35,8 @@ pub disjoint_for : (g : Graph) (p : Player) (v : ℕ) → Wins g p v → Wins g 
 disjoint_for g Even v a b = wins_disjoint g v a b
 disjoint_for g Odd v a b = wins_disjoint g v b a
 
-shut_ours : (p : Player) (o : Option (Player × Option ℕ)) (b : Bool) → settled_for p o ≡ b → is_unsettled o ≡ false → settled_for (opponent p) o ≡ false → settled_for p o ≡ true
+shut_ours : (p : Player) (o : Option (Player × Option ℕ)) (b : Bool) → settled_for p o ≡ b → is_unsettled o ≡ false → settled_for (opponent p) o ≡ false
+    → settled_for p o ≡ true
 shut_ours p o true e s n = e
 shut_ours p o false e s n = absurd (let h = neither_open p o e n in cc (h, s))
 
@@ -47,11 +49,7 @@ module _ (g : Graph) (st : State) (lawful : IsLawfulState g st) (p : Player) (ro
   claim_open v i = (and_parts (nat_lt v (length g)) (is_unsettled (st v)) (d.vertices v i)).1
 
   as_claim : (v w : ℕ) → In (named rows) v → Contains (kept g p both_choices v) w → KeptEdge g p (named rows) (choice_in rows) v w
-  as_claim v w i m = (
-    i,
-    let e : both_choices v ≡ choice_in rows v = rw i refl in
-        subst (λ o. Contains (if same_player (owner_of g v) p then option_list o else successors_of g v) w) e m,
-  )
+  as_claim v w i m = let e : both_choices v ≡ choice_in rows v = rw i refl in kept_same g p (named rows) (choice_in rows) both_choices v w e i m
 
   grows : Grows g p (settled st p) (named rows) no_vertices (choices st) both_choices (λ v. 0)
   grows = record {

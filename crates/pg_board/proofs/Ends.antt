@@ -57,7 +57,8 @@ module _ (g : Graph) (p : Player) (S : VertexSet) (rows : ClaimRows) (right : Ar
   pub none_outside : (i : ℕ) → length rows ≤ i → NoneUpTo i → (v w : ℕ) → LeadsOutside g p S rows v w → ⊥
   none_outside i l none v w h = let q = placed v w h in none q.0 w (omega (arith, q.1)) q.3
 
-  pub first_outside : (i w : ℕ) → i < length rows → NoneUpTo i → EndsOutside g p S (row_at rows i) w → ((x : ℕ) → EndsOutside g p S (row_at rows i) x → w ≤ x) → IsFirstOutside g p S rows (row_at rows i).0 w
+  pub first_outside : (i w : ℕ) → i < length rows → NoneUpTo i → EndsOutside g p S (row_at rows i) w → ((x : ℕ) → EndsOutside g p S (row_at rows i) x → w ≤ x)
+      → IsFirstOutside g p S rows (row_at rows i).0 w
   first_outside i w l none here least = record {
     edge = from_row i w l here;
     first = λ u x h. first u x (placed u x h);

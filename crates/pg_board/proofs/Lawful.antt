@@ -7,14 +7,14 @@ use Rattle.std.proofs.lemmas.Grind.{flat_map-append}
 use Rattle.std.proofs.lemmas.Option.{slice_get_within}
 use Rattle.std.proofs.Math.Seq.{take-length}
 use Rattle.pg_game.specs.declared.player.Player.{Player}
-use Rattle.pg_game.specs.Graph.{Graph, HasEdge}
-use Rattle.pg_game.specs.VertexSet.{In, all_vertices}
+use Rattle.pg_game.specs.Graph.{Graph}
 use Rattle.pg_dominion.specs.Claim.{ClaimRows}
 use Rattle.pg_board.specs.declared.entry.Entry.{Entry}
 use Rattle.pg_board.specs.State.{IsGoodOn, IsLawfulState, is_unsettled}
 use Rattle.pg_board.specs.Journal.{Journal, state_of, claimed_rows, Answers, IsLawful}
 use Rattle.pg_board.proofs.RestIsGood.{vertices}
 use Rattle.pg_board.proofs.Distinct.{AllRows, distinct-append, each_settled}
+use Rattle.pg_board.proofs.Turns.{EdgesStay, EachHasEdge}
 use Rattle.pg_board.proofs.Numbers.{lawful_now}
 use Rattle.pg_board.proofs.Push.{lawful_state, own_claim_good, own_claim_answered, once_rows, each_open}
 
@@ -28,7 +28,7 @@ pub length-snoc : (j : Journal) (e : Entry) → length (j ++ e ∷ []) ≡ suc (
 length-snoc [] e = refl
 length-snoc (x ∷ xs) e = ap suc (length-snoc xs e)
 
-module _ (g : Graph) (edges : (v w : ℕ) → v < length g → HasEdge g v w → In (all_vertices g) w) (some : (v : ℕ) → v < length g → (w : ℕ) × HasEdge g v w) (j : Journal) (lawful : IsLawful g j) (p : Player) (rows : ClaimRows) where
+module _ (g : Graph) (edges : EdgesStay g) (some : EachHasEdge g) (j : Journal) (lawful : IsLawful g j) (p : Player) (rows : ClaimRows) where
   pub lawful_push : IsGoodOn g (state_of j) p rows → (e : Entry) → Answers g (state_of j) p rows e → IsLawful g (j ++ e ∷ [])
   lawful_push posted e answers = record {
     once = subst (IsDistinct nat_eq) (sym all_vertices_are)

@@ -21,7 +21,8 @@ module _ (st : State) (p : Player) (rows : ClaimRows) where
       let f : settled st (opponent p) u ≡ false = subst (λ (x : ℕ). settled st (opponent p) x ≡ false) q.2 (before q.0 (omega (arith, q.1))) in
       let t = h.1 in cc (f, t)
 
-  pub least_lost : (i : ℕ) → i < length rows → IsStrictlyIncreasing (vertices rows) → NoneBefore st (opponent p) rows i → settled st (opponent p) (row_at rows i).0 ≡ true → IsLeast (IsLost st p rows) (row_at rows i).0
+  pub least_lost : (i : ℕ) → i < length rows → IsStrictlyIncreasing (vertices rows) → NoneBefore st (opponent p) rows i
+      → settled st (opponent p) (row_at rows i).0 ≡ true → IsLeast (IsLost st p rows) (row_at rows i).0
   least_lost i l rising before here = record {
     has = (named_at rows i l, here);
     least = λ u h. least u h;

@@ -92,7 +92,8 @@ module _ (g : Graph) (j : Journal) (lawful : IsLawful g j) where
       omega (arith, number_is j)
 
 -- what one worker's entries settle so far, with one more entry
-pub more_settled_by : (j : Journal) (worker i : ℕ) (e : Entry) → i < length j → e ≡ get_or j i e → settled_by (take i j) worker + length e.rows ≤ number_settled j
+pub more_settled_by : (j : Journal) (worker i : ℕ) (e : Entry) → i < length j → e ≡ get_or j i e
+    → settled_by (take i j) worker + length e.rows ≤ number_settled j
 more_settled_by j worker i e l same =
     let both = sum_by-filter_both (λ (x : Entry). x.worker == worker) (λ x. not (x.worker == worker)) (λ x. refl) (λ x. length x.rows) (take i j) in
     let more = sum_by_more_le (λ (x : Entry). length x.rows) j i e l in

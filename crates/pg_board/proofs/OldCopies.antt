@@ -36,9 +36,22 @@ use Rattle.pg_board.proofs.Order.{Target, order}
 
 shape_is_right : (g : Graph) (p : Player) (rows : ClaimRows) (i : ℕ) → HasShape g p rows → IsFirstWrongRow g p rows i → ⊥
 shape_is_right g p rows i shape (inl (e, z)) = let n = shape.nonempty in let l : length rows ≡ 0 = ap (λ (xs : ClaimRows). length xs) e in omega arith
-shape_is_right g p rows i shape (inr (l, a, wrong)) = wrong (AreRight-front g p (take (i + 1) rows) (drop (i + 1) rows) (subst (λ (xs : ClaimRows). AreRight g p xs) (sym (take-append-drop (i + 1) rows)) shape.right))
+shape_is_right g p rows i shape (inr (l, a, wrong)) = wrong (AreRight-front g p (take (i + 1) rows) (drop (i + 1) rows)
+    (subst (λ (xs : ClaimRows). AreRight g p xs) (sym (take-append-drop (i + 1) rows)) shape.right))
 
-module _ (g : Graph) (game : IsGame g) (old : Journal) (lawful : IsLawful g old) (claim : Claim) (k : ℕ) (d : IsDominionAfter g old k claim.player claim.rows) where
+-- what a board answers to the claim, and what it then is
+pub record IsAnswered (x new : Play) (worker : ℕ) (claim : Claim) (result : Result Posted Refusal) : Type 0 where
+  pub posted : IfOk result (λ posted. IsGoodOn x.graph (state_of x.journal) claim.player claim.rows × Adds x new worker claim posted)
+  pub refused : IfErr result (λ e. Refuses x.graph (state_of x.journal) claim.player claim.rows e)
+  pub unchanged : OnErr result (new ≡ x)
+
+module _ (x : Play) (game : IsGame x.graph) (lawful : IsLawful x.graph x.journal) (claim : Claim) (k : ℕ) (d : IsDominionAfter x.graph x.journal k claim.player claim.rows) where
+  abbrev g : Graph
+  g = x.graph
+
+  abbrev old : Journal
+  old = x.journal
+
   abbrev p : Player
   p = claim.player
 
@@ -53,59 +66,60 @@ module _ (g : Graph) (game : IsGame g) (old : Journal) (lawful : IsLawful g old)
   target_is : Target p old (claim ∷ []) ≡ union (settled (state_of old) p) (named rows)
   target_is = fun_ext (λ v. ap (λ b. settled (state_of old) p v || b) (rw (is_same p p refl) (or-false (named rows v))))
 
-  own : (new : Journal) → Posts g old (claim ∷ []) new → (v : ℕ) → In (settled (state_of new) p) v ↔ Attractor g p (all_vertices g) (union (settled (state_of old) p) (named rows)) v
+  own : (new : Journal) → Posts g old (claim ∷ []) new → (v : ℕ)
+      → In (settled (state_of new) p) v ↔ Attractor g p (all_vertices g) (union (settled (state_of old) p) (named rows)) v
   own new posts v = subst (λ (T : VertexSet). In (settled (state_of new) p) v ↔ Attractor g p (all_vertices g) T v) target_is
       ((order g (edge_inside g game) (some_edge g game) old new (claim ∷ []) lawful ((k, d), tt) posts).1 p v)
 
-  settles_stale : rest_of (state_of old) rows ≡ [] → (new : Play) → new ≡ record { graph = g; journal = old } → SettlesDominion (record { graph = g; journal = old }) new p rows
-  settles_stale none new same = subst (λ (x : Play). SettlesDominion (record { graph = g; journal = old }) x p rows) (sym same) (record {
+  settles_stale : rest_of (state_of old) rows ≡ [] → (new : Play) → new ≡ x → SettlesDominion x new p rows
+  settles_stale none new same = subst (λ (y : Play). SettlesDominion x y p rows) (sym same) (record {
     own = own old (inl (none, refl));
     other = λ v. refl;
   })
 
-  settles_posted : (new : Play) (worker : ℕ) (posted : Posted) → IsGoodOn g (state_of old) p rows → Adds (record { graph = g; journal = old }) new worker claim posted → SettlesDominion (record { graph = g; journal = old }) new p rows
+  settles_posted : (new : Play) (worker : ℕ) (posted : Posted) → IsGoodOn g (state_of old) p rows → Adds x new worker claim posted
+      → SettlesDominion x new p rows
   settles_posted new worker posted good a = record {
     own = own new.journal (inr (a.entry, good.not_stale, a.answers, a.journal));
     other = λ v. ap (λ (j : Journal). settled (state_of j) (opponent p) v) a.journal
         ∙ ap (λ (X : VertexSet). X v) (theirs g (edge_inside g game) old (lawful_now g old lawful) p rows good a.entry a.answers);
   }
 
-  claimed_size : (worker : ℕ) (new : Play) (posted : Posted) → Adds (record { graph = g; journal = old }) new worker claim posted → posted.claimed ≡ length (rest_of (state_of old) rows)
+  claimed_size : (worker : ℕ) (new : Play) (posted : Posted) → Adds x new worker claim posted → posted.claimed ≡ length (rest_of (state_of old) rows)
   claimed_size worker new posted a =
       let e : length (take a.entry.claimed a.entry.rows) ≡ length (rest_of (state_of old) rows) = ap (λ (xs : ClaimRows). length xs) a.answers.rest in
       let l = a.answers.claimed in
       let c = a.claimed in
       omega (arith, length-take a.entry.claimed a.entry.rows)
 
-  pub old_copy : (new : Play) (worker : ℕ) (result : Result Posted Refusal)
-      → IfOk result (λ posted. IsGoodOn g (state_of old) p rows × Adds (record { graph = g; journal = old }) new worker claim posted)
-      → IfErr result (λ e. Refuses g (state_of old) p rows e)
-      → OnErr result (new ≡ record { graph = g; journal = old })
-      → AnswersDominion (state_of old) rows result × SettlesUnlessMemory (record { graph = g; journal = old }) new p rows result
-  old_copy new worker (Ok posted) ok refused same = (claimed_size worker new posted ok.1, settles_posted new worker posted ok.0 ok.1)
-  old_copy new worker (Err refusal.Memory) ok refused same = (tt, tt)
-  old_copy new worker (Err refusal.Stale) ok refused same = (refused.2, settles_stale refused.2 new same)
-  old_copy new worker (Err (refusal.Claim fault)) ok refused same = absurd (no_fault fault refused.0 refused.1)
-  old_copy new worker (Err (refusal.Foreign v)) ok refused same = absurd refused
-  old_copy new worker (Err (refusal.Lost v)) ok refused same = absurd (let h = refused.1.has in let f = never_lost g old lawful k p rows d v h.0 in let t = h.1 in cc (t, f))
-  old_copy new worker (Err (refusal.Open v w)) ok refused same = absurd (let e = refused.2.edge in e.1 (stays_closed g old lawful k p rows d v w e.0))
+  pub old_copy : (new : Play) (worker : ℕ) (result : Result Posted Refusal) → IsAnswered x new worker claim result
+      → AnswersDominion (state_of old) rows result × SettlesUnlessMemory x new p rows result
+  old_copy new worker (Ok posted) h = (claimed_size worker new posted h.posted.1, settles_posted new worker posted h.posted.0 h.posted.1)
+  old_copy new worker (Err refusal.Memory) h = (tt, tt)
+  old_copy new worker (Err refusal.Stale) h = (h.refused.2, settles_stale h.refused.2 new h.unchanged)
+  old_copy new worker (Err (refusal.Claim fault)) h = absurd (no_fault fault h.refused.0 h.refused.1)
+  old_copy new worker (Err (refusal.Foreign v)) h = absurd h.refused
+  old_copy new worker (Err (refusal.Lost v)) h = absurd (let l = h.refused.1.has in let f = never_lost g old lawful k p rows d v l.0 in let t = l.1 in cc (t, f))
+  old_copy new worker (Err (refusal.Open v w)) h = absurd (let e = h.refused.2.edge in e.1 (stays_closed g old lawful k p rows d v w e.0))
 
 -- what is answered where the check of a claim failed
-pub refused_check : (g : Graph) (st : State) (p : Player) (rows : ClaimRows) (fault : ClaimFault) → IsClaimFault g p rows fault → Refuses g st p rows (refusal_of fault)
+pub refused_check : (g : Graph) (st : State) (p : Player) (rows : ClaimRows) (fault : ClaimFault) → IsClaimFault g p rows fault
+    → Refuses g st p rows (refusal_of fault)
 refused_check g st p rows (claim_fault.Shape i) h = (h, λ e. cc e)
 refused_check g st p rows (claim_fault.Cycle v) h = (h, λ e. cc e)
 refused_check g st p rows claim_fault.Memory h = tt
 
 -- the journal is lawful after a post
-pub lawful_after : (g : Graph) → IsGame g → (old : Journal) → IsLawful g old → (claim : Claim) (new : Play) (worker : ℕ) (result : Result Posted Refusal)
-    → IfOk result (λ posted. IsGoodOn g (state_of old) claim.player claim.rows × Adds (record { graph = g; journal = old }) new worker claim posted)
-    → OnErr result (new ≡ record { graph = g; journal = old }) → new.graph ≡ g → IsLawful new.graph new.journal
-lawful_after g game old lawful claim new worker (Ok posted) ok same graph =
-    rw (graph, ok.1.journal) (lawful_push g (edge_inside g game) (some_edge g game) old lawful claim.player claim.rows ok.0 ok.1.entry ok.1.answers)
-lawful_after g game old lawful claim new worker (Err e) ok same graph = subst (λ (x : Play). IsLawful x.graph x.journal) (sym same) lawful
+pub lawful_after : (x new : Play) (worker : ℕ) (claim : Claim) (result : Result Posted Refusal) → IsGame x.graph → IsLawful x.graph x.journal
+    → IsAnswered x new worker claim result → new.graph ≡ x.graph → IsLawful new.graph new.journal
+lawful_after x new worker claim (Ok posted) game lawful h graph =
+    let a = h.posted.1 in
+    rw (graph, a.journal) (lawful_push x.graph (edge_inside x.graph game) (some_edge x.graph game) x.journal lawful claim.player claim.rows h.posted.0 a.entry a.answers)
+lawful_after x new worker claim (Err e) game lawful h graph = subst (λ (y : Play). IsLawful y.graph y.journal) (sym h.unchanged) lawful
 
 -- a refusal of the claim that lies in the state is one of the checked claim
-pub refused_checked : (g : Graph) (st : State) (c : CheckedClaim) (e : Refusal) → AgreesWithGame g c.player c.rows → IsOfState e → Refuses g st c.player (claim_rows c.player c.rows) e → RefusesChecked g st c e
+pub refused_checked : (g : Graph) (st : State) (c : CheckedClaim) (e : Refusal) → AgreesWithGame g c.player c.rows → IsOfState e
+    → Refuses g st c.player (claim_rows c.player c.rows) e → RefusesChecked g st c e
 refused_checked g st c (refusal.Claim fault) a o r = absurd o
 refused_checked g st c (refusal.Foreign v) a o r = absurd o
 refused_checked g st c (refusal.Lost v) a o r = (o, a, r)
@@ -113,6 +127,7 @@ refused_checked g st c refusal.Stale a o r = (o, a, r)
 refused_checked g st c (refusal.Open v w) a o r = (o, a, r)
 refused_checked g st c refusal.Memory a o r = tt
 
-pub checked_refusal : (g : Graph) (st : State) (c : CheckedClaim) → AgreesWithGame g c.player c.rows → (r : Result Posted Refusal) → IfErr r IsOfState → IfErr r (λ e. Refuses g st c.player (claim_rows c.player c.rows) e) → IfErr r (λ e. RefusesChecked g st c e)
+pub checked_refusal : (g : Graph) (st : State) (c : CheckedClaim) → AgreesWithGame g c.player c.rows → (r : Result Posted Refusal) → IfErr r IsOfState
+    → IfErr r (λ e. Refuses g st c.player (claim_rows c.player c.rows) e) → IfErr r (λ e. RefusesChecked g st c e)
 checked_refusal g st c a (Ok posted) o r = tt
 checked_refusal g st c a (Err e) o r = refused_checked g st c e a o r

@@ -6,8 +6,8 @@ use Rattle.std.proofs.lemmas.Bool.{or_cases, or_left, or_right}
 use Rattle.std.proofs.Math.Bool.{or-false}
 use Rattle.pg_game.specs.declared.player.Player.{Player}
 use Rattle.pg_game.specs.Player.{opponent, same_player}
-use Rattle.pg_game.specs.Graph.{Graph, HasEdge}
-use Rattle.pg_game.specs.VertexSet.{VertexSet, In, all_vertices, no_vertices, union}
+use Rattle.pg_game.specs.Graph.{Graph}
+use Rattle.pg_game.specs.VertexSet.{VertexSet, In, Within, all_vertices, no_vertices, union}
 use Rattle.pg_game.specs.Attractor.{Attractor}
 use Rattle.pg_game.proofs.Attract.{target_attracted, Attractor-monotone, Attractor-idempotent}
 use Rattle.pg_game.proofs.Players.{own_or_other, same_is, is_same}
@@ -18,6 +18,7 @@ use Rattle.pg_board.specs.State.{settled, is_unsettled, rest_of, IsGoodOn, IsDom
 use Rattle.pg_board.specs.Journal.{Journal, state_of, claimed_rows, Answers, IsLawful, IsDominionAfter}
 use Rattle.pg_board.specs.Order.{Posts, claimed_by, WereDominions}
 use Rattle.pg_board.proofs.RestIsGood.{in_rest}
+use Rattle.pg_board.proofs.Turns.{EdgesStay, EachHasEdge}
 use Rattle.pg_board.proofs.Numbers.{lawful_now}
 use Rattle.pg_board.proofs.Push.{ours_named, theirs}
 use Rattle.pg_board.proofs.Lawful.{lawful_push, length-snoc}
@@ -30,9 +31,25 @@ of_claim q c = if same_player c.player q then named c.rows else no_vertices
 abbrev pub Target : Player → Journal → List Claim → VertexSet
 Target q old claims = union (settled (state_of old) q) (claimed_by q claims)
 
+abbrev WasDominion : Graph → Journal → Claim → Type 0
+WasDominion g old c = (k : ℕ) × IsDominionAfter g old k c.player c.rows
+
+-- a claim that was a dominion, of which something is open, and the entry that answers it
+record IsPosted (g : Graph) (old : Journal) (c : Claim) (e : Entry) : Type 0 where
+  lawful : IsLawful g old
+  was : WasDominion g old c
+  some_open : 0 < length (rest_of (state_of old) c.rows)
+  answers : Answers g (state_of old) c.player c.rows e
+
 -- a longer journal has the same front
-still_dominion : (g : Graph) (old : Journal) (e : Entry) (c : Claim) → (k : ℕ) × IsDominionAfter g old k c.player c.rows → (k : ℕ) × IsDominionAfter g (old ++ e ∷ []) k c.player c.rows
-still_dominion g old e c (k, (l, d)) = (k, (subst (λ n. k ≤ n) (sym (length-snoc old e)) (omega arith), subst (λ xs. IsDominion g (state_of xs) c.player c.rows) (sym (take-append-le k old (e ∷ []) l)) d))
+still_dominion : (g : Graph) (old : Journal) (e : Entry) (c : Claim) → WasDominion g old c → WasDominion g (old ++ e ∷ []) c
+still_dominion g old e c (k, (l, d)) = (
+  k,
+  (
+    subst (λ n. k ≤ n) (sym (length-snoc old e)) (omega arith),
+    subst (λ xs. IsDominion g (state_of xs) c.player c.rows) (sym (take-append-le k old (e ∷ []) l)) d,
+  ),
+)
 
 still_dominions : (g : Graph) (old : Journal) (e : Entry) (cs : List Claim) → WereDominions g old cs → WereDominions g (old ++ e ∷ []) cs
 still_dominions g old e [] h = tt
@@ -46,28 +63,45 @@ own_claim q c v i = go (same_player c.player q) refl
     go true e = (same_is c.player q e, (let f : named c.rows v ≡ true = rw e at i in f))
     go false e = absurd (let f : false ≡ true = rw e at i in cc f)
 
+in_settled : (q : Player) (old : Journal) (cs : List Claim) (v : ℕ) → In (settled (state_of old) q) v → In (Target q old cs) v
+in_settled q old cs v i = or_left (settled (state_of old) q v) (claimed_by q cs v) i
+
+in_claims : (q : Player) (old : Journal) (cs : List Claim) (v : ℕ) → In (claimed_by q cs) v → In (Target q old cs) v
+in_claims q old cs v i = or_right (settled (state_of old) q v) (claimed_by q cs v) i
+
+in_first : (q : Player) (old : Journal) (c : Claim) (cs : List Claim) (v : ℕ) → In (of_claim q c) v → In (Target q old (c ∷ cs)) v
+in_first q old c cs v i = in_claims q old (c ∷ cs) v (or_left (of_claim q c v) (claimed_by q cs v) i)
+
+in_later : (q : Player) (old : Journal) (c : Claim) (cs : List Claim) (v : ℕ) → In (claimed_by q cs) v → In (Target q old (c ∷ cs)) v
+in_later q old c cs v i = in_claims q old (c ∷ cs) v (or_right (of_claim q c v) (claimed_by q cs v) i)
+
+-- a set into which the settled vertices and those of the claims lie has the target
+from_target : (q : Player) (old : Journal) (c : Claim) (cs : List Claim) (S : VertexSet) → Within (settled (state_of old) q) S → Within (of_claim q c) S
+    → Within (claimed_by q cs) S → Within (Target q old (c ∷ cs)) S
+from_target q old c cs S a b d v i = elim (or_cases (settled (state_of old) q v) (of_claim q c v || claimed_by q cs v) i) [
+  | inl x ↦ a v x
+  | inr x ↦ elim (or_cases (of_claim q c v) (claimed_by q cs v) x) [ inl y ↦ b v y | inr y ↦ d v y ]
+]
+
 -- each set lies in what the other attracts, so both attract the same
 abbrev SameAttractor : Graph → Player → VertexSet → VertexSet → Type 0
 SameAttractor g q T T' = (v : ℕ) → Attractor g q (all_vertices g) T v ↔ Attractor g q (all_vertices g) T' v
 
-same_attractor : (g : Graph) (q : Player) (T T' : VertexSet) → ((v : ℕ) → In T v → Attractor g q (all_vertices g) T' v) → ((v : ℕ) → In T' v → Attractor g q (all_vertices g) T v) → SameAttractor g q T T'
+same_attractor : (g : Graph) (q : Player) (T T' : VertexSet) → ((v : ℕ) → In T v → Attractor g q (all_vertices g) T' v)
+    → ((v : ℕ) → In T' v → Attractor g q (all_vertices g) T v) → SameAttractor g q T T'
 same_attractor g q T T' a b v = (Attractor-idempotent g q (all_vertices g) T' T a v, Attractor-idempotent g q (all_vertices g) T T' b v)
 
-module _ (g : Graph) (edges : (v w : ℕ) → v < length g → HasEdge g v w → In (all_vertices g) w) (some : (v : ℕ) → v < length g → (w : ℕ) × HasEdge g v w) where
+module _ (g : Graph) (edges : EdgesStay g) (some : EachHasEdge g) where
   -- a claim of which nothing is open adds nothing to the target
-  stale_target : (q : Player) (old : Journal) (lawful : IsLawful g old) (c : Claim) (cs : List Claim) → (k : ℕ) × IsDominionAfter g old k c.player c.rows → rest_of (state_of old) c.rows ≡ [] → SameAttractor g q (Target q old cs) (Target q old (c ∷ cs))
+  stale_target : (q : Player) (old : Journal) (lawful : IsLawful g old) (c : Claim) (cs : List Claim) → WasDominion g old c → rest_of (state_of old) c.rows ≡ []
+      → SameAttractor g q (Target q old cs) (Target q old (c ∷ cs))
   stale_target q old lawful c cs (k, d) none = same_attractor g q (Target q old cs) (Target q old (c ∷ cs))
       (λ v i. target_attracted g q (all_vertices g) (Target q old (c ∷ cs)) v (elim (or_cases (settled (state_of old) q v) (claimed_by q cs v) i) [
-        | inl a ↦ or_left (settled (state_of old) q v) (of_claim q c v || claimed_by q cs v) a
-        | inr a ↦ or_right (settled (state_of old) q v) (of_claim q c v || claimed_by q cs v) (or_right (of_claim q c v) (claimed_by q cs v) a)
+        | inl a ↦ in_settled q old (c ∷ cs) v a
+        | inr a ↦ in_later q old c cs v a
       ]))
-      (λ v i. target_attracted g q (all_vertices g) (Target q old cs) v (elim (or_cases (settled (state_of old) q v) (of_claim q c v || claimed_by q cs v) i) [
-        | inl a ↦ or_left (settled (state_of old) q v) (claimed_by q cs v) a
-        | inr a ↦ elim (or_cases (of_claim q c v) (claimed_by q cs v) a) [
-          | inl b ↦ or_left (settled (state_of old) q v) (claimed_by q cs v) (stale_vertex v b)
-          | inr b ↦ or_right (settled (state_of old) q v) (claimed_by q cs v) b
-        ]
-      ]))
+      (λ v i. target_attracted g q (all_vertices g) (Target q old cs) v
+      (from_target q old c cs (Target q old cs) (in_settled q old cs) (λ x a. in_settled q old cs x (stale_vertex x a)) (in_claims q old cs) v i))
     where
       stale_vertex : (v : ℕ) → In (of_claim q c) v → In (settled (state_of old) q) v
       stale_vertex v b =
@@ -78,58 +112,68 @@ module _ (g : Graph) (edges : (v w : ℕ) → v < length g → HasEdge g v w →
           ]
 
   -- a claim that was posted moves from the target's claims to its settled vertices, with what it attracts
-  posted_target : (q : Player) (old : Journal) (lawful : IsLawful g old) (c : Claim) (cs : List Claim) → (d : (k : ℕ) × IsDominionAfter g old k c.player c.rows) → (_ : 0 < length (rest_of (state_of old) c.rows)) → (e : Entry) → Answers g (state_of old) c.player c.rows e → SameAttractor g q (Target q (old ++ e ∷ []) cs) (Target q old (c ∷ cs))
-  posted_target q old lawful c cs (k, d) some_open e answers = same_attractor g q (Target q (old ++ e ∷ []) cs) (Target q old (c ∷ cs))
-      (λ v i. elim (or_cases (settled (state_of (old ++ e ∷ [])) q v) (claimed_by q cs v) i) [
-        | inl a ↦ from_settled v a
-        | inr a ↦ target_attracted g q (all_vertices g) (Target q old (c ∷ cs)) v (or_right (settled (state_of old) q v) (of_claim q c v || claimed_by q cs v) (or_right (of_claim q c v) (claimed_by q cs v) a))
-      ])
-      (λ v i. target_attracted g q (all_vertices g) (Target q (old ++ e ∷ []) cs) v (elim (or_cases (settled (state_of old) q v) (of_claim q c v || claimed_by q cs v) i) [
-        | inl a ↦ or_left (settled (state_of (old ++ e ∷ [])) q v) (claimed_by q cs v) (stays_settled old (e ∷ []) q v a)
-        | inr a ↦ elim (or_cases (of_claim q c v) (claimed_by q cs v) a) [
-          | inl b ↦ or_left (settled (state_of (old ++ e ∷ [])) q v) (claimed_by q cs v) (of_posted v b)
-          | inr b ↦ or_right (settled (state_of (old ++ e ∷ [])) q v) (claimed_by q cs v) b
+  module _ (q : Player) (old : Journal) (c : Claim) (cs : List Claim) (e : Entry) (h : IsPosted g old c e) where
+    abbrev longer : Journal
+    longer = old ++ e ∷ []
+
+    abbrev p : Player
+    p = c.player
+
+    -- what the player had, and the rest
+    abbrev Start : VertexSet
+    Start = union (settled (state_of old) p) (named (claimed_rows e))
+
+    good : IsGoodOn g (state_of old) p c.rows
+    good = dominion_good g old h.lawful h.was.0 p c.rows h.was.1 h.some_open
+
+    ours : settled (state_of longer) p ≡ union (settled (state_of old) p) (named e.rows)
+    ours = ours_named g edges old (lawful_now g old h.lawful) p c.rows good e h.answers
+
+    other : settled (state_of longer) (opponent p) ≡ settled (state_of old) (opponent p)
+    other = theirs g edges old (lawful_now g old h.lawful) p c.rows good e h.answers
+
+    into : (v : ℕ) → p ≡ q → In Start v → In (Target q old (c ∷ cs)) v
+    into v same i = elim (or_cases (settled (state_of old) p v) (named (claimed_rows e) v) i) [
+      | inl a ↦ in_settled q old (c ∷ cs) v (subst (λ x. In (settled (state_of old) x) v) same a)
+      | inr a ↦ in_first q old c cs v
+          (let n = (in_rest (state_of old) c.rows v (subst (λ xs. In (named xs) v) h.answers.rest a)).0 in
+          let y : same_player p q ≡ true = is_same p q same in
+          rw y n)
+    ]
+
+    from_settled : (v : ℕ) → In (settled (state_of longer) q) v → Attractor g q (all_vertices g) (Target q old (c ∷ cs)) v
+    from_settled v a = elim (own_or_other q p) [
+      | inl same ↦
+          (let a' : In (settled (state_of longer) p) v = subst (λ x. In (settled (state_of longer) x) v) same a in
+          let b = (h.answers.exact v).0 (subst (λ X. In X v) ours a') in
+          let b' : Attractor g q (all_vertices g) Start v = subst (λ x. Attractor g x (all_vertices g) Start v) (sym same) b in
+          Attractor-monotone g q (all_vertices g) Start (Target q old (c ∷ cs)) (λ x i. into x (sym same) i) v b')
+      | inr same ↦
+          (let a' : In (settled (state_of longer) (opponent p)) v = subst (λ x. In (settled (state_of longer) x) v) same a in
+          let b : In (settled (state_of old) q) v = subst (λ x. In (settled (state_of old) x) v) (sym same) (subst (λ X. In X v) other a') in
+          target_attracted g q (all_vertices g) (Target q old (c ∷ cs)) v (in_settled q old (c ∷ cs) v b))
+    ]
+
+    of_posted : (v : ℕ) → In (of_claim q c) v → In (settled (state_of longer) q) v
+    of_posted v b =
+        let o = own_claim q c v b in
+        elim (ours_or_open g old h.lawful h.was.0 p c.rows h.was.1 v o.1 (is_unsettled (state_of old v)) refl) [
+          | inl r ↦
+              (let n : In (named (claimed_rows e)) v = subst (λ xs. In (named xs) v) (sym h.answers.rest) r in
+              let t : In Start v = or_right (settled (state_of old) p v) (named (claimed_rows e) v) n in
+              let i = (h.answers.exact v).1 (target_attracted g p (all_vertices g) Start v t) in
+              subst (λ x. In (settled (state_of longer) x) v) o.0 (subst (λ X. In X v) (sym ours) i))
+          | inr s ↦ stays_settled old (e ∷ []) q v (subst (λ x. In (settled (state_of old) x) v) o.0 s)
         ]
-      ]))
-    where
-      good : IsGoodOn g (state_of old) c.player c.rows
-      good = dominion_good g old lawful k c.player c.rows d some_open
 
-      ours : settled (state_of (old ++ e ∷ [])) c.player ≡ union (settled (state_of old) c.player) (named e.rows)
-      ours = ours_named g edges old (lawful_now g old lawful) c.player c.rows good e answers
-
-      into : (v : ℕ) → c.player ≡ q → In (union (settled (state_of old) c.player) (named (claimed_rows e))) v → In (Target q old (c ∷ cs)) v
-      into v h i = elim (or_cases (settled (state_of old) c.player v) (named (claimed_rows e) v) i) [
-        | inl a ↦ or_left (settled (state_of old) q v) (of_claim q c v || claimed_by q cs v) (subst (λ x. In (settled (state_of old) x) v) h a)
-        | inr a ↦ or_right (settled (state_of old) q v) (of_claim q c v || claimed_by q cs v) (or_left (of_claim q c v) (claimed_by q cs v)
-            (let n = (in_rest (state_of old) c.rows v (subst (λ xs. In (named xs) v) answers.rest a)).0 in
-            let y : same_player c.player q ≡ true = is_same c.player q h in
-            rw y n))
-      ]
-
-      from_settled : (v : ℕ) → In (settled (state_of (old ++ e ∷ [])) q) v → Attractor g q (all_vertices g) (Target q old (c ∷ cs)) v
-      from_settled v a = elim (own_or_other q c.player) [
-        | inl h ↦
-            (let a' : In (settled (state_of (old ++ e ∷ [])) c.player) v = subst (λ x. In (settled (state_of (old ++ e ∷ [])) x) v) h a in
-            let b = (answers.exact v).0 (subst (λ X. In X v) ours a') in
-            let b' : Attractor g q (all_vertices g) (union (settled (state_of old) c.player) (named (claimed_rows e))) v = subst (λ x. Attractor g x (all_vertices g) (union (settled (state_of old) c.player) (named (claimed_rows e))) v) (sym h) b in
-            Attractor-monotone g q (all_vertices g) (union (settled (state_of old) c.player) (named (claimed_rows e))) (Target q old (c ∷ cs)) (λ x i. into x (sym h) i) v b')
-        | inr h ↦
-            (let a' : In (settled (state_of (old ++ e ∷ [])) (opponent c.player)) v = subst (λ x. In (settled (state_of (old ++ e ∷ [])) x) v) h a in
-            let b : In (settled (state_of old) (opponent c.player)) v = subst (λ X. In X v) (theirs g edges old (lawful_now g old lawful) c.player c.rows good e answers) a' in
-            target_attracted g q (all_vertices g) (Target q old (c ∷ cs)) v (or_left (settled (state_of old) q v) (of_claim q c v || claimed_by q cs v) (subst (λ x. In (settled (state_of old) x) v) (sym h) b)))
-      ]
-
-      of_posted : (v : ℕ) → In (of_claim q c) v → In (settled (state_of (old ++ e ∷ [])) q) v
-      of_posted v b =
-          let o = own_claim q c v b in
-          elim (ours_or_open g old lawful k c.player c.rows d v o.1 (is_unsettled (state_of old v)) refl) [
-            | inl r ↦
-                (let t : In (union (settled (state_of old) c.player) (named (claimed_rows e))) v = or_right (settled (state_of old) c.player v) (named (claimed_rows e) v) (subst (λ xs. In (named xs) v) (sym answers.rest) r) in
-                let i = (answers.exact v).1 (target_attracted g c.player (all_vertices g) (union (settled (state_of old) c.player) (named (claimed_rows e))) v t) in
-                subst (λ x. In (settled (state_of (old ++ e ∷ [])) x) v) o.0 (subst (λ X. In X v) (sym ours) i))
-            | inr s ↦ stays_settled old (e ∷ []) q v (subst (λ x. In (settled (state_of old) x) v) o.0 s)
-          ]
+    posted_target : SameAttractor g q (Target q longer cs) (Target q old (c ∷ cs))
+    posted_target = same_attractor g q (Target q longer cs) (Target q old (c ∷ cs))
+        (λ v i. elim (or_cases (settled (state_of longer) q v) (claimed_by q cs v) i) [
+          | inl a ↦ from_settled v a
+          | inr a ↦ target_attracted g q (all_vertices g) (Target q old (c ∷ cs)) v (in_later q old c cs v a)
+        ])
+        (λ v i. target_attracted g q (all_vertices g) (Target q longer cs) v (from_target q old c cs (Target q longer cs)
+        (λ x a. in_settled q longer cs x (stays_settled old (e ∷ []) q x a)) (λ x a. in_settled q longer cs x (of_posted x a)) (in_claims q longer cs) v i))
 
   abbrev Result : Journal → Journal → List Claim → Type 0
   Result old new claims = IsLawful g new × ((q : Player) (v : ℕ) → In (settled (state_of new) q) v ↔ Attractor g q (all_vertices g) (Target q old claims) v)
@@ -141,7 +185,7 @@ module _ (g : Graph) (edges : (v w : ℕ) → v < length g → HasEdge g v w →
   order old new [] lawful were same = (
     subst (IsLawful g) (sym same) lawful,
     λ q v. (
-      λ i. target_attracted g q (all_vertices g) (Target q old []) v (or_left (settled (state_of old) q v) false (subst (λ xs. In (settled (state_of xs) q) v) same i)),
+      λ i. target_attracted g q (all_vertices g) (Target q old []) v (in_settled q old [] v (subst (λ xs. In (settled (state_of xs) q) v) same i)),
       λ a. subst (λ xs. In (settled (state_of xs) q) v) (sym same) ((lawful_now g old lawful).attracted q v
           (Attractor-monotone g q (all_vertices g) (Target q old []) (settled (state_of old) q) (λ x i. sym (or-false (settled (state_of old) q x)) ∙ i) v a)),
     ),
@@ -151,5 +195,6 @@ module _ (g : Graph) (edges : (v w : ℕ) → v < length g → HasEdge g v w →
       (r.0, λ q v. both_ways (r.1 q v) (stale_target q old lawful c cs were.0 none v))
   order old new (c ∷ cs) lawful were (inr (e, some_open, answers, more)) =
       let good = dominion_good g old lawful were.0.0 c.player c.rows were.0.1 some_open in
+      let h : IsPosted g old c e = record { lawful = lawful; was = were.0; some_open = some_open; answers = answers } in
       let r = order (old ++ e ∷ []) new cs (lawful_push g edges some old lawful c.player c.rows good e answers) (still_dominions g old e cs were.1) more in
-      (r.0, λ q v. both_ways (r.1 q v) (posted_target q old lawful c cs were.0 some_open e answers v))
+      (r.0, λ q v. both_ways (r.1 q v) (posted_target q old c cs e h v))

@@ -1,11 +1,12 @@
 -- What the checks of a claim against the state say together.
-use Rattle.std.proofs.Common.{◌≡◌, ℕ, ◌<◌, ◌≤◌, ◌||◌, Bool, true, false, eqb, [], ◌∷◌, length, refl, sym, ◌∙◌, ap, subst, arith}
-use Rattle.std.specs.Prelude.{Option}
-use Rattle.std.specs.List.{All, AllByRecursion, list_any}
-use Rattle.std.proofs.lemmas.List.Elements.{All-from_recursion}
+use mathlib.Core.Path.{fun_ext}
+use Rattle.std.proofs.Common.{◌≡◌, ℕ, ◌<◌, ◌≤◌, Bool, true, false, length, refl, sym, ◌∙◌, ap, subst, arith}
+use Rattle.std.specs.Prelude.{Option, nat_eq}
+use Rattle.std.specs.List.{All, list_any}
+use Rattle.std.proofs.lemmas.List.Elements.{All-from_recursion, All-weaker}
 use Rattle.std.proofs.lemmas.List.{length-map}
 use Rattle.std.proofs.lemmas.Map.Steps.{length-le_from_distinct_below}
-use Rattle.std.proofs.lemmas.Bool.{false_from_ne_true, eqb-true}
+use Rattle.std.proofs.lemmas.Bool.{false_from_ne_true}
 use Rattle.pg_game.specs.declared.player.Player.{Player}
 use Rattle.pg_game.specs.Graph.{Graph}
 use Rattle.pg_game.specs.Least.{NoneHas}
@@ -13,15 +14,20 @@ use Rattle.pg_game.specs.VertexSet.{VertexSet, In, union}
 use Rattle.pg_game.specs.Kept.{KeptEdge}
 use Rattle.pg_dominion.specs.declared.claim.Claim.{Claim}
 use Rattle.pg_dominion.specs.Claim.{ClaimRows, named, choice_in, IsRightRow, AreRight, IsSound}
+use Rattle.pg_dominion.proofs.Rows.{named_right}
 use Rattle.pg_board.specs.declared.entry.Posted.{Posted}
 use Rattle.pg_board.specs.State.{State, settled, rest_of, IsGoodOn}
-use Rattle.pg_board.specs.Journal.{state_of}
+use Rattle.pg_board.specs.Journal.{Journal, state_of}
+use Rattle.pg_board.specs.declared.regions.Regions.{Regions}
+use Rattle.pg_board.specs.declared.refusal.Refusal.TheVariants as refusal
 use Rattle.pg_board.specs.Play.{Play}
 use Rattle.pg_board.specs.Post.{Adds}
-use Rattle.pg_board.specs.Refusal.{IsLost, IsOpenEdge, IsFirstOpenEdge}
+use Rattle.pg_board.specs.Refusal.{IsLost, IsOpenEdge, IsFirstOpenEdge, Refuses}
+use Rattle.pg_board.specs.private.Regions.{table_state, IsBoard}
 use Rattle.pg_board.specs.private.OpenEdges.{LeadsOutside, IsFirstOutside}
 use Rattle.pg_board.proofs.Push.{distinct_rising}
 use Rattle.pg_board.proofs.RestIsGood.{vertices, kept_rest, kept_of_rest, rest_twice}
+use Rattle.pg_board.proofs.Numbers.{in_vertices}
 
 -- the vertices of the rest and the player's
 abbrev pub Bounds : State → Player → ClaimRows → VertexSet
@@ -41,7 +47,8 @@ module _ (g : Graph) (st : State) (p : Player) (rows : ClaimRows) where
     least = λ x o. h.least x (leads_outside v x o);
   }
 
-  pub good_on : IsSound g p rows → NoneHas (IsLost st p rows) → 0 < length (rest_of st rows) → ((v w : ℕ) → LeadsOutside g p (Bounds st p rows) (rest_of st rows) v w → ⊥) → IsGoodOn g st p rows
+  pub good_on : IsSound g p rows → NoneHas (IsLost st p rows) → 0 < length (rest_of st rows)
+      → ((v w : ℕ) → LeadsOutside g p (Bounds st p rows) (rest_of st rows) v w → ⊥) → IsGoodOn g st p rows
   good_on sound none some closed = record {
     shape = sound.shape;
     good = sound.good;
@@ -54,8 +61,41 @@ module _ (g : Graph) (st : State) (p : Player) (rows : ClaimRows) where
       inside v w k true e = e
       inside v w k false e = absurd (closed v w (kept_of_rest g p st rows v w k, e))
 
+-- a sound claim of which nothing is lost on a board, and its rest
+pub record IsChecked (g : Graph) (j : Journal) (r : Regions) (number : ℕ) (p : Player) (rows rest : ClaimRows) : Type 0 where
+  pub board : IsBoard g j r number
+  pub sound : IsSound g p rows
+  pub none : NoneHas (IsLost (table_state r.table.items) p rows)
+  pub rest_is : rest ≡ rest_of (table_state r.table.items) rows
+
+module _ {g : Graph} {j : Journal} {r : Regions} {number : ℕ} {p : Player} {rows rest : ClaimRows} (h : IsChecked g j r number p rows rest) where
+  abbrev now : State
+  now = table_state r.table.items
+
+  -- the vertices where edges may end, as the code has them
+  abbrev Inside : ClaimRows → VertexSet
+  Inside xs = union (named xs) (settled now p)
+
+  pub rest_now : rest ≡ rest_of (state_of j) rows
+  rest_now = subst (λ (s : State). rest ≡ rest_of s rows) (fun_ext h.board.state) h.rest_is
+
+  pub refused_open : (v w : ℕ) → IsFirstOutside g p (Inside rest) rest v w → Refuses g (state_of j) p rows (refusal.Open v w)
+  refused_open v w found = subst (λ (s : State). Refuses g s p rows (refusal.Open v w)) (fun_ext h.board.state)
+      (h.sound, h.none, first_open g now p rows v w (subst (λ (xs : ClaimRows). IsFirstOutside g p (Inside xs) xs v w) h.rest_is found))
+
+  pub claim_good : 0 < length rest → ((v w : ℕ) → LeadsOutside g p (Inside rest) rest v w → ⊥) → IsGoodOn g (state_of j) p rows
+  claim_good some none =
+      let closed = subst (λ (xs : ClaimRows). (v w : ℕ) → LeadsOutside g p (Inside xs) xs v w → ⊥) h.rest_is none in
+      subst (λ (s : State). IsGoodOn g s p rows) (fun_ext h.board.state)
+      (good_on g now p rows h.sound h.none (subst (λ (xs : ClaimRows). 0 < length xs) h.rest_is some) closed)
+
+pub sound_here : {x : Play} {g : Graph} {j : Journal} (p : Player) (rows : ClaimRows) → record { graph = g; journal = j } ≡ x → IsSound x.graph p rows
+    → IsSound g p rows
+sound_here p rows view sound = subst (λ (y : Play). IsSound y.graph p rows) (sym view) sound
+
 -- an entry that answers the rest answers the claim
-pub adds_claim : (old new : Play) (worker : ℕ) (p : Player) (rows : ClaimRows) (claim : Claim) (posted : Posted) → claim.player ≡ p → rows ≡ rest_of (state_of old.journal) claim.rows → Adds old new worker (record { player = p; rows = rows }) posted → Adds old new worker claim posted
+pub adds_claim : (old new : Play) (worker : ℕ) (p : Player) (rows : ClaimRows) (claim : Claim) (posted : Posted) → claim.player ≡ p
+    → rows ≡ rest_of (state_of old.journal) claim.rows → Adds old new worker (record { player = p; rows = rows }) posted → Adds old new worker claim posted
 adds_claim old new worker p rows claim posted player same a =
     let st = state_of old.journal in
     record {
@@ -74,24 +114,14 @@ adds_claim old new worker p rows claim posted player same a =
       settled = a.settled;
     }
 
-below_cons : (n : ℕ) (r : ℕ × Option ℕ) (q : ℕ) (rest : Bool) → r.0 < n → (rest ≡ true → q < n) → (b : Bool) → eqb q r.0 ≡ b → (b || rest) ≡ true → q < n
-below_cons n r q rest l f true e i = subst (λ (x : ℕ). x < n) (sym (eqb-true q r.0 e)) l
-below_cons n r q rest l f false e i = f i
-
-below : (g : Graph) (p : Player) (rows : ClaimRows) → AllByRecursion (IsRightRow g p) rows → (q : ℕ) → list_any (eqb q) (vertices rows) ≡ true → q < length g
-below g p [] a q m = absurd (cc m)
-below g p (r ∷ rows) a q m = below_cons (length g) r q (list_any (eqb q) (vertices rows)) a.0.vertex (below g p rows a.1 q) (eqb q r.0) refl m
-
 -- right rows are no more than the vertices
 pub few_rows : (g : Graph) (p : Player) (rows : ClaimRows) → AreRight g p rows → length rows ≤ length g
 few_rows g p rows a =
-    let h = length-le_from_distinct_below (vertices rows) (length g) (distinct_rising (vertices rows) a.rising) (below g p rows a.each) in
+    let below : (q : ℕ) → list_any (nat_eq q) (vertices rows) ≡ true → q < length g = λ q m. (named_right g p rows q a.each (sym (in_vertices rows q) ∙ m)).vertex in
+    let h = length-le_from_distinct_below (vertices rows) (length g) (distinct_rising (vertices rows) a.rising) below in
     omega (arith, h, length-map rows (λ (r : ℕ × Option ℕ). r.0))
-
-each_below : (g : Graph) (p : Player) (rows : ClaimRows) → AllByRecursion (IsRightRow g p) rows → AllByRecursion (λ (r : ℕ × Option ℕ). r.0 < length g) rows
-each_below g p [] a = tt
-each_below g p (r ∷ rows) a = (a.0.vertex, each_below g p rows a.1)
 
 -- right rows name vertices
 pub all_below : (g : Graph) (p : Player) (rows : ClaimRows) → AreRight g p rows → (n : ℕ) → n ≡ length g → All (λ (r : ℕ × Option ℕ). r.0 < n) rows
-all_below g p rows a n e = subst (λ (m : ℕ). All (λ (r : ℕ × Option ℕ). r.0 < m) rows) (sym e) (All-from_recursion (λ (r : ℕ × Option ℕ). r.0 < length g) rows (each_below g p rows a.each))
+all_below g p rows a n e =
+    All-weaker (IsRightRow g p) (λ (r : ℕ × Option ℕ). r.0 < n) (λ r right. rw e right.vertex) rows (All-from_recursion (IsRightRow g p) rows a.each)

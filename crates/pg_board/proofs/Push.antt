@@ -16,7 +16,7 @@ use Rattle.std.proofs.Math.Bool.{and-true, and-false, or-false}
 use Rattle.pg_game.specs.declared.player.Player.{Player}
 use Rattle.pg_game.specs.declared.player.Player.TheVariants.{Even, Odd}
 use Rattle.pg_game.specs.Player.{opponent, same_player}
-use Rattle.pg_game.specs.Graph.{Graph, HasEdge, owner_of, successors_of}
+use Rattle.pg_game.specs.Graph.{Graph, HasEdge, owner_of}
 use Rattle.pg_game.specs.VertexSet.{VertexSet, In, all_vertices, union}
 use Rattle.pg_game.specs.private.VertexSet.{without}
 use Rattle.pg_game.specs.Kept.{Choices, kept, option_list, KeptEdge}
@@ -24,7 +24,6 @@ use Rattle.pg_game.specs.Subgame.{IsSubgame}
 use Rattle.pg_game.specs.Attractor.{Attractor}
 use Rattle.pg_game.specs.Region.{IsRegion}
 use Rattle.pg_game.proofs.Walks.{ClosedWalk-weaker}
-use Rattle.pg_game.proofs.Members.{Contains-one}
 use Rattle.pg_game.proofs.Attract.{Attractor-idempotent}
 use Rattle.pg_game.proofs.Grown.{Grows, grown_region}
 use Rattle.pg_game.proofs.Rest.{rest_is_subgame}
@@ -33,11 +32,12 @@ use Rattle.pg_dominion.specs.Claim.{ClaimRows, named, choice_in, IsRightRow}
 use Rattle.pg_dominion.specs.Attraction.{IsAttractedRow, AttractInTurn}
 use Rattle.pg_dominion.proofs.Named.{named-append, choice-front, choice-back, place_of, rank, rank_below, rank_at}
 use Rattle.pg_dominion.proofs.Rows.{named_right}
+use Rattle.pg_finders.proofs.Solving.{kept_same, choice_leads}
 use Rattle.pg_board.specs.declared.entry.Entry.{Entry}
 use Rattle.pg_board.specs.State.{State, settled, settled_for, chosen, choices, is_unsettled, unsettled, rest_of, IsGoodOn, IsLawfulState}
 use Rattle.pg_board.specs.Journal.{Journal, state_of, claimed_rows, attracted_rows, Answers}
 use Rattle.pg_board.proofs.RestIsGood.{vertices, in_rest, rest_is_good, rest_twice}
-use Rattle.pg_board.proofs.Turns.{differs, avoid}
+use Rattle.pg_board.proofs.Turns.{EdgesStay, EachHasEdge, differs, avoid}
 use Rattle.pg_board.proofs.Opening.{none_distinct}
 use Rattle.pg_board.proofs.Numbers.{in_vertices}
 
@@ -45,7 +45,8 @@ use Rattle.pg_board.proofs.Numbers.{in_vertices}
 abbrev pub entry_state : Entry → State
 entry_state e v = if named e.rows v then Some (e.player, choice_in e.rows v) else None
 
-pub later : (b : Bool) (a : Player × Option ℕ) (new old E : Option (Player × Option ℕ)) → new ≡ (if is_unsettled old then E else old) → (if b then Some a else new) ≡ (if is_unsettled (if b then Some a else old) then E else (if b then Some a else old))
+pub later : (b : Bool) (a : Player × Option ℕ) (new old E : Option (Player × Option ℕ)) → new ≡ (if is_unsettled old then E else old)
+    → (if b then Some a else new) ≡ (if is_unsettled (if b then Some a else old) then E else (if b then Some a else old))
 later true a new old E h = refl
 later false a new old E h = h
 
@@ -95,9 +96,9 @@ region_same g p X s t same r = record {
 }
   where
     as_old : (v w : ℕ) → KeptEdge g p X t v w → KeptEdge g p X s v w
-    as_old v w (i, m) = (i, subst (λ o. Contains (if same_player (owner_of g v) p then option_list o else successors_of g v) w) (same v i) m)
+    as_old v w (i, m) = kept_same g p X s t v w (same v i) i m
 
-module _ (g : Graph) (edges : (v w : ℕ) → v < length g → HasEdge g v w → In (all_vertices g) w) (j : Journal) (lawful : IsLawfulState g (state_of j)) (p : Player) (rows : ClaimRows) (posted : IsGoodOn g (state_of j) p rows) (e : Entry) (answers : Answers g (state_of j) p rows e) where
+module _ (g : Graph) (edges : EdgesStay g) (j : Journal) (lawful : IsLawfulState g (state_of j)) (p : Player) (rows : ClaimRows) (posted : IsGoodOn g (state_of j) p rows) (e : Entry) (answers : Answers g (state_of j) p rows e) where
   abbrev st : State
   st = state_of j
 
@@ -119,6 +120,9 @@ module _ (g : Graph) (edges : (v w : ℕ) → v < length g → HasEdge g v w →
 
   own_rest : rest_of st R ≡ R
   own_rest = subst (λ xs. rest_of st xs ≡ xs) (sym answers.rest) (rest_twice st rows)
+
+  own_closed : (v w : ℕ) → KeptEdge g p (named R) (choice_in R) v w → In (union (named R) (settled st p)) w
+  own_closed = subst (λ xs. (v w : ℕ) → KeptEdge g p (named xs) (choice_in R) v w → In (union (named xs) (settled st p)) w) own_rest own_good.closed
 
   claimed_open : (v : ℕ) → In (named R) v → is_unsettled (st v) ≡ true
   claimed_open v i = (in_rest st rows v (subst (λ xs. In (named xs) v) answers.rest i)).1
@@ -142,7 +146,8 @@ module _ (g : Graph) (edges : (v w : ℕ) → v < length g → HasEdge g v w →
       (λ v w i m. edges v w (ltb-true v (length g) (other.vertices v i)) m) A [] A answers.turns refl base
 
   -- what an attracted row leads to
-  leads : (v : ℕ) (i : In (named A) v) → IsAttractedRow g p (all_vertices g) (union (union (settled st p) (named R)) (named (place_of A v i).before)) (v, (place_of A v i).choice)
+  leads : (v : ℕ) (i : In (named A) v)
+      → IsAttractedRow g p (all_vertices g) (union (union (settled st p) (named R)) (named (place_of A v i).before)) (v, (place_of A v i).choice)
   leads v i = let q = place_of A v i in answers.turns q.before q.after (v, q.choice) q.split
 
   attracted_new : (v : ℕ) → In (named A) v → (settled st p v ≡ false) × (named R v ≡ false)
@@ -174,22 +179,18 @@ module _ (g : Graph) (edges : (v w : ℕ) → v < length g → HasEdge g v w →
       let n : named e.rows v ≡ true = names v ∙ rw (r, i) refl in
       ap chosen (new_state v n (attracted_open v i)) ∙ ((ap (λ xs. choice_in xs v) split ∙ choice-back R A v r) ∙ (place_of A v i).chosen)
 
-  kept_as : (v w : ℕ) (a b : Option ℕ) → a ≡ b → Contains (if same_player (owner_of g v) p then option_list a else successors_of g v) w → Contains (if same_player (owner_of g v) p then option_list b else successors_of g v) w
-  kept_as v w a b h m = subst (λ o. Contains (if same_player (owner_of g v) p then option_list o else successors_of g v) w) h m
-
   right : (v : ℕ) → In (named R) v → IsRightRow g p (v, choice_in R v)
   right v i = named_right g p R v own_good.shape.right.each i
 
   -- where a kept edge of an attracted vertex ends
-  falls_to : (v w : ℕ) (i : In (named A) v) → Contains (kept g p (choices st') v) w → In (union (union (settled st p) (named R)) (named (place_of A v i).before)) w
+  falls_to : (v w : ℕ) (i : In (named A) v) → Contains (kept g p (choices st') v) w
+      → In (union (union (settled st p) (named R)) (named (place_of A v i).before)) w
   falls_to v w i m = elim (own_or_other (owner_of g v) p) [
     | inl o ↦
         (let c = (leads v i).own o in
-        let h : choices st' v ≡ Some c.0 = attracted_choice v i ∙ c.1 in
-        let n = kept_as v w (choices st' v) (Some c.0) h m in
         let y : same_player (owner_of g v) p ≡ true = is_same (owner_of g v) p o in
-        let one : Contains (c.0 ∷ []) w = rw y at n in
-        subst (In (union (union (settled st p) (named R)) (named (place_of A v i).before))) (Contains-one c.0 w one) c.3)
+        let n : Contains (option_list (choices st' v)) w = rw y at m in
+        subst (In (union (union (settled st p) (named R)) (named (place_of A v i).before))) (choice_leads (choices st' v) c.0 w (attracted_choice v i ∙ c.1) n) c.3)
     | inr o ↦
         (let f = (leads v i).forced (not_own p (owner_of g v) o) in
         let y : same_player (owner_of g v) p ≡ false = not_same (owner_of g v) p (not_own p (owner_of g v) o) in
@@ -213,16 +214,16 @@ module _ (g : Graph) (edges : (v w : ℕ) → v < length g → HasEdge g v w →
     rest_choices = λ v i o. (let c = (right v i).own o in (c.0, claimed_choice v i ∙ c.1, c.2));
     attracted_choices = λ v i o. (let c = (leads v i).own o in (c.0, attracted_choice v i ∙ c.1, c.2));
     rest_closed = λ v w i m.
-        (let k = kept_as v w (choices st' v) (choice_in R v) (claimed_choice v i) m in
-        let h : In (union (named R) (settled st p)) w = subst (λ xs. In (union (named xs) (settled st p)) w) own_rest (own_good.closed v w (subst (λ xs. In (named xs) v) (sym own_rest) i, k)) in
-        or_cases (named R w) (settled st p w) h);
+        (let k = kept_same g p (named R) (choice_in R) (choices st') v w (claimed_choice v i) i m in
+        or_cases (named R w) (settled st p w) (own_closed v w k));
     attracted_falls = λ v w i m.
         (let h = falls_to v w i m in
         elim (or_cases (union (settled st p) (named R) w) (named (place_of A v i).before w) h) [
           | inl h' ↦ inl (or_cases (settled st p w) (named R w) h')
           | inr n ↦ inr (before_in v w i n)
         ]);
-    rest_good = λ walk c. own_good.good walk (ClosedWalk-weaker (KeptEdge g p (named R) (choices st')) (KeptEdge g p (named R) (choice_in R)) (λ v w k. (k.0, kept_as v w (choices st' v) (choice_in R v) (claimed_choice v k.0) k.1)) walk c);
+    rest_good = λ walk c. own_good.good walk (ClosedWalk-weaker (KeptEdge g p (named R) (choices st')) (KeptEdge g p (named R) (choice_in R))
+        (λ v w k. kept_same g p (named R) (choice_in R) (choices st') v w (claimed_choice v k.0) k.0 k.1) walk c);
     keeps_old = λ v i. ap chosen (old_state v (settled_shut p (st v) i));
     rest_new = λ v i. open_unsettled p (st v) (claimed_open v i);
     attracted_new = attracted_new;
@@ -297,7 +298,7 @@ module _ (g : Graph) (edges : (v w : ℕ) → v < length g → HasEdge g v w →
   rest_is : without (all_vertices g) (union (settled st' Even) (settled st' Odd)) ≡ unsettled g st'
   rest_is = fun_ext (λ v. ap (λ b. nat_lt v (length g) && b) (is_unsettled_is (st' v)))
 
-  pub lawful_state : ((v : ℕ) → v < length g → (w : ℕ) × HasEdge g v w) → IsLawfulState g st'
+  pub lawful_state : EachHasEdge g → IsLawfulState g st'
   lawful_state some = record {
     regions = regions;
     attracted = attracted;

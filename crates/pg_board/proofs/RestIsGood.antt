@@ -1,18 +1,18 @@
 -- The rest of a claim is a claim that is as good.
 use Rattle.std.proofs.Common.{◌≡◌, ℕ, Bool, true, false, ◌&&◌, ◌||◌, cond, List, [], ◌∷◌, refl, sym, ◌∙◌, ap, subst}
-use Rattle.std.specs.Prelude.{Option, filter, ◌==◌, if◌then◌else◌}
-use Rattle.std.specs.List.{AllByRecursion, Contains}
+use Rattle.std.specs.Prelude.{Option, filter, ◌==◌}
 use Rattle.std.specs.List.Sorted.{IsStrictlyIncreasing}
 use Rattle.std.proofs.lemmas.Bool.{eqb-true, and_parts}
 use Rattle.std.proofs.lemmas.List.Kept.{IsStrictlyIncreasing-filter}
 use Rattle.std.proofs.Math.Bool.{and-false}
+use Rattle.std.proofs.lemmas.List.Elements.{All-filter, All-from_recursion, recursion_from_All}
 use Rattle.pg_game.specs.declared.player.Player.{Player}
-use Rattle.pg_game.specs.Player.{same_player}
-use Rattle.pg_game.specs.Graph.{Graph, owner_of, successors_of}
+use Rattle.pg_game.specs.Graph.{Graph}
 use Rattle.pg_game.specs.VertexSet.{In, union}
-use Rattle.pg_game.specs.Kept.{option_list, KeptEdge}
+use Rattle.pg_game.specs.Kept.{KeptEdge}
 use Rattle.pg_game.proofs.Walks.{ClosedWalk-weaker}
 use Rattle.pg_dominion.specs.Claim.{ClaimRows, named, choice_in, IsRightRow, AreRight}
+use Rattle.pg_finders.proofs.Solving.{kept_same}
 pub use Rattle.pg_finders.specs.private.small.Partial.{vertices}
 use Rattle.pg_board.specs.State.{State, is_unsettled, rest_of, settled, IsGoodOn}
 
@@ -50,7 +50,8 @@ in_rest st rows v i = and_parts (named rows v) (is_unsettled (st v)) (sym (named
 pub to_rest : (st : State) (rows : ClaimRows) (v : ℕ) → In (named rows) v → is_unsettled (st v) ≡ true → In (named (rest_of st rows)) v
 to_rest st rows v i o = named_rest st rows v ∙ rw (i, o) refl
 
-choice-cond : (t b : Bool) (r : ℕ × Option ℕ) (xs rows : ClaimRows) (v : ℕ) → (r.0 == v) ≡ t → (t ≡ true → b ≡ true) → choice_in xs v ≡ choice_in rows v → choice_in (cond b (r ∷ xs) xs) v ≡ choice_in (r ∷ rows) v
+choice-cond : (t b : Bool) (r : ℕ × Option ℕ) (xs rows : ClaimRows) (v : ℕ) → (r.0 == v) ≡ t → (t ≡ true → b ≡ true) → choice_in xs v ≡ choice_in rows v
+    → choice_in (cond b (r ∷ xs) xs) v ≡ choice_in (r ∷ rows) v
 choice-cond true b r xs rows v e f c = rw (f refl, e) refl
 choice-cond false true r xs rows v e f c = rw e c
 choice-cond false false r xs rows v e f c = rw e c
@@ -63,24 +64,19 @@ choice_rest st (r ∷ rows) v o =
     (λ e. ap (λ u. is_unsettled (st u)) (eqb-true r.0 v e) ∙ o) (choice_rest st rows v o)
 
 -- a kept edge of the claim from its rest is one of the rest
-pub kept_of_rest : (g : Graph) (p : Player) (st : State) (rows : ClaimRows) (v w : ℕ) → KeptEdge g p (named (rest_of st rows)) (choice_in rows) v w → KeptEdge g p (named (rest_of st rows)) (choice_in (rest_of st rows)) v w
+pub kept_of_rest : (g : Graph) (p : Player) (st : State) (rows : ClaimRows) (v w : ℕ) → KeptEdge g p (named (rest_of st rows)) (choice_in rows) v w
+    → KeptEdge g p (named (rest_of st rows)) (choice_in (rest_of st rows)) v w
 kept_of_rest g p st rows v w (i, m) =
-    (i, subst (λ c. Contains (if same_player (owner_of g v) p then option_list c else successors_of g v) w) (sym (choice_rest st rows v (in_rest st rows v i).1)) m)
+    kept_same g p (named (rest_of st rows)) (choice_in (rest_of st rows)) (choice_in rows) v w (sym (choice_rest st rows v (in_rest st rows v i).1)) i m
 
 -- and the other way round
-pub kept_rest : (g : Graph) (p : Player) (st : State) (rows : ClaimRows) (v w : ℕ) → KeptEdge g p (named (rest_of st rows)) (choice_in (rest_of st rows)) v w → KeptEdge g p (named (rest_of st rows)) (choice_in rows) v w
+pub kept_rest : (g : Graph) (p : Player) (st : State) (rows : ClaimRows) (v w : ℕ) → KeptEdge g p (named (rest_of st rows)) (choice_in (rest_of st rows)) v w
+    → KeptEdge g p (named (rest_of st rows)) (choice_in rows) v w
 kept_rest g p st rows v w (i, m) =
-    (i, subst (λ c. Contains (if same_player (owner_of g v) p then option_list c else successors_of g v) w) (choice_rest st rows v (in_rest st rows v i).1) m)
+    kept_same g p (named (rest_of st rows)) (choice_in rows) (choice_in (rest_of st rows)) v w (choice_rest st rows v (in_rest st rows v i).1) i m
 
-each-cond : (g : Graph) (p : Player) (b : Bool) (r : ℕ × Option ℕ) (xs : ClaimRows) → IsRightRow g p r → AllByRecursion (IsRightRow g p) xs → AllByRecursion (IsRightRow g p) (cond b (r ∷ xs) xs)
-each-cond g p true r xs a h = (a, h)
-each-cond g p false r xs a h = h
-
-each_rest : (g : Graph) (p : Player) (st : State) (rows : ClaimRows) → AllByRecursion (IsRightRow g p) rows → AllByRecursion (IsRightRow g p) (rest_of st rows)
-each_rest g p st [] h = tt
-each_rest g p st (r ∷ rows) h = each-cond g p (is_unsettled (st r.0)) r (rest_of st rows) h.0 (each_rest g p st rows h.1)
-
-twice-cond : (st : State) (b : Bool) (r : ℕ × Option ℕ) (xs : ClaimRows) → is_unsettled (st r.0) ≡ b → rest_of st xs ≡ xs → rest_of st (cond b (r ∷ xs) xs) ≡ cond b (r ∷ xs) xs
+twice-cond : (st : State) (b : Bool) (r : ℕ × Option ℕ) (xs : ClaimRows) → is_unsettled (st r.0) ≡ b → rest_of st xs ≡ xs
+    → rest_of st (cond b (r ∷ xs) xs) ≡ cond b (r ∷ xs) xs
 twice-cond st true r xs e h = rw e (ap (λ zs. r ∷ zs) h)
 twice-cond st false r xs e h = h
 
@@ -90,7 +86,8 @@ rest_twice st (r ∷ rows) = twice-cond st (is_unsettled (st r.0)) r (rest_of st
 
 pub rest_right : (g : Graph) (p : Player) (st : State) (rows : ClaimRows) → AreRight g p rows → AreRight g p (rest_of st rows)
 rest_right g p st rows a = record {
-  each = each_rest g p st rows a.each;
+  each = recursion_from_All (IsRightRow g p) (rest_of st rows)
+      (All-filter (λ (r : ℕ × Option ℕ). is_unsettled (st r.0)) (IsRightRow g p) rows (All-from_recursion (IsRightRow g p) rows a.each));
   rising = subst IsStrictlyIncreasing (sym (open_rows st rows)) (IsStrictlyIncreasing-filter (λ v. is_unsettled (st v)) (vertices rows) a.rising);
 }
 

@@ -13,10 +13,12 @@ use Rattle.pg_board.specs.private.OpenEdges.{HavePlaces}
 use Rattle.pg_board.proofs.Places.{row_at}
 
 -- one more row of the claim: it is in the rest, or it is left out
-pub rest_kept : (st : State) (rows : ClaimRows) (i : ℕ) → i < length rows → is_unsettled (st (row_at rows i).0) ≡ true → rest_of st (take (i + 1) rows) ≡ rest_of st (take i rows) ++ row_at rows i ∷ []
+pub rest_kept : (st : State) (rows : ClaimRows) (i : ℕ) → i < length rows → is_unsettled (st (row_at rows i).0) ≡ true
+    → rest_of st (take (i + 1) rows) ≡ rest_of st (take i rows) ++ row_at rows i ∷ []
 rest_kept st rows i l u = filter_more (λ (r : ℕ × Option ℕ). is_unsettled (st r.0)) rows i (0, None) l ∙ rw u refl
 
-pub ArePlaced-push : (rest : ClaimRows) (places : List ℕ) (r : ℕ × Option ℕ) → r.0 < length places → HavePlaces rest places → HavePlaces (rest ++ r ∷ []) (set places r.0 (length rest))
+pub ArePlaced-push : (rest : ClaimRows) (places : List ℕ) (r : ℕ × Option ℕ) → r.0 < length places → HavePlaces rest places
+    → HavePlaces (rest ++ r ∷ []) (set places r.0 (length rest))
 ArePlaced-push rest places r l a v i = elim (cases_Bool (r.0 == v)) [
   | inl e ↦ new (eqb-true r.0 v e)
   | inr e ↦ old e

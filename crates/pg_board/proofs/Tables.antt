@@ -21,7 +21,8 @@ read_set xs v x y d l = go (v == x) refl
     go false e = (let n : x ≢ v = λ h. (let t : (v == x) ≡ true = eq-eqb v x (sym h) in cc (t, e)) in get_or-set_other xs v x y d n)
 
 -- one more row
-pub state_with-push : (st : State) (p : Player) (rows : ClaimRows) (r : ℕ × Option ℕ) → is_unsettled (st r.0) ≡ true → named rows r.0 ≡ false → (v : ℕ) → state_with st p (rows ++ r ∷ []) v ≡ (if r.0 == v then Some (p, r.1) else state_with st p rows v)
+pub state_with-push : (st : State) (p : Player) (rows : ClaimRows) (r : ℕ × Option ℕ) → is_unsettled (st r.0) ≡ true → named rows r.0 ≡ false → (v : ℕ)
+    → state_with st p (rows ++ r ∷ []) v ≡ (if r.0 == v then Some (p, r.1) else state_with st p rows v)
 state_with-push st p rows r u n v = go (r.0 == v) refl
   where
     with_choice : (c : Option ℕ) → choice_in (rows ++ r ∷ []) r.0 ≡ c → state_with st p (rows ++ r ∷ []) r.0 ≡ Some (p, c)
@@ -43,20 +44,26 @@ state_with-none st p v = go (st v)
     go None = refl
     go (Some a) = refl
 
+-- the row is written into the tables
+pub record Settles (r r' : Regions) (p : Player) (row : ℕ × Option ℕ) : Type 0 where
+  pub table : r'.table.items ≡ set r.table.items row.0 (Some (p, row.1))
+  pub mask : r'.unsettled ≡ set r.unsettled row.0 false
+  pub passed : r'.passed.items ≡ r.passed.items
+
 -- the tables after one vertex is settled
-module _ (g : Graph) (r r' : Regions) (p : Player) (row : ℕ × Option ℕ) (table : r'.table.items ≡ set r.table.items row.0 (Some (p, row.1))) (mask : r'.unsettled ≡ set r.unsettled row.0 false) (passed : r'.passed.items ≡ r.passed.items) (below : row.0 < length g) (a : AreRegions g r) where
+module _ (g : Graph) (r r' : Regions) (p : Player) (row : ℕ × Option ℕ) (h : Settles r r' p row) (below : row.0 < length g) (a : AreRegions g r) where
   pub told-settle : (v : ℕ) → table_state r'.table.items v ≡ (if row.0 == v then Some (p, row.1) else table_state r.table.items v)
-  told-settle v = rw table (read_set r.table.items row.0 v (Some (p, row.1)) None (omega (arith, a.size)))
+  told-settle v = rw h.table (read_set r.table.items row.0 v (Some (p, row.1)) None (omega (arith, a.size)))
 
   pub members-settle : (v : ℕ) → members r'.unsettled v ≡ (if row.0 == v then false else members r.unsettled v)
-  members-settle v = rw mask (read_set r.unsettled row.0 v false false (omega (arith, a.mask_size)))
+  members-settle v = rw h.mask (read_set r.unsettled row.0 v false false (omega (arith, a.mask_size)))
 
   pub AreRegions-settle : AreRegions g r'
   AreRegions-settle = record {
-    size = rw table (length-set r.table.items row.0 (Some (p, row.1)) ∙ a.size);
-    mask_size = rw mask (length-set r.unsettled row.0 false ∙ a.mask_size);
-    passed_size = rw passed a.passed_size;
-    passes = λ v l. rw passed (record {
+    size = rw h.table (length-set r.table.items row.0 (Some (p, row.1)) ∙ a.size);
+    mask_size = rw h.mask (length-set r.unsettled row.0 false ∙ a.mask_size);
+    passed_size = rw h.passed a.passed_size;
+    passes = λ v l. rw h.passed (record {
       within = (a.passes v l).within;
       gone = λ k m. still (slice_index (successors_of g v) k) ((a.passes v l).gone k m);
     });
@@ -67,16 +74,17 @@ module _ (g : Graph) (r r' : Regions) (p : Player) (row : ℕ × Option ℕ) (ta
       still x f = members-settle x ∙ either (row.0 == x) f
         where
           either : (b : Bool) → members r.unsettled x ≡ false → (if b then false else members r.unsettled x) ≡ false
-          either true h = refl
-          either false h = h
+          either true e = refl
+          either false e = e
 
       go : (v : ℕ) (b : Bool) → members r.unsettled v ≡ unsettled g (table_state r.table.items) v → (if b then false else members r.unsettled v) ≡ (nat_lt v (length g) && is_unsettled (if b then Some (p, row.1) else table_state r.table.items v))
-      go v true h = sym (and-false (nat_lt v (length g)))
-      go v false h = h
+      go v true e = sym (and-false (nat_lt v (length g)))
+      go v false e = e
 
   -- with the rows so far
-  pub told-push : (st : State) (rows : ClaimRows) → ((v : ℕ) → table_state r.table.items v ≡ state_with st p rows v) → is_unsettled (st row.0) ≡ true → named rows row.0 ≡ false → (v : ℕ) → table_state r'.table.items v ≡ state_with st p (rows ++ row ∷ []) v
-  told-push st rows h u n v = told-settle v ∙ (go (row.0 == v) (h v) ∙ sym (state_with-push st p rows row u n v))
+  pub told-push : (st : State) (rows : ClaimRows) → ((v : ℕ) → table_state r.table.items v ≡ state_with st p rows v) → is_unsettled (st row.0) ≡ true
+      → named rows row.0 ≡ false → (v : ℕ) → table_state r'.table.items v ≡ state_with st p (rows ++ row ∷ []) v
+  told-push st rows told u n v = told-settle v ∙ (go (row.0 == v) (told v) ∙ sym (state_with-push st p rows row u n v))
     where
       go : (b : Bool) → table_state r.table.items v ≡ state_with st p rows v → (if b then Some (p, row.1) else table_state r.table.items v) ≡ (if b then Some (p, row.1) else state_with st p rows v)
       go true e = refl

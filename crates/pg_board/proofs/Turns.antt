@@ -1,5 +1,5 @@
 -- Attracted rows never name a vertex of a region of the opponent.
-use Rattle.std.proofs.Common.{◌≡◌, ℕ, Bool, true, false, ◌||◌, inl, inr, [], ◌∷◌, ◌++◌, refl, sym, ◌∙◌, subst, append_assoc}
+use Rattle.std.proofs.Common.{◌≡◌, ℕ, Bool, true, false, ◌||◌, inl, inr, [], ◌∷◌, ◌++◌, refl, sym, ◌∙◌, subst, append_assoc, ◌<◌, length}
 use Rattle.std.specs.Prelude.{Option, ◌==◌}
 use Rattle.std.proofs.lemmas.Bool.{eqb-true}
 use Rattle.std.proofs.lemmas.List.{append-nil}
@@ -15,12 +15,21 @@ use Rattle.pg_dominion.specs.Claim.{ClaimRows, named}
 use Rattle.pg_dominion.specs.Attraction.{IsAttractedRow, AttractInTurn}
 use Rattle.pg_dominion.proofs.Named.{named-append}
 
+-- each edge ends at a vertex of the game
+abbrev pub EdgesStay : Graph → Type 0
+EdgesStay g = (v w : ℕ) → v < length g → HasEdge g v w → In (all_vertices g) w
+
+-- each vertex has an edge
+abbrev pub EachHasEdge : Graph → Type 0
+EachHasEdge g = (v : ℕ) → v < length g → (w : ℕ) × HasEdge g v w
+
 pub differs : (p : Player) (q : Player) → q ≡ p → same_player q (opponent p) ≡ false
 differs p q e = not_same q (opponent p) (λ h. not_own p q h e)
 
 module _ (g : Graph) (p : Player) (S V : VertexSet) (s : Choices) (other : IsRegion g (opponent p) V s) (inside : (v w : ℕ) → In V v → HasEdge g v w → In (all_vertices g) w) where
   -- a row that leads away from the region names none of its vertices
-  leads_away : (T : VertexSet) (r : ℕ × Option ℕ) → IsAttractedRow g p (all_vertices g) T r → ((v : ℕ) → In T v → V v ≡ false) → (b : Bool) → V r.0 ≡ b → V r.0 ≡ false
+  leads_away : (T : VertexSet) (r : ℕ × Option ℕ) → IsAttractedRow g p (all_vertices g) T r → ((v : ℕ) → In T v → V v ≡ false) → (b : Bool) → V r.0 ≡ b
+      → V r.0 ≡ false
   leads_away T r l away false e = e
   leads_away T r l away true e = absurd (elim (own_or_other (owner_of g r.0) p) [
     | inl o ↦ (let c = l.own o in
@@ -46,7 +55,8 @@ module _ (g : Graph) (p : Player) (S V : VertexSet) (s : Choices) (other : IsReg
           let k : (named done v || ((r.0 == v) || false)) ≡ true = sym (named-append done (r ∷ []) v) ∙ j in
           let l : false ≡ true = rw (y, z) at k in cc l)
 
-  pub avoid : (rows done rest : ClaimRows) → AttractInTurn g p (all_vertices g) S rows → rows ≡ done ++ rest → ((v : ℕ) → In (At done) v → V v ≡ false) → (v : ℕ) → In (At rows) v → V v ≡ false
+  pub avoid : (rows done rest : ClaimRows) → AttractInTurn g p (all_vertices g) S rows → rows ≡ done ++ rest → ((v : ℕ) → In (At done) v → V v ≡ false)
+      → (v : ℕ) → In (At rows) v → V v ≡ false
   avoid rows done [] turns e away v i = away v (subst (λ xs. In (At xs) v) (e ∙ append-nil done) i)
   avoid rows done (r ∷ rest) turns e away v i =
       let new = leads_away (At done) r (turns done rest r e) away (V r.0) refl in

@@ -1,6 +1,6 @@
 -- What a player attracts to some unsettled vertices in the unsettled part is, beside his region, all that his
 -- region and these vertices attract in the whole game.
-use Rattle.std.proofs.Common.{◌≡◌, ℕ, ◌<◌, Bool, true, false, ◌⊎◌, inl, inr, length, refl, sym, ◌∙◌, ltb-true}
+use Rattle.std.proofs.Common.{◌≡◌, ℕ, Bool, true, false, ◌⊎◌, inl, inr, length, refl, sym, ◌∙◌, ltb-true}
 use Rattle.std.proofs.lemmas.Bool.{and_parts, or_left, or_right, or_cases}
 use Rattle.std.proofs.Math.Bool.{or_assoc}
 use Rattle.std.specs.Prelude.{Option, nat_lt}
@@ -18,9 +18,9 @@ use Rattle.pg_dominion.specs.Attraction.{IsAttractedRow, IsAttraction}
 use Rattle.pg_dominion.proofs.Rows.{LeadsTo-same}
 use Rattle.pg_board.specs.State.{State, settled, choices, is_unsettled, unsettled, IsLawfulState}
 use Rattle.pg_board.proofs.Push.{open_unsettled, neither_open, not_both}
-use Rattle.pg_board.proofs.Turns.{differs}
+use Rattle.pg_board.proofs.Turns.{EdgesStay, differs}
 
-module _ (g : Graph) (edges : (v w : ℕ) → v < length g → HasEdge g v w → In (all_vertices g) w) (st : State) (lawful : IsLawfulState g st) (p : Player) where
+module _ (g : Graph) (edges : EdgesStay g) (st : State) (lawful : IsLawfulState g st) (p : Player) where
   abbrev U : VertexSet
   U = unsettled g st
 
@@ -61,7 +61,8 @@ module _ (g : Graph) (edges : (v w : ℕ) → v < length g → HasEdge g v w →
       let f = open_unsettled p (st v) (open_of v u) in cc (a, f)
 
   -- the opponent can't leave his part of the edges into the player's set
-  in_set : (S : VertexSet) → Within Own S → (v : ℕ) → In U v → owner_of g v ≡ opponent p → ((w : ℕ) → HasEdge g v w → In U w → In S w) → (w : ℕ) → HasEdge g v w → In S w
+  in_set : (S : VertexSet) → Within Own S → (v : ℕ) → In U v → owner_of g v ≡ opponent p → ((w : ℕ) → HasEdge g v w → In U w → In S w) → (w : ℕ) → HasEdge g v w
+      → In S w
   in_set S own v u o h w e = elim (part_of w (edge_in v w (all_of v u) e)) [
     | inl a ↦ elim a [ inl i ↦ own w i | inr i ↦ absurd (not_to_other v w u o e i) ]
     | inr i ↦ h w e i

@@ -1,10 +1,10 @@
 -- A region that grows in place: vertices are settled one after another, each with its row.
-use Rattle.std.specs.Prelude.{ℕ, ◌≡◌, ◌≤◌, ◌+◌, ◌∷◌, ◌++◌, Bool, false, List, length, sum_by, Option, if◌then◌else◌}
+use Rattle.std.specs.Prelude.{ℕ, ◌≡◌, ◌≤◌, ◌+◌, Bool, false, List, length, take, drop, sum_by, if◌then◌else◌}
 use Rattle.pg_game.specs.declared.player.Player.{Player}
 use Rattle.pg_game.specs.Graph.{Graph}
 use Rattle.pg_game.specs.VertexSet.{VertexSet, In, Within, members, union}
 use Rattle.pg_dominion.specs.Claim.{ClaimRows, named}
-use Rattle.pg_dominion.specs.Attraction.{IsAttractedRow}
+use Rattle.pg_dominion.specs.Attraction.{AttractInTurn}
 use Rattle.pg_dominion.specs.private.Attracting.{Continues}
 use Rattle.pg_board.specs.declared.regions.Regions.{Regions}
 use Rattle.pg_board.specs.State.{State}
@@ -26,7 +26,7 @@ pub record IsGrowing (g : Graph) (r : Regions) (rows : ClaimRows) (room : ℕ) :
 
 -- from the place n on each row leads to earlier ones
 abbrev pub LeadFrom : Graph → Player → VertexSet → ℕ → ClaimRows → Type 0
-LeadFrom g p U n rows = (before after : ClaimRows) (r : ℕ × Option ℕ) → rows ≡ before ++ r ∷ after → n ≤ length before → IsAttractedRow g p U (named before) r
+LeadFrom g p U n rows = AttractInTurn g p U (named (take n rows)) (drop n rows)
 
 -- the region with its rows before, and later: each new row leads to earlier ones, and the tables have them
 pub record Grows (g : Graph) (p : Player) (r : Regions) (rows : ClaimRows) (r' : Regions) (rows' : ClaimRows) : Type 0 where

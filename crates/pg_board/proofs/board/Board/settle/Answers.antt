@@ -1,5 +1,4 @@
 use Rattle.std.proofs.Common.{sym, subst}
-use Rattle.std.specs.Prelude.{IfOk, IfErr}
 use Rattle.pg_game.specs.Graph.{IsGame}
 use Rattle.pg_dominion.specs.declared.claim.Claim.{Claim}
 use Rattle.pg_dominion.specs.Claim.{IsSound}
@@ -7,11 +6,8 @@ use Rattle.pg_dominion.specs.Checked.{claim_of, claim_rows, AgreesWithGame, IsFo
 use Rattle.pg_dominion.proofs.Agreed.{sound}
 use Rattle.pg_dominion.proofs.Recorded.{never_foreign}
 use Rattle.pg_board.specs.Play.{Play}
-use Rattle.pg_board.specs.State.{IsGoodOn}
 use Rattle.pg_board.specs.Journal.{state_of, IsLawful}
-use Rattle.pg_board.specs.Refusal.{Refuses}
-use Rattle.pg_board.specs.Post.{Adds}
-use Rattle.pg_board.proofs.OldCopies.{old_copy, lawful_after, checked_refusal}
+use Rattle.pg_board.proofs.OldCopies.{IsAnswered, old_copy, lawful_after, checked_refusal}
 use Rattle.pg_board.proofs.board.Board.settle.Goals as goal
 
 pub returns-in-Some-clause-old_copies : goal.returns-in-Some-clause-old_copies
@@ -32,30 +28,39 @@ settle_sound-requires c =
 pub returns-clause-posted : goal.returns-clause-posted
 returns-clause-posted c =
     let x = c.args.self.now in
-    subst (λ (k : Claim). IfOk c.settle_sound.result (λ posted. IsGoodOn x.graph (state_of x.journal) k.player k.rows × Adds x c.settle_sound.new.self c.args.worker k posted)) c.claim.ensures.claim c.settle_sound.ensures.posted
+    let s = c.settle_sound in
+    let h : IsAnswered x s.new.self c.args.worker c.claim.result.now s.result =
+    record { posted = s.ensures.posted; refused = s.ensures.refused; unchanged = s.ensures.unchanged } in
+    (subst (λ (k : Claim). IsAnswered x s.new.self c.args.worker k s.result) c.claim.ensures.claim h).posted
 
 pub returns-clause-refused : goal.returns-clause-refused
 returns-clause-refused c =
-    let q = c.args.checked.now in
     let x = c.args.self.now in
+    let s = c.settle_sound in
+    let q = c.args.checked.now in
+    let h : IsAnswered x s.new.self c.args.worker c.claim.result.now s.result =
+    record { posted = s.ensures.posted; refused = s.ensures.refused; unchanged = s.ensures.unchanged } in
     let agrees : AgreesWithGame x.graph q.player q.rows = subst (λ (y : Play). AgreesWithGame y.graph q.player q.rows) c.self.view_is c.in_default.ensures in
-    checked_refusal x.graph (state_of x.journal) q agrees c.settle_sound.result c.settle_sound.ensures.of_state
-    (subst (λ (k : Claim). IfErr c.settle_sound.result (λ e. Refuses x.graph (state_of x.journal) k.player k.rows e)) c.claim.ensures.claim c.settle_sound.ensures.refused)
+    checked_refusal x.graph (state_of x.journal) q agrees s.result s.ensures.of_state
+    (subst (λ (k : Claim). IsAnswered x s.new.self c.args.worker k s.result) c.claim.ensures.claim h).refused
 
 pub returns-clause-lawful : goal.returns-clause-lawful
 returns-clause-lawful c =
     let x = c.args.self.now in
+    let s = c.settle_sound in
     let game : IsGame x.graph = subst (λ (y : Play). IsGame y.graph) c.self.view_is c.len-n.ensures.game in
     let lawful : IsLawful x.graph x.journal = subst (λ (y : Play). IsLawful y.graph y.journal) c.self.view_is c.self.invariant.0.lawful in
-    lawful_after x.graph game x.journal lawful c.claim.result.now c.settle_sound.new.self c.args.worker c.settle_sound.result c.settle_sound.ensures.posted c.settle_sound.ensures.unchanged c.settle_sound.ensures.game
+    let h : IsAnswered x s.new.self c.args.worker c.claim.result.now s.result =
+    record { posted = s.ensures.posted; refused = s.ensures.refused; unchanged = s.ensures.unchanged } in
+    lawful_after x s.new.self c.args.worker c.claim.result.now s.result game lawful h s.ensures.game
 
 pub returns-clause-old_copies : goal.returns-clause-old_copies
 returns-clause-old_copies c = λ k a d.
     let x = c.args.self.now in
-    let q = c.args.checked.now in
+    let s = c.settle_sound in
     let game : IsGame x.graph = subst (λ (y : Play). IsGame y.graph) c.self.view_is c.len-n.ensures.game in
     let lawful : IsLawful x.graph x.journal = subst (λ (y : Play). IsLawful y.graph y.journal) c.self.view_is c.self.invariant.0.lawful in
-    old_copy x.graph game x.journal lawful (claim_of q) k d c.settle_sound.new.self c.args.worker c.settle_sound.result
-    (subst (λ (k : Claim). IfOk c.settle_sound.result (λ posted. IsGoodOn x.graph (state_of x.journal) k.player k.rows × Adds x c.settle_sound.new.self c.args.worker k posted)) c.claim.ensures.claim c.settle_sound.ensures.posted)
-    (subst (λ (k : Claim). IfErr c.settle_sound.result (λ e. Refuses x.graph (state_of x.journal) k.player k.rows e)) c.claim.ensures.claim c.settle_sound.ensures.refused)
-    c.settle_sound.ensures.unchanged
+    let h : IsAnswered x s.new.self c.args.worker c.claim.result.now s.result =
+    record { posted = s.ensures.posted; refused = s.ensures.refused; unchanged = s.ensures.unchanged } in
+    old_copy x game lawful (claim_of c.args.checked.now) k d s.new.self c.args.worker s.result
+    (subst (λ (k : Claim). IsAnswered x s.new.self c.args.worker k s.result) c.claim.ensures.claim h)

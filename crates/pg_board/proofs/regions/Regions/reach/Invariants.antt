@@ -10,5 +10,6 @@ abbrev pub invariant-loop-from : goal.invariant-loop-from
 invariant-loop-from l = record {
   growing : IsGrowing l.game l.self l.rows.items (vec_capacity l.rows);
   grows : Grows l.game l.player l.fn.self l.fn.rows.items l.self l.rows.items;
-  settled : (k : ℕ) → k < l.from-index → In (open_before l.fn.self l.fn.rows.items) (slice_index l.from-items k) → IsTakenOrOpen l.game l.player (open_before l.fn.self l.fn.rows.items) (named l.fn.rows.items) (named l.rows.items) (slice_index l.from-items k);
+  settled : (k : ℕ) → k < l.from-index → In (open_before l.fn.self l.fn.rows.items) (slice_index l.from-items k)
+      → IsTakenOrOpen l.game l.player (open_before l.fn.self l.fn.rows.items) (named l.fn.rows.items) (named l.rows.items) (slice_index l.from-items k);
 }

@@ -1,16 +1,13 @@
-use Rattle.std.proofs.Common.{◌≡◌, ℕ, ◌<◌, ◌+◌, ◌++◌, ◌∷◌, [], length, take, None, refl, sym, ◌∙◌, ap, subst, arith}
+use Rattle.std.proofs.Common.{◌≡◌, ◌+◌, ◌++◌, ◌∷◌, [], length, take, None, refl, sym, ◌∙◌, ap, subst, arith}
 use Rattle.std.proofs.lemmas.List.{take_more, take_all}
-use Rattle.std.specs.Prelude.{nat_eq, map}
-use Rattle.std.specs.List.{IsDistinct}
-use Rattle.pg_game.specs.VertexSet.{In, Within, members}
+use Rattle.pg_game.specs.VertexSet.{members}
 use Rattle.pg_game.proofs.Masks.{member_below}
-use Rattle.pg_dominion.specs.Claim.{ClaimRows, named}
-use Rattle.pg_board.specs.declared.regions.Regions.{Regions}
+use Rattle.pg_dominion.specs.Claim.{ClaimRows}
 use Rattle.pg_board.specs.private.Regions.{table_state, state_with}
 use Rattle.pg_board.specs.private.Growth.{open_before, IsGrowing}
-use Rattle.pg_board.proofs.Places.{row_at, named_at, fresh_at}
-use Rattle.pg_board.proofs.Tables.{state_with-none}
-use Rattle.pg_board.proofs.Growing.{still_unsettled, before_none, IsGrowing-take, same-take, told-take}
+use Rattle.pg_board.proofs.Places.{row_at}
+use Rattle.pg_board.proofs.Tables.{Settles, state_with-none}
+use Rattle.pg_board.proofs.Growing.{Takes, row_open, before_none, IsGrowing-take, same-take, told-take}
 use Rattle.pg_board.proofs.Entering.{IsGrowing-start}
 use Rattle.pg_board.proofs.regions.Regions.settle_all.Goals as goal
 
@@ -20,12 +17,6 @@ rows-init c = record {
   same = λ v. before_none c.args.self.now v;
   told = λ v. sym (state_with-none (table_state c.args.self.now.table.items) c.args.player v);
 }
-
--- the row of the loop is unsettled
-row_open : (r old : Regions) (rows : ClaimRows) (i : ℕ) → i < length rows → ((v : ℕ) → open_before r (take i rows) v ≡ members old.unsettled v) → Within (named rows) (members old.unsettled) → IsDistinct nat_eq (map (λ x. x.0) rows) → In (members r.unsettled) (row_at rows i).0
-row_open r old rows i l same within distinct =
-    let v = (row_at rows i).0 in
-    still_unsettled r (take i rows) v (same v ∙ within v (named_at rows i l)) (fresh_at rows i distinct l)
 
 pub settle-requires-clause-table : goal.settle-requires-clause-table
 settle-requires-clause-table c =
@@ -51,14 +42,14 @@ rows-preserved c =
     let old = c.rows.invariant in
     let h = c.settle.ensures in
     let unsettled = row_open c.rows.self c.args.self.now rows i c.rows-test.true old.same c.requires.unsettled c.requires.distinct in
+    let settles : Settles c.rows.self c.settle.new.self p r = record { table = h.table; mask = h.mask; passed = h.passed } in
+    let taken : Takes g p c.rows.self c.settle.new.self front r (length g) = record { settles = settles; unsettled = unsettled; growing = old.growing } in
     let more : take (i + 1) rows ≡ front ++ r ∷ [] = take_more rows i (0, None) c.rows-test.true in
     record {
-      growing = subst (λ (xs : ClaimRows). IsGrowing g c.settle.new.self xs (length g)) (sym more)
-          (IsGrowing-take g p c.rows.self c.settle.new.self front r (length g) h.table h.mask h.passed unsettled old.growing);
-      same = λ v. ap (λ (xs : ClaimRows). open_before c.settle.new.self xs v) more
-          ∙ (same-take g p c.rows.self c.settle.new.self front r (length g) h.table h.mask h.passed unsettled old.growing v ∙ old.same v);
+      growing = subst (λ (xs : ClaimRows). IsGrowing g c.settle.new.self xs (length g)) (sym more) (IsGrowing-take taken);
+      same = λ v. ap (λ (xs : ClaimRows). open_before c.settle.new.self xs v) more ∙ (same-take taken v ∙ old.same v);
       told = λ v. subst (λ (xs : ClaimRows). table_state c.settle.new.self.table.items v ≡ state_with (table_state c.args.self.now.table.items) p xs v) (sym more)
-          (told-take g p c.rows.self c.settle.new.self front r (length g) h.table h.mask h.passed unsettled old.growing (table_state c.args.self.now.table.items) old.told v);
+          (told-take taken (table_state c.args.self.now.table.items) old.told v);
     }
 
 pub returns : goal.returns
