@@ -28,7 +28,7 @@ ALLOWED = {
     "pg_text": (0, 0, 23),
     "pg_dominion": (6, 8, 2),
     "pg_finders": (25, 12, 11),
-    "pg_board": (38, 13, 5),
+    "pg_board": (31, 9, 3),
     "pg_workers": (2, 2, 9),
     "pgboard": (0, 0, 0),
     "pgboard_c": (10, 0, 0),

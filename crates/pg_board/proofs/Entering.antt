@@ -29,9 +29,11 @@ use Rattle.std.specs.Prelude.{if◌then◌else◌}
 use Rattle.std.proofs.Math.Seq.{take-length}
 use Rattle.std.proofs.lemmas.List.Sums.{sum_by-le}
 use Rattle.std.proofs.lemmas.List.Elements.{All-from_get_or}
-use Rattle.pg_dominion.specs.private.Attracting.{AttractsNoFurther}
-use Rattle.pg_board.specs.private.Growth.{open_before, IsGrowing, LeadFrom, Grows}
-use Rattle.pg_board.proofs.Growing.{grown_attraction, grown_rows}
+use Rattle.pg_dominion.specs.Area.{AttractsNoFurther}
+use Rattle.pg_board.specs.private.Growth.{open_before, IsGrowing, Grows}
+use Rattle.pg_dominion.specs.private.Attracting.{LeadFrom}
+use Rattle.pg_dominion.proofs.Attracting.{grown_attraction, grown_rows}
+use Rattle.pg_dominion.proofs.Extending.{lead_none}
 use Rattle.pg_board.proofs.Whole.{whole, taken_inside}
 
 both : (a b : Bool) → a ≡ true → b ≡ true → (a && b) ≡ true
@@ -167,14 +169,11 @@ module _ (g : Graph) (p : Player) (r r1 r2 : Regions) (R : ClaimRows) (first row
   grown : Grows g p r1 R r2 rows
   grown = subst (λ (xs : ClaimRows). Grows g p r1 xs r2 rows) taken grows
 
-  none_past : LeadFrom g p (open_before r1 R) (length R) R
-  none_past before after x e l = absurd (let n : length R ≡ length (before ++ x ∷ after) = ap (λ (xs : ClaimRows). length xs) e in omega (arith, n, length-append before (x ∷ after)))
-
   front : take (length R) rows ≡ R
-  front = grown.more.front (length R) (omega arith) ∙ take-length R
+  front = grown.extends.more.front (length R) (omega arith) ∙ take-length R
 
   turns : LeadFrom g p (open_before r1 R) (length R) rows
-  turns = grown.turns (length R) (omega arith) none_past
+  turns = grown.extends.turns (length R) (omega arith) (lead_none g p (open_before r1 R) R)
 
   done_here : AttractsNoFurther g p (open_before r1 R) (named rows) (named rows)
   done_here = subst (λ (xs : ClaimRows). AttractsNoFurther g p (open_before r1 xs) (named rows) (named rows)) taken done

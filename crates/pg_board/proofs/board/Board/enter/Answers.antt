@@ -15,7 +15,7 @@ use Rattle.pg_board.specs.Journal.{Journal, state_of}
 use Rattle.std.proofs.Common.{drop}
 use Rattle.std.specs.Prelude.{vec_capacity}
 use Rattle.pg_game.specs.Subgame.{IsSubgame}
-use Rattle.pg_dominion.specs.private.Attracting.{AttractsNoFurther}
+use Rattle.pg_dominion.specs.Area.{AttractsNoFurther}
 use Rattle.pg_board.specs.private.Growth.{open_before, IsGrowing, Grows}
 use Rattle.pg_board.specs.private.Regions.{table_state, state_with, AreRegions, IsBoard}
 use Rattle.pg_board.proofs.Push.{distinct_rising}
