@@ -29,10 +29,12 @@ use Rattle.std.proofs.lemmas.List.Sums.{sum_by-le}
 use Rattle.std.proofs.lemmas.List.Elements.{All-from_get_or}
 use Rattle.std.proofs.lemmas.Bool.{and_from}
 use Rattle.std.proofs.Math.Bool.{or_assoc}
-use Rattle.pg_dominion.specs.private.Attracting.{AttractsNoFurther}
+use Rattle.pg_dominion.specs.Area.{AttractsNoFurther}
+use Rattle.pg_dominion.specs.private.Attracting.{LeadFrom}
 use Rattle.pg_dominion.proofs.Named.{named-append}
-use Rattle.pg_board.specs.private.Growth.{open_before, IsGrowing, LeadFrom, Grows}
-use Rattle.pg_board.proofs.Growing.{grown_attraction, grown_rows}
+use Rattle.pg_dominion.proofs.Attracting.{grown_attraction, grown_rows}
+use Rattle.pg_dominion.proofs.Extending.{lead_none}
+use Rattle.pg_board.specs.private.Growth.{open_before, IsGrowing, Grows}
 use Rattle.pg_board.proofs.Whole.{whole}
 
 -- a rest lies in the unsettled part
@@ -184,13 +186,10 @@ IsGrowing-more g r rows n m l growing = record {
 -- the claim's rows are settled, and then what they attract
 module _ (g : Graph) (p : Player) (r1 r2 : Regions) (R rows : ClaimRows) (grows : Grows g p r1 R r2 rows) where
   front : take (length R) rows ≡ R
-  front = grows.more.front (length R) (omega arith) ∙ take-length R
-
-  none_past : LeadFrom g p (open_before r1 R) (length R) R
-  none_past = rw (drop-length R) (λ before after x e. absurd (no_push before x after e))
+  front = grows.extends.more.front (length R) (omega arith) ∙ take-length R
 
   turns : LeadFrom g p (open_before r1 R) (length R) rows
-  turns = grows.turns (length R) (omega arith) none_past
+  turns = grows.extends.turns (length R) (omega arith) (lead_none g p (open_before r1 R) R)
 
   pub has_grown : (r : Regions) (first : ClaimRows) → first ≡ R → ((v : ℕ) → open_before r1 first v ≡ members r.unsettled v)
       → ((v : ℕ) → table_state r1.table.items v ≡ state_with (table_state r.table.items) p first v) → AreRegions g r2

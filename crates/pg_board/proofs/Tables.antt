@@ -1,5 +1,5 @@
 -- A vertex is settled in the tables: what they say then.
-use Rattle.std.proofs.Common.{◌≡◌, ◌≢◌, ℕ, ◌<◌, Bool, true, false, ◌&&◌, ◌||◌, List, [], ◌∷◌, ◌++◌, length, get_or, set, refl, sym, ◌∙◌, ap, arith, length-set, get_or-set_same, get_or-set_other}
+use Rattle.std.proofs.Common.{◌≡◌, ℕ, ◌<◌, Bool, true, false, ◌&&◌, ◌||◌, [], ◌∷◌, ◌++◌, length, set, refl, sym, ◌∙◌, ap, arith, length-set}
 use Rattle.std.specs.Prelude.{Option, Some, None, ◌==◌, nat_lt, slice_index, if◌then◌else◌}
 use Rattle.std.proofs.lemmas.Bool.{eqb-true, eq-eqb}
 use Rattle.std.proofs.Math.Bool.{and-false}
@@ -7,18 +7,11 @@ use Rattle.pg_game.specs.declared.player.Player.{Player}
 use Rattle.pg_game.specs.Graph.{Graph, successors_of}
 use Rattle.pg_game.specs.VertexSet.{members}
 use Rattle.pg_dominion.specs.Claim.{ClaimRows, named, choice_in}
+use Rattle.pg_dominion.proofs.Attracting.{read_set}
 use Rattle.pg_dominion.proofs.Rows.{named-push, choice-push_same, choice-push_other}
 use Rattle.pg_board.specs.declared.regions.Regions.{Regions}
 use Rattle.pg_board.specs.State.{State, is_unsettled, unsettled}
 use Rattle.pg_board.specs.private.Regions.{table_state, state_with, AreRegions}
-
--- a list after a write, at any place
-pub read_set : {X : Type 0} (xs : List X) (v x : ℕ) (y d : X) → v < length xs → get_or (set xs v y) x d ≡ (if v == x then y else get_or xs x d)
-read_set xs v x y d l = go (v == x) refl
-  where
-    go : (b : Bool) → (v == x) ≡ b → get_or (set xs v y) x d ≡ (if b then y else get_or xs x d)
-    go true e = (let q : v ≡ x = eqb-true v x e in rw (← q) (get_or-set_same xs v y d l))
-    go false e = (let n : x ≢ v = λ h. (let t : (v == x) ≡ true = eq-eqb v x (sym h) in cc (t, e)) in get_or-set_other xs v x y d n)
 
 -- one more row
 pub state_with-push : (st : State) (p : Player) (rows : ClaimRows) (r : ℕ × Option ℕ) → is_unsettled (st r.0) ≡ true → named rows r.0 ≡ false → (v : ℕ)

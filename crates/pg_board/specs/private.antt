@@ -2,4 +2,5 @@
 pub mod Regions
 pub mod OpenEdges
 pub mod Growth
+pub mod Growing
 pub mod Office

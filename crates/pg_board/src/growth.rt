@@ -7,12 +7,14 @@ ghost use Rattle.pg_game.specs.Graph.{HasEdge};
 ghost use Rattle.pg_game.specs.Subgame.{IsSubgame};
 ghost use Rattle.pg_game.specs.VertexSet.{members, In, Within};
 ghost use Rattle.pg_dominion.specs.Claim.{named};
-ghost use Rattle.pg_dominion.specs.private.Attracting.{IsTakenOrOpen, AttractsNoFurther};
-ghost use Rattle.pg_board.specs.private.Regions.{table_state, state_with, ArePassed, AreRegions};
+ghost use Rattle.pg_dominion.specs.Area.{AttractsNoFurther};
+ghost use Rattle.pg_dominion.specs.private.Attracting.{ArePassed};
+ghost use Rattle.pg_board.specs.private.Regions.{table_state, state_with, AreRegions};
 ghost use Rattle.pg_board.specs.private.Growth.{open_before, IsGrowing, Grows};
 
 use crate::regions::Regions;
-use pg_game::{Game, Mask, Player};
+use pg_dominion::{Area, attract_from};
+use pg_game::{Game, Mask, Memory, Player};
 
 /// The first place from `at` on whose vertex is in the mask, or the number of places.
 fn first_unsettled(successors: &[u32], unsettled: &Mask, at: u32) -> u32
@@ -33,7 +35,7 @@ fn first_unsettled(successors: &[u32], unsettled: &Mask, at: u32) -> u32
 
 impl Regions {
     /// Moves the vertex's watch on. Whether it has an unsettled successor.
-    fn has_way_out(&mut self, game: &Game, v: u32) -> bool
+    fn moves_watch(&mut self, game: &Game, v: u32) -> bool
         requires regions { AreRegions game.now self.old }
         requires vertex { v < length game.now }
         ensures regions { AreRegions game.now self.new }
@@ -48,71 +50,6 @@ impl Regions {
         (at as usize) < successors.len()
     }
 
-    /// Settles one vertex and writes its row.
-    pub fn take(
-        &mut self,
-        game: &Game,
-        player: Player,
-        row: (u32, Option<u32>),
-        rows: &mut Vec<(u32, Option<u32>)>,
-    )
-        requires growing { IsGrowing game.now self.old rows.old.items (vec_capacity rows.old) }
-        requires unsettled { In (members self.old.unsettled) row.0 }
-        ensures growing { IsGrowing game.now self.new rows.new.items (vec_capacity rows.new) }
-        ensures rows { rows.new.items ≡ rows.old.items ++ row ∷ [] }
-        ensures table { self.new.table.items ≡ slice_set self.old.table.items row.0 (Some (player, row.1)) }
-        ensures mask { self.new.unsettled ≡ slice_set self.old.unsettled row.0 false }
-        ensures passed { self.new.passed.items ≡ self.old.passed.items }
-    {
-        let _n = game.len();
-        rows.push_reserved(row);
-        self.settle(player, row);
-    }
-
-    /// Settles `from` for the player where he has an edge to `to`, which is his, or where the opponent has no way out.
-    fn consider(
-        &mut self,
-        game: &Game,
-        player: Player,
-        from: u32,
-        to: u32,
-        rows: &mut Vec<(u32, Option<u32>)>,
-    )
-        requires growing { IsGrowing game.now self.old rows.old.items (vec_capacity rows.old) }
-        requires vertex { from < length game.now }
-        requires edge { HasEdge game.now from to }
-        requires taken { In (named rows.old.items) to }
-        ensures growing { IsGrowing game.now self.new rows.new.items (vec_capacity rows.new) }
-        ensures grows { Grows game.now player self.old rows.old.items self.new rows.new.items }
-        ensures settled { In (open_before self.old rows.old.items) from → IsTakenOrOpen game.now player (open_before self.old rows.old.items) (named rows.old.items) (named rows.new.items) from }
-    {
-        if !self.unsettled.has(from) {
-            return;
-        }
-        if game.owner(from) == player {
-            self.take(game, player, (from, Some(to)), rows);
-            return;
-        }
-        if self.has_way_out(game, from) {
-            return;
-        }
-        self.take(game, player, (from, None), rows);
-    }
-
-    /// Settles what `to`, which is the player's, attracts at once.
-    fn reach(&mut self, game: &Game, player: Player, to: u32, rows: &mut Vec<(u32, Option<u32>)>)
-        requires growing { IsGrowing game.now self.old rows.old.items (vec_capacity rows.old) }
-        requires vertex { to < length game.now }
-        requires taken { In (named rows.old.items) to }
-        ensures growing { IsGrowing game.now self.new rows.new.items (vec_capacity rows.new) }
-        ensures grows { Grows game.now player self.old rows.old.items self.new rows.new.items }
-        ensures settled { (u : ℕ) → In (open_before self.old rows.old.items) u → HasEdge game.now u to → IsTakenOrOpen game.now player (open_before self.old rows.old.items) (named rows.old.items) (named rows.new.items) u }
-    {
-        for from in game.predecessors(to) {
-            self.consider(game, player, *from, to, rows);
-        }
-    }
-
     /// Settles all that the rows' vertices attract from the unsettled part, with rows that lead to earlier ones.
     pub fn attract(&mut self, game: &Game, player: Player, rows: &mut Vec<(u32, Option<u32>)>)
         requires growing { IsGrowing game.now self.old rows.old.items (vec_capacity rows.old) }
@@ -121,12 +58,10 @@ impl Regions {
         ensures grows { Grows game.now player self.old rows.old.items self.new rows.new.items }
         ensures done { AttractsNoFurther game.now player (open_before self.old rows.old.items) (named rows.new.items) (named rows.new.items) }
     {
-        'rows: for next in 0..usize::MAX {
-            if next >= rows.len() {
-                break;
-            }
-            let row = rows[next];
-            self.reach(game, player, row.0, rows);
+        // There is room for all rows, so nothing is refused.
+        match attract_from(self, game, player, rows, 0) {
+            Ok(()) => (),
+            Err(_) => (),
         }
     }
 
@@ -144,4 +79,58 @@ impl Regions {
             self.settle(player, *row);
         }
     }
+}
+
+impl Area for Regions {
+    ghost use Rattle.std.specs.Prelude.{length, refl};
+    ghost use Rattle.pg_game.specs.VertexSet.{members};
+    ghost use Rattle.pg_board.specs.private.Growth.{IsGrowing, Grows};
+    ghost use Rattle.pg_board.specs.private.Growing.{Grows-same, Grows-then};
+
+    type Item = (u32, Option<u32>);
+
+    ghost vertex_of = { λ r. r.0 };
+
+    ghost size = { λ s. length s.unsettled };
+
+    ghost free = { λ s. members s.unsettled };
+
+    ghost ready = { λ g s rows room. IsGrowing g s rows room };
+
+    ghost grown = { λ g p s rows s' rows'. Grows g p s rows s' rows' };
+
+    ghost refuses = { ⊥ };
+
+    fn vertex(item: (u32, Option<u32>)) -> u32 {
+        item.0
+    }
+
+    fn is_free(&self, v: u32) -> bool {
+        self.unsettled.has(v)
+    }
+
+    fn has_way_out(&mut self, game: &Game, _list: &Vec<(u32, Option<u32>)>, v: u32) -> bool {
+        self.moves_watch(game, v)
+    }
+
+    fn take(
+        &mut self,
+        _game: &Game,
+        player: Player,
+        v: u32,
+        choice: Option<u32>,
+        list: &mut Vec<(u32, Option<u32>)>,
+    ) -> Result<(), Memory> {
+        list.push_reserved((v, choice));
+        self.settle(player, (v, choice));
+        Ok(())
+    }
+
+    ghost sized = { λ g s rows room a. a.regions.mask_size };
+
+    ghost apart = { λ g s rows room v a. a.apart v };
+
+    ghost grown_same = { λ g p s rows. Grows-same g p s s rows refl refl };
+
+    ghost grown_then = { λ g p a b c xs ys zs. Grows-then g p a b c xs ys zs };
 }

@@ -3,6 +3,9 @@ pub mod Agreed
 pub mod Recorded
 pub mod Rows
 pub mod Attracting
+pub mod Taking
+pub mod Beginning
+pub mod Extending
 pub mod Searching
 pub mod Shape
 pub mod Laid

@@ -5,9 +5,9 @@ use Rattle.std.specs.List.{AllByRecursion}
 use Rattle.std.proofs.lemmas.Bool.{eqb-true, eq-eqb}
 use Rattle.pg_game.specs.declared.player.Player.{Player}
 use Rattle.pg_game.specs.Graph.{Graph}
-use Rattle.pg_game.specs.VertexSet.{VertexSet, union}
+use Rattle.pg_game.specs.VertexSet.{VertexSet}
 use Rattle.pg_dominion.specs.Claim.{ClaimRows, named, choice_in, IsRightRow}
-use Rattle.pg_dominion.specs.Attraction.{IsAttractedRow, AttractInTurn}
+use Rattle.pg_dominion.specs.Attraction.{IsAttractedRow}
 use Rattle.pg_dominion.proofs.Named.{named-append}
 use Rattle.pg_dominion.proofs.Booleans.{or_none}
 
@@ -19,7 +19,7 @@ no_push [] r after e = cc e
 no_push (b ∷ bs) r after e = cc e
 
 -- where the rows are one longer, the row that is looked at is an earlier one or the last
-split_push : (rows : ClaimRows) (r : ℕ × Option ℕ) (before : ClaimRows) (x : ℕ × Option ℕ) (after : ClaimRows) → rows ++ r ∷ [] ≡ before ++ x ∷ after → ((rest : ClaimRows) × (rows ≡ before ++ x ∷ rest)) ⊎ ((before ≡ rows) × (x ≡ r))
+pub split_push : (rows : ClaimRows) (r : ℕ × Option ℕ) (before : ClaimRows) (x : ℕ × Option ℕ) (after : ClaimRows) → rows ++ r ∷ [] ≡ before ++ x ∷ after → ((rest : ClaimRows) × (rows ≡ before ++ x ∷ rest)) ⊎ ((before ≡ rows) × (x ≡ r))
 split_push [] r [] x after e = inr (refl, cc e)
 split_push [] r (b ∷ bs) x after e = absurd (no_push bs x after (cc e))
 split_push (y ∷ ys) r [] x after e = inl (ys, let h : y ≡ x = cc e in ap (λ z. z ∷ ys) h)
@@ -39,12 +39,6 @@ LeadsTo-same g p U S S' r same l = record {
   own = λ o. (let c = l.own o in (c.0, c.1, c.2, sym (same c.0) ∙ c.3));
   forced = λ o. (let f = l.forced o in (f.0, λ w e u. sym (same w) ∙ f.1 w e u));
 }
-
-pub AttractInTurn-push : (g : Graph) (p : Player) (U S : VertexSet) (rows : ClaimRows) (r : ℕ × Option ℕ) → AttractInTurn g p U S rows → IsAttractedRow g p U (union S (named rows)) r → AttractInTurn g p U S (rows ++ r ∷ [])
-AttractInTurn-push g p U S rows r turns leads before after x e = elim (split_push rows r before x after e) [
-  | inl (rest, q) ↦ turns before rest x q
-  | inr (q, s) ↦ subst (λ (b : ClaimRows). IsAttractedRow g p U (union S (named b)) x) (sym q) (subst (λ (y : ℕ × Option ℕ). IsAttractedRow g p U (union S (named rows)) y) (sym s) leads)
-]
 
 pub choice-none : (rows : ClaimRows) (v : ℕ) → named rows v ≡ false → choice_in rows v ≡ None
 choice-none [] v i = refl

@@ -1,5 +1,6 @@
 -- Definitions that only private functions and proofs cite: no public contract stands on them.
 pub mod Attracting
+pub mod Extending
 pub mod KeptEdges
 pub mod Shape
 pub mod Plan

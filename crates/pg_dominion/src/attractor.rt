@@ -1,111 +1,122 @@
-//! Attractors (Zielonka 1998): a backward worklist over predecessors.
+//! Attractors (Zielonka 1998), by attraction in place in a copy of the subgame.
 //!
 //! At an opponent's vertex a watched place in its row moves on while the successor there is outside or taken; at
 //! the end of the row the vertex is taken. So each touched row is passed once, and nothing is counted.
 
-ghost use Rattle.std.specs.Prelude.{◌≡◌, ℕ, ◌<◌, ◌≤◌, ◌^◌, length, slice_index, IfOk, OnOk, false};
-ghost use Rattle.pg_game.specs.VertexSet.{members, In, Within};
-ghost use Rattle.pg_game.specs.Graph.{HasEdge};
+ghost use Rattle.std.specs.Prelude.{◌≡◌, ℕ, ◌<◌, ◌≤◌, ◌^◌, length, slice_index, IfOk, false};
+ghost use Rattle.pg_game.specs.VertexSet.{members, union, In, Within};
 ghost use Rattle.pg_game.specs.Subgame.{IsSubgame};
+ghost use Rattle.pg_dominion.specs.Claim.{named};
 ghost use Rattle.pg_dominion.specs.Attraction.{IsAttraction};
-ghost use Rattle.pg_dominion.specs.private.Attracting.{IsBlocked, AreBlocked, Attracting, IsTakenOrOpen, Continues};
+ghost use Rattle.pg_dominion.specs.private.Attracting.{ArePassed};
 
+use crate::area::{Area, attract_from};
 use pg_game::{Game, Mask, Memory, Player};
 use std::alloc::Global;
 
-/// The vertices that are taken so far, with their rows, and for each vertex how many of its successors
-/// are known to be outside or taken.
+/// The vertices that are not taken, and for each vertex how many of its successors are known to be outside or taken.
 #[derive(Drop)]
-struct Progress {
-    taken: Mask,
+struct Copied {
+    free: Mask,
     passed: Vec<u32>,
-    rows: Vec<(u32, Option<u32>)>,
 }
 
-/// What is attracted, and where.
-#[derive(Clone, Copy)]
-struct Attractor<'a> {
-    game: &'a Game,
-    inside: &'a Mask,
-    player: Player,
-    target: &'a Mask,
-}
-
-/// The first place from `at` on whose vertex is inside and not taken.
-fn pass_blocked(successors: &[u32], inside: &Mask, taken: &Mask, at: u32) -> u32
+/// The first place from `at` on whose vertex is in the mask, or the number of places.
+fn first_free(successors: &[u32], free: &Mask, at: u32) -> u32
     requires short { length successors.now < 2 ^ 32 }
-    requires below { (k : ℕ) → k < length successors.now → slice_index successors.now k < length inside.now }
-    requires size { length taken.now ≡ length inside.now }
-    requires passed { AreBlocked (members inside.now) (members taken.now) successors.now at }
-    ensures passed { AreBlocked (members inside.now) (members taken.now) successors.now result }
-    ensures inside { result < length successors.now → In (members inside.now) (slice_index successors.now result) }
-    ensures open { result < length successors.now → members taken.now (slice_index successors.now result) ≡ false }
+    requires below { (k : ℕ) → k < length successors.now → slice_index successors.now k < length free.now }
+    requires passed { ArePassed successors.now free.now at }
+    ensures passed { ArePassed successors.now free.now result }
+    ensures free { result < length successors.now → In (members free.now) (slice_index successors.now result) }
 {
     let end = successors.len() as u32;
     'pass: for next in at..end {
-        let w = successors[next as usize];
-        if inside.has(w) && !taken.has(w) {
+        if free.has(successors[next as usize]) {
             return next;
         }
     }
     end
 }
 
-impl<'a> Attractor<'a> {
-    /// Takes `from` for the player where a successor of his is taken, or where all of the opponent's are.
-    fn consider(&self, progress: &mut Progress, from: u32, to: u32) -> Result<(), Memory>
-        requires inside { In (members self.now.inside.now) from }
-        requires size { length self.now.inside.now ≡ length self.now.game.now }
-        requires edge { HasEdge self.now.game.now from to }
-        requires taken { In (members progress.old.taken) to }
-        requires state { Attracting self.now.game.now self.now.player (members self.now.inside.now) (members self.now.target.now) progress.old.taken progress.old.passed.items progress.old.rows.items }
-        ensures state { OnOk result (Attracting self.now.game.now self.now.player (members self.now.inside.now) (members self.now.target.now) progress.new.taken progress.new.passed.items progress.new.rows.items) }
-        ensures grows { OnOk result (Within (members progress.old.taken) (members progress.new.taken)) }
-        ensures settled { OnOk result (IsTakenOrOpen self.now.game.now self.now.player (members self.now.inside.now) (members progress.old.taken) (members progress.new.taken) from) }
-        ensures rows { OnOk result (Continues progress.old.rows.items progress.new.rows.items) }
-    {
-        if progress.taken.has(from) {
-            return Ok(());
-        }
-        if self.game.owner(from) == self.player {
-            progress.rows.push((from, Some(to)))?;
-            progress.taken.insert(from);
-            return Ok(());
-        }
-        let successors = self.game.successors(from);
-        let at = pass_blocked(
-            successors,
-            self.inside,
-            &progress.taken,
-            progress.passed[from as usize],
-        );
-        progress.passed[from as usize] = at;
-        if (at as usize) < successors.len() {
-            return Ok(());
-        }
-        progress.rows.push((from, None))?;
-        progress.taken.insert(from);
+impl Area for Copied {
+    ghost use Rattle.pg_game.specs.VertexSet.{members};
+    ghost use Rattle.pg_dominion.specs.private.Attracting.{IsFree, Extends};
+    ghost use Rattle.pg_dominion.specs.private.Extending.{extends_same, extends_then};
+
+    type Item = (u32, Option<u32>);
+
+    ghost vertex_of = { λ r. r.0 };
+
+    ghost size = { λ s. length s.free };
+
+    ghost free = { λ s. members s.free };
+
+    ghost ready = { λ g s rows room. IsFree g s.free s.passed.items rows };
+
+    ghost grown = { λ g p s rows s' rows'. Extends g p (members s.free) rows (members s'.free) rows' };
+
+    ghost refuses = { Unit {0} };
+
+    fn vertex(item: (u32, Option<u32>)) -> u32 {
+        item.0
+    }
+
+    fn is_free(&self, v: u32) -> bool {
+        self.free.has(v)
+    }
+
+    fn has_way_out(&mut self, game: &Game, _list: &Vec<(u32, Option<u32>)>, v: u32) -> bool {
+        let successors = game.successors(v);
+        let at = first_free(successors, &self.free, self.passed[v as usize]);
+        self.passed[v as usize] = at;
+        (at as usize) < successors.len()
+    }
+
+    fn take(
+        &mut self,
+        _game: &Game,
+        _player: Player,
+        v: u32,
+        choice: Option<u32>,
+        list: &mut Vec<(u32, Option<u32>)>,
+    ) -> Result<(), Memory> {
+        list.push((v, choice))?;
+        self.free.remove(v);
         Ok(())
     }
 
-    /// Takes what `to`, which is taken, attracts at once.
-    fn reach(&self, progress: &mut Progress, to: u32) -> Result<(), Memory>
-        requires size { length self.now.inside.now ≡ length self.now.game.now }
-        requires taken { In (members progress.old.taken) to }
-        requires state { Attracting self.now.game.now self.now.player (members self.now.inside.now) (members self.now.target.now) progress.old.taken progress.old.passed.items progress.old.rows.items }
-        ensures state { OnOk result (Attracting self.now.game.now self.now.player (members self.now.inside.now) (members self.now.target.now) progress.new.taken progress.new.passed.items progress.new.rows.items) }
-        ensures grows { OnOk result (Within (members progress.old.taken) (members progress.new.taken)) }
-        ensures settled { OnOk result ((u : ℕ) → In (members self.now.inside.now) u → HasEdge self.now.game.now u to → IsTakenOrOpen self.now.game.now self.now.player (members self.now.inside.now) (members progress.old.taken) (members progress.new.taken) u) }
-        ensures rows { OnOk result (Continues progress.old.rows.items progress.new.rows.items) }
-    {
-        for from in self.game.predecessors(to) {
-            if !self.inside.has(*from) {
-                continue;
-            }
-            self.consider(progress, *from, to)?;
+    ghost sized = { λ g s rows room a. a.size };
+
+    ghost apart = { λ g s rows room v a. a.apart v };
+
+    ghost grown_same = { λ g p s rows. extends_same g p (members s.free) rows };
+
+    ghost grown_then = { λ g p a b c xs ys zs. extends_then g p (members a.free) (members b.free) (members c.free) xs ys zs };
+}
+
+/// The vertices inside that are not in the target, and a row for each of the target's.
+fn begin(
+    alloc: Global,
+    inside: &Mask,
+    target: &Mask,
+) -> Result<(Mask, Vec<(u32, Option<u32>)>), Memory>
+    requires size { length target.now ≡ length inside.now }
+    requires within { Within (members target.now) (members inside.now) }
+    ensures size { IfOk result (λ b. length b.0 ≡ length inside.now) }
+    ensures same { IfOk result (λ b. (v : ℕ) → union (members b.0) (named b.1.items) v ≡ members inside.now v) }
+    ensures apart { IfOk result (λ b. (v : ℕ) → In (named b.1.items) v → members b.0 v ≡ false) }
+    ensures named { IfOk result (λ b. (v : ℕ) → named b.1.items v ≡ members target.now v) }
+{
+    let mut free = inside.copy(alloc)?;
+    let mut rows = Vec::new(alloc);
+    'targets: for v in 0..target.len() {
+        if !target.has(v) {
+            continue;
         }
-        Ok(())
+        rows.push((v, None))?;
+        free.remove(v);
     }
+    Ok((free, rows))
 }
 
 /// The vertices outside the target that the player attracts to it inside a subgame, each once (Zielonka 1998).
@@ -125,30 +136,13 @@ pub fn attract(
     requires within { Within (members target.now) (members inside.now) }
     ensures { IfOk result (λ rows. IsAttraction game.now player (members inside.now) (members target.now) rows.items) }
 {
-    let n = game.len();
-    let attractor = Attractor {
-        game,
-        inside,
-        player,
-        target,
+    let (free, mut rows) = begin(alloc, inside, target)?;
+    let mut area = Copied {
+        free,
+        passed: vec![in alloc; 0u32; game.len() as usize]?,
     };
-    let mut progress = Progress {
-        taken: target.copy(alloc)?,
-        passed: vec![in alloc; 0u32; n as usize]?,
-        rows: Vec::new(alloc),
-    };
-    'targets: for v in 0..n {
-        if !target.has(v) {
-            continue;
-        }
-        attractor.reach(&mut progress, v)?;
-    }
-    'rows: for next in 0..usize::MAX {
-        if next >= progress.rows.len() {
-            break;
-        }
-        let row = progress.rows[next];
-        attractor.reach(&mut progress, row.0)?;
-    }
-    Ok(progress.rows)
+    let front = rows.len();
+    attract_from(&mut area, game, player, &mut rows, 0)?;
+    let attracted = Vec::from_slice(alloc, &rows[front..])?;
+    Ok(attracted)
 }

@@ -3,6 +3,7 @@
 //! `attract` gives the least set; `check_claim` and `check_solution` answer exactly, in near-linear time.
 #![tactic(auto)]
 
+mod area;
 mod attractor;
 mod checked;
 mod claim;
@@ -22,6 +23,7 @@ mod tables;
 mod tests;
 mod walks;
 
+pub use area::{Area, attract_from};
 pub use attractor::attract;
 pub use checked::{Checked, CheckedRow, KeptSuccessors};
 pub use claim::{Claim, ClaimFault, check_claim, judge_claim};

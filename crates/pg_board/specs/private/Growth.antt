@@ -1,11 +1,10 @@
 -- A region that grows in place: vertices are settled one after another, each with its row.
-use Rattle.std.specs.Prelude.{ℕ, ◌≡◌, ◌≤◌, ◌+◌, Bool, false, List, length, take, drop, sum_by, if◌then◌else◌}
+use Rattle.std.specs.Prelude.{ℕ, ◌≡◌, ◌≤◌, ◌+◌, Bool, false, List, length, sum_by, if◌then◌else◌}
 use Rattle.pg_game.specs.declared.player.Player.{Player}
 use Rattle.pg_game.specs.Graph.{Graph}
-use Rattle.pg_game.specs.VertexSet.{VertexSet, In, Within, members, union}
+use Rattle.pg_game.specs.VertexSet.{VertexSet, In, members, union}
 use Rattle.pg_dominion.specs.Claim.{ClaimRows, named}
-use Rattle.pg_dominion.specs.Attraction.{AttractInTurn}
-use Rattle.pg_dominion.specs.private.Attracting.{Continues}
+use Rattle.pg_dominion.specs.private.Attracting.{Extends}
 use Rattle.pg_board.specs.declared.regions.Regions.{Regions}
 use Rattle.pg_board.specs.State.{State}
 use Rattle.pg_board.specs.private.Regions.{table_state, state_with, AreRegions}
@@ -24,14 +23,7 @@ pub record IsGrowing (g : Graph) (r : Regions) (rows : ClaimRows) (room : ℕ) :
   pub apart : (v : ℕ) → In (named rows) v → members r.unsettled v ≡ false
   pub fits : length rows + members_left r.unsettled ≤ room
 
--- from the place n on each row leads to earlier ones
-abbrev pub LeadFrom : Graph → Player → VertexSet → ℕ → ClaimRows → Type 0
-LeadFrom g p U n rows = AttractInTurn g p U (named (take n rows)) (drop n rows)
-
 -- the region with its rows before, and later: each new row leads to earlier ones, and the tables have them
 pub record Grows (g : Graph) (p : Player) (r : Regions) (rows : ClaimRows) (r' : Regions) (rows' : ClaimRows) : Type 0 where
-  pub same : (v : ℕ) → open_before r' rows' v ≡ open_before r rows v
-  pub more : Continues rows rows'
-  pub within : Within (named rows) (named rows')
-  pub turns : (n : ℕ) → n ≤ length rows → LeadFrom g p (open_before r rows) n rows → LeadFrom g p (open_before r rows) n rows'
+  pub extends : Extends g p (members r.unsettled) rows (members r'.unsettled) rows'
   pub tells : (st : State) → ((v : ℕ) → table_state r.table.items v ≡ state_with st p rows v) → (v : ℕ) → table_state r'.table.items v ≡ state_with st p rows' v

@@ -1,9 +1,10 @@
 -- What a board has at hand beside its journal.
-use Rattle.std.specs.Prelude.{ℕ, ◌≡◌, ◌≤◌, ◌<◌, Bool, false, List, length, slice_index, Option, Some, None, if◌then◌else◌, slice_index_or}
+use Rattle.std.specs.Prelude.{ℕ, ◌≡◌, ◌<◌, List, length, slice_index, Option, Some, None, if◌then◌else◌, slice_index_or}
 use Rattle.pg_game.specs.declared.player.Player.{Player}
 use Rattle.pg_game.specs.Graph.{Graph, successors_of}
 use Rattle.pg_game.specs.VertexSet.{members}
 use Rattle.pg_dominion.specs.Claim.{ClaimRows, named, choice_in}
+use Rattle.pg_dominion.specs.private.Attracting.{ArePassed}
 use Rattle.pg_board.specs.declared.regions.Regions.{Regions}
 use Rattle.pg_board.specs.State.{State, is_unsettled, unsettled}
 use Rattle.pg_board.specs.Journal.{Journal, state_of, IsLawful, number_settled}
@@ -15,11 +16,6 @@ table_state table v = slice_index_or table v None
 -- the state after a player's rows, which leave what is settled as it is
 abbrev pub state_with : State → Player → ClaimRows → State
 state_with st p rows v = if is_unsettled (st v) then (if named rows v then Some (p, choice_in rows v) else None) else st v
-
--- the first so many of the vertices are not in the mask
-pub record ArePassed (ws : List ℕ) (mask : List Bool) (count : ℕ) : Type 0 where
-  pub within : count ≤ length ws
-  pub gone : (k : ℕ) → k < count → members mask (slice_index ws k) ≡ false
 
 -- one row for each vertex; the mask has those that are unsettled, and each has passed settled successors alone
 pub record AreRegions (g : Graph) (r : Regions) : Type 0 where

@@ -1,4 +1,4 @@
-use Rattle.pg_board.specs.private.Regions.{ArePassed}
+use Rattle.pg_dominion.specs.private.Attracting.{ArePassed}
 use Rattle.pg_board.proofs.growth.first_unsettled.Given as goal
 
 abbrev pub invariant-pass : goal.invariant-pass

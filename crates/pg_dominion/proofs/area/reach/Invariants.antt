@@ -1,0 +1,14 @@
+use Rattle.std.proofs.Common.{ℕ, ◌<◌, slice_index}
+use Rattle.std.specs.Prelude.{vec_capacity}
+use Rattle.pg_game.specs.VertexSet.{In, union}
+use Rattle.pg_dominion.specs.Area.{listed_by, Takes}
+use Rattle.pg_dominion.specs.private.Attracting.{IsTakenOrOpen}
+use Rattle.pg_dominion.proofs.area.reach.Given as goal
+
+abbrev pub invariant-loop-from : goal.invariant-loop-from
+invariant-loop-from g l = record {
+  ready : g.A.Area.ready l.game l.area l.list.items (vec_capacity l.list);
+  grown : g.A.Area.grown l.game l.player l.fn.area l.fn.list.items l.area l.list.items;
+  takes : Takes g.A.Area.vertex_of (g.A.Area.free l.fn.area) l.fn.list.items (g.A.Area.free l.area) l.list.items;
+  settled : (k : ℕ) → k < l.from-index → In (union (g.A.Area.free l.fn.area) (listed_by g.A.Area.vertex_of l.fn.list.items)) (slice_index l.from-items k) → IsTakenOrOpen l.game l.player (union (g.A.Area.free l.fn.area) (listed_by g.A.Area.vertex_of l.fn.list.items)) (listed_by g.A.Area.vertex_of l.fn.list.items) (listed_by g.A.Area.vertex_of l.list.items) (slice_index l.from-items k);
+}
