@@ -44,7 +44,7 @@ returns c =
     let e : ws ≡ successors_of g v = c.successors-w-items.ensures.all ∙ ap (successors_of g) c.vertex-v.ensures in
     record {
       none = λ _ to l m.
-        let x = subst (λ (xs : List ℕ). Contains xs (vertex_in rows to)) (sym e) (leads_other g p (choice_in rows) v (vertex_in rows to) o m) in
-        let q : slice_index ws x.0 ≡ vertex_in rows to = get_or_default ws x.0 0 (vertex_in rows to) x.1 ∙ x.2 in
-        c.loop-w.invariant x.0 (omega (arith, x.1, c.loop-w-test.false)) to l (sym q);
+          let x = subst (λ (xs : List ℕ). Contains xs (vertex_in rows to)) (sym e) (leads_other g p (choice_in rows) v (vertex_in rows to) o m) in
+          let q : slice_index ws x.0 ≡ vertex_in rows to = get_or_default ws x.0 0 (vertex_in rows to) x.1 ∙ x.2 in
+          c.loop-w.invariant x.0 (omega (arith, x.1, c.loop-w-test.false)) to l (sym q);
     }
