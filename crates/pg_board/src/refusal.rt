@@ -16,7 +16,7 @@ pub enum Refusal {
     Stale,
     /// The first kept edge of the rest that ends neither in the rest nor at the player's vertices.
     Open(u32, u32),
-    /// Want of memory.
+    /// Out of memory.
     Memory,
 }
 

@@ -11,7 +11,7 @@ use crate::limits::MAX_VERTICES;
 use indexmap::IndexSet;
 use std::alloc::Global;
 
-/// The identifiers in their order, and a bound on the number of edges. Refused by the first fault, or for want of memory.
+/// The identifiers in their order, and a bound on the number of edges. Refused by the first fault, or where memory is out.
 pub fn check(alloc: Global, specs: &[Spec]) -> Result<(IndexSet<u32>, u32), GameFault>
     ensures ids { IfOk result (λ r. (r.0).keys ≡ ids_of specs.now) }
     ensures distinct { IfOk result (λ r. IsDistinct nat_eq (r.0).keys) }

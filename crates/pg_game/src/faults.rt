@@ -13,7 +13,7 @@ use crate::lookup::is_known;
 use indexmap::IndexSet;
 use std::alloc::Global;
 
-/// The identifiers in their order. Refused where one stands earlier in the list, and for want of memory.
+/// The identifiers in their order. Refused where one stands earlier in the list, and where memory is out.
 pub fn identifiers(alloc: Global, specs: &[Spec]) -> Result<IndexSet<u32>, GameFault>
     ensures ids { IfOk result (λ ids. ids.keys ≡ ids_of specs.now) }
     ensures distinct { IfOk result (λ ids. IsDistinct nat_eq ids.keys) }

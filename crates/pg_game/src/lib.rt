@@ -27,5 +27,5 @@ pub use open::OpenSpecs;
 pub use player::Player;
 pub use sequence::Sequence;
 
-/// The answer for want of memory.
+/// The answer where memory is out.
 pub type Memory = std::alloc::AllocError;

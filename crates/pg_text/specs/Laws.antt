@@ -73,7 +73,7 @@ WrittenSolutionIsText = (g : Graph) (rows : SolutionRows) → IsGame g → IsWit
 abbrev pub TokensOrLexical : Type 0
 TokensOrLexical = (text : List ℕ) → ((ts : List Placed) × Spells 0 text ts) ⊎ ((at : ℕ) × IsLexicalFault text at)
 
--- a text of a game has no fault; want of memory says nothing of the text
+-- a text of a game has no fault; out of memory says nothing of the text
 abbrev pub TextOrFault : Type 0
 TextOrFault = (text : List ℕ) (g : Graph) (fault : TextFault) → IsTextOf text g → IsFaultOf text fault → fault ≡ Memory
 
@@ -81,7 +81,7 @@ TextOrFault = (text : List ℕ) (g : Graph) (fault : TextFault) → IsTextOf tex
 abbrev pub OneFault : Type 0
 OneFault = (text : List ℕ) (e f : TextFault) → IsFaultOf text e → IsFaultOf text f → (e ≡ Memory) ⊎ ((f ≡ Memory) ⊎ (e ≡ f))
 
--- want of memory is never told as a fault of the game
+-- out of memory is never told as a fault of the game
 abbrev pub NoGameWantsMemory : Type 0
 NoGameWantsMemory = (text : List ℕ) → IsFaultOf text (Game GameFault.Memory) → ⊥
 

@@ -31,7 +31,7 @@ IsSomeGameText ts = (lines : List games.WrittenGameLine) × IsGameText ts lines
 abbrev pub IsTextOf : List ℕ → Graph → Type 0
 IsTextOf text g = (lines : List games.WrittenGameLine) × SpellsGame text lines × IsGameOf (map spec_of lines) g × (first_fault (map spec_of lines) ≡ None)
 
--- the text's first fault; want of memory says nothing of the text
+-- the text's first fault; out of memory says nothing of the text
 abbrev pub IsFaultOf : List ℕ → TextFault → Type 0
 IsFaultOf text (game.Lexical at) = IsLexicalFault text at
 IsFaultOf text (game.Syntax at) = IsSyntaxFault BeginsGameText IsSomeGameText text at
@@ -57,7 +57,7 @@ pub record IsSolutionTextOf (g : Graph) (text : List ℕ) (rows : SolutionRows) 
   pub spelled : SpellsSolution text lines
   pub says : AreLinesOf g lines rows
 
--- the text's first fault for this game; want of memory says nothing of the text
+-- the text's first fault for this game; out of memory says nothing of the text
 abbrev pub IsSolutionFaultOf : Graph → List ℕ → SolutionTextFault → Type 0
 IsSolutionFaultOf g text (solution.Lexical at) = IsLexicalFault text at
 IsSolutionFaultOf g text (solution.Syntax at) = IsSyntaxFault BeginsSolutionText IsSomeSolutionText text at

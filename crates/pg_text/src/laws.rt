@@ -13,7 +13,7 @@ pub fn written()
 {}
 
 /// A text has one answer: it spells tokens or has a lexical fault; a text of a game has no fault, and another has at most one;
-/// and the same holds of solution texts. Want of memory is no answer, and is never wrapped in `Game`.
+/// and the same holds of solution texts. Out of memory is no answer, and is never wrapped in `Game`.
 pub fn one_answer()
     ensures tokens { TokensOrLexical }
     ensures game { TextOrFault }

@@ -8,7 +8,7 @@ use Rattle.std.proofs.lemmas.Option.{none-some, same_Some, slice_get_within, sli
 use Rattle.pg_workers.specs.declared.report.ReportRow.{ReportRow}
 use Rattle.pg_workers.specs.Counting.{times, once_below}
 use Rattle.pg_workers.specs.Report.{AreNumbered, IsDrawnRow, IsReport, blank_row, settled_in}
-use Rattle.pg_workers.specs.private.Report.{AreBlank, AreOfFront, AreNotedRows, HasPlaces, jobs_in, rows_in, how_many_of_job}
+use Rattle.pg_workers.specs.private.Report.{AreBlank, AreOfPrefix, AreNotedRows, HasPlaces, jobs_in, rows_in, how_many_of_job}
 use Rattle.pg_workers.proofs.Closing.{flat_map-push}
 use Rattle.pg_workers.proofs.Counts.{sum_by-of_map}
 use Rattle.pg_workers.proofs.Rows.{at_job, get_set_same, get_set_other, get_append, counted, found_row, rows_of-append, rows_of-rows_in}
@@ -103,13 +103,13 @@ not_below : (j n : ℕ) → n ≤ j → once_below j n ≡ 0
 not_below j n le = grind (arith, nat_tests)
 
 -- the rows of the next worker have free places in the report
-pub has_places : (n : ℕ) (before now : List ReportRow) (all : List (Vec ReportRow Global)) (i : ℕ) (v : Vec ReportRow Global) → AreBlank before → n ≤ length before → AreOfFront n (rows_in all)
+pub has_places : (n : ℕ) (before now : List ReportRow) (all : List (Vec ReportRow Global)) (i : ℕ) (v : Vec ReportRow Global) → AreBlank before → n ≤ length before → AreOfPrefix n (rows_in all)
     → i < length all → v ≡ get_or all i v → AreNotedRows before now (rows_in (take i all)) → HasPlaces now v.items
-has_places n before now all i v blank few front lt is p = record {
-  once = λ j. let s = share j in let f = front j in let o = below_once j n in omega arith;
+has_places n before now all i v blank few prefix lt is p = record {
+  once = λ j. let s = share j in let f = prefix j in let o = below_once j n in omega arith;
   free = λ j some.
       let s = share j in
-      let f = front j in
+      let f = prefix j in
       let o = below_once j n in
       let lt' : j < n = below j n (omega arith) in
       let at = slice_get-get_or before j (blank_row j) (omega arith) in
@@ -128,24 +128,24 @@ rows_in-more all i v lt is =
     ap rows_in (take_more all i v lt ∙ ap (λ (x : Vec ReportRow Global). take i all ++ x ∷ []) (sym is)) ∙ flat_map-push (λ (x : Vec ReportRow Global). x.items) (take i all) v
 
 -- the rows of one worker more
-pub more_placed : (n : ℕ) (before now after : List ReportRow) (all : List (Vec ReportRow Global)) (i : ℕ) (v : Vec ReportRow Global) → AreOfFront n (rows_in all) → i < length all → v ≡ get_or all i v
+pub more_placed : (n : ℕ) (before now after : List ReportRow) (all : List (Vec ReportRow Global)) (i : ℕ) (v : Vec ReportRow Global) → AreOfPrefix n (rows_in all) → i < length all → v ≡ get_or all i v
     → AreNotedRows before now (rows_in (take i all)) → AreNotedRows now after v.items → AreNotedRows before after (rows_in (take (i + 1) all))
-more_placed n before now after all i v front lt is p q =
+more_placed n before now after all i v prefix lt is p q =
     subst (AreNotedRows before after) (sym (rows_in-more all i v lt is))
     (then_placed before now after (rows_in (take i all)) v.items p q (λ j some.
     let a = sum_by_more_le (λ (w : Vec ReportRow Global). how_many_of_job j w.items) all i v lt in
     let b = rows_of-rows_in j all in
     let c = rows_of-rows_in j (take i all) in
     let d : how_many_of_job j (get_or all i v).items ≡ how_many_of_job j v.items = ap (λ (w : Vec ReportRow Global). how_many_of_job j w.items) (sym is) in
-    let f = front j in
+    let f = prefix j in
     let o = below_once j n in omega arith))
 
 pub more_settled : (all : List (Vec ReportRow Global)) (i : ℕ) (v : Vec ReportRow Global) → i < length all → v ≡ get_or all i v → settled_in (rows_in (take (i + 1) all)) ≡ settled_in (rows_in (take i all)) + settled_in v.items
 more_settled all i v lt is = ap settled_in (rows_in-more all i v lt is) ∙ sum_by-append (λ (r : ReportRow). r.settled) (rows_in (take i all)) v.items
 
--- the workers' rows are of a front of the jobs, since their tickets' numbers are
+-- the workers' rows are of a prefix of the jobs, since their tickets' numbers are
 pub of_front : {T : Type 0} (n : ℕ) (numbers : T → List ℕ) (ts : List T) (all : List (Vec ReportRow Global)) → ((j : ℕ) → sum_by (λ t. times j (numbers t)) ts ≡ once_below j n)
-    → map (λ (v : Vec ReportRow Global). jobs_in v.items) all ≡ map numbers ts → AreOfFront n (rows_in all)
+    → map (λ (v : Vec ReportRow Global). jobs_in v.items) all ≡ map numbers ts → AreOfPrefix n (rows_in all)
 of_front n numbers ts all fair same = λ j.
     rows_of-rows_in j all ∙ sym (sum_by-of_map (times j) (λ (v : Vec ReportRow Global). jobs_in v.items) all) ∙ ap (sum_by (times j)) same ∙ sum_by-of_map (times j) numbers ts ∙ fair j
 
@@ -161,15 +161,15 @@ placed_numbered before after rows blank p = λ k r e. go k r e (how_many_of_job 
         let same = same_Some w.1 r (sym at ∙ ap (slice_get after) w.3 ∙ e) in
         sym (ap (λ (x : ReportRow). x.job) same) ∙ w.3
 
--- where the workers' rows are of a front of the jobs, they are the report of that front
-pub is_report : (workers n : ℕ) (before after rows : List ReportRow) → AreBlank before → AreNotedRows before after rows → AreOfFront n rows → ((i : ℕ) (r : ReportRow) → slice_get rows i ≡ Some r → IsDrawnRow workers r) → IsReport workers after
-is_report workers n before after rows blank p front done = record {
+-- where the workers' rows are of a prefix of the jobs, they are the report of that prefix
+pub is_report : (workers n : ℕ) (before after rows : List ReportRow) → AreBlank before → AreNotedRows before after rows → AreOfPrefix n rows → ((i : ℕ) (r : ReportRow) → slice_get rows i ≡ Some r → IsDrawnRow workers r) → IsReport workers after
+is_report workers n before after rows blank p prefix done = record {
   drawn = n;
   done = λ k r e lt.
-      let f = front k in
+      let f = prefix k in
       let o = is_below k n lt in
       let w = found_row k rows (omega arith) in
       let at = p.placed w.0 w.1 w.2 in
       subst (IsDrawnRow workers) (same_Some w.1 r (sym at ∙ ap (slice_get after) w.3 ∙ e)) (done w.0 w.1 w.2);
-  blank = λ k r e le. blank k r (sym (p.others k (front k ∙ not_below k n le)) ∙ e);
+  blank = λ k r e le. blank k r (sym (p.others k (prefix k ∙ not_below k n le)) ∙ e);
 }

@@ -30,13 +30,13 @@ pub record IsDrawnRow (workers : ℕ) (r : ReportRow) : Type 0 where
   pub numbered : (w : ℕ) → r.worker ≡ Some w → (1 ≤ w) × (w ≤ workers)
   pub counts : AreCounts r
 
--- a front of the jobs was drawn, each by one of the workers, and nobody drew another
+-- a prefix of the jobs was drawn, each by one of the workers, and nobody drew another
 pub record IsReport (workers : ℕ) (report : List ReportRow) : Type 0 where
   pub drawn : ℕ
   pub done : (k : ℕ) (r : ReportRow) → slice_get report k ≡ Some r → k < drawn → IsDrawnRow workers r
   pub blank : (k : ℕ) (r : ReportRow) → slice_get report k ≡ Some r → drawn ≤ k → r ≡ blank_row k
 
--- so many vertices that were known and what the workers settled are a front of the journal, and at most two entries follow it, of worker 0
+-- so many vertices that were known and what the workers settled are a prefix of the journal, and at most two entries follow it, of worker 0
 pub record AddsUp (known : ℕ) (journal : Journal) (report : List ReportRow) : Type 0 where
   pub by_workers : ℕ
   pub within : by_workers ≤ length journal

@@ -13,9 +13,9 @@ use std::alloc::Global;
 /// Why a run has no outcome: a player's known set was refused, and for what, or memory was.
 #[derive(Clone, Copy, Debug, Drop, PartialEq, Eq)]
 pub enum SolveFault {
-    /// The player's known set is no region; the reason is never want of memory.
+    /// The player's known set is no region; the reason is never out of memory.
     Known(Player, Refusal),
-    /// Want of memory.
+    /// Out of memory.
     Memory,
 }
 

@@ -1,7 +1,7 @@
 //! What became of each job of a run. Each row of a worker has its place in the report by its job's number.
 ghost use Rattle.std.specs.Prelude.{◌≡◌, ◌+◌, ◌^◌, ◌≤◌, ◌<◌, ℕ, IfOk, length, map, vec_len};
 ghost use Rattle.pg_workers.specs.Report.{IsInOrder, blank_row, settled_in};
-ghost use Rattle.pg_workers.specs.private.Report.{AreBlank, AreOfFront, AreNotedRows, HasPlaces, answered, forgotten, noted, rows_in};
+ghost use Rattle.pg_workers.specs.private.Report.{AreBlank, AreOfPrefix, AreNotedRows, HasPlaces, answered, forgotten, noted, rows_in};
 
 use pg_board::Refusal;
 use pg_game::Memory;
@@ -85,7 +85,7 @@ fn place_rows(report: &mut [ReportRow], rows: &[ReportRow])
 /// A report in which each row of all workers is at the place of its job.
 pub(crate) fn with_rows(mut report: Vec<ReportRow>, all: &[Vec<ReportRow>]) -> Vec<ReportRow>
     requires blank { AreBlank report.items }
-    requires front { (n : ℕ) × (n ≤ length report.items) × AreOfFront n (rows_in all.now) }
+    requires prefix { (n : ℕ) × (n ≤ length report.items) × AreOfPrefix n (rows_in all.now) }
     ensures length { vec_len result ≡ vec_len report }
     ensures placed { AreNotedRows report.items result.items (rows_in all.now) }
     ensures settled { settled_in result.items ≡ settled_in report.items + settled_in (rows_in all.now) }

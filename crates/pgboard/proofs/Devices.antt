@@ -19,16 +19,16 @@ both_written (Some x) (Some y) None xs ys p q = absurd q
 both_written (Some x) (Some y) (Some z) xs ys p q = q ∙ ap (λ l. l ++ ys) p ∙ append_assoc x xs ys
 
 -- one more piece was taken, of n bytes
-pub wrote_more : (a b c : Option (List ℕ)) (all front rest : List ℕ) (n : ℕ) → all ≡ front ++ rest → Appends a b front → Appends b c (take n rest)
+pub wrote_more : (a b c : Option (List ℕ)) (all prefix rest : List ℕ) (n : ℕ) → all ≡ prefix ++ rest → Appends a b prefix → Appends b c (take n rest)
     → (more : List ℕ) × (all ≡ more ++ take (length rest - n) (drop n rest)) × Appends a c more
-wrote_more a b c all front rest n e p q =
+wrote_more a b c all prefix rest n e p q =
     let later : rest ≡ take n rest ++ take (length rest - n) (drop n rest) = sym (ap (λ l. take n rest ++ l) (take_rest rest n) ∙ take-append-drop n rest) in
-    (front ++ take n rest, e ∙ ap (λ l. front ++ l) later ∙ sym (append_assoc front (take n rest) _), both_written a b c front (take n rest) p q)
+    (prefix ++ take n rest, e ∙ ap (λ l. prefix ++ l) later ∙ sym (append_assoc prefix (take n rest) _), both_written a b c prefix (take n rest) p q)
 
 -- what is filled grows by what was read behind it
 pub filled_more : (a b c : Option (List ℕ)) (xs ys : List ℕ) (f n : ℕ) → take f ys ≡ take f xs
     → Consumes a b (take f xs) → Consumes b c (take n (drop f ys)) → Consumes a c (take (f + n) ys)
-filled_more a b c xs ys f n front before read =
-    let earlier : take f (take (f + n) ys) ≡ take f xs = take-take f (f + n) ys (omega arith) ∙ front in
+filled_more a b c xs ys f n prefix before read =
+    let earlier : take f (take (f + n) ys) ≡ take f xs = take-take f (f + n) ys (omega arith) ∙ prefix in
     let whole : take f xs ++ take n (drop f ys) ≡ take (f + n) ys = rw (← earlier, ← drop-take f n ys) (take-append-drop f (take (f + n) ys)) in
     subst (Consumes a c) whole (read_more a b c _ _ before read)

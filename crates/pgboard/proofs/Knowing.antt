@@ -63,7 +63,7 @@ pub kept : (taken : Option (List ℕ)) → Keeps taken taken
 kept None = tt
 kept (Some bytes) = refl
 
--- what was made went out, or a front of it
+-- what was made went out, or a prefix of it
 module _ (S A : List ℕ → Type 0) (out bytes : List ℕ) (same : bytes ≡ out) (made : S out) where
   pub all_out : (r : Result (Unit {0}) RunFault) → OnOk r (A bytes) → OnOk r ((text : List ℕ) × S text × A text)
   all_out (Ok u) went = (out, made, subst A same went)

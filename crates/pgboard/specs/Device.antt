@@ -14,9 +14,9 @@ CountsFailure old new r = MatchResult r (λ _. new ≡ old) (λ _. new ≡ min (
 abbrev pub HasFailed : ℕ → ℕ → Type 0
 HasFailed old new = (old < new) ⊎ (last_count ≤ old)
 
--- a front of the text went out
-abbrev pub AppendsFront : Option (List ℕ) → Option (List ℕ) → List ℕ → Type 0
-AppendsFront old new text = (front back : List ℕ) × (text ≡ front ++ back) × Appends old new front
+-- a prefix of the text went out
+abbrev pub AppendsPrefix : Option (List ℕ) → Option (List ℕ) → List ℕ → Type 0
+AppendsPrefix old new text = (prefix back : List ℕ) × (text ≡ prefix ++ back) × Appends old new prefix
 
 -- a reader or a writer whose failures are not counted yet, and of whose bytes none are expected
 abbrev pub untouched : {T : Type 0} → T → Std T

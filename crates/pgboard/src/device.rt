@@ -37,7 +37,7 @@ pub trait Sink {
     /// How often it failed. The count stays at its last value.
     ghost write_failures: { Self → ℕ };
 
-    /// Takes a front of the piece, at least one byte of a piece that is not empty.
+    /// Takes a prefix of the piece, at least one byte of a piece that is not empty.
     fn write(&mut self, piece: &[u8]) -> Result<usize, Failed>
         ensures bound { IfOk result (λ n. n ≤ length piece.now) }
         ensures some { IfOk result (λ n. 0 < length piece.now → 0 < n) }

@@ -25,7 +25,7 @@ pub enum RunFault {
     /// What is known of a player is no region of his.
     #[error("known: {0}")]
     Known(KnownFault),
-    /// A write failed. A front of the output may have gone out.
+    /// A write failed. A prefix of the output may have gone out.
     #[error("write fault")]
     Write,
     /// The allocator refused.

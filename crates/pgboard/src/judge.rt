@@ -1,7 +1,7 @@
 //! A solution of a game is judged, and the verdict's line written.
 ghost use Rattle.std.specs.Prelude.{◌≡◌, ◌≢◌, ◌≤◌, ◌⊎◌, length, IfOk, OnOk, IfErr, IsErrOf};
 ghost use Rattle.std.specs.Io.KnownBytes.{Appends, Keeps};
-ghost use Rattle.pgboard.specs.Device.{HasFailed, AppendsFront};
+ghost use Rattle.pgboard.specs.Device.{HasFailed, AppendsPrefix};
 ghost use Rattle.pgboard.specs.Joined.{max_text, verdict_line};
 ghost use Rattle.pgboard.specs.private.Run.{IsRefusedSolution, IsVerdictOn};
 
@@ -45,7 +45,7 @@ pub fn verdict_of(alloc: Global, game: Game, text: &[u8]) -> Result<Verdict, Run
 pub fn write_verdict<O: Sink>(alloc: Global, verdict: &Verdict, out: &mut O) -> Result<(), RunFault>
     ensures written { OnOk result (Appends (O.taken out.old) (O.taken out.new) (verdict_line verdict.now)) }
     ensures no_failure { (IsErrOf result RunFault.Write → ⊥) → O.write_failures out.new ≡ O.write_failures out.old }
-    ensures cut { IsErrOf result RunFault.Write → AppendsFront (O.taken out.old) (O.taken out.new) (verdict_line verdict.now) }
+    ensures cut { IsErrOf result RunFault.Write → AppendsPrefix (O.taken out.old) (O.taken out.new) (verdict_line verdict.now) }
     ensures failed { IsErrOf result RunFault.Write → HasFailed (O.write_failures out.old) (O.write_failures out.new) }
     ensures nothing { IfErr result (λ e. e ≢ RunFault.Write → Keeps (O.taken out.old) (O.taken out.new)) }
     ensures only { IfErr result (λ e. (e ≡ RunFault.Write) ⊎ (e ≡ RunFault.Memory)) }

@@ -124,7 +124,7 @@ pub fn unsolved(game: &Game, known: &Known, fault: SolveFault) -> RunFault
     }
 }
 
-/// Why a game of which nothing is known is not solved: there is no other reason than want of memory.
+/// Why a game of which nothing is known is not solved: memory that is out is the only reason.
 pub fn only_memory(game: &Game, known: &Known, fault: SolveFault) -> Memory
     requires known { known.now.rows ≡ replicate (length game.now) None }
     requires fault { IsSolveFault game.now known.now.rows fault }

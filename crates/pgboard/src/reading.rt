@@ -19,7 +19,7 @@ const PIECE: usize = 65_536;
 fn make_room(text: &mut Vec<u8>, filled: usize) -> Result<(), AllocError>
     requires limit { filled ≤ max_text }
     requires within { filled ≤ vec_len text.old }
-    ensures front { OnOk result (take filled text.new.items ≡ take filled text.old.items) }
+    ensures prefix { OnOk result (take filled text.new.items ≡ take filled text.old.items) }
     ensures room { OnOk result (filled < vec_len text.new) }
 {
     if filled == text.capacity() {
@@ -35,7 +35,7 @@ fn make_room(text: &mut Vec<u8>, filled: usize) -> Result<(), AllocError>
 /// One read, to the places behind those that are filled.
 fn read_behind<S: Source>(source: &mut S, text: &mut [u8], filled: usize) -> Result<usize, Failed>
     requires { filled < length text.old }
-    ensures front { take filled text.new ≡ take filled text.old }
+    ensures prefix { take filled text.new ≡ take filled text.old }
     ensures size { length text.new ≡ length text.old }
     ensures within { IfOk result (λ n. filled + n ≤ length text.new) }
     ensures bytes { IfOk result (λ n. Consumes (S.left source.old) (S.left source.new) (take n (drop filled text.new))) }

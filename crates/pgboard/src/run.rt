@@ -3,7 +3,7 @@ ghost use Rattle.std.specs.Prelude.{◌≡◌, ◌≢◌, ◌≤◌, ◌⊎◌, 
 ghost use Rattle.std.specs.Io.KnownBytes.{Appends, Keeps};
 ghost use Rattle.pg_game.specs.Graph.{Graph};
 ghost use Rattle.pg_text.specs.Written.{written_game};
-ghost use Rattle.pgboard.specs.Device.{HasFailed, AppendsFront};
+ghost use Rattle.pgboard.specs.Device.{HasFailed, AppendsPrefix};
 ghost use Rattle.pgboard.specs.Joined.{game_part, solution_part, IsJudged, verdict_line, JudgingFailed, max_text};
 ghost use Rattle.pgboard.specs.Run.{IsReadGame, IsNoGame, IsNoSolution, IsGameFault};
 
@@ -30,7 +30,7 @@ pub fn run_joined<I: Source, O: Sink>(
     ensures fault { IfErr result (λ e. IfSome (I.left input.old) (λ text. JudgingFailed (game_part text) (solution_part text) (length text) e)) }
     ensures read { IsErrOf result RunFault.Read → HasFailed (I.read_failures input.old) (I.read_failures input.new) }
     ensures write { IsErrOf result RunFault.Write → HasFailed (O.write_failures out.old) (O.write_failures out.new) }
-    ensures cut { IsErrOf result RunFault.Write → (verdict : Verdict) × AppendsFront (O.taken out.old) (O.taken out.new) (verdict_line verdict) × IfSome (I.left input.old) (λ text. IsJudged (game_part text) (solution_part text) verdict) }
+    ensures cut { IsErrOf result RunFault.Write → (verdict : Verdict) × AppendsPrefix (O.taken out.old) (O.taken out.new) (verdict_line verdict) × IfSome (I.left input.old) (λ text. IsJudged (game_part text) (solution_part text) verdict) }
     ensures nothing { IfErr result (λ e. e ≢ RunFault.Write → Keeps (O.taken out.old) (O.taken out.new)) }
 {
     let text = read_text(alloc, input)?;
@@ -59,7 +59,7 @@ pub fn run_verify<G: Source, S: Source, O: Sink>(
     ensures unread { IfErr result (λ e. IsGameFault e → solution.new ≡ solution.old) }
     ensures read { IsErrOf result RunFault.Read → (HasFailed (G.read_failures game.old) (G.read_failures game.new) × (solution.new ≡ solution.old)) ⊎ ((g : Graph) × IsReadGame (G.left game.old) g × HasFailed (S.read_failures solution.old) (S.read_failures solution.new)) }
     ensures write { IsErrOf result RunFault.Write → HasFailed (O.write_failures out.old) (O.write_failures out.new) }
-    ensures cut { IsErrOf result RunFault.Write → (verdict : Verdict) × AppendsFront (O.taken out.old) (O.taken out.new) (verdict_line verdict) × IfSome (G.left game.old) (λ g. IfSome (S.left solution.old) (λ s. IsJudged g s verdict)) }
+    ensures cut { IsErrOf result RunFault.Write → (verdict : Verdict) × AppendsPrefix (O.taken out.old) (O.taken out.new) (verdict_line verdict) × IfSome (G.left game.old) (λ g. IfSome (S.left solution.old) (λ s. IsJudged g s verdict)) }
     ensures nothing { IfErr result (λ e. e ≢ RunFault.Write → Keeps (O.taken out.old) (O.taken out.new)) }
 {
     let game = game_from(alloc, game)?;
@@ -81,7 +81,7 @@ pub fn run_tidy<I: Source, O: Sink>(
     ensures fault { IfErr result (λ e. (e ≡ RunFault.Write) ⊎ IsNoGame (I.left input.old) e) }
     ensures read { IsErrOf result RunFault.Read → HasFailed (I.read_failures input.old) (I.read_failures input.new) }
     ensures write { IsErrOf result RunFault.Write → HasFailed (O.write_failures out.old) (O.write_failures out.new) }
-    ensures cut { IsErrOf result RunFault.Write → (g : Graph) × IsReadGame (I.left input.old) g × AppendsFront (O.taken out.old) (O.taken out.new) (written_game g) }
+    ensures cut { IsErrOf result RunFault.Write → (g : Graph) × IsReadGame (I.left input.old) g × AppendsPrefix (O.taken out.old) (O.taken out.new) (written_game g) }
     ensures nothing { IfErr result (λ e. e ≢ RunFault.Write → Keeps (O.taken out.old) (O.taken out.new)) }
 {
     let game = game_from(alloc, input)?;

@@ -4,7 +4,7 @@ ghost use Rattle.std.specs.Io.KnownBytes.{Appends, Keeps};
 ghost use Rattle.pg_game.specs.declared.player.Player.{Player};
 ghost use Rattle.pg_game.specs.Graph.{Graph};
 ghost use Rattle.pg_workers.specs.Known.{IsKnownRegion};
-ghost use Rattle.pgboard.specs.Device.{HasFailed, AppendsFront};
+ghost use Rattle.pgboard.specs.Device.{HasFailed, AppendsPrefix};
 ghost use Rattle.pgboard.specs.Known.{left_in, IfGiven, OnGiven};
 ghost use Rattle.pgboard.specs.Refused.{IsNotKnown};
 ghost use Rattle.pgboard.specs.private.Refused.{IsUnsolved};
@@ -132,7 +132,7 @@ fn solve_knowing<I: Source, K: Source, O: Sink, R: Threads + Wait + Sync>(
     ensures unread { IfErr result (λ e. IsGameFault e → known.new ≡ known.old) }
     ensures read { IsErrOf result RunFault.Read → (HasFailed (I.read_failures input.old) (I.read_failures input.new) × (known.new ≡ known.old)) ⊎ ((g : Graph) × IsReadGame (I.left input.old) g × HasFailed (K.read_failures known.old) (K.read_failures known.new)) }
     ensures write { IsErrOf result RunFault.Write → HasFailed (O.write_failures out.old) (O.write_failures out.new) }
-    ensures cut { IsErrOf result RunFault.Write → (text : List ℕ) × IsSolveOutput (I.left input.old) (K.left known.old) options.now.winners text × AppendsFront (O.taken out.old) (O.taken out.new) text }
+    ensures cut { IsErrOf result RunFault.Write → (text : List ℕ) × IsSolveOutput (I.left input.old) (K.left known.old) options.now.winners text × AppendsPrefix (O.taken out.old) (O.taken out.new) text }
     ensures nothing { IfErr result (λ e. e ≢ RunFault.Write → Keeps (O.taken out.old) (O.taken out.new)) }
 {
     let game = game_from(alloc, input)?;
@@ -160,7 +160,7 @@ fn solve_alone<I: Source, O: Sink, R: Threads + Wait + Sync>(
     ensures fault { IfErr result (λ e. (e ≡ RunFault.Write) ⊎ IsNoGame (I.left input.old) e) }
     ensures read { IsErrOf result RunFault.Read → HasFailed (I.read_failures input.old) (I.read_failures input.new) }
     ensures write { IsErrOf result RunFault.Write → HasFailed (O.write_failures out.old) (O.write_failures out.new) }
-    ensures cut { IsErrOf result RunFault.Write → (text : List ℕ) × IsSolveOutput (I.left input.old) (Some []) options.now.winners text × AppendsFront (O.taken out.old) (O.taken out.new) text }
+    ensures cut { IsErrOf result RunFault.Write → (text : List ℕ) × IsSolveOutput (I.left input.old) (Some []) options.now.winners text × AppendsPrefix (O.taken out.old) (O.taken out.new) text }
     ensures nothing { IfErr result (λ e. e ≢ RunFault.Write → Keeps (O.taken out.old) (O.taken out.new)) }
 {
     let game = game_from(alloc, input)?;
@@ -198,7 +198,7 @@ pub fn run_solve<I: Source, K: Source, O: Sink, R: Threads + Wait + Sync>(
     ensures unread { IfErr result (λ e. IsGameFault e → IfGiven (λ old new. new ≡ old) known.entry known.exit) }
     ensures read { IsErrOf result RunFault.Read → (HasFailed (I.read_failures input.old) (I.read_failures input.new) × IfGiven (λ old new. new ≡ old) known.entry known.exit) ⊎ ((g : Graph) × IsReadGame (I.left input.old) g × OnGiven (λ old new. HasFailed (K.read_failures old) (K.read_failures new)) known.entry known.exit) }
     ensures write { IsErrOf result RunFault.Write → HasFailed (O.write_failures out.old) (O.write_failures out.new) }
-    ensures cut { IsErrOf result RunFault.Write → (text : List ℕ) × IsSolveOutput (I.left input.old) (left_in K.left known.entry) options.now.winners text × AppendsFront (O.taken out.old) (O.taken out.new) text }
+    ensures cut { IsErrOf result RunFault.Write → (text : List ℕ) × IsSolveOutput (I.left input.old) (left_in K.left known.entry) options.now.winners text × AppendsPrefix (O.taken out.old) (O.taken out.new) text }
     ensures nothing { IfErr result (λ e. e ≢ RunFault.Write → Keeps (O.taken out.old) (O.taken out.new)) }
 {
     match known {
@@ -224,7 +224,7 @@ pub fn run_trace<I: Source, O: Sink, R: Threads + Wait + Sync>(
     ensures fault { IfErr result (λ e. (e ≡ RunFault.Write) ⊎ IsNoGame (I.left input.old) e) }
     ensures read { IsErrOf result RunFault.Read → HasFailed (I.read_failures input.old) (I.read_failures input.new) }
     ensures write { IsErrOf result RunFault.Write → HasFailed (O.write_failures out.old) (O.write_failures out.new) }
-    ensures cut { IsErrOf result RunFault.Write → (g : Graph) × (text : List ℕ) × IsReadGame (I.left input.old) g × IsTraceText g text × AppendsFront (O.taken out.old) (O.taken out.new) text }
+    ensures cut { IsErrOf result RunFault.Write → (g : Graph) × (text : List ℕ) × IsReadGame (I.left input.old) g × IsTraceText g text × AppendsPrefix (O.taken out.old) (O.taken out.new) text }
     ensures nothing { IfErr result (λ e. e ≢ RunFault.Write → Keeps (O.taken out.old) (O.taken out.new)) }
 {
     let game = game_from(alloc, input)?;

@@ -2,16 +2,16 @@
 //! write is hidden.
 ghost use Rattle.std.specs.Prelude.{◌≡◌, OnOk, OnErr, IfErr};
 ghost use Rattle.std.specs.Io.KnownBytes.{Appends};
-ghost use Rattle.pgboard.specs.Device.{HasFailed, AppendsFront};
+ghost use Rattle.pgboard.specs.Device.{HasFailed, AppendsPrefix};
 
 use crate::device::Sink;
 use crate::fault::RunFault;
 
-/// Writes all bytes. After `Write`, the one fault, a front of them went out.
+/// Writes all bytes. After `Write`, the one fault, a prefix of them went out.
 pub fn write_all<O: Sink>(bytes: &[u8], out: &mut O) -> Result<(), RunFault>
     ensures written { OnOk result (Appends (O.taken out.old) (O.taken out.new) bytes.now) }
     ensures no_failure { OnOk result (O.write_failures out.new ≡ O.write_failures out.old) }
-    ensures cut { OnErr result (AppendsFront (O.taken out.old) (O.taken out.new) bytes.now) }
+    ensures cut { OnErr result (AppendsPrefix (O.taken out.old) (O.taken out.new) bytes.now) }
     ensures failed { OnErr result (HasFailed (O.write_failures out.old) (O.write_failures out.new)) }
     ensures only { IfErr result (λ e. e ≡ RunFault.Write) }
 {

@@ -9,7 +9,7 @@ use Rattle.pgboard_c.specs.declared.fault.Fault.{Fault}
 use Rattle.pgboard_c.specs.declared.fault.Fault.TheVariants as fault
 use Rattle.pgboard_c.specs.Arrays.{GameArrays, HaveLengths, IsBadRow, IsBadOwner, IsBadPriority, AreWellFormed, array_specs, IsGameOfArrays, AreResults, IsBadWinner}
 
--- why arrays say no game; want of memory says nothing of them
+-- why arrays say no game; out of memory says nothing of them
 abbrev pub IsArraysFault : GameArrays → Fault → Type 0
 IsArraysFault a fault.Memory = Unit {0}
 IsArraysFault a fault.Lengths = HaveLengths a → ⊥

@@ -23,7 +23,7 @@ IsSolvedText text answer = (g : Graph) × (rows : SolutionRows) × IsTextOf text
 abbrev pub IsTidyText : List ℕ → List ℕ → Type 0
 IsTidyText text answer = (g : Graph) × IsTextOf text g × (answer ≡ written_game g)
 
--- why a text gives no game; want of memory says nothing of it
+-- why a text gives no game; out of memory says nothing of it
 abbrev pub IsRefusedGameText : List ℕ → Fault → Type 0
 IsRefusedGameText text fault.Memory = Unit {0}
 IsRefusedGameText text fault.GameTooLong = max_text < length text

@@ -13,7 +13,7 @@ use Rattle.pg_text.specs.private.Piece.{IsToken, IsNextPiece}
 use Rattle.pg_text.specs.private.Reach.{ReadsTo}
 use Rattle.pg_text.specs.private.SolutionKeeps.{Takes}
 
--- the text's first fault of spelling; want of memory says nothing of the text
+-- the text's first fault of spelling; out of memory says nothing of the text
 abbrev pub IsLineFaultOf : List ℕ → SolutionTextFault → Type 0
 IsLineFaultOf text (solution.Lexical at) = IsLexicalFault text at
 IsLineFaultOf text (solution.Syntax at) = IsSyntaxFault BeginsSolutionText IsSomeSolutionText text at

@@ -28,8 +28,8 @@ abbrev pub rows_in : List (Vec ReportRow Global) → List ReportRow
 rows_in all = flat_map (λ rows. rows.items) all
 
 -- of each of the first n jobs there is one row, and of no other job
-abbrev pub AreOfFront : ℕ → List ReportRow → Type 0
-AreOfFront n rows = (j : ℕ) → how_many_of_job j rows ≡ once_below j n
+abbrev pub AreOfPrefix : ℕ → List ReportRow → Type 0
+AreOfPrefix n rows = (j : ℕ) → how_many_of_job j rows ≡ once_below j n
 
 -- no two rows are of one job, and the report's row of each is still that of a job that nobody drew
 pub record HasPlaces (report rows : List ReportRow) : Type 0 where

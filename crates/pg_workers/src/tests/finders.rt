@@ -156,7 +156,7 @@ impl Finder for Overlapping {
     }
 }
 
-/// Answers want of memory to every job.
+/// Answers every job with out of memory.
 pub struct NoMemory;
 
 impl Finder for NoMemory {

@@ -48,7 +48,7 @@ fn a_sink_that_takes_one_byte_at_a_time_gets_all(rt: HostRuntime) {
 }
 
 #[test]
-fn a_full_sink_is_a_write_fault_after_a_front(rt: HostRuntime) {
+fn a_full_sink_is_a_write_fault_after_a_prefix(rt: HostRuntime) {
     let alloc = rt.alloc();
     let mut out = Bounded::new(alloc, usize::MAX, 5);
     let result = joined(alloc, &mut Pieces::whole(JOINED), &mut out);

@@ -38,7 +38,7 @@ impl Finder for Singles {
     }
 }
 
-/// Answers want of memory to every job.
+/// Answers every job with out of memory.
 #[derive(Drop)]
 pub struct NoMemory;
 

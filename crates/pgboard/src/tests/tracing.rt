@@ -62,7 +62,7 @@ total 2 2 8 10\n",
 }
 
 #[test]
-fn want_of_memory_is_noted_for_each_job(rt: HostRuntime) {
+fn out_of_memory_is_noted_for_each_job(rt: HostRuntime) {
     assert_traced(
         &rt,
         rt.alloc(),

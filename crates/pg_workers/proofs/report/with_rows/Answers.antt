@@ -9,8 +9,8 @@ use Rattle.pg_workers.proofs.report.with_rows.Goals as goal
 pub place_rows-requires : goal.place_rows-requires
 place_rows-requires c =
     let at = c.loop-rows in
-    let front = c.requires.front in
-    let places = has_places front.0 c.args.report.items at.report.items c.args.all.now at.rows-index c.rows-item.result c.requires.blank front.1 front.2 c.loop-rows-test.true c.rows-item.is at.invariant.1 in
+    let prefix = c.requires.prefix in
+    let places = has_places prefix.0 c.args.report.items at.report.items c.args.all.now at.rows-index c.rows-item.result c.requires.blank prefix.1 prefix.2 c.loop-rows-test.true c.rows-item.is at.invariant.1 in
     subst (λ (now : List ReportRow). HasPlaces now c.as_slice.result.now) (sym c.as_mut_slice.ensures.value)
     (subst (HasPlaces at.report.items) (sym c.as_slice.ensures.value) places)
 
@@ -18,7 +18,7 @@ pub loop-rows-preserved : goal.loop-rows-preserved
 loop-rows-preserved c =
     let at = c.loop-rows in
     let i = at.invariant in
-    let front = c.requires.front in
+    let prefix = c.requires.prefix in
     let new = c.place_rows.new.report in
     let rows = c.rows-item.result in
     let here = c.as_mut_slice.ensures.value in
@@ -33,6 +33,6 @@ loop-rows-preserved c =
     let before = i.2 in (
       i.0,
       subst (λ (now : List ReportRow). AreNotedRows c.args.report.items now (rows_in (take (at.rows-index + 1) c.args.all.now))) (sym back)
-          (more_placed front.0 c.args.report.items at.report.items new c.args.all.now at.rows-index rows front.2 c.loop-rows-test.true c.rows-item.is i.1 placed),
+          (more_placed prefix.0 c.args.report.items at.report.items new c.args.all.now at.rows-index rows prefix.2 c.loop-rows-test.true c.rows-item.is i.1 placed),
       ap settled_in back ∙ omega arith,
     )

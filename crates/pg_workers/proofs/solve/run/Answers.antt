@@ -3,7 +3,7 @@ use Rattle.std.specs.Prelude.{min}
 use Rattle.std.proofs.lemmas.List.Sums.{sum-map, sum_by_push}
 use Rattle.pg_workers.specs.declared.report.ReportRow.{ReportRow}
 use Rattle.pg_workers.specs.Report.{IsDrawnRow, settled_in}
-use Rattle.pg_workers.specs.private.Report.{AreOfFront, AreNotedRows, rows_in}
+use Rattle.pg_workers.specs.private.Report.{AreOfPrefix, AreNotedRows, rows_in}
 use Rattle.pg_workers.specs.Tickets.{HeldTicket}
 use Rattle.pg_workers.proofs.Placing.{is_report, of_front, placed_numbered}
 use Rattle.pg_workers.proofs.Rows.{all_rows, settled_in-rows_in}
@@ -12,17 +12,17 @@ use Rattle.pg_workers.proofs.solve.run.Goals as goal
 abbrev settled_by_one : Vec ReportRow Global → ℕ
 settled_by_one rows = settled_in rows.items
 
--- the tickets' lists are fair, so the rows are of a front of the jobs
-pub with_rows-requires-clause-front : goal.with_rows-requires-clause-front
-with_rows-requires-clause-front g c =
+-- the tickets' lists are fair, so the rows are of a prefix of the jobs
+pub with_rows-requires-clause-prefix : goal.with_rows-requires-clause-prefix
+with_rows-requires-clause-prefix g c =
     let drawn = c.close.ensures.fair in
     let back = c.take_apart-shares in
     let n : ℕ = min c.args.jobs.series.total drawn.word in
-    let front = of_front n (λ (t : HeldTicket). t.numbers) back.result.1.items back.result.2.items drawn.fair back.ensures.numbers in
+    let prefix = of_front n (λ (t : HeldTicket). t.numbers) back.result.1.items back.result.2.items drawn.fair back.ensures.numbers in
     let long = c.in_ok-report.ensures.rows.0 in
     let total = c.requires.total.0 in
     let series = ap (λ s. s.total) c.requires.jobs.0 in
-    (n, omega arith, subst (λ (all : List (Vec ReportRow Global)). AreOfFront n (rows_in all)) (sym c.as_slice.ensures.value) front)
+    (n, omega arith, subst (λ (all : List (Vec ReportRow Global)). AreOfPrefix n (rows_in all)) (sym c.as_slice.ensures.value) prefix)
 
 pub returns-clause-numbered : goal.returns-clause-numbered
 returns-clause-numbered g c = placed_numbered _ _ _ c.in_ok-report.ensures.blank c.with_rows.ensures.placed
@@ -45,8 +45,8 @@ returns-clause-rows g c =
     let workers : ℕ = g.J.Naming.workers in
     let drawn = c.close.ensures.fair in
     let n : ℕ = min c.args.jobs.series.total drawn.word in
-    let front = of_front n (λ (t : HeldTicket). t.numbers) back.result.1.items rows drawn.fair back.ensures.numbers in
+    let prefix = of_front n (λ (t : HeldTicket). t.numbers) back.result.1.items rows drawn.fair back.ensures.numbers in
     let made = c.with_rows in
     let placed : AreNotedRows c.in_ok-report.report.items made.result.items (rows_in rows) =
     subst (λ (all : List (Vec ReportRow Global)). AreNotedRows c.in_ok-report.report.items made.result.items (rows_in all)) c.as_slice.ensures.value made.ensures.placed in
-    is_report workers n c.in_ok-report.report.items made.result.items (rows_in rows) c.in_ok-report.ensures.blank placed front (all_rows (IsDrawnRow workers) rows back.ensures.done)
+    is_report workers n c.in_ok-report.report.items made.result.items (rows_in rows) c.in_ok-report.ensures.blank placed prefix (all_rows (IsDrawnRow workers) rows back.ensures.done)

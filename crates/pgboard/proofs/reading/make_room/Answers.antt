@@ -2,8 +2,8 @@ use Rattle.std.proofs.Common.{◌≡◌, ◌≤◌, length, take, ap, ◌∙◌,
 use Rattle.std.proofs.lemmas.List.{take-take, take-append-le, places}
 use Rattle.pgboard.proofs.reading.make_room.Goals as goal
 
-pub returns-in_ok-resize-clause-front : goal.returns-in_ok-resize-clause-front
-returns-in_ok-resize-clause-front c =
+pub returns-in_ok-resize-clause-prefix : goal.returns-in_ok-resize-clause-prefix
+returns-in_ok-resize-clause-prefix c =
     let filled = c.args.filled in
     let grown = c.if-filled-capacity.text.items in
     let end = c.min-end.result in

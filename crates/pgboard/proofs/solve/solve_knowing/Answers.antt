@@ -3,7 +3,7 @@ use Rattle.std.specs.Io.KnownBytes.{Appends}
 use Rattle.std.proofs.lemmas.Result.{err_from_is_err_and}
 use Rattle.pg_text.specs.Known.{IsKnownTextOf}
 use Rattle.pgboard.specs.declared.fault.RunFault.TheVariants as fault
-use Rattle.pgboard.specs.Device.{AppendsFront}
+use Rattle.pgboard.specs.Device.{AppendsPrefix}
 use Rattle.pgboard.specs.private.Known.{IsRefusedText}
 use Rattle.pgboard.specs.Solving.{IsSolveOutput}
 use Rattle.pgboard.proofs.Knowing.{not_known_text, not_solved, solved, kept, all_out, front_out}
@@ -45,5 +45,5 @@ returns-clause-cut g c =
     let known = subst (λ (l : List ℕ). IsKnownTextOf c.in_ok-game.game l c.in_ok-known.known.rows) c.as_slice.ensures.value c.in_ok-known.ensures.known in
     let made = solved _ c.in_ok-text.text.items c.in_ok-text.ensures.text c.in_ok-text.ensures.limit _ _ known _ _ c.in_ok-text-2.text.items c.in_ok-game.ensures.game c.in_ok-text-2.ensures.regions c.in_ok-text-2.ensures.text in
     front_out (λ (t : List ℕ). IsSolveOutput (g.I.Source.left c.args.input.now) (g.K.Source.left c.args.known.now) c.args.options.now.winners t)
-    (λ (t : List ℕ). AppendsFront (g.O.Sink.taken c.args.out.now) (g.O.Sink.taken c.write_all.new.out) t)
+    (λ (t : List ℕ). AppendsPrefix (g.O.Sink.taken c.args.out.now) (g.O.Sink.taken c.write_all.new.out) t)
     c.in_ok-text-2.text.items c.as_slice-2.result.now c.as_slice-2.ensures.value made c.write_all.result fault.Write c.write_all.ensures.cut

@@ -5,7 +5,7 @@ use Rattle.pgboard.proofs.writing.write_all.Given as goal
 -- what was taken stands before the rest
 abbrev pub invariant-rest : goal.invariant-rest
 invariant-rest g l =
-    ((front : List ℕ) × (l.bytes ≡ front ++ l.rest) × Appends (g.O.Sink.taken l.initial.out) (g.O.Sink.taken l.out) front)
+    ((prefix : List ℕ) × (l.bytes ≡ prefix ++ l.rest) × Appends (g.O.Sink.taken l.initial.out) (g.O.Sink.taken l.out) prefix)
     × (g.O.Sink.write_failures l.out ≡ g.O.Sink.write_failures l.initial.out)
 
 abbrev pub decreases-rest : goal.decreases-rest
