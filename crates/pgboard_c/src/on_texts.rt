@@ -50,7 +50,6 @@ fn solve(alloc: Global, text: &[u8], into: &mut [u8]) -> Result<usize, Fault>
     ensures kept { OnErr result (into.new ≡ into.old) }
 {
     let game = game_of(alloc, text)?;
-    let _n = game.len();
     let solution = solution_of(alloc, &game)?;
     let answer = write_solution(alloc, &game, &solution)?;
     put(answer.as_slice(), into)
