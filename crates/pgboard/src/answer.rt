@@ -1,8 +1,9 @@
 //! Doing what was asked for, over any sources and sink.
-ghost use Rattle.std.specs.Prelude.{◌≡◌, ◌≢◌, None, IfOk, IfErr};
-ghost use Rattle.std.specs.Io.KnownBytes.{Keeps};
-ghost use Rattle.pgboard.specs.Answer.{IsProgramAnswer};
+ghost use Rattle.std.specs.Prelude.{◌≡◌, ◌≢◌, ◌≤◌, ℕ, List, None, IfOk, OnOk, IfErr};
+ghost use Rattle.std.specs.Io.KnownBytes.{Appends, Keeps};
+ghost use Rattle.pgboard.specs.Answer.{IsProgramAnswer, known_text};
 ghost use Rattle.pgboard.specs.Asking.{IsInRange, second_path_of};
+ghost use Rattle.pgboard.specs.Solving.{IsSolveOutput};
 
 use crate::asked::Asked;
 use crate::device::{Sink, Source, Std};
@@ -15,6 +16,33 @@ use pg_workers::Gate;
 use std::alloc::Global;
 use std::sync::Wait;
 use std::thread::Threads;
+
+/// Solves a game, from what the second source has where the path of what is known was given.
+fn solve_from<I: Source, S: Source, O: Sink, R: Threads + Wait + Sync>(
+    rt: &R,
+    alloc: Global,
+    input: &mut I,
+    known: &Option<String>,
+    second: &mut S,
+    out: &mut O,
+    options: &SolveOptions,
+    gate: &impl Gate,
+    finder: &impl Finder,
+) -> Result<(), RunFault>
+    requires workers { (1 ≤ options.now.workers) × (options.now.workers ≤ 64) }
+    requires bound { options.now.bound ≤ 8 }
+    ensures written { OnOk result ((text : List ℕ) × IsSolveOutput (I.left input.old) (known_text known.now (S.left second.old)) options.now.winners text × Appends (O.taken out.old) (O.taken out.new) text) }
+    ensures alone { known.now ≡ None → second.new ≡ second.old }
+    ensures nothing { IfErr result (λ e. e ≢ RunFault.Write → Keeps (O.taken out.old) (O.taken out.new)) }
+{
+    match known {
+        Some(_) => run_solve(rt, alloc, input, Some(second), out, options, gate, finder),
+        None => {
+            let nothing = None::<&mut Std<&[u8]>>;
+            run_solve(rt, alloc, input, nothing, out, options, gate, finder)
+        }
+    }
+}
 
 /// Runs what was asked for, and answers the status. The second source has the solution where one is verified and what
 /// is known where it was given, and is not read otherwise.
@@ -52,15 +80,7 @@ pub fn run_asked<I: Source, S: Source, O: Sink, R: Threads + Wait + Sync>(
                 bound: *bound,
                 winners: *winners,
             };
-            match known {
-                Some(_) => {
-                    run_solve(rt, alloc, input, Some(second), out, &options, gate, finder)?
-                }
-                None => {
-                    let nothing = None::<&mut Std<&[u8]>>;
-                    run_solve(rt, alloc, input, nothing, out, &options, gate, finder)?
-                }
-            }
+            solve_from(rt, alloc, input, known, second, out, &options, gate, finder)?;
             Ok(0)
         }
         Asked::Trace { workers, .. } => {

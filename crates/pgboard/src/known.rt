@@ -1,6 +1,6 @@
 //! What is known of a game before it is solved: read from a text, or nothing; and why a known set is no region.
 ghost use Rattle.std.specs.Prelude.{◌≡◌, ◌≤◌, ◌<◌, [], length, replicate, Some, None, IfOk, IfErr, option_map, slice_get};
-ghost use Rattle.pg_text.specs.Known.{IsKnownTextOf};
+ghost use Rattle.pg_text.specs.Known.{IsKnownTextOf, known_of};
 ghost use Rattle.pg_text.specs.Reading.{max_text};
 ghost use Rattle.pg_workers.specs.Known.{known_rows, IsSolveFault};
 ghost use Rattle.pgboard.specs.private.Known.{IsRefusedText};
@@ -34,6 +34,7 @@ pub fn nothing_known(alloc: Global, game: &Game) -> Result<Known, Memory>
     ensures text { IfOk result (λ known. IsKnownTextOf game.now [] known.rows) }
     ensures rows { IfOk result (λ known. known.rows ≡ replicate (length game.now) None) }
 {
+    // for the proof alone, which takes from it that the game is one
     let _n = game.len();
     match read_known(alloc, game, b"") {
         Ok(known) => Ok(known),
@@ -41,6 +42,17 @@ pub fn nothing_known(alloc: Global, game: &Game) -> Result<Known, Memory>
             SolutionTextFault::Memory => Err(AllocError),
             _ => unreachable!(),
         },
+    }
+}
+
+/// Whether the player is known to win the vertex.
+fn is_known_of(known: &Known, player: Player, v: u32) -> bool
+    requires { v < length known.now.rows }
+    ensures { result ≡ known_of known.now.rows player v }
+{
+    match known.rows.as_slice()[v as usize] {
+        Some((winner, _)) => winner == player,
+        None => false,
     }
 }
 
@@ -52,16 +64,13 @@ fn vertex_in_row(game: &Game, known: &Known, player: Player, row: u32) -> u32
     ensures vertex { result < length game.now }
     ensures row { option_map (λ r. r.0) (slice_get (known_rows game.now known.now.rows player) row) ≡ Some result }
 {
-    let of_vertices = known.rows.as_slice();
     let mut before = 0u32;
     for v in 0..game.len() {
-        if let Some((winner, _)) = of_vertices[v as usize] {
-            if winner == player {
-                if before == row {
-                    return v;
-                }
-                before += 1;
+        if is_known_of(known, player, v) {
+            if before == row {
+                return v;
             }
+            before += 1;
         }
     }
     unreachable!()
@@ -73,6 +82,7 @@ fn claim_fault(game: &Game, known: &Known, player: Player, fault: ClaimFault) ->
     requires fault { IsSolveFault game.now known.now.rows (SolveFault.Known player (Refusal.Claim fault)) }
     ensures { Names game.now (known_rows game.now known.now.rows player) (Refusal.Claim fault) result }
 {
+    // for the proof alone, which takes from it that the game is one
     let _n = game.len();
     match fault {
         ClaimFault::Shape(row) => {
@@ -90,6 +100,7 @@ fn known_fault(game: &Game, known: &Known, player: Player, refusal: Refusal) -> 
     requires refusal { IsSolveFault game.now known.now.rows (SolveFault.Known player refusal) }
     ensures { Names game.now (known_rows game.now known.now.rows player) refusal result }
 {
+    // for the proof alone, which takes from it that the game is one
     let _n = game.len();
     match refusal {
         Refusal::Claim(fault) => claim_fault(game, known, player, fault),
@@ -118,6 +129,7 @@ pub fn only_memory(game: &Game, known: &Known, fault: SolveFault) -> Memory
     requires known { known.now.rows ≡ replicate (length game.now) None }
     requires fault { IsSolveFault game.now known.now.rows fault }
 {
+    // for the proof alone, which takes from it that the game is one
     let _n = game.len();
     match fault {
         SolveFault::Known(..) => unreachable!(),

@@ -58,6 +58,7 @@ fn solve_text<R: Threads + Wait + Sync>(
     ensures regions { IfOk result (λ text. (p : Player) → IsKnownRegion game.now known.now.rows p) }
     ensures fault { IfErr result (λ e. IsUnsolved game.now known.now.rows e) }
 {
+    // for the proof alone, which takes from it that the game is one
     let _n = game.len();
     let run = Options {
         workers: options.workers,
@@ -88,6 +89,7 @@ fn trace_of<R: Threads + Wait + Sync>(
     requires workers { (1 ≤ workers) × (workers ≤ 64) }
     ensures { IfOk result (λ text. IsTraceText game.now text.items) }
 {
+    // for the proof alone, which takes from it that the game is one
     let _n = game.len();
     let run = Options {
         workers,
@@ -162,6 +164,7 @@ fn solve_alone<I: Source, O: Sink, R: Threads + Wait + Sync>(
     ensures nothing { IfErr result (λ e. e ≢ RunFault.Write → Keeps (O.taken out.old) (O.taken out.new)) }
 {
     let game = game_from(alloc, input)?;
+    // for the proof alone, which takes from it that the game is one
     let _n = game.len();
     let known = nothing_known(alloc, &game)?;
     let text = solve_text(rt, alloc, &game, &known, options, gate, finder)?;

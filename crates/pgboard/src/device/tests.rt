@@ -1,5 +1,6 @@
 //! `Std` counts the failures of its reader or writer, and no other.
 use super::{Failed, Sink, Source, Std};
+use crate::tests::check_eq;
 use std::io::{Error, ErrorKind, Read, Result, Write};
 
 /// Answers its count of good calls, and then fails.
@@ -34,11 +35,11 @@ impl Write for Good {
 fn each_failed_read_is_counted(rt: HostRuntime) {
     let mut source = Std::new(Good(1));
     let mut buffer = [0u8; 4];
-    assert_eq!(rt; source.read(&mut buffer), Ok(0));
-    assert_eq!(rt; source.failures, 0);
-    assert_eq!(rt; source.read(&mut buffer), Err(Failed));
-    assert_eq!(rt; source.read(&mut buffer), Err(Failed));
-    assert_eq!(rt; source.failures, 2);
+    check_eq!(rt; source.read(&mut buffer), Ok(0));
+    check_eq!(rt; source.failures, 0);
+    check_eq!(rt; source.read(&mut buffer), Err(Failed));
+    check_eq!(rt; source.read(&mut buffer), Err(Failed));
+    check_eq!(rt; source.failures, 2);
 }
 
 #[test]
@@ -48,24 +49,24 @@ fn the_count_stays_at_its_last_value(rt: HostRuntime) {
         failures: u64::MAX,
         expected: 0,
     };
-    assert_eq!(rt; source.read(&mut [0u8; 4]), Err(Failed));
-    assert_eq!(rt; source.failures, u64::MAX);
+    check_eq!(rt; source.read(&mut [0u8; 4]), Err(Failed));
+    check_eq!(rt; source.failures, u64::MAX);
 }
 
 #[test]
 fn a_write_that_takes_nothing_fails(rt: HostRuntime) {
     let mut sink = Std::new(Good(3));
-    assert_eq!(rt; sink.write(b"four"), Ok(2));
-    assert_eq!(rt; sink.write(b""), Ok(0));
-    assert_eq!(rt; sink.failures, 0);
-    assert_eq!(rt; sink.write(b"1"), Err(Failed));
-    assert_eq!(rt; sink.write(b"four"), Err(Failed));
-    assert_eq!(rt; sink.failures, 2);
+    check_eq!(rt; sink.write(b"four"), Ok(2));
+    check_eq!(rt; sink.write(b""), Ok(0));
+    check_eq!(rt; sink.failures, 0);
+    check_eq!(rt; sink.write(b"1"), Err(Failed));
+    check_eq!(rt; sink.write(b"four"), Err(Failed));
+    check_eq!(rt; sink.failures, 2);
 }
 
 #[test]
 fn what_is_expected_is_told(rt: HostRuntime) {
     let source = Std::new(Good(1));
-    assert_eq!(rt; source.expected(), 0);
-    assert_eq!(rt; source.expecting(7).expected(), 7);
+    check_eq!(rt; source.expected(), 0);
+    check_eq!(rt; source.expecting(7).expected(), 7);
 }

@@ -4,6 +4,7 @@ ghost use Rattle.std.specs.Prelude.{None};
 use super::read_text;
 use crate::device::{Failed, Source};
 use crate::fault::RunFault;
+use crate::tests::{check, check_eq};
 use std::test::Fail;
 
 /// Gives its bytes, as many as are asked for, and expects so many.
@@ -53,13 +54,13 @@ fn read_from(
 
 #[test]
 fn the_room_is_what_was_expected_and_a_byte(rt: HostRuntime) -> Result<(), Fail> {
-    assert_eq!(rt; read_from(&rt, 0, 0)?, (0, 65_536, 1));
-    assert_eq!(rt; read_from(&rt, 5, 0)?, (5, 65_536, 2));
-    assert_eq!(rt; read_from(&rt, 5, 5)?, (5, 6, 2));
-    assert_eq!(rt; read_from(&rt, 5, 9)?, (5, 10, 2));
-    assert_eq!(rt; read_from(&rt, 65_535, 65_535)?, (65_535, 65_536, 2));
-    assert_eq!(rt; read_from(&rt, 65_536, 65_536)?, (65_536, 65_537, 2));
-    assert_eq!(rt; read_from(&rt, 200_000, 200_000)?, (200_000, 200_001, 5));
+    check_eq!(rt; read_from(&rt, 0, 0)?, (0, 65_536, 1));
+    check_eq!(rt; read_from(&rt, 5, 0)?, (5, 65_536, 2));
+    check_eq!(rt; read_from(&rt, 5, 5)?, (5, 6, 2));
+    check_eq!(rt; read_from(&rt, 5, 9)?, (5, 10, 2));
+    check_eq!(rt; read_from(&rt, 65_535, 65_535)?, (65_535, 65_536, 2));
+    check_eq!(rt; read_from(&rt, 65_536, 65_536)?, (65_536, 65_537, 2));
+    check_eq!(rt; read_from(&rt, 200_000, 200_000)?, (200_000, 200_001, 5));
     Ok(())
 }
 
@@ -68,8 +69,8 @@ fn what_comes_beyond_what_was_expected_is_read(rt: HostRuntime) -> Result<(), Fa
     for size in [1, 2, 65_536, 65_537, 65_538, 300_000] {
         for expected in [0, 1, 65_536] {
             let (n, room, _) = read_from(&rt, size, expected)?;
-            assert_eq!(rt; n, size);
-            assert!(rt; size < room);
+            check_eq!(rt; n, size);
+            check!(rt; size < room);
         }
     }
     Ok(())
@@ -77,6 +78,6 @@ fn what_comes_beyond_what_was_expected_is_read(rt: HostRuntime) -> Result<(), Fa
 
 #[test]
 fn no_more_is_expected_than_a_text_may_have(rt: HostRuntime) -> Result<(), Fail> {
-    assert_eq!(rt; read_from(&rt, 3, u64::MAX)?, (3, 268_435_457, 2));
+    check_eq!(rt; read_from(&rt, 3, u64::MAX)?, (3, 268_435_457, 2));
     Ok(())
 }

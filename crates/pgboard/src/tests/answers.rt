@@ -2,11 +2,11 @@
 ghost use Rattle.std.specs.Prelude.{◌≤◌, IfOk};
 ghost use Rattle.pgboard.specs.Asking.{IsInRange};
 
+use super::calls::{done, done_through};
 use super::devices::{Bounded, Pieces};
 use super::finders::Recorder;
 use super::games::ONE_EACH;
 use super::held::{Holder, TURNS, assert_alone, assert_at_once};
-use crate::answer::run_asked;
 use crate::asked::Asked;
 use crate::fault::{AskedFault, KnownFault, RunFault};
 use crate::status_of;
@@ -36,20 +36,10 @@ fn assert_answer<R: Threads + Wait + Abort + Sync>(
     requires { IsInRange asked.now }
 {
     let mut out = Bounded::ample(alloc);
-    let mut input = Pieces::whole(input);
     let mut second = Pieces::whole(OTHER);
-    let answer = run_asked(
-        rt,
-        alloc,
-        asked,
-        &mut input,
-        &mut second,
-        &mut out,
-        &Pass,
-        &Standard,
-    )?;
-    assert_eq!(rt; out.taken.as_slice(), want.as_bytes());
-    assert_eq!(rt; answer, status, "of {want}");
+    let answer = done(rt, alloc, asked, input, &mut second, &mut out)?;
+    check_eq!(rt; out.taken.as_slice(), want.as_bytes());
+    check_eq!(rt; answer, status, "of {want}");
     Ok(())
 }
 
@@ -108,11 +98,7 @@ fn answered<R: Threads + Wait + Sync>(
     requires { IsInRange asked.now }
 {
     let mut out = Bounded::ample(alloc);
-    let mut input = Pieces::whole(ONE_EACH);
-    let mut none = Pieces::whole(b"");
-    run_asked(
-        rt, alloc, asked, &mut input, &mut none, &mut out, gate, finder,
-    )?;
+    done_through(rt, alloc, asked, ONE_EACH, &mut out, gate, finder)?;
     Ok(out.taken)
 }
 
@@ -151,18 +137,8 @@ fn answer_knowing<R: Threads + Wait + Sync>(
     requires { IsInRange asked.now }
 {
     let mut out = Bounded::ample(alloc);
-    let mut input = Pieces::whole(ONE_EACH);
     let mut second = Pieces::whole(OTHER);
-    let answer = run_asked(
-        rt,
-        alloc,
-        asked,
-        &mut input,
-        &mut second,
-        &mut out,
-        &Pass,
-        &Standard,
-    );
+    let answer = done(rt, alloc, asked, ONE_EACH, &mut second, &mut out);
     (answer, second.reads)
 }
 
@@ -170,11 +146,11 @@ fn answer_knowing<R: Threads + Wait + Sync>(
 fn what_is_known_is_read_where_it_was_asked_for(rt: HostRuntime) -> Result<(), Fail> {
     let alloc = rt.alloc();
     let (answer, reads) = answer_knowing(&rt, alloc, &solve_knowing(alloc)?);
-    assert_eq!(rt; answer, Err(RunFault::Known(KnownFault::Cycle(1))));
-    assert!(rt; reads > 0);
+    check_eq!(rt; answer, Err(RunFault::Known(KnownFault::Cycle(1))));
+    check!(rt; reads > 0);
     let (answer, reads) = answer_knowing(&rt, alloc, &solve_by(1, 4));
-    assert_eq!(rt; answer, Ok(0));
-    assert_eq!(rt; reads, 0);
+    check_eq!(rt; answer, Ok(0));
+    check_eq!(rt; reads, 0);
     Ok(())
 }
 
@@ -182,9 +158,9 @@ fn what_is_known_is_read_where_it_was_asked_for(rt: HostRuntime) -> Result<(), F
 fn the_bound_of_the_command_line_is_handed_on(rt: HostRuntime) -> Result<(), Fail> {
     let recorder = Recorder::new();
     answered(&rt, rt.alloc(), &solve_by(1, 7), &Pass, &recorder)?;
-    assert_eq!(rt; recorder.bound.load(Ordering::SeqCst), 7);
+    check_eq!(rt; recorder.bound.load(Ordering::SeqCst), 7);
     answered(&rt, rt.alloc(), &solve_by(1, 1), &Pass, &recorder)?;
-    assert_eq!(rt; recorder.bound.load(Ordering::SeqCst), 1);
+    check_eq!(rt; recorder.bound.load(Ordering::SeqCst), 1);
     Ok(())
 }
 
@@ -223,21 +199,11 @@ fn assert_refused<R: Threads + Wait + Abort + Sync>(rt: &R, alloc: Global, asked
     requires { IsInRange asked.now }
 {
     let mut out = Bounded::ample(alloc);
-    let mut input = Pieces::whole(b"0 0 0 1");
     let mut second = Pieces::whole(OTHER);
-    let answer = run_asked(
-        rt,
-        alloc,
-        asked,
-        &mut input,
-        &mut second,
-        &mut out,
-        &Pass,
-        &Standard,
-    );
-    assert_eq!(rt; answer, Err(RunFault::Game(TextFault::Syntax(7))));
-    assert!(rt; out.taken.is_empty());
-    assert_eq!(rt; second.reads, 0);
+    let answer = done(rt, alloc, asked, b"0 0 0 1", &mut second, &mut out);
+    check_eq!(rt; answer, Err(RunFault::Game(TextFault::Syntax(7))));
+    check!(rt; out.taken.is_empty());
+    check_eq!(rt; second.reads, 0);
 }
 
 #[test]
@@ -263,8 +229,8 @@ fn a_refused_game_is_refused_whatever_is_asked(rt: HostRuntime) -> Result<(), Fa
 #[test]
 fn a_refused_command_line_ends_with_the_status_of_its_fault(rt: HostRuntime) -> Result<(), Fail> {
     let text = String::from_str(rt.alloc(), "error: shown by a test\n")?;
-    assert_eq!(rt; status_of(&rt, &rt, Err(AskedFault::Words(text))), 2);
-    assert_eq!(rt; status_of(&rt, &rt, Err(AskedFault::Memory)), 5);
+    check_eq!(rt; status_of(&rt, &rt, Err(AskedFault::Words(text))), 2);
+    check_eq!(rt; status_of(&rt, &rt, Err(AskedFault::Memory)), 5);
     Ok(())
 }
 
@@ -272,7 +238,7 @@ fn a_refused_command_line_ends_with_the_status_of_its_fault(rt: HostRuntime) -> 
 fn a_file_that_is_not_there_ends_with_status_4(rt: HostRuntime) -> Result<(), Fail> {
     let path = String::from_str(rt.alloc(), "/nowhere/at/all")?;
     let asked = Asked::Tidy { game: Some(path) };
-    assert_eq!(rt; status_of(&rt, &rt, Ok(asked)), 4);
-    assert_eq!(rt; status_of(&rt, &rt, Ok(solve_knowing(rt.alloc())?)), 4);
+    check_eq!(rt; status_of(&rt, &rt, Ok(asked)), 4);
+    check_eq!(rt; status_of(&rt, &rt, Ok(solve_knowing(rt.alloc())?)), 4);
     Ok(())
 }

@@ -2,121 +2,136 @@
 use crate::fault::{AskedFault, KnownFault, RunFault};
 use pg_game::GameFault;
 use pg_text::{SolutionTextFault, TextFault};
+use std::alloc::Global;
+use std::process::Abort;
 use std::test::Fail;
+
+/// Each fault, with its text and its status.
+const FAULTS: [(RunFault, &str, u8); 25] = [
+    (RunFault::Read, "read fault", 4),
+    (RunFault::Write, "write fault", 4),
+    (RunFault::Memory, "no memory", 5),
+    (RunFault::TooLong, "text too long", 3),
+    (
+        RunFault::Game(TextFault::Lexical(8)),
+        "game: byte 8: no token",
+        3,
+    ),
+    (
+        RunFault::Game(TextFault::Syntax(17)),
+        "game: byte 17: not expected",
+        3,
+    ),
+    (
+        RunFault::Game(TextFault::Number(0)),
+        "game: byte 0: number too large",
+        3,
+    ),
+    (
+        RunFault::Game(TextFault::Owner(4)),
+        "game: byte 4: owner is not 0 or 1",
+        3,
+    ),
+    (
+        RunFault::Game(TextFault::Game(GameFault::NoVertex)),
+        "game: no vertex",
+        3,
+    ),
+    (
+        RunFault::Game(TextFault::Game(GameFault::TooManyVertices)),
+        "game: too many vertices",
+        3,
+    ),
+    (
+        RunFault::Game(TextFault::Game(GameFault::Twice(3))),
+        "game: vertex 3: specified twice",
+        3,
+    ),
+    (
+        RunFault::Game(TextFault::Game(GameFault::NoSuccessor(3))),
+        "game: vertex 3: no successor",
+        3,
+    ),
+    (
+        RunFault::Game(TextFault::Game(GameFault::TooManyEdges)),
+        "game: too many edges",
+        3,
+    ),
+    (
+        RunFault::Game(TextFault::Game(GameFault::Unknown(0, 7))),
+        "game: vertex 0: successor 7 is not specified",
+        3,
+    ),
+    (
+        RunFault::Solution(SolutionTextFault::Lexical(1)),
+        "solution: byte 1: no token",
+        3,
+    ),
+    (
+        RunFault::Solution(SolutionTextFault::Syntax(2)),
+        "solution: byte 2: not expected",
+        3,
+    ),
+    (
+        RunFault::Solution(SolutionTextFault::Number(3)),
+        "solution: byte 3: number too large",
+        3,
+    ),
+    (
+        RunFault::Solution(SolutionTextFault::Winner(9)),
+        "solution: byte 9: winner is not 0 or 1",
+        3,
+    ),
+    (
+        RunFault::Solution(SolutionTextFault::Stranger(2)),
+        "solution: vertex 2: not in the game",
+        3,
+    ),
+    (
+        RunFault::Solution(SolutionTextFault::Twice(5)),
+        "solution: vertex 5: written twice",
+        3,
+    ),
+    (
+        RunFault::Solution(SolutionTextFault::Missing(1)),
+        "solution: vertex 1: not written",
+        3,
+    ),
+    (
+        RunFault::Known(KnownFault::Choice(1)),
+        "known: bad choice or none at 1",
+        1,
+    ),
+    (
+        RunFault::Known(KnownFault::Cycle(7)),
+        "known: bad cycle at 7",
+        1,
+    ),
+    (RunFault::Known(KnownFault::Lost(2)), "known: 2 is lost", 1),
+    (
+        RunFault::Known(KnownFault::Open(2, 1)),
+        "known: 2 leaves to 1",
+        1,
+    ),
+];
+
+fn assert_told(
+    rt: &impl Abort,
+    alloc: Global,
+    fault: RunFault,
+    text: &str,
+    status: u8,
+) -> Result<(), Fail> {
+    let line = fault.to_string(alloc)?;
+    check_eq!(rt; line.as_str(), text);
+    check_eq!(rt; fault.status(), status, "of {line}");
+    Ok(())
+}
 
 #[test]
 fn each_fault_has_its_text_and_status(rt: HostRuntime) -> Result<(), Fail> {
-    let alloc = rt.alloc();
-    for (fault, text, status) in [
-        (RunFault::Read, "read fault", 4),
-        (RunFault::Write, "write fault", 4),
-        (RunFault::Memory, "no memory", 5),
-        (RunFault::TooLong, "text too long", 3),
-        (
-            RunFault::Game(TextFault::Lexical(8)),
-            "game: byte 8: no token",
-            3,
-        ),
-        (
-            RunFault::Game(TextFault::Syntax(17)),
-            "game: byte 17: not expected",
-            3,
-        ),
-        (
-            RunFault::Game(TextFault::Number(0)),
-            "game: byte 0: number too large",
-            3,
-        ),
-        (
-            RunFault::Game(TextFault::Owner(4)),
-            "game: byte 4: owner is not 0 or 1",
-            3,
-        ),
-        (
-            RunFault::Game(TextFault::Game(GameFault::NoVertex)),
-            "game: no vertex",
-            3,
-        ),
-        (
-            RunFault::Game(TextFault::Game(GameFault::TooManyVertices)),
-            "game: too many vertices",
-            3,
-        ),
-        (
-            RunFault::Game(TextFault::Game(GameFault::Twice(3))),
-            "game: vertex 3: specified twice",
-            3,
-        ),
-        (
-            RunFault::Game(TextFault::Game(GameFault::NoSuccessor(3))),
-            "game: vertex 3: no successor",
-            3,
-        ),
-        (
-            RunFault::Game(TextFault::Game(GameFault::TooManyEdges)),
-            "game: too many edges",
-            3,
-        ),
-        (
-            RunFault::Game(TextFault::Game(GameFault::Unknown(0, 7))),
-            "game: vertex 0: successor 7 is not specified",
-            3,
-        ),
-        (
-            RunFault::Solution(SolutionTextFault::Lexical(1)),
-            "solution: byte 1: no token",
-            3,
-        ),
-        (
-            RunFault::Solution(SolutionTextFault::Syntax(2)),
-            "solution: byte 2: not expected",
-            3,
-        ),
-        (
-            RunFault::Solution(SolutionTextFault::Number(3)),
-            "solution: byte 3: number too large",
-            3,
-        ),
-        (
-            RunFault::Solution(SolutionTextFault::Winner(9)),
-            "solution: byte 9: winner is not 0 or 1",
-            3,
-        ),
-        (
-            RunFault::Solution(SolutionTextFault::Stranger(2)),
-            "solution: vertex 2: not in the game",
-            3,
-        ),
-        (
-            RunFault::Solution(SolutionTextFault::Twice(5)),
-            "solution: vertex 5: written twice",
-            3,
-        ),
-        (
-            RunFault::Solution(SolutionTextFault::Missing(1)),
-            "solution: vertex 1: not written",
-            3,
-        ),
-        (
-            RunFault::Known(KnownFault::Choice(1)),
-            "known: bad choice or none at 1",
-            1,
-        ),
-        (
-            RunFault::Known(KnownFault::Cycle(7)),
-            "known: bad cycle at 7",
-            1,
-        ),
-        (RunFault::Known(KnownFault::Lost(2)), "known: 2 is lost", 1),
-        (
-            RunFault::Known(KnownFault::Open(2, 1)),
-            "known: 2 leaves to 1",
-            1,
-        ),
-    ] {
-        let line = fault.to_string(alloc)?;
-        assert_eq!(rt; line.as_str(), text);
-        assert_eq!(rt; fault.status(), status, "of {line}");
+    for (fault, text, status) in FAULTS {
+        assert_told(&rt, rt.alloc(), fault, text, status)?;
     }
     Ok(())
 }
@@ -125,12 +140,12 @@ fn each_fault_has_its_text_and_status(rt: HostRuntime) -> Result<(), Fail> {
 fn a_refused_command_line_prints_its_own_text(rt: HostRuntime) -> Result<(), Fail> {
     let alloc = rt.alloc();
     let words = AskedFault::Words(String::from_str(alloc, "error: no\n")?);
-    assert_eq!(rt; words.to_string(alloc)?.as_str(), "error: no\n");
-    assert_eq!(rt; words.status(), 2);
-    assert_eq!(rt;
+    check_eq!(rt; words.to_string(alloc)?.as_str(), "error: no\n");
+    check_eq!(rt; words.status(), 2);
+    check_eq!(rt;
         AskedFault::Memory.to_string(alloc)?.as_str(),
         "pgboard: no memory\n"
     );
-    assert_eq!(rt; AskedFault::Memory.status(), 5);
+    check_eq!(rt; AskedFault::Memory.status(), 5);
     Ok(())
 }

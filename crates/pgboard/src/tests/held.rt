@@ -1,7 +1,8 @@
 //! Workers run at once through the program's runs: a gate holds one of them until another has posted.
-use super::devices::{Bounded, Pieces};
+use super::calls::{solved, traced};
+use super::devices::Bounded;
 use super::games::ONE_EACH;
-use crate::solve::{SolveOptions, run_solve, run_trace};
+use crate::solve::SolveOptions;
 use pg_finders::Standard;
 use pg_workers::Gate;
 use std::alloc::Global;
@@ -88,23 +89,23 @@ impl Gate for Holder {
 
 /// Each of the five jobs was found and posted once.
 fn assert_each_once(rt: &impl Abort, seen: &Seen) {
-    assert!(*rt; seen.found == [1; 5]);
-    assert!(*rt; seen.posted == [1; 5]);
+    check!(rt; seen.found == [1; 5]);
+    check!(rt; seen.posted == [1; 5]);
 }
 
 /// Nobody has posted while the worker was held, and yet each of the five jobs was found and posted once.
 pub fn assert_alone(rt: &impl Abort, gate: Holder) {
     let seen = gate.seen.into_inner();
-    assert!(*rt; seen.gave_up);
-    assert!(*rt; !seen.others_posted);
+    check!(rt; seen.gave_up);
+    check!(rt; !seen.others_posted);
     assert_each_once(rt, &seen);
 }
 
 /// Each of the five jobs was found and posted once, and another worker than the one that was to be held has posted.
 pub fn assert_at_once(rt: &impl Abort, gate: Holder) {
     let seen = gate.seen.into_inner();
-    assert!(*rt; !seen.gave_up);
-    assert!(*rt; seen.others_posted);
+    check!(rt; !seen.gave_up);
+    check!(rt; seen.others_posted);
     assert_each_once(rt, &seen);
 }
 
@@ -119,13 +120,9 @@ fn held_solve<R: Threads + Wait + Abort + Sync>(
         winners: true,
     };
     let gate = Holder::new(held, TURNS);
-    let mut input = Pieces::whole(ONE_EACH);
     let mut out = Bounded::ample(alloc);
-    let known = None::<&mut Pieces<'_>>;
-    run_solve(
-        rt, alloc, &mut input, known, &mut out, &options, &gate, &Standard,
-    )?;
-    assert_eq!(*rt;
+    solved(rt, alloc, ONE_EACH, &mut out, &options, &gate, &Standard)?;
+    check_eq!(rt;
         out.taken.as_slice(),
         b"paritysol 1;\n0 0;\n1 1;\n".as_slice()
     );
@@ -139,10 +136,9 @@ fn held_trace<R: Threads + Wait + Abort + Sync>(
     held: u32,
 ) -> Result<(), Fail> {
     let gate = Holder::new(held, TURNS);
-    let mut input = Pieces::whole(ONE_EACH);
     let mut out = Bounded::ample(alloc);
-    run_trace(rt, alloc, &mut input, &mut out, 2, &gate, &Standard)?;
-    assert!(*rt; out.taken.starts_with(b"journal 2 2\n"));
+    traced(rt, alloc, ONE_EACH, &mut out, 2, &gate, &Standard)?;
+    check!(rt; out.taken.starts_with(b"journal 2 2\n"));
     assert_at_once(rt, gate);
     Ok(())
 }

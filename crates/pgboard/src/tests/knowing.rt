@@ -1,8 +1,9 @@
 //! Games that are solved from what is known of them.
+use super::calls::solved_from;
 use super::devices::{Bounded, Pieces};
 use super::games::{LAYERS, ONE_EACH};
 use crate::fault::{KnownFault, RunFault};
-use crate::solve::{SolveOptions, run_solve};
+use crate::solve::SolveOptions;
 use pg_board::Entry;
 use pg_finders::Standard;
 use pg_text::{SolutionTextFault, TextFault, read_game, read_known};
@@ -33,39 +34,40 @@ fn answer_on<R: Threads + Wait + Sync>(
     known: &[u8],
 ) -> (Result<(), RunFault>, Vec<u8>) {
     let mut out = Bounded::ample(alloc);
-    let mut input = Pieces::whole(game);
     let mut known = Pieces::whole(known);
-    let answer = run_solve(
-        rt,
-        alloc,
-        &mut input,
-        Some(&mut known),
-        &mut out,
-        &BY_TWO,
-        &Pass,
-        &Standard,
-    );
+    let answer = solved_from(rt, alloc, game, &mut known, &mut out, &BY_TWO);
     (answer, out.taken)
+}
+
+const LAYERS_SOLVED: &[u8] = b"paritysol 2;\n0 0 0;\n1 0 0;\n2 0;\n";
+
+const ONE_EACH_SOLVED: &[u8] = b"paritysol 1;\n0 0 0;\n1 1 1;\n";
+
+const GAPS_SOLVED: &[u8] = b"paritysol 9;\n3 0 9;\n9 0;\n";
+
+/// The game is solved from what is known of it.
+fn assert_solved<R: Threads + Wait + Abort + Sync>(
+    rt: &R,
+    alloc: Global,
+    game: &[u8],
+    known: &[u8],
+    want: &[u8],
+) {
+    let (answer, text) = answer_on(rt, alloc, game, known);
+    check_eq!(rt; answer, Ok(()));
+    check_eq!(rt; text.as_slice(), want);
 }
 
 #[test]
 fn what_is_known_and_holds_leads_to_the_solution(rt: HostRuntime) {
-    let layers = "paritysol 2;\n0 0 0;\n1 0 0;\n2 0;\n";
-    let one_each = "paritysol 1;\n0 0 0;\n1 1 1;\n";
-    let gaps = "paritysol 9;\n3 0 9;\n9 0;\n";
-    for (game, known, want) in [
-        (LAYERS, b"0 0 0;".as_slice(), layers),
-        (LAYERS, b"".as_slice(), layers),
-        (LAYERS, b"paritysol 7;".as_slice(), layers),
-        (LAYERS, b"2 0; 1 0 0; 0 0 0;".as_slice(), layers),
-        (ONE_EACH, b"1 1 1;".as_slice(), one_each),
-        (ONE_EACH, b"1 1 1; 0 0 0;".as_slice(), one_each),
-        (GAPS, b"9 0 3; 3 0 9;".as_slice(), gaps),
-    ] {
-        let (answer, text) = answer_on(&rt, rt.alloc(), game, known);
-        assert_eq!(rt; answer, Ok(()));
-        assert_eq!(rt; text.as_slice(), want.as_bytes());
-    }
+    let alloc = rt.alloc();
+    assert_solved(&rt, alloc, LAYERS, b"0 0 0;", LAYERS_SOLVED);
+    assert_solved(&rt, alloc, LAYERS, b"", LAYERS_SOLVED);
+    assert_solved(&rt, alloc, LAYERS, b"paritysol 7;", LAYERS_SOLVED);
+    assert_solved(&rt, alloc, LAYERS, b"2 0; 1 0 0; 0 0 0;", LAYERS_SOLVED);
+    assert_solved(&rt, alloc, ONE_EACH, b"1 1 1;", ONE_EACH_SOLVED);
+    assert_solved(&rt, alloc, ONE_EACH, b"1 1 1; 0 0 0;", ONE_EACH_SOLVED);
+    assert_solved(&rt, alloc, GAPS, b"9 0 3; 3 0 9;", GAPS_SOLVED);
 }
 
 /// The known set is refused for this, with nothing written.
@@ -77,8 +79,8 @@ fn assert_refused<R: Threads + Wait + Abort + Sync>(
     want: KnownFault,
 ) {
     let (answer, text) = answer_on(rt, alloc, game, known);
-    assert_eq!(*rt; answer, Err(RunFault::Known(want)));
-    assert!(*rt; text.is_empty(), "nothing is written at {want:?}");
+    check_eq!(rt; answer, Err(RunFault::Known(want)));
+    check!(rt; text.is_empty(), "nothing is written at {want:?}");
 }
 
 #[test]
@@ -102,27 +104,35 @@ fn a_refused_known_set_is_named_by_identifiers(rt: HostRuntime) {
     assert_refused(&rt, alloc, FORCED, b"5 0 5; 9 1 5;", KnownFault::Lost(9));
 }
 
+/// The known text is refused for this, with nothing written.
+fn assert_no_text<R: Threads + Wait + Abort + Sync>(
+    rt: &R,
+    alloc: Global,
+    game: &[u8],
+    known: &[u8],
+    want: SolutionTextFault,
+) {
+    let (answer, text) = answer_on(rt, alloc, game, known);
+    check_eq!(rt; answer, Err(RunFault::Solution(want)));
+    check!(rt; text.is_empty(), "nothing is written at {want:?}");
+}
+
 #[test]
 fn a_known_text_is_refused_by_its_first_fault(rt: HostRuntime) {
-    for (game, known, want) in [
-        (ONE_EACH, b"7 0;".as_slice(), SolutionTextFault::Stranger(7)),
-        (
-            ONE_EACH,
-            b"0 0 0; 0 0 0;".as_slice(),
-            SolutionTextFault::Twice(0),
-        ),
-        (ONE_EACH, b"0 0 0".as_slice(), SolutionTextFault::Syntax(5)),
-        (ONE_EACH, b"0 2;".as_slice(), SolutionTextFault::Winner(2)),
-        (
-            LAYERS,
-            b"1 0 1; -".as_slice(),
-            SolutionTextFault::Lexical(7),
-        ),
-    ] {
-        let (answer, text) = answer_on(&rt, rt.alloc(), game, known);
-        assert_eq!(rt; answer, Err(RunFault::Solution(want)));
-        assert!(rt; text.is_empty(), "nothing is written at {want:?}");
-    }
+    let alloc = rt.alloc();
+    let twice = SolutionTextFault::Twice(0);
+    let lexical = SolutionTextFault::Lexical(7);
+    assert_no_text(
+        &rt,
+        alloc,
+        ONE_EACH,
+        b"7 0;",
+        SolutionTextFault::Stranger(7),
+    );
+    assert_no_text(&rt, alloc, ONE_EACH, b"0 0 0; 0 0 0;", twice);
+    assert_no_text(&rt, alloc, ONE_EACH, b"0 0 0", SolutionTextFault::Syntax(5));
+    assert_no_text(&rt, alloc, ONE_EACH, b"0 2;", SolutionTextFault::Winner(2));
+    assert_no_text(&rt, alloc, LAYERS, b"1 0 1; -", lexical);
 }
 
 /// What is answered where the known source fails after so many good reads, and how often it was read.
@@ -133,37 +143,27 @@ fn answer_of_failing<R: Threads + Wait + Sync>(
     good: u64,
 ) -> (Result<(), RunFault>, u64) {
     let mut out = Bounded::ample(alloc);
-    let mut input = Pieces::whole(game);
     let mut known = Pieces::new(b"0 0 0;", 2, good);
-    let answer = run_solve(
-        rt,
-        alloc,
-        &mut input,
-        Some(&mut known),
-        &mut out,
-        &BY_TWO,
-        &Pass,
-        &Standard,
-    );
+    let answer = solved_from(rt, alloc, game, &mut known, &mut out, &BY_TWO);
     (answer, known.reads)
 }
 
 #[test]
 fn a_refused_game_leaves_what_is_known_unread(rt: HostRuntime) {
     let (answer, reads) = answer_of_failing(&rt, rt.alloc(), b"0 0 0 0", 0);
-    assert_eq!(rt; answer, Err(RunFault::Game(TextFault::Syntax(7))));
-    assert_eq!(rt; reads, 0);
+    check_eq!(rt; answer, Err(RunFault::Game(TextFault::Syntax(7))));
+    check_eq!(rt; reads, 0);
 }
 
 #[test]
 fn a_failed_read_of_what_is_known_is_a_read_fault(rt: HostRuntime) {
     for good in 0..4u64 {
         let (answer, reads) = answer_of_failing(&rt, rt.alloc(), LAYERS, good);
-        assert_eq!(rt; answer, Err(RunFault::Read));
-        assert_eq!(rt; reads, good);
+        check_eq!(rt; answer, Err(RunFault::Read));
+        check_eq!(rt; reads, good);
     }
     let (answer, _) = answer_of_failing(&rt, rt.alloc(), LAYERS, 4);
-    assert_eq!(rt; answer, Ok(()));
+    check_eq!(rt; answer, Ok(()));
 }
 
 /// The journal of solving the two layers by one worker, where vertex 0 is known.
@@ -184,10 +184,12 @@ fn journal_of_layers<R: Threads + Wait + Sync>(rt: &R, alloc: Global) -> Result<
 #[test]
 fn what_is_known_is_posted_before_a_worker_starts(rt: HostRuntime) -> Result<(), Fail> {
     let entries = journal_of_layers(&rt, rt.alloc())?;
-    assert_eq!(rt; entries.len(), 1);
-    let first = &entries.as_slice()[0];
-    assert_eq!(rt; first.worker, 0);
-    assert_eq!(rt; first.claimed, 1);
-    assert_eq!(rt; first.rows.as_slice().len(), 3);
+    check_eq!(rt; entries.len(), 1);
+    let Some(first) = entries.as_slice().first() else {
+        return Err(Fail::from("nothing is settled"));
+    };
+    check_eq!(rt; first.worker, 0);
+    check_eq!(rt; first.claimed, 1);
+    check_eq!(rt; first.rows.as_slice().len(), 3);
     Ok(())
 }

@@ -1,11 +1,12 @@
 //! Whole texts of `solve`, by one worker and by many.
 ghost use Rattle.std.specs.Prelude.{◌≤◌};
 
-use super::devices::{Bounded, Pieces};
+use super::calls::{solved, traced};
+use super::devices::Bounded;
 use super::finders::{Recorder, Singles};
 use super::games::{FIVE, LAYERS, ONE_EACH};
 use crate::fault::RunFault;
-use crate::solve::{SolveOptions, run_solve, run_trace};
+use crate::solve::SolveOptions;
 use pg_finders::{Finder, Standard};
 use pg_text::TextFault;
 use pg_workers::Pass;
@@ -17,7 +18,7 @@ use std::test::Fail;
 use std::thread::Threads;
 
 /// What is written for a game.
-fn solved<R: Threads + Wait + Sync>(
+fn text_of<R: Threads + Wait + Sync>(
     rt: &R,
     alloc: Global,
     game: &[u8],
@@ -28,11 +29,7 @@ fn solved<R: Threads + Wait + Sync>(
     requires bound { options.now.bound ≤ 8 }
 {
     let mut out = Bounded::ample(alloc);
-    let mut input = Pieces::whole(game);
-    let known = None::<&mut Pieces<'_>>;
-    run_solve(
-        rt, alloc, &mut input, known, &mut out, options, &Pass, finder,
-    )?;
+    solved(rt, alloc, game, &mut out, options, &Pass, finder)?;
     Ok(out.taken)
 }
 
@@ -50,9 +47,9 @@ fn assert_five<R: Threads + Wait + Abort + Sync>(
         bound: 4,
         winners: true,
     };
-    let text = solved(rt, alloc, FIVE, &options, finder)?;
+    let text = text_of(rt, alloc, FIVE, &options, finder)?;
     let want = b"paritysol 4;\n0 0;\n1 0;\n2 0;\n3 0;\n4 0;\n";
-    assert_eq!(rt; text.as_slice(), want.as_slice(), "{workers} workers");
+    check_eq!(rt; text.as_slice(), want.as_slice(), "{workers} workers");
     Ok(())
 }
 
@@ -110,8 +107,8 @@ fn assert_worked<R: Threads + Wait + Abort + Sync>(
             bound,
             winners,
         };
-        let text = solved(rt, alloc, game, &options, &Standard)?;
-        assert_eq!(rt;
+        let text = text_of(rt, alloc, game, &options, &Standard)?;
+        check_eq!(rt;
             text.as_slice(),
             want.as_bytes(),
             "{workers} workers: {want}"
@@ -134,10 +131,10 @@ fn one_of_two_solutions_is_written(rt: HostRuntime) -> Result<(), Fail> {
         bound: 4,
         winners: false,
     };
-    let text = solved(&rt, rt.alloc(), FIVE, &options, &Standard)?;
+    let text = text_of(&rt, rt.alloc(), FIVE, &options, &Standard)?;
     let by_two = b"paritysol 4;\n0 0;\n1 0;\n2 0 1;\n3 0 2;\n4 0;\n".as_slice();
     let by_four = b"paritysol 4;\n0 0;\n1 0;\n2 0 1;\n3 0 4;\n4 0;\n".as_slice();
-    assert!(rt; text.as_slice() == by_two || text.as_slice() == by_four);
+    check!(rt; text.as_slice() == by_two || text.as_slice() == by_four);
     Ok(())
 }
 
@@ -150,9 +147,9 @@ fn the_bound_and_the_budget_are_handed_on(rt: HostRuntime) -> Result<(), Fail> {
         bound: 7,
         winners: false,
     };
-    solved(&rt, alloc, ONE_EACH, &options, &recorder)?;
-    assert_eq!(rt; recorder.bound.load(Ordering::SeqCst), 7);
-    assert_eq!(rt; recorder.budget.load(Ordering::SeqCst), 10_000);
+    text_of(&rt, alloc, ONE_EACH, &options, &recorder)?;
+    check_eq!(rt; recorder.bound.load(Ordering::SeqCst), 7);
+    check_eq!(rt; recorder.budget.load(Ordering::SeqCst), 10_000);
     Ok(())
 }
 
@@ -160,44 +157,36 @@ fn the_bound_and_the_budget_are_handed_on(rt: HostRuntime) -> Result<(), Fail> {
 fn a_trace_looks_for_four_vertices_by_ten_thousand_choices(rt: HostRuntime) -> Result<(), Fail> {
     let alloc = rt.alloc();
     let recorder = Recorder::new();
-    let mut input = Pieces::whole(ONE_EACH);
     let mut out = Bounded::ample(alloc);
-    run_trace(&rt, alloc, &mut input, &mut out, 1, &Pass, &recorder)?;
-    assert_eq!(rt; recorder.bound.load(Ordering::SeqCst), 4);
-    assert_eq!(rt; recorder.budget.load(Ordering::SeqCst), 10_000);
+    traced(&rt, alloc, ONE_EACH, &mut out, 1, &Pass, &recorder)?;
+    check_eq!(rt; recorder.bound.load(Ordering::SeqCst), 4);
+    check_eq!(rt; recorder.budget.load(Ordering::SeqCst), 10_000);
     Ok(())
 }
 
-#[test]
-fn a_refused_game_is_not_solved(rt: HostRuntime) -> Result<(), Fail> {
-    let alloc = rt.alloc();
+/// The game is refused for this, with nothing written.
+fn assert_refused<R: Threads + Wait + Abort + Sync>(
+    rt: &R,
+    alloc: Global,
+    game: &[u8],
+    want: TextFault,
+) {
     let options = SolveOptions {
         workers: 2,
         bound: 4,
         winners: false,
     };
-    for (game, want) in [
-        (b"".as_slice(), TextFault::Syntax(0)),
-        (b"parity 1;\n0 0 0 1".as_slice(), TextFault::Syntax(17)),
-        (
-            b"2147483648 2147483647 1 2147483647;".as_slice(),
-            TextFault::Number(0),
-        ),
-    ] {
-        let mut out = Bounded::ample(alloc);
-        let mut input = Pieces::whole(game);
-        let answer = run_solve(
-            &rt,
-            alloc,
-            &mut input,
-            None::<&mut Pieces<'_>>,
-            &mut out,
-            &options,
-            &Pass,
-            &Standard,
-        );
-        assert_eq!(rt; answer, Err(RunFault::Game(want)));
-        assert!(rt; out.taken.is_empty());
-    }
-    Ok(())
+    let mut out = Bounded::ample(alloc);
+    let answer = solved(rt, alloc, game, &mut out, &options, &Pass, &Standard);
+    check_eq!(rt; answer, Err(RunFault::Game(want)));
+    check!(rt; out.taken.is_empty(), "nothing is written at {want:?}");
+}
+
+#[test]
+fn a_refused_game_is_not_solved(rt: HostRuntime) {
+    let alloc = rt.alloc();
+    assert_refused(&rt, alloc, b"", TextFault::Syntax(0));
+    assert_refused(&rt, alloc, b"parity 1;\n0 0 0 1", TextFault::Syntax(17));
+    let large = b"2147483648 2147483647 1 2147483647;";
+    assert_refused(&rt, alloc, large, TextFault::Number(0));
 }

@@ -1,8 +1,8 @@
 //! Whole texts of `trace`, by one worker, worked out by hand.
-use super::devices::{Bounded, Pieces};
+use super::calls::traced;
+use super::devices::Bounded;
 use super::finders::{NoMemory, Singles};
 use super::games::{EIGHT_TO_EACH, FOUR_AND_FIVE, LAYERS, ONE_EACH, SEVEN_TO_EACH};
-use crate::solve::run_trace;
 use pg_finders::{Finder, Standard};
 use pg_workers::Pass;
 use std::alloc::Global;
@@ -19,16 +19,8 @@ fn assert_traced<R: Threads + Wait + Abort + Sync>(
     want: &str,
 ) -> Result<(), Fail> {
     let mut out = Bounded::ample(alloc);
-    run_trace(
-        rt,
-        alloc,
-        &mut Pieces::whole(game),
-        &mut out,
-        1,
-        &Pass,
-        finder,
-    )?;
-    assert_eq!(rt; out.taken.as_slice(), want.as_bytes());
+    traced(rt, alloc, game, &mut out, 1, &Pass, finder)?;
+    check_eq!(rt; out.taken.as_slice(), want.as_bytes());
     Ok(())
 }
 
