@@ -5,7 +5,6 @@ use super::read_text;
 use crate::device::{Failed, Source};
 use crate::fault::RunFault;
 use crate::tests::{check, check_eq};
-use std::test::Fail;
 
 /// Gives its bytes, as many as are asked for, and expects so many.
 #[derive(Drop)]
@@ -53,31 +52,33 @@ fn read_from(
 }
 
 #[test]
-fn the_room_is_what_was_expected_and_a_byte(rt: HostRuntime) -> Result<(), Fail> {
-    check_eq!(rt; read_from(&rt, 0, 0)?, (0, 65_536, 1));
-    check_eq!(rt; read_from(&rt, 5, 0)?, (5, 65_536, 2));
-    check_eq!(rt; read_from(&rt, 5, 5)?, (5, 6, 2));
-    check_eq!(rt; read_from(&rt, 5, 9)?, (5, 10, 2));
-    check_eq!(rt; read_from(&rt, 65_535, 65_535)?, (65_535, 65_536, 2));
-    check_eq!(rt; read_from(&rt, 65_536, 65_536)?, (65_536, 65_537, 2));
-    check_eq!(rt; read_from(&rt, 200_000, 200_000)?, (200_000, 200_001, 5));
-    Ok(())
+fn the_room_is_what_was_expected_and_a_byte(rt: HostRuntime) {
+    check_eq!(rt; read_from(&rt, 0, 0), Ok((0, 65_536, 1)));
+    check_eq!(rt; read_from(&rt, 5, 0), Ok((5, 65_536, 2)));
+    check_eq!(rt; read_from(&rt, 5, 5), Ok((5, 6, 2)));
+    check_eq!(rt; read_from(&rt, 5, 9), Ok((5, 10, 2)));
+    check_eq!(rt; read_from(&rt, 65_535, 65_535), Ok((65_535, 65_536, 2)));
+    check_eq!(rt; read_from(&rt, 65_536, 65_536), Ok((65_536, 65_537, 2)));
+    check_eq!(rt; read_from(&rt, 200_000, 200_000), Ok((200_000, 200_001, 5)));
+}
+
+/// All came, and there was room for more.
+fn assert_all(rt: &HostRuntime, size: usize, expected: u64) {
+    let (n, room, _) = read_from(rt, size, expected).expect(rt, "a text");
+    check_eq!(*rt; n, size);
+    check!(*rt; size < room);
 }
 
 #[test]
-fn what_comes_beyond_what_was_expected_is_read(rt: HostRuntime) -> Result<(), Fail> {
+fn what_comes_beyond_what_was_expected_is_read(rt: HostRuntime) {
     for size in [1, 2, 65_536, 65_537, 65_538, 300_000] {
         for expected in [0, 1, 65_536] {
-            let (n, room, _) = read_from(&rt, size, expected)?;
-            check_eq!(rt; n, size);
-            check!(rt; size < room);
+            assert_all(&rt, size, expected);
         }
     }
-    Ok(())
 }
 
 #[test]
-fn no_more_is_expected_than_a_text_may_have(rt: HostRuntime) -> Result<(), Fail> {
-    check_eq!(rt; read_from(&rt, 3, u64::MAX)?, (3, 268_435_457, 2));
-    Ok(())
+fn no_more_is_expected_than_a_text_may_have(rt: HostRuntime) {
+    check_eq!(rt; read_from(&rt, 3, u64::MAX), Ok((3, 268_435_457, 2)));
 }

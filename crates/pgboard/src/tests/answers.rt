@@ -17,7 +17,6 @@ use std::alloc::{AllocError, Global};
 use std::process::Abort;
 use std::sync::Wait;
 use std::sync::atomic::Ordering;
-use std::test::Fail;
 use std::thread::Threads;
 
 const JOINED: &[u8] = b"0 2 0 0,1; 1 1 1 1; % 0 0 0; 1 1 1;";
@@ -32,44 +31,50 @@ fn assert_answer<R: Threads + Wait + Abort + Sync>(
     input: &[u8],
     want: &str,
     status: u8,
-) -> Result<(), Fail>
+)
     requires { IsInRange asked.now }
 {
     let mut out = Bounded::ample(alloc);
     let mut second = Pieces::whole(OTHER);
-    let answer = done(rt, alloc, asked, input, &mut second, &mut out)?;
+    let answer = done(rt, alloc, asked, input, &mut second, &mut out);
     check_eq!(rt; out.taken.as_slice(), want.as_bytes());
-    check_eq!(rt; answer, status, "of {want}");
-    Ok(())
+    check_eq!(rt; answer, Ok(status), "of {want}");
 }
 
 #[test]
-fn one_text_is_judged_where_no_word_is_given(rt: HostRuntime) -> Result<(), Fail> {
-    assert_answer(&rt, rt.alloc(), &Asked::Joined, JOINED, "ok\n", 0)
+fn one_text_is_judged_where_no_word_is_given(rt: HostRuntime) {
+    assert_answer(&rt, rt.alloc(), &Asked::Joined, JOINED, "ok\n", 0);
+}
+
+/// To verify, by two paths.
+fn verify(alloc: Global) -> Result<Asked, AllocError>
+    ensures { IfOk result IsInRange }
+{
+    Ok(Asked::Verify {
+        game: String::from_str(alloc, "a")?,
+        solution: String::from_str(alloc, "b")?,
+    })
 }
 
 #[test]
-fn a_second_text_is_verified(rt: HostRuntime) -> Result<(), Fail> {
-    let asked = Asked::Verify {
-        game: String::from_str(rt.alloc(), "a")?,
-        solution: String::from_str(rt.alloc(), "b")?,
-    };
+fn a_second_text_is_verified(rt: HostRuntime) {
+    let asked = verify(rt.alloc()).expect(&rt, "memory");
     let want = "not a solution: bad cycle at 1\n";
-    assert_answer(&rt, rt.alloc(), &asked, ONE_EACH, want, 1)
+    assert_answer(&rt, rt.alloc(), &asked, ONE_EACH, want, 1);
 }
 
 #[test]
-fn a_game_is_tidied(rt: HostRuntime) -> Result<(), Fail> {
+fn a_game_is_tidied(rt: HostRuntime) {
     let asked = Asked::Tidy { game: None };
     let want = "parity 0;\n0 0 0 0;\n";
-    assert_answer(&rt, rt.alloc(), &asked, b"0 0 0 0;", want, 0)
+    assert_answer(&rt, rt.alloc(), &asked, b"0 0 0 0;", want, 0);
 }
 
 #[test]
-fn a_game_is_solved_with_choices_or_without(rt: HostRuntime) -> Result<(), Fail> {
+fn a_game_is_solved_with_choices_or_without(rt: HostRuntime) {
     let alloc = rt.alloc();
     let want = "paritysol 1;\n0 0;\n1 1;\n";
-    assert_answer(&rt, alloc, &solve_by(1, 4), ONE_EACH, want, 0)?;
+    assert_answer(&rt, alloc, &solve_by(1, 4), ONE_EACH, want, 0);
     let asked = Asked::Solve {
         workers: 1,
         bound: 4,
@@ -78,28 +83,29 @@ fn a_game_is_solved_with_choices_or_without(rt: HostRuntime) -> Result<(), Fail>
         game: None,
     };
     let want = "paritysol 1;\n0 0 0;\n1 1 1;\n";
-    assert_answer(&rt, alloc, &asked, ONE_EACH, want, 0)
+    assert_answer(&rt, alloc, &asked, ONE_EACH, want, 0);
 }
 
 #[test]
-fn help_is_printed(rt: HostRuntime) -> Result<(), Fail> {
-    let asked = Asked::Help(String::from_str(rt.alloc(), "what it does\n")?);
-    assert_answer(&rt, rt.alloc(), &asked, b"", "what it does\n", 0)
+fn help_is_printed(rt: HostRuntime) {
+    let text = String::from_str(rt.alloc(), "what it does\n");
+    let asked = Asked::Help(text.expect(&rt, "memory"));
+    assert_answer(&rt, rt.alloc(), &asked, b"", "what it does\n", 0);
 }
 
-/// Does this with the game of two winners, and answers what was written.
-fn answered<R: Threads + Wait + Sync>(
+/// Does this with the game of two winners, and ends well.
+fn do_through<R: Threads + Wait + Abort + Sync>(
     rt: &R,
     alloc: Global,
     asked: &Asked,
     gate: &impl Gate,
     finder: &impl Finder,
-) -> Result<Vec<u8>, RunFault>
+)
     requires { IsInRange asked.now }
 {
     let mut out = Bounded::ample(alloc);
-    done_through(rt, alloc, asked, ONE_EACH, &mut out, gate, finder)?;
-    Ok(out.taken)
+    let answer = done_through(rt, alloc, asked, ONE_EACH, &mut out, gate, finder);
+    check_eq!(rt; answer, Ok(0));
 }
 
 fn solve_by(workers: u32, bound: u32) -> Asked
@@ -143,55 +149,52 @@ fn answer_knowing<R: Threads + Wait + Sync>(
 }
 
 #[test]
-fn what_is_known_is_read_where_it_was_asked_for(rt: HostRuntime) -> Result<(), Fail> {
+fn what_is_known_is_read_where_it_was_asked_for(rt: HostRuntime) {
     let alloc = rt.alloc();
-    let (answer, reads) = answer_knowing(&rt, alloc, &solve_knowing(alloc)?);
+    let asked = solve_knowing(alloc).expect(&rt, "memory");
+    let (answer, reads) = answer_knowing(&rt, alloc, &asked);
     check_eq!(rt; answer, Err(RunFault::Known(KnownFault::Cycle(1))));
     check!(rt; reads > 0);
     let (answer, reads) = answer_knowing(&rt, alloc, &solve_by(1, 4));
     check_eq!(rt; answer, Ok(0));
     check_eq!(rt; reads, 0);
-    Ok(())
 }
 
 #[test]
-fn the_bound_of_the_command_line_is_handed_on(rt: HostRuntime) -> Result<(), Fail> {
+fn the_bound_of_the_command_line_is_handed_on(rt: HostRuntime) {
     let recorder = Recorder::new();
-    answered(&rt, rt.alloc(), &solve_by(1, 7), &Pass, &recorder)?;
+    do_through(&rt, rt.alloc(), &solve_by(1, 7), &Pass, &recorder);
     check_eq!(rt; recorder.bound.load(Ordering::SeqCst), 7);
-    answered(&rt, rt.alloc(), &solve_by(1, 1), &Pass, &recorder)?;
+    do_through(&rt, rt.alloc(), &solve_by(1, 1), &Pass, &recorder);
     check_eq!(rt; recorder.bound.load(Ordering::SeqCst), 1);
-    Ok(())
 }
 
 #[test]
-fn two_workers_of_the_command_line_work_at_once(rt: HostRuntime) -> Result<(), Fail> {
+fn two_workers_of_the_command_line_work_at_once(rt: HostRuntime) {
     let gate = Holder::new(1, TURNS);
-    answered(&rt, rt.alloc(), &solve_by(2, 4), &gate, &Standard)?;
+    do_through(&rt, rt.alloc(), &solve_by(2, 4), &gate, &Standard);
     assert_at_once(&rt, gate);
     let gate = Holder::new(1, TURNS);
     let asked = Asked::Trace {
         workers: 2,
         game: None,
     };
-    answered(&rt, rt.alloc(), &asked, &gate, &Standard)?;
+    do_through(&rt, rt.alloc(), &asked, &gate, &Standard);
     assert_at_once(&rt, gate);
-    Ok(())
 }
 
 #[test]
-fn one_worker_of_the_command_line_is_alone(rt: HostRuntime) -> Result<(), Fail> {
+fn one_worker_of_the_command_line_is_alone(rt: HostRuntime) {
     let gate = Holder::new(1, 100_000);
-    answered(&rt, rt.alloc(), &solve_by(1, 4), &gate, &Standard)?;
+    do_through(&rt, rt.alloc(), &solve_by(1, 4), &gate, &Standard);
     assert_alone(&rt, gate);
     let gate = Holder::new(1, 100_000);
     let asked = Asked::Trace {
         workers: 1,
         game: None,
     };
-    answered(&rt, rt.alloc(), &asked, &gate, &Standard)?;
+    do_through(&rt, rt.alloc(), &asked, &gate, &Standard);
     assert_alone(&rt, gate);
-    Ok(())
 }
 
 /// What was asked for is refused for the game's text, with nothing written.
@@ -207,12 +210,10 @@ fn assert_refused<R: Threads + Wait + Abort + Sync>(rt: &R, alloc: Global, asked
 }
 
 #[test]
-fn a_refused_game_is_refused_whatever_is_asked(rt: HostRuntime) -> Result<(), Fail> {
+fn a_refused_game_is_refused_whatever_is_asked(rt: HostRuntime) {
     let alloc = rt.alloc();
-    let verify = Asked::Verify {
-        game: String::from_str(alloc, "a")?,
-        solution: String::from_str(alloc, "b")?,
-    };
+    let verify = verify(alloc).expect(&rt, "memory");
+    let knowing = solve_knowing(alloc).expect(&rt, "memory");
     let trace = Asked::Trace {
         workers: 1,
         game: None,
@@ -221,24 +222,22 @@ fn a_refused_game_is_refused_whatever_is_asked(rt: HostRuntime) -> Result<(), Fa
     assert_refused(&rt, alloc, &verify);
     assert_refused(&rt, alloc, &Asked::Tidy { game: None });
     assert_refused(&rt, alloc, &solve_by(1, 4));
-    assert_refused(&rt, alloc, &solve_knowing(alloc)?);
+    assert_refused(&rt, alloc, &knowing);
     assert_refused(&rt, alloc, &trace);
-    Ok(())
 }
 
 #[test]
-fn a_refused_command_line_ends_with_the_status_of_its_fault(rt: HostRuntime) -> Result<(), Fail> {
-    let text = String::from_str(rt.alloc(), "error: shown by a test\n")?;
+fn a_refused_command_line_ends_with_the_status_of_its_fault(rt: HostRuntime) {
+    let text = String::from_str(rt.alloc(), "error: shown by a test\n").expect(&rt, "memory");
     check_eq!(rt; status_of(&rt, &rt, Err(AskedFault::Words(text))), 2);
     check_eq!(rt; status_of(&rt, &rt, Err(AskedFault::Memory)), 5);
-    Ok(())
 }
 
 #[test]
-fn a_file_that_is_not_there_ends_with_status_4(rt: HostRuntime) -> Result<(), Fail> {
-    let path = String::from_str(rt.alloc(), "/nowhere/at/all")?;
+fn a_file_that_is_not_there_ends_with_status_4(rt: HostRuntime) {
+    let path = String::from_str(rt.alloc(), "/nowhere/at/all").expect(&rt, "memory");
+    let knowing = solve_knowing(rt.alloc()).expect(&rt, "memory");
     let asked = Asked::Tidy { game: Some(path) };
     check_eq!(rt; status_of(&rt, &rt, Ok(asked)), 4);
-    check_eq!(rt; status_of(&rt, &rt, Ok(solve_knowing(rt.alloc())?)), 4);
-    Ok(())
+    check_eq!(rt; status_of(&rt, &rt, Ok(knowing)), 4);
 }

@@ -4,7 +4,6 @@ use crate::fault::AskedFault;
 use crate::words::asked;
 use std::alloc::{AllocError, Global};
 use std::process::Abort;
-use std::test::Fail;
 
 /// What a line asks for, in one word for each text.
 fn shape(alloc: Global, words: &[&str]) -> Result<String, AllocError> {
@@ -79,18 +78,16 @@ const LINES: [(&[&str], &str); 35] = [
     (&["help", "x"], "words"),
 ];
 
-fn assert_shape(rt: &impl Abort, alloc: Global, words: &[&str], want: &str) -> Result<(), Fail> {
-    let line = shape(alloc, words)?;
+fn assert_shape(rt: &impl Abort, alloc: Global, words: &[&str], want: &str) {
+    let line = shape(alloc, words).expect(rt, "memory");
     check_eq!(rt; line.as_str(), want);
-    Ok(())
 }
 
 #[test]
-fn each_line_asks_for_what_it_says(rt: HostRuntime) -> Result<(), Fail> {
+fn each_line_asks_for_what_it_says(rt: HostRuntime) {
     for (words, want) in LINES {
-        assert_shape(&rt, rt.alloc(), words, want)?;
+        assert_shape(&rt, rt.alloc(), words, want);
     }
-    Ok(())
 }
 
 /// The text of help.
@@ -101,47 +98,46 @@ fn help(alloc: Global, words: &[&str]) -> Result<String, AskedFault> {
     }
 }
 
-/// Each status has its line in the text.
-fn assert_statuses(rt: &impl Abort, text: &str) {
+/// Each status has its line in the help.
+fn assert_statuses(rt: &impl Abort, alloc: Global, words: &[&str]) {
+    let text = help(alloc, words).expect(rt, "help");
     for line in [
         "\n  0  ", "\n  1  ", "\n  2  ", "\n  3  ", "\n  4  ", "\n  5  ",
     ] {
-        check!(rt; text.contains(line), "{line} in {text}");
+        check!(rt; text.as_str().contains(line), "{line} in {text}");
     }
 }
 
 #[test]
-fn help_begins_with_the_version_and_has_the_statuses(rt: HostRuntime) -> Result<(), Fail> {
+fn help_begins_with_the_version_and_has_the_statuses(rt: HostRuntime) {
     let alloc = rt.alloc();
-    let text = help(alloc, &["--help"])?;
+    let text = help(alloc, &["--help"]).expect(&rt, "help");
     check!(rt; text.as_str().starts_with("pgboard 0.1.0"));
-    assert_statuses(&rt, help(alloc, &["help"])?.as_str());
-    assert_statuses(&rt, help(alloc, &["help", "verify"])?.as_str());
-    assert_statuses(&rt, help(alloc, &["tidy", "--help"])?.as_str());
-    let version = help(alloc, &["--version"])?;
+    assert_statuses(&rt, alloc, &["help"]);
+    assert_statuses(&rt, alloc, &["help", "verify"]);
+    assert_statuses(&rt, alloc, &["tidy", "--help"]);
+    let version = help(alloc, &["--version"]).expect(&rt, "a version");
     check_eq!(rt; version.as_str(), "pgboard 0.1.0\n");
-    Ok(())
 }
 
 /// The line is refused, with this in the text.
-fn assert_refused(rt: &impl Abort, alloc: Global, words: &[&str], part: &str) -> Result<(), Fail> {
+fn assert_refused(rt: &impl Abort, alloc: Global, words: &[&str], part: &str) {
     match asked(alloc, words) {
         Ok(other) => check!(rt; false, "{other:?}"),
         Err(fault) => {
             check_eq!(rt; fault.status(), 2);
-            let text = fault.to_string(alloc)?;
+            let text = fault.to_string(alloc).expect(rt, "memory");
             check!(rt; text.as_str().starts_with("error: "), "{text}");
             check!(rt; text.as_str().contains(part), "{text}");
             check!(rt; text.as_str().ends_with("\n"), "{text}");
         }
     }
-    Ok(())
 }
 
 #[test]
-fn a_refused_line_ends_with_status_2_and_says_why(rt: HostRuntime) -> Result<(), Fail> {
+fn a_refused_line_ends_with_status_2_and_says_why(rt: HostRuntime) {
     let alloc = rt.alloc();
-    assert_refused(&rt, alloc, &["verify", "a"], "<SOLUTION>")?;
-    assert_refused(&rt, alloc, &["tidy", "--x"], "--x")?;
-    assert_refused(&rt, alloc, &["solver"], "solver")
+    assert_refused(&rt, alloc, &["verify", "a"], "<SOLUTION>");
+    assert_refused(&rt, alloc, &["tidy", "--x"], "--x");
+    assert_refused(&rt, alloc, &["solver"], "solver");
 }

@@ -4,7 +4,6 @@ use pg_game::GameFault;
 use pg_text::{SolutionTextFault, TextFault};
 use std::alloc::Global;
 use std::process::Abort;
-use std::test::Fail;
 
 /// Each fault, with its text and its status.
 const FAULTS: [(RunFault, &str, u8); 25] = [
@@ -115,37 +114,29 @@ const FAULTS: [(RunFault, &str, u8); 25] = [
     ),
 ];
 
-fn assert_told(
-    rt: &impl Abort,
-    alloc: Global,
-    fault: RunFault,
-    text: &str,
-    status: u8,
-) -> Result<(), Fail> {
-    let line = fault.to_string(alloc)?;
+fn assert_told(rt: &impl Abort, alloc: Global, fault: RunFault, text: &str, status: u8) {
+    let line = fault.to_string(alloc).expect(rt, "memory");
     check_eq!(rt; line.as_str(), text);
     check_eq!(rt; fault.status(), status, "of {line}");
-    Ok(())
 }
 
 #[test]
-fn each_fault_has_its_text_and_status(rt: HostRuntime) -> Result<(), Fail> {
+fn each_fault_has_its_text_and_status(rt: HostRuntime) {
     for (fault, text, status) in FAULTS {
-        assert_told(&rt, rt.alloc(), fault, text, status)?;
+        assert_told(&rt, rt.alloc(), fault, text, status);
     }
-    Ok(())
+}
+
+fn assert_printed(rt: &impl Abort, alloc: Global, fault: AskedFault, text: &str, status: u8) {
+    let printed = fault.to_string(alloc).expect(rt, "memory");
+    check_eq!(rt; printed.as_str(), text);
+    check_eq!(rt; fault.status(), status);
 }
 
 #[test]
-fn a_refused_command_line_prints_its_own_text(rt: HostRuntime) -> Result<(), Fail> {
+fn a_refused_command_line_prints_its_own_text(rt: HostRuntime) {
     let alloc = rt.alloc();
-    let words = AskedFault::Words(String::from_str(alloc, "error: no\n")?);
-    check_eq!(rt; words.to_string(alloc)?.as_str(), "error: no\n");
-    check_eq!(rt; words.status(), 2);
-    check_eq!(rt;
-        AskedFault::Memory.to_string(alloc)?.as_str(),
-        "pgboard: no memory\n"
-    );
-    check_eq!(rt; AskedFault::Memory.status(), 5);
-    Ok(())
+    let text = String::from_str(alloc, "error: no\n").expect(&rt, "memory");
+    assert_printed(&rt, alloc, AskedFault::Words(text), "error: no\n", 2);
+    assert_printed(&rt, alloc, AskedFault::Memory, "pgboard: no memory\n", 5);
 }

@@ -8,7 +8,6 @@ use pg_workers::Gate;
 use std::alloc::Global;
 use std::process::Abort;
 use std::sync::{Mutex, Wait};
-use std::test::Fail;
 use std::thread::Threads;
 
 /// How often a held worker looks for another worker's post before it gives up.
@@ -109,11 +108,7 @@ pub fn assert_at_once(rt: &impl Abort, gate: Holder) {
     assert_each_once(rt, &seen);
 }
 
-fn held_solve<R: Threads + Wait + Abort + Sync>(
-    rt: &R,
-    alloc: Global,
-    held: u32,
-) -> Result<(), Fail> {
+fn held_solve<R: Threads + Wait + Abort + Sync>(rt: &R, alloc: Global, held: u32) {
     let options = SolveOptions {
         workers: 2,
         bound: 4,
@@ -121,44 +116,40 @@ fn held_solve<R: Threads + Wait + Abort + Sync>(
     };
     let gate = Holder::new(held, TURNS);
     let mut out = Bounded::ample(alloc);
-    solved(rt, alloc, ONE_EACH, &mut out, &options, &gate, &Standard)?;
+    let answer = solved(rt, alloc, ONE_EACH, &mut out, &options, &gate, &Standard);
+    check_eq!(rt; answer, Ok(()));
     check_eq!(rt;
         out.taken.as_slice(),
         b"paritysol 1;\n0 0;\n1 1;\n".as_slice()
     );
     assert_at_once(rt, gate);
-    Ok(())
 }
 
-fn held_trace<R: Threads + Wait + Abort + Sync>(
-    rt: &R,
-    alloc: Global,
-    held: u32,
-) -> Result<(), Fail> {
+fn held_trace<R: Threads + Wait + Abort + Sync>(rt: &R, alloc: Global, held: u32) {
     let gate = Holder::new(held, TURNS);
     let mut out = Bounded::ample(alloc);
-    traced(rt, alloc, ONE_EACH, &mut out, 2, &gate, &Standard)?;
+    let answer = traced(rt, alloc, ONE_EACH, &mut out, 2, &gate, &Standard);
+    check_eq!(rt; answer, Ok(()));
     check!(rt; out.taken.starts_with(b"journal 2 2\n"));
     assert_at_once(rt, gate);
-    Ok(())
 }
 
 #[test]
-fn workers_solve_at_once_while_the_first_is_held(rt: HostRuntime) -> Result<(), Fail> {
-    held_solve(&rt, rt.alloc(), 1)
+fn workers_solve_at_once_while_the_first_is_held(rt: HostRuntime) {
+    held_solve(&rt, rt.alloc(), 1);
 }
 
 #[test]
-fn workers_solve_at_once_while_whoever_comes_first_is_held(rt: HostRuntime) -> Result<(), Fail> {
-    held_solve(&rt, rt.alloc(), 0)
+fn workers_solve_at_once_while_whoever_comes_first_is_held(rt: HostRuntime) {
+    held_solve(&rt, rt.alloc(), 0);
 }
 
 #[test]
-fn workers_trace_at_once_while_the_first_is_held(rt: HostRuntime) -> Result<(), Fail> {
-    held_trace(&rt, rt.alloc(), 1)
+fn workers_trace_at_once_while_the_first_is_held(rt: HostRuntime) {
+    held_trace(&rt, rt.alloc(), 1);
 }
 
 #[test]
-fn workers_trace_at_once_while_whoever_comes_first_is_held(rt: HostRuntime) -> Result<(), Fail> {
-    held_trace(&rt, rt.alloc(), 0)
+fn workers_trace_at_once_while_whoever_comes_first_is_held(rt: HostRuntime) {
+    held_trace(&rt, rt.alloc(), 0);
 }

@@ -7,9 +7,8 @@ use crate::verdict::Verdict;
 use pg_dominion::SolutionFault;
 use pg_game::GameFault;
 use pg_text::{SolutionTextFault, TextFault};
-use std::alloc::Global;
+use std::alloc::{AllocError, Global};
 use std::process::Abort;
-use std::test::Fail;
 
 /// Solutions of the game of two winners, each with its line and its status.
 const JUDGED: [(&[u8], &str, u8); 6] = [
@@ -38,34 +37,27 @@ const JUDGED: [(&[u8], &str, u8); 6] = [
 ];
 
 /// The game of two winners and this solution, in one text.
-fn joined_with(alloc: Global, solution: &[u8]) -> Result<Vec<u8>, Fail> {
+fn joined_with(alloc: Global, solution: &[u8]) -> Result<Vec<u8>, AllocError> {
     let mut text = Vec::from_slice(alloc, ONE_EACH)?;
     text.extend_from_slice(b"%")?;
     text.extend_from_slice(solution)?;
     Ok(text)
 }
 
-fn assert_judged(
-    rt: &impl Abort,
-    alloc: Global,
-    solution: &[u8],
-    line: &str,
-    status: u8,
-) -> Result<(), Fail> {
-    let text = joined_with(alloc, solution)?;
+fn assert_judged(rt: &impl Abort, alloc: Global, solution: &[u8], line: &str, status: u8) {
+    let text = joined_with(alloc, solution).expect(rt, "memory");
     let mut out = Bounded::ample(alloc);
-    let verdict = joined(alloc, &mut Pieces::whole(text.as_slice()), &mut out)?;
+    let verdict = joined(alloc, &mut Pieces::whole(text.as_slice()), &mut out);
     check_eq!(rt; out.taken.as_slice(), line.as_bytes());
+    let verdict = verdict.expect(rt, "a verdict");
     check_eq!(rt; verdict.status(), status, "at {line}");
-    Ok(())
 }
 
 #[test]
-fn a_joined_text_gets_its_verdict(rt: HostRuntime) -> Result<(), Fail> {
+fn a_joined_text_gets_its_verdict(rt: HostRuntime) {
     for (solution, line, status) in JUDGED {
-        assert_judged(&rt, rt.alloc(), solution, line, status)?;
+        assert_judged(&rt, rt.alloc(), solution, line, status);
     }
-    Ok(())
 }
 
 /// Joined texts that are refused, each with its first fault.
@@ -137,29 +129,21 @@ const VERIFIED: [(&[u8], &[u8], Verdict); 5] = [
     ),
 ];
 
-fn assert_verified(
-    rt: &impl Abort,
-    alloc: Global,
-    game: &[u8],
-    solution: &[u8],
-    want: Verdict,
-) -> Result<(), Fail> {
+fn assert_verified(rt: &impl Abort, alloc: Global, game: &[u8], solution: &[u8], want: Verdict) {
     let mut out = Bounded::ample(alloc);
     let mut game = Pieces::whole(game);
     let mut solution = Pieces::whole(solution);
-    let verdict = verified(alloc, &mut game, &mut solution, &mut out)?;
-    check_eq!(rt; verdict, want);
-    let line = want.line(alloc)?;
+    let verdict = verified(alloc, &mut game, &mut solution, &mut out);
+    check_eq!(rt; verdict, Ok(want));
+    let line = want.line(alloc).expect(rt, "memory");
     check_eq!(rt; out.taken.as_slice(), line.as_slice());
-    Ok(())
 }
 
 #[test]
-fn a_solution_of_a_game_gets_its_verdict(rt: HostRuntime) -> Result<(), Fail> {
+fn a_solution_of_a_game_gets_its_verdict(rt: HostRuntime) {
     for (game, solution, want) in VERIFIED {
-        assert_verified(&rt, rt.alloc(), game, solution, want)?;
+        assert_verified(&rt, rt.alloc(), game, solution, want);
     }
-    Ok(())
 }
 
 /// The solution's text is refused for the game of two winners, with nothing written.
@@ -195,17 +179,16 @@ const TIDIED: [(&[u8], &str); 4] = [
     ),
 ];
 
-fn assert_tidied(rt: &impl Abort, alloc: Global, game: &[u8], want: &str) -> Result<(), Fail> {
+fn assert_tidied(rt: &impl Abort, alloc: Global, game: &[u8], want: &str) {
     let mut out = Bounded::ample(alloc);
-    tidied(alloc, &mut Pieces::whole(game), &mut out)?;
+    let answer = tidied(alloc, &mut Pieces::whole(game), &mut out);
+    check_eq!(rt; answer, Ok(()));
     check_eq!(rt; out.taken.as_slice(), want.as_bytes());
-    Ok(())
 }
 
 #[test]
-fn a_game_is_written_tidily(rt: HostRuntime) -> Result<(), Fail> {
+fn a_game_is_written_tidily(rt: HostRuntime) {
     for (game, want) in TIDIED {
-        assert_tidied(&rt, rt.alloc(), game, want)?;
+        assert_tidied(&rt, rt.alloc(), game, want);
     }
-    Ok(())
 }

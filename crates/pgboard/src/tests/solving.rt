@@ -14,23 +14,24 @@ use std::alloc::Global;
 use std::process::Abort;
 use std::sync::Wait;
 use std::sync::atomic::Ordering;
-use std::test::Fail;
 use std::thread::Threads;
 
-/// What is written for a game.
-fn text_of<R: Threads + Wait + Sync>(
+/// Compares what is written for a game.
+fn assert_text<R: Threads + Wait + Abort + Sync>(
     rt: &R,
     alloc: Global,
     game: &[u8],
     options: &SolveOptions,
     finder: &impl Finder,
-) -> Result<Vec<u8>, RunFault>
+    want: &[u8],
+)
     requires workers { (1 ≤ options.now.workers) × (options.now.workers ≤ 64) }
     requires bound { options.now.bound ≤ 8 }
 {
     let mut out = Bounded::ample(alloc);
-    solved(rt, alloc, game, &mut out, options, &Pass, finder)?;
-    Ok(out.taken)
+    let answer = solved(rt, alloc, game, &mut out, options, &Pass, finder);
+    check_eq!(rt; answer, Ok(()), "by {options:?}");
+    check_eq!(rt; out.taken.as_slice(), want, "by {options:?}");
 }
 
 /// Even wins the five vertices.
@@ -39,7 +40,7 @@ fn assert_five<R: Threads + Wait + Abort + Sync>(
     alloc: Global,
     workers: u32,
     finder: &impl Finder,
-) -> Result<(), Fail>
+)
     requires { (1 ≤ workers) × (workers ≤ 64) }
 {
     let options = SolveOptions {
@@ -47,26 +48,22 @@ fn assert_five<R: Threads + Wait + Abort + Sync>(
         bound: 4,
         winners: true,
     };
-    let text = text_of(rt, alloc, FIVE, &options, finder)?;
     let want = b"paritysol 4;\n0 0;\n1 0;\n2 0;\n3 0;\n4 0;\n";
-    check_eq!(rt; text.as_slice(), want.as_slice(), "{workers} workers");
-    Ok(())
+    assert_text(rt, alloc, FIVE, &options, finder, want);
 }
 
 #[test]
-fn five_vertices_have_the_same_winners_by_1_2_and_64_workers(rt: HostRuntime) -> Result<(), Fail> {
-    assert_five(&rt, rt.alloc(), 1, &Standard)?;
-    assert_five(&rt, rt.alloc(), 2, &Standard)?;
-    assert_five(&rt, rt.alloc(), 64, &Standard)
+fn five_vertices_have_the_same_winners_by_1_2_and_64_workers(rt: HostRuntime) {
+    assert_five(&rt, rt.alloc(), 1, &Standard);
+    assert_five(&rt, rt.alloc(), 2, &Standard);
+    assert_five(&rt, rt.alloc(), 64, &Standard);
 }
 
 #[test]
-fn five_vertices_have_the_same_winners_whatever_is_claimed_alone(
-    rt: HostRuntime,
-) -> Result<(), Fail> {
-    assert_five(&rt, rt.alloc(), 1, &Singles)?;
-    assert_five(&rt, rt.alloc(), 2, &Singles)?;
-    assert_five(&rt, rt.alloc(), 64, &Singles)
+fn five_vertices_have_the_same_winners_whatever_is_claimed_alone(rt: HostRuntime) {
+    assert_five(&rt, rt.alloc(), 1, &Singles);
+    assert_five(&rt, rt.alloc(), 2, &Singles);
+    assert_five(&rt, rt.alloc(), 64, &Singles);
 }
 
 /// The only solution of each game, or with `winners` its winners.
@@ -92,12 +89,7 @@ const WORKED: [(&[u8], bool, &str); 7] = [
     ),
 ];
 
-fn assert_worked<R: Threads + Wait + Abort + Sync>(
-    rt: &R,
-    alloc: Global,
-    workers: u32,
-    bound: u32,
-) -> Result<(), Fail>
+fn assert_worked<R: Threads + Wait + Abort + Sync>(rt: &R, alloc: Global, workers: u32, bound: u32)
     requires workers { (1 ≤ workers) × (workers ≤ 64) }
     requires bound { bound ≤ 8 }
 {
@@ -107,39 +99,35 @@ fn assert_worked<R: Threads + Wait + Abort + Sync>(
             bound,
             winners,
         };
-        let text = text_of(rt, alloc, game, &options, &Standard)?;
-        check_eq!(rt;
-            text.as_slice(),
-            want.as_bytes(),
-            "{workers} workers: {want}"
-        );
+        assert_text(rt, alloc, game, &options, &Standard, want.as_bytes());
     }
-    Ok(())
 }
 
 #[test]
-fn a_game_with_one_solution_has_its_text(rt: HostRuntime) -> Result<(), Fail> {
-    assert_worked(&rt, rt.alloc(), 1, 4)?;
-    assert_worked(&rt, rt.alloc(), 2, 0)?;
-    assert_worked(&rt, rt.alloc(), 64, 8)
+fn a_game_with_one_solution_has_its_text(rt: HostRuntime) {
+    assert_worked(&rt, rt.alloc(), 1, 4);
+    assert_worked(&rt, rt.alloc(), 2, 0);
+    assert_worked(&rt, rt.alloc(), 64, 8);
 }
 
 #[test]
-fn one_of_two_solutions_is_written(rt: HostRuntime) -> Result<(), Fail> {
+fn one_of_two_solutions_is_written(rt: HostRuntime) {
     let options = SolveOptions {
         workers: 1,
         bound: 4,
         winners: false,
     };
-    let text = text_of(&rt, rt.alloc(), FIVE, &options, &Standard)?;
+    let mut out = Bounded::ample(rt.alloc());
+    let answer = solved(&rt, rt.alloc(), FIVE, &mut out, &options, &Pass, &Standard);
+    check_eq!(rt; answer, Ok(()));
+    let text = out.taken.as_slice();
     let by_two = b"paritysol 4;\n0 0;\n1 0;\n2 0 1;\n3 0 2;\n4 0;\n".as_slice();
     let by_four = b"paritysol 4;\n0 0;\n1 0;\n2 0 1;\n3 0 4;\n4 0;\n".as_slice();
-    check!(rt; text.as_slice() == by_two || text.as_slice() == by_four);
-    Ok(())
+    check!(rt; text == by_two || text == by_four);
 }
 
 #[test]
-fn the_bound_and_the_budget_are_handed_on(rt: HostRuntime) -> Result<(), Fail> {
+fn the_bound_and_the_budget_are_handed_on(rt: HostRuntime) {
     let alloc = rt.alloc();
     let recorder = Recorder::new();
     let options = SolveOptions {
@@ -147,21 +135,22 @@ fn the_bound_and_the_budget_are_handed_on(rt: HostRuntime) -> Result<(), Fail> {
         bound: 7,
         winners: false,
     };
-    text_of(&rt, alloc, ONE_EACH, &options, &recorder)?;
+    let mut out = Bounded::ample(alloc);
+    let answer = solved(&rt, alloc, ONE_EACH, &mut out, &options, &Pass, &recorder);
+    check_eq!(rt; answer, Ok(()));
     check_eq!(rt; recorder.bound.load(Ordering::SeqCst), 7);
     check_eq!(rt; recorder.budget.load(Ordering::SeqCst), 10_000);
-    Ok(())
 }
 
 #[test]
-fn a_trace_looks_for_four_vertices_by_ten_thousand_choices(rt: HostRuntime) -> Result<(), Fail> {
+fn a_trace_looks_for_four_vertices_by_ten_thousand_choices(rt: HostRuntime) {
     let alloc = rt.alloc();
     let recorder = Recorder::new();
     let mut out = Bounded::ample(alloc);
-    traced(&rt, alloc, ONE_EACH, &mut out, 1, &Pass, &recorder)?;
+    let answer = traced(&rt, alloc, ONE_EACH, &mut out, 1, &Pass, &recorder);
+    check_eq!(rt; answer, Ok(()));
     check_eq!(rt; recorder.bound.load(Ordering::SeqCst), 4);
     check_eq!(rt; recorder.budget.load(Ordering::SeqCst), 10_000);
-    Ok(())
 }
 
 /// The game is refused for this, with nothing written.

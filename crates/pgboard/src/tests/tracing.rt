@@ -8,7 +8,6 @@ use pg_workers::Pass;
 use std::alloc::Global;
 use std::process::Abort;
 use std::sync::Wait;
-use std::test::Fail;
 use std::thread::Threads;
 
 fn assert_traced<R: Threads + Wait + Abort + Sync>(
@@ -17,15 +16,14 @@ fn assert_traced<R: Threads + Wait + Abort + Sync>(
     game: &[u8],
     finder: &impl Finder,
     want: &str,
-) -> Result<(), Fail> {
+) {
     let mut out = Bounded::ample(alloc);
-    traced(rt, alloc, game, &mut out, 1, &Pass, finder)?;
+    check_eq!(rt; traced(rt, alloc, game, &mut out, 1, &Pass, finder), Ok(()));
     check_eq!(rt; out.taken.as_slice(), want.as_bytes());
-    Ok(())
 }
 
 #[test]
-fn a_loop_attracts_and_the_first_job_settles_all(rt: HostRuntime) -> Result<(), Fail> {
+fn a_loop_attracts_and_the_first_job_settles_all(rt: HostRuntime) {
     assert_traced(
         &rt,
         rt.alloc(),
@@ -34,13 +32,11 @@ fn a_loop_attracts_and_the_first_job_settles_all(rt: HostRuntime) -> Result<(), 
         "journal 1 3\nentry 0 1 0 1 3\n0 0;\n1 0;\n2;\nreport 5\n\
 job 0 1 1 3 0 0 0 0\njob 1 1 0 0 0 0 0 0\njob 2 1 0 0 0 0 0 0\njob 3 1 0 0 0 0 0 0\njob 4 1 0 0 0 0 0 0\n\
 total 1 3 0 0\n",
-    )
+    );
 }
 
 #[test]
-fn one_player_has_nothing_to_choose_and_the_second_job_settles_all(
-    rt: HostRuntime,
-) -> Result<(), Fail> {
+fn one_player_has_nothing_to_choose_and_the_second_job_settles_all(rt: HostRuntime) {
     assert_traced(
         &rt,
         rt.alloc(),
@@ -49,11 +45,11 @@ fn one_player_has_nothing_to_choose_and_the_second_job_settles_all(
         "journal 1 2\nentry 0 1 0 2 2\n3 9;\n9;\nreport 5\n\
 job 0 1 0 0 0 0 0 0\njob 1 1 1 2 0 0 0 0\njob 2 1 0 0 0 0 0 0\njob 3 1 0 0 0 0 0 0\njob 4 1 0 0 0 0 0 0\n\
 total 1 2 0 0\n",
-    )
+    );
 }
 
 #[test]
-fn stale_and_refused_posts_are_counted_apart(rt: HostRuntime) -> Result<(), Fail> {
+fn stale_and_refused_posts_are_counted_apart(rt: HostRuntime) {
     assert_traced(
         &rt,
         rt.alloc(),
@@ -62,11 +58,11 @@ fn stale_and_refused_posts_are_counted_apart(rt: HostRuntime) -> Result<(), Fail
         "journal 2 2\nentry 0 1 0 1 1\n0 0;\nentry 1 1 1 1 1\n1 1;\nreport 5\n\
 job 0 1 2 2 0 2 0 0\njob 1 1 0 0 2 2 0 0\njob 2 1 0 0 2 2 0 0\njob 3 1 0 0 2 2 0 0\njob 4 1 0 0 2 2 0 0\n\
 total 2 2 8 10\n",
-    )
+    );
 }
 
 #[test]
-fn want_of_memory_is_noted_for_each_job(rt: HostRuntime) -> Result<(), Fail> {
+fn want_of_memory_is_noted_for_each_job(rt: HostRuntime) {
     assert_traced(
         &rt,
         rt.alloc(),
@@ -75,13 +71,11 @@ fn want_of_memory_is_noted_for_each_job(rt: HostRuntime) -> Result<(), Fail> {
         "journal 2 2\nentry 0 0 0 1 1\n0 0;\nentry 1 0 1 1 1\n1 1;\nreport 5\n\
 job 0 1 0 0 0 0 0 1\njob 1 1 0 0 0 0 0 1\njob 2 1 0 0 0 0 0 1\njob 3 1 0 0 0 0 0 1\njob 4 1 0 0 0 0 0 1\n\
 total 0 0 0 0\n",
-    )
+    );
 }
 
 #[test]
-fn a_dominion_of_four_vertices_is_looked_for_and_one_of_five_is_not(
-    rt: HostRuntime,
-) -> Result<(), Fail> {
+fn a_dominion_of_four_vertices_is_looked_for_and_one_of_five_is_not(rt: HostRuntime) {
     assert_traced(
         &rt,
         rt.alloc(),
@@ -90,11 +84,11 @@ fn a_dominion_of_four_vertices_is_looked_for_and_one_of_five_is_not(
         "journal 2 9\nentry 0 1 0 4 4\n0 1;\n1 2;\n2 3;\n3 0;\nentry 1 1 1 5 5\n4 5;\n5 6;\n6 7;\n7 8;\n8 4;\nreport 5\n\
 job 0 1 0 0 0 0 0 0\njob 1 1 0 0 0 0 0 0\njob 2 1 1 4 0 0 0 0\njob 3 1 0 0 0 0 0 0\njob 4 1 1 5 0 0 0 0\n\
 total 2 9 0 0\n",
-    )
+    );
 }
 
 #[test]
-fn a_search_of_seven_thousand_choices_ends(rt: HostRuntime) -> Result<(), Fail> {
+fn a_search_of_seven_thousand_choices_ends(rt: HostRuntime) {
     assert_traced(
         &rt,
         rt.alloc(),
@@ -103,11 +97,11 @@ fn a_search_of_seven_thousand_choices_ends(rt: HostRuntime) -> Result<(), Fail> 
         "journal 2 9\nentry 0 1 1 2 2\n7 8;\n8 7;\nentry 1 1 1 7 7\n0;\n1;\n2;\n3;\n4;\n5;\n6;\nreport 5\n\
 job 0 1 0 0 0 0 0 0\njob 1 1 0 0 0 0 0 0\njob 2 1 0 0 0 0 0 0\njob 3 1 1 2 0 0 0 0\njob 4 1 1 7 0 0 0 0\n\
 total 2 9 0 0\n",
-    )
+    );
 }
 
 #[test]
-fn a_search_of_sixteen_thousand_choices_is_given_up(rt: HostRuntime) -> Result<(), Fail> {
+fn a_search_of_sixteen_thousand_choices_is_given_up(rt: HostRuntime) {
     assert_traced(
         &rt,
         rt.alloc(),
@@ -116,5 +110,5 @@ fn a_search_of_sixteen_thousand_choices_is_given_up(rt: HostRuntime) -> Result<(
         "journal 2 10\nentry 0 1 1 2 2\n8 9;\n9 8;\nentry 1 1 1 8 8\n0;\n1;\n2;\n3;\n4;\n5;\n6;\n7;\nreport 5\n\
 job 0 1 0 0 0 0 0 0\njob 1 1 0 0 0 0 0 0\njob 2 1 0 0 0 0 1 0\njob 3 1 1 2 0 0 0 0\njob 4 1 1 8 0 0 0 0\n\
 total 2 10 0 0\n",
-    )
+    );
 }
