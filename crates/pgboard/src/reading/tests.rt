@@ -5,6 +5,8 @@ use super::read_text;
 use crate::device::{Failed, Source};
 use crate::fault::RunFault;
 use crate::tests::{check, check_eq};
+use std::alloc::Global;
+use std::process::Abort;
 
 /// Gives its bytes, as many as are asked for, and expects so many.
 #[derive(Drop)]
@@ -33,18 +35,14 @@ impl<'a> Source for Expecting<'a> {
 }
 
 /// Reads that many bytes from a source that expects so many: how many came, the buffer's room and the reads.
-fn read_from(
-    rt: &HostRuntime,
-    size: usize,
-    expected: u64,
-) -> Result<(usize, usize, u64), RunFault> {
-    let bytes = vec![in rt.alloc(); b'a'; size]?;
+fn read_from(alloc: Global, size: usize, expected: u64) -> Result<(usize, usize, u64), RunFault> {
+    let bytes = vec![in alloc; b'a'; size]?;
     let mut source = Expecting {
         rest: bytes.as_slice(),
         expected,
         reads: 0,
     };
-    let text = read_text(rt.alloc(), &mut source)?;
+    let text = read_text(alloc, &mut source)?;
     if text.as_slice() != bytes.as_slice() {
         return Err(RunFault::Read);
     }
@@ -53,32 +51,34 @@ fn read_from(
 
 #[test]
 fn the_room_is_what_was_expected_and_a_byte(rt: HostRuntime) {
-    check_eq!(rt; read_from(&rt, 0, 0), Ok((0, 65_536, 1)));
-    check_eq!(rt; read_from(&rt, 5, 0), Ok((5, 65_536, 2)));
-    check_eq!(rt; read_from(&rt, 5, 5), Ok((5, 6, 2)));
-    check_eq!(rt; read_from(&rt, 5, 9), Ok((5, 10, 2)));
-    check_eq!(rt; read_from(&rt, 65_535, 65_535), Ok((65_535, 65_536, 2)));
-    check_eq!(rt; read_from(&rt, 65_536, 65_536), Ok((65_536, 65_537, 2)));
-    check_eq!(rt; read_from(&rt, 200_000, 200_000), Ok((200_000, 200_001, 5)));
+    let alloc = rt.alloc();
+    check_eq!(rt; read_from(alloc, 0, 0), Ok((0, 65_536, 1)));
+    check_eq!(rt; read_from(alloc, 5, 0), Ok((5, 65_536, 2)));
+    check_eq!(rt; read_from(alloc, 5, 5), Ok((5, 6, 2)));
+    check_eq!(rt; read_from(alloc, 5, 9), Ok((5, 10, 2)));
+    check_eq!(rt; read_from(alloc, 65_535, 65_535), Ok((65_535, 65_536, 2)));
+    check_eq!(rt; read_from(alloc, 65_536, 65_536), Ok((65_536, 65_537, 2)));
+    check_eq!(rt; read_from(alloc, 200_000, 200_000), Ok((200_000, 200_001, 5)));
 }
 
 /// All came, and there was room for more.
-fn assert_all(rt: &HostRuntime, size: usize, expected: u64) {
-    let (n, room, _) = read_from(rt, size, expected).expect(rt, "a text");
-    check_eq!(*rt; n, size);
-    check!(*rt; size < room);
+fn assert_all(rt: &impl Abort, alloc: Global, size: usize, expected: u64) {
+    let (n, room, _) = read_from(alloc, size, expected).expect(rt, "a text");
+    check_eq!(rt; n, size);
+    check!(rt; size < room);
 }
 
 #[test]
 fn what_comes_beyond_what_was_expected_is_read(rt: HostRuntime) {
     for size in [1, 2, 65_536, 65_537, 65_538, 300_000] {
         for expected in [0, 1, 65_536] {
-            assert_all(&rt, size, expected);
+            assert_all(&rt, rt.alloc(), size, expected);
         }
     }
 }
 
 #[test]
 fn no_more_is_expected_than_a_text_may_have(rt: HostRuntime) {
-    check_eq!(rt; read_from(&rt, 3, u64::MAX), Ok((3, 268_435_457, 2)));
+    let alloc = rt.alloc();
+    check_eq!(rt; read_from(alloc, 3, u64::MAX), Ok((3, 268_435_457, 2)));
 }

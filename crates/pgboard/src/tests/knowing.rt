@@ -182,11 +182,12 @@ fn journal_of_layers<R: Threads + Wait + Sync>(rt: &R, alloc: Global) -> Result<
 }
 
 #[test]
-fn what_is_known_is_posted_before_a_worker_starts(rt: HostRuntime) {
-    let entries = journal_of_layers(&rt, rt.alloc()).expect(&rt, "a journal");
+fn what_is_known_is_posted_before_a_worker_starts(rt: HostRuntime) -> Result<(), Fail> {
+    let entries = journal_of_layers(&rt, rt.alloc())?;
     check_eq!(rt; entries.len(), 1);
     let first = entries.as_slice().first().expect(&rt, "an entry");
     check_eq!(rt; first.worker, 0);
     check_eq!(rt; first.claimed, 1);
     check_eq!(rt; first.rows.as_slice().len(), 3);
+    Ok(())
 }
