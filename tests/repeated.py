@@ -31,7 +31,7 @@ ALLOWED = {
     "pg_board": (3, 0, 0),
     "pg_workers": (0, 0, 0),
     "pgboard": (0, 0, 0),
-    "pgboard_c": (10, 0, 0),
+    "pgboard_c": (1, 0, 0),
 }
 KINDS = ("stand a second time", "are the library's", "are named nowhere")
 TOKEN = re.compile(r"(?<=[\w')\]])\.[\w']+|[\w'?!≢-]*\w[\w'?!≢-]*|[^\s\w]")

@@ -28,3 +28,4 @@ pub mod WrittenReads
 pub mod RowsFit
 pub mod KnownLines
 pub mod Lengths
+pub mod Exact

@@ -16,6 +16,10 @@ use Rattle.pg_text.specs.Fault.{IsLexicalFault, IsSyntaxFault, IsNumberFault, Is
 use Rattle.pg_text.specs.Solution.{SolutionRows}
 use Rattle.pg_text.specs.SolutionLines.{first_stranger, first_twice, first_missing, AreLinesOf}
 
+-- the greatest number of bytes in a text
+abbrev pub max_text : ℕ
+max_text = 268435456
+
 -- the text spells a game text of these lines, with numbers within the limit and owners 0 and 1
 pub record SpellsGame (text : List ℕ) (lines : List games.WrittenGameLine) : Type 0 where
   pub tokens : List Placed

@@ -9,7 +9,7 @@
 ghost use Rattle.std.specs.Prelude.{◌≡◌, ℕ, ◌≤◌, length, true, false, IfOk, IfErr, IfSome, MatchResult, ◌<◌, None, List, []};
 ghost use Rattle.pg_text.specs.Token.{Number, Word, Name, Comma, Semicolon, Placed, Spells};
 ghost use Rattle.pg_text.specs.private.Piece.{fitting};
-ghost use Rattle.pg_text.specs.Reading.{IsFaultOf};
+ghost use Rattle.pg_text.specs.Reading.{max_text, IsFaultOf};
 ghost use Rattle.pg_text.specs.private.GameKeeps.{KeepsReader, Takes, TakesPiece, IsUnexpected, SpellsSpecs};
 ghost use Rattle.pg_text.specs.private.GameAdvance.{Advances, AdvancesTo, FailsWith};
 ghost use Rattle.pg_text.specs.private.GameStates.{is_complete};
@@ -243,7 +243,7 @@ impl Reader {
     /// Takes the token between the places; false where it can't stand there.
     #[inline]
     fn take(&mut self, text: &[u8], piece: Piece) -> Result<bool, TextFault>
-        requires size { length text.now ≤ 268435456 }
+        requires size { length text.now ≤ max_text }
         requires order { piece.from ≤ piece.to }
         requires within { piece.to ≤ length text.now }
         ensures taken { IfOk result (λ taken. TakesPiece self.old self.new text.now piece taken) }
@@ -263,7 +263,7 @@ impl Reader {
     /// Takes the number at a place, behind at most one blank, and answers the place behind it. Without one nothing happens.
     #[inline(always)]
     fn near_number(&mut self, text: &[u8], at: usize) -> Result<Option<usize>, TextFault>
-        requires size { length text.now ≤ 268435456 }
+        requires size { length text.now ≤ max_text }
         requires inside { at ≤ length text.now }
         ensures taken { IfOk result (λ to. AdvancesTo self.old self.new text.now at to) }
         ensures ahead { IfOk result (λ to. IfSome to (λ behind. (at < behind) × (behind ≤ length text.now))) }
@@ -282,7 +282,7 @@ impl Reader {
     /// Takes the comma at a place and answers the place behind it. Without one nothing happens.
     #[inline(always)]
     fn near_comma(&mut self, text: &[u8], at: usize) -> Result<Option<usize>, TextFault>
-        requires size { length text.now ≤ 268435456 }
+        requires size { length text.now ≤ max_text }
         requires inside { at ≤ length text.now }
         ensures taken { IfOk result (λ to. AdvancesTo self.old self.new text.now at to) }
         ensures ahead { IfOk result (λ to. IfSome to (λ behind. (at < behind) × (behind ≤ length text.now))) }
@@ -301,7 +301,7 @@ impl Reader {
     /// Takes the semicolon at a place and answers the place behind it, or the place itself where there is none.
     #[inline(always)]
     fn near_semicolon(&mut self, text: &[u8], at: usize) -> Result<usize, TextFault>
-        requires size { length text.now ≤ 268435456 }
+        requires size { length text.now ≤ max_text }
         requires inside { at ≤ length text.now }
         ensures taken { IfOk result (λ to. Advances self.old self.new text.now at to) }
         ensures ahead { IfOk result (λ to. (at ≤ to) × (to ≤ length text.now)) }
@@ -320,7 +320,7 @@ impl Reader {
     /// Reads on behind a successor: further ones, each behind a comma, and a semicolon. Answers the place behind what was read.
     #[inline(always)]
     fn line_end(&mut self, text: &[u8], from: usize) -> Result<usize, TextFault>
-        requires size { length text.now ≤ 268435456 }
+        requires size { length text.now ≤ max_text }
         requires inside { from ≤ length text.now }
         ensures taken { IfOk result (λ to. Advances self.old self.new text.now from to) }
         ensures ahead { IfOk result (λ to. (from ≤ to) × (to ≤ length text.now)) }
@@ -339,7 +339,7 @@ impl Reader {
     /// Reads a line as far as it is made of numbers, single separators and a semicolon. Answers the place behind what was read.
     #[inline(always)]
     fn line(&mut self, text: &[u8], from: usize) -> Result<usize, TextFault>
-        requires size { length text.now ≤ 268435456 }
+        requires size { length text.now ≤ max_text }
         requires inside { from ≤ length text.now }
         ensures taken { IfOk result (λ to. Advances self.old self.new text.now from to) }
         ensures ahead { IfOk result (λ to. (from ≤ to) × (to ≤ length text.now)) }
@@ -362,7 +362,7 @@ impl Reader {
 
     /// Reads lines straight through. Answers the place behind what was read: all else is for the tokens.
     fn lines(&mut self, text: &[u8], from: usize) -> Result<usize, TextFault>
-        requires size { length text.now ≤ 268435456 }
+        requires size { length text.now ≤ max_text }
         requires inside { from ≤ length text.now }
         ensures taken { IfOk result (λ to. Advances self.old self.new text.now from to) }
         ensures ahead { IfOk result (λ to. (from ≤ to) × (to ≤ length text.now)) }
@@ -399,7 +399,7 @@ impl Reader {
 /// The fault of a text whose token between the places can't stand there.
 #[inline(never)]
 fn unexpected(text: &[u8], from: usize, to: usize) -> TextFault
-    requires size { length text.now ≤ 268435456 }
+    requires size { length text.now ≤ max_text }
     requires order { from ≤ to }
     requires within { to ≤ length text.now }
     ensures { IsUnexpected text.now from to → IsFaultOf text.now result }
@@ -412,7 +412,7 @@ fn unexpected(text: &[u8], from: usize, to: usize) -> TextFault
 
 /// The specifications of a game text, in one pass over its tokens.
 pub fn read_specs(alloc: Global, text: &[u8]) -> Result<Specs, TextFault>
-    requires { length text.now ≤ 268435456 }
+    requires { length text.now ≤ max_text }
     ensures { MatchResult result (λ specs. SpellsSpecs text.now specs) (λ e. IsFaultOf text.now e) }
 {
     let mut reader = Reader::new(alloc)?;

@@ -2,7 +2,7 @@
 ghost use Rattle.std.specs.Prelude.{◌≡◌, ◌≤◌, length, IfOk, IfErr};
 ghost use Rattle.pg_game.specs.Graph.{IsGame};
 ghost use Rattle.pg_text.specs.Solution.{AreSolutionRows};
-ghost use Rattle.pg_text.specs.Reading.{IsTextOf, IsFaultOf, IsSolutionTextOf, IsSolutionFaultOf};
+ghost use Rattle.pg_text.specs.Reading.{max_text, IsTextOf, IsFaultOf, IsSolutionTextOf, IsSolutionFaultOf};
 ghost use Rattle.pg_text.specs.Known.{IsKnownTextOf, IsKnownFaultOf};
 
 use crate::fault::{SolutionTextFault, TextFault};
@@ -13,12 +13,15 @@ use crate::solution_rows::{known_of, rows_of};
 use pg_game::{Game, GameFault};
 use std::alloc::Global;
 
-/// The game that a text spells. The text is at most 268,435,456 bytes long; any bytes may stand in it.
+/// The greatest number of bytes in a text.
+pub const MAX_TEXT: usize = 268_435_456;
+
+/// The game that a text spells. The text is at most `MAX_TEXT` bytes long; any bytes may stand in it.
 ///
 /// Refused with the first fault, by kind and then by place: `Lexical`, `Syntax`, `Number`, `Owner`, `Game` (never of
 /// `GameFault::Memory`); or with `Memory`.
 pub fn read_game(alloc: Global, text: &[u8]) -> Result<Game, TextFault>
-    requires { length text.now ≤ 268435456 }
+    requires { length text.now ≤ max_text }
     ensures game { IfOk result (λ g. IsGame g × IsTextOf text.now g) }
     ensures fault { IfErr result (λ e. IsFaultOf text.now e) }
 {
@@ -32,13 +35,13 @@ pub fn read_game(alloc: Global, text: &[u8]) -> Result<Game, TextFault>
     }
 }
 
-/// The winners and choices that a text spells for a game, every choice of the text kept. The text is at most 268,435,456 bytes
-/// long; any bytes may stand in it.
+/// The winners and choices that a text spells for a game, every choice of the text kept. The text is at most `MAX_TEXT`
+/// bytes long; any bytes may stand in it.
 ///
 /// Refused with the first fault, by kind and then by place: `Lexical`, `Syntax`, `Number`, `Winner`, `Stranger`, `Twice`,
 /// `Missing`; or with `Memory`.
 pub fn read_solution(alloc: Global, game: &Game, text: &[u8]) -> Result<Solution, SolutionTextFault>
-    requires { length text.now ≤ 268435456 }
+    requires { length text.now ≤ max_text }
     ensures fit { IfOk result (λ s. AreSolutionRows game.now s.rows) }
     ensures rows { IfOk result (λ s. IsSolutionTextOf game.now text.now s.rows) }
     ensures fault { IfErr result (λ e. IsSolutionFaultOf game.now text.now e) }
@@ -48,12 +51,12 @@ pub fn read_solution(alloc: Global, game: &Game, text: &[u8]) -> Result<Solution
 }
 
 /// What a text says that is known of a game: winners and choices as in a solution text, where vertices may be left out. The
-/// text is at most 268,435,456 bytes long; any bytes may stand in it.
+/// text is at most `MAX_TEXT` bytes long; any bytes may stand in it.
 ///
 /// Refused with the first fault, by kind and then by place: `Lexical`, `Syntax`, `Number`, `Winner`, `Stranger`, `Twice`; or
 /// with `Memory`. Never with `Missing`.
 pub fn read_known(alloc: Global, game: &Game, text: &[u8]) -> Result<Known, SolutionTextFault>
-    requires { length text.now ≤ 268435456 }
+    requires { length text.now ≤ max_text }
     ensures size { IfOk result (λ k. length k.rows ≡ length game.now) }
     ensures rows { IfOk result (λ k. IsKnownTextOf game.now text.now k.rows) }
     ensures fault { IfErr result (λ e. IsKnownFaultOf game.now text.now e) }

@@ -10,7 +10,7 @@ ghost use Rattle.std.specs.Prelude.{◌≡◌, ℕ, ◌+◌, ◌<◌, ◌≤◌,
 ghost use Rattle.pg_text.specs.Token.{Number, Word, Semicolon, Placed, Spells};
 ghost use Rattle.pg_text.specs.private.Piece.{fitting};
 ghost use Rattle.pg_text.specs.private.SolutionKeeps.{KeepsReader, Takes, line_of, is_complete};
-ghost use Rattle.pg_text.specs.Reading.{SpellsSolution};
+ghost use Rattle.pg_text.specs.Reading.{max_text, SpellsSolution};
 ghost use Rattle.pg_text.specs.private.SolutionReading.{IsLineFaultOf, IsUnexpected, TakesPiece};
 ghost use Rattle.pg_text.specs.private.SolutionAdvance.{Advances, AdvancesTo, FailsWith};
 
@@ -168,7 +168,7 @@ impl Reader {
     /// Takes the token between the places; false where it can't stand there.
     #[inline]
     fn take(&mut self, text: &[u8], piece: Piece) -> Result<bool, SolutionTextFault>
-        requires size { length text.now ≤ 268435456 }
+        requires size { length text.now ≤ max_text }
         requires order { piece.from ≤ piece.to }
         requires within { piece.to ≤ length text.now }
         ensures taken { IfOk result (λ taken. TakesPiece self.old self.new text.now piece taken) }
@@ -188,7 +188,7 @@ impl Reader {
     /// Takes the number at a place, behind at most one blank, and answers the place behind it. Without one nothing happens.
     #[inline(always)]
     fn near_number(&mut self, text: &[u8], at: usize) -> Result<Option<usize>, SolutionTextFault>
-        requires size { length text.now ≤ 268435456 }
+        requires size { length text.now ≤ max_text }
         requires inside { at ≤ length text.now }
         ensures taken { IfOk result (λ to. AdvancesTo self.old self.new text.now at to) }
         ensures ahead { IfOk result (λ to. IfSome to (λ behind. (at < behind) × (behind ≤ length text.now))) }
@@ -207,7 +207,7 @@ impl Reader {
     /// Takes the semicolon at a place and answers the place behind it, or the place itself where there is none.
     #[inline(always)]
     fn near_semicolon(&mut self, text: &[u8], at: usize) -> Result<usize, SolutionTextFault>
-        requires size { length text.now ≤ 268435456 }
+        requires size { length text.now ≤ max_text }
         requires inside { at ≤ length text.now }
         ensures taken { IfOk result (λ to. Advances self.old self.new text.now at to) }
         ensures ahead { IfOk result (λ to. (at ≤ to) × (to ≤ length text.now)) }
@@ -226,7 +226,7 @@ impl Reader {
     /// Reads a line as far as it is made of numbers, single separators and a semicolon. Answers the place behind what was read.
     #[inline(always)]
     fn line(&mut self, text: &[u8], from: usize) -> Result<usize, SolutionTextFault>
-        requires size { length text.now ≤ 268435456 }
+        requires size { length text.now ≤ max_text }
         requires inside { from ≤ length text.now }
         ensures taken { IfOk result (λ to. Advances self.old self.new text.now from to) }
         ensures ahead { IfOk result (λ to. (from ≤ to) × (to ≤ length text.now)) }
@@ -246,7 +246,7 @@ impl Reader {
 
     /// Reads lines straight through, behind a header or a line. Answers the place behind what was read: all else is for the tokens.
     fn lines(&mut self, text: &[u8], from: usize) -> Result<usize, SolutionTextFault>
-        requires size { length text.now ≤ 268435456 }
+        requires size { length text.now ≤ max_text }
         requires inside { from ≤ length text.now }
         ensures taken { IfOk result (λ to. Advances self.old self.new text.now from to) }
         ensures ahead { IfOk result (λ to. (from ≤ to) × (to ≤ length text.now)) }
@@ -283,7 +283,7 @@ impl Reader {
 /// The fault of a text whose token between the places can't stand there.
 #[inline(never)]
 fn unexpected(text: &[u8], from: usize, to: usize) -> SolutionTextFault
-    requires size { length text.now ≤ 268435456 }
+    requires size { length text.now ≤ max_text }
     requires order { from ≤ to }
     requires within { to ≤ length text.now }
     ensures { IsUnexpected text.now from to → IsLineFaultOf text.now result }
@@ -299,7 +299,7 @@ pub fn read_solution_lines(
     alloc: Global,
     text: &[u8],
 ) -> Result<Vec<SolutionLine>, SolutionTextFault>
-    requires { length text.now ≤ 268435456 }
+    requires { length text.now ≤ max_text }
     ensures { MatchResult result (λ lines. SpellsSolution text.now (map line_of lines.items)) (λ e. IsLineFaultOf text.now e) }
 {
     let mut reader = Reader::new(alloc);

@@ -1,34 +1,18 @@
 -- The rows of a lawful journal name vertices alone.
-use Rattle.std.proofs.Common.{◌≡◌, ℕ, true, ◌<◌, ◌⊎◌, inl, inr, List, [], ◌∷◌, ◌++◌, length, take, drop, zero, suc, refl, sym, ◌∙◌, ap, subst, arith, rules, append_assoc}
-use Rattle.std.specs.Prelude.{Option, Some, None, IfSome, slice_get, nat_lt}
+use Rattle.std.proofs.Common.{◌≡◌, ℕ, true, ◌<◌, ◌⊎◌, inl, inr, [], ◌∷◌, ◌++◌, length, take, drop, zero, suc, refl, sym, ◌∙◌, ap, subst, arith, rules, append_assoc}
+use Rattle.std.specs.Prelude.{Option, Some, slice_get, nat_lt}
 use Rattle.std.specs.List.{AllByRecursion}
 use Rattle.std.proofs.lemmas.List.{take-append-drop}
 use Rattle.pg_game.specs.declared.player.Player.{Player}
-use Rattle.pg_game.specs.declared.player.Player.TheVariants.{Even, Odd}
-use Rattle.pg_game.specs.Graph.{Graph, IsGame, HasEdge, owner_of}
-use Rattle.pg_game.proofs.Edges.{edge_inside}
+use Rattle.pg_game.specs.Graph.{Graph, IsGame, owner_of}
 use Rattle.pg_game.specs.VertexSet.{VertexSet, all_vertices, union}
+use Rattle.pg_text.proofs.Exact.{edge_below, same_or_not, chosen_below, none_below}
 use Rattle.pg_dominion.specs.Claim.{ClaimRows, named, IsRightRow}
 use Rattle.pg_dominion.specs.Attraction.{IsAttractedRow, AttractInTurn}
 use Rattle.pg_board.specs.declared.entry.Entry.{Entry}
 use Rattle.pg_board.specs.State.{settled}
 use Rattle.pg_board.specs.Journal.{Journal, state_of, claimed_rows, attracted_rows, IsLawful}
 use Rattle.pgboard.specs.private.Trace.{AreVertices}
-
-pub edge_below : (g : Graph) → IsGame g → (v w : ℕ) → v < length g → HasEdge g v w → w < length g
-edge_below g game v w lt e = let h : nat_lt w (length g) ≡ true = edge_inside g game v w lt e in search rules
-
-pub same_or_not : (p q : Player) → (p ≡ q) ⊎ (p ≡ q → ⊥)
-same_or_not Even Even = inl refl
-same_or_not Even Odd = inr (λ e. cc)
-same_or_not Odd Even = inr (λ e. cc)
-same_or_not Odd Odd = inl refl
-
-pub chosen_below : (n w : ℕ) (o : Option ℕ) → o ≡ Some w → w < n → IfSome o (λ x. x < n)
-chosen_below n w o is lt = rw is lt
-
-pub none_below : (n : ℕ) (o : Option ℕ) → o ≡ None → IfSome o (λ x. x < n)
-none_below n o is = rw is tt
 
 right_row : (g : Graph) → IsGame g → (p : Player) (r : ℕ × Option ℕ) → IsRightRow g p r → AreVertices (length g) r
 right_row g game p r right = record {

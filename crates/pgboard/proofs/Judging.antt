@@ -1,12 +1,12 @@
 -- Why a run on one joined text gives no verdict, from the parts of the text.
 use Rattle.std.proofs.Common.{◌≡◌, ◌≢◌, ◌≤◌, ◌⊎◌, ⊎_elim, ℕ, List, length, Option, Some, None, IfSome, Result, Err, IsErrOf, sym, ap, ◌∙◌, subst}
 use Rattle.pg_game.specs.Graph.{Graph}
-use Rattle.pg_text.specs.Reading.{IsTextOf, IsSolutionFaultOf}
+use Rattle.pg_text.specs.Reading.{max_text, IsTextOf, IsSolutionFaultOf}
 use Rattle.pg_text.specs.declared.fault.SolutionTextFault.TheVariants as solution_fault
 use Rattle.pgboard.specs.declared.fault.RunFault.{RunFault}
 use Rattle.pgboard.specs.declared.fault.RunFault.TheVariants as fault
 use Rattle.pgboard.specs.declared.verdict.Verdict.{Verdict}
-use Rattle.pgboard.specs.Joined.{game_part, solution_part, IsJudged, JudgingFailed, max_text}
+use Rattle.pgboard.specs.Joined.{game_part, solution_part, IsJudged, JudgingFailed}
 use Rattle.pgboard.specs.Run.{IsReadGame, IsNoSolution}
 use Rattle.pgboard.specs.private.Run.{IsRefusedGame, IsRefusedSolution, IsVerdictOn}
 

@@ -6,10 +6,10 @@ use Rattle.pg_game.specs.declared.player.Player.{Player}
 use Rattle.pg_game.specs.Graph.{Graph, IsGame}
 use Rattle.pg_text.specs.Known.{KnownRows, IsKnownTextOf, IsKnownFaultOf}
 use Rattle.pg_text.specs.declared.fault.SolutionTextFault.TheVariants as solution_fault
+use Rattle.pg_text.specs.Reading.{max_text}
 use Rattle.pg_workers.specs.Known.{IsKnownRegion}
 use Rattle.pgboard.specs.declared.fault.RunFault.{RunFault}
 use Rattle.pgboard.specs.declared.fault.RunFault.TheVariants as fault
-use Rattle.pgboard.specs.Joined.{max_text}
 use Rattle.pgboard.specs.private.Known.{IsRefusedText}
 use Rattle.pgboard.specs.Refused.{IsRefusedSet, IsNotKnown}
 use Rattle.pgboard.specs.private.Refused.{IsUnsolved}

@@ -10,6 +10,7 @@ use Rattle.pg_game.specs.Kept.{option_list, KeptEdge}
 use Rattle.pg_game.specs.Walk.{Walk}
 use Rattle.pg_game.proofs.Members.{Contains-one}
 use Rattle.pg_text.specs.Known.{KnownRows}
+use Rattle.pg_text.proofs.Exact.{edge_below}
 use Rattle.pg_dominion.specs.declared.claim.ClaimFault.TheVariants.{Shape, Cycle}
 use Rattle.pg_dominion.specs.Claim.{ClaimRows, named, choice_in, HasShape, IsFirstOnBadWalk, IsRightRow}
 use Rattle.pg_finders.proofs.Sets.{is_same, not_same, own_or_other}
@@ -21,7 +22,6 @@ use Rattle.pg_board.proofs.Named.{named_right}
 use Rattle.pg_board.proofs.RestIsGood.{in_rest}
 use Rattle.pg_workers.specs.declared.known.SolveFault.TheVariants as solving
 use Rattle.pg_workers.specs.Known.{known_rows, IsSolveFault}
-use Rattle.pgboard.proofs.Journals.{edge_below}
 use Rattle.pgboard.proofs.Unknown.{empty_region, none_of_rows}
 
 -- a walk begins with an edge

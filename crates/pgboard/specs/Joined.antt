@@ -3,7 +3,7 @@ use Rattle.std.specs.Prelude.{ℕ, ◌≢◌, ◌<◌, ◌≤◌, ◌==◌, List
 use Rattle.std.specs.List.{before_first, after_first}
 use Rattle.pg_game.specs.Graph.{Graph}
 use Rattle.pg_text.specs.Solution.{SolutionRows, IsSolution}
-use Rattle.pg_text.specs.Reading.{IsTextOf, IsFaultOf, IsSolutionTextOf, IsSolutionFaultOf}
+use Rattle.pg_text.specs.Reading.{max_text, IsTextOf, IsFaultOf, IsSolutionTextOf, IsSolutionFaultOf}
 use Rattle.pg_text.specs.declared.fault.TextFault.TheVariants as game_fault
 use Rattle.pg_text.specs.declared.fault.SolutionTextFault.TheVariants as solution_fault
 use Rattle.pg_dominion.specs.declared.solution.SolutionFault.{SolutionFault}
@@ -43,9 +43,6 @@ pub record IsJudged (game solution : List ℕ) (verdict : Verdict) : Type 0 wher
   pub game_is : IsTextOf game graph
   pub solution_is : IsSolutionTextOf graph solution rows
   pub verdict_is : IsVerdict graph rows verdict
-
-abbrev pub max_text : ℕ
-max_text = 268435456
 
 -- why a run on this text gave no verdict, where the failure counts of the source and the sink went from old to new
 abbrev pub JudgingFailed : List ℕ → List ℕ → ℕ → RunFault → Type 0

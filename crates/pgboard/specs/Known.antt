@@ -5,9 +5,9 @@ use Rattle.std.specs.Borrow.{MutBor}
 use Rattle.pg_game.specs.Graph.{Graph}
 use Rattle.pg_text.specs.Known.{KnownRows, IsKnownTextOf, IsKnownFaultOf}
 use Rattle.pg_text.specs.declared.fault.SolutionTextFault.TheVariants as solution_fault
+use Rattle.pg_text.specs.Reading.{max_text}
 use Rattle.pgboard.specs.declared.fault.RunFault.{RunFault}
 use Rattle.pgboard.specs.declared.fault.RunFault.TheVariants as fault
-use Rattle.pgboard.specs.Joined.{max_text}
 
 -- the bytes that a source has left, where it can tell; where no source is given there are none
 abbrev pub left_in : {S : Type 0} → (S → Option (List ℕ)) → Option (MutBor S) → Option (List ℕ)

@@ -4,6 +4,7 @@ use Rattle.pg_game.specs.declared.player.Player.{Player}
 use Rattle.pg_game.specs.Graph.{Graph, id_of}
 use Rattle.pg_text.specs.Known.{KnownRows, IsKnownTextOf, IsKnownFaultOf}
 use Rattle.pg_text.specs.declared.fault.SolutionTextFault.TheVariants as solution_fault
+use Rattle.pg_text.specs.Reading.{max_text}
 use Rattle.pg_dominion.specs.Claim.{ClaimRows}
 use Rattle.pg_dominion.specs.declared.claim.ClaimFault.TheVariants.{Shape, Cycle}
 use Rattle.pg_board.specs.declared.refusal.Refusal.{Refusal}
@@ -14,7 +15,6 @@ use Rattle.pgboard.specs.declared.fault.KnownFault.{KnownFault}
 use Rattle.pgboard.specs.declared.fault.KnownFault.TheVariants as known_fault
 use Rattle.pgboard.specs.declared.fault.RunFault.{RunFault}
 use Rattle.pgboard.specs.declared.fault.RunFault.TheVariants as fault
-use Rattle.pgboard.specs.Joined.{max_text}
 use Rattle.pgboard.specs.Run.{IsUnread}
 
 -- the fault says by identifiers what the claim of these rows was refused for

@@ -1,8 +1,9 @@
 //! A solution of a game is judged, and the verdict's line written.
 ghost use Rattle.std.specs.Prelude.{◌≡◌, ◌≢◌, ◌≤◌, ◌⊎◌, length, IfOk, OnOk, IfErr, IsErrOf};
 ghost use Rattle.std.specs.Io.KnownBytes.{Appends, Keeps};
+ghost use Rattle.pg_text.specs.Reading.{max_text};
 ghost use Rattle.pgboard.specs.Device.{HasFailed, AppendsPrefix};
-ghost use Rattle.pgboard.specs.Joined.{max_text, verdict_line};
+ghost use Rattle.pgboard.specs.Joined.{verdict_line};
 ghost use Rattle.pgboard.specs.private.Run.{IsRefusedSolution, IsVerdictOn};
 
 use crate::device::Sink;

@@ -1,15 +1,13 @@
 //! Reading a whole text from a source, into one buffer.
 ghost use Rattle.std.specs.Prelude.{◌≡◌, ◌≤◌, ◌<◌, ◌+◌, ◌⊎◌, length, take, drop, IfOk, IfErr, OnErr, OnOk, IfSome, IsErrOf, [], vec_len};
 ghost use Rattle.std.specs.Io.KnownBytes.{Consumes, IsAtEnd};
+ghost use Rattle.pg_text.specs.Reading.{max_text};
 ghost use Rattle.pgboard.specs.Device.{HasFailed, CountsFailure};
-ghost use Rattle.pgboard.specs.Joined.{max_text};
 
 use crate::device::{Failed, Source};
 use crate::fault::RunFault;
+use pg_text::MAX_TEXT;
 use std::alloc::{AllocError, Global};
-
-/// The greatest number of bytes in a text.
-const MAX_TEXT: usize = 268_435_456;
 
 /// How many bytes are asked for at a time, at most.
 const PIECE: usize = 65_536;

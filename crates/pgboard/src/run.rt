@@ -3,8 +3,9 @@ ghost use Rattle.std.specs.Prelude.{◌≡◌, ◌≢◌, ◌≤◌, ◌⊎◌, 
 ghost use Rattle.std.specs.Io.KnownBytes.{Appends, Keeps};
 ghost use Rattle.pg_game.specs.Graph.{Graph};
 ghost use Rattle.pg_text.specs.Written.{written_game};
+ghost use Rattle.pg_text.specs.Reading.{max_text};
 ghost use Rattle.pgboard.specs.Device.{HasFailed, AppendsPrefix};
-ghost use Rattle.pgboard.specs.Joined.{game_part, solution_part, IsJudged, verdict_line, JudgingFailed, max_text};
+ghost use Rattle.pgboard.specs.Joined.{game_part, solution_part, IsJudged, verdict_line, JudgingFailed};
 ghost use Rattle.pgboard.specs.Run.{IsReadGame, IsNoGame, IsNoSolution, IsGameFault};
 
 use crate::device::{Sink, Source};

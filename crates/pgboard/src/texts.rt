@@ -1,8 +1,8 @@
 //! The texts of a run: the two parts of a joined one, and the game that one spells.
 ghost use Rattle.std.specs.Prelude.{◌≡◌, ◌≤◌, length, IfOk, IfErr, IsErrOf};
-ghost use Rattle.pg_text.specs.Reading.{IsTextOf};
+ghost use Rattle.pg_text.specs.Reading.{max_text, IsTextOf};
 ghost use Rattle.pgboard.specs.Device.{HasFailed};
-ghost use Rattle.pgboard.specs.Joined.{max_text, game_part, solution_part};
+ghost use Rattle.pgboard.specs.Joined.{game_part, solution_part};
 ghost use Rattle.pgboard.specs.Run.{IsReadGame, IsNoGame};
 ghost use Rattle.pgboard.specs.private.Run.{IsRefusedGame};
 

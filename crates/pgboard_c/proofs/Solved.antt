@@ -17,6 +17,7 @@ use Rattle.pg_game.proofs.Disjoint.{wins_disjoint}
 use Rattle.pg_game.proofs.Edges.{some_edge}
 use Rattle.pg_game.proofs.Walks.{ClosedWalk-weaker}
 use Rattle.pg_text.specs.Solution.{winner_of, choice_of, won_by, IsExactSolution, SolutionRows as Solved}
+use Rattle.pg_text.proofs.Exact.{edge_below}
 use Rattle.pg_dominion.specs.declared.claim.Claim.{Claim}
 use Rattle.pg_dominion.specs.Claim.{ClaimRows, named, choice_in, IsRightRow, IsGoodIn}
 use Rattle.pg_dominion.proofs.Rows.{named_right}
@@ -26,7 +27,6 @@ use Rattle.pg_finders.proofs.Masks.{inside_mask}
 use Rattle.pg_finders.proofs.Sets.{own_or_other, is_same, same_is, both, pair, either, equal_from}
 use Rattle.pg_finders.proofs.Solving.{kept_leads, choice_leads}
 use Rattle.pgboard_c.specs.private.Put.{IsPut}
-use Rattle.pgboard_c.proofs.Choices.{edge_below}
 
 -- all vertices
 pub all_inside : (n v : ℕ) → In (members (replicate n true)) v → v < n

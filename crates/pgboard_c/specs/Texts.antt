@@ -2,14 +2,11 @@
 use Rattle.std.specs.Prelude.{ℕ, ◌≡◌, ◌<◌, ◌≤◌, List, length, take}
 use Rattle.pg_game.specs.Graph.{Graph}
 use Rattle.pg_text.specs.Solution.{SolutionRows, IsSolution, IsExactSolution}
-use Rattle.pg_text.specs.Reading.{IsTextOf, IsFaultOf, IsSolutionTextOf, IsSolutionFaultOf}
+use Rattle.pg_text.specs.Reading.{max_text, IsTextOf, IsFaultOf, IsSolutionTextOf, IsSolutionFaultOf}
 use Rattle.pg_text.specs.Written.{written_game, written_solution}
 use Rattle.pg_dominion.specs.Verdict.{FailsBy}
 use Rattle.pgboard_c.specs.declared.fault.Fault.{Fault}
 use Rattle.pgboard_c.specs.declared.fault.Fault.TheVariants as fault
-
-abbrev pub max_text : ℕ
-max_text = 268435456
 
 -- the first bytes of the buffer are the text
 abbrev pub BeginsWith : List ℕ → ℕ → List ℕ → Type 0

@@ -70,6 +70,7 @@ impl<'a> Arrays<'a> {
         ensures bad { IsTrue result → IsBadRow self.now v }
         ensures good { IsFalse result → IsBadRow self.now v → ⊥ }
     {
+        // read for the proof alone: a slice's length bounds its places
         let _n = self.starts.len();
         let from = self.starts[v];
         let to = self.starts[v + 1];
@@ -150,6 +151,7 @@ impl<'a> Arrays<'a> {
         requires vertex { v < length self.now.owners }
         ensures { result.now ≡ targets_of self.now v }
     {
+        // read for the proof alone, as above
         let _n = self.starts.len();
         let from = self.starts[v] as usize;
         let to = self.starts[v + 1] as usize;

@@ -11,11 +11,8 @@ use crate::fault::{Fault, Told, tell};
 use crate::solving::solution_of;
 use pg_dominion::{SolutionFault, check_solution};
 use pg_game::Game;
-use pg_text::{SolutionTextFault, TextFault, read_game, read_solution, write_game, write_solution};
+use pg_text::{MAX_TEXT, SolutionTextFault, TextFault, read_game, read_solution, write_game, write_solution};
 use std::alloc::Global;
-
-/// The greatest number of bytes of a text.
-const MAX_TEXT: usize = 268_435_456;
 
 /// The game that a text spells.
 fn game_of(alloc: Global, text: &[u8]) -> Result<Game, Fault>
@@ -53,7 +50,6 @@ fn solve(alloc: Global, text: &[u8], into: &mut [u8]) -> Result<usize, Fault>
     ensures kept { OnErr result (into.new ≡ into.old) }
 {
     let game = game_of(alloc, text)?;
-    let _n = game.len();
     let solution = solution_of(alloc, &game)?;
     let answer = write_solution(alloc, &game, &solution)?;
     put(answer.as_slice(), into)

@@ -5,9 +5,9 @@ use Rattle.std.specs.Borrow.{MutBor}
 use Rattle.pg_game.specs.Graph.{Graph}
 use Rattle.pg_text.specs.Known.{KnownRows, IsKnownTextOf, IsKnownFaultOf}
 use Rattle.pg_text.specs.declared.fault.SolutionTextFault.TheVariants as solution_fault
+use Rattle.pg_text.specs.Reading.{max_text}
 use Rattle.pgboard.specs.declared.fault.RunFault.{RunFault}
 use Rattle.pgboard.specs.declared.fault.RunFault.TheVariants as fault
-use Rattle.pgboard.specs.Joined.{max_text}
 use Rattle.pgboard.specs.Known.{left_in, IfGiven, OnGiven, IsReadKnown}
 
 -- why the text says nothing that is known of the game

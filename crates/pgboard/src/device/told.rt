@@ -3,10 +3,10 @@ ghost use Rattle.std.specs.Prelude.{◌≡◌, ◌≤◌, false, IfOk, length};
 ghost use Rattle.pg_game.specs.declared.player.Player.{Player};
 ghost use Rattle.pg_game.specs.Graph.{Graph};
 ghost use Rattle.pg_text.specs.Known.{KnownRows, IsKnownTextOf};
-ghost use Rattle.pg_text.specs.Reading.{IsTextOf};
+ghost use Rattle.pg_text.specs.Reading.{max_text, IsTextOf};
 ghost use Rattle.pg_text.specs.Winners.{IsWinnersText};
 ghost use Rattle.pg_workers.specs.Known.{IsKnownRegion};
-ghost use Rattle.pgboard.specs.Joined.{max_text, IsJudged, verdict_line};
+ghost use Rattle.pgboard.specs.Joined.{IsJudged, verdict_line};
 ghost use Rattle.pgboard.specs.Solving.{IsSolveText};
 
 use super::Std;

@@ -1,6 +1,6 @@
 use Rattle.std.proofs.Common.{◌≡◌, ◌≤◌, ◌-◌, take, vec_len}
 use Rattle.std.specs.Io.KnownBytes.{Consumes}
-use Rattle.pgboard.specs.Joined.{max_text}
+use Rattle.pg_text.specs.Reading.{max_text}
 use Rattle.pgboard.proofs.reading.read_into.Given as goal
 
 -- the filled bytes are what was read so far, and no read failed

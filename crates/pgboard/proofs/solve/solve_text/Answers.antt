@@ -1,6 +1,7 @@
 use Rattle.std.proofs.Common.{◌≡◌, true, List, ℕ, Bool, sym, subst}
+use Rattle.pg_text.proofs.Exact.{exact_rows}
 use Rattle.pgboard.specs.Solving.{IsSolveText}
-use Rattle.pgboard.proofs.Solved.{exact_rows, winners_text}
+use Rattle.pgboard.proofs.Solved.{winners_text}
 use Rattle.pgboard.proofs.solve.solve_text.Goals as goal
 
 pub write_winners-requires : goal.write_winners-requires

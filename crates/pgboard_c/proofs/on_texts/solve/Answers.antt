@@ -1,5 +1,5 @@
-use Rattle.pgboard_c.proofs.Choices.{exact_rows}
+use Rattle.pg_text.proofs.Exact.{exact_rows}
 use Rattle.pgboard_c.proofs.on_texts.solve.Goals as goal
 
 pub write_solution-requires : goal.write_solution-requires
-write_solution-requires c = exact_rows _ _ c.len-n.ensures.game c.in_ok-solution.ensures
+write_solution-requires c = exact_rows _ _ c.in_ok-game.ensures.game.0 c.in_ok-solution.ensures
