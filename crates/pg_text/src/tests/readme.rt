@@ -1,6 +1,7 @@
 //! The code of README.md, which `tests/readme_code.py` of the repository looks for here.
 
 ghost use Rattle.std.specs.Prelude.{◌≤◌, length};
+ghost use Rattle.pg_text.specs.Reading.{max_text};
 
 use crate::{TextFault, read_game, write_game};
 use std::alloc::Global;
@@ -8,7 +9,7 @@ use std::test::Fail;
 
 /// The one spelling of the game that a text spells.
 fn tidied(alloc: Global, text: &[u8]) -> Result<Vec<u8>, TextFault>
-    requires { length text.now ≤ 268435456 }
+    requires { length text.now ≤ max_text }
 {
     let game = read_game(alloc, text)?;
     Ok(write_game(alloc, &game)?)
