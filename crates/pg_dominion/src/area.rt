@@ -54,7 +54,7 @@ pub trait Area {
         ensures out { result ≡ true → (w : ℕ) × HasEdge game.now v w × In (free self.old) w }
         ensures none { result ≡ false → (w : ℕ) → HasEdge game.now v w → free self.old w ≡ false };
 
-    /// Takes an free vertex, and lists it.
+    /// Takes a free vertex, and lists it.
     fn take(
         &mut self,
         game: &Game,
