@@ -40,7 +40,10 @@ impl Phases {
     pub(crate) fn wait<R: Wait>(&self, rt: &R, number: u64) {
         let earlier = self.earlier(number);
         let passed = self.passed.lock(rt);
-        drop(self.change.wait_while(rt, passed, |passed| *passed < earlier));
+        drop(
+            self.change
+                .wait_while(rt, passed, |passed| *passed < earlier),
+        );
     }
 
     /// A job holds nobody up any more. Nobody waits for a number of jobs between those of two phases.

@@ -11,7 +11,9 @@ use crate::fault::{Fault, Told, tell};
 use crate::solving::solution_of;
 use pg_dominion::{SolutionFault, check_solution};
 use pg_game::Game;
-use pg_text::{MAX_TEXT, SolutionTextFault, TextFault, read_game, read_solution, write_game, write_solution};
+use pg_text::{
+    MAX_TEXT, SolutionTextFault, TextFault, read_game, read_solution, write_game, write_solution,
+};
 use std::alloc::Global;
 
 /// The game that a text spells.

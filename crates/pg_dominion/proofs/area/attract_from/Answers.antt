@@ -49,8 +49,8 @@ list-preserved g c =
     let F2 = a.free c.reach.new.area in
     let U = union F (listed_by f xs) in
     let settled : (u : ℕ) → In U u → HasEdge game u (f item) → IsTakenOrOpen game p U (listed_by f ys) (listed_by f zs) u =
-          subst (λ (v : ℕ). (u : ℕ) → In U u → HasEdge game u v → IsTakenOrOpen game p U (listed_by f ys) (listed_by f zs) u) c.vertex.ensures
-          (subst (λ (X : VertexSet). (u : ℕ) → In X u → HasEdge game u c.vertex.result → IsTakenOrOpen game p X (listed_by f ys) (listed_by f zs) u) (takes_set f F F1 xs ys old.takes) h.settled) in
+    subst (λ (v : ℕ). (u : ℕ) → In U u → HasEdge game u v → IsTakenOrOpen game p U (listed_by f ys) (listed_by f zs) u) c.vertex.ensures
+    (subst (λ (X : VertexSet). (u : ℕ) → In X u → HasEdge game u c.vertex.result → IsTakenOrOpen game p X (listed_by f ys) (listed_by f zs) u) (takes_set f F F1 xs ys old.takes) h.settled) in
     record {
       ready = h.ready;
       grown = g.met.A.Area.grown_then game p c.args.area.now c.list.area c.reach.new.area xs ys zs old.grown h.grown;

@@ -14,8 +14,15 @@ returns-then-has_way_out-clause-settled g c = λ i.
     let o : owner_of c.args.game.now c.args.from ≢ c.args.player = search rules in
     let h = c.has_way_out.ensures.out c.if-has_way_out.true in
     let xs = c.args.list.now.items in
-    inr (o, (h.0, h.1, or_left (a.free c.args.area.now h.0) (listed_by a.vertex_of xs h.0) h.2,
-    false_from_ne_true (listed_by a.vertex_of xs h.0) (λ t. (let f = g.met.A.Area.apart c.args.game.now c.args.area.now xs (vec_capacity c.args.list.now) h.0 c.requires.ready t in let w = h.2 in cc (f, w)))))
+    inr (
+      o,
+      (
+        h.0,
+        h.1,
+        or_left (a.free c.args.area.now h.0) (listed_by a.vertex_of xs h.0) h.2,
+        false_from_ne_true (listed_by a.vertex_of xs h.0) (λ t. (let f = g.met.A.Area.apart c.args.game.now c.args.area.now xs (vec_capacity c.args.list.now) h.0 c.requires.ready t in let w = h.2 in cc (f, w))),
+      ),
+    )
 
 pub returns-clause-takes : goal.returns-clause-takes
 returns-clause-takes g c =
