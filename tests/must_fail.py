@@ -9,9 +9,10 @@ one a function, and proves these functions. An edit is refused where a function 
 one that only calls another without proof doesn't count. What a round lets through is tried in smaller ones. What is left
 alone, or changes no function's code, is tried as the kit does: the whole crate has to be read by the prover and refused.
 
-Needs the crates below to be built, here or in a copy of the sources, and begins with what a check there kept. Where
-tests/unit_tests.py is at work in copies of the tree, its output so far says which crates' tests are proved, and each crate's
-edits wait for them. With words, only edits whose names have one of them are tried. The last line is 'N passed, M failed'.
+Needs the crates below to be built, here or in a copy of the sources, and begins with what a check there kept, over which the
+crate is checked as it stands. Where tests/unit_tests.py is at work in copies of the tree, its output so far says which crates'
+tests are proved, and each crate's edits wait for them. With words, only edits whose names have one of them are tried. The last
+line is 'N passed, M failed'.
 """
 
 import argparse
@@ -23,6 +24,7 @@ import shutil
 import subprocess
 import sys
 import tempfile
+import threading
 import time
 from concurrent.futures import ThreadPoolExecutor
 
@@ -33,6 +35,7 @@ import rtlib
 ROOT = os.path.dirname(os.path.dirname(os.path.abspath(__file__)))
 # what a check takes at most, in bytes, of pgboard
 MEMORY = 5_000_000_000
+COUNT = r"(?m)^\d+ passed, \d+ failed$"
 
 
 class BadEdit(Exception):
@@ -40,7 +43,10 @@ class BadEdit(Exception):
 
 
 def function_at(source, at):
-    """The function that the place lies in, if it lies in one: the type that it is of, if any, and its path below a module."""
+    """The function that the place lies in, if it lies in one: the type that it is a method of, and its path below a module.
+
+    What a trait asks for is named below the module of its `impl`.
+    """
     before = source[:at]
     functions = list(re.finditer(r"(?m)^( *)(?:pub(?:\(\w+\))? )?(?:extern \S+ )?fn (\w+)", before))
     last = functions[-1] if functions else None
@@ -51,7 +57,7 @@ def function_at(source, at):
         return None, last[2]
     *_, header = re.finditer(r"(?m)^impl(?:<[^{]*?>)? (?:([\w:]+)(?:<(\w*).*>)? for )?(\w+)", before[: last.start()])
     trait = (header[1] or "").split("::")[-1] + (header[2] or "")
-    return header[3], f"{header[3]}{trait}::{last[2]}"
+    return None if trait else header[3], f"{header[3]}{trait}::{last[2]}"
 
 
 def module_of(crate, file, kind):
@@ -93,7 +99,8 @@ class Edit:
     def replaced(self, crate, file, source, old, new):
         if source.count(old) != 1:
             raise BadEdit(f"{self.name}: a text stands in {file} {source.count(old)} times, and not once")
-        found = function_at(source, source.find(old)) if file.startswith("src/") else None
+        # a function's own first line is its text too
+        found = function_at(source, source.find(old) + len(old)) if file.startswith("src/") else None
         names = (module_of(crate, file, found[0]), found[1]) if found else ()
         function = "::".join(it for it in names if it) or None
         self.touched.add(function)
@@ -141,16 +148,52 @@ def rounds_of(edits):
     return [entries for entries, _ in rounds]
 
 
+def lanes(beside):
+    """How many proofs may run at once, where others run beside them (the gate takes two processors then) or none does."""
+    with open("/proc/meminfo", encoding="utf-8") as file:
+        free = 1024 * int(re.search(r"MemAvailable:\s+(\d+)", file.read())[1])
+    return max(1, min(len(os.sched_getaffinity(0)) // (2 if beside else 1), free // MEMORY))
+
+
+class Lanes:
+    """Lets checks run at once, on half of the processors while the log's writer proves tests, and then on all of them."""
+
+    def __init__(self):
+        self.running, self.changed = 0, threading.Condition()
+        self.beside, self.alone = lanes(True), lanes(False)
+        self.log = None
+
+    def limit(self):
+        return self.beside if self.log and not re.search(COUNT, read(self.log)) else self.alone
+
+    def __enter__(self):
+        with self.changed:
+            while self.running >= self.limit():
+                self.changed.wait(1)
+            self.running += 1
+
+    def __exit__(self, *_):
+        with self.changed:
+            self.running -= 1
+            self.changed.notify()
+
+
+LANES = Lanes()
+
+
 def check(crate, edits, kept, flags):
-    """Checks a copy of the crate with the edits planted, over what earlier checks have kept."""
+    """Checks a copy of the crate with the edits planted, over what is kept, which stays as it is unless nothing is planted."""
     with tempfile.TemporaryDirectory(prefix="must-fail-") as room:
         for part in rtlib.PARTS:
             if os.path.isdir(f"{crate.folder}/{part}"):
                 shutil.copytree(f"{crate.folder}/{part}", f"{room}/{part}")
         plant(room, edits)
-        words = [rtlib.RATTLE, "check", *crate.words(["--jobs", "1"], keeps=False), "--incremental", kept, *flags]
         how = {"stdin": subprocess.DEVNULL, "stdout": subprocess.PIPE, "stderr": subprocess.STDOUT, "errors": "replace"}
-        return subprocess.run([*rtlib.guarded(), *words], cwd=room, **how)
+        with LANES:
+            # what is checked with an edit would take the place of what was kept, to be checked anew for the next
+            own = shutil.copytree(kept, f"{room}/kept") if edits else kept
+            words = [rtlib.RATTLE, "check", *crate.words(["--jobs", "1"], keeps=False), "--incremental", own, *flags]
+            return subprocess.run([*rtlib.guarded(), *words], cwd=room, **how)
 
 
 def refused_functions(said):
@@ -196,7 +239,7 @@ def wait_for(lines, log):
         said = read(log)
         if all(f"{it}\n" in said for it in lines):
             break
-        if re.search(r"(?m)^\d+ passed, \d+ failed$", said):
+        if re.search(COUNT, said):
             return False
         time.sleep(1)
     return True
@@ -227,19 +270,17 @@ def try_crate(crate, words, log):
         kept = f"{room}/kept"
         if crate.has_kept():
             shutil.copytree(f"{crate.folder}/{rtlib.KEPT[1]}", kept)
-        for entries in rounds:
-            through += try_round(crate, entries, kept)
+        if check(crate, [], kept, []).returncode:
+            print(f"FAILED must_fail/{crate.name}: it is not proved as it stands", flush=True)
+            return len(paths), len(paths)
+        # how many of them run at once is up to LANES
+        with ThreadPoolExecutor(max(1, len(rounds))) as pool:
+            for names in pool.map(lambda it: try_round(crate, it, kept), rounds):
+                through += names
     print(f"{crate.name}: {len(paths)} edits in {len(rounds)} rounds, {len(through)} let through", flush=True)
     for name in through:
         print(f"FAILED must_fail/{crate.name} {name}", flush=True)
     return len(paths), len(through)
-
-
-def lanes():
-    """How many crates are tried at once. (The gate takes half of the memory at most, and with it two processors.)"""
-    with open("/proc/meminfo", encoding="utf-8") as file:
-        free = 1024 * int(re.search(r"MemAvailable:\s+(\d+)", file.read())[1])
-    return max(1, min(len(os.sched_getaffinity(0)) // 2, free // MEMORY))
 
 
 def main():
@@ -254,7 +295,8 @@ def main():
     crates = [it for it in rtlib.crates_below(given.tree) if given.crate in (None, it.name)]
     # lowest first, since their edits need the least
     crates.sort(key=lambda it: len(it.below()))
-    with ThreadPoolExecutor(lanes()) as pool:
+    LANES.log = given.after
+    with ThreadPoolExecutor(max(1, len(crates))) as pool:
         tried = list(pool.map(lambda it: try_crate(it, given.words, given.after), crates))
     count, failed = sum(it[0] for it in tried), sum(it[1] for it in tried)
     print(f"{count - failed} passed, {failed} failed")

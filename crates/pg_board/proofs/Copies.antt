@@ -1,11 +1,10 @@
 -- A claim that is good in what a journal leaves unsettled is a dominion after it.
-use Rattle.std.proofs.Common.{◌≡◌, ℕ, inl, inr, length, sym, subst, arith, ltb-true}
-use Rattle.std.proofs.Common.{◌∙◌, ap}
-use Rattle.std.specs.Prelude.{Some}
+use Rattle.std.proofs.Common.{◌≡◌, ℕ, inl, inr, length, sym, subst, arith, ltb-true, ◌∙◌, ap, Some}
 use Rattle.std.proofs.Math.Seq.{take-length}
 use Rattle.std.proofs.lemmas.Bool.{or_left, or_right}
 use Rattle.pg_game.specs.declared.player.Player.{Player}
-use Rattle.pg_game.specs.Graph.{Graph}
+use Rattle.pg_game.specs.Graph.{Graph, IsGame}
+use Rattle.pg_game.proofs.Edges.{edge_inside}
 use Rattle.pg_game.specs.VertexSet.{In, union}
 use Rattle.pg_game.specs.Kept.{KeptEdge}
 use Rattle.pg_dominion.proofs.Rows.{named_right}
@@ -13,11 +12,11 @@ use Rattle.pg_dominion.specs.Claim.{ClaimRows, named, choice_in, IsGoodIn}
 use Rattle.pg_finders.proofs.Solving.{kept_leads, choice_leads}
 use Rattle.pg_board.specs.State.{State, settled, unsettled, IsLawfulState, IsDominion}
 use Rattle.pg_board.specs.Journal.{Journal, state_of, IsLawful, IsDominionAfter}
-use Rattle.pg_board.proofs.Turns.{EdgesStay}
 use Rattle.pg_board.proofs.Numbers.{lawful_now}
 use Rattle.pg_board.proofs.Whole.{part_of, not_to_other, all_of}
 
-module _ (g : Graph) (edges : EdgesStay g) (st : State) (lawful : IsLawfulState g st) (p : Player) (rows : ClaimRows) (good : IsGoodIn g (unsettled g st) p rows) where
+module _ (g : Graph) (game : IsGame g) (st : State) (lawful : IsLawfulState g st) (p : Player) (rows : ClaimRows)
+    (good : IsGoodIn g (unsettled g st) p rows) where
   closed : (v w : ℕ) → KeptEdge g p (named rows) (choice_in rows) v w → In (union (named rows) (settled st p)) w
   closed v w (i, m) = elim (kept_leads g p (choice_in rows) v w m) [
     | inl (o, n) ↦
@@ -26,10 +25,10 @@ module _ (g : Graph) (edges : EdgesStay g) (st : State) (lawful : IsLawfulState 
         or_left (named rows w) (settled st p w) (good.closed v w (i, m) (good.choices v w i e)))
     | inr (o, n) ↦
         (let u = good.vertices v i in
-        elim (part_of g edges st lawful p w (edges v w (ltb-true v (length g) (all_of g edges st lawful p v u)) n)) [
+        elim (part_of g game st lawful p w (edge_inside g game v w (ltb-true v (length g) (all_of g game st lawful p v u)) n)) [
           | inl a ↦ elim a [
             | inl b ↦ or_right (named rows w) (settled st p w) b
-            | inr b ↦ absurd (not_to_other g edges st lawful p v w u o n b)
+            | inr b ↦ absurd (not_to_other g game st lawful p v w u o n b)
           ]
           | inr b ↦ or_left (named rows w) (settled st p w) (good.closed v w (i, m) b)
         ])
@@ -38,9 +37,9 @@ module _ (g : Graph) (edges : EdgesStay g) (st : State) (lawful : IsLawfulState 
   pub dominion_from_good : IsDominion g st p rows
   dominion_from_good = record { shape = good.shape; vertices = good.vertices; good = good.good; closed = closed }
 
-pub dominion_now : (g : Graph) → EdgesStay g → (j : Journal) → IsLawful g j → (p : Player) (rows : ClaimRows) → IsGoodIn g (unsettled g (state_of j)) p rows
-    → IsDominionAfter g j (length j) p rows
-dominion_now g edges j lawful p rows good = (
+pub dominion_now : (g : Graph) → IsGame g → (j : Journal) → IsLawful g j → (p : Player) (rows : ClaimRows)
+    → IsGoodIn g (unsettled g (state_of j)) p rows → IsDominionAfter g j (length j) p rows
+dominion_now g game j lawful p rows good = (
   omega arith,
-  subst (λ xs. IsDominion g (state_of xs) p rows) (sym (take-length j)) (dominion_from_good g edges (state_of j) (lawful_now g j lawful) p rows good),
+  subst (λ xs. IsDominion g (state_of xs) p rows) (sym (take-length j)) (dominion_from_good g game (state_of j) (lawful_now g j lawful) p rows good),
 )

@@ -1,8 +1,8 @@
 -- Kept edges of rows, row by row.
-use Rattle.std.proofs.Common.{◌≡◌, ℕ, suc, ◌<◌, ◌≤◌, true, false, ◌⊎◌, inl, inr, List, ◌∷◌, length, get_or, take, drop, refl, sym, ◌∙◌, ap, subst, arith, drop-cons}
-use Rattle.std.specs.Prelude.{Option, None, nat_eq, if◌then◌else◌}
+use Rattle.std.proofs.Common.{◌≡◌, ℕ, suc, ◌<◌, ◌≤◌, true, false, ◌⊎◌, inl, inr, List, ◌∷◌, length, get_or, take, drop, refl, sym}
+use Rattle.std.proofs.Common.{◌∙◌, ap, subst, arith, drop-cons, Option, None, nat_eq, if◌then◌else◌}
 use Rattle.std.specs.List.{Contains, IsDistinct}
-use Rattle.std.proofs.lemmas.Bool.{eq-eqb}
+use Rattle.std.proofs.lemmas.Bool.{cases_lt, eq-eqb}
 use Rattle.std.proofs.lemmas.List.{take-append-drop, get_or_default}
 use Rattle.std.proofs.lemmas.List.Elements.{Contains-get_or}
 use Rattle.std.proofs.lemmas.Map.Keys.{sorted_from_strictly_increasing, below_from_sorted}
@@ -26,7 +26,8 @@ ends_none g p r right e = elim (own_or_other (owner_of g r.0) p) [
   | inr o ↦ rw (not_same (owner_of g r.0) p (not_own p (owner_of g r.0) o)) refl
 ]
 
-pub choice_at : (rows : ClaimRows) (i : ℕ) → IsDistinct nat_eq (vertices rows) → i < length rows → choice_in rows (row_at rows i).0 ≡ (row_at rows i).1
+pub choice_at : (rows : ClaimRows) (i : ℕ) → IsDistinct nat_eq (vertices rows) → i < length rows
+    → choice_in rows (row_at rows i).0 ≡ (row_at rows i).1
 choice_at rows i distinct l =
     let v = (row_at rows i).0 in
     ap (λ (xs : ClaimRows). choice_in xs v) (sym (take-append-drop i rows))
@@ -38,7 +39,9 @@ choice_at rows i distinct l =
 
 module _ (g : Graph) (p : Player) (S : VertexSet) (rows : ClaimRows) (right : AreRight g p rows) where
   ends_kept : (i : ℕ) → i < length rows → ends_of g p (row_at rows i) ≡ kept g p (choice_in rows) (row_at rows i).0
-  ends_kept i l = ap (λ (o : Option ℕ). if same_player (owner_of g (row_at rows i).0) p then option_list o else successors_of g (row_at rows i).0) (sym (choice_at rows i (distinct_rising (vertices rows) right.rising) l))
+  ends_kept i l =
+      ap (λ (o : Option ℕ). if same_player (owner_of g (row_at rows i).0) p then option_list o else successors_of g (row_at rows i).0)
+      (sym (choice_at rows i (distinct_rising (vertices rows) right.rising) l))
 
   from_row : (i w : ℕ) → i < length rows → EndsOutside g p S (row_at rows i) w → LeadsOutside g p S rows (row_at rows i).0 w
   from_row i w l h = ((named_at rows i l, subst (λ (ws : List ℕ). Contains ws w) (ends_kept i l) h.0), h.1)
@@ -57,25 +60,23 @@ module _ (g : Graph) (p : Player) (S : VertexSet) (rows : ClaimRows) (right : Ar
   pub none_outside : (i : ℕ) → length rows ≤ i → NoneUpTo i → (v w : ℕ) → LeadsOutside g p S rows v w → ⊥
   none_outside i l none v w h = let q = placed v w h in none q.0 w (omega (arith, q.1)) q.3
 
-  pub first_outside : (i w : ℕ) → i < length rows → NoneUpTo i → EndsOutside g p S (row_at rows i) w → ((x : ℕ) → EndsOutside g p S (row_at rows i) x → w ≤ x)
-      → IsFirstOutside g p S rows (row_at rows i).0 w
+  pub first_outside : (i w : ℕ) → i < length rows → NoneUpTo i → EndsOutside g p S (row_at rows i) w
+      → ((x : ℕ) → EndsOutside g p S (row_at rows i) x → w ≤ x) → IsFirstOutside g p S rows (row_at rows i).0 w
   first_outside i w l none here least = record {
     edge = from_row i w l here;
     first = λ u x h. first u x (placed u x h);
     least = λ x h. least x (to_row i x l h);
   }
     where
-      below_or : (k : ℕ) → (k < i) ⊎ (i ≤ k)
-      below_or k = grind arith
-
       first : (u x : ℕ) → (k : ℕ) × (k < length rows) × ((row_at rows k).0 ≡ u) × EndsOutside g p S (row_at rows k) x → (row_at rows i).0 ≤ u
-      first u x (k, m, e, h) = elim (below_or k) [
+      first u x (k, m, e, h) = elim (cases_lt k i) [
         | inl less ↦ absurd (none k x less h)
         | inr more ↦ subst (λ (y : ℕ). (row_at rows i).0 ≤ y) e (rises_or rows i k right.rising more m)
       ]
 
 -- the first successor that is outside ends the first kept edge of a row without a choice
-module _ (g : Graph) (game : IsGame g) (p : Player) (S : VertexSet) (r : ℕ × Option ℕ) (right : IsRightRow g p r) (none : r.1 ≡ None) (ws : List ℕ) (all : ws ≡ successors_of g r.0) where
+module _ (g : Graph) (game : IsGame g) (p : Player) (S : VertexSet) (r : ℕ × Option ℕ) (right : IsRightRow g p r) (none : r.1 ≡ None) (ws : List ℕ)
+    (all : ws ≡ successors_of g r.0) where
   ends_are : ends_of g p r ≡ ws
   ends_are = ends_none g p r right none ∙ sym all
 

@@ -1,18 +1,17 @@
 -- The entry of a good rest and of what it attracts.
 use mathlib.Core.Path.{fun_ext}
-use Rattle.std.proofs.Common.{◌≡◌, ℕ, ◌+◌, ◌≤◌, Bool, true, false, [], ◌∷◌, ◌++◌, length, take, drop, refl, sym, ◌∙◌, ap, subst, arith, lt-ltb, length-append}
-use Rattle.std.specs.Prelude.{nat_lt, ◌↔◌}
-use Rattle.std.proofs.lemmas.List.Sums.{sum_by_push}
-use Rattle.std.proofs.Math.Seq.{take-append_seam, drop-append_seam, drop-length}
+use Rattle.std.proofs.Common.{◌≡◌, ℕ, ◌+◌, ◌≤◌, Bool, true, false, [], ◌∷◌, ◌++◌, length, take, drop, refl, sym, ◌∙◌, ap}
+use Rattle.std.proofs.Common.{subst, arith, lt-ltb, length-append, get_or, nat_lt, ◌↔◌, if◌then◌else◌}
+use Rattle.std.proofs.lemmas.List.Sums.{sum_by_push, sum_by-le}
+use Rattle.std.proofs.Math.Seq.{take-append_seam, drop-append_seam, take-length}
 use Rattle.pg_game.specs.declared.player.Player.{Player}
 use Rattle.pg_game.specs.Graph.{Graph, IsGame}
 use Rattle.pg_game.specs.VertexSet.{VertexSet, In, Within, all_vertices, union, members}
 use Rattle.pg_game.specs.Subgame.{IsSubgame}
 use Rattle.pg_game.specs.Attractor.{Attractor}
-use Rattle.pg_game.proofs.Edges.{edge_inside, some_edge}
 use Rattle.pg_dominion.specs.Claim.{ClaimRows, named}
 use Rattle.pg_dominion.specs.Attraction.{AttractInTurn, IsAttraction}
-use Rattle.pg_dominion.proofs.Rows.{named_right, no_push}
+use Rattle.pg_dominion.proofs.Rows.{named_right}
 use Rattle.pg_board.specs.declared.entry.Entry.{Entry}
 use Rattle.pg_board.specs.State.{State, settled, is_unsettled, unsettled, rest_of, IsGoodOn}
 use Rattle.pg_board.specs.Journal.{Journal, state_of, claimed_rows, attracted_rows, Answers, IsLawful, number_settled}
@@ -22,10 +21,6 @@ use Rattle.pg_board.proofs.RestIsGood.{in_rest}
 use Rattle.pg_board.proofs.Push.{state_push}
 use Rattle.pg_board.proofs.Lawful.{lawful_push}
 use Rattle.pg_board.proofs.Numbers.{lawful_now, number_within}
-use Rattle.std.proofs.Common.{get_or}
-use Rattle.std.specs.Prelude.{if◌then◌else◌}
-use Rattle.std.proofs.Math.Seq.{take-length}
-use Rattle.std.proofs.lemmas.List.Sums.{sum_by-le}
 use Rattle.std.proofs.lemmas.List.Elements.{All-from_get_or}
 use Rattle.std.proofs.lemmas.Bool.{and_from}
 use Rattle.std.proofs.Math.Bool.{or_assoc}
@@ -65,7 +60,7 @@ module _ (g : Graph) (j : Journal) (p : Player) (R A : ClaimRows) (e : Entry) (h
   attracted_are = rw (h.claimed, h.rows) (drop-append_seam R A)
 
   all : IsAttraction g p (all_vertices g) (union (settled st p) (named R)) A
-  all = whole g (edge_inside g h.game) st (lawful_now g j h.lawful) p (named R) (rest_inside g st p R h.good h.twice) A h.attraction
+  all = whole g h.game st (lawful_now g j h.lawful) p (named R) (rest_inside g st p R h.good h.twice) A h.attraction
 
   names : (v : ℕ) → union (settled st p) (named e.rows) v ≡ union (union (settled st p) (named R)) (named A) v
   names v = rw (h.rows, named-append R A v) (sym (or_assoc (settled st p v) (named R v) (named A v)))
@@ -84,7 +79,7 @@ module _ (g : Graph) (j : Journal) (p : Player) (R A : ClaimRows) (e : Entry) (h
   }
 
   pub lawful_more : IsLawful g (j ++ e ∷ [])
-  lawful_more = lawful_push g (edge_inside g h.game) (some_edge g h.game) j h.lawful p R h.good e answered
+  lawful_more = lawful_push (record { game = h.game; lawful = h.lawful; posted = h.good; answers = answered })
 
   pub number_more : number_settled (j ++ e ∷ []) ≡ number_settled j + length e.rows
   number_more = sum_by_push (λ (x : Entry). length x.rows) j e
@@ -152,7 +147,8 @@ module _ {g : Graph} {j : Journal} {r : Regions} {number : ℕ} {p : Player} {R 
       board_entered n size = record {
         lawful = lawful_more g j p R (drop (length R) rows) e enters;
         regions = grown.regions;
-        state = λ v. subst (λ (xs : ClaimRows). table_state r2.table.items v ≡ state_with (table_state r.table.items) p xs v) (sym has.rows_are) (grown.tells v)
+        state =
+            λ v. subst (λ (xs : ClaimRows). table_state r2.table.items v ≡ state_with (table_state r.table.items) p xs v) (sym has.rows_are) (grown.tells v)
             ∙ (ap (λ (s : State). state_with s p e.rows v) (fun_ext q.board.state) ∙ state_more g j p R (drop (length R) rows) e enters v);
         number_is = (let m = number_more g j p R (drop (length R) rows) e enters in omega (arith, q.board.number_is));
       }
@@ -161,11 +157,14 @@ module _ {g : Graph} {j : Journal} {r : Regions} {number : ℕ} {p : Player} {R 
     grown_fits = entry_fits (record { worker = 0; player = p; claimed = length R; rows = rows }) (record { player = refl; claimed = refl; rows_are = refl })
 
 -- at the start of a growth there is room for a row of each vertex
-pub IsGrowing-start : (g : Graph) (r : Regions) (rows : ClaimRows) (room : ℕ) → AreRegions g r → rows ≡ [] → length g ≤ room → IsGrowing g r rows room
+pub IsGrowing-start : (g : Graph) (r : Regions) (rows : ClaimRows) (room : ℕ) → AreRegions g r → rows ≡ [] → length g ≤ room
+    → IsGrowing g r rows room
 IsGrowing-start g r rows room regions none size = subst (λ (xs : ClaimRows). IsGrowing g r xs room) (sym none) (record {
   regions = regions;
   apart = λ v n. absurd (let h : false ≡ true = n in cc h);
-  fits = (let h = sum_by-le ones 1 r.unsettled (All-from_get_or (λ b. ones b ≤ 1) r.unsettled false (λ i l. at_most (get_or r.unsettled i false))) in let m = regions.mask_size in omega (arith, h));
+  fits =
+      (let h = sum_by-le ones 1 r.unsettled (All-from_get_or (λ b. ones b ≤ 1) r.unsettled false (λ i l. at_most (get_or r.unsettled i false))) in let m =
+      regions.mask_size in omega (arith, h));
 })
   where
     ones : Bool → ℕ

@@ -1,6 +1,6 @@
 -- The steps of a region that grows in place, and what it is when nothing is left to do.
-use Rattle.std.proofs.Common.{◌≡◌, ℕ, ◌+◌, ◌<◌, Bool, true, false, ◌||◌, inl, inr, List, [], ◌∷◌, ◌++◌, length, take, get_or, set, refl, sym, ◌∙◌, ap, subst, arith, length-append}
-use Rattle.std.specs.Prelude.{Option, Some, None, ◌==◌, nat_lt, if◌then◌else◌, nat_eq}
+use Rattle.std.proofs.Common.{◌≡◌, ℕ, ◌+◌, ◌<◌, Bool, true, false, ◌||◌, inl, inr, List, [], ◌∷◌, ◌++◌, length, take, get_or, set}
+use Rattle.std.proofs.Common.{refl, sym, ◌∙◌, ap, subst, arith, length-append, Option, Some, None, ◌==◌, nat_lt, if◌then◌else◌, nat_eq}
 use Rattle.std.proofs.lemmas.Bool.{false_from_ne_true, and_parts, or_cases}
 use Rattle.std.proofs.lemmas.List.Sums.{sum_by-set}
 use Rattle.std.proofs.Math.Bool.{or-false}
@@ -63,9 +63,11 @@ module _ {g : Graph} {p : Player} {r r' : Regions} {rows : ClaimRows} {row : ℕ
   was_unsettled : (st : State) → ((v : ℕ) → table_state r.table.items v ≡ state_with st p rows v) → is_unsettled (st row.0) ≡ true
   was_unsettled st told =
       let u = (and_parts (nat_lt row.0 (length g)) (is_unsettled (table_state r.table.items row.0)) (sym (h.growing.regions.mask row.0) ∙ h.unsettled)).1 in
-      go (st row.0) (named rows row.0) (Some (p, choice_in rows row.0)) row_fresh (subst (λ (o : Option (Player × Option ℕ)). is_unsettled o ≡ true) (told row.0) u)
+      go (st row.0) (named rows row.0) (Some (p, choice_in rows row.0)) row_fresh
+      (subst (λ (o : Option (Player × Option ℕ)). is_unsettled o ≡ true) (told row.0) u)
     where
-      go : (o : Option (Player × Option ℕ)) (n : Bool) (a : Option (Player × Option ℕ)) → n ≡ false → is_unsettled (if is_unsettled o then (if n then a else None) else o) ≡ true → is_unsettled o ≡ true
+      go : (o : Option (Player × Option ℕ)) (n : Bool) (a : Option (Player × Option ℕ)) → n ≡ false
+          → is_unsettled (if is_unsettled o then (if n then a else None) else o) ≡ true → is_unsettled o ≡ true
       go None n a f e = refl
       go (Some x) n a f e = e
 
@@ -74,14 +76,16 @@ module _ {g : Graph} {p : Player} {r r' : Regions} {rows : ClaimRows} {row : ℕ
   told-take st told = told-push g r r' p row h.settles row_below h.growing.regions st rows told (was_unsettled st told) row_fresh
 
   pub same-take : (v : ℕ) → open_before r' (rows ++ row ∷ []) v ≡ open_before r rows v
-  same-take = (takes_one (λ (x : ℕ × Option ℕ). x.0) (members r.unsettled) (members r.unsettled) (members r'.unsettled) rows (rows ++ row ∷ []) row.0 (λ w. refl) h.unsettled (row, refl, refl) mask_now).same
+  same-take =
+      (takes_one (λ (x : ℕ × Option ℕ). x.0) (members r.unsettled) (members r.unsettled) (members r'.unsettled) rows (rows ++ row ∷ []) row.0
+      (λ w. refl) h.unsettled (row, refl, refl) mask_now).same
 
   pub Grows-take : IsAttractedRow g p (open_before r rows) (named rows) row → Grows g p r rows r' (rows ++ row ∷ [])
   Grows-take leads = record { extends = extends_taken g p (members r.unsettled) (members r'.unsettled) rows row mask_now h.unsettled leads; tells = told-take }
 
 -- a mask that didn't change is as much apart
-pub IsGrowing-same : (g : Graph) (r r' : Regions) (rows : ClaimRows) (room : ℕ) → AreRegions g r' → r'.unsettled ≡ r.unsettled → IsGrowing g r rows room
-    → IsGrowing g r' rows room
+pub IsGrowing-same : (g : Graph) (r r' : Regions) (rows : ClaimRows) (room : ℕ) → AreRegions g r' → r'.unsettled ≡ r.unsettled
+    → IsGrowing g r rows room → IsGrowing g r' rows room
 IsGrowing-same g r r' rows room regions mask a = record {
   regions = regions;
   apart = λ v n. ap (λ m. members m v) mask ∙ a.apart v n;

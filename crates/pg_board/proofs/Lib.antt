@@ -1,5 +1,4 @@
 pub mod RestIsGood
-pub mod Named
 pub mod Turns
 pub mod Push
 pub mod Distinct
@@ -20,3 +19,6 @@ pub mod Posting
 pub mod OldCopies
 pub mod Solved
 pub mod Growing
+pub mod Added
+pub mod Present
+pub mod Shares

@@ -1,5 +1,6 @@
 -- The first row that is lost names the least vertex that is.
-use Rattle.std.proofs.Common.{◌≡◌, ℕ, ◌<◌, ◌≤◌, true, false, ◌⊎◌, inl, inr, length, subst, arith}
+use Rattle.std.proofs.Common.{◌≡◌, ℕ, ◌<◌, ◌≤◌, true, false, inl, inr, length, subst, arith}
+use Rattle.std.proofs.lemmas.Bool.{cases_lt}
 use Rattle.std.specs.List.Sorted.{IsStrictlyIncreasing}
 use Rattle.pg_game.specs.declared.player.Player.{Player}
 use Rattle.pg_game.specs.Player.{opponent}
@@ -28,11 +29,9 @@ module _ (st : State) (p : Player) (rows : ClaimRows) where
     least = λ u h. least u h;
   }
     where
-      below_or : (k : ℕ) → (k < i) ⊎ (i ≤ k)
-      below_or k = grind arith
-
       least : (u : ℕ) → IsLost st p rows u → (row_at rows i).0 ≤ u
-      least u h = (let q = place_at rows u h.0 in elim (below_or q.0) [
-        | inl less ↦ absurd (let f : settled st (opponent p) u ≡ false = subst (λ (x : ℕ). settled st (opponent p) x ≡ false) q.2 (before q.0 less) in let t = h.1 in cc (f, t))
+      least u h = (let q = place_at rows u h.0 in elim (cases_lt q.0 i) [
+        | inl less ↦ absurd (let f : settled st (opponent p) u ≡ false = subst (λ (x : ℕ). settled st (opponent p) x ≡ false) q.2 (before q.0 less) in
+            let t = h.1 in cc (f, t))
         | inr more ↦ subst (λ (x : ℕ). (row_at rows i).0 ≤ x) q.2 (rises_or rows i q.0 rising more q.1)
       ])

@@ -1,8 +1,8 @@
 -- How many vertices a lawful journal settles: at most all, and all exactly where it is full.
-use Rattle.std.proofs.Common.{◌≡◌, ℕ, ◌+◌, ◌<◌, ◌≤◌, Bool, true, false, ◌||◌, not, List, [], ◌∷◌, ◌++◌, length, take, refl, sym, ◌∙◌, ap, subst, arith, ltb-true, length-append, get_or}
+use Rattle.std.proofs.Common.{◌≡◌, ℕ, ◌+◌, ◌<◌, ◌≤◌, Bool, true, false, ◌||◌, not, List, [], ◌∷◌, ◌++◌, length, take, refl}
+use Rattle.std.proofs.Common.{sym, ◌∙◌, ap, subst, arith, ltb-true, length-append, get_or, Option, Some, None, ◌==◌, nat_eq, if◌then◌else◌}
 use Rattle.std.proofs.lemmas.List.Sums.{sum_by_more_le}
 use Rattle.std.proofs.lemmas.List.Filters.{sum_by-filter_both}
-use Rattle.std.specs.Prelude.{Option, Some, None, ◌==◌, nat_eq, if◌then◌else◌}
 use Rattle.std.specs.List.{list_any}
 use Rattle.std.specs.Cmp.{nat_eq_equiv}
 use Rattle.std.proofs.lemmas.Bool.{eqb-true, eq-eqb, false_from_ne_true}
@@ -17,7 +17,8 @@ use Rattle.pg_game.specs.Graph.{Graph}
 use Rattle.pg_game.proofs.Players.{is_same}
 use Rattle.pg_dominion.specs.Claim.{ClaimRows, named, choice_in}
 use Rattle.pg_board.specs.declared.entry.Entry.{Entry}
-use Rattle.pg_board.specs.State.{settled_for, is_unsettled, IsLawfulState}
+use Rattle.pg_text.specs.Known.{is_winner}
+use Rattle.pg_board.specs.State.{is_unsettled, IsLawfulState}
 use Rattle.pg_board.specs.Journal.{Journal, state_of, IsLawful, number_settled, settled_by}
 use Rattle.pg_board.specs.Full.{IsFull}
 use Rattle.pg_board.proofs.RestIsGood.{vertices}
@@ -36,7 +37,8 @@ pub in_vertices : (rows : ClaimRows) (v : ℕ) → list_any (nat_eq v) (vertices
 in_vertices [] v = refl
 in_vertices (r ∷ rows) v = go (nat_eq v r.0) (r.0 == v) refl refl (in_vertices rows v)
   where
-    go : (a b : Bool) → nat_eq v r.0 ≡ a → (r.0 == v) ≡ b → list_any (nat_eq v) (vertices rows) ≡ named rows v → (a || list_any (nat_eq v) (vertices rows)) ≡ (b || named rows v)
+    go : (a b : Bool) → nat_eq v r.0 ≡ a → (r.0 == v) ≡ b → list_any (nat_eq v) (vertices rows) ≡ named rows v
+        → (a || list_any (nat_eq v) (vertices rows)) ≡ (b || named rows v)
     go true true x y h = refl
     go false false x y h = h
     go true false x y h = absurd (let t : (r.0 == v) ≡ true = eq-eqb r.0 v (sym (eqb-true v r.0 x)) in cc (t, y))
@@ -51,11 +53,12 @@ settled_vertices (e ∷ es) v =
     ∙ (ap (λ b. b || list_any (nat_eq v) (Settled es)) (in_vertices e.rows v)
     ∙ go (named e.rows v) (e.player, choice_in e.rows v) (state_of es v) (settled_vertices es v)))
   where
-    go : (b : Bool) (a : Player × Option ℕ) (o : Option (Player × Option ℕ)) → list_any (nat_eq v) (Settled es) ≡ not (is_unsettled o) → (b || list_any (nat_eq v) (Settled es)) ≡ not (is_unsettled (if b then Some a else o))
+    go : (b : Bool) (a : Player × Option ℕ) (o : Option (Player × Option ℕ)) → list_any (nat_eq v) (Settled es) ≡ not (is_unsettled o)
+        → (b || list_any (nat_eq v) (Settled es)) ≡ not (is_unsettled (if b then Some a else o))
     go true a o h = refl
     go false a o h = h
 
-whose : (o : Option (Player × Option ℕ)) → not (is_unsettled o) ≡ true → (p : Player) × (settled_for p o ≡ true)
+whose : (o : Option (Player × Option ℕ)) → not (is_unsettled o) ≡ true → (p : Player) × (is_winner p o ≡ true)
 whose None h = absurd (cc h)
 whose (Some r) h = (r.0, is_same r.0 r.0 refl)
 

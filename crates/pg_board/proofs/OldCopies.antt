@@ -1,7 +1,7 @@
 -- A claim that was a dominion after some entries is posted, or it is stale: it is refused for no other reason.
 use mathlib.Core.Path.{fun_ext}
-use Rattle.std.proofs.Common.{◌≡◌, ℕ, ◌+◌, ◌||◌, ◌↔◌, inl, inr, [], ◌∷◌, length, take, refl, sym, ◌∙◌, ap, subst, arith, Ok, Err, Result, length-take, drop}
-use Rattle.std.specs.Prelude.{IfOk, IfErr, OnErr}
+use Rattle.std.proofs.Common.{◌≡◌, ℕ, ◌+◌, ◌||◌, ◌↔◌, inl, inr, [], ◌∷◌, length, take, refl, sym, ◌∙◌, ap, subst, arith, Ok}
+use Rattle.std.proofs.Common.{Err, Result, length-take, drop, IfOk, IfErr, OnErr}
 use Rattle.std.proofs.lemmas.List.{take-append-drop}
 use Rattle.std.proofs.Math.Bool.{or-false}
 use Rattle.pg_game.specs.declared.player.Player.{Player}
@@ -9,7 +9,6 @@ use Rattle.pg_game.specs.Player.{opponent}
 use Rattle.pg_game.specs.Graph.{Graph, IsGame}
 use Rattle.pg_game.specs.VertexSet.{VertexSet, In, all_vertices, union}
 use Rattle.pg_game.specs.Attractor.{Attractor}
-use Rattle.pg_game.proofs.Edges.{edge_inside, some_edge}
 use Rattle.pg_game.proofs.Rotate.{none_from_good}
 use Rattle.pg_game.proofs.Players.{is_same}
 use Rattle.pg_dominion.specs.declared.claim.Claim.{Claim}
@@ -21,6 +20,8 @@ use Rattle.pg_dominion.specs.Checked.{CheckedClaim, claim_rows, AgreesWithGame}
 use Rattle.pg_dominion.proofs.Shape.{AreRight-front}
 use Rattle.pg_board.specs.declared.entry.Posted.{Posted}
 use Rattle.pg_board.specs.declared.refusal.Refusal.{Refusal}
+use Rattle.pg_board.specs.declared.regions.Regions.{Regions}
+use Rattle.pg_board.specs.private.Regions.{IsBoard}
 use Rattle.pg_board.specs.declared.refusal.Refusal.TheVariants as refusal
 use Rattle.pg_board.specs.State.{State, settled, rest_of, IsGoodOn}
 use Rattle.pg_board.specs.Journal.{Journal, state_of, IsLawful, IsDominionAfter}
@@ -28,8 +29,7 @@ use Rattle.pg_board.specs.Order.{Posts}
 use Rattle.pg_board.specs.Play.{Play}
 use Rattle.pg_board.specs.Post.{Adds, AnswersDominion, SettlesDominion, SettlesUnlessMemory}
 use Rattle.pg_board.specs.Refusal.{Refuses, refusal_of, IsOfState, RefusesChecked}
-use Rattle.pg_board.proofs.Numbers.{lawful_now}
-use Rattle.pg_board.proofs.Push.{theirs}
+use Rattle.pg_board.proofs.Push.{IsAdded, theirs}
 use Rattle.pg_board.proofs.Lawful.{lawful_push}
 use Rattle.pg_board.proofs.Dominion.{never_lost, stays_closed}
 use Rattle.pg_board.proofs.Order.{Target, order}
@@ -45,7 +45,20 @@ pub record IsAnswered (x new : Play) (worker : ℕ) (claim : Claim) (result : Re
   pub refused : IfErr result (λ e. Refuses x.graph (state_of x.journal) claim.player claim.rows e)
   pub unchanged : OnErr result (new ≡ x)
 
-module _ (x : Play) (game : IsGame x.graph) (lawful : IsLawful x.graph x.journal) (claim : Claim) (k : ℕ) (d : IsDominionAfter x.graph x.journal k claim.player claim.rows) where
+-- a lawful journal of a game, as each board keeps it
+pub record Stands (x : Play) : Type 0 where
+  pub game : IsGame x.graph
+  pub lawful : IsLawful x.graph x.journal
+
+pub stands_at : {x : Play} {g : Graph} {j : Journal} {r : Regions} {number : ℕ} → record { graph = g; journal = j } ≡ x → IsGame g
+    → IsBoard g j r number → Stands x
+stands_at view game board = subst Stands view (record { game = game; lawful = board.lawful })
+
+added_by : {x new : Play} {worker : ℕ} {claim : Claim} {posted : Posted} → Stands x → IsGoodOn x.graph (state_of x.journal) claim.player claim.rows
+    → (a : Adds x new worker claim posted) → IsAdded x.graph x.journal claim.player claim.rows a.entry
+added_by stands good a = record { game = stands.game; lawful = stands.lawful; posted = good; answers = a.answers }
+
+module _ (x : Play) (stands : Stands x) (claim : Claim) (k : ℕ) (d : IsDominionAfter x.graph x.journal k claim.player claim.rows) where
   abbrev g : Graph
   g = x.graph
 
@@ -69,7 +82,7 @@ module _ (x : Play) (game : IsGame x.graph) (lawful : IsLawful x.graph x.journal
   own : (new : Journal) → Posts g old (claim ∷ []) new → (v : ℕ)
       → In (settled (state_of new) p) v ↔ Attractor g p (all_vertices g) (union (settled (state_of old) p) (named rows)) v
   own new posts v = subst (λ (T : VertexSet). In (settled (state_of new) p) v ↔ Attractor g p (all_vertices g) T v) target_is
-      ((order g (edge_inside g game) (some_edge g game) old new (claim ∷ []) lawful ((k, d), tt) posts).1 p v)
+      ((order g stands.game old new (claim ∷ []) stands.lawful ((k, d), tt) posts).1 p v)
 
   settles_stale : rest_of (state_of old) rows ≡ [] → (new : Play) → new ≡ x → SettlesDominion x new p rows
   settles_stale none new same = subst (λ (y : Play). SettlesDominion x y p rows) (sym same) (record {
@@ -82,7 +95,7 @@ module _ (x : Play) (game : IsGame x.graph) (lawful : IsLawful x.graph x.journal
   settles_posted new worker posted good a = record {
     own = own new.journal (inr (a.entry, good.not_stale, a.answers, a.journal));
     other = λ v. ap (λ (j : Journal). settled (state_of j) (opponent p) v) a.journal
-        ∙ ap (λ (X : VertexSet). X v) (theirs g (edge_inside g game) old (lawful_now g old lawful) p rows good a.entry a.answers);
+        ∙ ap (λ (X : VertexSet). X v) (theirs (added_by stands good a));
   }
 
   claimed_size : (worker : ℕ) (new : Play) (posted : Posted) → Adds x new worker claim posted → posted.claimed ≡ length (rest_of (state_of old) rows)
@@ -99,8 +112,9 @@ module _ (x : Play) (game : IsGame x.graph) (lawful : IsLawful x.graph x.journal
   old_copy new worker (Err refusal.Stale) h = (h.refused.2, settles_stale h.refused.2 new h.unchanged)
   old_copy new worker (Err (refusal.Claim fault)) h = absurd (no_fault fault h.refused.0 h.refused.1)
   old_copy new worker (Err (refusal.Foreign v)) h = absurd h.refused
-  old_copy new worker (Err (refusal.Lost v)) h = absurd (let l = h.refused.1.has in let f = never_lost g old lawful k p rows d v l.0 in let t = l.1 in cc (t, f))
-  old_copy new worker (Err (refusal.Open v w)) h = absurd (let e = h.refused.2.edge in e.1 (stays_closed g old lawful k p rows d v w e.0))
+  old_copy new worker (Err (refusal.Lost v)) h =
+      absurd (let l = h.refused.1.has in let f = never_lost g old stands.lawful k p rows d v l.0 in let t = l.1 in cc (t, f))
+  old_copy new worker (Err (refusal.Open v w)) h = absurd (let e = h.refused.2.edge in e.1 (stays_closed g old stands.lawful k p rows d v w e.0))
 
 -- what is answered where the check of a claim failed
 pub refused_check : (g : Graph) (st : State) (p : Player) (rows : ClaimRows) (fault : ClaimFault) → IsClaimFault g p rows fault
@@ -110,12 +124,11 @@ refused_check g st p rows (claim_fault.Cycle v) h = (h, λ e. cc e)
 refused_check g st p rows claim_fault.Memory h = tt
 
 -- the journal is lawful after a post
-pub lawful_after : (x new : Play) (worker : ℕ) (claim : Claim) (result : Result Posted Refusal) → IsGame x.graph → IsLawful x.graph x.journal
-    → IsAnswered x new worker claim result → new.graph ≡ x.graph → IsLawful new.graph new.journal
-lawful_after x new worker claim (Ok posted) game lawful h graph =
-    let a = h.posted.1 in
-    rw (graph, a.journal) (lawful_push x.graph (edge_inside x.graph game) (some_edge x.graph game) x.journal lawful claim.player claim.rows h.posted.0 a.entry a.answers)
-lawful_after x new worker claim (Err e) game lawful h graph = subst (λ (y : Play). IsLawful y.graph y.journal) (sym h.unchanged) lawful
+pub lawful_after : {x new : Play} {worker : ℕ} {claim : Claim} (result : Result Posted Refusal) → Stands x → IsAnswered x new worker claim result
+    → new.graph ≡ x.graph → IsLawful new.graph new.journal
+lawful_after (Ok posted) stands h graph =
+    rw (graph, h.posted.1.journal) (lawful_push (added_by stands h.posted.0 h.posted.1))
+lawful_after (Err e) stands h graph = subst (λ (y : Play). IsLawful y.graph y.journal) (sym h.unchanged) stands.lawful
 
 -- a refusal of the claim that lies in the state is one of the checked claim
 pub refused_checked : (g : Graph) (st : State) (c : CheckedClaim) (e : Refusal) → AgreesWithGame g c.player c.rows → IsOfState e

@@ -1,6 +1,6 @@
 -- The state in which nothing is settled.
 use Rattle.std.proofs.Common.{◌≡◌, ℕ, true, false, List, [], ◌∷◌, length, take, sym, subst, arith, ltb-true, ◌∙◌}
-use Rattle.std.specs.Prelude.{nat_eq, nat_lt, slice_get}
+use Rattle.std.specs.Prelude.{nat_eq, nat_lt, slice_get, Some}
 use Rattle.std.specs.List.{IsDistinct}
 use Rattle.pg_game.specs.declared.player.Player.{Player}
 use Rattle.pg_game.specs.Graph.{Graph, IsGame}
@@ -10,7 +10,6 @@ use Rattle.pg_game.specs.Walk.{ClosedWalk}
 use Rattle.pg_game.specs.Attractor.{Attractor}
 use Rattle.pg_game.specs.Region.{IsRegion}
 use Rattle.pg_game.proofs.Edges.{edge_inside, some_edge}
-use Rattle.std.specs.Prelude.{Some}
 use Rattle.std.proofs.lemmas.Option.{slice_get_within}
 use Rattle.std.proofs.Math.Bool.{and-true}
 use Rattle.pg_board.specs.declared.entry.Entry.{Entry}

@@ -1,12 +1,12 @@
 -- The order in which claims that were dominions are posted has no effect on the regions.
-use Rattle.std.proofs.Common.{◌≡◌, ℕ, ◌<◌, ◌≤◌, Bool, true, false, ◌||◌, ◌↔◌, inl, inr, List, [], ◌∷◌, ◌++◌, length, refl, sym, ◌∙◌, subst, arith}
-use Rattle.std.specs.Prelude.{if◌then◌else◌}
+use Rattle.std.proofs.Common.{◌≡◌, ℕ, ◌<◌, ◌≤◌, Bool, true, false, ◌||◌, ◌↔◌, inl, inr, List, [], ◌∷◌, ◌++◌, length, refl}
+use Rattle.std.proofs.Common.{sym, ◌∙◌, subst, arith, if◌then◌else◌}
 use Rattle.std.proofs.lemmas.List.{take-append-le}
 use Rattle.std.proofs.lemmas.Bool.{or_cases, or_left, or_right}
 use Rattle.std.proofs.Math.Bool.{or-false}
 use Rattle.pg_game.specs.declared.player.Player.{Player}
 use Rattle.pg_game.specs.Player.{opponent, same_player}
-use Rattle.pg_game.specs.Graph.{Graph}
+use Rattle.pg_game.specs.Graph.{Graph, IsGame}
 use Rattle.pg_game.specs.VertexSet.{VertexSet, In, Within, all_vertices, no_vertices, union}
 use Rattle.pg_game.specs.Attractor.{Attractor}
 use Rattle.pg_game.proofs.Attract.{target_attracted, Attractor-monotone, Attractor-idempotent}
@@ -14,13 +14,12 @@ use Rattle.pg_game.proofs.Players.{own_or_other, same_is, is_same}
 use Rattle.pg_dominion.specs.declared.claim.Claim.{Claim}
 use Rattle.pg_dominion.specs.Claim.{named}
 use Rattle.pg_board.specs.declared.entry.Entry.{Entry}
-use Rattle.pg_board.specs.State.{settled, is_unsettled, rest_of, IsGoodOn, IsDominion}
+use Rattle.pg_board.specs.State.{settled, is_unsettled, rest_of, IsDominion}
 use Rattle.pg_board.specs.Journal.{Journal, state_of, claimed_rows, Answers, IsLawful, IsDominionAfter}
 use Rattle.pg_board.specs.Order.{Posts, claimed_by, WereDominions}
 use Rattle.pg_board.proofs.RestIsGood.{in_rest}
-use Rattle.pg_board.proofs.Turns.{EdgesStay, EachHasEdge}
 use Rattle.pg_board.proofs.Numbers.{lawful_now}
-use Rattle.pg_board.proofs.Push.{ours_named, theirs}
+use Rattle.pg_board.proofs.Push.{IsAdded, ours_named, theirs}
 use Rattle.pg_board.proofs.Lawful.{lawful_push, length-snoc}
 use Rattle.pg_board.proofs.Dominion.{dominion_good, ours_or_open, stays_settled}
 
@@ -91,10 +90,10 @@ same_attractor : (g : Graph) (q : Player) (T T' : VertexSet) → ((v : ℕ) → 
     → ((v : ℕ) → In T' v → Attractor g q (all_vertices g) T v) → SameAttractor g q T T'
 same_attractor g q T T' a b v = (Attractor-idempotent g q (all_vertices g) T' T a v, Attractor-idempotent g q (all_vertices g) T T' b v)
 
-module _ (g : Graph) (edges : EdgesStay g) (some : EachHasEdge g) where
+module _ (g : Graph) (game : IsGame g) where
   -- a claim of which nothing is open adds nothing to the target
-  stale_target : (q : Player) (old : Journal) (lawful : IsLawful g old) (c : Claim) (cs : List Claim) → WasDominion g old c → rest_of (state_of old) c.rows ≡ []
-      → SameAttractor g q (Target q old cs) (Target q old (c ∷ cs))
+  stale_target : (q : Player) (old : Journal) (lawful : IsLawful g old) (c : Claim) (cs : List Claim) → WasDominion g old c
+      → rest_of (state_of old) c.rows ≡ [] → SameAttractor g q (Target q old cs) (Target q old (c ∷ cs))
   stale_target q old lawful c cs (k, d) none = same_attractor g q (Target q old cs) (Target q old (c ∷ cs))
       (λ v i. target_attracted g q (all_vertices g) (Target q old (c ∷ cs)) v (elim (or_cases (settled (state_of old) q v) (claimed_by q cs v) i) [
         | inl a ↦ in_settled q old (c ∷ cs) v a
@@ -123,14 +122,14 @@ module _ (g : Graph) (edges : EdgesStay g) (some : EachHasEdge g) where
     abbrev Start : VertexSet
     Start = union (settled (state_of old) p) (named (claimed_rows e))
 
-    good : IsGoodOn g (state_of old) p c.rows
-    good = dominion_good g old h.lawful h.was.0 p c.rows h.was.1 h.some_open
+    added : IsAdded g old p c.rows e
+    added = record { game = game; lawful = h.lawful; posted = dominion_good g old h.lawful h.was.0 p c.rows h.was.1 h.some_open; answers = h.answers }
 
     ours : settled (state_of longer) p ≡ union (settled (state_of old) p) (named e.rows)
-    ours = ours_named g edges old (lawful_now g old h.lawful) p c.rows good e h.answers
+    ours = ours_named added
 
     other : settled (state_of longer) (opponent p) ≡ settled (state_of old) (opponent p)
-    other = theirs g edges old (lawful_now g old h.lawful) p c.rows good e h.answers
+    other = theirs added
 
     into : (v : ℕ) → p ≡ q → In Start v → In (Target q old (c ∷ cs)) v
     into v same i = elim (or_cases (settled (state_of old) p v) (named (claimed_rows e) v) i) [
@@ -176,7 +175,8 @@ module _ (g : Graph) (edges : EdgesStay g) (some : EachHasEdge g) where
         (λ x a. in_settled q longer cs x (stays_settled old (e ∷ []) q x a)) (λ x a. in_settled q longer cs x (of_posted x a)) (in_claims q longer cs) v i))
 
   abbrev Result : Journal → Journal → List Claim → Type 0
-  Result old new claims = IsLawful g new × ((q : Player) (v : ℕ) → In (settled (state_of new) q) v ↔ Attractor g q (all_vertices g) (Target q old claims) v)
+  Result old new claims =
+      IsLawful g new × ((q : Player) (v : ℕ) → In (settled (state_of new) q) v ↔ Attractor g q (all_vertices g) (Target q old claims) v)
 
   both_ways : {A B C : Type 0} → (A ↔ B) → (B ↔ C) → (A ↔ C)
   both_ways a b = (λ x. b.0 (a.0 x), λ z. a.1 (b.1 z))
@@ -187,14 +187,14 @@ module _ (g : Graph) (edges : EdgesStay g) (some : EachHasEdge g) where
     λ q v. (
       λ i. target_attracted g q (all_vertices g) (Target q old []) v (in_settled q old [] v (subst (λ xs. In (settled (state_of xs) q) v) same i)),
       λ a. subst (λ xs. In (settled (state_of xs) q) v) (sym same) ((lawful_now g old lawful).attracted q v
-          (Attractor-monotone g q (all_vertices g) (Target q old []) (settled (state_of old) q) (λ x i. sym (or-false (settled (state_of old) q x)) ∙ i) v a)),
+          (Attractor-monotone g q (all_vertices g) (Target q old []) (settled (state_of old) q)
+          (λ x i. sym (or-false (settled (state_of old) q x)) ∙ i) v a)),
     ),
   )
   order old new (c ∷ cs) lawful were (inl (none, more)) =
       let r = order old new cs lawful were.1 more in
       (r.0, λ q v. both_ways (r.1 q v) (stale_target q old lawful c cs were.0 none v))
   order old new (c ∷ cs) lawful were (inr (e, some_open, answers, more)) =
-      let good = dominion_good g old lawful were.0.0 c.player c.rows were.0.1 some_open in
       let h : IsPosted g old c e = record { lawful = lawful; was = were.0; some_open = some_open; answers = answers } in
-      let r = order (old ++ e ∷ []) new cs (lawful_push g edges some old lawful c.player c.rows good e answers) (still_dominions g old e cs were.1) more in
+      let r = order (old ++ e ∷ []) new cs (lawful_push (added c.player old c cs e h)) (still_dominions g old e cs were.1) more in
       (r.0, λ q v. both_ways (r.1 q v) (posted_target q old c cs e h v))

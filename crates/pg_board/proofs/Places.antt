@@ -1,6 +1,6 @@
 -- Rows by their place in the list.
-use Rattle.std.proofs.Common.{◌≡◌, ℕ, zero, suc, ◌<◌, ◌≤◌, Bool, true, false, ◌⊎◌, inl, inr, [], ◌∷◌, length, get_or, take, refl, sym, ◌∙◌, ap, arith}
-use Rattle.std.specs.Prelude.{Option, None, ◌==◌, nat_eq}
+use Rattle.std.proofs.Common.{◌≡◌, ℕ, zero, suc, ◌<◌, ◌≤◌, Bool, true, false, inl, inr, [], ◌∷◌, length, get_or, take, refl}
+use Rattle.std.proofs.Common.{eq-or-lt_of_le, sym, ◌∙◌, ap, arith, Option, None, ◌==◌, nat_eq}
 use Rattle.std.specs.List.{IsDistinct}
 use Rattle.std.specs.List.Sorted.{IsStrictlyIncreasing}
 use Rattle.std.proofs.lemmas.Bool.{eqb-true, eq-eqb, false_from_ne_true, or_right}
@@ -22,7 +22,8 @@ pub place_at : (rows : ClaimRows) (v : ℕ) → named rows v ≡ true → (i : �
 place_at [] v i = absurd (cc i)
 place_at (r ∷ rows) v i = go (r.0 == v) refl (place_at rows v)
   where
-    go : (b : Bool) → (r.0 == v) ≡ b → (named rows v ≡ true → (k : ℕ) × (k < length rows) × ((row_at rows k).0 ≡ v)) → (k : ℕ) × (k < length (r ∷ rows)) × ((row_at (r ∷ rows) k).0 ≡ v)
+    go : (b : Bool) → (r.0 == v) ≡ b → (named rows v ≡ true → (k : ℕ) × (k < length rows) × ((row_at rows k).0 ≡ v))
+        → (k : ℕ) × (k < length (r ∷ rows)) × ((row_at (r ∷ rows) k).0 ≡ v)
     go true e h = (zero, omega arith, eqb-true r.0 v e)
     go false e h = let n : named rows v ≡ true = rw e at i in let q = h n in (suc q.0, omega (arith, q.1), q.2)
 
@@ -32,19 +33,18 @@ vertex_at rows i l = get_or-map (λ (r : ℕ × Option ℕ). r.0) rows i (0, Non
 -- in rising rows a later row names a greater vertex
 pub rises : (rows : ClaimRows) (i k : ℕ) → IsStrictlyIncreasing (vertices rows) → i < k → k < length rows → (row_at rows i).0 < (row_at rows k).0
 rises rows i k rising l m =
-    let h = below_from_sorted (vertices rows) i k 0 (sorted_from_strictly_increasing (vertices rows) rising) l (omega (arith, length-map rows (λ (r : ℕ × Option ℕ). r.0))) in
+    let h = below_from_sorted (vertices rows) i k 0 (sorted_from_strictly_increasing (vertices rows) rising) l
+    (omega (arith, length-map rows (λ (r : ℕ × Option ℕ). r.0))) in
     let a = vertex_at rows i (omega arith) in
     let b = vertex_at rows k m in
     omega arith
 
-pub rises_or : (rows : ClaimRows) (i k : ℕ) → IsStrictlyIncreasing (vertices rows) → i ≤ k → k < length rows → (row_at rows i).0 ≤ (row_at rows k).0
-rises_or rows i k rising l m = elim (equal_or i k l) [
+pub rises_or : (rows : ClaimRows) (i k : ℕ) → IsStrictlyIncreasing (vertices rows) → i ≤ k → k < length rows
+    → (row_at rows i).0 ≤ (row_at rows k).0
+rises_or rows i k rising l m = elim (eq-or-lt_of_le l) [
   | inl e ↦ rw e (omega arith)
   | inr less ↦ (let h = rises rows i k rising less m in omega arith)
 ]
-  where
-    equal_or : (i k : ℕ) → i ≤ k → (i ≡ k) ⊎ (i < k)
-    equal_or i k l = grind arith
 
 -- no earlier row names the vertex of a row
 pub fresh_at : (rows : ClaimRows) (i : ℕ) → IsDistinct nat_eq (vertices rows) → i < length rows → named (take i rows) (row_at rows i).0 ≡ false
@@ -53,6 +53,8 @@ fresh_at rows i distinct l = false_from_ne_true (named (take i rows) (row_at row
     let less : q.0 < i = omega (arith, q.1, length-take i rows) in
     let same : row_at (take i rows) q.0 ≡ row_at rows q.0 = get_or-take i rows q.0 (0, None) less in
     let apart = apart_from_distinct nat_eq (vertices rows) q.0 i 0 distinct less (omega (arith, length-map rows (λ (r : ℕ × Option ℕ). r.0))) in
-    let e : get_or (vertices rows) q.0 0 ≡ get_or (vertices rows) i 0 = vertex_at rows q.0 (omega arith) ∙ (ap (λ (r : ℕ × Option ℕ). r.0) (sym same) ∙ (q.2 ∙ sym (vertex_at rows i l))) in
-    let yes' : nat_eq (get_or (vertices rows) q.0 0) (get_or (vertices rows) i 0) ≡ true = eq-eqb (get_or (vertices rows) q.0 0) (get_or (vertices rows) i 0) e in
+    let e : get_or (vertices rows) q.0 0 ≡ get_or (vertices rows) i 0 =
+    vertex_at rows q.0 (omega arith) ∙ (ap (λ (r : ℕ × Option ℕ). r.0) (sym same) ∙ (q.2 ∙ sym (vertex_at rows i l))) in
+    let yes' : nat_eq (get_or (vertices rows) q.0 0) (get_or (vertices rows) i 0) ≡ true =
+    eq-eqb (get_or (vertices rows) q.0 0) (get_or (vertices rows) i 0) e in
     cc (apart, yes')))

@@ -1,7 +1,6 @@
 -- What the checks of a claim against the state say together.
 use mathlib.Core.Path.{fun_ext}
-use Rattle.std.proofs.Common.{◌≡◌, ℕ, ◌<◌, ◌≤◌, Bool, true, false, length, refl, sym, ◌∙◌, ap, subst, arith}
-use Rattle.std.specs.Prelude.{Option, nat_eq}
+use Rattle.std.proofs.Common.{◌≡◌, ℕ, ◌<◌, ◌≤◌, Bool, true, false, length, refl, sym, ◌∙◌, ap, subst, arith, Option, nat_eq}
 use Rattle.std.specs.List.{All, list_any}
 use Rattle.std.proofs.lemmas.List.Elements.{All-from_recursion, All-weaker}
 use Rattle.std.proofs.lemmas.List.{length-map}
@@ -57,7 +56,8 @@ module _ (g : Graph) (st : State) (p : Player) (rows : ClaimRows) where
     closed = λ v w k. inside v w k (Bounds st p rows w) refl;
   }
     where
-      inside : (v w : ℕ) → KeptEdge g p (named (rest_of st rows)) (choice_in rows) v w → (b : Bool) → Bounds st p rows w ≡ b → In (Bounds st p rows) w
+      inside : (v w : ℕ) → KeptEdge g p (named (rest_of st rows)) (choice_in rows) v w → (b : Bool) → Bounds st p rows w ≡ b
+          → In (Bounds st p rows) w
       inside v w k true e = e
       inside v w k false e = absurd (closed v w (kept_of_rest g p st rows v w k, e))
 
@@ -67,6 +67,10 @@ pub record IsChecked (g : Graph) (j : Journal) (r : Regions) (number : ℕ) (p :
   pub sound : IsSound g p rows
   pub none : NoneHas (IsLost (table_state r.table.items) p rows)
   pub rest_is : rest ≡ rest_of (table_state r.table.items) rows
+
+pub checked : {g : Graph} {j : Journal} {r : Regions} {number : ℕ} {p : Player} {rows rest : ClaimRows} → IsBoard g j r number → IsSound g p rows
+    → NoneHas (IsLost (table_state r.table.items) p rows) → rest ≡ rest_of (table_state r.table.items) rows → IsChecked g j r number p rows rest
+checked board sound none rest_is = record { board = board; sound = sound; none = none; rest_is = rest_is }
 
 module _ {g : Graph} {j : Journal} {r : Regions} {number : ℕ} {p : Player} {rows rest : ClaimRows} (h : IsChecked g j r number p rows rest) where
   abbrev now : State
@@ -89,13 +93,14 @@ module _ {g : Graph} {j : Journal} {r : Regions} {number : ℕ} {p : Player} {ro
       subst (λ (s : State). IsGoodOn g s p rows) (fun_ext h.board.state)
       (good_on g now p rows h.sound h.none (subst (λ (xs : ClaimRows). 0 < length xs) h.rest_is some) closed)
 
-pub sound_here : {x : Play} {g : Graph} {j : Journal} (p : Player) (rows : ClaimRows) → record { graph = g; journal = j } ≡ x → IsSound x.graph p rows
+pub sound_here : {x : Play} {g : Graph} {j : Journal} {p : Player} {rows : ClaimRows} → record { graph = g; journal = j } ≡ x → IsSound x.graph p rows
     → IsSound g p rows
-sound_here p rows view sound = subst (λ (y : Play). IsSound y.graph p rows) (sym view) sound
+sound_here {p = p} {rows} view sound = subst (λ (y : Play). IsSound y.graph p rows) (sym view) sound
 
 -- an entry that answers the rest answers the claim
 pub adds_claim : (old new : Play) (worker : ℕ) (p : Player) (rows : ClaimRows) (claim : Claim) (posted : Posted) → claim.player ≡ p
-    → rows ≡ rest_of (state_of old.journal) claim.rows → Adds old new worker (record { player = p; rows = rows }) posted → Adds old new worker claim posted
+    → rows ≡ rest_of (state_of old.journal) claim.rows → Adds old new worker (record { player = p; rows = rows }) posted
+    → Adds old new worker claim posted
 adds_claim old new worker p rows claim posted player same a =
     let st = state_of old.journal in
     record {
@@ -115,13 +120,15 @@ adds_claim old new worker p rows claim posted player same a =
     }
 
 -- right rows are no more than the vertices
-pub few_rows : (g : Graph) (p : Player) (rows : ClaimRows) → AreRight g p rows → length rows ≤ length g
-few_rows g p rows a =
-    let below : (q : ℕ) → list_any (nat_eq q) (vertices rows) ≡ true → q < length g = λ q m. (named_right g p rows q a.each (sym (in_vertices rows q) ∙ m)).vertex in
+pub few_rows : {g : Graph} {p : Player} {rows : ClaimRows} → AreRight g p rows → length rows ≤ length g
+few_rows {g} {p} {rows} a =
+    let below : (q : ℕ) → list_any (nat_eq q) (vertices rows) ≡ true → q < length g =
+    λ q m. (named_right g p rows q a.each (sym (in_vertices rows q) ∙ m)).vertex in
     let h = length-le_from_distinct_below (vertices rows) (length g) (distinct_rising (vertices rows) a.rising) below in
     omega (arith, h, length-map rows (λ (r : ℕ × Option ℕ). r.0))
 
 -- right rows name vertices
-pub all_below : (g : Graph) (p : Player) (rows : ClaimRows) → AreRight g p rows → (n : ℕ) → n ≡ length g → All (λ (r : ℕ × Option ℕ). r.0 < n) rows
+pub all_below : (g : Graph) (p : Player) (rows : ClaimRows) → AreRight g p rows → (n : ℕ) → n ≡ length g
+    → All (λ (r : ℕ × Option ℕ). r.0 < n) rows
 all_below g p rows a n e =
     All-weaker (IsRightRow g p) (λ (r : ℕ × Option ℕ). r.0 < n) (λ r right. rw e right.vertex) rows (All-from_recursion (IsRightRow g p) rows a.each)

@@ -16,7 +16,8 @@ use Rattle.pg_finders.proofs.Solving.{kept_same}
 pub use Rattle.pg_finders.specs.private.small.Partial.{vertices}
 use Rattle.pg_board.specs.State.{State, is_unsettled, rest_of, settled, IsGoodOn}
 
-vertices-cond : (b : Bool) (r : ℕ × Option ℕ) (xs : ClaimRows) (ys : List ℕ) → vertices xs ≡ ys → vertices (cond b (r ∷ xs) xs) ≡ cond b (r.0 ∷ ys) ys
+vertices-cond : (b : Bool) (r : ℕ × Option ℕ) (xs : ClaimRows) (ys : List ℕ) → vertices xs ≡ ys
+    → vertices (cond b (r ∷ xs) xs) ≡ cond b (r.0 ∷ ys) ys
 vertices-cond true r xs ys e = ap (λ zs. r.0 ∷ zs) e
 vertices-cond false r xs ys e = e
 
@@ -50,7 +51,8 @@ in_rest st rows v i = and_parts (named rows v) (is_unsettled (st v)) (sym (named
 pub to_rest : (st : State) (rows : ClaimRows) (v : ℕ) → In (named rows) v → is_unsettled (st v) ≡ true → In (named (rest_of st rows)) v
 to_rest st rows v i o = named_rest st rows v ∙ rw (i, o) refl
 
-choice-cond : (t b : Bool) (r : ℕ × Option ℕ) (xs rows : ClaimRows) (v : ℕ) → (r.0 == v) ≡ t → (t ≡ true → b ≡ true) → choice_in xs v ≡ choice_in rows v
+choice-cond : (t b : Bool) (r : ℕ × Option ℕ) (xs rows : ClaimRows) (v : ℕ) → (r.0 == v) ≡ t → (t ≡ true → b ≡ true)
+    → choice_in xs v ≡ choice_in rows v
     → choice_in (cond b (r ∷ xs) xs) v ≡ choice_in (r ∷ rows) v
 choice-cond true b r xs rows v e f c = rw (f refl, e) refl
 choice-cond false true r xs rows v e f c = rw e c
@@ -70,8 +72,8 @@ kept_of_rest g p st rows v w (i, m) =
     kept_same g p (named (rest_of st rows)) (choice_in (rest_of st rows)) (choice_in rows) v w (sym (choice_rest st rows v (in_rest st rows v i).1)) i m
 
 -- and the other way round
-pub kept_rest : (g : Graph) (p : Player) (st : State) (rows : ClaimRows) (v w : ℕ) → KeptEdge g p (named (rest_of st rows)) (choice_in (rest_of st rows)) v w
-    → KeptEdge g p (named (rest_of st rows)) (choice_in rows) v w
+pub kept_rest : (g : Graph) (p : Player) (st : State) (rows : ClaimRows) (v w : ℕ)
+    → KeptEdge g p (named (rest_of st rows)) (choice_in (rest_of st rows)) v w → KeptEdge g p (named (rest_of st rows)) (choice_in rows) v w
 kept_rest g p st rows v w (i, m) =
     kept_same g p (named (rest_of st rows)) (choice_in rows) (choice_in (rest_of st rows)) v w (choice_rest st rows v (in_rest st rows v i).1) i m
 
@@ -98,12 +100,15 @@ rest_is_good g st p rows h = record {
     nonempty = h.not_stale;
     right = rest_right g p st rows h.shape.right;
   };
-  good = λ walk c. h.good walk (ClosedWalk-weaker (KeptEdge g p (named (rest_of st rows)) (choice_in (rest_of st rows))) (KeptEdge g p (named rows) (choice_in rows))
+  good =
+      λ walk c. h.good walk (ClosedWalk-weaker (KeptEdge g p (named (rest_of st rows)) (choice_in (rest_of st rows)))
+      (KeptEdge g p (named rows) (choice_in rows))
       (λ v w k. let k' = kept_rest g p st rows v w k in ((in_rest st rows v k'.0).0, k'.1)) walk c);
   not_lost = λ v i. h.not_lost v (in_rest st rows v i).0;
   not_stale = rw (rest_twice st rows) h.not_stale;
   closed = λ v w k.
       let e = rest_twice st rows in
-      let k1 : KeptEdge g p (named (rest_of st rows)) (choice_in (rest_of st rows)) v w = subst (λ xs. KeptEdge g p (named xs) (choice_in (rest_of st rows)) v w) e k in
+      let k1 : KeptEdge g p (named (rest_of st rows)) (choice_in (rest_of st rows)) v w =
+      subst (λ xs. KeptEdge g p (named xs) (choice_in (rest_of st rows)) v w) e k in
       subst (λ xs. In (union (named xs) (settled st p)) w) (sym e) (h.closed v w (kept_rest g p st rows v w k1));
 }

@@ -1,6 +1,6 @@
 -- The places of a rest in the making.
-use Rattle.std.proofs.Common.{◌≡◌, ℕ, ◌+◌, ◌<◌, true, false, inl, inr, List, [], ◌∷◌, ◌++◌, length, take, get_or, set, refl, sym, ◌∙◌, ap, subst, arith, length-append, get_or-set_same, get_or-set_other}
-use Rattle.std.specs.Prelude.{Option, None, ◌==◌}
+use Rattle.std.proofs.Common.{◌≡◌, ℕ, ◌+◌, ◌<◌, true, false, inl, inr, List, [], ◌∷◌, ◌++◌, length, take, get_or, set, refl, sym}
+use Rattle.std.proofs.Common.{◌∙◌, ap, subst, arith, length-append, get_or-set_same, get_or-set_other, Option, None, ◌==◌}
 use Rattle.std.proofs.lemmas.Bool.{eqb-true, eq-eqb, cases_Bool}
 use Rattle.std.proofs.lemmas.List.{get_or_append_left, get_or_push}
 use Rattle.std.proofs.lemmas.List.Elements.{filter_more}
@@ -24,17 +24,23 @@ ArePlaced-push rest places r l a v i = elim (cases_Bool (r.0 == v)) [
   | inr e ↦ old e
 ]
   where
-    new : r.0 ≡ v → (get_or (set places r.0 (length rest)) v 0 < length (rest ++ r ∷ [])) × ((row_at (rest ++ r ∷ []) (get_or (set places r.0 (length rest)) v 0)).0 ≡ v)
+    new : r.0 ≡ v
+        → (get_or (set places r.0 (length rest)) v 0 < length (rest ++ r ∷ [])) ×
+        ((row_at (rest ++ r ∷ []) (get_or (set places r.0 (length rest)) v 0)).0 ≡ v)
     new same =
-        let at : get_or (set places r.0 (length rest)) v 0 ≡ length rest = subst (λ (x : ℕ). get_or (set places r.0 (length rest)) x 0 ≡ length rest) same (get_or-set_same places r.0 (length rest) 0 l) in
+        let at : get_or (set places r.0 (length rest)) v 0 ≡ length rest =
+        subst (λ (x : ℕ). get_or (set places r.0 (length rest)) x 0 ≡ length rest) same (get_or-set_same places r.0 (length rest) 0 l) in
         let row : row_at (rest ++ r ∷ []) (length rest) ≡ r = get_or_push rest r (0, None) (length rest) refl in
         (omega (arith, at, length-append rest (r ∷ [])), rw at (ap (λ (x : ℕ × Option ℕ). x.0) row ∙ same))
 
-    old : (r.0 == v) ≡ false → (get_or (set places r.0 (length rest)) v 0 < length (rest ++ r ∷ [])) × ((row_at (rest ++ r ∷ []) (get_or (set places r.0 (length rest)) v 0)).0 ≡ v)
+    old : (r.0 == v) ≡ false
+        → (get_or (set places r.0 (length rest)) v 0 < length (rest ++ r ∷ [])) ×
+        ((row_at (rest ++ r ∷ []) (get_or (set places r.0 (length rest)) v 0)).0 ≡ v)
     old e =
         let n : In (named rest) v = sym (or-false (named rest v)) ∙ rw e at (sym (named-push rest r v) ∙ i) in
         let q = a v n in
         let differ : v ≡ r.0 → ⊥ = λ h. (let t : (r.0 == v) ≡ true = eq-eqb r.0 v (sym h) in cc (t, e)) in
         let at : get_or (set places r.0 (length rest)) v 0 ≡ get_or places v 0 = get_or-set_other places r.0 v (length rest) 0 differ in
-        let row : row_at (rest ++ r ∷ []) (get_or places v 0) ≡ row_at rest (get_or places v 0) = get_or_append_left rest (r ∷ []) (0, None) (get_or places v 0) q.0 in
+        let row : row_at (rest ++ r ∷ []) (get_or places v 0) ≡ row_at rest (get_or places v 0) =
+        get_or_append_left rest (r ∷ []) (0, None) (get_or places v 0) q.0 in
         (omega (arith, at, q.0, length-append rest (r ∷ [])), rw at (ap (λ (x : ℕ × Option ℕ). x.0) row ∙ q.1))

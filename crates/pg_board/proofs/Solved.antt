@@ -1,7 +1,7 @@
 -- The state of a full journal is a solution.
 use mathlib.Core.Path.{fun_ext}
-use Rattle.std.proofs.Common.{◌≡◌, ◌≢◌, ℕ, zero, suc, ◌<◌, Bool, true, false, ◌&&◌, ◌||◌, inl, inr, [], ◌∷◌, ◌++◌, length, refl, sym, ◌∙◌, ap, subst, arith, lt-ltb, ltb-true}
-use Rattle.std.specs.Prelude.{Option, Some, None, nat_lt, slice_get, if◌then◌else◌}
+use Rattle.std.proofs.Common.{◌≡◌, ◌≢◌, ℕ, zero, suc, ◌<◌, Bool, true, false, ◌&&◌, ◌||◌, inl, inr, [], ◌∷◌, ◌++◌, length}
+use Rattle.std.proofs.Common.{refl, sym, ◌∙◌, ap, subst, arith, lt-ltb, ltb-true, Option, Some, None, nat_lt, slice_get, if◌then◌else◌}
 use Rattle.std.proofs.lemmas.Bool.{false_from_ne_true}
 use Rattle.std.proofs.lemmas.List.{take-append-drop}
 use Rattle.std.proofs.lemmas.Option.{slice_get-get_or}
@@ -17,7 +17,8 @@ use Rattle.pg_dominion.specs.Claim.{named, choice_in}
 use Rattle.pg_dominion.proofs.Rows.{named_right}
 use Rattle.pg_dominion.proofs.Named.{named-append, choice-front, choice-back, place_of}
 use Rattle.pg_board.specs.declared.entry.Entry.{Entry}
-use Rattle.pg_board.specs.State.{State, settled, settled_for, chosen, choices}
+use Rattle.pg_text.specs.Known.{is_winner, choice_in_row}
+use Rattle.pg_board.specs.State.{State, settled, choices}
 use Rattle.pg_board.specs.Journal.{Journal, state_of, claimed_rows, attracted_rows, IsLawful}
 use Rattle.pg_board.specs.Full.{AreStateRows}
 use Rattle.pg_board.proofs.Push.{region_same}
@@ -36,7 +37,8 @@ settling : (j : Journal) (v : ℕ) (r : Player × Option ℕ) → state_of j v �
 settling [] v r e = absurd (cc e)
 settling (x ∷ xs) v r e = go (named x.rows v) refl e (settling xs v r)
   where
-    go : (b : Bool) → named x.rows v ≡ b → (if b then Some (x.player, choice_in x.rows v) else state_of xs v) ≡ Some r → (state_of xs v ≡ Some r → Settling xs v r) → Settling (x ∷ xs) v r
+    go : (b : Bool) → named x.rows v ≡ b → (if b then Some (x.player, choice_in x.rows v) else state_of xs v) ≡ Some r
+        → (state_of xs v ≡ Some r → Settling xs v r) → Settling (x ∷ xs) v r
     go true n h later = record { at = zero; entry = x; found = refl; names = n; said = cc h }
     go false n h later = (let q = later h in record { at = suc q.at; entry = q.entry; found = q.found; names = q.names; said = q.said })
 
@@ -45,14 +47,17 @@ module _ (g : Graph) (j : Journal) (lawful : IsLawful g j) where
   st = state_of j
 
   -- no choice stands where the winner isn't the owner
-  entry_none : (k : ℕ) (e : Entry) → slice_get j k ≡ Some e → (v : ℕ) → named e.rows v ≡ true → owner_of g v ≢ e.player → choice_in e.rows v ≡ None
+  entry_none : (k : ℕ) (e : Entry) → slice_get j k ≡ Some e → (v : ℕ) → named e.rows v ≡ true → owner_of g v ≢ e.player
+      → choice_in e.rows v ≡ None
   entry_none k e at v i other = go (named (claimed_rows e) v) refl
     where
       split : e.rows ≡ claimed_rows e ++ attracted_rows e
       split = sym (take-append-drop e.claimed e.rows)
 
       attracted : named (claimed_rows e) v ≡ false → named (attracted_rows e) v ≡ true
-      attracted f = (let h : (named (claimed_rows e) v || named (attracted_rows e) v) ≡ true = sym (named-append (claimed_rows e) (attracted_rows e) v) ∙ (ap (λ xs. named xs v) (sym split) ∙ i) in
+      attracted f =
+          (let h : (named (claimed_rows e) v || named (attracted_rows e) v) ≡ true = sym (named-append (claimed_rows e) (attracted_rows e) v) ∙
+          (ap (λ xs. named xs v) (sym split) ∙ i) in
           let n : (false || named (attracted_rows e) v) ≡ true = rw f at h in n)
 
       forced : (n : named (attracted_rows e) v ≡ true) → choice_in (attracted_rows e) v ≡ None
@@ -79,12 +84,15 @@ module _ (g : Graph) (j : Journal) (lawful : IsLawful g j) where
     won p = fun_ext (λ v. go v (nat_lt v (length g)) refl)
       where
         go : (v : ℕ) (b : Bool) → nat_lt v (length g) ≡ b → settled st p v ≡ (nat_lt v (length rows) && same_player (winner_of rows v) p)
-        go v true e = rw (are.size, e) (ap (settled_for p) (said v (ltb-true v (length g) e)))
-        go v false e = rw (are.size, e) (false_from_ne_true (settled st p v) (λ t. (let i : nat_lt v (length g) ≡ true = ((lawful_now g j lawful).regions p).vertices v t in cc (i, e))))
+        go v true e = rw (are.size, e) (ap (is_winner p) (said v (ltb-true v (length g) e)))
+        go v false e =
+            rw (are.size, e) (false_from_ne_true (settled st p v)
+            (λ t. (let i : nat_lt v (length g) ≡ true = ((lawful_now g j lawful).regions p).vertices v t in cc (i, e))))
 
     regions : (p : Player) → IsRegion g p (won_by rows p) (choice_of rows)
     regions p = subst (λ (X : VertexSet). IsRegion g p X (choice_of rows)) (won p)
-        (region_same g p (settled st p) (choices st) (choice_of rows) (λ v i. sym (ap chosen (said v (ltb-true v (length g) (((lawful_now g j lawful).regions p).vertices v i)))))
+        (region_same g p (settled st p) (choices st) (choice_of rows)
+        (λ v i. sym (ap choice_in_row (said v (ltb-true v (length g) (((lawful_now g j lawful).regions p).vertices v i)))))
         ((lawful_now g j lawful).regions p))
 
     winner_wins : (p : Player) (v : ℕ) → v < length g → winner_of rows v ≡ p → Wins g p v

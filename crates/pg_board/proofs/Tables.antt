@@ -1,6 +1,6 @@
 -- A vertex is settled in the tables: what they say then.
-use Rattle.std.proofs.Common.{◌≡◌, ℕ, ◌<◌, Bool, true, false, ◌&&◌, ◌||◌, [], ◌∷◌, ◌++◌, length, set, refl, sym, ◌∙◌, ap, arith, length-set}
-use Rattle.std.specs.Prelude.{Option, Some, None, ◌==◌, nat_lt, slice_index, if◌then◌else◌}
+use Rattle.std.proofs.Common.{◌≡◌, ℕ, ◌<◌, Bool, true, false, ◌&&◌, ◌||◌, [], ◌∷◌, ◌++◌, length, set, refl, sym, ◌∙◌, ap}
+use Rattle.std.proofs.Common.{arith, length-set, Option, Some, None, ◌==◌, nat_lt, slice_index, if◌then◌else◌}
 use Rattle.std.proofs.lemmas.Bool.{eqb-true, eq-eqb}
 use Rattle.std.proofs.Math.Bool.{and-false}
 use Rattle.pg_game.specs.declared.player.Player.{Player}
@@ -14,14 +14,15 @@ use Rattle.pg_board.specs.State.{State, is_unsettled, unsettled}
 use Rattle.pg_board.specs.private.Regions.{table_state, state_with, AreRegions}
 
 -- one more row
-pub state_with-push : (st : State) (p : Player) (rows : ClaimRows) (r : ℕ × Option ℕ) → is_unsettled (st r.0) ≡ true → named rows r.0 ≡ false → (v : ℕ)
-    → state_with st p (rows ++ r ∷ []) v ≡ (if r.0 == v then Some (p, r.1) else state_with st p rows v)
+pub state_with-push : (st : State) (p : Player) (rows : ClaimRows) (r : ℕ × Option ℕ) → is_unsettled (st r.0) ≡ true → named rows r.0 ≡ false
+    → (v : ℕ) → state_with st p (rows ++ r ∷ []) v ≡ (if r.0 == v then Some (p, r.1) else state_with st p rows v)
 state_with-push st p rows r u n v = go (r.0 == v) refl
   where
     with_choice : (c : Option ℕ) → choice_in (rows ++ r ∷ []) r.0 ≡ c → state_with st p (rows ++ r ∷ []) r.0 ≡ Some (p, c)
     with_choice c e = rw (u, named-push rows r r.0, n, eq-eqb r.0 r.0 refl, e) refl
 
-    other : (b : Bool) (c c' : Option ℕ) (o : Option (Player × Option ℕ)) → c ≡ c' → (if is_unsettled o then (if b || false then Some (p, c) else None) else o) ≡ (if is_unsettled o then (if b then Some (p, c') else None) else o)
+    other : (b : Bool) (c c' : Option ℕ) (o : Option (Player × Option ℕ)) → c ≡ c'
+        → (if is_unsettled o then (if b || false then Some (p, c) else None) else o) ≡ (if is_unsettled o then (if b then Some (p, c') else None) else o)
     other true c c' None e = rw e refl
     other false c c' None e = refl
     other b c c' (Some a) e = refl
@@ -70,15 +71,19 @@ module _ (g : Graph) (r r' : Regions) (p : Player) (row : ℕ × Option ℕ) (h 
           either true e = refl
           either false e = e
 
-      go : (v : ℕ) (b : Bool) → members r.unsettled v ≡ unsettled g (table_state r.table.items) v → (if b then false else members r.unsettled v) ≡ (nat_lt v (length g) && is_unsettled (if b then Some (p, row.1) else table_state r.table.items v))
+      go : (v : ℕ) (b : Bool) → members r.unsettled v ≡ unsettled g (table_state r.table.items) v
+          → (if b then false else members r.unsettled v) ≡
+          (nat_lt v (length g) && is_unsettled (if b then Some (p, row.1) else table_state r.table.items v))
       go v true e = sym (and-false (nat_lt v (length g)))
       go v false e = e
 
   -- with the rows so far
-  pub told-push : (st : State) (rows : ClaimRows) → ((v : ℕ) → table_state r.table.items v ≡ state_with st p rows v) → is_unsettled (st row.0) ≡ true
-      → named rows row.0 ≡ false → (v : ℕ) → table_state r'.table.items v ≡ state_with st p (rows ++ row ∷ []) v
+  pub told-push : (st : State) (rows : ClaimRows) → ((v : ℕ) → table_state r.table.items v ≡ state_with st p rows v)
+      → is_unsettled (st row.0) ≡ true → named rows row.0 ≡ false → (v : ℕ)
+      → table_state r'.table.items v ≡ state_with st p (rows ++ row ∷ []) v
   told-push st rows told u n v = told-settle v ∙ (go (row.0 == v) (told v) ∙ sym (state_with-push st p rows row u n v))
     where
-      go : (b : Bool) → table_state r.table.items v ≡ state_with st p rows v → (if b then Some (p, row.1) else table_state r.table.items v) ≡ (if b then Some (p, row.1) else state_with st p rows v)
+      go : (b : Bool) → table_state r.table.items v ≡ state_with st p rows v
+          → (if b then Some (p, row.1) else table_state r.table.items v) ≡ (if b then Some (p, row.1) else state_with st p rows v)
       go true e = refl
       go false e = e

@@ -1,11 +1,12 @@
 -- Attracted rows never name a vertex of a region of the opponent.
-use Rattle.std.proofs.Common.{◌≡◌, ℕ, Bool, true, false, ◌||◌, inl, inr, [], ◌∷◌, ◌++◌, refl, sym, ◌∙◌, subst, append_assoc, ◌<◌, length}
+use Rattle.std.proofs.Common.{◌≡◌, ℕ, Bool, true, false, inl, inr, [], ◌∷◌, ◌++◌, refl, sym, ◌∙◌, subst, append_assoc, ltb-true, length}
 use Rattle.std.specs.Prelude.{Option, ◌==◌}
-use Rattle.std.proofs.lemmas.Bool.{eqb-true}
+use Rattle.std.proofs.lemmas.Bool.{eqb-true, or_cases, or_left, or_right}
 use Rattle.std.proofs.lemmas.List.{append-nil}
 use Rattle.pg_game.specs.declared.player.Player.{Player}
 use Rattle.pg_game.specs.Player.{opponent, same_player}
-use Rattle.pg_game.specs.Graph.{Graph, HasEdge, owner_of}
+use Rattle.pg_game.specs.Graph.{Graph, IsGame, owner_of}
+use Rattle.pg_game.proofs.Edges.{edge_inside}
 use Rattle.pg_game.specs.VertexSet.{VertexSet, In, all_vertices, union}
 use Rattle.pg_game.specs.Kept.{Choices}
 use Rattle.pg_game.specs.Region.{IsRegion}
@@ -13,23 +14,15 @@ use Rattle.pg_game.proofs.Disjoint.{kept_own, kept_other}
 use Rattle.pg_game.proofs.Players.{own_or_other, not_own, is_same, not_same}
 use Rattle.pg_dominion.specs.Claim.{ClaimRows, named}
 use Rattle.pg_dominion.specs.Attraction.{IsAttractedRow, AttractInTurn}
-use Rattle.pg_dominion.proofs.Named.{named-append}
-
--- each edge ends at a vertex of the game
-abbrev pub EdgesStay : Graph → Type 0
-EdgesStay g = (v w : ℕ) → v < length g → HasEdge g v w → In (all_vertices g) w
-
--- each vertex has an edge
-abbrev pub EachHasEdge : Graph → Type 0
-EachHasEdge g = (v : ℕ) → v < length g → (w : ℕ) × HasEdge g v w
+use Rattle.pg_dominion.proofs.Rows.{named-push}
 
 pub differs : (p : Player) (q : Player) → q ≡ p → same_player q (opponent p) ≡ false
 differs p q e = not_same q (opponent p) (λ h. not_own p q h e)
 
-module _ (g : Graph) (p : Player) (S V : VertexSet) (s : Choices) (other : IsRegion g (opponent p) V s) (inside : (v w : ℕ) → In V v → HasEdge g v w → In (all_vertices g) w) where
+module _ (g : Graph) (game : IsGame g) (p : Player) (S V : VertexSet) (s : Choices) (other : IsRegion g (opponent p) V s) where
   -- a row that leads away from the region names none of its vertices
-  leads_away : (T : VertexSet) (r : ℕ × Option ℕ) → IsAttractedRow g p (all_vertices g) T r → ((v : ℕ) → In T v → V v ≡ false) → (b : Bool) → V r.0 ≡ b
-      → V r.0 ≡ false
+  leads_away : (T : VertexSet) (r : ℕ × Option ℕ) → IsAttractedRow g p (all_vertices g) T r → ((v : ℕ) → In T v → V v ≡ false) → (b : Bool)
+      → V r.0 ≡ b → V r.0 ≡ false
   leads_away T r l away false e = e
   leads_away T r l away true e = absurd (elim (own_or_other (owner_of g r.0) p) [
     | inl o ↦ (let c = l.own o in
@@ -38,25 +31,24 @@ module _ (g : Graph) (p : Player) (S V : VertexSet) (s : Choices) (other : IsReg
     | inr o ↦ (let c = other.choices r.0 e o in
         let i : V c.0 ≡ true = other.closed r.0 c.0 (kept_own g (opponent p) V s r.0 c.0 e (is_same (owner_of g r.0) (opponent p) o) c.1) in
         let f = l.forced (not_own p (owner_of g r.0) o) in
-        cc (i, away c.0 (f.1 c.0 c.2 (inside r.0 c.0 e c.2))))
+        cc (i, away c.0 (f.1 c.0 c.2 (edge_inside g game r.0 c.0 (ltb-true r.0 (length g) (other.vertices r.0 e)) c.2))))
   ])
 
   abbrev At : ClaimRows → VertexSet
   At done = union S (named done)
 
-  more : (done : ClaimRows) (r : ℕ × Option ℕ) → ((v : ℕ) → In (At done) v → V v ≡ false) → V r.0 ≡ false → (v : ℕ) → In (At (done ++ r ∷ [])) v → V v ≡ false
-  more done r away new v i = go (S v) (named done v) (r.0 == v) refl refl refl
-    where
-      go : (a b c : Bool) → S v ≡ a → named done v ≡ b → (r.0 == v) ≡ c → V v ≡ false
-      go true b c x y z = away v (rw x refl)
-      go false true c x y z = away v (rw (x, y) refl)
-      go false false true x y z = subst (λ u. V u ≡ false) (eqb-true r.0 v z) new
-      go false false false x y z = absurd (let j : named (done ++ r ∷ []) v ≡ true = rw x at i in
-          let k : (named done v || ((r.0 == v) || false)) ≡ true = sym (named-append done (r ∷ []) v) ∙ j in
-          let l : false ≡ true = rw (y, z) at k in cc l)
+  more : (done : ClaimRows) (r : ℕ × Option ℕ) → ((v : ℕ) → In (At done) v → V v ≡ false) → V r.0 ≡ false → (v : ℕ)
+      → In (At (done ++ r ∷ [])) v → V v ≡ false
+  more done r away new v i = elim (or_cases (S v) (named (done ++ r ∷ []) v) i) [
+    | inl a ↦ away v (or_left (S v) (named done v) a)
+    | inr n ↦ elim (or_cases (named done v) (r.0 == v) (sym (named-push done r v) ∙ n)) [
+      | inl a ↦ away v (or_right (S v) (named done v) a)
+      | inr e ↦ subst (λ u. V u ≡ false) (eqb-true r.0 v e) new
+    ]
+  ]
 
-  pub avoid : (rows done rest : ClaimRows) → AttractInTurn g p (all_vertices g) S rows → rows ≡ done ++ rest → ((v : ℕ) → In (At done) v → V v ≡ false)
-      → (v : ℕ) → In (At rows) v → V v ≡ false
+  pub avoid : (rows done rest : ClaimRows) → AttractInTurn g p (all_vertices g) S rows → rows ≡ done ++ rest
+      → ((v : ℕ) → In (At done) v → V v ≡ false) → (v : ℕ) → In (At rows) v → V v ≡ false
   avoid rows done [] turns e away v i = away v (subst (λ xs. In (At xs) v) (e ∙ append-nil done) i)
   avoid rows done (r ∷ rest) turns e away v i =
       let new = leads_away (At done) r (turns done rest r e) away (V r.0) refl in

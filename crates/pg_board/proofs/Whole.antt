@@ -1,12 +1,12 @@
 -- What a player attracts to some unsettled vertices in the unsettled part is, beside his region, all that his
 -- region and these vertices attract in the whole game.
-use Rattle.std.proofs.Common.{◌≡◌, ℕ, Bool, true, false, ◌⊎◌, inl, inr, length, refl, sym, ◌∙◌, ltb-true}
+use Rattle.std.proofs.Common.{◌≡◌, ℕ, Bool, true, false, ◌⊎◌, inl, inr, length, refl, sym, ◌∙◌, ltb-true, Option, nat_lt}
 use Rattle.std.proofs.lemmas.Bool.{and_parts, or_left, or_right, or_cases}
 use Rattle.std.proofs.Math.Bool.{or_assoc}
-use Rattle.std.specs.Prelude.{Option, nat_lt}
 use Rattle.pg_game.specs.declared.player.Player.{Player}
 use Rattle.pg_game.specs.Player.{opponent}
-use Rattle.pg_game.specs.Graph.{Graph, HasEdge, owner_of}
+use Rattle.pg_game.specs.Graph.{Graph, IsGame, HasEdge, owner_of}
+use Rattle.pg_game.proofs.Edges.{edge_inside}
 use Rattle.pg_game.specs.VertexSet.{VertexSet, In, Within, all_vertices, union}
 use Rattle.pg_game.specs.Attractor.{Attracts, Attractor}
 use Rattle.pg_game.specs.Region.{IsRegion}
@@ -18,9 +18,9 @@ use Rattle.pg_dominion.specs.Attraction.{IsAttractedRow, IsAttraction}
 use Rattle.pg_dominion.proofs.Rows.{LeadsTo-same}
 use Rattle.pg_board.specs.State.{State, settled, choices, is_unsettled, unsettled, IsLawfulState}
 use Rattle.pg_board.proofs.Push.{open_unsettled, neither_open, not_both}
-use Rattle.pg_board.proofs.Turns.{EdgesStay, differs}
+use Rattle.pg_board.proofs.Turns.{differs}
 
-module _ (g : Graph) (edges : EdgesStay g) (st : State) (lawful : IsLawfulState g st) (p : Player) where
+module _ (g : Graph) (game : IsGame g) (st : State) (lawful : IsLawfulState g st) (p : Player) where
   abbrev U : VertexSet
   U = unsettled g st
 
@@ -46,12 +46,13 @@ module _ (g : Graph) (edges : EdgesStay g) (st : State) (lawful : IsLawfulState 
   all_of v u = (and_parts (nat_lt v (length g)) (is_unsettled (st v)) u).0
 
   edge_in : (v w : ℕ) → In (all_vertices g) v → HasEdge g v w → In (all_vertices g) w
-  edge_in v w i e = edges v w (ltb-true v (length g) i) e
+  edge_in v w i e = edge_inside g game v w (ltb-true v (length g) i) e
 
   -- from an unsettled vertex of the opponent no edge leads into the opponent's region
   pub not_to_other : (v w : ℕ) → In U v → owner_of g v ≡ opponent p → HasEdge g v w → In Other w → ⊥
   not_to_other v w u o e i =
-      let a = lawful.attracted (opponent p) v (own_attracted g (opponent p) (all_vertices g) Other v w (all_of v u) o e (target_attracted g (opponent p) (all_vertices g) Other w i)) in
+      let a = lawful.attracted (opponent p) v
+      (own_attracted g (opponent p) (all_vertices g) Other v w (all_of v u) o e (target_attracted g (opponent p) (all_vertices g) Other w i)) in
       let f = open_unsettled (opponent p) (st v) (open_of v u) in cc (a, f)
 
   -- nor from one of the player into the player's
@@ -61,8 +62,8 @@ module _ (g : Graph) (edges : EdgesStay g) (st : State) (lawful : IsLawfulState 
       let f = open_unsettled p (st v) (open_of v u) in cc (a, f)
 
   -- the opponent can't leave his part of the edges into the player's set
-  in_set : (S : VertexSet) → Within Own S → (v : ℕ) → In U v → owner_of g v ≡ opponent p → ((w : ℕ) → HasEdge g v w → In U w → In S w) → (w : ℕ) → HasEdge g v w
-      → In S w
+  in_set : (S : VertexSet) → Within Own S → (v : ℕ) → In U v → owner_of g v ≡ opponent p → ((w : ℕ) → HasEdge g v w → In U w → In S w)
+      → (w : ℕ) → HasEdge g v w → In S w
   in_set S own v u o h w e = elim (part_of w (edge_in v w (all_of v u) e)) [
     | inl a ↦ elim a [ inl i ↦ own w i | inr i ↦ absurd (not_to_other v w u o e i) ]
     | inr i ↦ h w e i
@@ -119,7 +120,8 @@ module _ (g : Graph) (edges : EdgesStay g) (st : State) (lawful : IsLawfulState 
       own = λ v w i o e h. elim (part_of v i) [
         | inl x ↦ elim x [
           | inl b ↦ or_left (settled st p v) (Taken v) b
-          | inr b ↦ absurd (not_other Taken taken_inside w h (other.closed v w (kept_other g (opponent p) Other (choices st) v w b (differs p (owner_of g v) o) e)))
+          | inr b ↦ absurd (not_other Taken taken_inside w h
+              (other.closed v w (kept_other g (opponent p) Other (choices st) v w b (differs p (owner_of g v) o) e)))
         ]
         | inr u ↦ elim (or_cases (settled st p w) (Taken w) h) [
           | inl b ↦ absurd (not_to_own v w u o e b)

@@ -1,5 +1,6 @@
 -- A board's journal: what was posted, the oldest first.
-use Rattle.std.specs.Prelude.{ℕ, ◌≡◌, ◌≤◌, ◌==◌, ◌↔◌, if◌then◌else◌, List, [], ◌∷◌, length, take, drop, map, flat_map, sum_by, filter, slice_get, nat_eq, Some, None}
+use Rattle.std.specs.Prelude.{ℕ, ◌≡◌, ◌≤◌, ◌==◌, ◌↔◌, if◌then◌else◌, List, [], ◌∷◌, length, take, drop, map, flat_map}
+use Rattle.std.specs.Prelude.{sum_by, filter, slice_get, nat_eq, Some, None}
 use Rattle.std.specs.List.{IsDistinct}
 use Rattle.pg_game.specs.declared.player.Player.{Player}
 use Rattle.pg_game.specs.Graph.{Graph}

@@ -6,12 +6,10 @@ use Rattle.pg_game.specs.Graph.{Graph, IsGame}
 use Rattle.pg_game.specs.Limits.{IsWithinLimits}
 use Rattle.pg_game.specs.VertexSet.{members}
 use Rattle.pg_finders.specs.Part.{Part}
-use Rattle.pg_finders.specs.declared.inside.Copied.{Copied}
 use Rattle.pg_dominion.specs.Claim.{ClaimRows}
 use Rattle.pg_dominion.specs.Checked.{CheckedClaim, claim_rows, AgreesWithGame}
 use Rattle.pg_board.specs.declared.entry.Entry.{Entry}
 use Rattle.pg_board.specs.declared.refusal.Refusal.{Refusal}
-use Rattle.pg_board.specs.Play.{Play}
 use Rattle.pg_board.specs.State.{unsettled, IsGoodOn}
 use Rattle.pg_board.specs.Journal.{Journal, state_of, Answers, IsLawful, number_settled}
 use Rattle.pg_board.specs.Refusal.{Refuses, RefusesChecked}
@@ -24,7 +22,8 @@ pub record IsCopyOf (journal : Journal) (part : Part) (at settled : ℕ) : Type 
 
 -- a copy of some lawful board with at least the amount settled
 abbrev pub IsCopyOfSome : Part → ℕ → ℕ → ℕ → Type 0
-IsCopyOfSome part at settled amount = (journal : Journal) × IsWithinLimits part.graph × IsLawful part.graph journal × IsCopyOf journal part at settled × (amount ≤ settled)
+IsCopyOfSome part at settled amount =
+    (journal : Journal) × IsWithinLimits part.graph × IsLawful part.graph journal × IsCopyOf journal part at settled × (amount ≤ settled)
 
 -- what a board may answer to the claim, of a posted entry its rows alone
 abbrev pub IsPostAnswer : Graph → Journal → Player → ClaimRows → Result ℕ Refusal → Type 0
@@ -33,7 +32,8 @@ IsPostAnswer g journal p rows (Err fault) = Refuses g (state_of journal) p rows 
 
 -- an answer of some lawful board with at least the amount settled
 abbrev pub IsAnswerOfSome : ℕ → Player → ClaimRows → Result ℕ Refusal → Type 0
-IsAnswerOfSome amount p rows r = (g : Graph) × (journal : Journal) × IsGame g × IsWithinLimits g × IsLawful g journal × (amount ≤ number_settled journal) × IsPostAnswer g journal p rows r
+IsAnswerOfSome amount p rows r =
+    (g : Graph) × (journal : Journal) × IsGame g × IsWithinLimits g × IsLawful g journal × (amount ≤ number_settled journal) × IsPostAnswer g journal p rows r
 
 -- the same for a checked claim
 abbrev pub IsCheckedAnswer : Graph → Journal → CheckedClaim → Result ℕ Refusal → Type 0
@@ -41,4 +41,5 @@ IsCheckedAnswer g journal c (Ok n) = AgreesWithGame g c.player c.rows × IsPostA
 IsCheckedAnswer g journal c (Err fault) = RefusesChecked g (state_of journal) c fault
 
 abbrev pub IsCheckedAnswerOfSome : ℕ → CheckedClaim → Result ℕ Refusal → Type 0
-IsCheckedAnswerOfSome amount c r = (g : Graph) × (journal : Journal) × IsGame g × IsWithinLimits g × IsLawful g journal × (amount ≤ number_settled journal) × IsCheckedAnswer g journal c r
+IsCheckedAnswerOfSome amount c r =
+    (g : Graph) × (journal : Journal) × IsGame g × IsWithinLimits g × IsLawful g journal × (amount ≤ number_settled journal) × IsCheckedAnswer g journal c r

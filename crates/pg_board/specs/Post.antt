@@ -36,7 +36,8 @@ AnswersDominion st rows (Err (refusal.Open v w)) = ⊥
 
 -- the player then has what his old vertices and the claim's attract, and the opponent what he had
 pub record SettlesDominion (old new : Play) (p : Player) (rows : ClaimRows) : Type 0 where
-  pub own : (v : ℕ) → In (settled (state_of new.journal) p) v ↔ Attractor old.graph p (all_vertices old.graph) (union (settled (state_of old.journal) p) (named rows)) v
+  pub own : (v : ℕ) → In (settled (state_of new.journal) p) v ↔ Attractor old.graph p (all_vertices old.graph)
+      (union (settled (state_of old.journal) p) (named rows)) v
   pub other : (v : ℕ) → settled (state_of new.journal) (opponent p) v ≡ settled (state_of old.journal) (opponent p) v
 
 abbrev pub SettlesUnlessMemory : Play → Play → Player → ClaimRows → Result Posted Refusal → Type 0

@@ -1,37 +1,30 @@
 -- What a board has settled.
 use Rattle.std.specs.Prelude.{ℕ, ◌≡◌, ◌<◌, ◌&&◌, Bool, true, false, nat_lt, length, Option, Some, None, filter}
 use Rattle.pg_game.specs.declared.player.Player.{Player}
-use Rattle.pg_game.specs.Player.{opponent, same_player}
+use Rattle.pg_game.specs.Player.{opponent}
 use Rattle.pg_game.specs.Graph.{Graph}
 use Rattle.pg_game.specs.VertexSet.{VertexSet, In, Within, all_vertices, union}
 use Rattle.pg_game.specs.Kept.{Choices, KeptEdge}
 use Rattle.pg_game.specs.Subgame.{IsSubgame}
 use Rattle.pg_game.specs.Attractor.{Attractor}
 use Rattle.pg_game.specs.Region.{IsRegion, OnlyGoodWalks}
+use Rattle.pg_text.specs.Known.{is_winner, choice_in_row}
 use Rattle.pg_dominion.specs.Claim.{ClaimRows, named, choice_in, HasShape}
 
 -- the player and the choice of each settled vertex
 abbrev pub State : Type 0
 State = ℕ → Option (Player × Option ℕ)
 
-abbrev pub settled_for : Player → Option (Player × Option ℕ) → Bool
-settled_for p None = false
-settled_for p (Some r) = same_player r.0 p
-
 -- the vertices that are settled for the player
 abbrev pub settled : State → Player → VertexSet
-settled st p v = settled_for p (st v)
+settled st p v = is_winner p (st v)
 
 abbrev pub winner_in : Option (Player × Option ℕ) → Option Player
 winner_in None = None
 winner_in (Some r) = Some r.0
 
-abbrev pub chosen : Option (Player × Option ℕ) → Option ℕ
-chosen None = None
-chosen (Some r) = r.1
-
 abbrev pub choices : State → Choices
-choices st v = chosen (st v)
+choices st v = choice_in_row (st v)
 
 abbrev pub is_unsettled : Option (Player × Option ℕ) → Bool
 is_unsettled None = true

@@ -86,7 +86,8 @@ impl<'g> Board<'g> {
         ensures mask { IfOk result (λ c. (v : ℕ) → members c.inside.mask v ≡ unsettled self.now.graph (state_of self.now.journal) v) }
         ensures at { IfOk result (λ c. c.at ≡ length self.now.journal) }
         ensures settled { IfOk result (λ c. c.settled ≡ number_settled self.now.journal) }
-        ensures dominions { IfOk result (λ c. (p : Player) (rows : ClaimRows) → IsGoodIn self.now.graph (members c.inside.mask) p rows → IsDominionAfter self.now.graph self.now.journal c.at p rows) }
+        ensures dominions { IfOk result (λ c. (p : Player) (rows : ClaimRows) → IsGoodIn self.now.graph (members c.inside.mask) p rows
+            → IsDominionAfter self.now.graph self.now.journal c.at p rows) }
     {
         // for the proof: the graph is a game, so no edge leaves it
         let _n = self.game.len();
@@ -100,14 +101,16 @@ impl<'g> Board<'g> {
 
     /// Checks the claim on the present state. Accepted, the journal gains one entry: the claim's rest, and
     /// then all that it attracts for the claim's player from the unsettled part.
-    /// Refused for the first reason that applies, in the order of `Refusal`; then nothing has changed.
+    /// Refused for the first reason that applies, in the order of `Refusal`, or with `Memory`; then nothing has changed.
     pub fn post(&mut self, alloc: Global, worker: u32, claim: &Claim) -> Result<Posted, Refusal>
         ensures lawful { IsLawful self.new.graph self.new.journal }
         ensures game { self.new.graph ≡ self.old.graph }
-        ensures posted { IfOk result (λ posted. IsGoodOn self.old.graph (state_of self.old.journal) claim.now.player claim.now.rows × Adds self.old self.new worker claim.now posted) }
+        ensures posted { IfOk result (λ posted. IsGoodOn self.old.graph (state_of self.old.journal) claim.now.player claim.now.rows
+            × Adds self.old self.new worker claim.now posted) }
         ensures refused { IfErr result (λ e. Refuses self.old.graph (state_of self.old.journal) claim.now.player claim.now.rows e) }
         ensures unchanged { OnErr result (self.new ≡ self.old) }
-        ensures old_copies { (k : ℕ) → IsDominionAfter self.old.graph self.old.journal k claim.now.player claim.now.rows → AnswersDominion (state_of self.old.journal) claim.now.rows result × SettlesUnlessMemory self.old self.new claim.now.player claim.now.rows result }
+        ensures old_copies { (k : ℕ) → IsDominionAfter self.old.graph self.old.journal k claim.now.player claim.now.rows
+            → AnswersDominion (state_of self.old.journal) claim.now.rows result × SettlesUnlessMemory self.old self.new claim.now.player claim.now.rows result }
     {
         // for the proof: the graph is a game
         let _n = self.game.len();
@@ -126,10 +129,14 @@ impl<'g> Board<'g> {
         ensures lawful { IsLawful self.new.graph self.new.journal }
         ensures game { self.new.graph ≡ self.old.graph }
         ensures agrees { IfOk result (λ posted. AgreesWithGame self.old.graph checked.now.player checked.now.rows) }
-        ensures posted { IfOk result (λ posted. IsGoodOn self.old.graph (state_of self.old.journal) checked.now.player (claim_rows checked.now.player checked.now.rows) × Adds self.old self.new worker (claim_of checked.now) posted) }
+        ensures posted { IfOk result (λ posted. IsGoodOn self.old.graph (state_of self.old.journal) checked.now.player
+            (claim_rows checked.now.player checked.now.rows) × Adds self.old self.new worker (claim_of checked.now) posted) }
         ensures refused { IfErr result (λ e. RefusesChecked self.old.graph (state_of self.old.journal) checked.now e) }
         ensures unchanged { OnErr result (self.new ≡ self.old) }
-        ensures old_copies { (k : ℕ) → AgreesWithGame self.old.graph checked.now.player checked.now.rows → IsDominionAfter self.old.graph self.old.journal k checked.now.player (claim_rows checked.now.player checked.now.rows) → AnswersDominion (state_of self.old.journal) (claim_rows checked.now.player checked.now.rows) result × SettlesUnlessMemory self.old self.new checked.now.player (claim_rows checked.now.player checked.now.rows) result }
+        ensures old_copies { (k : ℕ) → AgreesWithGame self.old.graph checked.now.player checked.now.rows
+            → IsDominionAfter self.old.graph self.old.journal k checked.now.player (claim_rows checked.now.player checked.now.rows)
+            → AnswersDominion (state_of self.old.journal) (claim_rows checked.now.player checked.now.rows) result
+            × SettlesUnlessMemory self.old self.new checked.now.player (claim_rows checked.now.player checked.now.rows) result }
     {
         // for the proof: the graph is a game
         let _n = self.game.len();
@@ -143,7 +150,8 @@ impl<'g> Board<'g> {
     fn settle_sound(&mut self, alloc: Global, worker: u32, claim: &Claim) -> Result<Posted, Refusal>
         requires { IsSound self.old.graph claim.now.player claim.now.rows }
         ensures game { self.new.graph ≡ self.old.graph }
-        ensures posted { IfOk result (λ posted. IsGoodOn self.old.graph (state_of self.old.journal) claim.now.player claim.now.rows × Adds self.old self.new worker claim.now posted) }
+        ensures posted { IfOk result (λ posted. IsGoodOn self.old.graph (state_of self.old.journal) claim.now.player claim.now.rows
+            × Adds self.old self.new worker claim.now posted) }
         ensures refused { IfErr result (λ e. Refuses self.old.graph (state_of self.old.journal) claim.now.player claim.now.rows e) }
         ensures of_state { IfErr result IsOfState }
         ensures unchanged { OnErr result (self.new ≡ self.old) }
@@ -164,7 +172,8 @@ impl<'g> Board<'g> {
     ) -> Result<Posted, Refusal>
         requires { IsSound self.old.graph claim.now.player claim.now.rows }
         ensures game { self.new.graph ≡ self.old.graph }
-        ensures posted { IfOk result (λ posted. IsGoodOn self.old.graph (state_of self.old.journal) claim.now.player claim.now.rows × Adds self.old self.new worker claim.now posted) }
+        ensures posted { IfOk result (λ posted. IsGoodOn self.old.graph (state_of self.old.journal) claim.now.player claim.now.rows
+            × Adds self.old self.new worker claim.now posted) }
         ensures refused { IfErr result (λ e. Refuses self.old.graph (state_of self.old.journal) claim.now.player claim.now.rows e) }
         ensures of_state { IfErr result IsOfState }
         ensures unchanged { OnErr result (self.new ≡ self.old) }

@@ -74,7 +74,6 @@ impl Regions {
         ensures same { (v : ℕ) → open_before self.new rows.now v ≡ members self.old.unsettled v }
         ensures told { (v : ℕ) → table_state self.new.table.items v ≡ state_with (table_state self.old.table.items) player rows.now v }
     {
-        let _n = game.len();
         'rows: for row in rows {
             self.settle(player, *row);
         }

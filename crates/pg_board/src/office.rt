@@ -171,7 +171,8 @@ pub struct Office<'g, L: Ledger> {
 }
 
 impl<'g, L: Ledger> Office<'g, L> {
-    /// An office with a board on which nothing is settled, and one share of amount 0 for each seat.
+    /// An office with a board on which nothing is settled, and one share of amount 0 for each of 1 to 64 seats. `Memory` is
+    /// its one refusal.
     pub fn open(
         alloc: Global,
         blank: Blank,
@@ -188,7 +189,8 @@ impl<'g, L: Ledger> Office<'g, L> {
         Office::open_with(alloc, blank, board, seats)
     }
 
-    /// An office round a board, and one share for each seat: the first has the amount that is settled, the others 0.
+    /// An office round a board, and one share for each of 1 to 65 seats: the first has the amount that is settled, the others
+    /// 0. `Memory` is its one refusal.
     pub fn open_with(
         alloc: Global,
         blank: Blank,
@@ -250,9 +252,9 @@ impl<'g, L: Ledger> Office<'g, L> {
         board
     }
 
-    /// The board's post under the lock. It answers how many vertices were settled, and the share's amount rises by as
-    /// many; after a refusal the share is unchanged. The answer is one that the board's own call gives on some lawful
-    /// board with at least the share's amount settled.
+    /// The board's post under the lock, for which it waits as long as others hold it. It answers how many vertices were
+    /// settled, and the share's amount rises by as many; after a refusal the share is unchanged. The answer is one that the
+    /// board's own call gives on some lawful board with at least the share's amount settled.
     pub fn post<R: Wait>(
         &self,
         rt: &R,

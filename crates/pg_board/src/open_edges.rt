@@ -45,7 +45,10 @@ impl<'a> Bounds<'a> {
         requires size { length self.now.places.now ≡ length self.now.game.now }
         requires placed { HavePlaces self.now.rest.now self.now.places.now }
         requires right { IsRightRow self.now.game.now self.now.player row }
-        ensures { MatchOption result ((w : ℕ) → EndsOutside self.now.game.now self.now.player (union (named self.now.rest.now) (settled (table_state self.now.regions.now.table.items) self.now.player)) row w → ⊥) (IsFirstEnd self.now.game.now self.now.player (union (named self.now.rest.now) (settled (table_state self.now.regions.now.table.items) self.now.player)) row) }
+        ensures { MatchOption result ((w : ℕ) → EndsOutside self.now.game.now self.now.player
+            (union (named self.now.rest.now) (settled (table_state self.now.regions.now.table.items) self.now.player)) row w → ⊥)
+            (IsFirstEnd self.now.game.now self.now.player (union (named self.now.rest.now)
+            (settled (table_state self.now.regions.now.table.items) self.now.player)) row) }
     {
         // for the proof: the graph is a game, so successors rise
         let _n = self.game.len();
@@ -65,7 +68,10 @@ impl<'a> Bounds<'a> {
         requires size { length self.now.places.now ≡ length self.now.game.now }
         requires placed { HavePlaces self.now.rest.now self.now.places.now }
         requires right { AreRight self.now.game.now self.now.player rows.now }
-        ensures { MatchOption result ((v w : ℕ) → LeadsOutside self.now.game.now self.now.player (union (named self.now.rest.now) (settled (table_state self.now.regions.now.table.items) self.now.player)) rows.now v w → ⊥) (λ e. IsFirstOutside self.now.game.now self.now.player (union (named self.now.rest.now) (settled (table_state self.now.regions.now.table.items) self.now.player)) rows.now e.0 e.1) }
+        ensures { MatchOption result ((v w : ℕ) → LeadsOutside self.now.game.now self.now.player
+            (union (named self.now.rest.now) (settled (table_state self.now.regions.now.table.items) self.now.player)) rows.now v w → ⊥)
+            (λ e. IsFirstOutside self.now.game.now self.now.player
+            (union (named self.now.rest.now) (settled (table_state self.now.regions.now.table.items) self.now.player)) rows.now e.0 e.1) }
     {
         'rows: for row in rows {
             if let Some(w) = self.first_end(*row) {

@@ -3,7 +3,7 @@
 use pg_dominion::ClaimFault;
 use pg_game::Memory;
 
-/// Why a claim is refused, in the order in which the reasons are looked for.
+/// Why a claim is refused, in the order in which the reasons are looked for; `Memory` may stand in place of any.
 #[derive(Clone, Copy, Debug, Drop, PartialEq, Eq)]
 pub enum Refusal {
     /// The claim has not its shape, or a bad closed walk inside; never `ClaimFault::Memory`.
@@ -14,7 +14,7 @@ pub enum Refusal {
     Lost(u32),
     /// All vertices of the claim are settled for the player.
     Stale,
-    /// The first kept edge of the rest that ends neither in the rest nor at the player's vertices.
+    /// The first kept edge of the rest, from and to, that ends neither in the rest nor at the player's vertices.
     Open(u32, u32),
     /// Out of memory.
     Memory,

@@ -24,7 +24,8 @@ impl Regions {
     /// The least vertex of the claim that is settled for the opponent.
     pub fn first_lost(&self, claim: &Claim) -> Option<u32>
         requires { IsStrictlyIncreasing (map (λ r. r.0) claim.now.rows) }
-        ensures { MatchOption result (NoneHas (IsLost (table_state self.now.table.items) claim.now.player claim.now.rows)) (IsLeast (IsLost (table_state self.now.table.items) claim.now.player claim.now.rows)) }
+        ensures { MatchOption result (NoneHas (IsLost (table_state self.now.table.items) claim.now.player claim.now.rows))
+            (IsLeast (IsLost (table_state self.now.table.items) claim.now.player claim.now.rows)) }
     {
         let opponent = claim.player.other();
         'rows: for row in claim.rows.as_slice() {

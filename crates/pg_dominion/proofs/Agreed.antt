@@ -1,9 +1,9 @@
 -- Rows that are checked by themselves and agree with a game are a sound claim of it.
-use Rattle.std.proofs.Common.{◌≡◌, ◌≢◌, ℕ, zero, suc, Bool, true, false, List, [], ◌∷◌, length, map, max, refl, sym, ◌∙◌, ap, subst, arith}
+use Rattle.std.proofs.Common.{◌≡◌, ◌≢◌, ℕ, zero, suc, Bool, true, false, inl, inr, List, [], ◌∷◌, length, map, max, refl, sym, ◌∙◌, ap, subst, arith}
 use Rattle.std.specs.Prelude.{◌==◌}
 use Rattle.std.specs.List.{Contains, AllByRecursion}
 use Rattle.std.specs.List.Sorted.{IsStrictlyIncreasing}
-use Rattle.std.proofs.lemmas.Bool.{eqb-true}
+use Rattle.std.proofs.lemmas.Bool.{eqb-true, cases_Bool}
 use Rattle.pg_game.specs.declared.player.Player.{Player}
 use Rattle.pg_game.specs.Player.{same_player, of_parity}
 use Rattle.pg_game.specs.Graph.{Graph, owner_of, priority_of}
@@ -21,20 +21,25 @@ other_is q p e h = cc (is_same q p h, e)
 
 module _ (g : Graph) (p : Player) where
   abbrev Found : List CheckedRow → ℕ → Type 0
-  Found rows v = (r : CheckedRow) × Contains rows r × (r.vertex ≡ v) × AgreesAt g p r × (choice_in (claim_rows p rows) v ≡ (claim_row p r).1) × (row_priority rows v ≡ r.priority)
-
-  found_cons : (r : CheckedRow) (rows : List CheckedRow) (v : ℕ) → AgreesAt g p r → (In (named (claim_rows p rows)) v → Found rows v) → (b : Bool) → (r.vertex == v) ≡ b → In (named (claim_rows p (r ∷ rows))) v → Found (r ∷ rows) v
-  found_cons r rows v a rec true e i = (r, (zero, omega arith, refl), eqb-true r.vertex v e, a, rw e refl, rw e refl)
-  found_cons r rows v a rec false e i =
-      let j : In (named (claim_rows p rows)) v = rw e at i in
-      let f = rec j in
-      (f.0, (suc f.1.0, (let l = f.1.1 in omega (arith, l)), f.1.2), f.2, f.3, rw e f.4, rw e f.5)
+  Found rows v =
+      (r : CheckedRow) × Contains rows r × (r.vertex ≡ v) × AgreesAt g p r × (choice_in (claim_rows p rows) v ≡ (claim_row p r).1)
+      × (row_priority rows v ≡ r.priority)
 
   found : (rows : List CheckedRow) → AgreesWithGame g p rows → (v : ℕ) → In (named (claim_rows p rows)) v → Found rows v
   found [] a v i = absurd (cc i)
-  found (r ∷ rows) a v i = found_cons r rows v a.0 (found rows a.1 v) (r.vertex == v) refl i
+  found (r ∷ rows) a v i = elim (cases_Bool (r.vertex == v)) [
+    | inl e ↦ (r, (zero, omega arith, refl), eqb-true r.vertex v e, a.0, rw e refl, rw e refl)
+    | inr e ↦ (let j : In (named (claim_rows p rows)) v = rw e at i in
+        let f = found rows a.1 v j in
+        (f.0, (suc f.1.0, (let l = f.1.1 in omega (arith, l)), f.1.2), f.2, f.3, rw e f.4, rw e f.5))
+  ]
 
-  pub kept_cases : (s : Choices) (r : CheckedRow) → AgreesAt g p r → s r.vertex ≡ (claim_row p r).1 → (b : Bool) → same_player r.owner p ≡ b → kept g p s r.vertex ≡ r.kept
+  -- an edge that the claim of the rows keeps
+  abbrev pub ClaimEdge : List CheckedRow → ℕ → ℕ → Type 0
+  ClaimEdge rows = KeptEdge g p (named (claim_rows p rows)) (choice_in (claim_rows p rows))
+
+  pub kept_cases : (s : Choices) (r : CheckedRow) → AgreesAt g p r → s r.vertex ≡ (claim_row p r).1 → (b : Bool) → same_player r.owner p ≡ b
+      → kept g p s r.vertex ≡ r.kept
   kept_cases s r a e true c =
       let o = a.own (same_is r.owner p c) in
       let k : same_player (owner_of g r.vertex) p ≡ true = rw (← a.owner) c in
@@ -44,18 +49,21 @@ module _ (g : Graph) (p : Player) where
       let k : same_player (owner_of g r.vertex) p ≡ false = rw (← a.owner) c in
       rw k (sym (a.other (other_is r.owner p c)))
 
-  edge : (rows : List CheckedRow) → AgreesWithGame g p rows → (v w : ℕ) → KeptEdge g p (named (claim_rows p rows)) (choice_in (claim_rows p rows)) v w → RowEdge rows v w
+  edge : (rows : List CheckedRow) → AgreesWithGame g p rows → (v w : ℕ) → ClaimEdge rows v w → RowEdge rows v w
   edge rows a v w (i, k) =
       let f = found rows a v i in
-      let c : choice_in (claim_rows p rows) f.0.vertex ≡ (claim_row p f.0).1 = subst (λ x. choice_in (claim_rows p rows) x ≡ (claim_row p f.0).1) (sym f.2) f.4 in
+      let c : choice_in (claim_rows p rows) f.0.vertex ≡ (claim_row p f.0).1
+      = subst (λ x. choice_in (claim_rows p rows) x ≡ (claim_row p f.0).1) (sym f.2) f.4 in
       let q = kept_cases (choice_in (claim_rows p rows)) f.0 f.3 c (same_player f.0.owner p) refl in
-      let m : Contains (kept g p (choice_in (claim_rows p rows)) f.0.vertex) w = subst (λ x. Contains (kept g p (choice_in (claim_rows p rows)) x) w) (sym f.2) k in
+      let m : Contains (kept g p (choice_in (claim_rows p rows)) f.0.vertex) w
+      = subst (λ x. Contains (kept g p (choice_in (claim_rows p rows)) x) w) (sym f.2) k in
       (f.0, f.1, f.2, subst (λ l. Contains l w) q m)
 
   priority : (rows : List CheckedRow) → AgreesWithGame g p rows → (v : ℕ) → In (named (claim_rows p rows)) v → row_priority rows v ≡ priority_of g v
   priority rows a v i = let f = found rows a v i in f.5 ∙ (f.3.priority ∙ ap (priority_of g) f.2)
 
-  pub walk_priority : (rows : List CheckedRow) → AgreesWithGame g p rows → (v : ℕ) (vs : List ℕ) (last : ℕ) → Walk (KeptEdge g p (named (claim_rows p rows)) (choice_in (claim_rows p rows))) v vs last → greatest (row_priority rows) (v ∷ vs) ≡ greatest_priority g (v ∷ vs)
+  pub walk_priority : (rows : List CheckedRow) → AgreesWithGame g p rows → (v : ℕ) (vs : List ℕ) (last : ℕ) → Walk (ClaimEdge rows) v vs last
+      → greatest (row_priority rows) (v ∷ vs) ≡ greatest_priority g (v ∷ vs)
   walk_priority rows a v [] last e = ap (λ n. max n 0) (priority rows a v e.0)
   walk_priority rows a v (w ∷ ws) last (e, r) =
       let h = priority rows a v e.0 in
@@ -88,10 +96,11 @@ module _ (g : Graph) (p : Player) where
   rights [] a = tt
   rights (r ∷ rows) a = (right_cases r a.0 (same_player r.owner p) refl, rights rows a.1)
 
-  good_walk : (rows : List CheckedRow) → AreChecked p rows → AgreesWithGame g p rows → (walk : List ℕ) → ClosedWalk (KeptEdge g p (named (claim_rows p rows)) (choice_in (claim_rows p rows))) walk → of_parity (greatest_priority g walk) ≡ p
+  good_walk : (rows : List CheckedRow) → AreChecked p rows → AgreesWithGame g p rows → (walk : List ℕ) → ClosedWalk (ClaimEdge rows) walk
+      → of_parity (greatest_priority g walk) ≡ p
   good_walk rows c a [] w = absurd w
   good_walk rows c a (v ∷ vs) w =
-      let h = c.good (v ∷ vs) (ClosedWalk-weaker (KeptEdge g p (named (claim_rows p rows)) (choice_in (claim_rows p rows))) (RowEdge rows) (edge rows a) (v ∷ vs) w) in
+      let h = c.good (v ∷ vs) (ClosedWalk-weaker (ClaimEdge rows) (RowEdge rows) (edge rows a) (v ∷ vs) w) in
       ap of_parity (sym (walk_priority rows a v vs v w)) ∙ h
 
   pub sound : (rows : List CheckedRow) → AreChecked p rows → AgreesWithGame g p rows → IsSound g p (claim_rows p rows)

@@ -1,11 +1,12 @@
 -- The steps of an attraction, and what it is when nothing is left to do.
-use Rattle.std.proofs.Common.{◌≡◌, ◌≢◌, ℕ, ◌<◌, Bool, true, false, ◌||◌, ◌⊎◌, inl, inr, List, [], ◌∷◌, ◌++◌, length, take, drop, get_or, set, refl, sym, ◌∙◌, ap, subst, arith, append_assoc, length-set, length-append, get_or-set_same, get_or-set_other}
-use Rattle.std.specs.Prelude.{Option, ◌==◌, slice_index, if◌then◌else◌}
-use Rattle.std.proofs.lemmas.Bool.{eqb-true, eq-eqb, false_from_ne_true}
+use Rattle.std.proofs.Common.{◌≡◌, ◌≢◌, ℕ, ◌<◌, Bool, true, false, ◌||◌, ◌⊎◌, inl, inr, List, [], ◌∷◌, ◌++◌, length, take, drop, get_or, set, refl}
+use Rattle.std.proofs.Common.{sym, ◌∙◌, ap, subst, arith, append_assoc, length-append, get_or-set_same, get_or-set_other}
+use Rattle.std.specs.Prelude.{Option, ◌==◌, if◌then◌else◌}
+use Rattle.std.proofs.lemmas.Bool.{eqb-true, eq-eqb, false_from_ne_true, cases_Bool, or_left, or_right, or_cases}
 use Rattle.std.proofs.lemmas.List.{append-nil, take-append-le, take-append-drop}
 use Rattle.pg_game.specs.declared.player.Player.{Player}
 use Rattle.pg_game.specs.Graph.{Graph, HasEdge, owner_of, successors_of}
-use Rattle.pg_game.specs.VertexSet.{VertexSet, In, Within, members, union}
+use Rattle.pg_game.specs.VertexSet.{VertexSet, In, Within, union}
 use Rattle.pg_game.specs.Subgame.{IsSubgame}
 use Rattle.pg_game.specs.Attractor.{Attracts}
 use Rattle.pg_game.proofs.Players.{own_or_other, not_own}
@@ -16,7 +17,6 @@ use Rattle.pg_dominion.specs.Area.{HasOpen, AttractsNoFurther}
 use Rattle.pg_dominion.specs.private.Attracting.{IsTakenOrOpen, Continues, LeadFrom}
 use Rattle.pg_dominion.proofs.Named.{named-append}
 use Rattle.pg_dominion.proofs.Rows.{named-push, LeadsTo-same}
-use Rattle.pg_dominion.proofs.Booleans.{true_or_false, or_left, or_right, or_cases}
 
 module _ (g : Graph) (p : Player) (U : VertexSet) where
   -- a way out that is left now was left before
@@ -32,7 +32,8 @@ module _ (g : Graph) (p : Player) (U : VertexSet) where
   IsSettled-later B S S' v w (inr h) = inr h
 
   -- one more vertex is done, once those with an edge to it are settled
-  pub IsDone-more : (D D' S S' : VertexSet) (to : ℕ) → Within S S' → Within D' S → ((x : ℕ) → In D' x → In D x ⊎ (x ≡ to)) → ((u : ℕ) → In U u → HasEdge g u to → IsTakenOrOpen g p U S S' u) → AttractsNoFurther g p U D S → AttractsNoFurther g p U D' S'
+  pub IsDone-more : (D D' S S' : VertexSet) (to : ℕ) → Within S S' → Within D' S → ((x : ℕ) → In D' x → In D x ⊎ (x ≡ to))
+      → ((u : ℕ) → In U u → HasEdge g u to → IsTakenOrOpen g p U S S' u) → AttractsNoFurther g p U D S → AttractsNoFurther g p U D' S'
   IsDone-more D D' S S' to grows sub more settled d = record { own = own; other = other }
     where
       before : (v : ℕ) → S' v ≡ false → S v ≡ false
@@ -84,7 +85,8 @@ pub Continues-push : (xs : ClaimRows) (r : ℕ × Option ℕ) → Continues xs (
 Continues-push xs r = record { longer = omega (arith, length-append xs (r ∷ [])); front = λ n l. take-append-le n xs (r ∷ []) l }
 
 -- the rows after the first are what those attract
-module _ (g : Graph) (p : Player) (U : VertexSet) (R rows : ClaimRows) (front : take (length R) rows ≡ R) (turns : LeadFrom g p U (length R) rows) (done : AttractsNoFurther g p U (named rows) (named rows)) where
+module _ (g : Graph) (p : Player) (U : VertexSet) (R rows : ClaimRows) (front : take (length R) rows ≡ R)
+    (turns : LeadFrom g p U (length R) rows) (done : AttractsNoFurther g p U (named rows) (named rows)) where
   abbrev A : ClaimRows
   A = drop (length R) rows
 
@@ -94,12 +96,14 @@ module _ (g : Graph) (p : Player) (U : VertexSet) (R rows : ClaimRows) (front : 
   in_turn : AttractInTurn g p U (named R) A
   in_turn before after r e =
       LeadsTo-same g p U (named (R ++ before)) (union (named R) (named before)) r (λ v. named-append R before v)
-      (turns (R ++ before) after r (sym whole ∙ (ap (λ (xs : ClaimRows). R ++ xs) e ∙ sym (append_assoc R before (r ∷ after)))) (omega (arith, length-append R before)))
+      (turns (R ++ before) after r (sym whole ∙ (ap (λ (xs : ClaimRows). R ++ xs) e ∙ sym (append_assoc R before (r ∷ after))))
+      (omega (arith, length-append R before)))
 
   names : (v : ℕ) → union (named R) (named A) v ≡ named rows v
   names v = sym (named-append R A v) ∙ ap (λ (xs : ClaimRows). named xs v) whole
 
-  lies : (S : VertexSet) → Attracts g p U (named R) S → (before after : ClaimRows) → A ≡ before ++ after → Within (union (named R) (named before)) S → Within (union (named R) (named A)) S
+  lies : (S : VertexSet) → Attracts g p U (named R) S → (before after : ClaimRows) → A ≡ before ++ after → Within (union (named R) (named before)) S
+      → Within (union (named R) (named A)) S
   lies S a before [] e within = subst (λ (xs : ClaimRows). Within (union (named R) (named xs)) S) (sym (e ∙ append-nil before)) within
   lies S a before (r ∷ after) e within =
       let l = in_turn before after r e in
@@ -121,11 +125,11 @@ module _ (g : Graph) (p : Player) (U : VertexSet) (R rows : ClaimRows) (front : 
   attracts : Attracts g p U (named R) (named rows)
   attracts = record {
     target = λ v t. sym (names v) ∙ or_left (named R v) (named A v) t;
-    own = λ v w u o e i. elim (true_or_false (named rows v)) [
+    own = λ v w u o e i. elim (cases_Bool (named rows v)) [
       | inl t ↦ t
       | inr f ↦ absurd (let h = done.own v w u f o e in cc (h, i))
     ];
-    forced = λ v u o h. elim (true_or_false (named rows v)) [
+    forced = λ v u o h. elim (cases_Bool (named rows v)) [
       | inl t ↦ t
       | inr f ↦ absurd (let q = done.other v u f (not_own p (owner_of g v) o) in let i = h q.0 q.1 q.2 in cc (i, q.3))
     ];

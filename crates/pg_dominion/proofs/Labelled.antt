@@ -1,28 +1,31 @@
 -- What a search that found no way back has shown of all that it reached.
-use Rattle.std.proofs.Common.{◌≡◌, ◌≢◌, ℕ, ◌+◌, ◌<◌, ◌≤◌, ◌⊎◌, inl, inr, List, [], ◌∷◌, length, replicate, set, refl, sym, ◌∙◌, ap, subst, arith, length-set, get_or-set_same, get_or-set_other}
-use Rattle.std.proofs.lemmas.Bool.{cases_eq}
+use Rattle.std.proofs.Common.{◌≡◌, ◌≢◌, ℕ, ◌+◌, ◌<◌, ◌≤◌, ◌⊎◌, inl, inr, List, [], ◌∷◌, length, replicate, set, refl, sym, ◌∙◌, ap, subst, arith}
+use Rattle.std.proofs.Common.{length-set, get_or-set_same, get_or-set_other}
+use Rattle.std.proofs.lemmas.Bool.{cases_eq, cases_lt}
 use Rattle.std.proofs.lemmas.List.{get_or-replicate, get_or_past, length-replicate}
 use Rattle.std.specs.Prelude.{slice_index}
+use Rattle.pg_game.specs.Graph.{priority_of}
 use Rattle.pg_game.specs.Walk.{Walk}
 use Rattle.pg_dominion.specs.declared.kept.Kept.{Kept}
-use Rattle.pg_dominion.specs.private.KeptEdges.{EdgeUnder, Leads, AreLabelled, IsPassed, IsBefore, IsQueued, IsFollowed, Searching, IsSpread, AreNoted}
-use Rattle.pg_dominion.proofs.Ranked.{below_or}
+use Rattle.pg_dominion.specs.private.KeptEdges.{EdgeUnder, Leads, Reaches, AreAlike, AreLabelled, IsPassed, IsGroupAt, IsBefore, IsQueued, IsFollowed}
+use Rattle.pg_dominion.specs.private.KeptEdges.{Searching, IsSpread, AreNoted}
 use Rattle.pg_dominion.proofs.Searching.{Leads-edge, Leads-then, Leads-weaker}
 
 pub queued_or : (places queue : List ℕ) (x : ℕ) → IsQueued places queue x ⊎ (IsQueued places queue x → ⊥)
-queued_or places queue x = elim (below_or (slice_index places x) (length queue)) [
+queued_or places queue x = elim (cases_lt (slice_index places x) (length queue)) [
   | inr l ↦ inr (λ q. absurd (omega (arith, l, q.0)))
   | inl l ↦ elim (cases_eq (slice_index queue (slice_index places x)) x) [ inl e ↦ inl (l, e) | inr n ↦ inr (λ q. n q.1) ]
 ]
 
 blank_at : (n x : ℕ) → slice_index (replicate n 0) x ≡ 0
-blank_at n x = elim (below_or x n) [
+blank_at n x = elim (cases_lt x n) [
   | inl l ↦ get_or-replicate n x 0 0 l
   | inr l ↦ get_or_past (replicate n 0) x 0 (omega (arith, l, length-replicate {A = ℕ} n 0))
 ]
 
 -- before any search
-pub labelled_blank : (k : Kept) (n : ℕ) → n ≡ length k.game.now → (levels groups : List ℕ) → levels ≡ replicate n 0 → groups ≡ replicate n 0 → AreLabelled k levels groups
+pub labelled_blank : (k : Kept) (n : ℕ) → n ≡ length k.game.now → (levels groups : List ℕ) → levels ≡ replicate n 0 → groups ≡ replicate n 0
+    → AreLabelled k levels groups
 labelled_blank k n e levels groups l m = record {
   levels_size = ap (λ (xs : List ℕ). length xs) l ∙ length-replicate {A = ℕ} n 0 ∙ e;
   groups_size = ap (λ (xs : List ℕ). length xs) m ∙ length-replicate {A = ℕ} n 0 ∙ e;
@@ -41,7 +44,10 @@ module _ (levels groups places queue : List ℕ) (level start least : ℕ) where
     outside = λ x _. (refl, refl);
   }
 
-  pub noted_next : (levels' groups' : List ℕ) (n v g : ℕ) → slice_index queue n ≡ v → slice_index places v ≡ n → v < length levels' → v < length groups' → ((n < least) × (g ≡ v + 1)) ⊎ ((least ≤ n) × (g ≡ start + 1)) → AreNoted levels groups places queue level start least n levels' groups' → AreNoted levels groups places queue level start least (n + 1) (set levels' v level) (set groups' v g)
+  pub noted_next : (levels' groups' : List ℕ) (n v g : ℕ) → slice_index queue n ≡ v → slice_index places v ≡ n → v < length levels'
+      → v < length groups'
+      → IsGroupAt start least n v g → AreNoted levels groups places queue level start least n levels' groups'
+      → AreNoted levels groups places queue level start least (n + 1) (set levels' v level) (set groups' v g)
   noted_next levels' groups' n v g e p l m h old = record {
     levels_size = length-set levels' v level ∙ old.levels_size;
     groups_size = length-set groups' v g ∙ old.groups_size;
@@ -53,22 +59,26 @@ module _ (levels groups places queue : List ℕ) (level start least : ℕ) where
       | inl q ↦ (let f : slice_index (set groups' v g) x ≡ g = ap (λ (u : ℕ). slice_index (set groups' v g) u) q ∙ get_or-set_same groups' v g 0 m in
           let i : slice_index places x ≡ n = ap (λ (u : ℕ). slice_index places u) q ∙ p in
           elim h [ inl a ↦ inl (omega (arith, a.0, i), omega (arith, f, a.1, q)) | inr a ↦ inr (omega (arith, a.0, i), omega (arith, f, a.1)) ])
-      | inr q ↦ subst (λ (o : ℕ). ((slice_index places x < least) × (o ≡ x + 1)) ⊎ ((least ≤ slice_index places x) × (o ≡ start + 1))) (sym (get_or-set_other groups' v x g 0 q)) (old.group x (earlier x b q))
+      | inr q ↦ subst (λ (o : ℕ). IsGroupAt start least (slice_index places x) x o) (sym (get_or-set_other groups' v x g 0 q)) (old.group x (earlier x b q))
     ];
     outside = λ x b.
-        let q : x ≢ v = λ f. b (let i : slice_index places x ≡ n = ap (λ (u : ℕ). slice_index places u) f ∙ p in (omega (arith, i), ap (λ (u : ℕ). slice_index queue u) i ∙ e ∙ sym f)) in
+        let q : x ≢ v =
+        λ f. b (let i : slice_index places x ≡ n = ap (λ (u : ℕ). slice_index places u) f ∙ p in
+        (omega (arith, i), ap (λ (u : ℕ). slice_index queue u) i ∙ e ∙ sym f)) in
         let o = old.outside x (λ d. b (omega (arith, d.0), d.1)) in
         (get_or-set_other levels' v x level 0 q ∙ o.0, get_or-set_other groups' v x g 0 q ∙ o.1);
   }
     where
       earlier : (x : ℕ) → IsBefore places queue (n + 1) x → x ≢ v → IsBefore places queue n x
-      earlier x b q = elim (below_or (slice_index places x) n) [
+      earlier x b q = elim (cases_lt (slice_index places x) n) [
         | inl a ↦ (a, b.1)
         | inr a ↦ absurd (q (let i : slice_index places x ≡ n = omega (arith, a, b.0) in sym b.1 ∙ ap (λ (u : ℕ). slice_index queue u) i ∙ e))
       ]
 
 -- a search that has reached its start alone
-pub searching_first : (k : Kept) (levels groups : List ℕ) (top own : ℕ) (places : List ℕ) (start : ℕ) → start < length k.game.now → length places ≡ length k.game.now → (top < slice_index levels start → slice_index groups start ≡ own) → Searching k levels groups top own (set places start 0) (start ∷ [])
+pub searching_first : (k : Kept) (levels groups : List ℕ) (top own : ℕ) (places : List ℕ) (start : ℕ) → start < length k.game.now
+    → length places ≡ length k.game.now → (top < slice_index levels start → slice_index groups start ≡ own)
+    → Searching k levels groups top own (set places start 0) (start ∷ [])
 searching_first k levels groups top own places start l size counts = record {
   size = length-set places start 0 ∙ size;
   some = omega arith;
@@ -96,7 +106,8 @@ module _ (k : Kept) (levels groups : List ℕ) (top own least : ℕ) (places que
       let same = labels.together top z x p.0 back there in
       p.1 (sym same.0 ∙ counts x q (omega (arith, same.1, p.0)))
 
-  stay : (x : ℕ) → IsQueued places queue x → (z : ℕ) (vs : List ℕ) (last : ℕ) → ((z ≡ x) ⊎ Leads k top x z) → IsQueued places queue z → Walk (EdgeUnder k top) z vs last → Leads k top last x → IsQueued places queue last
+  stay : (x : ℕ) → IsQueued places queue x → (z : ℕ) (vs : List ℕ) (last : ℕ) → ((z ≡ x) ⊎ Leads k top x z) → IsQueued places queue z
+      → Walk (EdgeUnder k top) z vs last → Leads k top last x → IsQueued places queue last
   stay x q z [] last before qz e after = elim (followed z last qz e) [
     | inl p ↦ absurd (not_passed x last q (Leads-edge k top x z last before e) after p)
     | inr h ↦ h.0
@@ -112,13 +123,17 @@ module _ (k : Kept) (levels groups : List ℕ) (top own least : ℕ) (places que
   pub stays_queued : (x y : ℕ) → IsQueued places queue x → Leads k top x y → Leads k top y x → IsQueued places queue y
   stays_queued x y q (vs, walk) back = stay x q x vs y (inl refl) q walk back
 
-  next_place : (x z w : ℕ) → IsQueued places queue x → slice_index places x < least → IsQueued places queue z → slice_index places x ≤ slice_index places z → Leads k top x w → Leads k top w x → EdgeUnder k top z w → IsQueued places queue w × (slice_index places x < slice_index places w)
+  next_place : (x z w : ℕ) → IsQueued places queue x → slice_index places x < least → IsQueued places queue z
+      → slice_index places x ≤ slice_index places z → Leads k top x w → Leads k top w x → EdgeUnder k top z w
+      → IsQueued places queue w × (slice_index places x < slice_index places w)
   next_place x z w q l qz up there back e = elim (followed z w qz e) [
     | inl p ↦ absurd (not_passed x w q there back p)
     | inr h ↦ (h.0, elim h.1 [ inl a ↦ omega (arith, a, up) | inr b ↦ omega (arith, b, l) ])
   ]
 
-  rises : (x : ℕ) → IsQueued places queue x → slice_index places x < least → (z : ℕ) (vs : List ℕ) (last : ℕ) → ((z ≡ x) ⊎ Leads k top x z) → IsQueued places queue z → slice_index places x ≤ slice_index places z → Walk (EdgeUnder k top) z vs last → Leads k top last x → slice_index places x < slice_index places last
+  rises : (x : ℕ) → IsQueued places queue x → slice_index places x < least → (z : ℕ) (vs : List ℕ) (last : ℕ)
+      → ((z ≡ x) ⊎ Leads k top x z) → IsQueued places queue z → slice_index places x ≤ slice_index places z → Walk (EdgeUnder k top) z vs last
+      → Leads k top last x → slice_index places x < slice_index places last
   rises x q l z [] last before qz up e after = (next_place x z last q l qz up (Leads-edge k top x z last before e) after e).1
   rises x q l z (y ∷ ys) last before qz up walk after =
       let there = Leads-edge k top x z y before walk.0 in
@@ -134,28 +149,36 @@ module _ (k : Kept) (levels groups : List ℕ) (top own least : ℕ) (places que
       let e = s.placed 0 s.some in
       ((omega (arith, e, s.some), ap (λ (x : ℕ). slice_index queue x) e), e)
 
-  pub no_way_back : 0 < least → Leads k top (slice_index queue 0) (slice_index queue 0) → ⊥
+  no_way_back : 0 < least → Leads k top (slice_index queue 0) (slice_index queue 0) → ⊥
   no_way_back l walk = no_closed (slice_index queue 0) first_queued.0 (omega (arith, l, first_queued.1)) walk
 
+  pub none_reached : 0 < least → (start : ℕ) → slice_index queue 0 ≡ start → top ≡ priority_of k.game.now start → Reaches k start start → ⊥
+  none_reached l start e t r = no_way_back l (subst (λ (x : ℕ). Leads k top x x) (sym e) (subst (λ (u : ℕ). Leads k u start start) (sym t) r))
+
   low : own ≡ 0 → (x : ℕ) → IsQueued places queue x → slice_index levels x ≤ top
-  low o x q = elim (below_or top (slice_index levels x)) [
+  low o x q = elim (cases_lt top (slice_index levels x)) [
     | inr l ↦ l
     | inl l ↦ absurd (let e = labels.blank x (counts x q l ∙ o) in omega (arith, l, e))
   ]
 
-  module _ (o : own ≡ 0) (pos : 0 < least) (levels' groups' : List ℕ) (noted : AreNoted levels groups places queue (top + 1) (slice_index queue 0) least (length queue) levels' groups') where
-    together_in : (t x y : ℕ) → IsQueued places queue x → t < slice_index levels' x → Leads k t x y → Leads k t y x → (slice_index groups' y ≡ slice_index groups' x) × (slice_index levels' y ≡ slice_index levels' x)
+  module _ (o : own ≡ 0) (pos : 0 < least) (levels' groups' : List ℕ)
+      (noted : AreNoted levels groups places queue (top + 1) (slice_index queue 0) least (length queue) levels' groups') where
+    together_in : (t x y : ℕ) → IsQueued places queue x → t < slice_index levels' x → Leads k t x y → Leads k t y x → AreAlike levels' groups' x y
     together_in t x y q l there back =
         let lt : t ≤ top = omega (arith, l, noted.inside x q) in
         let there' = Leads-weaker k t top x y lt there in
         let back' = Leads-weaker k t top y x lt back in
-        let qy = stays_queued x y q there' back' in
-        (sym (grouped x q (Leads-then k top x y x there' back') ∙ sym (grouped y qy (Leads-then k top y x y back' there'))), noted.inside y qy ∙ sym (noted.inside x q))
+        let qy = stays_queued x y q there' back' in (
+          sym (grouped x q (Leads-then k top x y x there' back') ∙ sym (grouped y qy (Leads-then k top y x y back' there'))),
+          noted.inside y qy
+              ∙ sym (noted.inside x q),
+        )
       where
         grouped : (z : ℕ) → IsQueued places queue z → Leads k top z z → slice_index groups' z ≡ slice_index queue 0 + 1
         grouped z qz walk = elim (noted.group z qz) [ inl h ↦ absurd (no_closed z qz h.0 walk) | inr h ↦ h.1 ]
 
-    together_out : (t x y : ℕ) → (IsQueued places queue x → ⊥) → t < slice_index levels' x → Leads k t x y → Leads k t y x → (slice_index groups' y ≡ slice_index groups' x) × (slice_index levels' y ≡ slice_index levels' x)
+    together_out : (t x y : ℕ) → (IsQueued places queue x → ⊥) → t < slice_index levels' x → Leads k t x y → Leads k t y x
+        → AreAlike levels' groups' x y
     together_out t x y n l there back =
         let out = noted.outside x n in
         let old = labels.together t x y (omega (arith, l, out.0)) there back in

@@ -1,4 +1,3 @@
-pub mod Booleans
 pub mod Agreed
 pub mod Recorded
 pub mod Rows
@@ -12,6 +11,5 @@ pub mod Laid
 pub mod Plan
 pub mod Ranked
 pub mod Named
-pub mod NoneBad
 mod Staying
 mod Labelled

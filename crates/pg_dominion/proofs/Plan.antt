@@ -1,16 +1,16 @@
 -- A solution laid out as kept edges: its leaving edges and its closed walks.
-use Rattle.std.proofs.Common.{◌≡◌, ◌≢◌, ℕ, ◌+◌, ◌<◌, ◌≤◌, Bool, true, false, ◌⊎◌, ◌↔◌, inl, inr, List, [], ◌∷◌, length, get_or, set, refl, sym, ◌∙◌, ap, subst, arith, length-set, get_or-set_same, get_or-set_other, ltb-true, lt-ltb}
+use Rattle.std.proofs.Common.{◌≡◌, ℕ, ◌+◌, ◌<◌, ◌≤◌, Bool, true, false, ◌↔◌, inl, inr, List, [], ◌∷◌, length, get_or, set, refl, sym, ◌∙◌, ap, subst}
+use Rattle.std.proofs.Common.{arith, get_or-set_same, get_or-set_other, ltb-true, lt-ltb}
 use Rattle.std.specs.Prelude.{Option, Some, None, slice_index}
 use Rattle.std.specs.List.{Contains}
 use Rattle.std.specs.List.Sorted.{IsStrictlyIncreasing}
-use Rattle.std.proofs.lemmas.Bool.{cases_eq}
+use Rattle.std.proofs.lemmas.Bool.{cases_Bool, cases_eq, cases_order}
 use Rattle.pg_game.specs.declared.player.Player.{Player}
-use Rattle.pg_game.specs.declared.player.Player.TheVariants.{Even}
 use Rattle.pg_game.specs.Player.{same_player, opponent, of_parity}
 use Rattle.pg_game.specs.Graph.{Graph, IsGame, HasEdge, priority_of, owner_of, successors_of}
 use Rattle.pg_game.specs.VertexSet.{In, members}
 use Rattle.pg_game.specs.Kept.{kept, KeptEdge}
-use Rattle.pg_game.specs.Walk.{Walk, ClosedWalk}
+use Rattle.pg_game.specs.Walk.{Walk}
 use Rattle.pg_game.specs.Least.{NoneHas}
 use Rattle.pg_game.proofs.Edges.{edge_inside}
 use Rattle.pg_game.proofs.Masks.{member_below}
@@ -22,59 +22,30 @@ use Rattle.pg_text.specs.Verdict.{LacksChoice, HasBadChoice, Leaves, IsOnBadWalk
 use Rattle.pg_text.proofs.Verdict.{has_or_not, won}
 use Rattle.pg_dominion.specs.declared.kept.Kept.{Kept}
 use Rattle.pg_dominion.specs.KeptEdges.{IsKept, Edge, IsWorst, kept_row}
-use Rattle.pg_dominion.specs.private.Shape.{chosen_at, is_bad, marked, chosen_with, choices_with}
+use Rattle.pg_dominion.specs.private.Shape.{Layout, laid_with, is_bad}
 use Rattle.pg_dominion.specs.private.Plan.{own_choice, IsPlanned, IsPlanOf, LeavesTo}
 use Rattle.std.proofs.lemmas.Map.Keys.{sorted_from_strictly_increasing, below_from_sorted}
-use Rattle.pg_dominion.proofs.Searching.{place_in}
-use Rattle.pg_dominion.proofs.Laid.{length-marked, length-chosen_with, length-choices_with, from_choice, row_cases}
+use Rattle.pg_dominion.proofs.Searching.{place_in, starts_in}
+use Rattle.pg_dominion.proofs.Laid.{has_places, choice_at-same, choice_at-other, chosen-other, marked-same, marked-other, layout_of, from_choice, row_cases}
 
--- a choice noted at a vertex that had none
-choice_at-same : (chosen : List Bool) (choices : List ℕ) (v : ℕ) (c : Option ℕ) → v < length chosen → v < length choices → members chosen v ≡ false → chosen_at (chosen_with chosen v c) (choices_with choices v c) v ≡ c
-choice_at-same chosen choices v None l m f = rw f refl
-choice_at-same chosen choices v (Some w) l m f =
-    let a : get_or (set chosen v true) v false ≡ true = get_or-set_same chosen v true false l in
-    let b : get_or (set choices v w) v 0 ≡ w = get_or-set_same choices v w 0 m in
-    rw (a, b) refl
-
-choice_at-other : (chosen : List Bool) (choices : List ℕ) (v : ℕ) (c : Option ℕ) (x : ℕ) → x ≢ v → chosen_at (chosen_with chosen v c) (choices_with choices v c) x ≡ chosen_at chosen choices x
-choice_at-other chosen choices v None x n = refl
-choice_at-other chosen choices v (Some w) x n =
-    let a : get_or (set chosen v true) x false ≡ get_or chosen x false = get_or-set_other chosen v x true false n in
-    let b : get_or (set choices v w) x 0 ≡ get_or choices x 0 = get_or-set_other choices v x w 0 n in
-    rw (a, b) refl
-
-chosen_with-other : (chosen : List Bool) (v : ℕ) (c : Option ℕ) (x : ℕ) → x ≢ v → members (chosen_with chosen v c) x ≡ members chosen x
-chosen_with-other chosen v None x n = refl
-chosen_with-other chosen v (Some w) x n = get_or-set_other chosen v x true false n
-
-marked-other : (b : Bool) (mask : List Bool) (v x : ℕ) → x ≢ v → members (marked b mask v) x ≡ members mask x
-marked-other true mask v x n = get_or-set_other mask v x true false n
-marked-other false mask v x n = refl
-
-marked-same : (b : Bool) (mask : List Bool) (v : ℕ) → v < length mask → members mask v ≡ false → members (marked b mask v) v ≡ b
-marked-same true mask v l f = get_or-set_same mask v true false l
-marked-same false mask v l f = f
-
-pub IsPlanned-push : (g : Graph) (rows : SolutionRows) (v : ℕ) (inside chosen : List Bool) (choices : List ℕ) (bad : List Bool) (c : Option ℕ) (b : Bool) → v < length g → c ≡ own_choice g rows v → b ≡ is_bad g (winner_of rows v) v → IsPlanned g rows v inside chosen choices bad → IsPlanned g rows (v + 1) (set inside v true) (chosen_with chosen v c) (choices_with choices v c) (marked b bad v)
-IsPlanned-push g rows v inside chosen choices bad c b l e f a = record {
-  inside_size = length-set inside v true ∙ a.inside_size;
-  chosen_size = length-chosen_with g Even chosen v c ∙ a.chosen_size;
-  choices_size = length-choices_with g Even choices v c ∙ a.choices_size;
-  bad_size = length-marked b bad v ∙ a.bad_size;
+pub IsPlanned-push : (g : Graph) (rows : SolutionRows) (v : ℕ) (t : Layout) (c : Option ℕ) (b : Bool) → v < length g → c ≡ own_choice g rows v
+    → b ≡ is_bad g (winner_of rows v) v → IsPlanned g rows v t → IsPlanned g rows (v + 1) (laid_with t (v, c) b)
+IsPlanned-push g rows v t c b l e f a = record {
+  sizes = has_places g t (v, c) b a.sizes;
   inside_is = λ x lx. elim (cases_eq x v) [
-    | inl q ↦ (let h : get_or (set inside v true) v false ≡ true = get_or-set_same inside v true false (omega (arith, a.inside_size)) in rw q h)
-    | inr n ↦ get_or-set_other inside v x true false n ∙ a.inside_is x (omega arith)
+    | inl q ↦ (let h : get_or (set t.inside v true) v false ≡ true = get_or-set_same t.inside v true false (omega (arith, l, a.sizes.inside)) in rw q h)
+    | inr n ↦ get_or-set_other t.inside v x true false n ∙ a.inside_is x (omega arith)
   ];
   choices_is = λ x lx. elim (cases_eq x v) [
-    | inl q ↦ rw q (choice_at-same chosen choices v c (omega (arith, a.chosen_size)) (omega (arith, a.choices_size)) (a.chosen_later v (omega arith)) ∙ e)
-    | inr n ↦ choice_at-other chosen choices v c x n ∙ a.choices_is x (omega arith)
+    | inl q ↦ (let none = a.chosen_later v (omega arith) in rw q (choice_at-same g t v l a.sizes c b (rw none refl) ∙ e))
+    | inr n ↦ choice_at-other t v x n c b ∙ a.choices_is x (omega arith)
   ];
   bad_is = λ x lx. elim (cases_eq x v) [
-    | inl q ↦ rw q (marked-same b bad v (omega (arith, a.bad_size)) (a.bad_later v (omega arith)) ∙ f)
-    | inr n ↦ marked-other b bad v x n ∙ a.bad_is x (omega arith)
+    | inl q ↦ rw q (marked-same g t v l a.sizes b (a.bad_later v (omega arith)) ∙ f)
+    | inr n ↦ marked-other t v x n b ∙ a.bad_is x (omega arith)
   ];
-  chosen_later = λ x lx. chosen_with-other chosen v c x (omega arith) ∙ a.chosen_later x (omega arith);
-  bad_later = λ x lx. marked-other b bad v x (omega arith) ∙ a.bad_later x (omega arith);
+  chosen_later = λ x lx. chosen-other t v x (omega arith) c ∙ a.chosen_later x (omega arith);
+  bad_later = λ x lx. marked-other t v x (omega arith) b ∙ a.bad_later x (omega arith);
 }
 
 module _ (k : Kept) (rows : SolutionRows) (game : IsGame k.game.now) (size : length rows ≡ length k.game.now) where
@@ -94,7 +65,8 @@ module _ (k : Kept) (rows : SolutionRows) (game : IsGame k.game.now) (size : len
   edge_below kept v w l m = go (members k.chosen v) (members k.inside v) refl refl
     where
       go : (b c : Bool) → members k.chosen v ≡ b → members k.inside v ≡ c → w < length g
-      go true c e f = let one : Contains (slice_index k.choices.items v ∷ []) w = rw e at m in rw (← Contains-one (slice_index k.choices.items v) w one) (kept.below v e)
+      go true c e f =
+          let one : Contains (slice_index k.choices.items v ∷ []) w = rw e at m in rw (← Contains-one (slice_index k.choices.items v) w one) (kept.below v e)
       go false true e f = let s : HasEdge g v w = rw (e, f) at m in ltb-true w (length g) (edge_inside g game v w l s)
       go false false e f = let n : Contains [] w = rw (e, f) at m in absurd (Contains-nil w n)
 
@@ -125,7 +97,8 @@ module _ (k : Kept) (rows : SolutionRows) (game : IsGame k.game.now) (size : len
           agree true e l = same_is (winner_of rows w) (winner_of rows v) e
           agree false e l = absurd (leaves v w (leaves_from v w l (m, λ q. let t = is_same (winner_of rows w) (winner_of rows v) q in cc (t, e))))
 
-      to_kept : (p : Player) (v : ℕ) (vs : List ℕ) (last : ℕ) → In (won_by rows p) v → Walk (Edge k) v vs last → Walk (KeptEdge g p (won_by rows p) (choice_of rows)) v vs last
+      to_kept : (p : Player) (v : ℕ) (vs : List ℕ) (last : ℕ) → In (won_by rows p) v → Walk (Edge k) v vs last
+          → Walk (KeptEdge g p (won_by rows p) (choice_of rows)) v vs last
       to_kept p v [] last i e = (step p v last i e).0
       to_kept p v (w ∷ ws) last i e = let s = step p v w i e.0 in (s.0, to_kept p w ws last s.1 e.1)
 
@@ -134,59 +107,67 @@ module _ (k : Kept) (rows : SolutionRows) (game : IsGame k.game.now) (size : len
           let h = won g rows size p v i in
           subst (λ (xs : List ℕ). Contains xs w) (sym (plan v h.0)) (subst (λ (q : Player). Contains (kept g q (choice_of rows) v) w) (sym h.1) m)
 
-      on_first : (p : Player) (v : ℕ) (vs : List ℕ) → ClosedWalk (KeptEdge g p (won_by rows p) (choice_of rows)) (v ∷ vs) → In (won_by rows p) v
-      on_first p v [] c = c.0
-      on_first p v (w ∷ ws) c = c.0.0
-
-      pub worst_is_on_bad_walk : ((v : ℕ) → v < length g → members k.bad v ≡ is_bad g (winner_of rows v) v) → (v : ℕ) → IsWorst k v ↔ IsOnBadWalk g rows v
+      pub worst_is_on_bad_walk : ((v : ℕ) → v < length g → members k.bad v ≡ is_bad g (winner_of rows v) v) → (v : ℕ)
+          → IsWorst k v ↔ IsOnBadWalk g rows v
       worst_is_on_bad_walk bad v = (
-        λ h. (let l : v < length g = omega (arith, member_below k.bad v h.0, kept_is.bad) in
-            (h.1.0, to_kept (winner_of rows v) v h.1.0 v (is_won v l) h.1.1, h.1.2, same_is (of_parity (priority_of g v)) (opponent (winner_of rows v)) (sym (bad v l) ∙ h.0))),
-        λ h. (let l = (won g rows size (winner_of rows v) v (on_first (winner_of rows v) v h.0 h.1)).0 in (
-          bad v l ∙ is_same (of_parity (priority_of g v)) (opponent (winner_of rows v)) h.3,
-          (h.0, ClosedWalk-weaker (KeptEdge g (winner_of rows v) (won_by rows (winner_of rows v)) (choice_of rows)) (Edge k) (from_kept (winner_of rows v)) (v ∷ h.0) h.1, h.2),
+        λ h. (let l : v < length g = omega (arith, member_below k.bad v h.0, kept_is.bad) in (
+          h.1.0,
+          to_kept (winner_of rows v) v h.1.0 v (is_won v l) h.1.1,
+          h.1.2,
+          same_is (of_parity (priority_of g v)) (opponent (winner_of rows v)) (sym (bad v l) ∙ h.0),
         )),
+        λ h. (let l = (won g rows size (winner_of rows v) v
+            (starts_in g (winner_of rows v) (won_by rows (winner_of rows v)) (choice_of rows) v h.0 v h.1)).0 in (
+              bad v l ∙ is_same (of_parity (priority_of g v)) (opponent (winner_of rows v)) h.3,
+              (
+                h.0,
+                ClosedWalk-weaker (KeptEdge g (winner_of rows v) (won_by rows (winner_of rows v)) (choice_of rows)) (Edge k) (from_kept (winner_of rows v))
+                    (v ∷ h.0) h.1,
+                h.2,
+              ),
+            )),
       )
 
-  module _ (a : IsPlanned g rows (length g) k.inside k.chosen k.choices.items k.bad) (lacks : NoneHas (LacksChoice g rows)) (wrong : NoneHas (HasBadChoice g rows)) where
+  module _ (a : IsPlanned g rows (length g) (layout_of k)) (lacks : NoneHas (LacksChoice g rows)) (wrong : NoneHas (HasBadChoice g rows)) where
     pub planned_is_plan : IsPlanOf k rows
-    planned_is_plan v l = row_cases (members k.chosen v) (slice_index k.choices.items v) _ (own_choice g rows v) (a.choices_is v l) ∙ rw (a.inside_is v l) (go (same_player (owner_of g v) (winner_of rows v)) refl (choice_of rows v) refl)
+    planned_is_plan v l =
+        row_cases (members k.chosen v) (slice_index k.choices.items v) _ (own_choice g rows v) (a.choices_is v l)
+        ∙ rw (a.inside_is v l) (go (same_player (owner_of g v) (winner_of rows v)) refl (choice_of rows v) refl)
       where
-        go : (b : Bool) → same_player (owner_of g v) (winner_of rows v) ≡ b → (c : Option ℕ) → choice_of rows v ≡ c → from_choice (own_choice g rows v) (successors_of g v) ≡ kept g (winner_of rows v) (choice_of rows) v
+        go : (b : Bool) → same_player (owner_of g v) (winner_of rows v) ≡ b → (c : Option ℕ) → choice_of rows v ≡ c
+            → from_choice (own_choice g rows v) (successors_of g v) ≡ kept g (winner_of rows v) (choice_of rows) v
         go false e c f = rw e refl
         go true e None f = absurd (lacks v (l, same_is (owner_of g v) (winner_of rows v) e, f))
         go true e (Some w) f = rw (e, f) refl
 
     pub planned_is_kept : IsKept k
     planned_is_kept = record {
-      inside = a.inside_size;
-      chosen = a.chosen_size;
-      choices = a.choices_size;
-      bad = a.bad_size;
-      below = λ v i. (let l : v < length g = omega (arith, member_below k.chosen v i, a.chosen_size) in let e = a.choices_is v l in let f : Some (slice_index k.choices.items v) ≡ own_choice g rows v = rw i at e in choice_below v l (slice_index k.choices.items v) f);
+      inside = a.sizes.inside;
+      chosen = a.sizes.chosen;
+      choices = a.sizes.choices;
+      bad = a.sizes.bad;
+      below = λ v i. (let l : v < length g = omega (arith, member_below k.chosen v i, a.sizes.chosen) in
+          let e = a.choices_is v l in choice_below v l (slice_index k.choices.items v) (rw i at e));
     }
       where
         choice_below : (v : ℕ) → v < length g → (w : ℕ) → Some w ≡ own_choice g rows v → w < length g
-        choice_below v l w e = go (same_player (owner_of g v) (winner_of rows v)) refl
-          where
-            go : (b : Bool) → same_player (owner_of g v) (winner_of rows v) ≡ b → w < length g
-            go false s = absurd (let h : Some w ≡ None = rw s at e in cc h)
-            go true s = let h : Some w ≡ choice_of rows v = rw s at e in elim (has_or_not (successors_of g v) w) [
-              | inl m ↦ ltb-true w (length g) (edge_inside g game v w l m)
-              | inr none ↦ absurd (wrong v (l, same_is (owner_of g v) (winner_of rows v) s, (w, sym h, none)))
-            ]
+        choice_below v l w e = elim (cases_Bool (same_player (owner_of g v) (winner_of rows v))) [
+          | inl s ↦ (let h : Some w ≡ choice_of rows v = rw s at e in elim (has_or_not (successors_of g v) w) [
+            | inl m ↦ ltb-true w (length g) (edge_inside g game v w l m)
+            | inr none ↦ absurd (wrong v (l, same_is (owner_of g v) (winner_of rows v) s, (w, sym h, none)))
+          ])
+          | inr s ↦ absurd (let h : Some w ≡ None = rw s at e in cc h)
+        ]
 
 module _ (k : Kept) (rows : SolutionRows) where
   -- the first in a rising row that leads to the other winner is the least
-  pub first_is_least : (v : ℕ) (ws : List ℕ) (i : ℕ) → IsStrictlyIncreasing (kept_row k v) → ws ≡ kept_row k v → i < length ws → ((j : ℕ) → j < i → winner_of rows (slice_index ws j) ≡ winner_of rows v) → (x : ℕ) → LeavesTo k rows v x → slice_index ws i ≤ x
+  pub first_is_least : (v : ℕ) (ws : List ℕ) (i : ℕ) → IsStrictlyIncreasing (kept_row k v) → ws ≡ kept_row k v → i < length ws
+      → ((j : ℕ) → j < i → winner_of rows (slice_index ws j) ≡ winner_of rows v) → (x : ℕ) → LeavesTo k rows v x → slice_index ws i ≤ x
   first_is_least v ws i up e l passed x h =
       let q = place_in (kept_row k v) ws x e h.0 in
       let rise : IsStrictlyIncreasing ws = subst (λ (xs : List ℕ). IsStrictlyIncreasing xs) (sym e) up in
-      elim (order q.0 i) [
-        | inl below ↦ absurd (h.1 (ap (winner_of rows) (sym q.2) ∙ passed q.0 below))
-        | inr (inl same) ↦ (let a : slice_index ws i ≡ x = ap (slice_index ws) (sym same) ∙ q.2 in omega arith)
+      elim (cases_order q.0 i) [
+        | inl same ↦ (let a : slice_index ws i ≡ x = ap (slice_index ws) (sym same) ∙ q.2 in omega arith)
+        | inr (inl below) ↦ absurd (h.1 (ap (winner_of rows) (sym q.2) ∙ passed q.0 below))
         | inr (inr above) ↦ (let b = below_from_sorted ws i q.0 0 (sorted_from_strictly_increasing ws rise) above q.1 in omega (arith, b, q.2))
       ]
-    where
-      order : (a b : ℕ) → (a < b) ⊎ ((a ≡ b) ⊎ (b < a))
-      order a b = grind arith

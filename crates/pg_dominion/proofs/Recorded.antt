@@ -1,5 +1,6 @@
 -- Rows that agree with a game in which their claim is sound are checked by themselves.
-use Rattle.std.proofs.Common.{◌≡◌, ℕ, zero, suc, ◌<◌, true, false, List, [], ◌∷◌, ◌++◌, length, get_or, map, take, drop, refl, sym, ◌∙◌, ap, subst, arith, drop-cons}
+use Rattle.std.proofs.Common.{◌≡◌, ℕ, zero, suc, ◌<◌, true, false, List, [], ◌∷◌, ◌++◌, length, get_or, map, take, drop, refl, sym, ◌∙◌, ap, subst}
+use Rattle.std.proofs.Common.{arith, drop-cons}
 use Rattle.std.specs.Prelude.{◌==◌}
 use Rattle.std.specs.List.{Contains, AllByRecursion, AllPairs}
 use Rattle.std.specs.List.Sorted.{IsStrictlyIncreasing}
@@ -10,13 +11,13 @@ use Rattle.pg_game.specs.declared.player.Player.{Player}
 use Rattle.pg_game.specs.Player.{same_player, of_parity}
 use Rattle.pg_game.specs.Graph.{Graph}
 use Rattle.pg_game.specs.VertexSet.{In}
-use Rattle.pg_game.specs.Kept.{KeptEdge, kept}
+use Rattle.pg_game.specs.Kept.{kept}
 use Rattle.pg_game.specs.Walk.{ClosedWalk, greatest}
 use Rattle.pg_game.proofs.Walks.{ClosedWalk-weaker}
 use Rattle.pg_dominion.specs.declared.checked.CheckedRow.{CheckedRow}
 use Rattle.pg_dominion.specs.Claim.{named, choice_in, IsSound}
 use Rattle.pg_dominion.specs.Checked.{CheckedClaim, claim_row, claim_rows, KeepsOne, AgreesAt, AgreesWithGame, IsForeign, RowEdge, row_priority, AreChecked}
-use Rattle.pg_dominion.proofs.Agreed.{kept_cases, walk_priority, vertices, lengths}
+use Rattle.pg_dominion.proofs.Agreed.{ClaimEdge, kept_cases, walk_priority, vertices, lengths}
 
 -- each row's vertex is below those of later rows
 abbrev Rise : List CheckedRow → Type 0
@@ -49,7 +50,9 @@ module _ (g : Graph) (p : Player) where
       subst (λ (y : CheckedRow). IsOwnRow (x ∷ rows) y) e (record { names = rw t refl; chooses = rw t refl; has = rw t refl })
   own_row (x ∷ rows) r up (suc k, l, e) =
       let m : Contains rows r = (k, omega (arith, l), e) in
-      let f : (x.vertex == r.vertex) ≡ false = false_from_ne_true (x.vertex == r.vertex) (λ t. (let q = eqb-true x.vertex r.vertex t in let b = below_later x rows r up m in absurd (omega (arith, q, b)))) in
+      let f : (x.vertex == r.vertex) ≡ false =
+      false_from_ne_true (x.vertex == r.vertex) (λ t. (let q = eqb-true x.vertex r.vertex t in let b = below_later x rows r up m in
+      absurd (omega (arith, q, b)))) in
       let h = own_row rows r (rise_tail x rows up) m in
       record { names = rw f h.names; chooses = rw f h.chooses; has = rw f h.has }
 
@@ -58,25 +61,28 @@ module _ (g : Graph) (p : Player) where
   agree_at (x ∷ rows) r a (zero, l, e) = subst (λ (y : CheckedRow). AgreesAt g p y) e a.0
   agree_at (x ∷ rows) r a (suc k, l, e) = agree_at rows r a.1 (k, omega (arith, l), e)
 
-  kept_edge : (rows : List CheckedRow) → Rise rows → AgreesWithGame g p rows → (v w : ℕ) → RowEdge rows v w → KeptEdge g p (named (claim_rows p rows)) (choice_in (claim_rows p rows)) v w
+  kept_edge : (rows : List CheckedRow) → Rise rows → AgreesWithGame g p rows → (v w : ℕ) → RowEdge rows v w → ClaimEdge g p rows v w
   kept_edge rows up a v w (r, m, e, i) =
       let f = own_row rows r up m in
-      let q : kept g p (choice_in (claim_rows p rows)) r.vertex ≡ r.kept = kept_cases g p (choice_in (claim_rows p rows)) r (agree_at rows r a m) f.chooses (same_player r.owner p) refl in
-      subst (λ (u : ℕ). KeptEdge g p (named (claim_rows p rows)) (choice_in (claim_rows p rows)) u w) e (f.names, subst (λ (ws : List ℕ). Contains ws w) (sym q) i)
+      let q : kept g p (choice_in (claim_rows p rows)) r.vertex ≡ r.kept
+      = kept_cases g p (choice_in (claim_rows p rows)) r (agree_at rows r a m) f.chooses (same_player r.owner p) refl in
+      subst (λ (u : ℕ). ClaimEdge g p rows u w) e (f.names, subst (λ (ws : List ℕ). Contains ws w) (sym q) i)
 
   singles : (rows : List CheckedRow) → AgreesWithGame g p rows → AllByRecursion (KeepsOne p) rows
   singles [] a = tt
   singles (r ∷ rows) a = (λ o. (let q = a.0.own o in (q.0, q.1)), singles rows a.1)
 
-  good_walk : (rows : List CheckedRow) → Rise rows → AgreesWithGame g p rows → IsSound g p (claim_rows p rows) → (walk : List ℕ) → ClosedWalk (RowEdge rows) walk → of_parity (greatest (row_priority rows) walk) ≡ p
+  good_walk : (rows : List CheckedRow) → Rise rows → AgreesWithGame g p rows → IsSound g p (claim_rows p rows) → (walk : List ℕ)
+      → ClosedWalk (RowEdge rows) walk → of_parity (greatest (row_priority rows) walk) ≡ p
   good_walk rows up a s [] c = absurd c
   good_walk rows up a s (v ∷ vs) c =
-      let k = ClosedWalk-weaker (RowEdge rows) (KeptEdge g p (named (claim_rows p rows)) (choice_in (claim_rows p rows))) (kept_edge rows up a) (v ∷ vs) c in
+      let k = ClosedWalk-weaker (RowEdge rows) (ClaimEdge g p rows) (kept_edge rows up a) (v ∷ vs) c in
       ap of_parity (walk_priority g p rows a v vs v k) ∙ s.good (v ∷ vs) k
 
   pub checked : (rows : List CheckedRow) → AgreesWithGame g p rows → IsSound g p (claim_rows p rows) → AreChecked p rows
   checked rows a s =
-      let up : IsStrictlyIncreasing (map (λ r. r.vertex) rows) = subst (λ (xs : List ℕ). IsStrictlyIncreasing xs) (vertices g p rows) s.shape.right.rising in
+      let up : IsStrictlyIncreasing (map (λ r. r.vertex) rows)
+      = subst (λ (xs : List ℕ). IsStrictlyIncreasing xs) (vertices g p rows) s.shape.right.rising in
       record {
         nonempty = subst (λ (n : ℕ). 0 < n) (lengths g p rows) s.shape.nonempty;
         rising = up;
@@ -84,12 +90,9 @@ module _ (g : Graph) (p : Player) where
         good = good_walk rows (rise rows up) a s;
       }
 
-  pub Agrees-push : (rows : List CheckedRow) (r : CheckedRow) → AgreesWithGame g p rows → AgreesAt g p r → AgreesWithGame g p (rows ++ r ∷ [])
-  Agrees-push [] r a h = (h, tt)
-  Agrees-push (x ∷ rows) r a h = (a.0, Agrees-push rows r a.1 h)
-
   -- the first row that does not agree, by its place
-  pub foreign_at : (rows : List CheckedRow) (i : ℕ) (d : CheckedRow) → i < length rows → AgreesWithGame g p (take i rows) → (AgreesAt g p (get_or rows i d) → ⊥) → IsForeign g p rows (get_or rows i d).vertex
+  pub foreign_at : (rows : List CheckedRow) (i : ℕ) (d : CheckedRow) → i < length rows → AgreesWithGame g p (take i rows)
+      → (AgreesAt g p (get_or rows i d) → ⊥) → IsForeign g p rows (get_or rows i d).vertex
   foreign_at rows i d l a n = (
     take i rows,
     drop (suc i) rows,
@@ -101,7 +104,9 @@ module _ (g : Graph) (p : Player) where
   )
 
 -- the same, said of the claim that the rows are
-pub foreign_here : (g : Graph) (x : CheckedClaim) (p : Player) (xs items : List CheckedRow) → record { player = p; rows = xs } ≡ x → items ≡ xs → (i : ℕ) (r : CheckedRow) → i < length items → r ≡ get_or items i r → AgreesWithGame g p (take i items) → (AgreesAt g p r → ⊥) → IsForeign g x.player x.rows r.vertex
+pub foreign_here : (g : Graph) (x : CheckedClaim) (p : Player) (xs items : List CheckedRow) → record { player = p; rows = xs } ≡ x → items ≡ xs
+    → (i : ℕ) (r : CheckedRow) → i < length items → r ≡ get_or items i r
+    → AgreesWithGame g p (take i items) → (AgreesAt g p r → ⊥) → IsForeign g x.player x.rows r.vertex
 foreign_here g x p xs items view same i r l e a n =
     let h = foreign_at g p items i r l a (λ q. n (subst (λ (y : CheckedRow). AgreesAt g p y) (sym e) q)) in
     subst (λ (y : CheckedClaim). IsForeign g y.player y.rows r.vertex) view

@@ -1,5 +1,7 @@
 -- The shape of a claim, one row after another.
-use Rattle.std.proofs.Common.{◌≡◌, ℕ, zero, suc, ◌+◌, ◌<◌, ◌≤◌, false, inl, inr, List, [], ◌∷◌, ◌++◌, length, take, drop, map, get_or, refl, sym, subst, arith, length-append}
+use Rattle.std.proofs.Common.{◌≡◌, ℕ, zero, suc, ◌+◌, ◌<◌, ◌≤◌, false, inl, inr, List, [], ◌∷◌, ◌++◌, length, take, drop, map, get_or, refl, sym}
+use Rattle.std.proofs.Common.{subst, arith, length-append}
+use Rattle.pg_game.proofs.Rows.{below_or_last}
 use Rattle.std.specs.Prelude.{Option, slice_index, ◌==◌}
 use Rattle.std.specs.List.{AllByRecursion}
 use Rattle.std.specs.List.Sorted.{IsStrictlyIncreasing}
@@ -10,7 +12,6 @@ use Rattle.pg_game.specs.declared.player.Player.{Player}
 use Rattle.pg_game.specs.Graph.{Graph}
 use Rattle.pg_dominion.specs.Claim.{ClaimRows, named, IsRightRow, AreRight}
 use Rattle.pg_dominion.specs.private.Shape.{next_after}
-use Rattle.pg_dominion.proofs.Booleans.{last_or}
 
 abbrev vertices : ClaimRows → List ℕ
 vertices rows = map (λ r. r.0) rows
@@ -29,7 +30,8 @@ next_least : (rows : ClaimRows) (m : ℕ) → ((k : ℕ) → k < length rows →
 next_least [] m h = omega arith
 next_least (x ∷ rows) m h = let a : x.0 < m = h 0 (omega arith) in omega (arith, next_least rows m (λ k l. h (suc k) (omega arith)))
 
-all_push : (P : ℕ × Option ℕ → Type 0) (rows : ClaimRows) (r : ℕ × Option ℕ) → AllByRecursion P rows → P r → AllByRecursion P (rows ++ r ∷ [])
+all_push : (P : ℕ × Option ℕ → Type 0) (rows : ClaimRows) (r : ℕ × Option ℕ) → AllByRecursion P rows → P r
+    → AllByRecursion P (rows ++ r ∷ [])
 all_push P [] r a h = (h, tt)
 all_push P (x ∷ rows) r a h = (a.0, all_push P rows r a.1 h)
 
@@ -37,12 +39,13 @@ all_last : (P : ℕ × Option ℕ → Type 0) (rows : ClaimRows) (r : ℕ × Opt
 all_last P [] r a = a.0
 all_last P (x ∷ rows) r a = all_last P rows r a.1
 
-pub AreRight-push : (g : Graph) (p : Player) (rows : ClaimRows) (r : ℕ × Option ℕ) → AreRight g p rows → IsRightRow g p r → next_after rows ≤ r.0 → AreRight g p (rows ++ r ∷ [])
+pub AreRight-push : (g : Graph) (p : Player) (rows : ClaimRows) (r : ℕ × Option ℕ) → AreRight g p rows → IsRightRow g p r → next_after rows ≤ r.0
+    → AreRight g p (rows ++ r ∷ [])
 AreRight-push g p rows r a right l = record {
   each = all_push (IsRightRow g p) rows r a.each right;
   rising = subst (λ (xs : List ℕ). IsStrictlyIncreasing xs) (sym (map_push (λ (x : ℕ × Option ℕ). x.0) rows r)) (λ k lt.
       let size = length-map rows (λ (x : ℕ × Option ℕ). x.0) in
-      elim (last_or (length rows) (k + 1) (omega (arith, size, length-append (vertices rows) (r.0 ∷ [])))) [
+      elim (below_or_last (length rows) (k + 1) (omega (arith, size, length-append (vertices rows) (r.0 ∷ [])))) [
         | inl m ↦ (let e = get_or_append_left (vertices rows) (r.0 ∷ []) 0 k (omega (arith, size)) in
             let f = get_or_append_left (vertices rows) (r.0 ∷ []) 0 (k + 1) (omega (arith, size)) in
             let h = a.rising k (omega (arith, size)) in
@@ -57,17 +60,22 @@ AreRight-push g p rows r a right l = record {
 -- a vertex from the next on is not named
 pub unnamed : (rows : ClaimRows) (v : ℕ) → next_after rows ≤ v → named rows v ≡ false
 unnamed [] v l = refl
-unnamed (x ∷ rows) v l = let f : (x.0 == v) ≡ false = false_from_ne_true (x.0 == v) (λ t. let e = eqb-true x.0 v t in absurd (omega arith)) in rw (f, unnamed rows v (omega arith)) refl
+unnamed (x ∷ rows) v l =
+    let f : (x.0 == v) ≡ false =
+    false_from_ne_true (x.0 == v) (λ t. let e = eqb-true x.0 v t in absurd (omega arith)) in rw (f, unnamed rows v (omega arith)) refl
 
-pub AreRight-last : (g : Graph) (p : Player) (rows : ClaimRows) (r : ℕ × Option ℕ) → AreRight g p (rows ++ r ∷ []) → IsRightRow g p r × (next_after rows ≤ r.0)
+pub AreRight-last : (g : Graph) (p : Player) (rows : ClaimRows) (r : ℕ × Option ℕ) → AreRight g p (rows ++ r ∷ [])
+    → IsRightRow g p r × (next_after rows ≤ r.0)
 AreRight-last g p rows r a =
     let size = length-map rows (λ (x : ℕ × Option ℕ). x.0) in
-    let up : IsStrictlyIncreasing (vertices rows ++ r.0 ∷ []) = subst (λ (xs : List ℕ). IsStrictlyIncreasing xs) (map_push (λ (x : ℕ × Option ℕ). x.0) rows r) a.rising in (
+    let up : IsStrictlyIncreasing (vertices rows ++ r.0 ∷ []) =
+    subst (λ (xs : List ℕ). IsStrictlyIncreasing xs) (map_push (λ (x : ℕ × Option ℕ). x.0) rows r) a.rising in (
       all_last (IsRightRow g p) rows r a.each,
       next_least rows r.0 (λ k l.
           let e = get_or_append_left (vertices rows) (r.0 ∷ []) 0 k (omega (arith, size)) in
           let f = get_or_push (vertices rows) r.0 0 (length rows) size in
-          let h = below_from_sorted (vertices rows ++ r.0 ∷ []) k (length rows) 0 (sorted_from_strictly_increasing (vertices rows ++ r.0 ∷ []) up) l (omega (arith, size, length-append (vertices rows) (r.0 ∷ []))) in
+          let h = below_from_sorted (vertices rows ++ r.0 ∷ []) k (length rows) 0 (sorted_from_strictly_increasing (vertices rows ++ r.0 ∷ []) up) l
+          (omega (arith, size, length-append (vertices rows) (r.0 ∷ []))) in
           let i : get_or (vertices rows) k 0 < r.0 = omega (arith, e, f, h) in i),
     )
 
@@ -79,7 +87,8 @@ pub AreRight-front : (g : Graph) (p : Player) (xs ys : ClaimRows) → AreRight g
 AreRight-front g p xs ys a = record {
   each = all_front (IsRightRow g p) xs ys a.each;
   rising = λ k l.
-      let up : IsStrictlyIncreasing (vertices xs ++ vertices ys) = subst (λ (zs : List ℕ). IsStrictlyIncreasing zs) (map-append (λ (x : ℕ × Option ℕ). x.0) xs ys) a.rising in
+      let up : IsStrictlyIncreasing (vertices xs ++ vertices ys)
+      = subst (λ (zs : List ℕ). IsStrictlyIncreasing zs) (map-append (λ (x : ℕ × Option ℕ). x.0) xs ys) a.rising in
       let e = get_or_append_left (vertices xs) (vertices ys) 0 k (omega arith) in
       let f = get_or_append_left (vertices xs) (vertices ys) 0 (k + 1) l in
       let h = up k (omega (arith, length-append (vertices xs) (vertices ys))) in
@@ -87,9 +96,11 @@ AreRight-front g p xs ys a = record {
 }
 
 -- the next row's vertex is not named by the rows before it
-pub next_unnamed : (g : Graph) (p : Player) (rows : ClaimRows) (i : ℕ) (d : ℕ × Option ℕ) → AreRight g p rows → i < length rows → named (take i rows) (get_or rows i d).0 ≡ false
+pub next_unnamed : (g : Graph) (p : Player) (rows : ClaimRows) (i : ℕ) (d : ℕ × Option ℕ) → AreRight g p rows → i < length rows
+    → named (take i rows) (get_or rows i d).0 ≡ false
 next_unnamed g p rows i d a l =
     let r = get_or rows i d in
     let all : AreRight g p (take (i + 1) rows ++ drop (i + 1) rows) = subst (λ (xs : ClaimRows). AreRight g p xs) (sym (take-append-drop (i + 1) rows)) a in
-    let front : AreRight g p (take i rows ++ r ∷ []) = subst (λ (xs : ClaimRows). AreRight g p xs) (take_more rows i d l) (AreRight-front g p (take (i + 1) rows) (drop (i + 1) rows) all) in
+    let front : AreRight g p (take i rows ++ r ∷ [])
+    = subst (λ (xs : ClaimRows). AreRight g p xs) (take_more rows i d l) (AreRight-front g p (take (i + 1) rows) (drop (i + 1) rows) all) in
     unnamed (take i rows) r.0 (AreRight-last g p (take i rows) r front).1

@@ -1,9 +1,9 @@
 -- A search along a claim's rows that found no way back: there is none.
-use Rattle.std.proofs.Common.{◌≡◌, ◌≢◌, ℕ, suc, ◌<◌, ◌≤◌, true, inl, inr, List, [], ◌∷◌, ◌++◌, length, get_or, refl, sym, ◌∙◌, ap, subst, arith, length-append}
-use Rattle.std.specs.Prelude.{Option, None, slice_index, ◌==◌}
-use Rattle.std.specs.List.{Contains}
-use Rattle.std.proofs.lemmas.Bool.{eqb-true}
-use Rattle.std.proofs.lemmas.List.{append_assoc, get_or_append_left, get_or_push}
+use Rattle.std.proofs.Common.{◌≡◌, ◌≢◌, ℕ, suc, ◌<◌, ◌≤◌, ◌↔◌, true, false, inl, inr, List, [], ◌∷◌, ◌++◌, length, get_or, refl, sym, ◌∙◌, ap, subst, arith}
+use Rattle.std.specs.Prelude.{Option, Some, None, MatchOption, slice_index, ◌==◌}
+use Rattle.std.specs.List.{Contains, list_any}
+use Rattle.std.proofs.lemmas.Bool.{eqb-true, cases_Bool}
+use Rattle.std.proofs.lemmas.List.{append_assoc}
 use Rattle.std.proofs.lemmas.List.Elements.{Contains-append_left}
 use Rattle.pg_game.specs.declared.player.Player.{Player}
 use Rattle.pg_game.specs.Player.{same_player, of_parity, opponent}
@@ -12,7 +12,8 @@ use Rattle.pg_game.specs.VertexSet.{In}
 use Rattle.pg_game.specs.Kept.{KeptEdge, kept}
 use Rattle.pg_game.specs.Walk.{Walk, greatest_priority}
 use Rattle.pg_game.specs.Region.{OnBadWalk}
-use Rattle.pg_game.specs.Least.{NoneHas}
+use Rattle.pg_game.specs.Least.{NoneHas, IsLeast}
+use Rattle.pg_game.proofs.Members.{none_first}
 use Rattle.pg_game.proofs.Players.{is_same}
 use Rattle.pg_dominion.specs.Claim.{ClaimRows, named, choice_in}
 use Rattle.pg_dominion.specs.private.Shape.{is_bad}
@@ -20,28 +21,29 @@ use Rattle.pg_dominion.specs.declared.checked.CheckedRow.{CheckedRow}
 use Rattle.pg_dominion.specs.Checked.{claim_row, AgreesAt}
 use Rattle.pg_dominion.specs.private.Staying.{Stays, AreNamed}
 use Rattle.pg_dominion.proofs.Agreed.{kept_cases}
-use Rattle.pg_dominion.proofs.Booleans.{true_or_false, last_or}
-use Rattle.pg_dominion.proofs.Searching.{place_in}
+use Rattle.pg_dominion.proofs.Searching.{place_in, push_each, starts_in}
 
-pub longer_push : (before list : List ℕ) (w : ℕ) → (more : List ℕ) × (list ≡ before ++ more) → (more : List ℕ) × (list ++ w ∷ [] ≡ before ++ more)
+pub longer_push : (before list : List ℕ) (w : ℕ) → (more : List ℕ) × (list ≡ before ++ more)
+    → (more : List ℕ) × (list ++ w ∷ [] ≡ before ++ more)
 longer_push before list w (more, e) = (more ++ w ∷ [], ap (λ (xs : List ℕ). xs ++ w ∷ []) e ∙ append_assoc before more (w ∷ []))
 
 pub AreNamed-push : (rows : ClaimRows) (list : List ℕ) (w : ℕ) → AreNamed rows list → In (named rows) w → AreNamed rows (list ++ w ∷ [])
-AreNamed-push rows list w all i k l = elim (last_or (length list) k (omega (arith, l, length-append list (w ∷ [])))) [
-  | inl m ↦ subst (λ (x : ℕ). In (named rows) x) (sym (get_or_append_left list (w ∷ []) 0 k m)) (all k m)
-  | inr e ↦ subst (λ (x : ℕ). In (named rows) x) (sym (get_or_push list w 0 k (sym e))) i
-]
+AreNamed-push rows list w all i = push_each (λ k x. In (named rows) x) list w all i
 
 module _ (g : Graph) (p : Player) (rows : ClaimRows) where
   -- what a row keeps is what the claim keeps of its vertex
-  pub kept_in_row : (r : CheckedRow) (v : ℕ) (c : Option ℕ) → AgreesAt g p r → claim_row p r ≡ (v, c) → choice_in rows v ≡ c → r.kept ≡ kept g p (choice_in rows) v
+  pub kept_in_row : (r : CheckedRow) (v : ℕ) (c : Option ℕ) → AgreesAt g p r → claim_row p r ≡ (v, c) → choice_in rows v ≡ c
+      → r.kept ≡ kept g p (choice_in rows) v
   kept_in_row r v c a e h =
       let ev : r.vertex ≡ v = ap (λ (x : ℕ × Option ℕ). x.0) e in
       let ec : (claim_row p r).1 ≡ c = ap (λ (x : ℕ × Option ℕ). x.1) e in
       let s : choice_in rows r.vertex ≡ (claim_row p r).1 = ap (choice_in rows) ev ∙ (h ∙ sym ec) in
       sym (kept_cases g p (choice_in rows) r a s (same_player r.owner p) refl) ∙ ap (kept g p (choice_in rows)) ev
 
-  pub Stays-from_row : (start : ℕ) (list : List ℕ) (v : ℕ) (ws : List ℕ) (n : ℕ) → ws ≡ kept g p (choice_in rows) v → length ws ≤ n → ((i : ℕ) → i < n → In (named rows) (slice_index ws i) → priority_of g (slice_index ws i) ≤ priority_of g start → (slice_index ws i ≢ start) × Contains list (slice_index ws i)) → Stays g p rows start list v
+  pub Stays-from_row : (start : ℕ) (list : List ℕ) (v : ℕ) (ws : List ℕ) (n : ℕ) → ws ≡ kept g p (choice_in rows) v → length ws ≤ n
+      → ((i : ℕ) → i < n → In (named rows) (slice_index ws i) → priority_of g (slice_index ws i) ≤ priority_of g start
+      → (slice_index ws i ≢ start) × Contains list (slice_index ws i))
+      → Stays g p rows start list v
   Stays-from_row start list v ws n e l h w edge i low =
       let q = place_in (kept g p (choice_in rows) v) ws w e edge.1 in
       let i' : In (named rows) (slice_index ws q.0) = subst (λ (x : ℕ). In (named rows) x) (sym q.2) i in
@@ -51,31 +53,64 @@ module _ (g : Graph) (p : Player) (rows : ClaimRows) where
   pub Stays-longer : (start : ℕ) (list more : List ℕ) (v : ℕ) → Stays g p rows start list v → Stays g p rows start (list ++ more) v
   Stays-longer start list more v s w e i l = let h = s w e i l in (h.0, Contains-append_left list more w h.1)
 
-  starts_in : (v : ℕ) (vs : List ℕ) (last : ℕ) → Walk (KeptEdge g p (named rows) (choice_in rows)) v vs last → In (named rows) v
-  starts_in v [] last walk = walk.0
-  starts_in v (w ∷ ws) last walk = walk.0.0
+  abbrev Own : ℕ → ℕ → Type 0
+  Own = KeptEdge g p (named rows) (choice_in rows)
+
+  starts : (v : ℕ) (vs : List ℕ) (last : ℕ) → Walk Own v vs last → In (named rows) v
+  starts = starts_in g p (named rows) (choice_in rows)
 
   -- a walk of no greater priority ends elsewhere
-  ends_elsewhere : (start : ℕ) (list : List ℕ) → ((w : ℕ) → Contains list w → Stays g p rows start list w) → (v : ℕ) (vs : List ℕ) (last : ℕ) → Stays g p rows start list v → Walk (KeptEdge g p (named rows) (choice_in rows)) v vs last → greatest_priority g vs ≤ priority_of g start → In (named rows) last → priority_of g last ≤ priority_of g start → last ≢ start
+  ends_elsewhere : (start : ℕ) (list : List ℕ) → ((w : ℕ) → Contains list w → Stays g p rows start list w)
+      → (v : ℕ) (vs : List ℕ) (last : ℕ)
+      → Stays g p rows start list v → Walk Own v vs last → greatest_priority g vs ≤ priority_of g start
+      → In (named rows) last → priority_of g last ≤ priority_of g start → last ≢ start
   ends_elsewhere start list all v [] last s e low i l = (s last e i l).0
-  ends_elsewhere start list all v (w ∷ ws) last s e low i l = ends_elsewhere start list all w ws last (all w (s w e.0 (starts_in w ws last e.1) (omega (arith, low))).1) e.1 (omega (arith, low)) i l
+  ends_elsewhere start list all v (w ∷ ws) last s e low i l =
+      ends_elsewhere start list all w ws last (all w (s w e.0 (starts w ws last e.1) (omega (arith, low))).1) e.1 (omega (arith, low)) i l
 
-  pub none_returns : (start : ℕ) (list : List ℕ) (n : ℕ) → length list ≤ n → Stays g p rows start list start → ((i : ℕ) → i < n → Stays g p rows start list (slice_index list i)) → OnBadWalk g p (named rows) (choice_in rows) start → ⊥
+  pub none_returns : (start : ℕ) (list : List ℕ) (n : ℕ) → length list ≤ n → Stays g p rows start list start
+      → ((i : ℕ) → i < n → Stays g p rows start list (slice_index list i)) → OnBadWalk g p (named rows) (choice_in rows) start → ⊥
   none_returns start list n l first rest (vs, walk, top, parity) =
-      let all : (w : ℕ) → Contains list w → Stays g p rows start list w = λ w c. (let q = place_in list list w refl c in subst (λ (x : ℕ). Stays g p rows start list x) q.2 (rest q.0 (omega (arith, q.1)))) in
-      ends_elsewhere start list all start vs start first walk (omega (arith, top)) (starts_in start vs start walk) (omega arith) refl
+      let all : (w : ℕ) → Contains list w → Stays g p rows start list w
+      = λ w c. (let q = place_in list list w refl c in subst (λ (x : ℕ). Stays g p rows start list x) q.2 (rest q.0 (omega (arith, q.1)))) in
+      ends_elsewhere start list all start vs start first walk (omega (arith, top)) (starts start vs start walk) (omega arith) refl
 
   -- the place of a named vertex
   place_named : (xs : ClaimRows) (v : ℕ) → In (named xs) v → (i : ℕ) × (i < length xs) × ((get_or xs i (0, None)).0 ≡ v)
   place_named [] v i = absurd (cc i)
-  place_named (r ∷ xs) v i = elim (true_or_false (r.0 == v)) [
+  place_named (r ∷ xs) v i = elim (cases_Bool (r.0 == v)) [
     | inl t ↦ (0, omega arith, eqb-true r.0 v t)
     | inr f ↦ (let q = place_named xs v (rw f at i) in (suc q.0, omega (arith, q.1), q.2))
   ]
 
   -- none where no bad vertex of a row is the greatest on a closed walk
-  pub none_from_rows : (xs : ClaimRows) (n : ℕ) → xs ≡ rows → length xs ≤ n → ((i : ℕ) → i < n → is_bad g p (get_or xs i (0, None)).0 ≡ true → OnBadWalk g p (named rows) (choice_in rows) (get_or xs i (0, None)).0 → ⊥) → NoneHas (OnBadWalk g p (named rows) (choice_in rows))
+  pub none_from_rows : (xs : ClaimRows) (n : ℕ) → xs ≡ rows → length xs ≤ n
+      → ((i : ℕ) → i < n → is_bad g p (get_or xs i (0, None)).0 ≡ true → OnBadWalk g p (named rows) (choice_in rows) (get_or xs i (0, None)).0 → ⊥)
+      → NoneHas (OnBadWalk g p (named rows) (choice_in rows))
   none_from_rows xs n e l h v (vs, walk, top, parity) =
       let t : is_bad g p v ≡ true = is_same (of_parity (priority_of g v)) (opponent p) parity in
-      let q = place_named xs v (subst (λ (ys : ClaimRows). In (named ys) v) (sym e) (starts_in v vs v walk)) in
-      h q.0 (omega (arith, q.1)) (subst (λ (x : ℕ). is_bad g p x ≡ true) (sym q.2) t) (subst (λ (x : ℕ). OnBadWalk g p (named rows) (choice_in rows) x) (sym q.2) (vs, walk, top, parity))
+      let q = place_named xs v (subst (λ (ys : ClaimRows). In (named ys) v) (sym e) (starts v vs v walk)) in
+      h q.0 (omega (arith, q.1)) (subst (λ (x : ℕ). is_bad g p x ≡ true) (sym q.2) t)
+      (subst (λ (x : ℕ). OnBadWalk g p (named rows) (choice_in rows) x) (sym q.2) (vs, walk, top, parity))
+
+named_good : (g : Graph) (p : Player) (rows : ClaimRows) → list_any (λ r. is_bad g p r.0) rows ≡ false → (v : ℕ) → In (named rows) v
+    → is_bad g p v ≡ false
+named_good g p [] e v y = absurd (cc y)
+named_good g p (r ∷ rows) e v y = let both = none_first (is_bad g p r.0) (list_any (λ r. is_bad g p r.0) rows) e in elim (cases_Bool (r.0 == v)) [
+  | inl t ↦ subst (λ (u : ℕ). is_bad g p u ≡ false) (eqb-true r.0 v t) both.0
+  | inr f ↦ named_good g p rows both.1 v (rw f at y)
+]
+
+-- a claim that names no vertex of the opponent's parity
+pub none_on_bad_walk : (g : Graph) (p : Player) (rows : ClaimRows) → list_any (λ r. is_bad g p r.0) rows ≡ false
+    → NoneHas (OnBadWalk g p (named rows) (choice_in rows))
+none_on_bad_walk g p rows e v (vs, walk, top, parity) =
+    let f : is_bad g p v ≡ false = named_good g p rows e v (starts_in g p (named rows) (choice_in rows) v vs v walk) in
+    let t : is_bad g p v ≡ true = is_same (of_parity (priority_of g v)) (opponent p) parity in
+    cc (t, f)
+
+-- what is said of one property as of another
+pub same_least : (P Q : ℕ → Type 0) → ((v : ℕ) → P v ↔ Q v) → (least : Option ℕ) → MatchOption least (NoneHas P) (IsLeast P)
+    → MatchOption least (NoneHas Q) (IsLeast Q)
+same_least P Q same None h = λ v q. h v ((same v).1 q)
+same_least P Q same (Some v) h = record { has = (same v).0 h.has; least = λ u q. h.least u ((same u).1 q) }

@@ -1,8 +1,10 @@
 -- Vertices that are taken one after another, each listed: what stays the same, and what is done once they are reached.
 use mathlib.Core.Path.{fun_ext}
-use Rattle.std.proofs.Common.{◌≡◌, ℕ, ◌+◌, ◌<◌, ◌≤◌, Bool, true, false, ◌||◌, inl, inr, List, [], ◌∷◌, ◌++◌, length, take, get_or, refl, sym, ◌∙◌, ap, subst, arith, append_assoc, length-append}
+use Rattle.std.proofs.Math.Bool.{or-false}
+use Rattle.std.proofs.Common.{◌≡◌, ℕ, ◌+◌, ◌<◌, ◌≤◌, Bool, true, false, ◌||◌, inl, inr, List, [], ◌∷◌, ◌++◌, length, take, get_or, refl, sym, ◌∙◌, ap}
+use Rattle.std.proofs.Common.{subst, arith, append_assoc, length-append}
 use Rattle.std.specs.Prelude.{◌==◌, if◌then◌else◌, OnOk, Result, Ok, Err}
-use Rattle.std.proofs.lemmas.Bool.{eqb-true, eq-eqb}
+use Rattle.std.proofs.lemmas.Bool.{eqb-true, eq-eqb, or_left, or_right, or_cases}
 use Rattle.std.proofs.lemmas.List.{append-nil, take_more, take_all, take-append-le, take-append-drop}
 use Rattle.std.proofs.lemmas.List.Folds.{list_any-append}
 use Rattle.pg_game.specs.declared.player.Player.{Player}
@@ -11,7 +13,6 @@ use Rattle.pg_game.specs.VertexSet.{VertexSet, In, Within, union}
 use Rattle.pg_dominion.specs.Area.{listed_by, Takes, AttractsNoFurther}
 use Rattle.pg_dominion.specs.private.Attracting.{IsTakenOrOpen}
 use Rattle.pg_dominion.proofs.Attracting.{IsDone-more}
-use Rattle.pg_dominion.proofs.Booleans.{or_left, or_right, or_none, or_cases}
 
 pub on_ok_both : {T E : Type 0} (P Q : Type 0) (r : Result T E) → OnOk r P → OnOk r Q → OnOk r (P × Q)
 on_ok_both P Q (Ok x) p q = (p, q)
@@ -19,16 +20,23 @@ on_ok_both P Q (Err e) p q = tt
 
 module _ {A : Type 0} (f : A → ℕ) where
   listed-push : (xs : List A) (x : A) (v : ℕ) → listed_by f (xs ++ x ∷ []) v ≡ (listed_by f xs v || (f x == v))
-  listed-push xs x v = list_any-append (λ y. f y == v) xs (x ∷ []) ∙ ap (λ b. listed_by f xs v || b) (or_none (f x == v))
+  listed-push xs x v = list_any-append (λ y. f y == v) xs (x ∷ []) ∙ ap (λ b. listed_by f xs v || b) (or-false (f x == v))
+
+  -- what is listed last is listed
+  pub last_listed : (xs ys : List A) (x : A) (v : ℕ) → f x ≡ v → ys ≡ xs ++ x ∷ [] → listed_by f ys v ≡ true
+  last_listed xs ys x v e l = rw (l, listed-push xs x v) (or_right (listed_by f xs v) (f x == v) (eq-eqb (f x) v e))
 
   pub takes_none : (F F' : VertexSet) (xs : List A) → ((v : ℕ) → F' v ≡ F v) → Takes f F xs F' xs
   takes_none F F' xs same = record { more = []; list_is = sym (append-nil xs); same = λ v. ap (λ b. b || listed_by f xs v) (same v) }
 
-  pub takes_one : (F F' F'' : VertexSet) (xs xs' : List A) (v : ℕ) → ((w : ℕ) → F' w ≡ F w) → In F v → (x : A) × (f x ≡ v) × (xs' ≡ xs ++ x ∷ []) → ((w : ℕ) → F'' w ≡ (if v == w then false else F' w)) → Takes f F xs F'' xs'
+  pub takes_one : (F F' F'' : VertexSet) (xs xs' : List A) (v : ℕ) → ((w : ℕ) → F' w ≡ F w) → In F v
+      → (x : A) × (f x ≡ v) × (xs' ≡ xs ++ x ∷ []) → ((w : ℕ) → F'' w ≡ (if v == w then false else F' w)) → Takes f F xs F'' xs'
   takes_one F F' F'' xs xs' v same i (x, e, l) now = record {
     more = x ∷ [];
     list_is = l;
-    same = λ w. ap (λ ys. F'' w || listed_by f ys w) l ∙ (ap (λ b. F'' w || b) (listed-push xs x w) ∙ (ap (λ u. F'' w || (listed_by f xs w || (u == w))) e ∙ (ap (λ b. b || (listed_by f xs w || (v == w))) (now w) ∙ go w (v == w) refl)));
+    same = λ w. ap (λ ys. F'' w || listed_by f ys w) l
+        ∙ (ap (λ b. F'' w || b) (listed-push xs x w) ∙ (ap (λ u. F'' w || (listed_by f xs w || (u == w))) e
+        ∙ (ap (λ b. b || (listed_by f xs w || (v == w))) (now w) ∙ go w (v == w) refl)));
   }
     where
       here : (a n : Bool) → a ≡ true → (false || (n || true)) ≡ (a || n)
@@ -38,7 +46,7 @@ module _ {A : Type 0} (f : A → ℕ) where
 
       go : (w : ℕ) (b : Bool) → (v == w) ≡ b → ((if b then false else F' w) || (listed_by f xs w || b)) ≡ (F w || listed_by f xs w)
       go w true e = here (F w) (listed_by f xs w) (subst (λ (u : ℕ). F u ≡ true) (eqb-true v w e) i)
-      go w false e = ap (λ b. b || (listed_by f xs w || false)) (same w) ∙ ap (λ b. F w || b) (or_none (listed_by f xs w))
+      go w false e = ap (λ b. b || (listed_by f xs w || false)) (same w) ∙ ap (λ b. F w || b) (or-false (listed_by f xs w))
 
   pub takes_then : (F F' F'' : VertexSet) (xs ys zs : List A) → Takes f F xs F' ys → Takes f F' ys F'' zs → Takes f F xs F'' zs
   takes_then F F' F'' xs ys zs a b = record {
@@ -55,7 +63,8 @@ module _ {A : Type 0} (f : A → ℕ) where
     takes_front n l = ap (take n) t.list_is ∙ take-append-le n xs t.more l
 
     pub takes_within : Within (listed_by f xs) (listed_by f xs')
-    takes_within v i = ap (λ ys. listed_by f ys v) t.list_is ∙ (list_any-append (λ y. f y == v) xs t.more ∙ or_left (listed_by f xs v) (listed_by f t.more v) i)
+    takes_within v i =
+        ap (λ ys. listed_by f ys v) t.list_is ∙ (list_any-append (λ y. f y == v) xs t.more ∙ or_left (listed_by f xs v) (listed_by f t.more v) i)
 
     pub takes_set : union F' (listed_by f xs') ≡ union F (listed_by f xs)
     takes_set = fun_ext t.same
@@ -65,22 +74,30 @@ module _ {A : Type 0} (f : A → ℕ) where
     one_more = take_more xs n d l ∙ ap (λ (y : A). take n xs ++ y ∷ []) (sym e)
 
     in_take : (v : ℕ) → In (listed_by f (take (n + 1) xs)) v → In (listed_by f xs) v
-    in_take v i = subst (λ (ys : List A). listed_by f ys v ≡ true) (take-append-drop (n + 1) xs) (list_any-append (λ y. f y == v) (take (n + 1) xs) _ ∙ or_left (listed_by f (take (n + 1) xs) v) _ i)
+    in_take v i =
+        subst (λ (ys : List A). listed_by f ys v ≡ true) (take-append-drop (n + 1) xs)
+        (list_any-append (λ y. f y == v) (take (n + 1) xs) _ ∙ or_left (listed_by f (take (n + 1) xs) v) _ i)
 
     pub next_listed : In (listed_by f xs) (f x)
-    next_listed = in_take (f x) (ap (λ ys. listed_by f ys (f x)) one_more ∙ (listed-push (take n xs) x (f x) ∙ or_right (listed_by f (take n xs) (f x)) (f x == f x) (eq-eqb (f x) (f x) refl)))
+    next_listed =
+        in_take (f x) (ap (λ ys. listed_by f ys (f x)) one_more
+        ∙ (listed-push (take n xs) x (f x) ∙ or_right (listed_by f (take n xs) (f x)) (f x == f x) (eq-eqb (f x) (f x) refl)))
 
     -- the next item's vertex is reached
-    pub next_reached : (g : Graph) (p : Player) (U F F' : VertexSet) (xs' : List A) → Takes f F xs F' xs' → ((u : ℕ) → In U u → HasEdge g u (f x) → IsTakenOrOpen g p U (listed_by f xs) (listed_by f xs') u) → AttractsNoFurther g p U (listed_by f (take n xs)) (listed_by f xs) → AttractsNoFurther g p U (listed_by f (take (n + 1) xs')) (listed_by f xs')
+    pub next_reached : (g : Graph) (p : Player) (U F F' : VertexSet) (xs' : List A) → Takes f F xs F' xs'
+        → ((u : ℕ) → In U u → HasEdge g u (f x) → IsTakenOrOpen g p U (listed_by f xs) (listed_by f xs') u)
+        → AttractsNoFurther g p U (listed_by f (take n xs)) (listed_by f xs) → AttractsNoFurther g p U (listed_by f (take (n + 1) xs')) (listed_by f xs')
     next_reached g p U F F' xs' t settled d =
         let front : take (n + 1) xs' ≡ take (n + 1) xs = takes_front F F' xs xs' t (n + 1) (omega (arith, l)) in
         IsDone-more g p U (listed_by f (take n xs)) (listed_by f (take (n + 1) xs')) (listed_by f xs) (listed_by f xs') (f x) (takes_within F F' xs xs' t)
         (λ v i. in_take v (subst (λ (ys : List A). listed_by f ys v ≡ true) front i))
-        (λ v i. elim (or_cases (listed_by f (take n xs) v) (f x == v) (sym (listed-push (take n xs) x v) ∙ subst (λ (ys : List A). listed_by f ys v ≡ true) (front ∙ one_more) i)) [
+        (λ v i. elim (or_cases (listed_by f (take n xs) v) (f x == v)
+        (sym (listed-push (take n xs) x v) ∙ subst (λ (ys : List A). listed_by f ys v ≡ true) (front ∙ one_more) i)) [
           | inl h ↦ inl h
           | inr h ↦ inr (sym (eqb-true (f x) v h))
         ])
         settled d
 
-  pub all_done : (g : Graph) (p : Player) (U : VertexSet) (xs : List A) (n : ℕ) → length xs ≤ n → AttractsNoFurther g p U (listed_by f (take n xs)) (listed_by f xs) → AttractsNoFurther g p U (listed_by f xs) (listed_by f xs)
+  pub all_done : (g : Graph) (p : Player) (U : VertexSet) (xs : List A) (n : ℕ) → length xs ≤ n
+      → AttractsNoFurther g p U (listed_by f (take n xs)) (listed_by f xs) → AttractsNoFurther g p U (listed_by f xs) (listed_by f xs)
   all_done g p U xs n l d = subst (λ (ys : List A). AttractsNoFurther g p U (listed_by f ys) (listed_by f xs)) (take_all n xs l) d

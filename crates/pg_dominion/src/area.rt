@@ -65,7 +65,8 @@ pub trait Area {
     ) -> Result<(), Memory>
         requires ready { ready game.now self.old list.old.items (vec_capacity list.old) }
         requires free { In (free self.old) v }
-        requires leads { IsAttractedRow game.now player (union (free self.old) (listed_by vertex_of list.old.items)) (listed_by vertex_of list.old.items) (v, choice) }
+        requires leads { IsAttractedRow game.now player (union (free self.old) (listed_by vertex_of list.old.items)) (listed_by vertex_of list.old.items)
+            (v, choice) }
         ensures ready { OnOk result (ready game.now self.new list.new.items (vec_capacity list.new)) }
         ensures grown { OnOk result (grown game.now player self.old list.old.items self.new list.new.items) }
         ensures listed { OnOk result ((item : Self.Item) × (vertex_of item ≡ v) × (list.new.items ≡ list.old.items ++ item ∷ [])) }
@@ -97,7 +98,9 @@ fn consider<A: Area>(
     ensures ready { OnOk result (A.ready game.now area.new list.new.items (vec_capacity list.new)) }
     ensures grown { OnOk result (A.grown game.now player area.old list.old.items area.new list.new.items) }
     ensures takes { OnOk result (Takes A.vertex_of (A.free area.old) list.old.items (A.free area.new) list.new.items) }
-    ensures settled { OnOk result (In (union (A.free area.old) (listed_by A.vertex_of list.old.items)) from → IsTakenOrOpen game.now player (union (A.free area.old) (listed_by A.vertex_of list.old.items)) (listed_by A.vertex_of list.old.items) (listed_by A.vertex_of list.new.items) from) }
+    ensures settled { OnOk result (In (union (A.free area.old) (listed_by A.vertex_of list.old.items)) from
+        → IsTakenOrOpen game.now player (union (A.free area.old) (listed_by A.vertex_of list.old.items)) (listed_by A.vertex_of list.old.items)
+        (listed_by A.vertex_of list.new.items) from) }
     ensures refuses { OnErr result A.refuses }
 {
     if !area.is_free(from) {
@@ -126,7 +129,9 @@ fn reach<A: Area>(
     ensures ready { OnOk result (A.ready game.now area.new list.new.items (vec_capacity list.new)) }
     ensures grown { OnOk result (A.grown game.now player area.old list.old.items area.new list.new.items) }
     ensures takes { OnOk result (Takes A.vertex_of (A.free area.old) list.old.items (A.free area.new) list.new.items) }
-    ensures settled { OnOk result ((u : ℕ) → In (union (A.free area.old) (listed_by A.vertex_of list.old.items)) u → HasEdge game.now u to → IsTakenOrOpen game.now player (union (A.free area.old) (listed_by A.vertex_of list.old.items)) (listed_by A.vertex_of list.old.items) (listed_by A.vertex_of list.new.items) u) }
+    ensures settled { OnOk result ((u : ℕ) → In (union (A.free area.old) (listed_by A.vertex_of list.old.items)) u → HasEdge game.now u to
+        → IsTakenOrOpen game.now player (union (A.free area.old) (listed_by A.vertex_of list.old.items)) (listed_by A.vertex_of list.old.items)
+        (listed_by A.vertex_of list.new.items) u) }
     ensures refuses { OnErr result A.refuses }
 {
     for from in game.predecessors(to) {
@@ -146,11 +151,13 @@ pub fn attract_from<A: Area>(
     requires ready { A.ready game.now area.old list.old.items (vec_capacity list.old) }
     requires below { Within (union (A.free area.old) (listed_by A.vertex_of list.old.items)) (all_vertices game.now) }
     requires place { first ≤ length list.old.items }
-    requires done { AttractsNoFurther game.now player (union (A.free area.old) (listed_by A.vertex_of list.old.items)) (listed_by A.vertex_of (take first list.old.items)) (listed_by A.vertex_of list.old.items) }
+    requires done { AttractsNoFurther game.now player (union (A.free area.old) (listed_by A.vertex_of list.old.items))
+        (listed_by A.vertex_of (take first list.old.items)) (listed_by A.vertex_of list.old.items) }
     ensures ready { OnOk result (A.ready game.now area.new list.new.items (vec_capacity list.new)) }
     ensures grown { OnOk result (A.grown game.now player area.old list.old.items area.new list.new.items) }
     ensures takes { OnOk result (Takes A.vertex_of (A.free area.old) list.old.items (A.free area.new) list.new.items) }
-    ensures done { OnOk result (AttractsNoFurther game.now player (union (A.free area.old) (listed_by A.vertex_of list.old.items)) (listed_by A.vertex_of list.new.items) (listed_by A.vertex_of list.new.items)) }
+    ensures done { OnOk result (AttractsNoFurther game.now player (union (A.free area.old) (listed_by A.vertex_of list.old.items))
+        (listed_by A.vertex_of list.new.items) (listed_by A.vertex_of list.new.items)) }
     ensures refuses { OnErr result A.refuses }
 {
     'list: for next in first..usize::MAX {

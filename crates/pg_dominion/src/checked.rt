@@ -85,7 +85,6 @@ impl<'g> CheckedRow<'g> {
         ensures row { claim_row player result ≡ row }
     {
         let (vertex, choice) = row;
-        let _n = game.len();
         let vertices = match choice {
             Some(w) => single(game, vertex, w),
             None => game.successors(vertex),
@@ -168,7 +167,6 @@ impl<'g> Checked<'g> {
         ensures rows { result.now ≡ self.now.rows }
         ensures checked { AreChecked self.now.player self.now.rows }
     {
-        let _player = self.claim.player;
         self.rows.as_slice()
     }
 
@@ -177,7 +175,6 @@ impl<'g> Checked<'g> {
         ensures claim { result.now ≡ claim_of self.now }
         ensures checked { AreChecked self.now.player self.now.rows }
     {
-        let _rows = &self.rows;
         &self.claim
     }
 

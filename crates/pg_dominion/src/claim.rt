@@ -150,7 +150,6 @@ fn names_bad_vertex(game: &Game, claim: &Claim) -> bool
     requires { HasShape game.now claim.now.player claim.now.rows }
     ensures { result ≡ list_any (λ r. is_bad game.now claim.now.player r.0) claim.now.rows }
 {
-    let _n = game.len();
     'rows: for row in claim.rows.as_slice() {
         if is_bad(game, claim.player, row.0) {
             return true;
@@ -163,7 +162,8 @@ fn names_bad_vertex(game: &Game, claim: &Claim) -> bool
 /// opponent's parity has none, and that is seen from its rows alone.
 fn first_on_bad_walk(alloc: Global, game: &Game, claim: &Claim) -> Result<Option<u32>, AllocError>
     requires { HasShape game.now claim.now.player claim.now.rows }
-    ensures { IfOk result (λ least. MatchOption least (NoneHas (OnBadWalk game.now claim.now.player (named claim.now.rows) (choice_in claim.now.rows))) (IsLeast (OnBadWalk game.now claim.now.player (named claim.now.rows) (choice_in claim.now.rows)))) }
+    ensures { IfOk result (λ least. MatchOption least (NoneHas (OnBadWalk game.now claim.now.player (named claim.now.rows) (choice_in claim.now.rows)))
+        (IsLeast (OnBadWalk game.now claim.now.player (named claim.now.rows) (choice_in claim.now.rows)))) }
 {
     if !names_bad_vertex(game, claim) {
         return Ok(None);

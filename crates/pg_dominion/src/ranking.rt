@@ -116,8 +116,11 @@ fn is_ranked_row(
     requires vertex_keys { length vertex_keys.now ≡ length kept.now.game.now }
     requires keys { length keys.now ≡ length kept.now.game.now }
     requires ends { length ends.now ≡ length kept.now.game.now }
-    ensures placed { result ≡ true → (slice_index places.now v < length kept.now.game.now) × (slice_index keys.now (slice_index places.now v) ≡ slice_index vertex_keys.now v) }
-    ensures edges { result ≡ true → (w : ℕ) → Edge kept.now v w → (slice_index places.now w < slice_index places.now v) ⊎ ((slice_index vertex_keys.now v % 2 ≡ 0) × (slice_index places.now w < slice_index ends.now (slice_index places.now v))) }
+    ensures placed { result ≡ true → (slice_index places.now v < length kept.now.game.now)
+        × (slice_index keys.now (slice_index places.now v) ≡ slice_index vertex_keys.now v) }
+    ensures edges { result ≡ true → (w : ℕ) → Edge kept.now v w
+        → (slice_index places.now w < slice_index places.now v)
+        ⊎ ((slice_index vertex_keys.now v % 2 ≡ 0) × (slice_index places.now w < slice_index ends.now (slice_index places.now v))) }
 {
     let at = places[v as usize];
     if at >= kept.game.len() {

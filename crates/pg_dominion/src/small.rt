@@ -111,6 +111,7 @@ pub fn is_shown_small(alloc: Global, game: &Game, claim: &Claim) -> Result<bool,
     requires { HasShape game.now claim.now.player claim.now.rows }
     ensures { IfOk result (λ shown. shown ≡ true → NoneHas (OnBadWalk game.now claim.now.player (named claim.now.rows) (choice_in claim.now.rows))) }
 {
+    // for the proof: a claim with its shape names vertices of a game
     let _n = game.len();
     let rows = claim.rows.as_slice();
     if rows.len() > MOST_ROWS {

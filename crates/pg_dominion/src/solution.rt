@@ -9,7 +9,7 @@ ghost use Rattle.pg_text.specs.Solution.{IsSolution, winner_of, choice_of};
 ghost use Rattle.pg_text.specs.Verdict.{LacksChoice, HasBadChoice, Leaves, IsOnBadWalk, IsFirstLeaving};
 ghost use Rattle.pg_dominion.specs.Verdict.{FailsBy};
 ghost use Rattle.pg_dominion.specs.KeptEdges.{IsKept, IsWorst};
-ghost use Rattle.pg_dominion.specs.private.Plan.{own_choice, IsPlanned, IsPlanOf, LeavesTo, IsFirstTo};
+ghost use Rattle.pg_dominion.specs.private.Plan.{own_choice, IsPlanOf, LeavesTo, IsFirstTo};
 
 use crate::claim::{is_bad, mark_if, note_choice};
 use crate::cycles::first_worst;
@@ -128,7 +128,8 @@ fn plan_of<'g>(alloc: Global, game: &'g Game, solution: &Solution) -> Result<Kep
     ensures kept { IfOk result (λ k. IsKept k) }
     ensures game { IfOk result (λ k. k.game.now ≡ game.now) }
     ensures plan { IfOk result (λ k. IsPlanOf k solution.now.rows) }
-    ensures worst { IfOk result (λ k. ((v w : ℕ) → Leaves game.now solution.now.rows v w → ⊥) → (v : ℕ) → IsWorst k v ↔ IsOnBadWalk game.now solution.now.rows v) }
+    ensures worst { IfOk result (λ k. ((v w : ℕ) → Leaves game.now solution.now.rows v w → ⊥) → (v : ℕ)
+        → IsWorst k v ↔ IsOnBadWalk game.now solution.now.rows v) }
 {
     let n = game.len();
     let mut inside = Mask::empty(alloc, n)?;
@@ -172,7 +173,8 @@ fn first_leaving(kept: &Kept, solution: &Solution) -> Option<(u32, u32)>
     requires kept { IsKept kept.now }
     requires size { length solution.now.rows ≡ length kept.now.game.now }
     requires plan { IsPlanOf kept.now solution.now.rows }
-    ensures first { MatchOption result ((v w : ℕ) → Leaves kept.now.game.now solution.now.rows v w → ⊥) (λ e. IsFirstLeaving kept.now.game.now solution.now.rows e.0 e.1) }
+    ensures first { MatchOption result ((v w : ℕ) → Leaves kept.now.game.now solution.now.rows v w → ⊥)
+        (λ e. IsFirstLeaving kept.now.game.now solution.now.rows e.0 e.1) }
     ensures within { IfSome result (λ e. (e.0 < length kept.now.game.now) × (e.1 < length kept.now.game.now)) }
 {
     'vertices: for v in 0..kept.game.len() {

@@ -74,11 +74,14 @@ fn spread(
     requires least { 0 < search.old.least }
     requires state { Searching kept.now labels.now.levels.items labels.now.groups.items top own search.old.places.items search.old.queue.items }
     ensures least { IfOk result (λ found. 0 < search.new.least) }
-    ensures state { IfOk result (λ found. Searching kept.now labels.now.levels.items labels.now.groups.items top own search.new.places.items search.new.queue.items) }
+    ensures state { IfOk result (λ found. Searching kept.now labels.now.levels.items labels.now.groups.items top own search.new.places.items
+        search.new.queue.items) }
     ensures later { IfOk result (λ found. GoesOn search.old.queue.items search.old.least search.new.queue.items search.new.least) }
     ensures back { IfOk result (λ found. found ≡ true → Leads kept.now top (slice_index search.old.queue.items 0) (slice_index search.old.queue.items 0)) }
-    ensures spread { IfOk result (λ found. found ≡ false → IsSpread kept.now labels.now.levels.items labels.now.groups.items top own search.new.least search.new.places.items search.new.queue.items at) }
+    ensures spread { IfOk result (λ found. found ≡ false
+        → IsSpread kept.now labels.now.levels.items labels.now.groups.items top own search.new.least search.new.places.items search.new.queue.items at) }
 {
+    // for the proof: a game has fewer than 2^32 vertices, so a place in the queue fits
     let _n = kept.game.len();
     let v = search.queue[at];
     let row = kept.row(v);
@@ -119,10 +122,12 @@ fn finds_back(
     requires least { 0 < search.old.least }
     requires state { Searching kept.now labels.now.levels.items labels.now.groups.items top own search.old.places.items search.old.queue.items }
     ensures least { IfOk result (λ found. 0 < search.new.least) }
-    ensures state { IfOk result (λ found. Searching kept.now labels.now.levels.items labels.now.groups.items top own search.new.places.items search.new.queue.items) }
+    ensures state { IfOk result (λ found. Searching kept.now labels.now.levels.items labels.now.groups.items top own search.new.places.items
+        search.new.queue.items) }
     ensures first { IfOk result (λ found. slice_index search.new.queue.items 0 ≡ slice_index search.old.queue.items 0) }
     ensures back { IfOk result (λ found. found ≡ true → Leads kept.now top (slice_index search.old.queue.items 0) (slice_index search.old.queue.items 0)) }
-    ensures spread { IfOk result (λ found. found ≡ false → (i : ℕ) → i < length search.new.queue.items → IsSpread kept.now labels.now.levels.items labels.now.groups.items top own search.new.least search.new.places.items search.new.queue.items i) }
+    ensures spread { IfOk result (λ found. found ≡ false → (i : ℕ) → i < length search.new.queue.items
+        → IsSpread kept.now labels.now.levels.items labels.now.groups.items top own search.new.least search.new.places.items search.new.queue.items i) }
 {
     'queue: for next in 0..usize::MAX {
         if next >= search.queue.len() {
@@ -143,7 +148,8 @@ fn note(labels: &mut Labels, search: &Search, level: u32, start: u32)
     requires short { length search.now.places.items < 2 ^ 32 }
     requires below { (i : ℕ) → i < length search.now.queue.items → slice_index search.now.queue.items i < length search.now.places.items }
     requires placed { (i : ℕ) → i < length search.now.queue.items → slice_index search.now.places.items (slice_index search.now.queue.items i) ≡ i }
-    ensures { AreNoted labels.old.levels.items labels.old.groups.items search.now.places.items search.now.queue.items level start search.now.least (length search.now.queue.items) labels.new.levels.items labels.new.groups.items }
+    ensures { AreNoted labels.old.levels.items labels.old.groups.items search.now.places.items search.now.queue.items level start search.now.least
+        (length search.now.queue.items) labels.new.levels.items labels.new.groups.items }
 {
     'queue: for at in 0..search.queue.len() {
         let v = search.queue[at];
@@ -159,6 +165,7 @@ pub fn is_alone(kept: &Kept, labels: &Labels, v: u32) -> bool
     requires vertex { v < length kept.now.game.now }
     ensures { result ≡ true → Reaches kept.now v v → ⊥ }
 {
+    // for the proof: a game has fewer than 2^32 vertices, so a vertex and one more fits
     let _n = kept.game.len();
     labels.levels[v as usize] > kept.game.priority(v) && labels.groups[v as usize] == v + 1
 }
@@ -167,9 +174,9 @@ pub fn is_alone(kept: &Kept, labels: &Labels, v: u32) -> bool
 fn group_above(kept: &Kept, labels: &Labels, v: u32, top: u32) -> u32
     requires labels { AreLabelled kept.now labels.now.levels.items labels.now.groups.items }
     requires vertex { v < length kept.now.game.now }
-    ensures { top < slice_index labels.now.levels.items v → slice_index labels.now.groups.items v ≡ result }
+    ensures above { top < slice_index labels.now.levels.items v → slice_index labels.now.groups.items v ≡ result }
+    ensures none { slice_index labels.now.levels.items v ≤ top → result ≡ 0 }
 {
-    let _n = kept.game.len();
     if labels.levels[v as usize] > top {
         labels.groups[v as usize]
     } else {
@@ -193,6 +200,7 @@ pub fn walks_back(
     ensures back { IfOk result (λ found. found ≡ true → Reaches kept.now start start) }
     ensures none { IfOk result (λ found. found ≡ false → Reaches kept.now start start → ⊥) }
 {
+    // for the proof: priorities are so small that one more fits, and so are vertices
     let _n = kept.game.len();
     let top = kept.game.priority(start);
     let own = group_above(kept, labels, start, top);

@@ -1,14 +1,15 @@
 -- Rows by place: what stands there, and what they name.
-use Rattle.std.proofs.Common.{◌≡◌, ◌≢◌, ℕ, zero, suc, ◌+◌, ◌<◌, ◌≤◌, Bool, true, false, ◌||◌, ◌⊎◌, inl, inr, [], ◌∷◌, length, take, set, get_or, refl, sym, ◌∙◌, ap, arith}
+use Rattle.std.proofs.Common.{◌≡◌, ◌≢◌, ℕ, zero, suc, ◌+◌, ◌<◌, ◌≤◌, Bool, true, false, ◌||◌, inl, inr, [], ◌∷◌, length, take, set, get_or, refl, sym}
+use Rattle.std.proofs.Common.{◌∙◌, ap, arith}
 use Rattle.std.specs.Prelude.{Option, ◌==◌}
-use Rattle.std.proofs.lemmas.Bool.{eqb-true, eq-eqb}
+use Rattle.std.proofs.lemmas.Bool.{eqb-true, eq-eqb, cases_Bool}
 use Rattle.std.proofs.lemmas.List.{get_or-take, length-take-le}
 use Rattle.std.proofs.lemmas.List.Folds.{list_any_at, list_any_more}
 use Rattle.std.proofs.Math.Seq.{take-set-lt}
 use Rattle.pg_dominion.specs.Claim.{ClaimRows, named, choice_in}
 use Rattle.pg_finders.specs.private.small.Partial.{no_row, vertex_in, choice_at, AreDifferent}
 use Rattle.pg_finders.specs.private.small.Few.{IsFew}
-use Rattle.pg_finders.proofs.Sets.{test}
+use Rattle.pg_finders.proofs.Masks.{order}
 
 module _ (rows now : ClaimRows) (len : ℕ) (few : IsFew rows len) (view : take len rows ≡ now) where
   pub view_length : len ≡ length now
@@ -34,33 +35,35 @@ differ x v n = go (x == v) refl
     go true e = absurd (n (eqb-true x v e))
     go false e = refl
 
-pub unnamed_more : (rows : ClaimRows) (at v : ℕ) → at < length rows → named (take at rows) v ≡ false → vertex_in rows at ≢ v → named (take (at + 1) rows) v ≡ false
+pub unnamed_more : (rows : ClaimRows) (at v : ℕ) → at < length rows → named (take at rows) v ≡ false → vertex_in rows at ≢ v
+    → named (take (at + 1) rows) v ≡ false
 unnamed_more rows at v l h n = named_more rows at v l ∙ rw (h, differ (vertex_in rows at) v n) refl
 
 -- no vertex stands at two places, so its choice is that of its place
 pub choice_of_place : (rows : ClaimRows) (k : ℕ) → AreDifferent rows → k < length rows → choice_in rows (vertex_in rows k) ≡ choice_at rows k
 choice_of_place [] k d l = absurd (omega (arith, l))
 choice_of_place (r ∷ rows) zero d l = rw (eq-eqb r.0 r.0 refl) refl
-choice_of_place (r ∷ rows) (suc k) d l = rw (differ r.0 (vertex_in rows k) (d 0 (suc k) (omega arith) l)) (choice_of_place rows k (λ i j a b. d (suc i) (suc j) (omega (arith, a)) (omega (arith, b))) (omega (arith, l)))
+choice_of_place (r ∷ rows) (suc k) d l =
+    rw (differ r.0 (vertex_in rows k) (d 0 (suc k) (omega arith) l))
+    (choice_of_place rows k (λ i j a b. d (suc i) (suc j) (omega (arith, a)) (omega (arith, b))) (omega (arith, l)))
 
 pub place_of : (rows : ClaimRows) (v : ℕ) → named rows v ≡ true → (k : ℕ) × (k < length rows) × (vertex_in rows k ≡ v)
 place_of [] v i = absurd (cc i)
-place_of (r ∷ rows) v i = elim (test (r.0 == v)) [
+place_of (r ∷ rows) v i = elim (cases_Bool (r.0 == v)) [
   | inl y ↦ (zero, omega arith, eqb-true r.0 v y)
   | inr n ↦ (let h = place_of rows v (rw n at i) in (suc h.0, omega (arith, h.1), h.2))
 ]
 
 pub front_named : (rows : ClaimRows) (done k : ℕ) → done ≤ length rows → k < done → named (take done rows) (vertex_in rows k) ≡ true
-front_named rows done k m l = named_here (take done rows) k (vertex_in rows k) (omega (arith, length-take-le done rows m)) (ap (λ (r : ℕ × Option ℕ). r.0) (get_or-take done rows k no_row l))
+front_named rows done k m l =
+    named_here (take done rows) k (vertex_in rows k) (omega (arith, length-take-le done rows m))
+    (ap (λ (r : ℕ × Option ℕ). r.0) (get_or-take done rows k no_row l))
 
 pub front_place : (rows : ClaimRows) (done v : ℕ) → done ≤ length rows → named (take done rows) v ≡ true → (k : ℕ) × (k < done) × (vertex_in rows k ≡ v)
 front_place rows done v m i =
     let h = place_of (take done rows) v i in
     let l : h.0 < done = omega (arith, h.1, length-take-le done rows m) in
     (h.0, l, sym (ap (λ (r : ℕ × Option ℕ). r.0) (get_or-take done rows h.0 no_row l)) ∙ h.2)
-
-order : (j k : ℕ) → (j < k) ⊎ (j ≡ k) ⊎ (k < j)
-order j k = grind arith
 
 pub same_place : (rows : ClaimRows) (j k : ℕ) → AreDifferent rows → j < length rows → k < length rows → vertex_in rows j ≡ vertex_in rows k → j ≡ k
 same_place rows j k d a b e = elim (order j k) [

@@ -14,7 +14,8 @@ use Rattle.pg_game.proofs.Grown.{OnLevel, one_level}
 abbrev pub Among : (ℕ → ℕ → Type 0) → (ℕ → Type 0) → ℕ → ℕ → Type 0
 Among E P v w = E v w × P v × P w
 
-walk_among : (E : ℕ → ℕ → Type 0) (P : ℕ → Type 0) (v : ℕ) (ws : List ℕ) (last : ℕ) → Walk E v ws last → P v → ((u : ℕ) → Contains ws u → P u) → P last → Walk (Among E P) v ws last
+walk_among : (E : ℕ → ℕ → Type 0) (P : ℕ → Type 0) (v : ℕ) (ws : List ℕ) (last : ℕ) → Walk E v ws last → P v → ((u : ℕ) → Contains ws u → P u) → P last
+    → Walk (Among E P) v ws last
 walk_among E P v [] last e a h b = (e, a, b)
 walk_among E P v (w ∷ ws) last e a h b =
     let c = h w (Contains-head w ws) in
@@ -27,7 +28,8 @@ closed_among E P (v ∷ vs) c h =
     let a = h v (Contains-head v vs) in
     walk_among E P v vs v c a (λ u m. h u (Contains-tail v u vs m)) a
 
-walk_begins : (E : ℕ → ℕ → Type 0) (P : ℕ → Type 0) → ((v w : ℕ) → E v w → P v) → (v : ℕ) (ws : List ℕ) (last : ℕ) → Walk E v ws last → (u : ℕ) → Contains (v ∷ ws) u → P u
+walk_begins : (E : ℕ → ℕ → Type 0) (P : ℕ → Type 0) → ((v w : ℕ) → E v w → P v) → (v : ℕ) (ws : List ℕ) (last : ℕ) → Walk E v ws last → (u : ℕ)
+    → Contains (v ∷ ws) u → P u
 walk_begins E P f v [] last e u m = elim (Contains-cons v u [] m) [ inl q ↦ rw (← q) (f v last e) | inr n ↦ absurd (Contains-nil u n) ]
 walk_begins E P f v (w ∷ ws) last e u m = elim (Contains-cons v u (w ∷ ws) m) [ inl q ↦ rw (← q) (f v w e.0) | inr n ↦ walk_begins E P f w ws last e.1 u n ]
 
@@ -45,7 +47,8 @@ height true = 0
 height false = 1
 
 -- a closed walk lies in a set that no edge leaves, or outside it
-pub in_or_out : (E : ℕ → ℕ → Type 0) (X : VertexSet) → ((v w : ℕ) → E v w → In X v → In X w) → (walk : List ℕ) → ClosedWalk E walk → ClosedWalk (Among E (In X)) walk ⊎ ClosedWalk (Among E (λ v. X v ≡ false)) walk
+pub in_or_out : (E : ℕ → ℕ → Type 0) (X : VertexSet) → ((v w : ℕ) → E v w → In X v → In X w) → (walk : List ℕ) → ClosedWalk E walk
+    → ClosedWalk (Among E (In X)) walk ⊎ ClosedWalk (Among E (λ v. X v ≡ false)) walk
 in_or_out E X stays walk c = let h = one_level E (λ v. height (X v)) falls walk c in split h.0 h.1
   where
     low : (a b : Bool) → (a ≡ true → b ≡ true) → height b ≤ height a
@@ -66,26 +69,25 @@ in_or_out E X stays walk c = let h = one_level E (λ v. height (X v)) falls walk
 
     split : (k : ℕ) → ClosedWalk (OnLevel E (λ v. height (X v)) k) walk → ClosedWalk (Among E (In X)) walk ⊎ ClosedWalk (Among E (λ v. X v ≡ false)) walk
     split zero d = inl (ClosedWalk-weaker (OnLevel E (λ v. height (X v)) 0) (Among E (In X)) (λ v w e. (e.0, zero_in (X v) e.1, zero_in (X w) e.2)) walk d)
-    split (suc k) d = inr (ClosedWalk-weaker (OnLevel E (λ v. height (X v)) (suc k)) (Among E (λ v. X v ≡ false)) (λ v w e. (e.0, one_out k (X v) e.1, one_out k (X w) e.2)) walk d)
+    split (suc k) d =
+        inr (ClosedWalk-weaker (OnLevel E (λ v. height (X v)) (suc k)) (Among E (λ v. X v ≡ false))
+        (λ v w e. (e.0, one_out k (X v) e.1, one_out k (X w) e.2)) walk d)
 
-some_edge_of : (E : ℕ → ℕ → Type 0) (walk : List ℕ) → ClosedWalk E walk → (v : ℕ) × (w : ℕ) × E v w
-some_edge_of E [] e = absurd e
-some_edge_of E (v ∷ []) e = (v, v, e)
-some_edge_of E (v ∷ w ∷ ws) e = (v, w, e.0)
+-- no closed walk has an edge from a vertex of no set
+pub never_empty : (E : ℕ → ℕ → Type 0) → ((v w : ℕ) → E v w → ⊥) → (walk : List ℕ) → ClosedWalk E walk → ⊥
+never_empty E f [] e = e
+never_empty E f (v ∷ []) e = f v v e
+never_empty E f (v ∷ w ∷ ws) e = f v w e.0
 
--- no closed walk has falling ranks
+-- nor has one falling ranks
 pub never_falls : (E : ℕ → ℕ → Type 0) (rank : ℕ → ℕ) → ((v w : ℕ) → E v w → rank w < rank v) → (walk : List ℕ) → ClosedWalk E walk → ⊥
 never_falls E rank falls walk c =
     let h = one_level E rank (λ v w e. omega (arith, falls v w e)) walk c in
-    let e = some_edge_of (OnLevel E rank h.0) walk h.1 in
-    absurd (omega (arith, falls e.0 e.1 e.2.0, e.2.1, e.2.2))
-
--- nor does an edge lead from a vertex of no set
-pub never_empty : (E : ℕ → ℕ → Type 0) → ((v w : ℕ) → E v w → ⊥) → (walk : List ℕ) → ClosedWalk E walk → ⊥
-never_empty E f walk c = let e = some_edge_of E walk c in f e.0 e.1 e.2
+    never_empty (OnLevel E rank h.0) (λ v w e. omega (arith, falls v w e.0, e.1, e.2)) walk h.1
 
 -- the greatest priority, where it is a bound that some vertex reaches
-pub greatest_reached : (g : Graph) (d : ℕ) (walk : List ℕ) → ((u : ℕ) → Contains walk u → priority_of g u ≤ d) → (v : ℕ) → Contains walk v → priority_of g v ≡ d → greatest_priority g walk ≡ d
+pub greatest_reached : (g : Graph) (d : ℕ) (walk : List ℕ) → ((u : ℕ) → Contains walk u → priority_of g u ≤ d) → (v : ℕ) → Contains walk v
+    → priority_of g v ≡ d → greatest_priority g walk ≡ d
 greatest_reached g d walk below v m e = omega (arith, bounded walk below, reaches walk m)
   where
     bounded : (ws : List ℕ) → ((u : ℕ) → Contains ws u → priority_of g u ≤ d) → greatest_priority g ws ≤ d
@@ -113,7 +115,8 @@ attained g w (x ∷ xs) =
     above a b = grind arith
 
 -- the greatest priority, where all that is at least that of some vertex has the player's parity
-pub greatest_kept : (g : Graph) (p : Player) (walk : List ℕ) (t : ℕ) → Contains walk t → ((u : ℕ) → Contains walk u → priority_of g t ≤ priority_of g u → of_parity (priority_of g u) ≡ p) → of_parity (greatest_priority g walk) ≡ p
+pub greatest_kept : (g : Graph) (p : Player) (walk : List ℕ) (t : ℕ) → Contains walk t
+    → ((u : ℕ) → Contains walk u → priority_of g t ≤ priority_of g u → of_parity (priority_of g u) ≡ p) → of_parity (greatest_priority g walk) ≡ p
 greatest_kept g p [] t m good = absurd (Contains-nil t m)
 greatest_kept g p (w ∷ ws) t m good =
     let h = attained g w ws in

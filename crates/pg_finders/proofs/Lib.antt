@@ -6,3 +6,4 @@ pub mod Rows
 pub mod Solving
 pub mod Good
 pub mod Apart
+pub mod Jobs

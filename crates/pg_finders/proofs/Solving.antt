@@ -3,6 +3,8 @@ use mathlib.Core.Path.{fun_ext}
 use Rattle.std.proofs.Common.{◌≡◌, ℕ, ◌<◌, ◌≤◌, Bool, true, false, ◌&&◌, not, ◌⊎◌, inl, inr, refl, sym, ◌∙◌, ap, subst}
 use Rattle.std.specs.Prelude.{Option, Some, if◌then◌else◌}
 use Rattle.std.specs.List.{Contains}
+use Rattle.std.proofs.Math.Bool.{and-true}
+use Rattle.std.proofs.lemmas.Bool.{and_parts, and_from, cases_Bool}
 use Rattle.pg_game.specs.declared.player.Player.{Player}
 use Rattle.pg_game.specs.Player.{opponent, same_player, of_parity}
 use Rattle.pg_game.specs.Graph.{Graph, HasEdge, owner_of, priority_of, successors_of}
@@ -15,11 +17,12 @@ use Rattle.pg_game.proofs.Members.{Contains-one, some_or_none}
 use Rattle.pg_game.proofs.Walks.{ClosedWalk-weaker}
 use Rattle.pg_game.proofs.Players.{own_or_other, same_is, is_same}
 use Rattle.pg_finders.specs.private.Solved.{Winners, won_inside, WinsOn, IsSolvedInside, IsSolvedTo, IsAttracted, IsBegun}
-use Rattle.pg_finders.proofs.Sets.{not_both, twice, not_same, both, pair, only, minus, back, unless, no_both, test, equal_from}
+use Rattle.pg_finders.proofs.Sets.{not_both, twice, not_same, only, minus, back, unless, no_both, equal_from}
 use Rattle.pg_finders.proofs.ClosedWalks.{Among, closed_among, closed_inside, closed_begins, in_or_out, never_falls, never_empty, greatest_kept}
 
 -- where a kept edge leads: along the player's choice, or along any edge of the opponent's vertex
-pub kept_leads : (g : Graph) (p : Player) (s : Choices) (v w : ℕ) → Contains (kept g p s v) w → ((owner_of g v ≡ p) × Contains (option_list (s v)) w) ⊎ ((owner_of g v ≡ opponent p) × HasEdge g v w)
+pub kept_leads : (g : Graph) (p : Player) (s : Choices) (v w : ℕ) → Contains (kept g p s v) w
+    → ((owner_of g v ≡ p) × Contains (option_list (s v)) w) ⊎ ((owner_of g v ≡ opponent p) × HasEdge g v w)
 kept_leads g p s v w m = elim (own_or_other (owner_of g v) p) [
   | inl o ↦ inl (o, (let y = is_same (owner_of g v) p o in let n : Contains (option_list (s v)) w = rw y at m in n))
   | inr o ↦ inr (o, (let y = not_same (owner_of g v) p o in let n : HasEdge g v w = rw y at m in n))
@@ -34,49 +37,41 @@ pub kept_same : (g : Graph) (p : Player) (X : VertexSet) (s t : Choices) (v w : 
 kept_same g p X s t v w e i m = (i, subst (λ o. Contains (if same_player (owner_of g v) p then option_list o else successors_of g v) w) e m)
 
 -- other choices elsewhere change nothing
-pub Holds-same : (g : Graph) (U : VertexSet) (p : Player) (X : VertexSet) (s t : Choices) → ((v : ℕ) → In X v → t v ≡ s v) → WinsOn g U p X s → WinsOn g U p X t
-Holds-same g U p X s t same h = record {
+pub Holds-same : {g : Graph} {U : VertexSet} {p : Player} {X : VertexSet} {s t : Choices} → ((v : ℕ) → In X v → t v ≡ s v) → WinsOn g U p X s → WinsOn g U p X t
+Holds-same {g} {p = p} {X = X} {s = s} {t = t} same h = record {
   within = h.within;
   choices = λ v i o. (let c = h.choices v i o in (c.0, same v i ∙ c.1, c.2, c.3));
   closed = h.closed;
   good = λ walk c. h.good walk (ClosedWalk-weaker (KeptEdge g p X t) (KeptEdge g p X s) (λ v w k. kept_same g p X s t v w (same v k.0) k.0 k.1) walk c);
 }
 
-pub Holds-none : (g : Graph) (U : VertexSet) (p : Player) (X : VertexSet) (s : Choices) → ((v : ℕ) → In X v → ⊥) → WinsOn g U p X s
-Holds-none g U p X s empty = record {
+pub Holds-none : {g : Graph} {U : VertexSet} {p : Player} {X : VertexSet} {s : Choices} → ((v : ℕ) → In X v → ⊥) → WinsOn g U p X s
+Holds-none {g} {p = p} {X = X} {s = s} empty = record {
   within = λ v i. absurd (empty v i);
   choices = λ v i o. absurd (empty v i);
   closed = λ v w i o e u. absurd (empty v i);
   good = λ walk c. absurd (never_empty (KeptEdge g p X s) (λ v w k. empty v k.0) walk c);
 }
 
-pub Holds-subst : (g : Graph) (U : VertexSet) (p : Player) (X Y : VertexSet) (s : Choices) → ((v : ℕ) → X v ≡ Y v) → WinsOn g U p X s → WinsOn g U p Y s
-Holds-subst g U p X Y s e h = subst (λ Z. WinsOn g U p Z s) (fun_ext e) h
+pub Holds-subst : {g : Graph} {U : VertexSet} {p : Player} {X Y : VertexSet} {s : Choices} → ((v : ℕ) → X v ≡ Y v) → WinsOn g U p X s → WinsOn g U p Y s
+Holds-subst {g} {U} {p} {s = s} e h = subst (λ Z. WinsOn g U p Z s) (fun_ext e) h
 
 -- nothing is left to solve
-pub solved_whole : (g : Graph) (U : VertexSet) (won : Winners) (s : Choices) → IsSolvedTo g U no_vertices won s → IsSolvedInside g U won s
-solved_whole g U won s h p = Holds-subst g U p (won_inside (without U no_vertices) won p) (won_inside U won p) s (λ v. ap (λ b. b && same_player (won v) p) (all_of (U v))) (h.holds p)
-  where
-    all_of : (b : Bool) → (b && true) ≡ b
-    all_of true = refl
-    all_of false = refl
+pub solved_whole : {g : Graph} {U : VertexSet} {won : Winners} {s : Choices} → IsSolvedTo g U no_vertices won s → IsSolvedInside g U won s
+solved_whole {U = U} {won = won} h p = Holds-subst (λ v. ap (λ b. b && same_player (won v) p) (and-true (U v))) (h.holds p)
 
-pub whole_solved : (g : Graph) (U : VertexSet) (won : Winners) (s : Choices) → IsSolvedInside g U won s → IsSolvedTo g U no_vertices won s
-whole_solved g U won s h = record {
+pub whole_solved : {g : Graph} {U : VertexSet} {won : Winners} {s : Choices} → IsSolvedInside g U won s → IsSolvedTo g U no_vertices won s
+whole_solved {U = U} {won = won} h = record {
   rest = λ v i. absurd (cc i);
-  holds = λ p. Holds-subst g U p (won_inside U won p) (won_inside (without U no_vertices) won p) s (λ v. ap (λ b. b && same_player (won v) p) (of_all (U v))) (h p);
+  holds = λ p. Holds-subst (λ v. ap (λ b. b && same_player (won v) p) (sym (and-true (U v)))) (h p);
   away = λ v w i. absurd (cc i);
 }
-  where
-    of_all : (b : Bool) → b ≡ (b && true)
-    of_all true = refl
-    of_all false = refl
 
 -- nothing is solved yet
-pub solved_none : (g : Graph) (U : VertexSet) (won : Winners) (s : Choices) → IsSolvedTo g U U won s
-solved_none g U won s = record {
+pub solved_none : {g : Graph} {U : VertexSet} {won : Winners} {s : Choices} → IsSolvedTo g U U won s
+solved_none {U = U} {won = won} = record {
   rest = λ v i. i;
-  holds = λ p. Holds-none g U p (won_inside (without U U) won p) s (λ v i. nothing (U v) (both (without U U v) (same_player (won v) p) i).0);
+  holds = λ p. Holds-none (λ v i. nothing (U v) (and_parts (without U U v) (same_player (won v) p) i).0);
   away = λ v w i e j. absurd (nothing (U w) j);
 }
   where
@@ -85,23 +80,24 @@ solved_none g U won s = record {
     nothing false e = cc e
 
 -- what an attractor leaves is a subgame
-pub left_is_subgame : (g : Graph) (p : Player) (U T A : VertexSet) (s : Choices) (rank : ℕ → ℕ) → IsSubgame g U → IsAttracted g p U T A s rank → IsSubgame g (without U A)
-left_is_subgame g p U T A s rank sub a = record {
+pub left_is_subgame : {g : Graph} {p : Player} {U T A : VertexSet} {s : Choices} {rank : ℕ → ℕ} → IsSubgame g U → IsAttracted g p U T A s rank
+    → IsSubgame g (without U A)
+left_is_subgame {g} {p} {U} {A = A} sub a = record {
   vertices = λ v i. sub.vertices v (only (U v) (A v) i).0;
   successor = λ v i. (let h = only (U v) (A v) i in elim (own_or_other (owner_of g v) p) [
-    | inl o ↦ (let c = sub.successor v h.0 in elim (test (A c.0)) [
-      | inl y ↦ absurd (no_both (A v) (a.own v c.0 h.0 o c.1 y) h.1)
-      | inr n ↦ (c.0, c.1, minus (U c.0) (A c.0) c.2 n)
+    | inl o ↦ (let c = sub.successor v h.0 in elim (cases_Bool (A c.0)) [
+      | inl y ↦ absurd (no_both (a.own v c.0 h.0 o c.1 y) h.1)
+      | inr n ↦ (c.0, c.1, minus c.2 n)
     ])
     | inr o ↦ elim (some_or_none (without U A) (successors_of g v)) [
       | inl (w, m, y) ↦ (w, m, y)
-      | inr none ↦ absurd (no_both (A v) (a.forced v h.0 o (λ w m j. unless (U w) (A w) j (none w m))) h.1)
+      | inr none ↦ absurd (no_both (a.forced v h.0 o (λ w m j. unless j (none w m))) h.1)
     ]
   ]);
 }
 
 -- Who wins what, where U was solved up to R and R up to Q.
-module _ (g : Graph) (U R Q : VertexSet) (won : Winners) (s : Choices) (first : IsSolvedTo g U R won s) (second : IsSolvedTo g R Q won s) where
+module _ {g : Graph} {U R Q : VertexSet} {won : Winners} {s : Choices} (first : IsSolvedTo g U R won s) (second : IsSolvedTo g R Q won s) where
   abbrev X : Player → VertexSet
   X p = won_inside (without U Q) won p
 
@@ -112,38 +108,38 @@ module _ (g : Graph) (U R Q : VertexSet) (won : Winners) (s : Choices) (first : 
   F p = won_inside (without R Q) won p
 
   q_out : (w : ℕ) → R w ≡ false → Q w ≡ false
-  q_out w n = elim (test (Q w)) [ inl y ↦ absurd (no_both (R w) (second.rest w y) n) | inr m ↦ m ]
+  q_out w n = elim (cases_Bool (Q w)) [ inl y ↦ absurd (no_both (second.rest w y) n) | inr m ↦ m ]
 
   from_first : (p : Player) (v : ℕ) → In (D p) v → In (X p) v
   from_first p v i =
-      let a = both (without U R v) (same_player (won v) p) i in
+      let a = and_parts (without U R v) (same_player (won v) p) i in
       let b = only (U v) (R v) a.0 in
-      pair (without U Q v) (same_player (won v) p) (minus (U v) (Q v) b.0 (q_out v b.1)) a.1
+      and_from (without U Q v) (same_player (won v) p) (minus b.0 (q_out v b.1)) a.1
 
   from_second : (p : Player) (v : ℕ) → In (F p) v → In (X p) v
   from_second p v i =
-      let a = both (without R Q v) (same_player (won v) p) i in
+      let a = and_parts (without R Q v) (same_player (won v) p) i in
       let b = only (R v) (Q v) a.0 in
-      pair (without U Q v) (same_player (won v) p) (minus (U v) (Q v) (first.rest v b.0) b.1) a.1
+      and_from (without U Q v) (same_player (won v) p) (minus (first.rest v b.0) b.1) a.1
 
   parts : (p : Player) (v : ℕ) → In (X p) v → (In (D p) v × (R v ≡ false)) ⊎ (In (F p) v × (R v ≡ true))
   parts p v i =
-      let a = both (without U Q v) (same_player (won v) p) i in
+      let a = and_parts (without U Q v) (same_player (won v) p) i in
       let b = only (U v) (Q v) a.0 in
-      elim (test (R v)) [
-        | inl y ↦ inr (pair (without R Q v) (same_player (won v) p) (minus (R v) (Q v) y b.1) a.1, y)
-        | inr n ↦ inl (pair (without U R v) (same_player (won v) p) (minus (U v) (R v) b.0 n) a.1, n)
+      elim (cases_Bool (R v)) [
+        | inl y ↦ inr (and_from (without R Q v) (same_player (won v) p) (minus y b.1) a.1, y)
+        | inr n ↦ inl (and_from (without U R v) (same_player (won v) p) (minus b.0 n) a.1, n)
       ]
 
   -- an edge inside U from the opponent's vertex
   stays_won : (p : Player) (v w : ℕ) → In (X p) v → owner_of g v ≡ opponent p → HasEdge g v w → In U w → In (X p) w
   stays_won p v w i o e u = elim (parts p v i) [
     | inl (d, n) ↦ from_first p w ((first.holds p).closed v w d o e u)
-    | inr (f, y) ↦ elim (test (R w)) [
+    | inr (f, y) ↦ elim (cases_Bool (R w)) [
       | inl r ↦ from_second p w ((second.holds p).closed v w f o e r)
-      | inr n ↦ (let m = minus (U w) (R w) u n in
+      | inr n ↦ (let m = minus u n in
           let h : won w ≡ p = first.away v w y e m ∙ (ap opponent o ∙ twice p) in
-          from_first p w (pair (without U R w) (same_player (won w) p) m (is_same (won w) p h)))
+          from_first p w (and_from (without U R w) (same_player (won w) p) m (is_same (won w) p h)))
     ]
   ]
 
@@ -151,13 +147,13 @@ module _ (g : Graph) (U R Q : VertexSet) (won : Winners) (s : Choices) (first : 
   never_back : (p : Player) (v w : ℕ) → Among (KeptEdge g p (X p) s) (In (X p)) v w → In (without U R) v → In (without U R) w
   never_back p v w (k, i, j) m =
       let n = only (U v) (R v) m in
-      let d : In (D p) v = pair (without U R v) (same_player (won v) p) m (both (without U Q v) (same_player (won v) p) i).1 in
-      let u = (only (U w) (Q w) (both (without U Q w) (same_player (won w) p) j).0).0 in
+      let d : In (D p) v = and_from (without U R v) (same_player (won v) p) m (and_parts (without U Q v) (same_player (won v) p) i).1 in
+      let u = (only (U w) (Q w) (and_parts (without U Q w) (same_player (won w) p) j).0).0 in
       elim (kept_leads g p s v w k.1) [
         | inl (o, c) ↦ (let h = (first.holds p).choices v d o in
             let e = choice_leads (s v) h.0 w h.1 c in
-            (both (without U R w) (same_player (won w) p) (subst (In (D p)) e h.3)).0)
-        | inr (o, e) ↦ (both (without U R w) (same_player (won w) p) ((first.holds p).closed v w d o e u)).0
+            (and_parts (without U R w) (same_player (won w) p) (subst (In (D p)) e h.3)).0)
+        | inr (o, e) ↦ (and_parts (without U R w) (same_player (won w) p) ((first.holds p).closed v w d o e u)).0
       ]
 
   good_walks : (p : Player) → OnlyGoodWalks g p (X p) s
@@ -165,14 +161,15 @@ module _ (g : Graph) (U R Q : VertexSet) (won : Winners) (s : Choices) (first : 
       let k = closed_inside (KeptEdge g p (X p) s) (In (X p)) (λ v w e. e.0) walk c in
       elim (in_or_out (Among (KeptEdge g p (X p) s) (In (X p))) (without U R) (never_back p) walk k) [
         | inl h ↦ (first.holds p).good walk (ClosedWalk-weaker (Among (Among (KeptEdge g p (X p) s) (In (X p))) (In (without U R))) (KeptEdge g p (D p) s)
-            (λ v w e. (pair (without U R v) (same_player (won v) p) e.1 (both (without U Q v) (same_player (won v) p) e.0.1).1, e.0.0.1)) walk h)
-        | inr h ↦ (second.holds p).good walk (ClosedWalk-weaker (Among (Among (KeptEdge g p (X p) s) (In (X p))) (λ v. without U R v ≡ false)) (KeptEdge g p (F p) s)
+            (λ v w e. (and_from (without U R v) (same_player (won v) p) e.1 (and_parts (without U Q v) (same_player (won v) p) e.0.1).1, e.0.0.1)) walk h)
+        | inr h ↦ (second.holds p).good walk (ClosedWalk-weaker (Among (Among (KeptEdge g p (X p) s) (In (X p))) (λ v. without U R v ≡ false))
+            (KeptEdge g p (F p) s)
             (λ v w e. (in_second v p e.0.1 e.1, e.0.0.1)) walk h)
       ]
     where
       in_second : (v : ℕ) (p : Player) → In (X p) v → without U R v ≡ false → In (F p) v
       in_second v p i n = elim (parts p v i) [
-        | inl (d, m) ↦ absurd (no_both (without U R v) (both (without U R v) (same_player (won v) p) d).0 n)
+        | inl (d, m) ↦ absurd (no_both (and_parts (without U R v) (same_player (won v) p) d).0 n)
         | inr (f, y) ↦ f
       ]
 
@@ -180,7 +177,7 @@ module _ (g : Graph) (U R Q : VertexSet) (won : Winners) (s : Choices) (first : 
   solved_append = record {
     rest = λ v i. first.rest v (second.rest v i);
     holds = λ p. record {
-      within = λ v i. (only (U v) (Q v) (both (without U Q v) (same_player (won v) p) i).0).0;
+      within = λ v i. (only (U v) (Q v) (and_parts (without U Q v) (same_player (won v) p) i).0).0;
       choices = λ v i o. elim (parts p v i) [
         | inl (d, n) ↦ (let c = (first.holds p).choices v d o in (c.0, c.1, c.2, from_first p c.0 c.3))
         | inr (f, y) ↦ (let c = (second.holds p).choices v f o in (c.0, c.1, c.2, from_second p c.0 c.3))
@@ -188,19 +185,21 @@ module _ (g : Graph) (U R Q : VertexSet) (won : Winners) (s : Choices) (first : 
       closed = stays_won p;
       good = good_walks p;
     };
-    away = λ v w i e j. (let u = only (U w) (Q w) j in elim (test (R w)) [
-      | inl r ↦ second.away v w i e (minus (R w) (Q w) r u.1)
-      | inr n ↦ first.away v w (second.rest v i) e (minus (U w) (R w) u.0 n)
+    away = λ v w i e j. (let u = only (U w) (Q w) j in elim (cases_Bool (R w)) [
+      | inl r ↦ second.away v w i e (minus r u.1)
+      | inr n ↦ first.away v w (second.rest v i) e (minus u.0 n)
     ]);
   }
 
 -- What the player q won in U without A, from which no edge of the opponent's leads into A, grows by what it attracts in U.
-module _ (g : Graph) (q : Player) (U A L B : VertexSet) (won : Winners) (s t : Choices) (rank : ℕ → ℕ) (shut : (v w : ℕ) → In (without U A) v → owner_of g v ≡ opponent q → HasEdge g v w → In A w → ⊥) (sub : WinsOn g (without U A) q L s) (a : IsAttracted g q U L B t rank) (keeps : (v : ℕ) → In L v → t v ≡ s v) (his : (v : ℕ) → In B v → won v ≡ q) where
+module _ (g : Graph) (q : Player) (U A L B : VertexSet) (won : Winners) (s t : Choices) (rank : ℕ → ℕ)
+    (shut : (v w : ℕ) → In (without U A) v → owner_of g v ≡ opponent q → HasEdge g v w → In A w → ⊥) (sub : WinsOn g (without U A) q L s)
+    (a : IsAttracted g q U L B t rank) (keeps : (v : ℕ) → In L v → t v ≡ s v) (his : (v : ℕ) → In B v → won v ≡ q) where
   -- the part is held in U too
   old_closed : (v w : ℕ) → In L v → owner_of g v ≡ opponent q → HasEdge g v w → In U w → In L w
-  old_closed v w i o e u = elim (test (A w)) [
+  old_closed v w i o e u = elim (cases_Bool (A w)) [
     | inl y ↦ absurd (shut v w (sub.within v i) o e y)
-    | inr n ↦ sub.closed v w i o e (minus (U w) (A w) u n)
+    | inr n ↦ sub.closed v w i o e (minus u n)
   ]
 
   abbrev E : ℕ → ℕ → Type 0
@@ -225,11 +224,11 @@ module _ (g : Graph) (q : Player) (U A L B : VertexSet) (won : Winners) (s t : C
   pub grown_held : WinsOn g U q B t
   grown_held = record {
     within = a.inside;
-    choices = λ v i o. elim (test (L v)) [
+    choices = λ v i o. elim (cases_Bool (L v)) [
       | inl l ↦ (let c = sub.choices v l o in (c.0, keeps v l ∙ c.1, c.2, a.target c.0 c.3))
       | inr n ↦ (let c = a.leads v i n o in (c.0, c.1, c.2, c.3))
     ];
-    closed = λ v w i o e u. elim (test (L v)) [
+    closed = λ v w i o e u. elim (cases_Bool (L v)) [
       | inl l ↦ a.target w (old_closed v w l o e u)
       | inr n ↦ (a.pushed v w i n o e u).0
     ];
@@ -245,13 +244,14 @@ module _ (g : Graph) (q : Player) (U A L B : VertexSet) (won : Winners) (s t : C
     rest = λ v i. (only (U v) (B v) i).0;
     holds = λ p. elim (own_or_other q p) [
       | inl e ↦ subst (λ x. WinsOn g U x (won_inside (without U (without U B)) won x) t) e
-          (Holds-subst g U q B (won_inside (without U (without U B)) won q) t (λ v. equal_from (B v) (won_inside (without U (without U B)) won q v) (put v) (λ i. taken v (both (without U (without U B) v) (same_player (won v) q) i).0)) grown_held)
-      | inr e ↦ Holds-none g U p (won_inside (without U (without U B)) won p) t (λ v i.
-          (let b = both (without U (without U B) v) (same_player (won v) p) i in
+          (Holds-subst (λ v. equal_from (B v) (won_inside (without U (without U B)) won q v) (put v)
+          (λ i. taken v (and_parts (without U (without U B) v) (same_player (won v) q) i).0)) grown_held)
+      | inr e ↦ Holds-none (λ v i.
+          (let b = and_parts (without U (without U B) v) (same_player (won v) p) i in
           not_both q p (sym (his v (taken v b.0)) ∙ same_is (won v) p b.1) e))
     ];
     away = λ v w i e j. (let h = only (U v) (B v) i in elim (own_or_other (owner_of g v) q) [
-      | inl o ↦ absurd (no_both (B v) (a.own v w h.0 o e (taken w j)) h.1)
+      | inl o ↦ absurd (no_both (a.own v w h.0 o e (taken w j)) h.1)
       | inr o ↦ his w (taken w j) ∙ (sym (twice q) ∙ ap opponent (sym o))
     ]);
   }
@@ -266,7 +266,9 @@ module _ (g : Graph) (q : Player) (U A L B : VertexSet) (won : Winners) (s t : C
           twice_out a b c x y z = rw (x, y, z) refl
 
 -- The player of the greatest priority wins all of U, where he wins all that the attractor of its vertices leaves.
-module _ (g : Graph) (p : Player) (U T A : VertexSet) (won : Winners) (s : Choices) (rank : ℕ → ℕ) (above : (t v : ℕ) → In T t → In U v → priority_of g t ≤ priority_of g v → of_parity (priority_of g v) ≡ p) (a : IsAttracted g p U T A s rank) (chosen : (v : ℕ) → In T v → owner_of g v ≡ p → (w : ℕ) × (s v ≡ Some w) × HasEdge g v w × In U w) (sub : WinsOn g (without U A) p (without U A) s) where
+module _ (g : Graph) (p : Player) (U T A : VertexSet) (won : Winners) (s : Choices) (rank : ℕ → ℕ)
+    (above : (t v : ℕ) → In T t → In U v → priority_of g t ≤ priority_of g v → of_parity (priority_of g v) ≡ p) (a : IsAttracted g p U T A s rank)
+    (chosen : (v : ℕ) → In T v → owner_of g v ≡ p → (w : ℕ) × (s v ≡ Some w) × HasEdge g v w × In U w) (sub : WinsOn g (without U A) p (without U A) s) where
   abbrev G : ℕ → ℕ → Type 0
   G = Among (KeptEdge g p U s) (λ v. In U v × (T v ≡ false))
 
@@ -285,12 +287,12 @@ module _ (g : Graph) (p : Player) (U T A : VertexSet) (won : Winners) (s : Choic
   pub all_held : WinsOn g U p U s
   all_held = record {
     within = λ v i. i;
-    choices = λ v i o. elim (test (A v)) [
-      | inl y ↦ elim (test (T v)) [
+    choices = λ v i o. elim (cases_Bool (A v)) [
+      | inl y ↦ elim (cases_Bool (T v)) [
         | inl t ↦ chosen v t o
         | inr n ↦ (let c = a.leads v y n o in (c.0, c.1, c.2, a.inside c.0 c.3))
       ]
-      | inr n ↦ (let c = sub.choices v (minus (U v) (A v) i n) o in (c.0, c.1, c.2, (only (U c.0) (A c.0) c.3).0))
+      | inr n ↦ (let c = sub.choices v (minus i n) o in (c.0, c.1, c.2, (only (U c.0) (A c.0) c.3).0))
     ];
     closed = λ v w i o e u. u;
     good = λ walk c. (let inside = closed_begins (KeptEdge g p U s) (In U) (λ v w e. e.0) walk c in
@@ -299,21 +301,23 @@ module _ (g : Graph) (p : Player) (U T A : VertexSet) (won : Winners) (s : Choic
           | inr none ↦ (let k = closed_among (KeptEdge g p U s) (λ v. In U v × (T v ≡ false)) walk c (λ u n. (inside u n, none u n)) in
               elim (in_or_out G A stays_attracted walk k) [
                 | inl h ↦ absurd (never_falls (Among G (In A)) rank falls_in walk h)
-                | inr h ↦ sub.good walk (ClosedWalk-weaker (Among G (λ v. A v ≡ false)) (KeptEdge g p (without U A) s) (λ v w e. (minus (U v) (A v) e.0.1.0 e.1, e.0.0.1)) walk h)
+                | inr h ↦ sub.good walk (ClosedWalk-weaker (Among G (λ v. A v ≡ false)) (KeptEdge g p (without U A) s)
+                    (λ v w e. (minus e.0.1.0 e.1, e.0.0.1)) walk h)
               ])
         ]);
   }
 
   pub solved_all : ((v : ℕ) → In U v → won v ≡ p) → IsSolvedTo g U no_vertices won s
-  solved_all his = whole_solved g U won s (λ q. elim (own_or_other p q) [
-    | inl e ↦ subst (λ x. WinsOn g U x (won_inside U won x) s) e (Holds-subst g U p U (won_inside U won p) s (λ v. equal_from (U v) (won_inside U won p v)
-        (λ i. pair (U v) (same_player (won v) p) i (is_same (won v) p (his v i))) (λ i. (both (U v) (same_player (won v) p) i).0)) all_held)
-    | inr e ↦ Holds-none g U q (won_inside U won q) s (λ v i. (let b = both (U v) (same_player (won v) q) i in not_both p q (sym (his v b.0) ∙ same_is (won v) q b.1) e))
+  solved_all his = whole_solved (λ q. elim (own_or_other p q) [
+    | inl e ↦ subst (λ x. WinsOn g U x (won_inside U won x) s) e (Holds-subst (λ v. equal_from (U v) (won_inside U won p v)
+        (λ i. and_from (U v) (same_player (won v) p) i (is_same (won v) p (his v i))) (λ i. (and_parts (U v) (same_player (won v) p) i).0)) all_held)
+    | inr e ↦ Holds-none (λ v i. (let b = and_parts (U v) (same_player (won v) q) i in not_both p q (sym (his v b.0) ∙ same_is (won v) q b.1) e))
   ])
 
 -- the facts of an attraction are those of its choices where it is not the target
-pub IsAttracted-same : (g : Graph) (p : Player) (U T A : VertexSet) (s t : Choices) (rank : ℕ → ℕ) → ((v : ℕ) → In A v → t v ≡ s v) → IsAttracted g p U T A s rank → IsAttracted g p U T A t rank
-IsAttracted-same g p U T A s t rank same a = record {
+pub IsAttracted-same : {g : Graph} {p : Player} {U T A : VertexSet} {s t : Choices} {rank : ℕ → ℕ} → ((v : ℕ) → In A v → t v ≡ s v)
+    → IsAttracted g p U T A s rank → IsAttracted g p U T A t rank
+IsAttracted-same same a = record {
   inside = a.inside;
   target = a.target;
   own = a.own;
@@ -322,14 +326,15 @@ IsAttracted-same g p U T A s t rank same a = record {
   pushed = a.pushed;
 }
 
-pub IsAttracted-subst : (g : Graph) (p : Player) (U T A B : VertexSet) (s : Choices) (rank : ℕ → ℕ) → ((v : ℕ) → A v ≡ B v) → IsAttracted g p U T A s rank → IsAttracted g p U T B s rank
-IsAttracted-subst g p U T A B s rank e a = subst (λ Z. IsAttracted g p U T Z s rank) (fun_ext e) a
+pub IsAttracted-subst : {g : Graph} {p : Player} {U T A B : VertexSet} {s : Choices} {rank : ℕ → ℕ} → ((v : ℕ) → A v ≡ B v) → IsAttracted g p U T A s rank
+    → IsAttracted g p U T B s rank
+IsAttracted-subst {g} {p} {U} {T} {s = s} {rank = rank} e a = subst (λ Z. IsAttracted g p U T Z s rank) (fun_ext e) a
 
-pub IsSubgame-subst : (g : Graph) (U V : VertexSet) → ((v : ℕ) → U v ≡ V v) → IsSubgame g U → IsSubgame g V
-IsSubgame-subst g U V e h = subst (IsSubgame g) (fun_ext e) h
+pub IsSubgame-subst : {g : Graph} {U V : VertexSet} → ((v : ℕ) → U v ≡ V v) → IsSubgame g U → IsSubgame g V
+IsSubgame-subst {g} e h = subst (IsSubgame g) (fun_ext e) h
 
-pub IsSolvedTo-subst : (g : Graph) (U R Q : VertexSet) (won : Winners) (s : Choices) → ((v : ℕ) → R v ≡ Q v) → IsSolvedTo g U R won s → IsSolvedTo g U Q won s
-IsSolvedTo-subst g U R Q won s e h = subst (λ Z. IsSolvedTo g U Z won s) (fun_ext e) h
+pub IsSolvedTo-subst : {g : Graph} {U R Q : VertexSet} {won : Winners} {s : Choices} → ((v : ℕ) → R v ≡ Q v) → IsSolvedTo g U R won s → IsSolvedTo g U Q won s
+IsSolvedTo-subst {g} {U} {won = won} {s = s} e h = subst (λ Z. IsSolvedTo g U Z won s) (fun_ext e) h
 
 pub back_equal : (a b : Bool) → (b ≡ true → a ≡ true) → (a && not (a && not b)) ≡ b
 back_equal true true f = refl
@@ -337,7 +342,7 @@ back_equal true false f = refl
 back_equal false true f = f refl
 back_equal false false f = refl
 
-module _ (g : Graph) (U L : VertexSet) (p : Player) (won : Winners) (s : Choices) (begun : IsBegun g U L p won s) where
+module _ {g : Graph} {U L : VertexSet} {p : Player} {won : Winners} {s : Choices} (begun : IsBegun g U L p won s) where
   abbrev A : VertexSet
   A = without U L
 
@@ -346,7 +351,7 @@ module _ (g : Graph) (U L : VertexSet) (p : Player) (won : Winners) (s : Choices
 
   -- what is left of a subgame that is begun is a subgame
   pub left_subgame : IsSubgame g L
-  left_subgame = IsSubgame-subst g (without U A) L left_is (left_is_subgame g p U begun.target A s begun.rank begun.subgame begun.attracted)
+  left_subgame = IsSubgame-subst left_is (left_is_subgame begun.subgame begun.attracted)
 
   -- it stays begun while what is left is worked on
   pub begun_same : (won' : Winners) (s' : Choices) → ((v : ℕ) → L v ≡ false → (won' v ≡ won v) × (s' v ≡ s v)) → IsBegun g U L p won' s'
@@ -357,7 +362,7 @@ module _ (g : Graph) (U L : VertexSet) (p : Player) (won : Winners) (s : Choices
     rank = begun.rank;
     above = begun.above;
     some = begun.some;
-    attracted = IsAttracted-same g p U begun.target A s s' begun.rank (λ v i. (same v (only (U v) (L v) i).1).1) begun.attracted;
+    attracted = IsAttracted-same (λ v i. (same v (only (U v) (L v) i).1).1) begun.attracted;
     chosen = λ v t o. (let c = begun.chosen v t o in
         (c.0, (same v (only (U v) (L v) (begun.attracted.target v t)).1).1 ∙ c.1, c.2, c.3));
     his = λ v i. (same v (only (U v) (L v) i).1).0 ∙ begun.his v i;
@@ -367,32 +372,35 @@ module _ (g : Graph) (U L : VertexSet) (p : Player) (won : Winners) (s : Choices
   no_way_in : (q : Player) → p ≡ opponent q → (v w : ℕ) → In (without U A) v → owner_of g v ≡ opponent q → HasEdge g v w → In A w → ⊥
   no_way_in q x v w i o e j =
       let h = only (U v) (A v) i in
-      no_both (A v) (begun.attracted.own v w h.0 (o ∙ sym x) e j) h.1
+      no_both (begun.attracted.own v w h.0 (o ∙ sym x) e j) h.1
 
   -- the player won all that was left, so he wins all
   pub all_won : IsSolvedInside g L won s → ((v : ℕ) → In L v → won v ≡ p) → IsSolvedTo g U no_vertices won s
   all_won solved his = solved_all g p U begun.target A won s begun.rank begun.above begun.attracted begun.chosen rest
-      (λ v u. elim (test (L v)) [ inl l ↦ his v l | inr n ↦ begun.his v (minus (U v) (L v) u n) ])
+      (λ v u. elim (cases_Bool (L v)) [ inl l ↦ his v l | inr n ↦ begun.his v (minus u n) ])
     where
       mine : (v : ℕ) → won_inside L won p v ≡ without U A v
-      mine v = equal_from (won_inside L won p v) (without U A v) (λ i. left_is v ∙ (both (L v) (same_player (won v) p) i).0)
-          (λ i. (let l : L v ≡ true = sym (left_is v) ∙ i in pair (L v) (same_player (won v) p) l (is_same (won v) p (his v l))))
+      mine v = equal_from (won_inside L won p v) (without U A v) (λ i. left_is v ∙ (and_parts (L v) (same_player (won v) p) i).0)
+          (λ i. (let l : L v ≡ true = sym (left_is v) ∙ i in and_from (L v) (same_player (won v) p) l (is_same (won v) p (his v l))))
 
       rest : WinsOn g (without U A) p (without U A) s
-      rest = Holds-subst g (without U A) p (won_inside L won p) (without U A) s mine (subst (λ Z. WinsOn g Z p (won_inside L won p) s) (sym (fun_ext left_is)) (solved p))
+      rest = Holds-subst mine (subst (λ Z. WinsOn g Z p (won_inside L won p) s) (sym (fun_ext left_is)) (solved p))
 
   -- what the opponent won of it, and all that this attracts, is his
-  pub part_lost : (B : VertexSet) (won' : Winners) (t : Choices) (rank : ℕ → ℕ) → IsSolvedInside g L won s → IsAttracted g (opponent p) U (won_inside L won (opponent p)) B t rank → ((v : ℕ) → In (won_inside L won (opponent p)) v → t v ≡ s v) → ((v : ℕ) → In B v → won' v ≡ opponent p) → IsSolvedTo g U (without U B) won' t
+  pub part_lost : (B : VertexSet) (won' : Winners) (t : Choices) (rank : ℕ → ℕ) → IsSolvedInside g L won s
+      → IsAttracted g (opponent p) U (won_inside L won (opponent p)) B t rank → ((v : ℕ) → In (won_inside L won (opponent p)) v → t v ≡ s v)
+      → ((v : ℕ) → In B v → won' v ≡ opponent p) → IsSolvedTo g U (without U B) won' t
   part_lost B won' t rank solved a keeps his =
       solved_but g (opponent p) U A (won_inside L won (opponent p)) B won' s t rank (no_way_in (opponent p) (sym (twice p)))
       (subst (λ Z. WinsOn g Z (opponent p) (won_inside L won (opponent p)) s) (sym (fun_ext left_is)) (solved (opponent p))) a keeps his
 
 -- what is solved up to R stays so while R is worked on
-pub IsSolvedTo-same : (g : Graph) (U R : VertexSet) (won won' : Winners) (s s' : Choices) → ((v : ℕ) → R v ≡ false → (won' v ≡ won v) × (s' v ≡ s v)) → IsSolvedTo g U R won s → IsSolvedTo g U R won' s'
-IsSolvedTo-same g U R won won' s s' same h = record {
+pub IsSolvedTo-same : {g : Graph} {U R : VertexSet} {won won' : Winners} {s s' : Choices} → ((v : ℕ) → R v ≡ false → (won' v ≡ won v) × (s' v ≡ s v))
+    → IsSolvedTo g U R won s → IsSolvedTo g U R won' s'
+IsSolvedTo-same {U = U} {R} {won} {won'} same h = record {
   rest = h.rest;
-  holds = λ p. Holds-same g U p (won_inside (without U R) won' p) s s' (λ v i. (same v (outside v (both (without U R v) (same_player (won' v) p) i).0)).1)
-      (Holds-subst g U p (won_inside (without U R) won p) (won_inside (without U R) won' p) s (λ v. equal v p (without U R v) refl) (h.holds p));
+  holds = λ p. Holds-same (λ v i. (same v (outside v (and_parts (without U R v) (same_player (won' v) p) i).0)).1)
+      (Holds-subst (λ v. equal v p (without U R v) refl) (h.holds p));
   away = λ v w i e j. (same w (outside w j)).0 ∙ h.away v w i e j;
 }
   where

@@ -2,5 +2,6 @@
 pub mod Walked
 pub mod Extended
 pub mod Fresh
+pub mod Restored
 pub mod Counted
 pub mod Gathered

@@ -1,5 +1,6 @@
 -- What the product's finder gives for a job.
-use Rattle.std.specs.Prelude.{ℕ, ◌≡◌, ◌<◌, ◌-◌, ◌*◌, ◌==◌, ◌++◌, ◌↔◌, min, Bool, true, false, List, [], ◌∷◌, length, Option, Some, None, MatchOption, if◌then◌else◌}
+use Rattle.std.specs.Prelude.{ℕ, ◌≡◌, ◌<◌, ◌-◌, ◌*◌, ◌==◌, ◌++◌, ◌↔◌, min, Bool, true, false, List, [], ◌∷◌, length, Option, Some, None, MatchOption}
+use Rattle.std.specs.Prelude.{if◌then◌else◌}
 use Rattle.std.specs.Option.{option_to_list}
 use Rattle.std.specs.List.{range_with_len}
 use Rattle.pg_game.specs.declared.player.Player.{Player}

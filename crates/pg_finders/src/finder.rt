@@ -12,7 +12,8 @@ pub enum Job {
     Loops,
     /// The whole part, where one player has nothing to choose.
     Solitaire,
-    /// Dominions of at most `bound` vertices that hold one of the `count` vertices from `first` on.
+    /// A dominion of the player with at most `bound` vertices that holds one of the `count` vertices from `first` on; at
+    /// most `budget` choices are tried.
     Small {
         player: Player,
         first: u32,

@@ -33,7 +33,6 @@ fn has_successor_in(game: &Game, mask: &Mask, v: u32) -> bool
     ensures found { IsTrue result → (w : ℕ) × HasEdge game.now v w × In (members mask.now) w }
     ensures none { IsFalse result → IsOut game.now (members mask.now) v }
 {
-    let _n = game.len();
     for w in game.successors(v) {
         if mask.has(*w) {
             return true;
@@ -82,7 +81,7 @@ impl<'g> Inside<'g> {
     }
 }
 
-/// A copy of what a board leaves unsettled.
+/// A copy of what a board leaves unsettled, with how many entries its journal had and how many vertices were settled.
 #[derive(Drop)]
 pub struct Copied<'g> {
     pub inside: Inside<'g>,

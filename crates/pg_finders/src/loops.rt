@@ -23,7 +23,6 @@ fn stays(game: &Game, mask: &Mask, v: u32) -> bool
     requires vertex { v < length game.now }
     ensures { IsTrue result ↔ ((w : ℕ) → HasEdge game.now v w → In (members mask.now) w → w ≡ v) }
 {
-    let _n = game.len();
     for w in game.successors(v) {
         if *w != v && mask.has(*w) {
             return false;
@@ -49,7 +48,7 @@ fn is_loop(game: &Game, mask: &Mask, player: Player, v: u32) -> bool
 }
 
 /// The vertices that are the player's dominions alone, each with itself as the choice where he owns it.
-/// None where there is no such vertex.
+/// None where there is no such vertex. Out of memory is its one refusal.
 pub fn find_loop(
     alloc: Global,
     inside: &Inside,
@@ -57,8 +56,10 @@ pub fn find_loop(
 ) -> Result<Option<Claim>, AllocError>
     ensures player { IfOk result (λ found. MatchOption found (Unit {0}) (λ claim. claim.player ≡ player)) }
     ensures none { IfOk result (λ found. MatchOption found (NoneHas (IsLoop inside.now.graph (members inside.now.mask) player)) (λ claim. Unit {0})) }
-    ensures loops { IfOk result (λ found. MatchOption found (Unit {0}) (λ claim. (v : ℕ) → In (named claim.rows) v ↔ IsLoop inside.now.graph (members inside.now.mask) player v)) }
-    ensures choices { IfOk result (λ found. MatchOption found (Unit {0}) (λ claim. (v : ℕ) → In (named claim.rows) v → owner_of inside.now.graph v ≡ player → choice_in claim.rows v ≡ Some v)) }
+    ensures loops { IfOk result (λ found. MatchOption found (Unit {0})
+        (λ claim. (v : ℕ) → In (named claim.rows) v ↔ IsLoop inside.now.graph (members inside.now.mask) player v)) }
+    ensures choices { IfOk result (λ found. MatchOption found (Unit {0})
+        (λ claim. (v : ℕ) → In (named claim.rows) v → owner_of inside.now.graph v ≡ player → choice_in claim.rows v ≡ Some v)) }
     ensures good { IfOk result (λ found. MatchOption found (Unit {0}) (λ claim. IsGoodIn inside.now.graph (members inside.now.mask) player claim.rows)) }
 {
     let game = inside.game();

@@ -12,7 +12,6 @@ pub fn successor_in(game: &Game, inside: &Mask, v: u32) -> Option<u32>
     ensures found { IfSome result (λ w. HasEdge game.now v w × In (members inside.now) w) }
     ensures none { IsNone result → IsOut game.now (members inside.now) v }
 {
-    let _n = game.len();
     for w in game.successors(v) {
         if inside.has(*w) {
             return Some(*w);

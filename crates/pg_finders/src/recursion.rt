@@ -29,7 +29,8 @@ pub struct Solved {
     pub odd: Claim,
 }
 
-/// A claim for each player, which together have all vertices inside (Zielonka 1998).
+/// A claim for each player, which together have all vertices inside (Zielonka 1998); one may have no rows. `Memory` is
+/// its one refusal.
 pub fn zielonka(alloc: Global, inside: &Inside) -> Result<Solved, Memory>
     ensures { IfOk result (λ solved. AreClaims inside.now.graph (members inside.now.mask) solved.even solved.odd) }
 {
@@ -78,7 +79,8 @@ fn claim_of(
     requires length { length mask.now ≡ length game.now }
     requires size { HasSize (length game.now) plan.now }
     ensures player { IfOk result (λ claim. claim.player ≡ player) }
-    ensures rows { IfOk result (λ claim. claim.rows ≡ rows_below (won_inside (members mask.now) (winners_of plan.now) player) (own_choices game.now player (choices_of plan.now)) (length game.now)) }
+    ensures rows { IfOk result (λ claim. claim.rows ≡ rows_below (won_inside (members mask.now) (winners_of plan.now) player)
+        (own_choices game.now player (choices_of plan.now)) (length game.now)) }
 {
     let mut rows = Vec::new(alloc);
     for v in 0..game.len() {

@@ -33,7 +33,6 @@ fn single_successor(game: &Game, mask: &Mask, v: u32) -> Option<u32>
     ensures found { IfSome result (λ w. IsSingle game.now (members mask.now) v w) }
     ensures none { IsNone result → HasOneAt game.now (members mask.now) v → IsOut game.now (members mask.now) v }
 {
-    let _n = game.len();
     let mut single = None;
     for w in game.successors(v) {
         if mask.has(*w) {
@@ -116,7 +115,8 @@ fn single_successors(
     requires subgame { IsSubgame game.now (members mask.now) }
     requires one { HasOneSuccessor game.now (members mask.now) player }
     ensures size { IfOk result (λ next. length next.items ≡ length game.now) }
-    ensures single { IfOk result (λ next. (v : ℕ) → In (members mask.now) v → owner_of game.now v ≡ player → IsSingle game.now (members mask.now) v (slice_index next.items v)) }
+    ensures single { IfOk result (λ next. (v : ℕ) → In (members mask.now) v → owner_of game.now v ≡ player
+        → IsSingle game.now (members mask.now) v (slice_index next.items v)) }
 {
     let n = game.len();
     let mut next = Vec::with_capacity(alloc, n as usize)?;
@@ -181,10 +181,12 @@ fn solve(alloc: Global, game: &Game, mask: &Mask, forced: Player) -> Result<Clai
     }
 }
 
-/// A claim that is good in the subgame, where that has a vertex and one player has a single successor inside at
-/// each of his vertices inside; a player without vertices inside has. None elsewhere.
+/// A claim of either player that is good in the subgame, where that has a vertex and one player has a single successor
+/// inside at each of his vertices inside; a player without vertices inside has. None elsewhere. It need not name all
+/// vertices inside. Out of memory is its one refusal.
 pub fn find_solitaire(alloc: Global, inside: &Inside) -> Result<Option<Claim>, AllocError>
-    ensures none { IfOk result (λ found. MatchOption found (IsSolitaire inside.now.graph (members inside.now.mask) → ⊥) (λ claim. IsSolitaire inside.now.graph (members inside.now.mask))) }
+    ensures none { IfOk result (λ found. MatchOption found (IsSolitaire inside.now.graph (members inside.now.mask) → ⊥)
+        (λ claim. IsSolitaire inside.now.graph (members inside.now.mask))) }
     ensures good { IfOk result (λ found. MatchOption found (Unit {0}) (λ claim. IsGoodIn inside.now.graph (members inside.now.mask) claim.player claim.rows)) }
 {
     let game = inside.game();

@@ -2,7 +2,8 @@
 ghost use Rattle.std.specs.Prelude.{◌≡◌, ℕ, ◌<◌, ◌++◌, min, false, true, length, slice_index, IfOk};
 ghost use Rattle.std.specs.Option.{option_to_list};
 ghost use Rattle.pg_game.specs.VertexSet.{members};
-ghost use Rattle.pg_finders.specs.Jobs.{IfLoops, IfSolitaire, IfSmall, IfRecursion, is_small, AreLoops, AreOfSolitaire, AreOfRecursion, IsOfSmall, seeds_of, with_rows};
+ghost use Rattle.pg_finders.specs.Jobs.{IfLoops, IfSolitaire, IfSmall, IfRecursion, is_small, AreLoops, AreOfSolitaire, AreOfRecursion, IsOfSmall};
+ghost use Rattle.pg_finders.specs.Jobs.{seeds_of, with_rows};
 
 use crate::finder::{Finder, Found, Job};
 use crate::inside::{Copied, Inside};
@@ -74,7 +75,8 @@ fn small_of(
     budget: u64,
 ) -> Result<Found, AllocError>
     requires { (k : ℕ) → k < length seeds.now → slice_index seeds.now k < length inside.now.graph }
-    ensures { IfOk result (λ found. IsOfSmall inside.now.graph (members inside.now.mask) player seeds.now (min bound 8) budget found.claims.items found.gave_up) }
+    ensures { IfOk result (λ found. IsOfSmall inside.now.graph (members inside.now.mask) player seeds.now
+        (min bound 8) budget found.claims.items found.gave_up) }
 {
     if bound == 0 {
         return all_of(alloc, None, None);
@@ -92,9 +94,13 @@ fn small_of(
 impl Finder for Standard {
     fn find(&self, alloc: Global, copied: &Copied, job: &Job) -> Result<Found, AllocError>
         ensures loops { IfOk result (λ found. IfLoops job.now (AreLoops copied.now.inside.graph (members copied.now.inside.mask) found.claims.items)) }
-        ensures solitaire { IfOk result (λ found. IfSolitaire job.now (AreOfSolitaire copied.now.inside.graph (members copied.now.inside.mask) found.claims.items)) }
-        ensures small { IfOk result (λ found. IfSmall job.now (λ player first count bound budget. IsOfSmall copied.now.inside.graph (members copied.now.inside.mask) player (seeds_of (length copied.now.inside.graph) first count) (min bound 8) budget found.claims.items found.gave_up)) }
-        ensures recursion { IfOk result (λ found. IfRecursion job.now (AreOfRecursion copied.now.inside.graph (members copied.now.inside.mask) found.claims.items)) }
+        ensures solitaire { IfOk result (λ found. IfSolitaire job.now
+            (AreOfSolitaire copied.now.inside.graph (members copied.now.inside.mask) found.claims.items)) }
+        ensures small { IfOk result (λ found. IfSmall job.now
+            (λ player first count bound budget. IsOfSmall copied.now.inside.graph (members copied.now.inside.mask) player
+            (seeds_of (length copied.now.inside.graph) first count) (min bound 8) budget found.claims.items found.gave_up)) }
+        ensures recursion { IfOk result (λ found. IfRecursion job.now
+            (AreOfRecursion copied.now.inside.graph (members copied.now.inside.mask) found.claims.items)) }
         ensures gave_up { IfOk result (λ found. found.gave_up ≡ true → is_small job.now ≡ true) }
     {
         let inside = &copied.inside;

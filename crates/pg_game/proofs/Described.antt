@@ -1,24 +1,24 @@
 -- A game is the only game of the specifications that describe it, and these are without fault.
-use Rattle.std.proofs.Common.{◌≡◌, ℕ, zero, suc, ◌<◌, ◌≤◌, Bool, true, false, List, [], ◌∷◌, length, map, get_or, refl, sym, ◌∙◌, ap, subst, arith}
-use Rattle.std.specs.Prelude.{Some, None, slice_get, find, not, sum_by, ◌==◌}
+use Rattle.std.proofs.Common.{◌≡◌, ℕ, ◌<◌, ◌≤◌, List, [], ◌∷◌, length, map, get_or, refl, sym, ◌∙◌, ap, subst, arith}
+use Rattle.std.specs.Prelude.{◌↔◌, Some, None, slice_get, sum_by}
 use Rattle.std.specs.List.{Contains}
 use Rattle.std.specs.List.Sorted.{IsStrictlyIncreasing}
-use Rattle.std.proofs.lemmas.Bool.{eq-eqb, or_left, or_right}
 use Rattle.std.proofs.lemmas.List.Sums.{sum_by-cons}
 use Rattle.std.proofs.lemmas.List.{length-map, get_or-map, get_or_default, ext_get_or}
 use Rattle.std.proofs.lemmas.List.Elements.{Contains-get_or}
 use Rattle.std.proofs.lemmas.List.Sorted.{IsPermutation-refl}
 use Rattle.std.proofs.lemmas.Option.{slice_get-get_or, get_or_from_slice_get}
-use Rattle.pg_game.proofs.Plain.{not_empty, none_repeated}
 use Rattle.pg_game.specs.declared.game.Spec.{Spec}
 use Rattle.pg_game.specs.Graph.{Graph, Vertex, IsGame, no_vertex, vertex_at, id_of, successors_of}
-use Rattle.pg_game.specs.Specification.{IsGameOf, IsVertexOf, number_of, is_empty, first_without, first_unspecified, first_unknown, IsSpecified, edges, different, first_fault}
+use Rattle.pg_game.specs.Specification.{IsGameOf, IsVertexOf, number_of, edges, different, first_fault}
 use Rattle.pg_game.specs.Limits.{IsWithinLimits}
 use Rattle.pg_game.specs.private.Identifiers.{ids_of}
 use Rattle.pg_game.specs.private.Described.{spec_at, specs_of}
-use Rattle.pg_game.proofs.Members.{Contains-nil, Contains-head, Contains-tail}
+use Rattle.pg_game.proofs.Members.{Contains-nil}
 use Rattle.pg_game.proofs.Different.{different_most}
-use Rattle.pg_game.proofs.Sound.{sound_has_none}
+use Rattle.pg_game.proofs.Laid.{none_repeated}
+use Rattle.pg_game.proofs.Sound.{sound_has_none, none_without, none_unknown}
+use Rattle.pg_game.proofs.Unknown.{to_specified}
 use Rattle.pg_game.proofs.Rising.{number_is, same_rising}
 
 map-map : {X Y Z : Type 0} (f : X → Y) (h : Y → Z) (xs : List X) → map h (map f xs) ≡ map (λ x. h (f x)) xs
@@ -31,21 +31,19 @@ member_from f ws i (k, l, e) =
     let n : k < length ws = omega (arith, l, length-map ws f) in
     (get_or ws k 0, Contains-get_or ws k 0 n, sym (get_or-map f ws k 0 i n) ∙ e)
 
-member_to : (f : ℕ → ℕ) (ws : List ℕ) (w : ℕ) → Contains ws w → Contains (map f ws) (f w)
-member_to f ws w (k, l, e) = (k, omega (arith, l, length-map ws f), get_or-map f ws k w (f w) l ∙ ap f e)
+member_to : {X : Type 0} (f : X → ℕ) (xs : List X) (x : X) → Contains xs x → Contains (map f xs) (f x)
+member_to f xs x (k, l, e) = (k, omega (arith, l, length-map xs f), get_or-map f xs k x (f x) l ∙ ap f e)
 
 module _ (g : Graph) (game : IsGame g) where
   ids_described : ids_of (specs_of g) ≡ map (λ (x : Vertex). x.id) g
   ids_described = map-map (λ (x : Vertex). spec_at g x) (λ (s : Spec). s.id) g
 
-  id_among : (v : ℕ) → v < length g → get_or (map (λ (x : Vertex). x.id) g) v 0 ≡ id_of g v
-  id_among v l = get_or-map (λ (x : Vertex). x.id) g v no_vertex 0 l
-
   -- the number of a vertex's identifier is the vertex
   pub described_number : (v : ℕ) → v < length g → number_of (specs_of g) (id_of g v) ≡ v
   described_number v l =
       let n : v < length (map (λ (x : Vertex). x.id) g) = omega (arith, l, length-map g (λ (x : Vertex). x.id)) in
-      subst (λ i. number_of (specs_of g) i ≡ v) (id_among v l) (number_is (specs_of g) (specs_of g) (map (λ (x : Vertex). x.id) g) (IsPermutation-refl (specs_of g)) ids_described game.ids v n)
+      let is = number_is (specs_of g) (specs_of g) (map (λ (x : Vertex). x.id) g) (IsPermutation-refl (specs_of g)) ids_described game.ids v n in
+      subst (λ i. number_of (specs_of g) i ≡ v) (get_or-map (λ (x : Vertex). x.id) g v no_vertex 0 l) is
 
   successor_below : (v w : ℕ) → v < length g → Contains (successors_of g v) w → w < length g
   successor_below v w l (k, m, e) = subst (λ u. u < length g) (get_or_default (successors_of g v) k 0 w m ∙ e) ((game.successors v l).below k m)
@@ -77,11 +75,14 @@ module _ (g : Graph) (game : IsGame g) where
         let (v, l, e) = spec_place s m in
         let x = vertex_at g v in
         let at : number_of (specs_of g) s.id ≡ v = subst (λ (t : Spec). number_of (specs_of g) t.id ≡ v) e (described_number v l) in
-        (x, subst (λ k. slice_get g k ≡ Some x) (sym at) (slice_get-get_or g v no_vertex l), subst (λ (t : Spec). IsVertexOf (specs_of g) t x) e (described_vertex v l)));
+        let get = subst (λ k. slice_get g k ≡ Some x) (sym at) (slice_get-get_or g v no_vertex l) in
+        (x, get, subst (λ (t : Spec). IsVertexOf (specs_of g) t x) e (described_vertex v l)));
   }
 
   spec_in : (v : ℕ) → v < length g → Contains (specs_of g) (spec_at g (vertex_at g v))
-  spec_in v l = (v, omega (arith, l, length-map g (λ (x : Vertex). spec_at g x)), get_or-map (λ (x : Vertex). spec_at g x) g v no_vertex (spec_at g (vertex_at g v)) l)
+  spec_in v l =
+      let f = λ (x : Vertex). spec_at g x in
+      (v, omega (arith, l, length-map g f), get_or-map f g v no_vertex (spec_at g (vertex_at g v)) l)
 
   -- two vertices of one specification are the same
   same_vertex : (s : Spec) (x y : Vertex) → IsVertexOf (specs_of g) s x → IsVertexOf (specs_of g) s y → x ≡ y
@@ -89,7 +90,9 @@ module _ (g : Graph) (game : IsGame g) where
       let id : x.id ≡ y.id = a.id ∙ sym b.id in
       let priority : x.priority ≡ y.priority = a.priority ∙ sym b.priority in
       let owner : x.owner ≡ y.owner = a.owner ∙ sym b.owner in
-      let successors : x.successors ≡ y.successors = same_rising x.successors y.successors a.rising b.rising (λ w. (λ m. (b.successors w).1 ((a.successors w).0 m), λ m. (a.successors w).1 ((b.successors w).0 m))) in
+      let same : (w : ℕ) → Contains x.successors w ↔ Contains y.successors w =
+      λ w. (λ m. (b.successors w).1 ((a.successors w).0 m), λ m. (a.successors w).1 ((b.successors w).0 m)) in
+      let successors : x.successors ≡ y.successors = same_rising x.successors y.successors a.rising b.rising same in
       λ i. record { id = id i; priority = priority i; owner = owner i; successors = successors i }
 
   -- and the only one
@@ -101,25 +104,6 @@ module _ (g : Graph) (game : IsGame g) where
       let (y, get, is) = other.each (spec_at g (vertex_at g v)) (spec_in v m) in
       let at : slice_get h v ≡ Some y = subst (λ k. slice_get h k ≡ Some y) (described_number v m) get in
       get_or_from_slice_get h v y no_vertex at ∙ same_vertex (spec_at g (vertex_at g v)) y (vertex_at g v) is (described_vertex v m))
-
-none_without : (specs : List Spec) → ((s : Spec) → Contains specs s → is_empty s.successors ≡ false) → first_without specs ≡ None
-none_without [] h = refl
-none_without (s ∷ specs) h = rw (h s (zero, omega arith, refl)) (none_without specs (λ t (k, l, e). h t (suc k, omega arith, e)))
-
-find_none : (p : ℕ → Bool) (xs : List ℕ) → ((x : ℕ) → Contains xs x → p x ≡ false) → find p xs ≡ None
-find_none p [] h = refl
-find_none p (x ∷ xs) h = rw (h x (Contains-head x xs)) (find_none p xs (λ y m. h y (Contains-tail x y xs m)))
-
-none_unknown : (all specs : List Spec) → ((s : Spec) → Contains specs s → (i : ℕ) → Contains s.successors i → IsSpecified all i ≡ true) → first_unknown all specs ≡ None
-none_unknown all [] h = refl
-none_unknown all (s ∷ specs) h =
-    let f : first_unspecified all s.successors ≡ None = find_none (λ i. not (IsSpecified all i)) s.successors (λ i m. ap not (h s (zero, omega arith, refl) i m)) in
-    rw f (none_unknown all specs (λ t (k, l, e). h t (suc k, omega arith, e)))
-
-specified_here : (specs : List Spec) (s : Spec) → Contains specs s → IsSpecified specs s.id ≡ true
-specified_here [] s (k, l, e) = absurd (omega arith)
-specified_here (t ∷ specs) s (zero, l, e) = or_left (t.id == s.id) (IsSpecified specs s.id) (eq-eqb t.id s.id (ap (λ (x : Spec). x.id) e))
-specified_here (t ∷ specs) s (suc k, l, e) = or_right (t.id == s.id) (IsSpecified specs s.id) (specified_here specs s (k, omega arith, e))
 
 edges_few : (g : Graph) (xs : List Vertex) → edges (map (λ x. spec_at g x) xs) ≤ sum_by (λ (x : Vertex). length x.successors) xs
 edges_few g [] = omega arith
@@ -143,11 +127,12 @@ described_sound g game limits =
       successors = none_without (specs_of g) (λ s m. (
           let (v, l, e) = spec_place g game s m in
           let h = (game.successors v l).nonempty in
-          subst (λ (t : Spec). is_empty t.successors ≡ false) e (not_empty (map (λ w. id_of g w) (successors_of g v)) (omega (arith, h, length-map (successors_of g v) (λ w. id_of g w))))));
+          subst (λ (t : Spec). 0 < length t.successors) e (omega (arith, h, length-map (successors_of g v) (λ w. id_of g w)))));
       edges_fit = omega (arith, edges_few g g, limits.edges);
       known = none_unknown (specs_of g) (specs_of g) (λ s m i k. (
           let (v, l, e) = spec_place g game s m in
           let j : Contains (map (λ w. id_of g w) (successors_of g v)) i = subst (λ (t : Spec). Contains t.successors i) (sym e) k in
           let (w, among, f) = member_from (λ u. id_of g u) (successors_of g v) i j in
-          subst (λ x. IsSpecified (specs_of g) x ≡ true) f (specified_here (specs_of g) (spec_at g (vertex_at g w)) (spec_in g game w (successor_below g game v w l among)))));
+          let h = member_to (λ (t : Spec). t.id) (specs_of g) (spec_at g (vertex_at g w)) (spec_in g game w (successor_below g game v w l among)) in
+          to_specified (specs_of g) i (subst (λ x. Contains (ids_of (specs_of g)) x) f h)));
     }

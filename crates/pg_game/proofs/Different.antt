@@ -1,9 +1,10 @@
 -- How many different numbers a list has, and which vertex an identifier names: by rising lists.
-use Rattle.std.proofs.Common.{◌≡◌, ◌≢◌, ℕ, zero, suc, ◌+◌, ◌<◌, ◌≤◌, Bool, true, false, not, ◌↔◌, inl, inr, List, [], ◌∷◌, length, get_or, refl, sym, ◌∙◌, ap, subst, arith, lt-ltb}
+use Rattle.std.proofs.Common.{◌≡◌, ◌≢◌, ℕ, zero, suc, ◌+◌, ◌<◌, ◌≤◌, Bool, true, false, not, ◌↔◌, inl, inr, List, [], ◌∷◌, length, get_or, refl, sym}
+use Rattle.std.proofs.Common.{◌∙◌, ap, subst, arith, lt-ltb}
 use Rattle.std.specs.Prelude.{◌==◌, nat_lt, count_by}
 use Rattle.std.specs.List.{Contains, list_any, filter}
 use Rattle.std.specs.List.Sorted.{IsStrictlyIncreasing}
-use Rattle.std.proofs.lemmas.Bool.{eqb-true, eq-eqb, false_from_ne_true, le-ltb}
+use Rattle.std.proofs.lemmas.Bool.{eqb-true, eq-eqb, false_from_ne_true, le-ltb, cases_Bool}
 use Rattle.std.proofs.lemmas.List.{get_or_default}
 use Rattle.std.proofs.lemmas.List.Sums.{length-filter}
 use Rattle.std.proofs.lemmas.List.Kept.{IsStrictlyIncreasing-filter}
@@ -34,57 +35,54 @@ keep_all n (y ∷ ys) none =
 
 length-without_one : (n : ℕ) (ys : List ℕ) → IsStrictlyIncreasing ys → Contains ys n → length (without_one n ys) + 1 ≡ length ys
 length-without_one n [] up m = absurd (Contains-nil n m)
-length-without_one n (y ∷ ys) up m = go (y == n) refl (length-without_one n ys (rising_tail y ys up))
-  where
-    go : (b : Bool) → (y == n) ≡ b → (Contains ys n → length (without_one n ys) + 1 ≡ length ys) → length (without_one n (y ∷ ys)) + 1 ≡ length (y ∷ ys)
-    go true e h =
-        let q : y ≡ n = eqb-true y n e in
-        let none : Contains ys n → ⊥ = λ k. (let l = below_first y ys up n k in omega (arith, l, q)) in
-        rw e (omega (arith, ap (λ (zs : List ℕ). length zs) (keep_all n ys none)))
-    go false e h = elim (Contains-cons y n ys m) [
-      | inl q ↦ absurd (let t : (y == n) ≡ true = eq-eqb y n q in cc (t, e))
-      | inr k ↦ rw e (omega (arith, h k))
-    ]
+length-without_one n (y ∷ ys) up m = elim (cases_Bool (y == n)) [
+  | inl e ↦ (let none : Contains ys n → ⊥ = λ k. (let l = below_first y ys up n k in omega (arith, l, eqb-true y n e)) in
+      rw e (omega (arith, ap (λ (zs : List ℕ). length zs) (keep_all n ys none))))
+  | inr e ↦ elim (Contains-cons y n ys m) [
+    | inl q ↦ absurd (let t : (y == n) ≡ true = eq-eqb y n q in cc (t, e))
+    | inr k ↦ rw e (omega (arith, length-without_one n ys (rising_tail y ys up) k))
+  ]
+]
 
 contains-without : (n : ℕ) (ys : List ℕ) (x : ℕ) → Contains (without_one n ys) x ↔ (Contains ys x × (x ≢ n))
 contains-without n [] x = (λ m. absurd (Contains-nil x m), λ h. absurd (Contains-nil x h.0))
-contains-without n (y ∷ ys) x = go (y == n) refl (contains-without n ys x)
-  where
-    go : (b : Bool) → (y == n) ≡ b → (Contains (without_one n ys) x ↔ (Contains ys x × (x ≢ n))) → Contains (without_one n (y ∷ ys)) x ↔ (Contains (y ∷ ys) x × (x ≢ n))
-    go true e h = rw e (
-      λ m. (let k = h.0 m in (Contains-tail y x ys k.0, k.1)),
-      λ k. elim (Contains-cons y x ys k.0) [
-        | inl q ↦ absurd (k.1 (sym q ∙ eqb-true y n e))
-        | inr t ↦ h.1 (t, k.1)
-      ],
-    )
-    go false e h = rw e (
-      λ m. elim (Contains-cons y x (without_one n ys) m) [
-        | inl q ↦ (subst (λ (z : ℕ). Contains (y ∷ ys) z) q (Contains-head y ys), λ z. (let t : (y == n) ≡ true = eq-eqb y n (q ∙ z) in cc (t, e)))
-        | inr t ↦ (let k = h.0 t in (Contains-tail y x ys k.0, k.1))
-      ],
-      λ k. elim (Contains-cons y x ys k.0) [
-        | inl q ↦ subst (λ (z : ℕ). Contains (y ∷ without_one n ys) z) q (Contains-head y (without_one n ys))
-        | inr t ↦ Contains-tail y x (without_one n ys) (h.1 (t, k.1))
-      ],
-    )
+contains-without n (y ∷ ys) x = let h = contains-without n ys x in elim (cases_Bool (y == n)) [
+  | inl e ↦ rw e (
+    λ m. (let k = h.0 m in (Contains-tail y x ys k.0, k.1)),
+    λ k. elim (Contains-cons y x ys k.0) [
+      | inl q ↦ absurd (k.1 (sym q ∙ eqb-true y n e))
+      | inr t ↦ h.1 (t, k.1)
+    ],
+  )
+  | inr e ↦ rw e (
+    λ m. elim (Contains-cons y x (without_one n ys) m) [
+      | inl q ↦ (subst (λ (z : ℕ). Contains (y ∷ ys) z) q (Contains-head y ys), λ z. (let t : (y == n) ≡ true = eq-eqb y n (q ∙ z) in cc (t, e)))
+      | inr t ↦ (let k = h.0 t in (Contains-tail y x ys k.0, k.1))
+    ],
+    λ k. elim (Contains-cons y x ys k.0) [
+      | inl q ↦ subst (λ (z : ℕ). Contains (y ∷ without_one n ys) z) q (Contains-head y (without_one n ys))
+      | inr t ↦ Contains-tail y x (without_one n ys) (h.1 (t, k.1))
+    ],
+  )
+]
 
 -- a rising list with the same members tells how many there are
 pub different_is : (xs ys : List ℕ) → IsStrictlyIncreasing ys → ((x : ℕ) → Contains xs x ↔ Contains ys x) → different xs ≡ length ys
 different_is [] [] up same = refl
 different_is [] (y ∷ ys) up same = absurd (Contains-nil y ((same y).1 (Contains-head y ys)))
-different_is (n ∷ ns) ys up same = go (list_any (λ m. m == n) ns) refl (λ zs u s. different_is ns zs u s)
-  where
-    go : (b : Bool) → list_any (λ m. m == n) ns ≡ b → ((zs : List ℕ) → IsStrictlyIncreasing zs → ((x : ℕ) → Contains ns x ↔ Contains zs x) → different ns ≡ length zs) → different (n ∷ ns) ≡ length ys
-    go true e h = rw e (h ys up (λ x. (λ m. (same x).0 (Contains-tail n x ns m), λ m. elim (Contains-cons n x ns ((same x).1 m)) [ inl q ↦ subst (λ (z : ℕ). Contains ns z) q (any_from ns n e) | inr k ↦ k ])))
-    go false e h =
-        let size = length-without_one n ys up ((same n).0 (Contains-head n ns)) in
-        let rest = h (without_one n ys) (IsStrictlyIncreasing-filter (λ y. not (y == n)) ys up)
-        (λ x. (
-          λ m. (contains-without n ys x).1 ((same x).0 (Contains-tail n x ns m), λ q. none_from ns n e (subst (λ (z : ℕ). Contains ns z) q m)),
-          λ m. (let k = (contains-without n ys x).0 m in elim (Contains-cons n x ns ((same x).1 k.0)) [ inl q ↦ absurd (k.1 (sym q)) | inr t ↦ t ]),
-        )) in
-        rw e (omega (arith, rest, size))
+different_is (n ∷ ns) ys up same = elim (cases_Bool (list_any (λ m. m == n) ns)) [
+  | inl e ↦ (let back : (x : ℕ) → Contains ys x → Contains ns x = λ x m. elim (Contains-cons n x ns ((same x).1 m)) [
+    | inl q ↦ subst (λ (z : ℕ). Contains ns z) q (any_from ns n e)
+    | inr k ↦ k
+  ] in
+      rw e (different_is ns ys up (λ x. (λ m. (same x).0 (Contains-tail n x ns m), back x))))
+  | inr e ↦ (let size = length-without_one n ys up ((same n).0 (Contains-head n ns)) in
+      let rest = different_is ns (without_one n ys) (IsStrictlyIncreasing-filter (λ y. not (y == n)) ys up) (λ x. (
+        λ m. (contains-without n ys x).1 ((same x).0 (Contains-tail n x ns m), λ q. none_from ns n e (subst (λ (z : ℕ). Contains ns z) q m)),
+        λ m. (let k = (contains-without n ys x).0 m in elim (Contains-cons n x ns ((same x).1 k.0)) [ inl q ↦ absurd (k.1 (sym q)) | inr t ↦ t ]),
+      )) in
+      rw e (omega (arith, rest, size)))
+]
 
 filter_none : (p : ℕ → Bool) (xs : List ℕ) → ((y : ℕ) → Contains xs y → p y ≡ false) → filter p xs ≡ []
 filter_none p [] none = refl
@@ -108,8 +106,7 @@ smaller_before xs i up l = sym (length-filter (λ x. nat_lt x (get_or xs i 0)) x
 -- no more than all of them
 pub different_most : (xs : List ℕ) → different xs ≤ length xs
 different_most [] = omega arith
-different_most (n ∷ ns) = go (list_any (λ m. m == n) ns) refl (different_most ns)
-  where
-    go : (b : Bool) → list_any (λ m. m == n) ns ≡ b → different ns ≤ length ns → different (n ∷ ns) ≤ length (n ∷ ns)
-    go true e h = rw e (omega (arith, h))
-    go false e h = rw e (omega (arith, h))
+different_most (n ∷ ns) = let h = different_most ns in elim (cases_Bool (list_any (λ m. m == n) ns)) [
+  | inl e ↦ rw e (omega (arith, h))
+  | inr e ↦ rw e (omega (arith, h))
+]

@@ -1,35 +1,34 @@
 -- Rows by places, and the game of specifications by rising identifier.
-use Rattle.std.proofs.Common.{◌≡◌, ℕ, suc, ◌+◌, ◌<◌, ◌↔◌, true, List, [], ◌∷◌, length, map, get_or, nat_eq, refl, sym, ◌∙◌, ap, subst, arith}
-use Rattle.std.specs.Prelude.{All, None}
+use Rattle.std.proofs.Common.{◌≡◌, ℕ, suc, ◌+◌, ◌<◌, ◌↔◌, true, false, inl, inr, List, [], ◌∷◌, length, map, get_or, refl, sym, ◌∙◌, ap, subst, arith}
+use Rattle.std.specs.Prelude.{All, None, ◌==◌}
 use Rattle.std.specs.List.{Contains, list_any}
 use Rattle.std.specs.List.Sorted.{IsStrictlyIncreasing}
+use Rattle.std.proofs.lemmas.Bool.{false_from_ne_true}
 use Rattle.std.proofs.lemmas.List.{length-map, get_or-map, get_or_default}
 use Rattle.std.proofs.lemmas.List.Elements.{Contains-get_or}
 use Rattle.std.proofs.lemmas.List.Sorted.{IsPermutation-refl}
 use Rattle.std.proofs.lemmas.List.Sums.{sum_by-cons}
 use Rattle.pg_game.specs.declared.player.Player.{Player}
 use Rattle.pg_game.specs.declared.game.Spec.{Spec}
-use Rattle.pg_game.specs.Graph.{Graph, IsGame, no_vertex, successors_of}
-use Rattle.pg_game.specs.Limits.{IsWithinLimits}
+use Rattle.pg_game.specs.Graph.{Graph, IsGame}
 use Rattle.pg_game.specs.Specification.{AreNumbers, IsGameOf, IsSpecified, first_fault, first_repeated, edges, different}
-use Rattle.pg_game.specs.private.Identifiers.{ids_of, priorities_of, owners_of, ArePlaces}
+use Rattle.pg_game.specs.private.Identifiers.{priorities_of, owners_of, ArePlaces}
 use Rattle.pg_game.specs.private.Rows.{row_at, size_of}
 use Rattle.pg_game.specs.View.{graph_of}
 use Rattle.pg_game.specs.private.Stored.{AreParts}
-use Rattle.pg_game.specs.Flat.{spec_from, specs_from}
-use Rattle.pg_game.specs.private.Flat.{IsListed}
+use Rattle.pg_game.specs.Flat.{specs_from}
+use Rattle.pg_game.specs.private.Flat.{ArePlain, IsListed}
 use Rattle.pg_game.specs.private.Placed.{AreAllPlaces, ArePlaced}
-use Rattle.pg_game.proofs.Members.{Contains-nil}
-use Rattle.pg_game.proofs.Different.{different_is}
+use Rattle.pg_game.proofs.Members.{Contains-nil, Contains-head, Contains-tail, Contains-cons}
+use Rattle.pg_game.proofs.Gathered.{any_from}
+use Rattle.pg_game.proofs.Different.{rising_tail, below_first, different_is}
 use Rattle.pg_game.proofs.Places.{rises, same_place}
-use Rattle.pg_game.proofs.Unknown.{specified_is}
-use Rattle.pg_game.proofs.Sound.{IsSound, sound_has_none}
-use Rattle.pg_game.proofs.Made.{IsLaid, made_game, made_of, made_limits}
-use Rattle.pg_game.proofs.Parts.{ids-graph_of, priorities-graph_of, owners-graph_of}
-use Rattle.pg_game.proofs.Plain.{ids-map, priorities-map, owners-map, none_repeated, none_without, none_unknown, any_member}
-use Rattle.pg_game.proofs.Look as look
+use Rattle.pg_game.proofs.Unknown.{to_specified}
+use Rattle.pg_game.proofs.Sound.{IsSound, sound_has_none, none_without, none_unknown}
+use Rattle.pg_game.proofs.Made.{IsLaid, made_game, made_of, made_listed}
+use Rattle.pg_game.proofs.Taken as taken
 
-module _ (ids : List ℕ) (up : IsStrictlyIncreasing ids) (successors places : List ℕ) (a : AreAllPlaces ids successors places) where
+module _ {ids : List ℕ} (up : IsStrictlyIncreasing ids) {successors places : List ℕ} (a : AreAllPlaces ids successors places) where
   abbrev name : ℕ → ℕ
   name w = get_or ids w 0
 
@@ -40,7 +39,8 @@ module _ (ids : List ℕ) (up : IsStrictlyIncreasing ids) (successors places : L
       let j : k + 1 < length places = omega (arith, l, n) in
       let e = get_or-map name places k 0 0 i in
       let f = get_or-map name places (k + 1) 0 0 j in
-      let h = rises ids up (get_or places k 0) (get_or places (k + 1) 0) (a.rising k j) (a.from (get_or places (k + 1) 0) (Contains-get_or places (k + 1) 0 j)).0 in
+      let h = rises ids up (get_or places k 0) (get_or places (k + 1) 0) (a.rising k j)
+      (a.from (get_or places (k + 1) 0) (Contains-get_or places (k + 1) 0 j)).0 in
       omega (arith, e, f, h)
 
   same_named : (x : ℕ) → Contains successors x ↔ Contains (map name places) x
@@ -64,104 +64,120 @@ module _ (ids : List ℕ) (up : IsStrictlyIncreasing ids) (successors places : L
     );
   }
 
+-- numbers that rise above those before are not repeated
+pub none_repeated : (earlier xs : List ℕ) → IsStrictlyIncreasing xs → ((e x : ℕ) → Contains earlier e → Contains xs x → e < x)
+    → first_repeated earlier xs ≡ None
+none_repeated earlier [] up less = refl
+none_repeated earlier (x ∷ xs) up less =
+    let f : list_any (λ m. m == x) earlier ≡ false =
+    false_from_ne_true _ (λ t. let h = less x x (any_from earlier x t) (Contains-head x xs) in omega (arith, h)) in
+    rw f (none_repeated (x ∷ earlier) xs (rising_tail x xs up) (λ e y m n. elim (Contains-cons x e earlier m) [
+      | inl q ↦ (let h = below_first x xs up y n in omega (arith, h, q))
+      | inr k ↦ less e y k (Contains-tail x y xs n)
+    ]))
+
 -- as many edges as there are places
-edges-placed : (g : Graph) (placed : List (List ℕ)) → length placed ≡ length g → ((v : ℕ) → v < length g → different (successors_of g v) ≡ length (row_at placed v)) → edges (map spec_from g) ≡ size_of placed
+edges-placed : (specs : List Spec) (placed : List (List ℕ)) → length placed ≡ length specs →
+    ((v : ℕ) (d : Spec) → v < length specs → different (get_or specs v d).successors ≡ length (row_at placed v)) → edges specs ≡ size_of placed
 edges-placed [] [] e same = refl
 edges-placed [] (r ∷ placed) e same = absurd (omega arith)
-edges-placed (x ∷ g) [] e same = absurd (omega arith)
-edges-placed (x ∷ g) (r ∷ placed) e same =
-    let a = sum_by-cons (λ (s : Spec). different s.successors) (spec_from x) (map spec_from g) in
+edges-placed (s ∷ specs) [] e same = absurd (omega arith)
+edges-placed (s ∷ specs) (r ∷ placed) e same =
+    let a = sum_by-cons (λ (t : Spec). different t.successors) s specs in
     let b = sum_by-cons (λ (ws : List ℕ). length ws) r placed in
-    let c = same 0 (omega arith) in
-    let d = edges-placed g placed (omega arith) (λ v l. same (suc v) (omega arith)) in
+    let c = same 0 s (omega arith) in
+    let d = edges-placed specs placed (omega arith) (λ v d l. same (suc v) d (omega arith)) in
     omega (arith, a, b, c, d)
 
-module _ (ids ps : List ℕ) (os : List Player) (rows placed : List (List ℕ)) (a : AreParts ids ps os rows) (p : ArePlaced ids rows placed) where
-  abbrev g : Graph
-  g = graph_of ids ps os rows
-
+module _ {ids ps : List ℕ} {os : List Player} {rows placed : List (List ℕ)} (a : AreParts ids ps os rows) (p : ArePlaced ids rows placed) where
   abbrev made : Graph
   made = graph_of ids ps os placed
 
   abbrev specs : List Spec
   specs = specs_from ids ps os rows
 
-  ids_are : ids_of specs ≡ ids
-  ids_are = ids-map g ∙ ids-graph_of ids ps os rows a
+  n : length specs ≡ length ids
+  n = taken.length_specs a
 
-  priorities_are : priorities_of specs ≡ ps
-  priorities_are = priorities-map g ∙ priorities-graph_of ids ps os rows a
+  places_at : (v : ℕ) (d : Spec) → v < length specs → AreAllPlaces ids (get_or specs v d).successors (row_at placed v)
+  places_at v d l = rw (taken.spec_at a v d (omega (arith, l, n))) (p.laid.each v (omega (arith, l, n, a.successors)))
 
-  owners_are : owners_of specs ≡ os
-  owners_are = owners-map g ∙ owners-graph_of ids ps os rows a
-
-  length_g : length g ≡ length ids
-  length_g = look.length_is ids ps os rows a g refl
-
-  length_specs : length specs ≡ length ids
-  length_specs = length-map g spec_from ∙ length_g
-
-  row_is : (v : ℕ) → successors_of g v ≡ row_at rows v
-  row_is v = look.successors_are ids ps os rows a g refl v
-
-  places_at : (v : ℕ) → v < length ids → AreAllPlaces ids (successors_of g v) (row_at placed v)
-  places_at v l = rw (row_is v) (p.laid.each v (omega (arith, l, a.successors)))
+  -- the places of a specification's successors
+  places_of : (s : Spec) → Contains specs s → (ws : List ℕ) × AreAllPlaces ids s.successors ws
+  places_of s (v, l, e) = (row_at placed v, subst (λ (t : Spec). AreAllPlaces ids t.successors (row_at placed v)) e (places_at v s l))
 
   has_row : (ws us : List ℕ) → AreAllPlaces ids ws us → 0 < length ws
   has_row ws us h = let k = (h.from (get_or us 0 0) (Contains-get_or us 0 0 h.some)).1 in let l = k.1 in omega arith
 
-  is_specified : (v i : ℕ) → v < length ids → Contains (successors_of g v) i → IsSpecified specs i ≡ true
-  is_specified v i l m =
-      let h = places_at v l in
-      let (w, n, e) = h.all i m in
-      let k = (h.from w n).0 in
-      sym (specified_is specs i) ∙ (ap (λ (xs : List ℕ). list_any (nat_eq i) xs) ids_are ∙ any_member ids i (w, k, get_or_default ids w i 0 k ∙ e))
+  is_specified : (ws us : List ℕ) → AreAllPlaces ids ws us → (i : ℕ) → Contains ws i → IsSpecified specs i ≡ true
+  is_specified ws us h i m =
+      let (w, c, e) = h.all i m in
+      let k = (h.from w c).0 in
+      to_specified specs i (rw (taken.ids_are a) (w, k, get_or_default ids w i 0 k ∙ e))
+
+  size : length placed ≡ length specs
+  size = p.laid.size ∙ (a.successors ∙ sym n)
 
   edges_are : edges specs ≡ size_of placed
-  edges_are = edges-placed g placed (p.laid.size ∙ (a.successors ∙ sym length_g)) (λ v l. different_placed ids p.rising (successors_of g v) (row_at placed v) (places_at v (omega (arith, l, length_g))))
+  edges_are = edges-placed specs placed size (λ v d l. different_placed p.rising (places_at v d l))
 
   sound : IsSound specs
   sound = record {
-    nonempty = let h = p.some in omega (arith, h, length_specs);
-    vertices = let h = p.few in omega (arith, h, length_specs);
-    once = ap (λ (xs : List ℕ). first_repeated [] xs) ids_are ∙ none_repeated [] ids p.rising (λ e x m n. absurd (Contains-nil e m));
-    successors = none_without g (λ v l. has_row (successors_of g v) (row_at placed v) (places_at v (omega (arith, l, length_g))));
+    nonempty = let h = p.some in omega (arith, h, n);
+    vertices = let h = p.few in omega (arith, h, n);
+    once = rw (taken.ids_are a) (none_repeated [] ids p.rising (λ e x m k. absurd (Contains-nil e m)));
+    successors = none_without specs (λ s m. let h = places_of s m in has_row s.successors h.0 h.1);
     edges_fit = let h = p.laid.edges_fit in omega (arith, h, edges_are);
-    known = none_unknown specs g (λ v i l m. is_specified v i (omega (arith, l, length_g)) m);
-  }
-
-  places : (v : ℕ) (d : Spec) → v < length specs → ArePlaces ids (get_or specs v d).successors (row_at placed v)
-  places v d l =
-      let e : (get_or specs v d).successors ≡ successors_of g v = ap (λ (s : Spec). s.successors) (get_or-map spec_from g v no_vertex d (omega (arith, l, length_specs, length_g))) in
-      rw e (are_placed ids p.rising (successors_of g v) (row_at placed v) (places_at v (omega (arith, l, length_specs))))
-
-  laid : All AreNumbers specs → IsLaid specs specs ids placed
-  laid numbers = record {
-    sound = sound;
-    numbers = numbers;
-    moved = IsPermutation-refl specs;
-    ids_are = ids_are;
-    rising = p.rising;
-    size = p.laid.size ∙ (a.successors ∙ sym length_specs);
-    edges_are = let e = edges_are in omega (arith, e);
-    each = places;
+    known = none_unknown specs specs (λ s m. let h = places_of s m in is_specified s.successors h.0 h.1);
   }
 
   pub placed_none : first_fault specs ≡ None
   placed_none = sound_has_none specs sound
 
-  pub placed_game : All AreNumbers specs → IsGame made
-  placed_game numbers = subst (λ (qs : List ℕ). IsGame (graph_of ids qs os placed)) priorities_are (subst (λ (qs : List Player). IsGame (graph_of ids (priorities_of specs) qs placed)) owners_are (made_game specs specs ids placed (laid numbers)))
+  module _ (numbers : All AreNumbers (specs_from ids ps os rows)) where
+    laid : IsLaid specs specs ids placed
+    laid = record {
+      sound = sound;
+      numbers = numbers;
+      moved = IsPermutation-refl specs;
+      ids_are = taken.ids_are a;
+      rising = p.rising;
+      size = size;
+      edges_are = let e = edges_are in omega (arith, e);
+      each = λ v d l. are_placed p.rising (places_at v d l);
+    }
 
-  placed_limits : All AreNumbers specs → IsWithinLimits made
-  placed_limits numbers = subst (λ (qs : List ℕ). IsWithinLimits (graph_of ids qs os placed)) priorities_are (subst (λ (qs : List Player). IsWithinLimits (graph_of ids (priorities_of specs) qs placed)) owners_are (made_limits specs specs ids placed (laid numbers)))
+    same : graph_of ids (priorities_of specs) (owners_of specs) placed ≡ made
+    same = λ i. graph_of ids (taken.priorities_are a i) (taken.owners_are a i) placed
 
-  pub placed_of : All AreNumbers specs → IsGameOf specs made
-  placed_of numbers = subst (λ (qs : List ℕ). IsGameOf specs (graph_of ids qs os placed)) priorities_are (subst (λ (qs : List Player). IsGameOf specs (graph_of ids (priorities_of specs) qs placed)) owners_are (made_of specs specs ids placed (laid numbers)))
+    pub placed_game : IsGame made
+    placed_game = subst (λ (g : Graph). IsGame g) same (made_game laid)
 
-  pub placed_listed : All AreNumbers specs → IsListed ids ps os placed
-  placed_listed numbers = record {
-    parts = record { priorities = a.priorities; owners = a.owners; successors = p.laid.size ∙ a.successors };
-    game = placed_game numbers;
-    limits = placed_limits numbers;
-  }
+    pub placed_of : IsGameOf specs made
+    placed_of = subst (λ (g : Graph). IsGameOf specs g) same (made_of laid)
+
+    pub placed_listed : IsListed ids ps os placed
+    placed_listed = subst (λ (qs : List ℕ). IsListed ids qs os placed) (taken.priorities_are a)
+        (subst (λ (qs : List Player). IsListed ids (priorities_of specs) qs placed) (taken.owners_are a) (made_listed laid))
+
+-- where identifiers are their own places, successors are the places of themselves
+pub plain_placed : {ids ps : List ℕ} {os : List Player} {rows : List (List ℕ)} → AreParts ids ps os rows → ArePlain ids rows → ArePlaced ids rows rows
+plain_placed {ids} {ps} {os} {rows} a p = record {
+  some = p.some;
+  few = p.few;
+  rising = λ k l. (let h = p.own k (omega arith) in let j = p.own (k + 1) l in omega (arith, h, j));
+  laid = record {
+    size = refl;
+    edges_fit = p.edges_fit;
+    each = λ v l. (let row = row_at rows v in
+        let r = p.successors v l in
+        let below : (w : ℕ) → Contains row w → w < length ids = λ w (k, m, e).
+        subst (λ (n : ℕ). w < n) a.successors (subst (λ (j : ℕ). j < length rows) (get_or_default row k 0 w m ∙ e) (r.below k m)) in
+        record {
+          some = r.nonempty;
+          rising = r.rising;
+          from = λ w m. (below w m, subst (λ (j : ℕ). Contains row j) (sym (p.own w (below w m))) m);
+          all = λ i m. (i, m, p.own i (below i m));
+        });
+  };
+}

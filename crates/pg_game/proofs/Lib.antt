@@ -13,7 +13,6 @@ pub mod Gathered
 pub mod Different
 pub mod Rows
 pub mod Parts
-pub mod Look
 pub mod Seen
 pub mod Places
 pub mod Sums
@@ -22,7 +21,6 @@ pub mod Sound
 pub mod Rising
 pub mod Back
 pub mod Made
-pub mod Plain
 pub mod Laid
 pub mod Moved
 pub mod Ordered

@@ -3,30 +3,26 @@ use Rattle.std.proofs.Common.{◌≡◌, ℕ, ◌+◌, ◌<◌, ◌≤◌, true,
 use Rattle.std.specs.Prelude.{All, Some, slice_get, sum_by}
 use Rattle.std.specs.List.{Contains}
 use Rattle.std.specs.List.Sorted.{IsStrictlyIncreasing, IsPermutation}
-use Rattle.std.proofs.lemmas.Bool.{eqb-true}
 use Rattle.std.proofs.lemmas.List.{length-map, get_or-map, get_or_default}
 use Rattle.std.proofs.lemmas.List.Elements.{Contains-get_or}
 use Rattle.std.proofs.lemmas.List.Sorted.{length_permutation, Contains-permutation, IsPermutation-sym, IsPermutation-map, All-permutation, sum_by-IsPermutation}
 use Rattle.std.proofs.lemmas.List.Sums.{sum_by-cons}
-use Rattle.std.proofs.lemmas.Map.Views.{Contains-from_any}
 use Rattle.std.proofs.lemmas.Option.{slice_get-get_or}
 use Rattle.pg_game.specs.declared.player.Player.{Player}
 use Rattle.pg_game.specs.declared.player.Player.TheVariants.{Even}
 use Rattle.pg_game.specs.declared.game.Spec.{Spec}
 use Rattle.pg_game.specs.Specification.{AreNumbers, IsSpecified, IsGameOf, IsVertexOf, number_of, edges, different}
 use Rattle.pg_game.specs.private.Identifiers.{ids_of, priorities_of, owners_of, ArePlaces}
-use Rattle.pg_game.specs.private.Rows.{row_at, size_of, AreRisingRows, AreSources}
+use Rattle.pg_game.specs.private.Rows.{row_at, size_of, AreRisingRows}
 use Rattle.pg_game.specs.Limits.{IsWithinLimits}
-use Rattle.pg_game.specs.Predecessors.{ArePredecessors}
 use Rattle.pg_game.specs.Graph.{Graph, Vertex, IsGame, AreSuccessors, no_vertex, vertex_at, id_of, priority_of, owner_of, successors_of}
 use Rattle.pg_game.specs.View.{graph_of}
 use Rattle.pg_game.specs.private.Stored.{AreParts}
+use Rattle.pg_game.specs.private.Flat.{IsListed}
 use Rattle.pg_game.proofs.Sound.{IsSound, each_has, each_known}
 use Rattle.pg_game.proofs.Rising.{number_is}
-use Rattle.pg_game.proofs.Unknown.{specified_is}
-use Rattle.pg_game.proofs.Back.{back_of}
-use Rattle.pg_game.proofs.Look as look
-use Rattle.pg_game.proofs.Parts.{ids-graph_of, rows-graph_of}
+use Rattle.pg_game.proofs.Unknown.{from_specified}
+use Rattle.pg_game.proofs.Parts as part
 
 -- specifications by rising identifier, and their rows
 pub record IsLaid (specs sorted : List Spec) (ids : List ℕ) (rows : List (List ℕ)) : Type 0 where
@@ -43,11 +39,13 @@ pub record IsLaid (specs sorted : List Spec) (ids : List ℕ) (rows : List (List
 abbrev pub no_spec : Spec
 no_spec = record { id = 0; priority = 0; owner = Even; successors = [] }
 
-pub sum-map : (g : Graph) → sum_by (λ (x : Vertex). length x.successors) g ≡ size_of (map (λ (x : Vertex). x.successors) g)
+sum-map : (g : Graph) → sum_by (λ (x : Vertex). length x.successors) g ≡ size_of (map (λ (x : Vertex). x.successors) g)
 sum-map [] = refl
-sum-map (x ∷ g) = sum_by-cons (λ (y : Vertex). length y.successors) x g ∙ (ap (λ n. length x.successors + n) (sum-map g) ∙ sym (sum_by-cons (λ (r : List ℕ). length r) x.successors (map (λ (y : Vertex). y.successors) g)))
+sum-map (x ∷ g) =
+    sum_by-cons (λ (y : Vertex). length y.successors) x g
+    ∙ (ap (λ n. length x.successors + n) (sum-map g) ∙ sym (sum_by-cons (λ (r : List ℕ). length r) x.successors (map (λ (y : Vertex). y.successors) g)))
 
-module _ (specs sorted : List Spec) (ids : List ℕ) (rows : List (List ℕ)) (laid : IsLaid specs sorted ids rows) where
+module _ {specs sorted : List Spec} {ids : List ℕ} {rows : List (List ℕ)} (laid : IsLaid specs sorted ids rows) where
   abbrev ps : List ℕ
   ps = priorities_of sorted
 
@@ -57,10 +55,10 @@ module _ (specs sorted : List Spec) (ids : List ℕ) (rows : List (List ℕ)) (l
   abbrev g : Graph
   g = graph_of ids ps os rows
 
-  pub length_ids : length ids ≡ length sorted
+  length_ids : length ids ≡ length sorted
   length_ids = sym (ap (λ (xs : List ℕ). length xs) laid.ids_are) ∙ length-map sorted (λ (s : Spec). s.id)
 
-  pub parts : AreParts ids ps os rows
+  parts : AreParts ids ps os rows
   parts = record {
     priorities = length-map sorted (λ (s : Spec). s.priority) ∙ sym length_ids;
     owners = length-map sorted (λ (s : Spec). s.owner) ∙ sym length_ids;
@@ -68,21 +66,21 @@ module _ (specs sorted : List Spec) (ids : List ℕ) (rows : List (List ℕ)) (l
   }
 
   length_g : length g ≡ length ids
-  length_g = look.length_is ids ps os rows parts g refl
+  length_g = part.length_is parts refl
 
   id_at : (v : ℕ) → id_of g v ≡ get_or ids v 0
-  id_at v = look.id_is ids ps os rows parts g refl v
+  id_at v = part.id_is parts refl v
 
   row_is : (v : ℕ) → successors_of g v ≡ row_at rows v
-  row_is v = look.successors_are ids ps os rows parts g refl v
+  row_is v = part.successors_are parts refl v
 
   length_specs : length sorted ≡ length specs
   length_specs = length_permutation specs sorted laid.moved
 
   known_place : (i : ℕ) → IsSpecified specs i ≡ true → (w : ℕ) × (w < length ids) × (get_or ids w 0 ≡ i)
   known_place i t =
-      let m : Contains (ids_of specs) i = Contains-from_any (λ x y. eqb-true x y) i (ids_of specs) (specified_is specs i ∙ t) in
-      let n : Contains ids i = subst (λ (xs : List ℕ). Contains xs i) laid.ids_are (Contains-permutation (ids_of specs) (ids_of sorted) i (IsPermutation-map (λ (s : Spec). s.id) specs sorted laid.moved) m) in
+      let moved = IsPermutation-map (λ (s : Spec). s.id) specs sorted laid.moved in
+      let n = subst (λ (xs : List ℕ). Contains xs i) laid.ids_are (Contains-permutation (ids_of specs) (ids_of sorted) i moved (from_specified specs i t)) in
       (n.0, n.1, get_or_default ids n.0 0 i n.1 ∙ n.2)
 
   number_at : (v : ℕ) → v < length ids → number_of specs (get_or ids v 0) ≡ v
@@ -92,7 +90,8 @@ module _ (specs sorted : List Spec) (ids : List ℕ) (rows : List (List ℕ)) (l
   sorted_in s m = Contains-permutation sorted specs s (IsPermutation-sym specs sorted laid.moved) m
 
   -- a successor's place in the row of its specification
-  place_in : (v : ℕ) (s : Spec) → v < length sorted → get_or sorted v s ≡ s → (i : ℕ) → Contains s.successors i → (w : ℕ) × (get_or ids w 0 ≡ i) × (number_of specs i ≡ w) × Contains (row_at rows v) w
+  place_in : (v : ℕ) (s : Spec) → v < length sorted → get_or sorted v s ≡ s → (i : ℕ) → Contains s.successors i
+      → (w : ℕ) × (get_or ids w 0 ≡ i) × (number_of specs i ≡ w) × Contains (row_at rows v) w
   place_in v s l e i m =
       let places : ArePlaces ids s.successors (row_at rows v) = subst (λ (t : Spec). ArePlaces ids t.successors (row_at rows v)) e (laid.each v s l) in
       let among : Contains specs s = sorted_in s (v, l, e) in
@@ -122,12 +121,12 @@ module _ (specs sorted : List Spec) (ids : List ℕ) (rows : List (List ℕ)) (l
   pub made_game : IsGame g
   made_game = record {
     nonempty = let h = laid.sound.nonempty in omega (arith, h, length_g, length_ids, length_specs);
-    ids = subst (λ (xs : List ℕ). IsStrictlyIncreasing xs) (sym (ids-graph_of ids ps os rows parts)) laid.rising;
+    ids = subst (λ (xs : List ℕ). IsStrictlyIncreasing xs) (sym (part.ids_are parts refl)) laid.rising;
     successors = λ v l. rw (row_is v, length_g) (row_game v (omega (arith, l, length_g, length_ids)));
   }
 
   sum-rows : sum_by (λ (x : Vertex). length x.successors) g ≡ size_of rows
-  sum-rows = sum-map g ∙ ap size_of (rows-graph_of ids ps os rows parts)
+  sum-rows = sum-map g ∙ ap size_of (part.rows_are parts refl)
 
   numbers_at : (v : ℕ) → v < length sorted → AreNumbers (get_or sorted v no_spec)
   numbers_at v l = All-permutation AreNumbers specs sorted laid.moved laid.numbers v no_spec l
@@ -136,17 +135,24 @@ module _ (specs sorted : List Spec) (ids : List ℕ) (rows : List (List ℕ)) (l
   id_in v d l = sym (ap (λ (xs : List ℕ). get_or xs v 0) laid.ids_are) ∙ get_or-map (λ (s : Spec). s.id) sorted v d 0 l
 
   priority_in : (v : ℕ) (d : Spec) → v < length sorted → priority_of g v ≡ (get_or sorted v d).priority
-  priority_in v d l = look.priority_is ids ps os rows parts g refl v ∙ get_or-map (λ (s : Spec). s.priority) sorted v d 0 l
+  priority_in v d l = part.priority_is parts refl v ∙ get_or-map (λ (s : Spec). s.priority) sorted v d 0 l
 
   owner_in : (v : ℕ) (d : Spec) → v < length sorted → owner_of g v ≡ (get_or sorted v d).owner
-  owner_in v d l = look.owner_is ids ps os rows parts g refl v ∙ get_or-map (λ (s : Spec). s.owner) sorted v d Even l
+  owner_in v d l = part.owner_is parts refl v ∙ get_or-map (λ (s : Spec). s.owner) sorted v d Even l
 
-  pub made_limits : IsWithinLimits g
+  made_limits : IsWithinLimits g
   made_limits = record {
     vertices = let h = laid.sound.vertices in omega (arith, h, length_g, length_ids, length_specs);
-    edges = let h = laid.sound.edges_fit in let e = sum_by-IsPermutation (λ (s : Spec). different s.successors) specs sorted laid.moved in omega (arith, h, e, sum-rows, laid.edges_are);
-    ids = λ v l. (let k : v < length sorted = omega (arith, l, length_g, length_ids) in let h = (numbers_at v k).id in omega (arith, h, id_at v, id_in v no_spec k));
-    numbers = λ v l. (let k : v < length sorted = omega (arith, l, length_g, length_ids) in let h = (numbers_at v k).priority in omega (arith, h, priority_in v no_spec k));
+    edges =
+        let h = laid.sound.edges_fit in
+        let e = sum_by-IsPermutation (λ (s : Spec). different s.successors) specs sorted laid.moved in
+        omega (arith, h, e, sum-rows, laid.edges_are);
+    ids = λ v l. (let k : v < length sorted = omega (arith, l, length_g, length_ids) in
+        let h = (numbers_at v k).id in
+        omega (arith, h, id_at v, id_in v no_spec k));
+    numbers = λ v l. (let k : v < length sorted = omega (arith, l, length_g, length_ids) in
+        let h = (numbers_at v k).priority in
+        omega (arith, h, priority_in v no_spec k));
   }
 
   vertex_made : (v : ℕ) (s : Spec) → v < length sorted → get_or sorted v s ≡ s → IsVertexOf specs s (vertex_at g v)
@@ -174,6 +180,5 @@ module _ (specs sorted : List Spec) (ids : List ℕ) (rows : List (List ℕ)) (l
         (vertex_at g n.0, subst (λ k. slice_get g k ≡ Some (vertex_at g n.0)) (sym at) get, vertex_made n.0 s n.1 n.2));
   }
 
-  -- who has a row's number among his successors
-  pub made_back : (w : ℕ) (us : List ℕ) → AreSources rows w us → ArePredecessors g w us
-  made_back w us a = back_of ids ps os rows parts w us a
+  pub made_listed : IsListed ids ps os rows
+  made_listed = record { parts = parts; game = made_game; limits = made_limits }

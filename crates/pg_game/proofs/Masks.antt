@@ -1,17 +1,13 @@
 -- The set that a mask has, after a write.
-use Rattle.std.proofs.Common.{◌≡◌, ◌≢◌, ℕ, ◌<◌, Bool, true, false, ◌||◌, ◌⊎◌, inl, inr, List, length, set, refl, sym, get_or-set_same, get_or-set_other}
+use Rattle.std.proofs.Common.{◌≡◌, ◌≢◌, ℕ, ◌<◌, Bool, true, false, ◌||◌, inl, inr, List, length, set, sym, get_or-set_same, get_or-set_other}
 use Rattle.std.specs.Prelude.{◌==◌}
-use Rattle.std.proofs.lemmas.Bool.{eqb-true, eq-eqb, cases_lt}
+use Rattle.std.proofs.lemmas.Bool.{eqb-true, eq-eqb, cases_Bool, cases_lt}
 use Rattle.std.proofs.lemmas.List.{get_or_past}
 use Rattle.std.proofs.Math.Bool.{or-true, or-false}
 use Rattle.pg_game.specs.VertexSet.{In, members}
 
-pub true_or_false : (b : Bool) → (b ≡ true) ⊎ (b ≡ false)
-true_or_false true = inl refl
-true_or_false false = inr refl
-
 pub members-set : (mask : List Bool) (v : ℕ) → v < length mask → (x : ℕ) → members (set mask v true) x ≡ (members mask x || (v == x))
-members-set mask v l x = elim (true_or_false (v == x)) [
+members-set mask v l x = elim (cases_Bool (v == x)) [
   | inl e ↦ (let q : v ≡ x = eqb-true v x e in rw e (rw (or-true, ← q) (get_or-set_same mask v true false l)))
   | inr e ↦ (let n : x ≢ v = λ h. (let t : (v == x) ≡ true = eq-eqb v x (sym h) in cc (t, e)) in rw (e, or-false) (get_or-set_other mask v x true false n))
 ]

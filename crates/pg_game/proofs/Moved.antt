@@ -1,22 +1,20 @@
 -- Specifications in another order describe the same game.
-use Rattle.std.proofs.Common.{◌≡◌, ℕ, ◌<◌, true, false, inl, inr, List, [], ◌∷◌, length, get_or, nat_eq, refl, sym, ◌∙◌, subst, arith, zero, suc}
+use Rattle.std.proofs.Common.{◌≡◌, ℕ, true, false, inl, inr, List, [], ◌∷◌, length, get_or, nat_eq, refl, sym, ◌∙◌, subst, arith}
 use Rattle.std.specs.Prelude.{None, Some, slice_get, ◌==◌, if◌then◌else◌, nat_lt}
 use Rattle.std.specs.List.{Contains, IsDistinct, AllByRecursion, list_any}
 use Rattle.std.specs.List.Sorted.{IsPermutation}
-use Rattle.std.proofs.lemmas.Bool.{eqb-true, or_from}
+use Rattle.std.proofs.lemmas.Bool.{or_parts, or_from}
 use Rattle.std.proofs.lemmas.List.Elements.{recursion_from_All, Contains-get_or}
 use Rattle.std.proofs.lemmas.List.Sorted.{length_permutation, Contains-permutation, IsPermutation-sym, IsPermutation-map, sum_by-IsPermutation}
 use Rattle.std.proofs.lemmas.Map.Keys.{IsDistinct-IsPermutation, IsDistinct-cons, IsDistinct-head, IsDistinct-tail}
-use Rattle.std.proofs.lemmas.Map.Views.{Contains-from_any}
 use Rattle.pg_game.specs.declared.game.Spec.{Spec}
 use Rattle.pg_game.specs.Graph.{Graph}
-use Rattle.pg_game.specs.Specification.{IsGameOf, IsSpecified, number_of, first_fault, first_repeated, first_without, first_unknown, different}
+use Rattle.pg_game.specs.Specification.{IsGameOf, IsSpecified, number_of, first_fault, first_repeated, different}
 use Rattle.pg_game.specs.private.Identifiers.{ids_of}
-use Rattle.pg_game.proofs.Members.{Contains-nil, Contains-head, Contains-tail, Contains-cons, none_first}
+use Rattle.pg_game.proofs.Members.{Contains-nil, Contains-head, Contains-tail, Contains-cons}
 use Rattle.pg_game.proofs.Seen.{eqb_flip}
-use Rattle.pg_game.proofs.Unknown.{specified_is}
-use Rattle.pg_game.proofs.Sound.{IsSound, sound_is, sound_has_none, none_or, each_has, each_known}
-use Rattle.pg_game.proofs.Plain.{not_empty, all_specified, any_member}
+use Rattle.pg_game.proofs.Unknown.{from_specified, to_specified}
+use Rattle.pg_game.proofs.Sound.{IsSound, sound_is, sound_has_none, none_or, each_has, each_known, none_without, none_unknown}
 
 all_apart : (x : ℕ) (xs : List ℕ) → ((y : ℕ) → Contains xs y → nat_eq x y ≡ false) → AllByRecursion (λ y. nat_eq x y ≡ false) xs
 all_apart x xs h = recursion_from_All (λ y. nat_eq x y ≡ false) xs (λ k d l. h (get_or xs k d) (Contains-get_or xs k d l))
@@ -29,52 +27,45 @@ each_apart x (z ∷ zs) a y m = elim (Contains-cons z y zs m) [
 ]
 
 -- numbers none of which is repeated differ, also from those before
-none_distinct : (earlier xs : List ℕ) → first_repeated earlier xs ≡ None → IsDistinct nat_eq xs × ((x : ℕ) → Contains xs x → list_any (λ m. m == x) earlier ≡ false)
+none_distinct : (earlier xs : List ℕ) → first_repeated earlier xs ≡ None
+    → IsDistinct nat_eq xs × ((x : ℕ) → Contains xs x → list_any (λ m. m == x) earlier ≡ false)
 unfolding IsDistinct
 none_distinct earlier [] e = (tt, λ x m. absurd (Contains-nil x m))
 none_distinct earlier (x ∷ xs) e =
     let h = none_or (list_any (λ m. m == x) earlier) x (first_repeated (x ∷ earlier) xs) e in
     let r = none_distinct (x ∷ earlier) xs h.1 in (
-      IsDistinct-cons nat_eq x xs (all_apart x xs (λ y m. (none_first (x == y) (list_any (λ n. n == y) earlier) (r.1 y m)).0)) r.0,
+      IsDistinct-cons nat_eq x xs (all_apart x xs (λ y m. (or_parts (x == y) (list_any (λ n. n == y) earlier) (r.1 y m)).0)) r.0,
       λ y m. elim (Contains-cons x y xs m) [
         | inl q ↦ subst (λ (z : ℕ). list_any (λ n. n == z) earlier ≡ false) q h.0
-        | inr n ↦ (none_first (x == y) (list_any (λ k. k == y) earlier) (r.1 y n)).1
+        | inr n ↦ (or_parts (x == y) (list_any (λ k. k == y) earlier) (r.1 y n)).1
       ],
     )
 
-distinct_none : (earlier xs : List ℕ) → IsDistinct nat_eq xs → ((x : ℕ) → Contains xs x → list_any (λ m. m == x) earlier ≡ false) → first_repeated earlier xs ≡ None
+distinct_none : (earlier xs : List ℕ) → IsDistinct nat_eq xs → ((x : ℕ) → Contains xs x → list_any (λ m. m == x) earlier ≡ false)
+    → first_repeated earlier xs ≡ None
 distinct_none earlier [] d h = refl
 distinct_none earlier (x ∷ xs) d h =
-    rw (h x (Contains-head x xs)) (distinct_none (x ∷ earlier) xs (IsDistinct-tail nat_eq x xs d) (λ y m. or_from (x == y) (list_any (λ n. n == y) earlier) (each_apart x xs (IsDistinct-head nat_eq x xs d) y m) (h y (Contains-tail x y xs m))))
+    let apart = each_apart x xs (IsDistinct-head nat_eq x xs d) in
+    rw (h x (Contains-head x xs)) (distinct_none (x ∷ earlier) xs (IsDistinct-tail nat_eq x xs d)
+    (λ y m. or_from (x == y) (list_any (λ n. n == y) earlier) (apart y m) (h y (Contains-tail x y xs m))))
 
-none_without : (specs : List Spec) → ((s : Spec) → Contains specs s → 0 < length s.successors) → first_without specs ≡ None
-none_without [] h = refl
-none_without (s ∷ specs) h = rw (not_empty s.successors (h s (zero, omega arith, refl))) (none_without specs (λ t (k, l, e). h t (suc k, omega arith, e)))
-
-none_unknown : (all specs : List Spec) → ((s : Spec) (i : ℕ) → Contains specs s → Contains s.successors i → IsSpecified all i ≡ true) → first_unknown all specs ≡ None
-none_unknown all [] h = refl
-none_unknown all (s ∷ specs) h = rw (all_specified all s.successors (λ i m. h s i (zero, omega arith, refl) m)) (none_unknown all specs (λ t i (k, l, e) m. h t i (suc k, omega arith, e) m))
-
-module _ (specs sorted : List Spec) (moved : IsPermutation specs sorted) where
+module _ {specs sorted : List Spec} (moved : IsPermutation specs sorted) where
   same_length : length sorted ≡ length specs
   same_length = length_permutation specs sorted moved
 
   same_number : (i : ℕ) → number_of sorted i ≡ number_of specs i
   same_number i = sum_by-IsPermutation (λ (s : Spec). if nat_lt s.id i then 1 else 0) specs sorted moved
 
-  back : IsPermutation sorted specs
-  back = IsPermutation-sym specs sorted moved
-
   still_specified : (i : ℕ) → IsSpecified sorted i ≡ true → IsSpecified specs i ≡ true
   still_specified i t =
-      let m : Contains (ids_of sorted) i = Contains-from_any (λ x y. eqb-true x y) i (ids_of sorted) (specified_is sorted i ∙ t) in
-      let n : Contains (ids_of specs) i = Contains-permutation (ids_of sorted) (ids_of specs) i (IsPermutation-map (λ (s : Spec). s.id) sorted specs back) m in
-      sym (specified_is specs i) ∙ any_member (ids_of specs) i n
+      let back = IsPermutation-map (λ (s : Spec). s.id) sorted specs (IsPermutation-sym specs sorted moved) in
+      to_specified specs i (Contains-permutation (ids_of sorted) (ids_of specs) i back (from_specified sorted i t))
 
   still_once : first_repeated [] (ids_of sorted) ≡ None → first_repeated [] (ids_of specs) ≡ None
   still_once e =
-      let d = (none_distinct [] (ids_of sorted) e).0 in
-      distinct_none [] (ids_of specs) (IsDistinct-IsPermutation nat_eq (λ x y. eqb_flip x y) (ids_of sorted) (ids_of specs) (IsPermutation-map (λ (s : Spec). s.id) sorted specs back) d) (λ x m. refl)
+      let back = IsPermutation-map (λ (s : Spec). s.id) sorted specs (IsPermutation-sym specs sorted moved) in
+      let d = IsDistinct-IsPermutation nat_eq (λ x y. eqb_flip x y) (ids_of sorted) (ids_of specs) back (none_distinct [] (ids_of sorted) e).0 in
+      distinct_none [] (ids_of specs) d (λ x m. refl)
 
   still_sound : IsSound sorted → IsSound specs
   still_sound h = record {
@@ -83,7 +74,7 @@ module _ (specs sorted : List Spec) (moved : IsPermutation specs sorted) where
     once = still_once h.once;
     successors = none_without specs (λ s m. each_has sorted h.successors s (Contains-permutation specs sorted s moved m));
     edges_fit = let l = h.edges_fit in let e = sum_by-IsPermutation (λ (s : Spec). different s.successors) specs sorted moved in omega (arith, l, e);
-    known = none_unknown specs specs (λ s i m n. still_specified i (each_known sorted sorted h.known s (Contains-permutation specs sorted s moved m) i n));
+    known = none_unknown specs specs (λ s m i n. still_specified i (each_known sorted sorted h.known s (Contains-permutation specs sorted s moved m) i n));
   }
 
   pub still_none : first_fault sorted ≡ None → first_fault specs ≡ None

@@ -1,9 +1,10 @@
 -- Places of identifiers in a rising list of them.
-use Rattle.std.proofs.Common.{◌≡◌, ℕ, zero, suc, ◌+◌, ◌<◌, ◌≤◌, true, false, ◌⊎◌, inl, inr, List, [], ◌∷◌, ◌++◌, length, drop, get_or, sym, ◌∙◌, ap, subst, arith, add-one, nat_eq}
-use Rattle.std.specs.Prelude.{Some, None, position, option_to_list, ◌↔◌, nat_lt}
+use Rattle.std.proofs.Common.{◌≡◌, ℕ, zero, suc, ◌+◌, ◌<◌, ◌≤◌, true, false, ◌⊎◌, inl, inr, List, [], ◌∷◌, ◌++◌, length, drop, get_or, sym, ◌∙◌, ap}
+use Rattle.std.proofs.Common.{subst, arith, add-one, nat_eq}
+use Rattle.std.specs.Prelude.{Option, Some, None, position, option_to_list, ◌↔◌, nat_lt}
 use Rattle.std.specs.List.{Contains, position_or_len}
 use Rattle.std.specs.List.Sorted.{IsStrictlyIncreasing}
-use Rattle.std.proofs.lemmas.Bool.{eqb-true, eq-eqb, ltb-false}
+use Rattle.std.proofs.lemmas.Bool.{eqb-true, eq-eqb, ltb-false, cases_Bool}
 use Rattle.std.proofs.lemmas.List.{drop_more}
 use Rattle.std.proofs.lemmas.List.Sums.{fails_before_first}
 use Rattle.std.proofs.lemmas.List.Elements.{Contains-get_or}
@@ -12,7 +13,6 @@ use Rattle.std.proofs.lemmas.Map.Keys.{sorted_from_strictly_increasing, below_fr
 use Rattle.pg_game.specs.Specification.{different}
 use Rattle.pg_game.specs.private.Identifiers.{places_of, ArePlaces}
 use Rattle.pg_game.proofs.Members.{Contains-nil, Contains-head, Contains-tail, Contains-cons}
-use Rattle.pg_game.proofs.Masks.{true_or_false}
 use Rattle.pg_game.proofs.Different.{rising_tail, below_first}
 
 pub rises : (xs : List ℕ) → IsStrictlyIncreasing xs → (i j : ℕ) → i < j → j < length xs → get_or xs i 0 < get_or xs j 0
@@ -43,16 +43,24 @@ rising_cons p xs up low (suc k) l = rw (add-one (suc k)) (rw (add-one k) at (up 
 
 -- where a number stands, if it does
 abbrev Stands : List ℕ → ℕ → Type 0
-Stands keys x = ((p : ℕ) × (position (nat_eq x) keys ≡ Some p) × (p < length keys) × (get_or keys p 0 ≡ x)) ⊎ ((position (nat_eq x) keys ≡ None) × ((v : ℕ) → v < length keys → get_or keys v 0 ≡ x → ⊥))
+Stands keys x =
+    ((p : ℕ) × (position (nat_eq x) keys ≡ Some p) × (p < length keys) × (get_or keys p 0 ≡ x))
+    ⊎ ((position (nat_eq x) keys ≡ None) × ((v : ℕ) → v < length keys → get_or keys v 0 ≡ x → ⊥))
 
 stands : (keys : List ℕ) (x : ℕ) → Stands keys x
-stands keys x = let at : ℕ = position_or_len (nat_eq x) keys in elim (true_or_false (nat_lt at (length keys))) [
+stands keys x = let at : ℕ = position_or_len (nat_eq x) keys in elim (cases_Bool (nat_lt at (length keys))) [
   | inl t ↦ (let is : position (nat_eq x) keys ≡ Some at = rw t in
       let h = position-Some (nat_eq x) keys at 0 is in
       inl (at, is, h.0, sym (eqb-true x (get_or keys at 0) h.1)))
   | inr f ↦ (let is : position (nat_eq x) keys ≡ None = rw f in
       let far : length keys ≤ at = ltb-false at (length keys) f in
-      inr (is, λ v l e. let n : nat_eq x (get_or keys v 0) ≡ false = fails_before_first (nat_eq x) keys v 0 (omega arith) in let y : nat_eq x (get_or keys v 0) ≡ true = eq-eqb x (get_or keys v 0) (sym e) in cc (n, y)))
+      inr (
+        is,
+        λ v l e.
+            let n : nat_eq x (get_or keys v 0) ≡ false = fails_before_first (nat_eq x) keys v 0 (omega arith) in
+            let y : nat_eq x (get_or keys v 0) ≡ true = eq-eqb x (get_or keys v 0) (sym e) in
+            cc (n, y),
+      ))
 ]
 
 -- a number that stands at its own place in a rising list
@@ -84,7 +92,8 @@ module _ (keys : List ℕ) (up : IsStrictlyIncreasing keys) where
   place_found [] w l m = absurd (Contains-nil (get_or keys w 0) m)
   place_found (x ∷ xs) w l m = elim (stands keys x) [
     | inl (p, is, lp, e) ↦ elim (Contains-cons x (get_or keys w 0) xs m) [
-      | inl q ↦ rw is (let same : p ≡ w = same_place keys up p w lp l (e ∙ q) in subst (λ (z : ℕ). Contains (z ∷ places_of keys xs) w) (sym same) (Contains-head w (places_of keys xs)))
+      | inl q ↦ rw is (let same : p ≡ w = same_place keys up p w lp l (e ∙ q) in
+          subst (λ (z : ℕ). Contains (z ∷ places_of keys xs) w) (sym same) (Contains-head w (places_of keys xs)))
       | inr t ↦ rw is (Contains-tail p w (places_of keys xs) (place_found xs w l t))
     ]
     | inr (is, n) ↦ elim (Contains-cons x (get_or keys w 0) xs m) [
@@ -104,7 +113,8 @@ module _ (keys : List ℕ) (up : IsStrictlyIncreasing keys) where
   ]
 
   -- the places of a rising list of the different successors
-  pub are_places : (successors xs : List ℕ) → IsStrictlyIncreasing xs → length xs ≡ different successors → ((x : ℕ) → Contains successors x ↔ Contains xs x) → ArePlaces keys successors (places_of keys xs)
+  pub are_places : (successors xs : List ℕ) → IsStrictlyIncreasing xs → length xs ≡ different successors →
+      ((x : ℕ) → Contains successors x ↔ Contains xs x) → ArePlaces keys successors (places_of keys xs)
   are_places successors xs r n same = record {
     rising = places_rise xs r;
     size = let h = no_more xs in omega (arith, h, n);
@@ -114,5 +124,7 @@ module _ (keys : List ℕ) (up : IsStrictlyIncreasing keys) where
     );
   }
 
-pub places_more : (keys xs : List ℕ) (k : ℕ) → k < length xs → places_of keys (drop k xs) ≡ option_to_list (position (nat_eq (get_or xs k 0)) keys) ++ places_of keys (drop (k + 1) xs)
-places_more keys xs k l = ap (λ (ys : List ℕ). places_of keys ys) (drop_more xs k 0 l)
+pub places_more : (keys xs : List ℕ) (k : ℕ) {o : Option ℕ} → k < length xs → position (nat_eq (get_or xs k 0)) keys ≡ o →
+    places_of keys (drop k xs) ≡ option_to_list o ++ places_of keys (drop (k + 1) xs)
+places_more keys xs k l e =
+    ap (λ (ys : List ℕ). places_of keys ys) (drop_more xs k 0 l) ∙ ap (λ (p : Option ℕ). option_to_list p ++ places_of keys (drop (k + 1) xs)) e

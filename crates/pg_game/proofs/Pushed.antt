@@ -6,11 +6,13 @@ use Rattle.pg_game.specs.Graph.{Graph, Vertex}
 use Rattle.pg_game.specs.View.{graph_of}
 use Rattle.pg_game.specs.private.Stored.{AreParts}
 use Rattle.pg_game.specs.Flat.{spec_from, specs_from}
+use Rattle.pg_game.proofs.Parts.{tails}
 
 abbrev pub vertex_from : ℕ → ℕ → Player → List ℕ → Vertex
 vertex_from i p o ws = record { id = i; priority = p; owner = o; successors = ws }
 
-graph_more : (ids ps : List ℕ) (os : List Player) (rows : List (List ℕ)) → AreParts ids ps os rows → (i p : ℕ) (o : Player) (ws : List ℕ) → graph_of (ids ++ i ∷ []) (ps ++ p ∷ []) (os ++ o ∷ []) (rows ++ ws ∷ []) ≡ graph_of ids ps os rows ++ vertex_from i p o ws ∷ []
+graph_more : (ids ps : List ℕ) (os : List Player) (rows : List (List ℕ)) → AreParts ids ps os rows → (i p : ℕ) (o : Player) (ws : List ℕ) →
+    graph_of (ids ++ i ∷ []) (ps ++ p ∷ []) (os ++ o ∷ []) (rows ++ ws ∷ []) ≡ graph_of ids ps os rows ++ vertex_from i p o ws ∷ []
 graph_more [] [] [] [] a i p o ws = refl
 graph_more [] (q ∷ ps) os rows a i p o ws = absurd (let h = a.priorities in omega arith)
 graph_more [] [] (q ∷ os) rows a i p o ws = absurd (let h = a.owners in omega arith)
@@ -18,22 +20,18 @@ graph_more [] [] [] (r ∷ rows) a i p o ws = absurd (let h = a.successors in om
 graph_more (j ∷ ids) [] os rows a i p o ws = absurd (let h = a.priorities in omega arith)
 graph_more (j ∷ ids) (q ∷ ps) [] rows a i p o ws = absurd (let h = a.owners in omega arith)
 graph_more (j ∷ ids) (q ∷ ps) (u ∷ os) [] a i p o ws = absurd (let h = a.successors in omega arith)
-graph_more (j ∷ ids) (q ∷ ps) (u ∷ os) (r ∷ rows) a i p o ws =
-    let b : AreParts ids ps os rows = record {
-      priorities = let h = a.priorities in omega arith;
-      owners = let h = a.owners in omega arith;
-      successors = let h = a.successors in omega arith;
-    } in
-    ap (λ (g : Graph). vertex_from j q u r ∷ g) (graph_more ids ps os rows b i p o ws)
+graph_more (j ∷ ids) (q ∷ ps) (u ∷ os) (r ∷ rows) a i p o ws = ap (λ (g : Graph). vertex_from j q u r ∷ g) (graph_more ids ps os rows (tails a) i p o ws)
 
-pub specs_more : (ids ps : List ℕ) (os : List Player) (rows : List (List ℕ)) → AreParts ids ps os rows → (i p : ℕ) (o : Player) (ws : List ℕ) → specs_from (ids ++ i ∷ []) (ps ++ p ∷ []) (os ++ o ∷ []) (rows ++ ws ∷ []) ≡ specs_from ids ps os rows ++ spec_from (vertex_from i p o ws) ∷ []
-specs_more ids ps os rows a i p o ws = ap (λ (g : Graph). map spec_from g) (graph_more ids ps os rows a i p o ws) ∙ map_push spec_from (graph_of ids ps os rows) (vertex_from i p o ws)
+module _ {ids ps : List ℕ} {os : List Player} {rows : List (List ℕ)} (a : AreParts ids ps os rows) (i p : ℕ) (o : Player) (ws : List ℕ) where
+  pub specs_more : specs_from (ids ++ i ∷ []) (ps ++ p ∷ []) (os ++ o ∷ []) (rows ++ ws ∷ [])
+      ≡ specs_from ids ps os rows ++ spec_from (vertex_from i p o ws) ∷ []
+  specs_more = ap (λ (g : Graph). map spec_from g) (graph_more ids ps os rows a i p o ws) ∙ map_push spec_from (graph_of ids ps os rows) (vertex_from i p o ws)
 
-pub parts_more : (ids ps : List ℕ) (os : List Player) (rows : List (List ℕ)) → AreParts ids ps os rows → (i p : ℕ) (o : Player) (ws : List ℕ) → AreParts (ids ++ i ∷ []) (ps ++ p ∷ []) (os ++ o ∷ []) (rows ++ ws ∷ [])
-parts_more ids ps os rows a i p o ws =
-    let k = length-append ids (i ∷ []) in
-    record {
-      priorities = let h = length-append ps (p ∷ []) in omega (arith, h, k, a.priorities);
-      owners = let h = length-append os (o ∷ []) in omega (arith, h, k, a.owners);
-      successors = let h = length-append rows (ws ∷ []) in omega (arith, h, k, a.successors);
-    }
+  pub parts_more : AreParts (ids ++ i ∷ []) (ps ++ p ∷ []) (os ++ o ∷ []) (rows ++ ws ∷ [])
+  parts_more =
+      let k = length-append ids (i ∷ []) in
+      record {
+        priorities = let h = length-append ps (p ∷ []) in omega (arith, h, k, a.priorities);
+        owners = let h = length-append os (o ∷ []) in omega (arith, h, k, a.owners);
+        successors = let h = length-append rows (ws ∷ []) in omega (arith, h, k, a.successors);
+      }

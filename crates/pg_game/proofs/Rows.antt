@@ -1,5 +1,6 @@
 -- Rows between offsets: how many, each one, and one more.
-use Rattle.std.proofs.Common.{◌≡◌, ℕ, zero, suc, ◌+◌, ◌-◌, ◌<◌, ◌≤◌, ◌⊎◌, inl, inr, List, [], ◌∷◌, ◌++◌, length, take, drop, get_or, ◌^◌, refl, sym, ◌∙◌, arith, length-append, add-one}
+use Rattle.std.proofs.Common.{◌≡◌, ℕ, zero, suc, ◌+◌, ◌-◌, ◌<◌, ◌≤◌, ◌⊎◌, inl, inr, List, [], ◌∷◌, ◌++◌, length, take, drop, get_or, ◌^◌, refl, sym}
+use Rattle.std.proofs.Common.{◌∙◌, arith, length-append, add-one}
 use Rattle.std.specs.Prelude.{slice_range}
 use Rattle.std.proofs.lemmas.List.{take-append-le, ext_get_or, get_or_append_left, get_or_push, get_or_default, drop-append-le, length-drop, length-take-le}
 use Rattle.std.proofs.lemmas.List.Sums.{sum_by-cons}
@@ -34,11 +35,12 @@ range_added ts xs a b e f = rw e (let g : drop (length ts) (ts ++ xs) ≡ xs = d
 pub below_or_last : (n k : ℕ) → k < n + 1 → (k < n) ⊎ (k ≡ n)
 below_or_last n k l = grind arith
 
-last_of : (n k : ℕ) → k < n → (k + 1 < n) ⊎ (k + 1 ≡ n)
+pub last_of : (n k : ℕ) → k < n → (k + 1 < n) ⊎ (k + 1 ≡ n)
 last_of n k l = grind arith
 
-pub rows_of-push : (os ts xs : List ℕ) (e : ℕ) → IsCompressed os ts → e ≡ length ts + length xs → rows_of (os ++ e ∷ []) (ts ++ xs) ≡ rows_of os ts ++ xs ∷ []
-rows_of-push os ts xs e c q =
+pub rows_of-push : {os ts : List ℕ} (xs : List ℕ) (e : ℕ) → IsCompressed os ts → e ≡ length ts + length xs
+    → rows_of (os ++ e ∷ []) (ts ++ xs) ≡ rows_of os ts ++ xs ∷ []
+rows_of-push {os} {ts} xs e c q =
     let some = c.nonempty in
     let n = length-rows_of os ts in
     let m = length-rows_of (os ++ e ∷ []) (ts ++ xs) in
@@ -59,11 +61,13 @@ rows_of-push os ts xs e c q =
 pub length-range : (ts : List ℕ) (a b : ℕ) → a ≤ b → b ≤ length ts → length (slice_range ts a b) ≡ b - a
 length-range ts a b l m = length-take-le (b - a) (drop a ts) (omega (arith, length-drop a ts))
 
-rising_more : (a b : ℕ) (os : List ℕ) → ((k : ℕ) → k + 1 < length (a ∷ b ∷ os) → get_or (a ∷ b ∷ os) k 0 ≤ get_or (a ∷ b ∷ os) (k + 1) 0) → (k : ℕ) → k + 1 < length (b ∷ os) → get_or (b ∷ os) k 0 ≤ get_or (b ∷ os) (suc k) 0
+rising_more : (a b : ℕ) (os : List ℕ) → ((k : ℕ) → k + 1 < length (a ∷ b ∷ os) → get_or (a ∷ b ∷ os) k 0 ≤ get_or (a ∷ b ∷ os) (k + 1) 0) → (k : ℕ)
+    → k + 1 < length (b ∷ os) → get_or (b ∷ os) k 0 ≤ get_or (b ∷ os) (suc k) 0
 rising_more a b os r k l = rw add-one at (r (suc k) (omega arith))
 
 -- how far the offsets rise
-size-rising : (os ts : List ℕ) (m : ℕ) → m + 1 ≡ length os → ((k : ℕ) → k + 1 < length os → get_or os k 0 ≤ get_or os (k + 1) 0) → ((k : ℕ) → k < length os → get_or os k 0 ≤ length ts) → size_of (rows_of os ts) + get_or os 0 0 ≡ get_or os m 0
+size-rising : (os ts : List ℕ) (m : ℕ) → m + 1 ≡ length os → ((k : ℕ) → k + 1 < length os → get_or os k 0 ≤ get_or os (k + 1) 0)
+    → ((k : ℕ) → k < length os → get_or os k 0 ≤ length ts) → size_of (rows_of os ts) + get_or os 0 0 ≡ get_or os m 0
 size-rising [] ts m s r w = absurd (omega arith)
 size-rising (a ∷ []) ts zero s r w = omega arith
 size-rising (a ∷ []) ts (suc m) s r w = absurd (omega arith)
@@ -75,11 +79,15 @@ size-rising (a ∷ b ∷ os) ts (suc m) s r w =
     let e = sum_by-cons (λ (row : List ℕ). length row) (slice_range ts a b) (rows_of (b ∷ os) ts) in
     omega (arith, h, n, e, q)
 
-pub size-rows_of : (os ts : List ℕ) → IsCompressed os ts → size_of (rows_of os ts) ≡ length ts
-size-rows_of os ts c = let some = c.nonempty in let h = size-rising os ts (length os - 1) (omega arith) c.rising c.within in omega (arith, h, c.first, c.last (length os - 1) (omega arith))
+pub size-rows_of : {os ts : List ℕ} → IsCompressed os ts → size_of (rows_of os ts) ≡ length ts
+size-rows_of {os} {ts} c =
+    let some = c.nonempty in
+    let h = size-rising os ts (length os - 1) (omega arith) c.rising c.within in
+    omega (arith, h, c.first, c.last (length os - 1) (omega arith))
 
-pub IsCompressed-push : (os ts xs : List ℕ) (e : ℕ) → IsCompressed os ts → e ≡ length ts + length xs → length os < 2 ^ 32 → e < 2 ^ 32 → IsCompressed (os ++ e ∷ []) (ts ++ xs)
-IsCompressed-push os ts xs e c q small few =
+pub IsCompressed-push : {os ts : List ℕ} (xs : List ℕ) (e : ℕ) → IsCompressed os ts → e ≡ length ts + length xs → length os < 2 ^ 32 → e < 2 ^ 32 →
+    IsCompressed (os ++ e ∷ []) (ts ++ xs)
+IsCompressed-push {os} {ts} xs e c q small few =
     let some = c.nonempty in
     let grown = length-append os (e ∷ []) in
     let targets = length-append ts xs in
@@ -100,8 +108,9 @@ IsCompressed-push os ts xs e c q small few =
     }
 
 -- the two offsets of a row that are read, and the row
-pub row_bounds : (os ts : List ℕ) (v a b : ℕ) → IsCompressed os ts → v + 1 < length os → a ≡ get_or os v a → b ≡ get_or os (v + 1) b → (a ≤ b) × (b ≤ length ts) × (get_or (rows_of os ts) v [] ≡ slice_range ts a b)
-row_bounds os ts v a b c l ea eb =
+pub row_bounds : {os ts : List ℕ} (v a b : ℕ) → IsCompressed os ts → v + 1 < length os → a ≡ get_or os v a → b ≡ get_or os (v + 1) b →
+    (a ≤ b) × (b ≤ length ts) × (get_or (rows_of os ts) v [] ≡ slice_range ts a b)
+row_bounds {os} {ts} v a b c l ea eb =
     let fa : a ≡ get_or os v 0 = ea ∙ get_or_default os v a 0 (omega arith) in
     let fb : b ≡ get_or os (v + 1) 0 = eb ∙ get_or_default os (v + 1) b 0 l in
     (omega (arith, c.rising v l), omega (arith, c.within (v + 1) l), rw (fa, fb) (row_of os ts v l))

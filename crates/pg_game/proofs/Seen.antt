@@ -2,8 +2,7 @@
 use Rattle.std.proofs.Common.{◌≡◌, ℕ, ◌+◌, ◌<◌, true, false, List, [], ◌∷◌, ◌++◌, length, take, drop, map, get_or, inl, inr, refl, sym, ◌∙◌, ap, nat_eq}
 use Rattle.std.specs.Prelude.{Some, reverse, ◌==◌}
 use Rattle.std.specs.List.{list_any}
-use Rattle.std.proofs.lemmas.Bool.{eqb-true, eq-eqb, false_from_ne_true}
-use Rattle.pg_game.proofs.Masks.{true_or_false}
+use Rattle.std.proofs.lemmas.Bool.{eqb-true, eq-eqb, false_from_ne_true, cases_Bool}
 use Rattle.std.proofs.lemmas.List.{take_more, drop_more, take-map, drop-map, map_push, reverse-append}
 use Rattle.std.proofs.lemmas.List.Sorted.{IsPermutation-reverse, list_any-IsPermutation}
 use Rattle.pg_game.specs.declared.game.Spec.{Spec}
@@ -15,9 +14,10 @@ abbrev pub earlier : List Spec → ℕ → List ℕ
 earlier specs i = reverse (take i (ids_of specs))
 
 pub eqb_flip : (a b : ℕ) → (a == b) ≡ nat_eq b a
-eqb_flip a b = elim (true_or_false (a == b)) [
+eqb_flip a b = elim (cases_Bool (a == b)) [
   | inl t ↦ (let u : nat_eq b a ≡ true = eq-eqb b a (sym (eqb-true a b t)) in t ∙ sym u)
-  | inr f ↦ (let u : nat_eq b a ≡ false = false_from_ne_true (nat_eq b a) (λ t. let v : (a == b) ≡ true = eq-eqb a b (sym (eqb-true b a t)) in cc (v, f)) in f ∙ sym u)
+  | inr f ↦ (let u : nat_eq b a ≡ false = false_from_ne_true (nat_eq b a)
+      (λ t. let v : (a == b) ≡ true = eq-eqb a b (sym (eqb-true b a t)) in cc (v, f)) in f ∙ sym u)
 ]
 
 flipped : (n : ℕ) (xs : List ℕ) → list_any (λ m. m == n) xs ≡ list_any (nat_eq n) xs
@@ -30,24 +30,28 @@ module _ (specs : List Spec) (i : ℕ) (s : Spec) (l : i < length specs) (is : s
       let a = drop-map (λ (x : Spec). x.id) i specs in
       let b = drop-map (λ (x : Spec). x.id) (i + 1) specs in
       let c = drop_more specs i s l in
-      a ∙ (ap (λ (xs : List Spec). map (λ (x : Spec). x.id) xs) (c ∙ ap (λ (x : Spec). x ∷ drop (i + 1) specs) (sym is)) ∙ ap (λ (xs : List ℕ). s.id ∷ xs) (sym b))
+      a ∙ (ap (λ (xs : List Spec). map (λ (x : Spec). x.id) xs) (c ∙ ap (λ (x : Spec). x ∷ drop (i + 1) specs) (sym is))
+      ∙ ap (λ (xs : List ℕ). s.id ∷ xs) (sym b))
 
   pub one_more : take (i + 1) (ids_of specs) ≡ take i (ids_of specs) ++ s.id ∷ []
   one_more =
       let a = take-map (λ (x : Spec). x.id) (i + 1) specs in
       let b = take-map (λ (x : Spec). x.id) i specs in
       let c : take (i + 1) specs ≡ take i specs ++ s ∷ [] = take_more specs i s l ∙ ap (λ (x : Spec). take i specs ++ x ∷ []) (sym is) in
-      a ∙ (ap (λ (xs : List Spec). map (λ (x : Spec). x.id) xs) c ∙ (map_push (λ (x : Spec). x.id) (take i specs) s ∙ ap (λ (xs : List ℕ). xs ++ s.id ∷ []) (sym b)))
+      a ∙ (ap (λ (xs : List Spec). map (λ (x : Spec). x.id) xs) c
+      ∙ (map_push (λ (x : Spec). x.id) (take i specs) s ∙ ap (λ (xs : List ℕ). xs ++ s.id ∷ []) (sym b)))
 
   earlier_more : earlier specs (i + 1) ≡ s.id ∷ earlier specs i
   earlier_more = ap (λ (xs : List ℕ). reverse xs) one_more ∙ reverse-append (take i (ids_of specs)) (s.id ∷ [])
 
   -- the two tests for an earlier identifier
   same_test : list_any (λ m. m == s.id) (earlier specs i) ≡ list_any (nat_eq s.id) (take i (ids_of specs))
-  same_test = sym (list_any-IsPermutation (λ m. m == s.id) (take i (ids_of specs)) (earlier specs i) (IsPermutation-reverse (take i (ids_of specs)))) ∙ flipped s.id (take i (ids_of specs))
+  same_test = sym (list_any-IsPermutation (λ m. m == s.id) (take i (ids_of specs)) (earlier specs i) (IsPermutation-reverse (take i (ids_of specs))))
+      ∙ flipped s.id (take i (ids_of specs))
 
   pub repeated_here : list_any (nat_eq s.id) (take i (ids_of specs)) ≡ true → first_repeated (earlier specs i) (drop i (ids_of specs)) ≡ Some s.id
   repeated_here t = rw (next_id, same_test, t) refl
 
-  pub repeated_later : list_any (nat_eq s.id) (take i (ids_of specs)) ≡ false → first_repeated (earlier specs i) (drop i (ids_of specs)) ≡ first_repeated (earlier specs (i + 1)) (drop (i + 1) (ids_of specs))
+  pub repeated_later : list_any (nat_eq s.id) (take i (ids_of specs)) ≡ false →
+      first_repeated (earlier specs i) (drop i (ids_of specs)) ≡ first_repeated (earlier specs (i + 1)) (drop (i + 1) (ids_of specs))
   repeated_later f = rw (next_id, same_test, f, earlier_more) refl

@@ -1,13 +1,14 @@
 -- Sorted identifiers and sorted specifications go together.
-use Rattle.std.proofs.Common.{◌≡◌, ℕ, ◌<◌, ◌≤◌, List, length, get_or, nat_cmp, subst, arith}
+use Rattle.std.proofs.Common.{◌≡◌, ℕ, ◌<◌, ◌≤◌, List, length, get_or, nat_cmp, subst, ap, arith}
 use Rattle.std.specs.Prelude.{nat_eq, All, None}
 use Rattle.std.specs.List.{IsDistinct}
 use Rattle.std.specs.List.Sorted.{IsStrictlyIncreasing, IsPermutation, IsSorted, IsNonDecreasing, IsNonDecreasingBy}
 use Rattle.std.proofs.lemmas.List.{length-map, get_or-map}
-use Rattle.std.proofs.lemmas.List.Sorted.{IsNonDecreasingBy-from_sort, IsPermutation-map, IsPermutation-sym, IsPermutation-trans, Contains-permutation}
+use Rattle.std.proofs.lemmas.List.Sorted.{IsNonDecreasingBy-from_sort, IsPermutation-map, IsPermutation-sym, IsPermutation-trans}
+use Rattle.std.proofs.lemmas.List.Sorted.{Contains-permutation, length_permutation, sum_by-IsPermutation}
 use Rattle.std.proofs.lemmas.Map.Keys.{IsStrictlyIncreasing-from_distinct, IsDistinct-IsPermutation}
 use Rattle.pg_game.specs.declared.game.Spec.{Spec}
-use Rattle.pg_game.specs.Specification.{AreNumbers, first_fault, edges}
+use Rattle.pg_game.specs.Specification.{AreNumbers, first_fault, edges, different, max_vertices, max_edges}
 use Rattle.pg_game.specs.private.Identifiers.{ids_of, ArePlaces}
 use Rattle.pg_game.specs.private.Rows.{row_at, size_of}
 use Rattle.pg_game.proofs.Sound.{sound_is}
@@ -24,26 +25,39 @@ no_fall sorted rises i j d l m =
     omega (arith, a, b, h)
 
 -- sorted identifiers that differ rise, and are those of the specifications that are sorted by them
-pub ids_agree : (specs sorted : List Spec) (ids : List ℕ) → IsPermutation specs sorted → IsPermutation (ids_of specs) ids → IsDistinct nat_eq ids → IsNonDecreasing ids → IsNonDecreasingBy (λ (s : Spec). s.id) sorted → (ids_of sorted ≡ ids) × IsStrictlyIncreasing ids
-ids_agree specs sorted ids moved sames d up rises =
-    let back = IsPermutation-sym (ids_of specs) ids sames in
+pub sorted_from : {specs sorted : List Spec} {before ids : List ℕ} → before ≡ ids_of specs → IsPermutation specs sorted → IsPermutation before ids →
+    IsDistinct nat_eq ids → IsSorted nat_cmp ids → IsNonDecreasingBy (λ (s : Spec). s.id) sorted → (ids_of sorted ≡ ids) × IsStrictlyIncreasing ids
+sorted_from {specs} {sorted} {before} {ids} is moved sames d up rises =
+    let back = IsPermutation-sym (ids_of specs) ids (subst (λ (xs : List ℕ). IsPermutation xs ids) is sames) in
     let perm = IsPermutation-trans ids (ids_of specs) (ids_of sorted) back (IsPermutation-map (λ (s : Spec). s.id) specs sorted moved) in
     let other = IsDistinct-IsPermutation nat_eq (λ x y. eqb_flip x y) ids (ids_of sorted) perm d in
     let a = IsStrictlyIncreasing-from_distinct (ids_of sorted) (no_fall sorted rises) other in
-    let b = IsStrictlyIncreasing-from_distinct ids up d in
-    (same_rising (ids_of sorted) ids a b (λ x. (λ m. Contains-permutation (ids_of sorted) ids x (IsPermutation-sym ids (ids_of sorted) perm) m, λ m. Contains-permutation ids (ids_of sorted) x perm m)), b)
+    let b = IsStrictlyIncreasing-from_distinct ids (IsNonDecreasingBy-from_sort (λ (x : ℕ). x) ids up) d in
+    let to = Contains-permutation (ids_of sorted) ids in
+    let from = Contains-permutation ids (ids_of sorted) in
+    (same_rising (ids_of sorted) ids a b (λ x. (λ m. to x (IsPermutation-sym ids (ids_of sorted) perm) m, λ m. from x perm m)), b)
+
+pub sorted_few : {specs sorted : List Spec} {ids : List ℕ} → first_fault specs ≡ None → IsPermutation specs sorted → ids_of sorted ≡ ids →
+    (length ids ≤ max_vertices) × (length sorted ≤ max_vertices) × (edges sorted ≤ max_edges)
+sorted_few {specs} {sorted} none moved is =
+    let sound = sound_is specs none in
+    let n = length_permutation specs sorted moved in
+    let k = ap (λ (xs : List ℕ). length xs) is in
+    let e = sum_by-IsPermutation (λ (s : Spec). different s.successors) specs sorted moved in
+    (omega (arith, n, k, length-map sorted (λ (s : Spec). s.id), sound.vertices), omega (arith, n, sound.vertices), omega (arith, e, sound.edges_fit))
 
 -- what sorting and laying out give
-pub laid_from : (specs sorted : List Spec) (before ids : List ℕ) (rows : List (List ℕ)) → All AreNumbers specs → first_fault specs ≡ None → before ≡ ids_of specs → IsPermutation specs sorted → IsPermutation before ids → IsDistinct nat_eq ids → IsSorted nat_cmp ids → IsNonDecreasingBy (λ (s : Spec). s.id) sorted → (length rows ≡ length sorted) × (size_of rows ≤ edges sorted) × ((v : ℕ) (d : Spec) → v < length sorted → ArePlaces ids (get_or sorted v d).successors (row_at rows v)) → IsLaid specs sorted ids rows
-laid_from specs sorted before ids rows numbers sound is moved reordered d up rises h =
-    let both = ids_agree specs sorted ids moved (subst (λ (xs : List ℕ). IsPermutation xs ids) is reordered) d (IsNonDecreasingBy-from_sort (λ (x : ℕ). x) ids up) rises in
-    record {
-      sound = sound_is specs sound;
-      numbers = numbers;
-      moved = moved;
-      ids_are = both.0;
-      rising = both.1;
-      size = h.0;
-      edges_are = h.1;
-      each = h.2;
-    }
+pub laid_from : {specs sorted : List Spec} {ids : List ℕ} (rows : List (List ℕ)) → All AreNumbers specs → first_fault specs ≡ None
+    → IsPermutation specs sorted →
+    (ids_of sorted ≡ ids) × IsStrictlyIncreasing ids → length rows ≡ length sorted → size_of rows ≤ edges sorted →
+    ((v : ℕ) (d : Spec) → v < length sorted → ArePlaces ids (get_or sorted v d).successors (row_at rows v)) → IsLaid specs sorted ids rows
+laid_from {specs} rows numbers sound moved both size edges_are each = record {
+  sound = sound_is specs sound;
+  numbers = numbers;
+  moved = moved;
+  ids_are = both.0;
+  rising = both.1;
+  size = size;
+  edges_are = edges_are;
+  each = each;
+}

@@ -2,13 +2,14 @@
 use Rattle.std.proofs.Common.{◌≡◌, ℕ, zero, suc, ◌<◌, ◌≤◌, Bool, true, false, ◌⊎◌, inl, inr, List, [], ◌∷◌, length, refl, sym, subst, arith}
 use Rattle.std.specs.Prelude.{Option, Some, None, if◌then◌else◌, nat_lt, not, find}
 use Rattle.std.specs.List.{Contains}
-use Rattle.std.proofs.lemmas.Bool.{ltb-false, le-ltb, not-false}
-use Rattle.pg_game.proofs.Members.{Contains-cons}
+use Rattle.std.proofs.lemmas.Bool.{ltb-false, le-ltb, lt-ltb, not-false}
+use Rattle.pg_game.proofs.Members.{Contains-head, Contains-tail, Contains-cons}
 use Rattle.pg_game.specs.declared.game.Spec.{Spec}
 use Rattle.pg_game.specs.declared.game.GameFault.{GameFault}
-use Rattle.pg_game.specs.declared.game.GameFault.TheVariants.{NoVertex, TooManyVertices, Twice, NoSuccessor, TooManyEdges, Unknown}
-use Rattle.pg_game.specs.Specification.{first_fault, fault_or, is_empty, first_repeated, first_without, first_unknown, first_unspecified, paired_or, IsSpecified, edges, max_vertices, max_edges}
-use Rattle.pg_game.specs.private.Identifiers.{ids_of}
+use Rattle.pg_game.specs.declared.game.GameFault.TheVariants.{NoVertex, TooManyVertices, Twice, NoSuccessor, TooManyEdges, Unknown, Memory}
+use Rattle.pg_game.specs.Specification.{first_fault, fault_or, is_empty, first_repeated, first_without, first_unknown, first_unspecified, paired_or}
+use Rattle.pg_game.specs.Specification.{IsSpecified, OrMemory, edges, max_vertices, max_edges}
+use Rattle.pg_game.specs.private.Identifiers.{ids_of, twice_of}
 
 pub record IsSound (specs : List Spec) : Type 0 where
   pub nonempty : 0 < length specs
@@ -26,9 +27,9 @@ no_fault : {A : Type 0} (f : A → GameFault) (a : Option A) (o : Option GameFau
 no_fault f None o e = (refl, e)
 no_fault f (Some x) o e = absurd (cc e)
 
-some_first : (specs : List Spec) → is_empty specs ≡ false → 0 < length specs
+some_first : {X : Type 0} (xs : List X) → is_empty xs ≡ false → 0 < length xs
 some_first [] e = absurd (cc e)
-some_first (s ∷ specs) e = omega arith
+some_first (x ∷ xs) e = omega arith
 
 pub sound_is : (specs : List Spec) → first_fault specs ≡ None → IsSound specs
 sound_is specs e =
@@ -47,13 +48,53 @@ sound_is specs e =
       known = h.0;
     }
 
-none_empty : (specs : List Spec) → 0 < length specs → is_empty specs ≡ false
-none_empty [] l = absurd (omega arith)
-none_empty (s ∷ specs) l = refl
+pub not_empty : {X : Type 0} (xs : List X) → 0 < length xs → is_empty xs ≡ false
+not_empty [] l = absurd (omega arith)
+not_empty (x ∷ xs) l = refl
 
 pub sound_has_none : (specs : List Spec) → IsSound specs → first_fault specs ≡ None
 sound_has_none specs s =
-    rw (none_empty specs s.nonempty, le-ltb max_vertices (length specs) s.vertices, s.once, s.successors, le-ltb max_edges (edges specs) s.edges_fit, s.known) refl
+    let few = le-ltb max_vertices (length specs) s.vertices in
+    rw (not_empty specs s.nonempty, few, s.once, s.successors, le-ltb max_edges (edges specs) s.edges_fit, s.known) refl
+
+-- some, not too many, and no identifier twice
+pub record AreListed (specs : List Spec) : Type 0 where
+  pub nonempty : 0 < length specs
+  pub vertices : length specs ≤ max_vertices
+  pub once : first_repeated [] (ids_of specs) ≡ None
+
+module _ (specs : List Spec) (s : AreListed specs) where
+  listed : (b : Bool) (n : Option ℕ) (u : Option (ℕ × ℕ)) → first_without specs ≡ n → nat_lt max_edges (edges specs) ≡ b → first_unknown specs specs ≡ u
+      → first_fault specs ≡ fault_or (λ i. NoSuccessor i) n (if b then Some TooManyEdges else fault_or (λ (id, i). Unknown id i) u None)
+  listed b n u e f g = rw (not_empty specs s.nonempty, le-ltb max_vertices (length specs) s.vertices, s.once, e, f, g) refl
+
+  pub without_named : {id : ℕ} → first_without specs ≡ Some id → first_fault specs ≡ Some (NoSuccessor id)
+  without_named e = listed _ _ _ e refl refl
+
+  pub edges_named : first_without specs ≡ None → max_edges < edges specs → first_fault specs ≡ Some TooManyEdges
+  edges_named e l = listed _ _ _ e (lt-ltb max_edges (edges specs) l) refl
+
+  pub unknown_named : {id i : ℕ} → first_without specs ≡ None → edges specs ≤ max_edges → first_unknown specs specs ≡ Some (id, i)
+      → first_fault specs ≡ Some (Unknown id i)
+  unknown_named e l f = listed _ _ _ e (le-ltb max_edges (edges specs) l) f
+
+still : {P Q : Type 0} (e : GameFault) → (P → Q) → OrMemory P e → OrMemory Q e
+still NoVertex f p = f p
+still TooManyVertices f p = f p
+still (Twice i) f p = f p
+still (NoSuccessor i) f p = f p
+still TooManyEdges f p = f p
+still (Unknown id i) f p = f p
+still Memory f p = p
+
+first_of : {A : Type 0} (f : A → GameFault) (a : Option A) (o : Option GameFault) (e : GameFault) → fault_or f a None ≡ Some e → fault_or f a o ≡ Some e
+first_of f None o e is = absurd (cc is)
+first_of f (Some x) o e is = is
+
+pub twice_named : (specs : List Spec) → 0 < length specs → length specs ≤ max_vertices → (e : GameFault)
+    → OrMemory (twice_of specs ≡ Some e) e → OrMemory (first_fault specs ≡ Some e) e
+twice_named specs some few e =
+    still e (λ is. rw (not_empty specs some, le-ltb max_vertices (length specs) few) (first_of (λ i. Twice i) (first_repeated [] (ids_of specs)) _ e is))
 
 head_of : (s t : Spec) (specs : List Spec) → Contains (s ∷ specs) t → (s ≡ t) ⊎ Contains specs t
 head_of s t specs (zero, l, e) = inl e
@@ -63,17 +104,13 @@ pub none_or : (b : Bool) (i : ℕ) (o : Option ℕ) → (if b then Some i else o
 none_or true i o e = absurd (cc e)
 none_or false i o e = (refl, e)
 
-some_number : (is : List ℕ) → is_empty is ≡ false → 0 < length is
-some_number [] e = absurd (cc e)
-some_number (i ∷ is) e = omega arith
-
 -- each specification has a successor
 pub each_has : (specs : List Spec) → first_without specs ≡ None → (s : Spec) → Contains specs s → 0 < length s.successors
 each_has [] e s (k, l, q) = absurd (omega arith)
 each_has (t ∷ specs) e s m =
     let h = none_or (is_empty t.successors) t.id (first_without specs) e in
     elim (head_of t s specs m) [
-      | inl q ↦ subst (λ (x : Spec). 0 < length x.successors) q (some_number t.successors h.0)
+      | inl q ↦ subst (λ (x : Spec). 0 < length x.successors) q (some_first t.successors h.0)
       | inr n ↦ each_has specs h.1 s n
     ]
 
@@ -91,11 +128,29 @@ none_found p (x ∷ xs) e i m =
     ]
 
 -- each successor is specified
-pub each_known : (all specs : List Spec) → first_unknown all specs ≡ None → (s : Spec) → Contains specs s → (i : ℕ) → Contains s.successors i → IsSpecified all i ≡ true
+pub each_known : (all specs : List Spec) → first_unknown all specs ≡ None →
+    (s : Spec) → Contains specs s → (i : ℕ) → Contains s.successors i → IsSpecified all i ≡ true
 each_known all [] e s (k, l, q) i m = absurd (omega arith)
 each_known all (t ∷ specs) e s n i m =
     let h = none_pair t.id (first_unspecified all t.successors) (first_unknown all specs) e in
     elim (head_of t s specs n) [
-      | inl q ↦ not-false (IsSpecified all i) (none_found (λ j. not (IsSpecified all j)) t.successors h.0 i (subst (λ (x : Spec). Contains x.successors i) (sym q) m))
+      | inl q ↦ not-false (IsSpecified all i) (none_found (λ j. not (IsSpecified all j)) t.successors h.0 i
+          (subst (λ (x : Spec). Contains x.successors i) (sym q) m))
       | inr r ↦ each_known all specs h.1 s r i m
     ]
+
+-- where each has a successor, there is none without
+pub none_without : (specs : List Spec) → ((s : Spec) → Contains specs s → 0 < length s.successors) → first_without specs ≡ None
+none_without [] h = refl
+none_without (s ∷ specs) h = rw (not_empty s.successors (h s (zero, omega arith, refl))) (none_without specs (λ t (k, l, e). h t (suc k, omega arith, e)))
+
+all_specified : (all : List Spec) (ws : List ℕ) → ((i : ℕ) → Contains ws i → IsSpecified all i ≡ true) → first_unspecified all ws ≡ None
+all_specified all [] h = refl
+all_specified all (w ∷ ws) h = rw (h w (Contains-head w ws)) (all_specified all ws (λ i m. h i (Contains-tail w i ws m)))
+
+-- where each successor is specified, none is unknown
+pub none_unknown : (all specs : List Spec) →
+    ((s : Spec) → Contains specs s → (i : ℕ) → Contains s.successors i → IsSpecified all i ≡ true) → first_unknown all specs ≡ None
+none_unknown all [] h = refl
+none_unknown all (s ∷ specs) h =
+    rw (all_specified all s.successors (h s (zero, omega arith, refl))) (none_unknown all specs (λ t (k, l, e). h t (suc k, omega arith, e)))

@@ -5,5 +5,8 @@ use Rattle.std.proofs.lemmas.List.Sums.{sum_by-cons}
 use Rattle.pg_game.specs.declared.game.Spec.{Spec}
 use Rattle.pg_game.specs.Specification.{edges, different}
 
-pub edges_more : (specs : List Spec) (k : ℕ) (s : Spec) → k < length specs → s ≡ get_or specs k s → edges (drop k specs) ≡ different s.successors + edges (drop (k + 1) specs)
-edges_more specs k s l is = ap edges (drop_more specs k s l ∙ ap (λ (x : Spec). x ∷ drop (k + 1) specs) (sym is)) ∙ sum_by-cons (λ (x : Spec). different x.successors) s (drop (k + 1) specs)
+pub edges_more : (specs : List Spec) (k : ℕ) (s : Spec) → k < length specs → s ≡ get_or specs k s →
+    edges (drop k specs) ≡ different s.successors + edges (drop (k + 1) specs)
+edges_more specs k s l is =
+    ap edges (drop_more specs k s l ∙ ap (λ (x : Spec). x ∷ drop (k + 1) specs) (sym is))
+    ∙ sum_by-cons (λ (x : Spec). different x.successors) s (drop (k + 1) specs)

@@ -1,33 +1,53 @@
 -- Specifications in lists of their parts, one by one.
-use Rattle.std.proofs.Common.{◌≡◌, ℕ, ◌+◌, ◌<◌, List, [], ◌∷◌, ◌++◌, length, take, get_or, ◌∙◌, ap, arith}
-use Rattle.std.proofs.lemmas.List.{take_more, length-map, get_or-map}
+use Rattle.std.proofs.Common.{◌≡◌, ℕ, ◌+◌, ◌<◌, List, [], ◌∷◌, ◌++◌, length, map, take, get_or, refl, sym, ◌∙◌, ap, arith}
+use Rattle.std.proofs.lemmas.List.{take_more, length-map, get_or-map, ext_get_or}
 use Rattle.pg_game.specs.declared.player.Player.{Player}
 use Rattle.pg_game.specs.declared.player.Player.TheVariants.{Even}
 use Rattle.pg_game.specs.declared.game.Spec.{Spec}
 use Rattle.pg_game.specs.Graph.{no_vertex}
 use Rattle.pg_game.specs.View.{graph_of}
+use Rattle.pg_game.specs.private.Identifiers.{ids_of, priorities_of, owners_of}
 use Rattle.pg_game.specs.private.Stored.{AreParts}
 use Rattle.pg_game.specs.Flat.{spec_from, specs_from}
-use Rattle.pg_game.proofs.Parts.{part_at, length-graph_of}
+use Rattle.pg_game.proofs.Parts as part
 
 abbrev pub spec_of : ℕ → ℕ → Player → List ℕ → Spec
 spec_of i p o ws = record { id = i; priority = p; owner = o; successors = ws }
 
-module _ (ids ps : List ℕ) (os : List Player) (rows : List (List ℕ)) (a : AreParts ids ps os rows) where
-  pub length_specs : length (specs_from ids ps os rows) ≡ length ids
-  length_specs = length-map (graph_of ids ps os rows) spec_from ∙ length-graph_of ids ps os rows a
+module _ {ids ps : List ℕ} {os : List Player} {rows : List (List ℕ)} (a : AreParts ids ps os rows) where
+  abbrev specs : List Spec
+  specs = specs_from ids ps os rows
 
-  pub place_within : (specs : List Spec) → specs_from ids ps os rows ≡ specs → (v : ℕ) → v < length specs → v < length ids
-  place_within specs is v l = let e = ap (λ (xs : List Spec). length xs) is in omega (arith, e, length_specs, l)
+  pub length_specs : length (specs_from ids ps os rows) ≡ length ids
+  length_specs = length-map (graph_of ids ps os rows) spec_from ∙ part.length_is a refl
+
+  pub place_within : {ss : List Spec} → specs_from ids ps os rows ≡ ss → (v : ℕ) → v < length ss → v < length ids
+  place_within is v l = let e = ap (λ (xs : List Spec). length xs) is in omega (arith, e, length_specs, l)
 
   -- the specification of the parts at a place
   abbrev pub spec_in : ℕ → Spec
   spec_in v = record { id = get_or ids v 0; priority = get_or ps v 0; owner = get_or os v Even; successors = get_or rows v [] }
 
   pub spec_at : (v : ℕ) (d : Spec) → v < length ids → get_or (specs_from ids ps os rows) v d ≡ spec_in v
-  spec_at v d l = get_or-map spec_from (graph_of ids ps os rows) v no_vertex d (omega (arith, l, length-graph_of ids ps os rows a)) ∙ ap spec_from (part_at ids ps os rows a v)
+  spec_at v d l =
+      let x = get_or-map spec_from (graph_of ids ps os rows) v no_vertex d (omega (arith, l, part.length_is a refl)) in
+      x ∙ (λ i. spec_of (part.id_is a refl v i) (part.priority_is a refl v i) (part.owner_is a refl v i) (part.successors_are a refl v i))
+
+  -- a part of each specification, in order
+  part_of : {X : Type 0} (f : Spec → X) (xs : List X) (d : X) → length xs ≡ length ids → ((v : ℕ) → f (spec_in v) ≡ get_or xs v d) → map f specs ≡ xs
+  part_of f xs d n at =
+      let m = length-map specs f in
+      ext_get_or d (map f specs) xs (m ∙ (length_specs ∙ sym n)) (λ v l.
+      get_or-map f specs v (spec_in v) d (omega (arith, l, m)) ∙ (ap f (spec_at v (spec_in v) (omega (arith, l, m, length_specs))) ∙ at v))
+
+  pub ids_are : ids_of (specs_from ids ps os rows) ≡ ids
+  ids_are = part_of (λ s. s.id) ids 0 refl (λ v. refl)
+
+  pub priorities_are : priorities_of (specs_from ids ps os rows) ≡ ps
+  priorities_are = part_of (λ s. s.priority) ps 0 a.priorities (λ v. refl)
+
+  pub owners_are : owners_of (specs_from ids ps os rows) ≡ os
+  owners_are = part_of (λ s. s.owner) os Even a.owners (λ v. refl)
 
   pub specs_taken : (v : ℕ) → v < length ids → take (v + 1) (specs_from ids ps os rows) ≡ take v (specs_from ids ps os rows) ++ spec_in v ∷ []
-  specs_taken v l =
-      let at = spec_at v (spec_in v) l in
-      take_more (specs_from ids ps os rows) v (spec_in v) (omega (arith, l, length_specs)) ∙ ap (λ (s : Spec). take v (specs_from ids ps os rows) ++ s ∷ []) at
+  specs_taken v l = take_more specs v (spec_in v) (omega (arith, l, length_specs)) ∙ ap (λ (s : Spec). take v specs ++ s ∷ []) (spec_at v (spec_in v) l)

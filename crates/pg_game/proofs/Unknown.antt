@@ -1,16 +1,26 @@
 -- The first successor that is not specified, one specification after another.
-use Rattle.std.proofs.Common.{◌≡◌, ℕ, ◌+◌, ◌<◌, List, [], ◌∷◌, length, drop, get_or, refl, sym, ◌∙◌, ap, nat_eq}
+use Rattle.std.proofs.Common.{◌≡◌, ℕ, ◌+◌, ◌<◌, true, List, [], ◌∷◌, length, drop, get_or, refl, sym, ◌∙◌, ap, nat_eq}
 use Rattle.std.specs.Prelude.{Some, None}
-use Rattle.std.specs.List.{list_any}
+use Rattle.std.specs.Cmp.{nat_eq_equiv}
+use Rattle.std.specs.List.{Contains, list_any}
+use Rattle.std.proofs.lemmas.Bool.{eqb-true}
 use Rattle.std.proofs.lemmas.List.{drop_more}
+use Rattle.std.proofs.lemmas.Map.Views.{Contains-from_any, list_any-from_Contains}
 use Rattle.pg_game.specs.declared.game.Spec.{Spec}
 use Rattle.pg_game.specs.Specification.{IsSpecified, first_unspecified, first_unknown}
 use Rattle.pg_game.specs.private.Identifiers.{ids_of, first_outside}
 use Rattle.pg_game.proofs.Seen.{eqb_flip}
 
-pub specified_is : (specs : List Spec) (i : ℕ) → list_any (nat_eq i) (ids_of specs) ≡ IsSpecified specs i
+specified_is : (specs : List Spec) (i : ℕ) → list_any (nat_eq i) (ids_of specs) ≡ IsSpecified specs i
 specified_is [] i = refl
 specified_is (s ∷ specs) i = rw (eqb_flip s.id i, specified_is specs i) refl
+
+-- an identifier is specified exactly if it is among those of the specifications
+pub from_specified : (specs : List Spec) (i : ℕ) → IsSpecified specs i ≡ true → Contains (ids_of specs) i
+from_specified specs i t = Contains-from_any (λ x y. eqb-true x y) i (ids_of specs) (specified_is specs i ∙ t)
+
+pub to_specified : (specs : List Spec) (i : ℕ) → Contains (ids_of specs) i → IsSpecified specs i ≡ true
+to_specified specs i m = sym (specified_is specs i) ∙ list_any-from_Contains nat_eq_equiv i (ids_of specs) m
 
 pub outside_is : (specs : List Spec) (keys xs : List ℕ) → keys ≡ ids_of specs → first_outside keys xs ≡ first_unspecified specs xs
 outside_is specs keys [] e = refl

@@ -1,11 +1,9 @@
 -- Specifications, and the successors of one more that is not whole yet.
-use Rattle.std.specs.Prelude.{ℕ, ◌≤◌, List, length, take, drop}
+use Rattle.std.specs.Prelude.{ℕ, List, take, drop}
 use Rattle.pg_game.specs.declared.player.Player.{Player}
 use Rattle.pg_game.specs.declared.game.Spec.{Spec}
 use Rattle.pg_game.specs.Flat.{specs_from}
 use Rattle.pg_game.specs.Rows.{rows_of}
-use Rattle.pg_game.specs.private.Rows.{IsCompressed}
-use Rattle.pg_game.specs.private.Stored.{AreParts}
 
 pub record Opened : Type 0 where
   pub specs : List Spec

@@ -1,6 +1,5 @@
 -- Lists of numbers in compressed sparse rows.
-use Rattle.std.specs.Prelude.{ℕ, ◌≡◌, ◌+◌, ◌<◌, ◌≤◌, ◌^◌, ◌↔◌, List, [], ◌∷◌, length, sum_by, slice_index, slice_index_or, slice_range, Contains}
-use Rattle.std.specs.List.Sorted.{IsStrictlyIncreasing}
+use Rattle.std.specs.Prelude.{ℕ, List, [], ◌∷◌, slice_range}
 
 -- the rows between each offset and the next
 abbrev pub rows_of : List ℕ → List ℕ → List (List ℕ)

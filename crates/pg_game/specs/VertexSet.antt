@@ -1,5 +1,5 @@
 -- Sets of vertices, as tests.
-use Rattle.std.specs.Prelude.{ℕ, Bool, false, ◌&&◌, ◌||◌, List, length, IsTrue, nat_lt, not, slice_index_or, count_by}
+use Rattle.std.specs.Prelude.{ℕ, Bool, false, ◌||◌, List, length, IsTrue, nat_lt, slice_index_or, count_by}
 use Rattle.pg_game.specs.Graph.{Graph}
 
 abbrev pub VertexSet : Type 0

@@ -1,8 +1,9 @@
 //! Parity games (PGSolver manual): what specifies one, why a specification is refused, and the game with its look-ups.
 //! Vertices are numbered by rising identifier. Successors and predecessors stand in compressed rows.
 
-ghost use Rattle.std.specs.Prelude.{◌≡◌, ◌<◌, ◌^◌, ◌↔◌, ℕ, length, slice_index, IfOk, IsTrue, IfErr, IfSome, IfNone, All, Some, None, nat_eq};
+ghost use Rattle.std.specs.Prelude.{◌≡◌, ◌<◌, ◌^◌, ◌↔◌, ℕ, List, length, slice_index, IfOk, IsTrue, IfErr, IfSome, IfNone, All, Some, None, nat_eq};
 ghost use Rattle.std.specs.List.{IsDistinct};
+ghost use Rattle.std.specs.List.Sorted.{IsStrictlyIncreasing, IsPermutation};
 ghost use Rattle.pg_game.specs.private.Identifiers.{ids_of};
 ghost use Rattle.pg_game.specs.Predecessors.{ArePredecessors};
 ghost use Rattle.pg_game.specs.Specification.{AreNumbers, IsGameOf, first_fault, OrMemory, edges};
@@ -180,8 +181,8 @@ impl Game {
     /// The game of specifications without fault. `Memory` is its one refusal.
     fn lay_out(
         alloc: Global,
-        specs: Vec<Spec>,
-        ids: IndexSet<u32>,
+        mut specs: Vec<Spec>,
+        mut ids: IndexSet<u32>,
         edge_count: u32,
     ) -> Result<Game, Memory>
         requires numbers { All AreNumbers specs.items }
@@ -190,18 +191,31 @@ impl Game {
         requires sound { first_fault specs.items ≡ None }
         ensures game { IfOk result (λ g. IsGame g × IsGameOf specs.items g) }
     {
-        let mut ids = ids;
-        let mut specs = specs;
         ids.sort_unstable()?;
         specs.sort_unstable_by_key(|s| s.id);
-        let successors = successors(alloc, &ids, specs.as_slice(), edge_count)?;
-        let ids = Names::of_rising(Vec::from_slice(alloc, ids.as_slice())?);
+        Game::of_sorted(alloc, specs.as_slice(), &ids, edge_count)
+    }
+
+    /// The game of specifications without fault that stand by rising identifiers. `Memory` is its one refusal.
+    fn of_sorted(
+        alloc: Global,
+        specs: &[Spec],
+        ids: &IndexSet<u32>,
+        edge_count: u32,
+    ) -> Result<Game, Memory>
+        requires specified { (before : List Spec) × IsPermutation before specs.now × All AreNumbers before × (first_fault before ≡ None) }
+        requires ids { ids_of specs.now ≡ ids.now.keys }
+        requires rising { IsStrictlyIncreasing ids.now.keys }
+        ensures game { IfOk result (λ g. (before : List Spec) → IsPermutation before specs.now → All AreNumbers before → first_fault before ≡ None
+            → IsGame g × IsGameOf before g) }
+    {
+        let successors = successors(alloc, ids, specs, edge_count)?;
         Ok(Game {
-            priorities: priorities(alloc, specs.as_slice())?,
-            owners: owners(alloc, specs.as_slice())?,
+            ids: Names::of_rising(Vec::from_slice(alloc, ids.as_slice())?),
+            priorities: priorities(alloc, specs)?,
+            owners: owners(alloc, specs)?,
             predecessors: successors.reversed(alloc)?,
             successors,
-            ids,
         })
     }
 
@@ -328,7 +342,10 @@ impl PartialEq for Game {
 
     ghost eq = { same_graph };
 
-    ghost laws = { lists_per (and_per (on_per (λ x. x.id) (partial_equiv_from_equiv nat_eq_equiv)) (and_per (on_per (λ x. x.priority) (partial_equiv_from_equiv nat_eq_equiv)) (and_per (on_per (λ x. digit_of x.owner) (partial_equiv_from_equiv nat_eq_equiv)) (on_per (λ x. x.successors) (lists_per (partial_equiv_from_equiv nat_eq_equiv)))))) };
+    ghost laws = { lists_per (and_per (on_per (λ x. x.id) (partial_equiv_from_equiv nat_eq_equiv))
+        (and_per (on_per (λ x. x.priority) (partial_equiv_from_equiv nat_eq_equiv))
+        (and_per (on_per (λ x. digit_of x.owner) (partial_equiv_from_equiv nat_eq_equiv))
+        (on_per (λ x. x.successors) (lists_per (partial_equiv_from_equiv nat_eq_equiv)))))) };
 
     /// Whether both have the same vertices, with the same identifiers, priorities, owners and successors.
     fn eq(&self, other: &Game) -> bool

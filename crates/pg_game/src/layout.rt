@@ -76,7 +76,8 @@ pub fn successors(
     requires edges { edges specs.now ≤ max_edges }
     ensures size { IfOk result (λ rows. length rows ≡ length specs.now) }
     ensures edges { IfOk result (λ rows. size_of rows ≤ edges specs.now) }
-    ensures each { IfOk result (λ rows. (v : ℕ) (d : Spec) → v < length specs.now → ArePlaces ids.now.keys (slice_index_or specs.now v d).successors (row_at rows v)) }
+    ensures each { IfOk result (λ rows. (v : ℕ) (d : Spec) → v < length specs.now
+        → ArePlaces ids.now.keys (slice_index_or specs.now v d).successors (row_at rows v)) }
 {
     let mut rows = Adjacency::with_capacity(alloc, specs.len() as u32, edge_count)?;
     let mut wanted = Vec::new(alloc);

@@ -74,7 +74,8 @@ impl OpenSpecs {
     /// 4,294,967,295 specifications or successors would be passed.
     #[inline]
     pub fn close(&mut self, id: u32, priority: u32, owner: Player) -> Result<(), Memory>
-        ensures specs { OnOk result (self.new.specs ≡ self.old.specs ++ record { id = id; priority = priority; owner = owner; successors = self.old.successors } ∷ []) }
+        ensures specs { OnOk result (self.new.specs ≡ self.old.specs
+            ++ record { id = id; priority = priority; owner = owner; successors = self.old.successors } ∷ []) }
         ensures successors { OnOk result (self.new.successors ≡ []) }
         ensures kept { OnErr result (self.new ≡ self.old) }
     {

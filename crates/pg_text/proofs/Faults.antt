@@ -1,5 +1,6 @@
 -- Each text is at fault in one place or spells tokens, and not both.
-use Rattle.std.proofs.Common.{◌≡◌, ℕ, zero, suc, ◌+◌, ◌≤◌, ◌<◌, Bool, true, false, ◌⊎◌, inl, inr, List, [], ◌∷◌, ◌++◌, length, refl, sym, ◌∙◌, ap, subst, arith, append_assoc, length-append}
+use Rattle.std.proofs.Common.{◌≡◌, ℕ, zero, suc, ◌+◌, ◌≤◌, ◌<◌, Bool, true, false, ◌⊎◌, inl, inr, List, [], ◌∷◌, ◌++◌, length, refl, sym, ◌∙◌, ap}
+use Rattle.std.proofs.Common.{subst, arith, append_assoc, length-append}
 use Rattle.std.specs.Prelude.{◌==◌}
 use Rattle.std.proofs.lemmas.Bool.Decides.{nat_tests}
 use Rattle.std.proofs.lemmas.List.{append-nil}
@@ -27,9 +28,7 @@ ends_on test b (x ∷ xs) after f e = e
 whole_on : (t : Token) (b : ℕ) (re after : List ℕ) → Wrong b after → IsWhole t re → IsWhole t (re ++ b ∷ after)
 whole_on (Number n) b re after w h = ends_on is_digit b re after (wrong_digit b after w) h
 whole_on (Word l) b re after w h = ends_on is_letter b re after (wrong_letter b after w) h
-whole_on (Name l) b re after w h = tt
-whole_on Comma b re after w h = tt
-whole_on Semicolon b re after w h = tt
+whole_on _ b re after w h = tt
 
 -- a byte that begins a token is not wrong
 no_quote_in : (inner more : List ℕ) → AllAre is_no_quote (inner ++ 34 ∷ more) → ⊥
@@ -41,17 +40,11 @@ kind_begins b h = grind (arith, nat_tests)
 
 kind_small : (t : Token) → kind_of t < 5
 kind_small (Number n) = omega arith
-kind_small (Word n) = omega arith
-kind_small (Name n) = omega arith
-kind_small Comma = omega arith
-kind_small Semicolon = omega arith
+kind_small _ = omega arith
 
 quote_name : (t : Token) → kind_of t ≡ 2 → (inner : List ℕ) × (t ≡ Name inner)
-quote_name (Number n) e = absurd (omega arith)
-quote_name (Word n) e = absurd (omega arith)
 quote_name (Name n) e = (n, refl)
-quote_name Comma e = absurd (omega arith)
-quote_name Semicolon e = absurd (omega arith)
+quote_name _ e = absurd (omega arith)
 
 -- no token begins where a byte is wrong
 no_token : (t : Token) (b : ℕ) (after body rest : List ℕ) → Wrong b after → IsSpelling t body → b ∷ after ≡ body ++ rest → ⊥
@@ -71,7 +64,8 @@ no_token t b after body rest (inr (q, a)) s e =
     let g : after ≡ n.0 ++ (34 ∷ rest) = let i : after ≡ (n.0 ++ 34 ∷ []) ++ rest = cc f in i ∙ append_assoc n.0 (34 ∷ []) rest in
     no_quote_in n.0 rest (subst (AllAre is_no_quote) g a)
 
-extend : (place : ℕ) (text : List ℕ) (t : Placed) (bl bo re after : List ℕ) (b : ℕ) (before : List ℕ) → Wrong b after → Begins place before t bl bo re → text ≡ before ++ b ∷ after → Begins place text t bl bo (re ++ b ∷ after)
+extend : (place : ℕ) (text : List ℕ) (t : Placed) (bl bo re after : List ℕ) (b : ℕ) (before : List ℕ) → Wrong b after
+    → Begins place before t bl bo re → text ≡ before ++ b ∷ after → Begins place text t bl bo (re ++ b ∷ after)
 extend place text t bl bo re after b before w h e = record {
   split = e ∙ (ap (λ xs. xs ++ b ∷ after) h.split ∙ (append_assoc bl (bo ++ re) (b ∷ after) ∙ ap (λ xs. bl ++ xs) (append_assoc bo re (b ∷ after))));
   blank = h.blank;
@@ -81,7 +75,8 @@ extend place text t bl bo re after b before w h e = record {
 }
 
 -- a text with a wrong byte behind tokens spells no tokens
-stuck : (place : ℕ) (text before after : List ℕ) (b : ℕ) (ts us : List Placed) → Spells place before ts → is_blank b ≡ false → Wrong b after → text ≡ before ++ b ∷ after → Spells place text us → ⊥
+stuck : (place : ℕ) (text before after : List ℕ) (b : ℕ) (ts us : List Placed) → Spells place before ts → is_blank b ≡ false
+    → Wrong b after → text ≡ before ++ b ∷ after → Spells place text us → ⊥
 stuck place text before after b [] [] s f w e z =
     let r = run_unique is_blank text before [] (b ∷ after) z s tt f (append-nil text ∙ e) in
     cc r.1
@@ -100,7 +95,8 @@ stuck place text before after b (t ∷ ts) (u ∷ us) (bl, bo, re, h, r) f w e (
     stuck (place + length bl + length bo) se re after b ts us r f w (sym o.3) q'
 
 -- two wrong bytes behind tokens are the same
-same_wrong : (place : ℕ) (text b1 a1 b2 a2 : List ℕ) (x y : ℕ) (ts us : List Placed) → Spells place b1 ts → Spells place b2 us → is_blank x ≡ false → is_blank y ≡ false → Wrong x a1 → Wrong y a2 → text ≡ b1 ++ x ∷ a1 → text ≡ b2 ++ y ∷ a2 → b1 ≡ b2
+same_wrong : (place : ℕ) (text b1 a1 b2 a2 : List ℕ) (x y : ℕ) (ts us : List Placed) → Spells place b1 ts → Spells place b2 us
+    → is_blank x ≡ false → is_blank y ≡ false → Wrong x a1 → Wrong y a2 → text ≡ b1 ++ x ∷ a1 → text ≡ b2 ++ y ∷ a2 → b1 ≡ b2
 same_wrong place text b1 a1 b2 a2 x y [] [] s z f g w v e d = (run_unique is_blank b1 b2 (x ∷ a1) (y ∷ a2) s z f g (sym e ∙ d)).0
 same_wrong place text b1 a1 b2 a2 x y [] (u ∷ us) s (cl, co, se, c, q) f g w v e d =
     let c' = extend place text u cl co se a2 y b2 v c d in
@@ -123,7 +119,9 @@ same_wrong place text b1 a1 b2 a2 x y (t ∷ ts) (u ∷ us) (bl, bo, re, h, r) (
 
 pub lexical_once : (text : List ℕ) (a b : ℕ) → IsLexicalFault text a → IsLexicalFault text b → a ≡ b
 lexical_once text a b f g =
-    let e : f.before ≡ g.before = same_wrong 0 text f.before f.after g.before g.after f.byte g.byte f.tokens g.tokens f.spelled g.spelled f.solid g.solid f.wrong g.wrong f.split g.split in
+    let e : f.before ≡ g.before =
+    same_wrong 0 text f.before f.after g.before g.after f.byte g.byte f.tokens g.tokens f.spelled g.spelled f.solid g.solid f.wrong g.wrong f.split
+    g.split in
     f.placed ∙ (ap length e ∙ sym g.placed)
 
 pub lexical_or_tokens : (text : List ℕ) (a : ℕ) (ts : List Placed) → IsLexicalFault text a → Spells 0 text ts → ⊥
@@ -161,20 +159,34 @@ ends_before test b (x ∷ xs) after ys e n = subst (EndsRun test) e n
 whole_before : (t : Token) (b : ℕ) (re after ys : List ℕ) → ys ≡ re ++ b ∷ after → IsWhole t ys → IsWhole t re
 whole_before (Number n) b re after ys e h = ends_before is_digit b re after ys e h
 whole_before (Word l) b re after ys e h = ends_before is_letter b re after ys e h
-whole_before (Name l) b re after ys e h = tt
-whole_before Comma b re after ys e h = tt
-whole_before Semicolon b re after ys e h = tt
+whole_before _ b re after ys e h = tt
 
 -- a token at the front, and what is behind it
-token_first : (place : ℕ) (text bl bo ys : List ℕ) (t : Token) → text ≡ bl ++ (bo ++ ys) → AllAre is_blank bl → IsSpelling t bo → IsWhole t ys → Lexed (place + length bl + length bo) ys → Lexed place text
-token_first place text bl bo ys t e a s w (inl (ts, z)) = inl (record { token = t; place = place + length bl } ∷ ts, (bl, bo, ys, record { split = e; blank = a; placed = refl; spelled = s; whole = w }, z))
+token_first : (place : ℕ) (text bl bo ys : List ℕ) (t : Token) → text ≡ bl ++ (bo ++ ys) → AllAre is_blank bl → IsSpelling t bo → IsWhole t ys
+    → Lexed (place + length bl + length bo) ys → Lexed place text
+token_first place text bl bo ys t e a s w (inl (ts, z)) =
+    inl (record { token = t; place = place + length bl } ∷ ts, (bl, bo, ys, record { split = e; blank = a; placed = refl; spelled = s; whole = w }, z))
 token_first place text bl bo ys t e a s w (inr st) = inr (record {
   before = bl ++ (bo ++ st.before);
   byte = st.byte;
   after = st.after;
   tokens = record { token = t; place = place + length bl } ∷ st.tokens;
-  split = e ∙ (ap (λ l. bl ++ (bo ++ l)) st.split ∙ (ap (λ l. bl ++ l) (sym (append_assoc bo st.before (st.byte ∷ st.after))) ∙ sym (append_assoc bl (bo ++ st.before) (st.byte ∷ st.after))));
-  spelled = (bl, bo, st.before, record { split = refl; blank = a; placed = refl; spelled = s; whole = whole_before t st.byte st.before st.after ys st.split w }, st.spelled);
+  split = e ∙ (ap (λ l. bl ++ (bo ++ l)) st.split ∙
+      (ap (λ l. bl ++ l) (sym (append_assoc bo st.before (st.byte ∷ st.after))) ∙ sym (append_assoc bl (bo ++ st.before) (st.byte ∷ st.after))));
+  spelled = (
+    bl,
+    bo,
+    st.before,
+    record {
+      split =
+          refl;
+      blank = a;
+      placed = refl;
+      spelled = s;
+      whole = whole_before t st.byte st.before st.after ys st.split w;
+    },
+    st.spelled,
+  );
   solid = st.solid;
   wrong = st.wrong;
 })
@@ -185,35 +197,11 @@ stop_here place text bl after b e a f w = inr (record { before = bl; byte = b; a
 shorter : (n : ℕ) (text bl bo ys : List ℕ) → length text ≤ suc n → text ≡ bl ++ (bo ++ ys) → 0 < length bo → length ys ≤ n
 shorter n text bl bo ys h e p = omega (arith, ap length e, length-append bl (bo ++ ys), length-append bo ys)
 
-Quoted : List ℕ → Type 0
-Quoted rest = (inner ys : List ℕ) × (rest ≡ inner ++ 34 ∷ ys) × AllAre is_no_quote inner
-
 plain_not : (b : ℕ) → is_no_quote b ≡ false → b ≡ 34
 plain_not b h = grind (arith, nat_tests)
 
 abbrev Rec : ℕ → Type 0
 Rec n = (place : ℕ) (ys : List ℕ) → length ys ≤ n → Lexed place ys
-
-from_digits : (n place : ℕ) (text bl rest : List ℕ) (b : ℕ) → length text ≤ suc n → text ≡ bl ++ b ∷ rest → AllAre is_blank bl → is_digit b ≡ true → Rec n → Run is_digit rest → Lexed place text
-from_digits n place text bl rest b h e a d rec (xs, ys, s, k, end) =
-    let e' : text ≡ bl ++ ((b ∷ xs) ++ ys) = e ∙ ap (λ l. bl ++ b ∷ l) s in
-    token_first place text bl (b ∷ xs) ys (Number (value_of (b ∷ xs))) e' a (omega arith, (d, k), refl) end (rec (place + length bl + length (b ∷ xs)) ys (shorter n text bl (b ∷ xs) ys h e' (omega arith)))
-
-from_letters : (n place : ℕ) (text bl rest : List ℕ) (b : ℕ) → length text ≤ suc n → text ≡ bl ++ b ∷ rest → AllAre is_blank bl → is_letter b ≡ true → Rec n → Run is_letter rest → Lexed place text
-from_letters n place text bl rest b h e a d rec (xs, ys, s, k, end) =
-    let e' : text ≡ bl ++ ((b ∷ xs) ++ ys) = e ∙ ap (λ l. bl ++ b ∷ l) s in
-    token_first place text bl (b ∷ xs) ys (Word (b ∷ xs)) e' a (omega arith, (d, k), refl) end (rec (place + length bl + length (b ∷ xs)) ys (shorter n text bl (b ∷ xs) ys h e' (omega arith)))
-
-from_quote : (n place : ℕ) (text bl rest : List ℕ) → length text ≤ suc n → text ≡ bl ++ 34 ∷ rest → AllAre is_blank bl → Rec n → Run is_no_quote rest → Lexed place text
-from_quote n place text bl rest h e a rec (xs, [], s, k, end) = stop_here place text bl rest 34 e a refl (inr (refl, subst (AllAre is_no_quote) (sym (append-nil xs) ∙ sym s) k))
-from_quote n place text bl rest h e a rec (xs, y ∷ ys, s, k, end) =
-    let q : y ≡ 34 = plain_not y end in
-    let e' : text ≡ bl ++ ((34 ∷ (xs ++ 34 ∷ [])) ++ ys) = e ∙ (ap (λ l. bl ++ 34 ∷ l) (s ∙ (ap (λ z. xs ++ z ∷ ys) q ∙ sym (append_assoc xs (34 ∷ []) ys)))) in
-    token_first place text bl (34 ∷ (xs ++ 34 ∷ [])) ys (Name xs) e' a (k, refl) tt (rec (place + length bl + length (34 ∷ (xs ++ 34 ∷ []))) ys (shorter n text bl (34 ∷ (xs ++ 34 ∷ [])) ys h e' (omega arith)))
-
-from_one : (n place : ℕ) (text bl rest : List ℕ) (b : ℕ) (t : Token) → length text ≤ suc n → text ≡ bl ++ b ∷ rest → AllAre is_blank bl → IsSpelling t (b ∷ []) → IsWhole t rest → Rec n → Lexed place text
-from_one n place text bl rest b t h e a s w rec =
-    token_first place text bl (b ∷ []) rest t e a s w (rec (place + length bl + length (b ∷ [])) rest (shorter n text bl (b ∷ []) rest h e (omega arith)))
 
 none_begins : (b : ℕ) → is_digit b ≡ false → is_letter b ≡ false → (b == 34) ≡ false → (b == 44) ≡ false → (b == 59) ≡ false → begins_token b ≡ false
 none_begins b d l q c s = grind (arith, nat_tests)
@@ -221,18 +209,38 @@ none_begins b d l q c s = grind (arith, nat_tests)
 eq_is : (b n : ℕ) → (b == n) ≡ true → b ≡ n
 eq_is b n h = grind (arith, nat_tests)
 
-from_byte : (n place : ℕ) (text bl rest : List ℕ) (b : ℕ) → length text ≤ suc n → text ≡ bl ++ b ∷ rest → AllAre is_blank bl → is_blank b ≡ false → Rec n
-    → (d l q c s : Bool) → is_digit b ≡ d → is_letter b ≡ l → (b == 34) ≡ q → (b == 44) ≡ c → (b == 59) ≡ s → Lexed place text
-from_byte n place text bl rest b h e a f rec true l q c s ed el eq ec es = from_digits n place text bl rest b h e a ed rec (run_of is_digit rest)
-from_byte n place text bl rest b h e a f rec false true q c s ed el eq ec es = from_letters n place text bl rest b h e a el rec (run_of is_letter rest)
-from_byte n place text bl rest b h e a f rec false false true c s ed el eq ec es = from_quote n place text bl rest h (e ∙ ap (λ z. bl ++ z ∷ rest) (eq_is b 34 eq)) a rec (run_of is_no_quote rest)
-from_byte n place text bl rest b h e a f rec false false false true s ed el eq ec es = from_one n place text bl rest b Comma h e a (ap (λ z. z ∷ []) (eq_is b 44 ec)) tt rec
-from_byte n place text bl rest b h e a f rec false false false false true ed el eq ec es = from_one n place text bl rest b Semicolon h e a (ap (λ z. z ∷ []) (eq_is b 59 es)) tt rec
-from_byte n place text bl rest b h e a f rec false false false false false ed el eq ec es = stop_here place text bl rest b e a f (inl (none_begins b ed el eq ec es))
+module _ (n place : ℕ) (text bl rest : List ℕ) (b : ℕ) (h : length text ≤ suc n) (e : text ≡ bl ++ b ∷ rest) (a : AllAre is_blank bl) (rec : Rec n) where
+  -- a token of the byte and some that follow
+  with_token : (t : Token) (xs ys : List ℕ) → rest ≡ xs ++ ys → IsSpelling t (b ∷ xs) → IsWhole t ys → Lexed place text
+  with_token t xs ys s k w =
+      let e' : text ≡ bl ++ ((b ∷ xs) ++ ys) = e ∙ ap (λ l. bl ++ b ∷ l) s in
+      let later = rec (place + length bl + length (b ∷ xs)) ys (shorter n text bl (b ∷ xs) ys h e' (omega arith)) in
+      token_first place text bl (b ∷ xs) ys t e' a k w later
+
+  from_digits : is_digit b ≡ true → Run is_digit rest → Lexed place text
+  from_digits d (xs, ys, s, k, end) = with_token (Number (value_of (b ∷ xs))) xs ys s (omega arith, (d, k), refl) end
+
+  from_letters : is_letter b ≡ true → Run is_letter rest → Lexed place text
+  from_letters d (xs, ys, s, k, end) = with_token (Word (b ∷ xs)) xs ys s (omega arith, (d, k), refl) end
+
+  from_quote : b ≡ 34 → Run is_no_quote rest → Lexed place text
+  from_quote q (xs, [], s, k, end) = stop_here place text bl rest b e a (rw q refl) (inr (q, subst (AllAre is_no_quote) (sym (append-nil xs) ∙ sym s) k))
+  from_quote q (xs, y ∷ ys, s, k, end) =
+      let s' : rest ≡ (xs ++ 34 ∷ []) ++ ys = s ∙ (ap (λ z. xs ++ z ∷ ys) (plain_not y end) ∙ sym (append_assoc xs (34 ∷ []) ys)) in
+      with_token (Name xs) (xs ++ 34 ∷ []) ys s' (k, ap (λ z. z ∷ (xs ++ 34 ∷ [])) q) tt
+
+  from_byte : is_blank b ≡ false → (d l q c s : Bool) → is_digit b ≡ d → is_letter b ≡ l → (b == 34) ≡ q → (b == 44) ≡ c → (b == 59) ≡ s → Lexed place text
+  from_byte f true l q c s ed el eq ec es = from_digits ed (run_of is_digit rest)
+  from_byte f false true q c s ed el eq ec es = from_letters el (run_of is_letter rest)
+  from_byte f false false true c s ed el eq ec es = from_quote (eq_is b 34 eq) (run_of is_no_quote rest)
+  from_byte f false false false true s ed el eq ec es = with_token Comma [] rest refl (ap (λ z. z ∷ []) (eq_is b 44 ec)) tt
+  from_byte f false false false false true ed el eq ec es = with_token Semicolon [] rest refl (ap (λ z. z ∷ []) (eq_is b 59 es)) tt
+  from_byte f false false false false false ed el eq ec es = stop_here place text bl rest b e a f (inl (none_begins b ed el eq ec es))
 
 from_blanks : (n place : ℕ) (text : List ℕ) → length text ≤ suc n → Rec n → Run is_blank text → Lexed place text
 from_blanks n place text h rec (xs, [], s, k, end) = inl ([], subst (AllAre is_blank) (sym (append-nil xs) ∙ sym s) k)
-from_blanks n place text h rec (xs, b ∷ ys, s, k, end) = from_byte n place text xs ys b h s k end rec (is_digit b) (is_letter b) (b == 34) (b == 44) (b == 59) refl refl refl refl refl
+from_blanks n place text h rec (xs, b ∷ ys, s, k, end) =
+    from_byte n place text xs ys b h s k rec end (is_digit b) (is_letter b) (b == 34) (b == 44) (b == 59) refl refl refl refl refl
 
 lexed : (n place : ℕ) (text : List ℕ) → length text ≤ n → Lexed place text
 lexed zero place [] h = inl ([], tt)
@@ -243,5 +251,18 @@ lexed (suc n) place text h = from_blanks n place text h (lexed n) (run_of is_bla
 pub tokens_or_lexical : TokensOrLexical
 tokens_or_lexical text = elim (lexed (length text) 0 text (omega arith)) [
   | inl z ↦ inl z
-  | inr st ↦ inr (length st.before, record { before = st.before; byte = st.byte; after = st.after; tokens = st.tokens; split = st.split; placed = refl; spelled = st.spelled; solid = st.solid; wrong = st.wrong })
+  | inr st ↦ inr (
+    length st.before,
+    record {
+      before = st.before;
+      byte = st.byte;
+      after = st.after;
+      tokens = st.tokens;
+      split = st.split;
+      placed = refl;
+      spelled = st.spelled;
+      solid = st.solid;
+      wrong = st.wrong;
+    },
+  )
 ]

@@ -1,9 +1,10 @@
 -- Which identifiers a game has, and which vertex each of them names.
-use Rattle.std.proofs.Common.{◌≡◌, ◌≢◌, ℕ, zero, suc, ◌+◌, ◌<◌, Bool, true, false, not, List, [], ◌∷◌, ◌++◌, length, map, get_or, refl, sym, ◌∙◌, ap, subst, arith}
+use Rattle.std.proofs.Common.{◌≡◌, ◌≢◌, ℕ, zero, suc, ◌+◌, ◌<◌, Bool, true, false, not, List, [], ◌∷◌, ◌++◌, length, map, get_or, refl, sym, ◌∙◌, ap}
+use Rattle.std.proofs.Common.{subst, arith}
 use Rattle.std.specs.Prelude.{◌==◌, if◌then◌else◌, nat_lt, count_by, find, flat_map, Option, Some, None, IfSome, option_map}
 use Rattle.std.specs.Option.{option_or}
 use Rattle.std.specs.List.{Contains, list_any}
-use Rattle.std.proofs.lemmas.Bool.{eqb-true, eq-eqb, false_from_ne_true}
+use Rattle.std.proofs.lemmas.Bool.{eqb-true, eq-eqb, false_from_ne_true, true_from_ne_false}
 use Rattle.std.proofs.lemmas.Grind.{flat_map-append}
 use Rattle.std.proofs.lemmas.List.{get_or-map, length-map}
 use Rattle.std.proofs.lemmas.List.Folds.{find-append, fold-map, list_any_at}
@@ -19,7 +20,8 @@ pub some_at : {X : Type 0} (p : X → Bool) (xs : List X) (d : X) → list_any p
 some_at p [] d e = absurd (cc e)
 some_at {X = X} p (x ∷ xs) d e = go (p x) refl (some_at p xs d)
   where
-    go : (b : Bool) → p x ≡ b → (list_any p xs ≡ true → (i : ℕ) × (i < length xs) × (p (get_or xs i d) ≡ true)) → (i : ℕ) × (i < length (x ∷ xs)) × (p (get_or (x ∷ xs) i d) ≡ true)
+    go : (b : Bool) → p x ≡ b → (list_any p xs ≡ true → (i : ℕ) × (i < length xs) × (p (get_or xs i d) ≡ true))
+        → (i : ℕ) × (i < length (x ∷ xs)) × (p (get_or (x ∷ xs) i d) ≡ true)
     go true f h = (zero, omega arith, f)
     go false f h = let m : list_any p xs ≡ true = rw f at e in let q = h m in (suc q.0, omega (arith, q.1), q.2)
 
@@ -50,43 +52,40 @@ stranger-append g xs ys =
     let f : WrittenSolutionLine → List ℕ = λ l. l.id ∷ option_list l.choice in
     ap (find (λ i. not (is_id g i))) (flat_map-append f xs ys) ∙ find-append (λ i. not (is_id g i)) (flat_map f xs) (flat_map f ys)
 
+none_parts : (a b : Option ℕ) → option_or a b ≡ None → (a ≡ None) × (b ≡ None)
+none_parts None b h = (refl, h)
+none_parts (Some y) b h = absurd (cc h)
+
 -- where no line names a stranger, none of them does
-home_at : (g : Graph) (lines : List WrittenSolutionLine) (k : ℕ) (d : WrittenSolutionLine) → first_stranger g lines ≡ None → k < length lines → first_stranger g (get_or lines k d ∷ []) ≡ None
+home_at : (g : Graph) (lines : List WrittenSolutionLine) (k : ℕ) (d : WrittenSolutionLine) → first_stranger g lines ≡ None → k < length lines
+    → first_stranger g (get_or lines k d ∷ []) ≡ None
 home_at g [] k d e l = absurd (omega arith)
-home_at g (x ∷ xs) zero d e l = first (first_stranger g (x ∷ [])) (first_stranger g xs) (sym (stranger-append g (x ∷ []) xs) ∙ e)
-  where
-    first : (a b : Option ℕ) → option_or a b ≡ None → a ≡ None
-    first None b h = refl
-    first (Some y) b h = absurd (cc h)
-home_at g (x ∷ xs) (suc k) d e l = home_at g xs k d (rest (first_stranger g (x ∷ [])) (first_stranger g xs) (sym (stranger-append g (x ∷ []) xs) ∙ e)) (omega arith)
-  where
-    rest : (a b : Option ℕ) → option_or a b ≡ None → b ≡ None
-    rest None b h = h
-    rest (Some y) b h = absurd (cc h)
+home_at g (x ∷ xs) zero d e l = (none_parts (first_stranger g (x ∷ [])) (first_stranger g xs) (sym (stranger-append g (x ∷ []) xs) ∙ e)).0
+home_at g (x ∷ xs) (suc k) d e l =
+    let h = none_parts (first_stranger g (x ∷ [])) (first_stranger g xs) (sym (stranger-append g (x ∷ []) xs) ∙ e) in
+    home_at g xs k d h.1 (omega arith)
 
 -- the identifiers of a line that names no stranger
 home_id : (g : Graph) (id winner : ℕ) (c : Option ℕ) → first_stranger g (record { id = id; winner = winner; choice = c } ∷ []) ≡ None → is_id g id ≡ true
-home_id g id winner c e = go (is_id g id) refl
-  where
-    go : (b : Bool) → is_id g id ≡ b → is_id g id ≡ true
-    go true f = f
-    go false f = let k : Some id ≡ None = rw f at e in absurd (cc k)
+home_id g id winner c e = true_from_ne_false (is_id g id) (λ f. let k : Some id ≡ None = rw f at e in cc k)
 
-home_choice : (g : Graph) (id winner : ℕ) (c : Option ℕ) → first_stranger g (record { id = id; winner = winner; choice = c } ∷ []) ≡ None → IfSome c (λ i. is_id g i ≡ true)
+home_choice : (g : Graph) (id winner : ℕ) (c : Option ℕ) → first_stranger g (record { id = id; winner = winner; choice = c } ∷ []) ≡ None
+    → IfSome c (λ i. is_id g i ≡ true)
 home_choice g id winner None e = tt
-home_choice g id winner (Some i) e = go (is_id g i) refl
-  where
-    go : (b : Bool) → is_id g i ≡ b → is_id g i ≡ true
-    go true f = f
-    go false f = let t = home_id g id winner (Some i) e in let k : Some i ≡ None = rw (t, f) at e in absurd (cc k)
+home_choice g id winner (Some i) e =
+    let t = home_id g id winner (Some i) e in
+    true_from_ne_false (is_id g i) (λ f. let k : Some i ≡ None = rw (t, f) at e in cc k)
 
-pub line_home : (g : Graph) (lines : List WrittenSolutionLine) (l : WrittenSolutionLine) → first_stranger g lines ≡ None → Contains lines l → first_stranger g (l ∷ []) ≡ None
+pub line_home : (g : Graph) (lines : List WrittenSolutionLine) (l : WrittenSolutionLine) → first_stranger g lines ≡ None → Contains lines l
+    → first_stranger g (l ∷ []) ≡ None
 line_home g lines l e (k, h, is) = subst (λ (x : WrittenSolutionLine). first_stranger g (x ∷ []) ≡ None) is (home_at g lines k l e h)
 
-pub line_named : (g : Graph) (lines : List WrittenSolutionLine) (l : WrittenSolutionLine) → first_stranger g lines ≡ None → Contains lines l → (v : ℕ) × IsNamed g l.id v
+pub line_named : (g : Graph) (lines : List WrittenSolutionLine) (l : WrittenSolutionLine) → first_stranger g lines ≡ None → Contains lines l
+    → (v : ℕ) × IsNamed g l.id v
 line_named g lines l e m = named_at g l.id (home_id g l.id l.winner l.choice (line_home g lines l e m))
 
-pub choice_below : (g : Graph) (l : WrittenSolutionLine) → IsGame g → first_stranger g (l ∷ []) ≡ None → IfSome (option_map (λ i. number_in g i) l.choice) (λ w. w < length g)
+pub choice_below : (g : Graph) (l : WrittenSolutionLine) → IsGame g → first_stranger g (l ∷ []) ≡ None
+    → IfSome (option_map (λ i. number_in g i) l.choice) (λ w. w < length g)
 choice_below g l i e = go l.choice (home_choice g l.id l.winner l.choice e)
   where
     go : (c : Option ℕ) → IfSome c (λ k. is_id g k ≡ true) → IfSome (option_map (λ k. number_in g k) c) (λ w. w < length g)

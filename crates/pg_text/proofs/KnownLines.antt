@@ -10,15 +10,17 @@ use Rattle.pg_text.specs.declared.fault.SolutionTextFault.TheVariants as fault
 use Rattle.pg_text.specs.declared.solution.Known.{Known}
 use Rattle.pg_text.specs.SolutionText.{WrittenSolutionLine}
 use Rattle.pg_text.specs.Solution.{SolutionRows}
-use Rattle.pg_text.specs.SolutionLines.{first_stranger, first_twice, has_line}
+use Rattle.pg_text.specs.SolutionLines.{has_line}
 use Rattle.pg_text.specs.private.SolutionTable.{HoldsLines, IsLookUpFaultOf, IsRowFaultOf, IsKnownRowFaultOf}
 use Rattle.pg_text.specs.Known.{KnownRows, AreKnownLinesOf}
 use Rattle.pg_text.proofs.SolutionTable.{has_line_at}
 
-module _ (g : Graph) (lines : List WrittenSolutionLine) (rows : SolutionRows) (said : List Bool) (twice : Option ℕ) (h : HoldsLines g lines rows said twice) where
+module _ {g : Graph} {lines : List WrittenSolutionLine} {rows : SolutionRows} {said : List Bool} {twice : Option ℕ}
+    (h : HoldsLines g lines rows said twice) where
   -- the table's row of each vertex that has a line, and nothing of the others
   pub say_known : twice ≡ None → (known : KnownRows) → length known ≡ length g
-      → ((u : ℕ) → u < length known → get_or known u None ≡ (if members said u then Some (get_or rows u (Even, None)) else None)) → AreKnownLinesOf g lines known
+      → ((u : ℕ) → u < length known → get_or known u None ≡ (if members said u then Some (get_or rows u (Even, None)) else None))
+      → AreKnownLinesOf g lines known
   say_known none known size each = record {
     no_stranger = h.no_stranger;
     once = sym h.first ∙ none;
@@ -34,31 +36,19 @@ module _ (g : Graph) (lines : List WrittenSolutionLine) (rows : SolutionRows) (s
         slice_get-get_or known v None d ∙ ap (λ r. Some r) (each v d ∙ rw t refl);
   }
 
-  pub is_twice : (id : ℕ) → twice ≡ Some id → (first_stranger g lines ≡ None) × (first_twice lines ≡ Some id)
-  is_twice id e = (h.no_stranger, sym h.first ∙ e)
-
 -- a fault of looking up is one of rows
 pub row_fault : (g : Graph) (lines : List WrittenSolutionLine) (e : SolutionTextFault) → IsLookUpFaultOf g lines e → IsRowFaultOf g lines e
 row_fault g lines (fault.Stranger id) h = h
 row_fault g lines fault.Memory h = tt
-row_fault g lines (fault.Twice id) h = absurd h
-row_fault g lines (fault.Missing id) h = absurd h
-row_fault g lines (fault.Lexical at) h = absurd h
-row_fault g lines (fault.Syntax at) h = absurd h
-row_fault g lines (fault.Number at) h = absurd h
-row_fault g lines (fault.Winner at) h = absurd h
+row_fault g lines _ h = absurd h
 
 pub known_fault : (g : Graph) (lines : List WrittenSolutionLine) (e : SolutionTextFault) → IsLookUpFaultOf g lines e → IsKnownRowFaultOf g lines e
 known_fault g lines (fault.Stranger id) h = h
 known_fault g lines fault.Memory h = tt
-known_fault g lines (fault.Twice id) h = absurd h
-known_fault g lines (fault.Missing id) h = absurd h
-known_fault g lines (fault.Lexical at) h = absurd h
-known_fault g lines (fault.Syntax at) h = absurd h
-known_fault g lines (fault.Number at) h = absurd h
-known_fault g lines (fault.Winner at) h = absurd h
+known_fault g lines _ h = absurd h
 
-pub known_size : (g : Graph) (lines : List WrittenSolutionLine) (r : Result Known SolutionTextFault) (Q : SolutionTextFault → Type 0) → MatchResult r (λ k. AreKnownLinesOf g lines k.rows) Q → IfOk r (λ k. length k.rows ≡ length g)
+pub known_size : (g : Graph) (lines : List WrittenSolutionLine) (r : Result Known SolutionTextFault) (Q : SolutionTextFault → Type 0)
+    → MatchResult r (λ k. AreKnownLinesOf g lines k.rows) Q → IfOk r (λ k. length k.rows ≡ length g)
 known_size g lines (Ok k) Q a = a.size
 known_size g lines (Err e) Q a = tt
 

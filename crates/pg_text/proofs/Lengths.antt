@@ -1,5 +1,5 @@
 -- How long written texts are, within the limits of games.
-use Rattle.std.proofs.Common.{ℕ, ◌+◌, ◌-◌, ◌*◌, ◌^◌, ◌<◌, ◌≤◌, List, [], ◌∷◌, ◌++◌, length, map, get_or, arith, lit<, length-append, decimal}
+use Rattle.std.proofs.Common.{ℕ, ◌+◌, ◌*◌, ◌^◌, ◌<◌, ◌≤◌, List, [], ◌∷◌, ◌++◌, length, map, arith, lit<, length-append, decimal}
 use Rattle.std.specs.Prelude.{Option, Some, None, IfSome, codes, flat_map, sum_by}
 use Rattle.std.specs.List.{AllByRecursion, join_with_byte}
 use Rattle.std.proofs.Math.Nat.{mul-le-mul_right}
@@ -9,13 +9,13 @@ use Rattle.std.proofs.lemmas.List.Sums.{sum_by-cons}
 use Rattle.pg_game.specs.declared.player.Player.{Player}
 use Rattle.pg_game.specs.declared.player.Player.TheVariants.{Even, Odd}
 use Rattle.pg_game.specs.Player.{digit_of}
-use Rattle.pg_game.specs.Graph.{Graph, Vertex, IsGame, id_of, no_vertex, successors_of}
+use Rattle.pg_game.specs.Graph.{Graph, Vertex, IsGame, id_of, no_vertex}
 use Rattle.pg_game.specs.Specification.{max_number, max_vertices}
 use Rattle.pg_game.specs.Limits.{IsWithinLimits}
 use Rattle.pg_text.specs.Solution.{SolutionRows, AreSolutionRows}
 use Rattle.pg_text.specs.Written.{greatest_id, written_vertex, written_game, written_choice, written_rows, written_solution, written_winners}
 use Rattle.pg_text.specs.Lengths.{most_digits, greatest_header, greatest_game_text, greatest_winners_text, greatest_solution_text}
-use Rattle.pg_text.proofs.WrittenSpells.{all_from_places, all_imply}
+use Rattle.pg_text.proofs.WrittenSpells.{HasNumbers, have_numbers, last_id, all_from_places, all_imply}
 
 -- a number within the limit
 short_number : (n : ℕ) → n ≤ max_number → length (decimal n) ≤ most_digits
@@ -26,44 +26,43 @@ short_digit Even = length-decimal-le_wide 1 0 (omega arith) (omega arith) (omega
 short_digit Odd = length-decimal-le_wide 1 1 (omega arith) (omega arith) (omega arith)
 
 -- numbers separated by commas, and one comma more
-short_list : (f : ℕ → List ℕ) (w : ℕ) (ws : List ℕ) → AllByRecursion (λ u. length (f u) ≤ most_digits) (w ∷ ws) → length (join_with_byte 44 (map f (w ∷ ws))) + 1 ≤ length (w ∷ ws) * (most_digits + 1)
-short_list f w [] a = omega (arith, a.0)
-short_list f w (u ∷ us) a =
-    let e = short_list f u us a.1 in
-    let k = length-append (f w) (44 ∷ join_with_byte 44 (map f (u ∷ us))) in
-    omega (arith, a.0)
+short_list : (g : Graph) (w : ℕ) (ws : List ℕ) → AllByRecursion (λ n. n ≤ max_number) (map (λ u. id_of g u) (w ∷ ws))
+    → length (join_with_byte 44 (map (λ u. decimal (id_of g u)) (w ∷ ws))) + 1 ≤ length (w ∷ ws) * (most_digits + 1)
+short_list g w [] a = omega (arith, short_number (id_of g w) a.0)
+short_list g w (u ∷ us) a =
+    let e = short_list g u us a.1 in
+    let k = length-append (decimal (id_of g w)) (44 ∷ join_with_byte 44 (map (λ v. decimal (id_of g v)) (u ∷ us))) in
+    omega (arith, short_number (id_of g w) a.0)
 
--- what makes a vertex's line short
-record IsShort (g : Graph) (x : Vertex) : Type 0 where
-  pub id : x.id ≤ max_number
-  pub priority : x.priority ≤ max_number
-  pub some : 0 < length x.successors
-  pub successors : AllByRecursion (λ w. length (decimal (id_of g w)) ≤ most_digits) x.successors
+-- the line of a vertex with these successors
+short_line : (g : Graph) (x : Vertex) (ws : List ℕ) → x.id ≤ max_number → x.priority ≤ max_number → 0 < length (map (λ w. id_of g w) ws)
+    → AllByRecursion (λ n. n ≤ max_number) (map (λ w. id_of g w) ws)
+    → length (decimal x.id ++ (32 ∷ decimal x.priority
+    ++ (32 ∷ decimal (digit_of x.owner) ++ (32 ∷ join_with_byte 44 (map (λ w. decimal (id_of g w)) ws) ++ codes ";\n"))))
+    ≤ 25 + length ws * (most_digits + 1)
+short_line g x [] i p h a = absurd (omega arith)
+short_line g x (w ∷ ws) i p h a =
+    let list = short_list g w ws a in
+    let listed : List ℕ = 32 ∷ join_with_byte 44 (map (λ u. decimal (id_of g u)) (w ∷ ws)) ++ codes ";\n" in
+    let d = length-append (32 ∷ join_with_byte 44 (map (λ u. decimal (id_of g u)) (w ∷ ws))) (codes ";\n") in
+    let c = length-append (32 ∷ decimal (digit_of x.owner)) listed in
+    let b = length-append (32 ∷ decimal x.priority) (32 ∷ decimal (digit_of x.owner) ++ listed) in
+    let a = length-append (decimal x.id) (32 ∷ decimal x.priority ++ (32 ∷ decimal (digit_of x.owner) ++ listed)) in
+    omega (arith, short_number x.id i, short_number x.priority p, short_digit x.owner)
 
-short_line : (g : Graph) (x : Vertex) → IsShort g x → length (written_vertex g x) ≤ 25 + length x.successors * (most_digits + 1)
-short_line g x s = go x.successors s.some s.successors
-  where
-    go : (ws : List ℕ) → 0 < length ws → AllByRecursion (λ w. length (decimal (id_of g w)) ≤ most_digits) ws → length (decimal x.id ++ (32 ∷ decimal x.priority ++ (32 ∷ decimal (digit_of x.owner) ++ (32 ∷ join_with_byte 44 (map (λ w. decimal (id_of g w)) ws) ++ codes ";\n")))) ≤ 25 + length ws * (most_digits + 1)
-    go [] h a = absurd (omega arith)
-    go (w ∷ ws) h a =
-        let list = short_list (λ u. decimal (id_of g u)) w ws a in
-        let listed : List ℕ = join_with_byte 44 (map (λ u. decimal (id_of g u)) (w ∷ ws)) in
-        let d = length-append (32 ∷ listed) (codes ";\n") in
-        let c = length-append (32 ∷ decimal (digit_of x.owner)) (32 ∷ listed ++ codes ";\n") in
-        let b = length-append (32 ∷ decimal x.priority) (32 ∷ decimal (digit_of x.owner) ++ (32 ∷ listed ++ codes ";\n")) in
-        let a = length-append (decimal x.id) (32 ∷ decimal x.priority ++ (32 ∷ decimal (digit_of x.owner) ++ (32 ∷ listed ++ codes ";\n"))) in
-        omega (arith, short_number x.id s.id, short_number x.priority s.priority, short_digit x.owner)
-
-short_lines : (g : Graph) (xs : List Vertex) → AllByRecursion (IsShort g) xs → length (flat_map (written_vertex g) xs) ≤ length xs * 25 + sum_by (λ x. length x.successors) xs * (most_digits + 1)
+short_lines : (g : Graph) (xs : List Vertex) → AllByRecursion (λ x. HasNumbers (λ n. n ≤ max_number) g x) xs
+    → length (flat_map (written_vertex g) xs) ≤ length xs * 25 + sum_by (λ x. length x.successors) xs * (most_digits + 1)
 short_lines g [] a = omega arith
 short_lines g (x ∷ xs) a =
-    let one = short_line g x a.0 in
+    let one : length (written_vertex g x) ≤ 25 + length x.successors * (most_digits + 1) =
+    short_line g x x.successors a.0.id a.0.priority a.0.some a.0.successors in
     let more = short_lines g xs a.1 in
     let s = sum_by-cons (λ (y : Vertex). length y.successors) x xs in
     let l = length-append (written_vertex g x) (flat_map (written_vertex g) xs) in
     rw flat_map-cons (rw l (rw s (omega arith)))
 
-short_header : (word : List ℕ) (n : ℕ) (rest : List ℕ) → n ≤ max_number → length (word ++ (decimal n ++ (codes ";\n" ++ rest))) ≤ greatest_header word + length rest
+short_header : (word : List ℕ) (n : ℕ) (rest : List ℕ) → n ≤ max_number
+    → length (word ++ (decimal n ++ (codes ";\n" ++ rest))) ≤ greatest_header word + length rest
 short_header word n rest l =
     let c = length-append (codes ";\n") rest in
     let b = length-append (decimal n) (codes ";\n" ++ rest) in
@@ -72,27 +71,20 @@ short_header word n rest l =
 
 module _ (g : Graph) (i : IsGame g) (w : IsWithinLimits g) where
   short_last : greatest_id g ≤ max_number
-  short_last = let h = i.nonempty in w.ids (length g - 1) (omega arith)
-
-  short_vertices : AllByRecursion (IsShort g) g
-  short_vertices = all_from_places (IsShort g) no_vertex g (λ v l.
-      let s = i.successors v l in record {
-        id = w.ids v l;
-        priority = w.numbers v l;
-        some = s.nonempty;
-        successors = all_from_places (λ u. length (decimal (id_of g u)) ≤ most_digits) 0 (successors_of g v) (λ k h. short_number (id_of g (get_or (successors_of g v) k 0)) (w.ids (get_or (successors_of g v) k 0) (s.below k h)));
-      })
+  short_last = last_id (λ n. n ≤ max_number) g i w.ids
 
   pub short_game : length (written_game g) ≤ greatest_game_text
   short_game =
       let h = short_header (codes "parity ") (greatest_id g) (flat_map (written_vertex g) g) short_last in
-      let l = short_lines g g short_vertices in
+      let l = short_lines g g (have_numbers (λ n. n ≤ max_number) g i w.ids w.numbers) in
       let n = w.vertices in
       let e = w.edges in
       omega arith
 
   -- rows whose choices are at most so long
-  short_rows : (long : ℕ) (xs : List Vertex) (rows : SolutionRows) → AllByRecursion (λ x. x.id ≤ max_number) xs → AllByRecursion (λ r. length (written_choice g r.1) ≤ long) rows → length (written_rows g xs rows) ≤ length xs * (most_digits + 4 + long)
+  short_rows : (long : ℕ) (xs : List Vertex) (rows : SolutionRows) → AllByRecursion (λ x. x.id ≤ max_number) xs
+      → AllByRecursion (λ r. length (written_choice g r.1) ≤ long) rows
+      → length (written_rows g xs rows) ≤ length xs * (most_digits + 4 + long)
   short_rows long [] rows a b = omega arith
   short_rows long (x ∷ xs) [] a b = omega arith
   short_rows long (x ∷ xs) (r ∷ rows) a b =
@@ -104,24 +96,23 @@ module _ (g : Graph) (i : IsGame g) (w : IsWithinLimits g) where
       let f = length-append (decimal x.id) (32 ∷ decimal (digit_of r.0) ++ (written_choice g r.1 ++ (codes ";\n" ++ rest))) in
       omega (arith, short_number x.id a.0, short_digit r.0, b.0)
 
-  short_ids : AllByRecursion (λ x. x.id ≤ max_number) g
-  short_ids = all_imply (IsShort g) (λ x. x.id ≤ max_number) g (λ x s. s.id) short_vertices
-
   short_choice : (c : Option ℕ) → IfSome c (λ v. v < length g) → length (written_choice g c) ≤ 1 + most_digits
   short_choice None h = omega arith
   short_choice (Some v) h = let k = short_number (id_of g v) (w.ids v h) in omega arith
 
   -- a text of rows whose choices are at most so long
-  short_text : (long : ℕ) (rows : SolutionRows) → AllByRecursion (λ r. length (written_choice g r.1) ≤ long) rows → length (written_solution g rows) ≤ greatest_header (codes "paritysol ") + max_vertices * (most_digits + 4 + long)
+  short_text : (long : ℕ) (rows : SolutionRows) → AllByRecursion (λ r. length (written_choice g r.1) ≤ long) rows
+      → length (written_solution g rows) ≤ greatest_header (codes "paritysol ") + max_vertices * (most_digits + 4 + long)
   short_text long rows a =
       let h = short_header (codes "paritysol ") (greatest_id g) (written_rows g g rows) short_last in
-      let l = short_rows long g rows short_ids a in
+      let l = short_rows long g rows (all_from_places (λ x. x.id ≤ max_number) no_vertex g w.ids) a in
       let m = mul-le-mul_right {m = length g} {n = max_vertices} (most_digits + 4 + long) w.vertices in
       omega arith
 
   pub short_solution : (rows : SolutionRows) → AreSolutionRows g rows → length (written_solution g rows) ≤ greatest_solution_text
   short_solution rows are =
-      let t = short_text (1 + most_digits) rows (all_imply (λ r. IfSome r.1 (λ v. v < length g)) (λ r. length (written_choice g r.1) ≤ 1 + most_digits) rows (λ r h. short_choice r.1 h) are.choices) in
+      let t = short_text (1 + most_digits) rows (all_imply (λ r. IfSome r.1 (λ v. v < length g))
+      (λ r. length (written_choice g r.1) ≤ 1 + most_digits) rows (λ r h. short_choice r.1 h) are.choices) in
       omega arith
 
   pub short_winners : (rows : SolutionRows) → length (written_winners g rows) ≤ greatest_winners_text
@@ -129,6 +120,7 @@ module _ (g : Graph) (i : IsGame g) (w : IsWithinLimits g) where
       let t = short_text 0 (map (λ r. (r.0, None)) rows) (no_choices rows) in
       omega arith
     where
-      no_choices : (rows : SolutionRows) → AllByRecursion (λ (r : Player × Option ℕ). length (written_choice g r.1) ≤ 0) (map (λ (r : Player × Option ℕ). (r.0, None)) rows)
+      no_choices : (rows : SolutionRows) → AllByRecursion (λ (r : Player × Option ℕ). length (written_choice g r.1) ≤ 0)
+          (map (λ (r : Player × Option ℕ). (r.0, None)) rows)
       no_choices [] = tt
       no_choices (r ∷ rows) = (omega arith, no_choices rows)

@@ -1,10 +1,10 @@
 pub mod Spelling
 pub mod Verdict
-pub mod Rows
-pub mod Computed
+pub mod Examples
 pub mod Faults
 pub mod Once
 pub mod Parse
+pub mod Stages
 pub mod OneFault
 pub mod OneSolutionFault
 pub mod NoFault
@@ -17,11 +17,9 @@ pub mod SolutionKeeps
 pub mod Written
 pub mod GameRun
 pub mod GameKeeps
-pub mod GameAdvance
-pub mod SolutionAdvance
+pub mod Advance
 pub mod WrittenSpells
 pub mod ReadGame
-pub mod Wide
 pub mod Identifiers
 pub mod SolutionTable
 pub mod WrittenReads

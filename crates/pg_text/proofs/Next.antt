@@ -1,18 +1,20 @@
 -- The token at a place, from runs of bytes.
-use Rattle.std.proofs.Common.{◌≡◌, ℕ, ◌+◌, ◌-◌, ◌<◌, ◌≤◌, zero, suc, Bool, true, false, List, [], ◌∷◌, ◌++◌, length, drop, take, get_or, refl, sym, ◌∙◌, ap, subst, arith, inr, ◌⊎◌, append_assoc, length-append, length-drop}
+use Rattle.std.proofs.Common.{◌≡◌, ℕ, ◌+◌, ◌-◌, ◌<◌, ◌≤◌, zero, suc, Bool, true, false, List, [], ◌∷◌, ◌++◌, length, drop, take, get_or, refl, sym}
+use Rattle.std.proofs.Common.{◌∙◌, ap, subst, arith, inr, ◌⊎◌, append_assoc, length-append, length-drop}
 use Rattle.memchr.specs.Find.{IsFirstByte, is_byte}
-use Rattle.std.specs.Prelude.{◌==◌, ◌≢◌, Some, None}
-use Rattle.std.proofs.lemmas.Bool.{eqb-true, ne_eqb}
-use Rattle.std.proofs.lemmas.List.{drop_more, drop-drop, take-append-drop, length-take-le, take_at, drop_at}
+use Rattle.std.specs.Prelude.{not, ◌==◌, ◌≢◌, Some, None}
+use Rattle.std.proofs.lemmas.Bool.{eqb-true, ne_eqb, false_from_ne_true}
+use Rattle.std.proofs.lemmas.List.{take_all, drop_more, drop-drop, take-append-drop, length-take-le, take_at, drop_at}
 use Rattle.pg_text.specs.declared.lexer.Kind.{Kind}
 use Rattle.pg_text.specs.declared.lexer.Kind.TheVariants as kind
 use Rattle.pg_text.specs.Token.{Token, Number, Word, Name, Comma, Semicolon, IsSpelling, IsWhole}
-use Rattle.pg_text.specs.Bytes.{is_blank, is_digit, is_letter, is_no_quote, is_quote, begins_token, AllAre, EndsRun, value_of}
+use Rattle.pg_text.specs.Bytes.{is_blank, is_digit, is_letter, is_no_quote, is_quote, begins_token, AllAre, EndsRun}
 use Rattle.pg_text.specs.private.Piece.{IsRun, IsToken, IsNoToken, IsPieceOf}
 use Rattle.pg_text.proofs.Runs.{all-append}
 
 -- a run whose first byte passes has a byte
-run_nonempty : (test : ℕ → Bool) (text : List ℕ) (from to : ℕ) (run : List ℕ) → IsRun test text from to run → from < length text → test (get_or text from 0) ≡ true → EndsRun test (drop to text) → 0 < length run
+run_nonempty : (test : ℕ → Bool) (text : List ℕ) (from to : ℕ) (run : List ℕ) → IsRun test text from to run → from < length text
+    → test (get_or text from 0) ≡ true → EndsRun test (drop to text) → 0 < length run
 run_nonempty test text from to [] r h p e = absurd (
     let s : to ≡ from = let f = r.end in omega arith in
     let g : EndsRun test (get_or text from 0 ∷ drop (from + 1) text) = subst (EndsRun test) (ap (λ n. drop n text) s ∙ drop_more text from 0 h) e in
@@ -21,7 +23,8 @@ run_nonempty test text from to (b ∷ run) r h p e = omega arith
 
 module _ (text : List ℕ) (from : ℕ) (inside : from < length text) where
   -- a body that begins here is a token
-  from_body : (t : Token) (to : ℕ) (body : List ℕ) → drop from text ≡ body ++ drop to text → to ≡ from + length body → IsSpelling t body → IsWhole t (drop to text) → IsToken text from from to t
+  from_body : (t : Token) (to : ℕ) (body : List ℕ) → drop from text ≡ body ++ drop to text → to ≡ from + length body → IsSpelling t body
+      → IsWhole t (drop to text) → IsToken text from from to t
   from_body t to body e n s w = record {
     blanks = [];
     body = body;
@@ -29,10 +32,8 @@ module _ (text : List ℕ) (from : ℕ) (inside : from < length text) where
     end = omega arith;
   }
 
-  pub number_at : (to : ℕ) (run : List ℕ) → IsRun is_digit text from to run → is_digit (get_or text from 0) ≡ true → EndsRun is_digit (drop to text) → IsToken text from from to (Number (value_of run))
-  number_at to run r p e = from_body (Number (value_of run)) to run r.split r.end (run_nonempty is_digit text from to run r inside p e, r.passes, refl) e
-
-  pub word_at : (to : ℕ) (run : List ℕ) → IsRun is_letter text from to run → is_letter (get_or text from 0) ≡ true → EndsRun is_letter (drop to text) → IsToken text from from to (Word run)
+  pub word_at : (to : ℕ) (run : List ℕ) → IsRun is_letter text from to run → is_letter (get_or text from 0) ≡ true → EndsRun is_letter (drop to text)
+      → IsToken text from from to (Word run)
   word_at to run r p e = from_body (Word run) to run r.split r.end (run_nonempty is_letter text from to run r inside p e, r.passes, refl) e
 
   pub comma_at : get_or text from 0 ≡ 44 → IsToken text from from (from + 1) Comma
@@ -41,7 +42,8 @@ module _ (text : List ℕ) (from : ℕ) (inside : from < length text) where
   pub semicolon_at : get_or text from 0 ≡ 59 → IsToken text from from (from + 1) Semicolon
   semicolon_at e = from_body Semicolon (from + 1) (59 ∷ []) (drop_more text from 0 inside ∙ ap (λ b. b ∷ drop (from + 1) text) e) (omega arith) refl tt
 
-  pub nothing_at : is_blank (get_or text from 0) ≡ false → ((begins_token (get_or text from 0) ≡ false) ⊎ ((get_or text from 0 ≡ 34) × AllAre is_no_quote (drop (from + 1) text))) → IsNoToken text from from
+  pub nothing_at : is_blank (get_or text from 0) ≡ false
+      → ((begins_token (get_or text from 0) ≡ false) ⊎ ((get_or text from 0 ≡ 34) × AllAre is_no_quote (drop (from + 1) text))) → IsNoToken text from from
   nothing_at s w = record {
     blanks = [];
     byte = get_or text from 0;
@@ -53,7 +55,8 @@ module _ (text : List ℕ) (from : ℕ) (inside : from < length text) where
     wrong = w;
   }
 
-  pub name_at : (inner : List ℕ) (to : ℕ) → get_or text from 0 ≡ 34 → AllAre is_no_quote inner → drop (from + 1) text ≡ inner ++ 34 ∷ drop to text → to ≡ from + length inner + 2 → IsToken text from from to (Name inner)
+  pub name_at : (inner : List ℕ) (to : ℕ) → get_or text from 0 ≡ 34 → AllAre is_no_quote inner → drop (from + 1) text ≡ inner ++ 34 ∷ drop to text
+      → to ≡ from + length inner + 2 → IsToken text from from to (Name inner)
   name_at inner to q p e n =
       from_body (Name inner) to (34 ∷ (inner ++ 34 ∷ []))
       (drop_more text from 0 inside ∙ (ap (λ b. b ∷ drop (from + 1) text) q ∙ ap (λ xs. 34 ∷ xs) (e ∙ sym (append_assoc inner (34 ∷ []) (drop to text)))))
@@ -64,30 +67,25 @@ pub plain_front : (hay : List ℕ) (k : ℕ) → ((j : ℕ) → j < k → is_quo
 plain_front [] zero none = tt
 plain_front [] (suc k) none = tt
 plain_front (b ∷ hay) zero none = tt
-plain_front (b ∷ hay) (suc k) none = (here (is_quote b) refl, plain_front hay k (λ j h. none (suc j) (omega arith)))
-  where
-    here : (t : Bool) → is_quote b ≡ t → is_no_quote b ≡ true
-    here true e = absurd (none 0 (omega arith) e)
-    here false e = rw e refl
+plain_front (b ∷ hay) (suc k) none =
+    (ap not (false_from_ne_true (is_quote b) (λ e. none 0 (omega arith) e)), plain_front hay k (λ j h. none (suc j) (omega arith)))
 
 pub plain_all : (hay : List ℕ) → ((j : ℕ) → j < length hay → is_quote (get_or hay j 0) ≡ true → ⊥) → AllAre is_no_quote hay
-plain_all [] none = tt
-plain_all (b ∷ hay) none = (here (is_quote b) refl, plain_all hay (λ j h. none (suc j) (omega arith)))
-  where
-    here : (t : Bool) → is_quote b ≡ t → is_no_quote b ≡ true
-    here true e = absurd (none 0 (omega arith) e)
-    here false e = rw e refl
+plain_all hay none = subst (AllAre is_no_quote) (take_all (length hay) hay (omega arith)) (plain_front hay (length hay) none)
 
 -- the bytes up to the first quote
-pub quote_split : (text : List ℕ) (start k : ℕ) → k < length (drop start text) → is_quote (get_or (drop start text) k 0) ≡ true → drop start text ≡ take k (drop start text) ++ 34 ∷ drop (start + k + 1) text
+pub quote_split : (text : List ℕ) (start k : ℕ) → k < length (drop start text) → is_quote (get_or (drop start text) k 0) ≡ true
+    → drop start text ≡ take k (drop start text) ++ 34 ∷ drop (start + k + 1) text
 quote_split text start k h q =
     let hay = drop start text in
     let e : drop k hay ≡ 34 ∷ drop (start + k + 1) text =
-    drop_more hay k 0 h ∙ (ap (λ b. b ∷ drop (k + 1) hay) (eqb-true (get_or hay k 0) 34 q) ∙ ap (λ xs. 34 ∷ xs) (drop-drop (k + 1) start text ∙ ap (λ n. drop n text) (omega arith))) in
+    drop_more hay k 0 h ∙ (ap (λ b. b ∷ drop (k + 1) hay) (eqb-true (get_or hay k 0) 34 q)
+    ∙ ap (λ xs. 34 ∷ xs) (drop-drop (k + 1) start text ∙ ap (λ n. drop n text) (omega arith))) in
     sym (take-append-drop k hay) ∙ ap (λ xs. take k hay ++ xs) e
 
 -- a token behind blanks
-pub token_past : (text : List ℕ) (at from end to : ℕ) (run : List ℕ) (t : Token) → IsRun is_blank text at from run → IsToken text from end to t → IsToken text at end to t
+pub token_past : (text : List ℕ) (at from end to : ℕ) (run : List ℕ) (t : Token) → IsRun is_blank text at from run → IsToken text from end to t
+    → IsToken text at end to t
 token_past text at from end to run t r i = record {
   blanks = run ++ i.blanks;
   body = i.body;
@@ -101,7 +99,8 @@ token_past text at from end to run t r i = record {
   end = let f = length-append run i.blanks in let p = i.end in let q = r.end in omega arith;
 }
 
-pub piece_past : (k : Kind) (text : List ℕ) (at from end to : ℕ) (run : List ℕ) → IsRun is_blank text at from run → IsPieceOf k text from end to → IsPieceOf k text at end to
+pub piece_past : (k : Kind) (text : List ℕ) (at from end to : ℕ) (run : List ℕ) → IsRun is_blank text at from run → IsPieceOf k text from end to
+    → IsPieceOf k text at end to
 piece_past (kind.Number value) text at from end to run r (n, e, i) = (n, e, token_past text at from end to run (Number n) r i)
 piece_past kind.Word text at from end to run r (n, i) = (n, token_past text at from end to run (Word n) r i)
 piece_past kind.Name text at from end to run r (n, i) = (n, token_past text at from end to run (Name n) r i)
@@ -124,8 +123,7 @@ body_nonempty : (t : Token) (body : List ℕ) → IsSpelling t body → 0 < leng
 body_nonempty (Number n) body s = s.0
 body_nonempty (Word n) body s = s.0
 body_nonempty (Name n) body s = let e = ap length s.1 in omega arith
-body_nonempty Comma body s = let e = ap length s in omega arith
-body_nonempty Semicolon body s = let e = ap length s in omega arith
+body_nonempty _ body s = let e = ap length s in omega arith
 
 -- it ends behind the place, and within the text
 pub token_ahead : (text : List ℕ) (at from to : ℕ) (t : Token) → IsToken text at from to t → (at < to) × (at ≤ length text → to ≤ length text)
@@ -143,7 +141,8 @@ token_ahead text at from to t i =
     )
 
 -- a name, from the first quote behind its first
-pub name_found : (text hay : List ℕ) (from more : ℕ) → from < length text → get_or text from 0 ≡ 34 → hay ≡ drop (from + 1) text → IsFirstByte (is_byte 34) hay (Some more) → (x : List ℕ) × IsToken text from from (from + more + 2) (Name x)
+pub name_found : (text hay : List ℕ) (from more : ℕ) → from < length text → get_or text from 0 ≡ 34 → hay ≡ drop (from + 1) text
+    → IsFirstByte (is_byte 34) hay (Some more) → (x : List ℕ) × IsToken text from from (from + more + 2) (Name x)
 name_found text hay from more h q e f =
     let g : IsFirstByte (is_byte 34) (drop (from + 1) text) (Some more) = subst (λ xs. IsFirstByte (is_byte 34) xs (Some more)) e f in
     let l : more < length (drop (from + 1) text) = g.0.high in
@@ -155,7 +154,8 @@ name_found text hay from more h q e f =
           (omega arith),
     )
 
-pub name_lost : (text hay : List ℕ) (from : ℕ) → from < length text → get_or text from 0 ≡ 34 → hay ≡ drop (from + 1) text → IsFirstByte (is_byte 34) hay None → IsNoToken text from from
+pub name_lost : (text hay : List ℕ) (from : ℕ) → from < length text → get_or text from 0 ≡ 34 → hay ≡ drop (from + 1) text
+    → IsFirstByte (is_byte 34) hay None → IsNoToken text from from
 name_lost text hay from h q e f =
     let g : IsFirstByte (is_byte 34) (drop (from + 1) text) None = subst (λ xs. IsFirstByte (is_byte 34) xs None) e f in
     nothing_at text from h (rw q refl) (inr (q, plain_all (drop (from + 1) text) (λ j k t. g j (omega arith) k t)))
@@ -172,6 +172,7 @@ begins_none b d l q c s =
 pub word_bytes : (text : List ℕ) (at from to : ℕ) (letters : List ℕ) → IsToken text at from to (Word letters) → take (to - from) (drop from text) ≡ letters
 word_bytes text at from to letters i =
     let e : drop from text ≡ i.body ++ drop to text =
-    ap (λ n. drop n text) i.begins.placed ∙ (sym (drop-drop (length i.blanks) at text) ∙ (ap (drop (length i.blanks)) i.begins.split ∙ drop_at i.blanks (i.body ++ drop to text) (length i.blanks) refl)) in
+    ap (λ n. drop n text) i.begins.placed ∙ (sym (drop-drop (length i.blanks) at text)
+    ∙ (ap (drop (length i.blanks)) i.begins.split ∙ drop_at i.blanks (i.body ++ drop to text) (length i.blanks) refl)) in
     let n : to - from ≡ length i.body = let p = i.begins.placed in let q = i.end in omega arith in
     ap (take (to - from)) e ∙ (take_at i.body (drop to text) (to - from) (sym n) ∙ sym i.begins.spelled.2)

@@ -11,7 +11,8 @@ use Rattle.pg_text.specs.declared.lexer.Piece.{Piece}
 use Rattle.pg_text.specs.private.Reach.{ReadsTo, IsBadFrom}
 use Rattle.std.proofs.lemmas.List.{append-nil}
 
-pub reaches_more : (text : List ℕ) (at mid from to : ℕ) (ts : List Placed) (t : Token) → ReadsTo text at ts mid → IsToken text mid from to t → ReadsTo text at (ts ++ placed t from ∷ []) to
+pub reaches_more : (text : List ℕ) (at mid from to : ℕ) (ts : List Placed) (t : Token) → ReadsTo text at ts mid → IsToken text mid from to t
+    → ReadsTo text at (ts ++ placed t from ∷ []) to
 reaches_more text at mid from to [] t r i = (to, subst (λ m. IsToken text m from to t) r i, refl)
 reaches_more text at mid from to (u ∷ ts) t (m, j, r) i = (m, j, reaches_more text m mid from to ts t r i)
 
@@ -20,7 +21,8 @@ reaches_all text at mid to [] us r s = subst (λ m. ReadsTo text m us to) r s
 reaches_all text at mid to (t ∷ ts) us (m, i, r) s = (m, i, reaches_all text m mid to ts us r s)
 
 -- what spells the rest makes a spelling of all
-pub reaches_spells : (text : List ℕ) (at to : ℕ) (ts us : List Placed) → ReadsTo text at ts to → Spells to (drop to text) us → Spells at (drop at text) (ts ++ us)
+pub reaches_spells : (text : List ℕ) (at to : ℕ) (ts us : List Placed) → ReadsTo text at ts to → Spells to (drop to text) us
+    → Spells at (drop at text) (ts ++ us)
 reaches_spells text at to [] us r s = subst (λ m. Spells m (drop m text) us) r s
 reaches_spells text at to (t ∷ ts) us (m, i, r) s =
     (i.blanks, i.body, drop m text, i.begins, subst (λ n. Spells n (drop m text) (ts ++ us)) i.end (reaches_spells text m to ts us r s))
@@ -33,22 +35,24 @@ ends_sooner test (x ∷ xs) ys e = e
 whole_sooner : (t : Token) (xs ys : List ℕ) → IsWhole t (xs ++ ys) → IsWhole t xs
 whole_sooner (Number n) xs ys w = ends_sooner is_digit xs ys w
 whole_sooner (Word n) xs ys w = ends_sooner is_letter xs ys w
-whole_sooner (Name n) xs ys w = tt
-whole_sooner Comma xs ys w = tt
-whole_sooner Semicolon xs ys w = tt
+whole_sooner _ xs ys w = tt
 
 -- tokens up to a place spell the text up to there, and up to the end of blanks that follow
 abbrev Cut : List ℕ → ℕ → List Placed → List ℕ → ℕ → Type 0
 Cut text at ts back end = (front : List ℕ) × (drop at text ≡ front ++ back) × Spells at front ts × (at + length front ≡ end)
 
-pub reaches_cut : (text : List ℕ) (at stop : ℕ) (ts : List Placed) (blanks back : List ℕ) → ReadsTo text at ts stop → drop stop text ≡ blanks ++ back → AllAre is_blank blanks → Cut text at ts back (stop + length blanks)
+pub reaches_cut : (text : List ℕ) (at stop : ℕ) (ts : List Placed) (blanks back : List ℕ) → ReadsTo text at ts stop → drop stop text ≡ blanks ++ back
+    → AllAre is_blank blanks → Cut text at ts back (stop + length blanks)
 reaches_cut text at stop [] blanks back r e b = (blanks, subst (λ m. drop m text ≡ blanks ++ back) r e, b, omega arith)
 reaches_cut text at stop (t ∷ ts) blanks back (m, i, r) e b =
     let rest = reaches_cut text m stop ts blanks back r e b in
     let front : List ℕ = i.blanks ++ (i.body ++ rest.0) in
-    let split : drop at text ≡ front ++ back = i.begins.split ∙ (ap (λ xs. i.blanks ++ (i.body ++ xs)) rest.1 ∙ (ap (λ xs. i.blanks ++ xs) (sym (append_assoc i.body rest.0 back)) ∙ sym (append_assoc i.blanks (i.body ++ rest.0) back))) in
+    let split : drop at text ≡ front ++ back =
+    i.begins.split ∙ (ap (λ xs. i.blanks ++ (i.body ++ xs)) rest.1
+    ∙ (ap (λ xs. i.blanks ++ xs) (sym (append_assoc i.body rest.0 back)) ∙ sym (append_assoc i.blanks (i.body ++ rest.0) back))) in
     let whole : IsWhole t.token rest.0 = whole_sooner t.token rest.0 back (subst (IsWhole t.token) rest.1 i.begins.whole) in
-    let begins : Begins at front t i.blanks i.body rest.0 = record { split = refl; blank = i.begins.blank; placed = i.begins.placed; spelled = i.begins.spelled; whole = whole } in (
+    let begins : Begins at front t i.blanks i.body rest.0 =
+    record { split = refl; blank = i.begins.blank; placed = i.begins.placed; spelled = i.begins.spelled; whole = whole } in (
       front,
       split,
       (i.blanks, i.body, rest.0, begins, subst (λ n. Spells n rest.0 ts) i.end rest.2),
@@ -74,7 +78,8 @@ pub later_fault : (text : List ℕ) (ts : List Placed) (at bad : ℕ) → ReadsT
 later_fault text ts at bad r (us, stop, s, n) = lexical_fault text (ts ++ us) stop bad (reaches_all text 0 at stop ts us r s) n
 
 -- a piece that is neither the end nor a fault is a token
-pub piece_token : (k : Kind) (text : List ℕ) (at from to : ℕ) → IsPieceOf k text at from to → (k ≡ kind.Bad → ⊥) → (k ≡ kind.End → ⊥) → (t : Token) × IsToken text at from to t
+pub piece_token : (k : Kind) (text : List ℕ) (at from to : ℕ) → IsPieceOf k text at from to → (k ≡ kind.Bad → ⊥) → (k ≡ kind.End → ⊥)
+    → (t : Token) × IsToken text at from to t
 piece_token (kind.Number value) text at from to (n, e, i) b d = (Number n, i)
 piece_token kind.Word text at from to (n, i) b d = (Word n, i)
 piece_token kind.Name text at from to (n, i) b d = (Name n, i)

@@ -25,7 +25,8 @@ none_passes : (p : ℕ → Bool) (xs : List ℕ) (k : ℕ) → find p xs ≡ Non
 none_passes p [] k e l = absurd (omega arith)
 none_passes p (x ∷ xs) k e l = go (p x) refl k l (none_passes p xs)
   where
-    go : (b : Bool) → p x ≡ b → (k : ℕ) → k < length (x ∷ xs) → ((k : ℕ) → find p xs ≡ None → k < length xs → p (get_or xs k 0) ≡ false) → p (get_or (x ∷ xs) k 0) ≡ false
+    go : (b : Bool) → p x ≡ b → (k : ℕ) → k < length (x ∷ xs) → ((k : ℕ) → find p xs ≡ None → k < length xs → p (get_or xs k 0) ≡ false)
+        → p (get_or (x ∷ xs) k 0) ≡ false
     go true f k l h = let i : Some x ≡ None = rw f at e in absurd (cc i)
     go false f zero l h = f
     go false f (suc k) l h = let i : find p xs ≡ None = rw f at e in h k i (omega arith)
@@ -35,7 +36,8 @@ module _ (g : Graph) (lines : List WrittenSolutionLine) (rows : SolutionRows) (i
   has_line_of v l =
       let n : length (map (λ x. x.id) g) ≡ length g = length-map g (λ x. x.id) in
       let e : get_or (map (λ x. x.id) g) v 0 ≡ id_of g v = get_or-map (λ x. x.id) g v no_vertex 0 l in
-      let f : not (has_line lines (get_or (map (λ x. x.id) g) v 0)) ≡ false = none_passes (λ id. not (has_line lines id)) (map (λ x. x.id) g) v are.complete (omega arith) in
+      let f : not (has_line lines (get_or (map (λ x. x.id) g) v 0)) ≡ false =
+      none_passes (λ id. not (has_line lines id)) (map (λ x. x.id) g) v are.complete (omega arith) in
       not-false (has_line lines (id_of g v)) (subst (λ id. not (has_line lines id) ≡ false) e f)
 
   pub are_rows : AreSolutionRows g rows
@@ -48,11 +50,14 @@ module _ (g : Graph) (lines : List WrittenSolutionLine) (rows : SolutionRows) (i
         let x : WrittenSolutionLine = get_or lines k no_line in
         let q : x.id ≡ id_of g v = eqb-true x.id (id_of g v) e in
         let m : Contains lines x = Contains-get_or lines k no_line lk in
-        let at : slice_get rows v ≡ Some (row_of_line g x) = subst (λ u. slice_get rows u ≡ Some (row_of_line g x)) (number_at g x.id v i (record { vertex = h; id_is = sym q })) (are.says.each x m) in
-        subst (λ (r : Player × Option ℕ). IfSome r.1 (λ w. w < length g)) (sym (get_or_from_slice_get rows v (row_of_line g x) (Even, None) at)) (choice_below g x i (line_home g lines x are.no_stranger m)));
+        let at : slice_get rows v ≡ Some (row_of_line g x) =
+        subst (λ u. slice_get rows u ≡ Some (row_of_line g x)) (number_at g x.id v i (record { vertex = h; id_is = sym q })) (are.says.each x m) in
+        subst (λ (r : Player × Option ℕ). IfSome r.1 (λ w. w < length g)) (sym (get_or_from_slice_get rows v (row_of_line g x) (Even, None) at))
+        (choice_below g x i (line_home g lines x are.no_stranger m)));
   }
 
 -- where the rows of lines are answered
-pub fit_answer : (g : Graph) (lines : List WrittenSolutionLine) (r : Result Solution SolutionTextFault) (Q : SolutionTextFault → Type 0) → IsGame g → MatchResult r (λ s. AreLinesOf g lines s.rows) Q → IfOk r (λ s. AreSolutionRows g s.rows)
+pub fit_answer : (g : Graph) (lines : List WrittenSolutionLine) (r : Result Solution SolutionTextFault) (Q : SolutionTextFault → Type 0) → IsGame g
+    → MatchResult r (λ s. AreLinesOf g lines s.rows) Q → IfOk r (λ s. AreSolutionRows g s.rows)
 fit_answer g lines (Ok s) Q i a = are_rows g lines s.rows i a
 fit_answer g lines (Err e) Q i a = tt

@@ -1,10 +1,9 @@
 -- Runs of bytes that pass a test.
-use Rattle.std.proofs.Common.{◌≡◌, ℕ, ◌+◌, ◌*◌, ◌-◌, ◌^◌, ◌<◌, ◌≤◌, Bool, true, false, List, [], ◌∷◌, ◌++◌, length, drop, get_or, refl, sym, ◌∙◌, ap, arith, add-one, inl, inr, append_assoc, length-append}
-use Rattle.std.specs.Prelude.{fold}
-use Rattle.std.proofs.lemmas.Bool.{cases_lt}
+use Rattle.std.proofs.Common.{◌≡◌, ℕ, ◌+◌, ◌*◌, ◌-◌, ◌^◌, ◌<◌, ◌≤◌, Bool, true, false, List, [], ◌∷◌, ◌++◌, length, drop, get_or, refl, sym, ◌∙◌, ap}
+use Rattle.std.proofs.Common.{arith, add-one, inl, inr, append_assoc, length-append}
+use Rattle.std.specs.Prelude.{fold, ◌&&◌, nat_le}
+use Rattle.std.proofs.lemmas.Bool.{cases_lt, leb-true}
 use Rattle.std.proofs.lemmas.List.{drop_more}
-use Rattle.std.specs.Prelude.{◌&&◌, nat_le}
-use Rattle.std.proofs.lemmas.Bool.{leb-true}
 use Rattle.std.proofs.Math.Nat.{pow-succ'}
 use Rattle.pg_text.specs.Bytes.{AllAre, is_digit, value_of}
 use Rattle.pg_text.specs.private.Piece.{IsRun}
@@ -13,7 +12,8 @@ pub all-append : (test : ℕ → Bool) (xs ys : List ℕ) → AllAre test xs →
 all-append test [] ys a b = b
 all-append test (x ∷ xs) ys a b = (a.0, all-append test xs ys a.1 b)
 
-pub run_more : (test : ℕ → Bool) (text : List ℕ) (from to : ℕ) (run : List ℕ) → IsRun test text from to run → to < length text → test (get_or text to 0) ≡ true → IsRun test text from (to + 1) (run ++ get_or text to 0 ∷ [])
+pub run_more : (test : ℕ → Bool) (text : List ℕ) (from to : ℕ) (run : List ℕ) → IsRun test text from to run → to < length text
+    → test (get_or text to 0) ≡ true → IsRun test text from (to + 1) (run ++ get_or text to 0 ∷ [])
 run_more test text from to run r h p = record {
   split = r.split ∙ (ap (λ xs. run ++ xs) (drop_more text to 0 h) ∙ sym (append_assoc run (get_or text to 0 ∷ []) (drop (to + 1) text)));
   passes = all-append test run (get_or text to 0 ∷ []) r.passes (p, tt);
@@ -34,29 +34,23 @@ pub record Counts (value n : ℕ) : Type 0 where
   pub bound : value < 2 ^ 40
 
 -- one more digit, where the value so far is within the limit
-pub counts_more : (value d n : ℕ) (ds : List ℕ) → Counts value (value_of ds) → value ≤ 2147483647 → d < 256 → n ≡ d - 48 → Counts (value * 10 + n) (value_of (ds ++ d ∷ []))
+pub counts_more : (value d n : ℕ) (ds : List ℕ) → Counts value (value_of ds) → value ≤ 2147483647 → d < 256 → n ≡ d - 48
+    → Counts (value * 10 + n) (value_of (ds ++ d ∷ []))
 counts_more value d n ds c h b e =
     let same : value ≡ value_of ds = elim (cases_lt 2147483647 (value_of ds)) [ inr l ↦ c.small l | inl l ↦ absurd (let f = c.large l in omega arith) ] in
     let p = value-push ds d in
-    record {
-      small = λ s. omega arith;
-      large = λ s. omega arith;
-      bound = omega arith;
-    }
+    record { small = λ s. omega arith; large = λ s. omega arith; bound = omega arith }
 
 -- and where it is above
 pub counts_same : (value d : ℕ) (ds : List ℕ) → Counts value (value_of ds) → 2147483647 < value → Counts value (value_of (ds ++ d ∷ []))
 counts_same value d ds c h =
     let above : 2147483647 < value_of ds = elim (cases_lt 2147483647 (value_of ds)) [ inr l ↦ absurd (let f = c.small l in omega arith) | inl l ↦ l ] in
     let p = value-push ds d in
-    record {
-      small = λ s. absurd (omega arith);
-      large = λ s. h;
-      bound = c.bound;
-    }
+    record { small = λ s. absurd (omega arith); large = λ s. h; bound = c.bound }
 
 -- digits of a number with so few of them
-pub digits_more : (value k d n : ℕ) (ds : List ℕ) → value < 10 ^ k → value ≡ value_of ds → is_digit d ≡ true → n ≡ d - 48 → (value * 10 + n < 10 ^ (k + 1)) × (value * 10 + n ≡ value_of (ds ++ d ∷ []))
+pub digits_more : (value k d n : ℕ) (ds : List ℕ) → value < 10 ^ k → value ≡ value_of ds → is_digit d ≡ true → n ≡ d - 48
+    → (value * 10 + n < 10 ^ (k + 1)) × (value * 10 + n ≡ value_of (ds ++ d ∷ []))
 digits_more value k d n ds b e t m =
     let low : d ≤ 57 = leb-true d 57 (and_right (nat_le 48 d) (nat_le d 57) t) in
     let p : 10 ^ (k + 1) ≡ 10 * 10 ^ k = ap (λ i. 10 ^ i) (add-one k) ∙ pow-succ' 10 k in

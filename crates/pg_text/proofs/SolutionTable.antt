@@ -1,5 +1,6 @@
 -- The table of a game's vertices, one line of a solution text after another.
-use Rattle.std.proofs.Common.{◌≡◌, ℕ, zero, suc, ◌+◌, ◌<◌, Bool, true, false, not, ◌||◌, inl, inr, List, [], ◌∷◌, ◌++◌, length, map, take, drop, get_or, set, refl, sym, ◌∙◌, ap, subst, arith, length-set, get_or-set_same, get_or-set_other}
+use Rattle.std.proofs.Common.{◌≡◌, ℕ, zero, suc, ◌+◌, ◌<◌, Bool, true, false, not, ◌||◌, inl, inr, List, [], ◌∷◌, ◌++◌, length, map, take, drop}
+use Rattle.std.proofs.Common.{get_or, set, refl, sym, ◌∙◌, ap, subst, arith, length-set, get_or-set_same, get_or-set_other}
 use Rattle.std.specs.Prelude.{◌==◌, if◌then◌else◌, Option, Some, None, find, slice_get, slice_index_or}
 use Rattle.std.specs.Option.{option_or}
 use Rattle.std.specs.List.{Contains, list_any}
@@ -31,7 +32,8 @@ abbrev among : List ℕ → ℕ → Bool
 among ns n = list_any (λ m. m == n) ns
 
 -- one more number at the end of a list: what is repeated first
-repeated-push : (earlier ns : List ℕ) (n : ℕ) → first_repeated earlier (ns ++ n ∷ []) ≡ option_or (first_repeated earlier ns) (if among earlier n || among ns n then Some n else None)
+repeated-push : (earlier ns : List ℕ) (n : ℕ)
+    → first_repeated earlier (ns ++ n ∷ []) ≡ option_or (first_repeated earlier ns) (if among earlier n || among ns n then Some n else None)
 repeated-push earlier [] n = rw or-false refl
 repeated-push earlier (x ∷ ns) n = go (among earlier x) refl (repeated-push (x ∷ earlier) ns n)
   where
@@ -41,16 +43,21 @@ repeated-push earlier (x ∷ ns) n = go (among earlier x) refl (repeated-push (x
     turn false true c = refl
     turn false false c = refl
 
-    go : (b : Bool) → among earlier x ≡ b → (first_repeated (x ∷ earlier) (ns ++ n ∷ []) ≡ option_or (first_repeated (x ∷ earlier) ns) (if among (x ∷ earlier) n || among ns n then Some n else None)) → first_repeated earlier (x ∷ ns ++ n ∷ []) ≡ option_or (first_repeated earlier (x ∷ ns)) (if among earlier n || among (x ∷ ns) n then Some n else None)
+    go : (b : Bool) → among earlier x ≡ b
+        → (first_repeated (x ∷ earlier) (ns ++ n ∷ []) ≡ option_or (first_repeated (x ∷ earlier) ns)
+        (if among (x ∷ earlier) n || among ns n then Some n else None))
+        → first_repeated earlier (x ∷ ns ++ n ∷ []) ≡ option_or (first_repeated earlier (x ∷ ns)) (if among earlier n || among (x ∷ ns) n then Some n else None)
     go true e h = rw e refl
-    go false e h = rw e (h ∙ ap (λ (b : Bool). option_or (first_repeated (x ∷ earlier) ns) (if b then Some n else None)) (turn (x == n) (among earlier n) (among ns n)))
+    go false e h =
+        rw e (h ∙ ap (λ (b : Bool). option_or (first_repeated (x ∷ earlier) ns) (if b then Some n else None)) (turn (x == n) (among earlier n) (among ns n)))
 
 any-ids : (lines : List WrittenSolutionLine) (n : ℕ) → among (map (λ l. l.id) lines) n ≡ has_line lines n
 any-ids [] n = refl
 any-ids (l ∷ lines) n = ap (λ b. (l.id == n) || b) (any-ids lines n)
 
 -- one more line: which identifier has two first
-pub twice-push : (lines : List WrittenSolutionLine) (l : WrittenSolutionLine) → first_twice (lines ++ l ∷ []) ≡ option_or (first_twice lines) (if has_line lines l.id then Some l.id else None)
+pub twice-push : (lines : List WrittenSolutionLine) (l : WrittenSolutionLine)
+    → first_twice (lines ++ l ∷ []) ≡ option_or (first_twice lines) (if has_line lines l.id then Some l.id else None)
 twice-push lines l =
     let f : WrittenSolutionLine → ℕ = λ x. x.id in
     ap (first_repeated []) (map-append f lines (l ∷ []))
@@ -62,9 +69,11 @@ has_line-push lines l id = list_any-append (λ x. x.id == id) lines (l ∷ []) �
 
 -- a line is found by its identifier
 pub has_line_at : (lines : List WrittenSolutionLine) (l : WrittenSolutionLine) → Contains lines l → has_line lines l.id ≡ true
-has_line_at lines l (k, h, e) = list_any_at (λ x. x.id == l.id) lines k l h (eq-eqb (slice_index_or lines k l).id l.id (ap (λ (x : WrittenSolutionLine). x.id) e))
+has_line_at lines l (k, h, e) =
+    list_any_at (λ x. x.id == l.id) lines k l h (eq-eqb (slice_index_or lines k l).id l.id (ap (λ (x : WrittenSolutionLine). x.id) e))
 
-module _ (g : Graph) (lines : List WrittenSolutionLine) (rows : SolutionRows) (said : List Bool) (twice : Option ℕ) (h : HoldsLines g lines rows said twice) (l : WrittenSolutionLine) (v : ℕ) (n : IsNamed g l.id v) (home : first_stranger g (l ∷ []) ≡ None) where
+module _ {g : Graph} {lines : List WrittenSolutionLine} {rows : SolutionRows} {said : List Bool} {twice : Option ℕ} (h : HoldsLines g lines rows said twice)
+    (l : WrittenSolutionLine) (v : ℕ) (n : IsNamed g l.id v) (home : first_stranger g (l ∷ []) ≡ None) where
   still_none : first_stranger g (lines ++ l ∷ []) ≡ None
   still_none = stranger-append g lines (l ∷ []) ∙ rw (h.no_stranger, home) refl
 
@@ -75,6 +84,10 @@ module _ (g : Graph) (lines : List WrittenSolutionLine) (rows : SolutionRows) (s
   mark_is : members said v ≡ has_line lines l.id
   mark_is = h.marked v n.vertex ∙ ap (has_line lines) n.id_is
 
+  -- which identifier has two lines, by whether this one's has an earlier one
+  abbrev more : Bool → Option ℕ
+  more b = option_or (first_twice lines) (if b then Some l.id else None)
+
   -- a line of a vertex that has one already
   pub holds_again : members said v ≡ true → HoldsLines g (lines ++ l ∷ []) rows said (option_or twice (Some l.id))
   holds_again t =
@@ -84,7 +97,7 @@ module _ (g : Graph) (lines : List WrittenSolutionLine) (rows : SolutionRows) (s
         size = h.size;
         marks = h.marks;
         no_stranger = still_none;
-        first = ap (λ (o : Option ℕ). option_or o (Some l.id)) h.first ∙ sym (twice-push lines l ∙ ap (λ (b : Bool). option_or (first_twice lines) (if b then Some l.id else None)) some);
+        first = ap (λ (o : Option ℕ). option_or o (Some l.id)) h.first ∙ sym (twice-push lines l ∙ ap more some);
         marked = λ u lu. h.marked u lu ∙ (already u lu some (l.id == id_of g u) refl ∙ sym (has_line-push lines l (id_of g u)));
         says = λ e. absurd (some_first twice e);
       }
@@ -93,7 +106,8 @@ module _ (g : Graph) (lines : List WrittenSolutionLine) (rows : SolutionRows) (s
       some_first None e = cc e
       some_first (Some x) e = cc e
 
-      already : (u : ℕ) → u < length g → has_line lines l.id ≡ true → (b : Bool) → (l.id == id_of g u) ≡ b → has_line lines (id_of g u) ≡ (has_line lines (id_of g u) || (l.id == id_of g u))
+      already : (u : ℕ) → u < length g → has_line lines l.id ≡ true → (b : Bool) → (l.id == id_of g u) ≡ b
+          → has_line lines (id_of g u) ≡ (has_line lines (id_of g u) || (l.id == id_of g u))
       already u lu some true e = let q : l.id ≡ id_of g u = eqb-true l.id (id_of g u) e in rw (e, ← q, some) refl
       already u lu some false e = rw (e, or-false) refl
 
@@ -108,10 +122,12 @@ module _ (g : Graph) (lines : List WrittenSolutionLine) (rows : SolutionRows) (s
         size = length-set rows v (row_of_line g l) ∙ h.size;
         marks = length-set said v true ∙ h.marks;
         no_stranger = still_none;
-        first = h.first ∙ sym (twice-push lines l ∙ ap (λ (b : Bool). option_or (first_twice lines) (if b then Some l.id else None)) none ∙ or_nothing (first_twice lines));
+        first = h.first ∙ sym (twice-push lines l ∙ ap more none ∙ or_nothing (first_twice lines));
         marked = λ u lu. members-set said v lv u ∙ (marks_are u lu (l.id == id_of g u) refl ∙ sym (has_line-push lines l (id_of g u)));
         says = λ e u lu k m is. elim (Contains-push_cases lines l k m) [
-          | inl m ↦ get_or-set_other rows v u (row_of_line g l) (Even, None) (λ q. (let a : has_line lines l.id ≡ true = subst (λ i. has_line lines i ≡ true) (is ∙ (ap (id_of g) q ∙ n.id_is)) (has_line_at lines k m) in cc (a, none))) ∙ h.says e u lu k m is
+          | inl m ↦ get_or-set_other rows v u (row_of_line g l) (Even, None) (λ q.
+              let a : has_line lines l.id ≡ true = subst (λ i. has_line lines i ≡ true) (is ∙ (ap (id_of g) q ∙ n.id_is)) (has_line_at lines k m) in
+              cc (a, none)) ∙ h.says e u lu k m is
           | inr q ↦ (let w : u ≡ v = same_vertex u lu (sym is ∙ ap (λ (x : WrittenSolutionLine). x.id) (sym q)) in
               rw w (get_or-set_same rows v (row_of_line g l) (Even, None) lr ∙ ap (row_of_line g) q))
         ];
@@ -121,18 +137,22 @@ module _ (g : Graph) (lines : List WrittenSolutionLine) (rows : SolutionRows) (s
       or_nothing None = refl
       or_nothing (Some x) = refl
 
-      marks_are : (u : ℕ) → u < length g → (b : Bool) → (l.id == id_of g u) ≡ b → (members said u || (v == u)) ≡ (has_line lines (id_of g u) || (l.id == id_of g u))
+      marks_are : (u : ℕ) → u < length g → (b : Bool) → (l.id == id_of g u) ≡ b
+          → (members said u || (v == u)) ≡ (has_line lines (id_of g u) || (l.id == id_of g u))
       marks_are u lu true e =
           let q : l.id ≡ id_of g u = eqb-true l.id (id_of g u) e in
           let w : u ≡ v = same_vertex u lu (sym q) in
           let f : (v == u) ≡ true = eq-eqb v u (sym w) in
           rw (e, f, or-true, or-true) refl
       marks_are u lu false e =
-          let f : (v == u) ≡ false = false_from_ne_true (v == u) (λ s. (let q : v ≡ u = eqb-true v u s in let k : (l.id == id_of g u) ≡ true = eq-eqb l.id (id_of g u) (sym n.id_is ∙ ap (id_of g) q) in cc (k, e))) in
+          let f : (v == u) ≡ false = false_from_ne_true (v == u) (λ s.
+          let k : (l.id == id_of g u) ≡ true = eq-eqb l.id (id_of g u) (sym n.id_is ∙ ap (id_of g) (eqb-true v u s)) in
+          cc (k, e)) in
           rw (e, f, or-false, or-false) (h.marked u lu)
 
 -- the first number that passes a test, by its place
-find_at : (p : ℕ → Bool) (xs : List ℕ) (v : ℕ) → v < length xs → p (get_or xs v 0) ≡ true → ((u : ℕ) → u < v → p (get_or xs u 0) ≡ false) → find p xs ≡ Some (get_or xs v 0)
+find_at : (p : ℕ → Bool) (xs : List ℕ) (v : ℕ) → v < length xs → p (get_or xs v 0) ≡ true → ((u : ℕ) → u < v → p (get_or xs u 0) ≡ false)
+    → find p xs ≡ Some (get_or xs v 0)
 find_at p [] v l t f = absurd (omega arith)
 find_at p (x ∷ xs) zero l t f = rw t refl
 find_at p (x ∷ xs) (suc v) l t f = let e : p x ≡ false = f 0 (omega arith) in rw e (find_at p xs v (omega arith) t (λ u h. f (suc u) (omega arith)))
@@ -141,7 +161,8 @@ pub find_none : (p : ℕ → Bool) (xs : List ℕ) → ((u : ℕ) → u < length
 find_none p [] f = refl
 find_none p (x ∷ xs) f = let e : p x ≡ false = f 0 (omega arith) in rw e (find_none p xs (λ u h. f (suc u) (omega arith)))
 
-module _ (g : Graph) (lines : List WrittenSolutionLine) (rows : SolutionRows) (said : List Bool) (twice : Option ℕ) (h : HoldsLines g lines rows said twice) (none : twice ≡ None) where
+module _ {g : Graph} {lines : List WrittenSolutionLine} {rows : SolutionRows} {said : List Bool} {twice : Option ℕ} (h : HoldsLines g lines rows said twice)
+    (none : twice ≡ None) where
   once : first_twice lines ≡ None
   once = sym h.first ∙ none
 
@@ -149,7 +170,8 @@ module _ (g : Graph) (lines : List WrittenSolutionLine) (rows : SolutionRows) (s
   unmarked u b l e = ap (λ i. not (has_line lines i)) (get_or-map (λ x. x.id) g u no_vertex 0 l) ∙ ap not (sym (h.marked u l) ∙ e)
 
   -- the first vertex without a line
-  pub is_missing : (v : ℕ) → v < length g → members said v ≡ false → ((u : ℕ) → u < v → members said u ≡ true) → (first_stranger g lines ≡ None) × (first_twice lines ≡ None) × (first_missing g lines ≡ Some (id_of g v))
+  pub is_missing : (v : ℕ) → v < length g → members said v ≡ false → ((u : ℕ) → u < v → members said u ≡ true)
+      → (first_stranger g lines ≡ None) × (first_twice lines ≡ None) × (first_missing g lines ≡ Some (id_of g v))
   is_missing v l e before =
       let k : length (map (λ x. x.id) g) ≡ length g = length-map g (λ x. x.id) in (
         h.no_stranger,
@@ -168,7 +190,9 @@ module _ (g : Graph) (lines : List WrittenSolutionLine) (rows : SolutionRows) (s
         complete = find_none (λ i. not (has_line lines i)) (map (λ x. x.id) g) (λ u d. unmarked u true (omega arith) (all u (omega arith)));
         says = record {
           size = h.size;
-          each = λ l m. let (v, n) = line_named g lines l h.no_stranger m in let lr : v < length rows = let e = h.size in let d = n.vertex in omega arith in
+          each = λ l m.
+              let (v, n) = line_named g lines l h.no_stranger m in
+              let lr : v < length rows = let e = h.size in let d = n.vertex in omega arith in
               subst (λ i. slice_get rows i ≡ Some (row_of_line g l)) (sym (number_at g l.id v h.game n))
               (slice_get-get_or rows v (Even, None) lr ∙ ap (λ r. Some r) (h.says none v n.vertex l m (sym n.id_is)));
         };
@@ -186,20 +210,24 @@ player_back Even = refl
 player_back Odd = refl
 
 -- a line whose identifiers are the game's says its row, and is no stranger
-pub row_is : (g : Graph) (id : ℕ) (winner : Player) (c w : Option ℕ) → IsGame g → IsChoice g c w → (winner, w) ≡ row_of_line g (record { id = id; winner = digit_of winner; choice = c })
+pub row_is : (g : Graph) (id : ℕ) (winner : Player) (c w : Option ℕ) → IsGame g → IsChoice g c w
+    → (winner, w) ≡ row_of_line g (record { id = id; winner = digit_of winner; choice = c })
 row_is g id winner None None i k = ap (λ p. (p, None)) (player_back winner)
-row_is g id winner (Some k) (Some v) i n = ap (λ p. (p, Some v)) (player_back winner) ∙ ap (λ u. (player_of (digit_of winner), Some u)) (sym (number_at g k v i n))
+row_is g id winner (Some k) (Some v) i n =
+    ap (λ p. (p, Some v)) (player_back winner) ∙ ap (λ u. (player_of (digit_of winner), Some u)) (sym (number_at g k v i n))
 row_is g id winner None (Some v) i n = absurd n
 row_is g id winner (Some k) None i n = absurd n
 
-pub at_home : (g : Graph) (id v winner : ℕ) (c w : Option ℕ) → IsNamed g id v → IsChoice g c w → first_stranger g (record { id = id; winner = winner; choice = c } ∷ []) ≡ None
+pub at_home : (g : Graph) (id v winner : ℕ) (c w : Option ℕ) → IsNamed g id v → IsChoice g c w
+    → first_stranger g (record { id = id; winner = winner; choice = c } ∷ []) ≡ None
 at_home g id v winner None None n k = let t = named_is g id v n in rw t refl
 at_home g id v winner (Some k) (Some u) n m = let t = named_is g id v n in let s = named_is g k u m in rw (t, s) refl
 at_home g id v winner None (Some u) n m = absurd m
 at_home g id v winner (Some k) None n m = absurd m
 
 -- the next line of those that were read
-pub next_line : (ls : List SolutionLine) (i : ℕ) (d : SolutionLine) → i < length ls → take (i + 1) (map line_of ls) ≡ take i (map line_of ls) ++ line_of (get_or ls i d) ∷ []
+pub next_line : (ls : List SolutionLine) (i : ℕ) (d : SolutionLine) → i < length ls
+    → take (i + 1) (map line_of ls) ≡ take i (map line_of ls) ++ line_of (get_or ls i d) ∷ []
 next_line ls i d l =
     take-map line_of (i + 1) ls
     ∙ (ap (map line_of) (take_more ls i d l)
@@ -207,7 +235,8 @@ next_line ls i d l =
     ∙ ap (λ (xs : List WrittenSolutionLine). xs ++ line_of (get_or ls i d) ∷ []) (sym (take-map line_of i ls))))
 
 -- a stranger's line ends the reading
-pub is_stranger : (g : Graph) (ls : List SolutionLine) (i : ℕ) (d : SolutionLine) (e : SolutionTextFault) → i < length ls → first_stranger g (take i (map line_of ls)) ≡ None → IsStrangerOf g (line_of (get_or ls i d)) e → IsLookUpFaultOf g (map line_of ls) e
+pub is_stranger : (g : Graph) (ls : List SolutionLine) (i : ℕ) (d : SolutionLine) (e : SolutionTextFault) → i < length ls
+    → first_stranger g (take i (map line_of ls)) ≡ None → IsStrangerOf g (line_of (get_or ls i d)) e → IsLookUpFaultOf g (map line_of ls) e
 is_stranger g ls i d (fault.Stranger id) l none s =
     let lines : List WrittenSolutionLine = map line_of ls in
     let more : List WrittenSolutionLine = drop (i + 1) lines in
@@ -216,10 +245,4 @@ is_stranger g ls i d (fault.Stranger id) l none s =
     ∙ (ap (λ xs. option_or (first_stranger g xs) (first_stranger g more)) (next_line ls i d l)
     ∙ (ap (λ (o : Option ℕ). option_or o (first_stranger g more)) (stranger-append g (take i lines) (line_of (get_or ls i d) ∷ []))
     ∙ rw (none, s) refl)))
-is_stranger g ls i d (fault.Lexical at) l none s = absurd s
-is_stranger g ls i d (fault.Syntax at) l none s = absurd s
-is_stranger g ls i d (fault.Number at) l none s = absurd s
-is_stranger g ls i d (fault.Winner at) l none s = absurd s
-is_stranger g ls i d (fault.Twice id) l none s = absurd s
-is_stranger g ls i d (fault.Missing id) l none s = absurd s
-is_stranger g ls i d fault.Memory l none s = absurd s
+is_stranger g ls i d _ l none s = absurd s

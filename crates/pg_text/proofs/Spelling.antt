@@ -7,7 +7,8 @@ use Rattle.pg_text.specs.Token.{Token, Number, Word, Name, Comma, Semicolon, IsS
 use Rattle.pg_text.specs.Bytes.{is_blank, is_digit, is_letter, is_no_quote, AllAre, EndsRun, value_of}
 
 -- where a run of passing bytes ends is determined
-pub run_unique : (test : ℕ → Bool) (xs ys u v : List ℕ) → AllAre test xs → AllAre test ys → EndsRun test u → EndsRun test v → xs ++ u ≡ ys ++ v → (xs ≡ ys) × (u ≡ v)
+pub run_unique : (test : ℕ → Bool) (xs ys u v : List ℕ) → AllAre test xs → AllAre test ys → EndsRun test u → EndsRun test v → xs ++ u ≡ ys ++ v
+    → (xs ≡ ys) × (u ≡ v)
 run_unique test [] [] u v a b c d e = (refl, e)
 run_unique test [] (y ∷ ys) u v a b c d e = absurd (let f : test y ≡ false = subst (EndsRun test) e c in cc (f, b.0))
 run_unique test (x ∷ xs) [] u v a b c d e = absurd (let f : test x ≡ false = subst (EndsRun test) (sym e) d in cc (f, a.0))
@@ -54,7 +55,8 @@ abbrev pub Same : Token → Token → List ℕ → List ℕ → List ℕ → Lis
 Same t u bs cs r q = (t ≡ u) × (bs ≡ cs) × (r ≡ q)
 
 -- tokens of one kind at the front of one text are the same
-pub same : (t u : Token) (bs cs r q : List ℕ) → kind_of t ≡ kind_of u → IsSpelling t bs → IsSpelling u cs → IsWhole t r → IsWhole u q → bs ++ r ≡ cs ++ q → Same t u bs cs r q
+pub same : (t u : Token) (bs cs r q : List ℕ) → kind_of t ≡ kind_of u → IsSpelling t bs → IsSpelling u cs → IsWhole t r → IsWhole u q → bs ++ r ≡ cs ++ q
+    → Same t u bs cs r q
 same (Number n) (Number m) bs cs r q k s z w x e =
     let h = run_unique is_digit bs cs r q s.1 z.1 w x e in
     (ap Number (s.2 ∙ ap value_of h.0 ∙ sym z.2), h.0, h.1)
@@ -70,36 +72,19 @@ same (Name n) (Name m) bs cs r q k s z w x e =
     (ap Name j.0, s.1 ∙ (ap (λ inner. 34 ∷ (inner ++ 34 ∷ [])) j.0 ∙ sym z.1), e')
 same Comma Comma bs cs r q k s z w x e = let f : 44 ∷ r ≡ 44 ∷ q = (sym (ap (λ xs. xs ++ r) s) ∙ e) ∙ ap (λ xs. xs ++ q) z in (refl, s ∙ sym z, cc f)
 same Semicolon Semicolon bs cs r q k s z w x e = let f : 59 ∷ r ≡ 59 ∷ q = (sym (ap (λ xs. xs ++ r) s) ∙ e) ∙ ap (λ xs. xs ++ q) z in (refl, s ∙ sym z, cc f)
-same (Number n) (Word m) bs cs r q k s z w x e = absurd (omega arith)
-same (Number n) (Name m) bs cs r q k s z w x e = absurd (omega arith)
-same (Number n) Comma bs cs r q k s z w x e = absurd (omega arith)
-same (Number n) Semicolon bs cs r q k s z w x e = absurd (omega arith)
-same (Word n) (Number m) bs cs r q k s z w x e = absurd (omega arith)
-same (Word n) (Name m) bs cs r q k s z w x e = absurd (omega arith)
-same (Word n) Comma bs cs r q k s z w x e = absurd (omega arith)
-same (Word n) Semicolon bs cs r q k s z w x e = absurd (omega arith)
-same (Name n) (Number m) bs cs r q k s z w x e = absurd (omega arith)
-same (Name n) (Word m) bs cs r q k s z w x e = absurd (omega arith)
-same (Name n) Comma bs cs r q k s z w x e = absurd (omega arith)
-same (Name n) Semicolon bs cs r q k s z w x e = absurd (omega arith)
-same Comma (Number m) bs cs r q k s z w x e = absurd (omega arith)
-same Comma (Word m) bs cs r q k s z w x e = absurd (omega arith)
-same Comma (Name m) bs cs r q k s z w x e = absurd (omega arith)
-same Comma Semicolon bs cs r q k s z w x e = absurd (omega arith)
-same Semicolon (Number m) bs cs r q k s z w x e = absurd (omega arith)
-same Semicolon (Word m) bs cs r q k s z w x e = absurd (omega arith)
-same Semicolon (Name m) bs cs r q k s z w x e = absurd (omega arith)
-same Semicolon Comma bs cs r q k s z w x e = absurd (omega arith)
+same _ _ bs cs r q k s z w x e = absurd (omega arith)
 
 -- blanks, and then a token, are not blanks alone
-pub not_blank : (t : Token) (text blanks body rest : List ℕ) → AllAre is_blank text → AllAre is_blank blanks → IsSpelling t body → text ≡ blanks ++ (body ++ rest) → ⊥
+pub not_blank : (t : Token) (text blanks body rest : List ℕ) → AllAre is_blank text → AllAre is_blank blanks → IsSpelling t body
+    → text ≡ blanks ++ (body ++ rest) → ⊥
 not_blank t text blanks body rest a b s e =
     let h = head t body rest s in
     let r = run_unique is_blank text blanks [] (body ++ rest) a b tt (rw h.2 h.4) (append-nil text ∙ e) in
     cc (r.1, h.2)
 
 -- the first token of a text is determined
-pub one_front : (place : ℕ) (text : List ℕ) (t u : Placed) (bl bo re cl co se : List ℕ) → Begins place text t bl bo re → Begins place text u cl co se → (t ≡ u) × (bl ≡ cl) × (bo ≡ co) × (re ≡ se)
+pub one_front : (place : ℕ) (text : List ℕ) (t u : Placed) (bl bo re cl co se : List ℕ) → Begins place text t bl bo re → Begins place text u cl co se
+    → (t ≡ u) × (bl ≡ cl) × (bo ≡ co) × (re ≡ se)
 one_front place text t u bl bo re cl co se b c =
     let h = head t.token bo re b.spelled in
     let k = head u.token co se c.spelled in
@@ -119,5 +104,6 @@ one_spelling place text (t ∷ ts) [] (bl, bo, re, b, r) a = absurd (not_blank t
 one_spelling place text (t ∷ ts) (u ∷ us) (bl, bo, re, b, r) (cl, co, se, c, q) =
     let f = one_front place text t u bl bo re cl co se b c in
     let n : place + length cl + length co ≡ place + length bl + length bo = cc (f.1, f.2) in
-    let q' : Spells (place + length bl + length bo) re us = subst (λ m. Spells m re us) n (subst (λ xs. Spells (place + length cl + length co) xs us) (sym f.3) q) in
+    let q' : Spells (place + length bl + length bo) re us =
+    subst (λ m. Spells m re us) n (subst (λ xs. Spells (place + length cl + length co) xs us) (sym f.3) q) in
     cc (f.0, one_spelling (place + length bl + length bo) re ts us r q')

@@ -32,14 +32,16 @@ module _ (g : Graph) (rows : SolutionRows) (size : length rows ≡ length g) whe
       let l : v < length rows = ltb-true v (length rows) h.0 in
       (omega arith, same_is (winner_of rows v) p h.1)
 
-  choice_cases : (v : ℕ) → v < length g → owner_of g v ≡ winner_of rows v → NoneHas (LacksChoice g rows) → NoneHas (HasBadChoice g rows) → (c : Option ℕ) → choice_of rows v ≡ c → (w : ℕ) × (choice_of rows v ≡ Some w) × HasEdge g v w
+  choice_cases : (v : ℕ) → v < length g → owner_of g v ≡ winner_of rows v → NoneHas (LacksChoice g rows) → NoneHas (HasBadChoice g rows) → (c : Option ℕ)
+      → choice_of rows v ≡ c → (w : ℕ) × (choice_of rows v ≡ Some w) × HasEdge g v w
   choice_cases v l o lacks bad None e = absurd (lacks v (l, o, e))
   choice_cases v l o lacks bad (Some w) e = elim (has_or_not (successors_of g v) w) [
     | inl m ↦ (w, e, m)
     | inr none ↦ absurd (bad v (l, o, (w, e, none)))
   ]
 
-  module _ (edges : (v w : ℕ) → v < length g → HasEdge g v w → w < length g) (lacks : NoneHas (LacksChoice g rows)) (bad : NoneHas (HasBadChoice g rows)) (leaves : (v w : ℕ) → Leaves g rows v w → ⊥) (on_walk : NoneHas (IsOnBadWalk g rows)) where
+  module _ (edges : (v w : ℕ) → v < length g → HasEdge g v w → w < length g) (lacks : NoneHas (LacksChoice g rows)) (bad : NoneHas (HasBadChoice g rows))
+      (leaves : (v w : ℕ) → Leaves g rows v w → ⊥) (on_walk : NoneHas (IsOnBadWalk g rows)) where
     choice_is : (p : Player) (v : ℕ) → In (won_by rows p) v → owner_of g v ≡ p → (w : ℕ) × (choice_of rows v ≡ Some w) × HasEdge g v w
     choice_is p v i o = let h = won p v i in choice_cases v h.0 (o ∙ sym h.1) lacks bad (choice_of rows v) refl
 
@@ -56,7 +58,8 @@ module _ (g : Graph) (rows : SolutionRows) (size : length rows ≡ length g) whe
             subst (HasEdge g v) (Contains-one c.0 w one) c.2
 
     -- the winner of a vertex that the player wins is the player
-    as_winner : (p : Player) (v w : ℕ) → winner_of rows v ≡ p → KeptEdge g p (won_by rows p) (choice_of rows) v w → KeptEdge g (winner_of rows v) (won_by rows (winner_of rows v)) (choice_of rows) v w
+    as_winner : (p : Player) (v w : ℕ) → winner_of rows v ≡ p → KeptEdge g p (won_by rows p) (choice_of rows) v w
+        → KeptEdge g (winner_of rows v) (won_by rows (winner_of rows v)) (choice_of rows) v w
     as_winner p v w e k = subst (λ q. KeptEdge g q (won_by rows q) (choice_of rows) v w) (sym e) k
 
     stays : (p : Player) (v w : ℕ) → KeptEdge g p (won_by rows p) (choice_of rows) v w → In (won_by rows p) w

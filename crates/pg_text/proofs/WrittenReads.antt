@@ -1,5 +1,5 @@
 -- The written text of a game, or of winners and choices, reads as these and as nothing else.
-use Rattle.std.proofs.Common.{◌≡◌, ℕ, zero, suc, ◌+◌, ◌-◌, ◌^◌, ◌<◌, false, not, List, [], ◌∷◌, length, map, get_or, refl, sym, ◌∙◌, ap, subst, arith, lit<}
+use Rattle.std.proofs.Common.{◌≡◌, ℕ, zero, suc, ◌+◌, ◌<◌, false, not, List, [], ◌∷◌, length, map, get_or, refl, sym, ◌∙◌, ap, subst, arith}
 use Rattle.std.specs.Prelude.{◌==◌, Option, Some, None, IfSome, option_map, slice_get}
 use Rattle.std.specs.List.{AllByRecursion, Contains, list_any}
 use Rattle.std.specs.List.Sorted.{IsStrictlyIncreasing}
@@ -8,13 +8,12 @@ use Rattle.std.proofs.lemmas.List.{length-map, get_or-map, same_lists}
 use Rattle.std.proofs.lemmas.List.Folds.{list_any_at}
 use Rattle.std.proofs.lemmas.Option.{slice_get-get_or, get_or_from_slice_get}
 use Rattle.std.proofs.lemmas.Map.Keys.{sorted_from_strictly_increasing, below_from_sorted}
-use Rattle.pg_text.proofs.SolutionKeeps.{owner_small}
 use Rattle.pg_game.specs.declared.player.Player.{Player}
 use Rattle.pg_game.specs.declared.player.Player.TheVariants.{Even}
 use Rattle.pg_game.specs.declared.game.Spec.{Spec}
 use Rattle.pg_game.specs.Player.{digit_of}
-use Rattle.pg_game.specs.Graph.{Graph, Vertex, IsGame, id_of, vertex_at, no_vertex, successors_of}
-use Rattle.pg_game.specs.Specification.{IsGameOf, first_repeated, first_fault, max_number}
+use Rattle.pg_game.specs.Graph.{Graph, Vertex, IsGame, id_of, vertex_at, no_vertex}
+use Rattle.pg_game.specs.Specification.{IsGameOf, first_repeated, first_fault}
 use Rattle.pg_game.specs.Limits.{IsWithinLimits}
 use Rattle.pg_text.specs.Token.{Placed, tokens_of}
 use Rattle.pg_text.specs.GameText.{IsGameText, spec_of}
@@ -25,7 +24,7 @@ use Rattle.pg_text.specs.Written.{greatest_id, written_game, written_solution}
 use Rattle.pg_text.specs.Reading.{IsTextOf, IsSolutionTextOf}
 use Rattle.pg_text.specs.SolutionLines.{AreLinesOf, AreRowsOf, first_stranger, first_twice, first_missing, has_line, number_in, row_of_line}
 use Rattle.pg_text.specs.private.SolutionTable.{IsNamed}
-use Rattle.pg_text.specs.Laws.{HasShortNumbers, WrittenGameReads, WrittenSolutionReads, WrittenGameIsText, WrittenSolutionIsText}
+use Rattle.pg_text.specs.Laws.{WrittenGameReads, WrittenSolutionReads, WrittenGameIsText, WrittenSolutionIsText}
 use Rattle.pg_game.specs.private.Described.{spec_at, specs_of}
 use Rattle.pg_game.proofs.Described.{described_game, one_described, described_sound}
 use Rattle.pg_text.proofs.Spelling.{one_spelling}
@@ -33,20 +32,8 @@ use Rattle.pg_text.proofs.GameRun.{one_reading}
 use Rattle.pg_text.proofs.SolutionRun.{one_lines}
 use Rattle.pg_text.proofs.Identifiers.{number_at, stranger-append}
 use Rattle.pg_text.proofs.SolutionTable.{IsChoice, player_back, find_none, row_is, at_home}
-use Rattle.pg_text.proofs.WrittenSpells.{IsShort, line_of, row_line, row_lines, spells_game, spells_solution, all_from_places, all-map, all_imply, length-ids, small_winners, written_game_spells, written_solution_spells}
-
-module _ (g : Graph) (i : IsGame g) (short : HasShortNumbers g) where
-  short_vertices : AllByRecursion (λ x. IsShort g x) g
-  short_vertices = all_from_places (λ x. IsShort g x) no_vertex g (λ v l.
-      let s = i.successors v l in record {
-        id = short.ids v l;
-        priority = short.priorities v l;
-        successors = all-map (λ u. id_of g u) (λ n. n < 10 ^ 64) (successors_of g v) (all_from_places (λ u. id_of g u < 10 ^ 64) 0 (successors_of g v) (λ k h. short.ids (get_or (successors_of g v) k 0) (s.below k h)));
-        some = s.nonempty;
-      })
-
-  short_last : greatest_id g < 10 ^ 64
-  short_last = let h = i.nonempty in short.ids (length g - 1) (omega arith)
+use Rattle.pg_text.proofs.WrittenSpells.{line_of, row_line, row_lines, written_lines, written_grammar, written_owners, spells_game, spells_solution}
+use Rattle.pg_text.proofs.WrittenSpells.{short_numbers, all_from_places, small_winners, written_game_spells, written_solution_spells}
 
 -- the written lines specify what describes the game
 spec_back : (g : Graph) (x : Vertex) → spec_of (line_of g x) ≡ spec_at g x
@@ -54,24 +41,21 @@ spec_back g x = ap (λ p. record { id = x.id; priority = x.priority; owner = p; 
 
 specs_back : (g : Graph) (xs : List Vertex) → map spec_of (map (λ x. line_of g x) xs) ≡ map (λ x. spec_at g x) xs
 specs_back g [] = refl
-specs_back g (x ∷ xs) = ap (λ (s : Spec). s ∷ map spec_of (map (λ x. line_of g x) xs)) (spec_back g x) ∙ ap (λ (ss : List Spec). spec_at g x ∷ ss) (specs_back g xs)
+specs_back g (x ∷ xs) =
+    ap (λ (s : Spec). s ∷ map spec_of (map (λ x. line_of g x) xs)) (spec_back g x) ∙ ap (λ (ss : List Spec). spec_at g x ∷ ss) (specs_back g xs)
 
 pub written_game_reads : WrittenGameReads
 written_game_reads g i short =
-    let (ps, s, e) = spells_game g (short_vertices g i short) (short_last g i short) 0 in
-    let grammar : IsGameText (tokens_of ps) (map (λ x. line_of g x) g) = record {
-      header = Some (greatest_id g);
-      start = None;
-      tokens = e;
-      nonempty = let h = i.nonempty in let n = length-map g (λ x. line_of g x) in omega arith;
-      successors = all-map (λ x. line_of g x) (λ l. 0 < length l.successors) g (all_imply (λ x. IsShort g x) (λ x. 0 < length (map (λ w. id_of g w) x.successors)) g (λ x s. let n = length-ids g x.successors in let h = s.some in omega arith) (short_vertices g i short));
-    } in
-    let back : map spec_of (map (λ x. line_of g x) g) ≡ specs_of g = specs_back g g in
+    let (ps, s, e) = spells_game g i short in
+    let grammar = written_grammar g i (tokens_of ps) e in
+    let back : map spec_of (written_lines g) ≡ specs_of g = specs_back g g in
     record {
-      lines = map (λ x. line_of g x) g;
+      lines = written_lines g;
       spells = (ps, s, grammar);
-      one_text = λ others (us, z, o). one_reading (tokens_of us) others (map (λ x. line_of g x) g) o (subst (λ (ts : List Placed). IsGameText (tokens_of ts) (map (λ x. line_of g x) g)) (one_spelling 0 (written_game g) ps us s z) grammar);
-      owners = all-map (λ x. line_of g x) (λ l. l.owner < 2) g (all_imply (λ x. IsShort g x) (λ x. digit_of x.owner < 2) g (λ x s. owner_small x.owner) (short_vertices g i short));
+      one_text = λ others (us, z, o).
+          let f = one_spelling 0 (written_game g) ps us s z in
+          one_reading (tokens_of us) others (written_lines g) o (subst (λ (ts : List Placed). IsGameText (tokens_of ts) (written_lines g)) f grammar);
+      owners = written_owners g i;
       game = subst (λ specs. IsGameOf specs g) (sym back) (described_game g i);
       one_game = λ h o. one_described g i h (subst (λ specs. IsGameOf specs h) back o);
     }
@@ -88,7 +72,8 @@ length-row_lines g [] rows e = refl
 length-row_lines g (x ∷ xs) [] e = absurd (omega arith)
 length-row_lines g (x ∷ xs) (r ∷ rows) e = let k = length-row_lines g xs rows (omega arith) in omega arith
 
-row_line_at : (g : Graph) (xs : List Vertex) (rows : SolutionRows) (k : ℕ) (x : Vertex) (r : Player × Option ℕ) (d : solutions.WrittenSolutionLine) → length rows ≡ length xs → k < length xs → get_or (row_lines g xs rows) k d ≡ row_line g (get_or xs k x) (get_or rows k r)
+row_line_at : (g : Graph) (xs : List Vertex) (rows : SolutionRows) (k : ℕ) (x : Vertex) (r : Player × Option ℕ) (d : solutions.WrittenSolutionLine)
+    → length rows ≡ length xs → k < length xs → get_or (row_lines g xs rows) k d ≡ row_line g (get_or xs k x) (get_or rows k r)
 row_line_at g [] rows k x r d e l = absurd (omega arith)
 row_line_at g (y ∷ ys) [] k x r d e l = absurd (omega arith)
 row_line_at g (y ∷ ys) (q ∷ rows) zero x r d e l = refl
@@ -100,14 +85,16 @@ row_line-ids g (x ∷ xs) [] e = absurd (omega arith)
 row_line-ids g (x ∷ xs) (r ∷ rows) e = ap (λ (is : List ℕ). x.id ∷ is) (row_line-ids g xs rows (omega arith))
 
 -- what rises has nothing twice
-rising_once : (earlier ns : List ℕ) → IsStrictlyIncreasing ns → ((k : ℕ) → k < length ns → list_any (λ m. m == get_or ns k 0) earlier ≡ false) → first_repeated earlier ns ≡ None
+rising_once : (earlier ns : List ℕ) → IsStrictlyIncreasing ns → ((k : ℕ) → k < length ns → list_any (λ m. m == get_or ns k 0) earlier ≡ false)
+    → first_repeated earlier ns ≡ None
 rising_once earlier [] up f = refl
 rising_once earlier (n ∷ ns) up f =
     let e : list_any (λ m. m == n) earlier ≡ false = f 0 (omega arith) in
     let sorted = sorted_from_strictly_increasing (n ∷ ns) up in
     rw e (rising_once (n ∷ earlier) ns (λ k l. below_from_sorted (n ∷ ns) (suc k) (suc (k + 1)) 0 sorted (omega arith) (omega arith)) (λ k l.
     let b : n < get_or ns k 0 = below_from_sorted (n ∷ ns) 0 (suc k) 0 sorted (omega arith) (omega arith) in
-    let d : (n == get_or ns k 0) ≡ false = false_from_ne_true (n == get_or ns k 0) (λ t. let q : n ≡ get_or ns k 0 = eqb-true n (get_or ns k 0) t in omega arith) in
+    let d : (n == get_or ns k 0) ≡ false =
+    false_from_ne_true (n == get_or ns k 0) (λ t. let q : n ≡ get_or ns k 0 = eqb-true n (get_or ns k 0) t in omega arith) in
     rw d (f (suc k) (omega arith))))
 
 pub all_at : {X : Type 0} (P : X → Type 0) (xs : List X) (k : ℕ) (d : X) → AllByRecursion P xs → k < length xs → P (get_or xs k d)
@@ -119,13 +106,15 @@ choice_named : (g : Graph) (c : Option ℕ) → IfSome c (λ w. w < length g) �
 choice_named g None h = tt
 choice_named g (Some w) h = record { vertex = h; id_is = refl }
 
-none_home : (g : Graph) (lines : List solutions.WrittenSolutionLine) → AllByRecursion (λ l. first_stranger g (l ∷ []) ≡ None) lines → first_stranger g lines ≡ None
+none_home : (g : Graph) (lines : List solutions.WrittenSolutionLine) → AllByRecursion (λ l. first_stranger g (l ∷ []) ≡ None) lines
+    → first_stranger g lines ≡ None
 none_home g [] a = refl
 none_home g (l ∷ lines) a = let h = a.0 in let t = none_home g lines a.1 in stranger-append g (l ∷ []) lines ∙ rw (h, t) refl
 
 module _ (g : Graph) (rows : SolutionRows) (i : IsGame g) (are : AreSolutionRows g rows) where
   choice_at : (v : ℕ) → v < length g → IsChoice g (option_map (λ w. id_of g w) (get_or rows v no_row).1) (get_or rows v no_row).1
-  choice_at v l = choice_named g (get_or rows v no_row).1 (let e = are.size in all_at (λ r. IfSome r.1 (λ w. w < length g)) rows v no_row are.choices (omega arith))
+  choice_at v l =
+      choice_named g (get_or rows v no_row).1 (let e = are.size in all_at (λ r. IfSome r.1 (λ w. w < length g)) rows v no_row are.choices (omega arith))
 
   named : (v : ℕ) → v < length g → IsNamed g (id_of g v) v
   named v l = record { vertex = l; id_is = refl }
@@ -138,7 +127,9 @@ module _ (g : Graph) (rows : SolutionRows) (i : IsGame g) (are : AreSolutionRows
       let n = length-row_lines g g rows are.size in
       none_home g (row_lines g g rows) (all_from_places (λ l. first_stranger g (l ∷ []) ≡ None) no_line (row_lines g g rows) (λ v l.
       let h : v < length g = omega arith in
-      subst (λ (x : solutions.WrittenSolutionLine). first_stranger g (x ∷ []) ≡ None) (sym (stands_at v no_line h)) (at_home g (id_of g v) v (digit_of (get_or rows v no_row).0) (option_map (λ w. id_of g w) (get_or rows v no_row).1) (get_or rows v no_row).1 (named v h) (choice_at v h))))
+      subst (λ (x : solutions.WrittenSolutionLine). first_stranger g (x ∷ []) ≡ None) (sym (stands_at v no_line h))
+      (at_home g (id_of g v) v (digit_of (get_or rows v no_row).0) (option_map (λ w. id_of g w) (get_or rows v no_row).1) (get_or rows v no_row).1
+      (named v h) (choice_at v h))))
 
   once : first_twice (row_lines g g rows) ≡ None
   once = ap (first_repeated []) (row_line-ids g g rows are.size) ∙ rising_once [] (map (λ x. x.id) g) i.ids (λ k l. refl)
@@ -150,8 +141,10 @@ module _ (g : Graph) (rows : SolutionRows) (i : IsGame g) (are : AreSolutionRows
       find_none (λ id. not (has_line (row_lines g g rows) id)) (map (λ x. x.id) g) (λ v l.
       let h : v < length g = omega arith in
       let e : get_or (map (λ x. x.id) g) v 0 ≡ id_of g v = get_or-map (λ x. x.id) g v no_vertex 0 h in
-      let f : (get_or (row_lines g g rows) v no_line).id ≡ get_or (map (λ x. x.id) g) v 0 = ap (λ (x : solutions.WrittenSolutionLine). x.id) (stands_at v no_line h) ∙ sym e in
-      ap not (list_any_at (λ x. x.id == get_or (map (λ x. x.id) g) v 0) (row_lines g g rows) v no_line (omega arith) (eq-eqb (get_or (row_lines g g rows) v no_line).id (get_or (map (λ x. x.id) g) v 0) f)))
+      let f : (get_or (row_lines g g rows) v no_line).id ≡ get_or (map (λ x. x.id) g) v 0 =
+      ap (λ (x : solutions.WrittenSolutionLine). x.id) (stands_at v no_line h) ∙ sym e in
+      ap not (list_any_at (λ x. x.id == get_or (map (λ x. x.id) g) v 0) (row_lines g g rows) v no_line (omega arith)
+      (eq-eqb (get_or (row_lines g g rows) v no_line).id (get_or (map (λ x. x.id) g) v 0) f)))
 
   row_back : (v : ℕ) → v < length g → get_or rows v no_row ≡ row_of_line g (row_line g (vertex_at g v) (get_or rows v no_row))
   row_back v l = row_is g (id_of g v) (get_or rows v no_row).0 (option_map (λ w. id_of g w) (get_or rows v no_row).1) (get_or rows v no_row).1 i (choice_at v l)
@@ -182,40 +175,32 @@ module _ (g : Graph) (rows : SolutionRows) (i : IsGame g) (are : AreSolutionRows
       let b : slice_get rows k ≡ Some (row_of_line g x) = subst (λ v. slice_get rows v ≡ Some (row_of_line g x)) at (says.each x c) in
       get_or_from_slice_get others k (row_of_line g x) d a ∙ sym (get_or_from_slice_get rows k (row_of_line g x) d b))
 
+  are_lines : AreLinesOf g (row_lines g g rows) rows
+  are_lines = record { no_stranger = no_strangers; once = once; complete = complete; says = says }
+
 pub written_solution_reads : WrittenSolutionReads
 written_solution_reads g rows i short are =
-    let (ps, s, e) = spells_solution g rows (all_imply (λ x. IsShort g x) (λ x. x.id < 10 ^ 64) g (λ x s. s.id) (short_vertices g i short)) (all_imply (λ q. IfSome q.1 (λ v. v < length g)) (λ q. IfSome q.1 (λ v. id_of g v < 10 ^ 64)) rows (λ q h. short_choice q.1 h) are.choices) (short_last g i short) 0 in
-    let grammar : IsSolutionText (tokens_of ps) (row_lines g g rows) = (Some (greatest_id g), e) in
+    let (ps, s, e) = spells_solution g rows i short are in
+    let lines : List solutions.WrittenSolutionLine = row_lines g g rows in
+    let grammar : IsSolutionText (tokens_of ps) lines = (Some (greatest_id g), e) in
     record {
-      lines = row_lines g g rows;
+      lines = lines;
       spells = (ps, s, grammar);
-      one_text = λ others (us, z, o). one_lines (tokens_of us) others (row_lines g g rows) o (subst (λ (ts : List Placed). IsSolutionText (tokens_of ts) (row_lines g g rows)) (one_spelling 0 (written_solution g rows) ps us s z) grammar);
+      one_text = λ others (us, z, o).
+          let f = one_spelling 0 (written_solution g rows) ps us s z in
+          one_lines (tokens_of us) others lines o (subst (λ (ts : List Placed). IsSolutionText (tokens_of ts) lines) f grammar);
       winners = small_winners g g rows;
-      says = record { no_stranger = no_strangers g rows i are; once = once g rows i are; complete = complete g rows i are; says = says g rows i are };
+      says = are_lines g rows i are;
       one_solution = λ others o. no_others g rows i are others o.says;
     }
-  where
-    short_choice : (c : Option ℕ) → IfSome c (λ v. v < length g) → IfSome c (λ v. id_of g v < 10 ^ 64)
-    short_choice None h = tt
-    short_choice (Some w) h = short.ids w h
 
 pub written_game_is_text : WrittenGameIsText
 written_game_is_text g i w =
-    let back : map spec_of (map (λ x. line_of g x) g) ≡ specs_of g = specs_back g g in
-    (map (λ x. line_of g x) g, written_game_spells g i w, subst (λ specs. IsGameOf specs g) (sym back) (described_game g i), ap first_fault back ∙ described_sound g i w)
+    let back : map spec_of (written_lines g) ≡ specs_of g = specs_back g g in
+    (written_lines g, written_game_spells g i w, subst (λ specs. IsGameOf specs g) (sym back) (described_game g i), ap first_fault back ∙ described_sound g i w)
 
 pub written_solution_is_text : WrittenSolutionIsText
-written_solution_is_text g rows i w are = record {
-  lines = row_lines g g rows;
-  spelled = written_solution_spells g rows i w are;
-  says = record { no_stranger = no_strangers g rows i are; once = once g rows i are; complete = complete g rows i are; says = says g rows i are };
-}
-
-short_numbers : (g : Graph) → IsWithinLimits g → HasShortNumbers g
-short_numbers g w = record {
-  ids = λ v l. let h = w.ids v l in omega (arith, lit< {m = max_number} {n = 10 ^ 64} tt);
-  priorities = λ v l. let h = w.numbers v l in omega (arith, lit< {m = max_number} {n = 10 ^ 64} tt);
-}
+written_solution_is_text g rows i w are = record { lines = row_lines g g rows; spelled = written_solution_spells g rows i w are; says = are_lines g rows i are }
 
 -- a game that the written text of a game is a text of is that game
 pub written_game_back : (g h : Graph) → IsGame g → IsWithinLimits g → IsTextOf (written_game g) h → h ≡ g
@@ -225,7 +210,8 @@ written_game_back g h i w (lines, s, of, none) =
     r.one_game h (subst (λ ls. IsGameOf (map spec_of ls) h) e of)
 
 -- and winners and choices that a written solution is a text of are those
-pub written_solution_back : (g : Graph) (rows others : SolutionRows) → IsGame g → IsWithinLimits g → AreSolutionRows g rows → IsSolutionTextOf g (written_solution g rows) others → others ≡ rows
+pub written_solution_back : (g : Graph) (rows others : SolutionRows) → IsGame g → IsWithinLimits g → AreSolutionRows g rows
+    → IsSolutionTextOf g (written_solution g rows) others → others ≡ rows
 written_solution_back g rows others i w are text =
     let r = written_solution_reads g rows i (short_numbers g w) are in
     let e = r.one_text text.lines (text.spelled.tokens, text.spelled.spelled, text.spelled.grammar) in

@@ -1,6 +1,7 @@
 -- The written text of a game or of a solution spells one text.
-use Rattle.std.proofs.Common.{◌≡◌, ℕ, ◌+◌, ◌-◌, ◌%◌, ◌^◌, ◌<◌, ◌≤◌, suc, get_or, true, List, [], ◌∷◌, ◌++◌, length, map, refl, sym, ◌∙◌, ap, subst, arith, append_assoc, length-append, Option, Some, None, decimal}
-use Rattle.std.specs.Prelude.{flat_map, codes, option_map, IfSome}
+use Rattle.std.proofs.Common.{◌≡◌, ℕ, ◌+◌, ◌-◌, ◌%◌, ◌^◌, ◌<◌, ◌≤◌, suc, get_or, true, List, [], ◌∷◌, ◌++◌, length, map, refl, sym, ◌∙◌, ap, subst}
+use Rattle.std.proofs.Common.{arith, append_assoc, length-append, Option, Some, None, decimal, lit<}
+use Rattle.std.specs.Prelude.{flat_map, codes, option_map, IfSome, ⊤}
 use Rattle.std.specs.List.{AllByRecursion, join_with_byte}
 use Rattle.std.proofs.lemmas.Bool.{le-leb}
 use Rattle.std.proofs.lemmas.Bool.Decides.{nat_tests}
@@ -11,21 +12,19 @@ use Rattle.pg_text.proofs.FirstFaults.{all-append}
 use Rattle.pg_game.specs.declared.player.Player.{Player}
 use Rattle.pg_game.specs.declared.player.Player.TheVariants.{Even, Odd}
 use Rattle.pg_game.specs.Player.{digit_of}
-use Rattle.pg_game.specs.Graph.{Graph, Vertex, id_of, IsGame, no_vertex, successors_of}
-use Rattle.pg_text.specs.Token.{Token, Number, Word, Comma, Semicolon, IsSpelling, IsWhole, Placed, tokens_of, Spells}
+use Rattle.pg_game.specs.Graph.{Graph, Vertex, id_of, priority_of, owner_of, IsGame, no_vertex, successors_of}
+use Rattle.pg_text.specs.Token.{Token, Number, Word, Comma, Semicolon, IsSpelling, IsWhole, Placed, tokens_of, Begins, Spells}
 use Rattle.pg_text.specs.Bytes.{is_blank, is_digit, is_letter, AllAre, EndsRun, value_of}
 use Rattle.pg_text.specs.private.FirstFault.{placed}
 use Rattle.pg_game.specs.Specification.{max_number}
 use Rattle.pg_game.specs.Limits.{IsWithinLimits}
 use Rattle.pg_text.specs.Fault.{fits, AllFit}
 use Rattle.pg_text.specs.Reading.{SpellsGame, SpellsSolution}
-use Rattle.pg_text.specs.GameText.{IsGameText}
-use Rattle.pg_text.specs.SolutionText.{IsSolutionText}
+use Rattle.pg_text.specs.GameText.{IsGameText, separated}
 use Rattle.pg_text.specs.GameText as games
-use Rattle.pg_text.specs.GameText.{separated, headed}
 use Rattle.pg_text.specs.SolutionText as solutions
-use Rattle.pg_text.specs.Solution.{SolutionRows}
-use Rattle.pg_text.specs.Solution.{AreSolutionRows}
+use Rattle.pg_text.specs.Solution.{SolutionRows, AreSolutionRows}
+use Rattle.pg_text.specs.Laws.{HasShortNumbers}
 use Rattle.pg_text.specs.Written.{greatest_id, written_vertex, written_game, written_choice, written_rows, written_solution}
 use Rattle.pg_text.proofs.Runs.{value-push}
 use Rattle.pg_text.proofs.Runs as runs
@@ -33,11 +32,11 @@ use Rattle.pg_text.proofs.GameRun.{further, separated-first}
 use Rattle.pg_text.proofs.Written.{join_first}
 
 -- from any place on, the text spells these tokens
-abbrev pub SpellsTokens : List ℕ → List Token → Type 0
-SpellsTokens text ts = (place : ℕ) → (ps : List Placed) × Spells place text ps × (tokens_of ps ≡ ts)
+pub record SpellsTokens (text : List ℕ) (ts : List Token) : Type 0 where
+  pub from : (place : ℕ) → (ps : List Placed) × Spells place text ps × (tokens_of ps ≡ ts)
 
-pub spells_nothing : SpellsTokens [] []
-spells_nothing place = ([], tt, refl)
+spells_nothing : SpellsTokens [] []
+spells_nothing = record { from = λ place. ([], tt, refl) }
 
 -- a blank before
 blank_before : (b : ℕ) (place : ℕ) (text : List ℕ) (ps : List Placed) → is_blank b ≡ true → Spells (place + 1) text ps → Spells place (b ∷ text) ps
@@ -56,14 +55,19 @@ blank_before b place text (p ∷ ps) h (blanks, body, rest, g, s) = (
   subst (λ n. Spells n rest ps) (omega arith) s,
 )
 
-pub spells_blank : (b : ℕ) (text : List ℕ) (ts : List Token) → is_blank b ≡ true → SpellsTokens text ts → SpellsTokens (b ∷ text) ts
-spells_blank b text ts h s place = let (ps, t, e) = s (place + 1) in (ps, blank_before b place text ps h t, e)
+spells_blank : {text : List ℕ} {ts : List Token} (b : ℕ) → is_blank b ≡ true → SpellsTokens text ts → SpellsTokens (b ∷ text) ts
+spells_blank {text = text} b h s = record { from = λ place. let (ps, t, e) = s.from (place + 1) in (ps, blank_before b place text ps h t, e) }
 
 -- a token before
-pub spells_token : (t : Token) (body rest : List ℕ) (ts : List Token) → IsSpelling t body → IsWhole t rest → SpellsTokens rest ts → SpellsTokens (body ++ rest) (t ∷ ts)
-spells_token t body rest ts h w s place =
-    let (ps, u, e) = s (place + length body) in
-    (placed t place ∷ ps, ([], body, rest, record { split = refl; blank = tt; placed = omega arith; spelled = h; whole = w }, subst (λ n. Spells n rest ps) (omega arith) u), ap (λ us. t ∷ us) e)
+spells_token : {rest : List ℕ} {ts : List Token} (t : Token) (body : List ℕ) → IsSpelling t body → SpellsTokens rest ts → IsWhole t rest
+    → SpellsTokens (body ++ rest) (t ∷ ts)
+spells_token {rest = rest} t body h s w = record {
+  from = λ place.
+      let (ps, u, e) = s.from (place + length body) in
+      let first : Begins place (body ++ rest) (placed t place) [] body rest =
+      record { split = refl; blank = tt; placed = omega arith; spelled = h; whole = w } in
+      (placed t place ∷ ps, ([], body, rest, first, subst (λ n. Spells n rest ps) (omega arith) u), ap (λ us. t ∷ us) e);
+}
 
 abbrev IsDecimal : ℕ → List ℕ → Type 0
 IsDecimal n ds = (0 < length ds) × AllAre is_digit ds × (n ≡ value_of ds)
@@ -82,64 +86,62 @@ is_decimal n h = decimal_by_steps_wide IsDecimal
     (omega arith, runs.all-append is_digit ds ((48 + m % 10) ∷ []) d.1 (digit_one (m % 10) r, tt), omega arith))
     n h
 
-pub spells_number : (n : ℕ) (rest : List ℕ) (ts : List Token) → n < 10 ^ 64 → EndsRun is_digit rest → SpellsTokens rest ts → SpellsTokens (decimal n ++ rest) (Number n ∷ ts)
-spells_number n rest ts h w s = spells_token (Number n) (decimal n) rest ts (is_decimal n h) w s
-
-pub spells_semicolon : (rest : List ℕ) (ts : List Token) → SpellsTokens rest ts → SpellsTokens (59 ∷ rest) (Semicolon ∷ ts)
-spells_semicolon rest ts s = spells_token Semicolon (59 ∷ []) rest ts refl tt s
-
-pub spells_comma : (rest : List ℕ) (ts : List Token) → SpellsTokens rest ts → SpellsTokens (44 ∷ rest) (Comma ∷ ts)
-spells_comma rest ts s = spells_token Comma (44 ∷ []) rest ts refl tt s
+spells_number : {rest : List ℕ} {ts : List Token} (n : ℕ) → n < 10 ^ 64 → SpellsTokens rest ts → EndsRun is_digit rest
+    → SpellsTokens (decimal n ++ rest) (Number n ∷ ts)
+spells_number n h s w = spells_token (Number n) (decimal n) (is_decimal n h) s w
 
 -- a semicolon and the end of the line
-pub spells_end : (rest : List ℕ) (ts : List Token) → SpellsTokens rest ts → SpellsTokens (59 ∷ 10 ∷ rest) (Semicolon ∷ ts)
-spells_end rest ts s = spells_semicolon (10 ∷ rest) ts (spells_blank 10 rest ts refl s)
+spells_end : {rest : List ℕ} {ts : List Token} → SpellsTokens rest ts → SpellsTokens (59 ∷ 10 ∷ rest) (Semicolon ∷ ts)
+spells_end s = spells_token Semicolon (59 ∷ []) refl (spells_blank 10 refl s) tt
 
 -- the header
-pub spells_header : (word : List ℕ) (n : ℕ) (rest : List ℕ) (ts : List Token) → 0 < length word → AllAre is_letter word → n < 10 ^ 64 → SpellsTokens rest ts → SpellsTokens (word ++ (32 ∷ (decimal n ++ (59 ∷ 10 ∷ rest)))) (Word word ∷ Number n ∷ Semicolon ∷ ts)
-spells_header word n rest ts l a h s =
-    spells_token (Word word) word (32 ∷ (decimal n ++ (59 ∷ 10 ∷ rest))) (Number n ∷ Semicolon ∷ ts) (l, a, refl) refl
-    (spells_blank 32 (decimal n ++ (59 ∷ 10 ∷ rest)) (Number n ∷ Semicolon ∷ ts) refl
-    (spells_number n (59 ∷ 10 ∷ rest) (Semicolon ∷ ts) h refl (spells_end rest ts s)))
+spells_header : {rest : List ℕ} {ts : List Token} (word : List ℕ) (n : ℕ) → 0 < length word → AllAre is_letter word → n < 10 ^ 64 → SpellsTokens rest ts
+    → SpellsTokens (word ++ (32 ∷ (decimal n ++ (59 ∷ 10 ∷ rest)))) (Word word ∷ Number n ∷ Semicolon ∷ ts)
+spells_header word n l a h s = spells_token (Word word) word (l, a, refl) (spells_blank 32 refl (spells_number n h (spells_end s) refl)) refl
 
 abbrev pub AreSmall : List ℕ → Type 0
 AreSmall ns = AllByRecursion (λ n. n < 10 ^ 64) ns
 
--- further numbers, each behind a comma
-spells_further : (ns : List ℕ) (rest : List ℕ) (ts : List Token) → AreSmall ns → EndsRun is_digit rest → SpellsTokens rest ts → SpellsTokens (flat_map (λ n. 44 ∷ decimal n) ns ++ rest) (further ns ++ ts)
-spells_further [] rest ts a w s = s
-spells_further (n ∷ ns) rest ts a w s =
-    let later : List ℕ = flat_map (λ n. 44 ∷ decimal n) ns ++ rest in
-    subst (λ (xs : List ℕ). SpellsTokens xs (Comma ∷ Number n ∷ (further ns ++ ts))) (sym (append_assoc (44 ∷ decimal n) (flat_map (λ n. 44 ∷ decimal n) ns) rest))
-    (spells_comma (decimal n ++ later) (Number n ∷ (further ns ++ ts)) (spells_number n later (further ns ++ ts) a.0 (ends ns) (spells_further ns rest ts a.1 w s)))
-  where
-    ends : (ms : List ℕ) → EndsRun is_digit (flat_map (λ n. 44 ∷ decimal n) ms ++ rest)
-    ends [] = w
-    ends (m ∷ ms) = refl
+-- numbers, each behind a comma
+abbrev behind_commas : List ℕ → List ℕ
+behind_commas ns = flat_map (λ n. 44 ∷ decimal n) ns
+
+list_ends : (ns : List ℕ) (rest : List ℕ) → EndsRun is_digit rest → EndsRun is_digit (behind_commas ns ++ rest)
+list_ends [] rest w = w
+list_ends (n ∷ ns) rest w = refl
+
+spells_further : {rest : List ℕ} {ts : List Token} (ns : List ℕ) → AreSmall ns → SpellsTokens rest ts → EndsRun is_digit rest
+    → SpellsTokens (behind_commas ns ++ rest) (further ns ++ ts)
+spells_further [] a s w = s
+spells_further {rest = rest} {ts = ts} (n ∷ ns) a s w =
+    let e : behind_commas (n ∷ ns) ++ rest ≡ 44 ∷ (decimal n ++ (behind_commas ns ++ rest)) = append_assoc (44 ∷ decimal n) (behind_commas ns) rest in
+    let f = spells_number n a.0 (spells_further ns a.1 s w) (list_ends ns rest w) in
+    subst (λ (xs : List ℕ). SpellsTokens xs (Comma ∷ Number n ∷ (further ns ++ ts))) (sym e) (spells_token Comma (44 ∷ []) refl f tt)
 
 -- numbers separated by commas
-pub spells_list : (ns : List ℕ) (rest : List ℕ) (ts : List Token) → 0 < length ns → AreSmall ns → EndsRun is_digit rest → SpellsTokens rest ts → SpellsTokens (join_with_byte 44 (map decimal ns) ++ rest) (separated ns ++ ts)
-spells_list [] rest ts h a w s = absurd (omega arith)
-spells_list (n ∷ ns) rest ts h a w s =
-    let f : List ℕ = flat_map (λ n. 44 ∷ decimal n) ns in
-    let e : join_with_byte 44 (map decimal (n ∷ ns)) ++ rest ≡ decimal n ++ (f ++ rest) = ap (λ xs. xs ++ rest) (join_first decimal n ns) ∙ append_assoc (decimal n) f rest in
+spells_list : {rest : List ℕ} {ts : List Token} (ns : List ℕ) → 0 < length ns → AreSmall ns → SpellsTokens rest ts → EndsRun is_digit rest
+    → SpellsTokens (join_with_byte 44 (map decimal ns) ++ rest) (separated ns ++ ts)
+spells_list [] h a s w = absurd (omega arith)
+spells_list {rest = rest} {ts = ts} (n ∷ ns) h a s w =
+    let f : List ℕ = behind_commas ns in
+    let e : join_with_byte 44 (map decimal (n ∷ ns)) ++ rest ≡ decimal n ++ (f ++ rest) =
+    ap (λ xs. xs ++ rest) (join_first decimal n ns) ∙ append_assoc (decimal n) f rest in
     let g : separated (n ∷ ns) ++ ts ≡ Number n ∷ (further ns ++ ts) = ap (λ us. us ++ ts) (separated-first n ns) in
-    rw (e, g) (spells_number n (f ++ rest) (further ns ++ ts) a.0 (ends ns) (spells_further ns rest ts a.1 w s))
-  where
-    ends : (ms : List ℕ) → EndsRun is_digit (flat_map (λ n. 44 ∷ decimal n) ms ++ rest)
-    ends [] = w
-    ends (m ∷ ms) = refl
+    rw (e, g) (spells_number n a.0 (spells_further ns a.1 s w) (list_ends ns rest w))
 
 -- the line that the written text has for a vertex
 abbrev pub line_of : Graph → Vertex → games.WrittenGameLine
 line_of g x = record { id = x.id; priority = x.priority; owner = digit_of x.owner; successors = map (λ w. id_of g w) x.successors; name = None }
 
--- its numbers are within 64 bits, and it has a successor
-pub record IsShort (g : Graph) (x : Vertex) : Type 0 where
-  pub id : x.id < 10 ^ 64
-  pub priority : x.priority < 10 ^ 64
-  pub successors : AreSmall (map (λ w. id_of g w) x.successors)
-  pub some : 0 < length x.successors
+abbrev pub written_lines : Graph → List games.WrittenGameLine
+written_lines g = map (λ x. line_of g x) g
+
+-- the numbers of its line are such, and it has a successor
+pub record HasNumbers (P : ℕ → Type 0) (g : Graph) (x : Vertex) : Type 0 where
+  pub id : P x.id
+  pub priority : P x.priority
+  pub successors : AllByRecursion P (map (λ w. id_of g w) x.successors)
+  pub some : 0 < length (map (λ w. id_of g w) x.successors)
 
 digit_short : (p : Player) → digit_of p < 10 ^ 64
 digit_short Even = omega arith
@@ -149,37 +151,85 @@ map-twice : (g : Graph) (ws : List ℕ) → map (λ w. decimal (id_of g w)) ws �
 map-twice g [] = refl
 map-twice g (w ∷ ws) = ap (λ xs. decimal (id_of g w) ∷ xs) (map-twice g ws)
 
-pub length-ids : (g : Graph) (ws : List ℕ) → length (map (λ w. id_of g w) ws) ≡ length ws
-length-ids g [] = refl
-length-ids g (w ∷ ws) = let e = length-ids g ws in omega arith
-
 regroup : (a b c d e rest : List ℕ) → (a ++ (32 ∷ b ++ (32 ∷ c ++ (32 ∷ d ++ e)))) ++ rest ≡ a ++ (32 ∷ (b ++ (32 ∷ (c ++ (32 ∷ (d ++ (e ++ rest)))))))
 regroup a b c d e rest = simp append_assoc
 
-pub spells_line : (g : Graph) (x : Vertex) (rest : List ℕ) (ts : List Token) → IsShort g x → SpellsTokens rest ts → SpellsTokens (written_vertex g x ++ rest) (games.game_line_tokens (line_of g x) ++ ts)
-spells_line g x rest ts h s =
+spells_line : {rest : List ℕ} {ts : List Token} (g : Graph) (x : Vertex) → HasNumbers (λ n. n < 10 ^ 64) g x → SpellsTokens rest ts
+    → SpellsTokens (written_vertex g x ++ rest) (games.game_line_tokens (line_of g x) ++ ts)
+spells_line {rest = rest} {ts = ts} g x h s =
+    let owner : ℕ = digit_of x.owner in
     let ids : List ℕ = map (λ w. id_of g w) x.successors in
-    let some : 0 < length ids = let e = length-ids g x.successors in let f = h.some in omega arith in
-    let list : List ℕ = join_with_byte 44 (map decimal ids) in
-    let e : written_vertex g x ++ rest ≡ decimal x.id ++ (32 ∷ (decimal x.priority ++ (32 ∷ (decimal (digit_of x.owner) ++ (32 ∷ (list ++ (59 ∷ 10 ∷ rest))))))) =
-    ap (λ ds. (decimal x.id ++ (32 ∷ decimal x.priority ++ (32 ∷ decimal (digit_of x.owner) ++ (32 ∷ join_with_byte 44 ds ++ codes ";\n")))) ++ rest) (map-twice g x.successors)
-    ∙ regroup (decimal x.id) (decimal x.priority) (decimal (digit_of x.owner)) list (codes ";\n") rest in
-    let f : games.game_line_tokens (line_of g x) ++ ts ≡ Number x.id ∷ Number x.priority ∷ Number (digit_of x.owner) ∷ (separated ids ++ Semicolon ∷ ts) =
-    ap (λ us. Number x.id ∷ Number x.priority ∷ Number (digit_of x.owner) ∷ us) (append_assoc (separated ids) (Semicolon ∷ []) ts) in
-    let a = spells_list ids (59 ∷ 10 ∷ rest) (Semicolon ∷ ts) some h.successors refl (spells_end rest ts s) in
-    let b = spells_number (digit_of x.owner) (32 ∷ (list ++ (59 ∷ 10 ∷ rest))) (separated ids ++ Semicolon ∷ ts) (digit_short x.owner) refl (spells_blank 32 (list ++ (59 ∷ 10 ∷ rest)) (separated ids ++ Semicolon ∷ ts) refl a) in
-    let c = spells_number x.priority (32 ∷ (decimal (digit_of x.owner) ++ (32 ∷ (list ++ (59 ∷ 10 ∷ rest))))) (Number (digit_of x.owner) ∷ (separated ids ++ Semicolon ∷ ts)) h.priority refl (spells_blank 32 (decimal (digit_of x.owner) ++ (32 ∷ (list ++ (59 ∷ 10 ∷ rest)))) (Number (digit_of x.owner) ∷ (separated ids ++ Semicolon ∷ ts)) refl b) in
-    let d = spells_number x.id (32 ∷ (decimal x.priority ++ (32 ∷ (decimal (digit_of x.owner) ++ (32 ∷ (list ++ (59 ∷ 10 ∷ rest))))))) (Number x.priority ∷ Number (digit_of x.owner) ∷ (separated ids ++ Semicolon ∷ ts)) h.id refl (spells_blank 32 (decimal x.priority ++ (32 ∷ (decimal (digit_of x.owner) ++ (32 ∷ (list ++ (59 ∷ 10 ∷ rest)))))) (Number x.priority ∷ Number (digit_of x.owner) ∷ (separated ids ++ Semicolon ∷ ts)) refl c) in
-    subst (λ us. SpellsTokens (written_vertex g x ++ rest) us) (sym f) (subst (λ (xs : List ℕ). SpellsTokens xs (Number x.id ∷ Number x.priority ∷ Number (digit_of x.owner) ∷ (separated ids ++ Semicolon ∷ ts))) (sym e) d)
+    let numbers : List Token = Number x.id ∷ Number x.priority ∷ Number owner ∷ [] in
+    let e : written_vertex g x ++ rest ≡ decimal x.id
+    ++ (32 ∷ (decimal x.priority ++ (32 ∷ (decimal owner ++ (32 ∷ (join_with_byte 44 (map decimal ids) ++ (59 ∷ 10 ∷ rest))))))) =
+    ap (λ ds. (decimal x.id ++ (32 ∷ decimal x.priority ++ (32 ∷ decimal owner ++ (32 ∷ join_with_byte 44 ds ++ codes ";\n")))) ++ rest)
+    (map-twice g x.successors)
+    ∙ regroup (decimal x.id) (decimal x.priority) (decimal owner) (join_with_byte 44 (map decimal ids)) (codes ";\n") rest in
+    let f : games.game_line_tokens (line_of g x) ++ ts ≡ numbers ++ (separated ids ++ Semicolon ∷ ts) =
+    ap (λ us. numbers ++ us) (append_assoc (separated ids) (Semicolon ∷ []) ts) in
+    let a = spells_blank 32 refl (spells_list ids h.some h.successors (spells_end s) refl) in
+    let b = spells_blank 32 refl (spells_number owner (digit_short x.owner) a refl) in
+    let c = spells_blank 32 refl (spells_number x.priority h.priority b refl) in
+    subst (λ us. SpellsTokens (written_vertex g x ++ rest) us) (sym f)
+    (subst (λ (xs : List ℕ). SpellsTokens xs (numbers ++ (separated ids ++ Semicolon ∷ ts))) (sym e) (spells_number x.id h.id c refl))
 
-spells_lines : (g : Graph) (xs : List Vertex) → AllByRecursion (λ x. IsShort g x) xs → SpellsTokens (flat_map (written_vertex g) xs) (flat_map games.game_line_tokens (map (λ x. line_of g x) xs))
+spells_lines : (g : Graph) (xs : List Vertex) → AllByRecursion (λ x. HasNumbers (λ n. n < 10 ^ 64) g x) xs
+    → SpellsTokens (flat_map (written_vertex g) xs) (flat_map games.game_line_tokens (map (λ x. line_of g x) xs))
 spells_lines g [] a = spells_nothing
-spells_lines g (x ∷ xs) a = spells_line g x (flat_map (written_vertex g) xs) (flat_map games.game_line_tokens (map (λ x. line_of g x) xs)) a.0 (spells_lines g xs a.1)
+spells_lines g (x ∷ xs) a = spells_line g x a.0 (spells_lines g xs a.1)
 
--- the written text of a game spells its own lines
-pub spells_game : (g : Graph) → AllByRecursion (λ x. IsShort g x) g → greatest_id g < 10 ^ 64 → SpellsTokens (written_game g) (games.game_tokens (Some (greatest_id g)) None (map (λ x. line_of g x) g))
-spells_game g a h =
-    spells_header (codes "parity") (greatest_id g) (flat_map (written_vertex g) g) (flat_map games.game_line_tokens (map (λ x. line_of g x) g)) (omega arith) (refl, (refl, (refl, (refl, (refl, (refl, tt)))))) h (spells_lines g g a)
+pub all_from_places : {X : Type 0} (P : X → Type 0) (d : X) (xs : List X) → ((k : ℕ) → k < length xs → P (get_or xs k d)) → AllByRecursion P xs
+all_from_places P d [] h = tt
+all_from_places P d (x ∷ xs) h = (h 0 (omega arith), all_from_places P d xs (λ k l. h (suc k) (omega arith)))
+
+pub all_imply : {X : Type 0} (P Q : X → Type 0) (xs : List X) → ((x : X) → P x → Q x) → AllByRecursion P xs → AllByRecursion Q xs
+all_imply P Q [] f a = tt
+all_imply P Q (x ∷ xs) f a = (f x a.0, all_imply P Q xs f a.1)
+
+all-map : {X Y : Type 0} (f : X → Y) (P : Y → Type 0) (xs : List X) → AllByRecursion (λ x. P (f x)) xs → AllByRecursion P (map f xs)
+all-map f P [] a = tt
+all-map f P (x ∷ xs) a = (a.0, all-map f P xs a.1)
+
+-- what holds of all identifiers and priorities
+pub have_numbers : (P : ℕ → Type 0) (g : Graph) → IsGame g → ((v : ℕ) → v < length g → P (id_of g v)) → ((v : ℕ) → v < length g → P (priority_of g v))
+    → AllByRecursion (λ x. HasNumbers P g x) g
+have_numbers P g i ids priorities = all_from_places (λ x. HasNumbers P g x) no_vertex g (λ v l.
+    let s = i.successors v l in
+    let ws : List ℕ = successors_of g v in
+    record {
+      id = ids v l;
+      priority = priorities v l;
+      successors = all-map (λ u. id_of g u) P ws (all_from_places (λ u. P (id_of g u)) 0 ws (λ k h. ids (get_or ws k 0) (s.below k h)));
+      some = let n = length-map ws (λ w. id_of g w) in let h = s.nonempty in omega arith;
+    })
+
+pub last_id : (P : ℕ → Type 0) (g : Graph) → IsGame g → ((v : ℕ) → v < length g → P (id_of g v)) → P (greatest_id g)
+last_id P g i ids = let h = i.nonempty in ids (length g - 1) (omega arith)
+
+-- the written text of a game spells its own lines, whose owners are 0 and 1
+module _ (g : Graph) (i : IsGame g) where
+  abbrev pub written_tokens : List Token
+  written_tokens = games.game_tokens (Some (greatest_id g)) None (written_lines g)
+
+  pub spells_game : HasShortNumbers g → (ps : List Placed) × Spells 0 (written_game g) ps × (tokens_of ps ≡ written_tokens)
+  spells_game short =
+      let lines = spells_lines g g (have_numbers (λ n. n < 10 ^ 64) g i short.ids short.priorities) in
+      (spells_header (codes "parity") (greatest_id g) (omega arith) (refl, (refl, (refl, (refl, (refl, (refl, tt))))))
+      (last_id (λ n. n < 10 ^ 64) g i short.ids) lines).from 0
+
+  pub written_grammar : (ts : List Token) → ts ≡ written_tokens → IsGameText ts (written_lines g)
+  written_grammar ts e = record {
+    header = Some (greatest_id g);
+    start = None;
+    tokens = e;
+    nonempty = let h = i.nonempty in let n = length-map g (λ x. line_of g x) in omega arith;
+    successors = all-map (λ x. line_of g x) (λ l. 0 < length l.successors) g
+        (all_imply (λ x. HasNumbers (λ n. ⊤) g x) (λ x. 0 < length (map (λ w. id_of g w) x.successors)) g (λ x s. s.some)
+        (have_numbers (λ n. ⊤) g i (λ v l. tt) (λ v l. tt)));
+  }
+
+  pub written_owners : AllByRecursion (λ l. l.owner < 2) (written_lines g)
+  written_owners = all-map (λ x. line_of g x) (λ l. l.owner < 2) g (all_from_places (λ x. digit_of x.owner < 2) no_vertex g (λ v l. owner_small (owner_of g v)))
 
 -- the line that the written text has for a row
 abbrev pub row_line : Graph → Vertex → Player × Option ℕ → solutions.WrittenSolutionLine
@@ -190,67 +240,56 @@ row_lines g [] rows = []
 row_lines g (x ∷ xs) [] = []
 row_lines g (x ∷ xs) (r ∷ rows) = row_line g x r ∷ row_lines g xs rows
 
+-- a row's choice, where there is one, has such an identifier
+abbrev pub HasChoice : (ℕ → Type 0) → Graph → Player × Option ℕ → Type 0
+HasChoice P g r = IfSome r.1 (λ w. P (id_of g w))
+
 -- behind a winner, the rest of a row
-spells_choice : (g : Graph) (c : Option ℕ) (rest : List ℕ) (ts : List Token) → IfSome c (λ w. id_of g w < 10 ^ 64) → SpellsTokens rest ts → SpellsTokens (written_choice g c ++ (59 ∷ 10 ∷ rest)) ((solutions.choice_tokens (option_map (λ w. id_of g w) c) ++ Semicolon ∷ []) ++ ts)
-spells_choice g None rest ts h s = spells_end rest ts s
-spells_choice g (Some w) rest ts h s = spells_blank 32 (decimal (id_of g w) ++ (59 ∷ 10 ∷ rest)) (Number (id_of g w) ∷ Semicolon ∷ ts) refl (spells_number (id_of g w) (59 ∷ 10 ∷ rest) (Semicolon ∷ ts) h refl (spells_end rest ts s))
+spells_choice : {rest : List ℕ} {ts : List Token} (g : Graph) (c : Option ℕ) → IfSome c (λ w. id_of g w < 10 ^ 64) → SpellsTokens rest ts
+    → SpellsTokens (written_choice g c ++ (59 ∷ 10 ∷ rest)) ((solutions.choice_tokens (option_map (λ w. id_of g w) c) ++ Semicolon ∷ []) ++ ts)
+spells_choice g None h s = spells_end s
+spells_choice g (Some w) h s = spells_blank 32 refl (spells_number (id_of g w) h (spells_end s) refl)
 
 choice_ends : (g : Graph) (c : Option ℕ) (rest : List ℕ) → EndsRun is_digit (written_choice g c ++ (59 ∷ 10 ∷ rest))
 choice_ends g None rest = refl
 choice_ends g (Some w) rest = refl
 
-spells_row : (g : Graph) (x : Vertex) (r : Player × Option ℕ) (rest : List ℕ) (ts : List Token) → x.id < 10 ^ 64 → IfSome r.1 (λ w. id_of g w < 10 ^ 64) → SpellsTokens rest ts → SpellsTokens (decimal x.id ++ (32 ∷ decimal (digit_of r.0) ++ (written_choice g r.1 ++ (codes ";\n" ++ rest)))) (solutions.solution_line_tokens (row_line g x r) ++ ts)
-spells_row g x r rest ts i h s =
-    let cs : List Token = (solutions.choice_tokens (option_map (λ w. id_of g w) r.1) ++ Semicolon ∷ []) ++ ts in
-    let tail : List ℕ = written_choice g r.1 ++ (59 ∷ 10 ∷ rest) in
-    spells_number x.id (32 ∷ (decimal (digit_of r.0) ++ tail)) (Number (digit_of r.0) ∷ cs) i refl
-    (spells_blank 32 (decimal (digit_of r.0) ++ tail) (Number (digit_of r.0) ∷ cs) refl
-    (spells_number (digit_of r.0) tail cs (digit_short r.0) (choice_ends g r.1 rest) (spells_choice g r.1 rest ts h s)))
+spells_row : {rest : List ℕ} {ts : List Token} (g : Graph) (x : Vertex) (r : Player × Option ℕ) → x.id < 10 ^ 64 → HasChoice (λ n. n < 10 ^ 64) g r
+    → SpellsTokens rest ts
+    → SpellsTokens (decimal x.id ++ (32 ∷ decimal (digit_of r.0) ++ (written_choice g r.1 ++ (codes ";\n" ++ rest))))
+    (solutions.solution_line_tokens (row_line g x r) ++ ts)
+spells_row {rest = rest} g x r i h s =
+    let winner = spells_number (digit_of r.0) (digit_short r.0) (spells_choice g r.1 h s) (choice_ends g r.1 rest) in
+    spells_number x.id i (spells_blank 32 refl winner) refl
 
-spells_rows : (g : Graph) (xs : List Vertex) (rows : SolutionRows) → AllByRecursion (λ x. x.id < 10 ^ 64) xs → AllByRecursion (λ r. IfSome r.1 (λ w. id_of g w < 10 ^ 64)) rows → SpellsTokens (written_rows g xs rows) (flat_map solutions.solution_line_tokens (row_lines g xs rows))
+spells_rows : (g : Graph) (xs : List Vertex) (rows : SolutionRows) → AllByRecursion (λ x. x.id < 10 ^ 64) xs
+    → AllByRecursion (HasChoice (λ n. n < 10 ^ 64) g) rows
+    → SpellsTokens (written_rows g xs rows) (flat_map solutions.solution_line_tokens (row_lines g xs rows))
 spells_rows g [] rows a b = spells_nothing
 spells_rows g (x ∷ xs) [] a b = spells_nothing
-spells_rows g (x ∷ xs) (r ∷ rows) a b = spells_row g x r (written_rows g xs rows) (flat_map solutions.solution_line_tokens (row_lines g xs rows)) a.0 b.0 (spells_rows g xs rows a.1 b.1)
+spells_rows g (x ∷ xs) (r ∷ rows) a b = spells_row g x r a.0 b.0 (spells_rows g xs rows a.1 b.1)
+
+have_choices : (P : ℕ → Type 0) (g : Graph) (rows : SolutionRows) → ((v : ℕ) → v < length g → P (id_of g v)) → AreSolutionRows g rows
+    → AllByRecursion (HasChoice P g) rows
+have_choices P g rows ids are = all_imply (λ r. IfSome r.1 (λ w. w < length g)) (HasChoice P g) rows (λ r h. one r.1 h) are.choices
+  where
+    one : (c : Option ℕ) → IfSome c (λ w. w < length g) → IfSome c (λ w. P (id_of g w))
+    one None h = tt
+    one (Some w) h = ids w h
 
 -- the written text of winners and choices spells their own lines
-pub spells_solution : (g : Graph) (rows : SolutionRows) → AllByRecursion (λ x. x.id < 10 ^ 64) g → AllByRecursion (λ r. IfSome r.1 (λ w. id_of g w < 10 ^ 64)) rows → greatest_id g < 10 ^ 64 → SpellsTokens (written_solution g rows) (solutions.solution_tokens (Some (greatest_id g)) (row_lines g g rows))
-spells_solution g rows a b h =
-    spells_header (codes "paritysol") (greatest_id g) (written_rows g g rows) (flat_map solutions.solution_line_tokens (row_lines g g rows)) (omega arith) (refl, (refl, (refl, (refl, (refl, (refl, (refl, (refl, (refl, tt))))))))) h (spells_rows g g rows a b)
+pub spells_solution : (g : Graph) (rows : SolutionRows) → IsGame g → HasShortNumbers g → AreSolutionRows g rows
+    → (ps : List Placed) × Spells 0 (written_solution g rows) ps × (tokens_of ps ≡ solutions.solution_tokens (Some (greatest_id g)) (row_lines g g rows))
+spells_solution g rows i short are =
+    let ids = all_from_places (λ x. x.id < 10 ^ 64) no_vertex g short.ids in
+    let lines = spells_rows g g rows ids (have_choices (λ n. n < 10 ^ 64) g rows short.ids are) in
+    let letters : AllAre is_letter (codes "paritysol") = (refl, (refl, (refl, (refl, (refl, (refl, (refl, (refl, (refl, tt))))))))) in
+    (spells_header (codes "paritysol") (greatest_id g) (omega arith) letters (last_id (λ n. n < 10 ^ 64) g i short.ids) lines).from 0
 
-pub all_from_places : {X : Type 0} (P : X → Type 0) (d : X) (xs : List X) → ((k : ℕ) → k < length xs → P (get_or xs k d)) → AllByRecursion P xs
-all_from_places P d [] h = tt
-all_from_places P d (x ∷ xs) h = (h 0 (omega arith), all_from_places P d xs (λ k l. h (suc k) (omega arith)))
-
-pub all_imply : {X : Type 0} (P Q : X → Type 0) (xs : List X) → ((x : X) → P x → Q x) → AllByRecursion P xs → AllByRecursion Q xs
-all_imply P Q [] f a = tt
-all_imply P Q (x ∷ xs) f a = (f x a.0, all_imply P Q xs f a.1)
-
-pub all-map : {X Y : Type 0} (f : X → Y) (P : Y → Type 0) (xs : List X) → AllByRecursion (λ x. P (f x)) xs → AllByRecursion P (map f xs)
-all-map f P [] a = tt
-all-map f P (x ∷ xs) a = (a.0, all-map f P xs a.1)
-
--- the vertex's numbers are within the limit, and it has a successor
-pub record IsSmall (g : Graph) (x : Vertex) : Type 0 where
-  pub id : x.id ≤ max_number
-  pub priority : x.priority ≤ max_number
-  pub successors : AllByRecursion (λ n. n ≤ max_number) (map (λ w. id_of g w) x.successors)
-  pub some : 0 < length x.successors
-
-pub small_vertices : (g : Graph) → IsGame g → IsWithinLimits g → AllByRecursion (λ x. IsSmall g x) g
-small_vertices g i w = all_from_places (λ x. IsSmall g x) no_vertex g (λ v l.
-    let s = i.successors v l in record {
-      id = w.ids v l;
-      priority = w.numbers v l;
-      successors = all-map (λ u. id_of g u) (λ n. n ≤ max_number) (successors_of g v) (all_from_places (λ u. id_of g u ≤ max_number) 0 (successors_of g v) (λ k h. w.ids (get_or (successors_of g v) k 0) (s.below k h)));
-      some = s.nonempty;
-    })
-
-short_vertex : (g : Graph) (x : Vertex) → IsSmall g x → IsShort g x
-short_vertex g x s = record {
-  id = let h = s.id in omega arith;
-  priority = let h = s.priority in omega arith;
-  successors = all_imply (λ n. n ≤ max_number) (λ n. n < 10 ^ 64) (map (λ w. id_of g w) x.successors) (λ n h. omega arith) s.successors;
-  some = s.some;
+pub short_numbers : (g : Graph) → IsWithinLimits g → HasShortNumbers g
+short_numbers g w = record {
+  ids = λ v l. let h = w.ids v l in omega (arith, lit< {m = max_number} {n = 10 ^ 64} tt);
+  priorities = λ v l. let h = w.numbers v l in omega (arith, lit< {m = max_number} {n = 10 ^ 64} tt);
 }
 
 fits_number : (n : ℕ) → n ≤ max_number → fits (Number n) ≡ true
@@ -261,58 +300,46 @@ fits_separated [] a = tt
 fits_separated (n ∷ []) a = (fits_number n a.0, tt)
 fits_separated (n ∷ m ∷ ns) a = (fits_number n a.0, (refl, fits_separated (m ∷ ns) a.1))
 
-digit_small : (p : Player) → digit_of p ≤ max_number
-digit_small Even = omega arith
-digit_small Odd = omega arith
+fits_digit : (p : Player) → fits (Number (digit_of p)) ≡ true
+fits_digit Even = refl
+fits_digit Odd = refl
 
-fits_lines : (g : Graph) (xs : List Vertex) → AllByRecursion (λ x. IsSmall g x) xs → AllFit (flat_map games.game_line_tokens (map (λ x. line_of g x) xs))
+fits_lines : (g : Graph) (xs : List Vertex) → AllByRecursion (λ x. HasNumbers (λ n. n ≤ max_number) g x) xs
+    → AllFit (flat_map games.game_line_tokens (map (λ x. line_of g x) xs))
 fits_lines g [] a = tt
 fits_lines g (x ∷ xs) a =
     let s = a.0 in
+    let ids : List ℕ = map (λ w. id_of g w) x.successors in
+    let rest = all-append (λ t. fits t ≡ true) (separated ids) (Semicolon ∷ []) (fits_separated ids s.successors) (refl, tt) in
     all-append (λ t. fits t ≡ true) (games.game_line_tokens (line_of g x)) (flat_map games.game_line_tokens (map (λ x. line_of g x) xs))
-    (fits_number x.id s.id, (fits_number x.priority s.priority, (fits_number (digit_of x.owner) (digit_small x.owner), all-append (λ t. fits t ≡ true) (separated (map (λ w. id_of g w) x.successors)) (Semicolon ∷ []) (fits_separated (map (λ w. id_of g w) x.successors) s.successors) (refl, tt))))
-    (fits_lines g xs a.1)
+    (fits_number x.id s.id, (fits_number x.priority s.priority, (fits_digit x.owner, rest))) (fits_lines g xs a.1)
 
 -- the written text of a game spells a game text of its own lines
-pub written_game_spells : (g : Graph) → IsGame g → IsWithinLimits g → SpellsGame (written_game g) (map (λ x. line_of g x) g)
+pub written_game_spells : (g : Graph) → IsGame g → IsWithinLimits g → SpellsGame (written_game g) (written_lines g)
 written_game_spells g i w =
-    let a = small_vertices g i w in
-    let last : greatest_id g ≤ max_number = let h = i.nonempty in w.ids (length g - 1) (omega arith) in
-    let short = all_imply (λ x. IsSmall g x) (λ x. IsShort g x) g (short_vertex g) a in
-    let (ps, s, e) = spells_game g short (omega arith) 0 in
+    let (ps, s, e) = spells_game g i (short_numbers g w) in
+    let last = fits_number (greatest_id g) (last_id (λ n. n ≤ max_number) g i w.ids) in
     record {
       tokens = ps;
       spelled = s;
-      grammar = record {
-        header = Some (greatest_id g);
-        start = None;
-        tokens = e;
-        nonempty = let h = i.nonempty in let n = length-map g (λ x. line_of g x) in omega arith;
-        successors = all-map (λ x. line_of g x) (λ l. 0 < length l.successors) g (all_imply (λ x. IsSmall g x) (λ x. 0 < length (map (λ w. id_of g w) x.successors)) g (λ x s. let n = length-ids g x.successors in let h = s.some in omega arith) a);
-      };
-      numbers = subst AllFit (sym e) (refl, (fits_number (greatest_id g) last, (refl, fits_lines g g a)));
-      owners = all-map (λ x. line_of g x) (λ l. l.owner < 2) g (all_imply (λ x. IsSmall g x) (λ x. digit_of x.owner < 2) g (λ x s. owner_small x.owner) a);
+      grammar = written_grammar g i (tokens_of ps) e;
+      numbers = subst AllFit (sym e) (refl, (last, (refl, fits_lines g g (have_numbers (λ n. n ≤ max_number) g i w.ids w.numbers))));
+      owners = written_owners g i;
     }
 
-small_choice : (g : Graph) → IsWithinLimits g → (c : Option ℕ) → IfSome c (λ w. w < length g) → IfSome c (λ w. id_of g w ≤ max_number)
-small_choice g l None h = tt
-small_choice g l (Some w) h = l.ids w h
-
-short_choice : (g : Graph) (c : Option ℕ) → IfSome c (λ w. id_of g w ≤ max_number) → IfSome c (λ w. id_of g w < 10 ^ 64)
-short_choice g None h = tt
-short_choice g (Some w) h = omega arith
-
-fits_choice : (g : Graph) (c : Option ℕ) → IfSome c (λ w. id_of g w ≤ max_number) → AllFit (solutions.choice_tokens (option_map (λ w. id_of g w) c) ++ Semicolon ∷ [])
+fits_choice : (g : Graph) (c : Option ℕ) → IfSome c (λ w. id_of g w ≤ max_number)
+    → AllFit (solutions.choice_tokens (option_map (λ w. id_of g w) c) ++ Semicolon ∷ [])
 fits_choice g None h = (refl, tt)
 fits_choice g (Some w) h = (fits_number (id_of g w) h, (refl, tt))
 
-fits_rows : (g : Graph) (xs : List Vertex) (rows : SolutionRows) → AllByRecursion (λ x. IsSmall g x) xs → AllByRecursion (λ r. IfSome r.1 (λ w. id_of g w ≤ max_number)) rows → AllFit (flat_map solutions.solution_line_tokens (row_lines g xs rows))
+fits_rows : (g : Graph) (xs : List Vertex) (rows : SolutionRows) → AllByRecursion (λ x. x.id ≤ max_number) xs
+    → AllByRecursion (HasChoice (λ n. n ≤ max_number) g) rows
+    → AllFit (flat_map solutions.solution_line_tokens (row_lines g xs rows))
 fits_rows g [] rows a b = tt
 fits_rows g (x ∷ xs) [] a b = tt
 fits_rows g (x ∷ xs) (r ∷ rows) a b =
     all-append (λ t. fits t ≡ true) (solutions.solution_line_tokens (row_line g x r)) (flat_map solutions.solution_line_tokens (row_lines g xs rows))
-    (fits_number x.id a.0.id, (fits_number (digit_of r.0) (digit_small r.0), fits_choice g r.1 b.0))
-    (fits_rows g xs rows a.1 b.1)
+    (fits_number x.id a.0, (fits_digit r.0, fits_choice g r.1 b.0)) (fits_rows g xs rows a.1 b.1)
 
 pub small_winners : (g : Graph) (xs : List Vertex) (rows : SolutionRows) → AllByRecursion (λ l. l.winner < 2) (row_lines g xs rows)
 small_winners g [] rows = tt
@@ -320,16 +347,16 @@ small_winners g (x ∷ xs) [] = tt
 small_winners g (x ∷ xs) (r ∷ rows) = (owner_small r.0, small_winners g xs rows)
 
 -- the written text of winners and choices spells a solution text of their own lines
-pub written_solution_spells : (g : Graph) (rows : SolutionRows) → IsGame g → IsWithinLimits g → AreSolutionRows g rows → SpellsSolution (written_solution g rows) (row_lines g g rows)
-written_solution_spells g rows i w r =
-    let a = small_vertices g i w in
-    let last : greatest_id g ≤ max_number = let h = i.nonempty in w.ids (length g - 1) (omega arith) in
-    let b = all_imply (λ q. IfSome q.1 (λ v. v < length g)) (λ q. IfSome q.1 (λ v. id_of g v ≤ max_number)) rows (λ q h. small_choice g w q.1 h) r.choices in
-    let (ps, s, e) = spells_solution g rows (all_imply (λ x. IsSmall g x) (λ x. x.id < 10 ^ 64) g (λ x s. let h = s.id in omega arith) a) (all_imply (λ q. IfSome q.1 (λ v. id_of g v ≤ max_number)) (λ q. IfSome q.1 (λ v. id_of g v < 10 ^ 64)) rows (λ q h. short_choice g q.1 h) b) (omega arith) 0 in
+pub written_solution_spells : (g : Graph) (rows : SolutionRows) → IsGame g → IsWithinLimits g → AreSolutionRows g rows
+    → SpellsSolution (written_solution g rows) (row_lines g g rows)
+written_solution_spells g rows i w are =
+    let (ps, s, e) = spells_solution g rows i (short_numbers g w) are in
+    let last = fits_number (greatest_id g) (last_id (λ n. n ≤ max_number) g i w.ids) in
+    let ids = all_from_places (λ x. x.id ≤ max_number) no_vertex g w.ids in
     record {
       tokens = ps;
       spelled = s;
       grammar = (Some (greatest_id g), e);
-      numbers = subst AllFit (sym e) (refl, (fits_number (greatest_id g) last, (refl, fits_rows g g rows a b)));
+      numbers = subst AllFit (sym e) (refl, (last, (refl, fits_rows g g rows ids (have_choices (λ n. n ≤ max_number) g rows w.ids are))));
       winners = small_winners g g rows;
     }

@@ -22,7 +22,8 @@ pub record IsLexicalFault (text : List ℕ) (place : ℕ) : Type 0 where
 abbrev pub IsSyntaxFault : (List Token → Type 0) → (List Token → Type 0) → List ℕ → ℕ → Type 0
 IsSyntaxFault BeginsText IsText text place =
     (ts : List Placed) × Spells 0 text ts
-    × (((before after : List Placed) × (t : Placed) × (ts ≡ before ++ t ∷ after) × (place ≡ t.place) × BeginsText (tokens_of before) × (BeginsText (tokens_of before ++ t.token ∷ []) → ⊥))
+    × (((before after : List Placed) × (t : Placed) × (ts ≡ before ++ t ∷ after) × (place ≡ t.place) × BeginsText (tokens_of before)
+    × (BeginsText (tokens_of before ++ t.token ∷ []) → ⊥))
     ⊎ ((place ≡ length text) × BeginsText (tokens_of ts) × (IsText (tokens_of ts) → ⊥)))
 
 -- the number is within the limit
@@ -46,4 +47,5 @@ IsNumberFault IsText text place =
 abbrev pub IsPlayerFault : (List Token → Type 0) → (List Token → Type 0) → List ℕ → ℕ → Type 0
 IsPlayerFault IsText IsBefore text place =
     (ts : List Placed) × Spells 0 text ts × IsText (tokens_of ts) × AllFit (tokens_of ts)
-    × ((before after : List Placed) × (t : Placed) × (n : ℕ) × (ts ≡ before ++ t ∷ after) × (place ≡ t.place) × IsBefore (tokens_of before) × (t.token ≡ Number n) × (1 < n))
+    × ((before after : List Placed) × (t : Placed) × (n : ℕ) × (ts ≡ before ++ t ∷ after) × (place ≡ t.place) × IsBefore (tokens_of before)
+    × (t.token ≡ Number n) × (1 < n))

@@ -1,4 +1,4 @@
--- What is written can be read again, and as nothing else; a text has one answer.
+-- What is written can be read again, and as nothing else; a text has one answer; a solution has no fault.
 use Rattle.std.specs.Prelude.{ℕ, ◌≡◌, ◌<◌, ◌^◌, ◌⊎◌, List, length, map}
 use Rattle.std.specs.List.{AllByRecursion}
 use Rattle.pg_game.specs.Graph.{Graph, IsGame, id_of, priority_of}
@@ -16,7 +16,9 @@ use Rattle.pg_text.specs.GameText as games
 use Rattle.pg_text.specs.GameText.{IsGameText, spec_of}
 use Rattle.pg_text.specs.SolutionText as solutions
 use Rattle.pg_text.specs.SolutionText.{IsSolutionText}
-use Rattle.pg_text.specs.Solution.{SolutionRows, AreSolutionRows}
+use Rattle.pg_text.specs.Solution.{SolutionRows, AreSolutionRows, IsSolution}
+use Rattle.pg_text.specs.Verdict.{LacksChoice, HasBadChoice, Leaves, IsOnBadWalk}
+use Rattle.pg_game.specs.Least.{NoneHas}
 use Rattle.pg_text.specs.Written.{written_game, written_solution}
 use Rattle.pg_text.specs.SolutionLines.{AreLinesOf}
 
@@ -59,7 +61,8 @@ abbrev pub WrittenGameReads : Type 0
 WrittenGameReads = (g : Graph) → IsGame g → HasShortNumbers g → SpellsOneGame (written_game g) g
 
 abbrev pub WrittenSolutionReads : Type 0
-WrittenSolutionReads = (g : Graph) (rows : SolutionRows) → IsGame g → HasShortNumbers g → AreSolutionRows g rows → SpellsOneSolution (written_solution g rows) g rows
+WrittenSolutionReads =
+    (g : Graph) (rows : SolutionRows) → IsGame g → HasShortNumbers g → AreSolutionRows g rows → SpellsOneSolution (written_solution g rows) g rows
 
 -- within the limits of games the written text is a text of the game, without fault
 abbrev pub WrittenGameIsText : Type 0
@@ -67,7 +70,8 @@ WrittenGameIsText = (g : Graph) → IsGame g → IsWithinLimits g → IsTextOf (
 
 -- and that of winners and choices is a text of these
 abbrev pub WrittenSolutionIsText : Type 0
-WrittenSolutionIsText = (g : Graph) (rows : SolutionRows) → IsGame g → IsWithinLimits g → AreSolutionRows g rows → IsSolutionTextOf g (written_solution g rows) rows
+WrittenSolutionIsText =
+    (g : Graph) (rows : SolutionRows) → IsGame g → IsWithinLimits g → AreSolutionRows g rows → IsSolutionTextOf g (written_solution g rows) rows
 
 -- every text spells tokens or has a lexical fault
 abbrev pub TokensOrLexical : Type 0
@@ -87,8 +91,23 @@ NoGameWantsMemory = (text : List ℕ) → IsFaultOf text (Game GameFault.Memory)
 
 -- a solution text of a game has no fault for it
 abbrev pub SolutionTextOrFault : Type 0
-SolutionTextOrFault = (g : Graph) (text : List ℕ) (rows : SolutionRows) (fault : SolutionTextFault) → IsSolutionTextOf g text rows → IsSolutionFaultOf g text fault → fault ≡ solution.Memory
+SolutionTextOrFault =
+    (g : Graph) (text : List ℕ) (rows : SolutionRows) (fault : SolutionTextFault) → IsSolutionTextOf g text rows → IsSolutionFaultOf g text fault
+    → fault ≡ solution.Memory
 
 -- two faults of one text for one game are the same
 abbrev pub OneSolutionFault : Type 0
-OneSolutionFault = (g : Graph) (text : List ℕ) (e f : SolutionTextFault) → IsSolutionFaultOf g text e → IsSolutionFaultOf g text f → (e ≡ solution.Memory) ⊎ ((f ≡ solution.Memory) ⊎ (e ≡ f))
+OneSolutionFault =
+    (g : Graph) (text : List ℕ) (e f : SolutionTextFault) → IsSolutionFaultOf g text e → IsSolutionFaultOf g text f
+    → (e ≡ solution.Memory) ⊎ ((f ≡ solution.Memory) ⊎ (e ≡ f))
+
+-- nothing is wrong with the winners and choices
+pub record HasNoFault (g : Graph) (rows : SolutionRows) : Type 0 where
+  pub choices : NoneHas (LacksChoice g rows)
+  pub edges : NoneHas (HasBadChoice g rows)
+  pub inside : (v w : ℕ) → Leaves g rows v w → ⊥
+  pub walks : NoneHas (IsOnBadWalk g rows)
+
+-- a solution has no fault, so winners and choices with one are none
+abbrev pub SolutionHasNoFault : Type 0
+SolutionHasNoFault = (g : Graph) (rows : SolutionRows) → IsSolution g rows → HasNoFault g rows

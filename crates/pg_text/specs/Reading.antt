@@ -68,6 +68,9 @@ IsSolutionFaultOf g text (solution.Syntax at) = IsSyntaxFault BeginsSolutionText
 IsSolutionFaultOf g text (solution.Number at) = IsNumberFault IsSomeSolutionText text at
 IsSolutionFaultOf g text (solution.Winner at) = IsPlayerFault IsSomeSolutionText IsBeforeWinner text at
 IsSolutionFaultOf g text (solution.Stranger id) = (lines : List solutions.WrittenSolutionLine) × SpellsSolution text lines × (first_stranger g lines ≡ Some id)
-IsSolutionFaultOf g text (solution.Twice id) = (lines : List solutions.WrittenSolutionLine) × SpellsSolution text lines × (first_stranger g lines ≡ None) × (first_twice lines ≡ Some id)
-IsSolutionFaultOf g text (solution.Missing id) = (lines : List solutions.WrittenSolutionLine) × SpellsSolution text lines × (first_stranger g lines ≡ None) × (first_twice lines ≡ None) × (first_missing g lines ≡ Some id)
+IsSolutionFaultOf g text (solution.Twice id) =
+    (lines : List solutions.WrittenSolutionLine) × SpellsSolution text lines × (first_stranger g lines ≡ None) × (first_twice lines ≡ Some id)
+IsSolutionFaultOf g text (solution.Missing id) =
+    (lines : List solutions.WrittenSolutionLine) × SpellsSolution text lines × (first_stranger g lines ≡ None) × (first_twice lines ≡ None)
+    × (first_missing g lines ≡ Some id)
 IsSolutionFaultOf g text solution.Memory = Unit {0}

@@ -1,5 +1,6 @@
 -- What the lines of a solution text say of a game: the rows of its vertices, or why none.
-use Rattle.std.specs.Prelude.{ℕ, ◌≡◌, ◌==◌, Bool, not, List, [], ◌∷◌, length, map, find, slice_get, Option, Some, None, Contains, option_map, count_by, nat_lt, flat_map}
+use Rattle.std.specs.Prelude.{ℕ, ◌≡◌, ◌==◌, Bool, not, List, [], ◌∷◌, length, map, find, slice_get, Option, Some, None, Contains, option_map}
+use Rattle.std.specs.Prelude.{count_by, nat_lt, flat_map}
 use Rattle.std.specs.List.{list_any}
 use Rattle.pg_game.specs.declared.player.Player.{Player}
 use Rattle.pg_game.specs.Kept.{option_list}

@@ -9,5 +9,4 @@ pub mod GameRun
 pub mod GameKeeps
 pub mod SolutionTable
 pub mod GameStates
-pub mod GameAdvance
-pub mod SolutionAdvance
+pub mod Advance

@@ -8,10 +8,11 @@
 //! none of these is left to the lexer.
 ghost use Rattle.std.specs.Prelude.{◌≡◌, ℕ, ◌≤◌, length, true, false, IfOk, IfErr, IfSome, MatchResult, ◌<◌, None, List, []};
 ghost use Rattle.pg_text.specs.Token.{Number, Word, Name, Comma, Semicolon, Placed, Spells};
+ghost use Rattle.pg_text.specs.GameText.{BeginsGameText};
 ghost use Rattle.pg_text.specs.private.Piece.{fitting};
 ghost use Rattle.pg_text.specs.Reading.{max_text, IsFaultOf};
-ghost use Rattle.pg_text.specs.private.GameKeeps.{KeepsReader, Takes, TakesPiece, IsUnexpected, SpellsSpecs};
-ghost use Rattle.pg_text.specs.private.GameAdvance.{Advances, AdvancesTo, FailsWith};
+ghost use Rattle.pg_text.specs.private.GameKeeps.{KeepsReader, Takes, SpellsSpecs};
+ghost use Rattle.pg_text.specs.private.Advance.{Advances, AdvancesTo, FailsWith, TakesPiece, IsUnexpected};
 ghost use Rattle.pg_text.specs.private.GameStates.{is_complete};
 
 use crate::fault::TextFault;
@@ -246,7 +247,7 @@ impl Reader {
         requires size { length text.now ≤ max_text }
         requires order { piece.from ≤ piece.to }
         requires within { piece.to ≤ length text.now }
-        ensures taken { IfOk result (λ taken. TakesPiece self.old self.new text.now piece taken) }
+        ensures taken { IfOk result (λ taken. TakesPiece (Takes self.old self.new) text.now piece taken) }
         ensures memory { IfErr result (λ e. e ≡ TextFault.Memory) }
     {
         match piece.kind {
@@ -265,9 +266,9 @@ impl Reader {
     fn near_number(&mut self, text: &[u8], at: usize) -> Result<Option<usize>, TextFault>
         requires size { length text.now ≤ max_text }
         requires inside { at ≤ length text.now }
-        ensures taken { IfOk result (λ to. AdvancesTo self.old self.new text.now at to) }
+        ensures taken { IfOk result (λ to. AdvancesTo KeepsReader self.old self.new text.now at to) }
         ensures ahead { IfOk result (λ to. IfSome to (λ behind. (at < behind) × (behind ≤ length text.now))) }
-        ensures fault { IfErr result (λ e. FailsWith self.old text.now at e) }
+        ensures fault { IfErr result (λ e. FailsWith KeepsReader self.old text.now at (IsFaultOf text.now e)) }
     {
         let Some(n) = number_near(text, at) else {
             return Ok(None);
@@ -284,9 +285,9 @@ impl Reader {
     fn near_comma(&mut self, text: &[u8], at: usize) -> Result<Option<usize>, TextFault>
         requires size { length text.now ≤ max_text }
         requires inside { at ≤ length text.now }
-        ensures taken { IfOk result (λ to. AdvancesTo self.old self.new text.now at to) }
+        ensures taken { IfOk result (λ to. AdvancesTo KeepsReader self.old self.new text.now at to) }
         ensures ahead { IfOk result (λ to. IfSome to (λ behind. (at < behind) × (behind ≤ length text.now))) }
-        ensures fault { IfErr result (λ e. FailsWith self.old text.now at e) }
+        ensures fault { IfErr result (λ e. FailsWith KeepsReader self.old text.now at (IsFaultOf text.now e)) }
     {
         if at >= text.len() || text[at] != b',' {
             return Ok(None);
@@ -303,9 +304,9 @@ impl Reader {
     fn near_semicolon(&mut self, text: &[u8], at: usize) -> Result<usize, TextFault>
         requires size { length text.now ≤ max_text }
         requires inside { at ≤ length text.now }
-        ensures taken { IfOk result (λ to. Advances self.old self.new text.now at to) }
+        ensures taken { IfOk result (λ to. Advances KeepsReader self.old self.new text.now at to) }
         ensures ahead { IfOk result (λ to. (at ≤ to) × (to ≤ length text.now)) }
-        ensures fault { IfErr result (λ e. FailsWith self.old text.now at e) }
+        ensures fault { IfErr result (λ e. FailsWith KeepsReader self.old text.now at (IsFaultOf text.now e)) }
     {
         if at >= text.len() || text[at] != b';' {
             return Ok(at);
@@ -322,9 +323,9 @@ impl Reader {
     fn line_end(&mut self, text: &[u8], from: usize) -> Result<usize, TextFault>
         requires size { length text.now ≤ max_text }
         requires inside { from ≤ length text.now }
-        ensures taken { IfOk result (λ to. Advances self.old self.new text.now from to) }
+        ensures taken { IfOk result (λ to. Advances KeepsReader self.old self.new text.now from to) }
         ensures ahead { IfOk result (λ to. (from ≤ to) × (to ≤ length text.now)) }
-        ensures fault { IfErr result (λ e. FailsWith self.old text.now from e) }
+        ensures fault { IfErr result (λ e. FailsWith KeepsReader self.old text.now from (IsFaultOf text.now e)) }
     {
         let mut at = from;
         'successors: while let Some(next) = self.near_comma(text, at)? {
@@ -341,9 +342,9 @@ impl Reader {
     fn line(&mut self, text: &[u8], from: usize) -> Result<usize, TextFault>
         requires size { length text.now ≤ max_text }
         requires inside { from ≤ length text.now }
-        ensures taken { IfOk result (λ to. Advances self.old self.new text.now from to) }
+        ensures taken { IfOk result (λ to. Advances KeepsReader self.old self.new text.now from to) }
         ensures ahead { IfOk result (λ to. (from ≤ to) × (to ≤ length text.now)) }
-        ensures fault { IfErr result (λ e. FailsWith self.old text.now from e) }
+        ensures fault { IfErr result (λ e. FailsWith KeepsReader self.old text.now from (IsFaultOf text.now e)) }
     {
         let Some(id) = self.near_number(text, from)? else {
             return Ok(from);
@@ -364,9 +365,9 @@ impl Reader {
     fn lines(&mut self, text: &[u8], from: usize) -> Result<usize, TextFault>
         requires size { length text.now ≤ max_text }
         requires inside { from ≤ length text.now }
-        ensures taken { IfOk result (λ to. Advances self.old self.new text.now from to) }
+        ensures taken { IfOk result (λ to. Advances KeepsReader self.old self.new text.now from to) }
         ensures ahead { IfOk result (λ to. (from ≤ to) × (to ≤ length text.now)) }
-        ensures fault { IfErr result (λ e. FailsWith self.old text.now from e) }
+        ensures fault { IfErr result (λ e. FailsWith KeepsReader self.old text.now from (IsFaultOf text.now e)) }
     {
         let mut at = from;
         'lines: while begins_line(self.state) {
@@ -381,7 +382,8 @@ impl Reader {
 
     /// What was read, at the end of the text.
     fn finish(self, end: u32) -> Result<Specs, TextFault>
-        ensures { (text : List ℕ) → (ts : List Placed) → Spells 0 text ts → end ≡ length text → KeepsReader ts self → MatchResult result (λ specs. SpellsSpecs text specs) (λ e. IsFaultOf text e) }
+        ensures { (text : List ℕ) → (ts : List Placed) → Spells 0 text ts → end ≡ length text → KeepsReader ts self
+            → MatchResult result (λ specs. SpellsSpecs text specs) (λ e. IsFaultOf text e) }
     {
         if !is_complete(self.state) {
             return Err(TextFault::Syntax(end));
@@ -402,7 +404,7 @@ fn unexpected(text: &[u8], from: usize, to: usize) -> TextFault
     requires size { length text.now ≤ max_text }
     requires order { from ≤ to }
     requires within { to ≤ length text.now }
-    ensures { IsUnexpected text.now from to → IsFaultOf text.now result }
+    ensures { IsUnexpected BeginsGameText text.now from to → IsFaultOf text.now result }
 {
     match first_bad(text, to) {
         Some(bad) => TextFault::Lexical(bad as u32),

@@ -6,7 +6,7 @@ ghost use Rattle.pg_text.specs.Written.{written_choice};
 use itoa::write_digits;
 use pg_game::Game;
 
-/// Writes a number whose digits end at a place of the line, and answers where they begin.
+/// Writes a number whose digits end at a place of the line, with ten bytes at least before it, and answers where they begin.
 #[inline]
 pub fn number_before(line: &mut [u8], end: usize, n: u32) -> usize
     requires room { 10 ≤ end }
@@ -45,7 +45,8 @@ pub fn end_before(line: &mut [u8]) -> usize
     byte_before(line, at, b';')
 }
 
-/// Writes a space and the choice's identifier before a place of the line, where there is a choice.
+/// Writes a space and the choice's identifier before a place of the line, where there is a choice, with eleven bytes at
+/// least before it. Answers where what is written begins.
 #[inline]
 pub fn choice_before(line: &mut [u8], end: usize, game: &Game, choice: Option<u32>) -> usize
     requires room { 11 ≤ end }

@@ -8,11 +8,12 @@
 //! left to the lexer.
 ghost use Rattle.std.specs.Prelude.{◌≡◌, ℕ, ◌+◌, ◌<◌, ◌≤◌, length, true, false, map, IfOk, IfErr, IfSome, MatchResult, None, List, []};
 ghost use Rattle.pg_text.specs.Token.{Number, Word, Semicolon, Placed, Spells};
+ghost use Rattle.pg_text.specs.SolutionText.{BeginsSolutionText};
 ghost use Rattle.pg_text.specs.private.Piece.{fitting};
 ghost use Rattle.pg_text.specs.private.SolutionKeeps.{KeepsReader, Takes, line_of, is_complete};
 ghost use Rattle.pg_text.specs.Reading.{max_text, SpellsSolution};
-ghost use Rattle.pg_text.specs.private.SolutionReading.{IsLineFaultOf, IsUnexpected, TakesPiece};
-ghost use Rattle.pg_text.specs.private.SolutionAdvance.{Advances, AdvancesTo, FailsWith};
+ghost use Rattle.pg_text.specs.private.SolutionReading.{IsLineFaultOf};
+ghost use Rattle.pg_text.specs.private.Advance.{Advances, AdvancesTo, FailsWith, TakesPiece, IsUnexpected};
 
 use crate::fault::SolutionTextFault;
 use crate::lexer::{Kind, Piece, first_bad, next_token, number_near};
@@ -171,7 +172,7 @@ impl Reader {
         requires size { length text.now ≤ max_text }
         requires order { piece.from ≤ piece.to }
         requires within { piece.to ≤ length text.now }
-        ensures taken { IfOk result (λ taken. TakesPiece self.old self.new text.now piece taken) }
+        ensures taken { IfOk result (λ taken. TakesPiece (Takes self.old self.new) text.now piece taken) }
         ensures memory { IfErr result (λ e. e ≡ SolutionTextFault.Memory) }
     {
         match piece.kind {
@@ -190,9 +191,9 @@ impl Reader {
     fn near_number(&mut self, text: &[u8], at: usize) -> Result<Option<usize>, SolutionTextFault>
         requires size { length text.now ≤ max_text }
         requires inside { at ≤ length text.now }
-        ensures taken { IfOk result (λ to. AdvancesTo self.old self.new text.now at to) }
+        ensures taken { IfOk result (λ to. AdvancesTo KeepsReader self.old self.new text.now at to) }
         ensures ahead { IfOk result (λ to. IfSome to (λ behind. (at < behind) × (behind ≤ length text.now))) }
-        ensures fault { IfErr result (λ e. FailsWith self.old text.now at e) }
+        ensures fault { IfErr result (λ e. FailsWith KeepsReader self.old text.now at (IsLineFaultOf text.now e)) }
     {
         let Some(n) = number_near(text, at) else {
             return Ok(None);
@@ -209,9 +210,9 @@ impl Reader {
     fn near_semicolon(&mut self, text: &[u8], at: usize) -> Result<usize, SolutionTextFault>
         requires size { length text.now ≤ max_text }
         requires inside { at ≤ length text.now }
-        ensures taken { IfOk result (λ to. Advances self.old self.new text.now at to) }
+        ensures taken { IfOk result (λ to. Advances KeepsReader self.old self.new text.now at to) }
         ensures ahead { IfOk result (λ to. (at ≤ to) × (to ≤ length text.now)) }
-        ensures fault { IfErr result (λ e. FailsWith self.old text.now at e) }
+        ensures fault { IfErr result (λ e. FailsWith KeepsReader self.old text.now at (IsLineFaultOf text.now e)) }
     {
         if at >= text.len() || text[at] != b';' {
             return Ok(at);
@@ -228,9 +229,9 @@ impl Reader {
     fn line(&mut self, text: &[u8], from: usize) -> Result<usize, SolutionTextFault>
         requires size { length text.now ≤ max_text }
         requires inside { from ≤ length text.now }
-        ensures taken { IfOk result (λ to. Advances self.old self.new text.now from to) }
+        ensures taken { IfOk result (λ to. Advances KeepsReader self.old self.new text.now from to) }
         ensures ahead { IfOk result (λ to. (from ≤ to) × (to ≤ length text.now)) }
-        ensures fault { IfErr result (λ e. FailsWith self.old text.now from e) }
+        ensures fault { IfErr result (λ e. FailsWith KeepsReader self.old text.now from (IsLineFaultOf text.now e)) }
     {
         let Some(id) = self.near_number(text, from)? else {
             return Ok(from);
@@ -248,9 +249,9 @@ impl Reader {
     fn lines(&mut self, text: &[u8], from: usize) -> Result<usize, SolutionTextFault>
         requires size { length text.now ≤ max_text }
         requires inside { from ≤ length text.now }
-        ensures taken { IfOk result (λ to. Advances self.old self.new text.now from to) }
+        ensures taken { IfOk result (λ to. Advances KeepsReader self.old self.new text.now from to) }
         ensures ahead { IfOk result (λ to. (from ≤ to) × (to ≤ length text.now)) }
-        ensures fault { IfErr result (λ e. FailsWith self.old text.now from e) }
+        ensures fault { IfErr result (λ e. FailsWith KeepsReader self.old text.now from (IsLineFaultOf text.now e)) }
     {
         let mut at = from;
         'lines: while let State::Ready = self.state {
@@ -265,7 +266,8 @@ impl Reader {
 
     /// What was read, at the end of the text.
     fn finish(self, end: u32) -> Result<Vec<SolutionLine>, SolutionTextFault>
-        ensures { (text : List ℕ) → (ts : List Placed) → Spells 0 text ts → end ≡ length text → KeepsReader ts self → MatchResult result (λ lines. SpellsSolution text (map line_of lines.items)) (λ e. IsLineFaultOf text e) }
+        ensures { (text : List ℕ) → (ts : List Placed) → Spells 0 text ts → end ≡ length text → KeepsReader ts self
+            → MatchResult result (λ lines. SpellsSolution text (map line_of lines.items)) (λ e. IsLineFaultOf text e) }
     {
         if !is_complete(self.state) {
             return Err(SolutionTextFault::Syntax(end));
@@ -286,7 +288,7 @@ fn unexpected(text: &[u8], from: usize, to: usize) -> SolutionTextFault
     requires size { length text.now ≤ max_text }
     requires order { from ≤ to }
     requires within { to ≤ length text.now }
-    ensures { IsUnexpected text.now from to → IsLineFaultOf text.now result }
+    ensures { IsUnexpected BeginsSolutionText text.now from to → IsLineFaultOf text.now result }
 {
     match first_bad(text, to) {
         Some(bad) => SolutionTextFault::Lexical(bad as u32),

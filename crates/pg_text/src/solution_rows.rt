@@ -52,7 +52,8 @@ impl Table {
     fn take(&mut self, game: &Game, line: &SolutionLine) -> Result<(), SolutionTextFault>
         requires rows { length self.old.rows.items ≡ length game.now }
         requires marks { length self.old.said ≡ length game.now }
-        ensures { (lines : List WrittenSolutionLine) → HoldsTable game.now lines self.old → MatchResult result (λ _. HoldsTable game.now (lines ++ line_of line.now ∷ []) self.new) (λ e. IsStrangerOf game.now (line_of line.now) e) }
+        ensures { (lines : List WrittenSolutionLine) → HoldsTable game.now lines self.old
+            → MatchResult result (λ _. HoldsTable game.now (lines ++ line_of line.now ∷ []) self.new) (λ e. IsStrangerOf game.now (line_of line.now) e) }
     {
         let v = named(game, line.id)?;
         let choice = match line.choice {
@@ -67,7 +68,8 @@ impl Table {
     fn put(&mut self, v: u32, id: u32, row: (Player, Option<u32>))
         requires row { v < length self.old.rows.items }
         requires mark { v < length self.old.said }
-        ensures { (g : Graph) (lines : List WrittenSolutionLine) (l : WrittenSolutionLine) → HoldsTable g lines self.old → IsNamed g l.id v → l.id ≡ id → row ≡ row_of_line g l → first_stranger g (l ∷ []) ≡ None → HoldsTable g (lines ++ l ∷ []) self.new }
+        ensures { (g : Graph) (lines : List WrittenSolutionLine) (l : WrittenSolutionLine) → HoldsTable g lines self.old → IsNamed g l.id v → l.id ≡ id
+            → row ≡ row_of_line g l → first_stranger g (l ∷ []) ≡ None → HoldsTable g (lines ++ l ∷ []) self.new }
     {
         if self.said.has(v) {
             if self.twice.is_none() {
@@ -82,7 +84,8 @@ impl Table {
     /// The rows, where each vertex has one line.
     fn finish(self, game: &Game) -> Result<Solution, SolutionTextFault>
         requires { length self.said ≡ length game.now }
-        ensures { (lines : List WrittenSolutionLine) → HoldsTable game.now lines self → MatchResult result (λ s. AreLinesOf game.now lines s.rows) (λ e. IsRowFaultOf game.now lines e) }
+        ensures { (lines : List WrittenSolutionLine) → HoldsTable game.now lines self
+            → MatchResult result (λ s. AreLinesOf game.now lines s.rows) (λ e. IsRowFaultOf game.now lines e) }
     {
         if let Some(id) = self.twice {
             return Err(SolutionTextFault::Twice(id));
@@ -114,7 +117,8 @@ impl Table {
     fn known(self, alloc: Global, game: &Game) -> Result<Known, SolutionTextFault>
         requires rows { length self.rows.items ≡ length game.now }
         requires marks { length self.said ≡ length game.now }
-        ensures { (lines : List WrittenSolutionLine) → HoldsTable game.now lines self → MatchResult result (λ k. AreKnownLinesOf game.now lines k.rows) (λ e. IsKnownRowFaultOf game.now lines e) }
+        ensures { (lines : List WrittenSolutionLine) → HoldsTable game.now lines self
+            → MatchResult result (λ k. AreKnownLinesOf game.now lines k.rows) (λ e. IsKnownRowFaultOf game.now lines e) }
     {
         if let Some(id) = self.twice {
             return Err(SolutionTextFault::Twice(id));
@@ -160,7 +164,8 @@ pub fn known_of(
     lines: &[SolutionLine],
 ) -> Result<Known, SolutionTextFault>
     ensures size { IfOk result (λ k. length k.rows ≡ length game.now) }
-    ensures rows { MatchResult result (λ k. AreKnownLinesOf game.now (map line_of lines.now) k.rows) (λ e. IsKnownRowFaultOf game.now (map line_of lines.now) e) }
+    ensures rows { MatchResult result (λ k. AreKnownLinesOf game.now (map line_of lines.now) k.rows)
+        (λ e. IsKnownRowFaultOf game.now (map line_of lines.now) e) }
 {
     table_of(alloc, game, lines)?.known(alloc, game)
 }

@@ -1,6 +1,7 @@
 //! The one written spelling of games, solutions and winners: one line for each vertex in rising identifier, behind a header
 //! with the greatest identifier. Numbers have no leading zeros (`itoa` writes them); there is no start line and no name.
-ghost use Rattle.std.specs.Prelude.{◌≡◌, ℕ, ◌<◌, ◌≤◌, ◌++◌, ◌+◌, ◌*◌, ◌^◌, ◌∷◌, [], length, drop, slice_index, codes, decimal, flat_map, map, IfOk, OnOk, IfSome};
+ghost use Rattle.std.specs.Prelude.{◌≡◌, ℕ, ◌<◌, ◌≤◌, ◌++◌, ◌+◌, ◌*◌, ◌^◌, ◌∷◌, [], length, drop, slice_index, codes, decimal, flat_map, map, IfOk};
+ghost use Rattle.std.specs.Prelude.{OnOk, IfSome};
 ghost use Rattle.std.specs.List.{join_with_byte};
 ghost use Rattle.pg_game.specs.Graph.{id_of, priority_of, owner_of, successors_of, vertex_at};
 ghost use Rattle.pg_game.specs.Player.{digit_of};
@@ -53,7 +54,7 @@ fn put_row(out: &mut Vec<u8>, game: &Game, v: u32, row: (Player, Option<u32>)) -
     out.extend_from_slice(&line[at..])
 }
 
-/// The written winners and choices of a game, with a choice where the solution has one: at most 1,638,422 bytes. Refused with
+/// The written winners and choices of a game, with a choice where the solution has one: at most 26,214,422 bytes. Refused with
 /// `Memory` alone.
 pub fn write_solution(alloc: Global, game: &Game, solution: &Solution) -> Result<Vec<u8>, Memory>
     requires { AreSolutionRows game.now solution.now.rows }
@@ -69,7 +70,7 @@ pub fn write_solution(alloc: Global, game: &Game, solution: &Solution) -> Result
     Ok(out)
 }
 
-/// The written winners of a game, without any choice: at most 917,526 bytes. Refused with `Memory` alone.
+/// The written winners of a game, without any choice: at most 14,680,086 bytes. Refused with `Memory` alone.
 pub fn write_winners(alloc: Global, game: &Game, solution: &Solution) -> Result<Vec<u8>, Memory>
     requires { AreSolutionRows game.now solution.now.rows }
     ensures text { IfOk result (λ text. text.items ≡ written_winners game.now solution.now.rows) }
@@ -111,7 +112,8 @@ fn fields_before(line: &mut [u8], end: usize, game: &Game, v: u32) -> usize
     requires vertex { v < length game.now }
     requires room { 33 ≤ end }
     requires within { end ≤ length line.old }
-    ensures written { drop result line.new ≡ decimal (id_of game.now v) ++ (32 ∷ decimal (priority_of game.now v) ++ (32 ∷ decimal (digit_of (owner_of game.now v)) ++ (32 ∷ drop end line.old))) }
+    ensures written { drop result line.new ≡ decimal (id_of game.now v)
+        ++ (32 ∷ decimal (priority_of game.now v) ++ (32 ∷ decimal (digit_of (owner_of game.now v)) ++ (32 ∷ drop end line.old))) }
     ensures before { result ≤ end }
     ensures size { length line.new ≡ length line.old }
 {
@@ -156,7 +158,7 @@ fn game_room(game: &Game) -> usize {
     room
 }
 
-/// The one written spelling of a game: at most 13,172,755 bytes. Refused with `Memory` alone.
+/// The one written spelling of a game: at most 210,763,795 bytes. Refused with `Memory` alone.
 pub fn write_game(alloc: Global, game: &Game) -> Result<Vec<u8>, Memory>
     ensures text { IfOk result (λ text. text.items ≡ written_game game.now) }
     ensures short { IfOk result (λ text. length text.items ≤ greatest_game_text) }

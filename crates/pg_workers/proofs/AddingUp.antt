@@ -16,7 +16,8 @@ use Rattle.pg_workers.specs.private.Rest.{IsLater}
 use Rattle.pg_workers.specs.private.Known.{HasSettled}
 use Rattle.pg_workers.specs.Outcomes.{IsOutcome}
 
-pub adds_up : (old new : Play) (report : List ReportRow) (known : ℕ) → IsLater 2 old new → settled_in report + known ≡ number_settled old.journal → AddsUp known new.journal report
+pub adds_up : (old new : Play) (report : List ReportRow) (known : ℕ) → IsLater 2 old new → settled_in report + known ≡ number_settled old.journal
+    → AddsUp known new.journal report
 adds_up old new report known later is =
     let long = ap length later.journal ∙ length-append old.journal later.added in
     let few = later.few in
@@ -25,18 +26,22 @@ adds_up old new report known later is =
       within = omega arith;
       last = omega arith;
       settled = is ∙ ap number_settled (sym (ap (take (length old.journal)) later.journal ∙ take-append_seam old.journal later.added));
-      by_caller = subst (AllByRecursion (λ (e : Entry). e.worker ≡ 0)) (sym (ap (drop (length old.journal)) later.journal ∙ drop-append_seam old.journal later.added)) later.by_caller;
+      by_caller =
+          subst (AllByRecursion (λ (e : Entry). e.worker ≡ 0))
+          (sym (ap (drop (length old.journal)) later.journal ∙ drop-append_seam old.journal later.added)) later.by_caller;
     }
 
 -- what a run gives once nothing is left on its board
-pub is_outcome : (old new : Play) (known : KnownRows) (workers : ℕ) (o : Outcome) → IsLater 2 old new → o.entries.items ≡ new.journal → IsLawful new.graph new.journal → IsFull new.graph (state_of new.journal)
-    → AreStateRows new.graph (state_of new.journal) o.solution.rows → IsExactSolution new.graph o.solution.rows
-    → length o.report.items ≡ vec_len o.report → AreNumbered o.report.items → IsReport workers o.report.items → HasSettled old.graph known o.report.items old.journal
-    → IsOutcome old.graph known (vec_len o.report) workers o
+pub is_outcome : (old new : Play) (known : KnownRows) (workers : ℕ) (o : Outcome) → IsLater 2 old new → o.entries.items ≡ new.journal
+    → IsLawful new.graph new.journal → IsFull new.graph (state_of new.journal) → AreStateRows new.graph (state_of new.journal) o.solution.rows
+    → IsExactSolution new.graph o.solution.rows → length o.report.items ≡ vec_len o.report → AreNumbered o.report.items
+    → IsReport workers o.report.items → HasSettled old.graph known o.report.items old.journal → IsOutcome old.graph known (vec_len o.report) workers o
 is_outcome old new known workers o later is lawful full state exact long numbered report (n, size, sum) = record {
   lawful = subst (λ (j : Journal). IsLawful old.graph j) (sym is) (subst (λ (g : Graph). IsLawful g new.journal) later.graph lawful);
   full = subst (λ (j : Journal). IsFull old.graph (state_of j)) (sym is) (subst (λ (g : Graph). IsFull g (state_of new.journal)) later.graph full);
-  state = subst (λ (j : Journal). AreStateRows old.graph (state_of j) o.solution.rows) (sym is) (subst (λ (g : Graph). AreStateRows g (state_of new.journal) o.solution.rows) later.graph state);
+  state =
+      subst (λ (j : Journal). AreStateRows old.graph (state_of j) o.solution.rows) (sym is)
+      (subst (λ (g : Graph). AreStateRows g (state_of new.journal) o.solution.rows) later.graph state);
   exact = subst (λ (g : Graph). IsExactSolution g o.solution.rows) later.graph exact;
   report = (long, numbered);
   rows = report;

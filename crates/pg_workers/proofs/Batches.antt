@@ -1,6 +1,6 @@
 -- Sizes of batches, as they are tried one after the other.
-use Rattle.std.proofs.Common.{◌≡◌, ◌≢◌, ◌≤◌, ◌<◌, ◌*◌, ◌/◌, ℕ, zero, suc, ◌+◌, ◌-◌, ◌^◌, Bool, true, false, ◌⊎◌, inl, inr, refl, sym, ◌∙◌, subst, arith, ltb-true}
-use Rattle.std.specs.Prelude.{nat_lt, ◌==◌}
+use Rattle.std.proofs.Common.{◌≡◌, ◌≢◌, ◌≤◌, ◌<◌, ◌*◌, ◌/◌, ℕ, zero, suc, ◌+◌, ◌-◌, ◌^◌, Bool, true, false}
+use Rattle.std.proofs.Common.{◌⊎◌, inl, inr, refl, sym, ◌∙◌, subst, arith, ltb-true, nat_lt, ◌==◌}
 use Rattle.std.proofs.Math.Nat.{le-div_iff_mul-le, two-pow-succ}
 use Rattle.std.proofs.lemmas.Bool.{false_from_ne_true}
 use Rattle.pg_game.specs.Specification.{max_vertices}
@@ -80,7 +80,9 @@ next_tried n size r many = go r.left r.same r.within
     }
 
 pub last_tried : (n size : ℕ) → IsTried n size → batches_of size n ≤ most_batches → size ≡ batch_of n
-last_tried n size r few = sym (none_more n size r.left (false_from_ne_true (nat_lt most_batches (batches_of size n)) (λ t. let h : most_batches < batches_of size n = ltb-true most_batches (batches_of size n) t in omega (arith, h, few)))) ∙ r.same
+last_tried n size r few =
+    sym (none_more n size r.left (false_from_ne_true (nat_lt most_batches (batches_of size n))
+    (λ t. let h : most_batches < batches_of size n = ltb-true most_batches (batches_of size n) t in omega (arith, h, few)))) ∙ r.same
 
 -- each batch begins below the number of vertices
 begins_below : (n size k : ℕ) → 64 ≤ size → k < batches_of size n → size * k ≤ n
@@ -93,13 +95,15 @@ begins_below n size k some l =
     next_below x y h = omega (arith, h)
 
 -- a search that is not the last job has a batch
-pub has_batch : (bound n number : ℕ) → number < total_of bound n → (number ≢ 0) → (number ≢ 1) → (number + 1 ≢ total_of bound n) → (number - 2) / 2 < batches n
+pub has_batch : (bound n number : ℕ) → number < total_of bound n → (number ≢ 0) → (number ≢ 1) → (number + 1 ≢ total_of bound n)
+    → (number - 2) / 2 < batches n
 has_batch bound n number l a b d = go (bound == 0) refl
   where
     go : (t : Bool) → (bound == 0) ≡ t → (number - 2) / 2 < batches n
     go true e = absurd (let m : total_of bound n ≡ 3 = rw e refl in omega (arith, l, a, b, d, m))
     go false e = let m : total_of bound n ≡ 3 + 2 * batches n = rw e refl in omega (arith, l, a, b, d, m)
 
-pub job_begins : (bound n number size : ℕ) → size ≡ batch_of n → 64 ≤ size → number < total_of bound n → (number ≢ 0) → (number ≢ 1) → (number + 1 ≢ total_of bound n) → size * ((number - 2) / 2) ≤ n
+pub job_begins : (bound n number size : ℕ) → size ≡ batch_of n → 64 ≤ size → number < total_of bound n → (number ≢ 0) → (number ≢ 1)
+    → (number + 1 ≢ total_of bound n) → size * ((number - 2) / 2) ≤ n
 job_begins bound n number size e some l a b d =
     begins_below n size ((number - 2) / 2) some (subst (λ (s : ℕ). (number - 2) / 2 < batches_of s n) (sym e) (has_batch bound n number l a b d))

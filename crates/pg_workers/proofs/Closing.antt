@@ -1,6 +1,6 @@
 -- What the tickets drew, put together.
-use Rattle.std.proofs.Common.{◌≡◌, ℕ, ◌+◌, ◌<◌, List, [], ◌∷◌, ◌++◌, All, length, get_or, map, refl, sym, ap, ◌∙◌, subst, arith, length-append, append_assoc, append-nil}
-use Rattle.std.specs.Prelude.{◌==◌, min, cond, count_by, sum_by, flat_map}
+use Rattle.std.proofs.Common.{◌≡◌, ℕ, ◌+◌, ◌<◌, List, [], ◌∷◌, ◌++◌, All, length, get_or, map, refl, sym, ap, ◌∙◌, subst, arith}
+use Rattle.std.proofs.Common.{length-append, append_assoc, append-nil, ◌==◌, min, cond, count_by, sum_by, flat_map}
 use Rattle.std.specs.List.{remove}
 use Rattle.std.proofs.lemmas.List.{map-append}
 use Rattle.std.proofs.lemmas.List.Concat.{flat_map-append, length-flat_map}
@@ -32,15 +32,16 @@ module _ {X : Type 0} where
       a ∙ omega arith ∙ sym c
 
 -- one more of both lists
-pub listed-push : {X Y Z : Type 0} (f : X → Z) (g : Y → Z) (now was first : List X) (x : X) (ts : List Y) (t : Y)
-    → now ≡ was ++ x ∷ [] → map f was ≡ map f first ++ map g ts → f x ≡ g t → map f now ≡ map f first ++ map g (ts ++ t ∷ [])
+pub listed-push : {X Y Z : Type 0} (f : X → Z) (g : Y → Z) (now was first : List X) (x : X) (ts : List Y) (t : Y) → now ≡ was ++ x ∷ []
+    → map f was ≡ map f first ++ map g ts → f x ≡ g t → map f now ≡ map f first ++ map g (ts ++ t ∷ [])
 listed-push f g now was first x ts t is h same =
     ap (map f) is ∙ map-append f was (x ∷ []) ∙ ap (λ l. l ++ f x ∷ []) h ∙ append_assoc (map f first) (map g ts) (f x ∷ [])
     ∙ ap (λ l. map f first ++ l) (ap (λ z. map g ts ++ z ∷ []) same ∙ sym (map-append g ts (t ∷ [])))
 
 -- the lists of all tickets, by what the last seat knows
-pub drawn_by_all : (total word told : ℕ) (drawn : List ℕ) (ts : List HeldTicket) → ((x : ℕ) → times x drawn ≡ once_below x (min total word)) → length drawn ≡ min total word → word ≡ min total word + told
-    → drawn ≡ flat_map (λ t. t.numbers) ts → told ≡ count_by (λ t. t.told_none) ts → AreDrawn total ts
+pub drawn_by_all : (total word told : ℕ) (drawn : List ℕ) (ts : List HeldTicket) → ((x : ℕ) → times x drawn ≡ once_below x (min total word))
+    → length drawn ≡ min total word → word ≡ min total word + told → drawn ≡ flat_map (λ t. t.numbers) ts
+    → told ≡ count_by (λ t. t.told_none) ts → AreDrawn total ts
 drawn_by_all total word told drawn ts fair long steps is told_is =
     let each : (j : ℕ) → sum_by (λ (t : HeldTicket). times j t.numbers) ts ≡ once_below j (min total word) =
     λ j. sym (times-flat_map j (λ (t : HeldTicket). t.numbers) ts) ∙ ap (times j) (sym is) ∙ fair j in

@@ -28,7 +28,8 @@ module _ {X : Type 0} where
       let b = sum_by-le_each f g xs (λ i y e. h (suc i) y e) in
       let c = sum_by-cons f x xs in let d = sum_by-cons g x xs in omega arith
 
-  none_left : (f g : X → ℕ) (xs : List X) → sum_by g xs ≡ 0 → ((i : ℕ) (x : X) → get_elem? xs i ≡ some x → g x ≡ 0 → f x ≡ 0) → sum_by f xs ≡ 0
+  none_left : (f g : X → ℕ) (xs : List X) → sum_by g xs ≡ 0 → ((i : ℕ) (x : X) → get_elem? xs i ≡ some x → g x ≡ 0 → f x ≡ 0)
+      → sum_by f xs ≡ 0
   none_left f g [] e h = omega arith
   none_left f g (x ∷ xs) e h =
       let c = sum_by-cons f x xs in let d = sum_by-cons g x xs in
@@ -36,7 +37,8 @@ module _ {X : Type 0} where
       let b = none_left f g xs (omega arith) (λ i y e'. h (suc i) y e') in omega arith
 
   -- where one has all of g, and f is 0 where g is, it has all of f
-  pub alone : (f g : X → ℕ) (xs : List X) (i : ℕ) (x : X) → get_elem? xs i ≡ some x → sum_by g xs ≡ g x → ((j : ℕ) (y : X) → get_elem? xs j ≡ some y → g y ≡ 0 → f y ≡ 0) → sum_by f xs ≡ f x
+  pub alone : (f g : X → ℕ) (xs : List X) (i : ℕ) (x : X) → get_elem? xs i ≡ some x → sum_by g xs ≡ g x
+      → ((j : ℕ) (y : X) → get_elem? xs j ≡ some y → g y ≡ 0 → f y ≡ 0) → sum_by f xs ≡ f x
   alone f g [] i x at e h = absurd (some-ne-none x (sym at))
   alone f g (z ∷ zs) zero x at e h =
       let same = some-injective _ _ at in

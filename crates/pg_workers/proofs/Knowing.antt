@@ -1,12 +1,12 @@
 -- Posting a known set settles it exactly where it is a region, and else is refused for a reason of the set.
 use mathlib.Core.Path.{fun_ext}
-use Rattle.std.proofs.Common.{◌≡◌, ℕ, zero, suc, ◌<◌, Bool, true, false, ◌||◌, ◌&&◌, ◌⊎◌, ◌↔◌, inl, inr, List, [], ◌∷◌, length, refl, sym, ◌∙◌, ap, subst, arith, lt-ltb, ltb-true, Ok, Err}
+use Rattle.std.proofs.Common.{◌≡◌, ℕ, zero, suc, ◌<◌, Bool, true, false, ◌||◌, ◌↔◌, inl, inr, List, [], ◌∷◌, length, refl, sym}
+use Rattle.std.proofs.Common.{◌∙◌, ap, subst, arith, lt-ltb, ltb-true, Ok, Err, Option, nat_lt, if◌then◌else◌}
 use Rattle.std.proofs.Math.Bool.{or-false}
-use Rattle.std.specs.Prelude.{Option, nat_lt, if◌then◌else◌}
 use Rattle.std.specs.List.{Contains}
 use Rattle.std.specs.Cmp.{nat_eq_equiv}
-use Rattle.std.proofs.lemmas.Bool.{eqb-true, eq-eqb}
-use Rattle.std.proofs.lemmas.List.{length-map}
+use Rattle.std.proofs.lemmas.Bool.{eqb-true, and_parts, and_from, cases_Bool, false_from_ne_true}
+use Rattle.std.proofs.lemmas.List.{length-map, nil_from_length}
 use Rattle.std.proofs.lemmas.List.Sums.{sum_by_push}
 use Rattle.std.proofs.lemmas.Map.Views.{Contains-from_any, list_any-from_Contains}
 use Rattle.pg_game.specs.declared.player.Player.{Player}
@@ -17,9 +17,9 @@ use Rattle.pg_game.specs.VertexSet.{VertexSet, In, all_vertices, no_vertices, un
 use Rattle.pg_game.specs.Kept.{Choices, kept, option_list, KeptEdge}
 use Rattle.pg_game.specs.Attractor.{Attractor}
 use Rattle.pg_game.specs.Region.{IsRegion}
-use Rattle.pg_game.proofs.Edges.{edge_inside}
 use Rattle.pg_game.proofs.Walks.{ClosedWalk-weaker}
 use Rattle.pg_game.proofs.Disjoint.{kept_own, kept_other}
+use Rattle.pg_game.proofs.Players.{is_same}
 use Rattle.pg_text.specs.Known.{KnownRows, known_of, known_choice}
 use Rattle.pg_dominion.specs.declared.claim.Claim.{Claim}
 use Rattle.pg_dominion.specs.Claim.{ClaimRows, named, choice_in}
@@ -27,7 +27,7 @@ use Rattle.pg_finders.specs.Claims.{own_choices}
 use Rattle.pg_finders.specs.private.Solved.{WinsOn}
 use Rattle.pg_finders.proofs.Good.{good_rows}
 use Rattle.pg_finders.proofs.Rows.{RowsOf, rows_of_below}
-use Rattle.pg_finders.proofs.Sets.{is_same, not_same, test, equal_from, pair}
+use Rattle.pg_finders.proofs.Sets.{not_same, equal_from}
 use Rattle.pg_board.specs.declared.entry.Entry.{Entry}
 use Rattle.pg_board.specs.declared.entry.Posted.{Posted}
 use Rattle.pg_board.specs.declared.refusal.Refusal.{Refusal}
@@ -38,10 +38,11 @@ use Rattle.pg_board.specs.Journal.{Journal, state_of, IsLawful, IsDominionAfter,
 use Rattle.pg_board.specs.Post.{Adds, AnswersDominion, SettlesDominion, SettlesUnlessMemory}
 use Rattle.pg_board.specs.Refusal.{Refuses}
 use Rattle.pg_board.proofs.Copies.{dominion_now}
-use Rattle.pg_board.proofs.Named.{named_right}
-use Rattle.pg_board.proofs.Numbers.{lawful_now, in_vertices}
+use Rattle.pg_dominion.proofs.Rows.{named_right}
+use Rattle.pg_board.proofs.Numbers.{in_vertices}
 use Rattle.pg_board.proofs.Opening.{none_distinct, no_region, attracts_none, lawful_none}
-use Rattle.pg_board.proofs.Push.{neither_open, once_rows, ours_named}
+use Rattle.pg_board.proofs.Push.{IsAdded, neither_open, once_rows, ours_named}
+use Rattle.pg_board.proofs.Places.{row_at, named_at}
 use Rattle.pg_board.proofs.RestIsGood.{vertices, in_rest, to_rest}
 use Rattle.pg_workers.specs.Known.{IsKnownRegion, known_rows, IsAttractedToKnown, HasCount, HasNone, IsRefusedKnown, IsBefore, IsSolveFault}
 use Rattle.pg_workers.specs.private.Known.{SettlesKnown, IsKnownFault, HasKnown, fault_of}
@@ -54,10 +55,6 @@ known_below [] p v i = absurd (cc i)
 known_below (r ∷ known) p zero i = omega arith
 known_below (r ∷ known) p (suc v) i = let h = known_below known p v i in omega arith
 
-or_none : (a b : Bool) → a ≡ false → (a || b) ≡ b
-or_none true b h = absurd (cc h)
-or_none false b h = refl
-
 -- the vertices of rows as a list
 in_rows : (rows : ClaimRows) (v : ℕ) → Contains (vertices rows) v ↔ In (named rows) v
 in_rows rows v = (
@@ -66,8 +63,10 @@ in_rows rows v = (
 )
 
 -- what is said of a claim, of its player and its rows
-said_of : (P : Claim → Type 0) (claim : Claim) (p : Player) (rows : ClaimRows) → claim.player ≡ p → claim.rows ≡ rows → P claim → P (record { player = p; rows = rows })
-said_of P claim p rows player is h = subst (λ (q : Player). P (record { player = q; rows = rows })) player (subst (λ (xs : ClaimRows). P (record { player = claim.player; rows = xs })) is h)
+said_of : (P : Claim → Type 0) (claim : Claim) (p : Player) (rows : ClaimRows) → claim.player ≡ p → claim.rows ≡ rows → P claim
+    → P (record { player = p; rows = rows })
+said_of P claim p rows player is h =
+    subst (λ (q : Player). P (record { player = q; rows = rows })) player (subst (λ (xs : ClaimRows). P (record { player = claim.player; rows = xs })) is h)
 
 module _ (g : Graph) (game : IsGame g) (known : KnownRows) (sized : length known ≡ length g) (p : Player) where
   abbrev K : VertexSet
@@ -95,16 +94,15 @@ module _ (g : Graph) (game : IsGame g) (known : KnownRows) (sized : length known
   own_choice v i y = facts.choice v (to_rows v i) ∙ rw y refl
 
   same_kept : (v : ℕ) → In K v → kept g p (choice_in rows) v ≡ kept g p s v
-  same_kept v i = go (test (same_player (owner_of g v) p))
-    where
-      go : (same_player (owner_of g v) p ≡ true) ⊎ (same_player (owner_of g v) p ≡ false) → kept g p (choice_in rows) v ≡ kept g p s v
-      go (inl y) = ap (λ o. if same_player (owner_of g v) p then option_list o else successors_of g v) (own_choice v i y)
-      go (inr n) = rw n refl
+  same_kept v i = elim (cases_Bool (same_player (owner_of g v) p)) [
+    | inl y ↦ ap (λ o. if same_player (owner_of g v) p then option_list o else successors_of g v) (own_choice v i y)
+    | inr n ↦ rw n refl
+  ]
 
   -- a known region is a dominion where nothing is settled
   region_held : IsKnownRegion g known p → WinsOn g (unsettled g (state_of [])) p K s
   region_held region = record {
-    within = λ v i. pair (nat_lt v (length g)) true (region.vertices v i) refl;
+    within = λ v i. and_from (nat_lt v (length g)) true (region.vertices v i) refl;
     choices = λ v i o. (let c = region.choices v i o in (c.0, c.1, c.2, region.closed v c.0 (kept_own g p K s v c.0 i (is_same (owner_of g v) p o) c.1)));
     closed = λ v w i o e u. region.closed v w (kept_other g p K s v w i (not_same (owner_of g v) p o) e);
     good = region.good;
@@ -112,32 +110,24 @@ module _ (g : Graph) (game : IsGame g) (known : KnownRows) (sized : length known
 
   region_dominion : IsKnownRegion g known p → 0 < length rows → (journal : Journal) → IsDominionAfter g journal 0 p rows
   region_dominion region n journal =
-      let d = dominion_now g (edge_inside g game) [] (lawful_none g game) p rows (good_rows g (unsettled g (state_of [])) p K s (region_held region) open_inside n) in
-      (omega arith, d.1)
-    where
-      open_inside : (v : ℕ) → In (unsettled g (state_of [])) v → v < length g
-      open_inside v i = ltb-true v (length g) (left (nat_lt v (length g)) i)
-        where
-          left : (b : Bool) → (b && true) ≡ true → b ≡ true
-          left true h = refl
-          left false h = h
+      let open_inside = λ (v : ℕ) (i : In (unsettled g (state_of [])) v). ltb-true v (length g) (and_parts (nat_lt v (length g)) true i).0 in
+      let good = good_rows g (unsettled g (state_of [])) p K s (region_held region) open_inside n in
+      (omega arith, (dominion_now g game [] (lawful_none g game) p rows good).1)
 
   -- where no vertex is known, there is nothing to post
   module _ (empty : length rows ≡ 0) where
-    none_named : (xs : ClaimRows) (v : ℕ) → length xs ≡ 0 → named xs v ≡ false
-    none_named [] v h = refl
-    none_named (r ∷ xs) v h = absurd (omega arith)
-
     none_known : K ≡ no_vertices
-    none_known = fun_ext (λ v. sym (rows_named v) ∙ none_named rows v empty)
+    none_known = fun_ext (λ v. sym (rows_named v) ∙ subst (λ (xs : ClaimRows). named xs v ≡ false) (sym (nil_from_length rows empty)) refl)
 
     empty_region : IsKnownRegion g known p
     empty_region = subst (λ (X : VertexSet). IsRegion g p X s) (sym none_known) (no_region g p s)
 
     none_attracted : (v : ℕ) → IsAttractedToKnown g known p v → ⊥
-    none_attracted v a = (let h : false ≡ true = attracts_none g game p v (subst (λ (X : VertexSet). Attractor g p (all_vertices g) X v) none_known a) in cc h)
+    none_attracted v a =
+        (let h : false ≡ true = attracts_none g game p v (subst (λ (X : VertexSet). Attractor g p (all_vertices g) X v) none_known a) in cc h)
 
-    pub settles_nothing : (journal : Journal) → HasNone journal p → SettlesKnown (record { graph = g; journal = journal }) (record { graph = g; journal = journal }) known p
+    pub settles_nothing : (journal : Journal) → HasNone journal p
+        → SettlesKnown (record { graph = g; journal = journal }) (record { graph = g; journal = journal }) known p
     settles_nothing journal none = record {
       region = empty_region;
       own = λ v. (λ i. absurd (let h = none v in cc (h, i)), λ a. absurd (none_attracted v a));
@@ -151,6 +141,9 @@ module _ (g : Graph) (game : IsGame g) (known : KnownRows) (sized : length known
     abbrev st : State
     st = state_of journal
 
+    abbrev here : Play
+    here = record { graph = g; journal = journal }
+
     open_named : (v : ℕ) → In (named rows) v → settled st (opponent p) v ≡ false → is_unsettled (st v) ≡ true
     open_named v i o = neither_open p (st v) (none v) o
 
@@ -158,7 +151,9 @@ module _ (g : Graph) (game : IsGame g) (known : KnownRows) (sized : length known
     good_region : IsGoodOn g st p rows → IsKnownRegion g known p
     good_region good = record {
       vertices = λ v i. lt-ltb v (length g) (inside v i);
-      choices = λ v i o. (let c = (named_right g p rows v good.shape.right.each (to_rows v i)).own o in (c.0, sym (own_choice v i (is_same (owner_of g v) p o)) ∙ c.1, c.2));
+      choices =
+          λ v i o. (let c = (named_right g p rows v good.shape.right.each (to_rows v i)).own o in
+          (c.0, sym (own_choice v i (is_same (owner_of g v) p o)) ∙ c.1, c.2));
       closed = λ v w k.
           (let i = to_rows v k.0 in
           let m = subst (λ (xs : List ℕ). Contains xs w) (sym (same_kept v k.0)) k.1 in
@@ -166,52 +161,46 @@ module _ (g : Graph) (game : IsGame g) (known : KnownRows) (sized : length known
           let rest = named (rest_of st rows) w in
           let inside : rest ≡ true = sym (or-false rest) ∙ ap (λ (own : Bool). rest || own) (sym (none w)) ∙ h in
           sym (rows_named w) ∙ (in_rest st rows w inside).0);
-      good = λ walk c. good.good walk (ClosedWalk-weaker (KeptEdge g p K s) (KeptEdge g p (named rows) (choice_in rows)) (λ v w k. (to_rows v k.0, subst (λ (xs : List ℕ). Contains xs w) (sym (same_kept v k.0)) k.1)) walk c);
+      good =
+          λ walk c. good.good walk (ClosedWalk-weaker (KeptEdge g p K s) (KeptEdge g p (named rows) (choice_in rows))
+          (λ v w k. (to_rows v k.0, subst (λ (xs : List ℕ). Contains xs w) (sym (same_kept v k.0)) k.1)) walk c);
     }
 
     -- where nothing is settled for the player, no rows of his are stale
     never_stale : 0 < length rows → Refuses g st p rows refusal.Stale → ⊥
     never_stale n h =
-        let r = first rows n in
-        let o = open_named r.0 r.1 (not_lost r.0 r.1) in
-        none_left (rest_of st rows) r.0 h.2 (to_rest st rows r.0 r.1 o)
-      where
-        first : (xs : ClaimRows) → 0 < length xs → (v : ℕ) × In (named xs) v
-        first [] l = absurd (omega (arith, l))
-        first (x ∷ xs) l = (x.0, rw (eq-eqb x.0 x.0 refl) refl)
-
-        not_lost : (v : ℕ) → In (named rows) v → settled st (opponent p) v ≡ false
-        not_lost v i = go (test (settled st (opponent p) v))
-          where
-            go : (settled st (opponent p) v ≡ true) ⊎ (settled st (opponent p) v ≡ false) → settled st (opponent p) v ≡ false
-            go (inl y) = absurd (h.1 v (i, y))
-            go (inr n) = n
-
-        none_left : (xs : ClaimRows) (v : ℕ) → xs ≡ [] → In (named xs) v → ⊥
-        none_left [] v e i = absurd (cc i)
-        none_left (x ∷ xs) v e i = absurd (cc e)
+        let r = row_at rows 0 in
+        let i = named_at rows 0 n in
+        let o = open_named r.0 i (false_from_ne_true (settled st (opponent p) r.0) (λ lost. h.1 r.0 (i, lost))) in
+        let left = to_rest st rows r.0 i o in
+        let none : named (rest_of st rows) r.0 ≡ false = ap (λ (xs : ClaimRows). named xs r.0) h.2 in cc (left, none)
 
     union_known : union (settled st p) (named rows) ≡ K
-    union_known = fun_ext (λ v. or_none (settled st p v) (named rows v) (none v) ∙ rows_named v)
+    union_known = fun_ext (λ v. ap (λ (own : Bool). own || named rows v) (none v) ∙ rows_named v)
 
     -- what a board that took the claim says of it
     abbrev Takes : Play → Posted → Claim → Type 0
     Takes new posted claim =
         IsGoodOn g st claim.player claim.rows
-        × Adds (record { graph = g; journal = journal }) new 0 claim posted
-        × ((k : ℕ) → IsDominionAfter g journal k claim.player claim.rows → AnswersDominion st claim.rows (Ok posted) × SettlesUnlessMemory (record { graph = g; journal = journal }) new claim.player claim.rows (Ok posted))
+        × Adds here new 0 claim posted
+        × ((k : ℕ) → IsDominionAfter g journal k claim.player claim.rows → AnswersDominion st claim.rows (Ok posted)
+        × SettlesUnlessMemory here new claim.player claim.rows (Ok posted))
 
-    settles_rows : IsLawful g journal → (new : Play) (posted : Posted) → Takes new posted (record { player = p; rows = rows }) → SettlesKnown (record { graph = g; journal = journal }) new known p
+    settles_rows : IsLawful g journal → (new : Play) (posted : Posted) → Takes new posted (record { player = p; rows = rows })
+        → SettlesKnown here new known p
     settles_rows lawful new posted (good, adds, old) = record {
       region = good_region good;
       own = own;
       other = settles.other;
       more = length adds.entry.rows;
-      size = (vertices adds.entry.rows, once_rows g (edge_inside g game) journal (lawful_now g journal lawful) p rows good adds.entry adds.answers, listed_as, length-map adds.entry.rows (λ (r : ℕ × Option ℕ). r.0));
+      size = (vertices adds.entry.rows, once_rows added, listed_as, length-map adds.entry.rows (λ (r : ℕ × Option ℕ). r.0));
       number = ap number_settled adds.journal ∙ sum_by_push (λ (e : Entry). length e.rows) journal adds.entry;
     }
       where
-        settles : SettlesDominion (record { graph = g; journal = journal }) new p rows
+        added : IsAdded g journal p rows adds.entry
+        added = record { game = game; lawful = lawful; posted = good; answers = adds.answers }
+
+        settles : SettlesDominion here new p rows
         settles = (old 0 (region_dominion (good_region good) good.shape.nonempty journal)).1
 
         own : (v : ℕ) → In (settled (state_of new.journal) p) v ↔ IsAttractedToKnown g known p v
@@ -220,8 +209,7 @@ module _ (g : Graph) (game : IsGame g) (known : KnownRows) (sized : length known
         ours : (v : ℕ) → settled (state_of new.journal) p v ≡ named adds.entry.rows v
         ours v =
             ap (λ (j : Journal). settled (state_of j) p v) adds.journal
-            ∙ (ap (λ (X : VertexSet). X v) (ours_named g (edge_inside g game) journal (lawful_now g journal lawful) p rows good adds.entry adds.answers)
-            ∙ or_none (settled st p v) (named adds.entry.rows v) (none v))
+            ∙ (ap (λ (X : VertexSet). X v) (ours_named added) ∙ ap (λ (own : Bool). own || named adds.entry.rows v) (none v))
 
         listed_as : (v : ℕ) → Contains (vertices adds.entry.rows) v ↔ IsAttractedToKnown g known p v
         listed_as v = (
@@ -229,28 +217,35 @@ module _ (g : Graph) (game : IsGame g) (known : KnownRows) (sized : length known
           λ a. (in_rows adds.entry.rows v).1 (sym (ours v) ∙ (own v).1 a),
         )
 
-    pub settles_known : IsLawful g journal → (new : Play) (posted : Posted) (claim : Claim) → claim.player ≡ p → claim.rows ≡ rows → Takes new posted claim → SettlesKnown (record { graph = g; journal = journal }) new known p
+    pub settles_known : IsLawful g journal → (new : Play) (posted : Posted) (claim : Claim) → claim.player ≡ p → claim.rows ≡ rows
+        → Takes new posted claim → SettlesKnown here new known p
     settles_known lawful new posted claim player is takes = settles_rows lawful new posted (said_of (Takes new posted) claim p rows player is takes)
 
     -- what a board that refused the claim says of it
     abbrev Refuted : Play → Refusal → Claim → Type 0
     Refuted new e claim =
         Refuses g st claim.player claim.rows e
-        × ((k : ℕ) → IsDominionAfter g journal k claim.player claim.rows → AnswersDominion st claim.rows (Err e) × SettlesUnlessMemory (record { graph = g; journal = journal }) new claim.player claim.rows (Err e))
+        × ((k : ℕ) → IsDominionAfter g journal k claim.player claim.rows → AnswersDominion st claim.rows (Err e)
+        × SettlesUnlessMemory here new claim.player claim.rows (Err e))
 
-    refused_rows : 0 < length rows → (new : Play) (e : Refusal) → Refuted new e (record { player = p; rows = rows }) → IsKnownFault g journal known p (fault_of p e)
+    refused_rows : 0 < length rows → (new : Play) (e : Refusal) → Refuted new e (record { player = p; rows = rows })
+        → IsKnownFault g journal known p (fault_of p e)
     refused_rows n new refusal.Memory r = tt
     refused_rows n new refusal.Stale r = absurd (never_stale n r.0)
     refused_rows n new (refusal.Foreign v) r = absurd r.0
     refused_rows n new (refusal.Claim f) r = (refl, record { no_region = λ region. (r.1 0 (region_dominion region n journal)).0; refused = r.0; of_post = tt })
     refused_rows n new (refusal.Lost v) r = (refl, record { no_region = λ region. (r.1 0 (region_dominion region n journal)).0; refused = r.0; of_post = tt })
-    refused_rows n new (refusal.Open v w) r = (refl, record { no_region = λ region. (r.1 0 (region_dominion region n journal)).0; refused = r.0; of_post = tt })
+    refused_rows n new (refusal.Open v w) r =
+        (refl, record { no_region = λ region. (r.1 0 (region_dominion region n journal)).0; refused = r.0; of_post = tt })
 
     -- a refused set is no region, and not stale
-    pub refused_known : (new : Play) (e : Refusal) (claim : Claim) → claim.player ≡ p → claim.rows ≡ rows → 0 < length claim.rows → Refuted new e claim → IsKnownFault g journal known p (fault_of p e)
-    refused_known new e claim player is n refuted = refused_rows (subst (λ (xs : ClaimRows). 0 < length xs) is n) new e (said_of (Refuted new e) claim p rows player is refuted)
+    pub refused_known : (new : Play) (e : Refusal) (claim : Claim) → claim.player ≡ p → claim.rows ≡ rows → 0 < length claim.rows
+        → Refuted new e claim → IsKnownFault g journal known p (fault_of p e)
+    refused_known new e claim player is n refuted =
+        refused_rows (subst (λ (xs : ClaimRows). 0 < length xs) is n) new e (said_of (Refuted new e) claim p rows player is refuted)
 
-module _ (g : Graph) (known : KnownRows) (opened mid : Play) (here : opened.graph ≡ g) (new_board : opened.journal ≡ []) (first : SettlesKnown opened mid known Even) where
+module _ (g : Graph) (known : KnownRows) (opened mid : Play) (here : opened.graph ≡ g) (new_board : opened.journal ≡ [])
+    (first : SettlesKnown opened mid known Even) where
   -- what the post of Even's known set leaves is what stands before Odd's
   before_odd : IsBefore g known Odd mid.journal
   before_odd = (
@@ -259,7 +254,8 @@ module _ (g : Graph) (known : KnownRows) (opened mid : Play) (here : opened.grap
     λ v. first.other v ∙ ap (λ (j : Journal). settled (state_of j) Odd v) new_board,
   )
 
-  pub odd_fault : mid.graph ≡ g → IsLawful mid.graph mid.journal → (e : SolveFault) → IsKnownFault mid.graph mid.journal known Odd e → IsSolveFault g known e
+  pub odd_fault : mid.graph ≡ g → IsLawful mid.graph mid.journal → (e : SolveFault) → IsKnownFault mid.graph mid.journal known Odd e
+      → IsSolveFault g known e
   odd_fault same lawful fault.Memory h = tt
   odd_fault same lawful (fault.Known q e) (is, refused) = (
     mid.journal,

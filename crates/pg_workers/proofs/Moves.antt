@@ -1,5 +1,6 @@
 -- Each kind of step keeps the rule of the word.
-use Rattle.std.proofs.Common.{◌≡◌, ◌≢◌, ℕ, zero, suc, ◌+◌, ◌%◌, ◌^◌, ◌<◌, ◌≤◌, List, [], ◌∷◌, ◌++◌, Bool, true, false, length, set, refl, sym, ap, ◌∙◌, subst, ⊎_elim, arith, length-append}
+use Rattle.std.proofs.Common.{◌≡◌, ◌≢◌, ℕ, zero, suc, ◌+◌, ◌%◌, ◌^◌, ◌<◌, ◌≤◌, List, [], ◌∷◌, ◌++◌, Bool, true}
+use Rattle.std.proofs.Common.{false, length, set, refl, sym, ap, ◌∙◌, subst, ⊎_elim, arith, length-append}
 use Rattle.std.specs.Prelude.{min, nat_lt, ◌==◌, slice_index, MatchBool, sum_by, cond}
 use Rattle.std.proofs.lemmas.Bool.Decides.{nat_tests}
 use Rattle.std.proofs.Math.Nat.{mod-eq_of_lt}
@@ -29,7 +30,8 @@ begins total seats = record {
     one (suc id) v e = absurd (some-ne-none v (sym e))
 
 -- the views after a change of one
-each_set : (total : ℕ) (views : List Drawer) (id : ℕ) (w : Drawer) → ((i : ℕ) (v : Drawer) → get_elem? views i ≡ some v → IsDrawer total v) → IsDrawer total w → (i : ℕ) (v : Drawer) → get_elem? (set views id w) i ≡ some v → IsDrawer total v
+each_set : (total : ℕ) (views : List Drawer) (id : ℕ) (w : Drawer) → ((i : ℕ) (v : Drawer) → get_elem? views i ≡ some v → IsDrawer total v)
+    → IsDrawer total w → (i : ℕ) (v : Drawer) → get_elem? (set views id w) i ≡ some v → IsDrawer total v
 each_set total views id w h mine i v e =
     ⊎_elim
     (λ (t : (i ≡ id) × (w ≡ v)). subst (IsDrawer total) t.1 mine)
@@ -42,7 +44,8 @@ word_bound total seats s h =
     let t = sum_by-le_each (λ v. v.told_none) (λ v. v.tickets) s.views (λ i v e. (h.each i v e).0) in
     omega (arith, h.steps, h.drawn, h.tickets, t)
 
-module _ (total seats id : ℕ) (v : Drawer) (s : State (Unit {0}) Drawer) (h : IsDrawn total seats s) (at : get_elem? s.views id ≡ some v) (one_ticket_held : v.tickets ≡ 1) (not_told : v.told_none ≡ 0) where
+module _ (total seats id : ℕ) (v : Drawer) (s : State (Unit {0}) Drawer) (h : IsDrawn total seats s) (at : get_elem? s.views id ≡ some v)
+    (one_ticket_held : v.tickets ≡ 1) (not_told : v.told_none ≡ 0) where
   same_total : v.total ≡ total
   same_total = (h.each id v at).1 (omega arith)
 
@@ -105,7 +108,8 @@ module _ (total seats id : ℕ) (v : Drawer) (s : State (Unit {0}) Drawer) (h : 
   abbrev Told : Bool → Type 0
   Told b =
       (w : Drawer) × IsDrawn total seats (after (h.word + 1) w)
-      × MatchBool b ((length v.drawn < v.total) × (w ≡ drawer v.total v.tickets v.told_none (v.drawn ++ h.word ∷ []))) (w ≡ drawer v.total v.tickets (v.told_none + 1) v.drawn)
+      × MatchBool b ((length v.drawn < v.total) × (w ≡ drawer v.total v.tickets v.told_none (v.drawn ++ h.word ∷ [])))
+      (w ≡ drawer v.total v.tickets (v.told_none + 1) v.drawn)
 
   pub tells : (b : Bool) → nat_lt h.word v.total ≡ b → Told b
   tells true e =
@@ -138,14 +142,17 @@ draws total seats slots id me st bound one not_told s h len at small =
       (
         refl,
         subst
-            (λ (n : ℕ). MatchBool (nat_lt n me.0.total) ((length me.0.drawn < me.0.total) × (w ≡ drawer me.0.total me.0.tickets me.0.told_none (me.0.drawn ++ n ∷ []))) (w ≡ drawer me.0.total me.0.tickets (me.0.told_none + 1) me.0.drawn))
+            (λ (n : ℕ). MatchBool (nat_lt n me.0.total)
+            ((length me.0.drawn < me.0.total) × (w ≡ drawer me.0.total me.0.tickets me.0.told_none (me.0.drawn ++ n ∷ [])))
+            (w ≡ drawer me.0.total me.0.tickets (me.0.told_none + 1) me.0.drawn))
             (sym found)
             t.2,
       ),
     )
 
 -- one ticket of several goes to a new seat
-pub splits : (total seats id : ℕ) (v : Drawer) → 2 ≤ v.tickets → v.told_none ≡ 0 → v.drawn ≡ [] → Splits (λ s. IsDrawn total seats s) id v (one_less v) (one_ticket v)
+pub splits : (total seats id : ℕ) (v : Drawer) → 2 ≤ v.tickets → v.told_none ≡ 0 → v.drawn ≡ []
+    → Splits (λ s. IsDrawn total seats s) id v (one_less v) (one_ticket v)
 splits total seats id v two not_told empty s h at =
     let l = one_less v in
     let r = one_ticket v in
@@ -169,13 +176,15 @@ splits total seats id v two not_told empty s h at =
     }
 
 -- one who has tickets takes in the tickets of another
-pub joins : (total seats id : ℕ) (v : Drawer) (other : ℕ) (w : Drawer) → 0 < v.tickets → Joins (λ s. IsDrawn total seats s) id v other w (both_drawers v w) spent_drawer
+pub joins : (total seats id : ℕ) (v : Drawer) (other : ℕ) (w : Drawer) → 0 < v.tickets
+    → Joins (λ s. IsDrawn total seats s) id v other w (both_drawers v w) spent_drawer
 joins total seats id v other w some_ticket s h at apart there =
     let b = both_drawers v w in
     let vs = set s.views id b in
     let mine = h.each id v at in
     let same : v.total ≡ total = mine.1 some_ticket in
-    let theirs = ⊎_elim (λ (t : (other ≡ id) × (b ≡ w)). absurd (apart t.0)) (λ (t : (other ≢ id) × (get_elem? s.views other ≡ some w)). h.each other w t.1) (at_set s.views id other b w there) in
+    let theirs = ⊎_elim (λ (t : (other ≡ id) × (b ≡ w)). absurd (apart t.0))
+    (λ (t : (other ≢ id) × (get_elem? s.views other ≡ some w)). h.each other w t.1) (at_set s.views id other b w there) in
     let sums : (f : Drawer → ℕ) → f b ≡ f v + f w → f spent_drawer ≡ 0 → sum_by f (set vs other spent_drawer) ≡ sum_by f s.views =
     λ f add zero_at. let x = sum_by-set_at f s.views id v b at in let y = sum_by-set_at f vs other w spent_drawer there in omega arith in
     let len = sums (λ u. length u.drawn) (length-append v.drawn w.drawn) refl in
@@ -193,8 +202,9 @@ joins total seats id v other w some_ticket s h at apart there =
     }
 
 -- who has every ticket knows every number
-pub knows_all : (total seats id : ℕ) (v : Drawer) (s : State (Unit {0}) Drawer) → IsDrawn total seats s → get_elem? s.views id ≡ some v → v.tickets ≡ seats
-    → (word : ℕ) × ((x : ℕ) → times x v.drawn ≡ once_below x (min total word)) × (length v.drawn ≡ min total word) × (word ≡ min total word + v.told_none)
+pub knows_all : (total seats id : ℕ) (v : Drawer) (s : State (Unit {0}) Drawer) → IsDrawn total seats s → get_elem? s.views id ≡ some v
+    → v.tickets ≡ seats → (word : ℕ) × ((x : ℕ) → times x v.drawn ≡ once_below x (min total word)) × (length v.drawn ≡ min total word) ×
+    (word ≡ min total word + v.told_none)
 knows_all total seats id v s h at whole =
     let t : sum_by (λ (u : Drawer). u.tickets) s.views ≡ v.tickets = h.tickets ∙ sym whole in
     let idle : (f : Drawer → ℕ) → ((u : Drawer) → u.drawn ≡ [] → u.told_none ≡ 0 → f u ≡ 0) → sum_by f s.views ≡ f v =

@@ -1,5 +1,6 @@
 -- Lists of rows.
-use Rattle.std.proofs.Common.{◌≡◌, ◌≢◌, ℕ, zero, suc, ◌+◌, ◌<◌, ◌⊎◌, inl, inr, Bool, true, false, List, [], ◌∷◌, ◌++◌, All, Vec, Global, length, map, take, drop, get_or, set, refl, sym, ap, ◌∙◌, subst, arith}
+use Rattle.std.proofs.Common.{◌≡◌, ◌≢◌, ℕ, zero, suc, ◌+◌, ◌<◌, ◌⊎◌, inl, inr, Bool, true, false, List, [], ◌∷◌, ◌++◌}
+use Rattle.std.proofs.Common.{All, Vec, Global, length, map, take, drop, get_or, set, refl, sym, ap, ◌∙◌, subst, arith}
 use Rattle.std.specs.Prelude.{◌==◌, cond, sum_by, slice_get, Some}
 use Rattle.std.proofs.Math.Seq.{take-append_seam}
 use Rattle.std.proofs.lemmas.Bool.Decides.{nat_tests}
@@ -8,8 +9,8 @@ use Rattle.std.proofs.lemmas.List.Sums.{sum_by-cons, sum_by-append}
 use Rattle.std.proofs.lemmas.Option.{none-some, same_Some, slice_get_within, get_or_from_slice_get}
 use Rattle.pg_workers.specs.declared.report.ReportRow.{ReportRow}
 use Rattle.pg_workers.specs.Counting.{times}
-use Rattle.pg_workers.specs.Report.{AreNumbered, IsDrawnRow, IsReport, settled_in}
-use Rattle.pg_workers.specs.private.Report.{AreIdle, forgotten, jobs_in, rows_in, how_many_of_job}
+use Rattle.pg_workers.specs.Report.{AreNumbered, IsDrawnRow, IsInOrder, IsReport, blank_row, settled_in}
+use Rattle.pg_workers.specs.private.Report.{AreBlank, AreIdle, forgotten, jobs_in, rows_in, how_many_of_job}
 
 -- rows that settled nothing add up to nothing
 pub none_settled : (rows : List ReportRow) → AreIdle (length rows) rows → settled_in rows ≡ 0
@@ -33,7 +34,8 @@ module _ {X : Type 0} where
   get_set_other (y ∷ ys) (suc i) (suc j) x apart = get_set_other ys i j x (λ e. apart (ap suc e))
 
   -- an element of two lists is one of the first or one of the second
-  pub get_append : (xs ys : List X) (i : ℕ) (x : X) → slice_get (xs ++ ys) i ≡ Some x → (slice_get xs i ≡ Some x) ⊎ ((k : ℕ) × (slice_get ys k ≡ Some x))
+  pub get_append : (xs ys : List X) (i : ℕ) (x : X) → slice_get (xs ++ ys) i ≡ Some x
+      → (slice_get xs i ≡ Some x) ⊎ ((k : ℕ) × (slice_get ys k ≡ Some x))
   get_append [] ys i x e = inr (i, e)
   get_append (z ∷ zs) ys zero x e = inl e
   get_append (z ∷ zs) ys (suc i) x e = get_append zs ys i x e
@@ -59,7 +61,8 @@ abbrev Found : ℕ → List ReportRow → Type 0
 Found j rows = (i : ℕ) × (r : ReportRow) × (slice_get rows i ≡ Some r) × (r.job ≡ j)
 
 -- a row of a job that is counted stands in the list
-pub found_row : (j : ℕ) (rows : List ReportRow) → 0 < how_many_of_job j rows → (i : ℕ) × (r : ReportRow) × (slice_get rows i ≡ Some r) × (r.job ≡ j)
+pub found_row : (j : ℕ) (rows : List ReportRow) → 0 < how_many_of_job j rows
+    → (i : ℕ) × (r : ReportRow) × (slice_get rows i ≡ Some r) × (r.job ≡ j)
 found_row j [] h = absurd (omega arith)
 found_row j (x ∷ rows) h = go (λ some. found_row j rows some) (x.job == j) refl
   where
@@ -74,7 +77,8 @@ pub rows_of-append : (j : ℕ) (xs ys : List ReportRow) → how_many_of_job j (x
 rows_of-append j xs ys = ap (times j) (map-append (λ (r : ReportRow). r.job) xs ys) ∙ sum_by-append (at_job j) (jobs_in xs) (jobs_in ys)
 
 -- a job's rows of all workers
-pub rows_of-rows_in : (j : ℕ) (all : List (Vec ReportRow Global)) → how_many_of_job j (rows_in all) ≡ sum_by (λ (v : Vec ReportRow Global). how_many_of_job j v.items) all
+pub rows_of-rows_in : (j : ℕ) (all : List (Vec ReportRow Global))
+    → how_many_of_job j (rows_in all) ≡ sum_by (λ (v : Vec ReportRow Global). how_many_of_job j v.items) all
 rows_of-rows_in j [] = refl
 rows_of-rows_in j (v ∷ all) =
     let a = rows_of-append j v.items (rows_in all) in
@@ -89,7 +93,8 @@ settled_in-rows_in (v ∷ all) =
     let c = settled_in-rows_in all in a ∙ omega arith
 
 -- what holds of each worker's rows holds of all rows
-pub all_rows : (P : ReportRow → Type 0) (all : List (Vec ReportRow Global)) → All (λ v. All P v.items) all → (i : ℕ) (r : ReportRow) → slice_get (rows_in all) i ≡ Some r → P r
+pub all_rows : (P : ReportRow → Type 0) (all : List (Vec ReportRow Global)) → All (λ v. All P v.items) all → (i : ℕ) (r : ReportRow)
+    → slice_get (rows_in all) i ≡ Some r → P r
 all_rows P [] h i r e = absurd (none-some r e)
 all_rows P (v ∷ all) h i r e =
     elim (get_append v.items (rows_in all) i r e) [
@@ -98,7 +103,8 @@ all_rows P (v ∷ all) h i r e =
     ]
 
 -- a row of a report whose posts are forgotten
-was : (report : List ReportRow) (k : ℕ) (r : ReportRow) → slice_get (map forgotten report) k ≡ Some r → (x : ReportRow) × (slice_get report k ≡ Some x) × (forgotten x ≡ r)
+was : (report : List ReportRow) (k : ℕ) (r : ReportRow) → slice_get (map forgotten report) k ≡ Some r
+    → (x : ReportRow) × (slice_get report k ≡ Some x) × (forgotten x ≡ r)
 was [] k r e = absurd (none-some r e)
 was (x ∷ report) zero r e = (x, refl, same_Some (forgotten x) r e)
 was (x ∷ report) (suc k) r e = was report k r e
@@ -121,7 +127,8 @@ forgotten_report n report h = record {
 
 -- one row more whose posts are forgotten
 next_forgotten : (xs : List ReportRow) (i : ℕ) (d : ReportRow) → i < length xs
-    → set (map forgotten (take i xs) ++ drop i xs) i (forgotten (get_or (map forgotten (take i xs) ++ drop i xs) i d)) ≡ map forgotten (take (suc i) xs) ++ drop (suc i) xs
+    → set (map forgotten (take i xs) ++ drop i xs) i (forgotten (get_or (map forgotten (take i xs) ++ drop i xs) i d)) ≡ map forgotten
+    (take (suc i) xs) ++ drop (suc i) xs
 next_forgotten [] i d lt = absurd (omega arith)
 next_forgotten (x ∷ xs) zero d lt = refl
 next_forgotten (x ∷ xs) (suc i) d lt = ap (λ l. forgotten x ∷ l) (next_forgotten xs i d (omega arith))
@@ -130,13 +137,34 @@ pub more_forgotten : (xs now : List ReportRow) (i : ℕ) (d : ReportRow) → i <
     → set now i (forgotten (get_or now i d)) ≡ map forgotten (take (i + 1) xs) ++ drop (i + 1) xs
 more_forgotten xs now i d lt is =
     let one : suc i ≡ i + 1 = omega arith in
-    ap (λ (l : List ReportRow). set l i (forgotten (get_or l i d))) is ∙ next_forgotten xs i d lt ∙ ap (λ (k : ℕ). map forgotten (take k xs) ++ drop k xs) one
+    ap (λ (l : List ReportRow). set l i (forgotten (get_or l i d))) is ∙ next_forgotten xs i d lt ∙ ap
+    (λ (k : ℕ). map forgotten (take k xs) ++ drop k xs) one
 
 -- a vector whose slice was written has what was written
 pub written : (xs rest : List ReportRow) (n : ℕ) → length xs ≡ n → take n (xs ++ rest) ≡ xs
 written xs rest n long = subst (λ (k : ℕ). take k (xs ++ rest) ≡ xs) long (take-append_seam xs rest)
 
-pub all_forgotten : (items now new rest : List ReportRow) (n : ℕ) → now ≡ items → new ≡ map forgotten now → length now ≡ n → take n (new ++ rest) ≡ map forgotten items
+pub all_forgotten : (items now new rest : List ReportRow) (n : ℕ) → now ≡ items → new ≡ map forgotten now → length now ≡ n
+    → take n (new ++ rest) ≡ map forgotten items
 all_forgotten items now new rest n same is long =
     let l = ap length is ∙ length-map now forgotten in
     written new rest n (l ∙ long) ∙ is ∙ ap (map forgotten) same
+
+-- a blank row more
+pushed_row : (rows : List ReportRow) (x y : ReportRow) (k : ℕ) → slice_get (rows ++ x ∷ []) k ≡ Some y
+    → (slice_get rows k ≡ Some y) ⊎ ((k ≡ length rows) × (y ≡ x))
+pushed_row [] x y zero h = inr (refl, sym (same_Some x y h))
+pushed_row [] x y (suc k) h = absurd (none-some y h)
+pushed_row (z ∷ rows) x y zero h = inl h
+pushed_row (z ∷ rows) x y (suc k) h = elim (pushed_row rows x y k h) [ inl a ↦ inl a | inr (a, b) ↦ inr (ap suc a, b) ]
+
+pub blank_more : (new rows : List ReportRow) (row : ReportRow) (job : ℕ) → new ≡ rows ++ row ∷ [] → row ≡ blank_row job → length rows ≡ job → AreBlank rows
+    → AreBlank new
+blank_more new rows row job e blank long h = λ k r at.
+    elim (pushed_row rows row r k (rw e at at)) [ inl a ↦ h k r a | inr (a, b) ↦ b ∙ (blank ∙ ap blank_row (sym (a ∙ long))) ]
+
+pub blank_in_order : (rows : List ReportRow) → AreBlank rows → IsInOrder (length rows) rows
+blank_in_order rows h = (refl, λ k r e. ap (λ (x : ReportRow). x.job) (h k r e))
+
+pub blank_settled : (rows : List ReportRow) → AreBlank rows → settled_in rows ≡ 0
+blank_settled rows h = none_settled rows (λ k r e _. ap (λ (x : ReportRow). x.settled) (h k r e))

@@ -60,7 +60,8 @@ pub record IsRefusedKnown (g : Graph) (journal : Journal) (known : KnownRows) (p
 -- what is settled before the player's known set is posted: nothing before Even's, and before Odd's what Even attracts to his, a region
 abbrev pub IsBefore : Graph → KnownRows → Player → Journal → Type 0
 IsBefore g known Even journal = journal ≡ []
-IsBefore g known Odd journal = IsKnownRegion g known Even × ((v : ℕ) → In (settled (state_of journal) Even) v ↔ IsAttractedToKnown g known Even v) × HasNone journal Odd
+IsBefore g known Odd journal =
+    IsKnownRegion g known Even × ((v : ℕ) → In (settled (state_of journal) Even) v ↔ IsAttractedToKnown g known Even v) × HasNone journal Odd
 
 -- why a run found no solution: memory, or a known set that is no region, with the refusal of the post that met it
 abbrev pub IsSolveFault : Graph → KnownRows → SolveFault → Type 0

@@ -9,7 +9,8 @@ use Rattle.pg_workers.specs.declared.solve.Outcome.{Outcome}
 use Rattle.pg_workers.specs.Known.{IsKnownSize}
 use Rattle.pg_workers.specs.Report.{IsInOrder, IsReport, AddsUp}
 
--- the entries are a lawful journal that settles every vertex, the solution is its state and exact, each job has its row, and the rows say who drew it and what the workers settled beside what the known sets attract
+-- the entries are a lawful journal that settles every vertex, the solution is its state and exact, each job has its row, and the
+-- rows say who drew it and what the workers settled beside what the known sets attract
 pub record IsOutcome (g : Graph) (known : KnownRows) (total workers : ℕ) (o : Outcome) : Type 0 where
   pub lawful : IsLawful g o.entries.items
   pub full : IsFull g (state_of o.entries.items)

@@ -4,7 +4,7 @@ use std::sync::Wait;
 
 /// Is told of each job before its claims are posted, and after. Nothing is promised of it.
 pub trait Gate: Sync {
-    /// The worker has its copy searched, and posts next.
+    /// The worker's search has ended, also where memory was refused; it posts next what was found.
     fn found<R: Wait>(&self, rt: &R, worker: u32, job: u64);
 
     /// The worker has posted all claims of the job.

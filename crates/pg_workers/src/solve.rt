@@ -83,7 +83,8 @@ fn outcome_of(
     report: Vec<ReportRow>,
 ) -> Result<Outcome, Memory>
     requires { AreNumbered report.items }
-    ensures { (known : KnownRows) (n : ℕ) → HasSettled board.entry.graph known report.items board.entry.journal → IsReport n report.items → IfOk result (λ o. IsOutcome board.entry.graph known (vec_len report) n o) }
+    ensures { (known : KnownRows) (n : ℕ) → HasSettled board.entry.graph known report.items board.entry.journal → IsReport n report.items
+        → IfOk result (λ o. IsOutcome board.entry.graph known (vec_len report) n o) }
 {
     settle_rest(alloc, &mut board)?;
     let Some(solution) = board.solution(alloc)? else {
@@ -183,7 +184,7 @@ fn solve_on<L: Ledger + Send + Sync, G: Gate, F: Finder, R: Threads + Wait + Syn
     Ok(outcome_of(alloc, board, report)?)
 }
 
-/// Solves a game by as many workers as can be started, each on a thread of its own, and settles what they leave.
+/// Solves a game by as many workers as can be started, of 1 to 64, each on a thread of its own, and settles what they leave.
 /// What is known is posted before any worker starts, as worker 0: Even's set and then Odd's, where not empty. A known
 /// set that is no region is answered by the refusal of its post.
 /// For every number of workers, gate and finder the entries are a lawful journal of the game, the solution is their

@@ -4,7 +4,7 @@
 // As `assert_eq!` and `assert!`.
 macro_rules! check_eq {
     ($rt:expr; $found:expr, $want:expr $(,)?) => {
-        $crate::tests::asserting::same(&$rt, $found, $want, stringify!($found))
+        $crate::tests::asserting::same_as(&$rt, $found, $want, stringify!($found))
     };
     ($rt:expr; $found:expr, $want:expr, $($note:tt)+) => {
         $crate::tests::asserting::same(&$rt, $found, $want, format_args!($($note)+))
@@ -13,10 +13,17 @@ macro_rules! check_eq {
 
 macro_rules! check {
     ($rt:expr; $is_so:expr $(,)?) => {
-        $crate::tests::asserting::holds(&$rt, $is_so, stringify!($is_so))
+        $crate::tests::asserting::holds_as(&$rt, $is_so, stringify!($is_so))
     };
     ($rt:expr; $is_so:expr, $($note:tt)+) => {
         $crate::tests::asserting::holds(&$rt, $is_so, format_args!($($note)+))
+    };
+}
+
+// `check_eq!` of counts, whose call says no type.
+macro_rules! check_count {
+    ($rt:expr; $found:expr, $want:expr $(,)?) => {
+        $crate::tests::asserting::same_count(&$rt, $found, $want, stringify!($found))
     };
 }
 

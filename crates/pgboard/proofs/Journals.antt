@@ -1,6 +1,6 @@
 -- The rows of a lawful journal name vertices alone.
-use Rattle.std.proofs.Common.{◌≡◌, ℕ, true, ◌<◌, ◌⊎◌, inl, inr, [], ◌∷◌, ◌++◌, length, take, drop, zero, suc, refl, sym, ◌∙◌, ap, subst, arith, rules, append_assoc}
-use Rattle.std.specs.Prelude.{Option, Some, slice_get, nat_lt}
+use Rattle.std.proofs.Common.{◌≡◌, ℕ, true, ◌<◌, inl, inr, [], ◌∷◌, ◌++◌, length, take, zero, suc, refl, sym, ◌∙◌, subst, rules}
+use Rattle.std.proofs.Common.{append_assoc, Option, Some, slice_get, nat_lt}
 use Rattle.std.specs.List.{AllByRecursion}
 use Rattle.std.proofs.lemmas.List.{take-append-drop}
 use Rattle.pg_game.specs.declared.player.Player.{Player}
@@ -23,7 +23,8 @@ right_row g game p r right = record {
   ];
 }
 
-led_row : (g : Graph) → IsGame g → (p : Player) (S : VertexSet) (r : ℕ × Option ℕ) → IsAttractedRow g p (all_vertices g) S r → AreVertices (length g) r
+led_row : (g : Graph) → IsGame g → (p : Player) (S : VertexSet) (r : ℕ × Option ℕ) → IsAttractedRow g p (all_vertices g) S r
+    → AreVertices (length g) r
 led_row g game p S r leads =
     let lt : r.0 < length g = (let h : nat_lt r.0 (length g) ≡ true = leads.inside in search rules) in record {
       vertex = lt;
@@ -33,14 +34,19 @@ led_row g game p S r leads =
       ];
     }
 
-right_rows : (g : Graph) → IsGame g → (p : Player) (rows : ClaimRows) → AllByRecursion (IsRightRow g p) rows → AllByRecursion (AreVertices (length g)) rows
+right_rows : (g : Graph) → IsGame g → (p : Player) (rows : ClaimRows) → AllByRecursion (IsRightRow g p) rows
+    → AllByRecursion (AreVertices (length g)) rows
 right_rows g game p [] all = tt
 right_rows g game p (r ∷ rows) (one, all) = (right_row g game p r one, right_rows g game p rows all)
 
-led_rows : (g : Graph) → IsGame g → (p : Player) (S : VertexSet) (all before rows : ClaimRows) → all ≡ before ++ rows → AttractInTurn g p (all_vertices g) S all → AllByRecursion (AreVertices (length g)) rows
+led_rows : (g : Graph) → IsGame g → (p : Player) (S : VertexSet) (all before rows : ClaimRows) → all ≡ before ++ rows
+    → AttractInTurn g p (all_vertices g) S all → AllByRecursion (AreVertices (length g)) rows
 led_rows g game p S all before [] e turns = tt
-led_rows g game p S all before (r ∷ rows) e turns =
-    (led_row g game p (union S (named before)) r (turns before rows r e), led_rows g game p S all (before ++ r ∷ []) rows (e ∙ sym (append_assoc before (r ∷ []) rows)) turns)
+led_rows g game p S all before (r ∷ rows) e turns = (
+  led_row g game p (union S (named before)) r (turns before rows r e),
+  led_rows g game p S all (before ++ r ∷ []) rows
+      (e ∙ sym (append_assoc before (r ∷ []) rows)) turns,
+)
 
 both : (n : ℕ) (xs ys : ClaimRows) → AllByRecursion (AreVertices n) xs → AllByRecursion (AreVertices n) ys → AllByRecursion (AreVertices n) (xs ++ ys)
 both n [] ys a b = b
@@ -50,13 +56,17 @@ all_by_index : (P : Entry → Type 0) (es : Journal) → ((k : ℕ) (e : Entry) 
 all_by_index P [] h = tt
 all_by_index P (e ∷ es) h = (h zero e refl, all_by_index P es (λ k x is. h (suc k) x is))
 
-entry_rows : (g : Graph) → IsGame g → (journal : Journal) → IsLawful g journal → (k : ℕ) (e : Entry) → slice_get journal k ≡ Some e → AllByRecursion (AreVertices (length g)) e.rows
+entry_rows : (g : Graph) → IsGame g → (journal : Journal) → IsLawful g journal → (k : ℕ) (e : Entry) → slice_get journal k ≡ Some e
+    → AllByRecursion (AreVertices (length g)) e.rows
 entry_rows g game journal lawful k e is =
     let good = lawful.good k e is in
     let answer = lawful.answered k e is in
     let first = right_rows g game e.player (claimed_rows e) good.shape.right.each in
-    let second = led_rows g game e.player (union (settled (state_of (take k journal)) e.player) (named (claimed_rows e))) (attracted_rows e) [] (attracted_rows e) refl answer.turns in
-    subst (λ (rows : ClaimRows). AllByRecursion (AreVertices (length g)) rows) (take-append-drop e.claimed e.rows) (both (length g) (claimed_rows e) (attracted_rows e) first second)
+    let second = led_rows g game e.player (union (settled (state_of (take k journal)) e.player) (named (claimed_rows e))) (attracted_rows e) []
+    (attracted_rows e) refl answer.turns in
+    subst (λ (rows : ClaimRows). AllByRecursion (AreVertices (length g)) rows) (take-append-drop e.claimed e.rows)
+    (both (length g) (claimed_rows e) (attracted_rows e) first second)
 
-pub journal_rows : (g : Graph) → IsGame g → (journal : Journal) → IsLawful g journal → AllByRecursion (λ e. AllByRecursion (AreVertices (length g)) e.rows) journal
+pub journal_rows : (g : Graph) → IsGame g → (journal : Journal) → IsLawful g journal
+    → AllByRecursion (λ e. AllByRecursion (AreVertices (length g)) e.rows) journal
 journal_rows g game journal lawful = all_by_index (λ e. AllByRecursion (AreVertices (length g)) e.rows) journal (entry_rows g game journal lawful)

@@ -1,5 +1,6 @@
 -- Why a run on one joined text gives no verdict, from the parts of the text.
-use Rattle.std.proofs.Common.{◌≡◌, ◌≢◌, ◌≤◌, ◌⊎◌, ⊎_elim, ℕ, List, length, Option, Some, None, IfSome, Result, Err, IsErrOf, sym, ap, ◌∙◌, subst}
+use Rattle.std.proofs.Common.{◌≡◌, ◌≢◌, ◌≤◌, ◌⊎◌, ⊎_elim, ℕ, List, length, Option, Some, None, IfSome, Result, Err, IsErrOf, sym}
+use Rattle.std.proofs.Common.{ap, ◌∙◌, subst}
 use Rattle.pg_game.specs.Graph.{Graph}
 use Rattle.pg_text.specs.Reading.{max_text, IsTextOf, IsSolutionFaultOf}
 use Rattle.pg_text.specs.declared.fault.SolutionTextFault.TheVariants as solution_fault
@@ -34,7 +35,8 @@ refused_game text (fault.Solution f) le h = absurd h
 refused_game text (fault.Known f) le h = absurd h
 refused_game text fault.Write le h = absurd h
 
-refused_solution : (text : List ℕ) (g : Graph) (e : RunFault) → length text ≤ max_text → IsTextOf (game_part text) g → IsRefusedSolution g (solution_part text) e → Failed e text
+refused_solution : (text : List ℕ) (g : Graph) (e : RunFault) → length text ≤ max_text → IsTextOf (game_part text) g
+    → IsRefusedSolution g (solution_part text) e → Failed e text
 refused_solution text g (fault.Solution f) le is h = (le, g, is, h.0, h.1)
 refused_solution text g fault.Memory le is h = tt
 refused_solution text g fault.Read le is h = absurd h
@@ -44,46 +46,61 @@ refused_solution text g (fault.Known f) le is h = absurd h
 refused_solution text g fault.Write le is h = absurd h
 
 -- a text that was read, the slice of it, and the slice's parts
-module _ (known : Option (List ℕ)) (text slice game solution : List ℕ)
-    (read : IfSome known (λ bytes. text ≡ bytes)) (within : length text ≤ max_text) (whole : slice ≡ text)
-    (first : game ≡ game_part slice) (second : solution ≡ solution_part slice) where
+pub record IsJoinedText (known : Option (List ℕ)) (text slice game solution : List ℕ) : Type 0 where
+  pub read : IfSome known (λ bytes. text ≡ bytes)
+  pub within : length text ≤ max_text
+  pub whole : slice ≡ text
+  pub first : game ≡ game_part slice
+  pub second : solution ≡ solution_part slice
+
+pub joined_text : (known : Option (List ℕ)) {text slice game solution : List ℕ} → IfSome known (λ bytes. text ≡ bytes) → length text ≤ max_text
+    → slice ≡ text → game ≡ game_part slice → solution ≡ solution_part slice → IsJoinedText known text slice game solution
+joined_text known read within whole first second = record { read = read; within = within; whole = whole; first = first; second = second }
+
+module _ {known : Option (List ℕ)} {text slice game solution : List ℕ} (t : IsJoinedText known text slice game solution) where
   before : game ≡ game_part text
-  before = first ∙ ap game_part whole
+  before = t.first ∙ ap game_part t.whole
 
   after : solution ≡ solution_part text
-  after = second ∙ ap solution_part whole
+  after = t.second ∙ ap solution_part t.whole
 
   pub no_game : (e : RunFault) → IsRefusedGame game e → IfSome known (Failed e)
-  no_game e h = of_known known text (Failed e) read (refused_game text e within (subst (λ l. IsRefusedGame l e) before h))
+  no_game e h = of_known known text (Failed e) t.read (refused_game text e t.within (subst (λ l. IsRefusedGame l e) before h))
 
   module _ (g : Graph) (is : IsTextOf game g) where
     spelled : IsTextOf (game_part text) g
     spelled = subst (λ l. IsTextOf l g) before is
 
     pub no_solution_of : (e : RunFault) → IsRefusedSolution g solution e → IfSome known (Failed e)
-    no_solution_of e h = of_known known text (Failed e) read (refused_solution text g e within spelled (subst (λ l. IsRefusedSolution g l e) after h))
+    no_solution_of e h = of_known known text (Failed e) t.read (refused_solution text g e t.within spelled (subst (λ l. IsRefusedSolution g l e) after h))
 
     judged : (verdict : Verdict) → IsVerdictOn g solution verdict → IsJudged (game_part text) (solution_part text) verdict
     judged verdict h =
         let there : IsVerdictOn g (solution_part text) verdict = subst (λ l. IsVerdictOn g l verdict) after h in
         record { graph = g; rows = there.0; game_is = spelled; solution_is = there.1; verdict_is = there.2 }
 
-    pub no_output : (verdict : Verdict) (e : RunFault) → IsVerdictOn g solution verdict → (e ≡ fault.Write) ⊎ (e ≡ fault.Memory) → IfSome known (Failed e)
-    no_output verdict e h only = of_known known text (Failed e) read (⊎_elim
-        (λ w. subst (λ x. Failed x text) (sym w) (within, verdict, judged verdict h))
+    pub no_output : (verdict : Verdict) (e : RunFault) → IsVerdictOn g solution verdict → (e ≡ fault.Write) ⊎ (e ≡ fault.Memory)
+        → IfSome known (Failed e)
+    no_output verdict e h only = of_known known text (Failed e) t.read (⊎_elim
+        (λ w. subst (λ x. Failed x text) (sym w) (t.within, verdict, judged verdict h))
         (λ m. let none : Failed fault.Memory text = tt in subst (λ x. Failed x text) (sym m) none)
         only)
 
     -- the text that the source had was judged
-    pub judged_known : (verdict : Verdict) → IsVerdictOn g solution verdict → IfSome known (λ bytes. IsJudged (game_part bytes) (solution_part bytes) verdict)
-    judged_known verdict h = of_known known text (λ bytes. IsJudged (game_part bytes) (solution_part bytes) verdict) read (judged verdict h)
+    pub judged_known : (verdict : Verdict) → IsVerdictOn g solution verdict
+        → IfSome known (λ bytes. IsJudged (game_part bytes) (solution_part bytes) verdict)
+    judged_known verdict h = of_known known text (λ bytes. IsJudged (game_part bytes) (solution_part bytes) verdict) t.read (judged verdict h)
 
     -- the text was judged, and it is within the limit
-    pub judged_within : (verdict : Verdict) → IsVerdictOn g solution verdict → IfSome known (λ bytes. (length bytes ≤ max_text) × IsJudged (game_part bytes) (solution_part bytes) verdict)
-    judged_within verdict h = of_known known text (λ bytes. (length bytes ≤ max_text) × IsJudged (game_part bytes) (solution_part bytes) verdict) read (within, judged verdict h)
+    pub judged_within : (verdict : Verdict) → IsVerdictOn g solution verdict
+        → IfSome known (λ bytes. (length bytes ≤ max_text) × IsJudged (game_part bytes) (solution_part bytes) verdict)
+    judged_within verdict h =
+        of_known known text (λ bytes. (length bytes ≤ max_text) × IsJudged (game_part bytes) (solution_part bytes) verdict) t.read
+        (t.within, judged verdict h)
 
 -- what a text that was read whole is refused for, its source gives no solution for
-pub no_solution_from : (known : Option (List ℕ)) (text : List ℕ) (g : Graph) (e : RunFault) → IfSome known (λ bytes. text ≡ bytes) → length text ≤ max_text → IsRefusedSolution g text e → IsNoSolution g known e
+pub no_solution_from : (known : Option (List ℕ)) (text : List ℕ) (g : Graph) (e : RunFault) → IfSome known (λ bytes. text ≡ bytes)
+    → length text ≤ max_text → IsRefusedSolution g text e → IsNoSolution g known e
 no_solution_from known text g (fault.Solution f) read within h =
     of_known known text (λ t. (length t ≤ max_text) × IsSolutionFaultOf g t f × (f ≢ solution_fault.Memory)) read (within, h.0, h.1)
 no_solution_from known text g fault.Memory read within h = tt
@@ -94,8 +111,8 @@ no_solution_from known text g (fault.Known f) read within h = absurd h
 no_solution_from known text g fault.Write read within h = absurd h
 
 -- a verdict on a text that was read whole is one on what both sources had
-pub judged_by_both : (games solutions : Option (List ℕ)) (text : List ℕ) (g : Graph) (verdict : Verdict) → IsReadGame games g → IfSome solutions (λ bytes. text ≡ bytes) → IsVerdictOn g text verdict
-    → IfSome games (λ a. IfSome solutions (λ b. IsJudged a b verdict))
+pub judged_by_both : (games solutions : Option (List ℕ)) (text : List ℕ) (g : Graph) (verdict : Verdict) → IsReadGame games g
+    → IfSome solutions (λ bytes. text ≡ bytes) → IsVerdictOn g text verdict → IfSome games (λ a. IfSome solutions (λ b. IsJudged a b verdict))
 judged_by_both None solutions text g verdict is read h = tt
 judged_by_both (Some a) solutions text g verdict is read h =
     of_known solutions text (λ b. IsJudged a b verdict) read (record { graph = g; rows = h.0; game_is = is.1; solution_is = h.1; verdict_is = h.2 })

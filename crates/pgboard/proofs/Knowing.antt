@@ -20,7 +20,8 @@ use Rattle.pgboard.proofs.Unknown.{never_refused}
 
 module _ (known : Option (List ℕ)) (text : List ℕ) (read : IfSome known (λ bytes. text ≡ bytes)) (within : length text ≤ max_text) (g : Graph) where
   pub not_known_text : (e : RunFault) → IsRefusedText g text e → IsNotKnown g known e
-  not_known_text (fault.Solution f) h = of_known known text (λ t. (length t ≤ max_text) × IsKnownFaultOf g t f × (f ≢ solution_fault.Memory)) read (within, h.0, h.1)
+  not_known_text (fault.Solution f) h =
+      of_known known text (λ t. (length t ≤ max_text) × IsKnownFaultOf g t f × (f ≢ solution_fault.Memory)) read (within, h.0, h.1)
   not_known_text fault.Memory h = tt
   not_known_text fault.Read h = absurd h
   not_known_text fault.TooLong h = absurd h
@@ -31,7 +32,8 @@ module _ (known : Option (List ℕ)) (text : List ℕ) (read : IfSome known (λ 
   module _ (rows : KnownRows) (is : IsKnownTextOf g text rows) where
     pub not_solved : (e : RunFault) → IsUnsolved g rows e → IsNotKnown g known e
     not_solved (fault.Known f) h =
-        of_known known text (λ t. (length t ≤ max_text) × (others : KnownRows) × IsKnownTextOf g t others × IsRefusedSet g others f) read (within, rows, is, h)
+        of_known known text (λ t. (length t ≤ max_text) × (others : KnownRows) × IsKnownTextOf g t others × IsRefusedSet g others f) read
+        (within, rows, is, h)
     not_solved fault.Memory h = tt
     not_solved fault.Read h = absurd h
     not_solved fault.TooLong h = absurd h
@@ -39,7 +41,8 @@ module _ (known : Option (List ℕ)) (text : List ℕ) (read : IfSome known (λ 
     not_solved (fault.Solution f) h = absurd h
     not_solved fault.Write h = absurd h
 
-    pub solved : (games : Option (List ℕ)) (winners : Bool) (out : List ℕ) → IsReadGame games g → ((p : Player) → IsKnownRegion g rows p) → IsSolveText winners g out → IsSolveOutput games known winners out
+    pub solved : (games : Option (List ℕ)) (winners : Bool) (out : List ℕ) → IsReadGame games g → ((p : Player) → IsKnownRegion g rows p)
+        → IsSolveText winners g out → IsSolveOutput games known winners out
     solved games winners out game regions written = record {
       graph = g;
       rows = rows;
@@ -50,7 +53,8 @@ module _ (known : Option (List ℕ)) (text : List ℕ) (read : IfSome known (λ 
     }
 
 -- where nothing is known, only memory is wanting
-pub unsolved_alone : (games : Option (List ℕ)) (g : Graph) → IsGame g → (rows : KnownRows) → rows ≡ replicate (length g) None → (e : RunFault) → IsUnsolved g rows e → IsNoGame games e
+pub unsolved_alone : (games : Option (List ℕ)) (g : Graph) → IsGame g → (rows : KnownRows) → rows ≡ replicate (length g) None → (e : RunFault)
+    → IsUnsolved g rows e → IsNoGame games e
 unsolved_alone games g game rows nothing (fault.Known f) (p, r, why, names) = absurd (never_refused g game rows nothing p r why)
 unsolved_alone games g game rows nothing fault.Memory h = tt
 unsolved_alone games g game rows nothing fault.Read h = absurd h

@@ -4,6 +4,7 @@ pub mod Judging
 pub mod Lines
 pub mod Journals
 pub mod Solved
+pub mod Traced
 pub mod Nothing
 pub mod Rows
 pub mod Unknown

@@ -1,13 +1,12 @@
 -- The empty text says nothing of a game, and has no fault.
-use Rattle.std.proofs.Common.{◌≡◌, ℕ, zero, suc, ◌<◌, Bool, true, false, ◌⊎◌, inl, inr, List, [], ◌∷◌, ◌++◌, length, refl, sym, ◌∙◌, ap, subst, arith}
-use Rattle.std.specs.Prelude.{Option, Some, None, slice_get, replicate}
-use Rattle.pg_game.specs.declared.player.Player.{Player}
+use Rattle.std.proofs.Common.{◌≡◌, ℕ, zero, suc, ◌<◌, ◌⊎◌, inl, inr, List, [], ◌∷◌, ◌++◌, length, refl, sym, ◌∙◌, ap, subst}
+use Rattle.std.proofs.Common.{arith, Option, Some, None, slice_get, replicate}
 use Rattle.pg_game.specs.Graph.{Graph, IsGame}
 use Rattle.pg_text.specs.declared.fault.SolutionTextFault.{SolutionTextFault}
 use Rattle.pg_text.specs.declared.fault.SolutionTextFault.TheVariants as fault
 use Rattle.pg_text.specs.Token.{Token, Placed, tokens_of, Spells, IsSpelling}
 use Rattle.pg_text.specs.Token as token
-use Rattle.pg_text.specs.SolutionText.{WrittenSolutionLine, solution_tokens, IsSolutionText}
+use Rattle.pg_text.specs.SolutionText.{WrittenSolutionLine, solution_tokens}
 use Rattle.pg_text.specs.SolutionLines.{first_missing}
 use Rattle.pg_text.specs.Reading.{SpellsSolution, IsSolutionFaultOf}
 use Rattle.pg_text.specs.Known.{KnownRows, IsKnownTextOf, IsKnownFaultOf}
@@ -46,7 +45,8 @@ first_missing_of [] game = absurd (let h = game.nonempty in omega arith)
 first_missing_of (x ∷ g) game = (x.id, refl)
 
 -- as a solution text it lacks a vertex, so it has no other fault
-no_other : (g : Graph) → IsGame g → (e : SolutionTextFault) → IsSolutionFaultOf g [] e → (e ≡ fault.Memory) ⊎ ((id : ℕ) × (e ≡ fault.Missing id))
+no_other : (g : Graph) → IsGame g → (e : SolutionTextFault) → IsSolutionFaultOf g [] e
+    → (e ≡ fault.Memory) ⊎ ((id : ℕ) × (e ≡ fault.Missing id))
 no_other g game e h =
     let m = first_missing_of g game in
     elim (one_solution_fault g [] e (fault.Missing m.0) h ([], nothing_spelled, refl, refl, m.1)) [

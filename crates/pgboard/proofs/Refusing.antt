@@ -1,6 +1,5 @@
 -- What the post of a known set is refused for names vertices of the game, and rows of the set.
-use Rattle.std.proofs.Common.{◌≡◌, ℕ, ◌<◌, inl, inr, List, [], ◌∷◌, length, subst}
-use Rattle.std.specs.Prelude.{if◌then◌else◌}
+use Rattle.std.proofs.Common.{◌≡◌, ℕ, ◌<◌, inl, inr, List, [], ◌∷◌, length, subst, if◌then◌else◌}
 use Rattle.std.specs.List.{Contains}
 use Rattle.pg_game.specs.declared.player.Player.{Player}
 use Rattle.pg_game.specs.Player.{same_player}
@@ -9,16 +8,17 @@ use Rattle.pg_game.specs.VertexSet.{In}
 use Rattle.pg_game.specs.Kept.{option_list, KeptEdge}
 use Rattle.pg_game.specs.Walk.{Walk}
 use Rattle.pg_game.proofs.Members.{Contains-one}
+use Rattle.pg_game.proofs.Players.{is_same, own_or_other}
 use Rattle.pg_text.specs.Known.{KnownRows}
 use Rattle.pg_text.proofs.Exact.{edge_below}
 use Rattle.pg_dominion.specs.declared.claim.ClaimFault.TheVariants.{Shape, Cycle}
 use Rattle.pg_dominion.specs.Claim.{ClaimRows, named, choice_in, HasShape, IsFirstOnBadWalk, IsRightRow}
-use Rattle.pg_finders.proofs.Sets.{is_same, not_same, own_or_other}
+use Rattle.pg_finders.proofs.Sets.{not_same}
 use Rattle.pg_board.specs.declared.refusal.Refusal.{Refusal}
 use Rattle.pg_board.specs.declared.refusal.Refusal.TheVariants as refusal
 use Rattle.pg_board.specs.Journal.{state_of}
 use Rattle.pg_board.specs.State.{State, rest_of}
-use Rattle.pg_board.proofs.Named.{named_right}
+use Rattle.pg_dominion.proofs.Rows.{named_right}
 use Rattle.pg_board.proofs.RestIsGood.{in_rest}
 use Rattle.pg_workers.specs.declared.known.SolveFault.TheVariants as solving
 use Rattle.pg_workers.specs.Known.{known_rows, IsSolveFault}
@@ -36,7 +36,8 @@ module _ (g : Graph) (game : IsGame g) (p : Player) (rows : ClaimRows) (shape : 
   pub named_below : (v : ℕ) → In (named rows) v → v < length g
   named_below v i = (right v i).vertex
 
-  kept_below : (v w : ℕ) → In (named rows) v → Contains (if same_player (owner_of g v) p then option_list (choice_in rows v) else successors_of g v) w → w < length g
+  kept_below : (v w : ℕ) → In (named rows) v → Contains (if same_player (owner_of g v) p then option_list (choice_in rows v) else successors_of g v) w
+      → w < length g
   kept_below v w i m = elim (own_or_other (owner_of g v) p) [
     | inl own ↦
         (let c = (right v i).own own in

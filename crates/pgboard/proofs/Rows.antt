@@ -6,7 +6,7 @@ use Rattle.pg_game.specs.VertexSet.{VertexSet}
 use Rattle.pg_game.specs.Kept.{Choices}
 use Rattle.pg_dominion.specs.Claim.{ClaimRows}
 use Rattle.pg_finders.specs.Claims.{rows_below}
-use Rattle.pg_finders.proofs.Sets.{test}
+use Rattle.std.proofs.lemmas.Bool.{cases_Bool}
 
 slice_front : (xs ys : ClaimRows) (k : ℕ) (r : ℕ × Option ℕ) → slice_get xs k ≡ Some r → slice_get (xs ++ ys) k ≡ Some r
 slice_front [] ys k r is = absurd (cc is)
@@ -22,11 +22,12 @@ module _ (X : VertexSet) (s : Choices) where
   pub row_of_vertex : (n v : ℕ) → v < n → X v ≡ true → slice_get (rows_below X s n) (length (rows_below X s v)) ≡ Some (v, s v)
   row_of_vertex zero v lt x = absurd (omega arith)
   row_of_vertex (suc i) v lt x = elim (cases_lt v i) [
-    | inl less ↦ later (test (X i)) (row_of_vertex i v less x)
+    | inl less ↦ later (cases_Bool (X i)) (row_of_vertex i v less x)
     | inr le ↦ here (let e : v ≡ i = omega arith in e)
   ]
     where
-      later : (X i ≡ true) ⊎ (X i ≡ false) → slice_get (rows_below X s i) (length (rows_below X s v)) ≡ Some (v, s v) → slice_get (rows_below X s (suc i)) (length (rows_below X s v)) ≡ Some (v, s v)
+      later : (X i ≡ true) ⊎ (X i ≡ false) → slice_get (rows_below X s i) (length (rows_below X s v)) ≡ Some (v, s v)
+          → slice_get (rows_below X s (suc i)) (length (rows_below X s v)) ≡ Some (v, s v)
       later (inl y) is = rw y (slice_front (rows_below X s i) ((i, s i) ∷ []) (length (rows_below X s v)) (v, s v) is)
       later (inr n) is = rw n is
 

@@ -1,19 +1,18 @@
 -- Where nothing is known, no known set is refused, and none attracts a vertex.
 use mathlib.Core.Path.{fun_ext}
-use Rattle.std.proofs.Common.{◌≡◌, ℕ, zero, suc, ◌+◌, ◌<◌, ◌≤◌, false, true, ◌⊎◌, inl, inr, List, [], ◌∷◌, length, refl, sym, ◌∙◌, ap, subst, arith}
+use Rattle.std.proofs.Common.{◌≡◌, ℕ, zero, suc, ◌<◌, ◌≤◌, false, true, ◌⊎◌, inl, inr, [], ◌∷◌, length, refl, sym, subst, arith}
 use Rattle.std.specs.Prelude.{Some, None, replicate, slice_get}
 use Rattle.std.proofs.lemmas.Bool.{cases_lt}
 use Rattle.pg_game.specs.declared.player.Player.{Player}
 use Rattle.pg_game.specs.declared.player.Player.TheVariants.{Even, Odd}
 use Rattle.pg_game.specs.Graph.{Graph, IsGame}
 use Rattle.pg_game.specs.VertexSet.{VertexSet, all_vertices}
-use Rattle.pg_game.specs.Kept.{Choices}
 use Rattle.pg_game.specs.Attractor.{Attractor}
 use Rattle.pg_game.specs.Region.{IsRegion}
 use Rattle.pg_game.proofs.Members.{Contains-head}
 use Rattle.pg_text.specs.Known.{KnownRows, known_at, known_of, known_choice}
 use Rattle.pg_finders.specs.Claims.{own_choices, rows_below}
-use Rattle.pg_finders.proofs.Sets.{test}
+use Rattle.std.proofs.lemmas.Bool.{cases_Bool}
 use Rattle.pg_board.specs.declared.refusal.Refusal.{Refusal}
 use Rattle.pg_board.proofs.Opening.{no_region, attracts_none}
 use Rattle.pg_workers.specs.declared.known.SolveFault.TheVariants as solving
@@ -36,9 +35,10 @@ unknown_beyond (r ∷ known) p zero le = absurd (omega arith)
 unknown_beyond (r ∷ known) p (suc v) le = unknown_beyond known p v (omega (arith, le))
 
 -- a set without rows has no vertices
-pub none_of_rows : (g : Graph) (known : KnownRows) (p : Player) → length known ≡ length g → known_rows g known p ≡ [] → (v : ℕ) → known_of known p v ≡ false
+pub none_of_rows : (g : Graph) (known : KnownRows) (p : Player) → length known ≡ length g → known_rows g known p ≡ [] → (v : ℕ)
+    → known_of known p v ≡ false
 none_of_rows g known p sized empty v = elim (cases_lt v (length g)) [
-  | inl lt ↦ inside lt (test (known_of known p v))
+  | inl lt ↦ inside lt (cases_Bool (known_of known p v))
   | inr le ↦ unknown_beyond known p v (omega (arith, le))
 ]
   where
@@ -46,7 +46,9 @@ none_of_rows g known p sized empty v = elim (cases_lt v (length g)) [
     inside lt (inr n) = n
     inside lt (inl y) = absurd (none_there (row_of_vertex (known_of known p) (own_choices g p (known_choice known)) (length g) v lt y))
       where
-        none_there : slice_get (known_rows g known p) (length (rows_below (known_of known p) (own_choices g p (known_choice known)) v)) ≡ Some (v, own_choices g p (known_choice known) v) → ⊥
+        none_there : slice_get (known_rows g known p) (length (rows_below (known_of known p) (own_choices g p (known_choice known)) v)) ≡ Some
+            (v, own_choices g p (known_choice known) v)
+            → ⊥
         none_there is = let h = rw empty at is in cc h
 
 nothing_at : (n v : ℕ) → known_at (replicate n None) v ≡ None

@@ -28,5 +28,5 @@ IsProgramAnswer (Tidy game) first second old new status = (status ≡ 0) × (g :
 IsProgramAnswer (Solve workers bound winners known game) first second old new status =
     (status ≡ 0) × (text : List ℕ) × IsSolveOutput first (known_text known second) winners text × Appends old new text
 IsProgramAnswer (Trace workers game) first second old new status =
-    (status ≡ 0) × (g : Graph) × (text : List ℕ) × IsReadGame first g × IsTraceText g text × Appends old new text
+    (status ≡ 0) × (g : Graph) × (text : List ℕ) × IsReadGame first g × IsTraceText workers g text × Appends old new text
 IsProgramAnswer (Help text) first second old new status = (status ≡ 0) × Appends old new (string_bytes text)

@@ -49,7 +49,8 @@ abbrev pub JudgingFailed : List ℕ → List ℕ → ℕ → RunFault → Type 0
 JudgingFailed game solution len fault.Read = Unit {0}
 JudgingFailed game solution len fault.TooLong = max_text < len
 JudgingFailed game solution len (fault.Game f) = (len ≤ max_text) × IsFaultOf game f × (f ≢ game_fault.Memory)
-JudgingFailed game solution len (fault.Solution f) = (len ≤ max_text) × (g : Graph) × IsTextOf game g × IsSolutionFaultOf g solution f × (f ≢ solution_fault.Memory)
+JudgingFailed game solution len (fault.Solution f) =
+    (len ≤ max_text) × (g : Graph) × IsTextOf game g × IsSolutionFaultOf g solution f × (f ≢ solution_fault.Memory)
 JudgingFailed game solution len (fault.Known f) = ⊥
 JudgingFailed game solution len fault.Write = (len ≤ max_text) × (verdict : Verdict) × IsJudged game solution verdict
 JudgingFailed game solution len fault.Memory = Unit {0}

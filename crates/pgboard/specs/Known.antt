@@ -1,13 +1,10 @@
 -- What a run learns of the text of what is known, which may be left out.
 use Rattle.std.proofs.Common.{inl, inr}
-use Rattle.std.specs.Prelude.{ℕ, ◌≢◌, ◌≤◌, ◌⊎◌, List, [], length, Option, Some, None, IfSome}
+use Rattle.std.specs.Prelude.{ℕ, ◌≤◌, ◌⊎◌, List, [], length, Option, Some, None, IfSome}
 use Rattle.std.specs.Borrow.{MutBor}
 use Rattle.pg_game.specs.Graph.{Graph}
-use Rattle.pg_text.specs.Known.{KnownRows, IsKnownTextOf, IsKnownFaultOf}
-use Rattle.pg_text.specs.declared.fault.SolutionTextFault.TheVariants as solution_fault
+use Rattle.pg_text.specs.Known.{KnownRows, IsKnownTextOf}
 use Rattle.pg_text.specs.Reading.{max_text}
-use Rattle.pgboard.specs.declared.fault.RunFault.{RunFault}
-use Rattle.pgboard.specs.declared.fault.RunFault.TheVariants as fault
 
 -- the bytes that a source has left, where it can tell; where no source is given there are none
 abbrev pub left_in : {S : Type 0} → (S → Option (List ℕ)) → Option (MutBor S) → Option (List ℕ)

@@ -1,14 +1,11 @@
 -- What a run learns of the texts that its sources have, and why it gives no answer.
 use Rattle.std.specs.Prelude.{ℕ, ◌≢◌, ◌<◌, ◌≤◌, List, length, Option, IfSome}
 use Rattle.pg_game.specs.Graph.{Graph}
-use Rattle.pg_text.specs.Solution.{SolutionRows}
-use Rattle.pg_text.specs.Reading.{max_text, IsTextOf, IsFaultOf, IsSolutionTextOf, IsSolutionFaultOf}
+use Rattle.pg_text.specs.Reading.{max_text, IsTextOf, IsFaultOf, IsSolutionFaultOf}
 use Rattle.pg_text.specs.declared.fault.TextFault.TheVariants as game_fault
 use Rattle.pg_text.specs.declared.fault.SolutionTextFault.TheVariants as solution_fault
-use Rattle.pgboard.specs.declared.verdict.Verdict.{Verdict}
 use Rattle.pgboard.specs.declared.fault.RunFault.{RunFault}
 use Rattle.pgboard.specs.declared.fault.RunFault.TheVariants as fault
-use Rattle.pgboard.specs.Joined.{IsVerdict}
 
 -- the text that a source had, where it could tell, is within the limit and one of the game
 abbrev pub IsReadGame : Option (List ℕ) → Graph → Type 0

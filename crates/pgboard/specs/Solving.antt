@@ -10,7 +10,7 @@ use Rattle.pg_board.specs.Journal.{Journal, state_of, IsLawful}
 use Rattle.pg_board.specs.Full.{IsFull}
 use Rattle.pg_workers.specs.declared.report.ReportRow.{ReportRow}
 use Rattle.pg_workers.specs.Known.{IsKnownRegion}
-use Rattle.pg_workers.specs.Report.{IsInOrder, AddsUp}
+use Rattle.pg_workers.specs.Report.{IsInOrder, IsReport, AddsUp}
 use Rattle.pg_workers.specs.Work.{total_of}
 use Rattle.pgboard.specs.Known.{IsReadKnown}
 use Rattle.pgboard.specs.Run.{IsReadGame}
@@ -30,12 +30,14 @@ pub record IsSolveOutput (game known : Option (List ℕ)) (winners : Bool) (text
   pub regions : (p : Player) → IsKnownRegion graph rows p
   pub text_is : IsSolveText winners graph text
 
--- the text of a lawful journal that settles every vertex, and of a report with one row for each job, whose rows say what the workers settled; nothing was known before
-pub record IsTraceText (g : Graph) (text : List ℕ) : Type 0 where
+-- the text of a lawful journal that settles every vertex, and of a report with one row for each job: so many workers drew a
+-- prefix of the jobs, and the rows say what they settled; nothing was known before
+pub record IsTraceText (workers : ℕ) (g : Graph) (text : List ℕ) : Type 0 where
   pub journal : Journal
   pub report : List ReportRow
   pub lawful : IsLawful g journal
   pub full : IsFull g (state_of journal)
   pub order : IsInOrder (total_of 4 (length g)) report
+  pub rows : IsReport workers report
   pub adds_up : AddsUp 0 journal report
   pub text_is : text ≡ trace_text g journal report

@@ -1,5 +1,5 @@
 -- The text of a journal and a report.
-use Rattle.std.specs.Prelude.{ℕ, ◌+◌, List, [], ◌∷◌, ◌++◌, length, flat_map, sum_by, codes, decimal, Option, Some, None, IfSome, ◌<◌, Bool, true, false}
+use Rattle.std.specs.Prelude.{ℕ, ◌+◌, List, [], ◌∷◌, ◌++◌, length, flat_map, sum_by, codes, decimal, Option, Some, None, Bool, true, false}
 use Rattle.std.specs.List.{join_with_byte}
 use Rattle.pg_game.specs.Player.{digit_of}
 use Rattle.pg_game.specs.Graph.{Graph, id_of}
@@ -36,10 +36,14 @@ flag_word false = codes "0"
 flag_word true = codes "1"
 
 abbrev pub job_line : ReportRow → List ℕ
-job_line r = trace_line (codes "job" ∷ decimal r.job ∷ worker_word r.worker ∷ decimal r.posted ∷ decimal r.settled ∷ decimal r.stale ∷ decimal r.refused ∷ flag_word r.gave_up ∷ flag_word r.memory ∷ [])
+job_line r =
+    trace_line (codes "job" ∷ decimal r.job ∷ worker_word r.worker ∷ decimal r.posted ∷ decimal r.settled ∷ decimal r.stale ∷ decimal r.refused ∷ flag_word
+    r.gave_up ∷ flag_word r.memory ∷ [])
 
 abbrev pub total_line : List ReportRow → List ℕ
-total_line report = trace_line (codes "total" ∷ decimal (sum_by (λ r. r.posted) report) ∷ decimal (sum_by (λ r. r.settled) report) ∷ decimal (sum_by (λ r. r.stale) report) ∷ decimal (sum_by (λ r. r.refused) report) ∷ [])
+total_line report =
+    trace_line (codes "total" ∷ decimal (sum_by (λ r. r.posted) report) ∷ decimal (sum_by (λ r. r.settled) report) ∷ decimal
+    (sum_by (λ r. r.stale) report) ∷ decimal (sum_by (λ r. r.refused) report) ∷ [])
 
 abbrev pub trace_text : Graph → Journal → List ReportRow → List ℕ
 trace_text g journal report =

@@ -31,7 +31,8 @@ fn solve_from<I: Source, S: Source, O: Sink, R: Threads + Wait + Sync>(
 ) -> Result<(), RunFault>
     requires workers { (1 ≤ options.now.workers) × (options.now.workers ≤ 64) }
     requires bound { options.now.bound ≤ 8 }
-    ensures written { OnOk result ((text : List ℕ) × IsSolveOutput (I.left input.old) (known_text known.now (S.left second.old)) options.now.winners text × Appends (O.taken out.old) (O.taken out.new) text) }
+    ensures written { OnOk result ((text : List ℕ) × IsSolveOutput (I.left input.old) (known_text known.now (S.left second.old)) options.now.winners text
+        × Appends (O.taken out.old) (O.taken out.new) text) }
     ensures alone { known.now ≡ None → second.new ≡ second.old }
     ensures nothing { IfErr result (λ e. e ≢ RunFault.Write → Keeps (O.taken out.old) (O.taken out.new)) }
 {

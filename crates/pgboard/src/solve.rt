@@ -87,7 +87,7 @@ fn trace_of<R: Threads + Wait + Sync>(
     finder: &impl Finder,
 ) -> Result<Vec<u8>, AllocError>
     requires workers { (1 ≤ workers) × (workers ≤ 64) }
-    ensures { IfOk result (λ text. IsTraceText game.now text.items) }
+    ensures { IfOk result (λ text. IsTraceText workers game.now text.items) }
 {
     // for the proof alone, which takes from it that the game is one
     let _n = game.len();
@@ -123,16 +123,20 @@ fn solve_knowing<I: Source, K: Source, O: Sink, R: Threads + Wait + Sync>(
 ) -> Result<(), RunFault>
     requires workers { (1 ≤ options.now.workers) × (options.now.workers ≤ 64) }
     requires bound { options.now.bound ≤ 8 }
-    ensures written { OnOk result ((text : List ℕ) × IsSolveOutput (I.left input.old) (K.left known.old) options.now.winners text × Appends (O.taken out.old) (O.taken out.new) text) }
+    ensures written { OnOk result ((text : List ℕ) × IsSolveOutput (I.left input.old) (K.left known.old) options.now.winners text
+        × Appends (O.taken out.old) (O.taken out.new) text) }
     ensures no_read_failure { (IsErrOf result RunFault.Read → ⊥) → I.read_failures input.new ≡ I.read_failures input.old }
     ensures no_known_failure { (IsErrOf result RunFault.Read → ⊥) → K.read_failures known.new ≡ K.read_failures known.old }
     ensures no_write_failure { (IsErrOf result RunFault.Write → ⊥) → O.write_failures out.new ≡ O.write_failures out.old }
-    ensures fault { IfErr result (λ e. (e ≡ RunFault.Write) ⊎ (IsNoGame (I.left input.old) e ⊎ ((g : Graph) × IsReadGame (I.left input.old) g × IsNotKnown g (K.left known.old) e))) }
+    ensures fault { IfErr result (λ e. (e ≡ RunFault.Write)
+        ⊎ (IsNoGame (I.left input.old) e ⊎ ((g : Graph) × IsReadGame (I.left input.old) g × IsNotKnown g (K.left known.old) e))) }
     ensures order { (known.new ≡ known.old) ⊎ ((g : Graph) × IsReadGame (I.left input.old) g × (I.read_failures input.new ≡ I.read_failures input.old)) }
     ensures unread { IfErr result (λ e. IsGameFault e → known.new ≡ known.old) }
-    ensures read { IsErrOf result RunFault.Read → (HasFailed (I.read_failures input.old) (I.read_failures input.new) × (known.new ≡ known.old)) ⊎ ((g : Graph) × IsReadGame (I.left input.old) g × HasFailed (K.read_failures known.old) (K.read_failures known.new)) }
+    ensures read { IsErrOf result RunFault.Read → (HasFailed (I.read_failures input.old) (I.read_failures input.new) × (known.new ≡ known.old))
+        ⊎ ((g : Graph) × IsReadGame (I.left input.old) g × HasFailed (K.read_failures known.old) (K.read_failures known.new)) }
     ensures write { IsErrOf result RunFault.Write → HasFailed (O.write_failures out.old) (O.write_failures out.new) }
-    ensures cut { IsErrOf result RunFault.Write → (text : List ℕ) × IsSolveOutput (I.left input.old) (K.left known.old) options.now.winners text × AppendsPrefix (O.taken out.old) (O.taken out.new) text }
+    ensures cut { IsErrOf result RunFault.Write → (text : List ℕ) × IsSolveOutput (I.left input.old) (K.left known.old) options.now.winners text
+        × AppendsPrefix (O.taken out.old) (O.taken out.new) text }
     ensures nothing { IfErr result (λ e. e ≢ RunFault.Write → Keeps (O.taken out.old) (O.taken out.new)) }
 {
     let game = game_from(alloc, input)?;
@@ -154,13 +158,15 @@ fn solve_alone<I: Source, O: Sink, R: Threads + Wait + Sync>(
 ) -> Result<(), RunFault>
     requires workers { (1 ≤ options.now.workers) × (options.now.workers ≤ 64) }
     requires bound { options.now.bound ≤ 8 }
-    ensures written { OnOk result ((text : List ℕ) × IsSolveOutput (I.left input.old) (Some []) options.now.winners text × Appends (O.taken out.old) (O.taken out.new) text) }
+    ensures written { OnOk result ((text : List ℕ) × IsSolveOutput (I.left input.old) (Some []) options.now.winners text
+        × Appends (O.taken out.old) (O.taken out.new) text) }
     ensures no_read_failure { (IsErrOf result RunFault.Read → ⊥) → I.read_failures input.new ≡ I.read_failures input.old }
     ensures no_write_failure { (IsErrOf result RunFault.Write → ⊥) → O.write_failures out.new ≡ O.write_failures out.old }
     ensures fault { IfErr result (λ e. (e ≡ RunFault.Write) ⊎ IsNoGame (I.left input.old) e) }
     ensures read { IsErrOf result RunFault.Read → HasFailed (I.read_failures input.old) (I.read_failures input.new) }
     ensures write { IsErrOf result RunFault.Write → HasFailed (O.write_failures out.old) (O.write_failures out.new) }
-    ensures cut { IsErrOf result RunFault.Write → (text : List ℕ) × IsSolveOutput (I.left input.old) (Some []) options.now.winners text × AppendsPrefix (O.taken out.old) (O.taken out.new) text }
+    ensures cut { IsErrOf result RunFault.Write → (text : List ℕ) × IsSolveOutput (I.left input.old) (Some []) options.now.winners text
+        × AppendsPrefix (O.taken out.old) (O.taken out.new) text }
     ensures nothing { IfErr result (λ e. e ≢ RunFault.Write → Keeps (O.taken out.old) (O.taken out.new)) }
 {
     let game = game_from(alloc, input)?;
@@ -188,17 +194,23 @@ pub fn run_solve<I: Source, K: Source, O: Sink, R: Threads + Wait + Sync>(
 ) -> Result<(), RunFault>
     requires workers { (1 ≤ options.now.workers) × (options.now.workers ≤ 64) }
     requires bound { options.now.bound ≤ 8 }
-    ensures written { OnOk result ((text : List ℕ) × IsSolveOutput (I.left input.old) (left_in K.left known.entry) options.now.winners text × Appends (O.taken out.old) (O.taken out.new) text) }
+    ensures written { OnOk result ((text : List ℕ) × IsSolveOutput (I.left input.old) (left_in K.left known.entry) options.now.winners text
+        × Appends (O.taken out.old) (O.taken out.new) text) }
     ensures no_read_failure { (IsErrOf result RunFault.Read → ⊥) → I.read_failures input.new ≡ I.read_failures input.old }
     ensures no_known_failure { (IsErrOf result RunFault.Read → ⊥) → IfGiven (λ old new. K.read_failures new ≡ K.read_failures old) known.entry known.exit }
     ensures no_write_failure { (IsErrOf result RunFault.Write → ⊥) → O.write_failures out.new ≡ O.write_failures out.old }
-    ensures fault { IfErr result (λ e. (e ≡ RunFault.Write) ⊎ (IsNoGame (I.left input.old) e ⊎ ((g : Graph) × IsReadGame (I.left input.old) g × IsNotKnown g (left_in K.left known.entry) e))) }
+    ensures fault { IfErr result (λ e. (e ≡ RunFault.Write)
+        ⊎ (IsNoGame (I.left input.old) e ⊎ ((g : Graph) × IsReadGame (I.left input.old) g × IsNotKnown g (left_in K.left known.entry) e))) }
     ensures alone { IfErr result (λ e. known.entry ≡ None → (e ≡ RunFault.Write) ⊎ IsNoGame (I.left input.old) e) }
-    ensures order { IfGiven (λ old new. new ≡ old) known.entry known.exit ⊎ ((g : Graph) × IsReadGame (I.left input.old) g × (I.read_failures input.new ≡ I.read_failures input.old)) }
+    ensures order { IfGiven (λ old new. new ≡ old) known.entry known.exit
+        ⊎ ((g : Graph) × IsReadGame (I.left input.old) g × (I.read_failures input.new ≡ I.read_failures input.old)) }
     ensures unread { IfErr result (λ e. IsGameFault e → IfGiven (λ old new. new ≡ old) known.entry known.exit) }
-    ensures read { IsErrOf result RunFault.Read → (HasFailed (I.read_failures input.old) (I.read_failures input.new) × IfGiven (λ old new. new ≡ old) known.entry known.exit) ⊎ ((g : Graph) × IsReadGame (I.left input.old) g × OnGiven (λ old new. HasFailed (K.read_failures old) (K.read_failures new)) known.entry known.exit) }
+    ensures read { IsErrOf result RunFault.Read → (HasFailed (I.read_failures input.old) (I.read_failures input.new)
+        × IfGiven (λ old new. new ≡ old) known.entry known.exit)
+        ⊎ ((g : Graph) × IsReadGame (I.left input.old) g × OnGiven (λ old new. HasFailed (K.read_failures old) (K.read_failures new)) known.entry known.exit) }
     ensures write { IsErrOf result RunFault.Write → HasFailed (O.write_failures out.old) (O.write_failures out.new) }
-    ensures cut { IsErrOf result RunFault.Write → (text : List ℕ) × IsSolveOutput (I.left input.old) (left_in K.left known.entry) options.now.winners text × AppendsPrefix (O.taken out.old) (O.taken out.new) text }
+    ensures cut { IsErrOf result RunFault.Write → (text : List ℕ) × IsSolveOutput (I.left input.old) (left_in K.left known.entry) options.now.winners text
+        × AppendsPrefix (O.taken out.old) (O.taken out.new) text }
     ensures nothing { IfErr result (λ e. e ≢ RunFault.Write → Keeps (O.taken out.old) (O.taken out.new)) }
 {
     match known {
@@ -218,13 +230,15 @@ pub fn run_trace<I: Source, O: Sink, R: Threads + Wait + Sync>(
     finder: &impl Finder,
 ) -> Result<(), RunFault>
     requires workers { (1 ≤ workers) × (workers ≤ 64) }
-    ensures written { OnOk result ((g : Graph) × (text : List ℕ) × IsReadGame (I.left input.old) g × IsTraceText g text × Appends (O.taken out.old) (O.taken out.new) text) }
+    ensures written { OnOk result ((g : Graph) × (text : List ℕ) × IsReadGame (I.left input.old) g × IsTraceText workers g text
+        × Appends (O.taken out.old) (O.taken out.new) text) }
     ensures no_read_failure { (IsErrOf result RunFault.Read → ⊥) → I.read_failures input.new ≡ I.read_failures input.old }
     ensures no_write_failure { (IsErrOf result RunFault.Write → ⊥) → O.write_failures out.new ≡ O.write_failures out.old }
     ensures fault { IfErr result (λ e. (e ≡ RunFault.Write) ⊎ IsNoGame (I.left input.old) e) }
     ensures read { IsErrOf result RunFault.Read → HasFailed (I.read_failures input.old) (I.read_failures input.new) }
     ensures write { IsErrOf result RunFault.Write → HasFailed (O.write_failures out.old) (O.write_failures out.new) }
-    ensures cut { IsErrOf result RunFault.Write → (g : Graph) × (text : List ℕ) × IsReadGame (I.left input.old) g × IsTraceText g text × AppendsPrefix (O.taken out.old) (O.taken out.new) text }
+    ensures cut { IsErrOf result RunFault.Write → (g : Graph) × (text : List ℕ) × IsReadGame (I.left input.old) g × IsTraceText workers g text
+        × AppendsPrefix (O.taken out.old) (O.taken out.new) text }
     ensures nothing { IfErr result (λ e. e ≢ RunFault.Write → Keeps (O.taken out.old) (O.taken out.new)) }
 {
     let game = game_from(alloc, input)?;

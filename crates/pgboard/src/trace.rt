@@ -75,7 +75,9 @@ fn put_row(out: &mut Vec<u8>, game: &Game, row: &(u32, Option<u32>)) -> Result<(
 
 /// The line above an entry's rows.
 fn put_entry_head(out: &mut Vec<u8>, number: u64, entry: &Entry) -> Result<(), AllocError>
-    ensures { OnOk result (out.new.items ≡ out.old.items ++ trace_line (codes "entry" ∷ decimal number ∷ decimal entry.now.worker ∷ decimal (digit_of entry.now.player) ∷ decimal entry.now.claimed ∷ decimal (length entry.now.rows) ∷ [])) }
+    ensures { OnOk result (out.new.items ≡ out.old.items
+        ++ trace_line (codes "entry" ∷ decimal number ∷ decimal entry.now.worker ∷ decimal
+        (digit_of entry.now.player) ∷ decimal entry.now.claimed ∷ decimal (length entry.now.rows) ∷ [])) }
 {
     out.extend_from_slice(b"entry")?;
     put_next(out, number)?;

@@ -1,6 +1,5 @@
 -- The choices of a solution are below each number that is no less than the number of vertices.
-use Rattle.std.proofs.Common.{ℕ, ◌<◌, ◌≤◌, length, arith}
-use Rattle.std.specs.Prelude.{Option, Some, None, IfSome}
+use Rattle.std.proofs.Common.{ℕ, ◌<◌, ◌≤◌, length, arith, Option, Some, None, IfSome}
 use Rattle.pg_game.specs.Graph.{Graph, IsGame}
 use Rattle.pg_text.specs.Solution.{SolutionRows, IsExactSolution, choice_of}
 use Rattle.pg_text.proofs.Exact.{choice_below}

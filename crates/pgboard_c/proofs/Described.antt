@@ -1,6 +1,6 @@
 -- What arrays say, vertex by vertex.
-use Rattle.std.proofs.Common.{rules, ◌≡◌, ℕ, zero, suc, true, ◌<◌, ◌≤◌, ◌⊎◌, inl, inr, List, [], ◌∷◌, length, refl, arith, length-append, get_or}
-use Rattle.std.specs.Prelude.{All, Some, nat_lt}
+use Rattle.std.proofs.Common.{rules, ◌≡◌, ℕ, zero, suc, true, ◌<◌, ◌≤◌, ◌⊎◌, inl, inr, List, [], ◌∷◌, length, refl, arith}
+use Rattle.std.proofs.Common.{length-append, get_or, All, Some, nat_lt}
 use Rattle.std.proofs.lemmas.Bool.{cases_lt}
 use Rattle.std.proofs.lemmas.List.Elements.{All-nil, All-push}
 use Rattle.pg_game.specs.declared.game.Spec.{Spec}
@@ -21,7 +21,8 @@ number_at a v good lt few = record { id = few; priority = small (cases_lt max_nu
     small (inr le) = le
 
 -- identifiers and priorities are within the limit
-pub numbers_below : (a : GameArrays) → NoneHas (IsBadPriority a) → (v : ℕ) → v ≤ length a.owners → v ≤ 2147483648 → All AreNumbers (specs_below a v)
+pub numbers_below : (a : GameArrays) → NoneHas (IsBadPriority a) → (v : ℕ) → v ≤ length a.owners → v ≤ 2147483648
+    → All AreNumbers (specs_below a v)
 numbers_below a good zero le few = All-nil AreNumbers
 numbers_below a good (suc v) le few = All-push AreNumbers (specs_below a v) (array_spec a v)
     (numbers_below a good v (omega (arith, le)) (omega (arith, few))) (number_at a v good (omega (arith, le)) (omega (arith, few)))

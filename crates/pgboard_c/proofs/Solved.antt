@@ -1,17 +1,17 @@
 -- Two claims that share a game out make its solution.
 use mathlib.Core.Path.{fun_ext}
-use Rattle.std.proofs.Common.{◌≡◌, ◌≢◌, ℕ, ◌<◌, Bool, true, false, inl, inr, List, [], ◌∷◌, length, replicate, sym, ◌∙◌, ap, subst, arith, lt-ltb, ltb-true, get_or}
-use Rattle.std.specs.Prelude.{Option, None, nat_lt, All, if◌then◌else◌}
-use Rattle.std.specs.List.{AllByRecursion, Contains}
+use Rattle.std.proofs.Common.{◌≡◌, ◌≢◌, ℕ, ◌<◌, Bool, true, false, inl, inr, List, [], ◌∷◌, length, replicate, sym, ◌∙◌, ap}
+use Rattle.std.proofs.Common.{subst, arith, lt-ltb, ltb-true, get_or, Option, None, nat_lt, All}
+use Rattle.std.specs.List.{AllByRecursion}
 use Rattle.std.proofs.lemmas.List.{get_or-replicate, length-replicate}
 use Rattle.std.proofs.lemmas.List.Elements.{All-nil, All-from_recursion, All-weaker}
 use Rattle.pg_game.specs.declared.player.Player.{Player}
 use Rattle.pg_game.specs.declared.player.Player.TheVariants.{Even, Odd}
 use Rattle.pg_game.specs.Player.{opponent, same_player}
-use Rattle.pg_game.specs.Graph.{Graph, IsGame, HasEdge, owner_of, successors_of}
+use Rattle.pg_game.specs.Graph.{Graph, IsGame, HasEdge, owner_of}
 use Rattle.pg_game.specs.VertexSet.{VertexSet, In, members}
 use Rattle.pg_game.specs.Subgame.{IsSubgame}
-use Rattle.pg_game.specs.Kept.{Choices, option_list, KeptEdge}
+use Rattle.pg_game.specs.Kept.{KeptEdge}
 use Rattle.pg_game.specs.Region.{IsRegion, Wins}
 use Rattle.pg_game.proofs.Disjoint.{wins_disjoint}
 use Rattle.pg_game.proofs.Edges.{some_edge}
@@ -24,8 +24,10 @@ use Rattle.pg_dominion.proofs.Rows.{named_right}
 use Rattle.pg_finders.specs.Claims.{AreClaims}
 use Rattle.pg_finders.proofs.ClosedWalks.{never_empty}
 use Rattle.pg_finders.proofs.Masks.{inside_mask}
-use Rattle.pg_finders.proofs.Sets.{own_or_other, is_same, same_is, both, pair, either, equal_from}
-use Rattle.pg_finders.proofs.Solving.{kept_leads, choice_leads}
+use Rattle.std.proofs.lemmas.Bool.{and_parts, and_from, or_cases}
+use Rattle.pg_game.proofs.Players.{own_or_other, is_same, same_is}
+use Rattle.pg_finders.proofs.Sets.{equal_from}
+use Rattle.pg_finders.proofs.Solving.{kept_leads, kept_same, choice_leads}
 use Rattle.pgboard_c.specs.private.Put.{IsPut}
 
 -- all vertices
@@ -57,18 +59,6 @@ rows_below g U p (r ∷ rows) good =
     let some : 0 < length (r ∷ rows) = omega arith in
     All-weaker (IsRightRow g p) (λ (x : ℕ × Option ℕ). x.0 < length g) (λ x right. right.vertex) (r ∷ rows)
     (All-from_recursion (IsRightRow g p) (r ∷ rows) (good some).shape.right.each)
-
--- other choices outside change nothing
-region_same : (g : Graph) (p : Player) (X : VertexSet) (s t : Choices) → ((v : ℕ) → In X v → t v ≡ s v) → IsRegion g p X s → IsRegion g p X t
-region_same g p X s t same r = record {
-  vertices = r.vertices;
-  choices = λ v i o. (let c = r.choices v i o in (c.0, same v i ∙ c.1, c.2));
-  closed = λ v w k. r.closed v w (as_old v w k);
-  good = λ walk c. r.good walk (ClosedWalk-weaker (KeptEdge g p X t) (KeptEdge g p X s) as_old walk c);
-}
-  where
-    as_old : (v w : ℕ) → KeptEdge g p X t v w → KeptEdge g p X s v w
-    as_old v w (i, m) = (i, subst (λ o. Contains (if same_player (owner_of g v) p then option_list o else successors_of g v) w) (same v i) m)
 
 module _ (g : Graph) (game : IsGame g) (U : VertexSet) (below : (v : ℕ) → In U v → v < length g) (whole : (v : ℕ) → v < length g → In U v) where
   -- where a kept edge of a right claim leads
@@ -121,7 +111,7 @@ module _ (g : Graph) (game : IsGame g) (U : VertexSet) (below : (v : ℕ) → In
     choice_is p v i = ap (λ (r : Player × Option ℕ). r.1) (row_is p v i)
 
     claimed_by : (v : ℕ) → v < length g → (p : Player) × In (named (claimed p)) v
-    claimed_by v lt = elim (either (named even.rows v) (named odd.rows v) (claims.together v ∙ whole v lt)) [
+    claimed_by v lt = elim (or_cases (named even.rows v) (named odd.rows v) (claims.together v ∙ whole v lt)) [
       | inl i ↦ (Even, i)
       | inr i ↦ (Odd, i)
     ]
@@ -136,23 +126,33 @@ module _ (g : Graph) (game : IsGame g) (U : VertexSet) (below : (v : ℕ) → In
     won p = fun_ext (λ v. equal_from (named (claimed p) v) (won_by rows p v) (inside v) (outside v))
       where
         inside : (v : ℕ) → In (named (claimed p)) v → In (won_by rows p) v
-        inside v i = pair (nat_lt v (length rows)) (same_player (winner_of rows v) p)
+        inside v i = and_from (nat_lt v (length rows)) (same_player (winner_of rows v) p)
             (lt-ltb v (length rows) (omega (arith, named_below p v i, long))) (is_same (winner_of rows v) p (winner_is p v i))
 
         outside : (v : ℕ) → In (won_by rows p) v → In (named (claimed p)) v
         outside v i =
-            let h = both (nat_lt v (length rows)) (same_player (winner_of rows v) p) i in
+            let h = and_parts (nat_lt v (length rows)) (same_player (winner_of rows v) p) i in
             let l : v < length g = (let k = ltb-true v (length rows) h.0 in omega (arith, k, long)) in
             let c = claimed_by v l in
             subst (λ q. In (named (claimed q)) v) (sym (winner_is c.0 v c.1) ∙ same_is (winner_of rows v) p h.1) c.1
 
     regions : (p : Player) → IsRegion g p (won_by rows p) (choice_of rows)
-    regions p = subst (λ (X : VertexSet). IsRegion g p X (choice_of rows)) (won p)
-        (region_same g p (named (claimed p)) (choice_in (claimed p)) (choice_of rows) (choice_is p) (region p))
+    regions p = subst (λ (X : VertexSet). IsRegion g p X (choice_of rows)) (won p) (record {
+      vertices = (region p).vertices;
+      choices = λ v i o. (let c = (region p).choices v i o in (c.0, choice_is p v i ∙ c.1, c.2));
+      closed = λ v w k. (region p).closed v w (as_claimed v w k);
+      good =
+          λ walk c. (region p).good walk
+          (ClosedWalk-weaker (KeptEdge g p (named (claimed p)) (choice_of rows))
+          (KeptEdge g p (named (claimed p)) (choice_in (claimed p))) as_claimed walk c);
+    })
+      where
+        as_claimed : (v w : ℕ) → KeptEdge g p (named (claimed p)) (choice_of rows) v w → KeptEdge g p (named (claimed p)) (choice_in (claimed p)) v w
+        as_claimed v w (i, m) = kept_same g p (named (claimed p)) (choice_in (claimed p)) (choice_of rows) v w (choice_is p v i) i m
 
     winner_wins : (p : Player) (v : ℕ) → v < length g → winner_of rows v ≡ p → Wins g p v
     winner_wins p v l e =
-        let inside : In (won_by rows p) v = pair (nat_lt v (length rows)) (same_player (winner_of rows v) p)
+        let inside : In (won_by rows p) v = and_from (nat_lt v (length rows)) (same_player (winner_of rows v) p)
         (lt-ltb v (length rows) (omega (arith, l, long))) (is_same (winner_of rows v) p e) in
         (won_by rows p, choice_of rows, regions p, inside)
 
@@ -166,7 +166,8 @@ module _ (g : Graph) (game : IsGame g) (U : VertexSet) (below : (v : ℕ) → In
       | inr e ↦ absurd (not_both p v w (winner_wins (opponent p) v l e))
     ]
 
-    others_none : (p : Player) (v : ℕ) (xs : ClaimRows) → (0 < length xs → IsGoodIn g U p xs) → In (named xs) v → owner_of g v ≢ p → choice_in xs v ≡ None
+    others_none : (p : Player) (v : ℕ) (xs : ClaimRows) → (0 < length xs → IsGoodIn g U p xs) → In (named xs) v → owner_of g v ≢ p
+        → choice_in xs v ≡ None
     others_none p v [] good i other = absurd (let h : false ≡ true = i in cc h)
     others_none p v (x ∷ xs) good i other =
         (named_right g p (x ∷ xs) v (good (let some : 0 < length (x ∷ xs) = omega arith in some)).shape.right.each i).other other

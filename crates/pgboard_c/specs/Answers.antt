@@ -7,7 +7,8 @@ use Rattle.pg_text.specs.Solution.{SolutionRows, IsSolution, IsExactSolution}
 use Rattle.pg_dominion.specs.Verdict.{FailsBy}
 use Rattle.pgboard_c.specs.declared.fault.Fault.{Fault}
 use Rattle.pgboard_c.specs.declared.fault.Fault.TheVariants as fault
-use Rattle.pgboard_c.specs.Arrays.{GameArrays, HaveLengths, IsBadRow, IsBadOwner, IsBadPriority, AreWellFormed, array_specs, IsGameOfArrays, AreResults, IsBadWinner}
+use Rattle.pgboard_c.specs.Arrays.{GameArrays, HaveLengths, IsBadRow, IsBadOwner, IsBadPriority, AreWellFormed, array_specs, IsGameOfArrays, AreResults}
+use Rattle.pgboard_c.specs.Arrays.{IsBadWinner}
 
 -- why arrays say no game; out of memory says nothing of them
 abbrev pub IsArraysFault : GameArrays → Fault → Type 0

@@ -67,9 +67,12 @@ pub extern "C" fn pgboard_solve(
     choices: &mut [u32],
     told: &mut Told,
 ) -> u32
-    ensures solved { result ≡ 0 → AreSolved (record { owners = owners.now; priorities = priorities.now; starts = starts.now; targets = targets.now }) winners.new choices.new }
+    ensures solved { result ≡ 0 → AreSolved (record { owners = owners.now; priorities = priorities.now; starts = starts.now; targets = targets.now })
+        winners.new choices.new }
     ensures untold { result ≡ 0 → told.new ≡ told.old }
-    ensures refused { result ≢ 0 → (e : Fault) × (result ≡ answer_number e) × (told.new.at ≡ at_of e) × (told.new.to ≡ to_of e) × IsArraysSolveFault (record { owners = owners.now; priorities = priorities.now; starts = starts.now; targets = targets.now }) (length winners.old) (length choices.old) e }
+    ensures refused { result ≢ 0 → (e : Fault) × (result ≡ answer_number e) × (told.new.at ≡ at_of e) × (told.new.to ≡ to_of e)
+        × IsArraysSolveFault (record { owners = owners.now; priorities = priorities.now; starts = starts.now; targets = targets.now }) (length winners.old)
+        (length choices.old) e }
     ensures winners_kept { result ≢ 0 → winners.new ≡ winners.old }
     ensures choices_kept { result ≢ 0 → choices.new ≡ choices.old }
 {
@@ -92,9 +95,11 @@ pub extern "C" fn pgboard_check(
     choices: &[u32],
     told: &mut Told,
 ) -> u32
-    ensures holds { result ≡ 0 → AreSolution (record { owners = owners.now; priorities = priorities.now; starts = starts.now; targets = targets.now }) winners.now choices.now }
+    ensures holds { result ≡ 0 → AreSolution (record { owners = owners.now; priorities = priorities.now; starts = starts.now; targets = targets.now })
+        winners.now choices.now }
     ensures untold { result ≡ 0 → told.new ≡ told.old }
-    ensures refused { result ≢ 0 → (e : Fault) × (result ≡ answer_number e) × (told.new.at ≡ at_of e) × (told.new.to ≡ to_of e) × IsCheckFault (record { owners = owners.now; priorities = priorities.now; starts = starts.now; targets = targets.now }) winners.now choices.now e }
+    ensures refused { result ≢ 0 → (e : Fault) × (result ≡ answer_number e) × (told.new.at ≡ at_of e) × (told.new.to ≡ to_of e)
+        × IsCheckFault (record { owners = owners.now; priorities = priorities.now; starts = starts.now; targets = targets.now }) winners.now choices.now e }
 {
     let arrays = Arrays::new(owners, priorities, starts, targets);
     match check(alloc, &arrays, winners, choices) {

@@ -107,7 +107,8 @@ pub extern "C" fn pgboard_solve_text(
     told: &mut Told,
 ) -> u32
     ensures solved { result ≡ 0 → (answer : List ℕ) × IsSolvedText game.now answer × BeginsWith into.new told.new.at answer }
-    ensures refused { result ≢ 0 → (e : Fault) × (result ≡ answer_number e) × (told.new.at ≡ at_of e) × (told.new.to ≡ to_of e) × IsTextFault IsSolvedText game.now (length into.old) e }
+    ensures refused { result ≢ 0 → (e : Fault) × (result ≡ answer_number e) × (told.new.at ≡ at_of e) × (told.new.to ≡ to_of e)
+        × IsTextFault IsSolvedText game.now (length into.old) e }
     ensures kept { result ≢ 0 → into.new ≡ into.old }
 {
     match solve(alloc, game, into) {
@@ -130,7 +131,8 @@ pub extern "C" fn pgboard_tidy_text(
     told: &mut Told,
 ) -> u32
     ensures tidied { result ≡ 0 → (answer : List ℕ) × IsTidyText game.now answer × BeginsWith into.new told.new.at answer }
-    ensures refused { result ≢ 0 → (e : Fault) × (result ≡ answer_number e) × (told.new.at ≡ at_of e) × (told.new.to ≡ to_of e) × IsTextFault IsTidyText game.now (length into.old) e }
+    ensures refused { result ≢ 0 → (e : Fault) × (result ≡ answer_number e) × (told.new.at ≡ at_of e) × (told.new.to ≡ to_of e)
+        × IsTextFault IsTidyText game.now (length into.old) e }
     ensures kept { result ≢ 0 → into.new ≡ into.old }
 {
     match tidy(alloc, game, into) {
@@ -154,7 +156,8 @@ pub extern "C" fn pgboard_verify_text(
 ) -> u32
     ensures holds { result ≡ 0 → AreVerified game.now solution.now }
     ensures untold { result ≡ 0 → told.new ≡ told.old }
-    ensures refused { result ≢ 0 → (e : Fault) × (result ≡ answer_number e) × (told.new.at ≡ at_of e) × (told.new.to ≡ to_of e) × IsVerifyFault game.now solution.now e }
+    ensures refused { result ≢ 0 → (e : Fault) × (result ≡ answer_number e) × (told.new.at ≡ at_of e) × (told.new.to ≡ to_of e)
+        × IsVerifyFault game.now solution.now e }
 {
     match verify(alloc, game, solution) {
         Ok(()) => 0,

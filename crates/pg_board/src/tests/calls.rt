@@ -1,9 +1,10 @@
 //! The two calls that settle a claim, on a board and through an office.
 
+use crate::tests::games::{Row, claim_of};
 use crate::{Board, Office, Posted, Refusal, Share};
 use pg_dominion::{Claim, check_claim};
 use pg_finders::Copied;
-use pg_game::Game;
+use pg_game::{Game, Player};
 use std::alloc::Global;
 use std::process::Abort;
 use std::sync::Wait;
@@ -92,5 +93,24 @@ impl Call {
         }
         check_eq!(rt; share.amount(), before);
         self.ask_office(rt, alloc, office, share, worker, game, claim)
+    }
+
+    /// Puts a claim of one row through the share, and compares the answer.
+    pub fn put_row<L: Ledger, R: Wait + Abort>(
+        self,
+        rt: &R,
+        alloc: Global,
+        office: &Office<L>,
+        share: &mut Share<L>,
+        worker: u32,
+        game: &Game,
+        player: Player,
+        row: Row,
+        want: Result<u32, Refusal>,
+    ) -> Result<(), Fail> {
+        let claim = claim_of(alloc, player, &[row])?;
+        let found = self.put_through(rt, alloc, office, share, worker, game, &claim);
+        check_eq!(rt; found, want);
+        Ok(())
     }
 }

@@ -250,21 +250,51 @@ fn posted(alloc: Global, board: &mut Board, claim: &Claim) -> Result<Posted, Fai
 fn a_board_is_opened_copied_and_read_after_a_refusal(rt: HostRuntime) -> Result<(), Fail> {
     let alloc = rt.alloc();
     let game = game_of(alloc, SHARED)?;
-    let mut board = opened_twice(alloc, &game)?;
-    let copied = copied_twice(alloc, &board)?;
+    open_copy_and_read(&rt, alloc, &game)
+}
+
+fn open_copy_and_read(rt: &impl Abort, alloc: Global, game: &Game) -> Result<(), Fail> {
+    let mut board = opened_twice(alloc, game)?;
+    compare_new(rt, alloc, &board)?;
+    post_loop(rt, alloc, &mut board, EVEN, 0, FIRST)?;
+    post_loop(rt, alloc, &mut board, ODD, 2, SECOND)?;
+    compare_full(rt, alloc, &board)
+}
+
+/// A board of the shared game on which nothing is settled.
+fn compare_new(rt: &impl Abort, alloc: Global, board: &Board) -> Result<(), Fail> {
+    compare_new_copy(rt, &copied_twice(alloc, board)?);
+    check!(rt; solution_twice(alloc, board)?.is_none());
+    Ok(())
+}
+
+fn compare_new_copy(rt: &impl Abort, copied: &Copied) {
     check_eq!(rt; copied.inside.mask().count(), 3);
     check!(rt; copied.at == 0 && copied.settled == 0);
-    check!(rt; solution_twice(alloc, &board)?.is_none());
-    let even = claim_of(alloc, EVEN, &[(0, Some(0))])?;
-    let odd = claim_of(alloc, ODD, &[(2, Some(2))])?;
-    check_eq!(rt; posted(alloc, &mut board, &even)?, FIRST);
-    check_eq!(rt; posted(alloc, &mut board, &odd)?, SECOND);
-    let Some(solution) = solution_twice(alloc, &board)? else {
+}
+
+/// Posts the claim that the vertex is won by staying there.
+fn post_loop(
+    rt: &impl Abort,
+    alloc: Global,
+    board: &mut Board,
+    player: Player,
+    v: u32,
+    want: Posted,
+) -> Result<(), Fail> {
+    let claim = claim_of(alloc, player, &[(v, Some(v))])?;
+    check_eq!(rt; posted(alloc, board, &claim)?, want);
+    Ok(())
+}
+
+/// The board of the shared game with both entries.
+fn compare_full(rt: &impl Abort, alloc: Global, board: &Board) -> Result<(), Fail> {
+    compare_entries(rt, board.entries());
+    let Some(solution) = solution_twice(alloc, board)? else {
         return Err(Fail::from("the board is not full"));
     };
     let want = [(EVEN, Some(0)), (EVEN, None), (ODD, Some(2))];
     check!(rt; solution.rows.as_slice() == want.as_slice());
-    compare_entries(&rt, board.entries());
     Ok(())
 }
 

@@ -18,7 +18,7 @@ use std::sync::ledger::{Blank, Ledger};
 use std::test::Fail;
 
 /// An office of a new board, with so many shares.
-fn office_of<'g, L: Ledger>(
+pub fn office_of<'g, L: Ledger>(
     alloc: Global,
     blank: Blank,
     game: &'g Game,

@@ -1,11 +1,12 @@
 //! Copies that an office shares: one and the same until something is settled.
 
-ghost use Rattle.std.specs.Prelude.{◌≡◌};
+ghost use Rattle.std.specs.Prelude.{◌≡◌, vec_len};
 
 mod memory;
 
 use crate::tests::calls::{CALLS, Call};
-use crate::tests::games::{EVEN, ODD, claim_of, shared_game};
+use crate::tests::games::{EVEN, ODD, shared_game};
+use crate::tests::offices::office_of;
 use crate::{Office, Refusal, Share};
 use pg_finders::Copied;
 use pg_game::Game;
@@ -36,23 +37,73 @@ fn share_copies<L: Ledger, R: Wait + Abort>(
     requires name { blank.name ≡ L.name }
     requires parts { (blank.parts ≡ L.parts) × (blank.parts ≡ 2) }
 {
-    let (office, mut shares) = Office::<L>::open(alloc, blank, game, 2)?;
-    let first = office.shared_copy(rt, alloc, &shares[0])?;
-    let second = office.shared_copy(rt, alloc, &shares[1])?;
-    compare(rt, &first, (0, 0, 3));
-    compare(rt, &second, (0, 0, 3));
-    // the office has the third
-    check_eq!(rt; Arc::strong_count(&first), 3);
-    let even = claim_of(alloc, EVEN, &[(0, Some(0))])?;
-    let found = call.put_through(rt, alloc, &office, &mut shares[0], 1, game, &even);
-    check_eq!(rt; found, Ok(2));
-    compare(rt, &first, (0, 0, 3));
-    let later = office.shared_copy(rt, alloc, &shares[1])?;
-    compare(rt, &later, (1, 2, 1));
-    check_eq!(rt; Arc::strong_count(&first), 2);
-    share_after_refusals(rt, alloc, call, &office, &mut shares[1], game, &later)?;
+    let (office, mut shares) = office_of::<L>(alloc, blank, game, 2)?;
+    share_by_two(rt, alloc, call, &office, &mut shares, game)?;
     check_eq!(rt; office.close(shares).settled(), 2);
     Ok(())
+}
+
+/// The copies that both shares give of a new board, and what is left of them when something is settled.
+fn share_by_two<L: Ledger, R: Wait + Abort>(
+    rt: &R,
+    alloc: Global,
+    call: Call,
+    office: &Office<L>,
+    shares: &mut Vec<Share<L>>,
+    game: &Game,
+) -> Result<(), Fail>
+    requires { vec_len shares.old ≡ 2 }
+    ensures { vec_len shares.new ≡ 2 }
+{
+    let first = shared_through(rt, alloc, office, &shares[0])?;
+    let second = shared_through(rt, alloc, office, &shares[1])?;
+    compare_first(rt, &first, &second);
+    call.put_row(
+        rt,
+        alloc,
+        office,
+        &mut shares[0],
+        1,
+        game,
+        EVEN,
+        (0, Some(0)),
+        Ok(2),
+    )?;
+    share_later(rt, alloc, call, office, &mut shares[1], game, &first)
+}
+
+/// A copy through the share, of which a test is told nothing.
+fn shared_through<'g, L: Ledger, R: Wait>(
+    rt: &R,
+    alloc: Global,
+    office: &Office<'g, L>,
+    share: &Share<L>,
+) -> Result<Arc<Copied<'g>>, Fail> {
+    Ok(office.shared_copy(rt, alloc, share)?)
+}
+
+fn compare_first(rt: &impl Abort, first: &Arc<Copied>, second: &Arc<Copied>) {
+    compare(rt, first, (0, 0, 3));
+    compare(rt, second, (0, 0, 3));
+    // the office has the third
+    check_eq!(rt; Arc::strong_count(first), 3);
+}
+
+/// Once something is settled the office lets go of the first copy, which is as it was.
+fn share_later<L: Ledger, R: Wait + Abort>(
+    rt: &R,
+    alloc: Global,
+    call: Call,
+    office: &Office<L>,
+    share: &mut Share<L>,
+    game: &Game,
+    first: &Arc<Copied>,
+) -> Result<(), Fail> {
+    compare(rt, first, (0, 0, 3));
+    let later = shared_through(rt, alloc, office, share)?;
+    compare(rt, &later, (1, 2, 1));
+    check_eq!(rt; Arc::strong_count(first), 2);
+    share_after_refusals(rt, alloc, call, office, share, game, &later)
 }
 
 /// A claim that is stale and one that is lost leave the shared copy as it is.
@@ -65,16 +116,17 @@ fn share_after_refusals<L: Ledger, R: Wait + Abort>(
     game: &Game,
     last: &Arc<Copied>,
 ) -> Result<(), Fail> {
-    let stale = claim_of(alloc, EVEN, &[(0, Some(0))])?;
-    let found = call.put_through(rt, alloc, office, share, 2, game, &stale);
-    check_eq!(rt; found, Err(Refusal::Stale));
-    let lost = claim_of(alloc, ODD, &[(1, Some(0))])?;
-    let found = call.put_through(rt, alloc, office, share, 2, game, &lost);
-    check_eq!(rt; found, Err(Refusal::Lost(1)));
-    let again = office.shared_copy(rt, alloc, share)?;
-    compare(rt, &again, (1, 2, 1));
-    check_eq!(rt; Arc::strong_count(last), 3);
+    let stale = Err(Refusal::Stale);
+    call.put_row(rt, alloc, office, share, 2, game, EVEN, (0, Some(0)), stale)?;
+    let lost = Err(Refusal::Lost(1));
+    call.put_row(rt, alloc, office, share, 2, game, ODD, (1, Some(0)), lost)?;
+    compare_again(rt, &shared_through(rt, alloc, office, share)?, last);
     Ok(())
+}
+
+fn compare_again(rt: &impl Abort, again: &Arc<Copied>, last: &Arc<Copied>) {
+    compare(rt, again, (1, 2, 1));
+    check_eq!(rt; Arc::strong_count(last), 3);
 }
 
 /// What a copy says: the number of entries, how many vertices are settled and how many are not.

@@ -1,8 +1,8 @@
 -- An attraction in the making: the vertices that may still be taken, the rows so far, and at each vertex how many successors
 -- are known to be of no use.
-use Rattle.std.specs.Prelude.{ℕ, ◌≡◌, ◌≢◌, ◌≤◌, ◌<◌, ◌&&◌, ◌∷◌, ◌++◌, nat_lt, Bool, false, ◌⊎◌, List, length, take, slice_index, Option}
+use Rattle.std.specs.Prelude.{ℕ, ◌≡◌, ◌≢◌, ◌≤◌, ◌<◌, ◌∷◌, ◌++◌, Bool, false, ◌⊎◌, List, length, take, slice_index, Option}
 use Rattle.pg_game.specs.declared.player.Player.{Player}
-use Rattle.pg_game.specs.Graph.{Graph, HasEdge, owner_of, successors_of}
+use Rattle.pg_game.specs.Graph.{Graph, owner_of, successors_of}
 use Rattle.pg_game.specs.VertexSet.{VertexSet, In, members, union}
 use Rattle.pg_dominion.specs.Claim.{ClaimRows, named}
 use Rattle.pg_dominion.specs.Attraction.{IsAttractedRow}
@@ -38,7 +38,3 @@ pub record Extends (g : Graph) (p : Player) (free : VertexSet) (rows : ClaimRows
 -- the vertex is taken now, or it is the opponent's and had a way out before
 abbrev pub IsTakenOrOpen : Graph → Player → VertexSet → VertexSet → VertexSet → ℕ → Type 0
 IsTakenOrOpen g p U before now v = In now v ⊎ ((owner_of g v ≢ p) × HasOpen g U before v)
-
--- the members below v
-abbrev pub first_of : VertexSet → ℕ → VertexSet
-first_of T v x = T x && nat_lt x v

@@ -17,13 +17,17 @@ Leads k top v w = (vs : List ℕ) × Walk (EdgeUnder k top) v vs w
 abbrev pub Reaches : Kept → ℕ → ℕ → Type 0
 Reaches k v w = Leads k (priority_of k.game.now v) v w
 
+-- two vertices have the same group and level
+abbrev pub AreAlike : (levels groups : List ℕ) → ℕ → ℕ → Type 0
+AreAlike levels groups x y = (slice_index groups y ≡ slice_index groups x) × (slice_index levels y ≡ slice_index levels x)
+
 -- what searches have shown: whoever lies with x on a closed walk of priorities below x's level has x's group and level, and
 -- nobody does where the group is x's own
 pub record AreLabelled (k : Kept) (levels groups : List ℕ) : Type 0 where
   pub levels_size : length levels ≡ length k.game.now
   pub groups_size : length groups ≡ length k.game.now
   pub blank : (x : ℕ) → slice_index groups x ≡ 0 → slice_index levels x ≡ 0
-  pub together : (top x y : ℕ) → top < slice_index levels x → Leads k top x y → Leads k top y x → (slice_index groups y ≡ slice_index groups x) × (slice_index levels y ≡ slice_index levels x)
+  pub together : (top x y : ℕ) → top < slice_index levels x → Leads k top x y → Leads k top y x → AreAlike levels groups x y
   pub alone : (top x : ℕ) → top < slice_index levels x → slice_index groups x ≡ x + 1 → Leads k top x x → ⊥
 
 -- a search under this priority passes over w: no closed walk joins it to a vertex of the search's group, or of none
@@ -48,11 +52,13 @@ pub record Searching (k : Kept) (levels groups : List ℕ) (top own : ℕ) (plac
 
 -- the end of an edge from place i is passed over, or stands at a later place, or at one from the least on
 abbrev pub IsFollowed : (levels groups : List ℕ) → ℕ → ℕ → ℕ → (places queue : List ℕ) → ℕ → ℕ → Type 0
-IsFollowed levels groups top own least places queue i w = IsPassed levels groups top own w ⊎ (IsQueued places queue w × ((i < slice_index places w) ⊎ (least ≤ slice_index places w)))
+IsFollowed levels groups top own least places queue i w =
+    IsPassed levels groups top own w ⊎ (IsQueued places queue w × ((i < slice_index places w) ⊎ (least ≤ slice_index places w)))
 
 -- so are all that the vertex at place i leads to
 abbrev pub IsSpread : Kept → (levels groups : List ℕ) → ℕ → ℕ → ℕ → (places queue : List ℕ) → ℕ → Type 0
-IsSpread k levels groups top own least places queue i = (w : ℕ) → EdgeUnder k top (slice_index queue i) w → IsFollowed levels groups top own least places queue i w
+IsSpread k levels groups top own least places queue i =
+    (w : ℕ) → EdgeUnder k top (slice_index queue i) w → IsFollowed levels groups top own least places queue i w
 
 -- what was reached stays so
 pub record GoesOn (queue : List ℕ) (least : ℕ) (queue' : List ℕ) (least' : ℕ) : Type 0 where
@@ -60,10 +66,14 @@ pub record GoesOn (queue : List ℕ) (least : ℕ) (queue' : List ℕ) (least' :
   pub front : (i : ℕ) → i < length queue → slice_index queue' i ≡ slice_index queue i
   pub less : least' ≤ least
 
+-- the group of x at a place: before the least its own, and then that of the start
+abbrev pub IsGroupAt : (start least place x group : ℕ) → Type 0
+IsGroupAt start least place x group = ((place < least) × (group ≡ x + 1)) ⊎ ((least ≤ place) × (group ≡ start + 1))
+
 -- the vertices at the first n places have the level, and the search's group, or before the least place their own
 pub record AreNoted (levels groups places queue : List ℕ) (level start least n : ℕ) (levels' groups' : List ℕ) : Type 0 where
   pub levels_size : length levels' ≡ length levels
   pub groups_size : length groups' ≡ length groups
   pub inside : (x : ℕ) → IsBefore places queue n x → slice_index levels' x ≡ level
-  pub group : (x : ℕ) → IsBefore places queue n x → ((slice_index places x < least) × (slice_index groups' x ≡ x + 1)) ⊎ ((least ≤ slice_index places x) × (slice_index groups' x ≡ start + 1))
+  pub group : (x : ℕ) → IsBefore places queue n x → IsGroupAt start least (slice_index places x) x (slice_index groups' x)
   pub outside : (x : ℕ) → (IsBefore places queue n x → ⊥) → (slice_index levels' x ≡ slice_index levels x) × (slice_index groups' x ≡ slice_index groups x)

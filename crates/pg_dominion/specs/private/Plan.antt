@@ -1,5 +1,5 @@
 -- A solution's winners and choices, as the private code of the check lays them out as kept edges.
-use Rattle.std.specs.Prelude.{ℕ, ◌≡◌, ◌≢◌, ◌≤◌, ◌<◌, Bool, true, false, Option, None, List, length, if◌then◌else◌}
+use Rattle.std.specs.Prelude.{ℕ, ◌≡◌, ◌≢◌, ◌≤◌, ◌<◌, true, false, Option, None, length, if◌then◌else◌}
 use Rattle.pg_game.specs.Player.{same_player}
 use Rattle.pg_game.specs.Graph.{Graph, owner_of}
 use Rattle.pg_game.specs.VertexSet.{members}
@@ -7,23 +7,20 @@ use Rattle.pg_game.specs.Kept.{kept}
 use Rattle.pg_text.specs.Solution.{SolutionRows, winner_of, choice_of}
 use Rattle.pg_dominion.specs.declared.kept.Kept.{Kept}
 use Rattle.pg_dominion.specs.KeptEdges.{Edge, kept_row}
-use Rattle.pg_dominion.specs.private.Shape.{chosen_at, is_bad}
+use Rattle.pg_dominion.specs.private.Shape.{Layout, HasPlaces, chosen_at, is_bad}
 
 -- the choice at a vertex that its winner owns
 abbrev pub own_choice : Graph → SolutionRows → ℕ → Option ℕ
 own_choice g rows v = if same_player (owner_of g v) (winner_of rows v) then choice_of rows v else None
 
 -- the first so many vertices are laid out, and nothing is said of the others
-pub record IsPlanned (g : Graph) (rows : SolutionRows) (count : ℕ) (inside chosen : List Bool) (choices : List ℕ) (bad : List Bool) : Type 0 where
-  pub inside_size : length inside ≡ length g
-  pub chosen_size : length chosen ≡ length g
-  pub choices_size : length choices ≡ length g
-  pub bad_size : length bad ≡ length g
-  pub inside_is : (v : ℕ) → v < count → members inside v ≡ true
-  pub choices_is : (v : ℕ) → v < count → chosen_at chosen choices v ≡ own_choice g rows v
-  pub bad_is : (v : ℕ) → v < count → members bad v ≡ is_bad g (winner_of rows v) v
-  pub chosen_later : (v : ℕ) → count ≤ v → members chosen v ≡ false
-  pub bad_later : (v : ℕ) → count ≤ v → members bad v ≡ false
+pub record IsPlanned (g : Graph) (rows : SolutionRows) (count : ℕ) (t : Layout) : Type 0 where
+  pub sizes : HasPlaces g t
+  pub inside_is : (v : ℕ) → v < count → members t.inside v ≡ true
+  pub choices_is : (v : ℕ) → v < count → chosen_at t v ≡ own_choice g rows v
+  pub bad_is : (v : ℕ) → v < count → members t.bad v ≡ is_bad g (winner_of rows v) v
+  pub chosen_later : (v : ℕ) → count ≤ v → members t.chosen v ≡ false
+  pub bad_later : (v : ℕ) → count ≤ v → members t.bad v ≡ false
 
 -- the kept edges are those of each vertex's winner
 abbrev pub IsPlanOf : Kept → SolutionRows → Type 0

@@ -11,9 +11,16 @@ abbrev pub next_after : ClaimRows → ℕ
 next_after [] = 0
 next_after (r ∷ rows) = max (r.0 + 1) (next_after rows)
 
--- the choice that a mask and a list of choices have at a vertex
-abbrev pub chosen_at : List Bool → List ℕ → ℕ → Option ℕ
-chosen_at chosen choices v = if members chosen v then Some (slice_index choices v) else None
+-- what the rows of a claim or a solution say, with one place for each vertex
+pub record Layout : Type 0 where
+  pub inside : List Bool
+  pub chosen : List Bool
+  pub choices : List ℕ
+  pub bad : List Bool
+
+-- the choice that a layout has at a vertex
+abbrev pub chosen_at : Layout → ℕ → Option ℕ
+chosen_at t v = if members t.chosen v then Some (slice_index t.choices v) else None
 
 -- the vertex's priority has the parity of the player's opponent
 abbrev pub is_bad : Graph → Player → ℕ → Bool
@@ -32,12 +39,24 @@ abbrev pub choices_with : List ℕ → ℕ → Option ℕ → List ℕ
 choices_with choices v None = choices
 choices_with choices v (Some w) = slice_set choices v w
 
+-- a layout with one row more, and whether its vertex is bad
+abbrev pub laid_with : Layout → ℕ × Option ℕ → Bool → Layout
+laid_with t r b = record {
+  inside = slice_set t.inside r.0 true;
+  chosen = chosen_with t.chosen r.0 r.1;
+  choices = choices_with t.choices r.0 r.1;
+  bad = marked b t.bad r.0;
+}
+
+pub record HasPlaces (g : Graph) (t : Layout) : Type 0 where
+  pub inside : length t.inside ≡ length g
+  pub chosen : length t.chosen ≡ length g
+  pub choices : length t.choices ≡ length g
+  pub bad : length t.bad ≡ length g
+
 -- the rows, laid out by vertex
-pub record IsLaid (g : Graph) (p : Player) (rows : ClaimRows) (inside chosen : List Bool) (choices : List ℕ) (bad : List Bool) : Type 0 where
-  pub inside_size : length inside ≡ length g
-  pub chosen_size : length chosen ≡ length g
-  pub choices_size : length choices ≡ length g
-  pub bad_size : length bad ≡ length g
-  pub inside_is : (v : ℕ) → members inside v ≡ named rows v
-  pub choices_is : (v : ℕ) → chosen_at chosen choices v ≡ choice_in rows v
-  pub bad_is : (v : ℕ) → members bad v ≡ (named rows v && is_bad g p v)
+pub record IsLaid (g : Graph) (p : Player) (rows : ClaimRows) (t : Layout) : Type 0 where
+  pub sizes : HasPlaces g t
+  pub inside_is : (v : ℕ) → members t.inside v ≡ named rows v
+  pub choices_is : (v : ℕ) → chosen_at t v ≡ choice_in rows v
+  pub bad_is : (v : ℕ) → members t.bad v ≡ (named rows v && is_bad g p v)

@@ -8,7 +8,8 @@ use Rattle.pg_dominion.specs.Claim.{ClaimRows, named, choice_in}
 
 -- each kept edge from v that ends in the claim, at a vertex of at most the start's priority, ends in the list and not at the start
 abbrev pub Stays : Graph → Player → ClaimRows → ℕ → List ℕ → ℕ → Type 0
-Stays g p rows start list v = (w : ℕ) → KeptEdge g p (named rows) (choice_in rows) v w → In (named rows) w → priority_of g w ≤ priority_of g start → (w ≢ start) × Contains list w
+Stays g p rows start list v =
+    (w : ℕ) → KeptEdge g p (named rows) (choice_in rows) v w → In (named rows) w → priority_of g w ≤ priority_of g start → (w ≢ start) × Contains list w
 
 -- the vertices of the list are the claim's
 abbrev pub AreNamed : ClaimRows → List ℕ → Type 0

@@ -1,5 +1,5 @@
 //! One table of games through each body of the search for bad closed walks: the search from each vertex alone, the
-//! ranking at once, and both with little patience.
+//! ranking at once, and both with little patience. And how many edges the searches look at.
 
 ghost use Rattle.std.specs.Prelude.{IfOk};
 ghost use Rattle.pg_dominion.specs.KeptEdges.{IsKept};
@@ -8,6 +8,7 @@ use crate::claim::{check_shape, kept_of};
 use crate::cycles::{first_by_ranking, first_within};
 use crate::kept::Kept;
 use crate::tests::games::{Random, dense, downward, ladder, long_cycle, random_game};
+use crate::walks::{Labels, Search, is_alone, walks_back};
 use crate::{Claim, ClaimFault, check_claim};
 use pg_game::{Game, Player, Sequence};
 use std::alloc::Global;
@@ -89,6 +90,39 @@ fn hostile_games_have_the_same_answer_in_each_body(rt: HostRuntime) -> Result<()
     finds(&rt, alloc, ladder(alloc, 60, Some(59)), Some(180))?;
     finds(&rt, alloc, dense(alloc, 40, 2), None)?;
     finds(&rt, alloc, dense(alloc, 40, 1), Some(1))
+}
+
+/// How many edges the searches from all bad vertices look at, where each passes over what earlier ones have shown.
+fn steps_of(alloc: Global, kept: &Kept) -> Result<u64, Fail>
+    requires { IsKept kept.now }
+{
+    let mut labels = Labels::new(alloc, kept)?;
+    let mut search = Search::new(alloc, kept)?;
+    'starts: for v in 0..kept.game.len() {
+        if !kept.bad.has(v) {
+            continue;
+        }
+        if is_alone(kept, &labels, v) {
+            continue;
+        }
+        let _is_found = walks_back(kept, v, &mut labels, &mut search)?;
+    }
+    Ok(search.steps)
+}
+
+/// No search passes the last vertex of the cycle, since its priority is greater. The first looks at the edge of each
+/// other vertex, and shows that all of them are alone.
+#[test]
+fn each_edge_of_a_long_cycle_is_looked_at_once(rt: HostRuntime) -> Result<(), Fail> {
+    let alloc = rt.alloc();
+    for n in [2u32, 300, 5_000] {
+        let game = long_cycle(alloc, n, 2)?;
+        let claim = whole_claim(alloc, &game)?;
+        let kept = edges_of(alloc, &game, &claim)?;
+        let steps = steps_of(alloc, &kept)?;
+        check_eq!(rt; steps, u64::from(n).saturating_sub(1), "{n} vertices");
+    }
+    Ok(())
 }
 
 /// Compares the bodies, and `check_claim`, on one random game. Whether it has no bad closed walk.

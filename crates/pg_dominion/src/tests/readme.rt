@@ -27,8 +27,8 @@ fn said(alloc: Global, game: &Game, inside: &Mask, target: &Mask) -> Result<Stri
     match check_claim(alloc, game, &claim) {
         // the claim, with what its game says of its vertices
         Ok(checked) => format!(in alloc; "{} rows", checked.rows().len()),
-        // i is the number of the first wrong row
-        Err(ClaimFault::Shape(i)) => format!(in alloc; "row {i} is wrong"),
+        // i is the index of the first wrong row of the claim
+        Err(ClaimFault::Shape(i)) => format!(in alloc; "the row at index {i} is wrong"),
         // v is the least vertex on a bad closed walk
         Err(ClaimFault::Cycle(v)) => format!(in alloc; "a bad closed walk of {v}"),
         Err(ClaimFault::Memory) => Err(AllocError),
@@ -64,7 +64,7 @@ fn what_is_attracted_is_claimed(rt: HostRuntime) -> Result<(), Fail> {
     ];
     let game = game_of(alloc, rows.as_slice())?;
     compare_said(&rt, alloc, &game, 0b001, "2 rows")?;
-    compare_said(&rt, alloc, &game, 0b111, "row 0 is wrong")
+    compare_said(&rt, alloc, &game, 0b111, "the row at index 0 is wrong")
 }
 
 /// What another game is, to a checked claim.

@@ -28,6 +28,7 @@ fn has_successor_in(game: &Game, mask: &Mask, v: u32) -> bool
     requires vertex { v < length game.now }
     ensures { IsTrue result → (w : ℕ) × HasEdge game.now v w × In (members mask.now) w }
 {
+    // for the proof: the graph is a game, so the ends of edges are vertices
     let _n = game.len();
     for w in game.successors(v) {
         if mask.has(*w) {

@@ -1,8 +1,9 @@
 -- The vertices that are dominions alone, as a set; together they are a good claim.
-use Rattle.std.proofs.Common.{◌≡◌, ◌≢◌, ℕ, zero, suc, ◌<◌, ◌≤◌, Bool, true, false, ◌&&◌, ◌||◌, not, ◌↔◌, inl, inr, List, [], ◌∷◌, length, refl, sym, ◌∙◌, subst, ap, arith, ltb-true}
+use Rattle.std.proofs.Common.{◌≡◌, ◌≢◌, ℕ, zero, suc, ◌<◌, ◌≤◌, Bool, true, false, ◌&&◌, ◌||◌, not, ◌↔◌, inl, inr, List, [], ◌∷◌, length, refl, sym}
+use Rattle.std.proofs.Common.{◌∙◌, subst, ap, arith, ltb-true}
 use Rattle.std.specs.Prelude.{Some, ◌==◌}
 use Rattle.std.specs.List.{list_any, Contains}
-use Rattle.std.proofs.lemmas.Bool.{eqb-true, eq-eqb}
+use Rattle.std.proofs.lemmas.Bool.{eqb-true, eq-eqb, and_parts, and_from, cases_Bool, or_right, not_from_false}
 use Rattle.pg_game.specs.declared.player.Player.{Player}
 use Rattle.pg_game.specs.Player.{of_parity, same_player}
 use Rattle.pg_game.specs.Graph.{Graph, HasEdge, owner_of, priority_of, successors_of}
@@ -18,7 +19,7 @@ use Rattle.pg_finders.specs.Finding.{IsLoop}
 use Rattle.pg_finders.specs.Claims.{own_choices, rows_below}
 use Rattle.pg_finders.specs.private.Solved.{WinsOn}
 use Rattle.pg_finders.specs.private.loops.Singles.{loops, leads_away, leads_to_itself, itself}
-use Rattle.pg_finders.proofs.Sets.{not_both, both, pair, minus, test}
+use Rattle.pg_finders.proofs.Sets.{not_both, minus}
 use Rattle.pg_finders.proofs.ClosedWalks.{Among, closed_inside, greatest_reached}
 use Rattle.pg_finders.proofs.Solving.{kept_leads, choice_leads}
 use Rattle.pg_finders.proofs.Rows.{rows_of_below}
@@ -26,7 +27,7 @@ use Rattle.pg_finders.proofs.Good.{rows_named, good_rows}
 
 pub any_some : (t : ℕ → Bool) (ws : List ℕ) → list_any t ws ≡ true → (w : ℕ) × Contains ws w × (t w ≡ true)
 any_some t [] e = absurd (cc e)
-any_some t (x ∷ xs) e = elim (test (t x)) [
+any_some t (x ∷ xs) e = elim (cases_Bool (t x)) [
   | inl y ↦ (x, Contains-head x xs, y)
   | inr n ↦ (let r = any_some t xs (rw n at e) in (r.0, Contains-tail x r.0 xs r.1, r.2))
 ]
@@ -35,36 +36,27 @@ pub some_any : (t : ℕ → Bool) (ws : List ℕ) (w : ℕ) → Contains ws w �
 some_any t [] w m y = absurd (Contains-nil w m)
 some_any t (x ∷ xs) w m y = elim (Contains-cons x w xs m) [
   | inl q ↦ (let z : t x ≡ true = rw q y in rw z refl)
-  | inr k ↦ or_true (t x) (list_any t xs) (some_any t xs w k y)
+  | inr k ↦ or_right (t x) (list_any t xs) (some_any t xs w k y)
 ]
-  where
-    or_true : (a b : Bool) → b ≡ true → (a || b) ≡ true
-    or_true true b e = refl
-    or_true false b e = e
 
 or_not : (a b : Bool) → (a || not b) ≡ true → a ≡ false → b ≡ false
 or_not true b e f = absurd (cc f)
 or_not false true e f = absurd (cc e)
 or_not false false e f = refl
 
-or_right : (a b : Bool) → b ≡ false → (a || not b) ≡ true
-or_right true b e = refl
-or_right false true e = absurd (cc e)
-or_right false false e = refl
-
 module _ (g : Graph) (U : VertexSet) (p : Player) (v : ℕ) where
   -- no successor in the set is another vertex
   pub stays_from_test : leads_away g U v ≡ false → (w : ℕ) → HasEdge g v w → In U w → w ≡ v
-  stays_from_test n w m i = elim (test (w == v)) [
+  stays_from_test n w m i = elim (cases_Bool (w == v)) [
     | inl y ↦ eqb-true w v y
-    | inr z ↦ absurd (let a = some_any (λ x. U x && not (x == v)) (successors_of g v) w m (minus (U w) (w == v) i z) in cc (a, n))
+    | inr z ↦ absurd (let a = some_any (λ x. U x && not (x == v)) (successors_of g v) w m (minus i z) in cc (a, n))
   ]
 
   pub test_from_stays : ((w : ℕ) → HasEdge g v w → In U w → w ≡ v) → leads_away g U v ≡ false
-  test_from_stays h = elim (test (leads_away g U v)) [
+  test_from_stays h = elim (cases_Bool (leads_away g U v)) [
     | inr n ↦ n
     | inl y ↦ absurd (let a = any_some (λ x. U x && not (x == v)) (successors_of g v) y in
-        let b = both (U a.0) (not (a.0 == v)) a.2 in
+        let b = and_parts (U a.0) (not (a.0 == v)) a.2 in
         let q = eq-eqb a.0 v (h a.0 a.1 b.0) in
         let c : not true ≡ true = subst (λ z. not z ≡ true) q b.1 in
         cc c)
@@ -80,9 +72,10 @@ module _ (g : Graph) (U : VertexSet) (p : Player) (v : ℕ) where
 
   pub loop_from_test : loops g U p v ≡ true → IsLoop g U p v
   loop_from_test y =
-      let a = both (U v && same_player (of_parity (priority_of g v)) p && leads_to_itself g v) (same_player (owner_of g v) p || not (leads_away g U v)) y in
-      let b = both (U v && same_player (of_parity (priority_of g v)) p) (leads_to_itself g v) a.0 in
-      let c = both (U v) (same_player (of_parity (priority_of g v)) p) b.0 in
+      let a = and_parts (U v && same_player (of_parity (priority_of g v)) p && leads_to_itself g v)
+      (same_player (owner_of g v) p || not (leads_away g U v)) y in
+      let b = and_parts (U v && same_player (of_parity (priority_of g v)) p) (leads_to_itself g v) a.0 in
+      let c = and_parts (U v) (same_player (of_parity (priority_of g v)) p) b.0 in
       record {
         inside = c.0;
         parity = same_is (of_parity (priority_of g v)) p c.1;
@@ -91,17 +84,18 @@ module _ (g : Graph) (U : VertexSet) (p : Player) (v : ℕ) where
       }
     where
       not_owned : owner_of g v ≢ p → same_player (owner_of g v) p ≡ false
-      not_owned o = elim (test (same_player (owner_of g v) p)) [ inr n ↦ n | inl z ↦ absurd (o (same_is (owner_of g v) p z)) ]
+      not_owned o = elim (cases_Bool (same_player (owner_of g v) p)) [ inr n ↦ n | inl z ↦ absurd (o (same_is (owner_of g v) p z)) ]
 
   pub test_from_loop : IsLoop g U p v → loops g U p v ≡ true
   test_from_loop h =
-      pair (U v && same_player (of_parity (priority_of g v)) p && leads_to_itself g v) (same_player (owner_of g v) p || not (leads_away g U v))
-      (pair (U v && same_player (of_parity (priority_of g v)) p) (leads_to_itself g v)
-      (pair (U v) (same_player (of_parity (priority_of g v)) p) h.inside (is_same (of_parity (priority_of g v)) p h.parity))
+      and_from (U v && same_player (of_parity (priority_of g v)) p && leads_to_itself g v) (same_player (owner_of g v) p || not (leads_away g U v))
+      (and_from (U v && same_player (of_parity (priority_of g v)) p) (leads_to_itself g v)
+      (and_from (U v) (same_player (of_parity (priority_of g v)) p) h.inside (is_same (of_parity (priority_of g v)) p h.parity))
       (test_from_itself h.itself))
       (elim (own_or_other (owner_of g v) p) [
         | inl o ↦ in_first (same_player (owner_of g v) p) (not (leads_away g U v)) (is_same (owner_of g v) p o)
-        | inr o ↦ or_right (same_player (owner_of g v) p) (leads_away g U v) (test_from_stays (h.only (λ q. not_both (owner_of g v) p q o)))
+        | inr o ↦ or_right (same_player (owner_of g v) p) (not (leads_away g U v))
+            (not_from_false (leads_away g U v) (test_from_stays (h.only (λ q. not_both (owner_of g v) p q o))))
       ])
 
 -- where each edge leads back to its beginning, a closed walk has one vertex
@@ -141,19 +135,22 @@ module _ (g : Graph) (U : VertexSet) (p : Player) where
   }
 
 -- the rows that are gathered over all vertices
-pub all_rows : (g h : Graph) (mask bits : List Bool) (p : Player) (rows : ClaimRows) (i n : ℕ) → h ≡ g → bits ≡ mask → n ≡ length h → n ≤ i → i ≤ n → rows ≡ rows_below (loops h (members bits) p) (own_choices h p itself) i → rows ≡ rows_below (loops g (members mask) p) (own_choices g p itself) (length g)
+pub all_rows : (g h : Graph) (mask bits : List Bool) (p : Player) (rows : ClaimRows) (i n : ℕ) → h ≡ g → bits ≡ mask → n ≡ length h → n ≤ i → i ≤ n
+    → rows ≡ rows_below (loops h (members bits) p) (own_choices h p itself) i → rows ≡ rows_below (loops g (members mask) p) (own_choices g p itself) (length g)
 all_rows g h mask bits p rows i n a b c d e r =
     let l : i ≡ length g = omega (arith, ap length a) in
     subst (λ k. rows ≡ rows_below (loops g (members mask) p) (own_choices g p itself) k) l
     (subst (λ m. rows ≡ rows_below (loops g (members m) p) (own_choices g p itself) i) b
     (subst (λ z. rows ≡ rows_below (loops z (members bits) p) (own_choices z p itself) i) a r))
 
-module _ (g : Graph) (mask : List Bool) (p : Player) (part : IsPart (record { graph = g; mask = mask })) (rows : ClaimRows) (all : rows ≡ rows_below (loops g (members mask) p) (own_choices g p itself) (length g)) where
+module _ (g : Graph) (mask : List Bool) (p : Player) (part : IsPart (record { graph = g; mask = mask })) (rows : ClaimRows)
+    (all : rows ≡ rows_below (loops g (members mask) p) (own_choices g p itself) (length g)) where
   inside : (v : ℕ) → In (members mask) v → v < length g
   inside v i = ltb-true v (length g) (part.subgame.vertices v i)
 
   pub names_loops : (v : ℕ) → named rows v ≡ loops g (members mask) p v
-  names_loops v = ap (λ (xs : ClaimRows). named xs v) all ∙ rows_named g (members mask) p (loops g (members mask) p) itself (loops_held g (members mask) p) inside v
+  names_loops v =
+      ap (λ (xs : ClaimRows). named xs v) all ∙ rows_named g (members mask) p (loops g (members mask) p) itself (loops_held g (members mask) p) inside v
 
   pub exactly_loops : (v : ℕ) → In (named rows) v ↔ IsLoop g (members mask) p v
   exactly_loops v = (λ m. loop_from_test g (members mask) p v (sym (names_loops v) ∙ m), λ h. names_loops v ∙ test_from_loop g (members mask) p v h)
@@ -161,11 +158,14 @@ module _ (g : Graph) (mask : List Bool) (p : Player) (part : IsPart (record { gr
   pub chooses_itself : (v : ℕ) → In (named rows) v → owner_of g v ≡ p → choice_in rows v ≡ Some v
   chooses_itself v m o =
       let f = rows_of_below (loops g (members mask) p) (own_choices g p itself) (length g) in
-      let n : named (rows_below (loops g (members mask) p) (own_choices g p itself) (length g)) v ≡ true = subst (λ (xs : ClaimRows). named xs v ≡ true) all m in
+      let n : named (rows_below (loops g (members mask) p) (own_choices g p itself) (length g)) v ≡ true =
+      subst (λ (xs : ClaimRows). named xs v ≡ true) all m in
       ap (λ (xs : ClaimRows). choice_in xs v) all ∙ (f.choice v n ∙ rw (is_same (owner_of g v) p o) refl)
 
   pub loops_good : 0 < length rows → IsGoodIn g (members mask) p rows
-  loops_good n = subst (IsGoodIn g (members mask) p) (sym all) (good_rows g (members mask) p (loops g (members mask) p) itself (loops_held g (members mask) p) inside (subst (λ (xs : ClaimRows). 0 < length xs) all n))
+  loops_good n =
+      subst (IsGoodIn g (members mask) p) (sym all) (good_rows g (members mask) p (loops g (members mask) p) itself (loops_held g (members mask) p) inside
+      (subst (λ (xs : ClaimRows). 0 < length xs) all n))
 
   pub no_loops : rows ≡ [] → (v : ℕ) → IsLoop g (members mask) p v → ⊥
   no_loops e v h =

@@ -2,6 +2,7 @@
 use Rattle.std.proofs.Common.{◌≡◌, ℕ, zero, suc, ◌<◌, true, false, inl, inr, [], ◌∷◌, ◌++◌, length, refl, sym, ◌∙◌, ap, subst, arith}
 use Rattle.std.specs.Prelude.{Option, if◌then◌else◌}
 use Rattle.std.specs.List.{Contains}
+use Rattle.std.proofs.lemmas.Bool.{cases_Bool}
 use Rattle.pg_game.specs.declared.player.Player.{Player}
 use Rattle.pg_game.specs.Graph.{Graph, owner_of}
 use Rattle.pg_game.specs.VertexSet.{VertexSet, In, Within, union}
@@ -12,7 +13,7 @@ use Rattle.pg_dominion.specs.Claim.{ClaimRows, named}
 use Rattle.pg_dominion.specs.Attraction.{IsAttractedRow, IsAttraction}
 use Rattle.pg_dominion.proofs.Named.{named-append, rank, rank_below, rank_at}
 use Rattle.pg_finders.specs.private.Solved.{IsAttracted}
-use Rattle.pg_finders.proofs.Sets.{not_both, test}
+use Rattle.pg_finders.proofs.Sets.{not_both}
 
 -- where a row stands
 pub row_split : (rows : ClaimRows) (r : ℕ × Option ℕ) → Contains rows r → (before : ClaimRows) × (after : ClaimRows) × (rows ≡ before ++ r ∷ after)
@@ -24,7 +25,8 @@ row_split (x ∷ rows) r (suc k, lt, e) = (let h = row_split rows r (k, omega ar
 abbrev pub rank_in : VertexSet → ClaimRows → ℕ → ℕ
 rank_in T rows v = if T v then 0 else suc (rank rows v)
 
-module _ (g : Graph) (p : Player) (U T : VertexSet) (rows : ClaimRows) (within : Within T U) (a : IsAttraction g p U T rows) (s : Choices) (written : (v : ℕ) → In (named rows) v → Contains rows (v, s v)) where
+module _ (g : Graph) (p : Player) (U T : VertexSet) (rows : ClaimRows) (within : Within T U) (a : IsAttraction g p U T rows) (s : Choices)
+    (written : (v : ℕ) → In (named rows) v → Contains rows (v, s v)) where
   -- what the row of an attracted vertex says
   record Leading (v : ℕ) : Type 0 where
     before : ClaimRows
@@ -40,7 +42,7 @@ module _ (g : Graph) (p : Player) (U T : VertexSet) (rows : ClaimRows) (within :
 
   -- what the row leads to is there, with a smaller rank
   lower : (v w : ℕ) (l : Leading v) → In (union T (named l.before)) w → In (union T (named rows)) w × (rank_in T rows w < rank_in T rows v)
-  lower v w l i = elim (test (T w)) [
+  lower v w l i = elim (cases_Bool (T w)) [
     | inl t ↦ (rw t refl, rw (t, (fresh v l).0) (omega arith))
     | inr n ↦ (let b : named l.before w ≡ true = rw n at i in
         let m : named rows w ≡ true = ap (λ xs. named xs w) l.split ∙ (named-append l.before ((v, s v) ∷ l.after) w ∙ rw b refl) in
@@ -55,7 +57,7 @@ module _ (g : Graph) (p : Player) (U T : VertexSet) (rows : ClaimRows) (within :
 
   pub attracted : IsAttracted g p U T (union T (named rows)) s (rank_in T rows)
   attracted = record {
-    inside = λ v i. elim (test (T v)) [ inl t ↦ within v t | inr n ↦ (row_of v i n).leads.inside ];
+    inside = λ v i. elim (cases_Bool (T v)) [ inl t ↦ within v t | inr n ↦ (row_of v i n).leads.inside ];
     target = λ v t. rw t refl;
     own = λ v w u o e i. (a.exact v).1 (own_attracted g p U T v w u o e ((a.exact w).0 i));
     forced = λ v u o h. (a.exact v).1 (forced_attracted g p U T v u o (λ w e j. (a.exact w).0 (h w e j)));

@@ -1,55 +1,82 @@
 -- What the loop owes where it finishes the last subgame that waits: all is settled as the player's, or what the opponent won and
 -- attracts is settled and the others are active again.
 use mathlib.Core.Path.{fun_ext}
-use Rattle.std.proofs.Common.{◌≡◌, ◌≢◌, ℕ, ◌+◌, ◌-◌, ◌<◌, Bool, true, false, ◌&&◌, ◌||◌, not, ◌⊎◌, inl, inr, List, [], ◌∷◌, ◌++◌, length, take, drop, map, refl, sym, ◌∙◌, ap, subst, arith, append_assoc, length-drop}
+use Rattle.std.proofs.Common.{◌≡◌, ◌≢◌, ℕ, ◌+◌, ◌-◌, ◌<◌, Bool, true, false, ◌&&◌, ◌||◌, not, ◌⊎◌, inl, inr, List, [], ◌∷◌, ◌++◌, length, take, drop}
+use Rattle.std.proofs.Common.{map, refl, sym, ◌∙◌, ap, subst, arith, append_assoc, length-drop, length-append}
 use Rattle.std.proofs.lemmas.List.{append-nil, take-append-drop}
+use Rattle.std.proofs.lemmas.Bool.{and_parts, cases_Bool, or_cases, or_left, or_right, or_parts, false_from_ne_true}
 use Rattle.pg_game.specs.declared.player.Player.{Player}
-use Rattle.pg_game.specs.declared.player.Player.TheVariants.{Even, Odd}
 use Rattle.pg_game.specs.Player.{opponent, same_player}
 use Rattle.pg_game.specs.Graph.{Graph, HasEdge, owner_of}
-use Rattle.pg_game.specs.VertexSet.{VertexSet, In, members, no_vertices, union}
+use Rattle.pg_game.specs.VertexSet.{VertexSet, In, members, union}
 use Rattle.pg_game.specs.private.VertexSet.{without}
 use Rattle.pg_game.specs.Subgame.{IsSubgame}
 use Rattle.pg_game.proofs.Players.{own_or_other, same_is}
-use Rattle.pg_game.proofs.Grown.{in_first, in_second}
 use Rattle.pg_finders.specs.declared.recursion.plan.Plan.{Plan}
 use Rattle.pg_finders.specs.declared.recursion.solver.Stop.{Stop}
+use Rattle.pg_finders.specs.declared.recursion.solver.Solver.{Solver}
 use Rattle.pg_finders.specs.private.recursion.Listed.{listed, Once, Apart}
-use Rattle.pg_finders.specs.private.recursion.Settled.{SettledLists}
+use Rattle.pg_finders.specs.private.recursion.Settled.{SettledLists, settled_of}
 use Rattle.pg_finders.specs.private.recursion.Planned.{winners_of, choices_of, size}
-use Rattle.pg_finders.specs.private.Solved.{IsBegun, IsSolvedInside, IsSolvedTo, IsAttracted, won_inside}
-use Rattle.pg_finders.specs.private.recursion.Growing.{place, IsKnown, IsGrown, AttractsNoActive}
+use Rattle.pg_finders.specs.private.Solved.{IsBegun, IsSolvedInside, IsAttracted, won_inside}
+use Rattle.pg_finders.specs.private.recursion.Growing.{active_of, place, IsKnown, IsGrown, AttractsNoActive}
 use Rattle.pg_finders.specs.private.recursion.UnderWay.{count_at, prefix, level_at, IsUnderWay}
-use Rattle.pg_finders.specs.private.recursion.Running.{how_many_gone, steps_left}
+use Rattle.pg_finders.specs.private.recursion.Running.{IsRunning, how_many_gone, steps_left, work}
 use Rattle.pg_finders.specs.private.recursion.Waiting.{steps}
-use Rattle.pg_finders.proofs.Sets.{not_both, twice, both, test, no_both, either, equal_from, only, minus}
-use Rattle.pg_finders.proofs.recursion.Listed.{in_front, in_back, front_or_back, in_take, in_drop, take_or_drop, once_join, once_drop, once_right, take_apart, apart_from, apart_back, some_length, listed_some}
+use Rattle.pg_finders.proofs.Sets.{not_both, twice, no_both, equal_from, only, minus}
+use Rattle.pg_finders.proofs.recursion.Listed.{in_prefix, in_rest, prefix_or_rest, in_take, in_drop, take_or_drop, once_join, once_drop, once_right}
+use Rattle.pg_finders.proofs.recursion.Listed.{take_apart, apart_from, some_length}
 use Rattle.pg_finders.proofs.Solving.{IsSolvedTo-subst, IsSubgame-subst, all_won, part_lost, left_is_subgame}
-use Rattle.pg_finders.proofs.recursion.Growing.{grown_attracted, grown_inside, grown_union}
+use Rattle.pg_finders.proofs.recursion.Growing.{grown_cases, grown_attracted, grown_inside, grown_union}
 use Rattle.pg_finders.proofs.recursion.Waiting.{waits_away}
 use Rattle.pg_finders.proofs.recursion.Again.{won_parts, won_from, list_behind, grown_behind, done_behind}
 use Rattle.pg_finders.proofs.recursion.Beginning.{rest_active}
-use Rattle.pg_finders.proofs.recursion.Sharing.{by_player, gone_settled, part_of, pick, pick_own, pick_other}
-use Rattle.pg_finders.proofs.recursion.UnderWay.{lists_fit, stop_fits, last_waits, last_begun, since_inside, since_left, aside_inside, inside_cases, left_cases, left_solved, won_since, stops_kept, finish_more, under_way_finish}
+use Rattle.pg_finders.proofs.recursion.Sharing.{players_apart, gone_settled, part_of}
+use Rattle.pg_finders.proofs.recursion.UnderWay.{Finishes, lists_fit, stop_fits, last_waits, last_begun, since_inside, since_left, aside_inside}
+use Rattle.pg_finders.proofs.recursion.UnderWay.{inside_cases, left_cases, left_solved, won_since, stops_kept, finish_more, under_way_finish}
 use Rattle.pg_finders.proofs.recursion.Running.{work_finish}
 
-pick_apart : (p : Player) (xs ys : List ℕ) → Apart xs ys → Apart (pick p xs ys Even) (pick p xs ys Odd)
-pick_apart Even xs ys a = a
-pick_apart Odd xs ys a = apart_back xs ys a
+-- the last subgame that waits is at its end: nothing of it is active
+pub record IsAtEnd (g : Graph) (inside : List Bool) (x : Solver) (stops : List Stop) (f : Stop) : Type 0 where
+  pub running : IsRunning g inside x (stops ++ f ∷ [])
+  pub none : (v : ℕ) → active_of x.subgame v ≡ false
 
-pick_either : (p : Player) (xs ys : List ℕ) (v : ℕ) → (listed (pick p xs ys Even) v || listed (pick p xs ys Odd) v) ≡ (listed xs v || listed ys v)
-pick_either Even xs ys v = refl
-pick_either Odd xs ys v = swap (listed ys v) (listed xs v)
-  where
-    swap : (a b : Bool) → (a || b) ≡ (b || a)
-    swap true true = refl
-    swap true false = refl
-    swap false true = refl
-    swap false false = refl
+pub at_end : {g : Graph} {inside : List Bool} {x : Solver} (stops : List Stop) (f : Stop) → IsRunning g inside x (stops ++ f ∷ [])
+    → ((v : ℕ) → active_of x.subgame v ≡ false) → IsAtEnd g inside x stops f
+at_end stops f running none = record { running = running; none = none }
 
-module _ (g : Graph) (inside : List Bool) (X : VertexSet) (settled : SettledLists) (aside : List ℕ) (stops : List Stop) (f : Stop) (old : Plan) (h : IsUnderWay g (members inside) X settled aside (stops ++ f ∷ []) (winners_of old) (choices_of old)) (none : (v : ℕ) → X v ≡ false) where
+-- it is finished: the others that wait are as they were, and fewer steps are left
+pub record IsFinished (g : Graph) (inside : List Bool) (x : Solver) (stops : List Stop) (f : Stop) (active : VertexSet) (settled : SettledLists)
+    (new : Plan) : Type 0 where
+  pub under_way : IsUnderWay g (members inside) active settled (take f.aside x.aside.items) stops (winners_of new) (choices_of new)
+  pub kept : map (level_at (members inside) settled (take f.aside x.aside.items)) stops
+      ≡ map (level_at (members inside) (settled_of x.settled) x.aside.items) stops
+  pub fewer : steps (size inside - how_many_gone settled (take f.aside x.aside.items)) + steps_left (size inside) stops < work (size inside) x (stops ++ f ∷ [])
+
+-- what the opponent attracts to what he won is settled for him, C is active, and what the player won since is settled no more
+pub record Retakes (g : Graph) (f : Stop) (A : VertexSet) (old : Plan) (settled settled' : SettledLists) (C : VertexSet) (new : Plan) : Type 0 where
+  pub some : length (settled (opponent f.player)) ≢ count_at f (opponent f.player)
+  pub grown : IsGrown g (opponent f.player) A old (settled (opponent f.player)) C new (settled' (opponent f.player))
+  pub done : AttractsNoActive g (opponent f.player) (union A (listed (settled (opponent f.player)))) (listed (settled' (opponent f.player))) C
+  pub once : Once (settled' (opponent f.player))
+  pub apart : (v : ℕ) → In (listed (settled' (opponent f.player))) v → C v ≡ false
+  pub own : settled' f.player ≡ prefix f settled f.player
+
+module _ {g : Graph} {inside : List Bool} {x : Solver} {stops : List Stop} {f : Stop} (h : IsAtEnd g inside x stops f) where
   abbrev U : VertexSet
   U = members inside
+
+  abbrev X : VertexSet
+  X = active_of x.subgame
+
+  abbrev settled : SettledLists
+  settled = settled_of x.settled
+
+  abbrev aside : List ℕ
+  aside = x.aside.items
+
+  abbrev old : Plan
+  old = x.subgame.plan
 
   abbrev p : Player
   p = f.player
@@ -69,148 +96,122 @@ module _ (g : Graph) (inside : List Bool) (X : VertexSet) (settled : SettledList
   abbrev B : List ℕ
   B = drop f.aside aside
 
+  run : IsUnderWay g U X settled aside (stops ++ f ∷ []) (winners_of old) (choices_of old)
+  run = h.running.under_way
+
   begun : IsBegun g I L p (winners_of old) (choices_of old)
-  begun = last_begun g U X settled aside stops f (winners_of old) (choices_of old) h
+  begun = last_begun stops f run
 
   solved : IsSolvedInside g L (winners_of old) (choices_of old)
-  solved = left_solved g U X settled aside stops f (winners_of old) (choices_of old) h none
+  solved = left_solved stops f run h.none
 
   inside_of : (r : Player) (v : ℕ) → In (listed (since r)) v → In I v
-  inside_of r v i = since_inside g U X settled aside stops f (winners_of old) (choices_of old) h r v i
+  inside_of = since_inside stops f run
 
   aside_of : (v : ℕ) → In (listed B) v → In I v
-  aside_of v i = aside_inside g U X settled aside stops f (winners_of old) (choices_of old) h v i
+  aside_of = aside_inside stops f run
 
   cases : (v : ℕ) → In I v → ((r : Player) × In (listed (since r)) v) ⊎ In (listed B) v
-  cases v i = inside_cases g U X settled aside stops f (winners_of old) (choices_of old) h none v i
+  cases = inside_cases stops f run h.none
 
   left_of : (v : ℕ) → In L v → (r : Player) × In (listed (since r)) v
-  left_of v i = left_cases g U X settled aside stops f (winners_of old) (choices_of old) h none v i
+  left_of = left_cases stops f run h.none
 
   his : (r : Player) (v : ℕ) → In (listed (since r)) v → winners_of old v ≡ r
-  his r v i = h.his r v (in_drop (count_at f r) (settled r) v i)
+  his r v i = run.his r v (in_drop (count_at f r) (settled r) v i)
 
   -- what is set aside is not settled
   not_aside : (r : Player) (v : ℕ) → In (listed (since r)) v → In (listed B) v → ⊥
-  not_aside r v i j = no_both (listed aside v) (in_drop f.aside aside v j) (h.apart.aside_apart r v (in_drop (count_at f r) (settled r) v i))
-
-  players_apart : (v : ℕ) → In (listed (settled p)) v → In (listed (settled q)) v → ⊥
-  players_apart v = by_player (λ r. In (listed (settled r)) v → In (listed (settled (opponent r))) v → ⊥) Even even odd p
-    where
-      even : In (listed (settled Even)) v → In (listed (settled Odd)) v → ⊥
-      even x y = no_both (listed (settled Odd) v) y (h.apart.players v x)
-
-      odd : In (listed (settled Odd)) v → In (listed (settled Even)) v → ⊥
-      odd x y = no_both (listed (settled Odd) v) x (h.apart.players v y)
+  not_aside r v i j = no_both (in_drop f.aside aside v j) (run.apart.aside_apart r v (in_drop (count_at f r) (settled r) v i))
 
   aside_his : (v : ℕ) → In (listed B) v → winners_of old v ≡ p
-  aside_his v i = begun.his v (minus (I v) (L v) (aside_of v i) (out (test (L v))))
-    where
-      out : (L v ≡ true) ⊎ (L v ≡ false) → L v ≡ false
-      out (inl y) = absurd (let k = left_of v y in not_aside k.0 v k.1 i)
-      out (inr n) = n
+  aside_his v i = begun.his v (minus (aside_of v i) (false_from_ne_true (L v) (λ y. (let k = left_of v y in not_aside k.0 v k.1 i))))
 
   some_aside : (v : ℕ) × In (listed B) v
   some_aside =
       let s = begun.some in
       let b = only (I s.0) (L s.0) s.1 in
       elim (cases s.0 b.0) [
-        | inl (r, y) ↦ absurd (no_both (L s.0) (since_left g U X settled aside stops f (winners_of old) (choices_of old) h r s.0 y) b.1)
+        | inl (r, y) ↦ absurd (no_both (since_left stops f run r s.0 y) b.1)
         | inr y ↦ (s.0, y)
       ]
 
   cut : (r : Player) → settled r ≡ prefix f settled r ++ since r
   cut r = sym (take-append-drop (count_at f r) (settled r))
 
+  once_since : (r : Player) → Once (since r)
+  once_since r = once_drop (count_at f r) (settled r) (run.apart.settled_once r)
+
+  finished : {active : VertexSet} {settled' : SettledLists} {own other : List ℕ} (new : Plan)
+      → Finishes g p I active (prefix f settled) settled' own other (winners_of old) (winners_of new) (choices_of old) (choices_of new)
+      → 0 < length own + length other → IsFinished g inside x stops f active settled' new
+  finished {settled' = settled'} new t l =
+      let now = under_way_finish stops f run t in
+      record {
+        under_way = now;
+        kept = stops_kept stops f run t;
+        fewer = work_finish (size inside) (how_many_gone settled aside) (how_many_gone settled' (take f.aside aside)) stops f (finish_more stops f run t l)
+            (lists_fit inside now.apart now.listed_inside);
+      }
+
   -- The player won all that was left.
   module _ (settled' : SettledLists) (all : length (settled q) ≡ count_at f q) (own : settled' p ≡ settled p ++ B) (other : settled' q ≡ settled q) where
-    abbrev xs : List ℕ
-    xs = since p ++ B
-
-    abbrev taken : SettledLists
-    taken = pick p xs (since q)
-
     none_lost : (v : ℕ) → In (listed (since q)) v → ⊥
     none_lost v i = (let a = some_length (since q) v i in absurd (omega (arith, a, all, length-drop (count_at f q) (settled q))))
 
-    settle_is : (r : Player) → settled' r ≡ prefix f settled r ++ taken r
-    settle_is = by_player (λ r. settled' r ≡ prefix f settled r ++ taken r) p
-        (own ∙ (ap (λ ys. ys ++ B) (cut p) ∙ (append_assoc (prefix f settled p) (since p) B ∙ ap (λ ys. prefix f settled p ++ ys) (sym (pick_own p xs (since q))))))
-        (other ∙ (cut q ∙ ap (λ ys. prefix f settled q ++ ys) (sym (pick_other p xs (since q)))))
+    -- all inside is what the player has
+    taken_all : (v : ℕ) → In I v → In (listed (since p ++ B)) v
+    taken_all v i = elim (cases v i) [
+      | inl (r, y) ↦ elim (own_or_other r p) [
+        | inl e ↦ in_prefix (since p) B v (subst (λ t. In (listed (since t)) v) e y)
+        | inr e ↦ absurd (none_lost v (subst (λ t. In (listed (since t)) v) e y))
+      ]
+      | inr y ↦ in_rest (since p) B v y
+    ]
 
-    settle_within : (r : Player) (v : ℕ) → In (listed (taken r)) v → In I v
-    settle_within = by_player (λ r. (v : ℕ) → In (listed (taken r)) v → In I v) p
-        (λ v i. elim (front_or_back (since p) B v (subst (λ ys. In (listed ys) v) (pick_own p xs (since q)) i)) [ inl y ↦ inside_of p v y | inr y ↦ aside_of v y ])
-        (λ v i. inside_of q v (subst (λ ys. In (listed ys) v) (pick_other p xs (since q)) i))
+    own_cases : (P : ℕ → Type 0) → ((v : ℕ) → In (listed (since p)) v → P v) → ((v : ℕ) → In (listed B) v → P v) → (v : ℕ) → In (listed (since p ++ B)) v → P v
+    own_cases P a b v i = elim (prefix_or_rest (since p) B v i) [ inl y ↦ a v y | inr y ↦ b v y ]
 
-    settle_once : (r : Player) → Once (taken r)
-    settle_once = by_player (λ r. Once (taken r)) p
-        (subst Once (sym (pick_own p xs (since q))) (once_join (since p) B (once_drop (count_at f p) (settled p) (h.apart.settled_once p)) (once_drop f.aside aside h.apart.aside_once) (apart_from (since p) B (not_aside p))))
-        (subst Once (sym (pick_other p xs (since q))) (once_drop (count_at f q) (settled q) (h.apart.settled_once q)))
+    mine : (v : ℕ) → In (listed (since p ++ B)) v → winners_of old v ≡ p
+    mine = own_cases (λ v. winners_of old v ≡ p) (his p) aside_his
 
-    settle_players : Apart (taken Even) (taken Odd)
-    settle_players = pick_apart p xs (since q) (apart_from xs (since q) (λ v i j. none_lost v j))
+    settles : Finishes g p I X (prefix f settled) settled' (since p ++ B) (since q) (winners_of old) (winners_of old) (choices_of old) (choices_of old)
+    settles = record {
+      own_is = own ∙ (ap (λ ys. ys ++ B) (cut p) ∙ append_assoc (prefix f settled p) (since p) B);
+      other_is = other ∙ cut q;
+      own_within = own_cases (In I) (inside_of p) aside_of;
+      other_within = inside_of q;
+      own_once = once_join (since p) B (once_since p) (once_drop f.aside aside run.apart.aside_once) (apart_from (since p) B (not_aside p));
+      other_once = once_since q;
+      apart = apart_from (since p ++ B) (since q) (λ v i j. none_lost v j);
+      left = λ v. h.none v ∙ sym (false_from_ne_true (I v && not (listed (since p ++ B) v || listed (since q) v)) (λ y.
+          (let b = only (I v) (listed (since p ++ B) v || listed (since q) v) y in
+          no_both (taken_all v b.0) (or_parts (listed (since p ++ B) v) (listed (since q) v) b.1).0)));
+      own_won = mine;
+      other_won = his q;
+      same = λ v n. (refl, refl);
+      solved = IsSolvedTo-subst (λ v. sym (h.none v))
+          (all_won begun solved (λ v l. mine v (taken_all v (begun.within v l))));
+    }
 
-    settle_left : (v : ℕ) → X v ≡ (I v && not (listed (taken Even) v || listed (taken Odd) v))
-    settle_left v = none v ∙ sym (ap (λ b. I v && not b) (pick_either p xs (since q) v) ∙ nothing (I v) (listed xs v || listed (since q) v) taken_all)
-      where
-        nothing : (a b : Bool) → (a ≡ true → b ≡ true) → (a && not b) ≡ false
-        nothing true b e = let d = e refl in rw d refl
-        nothing false b e = refl
-
-        taken_all : In I v → (listed xs v || listed (since q) v) ≡ true
-        taken_all i = elim (cases v i) [
-          | inl (r, y) ↦ elim (own_or_other r p) [
-            | inl e ↦ in_first (listed xs v) (listed (since q) v) (in_front (since p) B v (subst (λ t. In (listed (since t)) v) e y))
-            | inr e ↦ in_second (listed xs v) (listed (since q) v) (subst (λ t. In (listed (since t)) v) e y)
-          ]
-          | inr y ↦ in_first (listed xs v) (listed (since q) v) (in_back (since p) B v y)
-        ]
-
-    settle_won : (r : Player) (v : ℕ) → In (listed (taken r)) v → winners_of old v ≡ r
-    settle_won = by_player (λ r. (v : ℕ) → In (listed (taken r)) v → winners_of old v ≡ r) p
-        (λ v i. elim (front_or_back (since p) B v (subst (λ ys. In (listed ys) v) (pick_own p xs (since q)) i)) [ inl y ↦ his p v y | inr y ↦ aside_his v y ])
-        (λ v i. his q v (subst (λ ys. In (listed ys) v) (pick_other p xs (since q)) i))
-
-    settle_solved : IsSolvedTo g I X (winners_of old) (choices_of old)
-    settle_solved = IsSolvedTo-subst g I no_vertices X (winners_of old) (choices_of old) (λ v. sym (none v))
-        (all_won g I L p (winners_of old) (choices_of old) begun solved (λ v l. mine v (left_of v l)))
-      where
-        mine : (v : ℕ) → (r : Player) × In (listed (since r)) v → winners_of old v ≡ p
-        mine v (r, y) = elim (own_or_other r p) [
-          | inl e ↦ his r v y ∙ e
-          | inr e ↦ absurd (none_lost v (subst (λ t. In (listed (since t)) v) e y))
-        ]
-
-    pub settle_under_way : IsUnderWay g U X settled' (take f.aside aside) stops (winners_of old) (choices_of old)
-    settle_under_way = under_way_finish g U X settled aside stops f (winners_of old) (choices_of old) h X settled' taken (winners_of old) (choices_of old)
-        settle_is settle_within settle_once settle_players settle_left settle_won (λ v n. (refl, refl)) settle_solved
-
-    pub settle_kept : map (level_at U settled' (take f.aside aside)) stops ≡ map (level_at U settled aside) stops
-    settle_kept = stops_kept g U X settled aside stops f (winners_of old) (choices_of old) h X settled' taken (winners_of old) (choices_of old)
-        settle_is settle_within settle_once settle_players settle_left settle_won (λ v n. (refl, refl)) settle_solved
-
-    pub settle_fewer : steps (size inside - how_many_gone settled' (take f.aside aside)) + steps_left (size inside) stops < steps (size inside - how_many_gone settled aside) + steps_left (size inside) (stops ++ f ∷ [])
-    settle_fewer =
-        work_finish (size inside) (how_many_gone settled aside) (how_many_gone settled' (take f.aside aside)) stops f
-        (finish_more g U X settled aside stops f (winners_of old) (choices_of old) h X settled' taken (winners_of old) (choices_of old)
-        settle_is settle_within settle_once settle_players settle_left settle_won (λ v n. (refl, refl)) settle_solved p
-        (let i : In (listed (taken p)) some_aside.0 = subst (λ ys. In (listed ys) some_aside.0) (sym (pick_own p xs (since q))) (in_back (since p) B some_aside.0 some_aside.1) in some_length (taken p) some_aside.0 i))
-        (lists_fit settled' (take f.aside aside) inside settle_under_way.apart settle_under_way.listed_inside)
+    pub settle_finished : IsFinished g inside x stops f X settled' old
+    settle_finished =
+        let a : 0 < length (since p ++ B) = some_length (since p ++ B) some_aside.0 (in_rest (since p) B some_aside.0 some_aside.1) in
+        finished old settles (omega (arith, a))
 
   -- The subgame is reopened: what was set aside and what the player won is active.
   module _ (A : VertexSet) (active : (v : ℕ) → A v ≡ ((X v || listed B v) || listed (since p) v)) where
     active_cases : (v : ℕ) → In A v → In (listed B) v ⊎ In (listed (since p)) v
-    active_cases v y = elim (either (X v || listed B v) (listed (since p) v) (sym (active v) ∙ y)) [
-      | inl z ↦ elim (either (X v) (listed B v) z) [ inl x ↦ absurd (no_both (X v) x (none v)) | inr x ↦ inl x ]
+    active_cases v y = elim (or_cases (X v || listed B v) (listed (since p) v) (sym (active v) ∙ y)) [
+      | inl z ↦ elim (or_cases (X v) (listed B v) z) [ inl x ↦ absurd (no_both x (h.none v)) | inr x ↦ inl x ]
       | inr z ↦ inr z
     ]
 
     active_aside : (v : ℕ) → In (listed B) v → In A v
-    active_aside v y = active v ∙ in_first (X v || listed B v) (listed (since p) v) (in_second (X v) (listed B v) y)
+    active_aside v y = active v ∙ or_left (X v || listed B v) (listed (since p) v) (or_right (X v) (listed B v) y)
 
     active_own : (v : ℕ) → In (listed (since p)) v → In A v
-    active_own v y = active v ∙ in_second (X v || listed B v) (listed (since p) v) y
+    active_own v y = active v ∙ or_right (X v || listed B v) (listed (since p) v) y
 
     active_inside : (v : ℕ) → In A v → In I v
     active_inside v y = elim (active_cases v y) [ inl x ↦ aside_of v x | inr x ↦ inside_of p v x ]
@@ -219,27 +220,23 @@ module _ (g : Graph) (inside : List Bool) (X : VertexSet) (settled : SettledList
     reopened v = equal_from (union A (listed (since q)) v) (I v) to from
       where
         to : In (union A (listed (since q))) v → In I v
-        to i = elim (either (A v) (listed (since q) v) i) [ inl y ↦ active_inside v y | inr y ↦ inside_of q v y ]
+        to i = elim (or_cases (A v) (listed (since q) v) i) [ inl y ↦ active_inside v y | inr y ↦ inside_of q v y ]
 
         from : In I v → In (union A (listed (since q))) v
         from i = elim (cases v i) [
           | inl (r, y) ↦ elim (own_or_other r p) [
-            | inl e ↦ in_first (A v) (listed (since q) v) (active_own v (subst (λ t. In (listed (since t)) v) e y))
-            | inr e ↦ in_second (A v) (listed (since q) v) (subst (λ t. In (listed (since t)) v) e y)
+            | inl e ↦ or_left (A v) (listed (since q) v) (active_own v (subst (λ t. In (listed (since t)) v) e y))
+            | inr e ↦ or_right (A v) (listed (since q) v) (subst (λ t. In (listed (since t)) v) e y)
           ]
-          | inr y ↦ in_first (A v) (listed (since q) v) (active_aside v y)
+          | inr y ↦ or_left (A v) (listed (since q) v) (active_aside v y)
         ]
 
     -- what the opponent won is not active
     pub reopened_apart : (v : ℕ) → In (listed (settled q)) v → A v ≡ false
-    reopened_apart v j = go (test (A v))
-      where
-        go : (A v ≡ true) ⊎ (A v ≡ false) → A v ≡ false
-        go (inl y) = elim (active_cases v y) [
-          | inl x ↦ absurd (no_both (listed aside v) (in_drop f.aside aside v x) (h.apart.aside_apart q v j))
-          | inr x ↦ absurd (players_apart v (in_drop (count_at f p) (settled p) v x) j)
-        ]
-        go (inr n) = n
+    reopened_apart v j = false_from_ne_true (A v) (λ y. elim (active_cases v y) [
+      | inl k ↦ no_both (in_drop f.aside aside v k) (run.apart.aside_apart q v j)
+      | inr k ↦ players_apart run.apart p v (in_drop (count_at f p) (settled p) v k) j
+    ])
 
     inside_parts : (v : ℕ) → In I v → In U v × (listed (prefix f settled q) v ≡ false)
     inside_parts v i = (let c = part_of U (prefix f settled) (take f.aside aside) v i in (c.0, c.1 q))
@@ -247,11 +244,11 @@ module _ (g : Graph) (inside : List Bool) (X : VertexSet) (settled : SettledList
     -- an edge of the opponent's out of the subgame leads to what the player has
     out_of_inside : (v w : ℕ) → In I v → owner_of g v ≡ q → HasEdge g v w → In U w → I w ≡ false → winners_of old w ≡ p
     out_of_inside v w i o e u n =
-        waits_away g U (map (level_at U settled aside) stops) I (winners_of old) (choices_of old) (last_waits g U X settled aside stops f (winners_of old) (choices_of old) h) v w i e u n
+        waits_away g U (map (level_at U settled aside) stops) I (winners_of old) (choices_of old) (last_waits stops f run) v w i e u n
         ∙ (ap opponent o ∙ twice p)
 
     in_whole : (v : ℕ) → In (listed (settled q)) v → In U v
-    in_whole v i = h.listed_inside v (gone_settled settled aside q v i)
+    in_whole v i = run.listed_inside v (gone_settled settled aside q v i)
 
     not_won : (v : ℕ) → winners_of old v ≡ p → winners_of old v ≡ q → ⊥
     not_won v a b = not_both (winners_of old v) p a b
@@ -259,21 +256,21 @@ module _ (g : Graph) (inside : List Bool) (X : VertexSet) (settled : SettledList
     pub reopened_known : IsKnown g U q A old (settled q)
     reopened_known = record {
       inside = λ v i. (inside_parts v (active_inside v i)).0;
-      won = λ v i. won_from U A old q v (in_whole v i) (reopened_apart v i) (h.his q v i);
-      reached = λ v w i o e k. (let c = won_parts U A old q w k in elim (test (I w)) [
+      won = λ v i. won_from U A old q v (in_whole v i) (reopened_apart v i) (run.his q v i);
+      reached = λ v w i o e k. (let c = won_parts U A old q w k in elim (cases_Bool (I w)) [
         | inr n ↦ absurd (not_won w (out_of_inside v w (active_inside v i) o e c.0 n) c.2)
         | inl y ↦ elim (cases w y) [
           | inl (r, x) ↦ in_drop (count_at f q) (settled q) w (subst (λ t. In (listed (since t)) w) (sym (his r w x) ∙ c.2) x)
-          | inr x ↦ absurd (no_both (A w) (active_aside w x) c.1)
+          | inr x ↦ absurd (no_both (active_aside w x) c.1)
         ]
       ]);
     }
 
     -- an edge of the opponent's vertex doesn't lead to what he won before
     pub reopened_away : (v w : ℕ) → In A v → owner_of g v ≡ q → HasEdge g v w → In (listed (prefix f settled q)) w → ⊥
-    reopened_away v w i o e j = elim (test (I w)) [
-      | inl y ↦ no_both (listed (prefix f settled q) w) j (inside_parts w y).1
-      | inr n ↦ (let m = in_take (count_at f q) (settled q) w j in not_won w (out_of_inside v w (active_inside v i) o e (in_whole w m) n) (h.his q w m))
+    reopened_away v w i o e j = elim (cases_Bool (I w)) [
+      | inl y ↦ no_both j (inside_parts w y).1
+      | inr n ↦ (let m = in_take (count_at f q) (settled q) w j in not_won w (out_of_inside v w (active_inside v i) o e (in_whole w m) n) (run.his q w m))
     ]
 
     -- nothing that the player won leads to what the opponent won
@@ -281,143 +278,101 @@ module _ (g : Graph) (inside : List Bool) (X : VertexSet) (settled : SettledList
     reopened_rest = record {
       own = λ v w i o e. missed w (λ y. (let b = only (A v) (listed B v) i in elim (take_or_drop (count_at f q) (settled q) w y) [
         | inl x ↦ reopened_away v w b.0 o e x
-        | inr x ↦ (let k = (solved p).closed v w (mine v b) o e (since_left_of q w x) in not_won w (same_is (winners_of old w) p (both (L w) (same_player (winners_of old w) p) k).1) (his q w x))
+        | inr x ↦ (let k = (solved p).closed v w (mine v b) o e (since_left_of q w x) in
+            not_won w (same_is (winners_of old w) p (and_parts (L w) (same_player (winners_of old w) p) k).1) (his q w x))
       ]));
       other = λ v i o. (let b = only (A v) (listed B v) i in
           let c = (solved p).choices v (mine v b) (o ∙ twice p) in
           let k : In A c.0 = active_own c.0 (sym (won_now p c.0) ∙ c.3) in
-          (c.0, c.2, in_first (A c.0) (listed (settled q) c.0) k, missed c.0 (λ y. no_both (A c.0) k (reopened_apart c.0 y))));
+          (c.0, c.2, or_left (A c.0) (listed (settled q) c.0) k, missed c.0 (λ y. no_both k (reopened_apart c.0 y))));
     }
       where
         missed : (w : ℕ) → (In (listed (settled q)) w → ⊥) → listed (settled q) w ≡ false
-        missed w n = go (test (listed (settled q) w))
-          where
-            go : (listed (settled q) w ≡ true) ⊎ (listed (settled q) w ≡ false) → listed (settled q) w ≡ false
-            go (inl y) = absurd (n y)
-            go (inr m) = m
+        missed w n = false_from_ne_true (listed (settled q) w) n
 
         won_now : (r : Player) (v : ℕ) → won_inside L (winners_of old) r v ≡ listed (since r) v
-        won_now r v = won_since g U X settled aside stops f (winners_of old) (choices_of old) h none r v
+        won_now r v = won_since stops f run h.none r v
 
         mine : (v : ℕ) → (A v ≡ true) × (listed B v ≡ false) → In (won_inside L (winners_of old) p) v
-        mine v b = won_now p v ∙ elim (active_cases v b.0) [ inl y ↦ absurd (no_both (listed B v) y b.1) | inr y ↦ y ]
+        mine v b = won_now p v ∙ elim (active_cases v b.0) [ inl y ↦ absurd (no_both y b.1) | inr y ↦ y ]
 
         since_left_of : (r : Player) (v : ℕ) → In (listed (since r)) v → In L v
-        since_left_of r v i = since_left g U X settled aside stops f (winners_of old) (choices_of old) h r v i
+        since_left_of r v i = since_left stops f run r v i
 
     -- What the opponent attracts to it is settled.
-    module _ (settled' : SettledLists) (C : VertexSet) (new : Plan) (some : length (settled q) ≢ count_at f q) (grown_whole : IsGrown g q A old (settled q) C new (settled' q)) (done_whole : AttractsNoActive g q (union A (listed (settled q))) (listed (settled' q)) C) (once_whole : Once (settled' q)) (apart_whole : (v : ℕ) → In (listed (settled' q)) v → C v ≡ false) (own : settled' p ≡ prefix f settled p) where
+    module _ {settled' : SettledLists} {C : VertexSet} {new : Plan} (t : Retakes g f A old settled settled' C new) where
       grown_cut : IsGrown g q A old (prefix f settled q ++ since q) C new (settled' q)
-      grown_cut = subst (λ ys. IsGrown g q A old ys C new (settled' q)) (cut q) grown_whole
+      grown_cut = subst (λ ys. IsGrown g q A old ys C new (settled' q)) (cut q) t.grown
 
-      abbrev grown_list : List ℕ
-      grown_list = since q ++ grown_cut.more
+      abbrev lost : List ℕ
+      lost = since q ++ grown_cut.more
 
-      abbrev taken' : SettledLists
-      taken' = pick p [] grown_list
+      prefix_inactive : (v : ℕ) → In (listed (prefix f settled q)) v → A v ≡ false
+      prefix_inactive v i = reopened_apart v (in_take (count_at f q) (settled q) v i)
 
-      front_inactive : (v : ℕ) → In (listed (prefix f settled q)) v → A v ≡ false
-      front_inactive v i = reopened_apart v (in_take (count_at f q) (settled q) v i)
+      prefix_apart : Apart (prefix f settled q) (since q)
+      prefix_apart = take_apart (count_at f q) (settled q) (run.apart.settled_once q)
 
-      front_apart : Apart (prefix f settled q) (since q)
-      front_apart = take_apart (count_at f q) (settled q) (h.apart.settled_once q)
+      other : settled' q ≡ prefix f settled q ++ lost
+      other = list_behind (prefix f settled q) (since q) grown_cut prefix_inactive prefix_apart
 
-      other : settled' q ≡ prefix f settled q ++ grown_list
-      other = list_behind g q A C old new (prefix f settled q) (since q) (settled' q) grown_cut front_inactive front_apart
+      grown : IsGrown g q A old (since q) C new lost
+      grown = grown_behind (prefix f settled q) (since q) grown_cut prefix_inactive prefix_apart reopened_away
 
-      grown : IsGrown g q A old (since q) C new grown_list
-      grown = grown_behind g q A C old new (prefix f settled q) (since q) (settled' q) grown_cut front_inactive front_apart reopened_away
+      done : AttractsNoActive g q (union A (listed (since q))) (listed lost) C
+      done = done_behind (prefix f settled q) (since q) grown_cut prefix_inactive prefix_apart
+          (subst (λ ys. AttractsNoActive g q (union A (listed ys)) (listed (settled' q)) C) (cut q) t.done)
 
-      done : AttractsNoActive g q (union A (listed (since q))) (listed grown_list) C
-      done = done_behind g q A C old new (prefix f settled q) (since q) (settled' q) grown_cut front_inactive front_apart (subst (λ ys. AttractsNoActive g q (union A (listed ys)) (listed (settled' q)) C) (cut q) done_whole)
-
-      once : Once grown_list
-      once = once_right (prefix f settled q) grown_list (subst Once other once_whole)
-
-      apart : (v : ℕ) → In (listed grown_list) v → C v ≡ false
-      apart v i = apart_whole v (subst (λ ys. In (listed ys) v) (sym other) (in_back (prefix f settled q) grown_list v i))
+      lost_apart : (v : ℕ) → In (listed lost) v → C v ≡ false
+      lost_apart v i = t.apart v (subst (λ ys. In (listed ys) v) (sym other) (in_rest (prefix f settled q) lost v i))
 
       since_apart : (v : ℕ) → In (listed (since q)) v → A v ≡ false
       since_apart v i = reopened_apart v (in_drop (count_at f q) (settled q) v i)
 
-      gained : IsAttracted g q I (won_inside L (winners_of old) q) (listed grown_list) (choices_of new) (place grown_list)
+      lost_is : (v : ℕ) → won_inside L (winners_of old) q v ≡ listed (since q) v
+      lost_is v = won_since stops f run h.none q v
+
+      gained : IsAttracted g q I (won_inside L (winners_of old) q) (listed lost) (choices_of new) (place lost)
       gained =
-          subst (λ Z. IsAttracted g q I Z (listed grown_list) (choices_of new) (place grown_list)) (fun_ext (λ v. sym (won_since g U X settled aside stops f (winners_of old) (choices_of old) h none q v)))
-          (subst (λ Z. IsAttracted g q Z (listed (since q)) (listed grown_list) (choices_of new) (place grown_list)) (fun_ext reopened)
-          (grown_attracted g q A C old new (since q) grown_list grown done))
+          subst (λ Z. IsAttracted g q I Z (listed lost) (choices_of new) (place lost)) (fun_ext (λ v. sym (lost_is v)))
+          (subst (λ Z. IsAttracted g q Z (listed (since q)) (listed lost) (choices_of new) (place lost)) (fun_ext reopened) (grown_attracted grown done))
 
-      rest_is : (v : ℕ) → C v ≡ without I (listed grown_list) v
-      rest_is v = rest_active (C v) (listed grown_list v) (I v) (grown_union g q A C old new (since q) grown_list grown v ∙ reopened v) (apart v)
+      rest_is : (v : ℕ) → C v ≡ without I (listed lost) v
+      rest_is v = rest_active (C v) (listed lost v) (I v) (grown_union grown v ∙ reopened v) (lost_apart v)
 
-      resume_his : (v : ℕ) → In (listed grown_list) v → winners_of new v ≡ q
-      resume_his v i = elim (front_or_back (since q) grown.more v (subst (λ ys. In (listed ys) v) grown.list_is i)) [
+      lost_won : (v : ℕ) → In (listed lost) v → winners_of new v ≡ q
+      lost_won v i = elim (grown_cases grown v i) [
         | inl y ↦ (grown.same v (since_apart v y)).0 ∙ his q v y
         | inr y ↦ grown.his v y
       ]
 
       pub resume_subgame : IsSubgame g C
-      resume_subgame = IsSubgame-subst g (without I (listed grown_list)) C (λ v. sym (rest_is v))
-          (left_is_subgame g q I (won_inside L (winners_of old) q) (listed grown_list) (choices_of new) (place grown_list) begun.subgame gained)
+      resume_subgame = IsSubgame-subst (λ v. sym (rest_is v))
+          (left_is_subgame begun.subgame gained)
 
       pub resume_inside : (v : ℕ) → In C v → In I v
-      resume_inside v i = (only (I v) (listed grown_list v) (sym (rest_is v) ∙ i)).0
+      resume_inside v i = (only (I v) (listed lost v) (sym (rest_is v) ∙ i)).0
 
-      resume_solved : IsSolvedTo g I C (winners_of new) (choices_of new)
-      resume_solved = IsSolvedTo-subst g I (without I (listed grown_list)) C (winners_of new) (choices_of new) (λ v. sym (rest_is v))
-          (part_lost g I L p (winners_of old) (choices_of old) begun (listed grown_list) (winners_of new) (choices_of new) (place grown_list) solved gained
-          (λ v i. (grown.same v (since_apart v (sym (won_since g U X settled aside stops f (winners_of old) (choices_of old) h none q v) ∙ i))).1)
-          resume_his)
+      resumes : Finishes g p I C (prefix f settled) settled' [] lost (winners_of old) (winners_of new) (choices_of old) (choices_of new)
+      resumes = record {
+        own_is = t.own ∙ sym (append-nil (prefix f settled p));
+        other_is = other;
+        own_within = λ v i. absurd (cc i);
+        other_within = λ v i. sym (reopened v) ∙ grown_inside grown v i;
+        own_once = tt;
+        other_once = once_right (prefix f settled q) lost (subst Once other t.once);
+        apart = λ v i. absurd (cc i);
+        left = rest_is;
+        own_won = λ v i. absurd (cc i);
+        other_won = lost_won;
+        same = λ v n. grown.same v (false_from_ne_true (A v) (λ y. no_both (active_inside v y) n));
+        solved = IsSolvedTo-subst (λ v. sym (rest_is v))
+            (part_lost begun (listed lost) (winners_of new) (choices_of new) (place lost) solved gained
+            (λ v i. (grown.same v (since_apart v (sym (lost_is v) ∙ i))).1) lost_won);
+      }
 
-      resume_is : (r : Player) → settled' r ≡ prefix f settled r ++ taken' r
-      resume_is = by_player (λ r. settled' r ≡ prefix f settled r ++ taken' r) p
-          (own ∙ (sym (append-nil (prefix f settled p)) ∙ ap (λ ys. prefix f settled p ++ ys) (sym (pick_own p [] grown_list))))
-          (other ∙ ap (λ ys. prefix f settled q ++ ys) (sym (pick_other p [] grown_list)))
-
-      resume_within : (r : Player) (v : ℕ) → In (listed (taken' r)) v → In I v
-      resume_within = by_player (λ r. (v : ℕ) → In (listed (taken' r)) v → In I v) p
-          (λ v i. absurd (let j : In (listed []) v = subst (λ ys. In (listed ys) v) (pick_own p [] grown_list) i in cc j))
-          (λ v i. sym (reopened v) ∙ grown_inside g q A C old new (since q) grown_list grown v (subst (λ ys. In (listed ys) v) (pick_other p [] grown_list) i))
-
-      resume_once : (r : Player) → Once (taken' r)
-      resume_once = by_player (λ r. Once (taken' r)) p (subst Once (sym (pick_own p [] grown_list)) tt) (subst Once (sym (pick_other p [] grown_list)) once)
-
-      resume_players : Apart (taken' Even) (taken' Odd)
-      resume_players = pick_apart p [] grown_list (λ v i. absurd (cc i))
-
-      resume_left : (v : ℕ) → C v ≡ (I v && not (listed (taken' Even) v || listed (taken' Odd) v))
-      resume_left v = rest_is v ∙ ap (λ b. I v && not b) (sym (pick_either p [] grown_list v))
-
-      resume_won : (r : Player) (v : ℕ) → In (listed (taken' r)) v → winners_of new v ≡ r
-      resume_won = by_player (λ r. (v : ℕ) → In (listed (taken' r)) v → winners_of new v ≡ r) p
-          (λ v i. absurd (let j : In (listed []) v = subst (λ ys. In (listed ys) v) (pick_own p [] grown_list) i in cc j))
-          (λ v i. resume_his v (subst (λ ys. In (listed ys) v) (pick_other p [] grown_list) i))
-
-      resume_same : (v : ℕ) → I v ≡ false → (winners_of new v ≡ winners_of old v) × (choices_of new v ≡ choices_of old v)
-      resume_same v n = grown.same v (out (test (A v)))
-        where
-          out : (A v ≡ true) ⊎ (A v ≡ false) → A v ≡ false
-          out (inl y) = absurd (no_both (I v) (sym (reopened v) ∙ in_first (A v) (listed (since q) v) y) n)
-          out (inr m) = m
-
-      pub resume_under_way : IsUnderWay g U C settled' (take f.aside aside) stops (winners_of new) (choices_of new)
-      resume_under_way = under_way_finish g U X settled aside stops f (winners_of old) (choices_of old) h C settled' taken' (winners_of new) (choices_of new)
-          resume_is resume_within resume_once resume_players resume_left resume_won resume_same resume_solved
-
-      pub resume_kept : map (level_at U settled' (take f.aside aside)) stops ≡ map (level_at U settled aside) stops
-      resume_kept = stops_kept g U X settled aside stops f (winners_of old) (choices_of old) h C settled' taken' (winners_of new) (choices_of new)
-          resume_is resume_within resume_once resume_players resume_left resume_won resume_same resume_solved
-
-      some_lost : (v : ℕ) × In (listed grown_list) v
-      some_lost =
-          let a = (stop_fits g U X settled aside stops f (winners_of old) (choices_of old) h).0 q in
-          let l : 0 < length (since q) = omega (arith, a, some, length-drop (count_at f q) (settled q)) in
-          let s = listed_some (since q) l in
-          (s.0, in_front (since q) grown_cut.more s.0 s.1)
-
-      pub resume_fewer : steps (size inside - how_many_gone settled' (take f.aside aside)) + steps_left (size inside) stops < steps (size inside - how_many_gone settled aside) + steps_left (size inside) (stops ++ f ∷ [])
-      resume_fewer =
-          work_finish (size inside) (how_many_gone settled aside) (how_many_gone settled' (take f.aside aside)) stops f
-          (finish_more g U X settled aside stops f (winners_of old) (choices_of old) h C settled' taken' (winners_of new) (choices_of new)
-          resume_is resume_within resume_once resume_players resume_left resume_won resume_same resume_solved q
-          (let i : In (listed (taken' q)) some_lost.0 = subst (λ ys. In (listed ys) some_lost.0) (sym (pick_other p [] grown_list)) some_lost.1 in some_length (taken' q) some_lost.0 i))
-          (lists_fit settled' (take f.aside aside) inside resume_under_way.apart resume_under_way.listed_inside)
+      pub resume_finished : IsFinished g inside x stops f C settled' new
+      resume_finished =
+          let a = (stop_fits stops f run).0 q in
+          let l : 0 < length (since q) = omega (arith, a, t.some, length-drop (count_at f q) (settled q)) in
+          finished new resumes (omega (arith, l, length-append (since q) grown_cut.more))

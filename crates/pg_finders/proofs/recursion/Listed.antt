@@ -1,65 +1,53 @@
 -- Lists of vertices as sets.
-use Rattle.std.proofs.Common.{◌≡◌, ℕ, zero, suc, ◌<◌, ◌≤◌, Bool, true, false, ◌||◌, ◌⊎◌, inl, inr, List, [], ◌∷◌, ◌++◌, length, take, drop, get_or, All, refl, sym, ◌∙◌, subst, arith}
+use Rattle.std.proofs.Common.{◌≡◌, ℕ, zero, suc, ◌<◌, ◌≤◌, Bool, true, false, ◌||◌, ◌⊎◌, inl, inr, List, [], ◌∷◌, ◌++◌, length, take, drop, get_or}
+use Rattle.std.proofs.Common.{All, refl, sym, ◌∙◌, subst, arith}
 use Rattle.std.specs.Prelude.{◌==◌, slice_set}
-use Rattle.std.proofs.lemmas.Bool.{eqb-true, eq-eqb}
+use Rattle.std.proofs.lemmas.Bool.{eqb-true, eq-eqb, or_cases, or_left, or_right, false_from_ne_true}
 use Rattle.std.proofs.lemmas.List.{take-append-drop, get_or-set_other}
 use Rattle.std.proofs.lemmas.List.Folds.{list_any-append}
 use Rattle.pg_game.specs.VertexSet.{In, members}
 use Rattle.pg_game.proofs.Walks.{or_false}
-use Rattle.pg_game.proofs.Grown.{in_first, in_second}
 use Rattle.pg_finders.specs.private.recursion.Listed.{listed, Once, Apart}
 use Rattle.pg_finders.specs.private.recursion.Planned.{size}
-use Rattle.pg_finders.proofs.Sets.{no_both, test, either}
+use Rattle.pg_finders.proofs.Sets.{no_both}
 use Rattle.pg_finders.proofs.Masks.{inside_mask}
 use Rattle.pg_finders.proofs.Sizes.{size_drop}
 
 pub listed-append : (xs ys : List ℕ) (v : ℕ) → listed (xs ++ ys) v ≡ (listed xs v || listed ys v)
 listed-append xs ys v = list_any-append (λ u. u == v) xs ys
 
-pub in_front : (xs ys : List ℕ) (v : ℕ) → In (listed xs) v → In (listed (xs ++ ys)) v
-in_front xs ys v i = listed-append xs ys v ∙ in_first (listed xs v) (listed ys v) i
+pub in_prefix : (xs ys : List ℕ) (v : ℕ) → In (listed xs) v → In (listed (xs ++ ys)) v
+in_prefix xs ys v i = listed-append xs ys v ∙ or_left (listed xs v) (listed ys v) i
 
-pub in_back : (xs ys : List ℕ) (v : ℕ) → In (listed ys) v → In (listed (xs ++ ys)) v
-in_back xs ys v i = listed-append xs ys v ∙ in_second (listed xs v) (listed ys v) i
+pub in_rest : (xs ys : List ℕ) (v : ℕ) → In (listed ys) v → In (listed (xs ++ ys)) v
+in_rest xs ys v i = listed-append xs ys v ∙ or_right (listed xs v) (listed ys v) i
 
-pub front_or_back : (xs ys : List ℕ) (v : ℕ) → In (listed (xs ++ ys)) v → In (listed xs) v ⊎ In (listed ys) v
-front_or_back xs ys v i = either (listed xs v) (listed ys v) (sym (listed-append xs ys v) ∙ i)
+pub prefix_or_rest : (xs ys : List ℕ) (v : ℕ) → In (listed (xs ++ ys)) v → In (listed xs) v ⊎ In (listed ys) v
+prefix_or_rest xs ys v i = or_cases (listed xs v) (listed ys v) (sym (listed-append xs ys v) ∙ i)
 
 pub in_take : (k : ℕ) (xs : List ℕ) (v : ℕ) → In (listed (take k xs)) v → In (listed xs) v
-in_take k xs v i = subst (λ ys. In (listed ys) v) (take-append-drop k xs) (in_front (take k xs) (drop k xs) v i)
+in_take k xs v i = subst (λ ys. In (listed ys) v) (take-append-drop k xs) (in_prefix (take k xs) (drop k xs) v i)
 
 pub in_drop : (k : ℕ) (xs : List ℕ) (v : ℕ) → In (listed (drop k xs)) v → In (listed xs) v
-in_drop k xs v i = subst (λ ys. In (listed ys) v) (take-append-drop k xs) (in_back (take k xs) (drop k xs) v i)
+in_drop k xs v i = subst (λ ys. In (listed ys) v) (take-append-drop k xs) (in_rest (take k xs) (drop k xs) v i)
 
 pub take_or_drop : (k : ℕ) (xs : List ℕ) (v : ℕ) → In (listed xs) v → In (listed (take k xs)) v ⊎ In (listed (drop k xs)) v
-take_or_drop k xs v i = front_or_back (take k xs) (drop k xs) v (subst (λ ys. In (listed ys) v) (sym (take-append-drop k xs)) i)
+take_or_drop k xs v i = prefix_or_rest (take k xs) (drop k xs) v (subst (λ ys. In (listed ys) v) (sym (take-append-drop k xs)) i)
 
 pub one_listed : (u v : ℕ) → In (listed (u ∷ [])) v → u ≡ v
-one_listed u v i = elim (either (u == v) false i) [ inl y ↦ eqb-true u v y | inr n ↦ absurd (cc n) ]
+one_listed u v i = elim (or_cases (u == v) false i) [ inl y ↦ eqb-true u v y | inr n ↦ absurd (cc n) ]
 
 pub some_length : (xs : List ℕ) (v : ℕ) → In (listed xs) v → 0 < length xs
 some_length [] v i = absurd (cc i)
 some_length (x ∷ xs) v i = omega arith
 
-pub listed_some : (xs : List ℕ) → 0 < length xs → (v : ℕ) × In (listed xs) v
-listed_some [] l = absurd (omega (arith, l))
-listed_some (x ∷ xs) l = (x, in_first (x == x) (listed xs x) (eq-eqb x x refl))
-
 -- nothing of the one is in the other, the other way round
-pub apart_back : (xs ys : List ℕ) → Apart xs ys → Apart ys xs
-apart_back xs ys f v i = go (test (listed xs v))
-  where
-    go : (listed xs v ≡ true) ⊎ (listed xs v ≡ false) → listed xs v ≡ false
-    go (inl y) = absurd (no_both (listed ys v) i (f v y))
-    go (inr n) = n
+pub apart_other : (xs ys : List ℕ) → Apart xs ys → Apart ys xs
+apart_other xs ys f v i = false_from_ne_true (listed xs v) (λ y. no_both i (f v y))
 
 -- where a member of both is absurd
 pub apart_from : (xs ys : List ℕ) → ((v : ℕ) → In (listed xs) v → In (listed ys) v → ⊥) → Apart xs ys
-apart_from xs ys f v i = go (test (listed ys v))
-  where
-    go : (listed ys v ≡ true) ⊎ (listed ys v ≡ false) → listed ys v ≡ false
-    go (inl y) = absurd (f v i y)
-    go (inr n) = n
+apart_from xs ys f v i = false_from_ne_true (listed ys v) (f v i)
 
 pub once_apart : (xs ys : List ℕ) → Once (xs ++ ys) → Apart xs ys
 once_apart [] ys h v i = absurd (cc i)
@@ -83,8 +71,8 @@ once_right (x ∷ xs) ys h = once_right xs ys h.1
 pub once_join : (xs ys : List ℕ) → Once xs → Once ys → Apart xs ys → Once (xs ++ ys)
 once_join [] ys a b f = b
 once_join (x ∷ xs) ys a b f = (
-  listed-append xs ys x ∙ rw (a.0, f x (in_first (x == x) (listed xs x) (eq-eqb x x refl))) refl,
-  once_join xs ys a.1 b (λ v i. f v (in_second (x == v) (listed xs v) i)),
+  listed-append xs ys x ∙ rw (a.0, f x (or_left (x == x) (listed xs x) (eq-eqb x x refl))) refl,
+  once_join xs ys a.1 b (λ v i. f v (or_right (x == v) (listed xs v) i)),
 )
 
 pub once_take : (k : ℕ) (xs : List ℕ) → Once xs → Once (take k xs)
@@ -93,7 +81,7 @@ once_take k xs o = once_left (take k xs) (drop k xs) (subst Once (sym (take-appe
 pub once_drop : (k : ℕ) (xs : List ℕ) → Once xs → Once (drop k xs)
 once_drop k xs o = once_right (take k xs) (drop k xs) (subst Once (sym (take-append-drop k xs)) o)
 
--- the front has nothing of the rest
+-- the prefix has nothing of the rest
 pub take_apart : (k : ℕ) (xs : List ℕ) → Once xs → Apart (take k xs) (drop k xs)
 take_apart k xs o = once_apart (take k xs) (drop k xs) (subst Once (sym (take-append-drop k xs)) o)
 
@@ -107,23 +95,19 @@ once_fits (x ∷ xs) mask o f =
     let e = size_drop mask x here in
     omega (arith, h, e)
   where
-    kept : (v : ℕ) → listed xs v ≡ true → (b : Bool) → (x == v) ≡ b → (((x == v) || listed xs v) ≡ true → members mask v ≡ true) → members (slice_set mask x false) v ≡ true
-    kept v i true e f = absurd (let q = eqb-true x v e in let m : listed xs x ≡ true = subst (λ u. listed xs u ≡ true) (sym q) i in no_both (listed xs x) m o.0)
+    kept : (v : ℕ) → listed xs v ≡ true → (b : Bool) → (x == v) ≡ b → (((x == v) || listed xs v) ≡ true → members mask v ≡ true)
+        → members (slice_set mask x false) v ≡ true
+    kept v i true e f = absurd (let q = eqb-true x v e in let m : listed xs x ≡ true = subst (λ u. listed xs u ≡ true) (sym q) i in no_both m o.0)
     kept v i false e f = get_or-set_other mask x v false false (λ q. grind (arith, eq-eqb x v (sym q))) ∙ f (rw (e, i) refl)
 
+listed_get : (xs : List ℕ) (k d : ℕ) → k < length xs → listed xs (get_or xs k d) ≡ true
+listed_get [] k d l = absurd (omega (arith, l))
+listed_get (x ∷ xs) zero d l = rw (eq-eqb x x refl) refl
+listed_get (x ∷ xs) (suc k) d l = or_right (x == get_or xs k d) (listed xs (get_or xs k d)) (listed_get xs k d (omega (arith, l)))
+
 pub listed_at : (xs : List ℕ) (k : ℕ) (x : ℕ) → k < length xs → x ≡ get_or xs k x → In (listed xs) x
-listed_at xs k x l e = subst (λ y. In (listed xs) y) (sym e) (at xs k x l)
-  where
-    at : (xs : List ℕ) (k d : ℕ) → k < length xs → listed xs (get_or xs k d) ≡ true
-    at [] k d l = absurd (omega (arith, l))
-    at (x ∷ xs) zero d l = rw (eq-eqb x x refl) refl
-    at (x ∷ xs) (suc k) d l = in_second (x == get_or xs k d) (listed xs (get_or xs k d)) (at xs k d (omega (arith, l)))
+listed_at xs k x l e = subst (λ y. In (listed xs) y) (sym e) (listed_get xs k x l)
 
 -- where all that is listed is below a number, each item is
 pub all_below : (n : ℕ) (xs : List ℕ) → ((v : ℕ) → In (listed xs) v → v < n) → All (λ v. v < n) xs
-all_below n xs f k d l = f (get_or xs k d) (at xs k d l)
-  where
-    at : (xs : List ℕ) (k d : ℕ) → k < length xs → listed xs (get_or xs k d) ≡ true
-    at [] k d l = absurd (omega (arith, l))
-    at (x ∷ xs) zero d l = rw (eq-eqb x x refl) refl
-    at (x ∷ xs) (suc k) d l = in_second (x == get_or xs k d) (listed xs (get_or xs k d)) (at xs k d (omega (arith, l)))
+all_below n xs f k d l = f (get_or xs k d) (listed_get xs k d l)

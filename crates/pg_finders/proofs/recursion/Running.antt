@@ -7,11 +7,14 @@ use Rattle.pg_finders.specs.private.recursion.Order.{AllStand}
 use Rattle.pg_finders.specs.private.recursion.Running.{AllPlaced, steps_left}
 use Rattle.pg_finders.proofs.recursion.Waiting.{steps_begin, steps_finish}
 
-pub placed_push : (ranked : List Ranked) (level : Stop → Level) (stops : List Stop) (f : Stop) → AllPlaced ranked (map level stops) stops → AllStand ranked (level f).inside f.place → f.place ≤ length ranked → AllPlaced ranked (map level (stops ++ f ∷ [])) (stops ++ f ∷ [])
+pub placed_push : (ranked : List Ranked) (level : Stop → Level) (stops : List Stop) (f : Stop) → AllPlaced ranked (map level stops) stops
+    → AllStand ranked (level f).inside f.place → f.place ≤ length ranked → AllPlaced ranked (map level (stops ++ f ∷ [])) (stops ++ f ∷ [])
 placed_push ranked level [] f h a l = (a, l, tt)
 placed_push ranked level (x ∷ xs) f h a l = (h.0, h.1, placed_push ranked level xs f h.2 a l)
 
-pub placed_pop : (ranked : List Ranked) (level : Stop → Level) (stops : List Stop) (f : Stop) → AllPlaced ranked (map level (stops ++ f ∷ [])) (stops ++ f ∷ []) → AllPlaced ranked (map level stops) stops × AllStand ranked (level f).inside f.place × (f.place ≤ length ranked)
+pub placed_pop : (ranked : List Ranked) (level : Stop → Level) (stops : List Stop) (f : Stop)
+    → AllPlaced ranked (map level (stops ++ f ∷ [])) (stops ++ f ∷ [])
+    → AllPlaced ranked (map level stops) stops × AllStand ranked (level f).inside f.place × (f.place ≤ length ranked)
 placed_pop ranked level [] f h = (tt, h.0, h.1)
 placed_pop ranked level (x ∷ xs) f h = (let k = placed_pop ranked level xs f h.2 in ((h.0, h.1, k.0), k.1, k.2))
 
@@ -20,7 +23,8 @@ left_push n [] f = omega arith
 left_push n (x ∷ xs) f = let h = left_push n xs f in omega (arith, h)
 
 -- the steps fall where a subgame is begun
-pub work_begin : (n m k : ℕ) (stops : List Stop) (f : Stop) → f.even + f.odd + f.aside ≡ m → m < k → k ≤ n → steps (n - k) + steps_left n (stops ++ f ∷ []) < steps (n - m) + steps_left n stops
+pub work_begin : (n m k : ℕ) (stops : List Stop) (f : Stop) → f.even + f.odd + f.aside ≡ m → m < k → k ≤ n
+    → steps (n - k) + steps_left n (stops ++ f ∷ []) < steps (n - m) + steps_left n stops
 work_begin n m k stops f e l h =
     let a = left_push n stops f in
     let b = steps_begin (n - m) (n - k) (omega (arith, l, h)) in
@@ -28,7 +32,8 @@ work_begin n m k stops f e l h =
     omega (arith, a, b, d)
 
 -- and where the last one is finished
-pub work_finish : (n m k : ℕ) (stops : List Stop) (f : Stop) → f.even + f.odd + f.aside < k → k ≤ n → steps (n - k) + steps_left n stops < steps (n - m) + steps_left n (stops ++ f ∷ [])
+pub work_finish : (n m k : ℕ) (stops : List Stop) (f : Stop) → f.even + f.odd + f.aside < k → k ≤ n
+    → steps (n - k) + steps_left n stops < steps (n - m) + steps_left n (stops ++ f ∷ [])
 work_finish n m k stops f l h =
     let a = left_push n stops f in
     let b = steps_finish (n - (f.even + f.odd + f.aside)) (n - k) (omega (arith, l, h)) in

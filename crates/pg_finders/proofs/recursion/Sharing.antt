@@ -1,17 +1,19 @@
 -- Lists that are shared: what stops in a row say of them, and which levels stay the same.
-use Rattle.std.proofs.Common.{◌≡◌, ℕ, ◌≤◌, true, false, ◌||◌, ◌⊎◌, inl, inr, List, [], ◌∷◌, ◌++◌, take, map, refl, sym, ◌∙◌, ap, arith}
+use Rattle.std.proofs.Common.{◌≡◌, ℕ, ◌+◌, ◌≤◌, false, ◌||◌, ◌⊎◌, inl, inr, List, [], ◌∷◌, ◌++◌, length, take, map, refl, sym, ◌∙◌, ap, arith}
+use Rattle.std.proofs.lemmas.Bool.{or_cases, or_left, or_right, false_from_ne_true}
+use Rattle.std.proofs.Math.Bool.{or_comm}
 use Rattle.pg_game.specs.declared.player.Player.{Player}
 use Rattle.pg_game.specs.declared.player.Player.TheVariants.{Even, Odd}
 use Rattle.pg_game.specs.Player.{opponent, same_player}
 use Rattle.std.specs.Prelude.{if◌then◌else◌}
 use Rattle.pg_game.specs.VertexSet.{VertexSet, In}
-use Rattle.pg_game.proofs.Grown.{in_first, in_second}
 use Rattle.pg_finders.specs.declared.recursion.solver.Stop.{Stop}
-use Rattle.pg_finders.specs.private.recursion.Listed.{listed}
+use Rattle.pg_finders.specs.private.recursion.Listed.{listed, Apart}
 use Rattle.pg_finders.specs.private.recursion.Settled.{SettledLists}
-use Rattle.pg_finders.specs.private.recursion.UnderWay.{gone, part, count_at, prefix, level_at, Linked}
+use Rattle.pg_finders.specs.private.recursion.UnderWay.{gone, part, count_at, prefix, level_at, Linked, AreApart}
 use mathlib.Core.Path.{fun_ext}
-use Rattle.pg_finders.proofs.Sets.{no_both, test, either, minus, only}
+use Rattle.pg_finders.proofs.Sets.{no_both, minus, only}
+use Rattle.pg_finders.proofs.recursion.Listed.{apart_other}
 
 -- what holds for a player and for the opponent holds for each player
 pub by_player : (P : Player → Type 0) (p : Player) → P p → P (opponent p) → (q : Player) → P q
@@ -24,65 +26,92 @@ by_player P Odd a b Odd = a
 abbrev pub pick : Player → List ℕ → List ℕ → SettledLists
 pick p xs ys q = if same_player q p then xs else ys
 
-pub pick_own : (p : Player) (xs ys : List ℕ) → pick p xs ys p ≡ xs
-pick_own Even xs ys = refl
-pick_own Odd xs ys = refl
+-- what holds of each of the two lists holds of each player's
+pub picked : (P : Player → List ℕ → Type 0) (p : Player) (xs ys : List ℕ) → P p xs → P (opponent p) ys → (q : Player) → P q (pick p xs ys q)
+picked P Even xs ys a b Even = a
+picked P Even xs ys a b Odd = b
+picked P Odd xs ys a b Even = b
+picked P Odd xs ys a b Odd = a
 
-pub pick_other : (p : Player) (xs ys : List ℕ) → pick p xs ys (opponent p) ≡ ys
-pick_other Even xs ys = refl
-pick_other Odd xs ys = refl
+pub pick_apart : (p : Player) (xs ys : List ℕ) → Apart xs ys → Apart (pick p xs ys Even) (pick p xs ys Odd)
+pick_apart Even xs ys a = a
+pick_apart Odd xs ys a = apart_other xs ys a
+
+pub pick_either : (p : Player) (xs ys : List ℕ) (v : ℕ) → (listed (pick p xs ys Even) v || listed (pick p xs ys Odd) v) ≡ (listed xs v || listed ys v)
+pick_either Even xs ys v = refl
+pick_either Odd xs ys v = or_comm (listed ys v) (listed xs v)
+
+pub pick_length : (p : Player) (xs ys : List ℕ) → length (pick p xs ys Even) + length (pick p xs ys Odd) ≡ length xs + length ys
+pick_length Even xs ys = refl
+pick_length Odd xs ys = omega arith
+
+-- nothing is settled for both players
+pub players_apart : {settled : SettledLists} {aside : List ℕ} → AreApart settled aside → (p : Player) (v : ℕ) → In (listed (settled p)) v
+    → In (listed (settled (opponent p))) v → ⊥
+players_apart {settled} a Even v i j = no_both j (a.players v i)
+players_apart {settled} a Odd v i j = no_both i (a.players v j)
 
 pub gone_settled : (settled : SettledLists) (aside : List ℕ) (p : Player) (v : ℕ) → In (listed (settled p)) v → In (gone settled aside) v
-gone_settled settled aside Even v i = in_first (listed (settled Even) v || listed (settled Odd) v) (listed aside v) (in_first (listed (settled Even) v) (listed (settled Odd) v) i)
-gone_settled settled aside Odd v i = in_first (listed (settled Even) v || listed (settled Odd) v) (listed aside v) (in_second (listed (settled Even) v) (listed (settled Odd) v) i)
+gone_settled settled aside Even v i =
+    or_left (listed (settled Even) v || listed (settled Odd) v) (listed aside v) (or_left (listed (settled Even) v) (listed (settled Odd) v) i)
+gone_settled settled aside Odd v i =
+    or_left (listed (settled Even) v || listed (settled Odd) v) (listed aside v) (or_right (listed (settled Even) v) (listed (settled Odd) v) i)
 
 pub gone_aside : (settled : SettledLists) (aside : List ℕ) (v : ℕ) → In (listed aside) v → In (gone settled aside) v
-gone_aside settled aside v i = in_second (listed (settled Even) v || listed (settled Odd) v) (listed aside v) i
+gone_aside settled aside v i = or_right (listed (settled Even) v || listed (settled Odd) v) (listed aside v) i
 
-pub gone_cases : (settled : SettledLists) (aside : List ℕ) (v : ℕ) → In (gone settled aside) v → ((p : Player) × In (listed (settled p)) v) ⊎ In (listed aside) v
-gone_cases settled aside v i = elim (either (listed (settled Even) v || listed (settled Odd) v) (listed aside v) i) [
-  | inl y ↦ elim (either (listed (settled Even) v) (listed (settled Odd) v) y) [ inl x ↦ inl (Even, x) | inr x ↦ inl (Odd, x) ]
+pub gone_cases : (settled : SettledLists) (aside : List ℕ) (v : ℕ) → In (gone settled aside) v
+    → ((p : Player) × In (listed (settled p)) v) ⊎ In (listed aside) v
+gone_cases settled aside v i = elim (or_cases (listed (settled Even) v || listed (settled Odd) v) (listed aside v) i) [
+  | inl y ↦ elim (or_cases (listed (settled Even) v) (listed (settled Odd) v) y) [ inl x ↦ inl (Even, x) | inr x ↦ inl (Odd, x) ]
   | inr y ↦ inr y
 ]
 
-pub gone_none : (settled : SettledLists) (aside : List ℕ) (v : ℕ) → ((p : Player) → listed (settled p) v ≡ false) → listed aside v ≡ false → gone settled aside v ≡ false
+pub gone_none : (settled : SettledLists) (aside : List ℕ) (v : ℕ) → ((p : Player) → listed (settled p) v ≡ false) → listed aside v ≡ false
+    → gone settled aside v ≡ false
 gone_none settled aside v f a = rw (f Even, f Odd, a) refl
 
-pub not_gone : (settled : SettledLists) (aside : List ℕ) (v : ℕ) → gone settled aside v ≡ false → ((p : Player) → listed (settled p) v ≡ false) × (listed aside v ≡ false)
+pub not_gone : (settled : SettledLists) (aside : List ℕ) (v : ℕ) → gone settled aside v ≡ false
+    → ((p : Player) → listed (settled p) v ≡ false) × (listed aside v ≡ false)
 not_gone settled aside v n = (λ p. out_of (settled p) (λ i. gone_settled settled aside p v i), out_of aside (λ i. gone_aside settled aside v i))
   where
     out_of : (xs : List ℕ) → (In (listed xs) v → In (gone settled aside) v) → listed xs v ≡ false
-    out_of xs f = go (test (listed xs v))
-      where
-        go : (listed xs v ≡ true) ⊎ (listed xs v ≡ false) → listed xs v ≡ false
-        go (inl y) = absurd (no_both (gone settled aside v) (f y) n)
-        go (inr m) = m
+    out_of xs f = false_from_ne_true (listed xs v) (λ y. no_both (f y) n)
 
 -- a vertex of the part is in the set and in no list
-pub part_of : (U : VertexSet) (settled : SettledLists) (aside : List ℕ) (v : ℕ) → In (part U settled aside) v → In U v × ((p : Player) → listed (settled p) v ≡ false) × (listed aside v ≡ false)
+pub part_of : (U : VertexSet) (settled : SettledLists) (aside : List ℕ) (v : ℕ) → In (part U settled aside) v
+    → In U v × ((p : Player) → listed (settled p) v ≡ false) × (listed aside v ≡ false)
 part_of U settled aside v i = (let a = only (U v) (gone settled aside v) i in let b = not_gone settled aside v a.1 in (a.0, b.0, b.1))
 
-pub in_part : (U : VertexSet) (settled : SettledLists) (aside : List ℕ) (v : ℕ) → In U v → ((p : Player) → listed (settled p) v ≡ false) → listed aside v ≡ false → In (part U settled aside) v
-in_part U settled aside v u f a = minus (U v) (gone settled aside v) u (gone_none settled aside v f a)
+pub in_part : (U : VertexSet) (settled : SettledLists) (aside : List ℕ) (v : ℕ) → In U v → ((p : Player) → listed (settled p) v ≡ false)
+    → listed aside v ≡ false → In (part U settled aside) v
+in_part U settled aside v u f a = minus u (gone_none settled aside v f a)
 
 linked_le : (i n : Player → ℕ) (first : ℕ) (stops : List Stop) (last : ℕ) → Linked i n first stops last → ((p : Player) → i p ≤ n p) × (first ≤ last)
 linked_le i n first [] last l = (l.0, omega (arith, l.1))
-linked_le i n first (x ∷ xs) last l = let h = linked_le (count_at x) n x.upto xs last l.3 in (λ p. (let a = l.0 p in let b = h.0 p in omega (arith, a, b)), omega (arith, l.1, l.2, h.1))
+linked_le i n first (x ∷ xs) last l =
+    let h = linked_le (count_at x) n x.upto xs last l.3 in (λ p. (let a = l.0 p in let b = h.0 p in omega (arith, a, b)), omega (arith, l.1, l.2, h.1))
 
-pub linked_more : (i n m : Player → ℕ) (first : ℕ) (stops : List Stop) (last : ℕ) → ((p : Player) → n p ≤ m p) → Linked i n first stops last → Linked i m first stops last
+pub linked_more : (i n m : Player → ℕ) (first : ℕ) (stops : List Stop) (last : ℕ) → ((p : Player) → n p ≤ m p) → Linked i n first stops last
+    → Linked i m first stops last
 linked_more i n m first [] last e l = (λ p. (let a = e p in let b = l.0 p in omega (arith, a, b)), l.1)
 linked_more i n m first (x ∷ xs) last e l = (l.0, l.1, l.2, linked_more (count_at x) n m x.upto xs last e l.3)
 
-pub linked_push : (i n : Player → ℕ) (first : ℕ) (stops : List Stop) (last : ℕ) (f : Stop) → Linked i n first stops last → f.aside ≡ last → f.aside ≤ f.upto → ((p : Player) → count_at f p ≡ n p) → Linked i n first (stops ++ f ∷ []) f.upto
-linked_push i n first [] last f l a b c = (λ p. (let x = l.0 p in let y = c p in omega (arith, x, y)), a ∙ sym l.1, b, (λ p. (let y = c p in omega (arith, y)), refl))
+pub linked_push : (i n : Player → ℕ) (first : ℕ) (stops : List Stop) (last : ℕ) (f : Stop) → Linked i n first stops last → f.aside ≡ last
+    → f.aside ≤ f.upto → ((p : Player) → count_at f p ≡ n p) → Linked i n first (stops ++ f ∷ []) f.upto
+linked_push i n first [] last f l a b c =
+    (λ p. (let x = l.0 p in let y = c p in omega (arith, x, y)), a ∙ sym l.1, b, (λ p. (let y = c p in omega (arith, y)), refl))
 linked_push i n first (x ∷ xs) last f l a b c = (l.0, l.1, l.2, linked_push (count_at x) n x.upto xs last f l.3 a b c)
 
-pub linked_pop : (i n : Player → ℕ) (first : ℕ) (stops : List Stop) (last : ℕ) (f : Stop) → Linked i n first (stops ++ f ∷ []) last → Linked i (count_at f) first stops f.aside × (f.aside ≤ f.upto) × ((p : Player) → count_at f p ≤ n p) × (f.upto ≡ last)
+pub linked_pop : (i n : Player → ℕ) (first : ℕ) (stops : List Stop) (last : ℕ) (f : Stop) → Linked i n first (stops ++ f ∷ []) last
+    → Linked i (count_at f) first stops f.aside × (f.aside ≤ f.upto) × ((p : Player) → count_at f p ≤ n p) × (f.upto ≡ last)
 linked_pop i n first [] last f l = ((l.0, sym l.1), l.2, l.3.0, l.3.1)
 linked_pop i n first (x ∷ xs) last f l = let h = linked_pop (count_at x) n x.upto xs last f l.3 in ((l.0, l.1, l.2, h.0), h.1, h.2, h.3)
 
 -- the levels are the same where the lists agree up to the stops
-pub levels_same : (U : VertexSet) (settled : SettledLists) (aside : List ℕ) (settled' : SettledLists) (aside' : List ℕ) (i n : Player → ℕ) (first last : ℕ) (stops : List Stop) → Linked i n first stops last → ((p : Player) (k : ℕ) → k ≤ n p → take k (settled' p) ≡ take k (settled p)) → ((k : ℕ) → k ≤ last → take k aside' ≡ take k aside) → map (level_at U settled' aside') stops ≡ map (level_at U settled aside) stops
+pub levels_same : (U : VertexSet) (settled : SettledLists) (aside : List ℕ) (settled' : SettledLists) (aside' : List ℕ) (i n : Player → ℕ) (first last : ℕ)
+    (stops : List Stop) → Linked i n first stops last → ((p : Player) (k : ℕ) → k ≤ n p → take k (settled' p) ≡ take k (settled p))
+    → ((k : ℕ) → k ≤ last → take k aside' ≡ take k aside) → map (level_at U settled' aside') stops ≡ map (level_at U settled aside) stops
 levels_same U settled aside settled' aside' i n first last [] l f h = refl
 levels_same U settled aside settled' aside' i n first last (x ∷ xs) l f h =
     let le = linked_le (count_at x) n x.upto xs last l.3 in

@@ -1,8 +1,10 @@
 -- The steps of the loop over shared lists: a subgame is begun, or the last one that waits is finished.
 use mathlib.Core.Path.{fun_ext}
-use Rattle.std.proofs.Common.{◌≡◌, ℕ, ◌+◌, ◌<◌, ◌≤◌, Bool, true, false, ◌&&◌, ◌||◌, not, ◌⊎◌, inl, inr, List, [], ◌∷◌, ◌++◌, length, take, drop, map, refl, sym, ◌∙◌, ap, subst, arith, length-append, length-take}
+use Rattle.std.proofs.Common.{◌≡◌, ℕ, ◌+◌, ◌<◌, ◌≤◌, Bool, true, false, ◌&&◌, ◌||◌, not, ◌⊎◌, inl, inr, List, [], ◌∷◌, ◌++◌, length, take, drop, map}
+use Rattle.std.proofs.Common.{refl, sym, ◌∙◌, ap, subst, arith, length-append, length-take}
 use Rattle.std.specs.Prelude.{◌==◌}
-use Rattle.std.proofs.lemmas.Bool.{eqb-true}
+use Rattle.std.proofs.lemmas.Bool.{eqb-true, or_cases, and_parts, and_from, false_from_ne_true}
+use Rattle.std.proofs.Math.Bool.{and-true, or_assoc}
 use Rattle.std.proofs.lemmas.List.{map-append, take-append-le, take_all}
 use Rattle.std.proofs.lemmas.Grind.{common_steps}
 use Rattle.pg_game.specs.declared.player.Player.{Player}
@@ -20,11 +22,14 @@ use Rattle.pg_finders.specs.private.recursion.Settled.{SettledLists}
 use Rattle.pg_finders.specs.private.recursion.Planned.{size}
 use Rattle.pg_finders.specs.private.recursion.UnderWay.{gone, part, count_at, prefix, level_at, Linked, AreApart, IsUnderWay}
 use Rattle.pg_finders.specs.private.recursion.Running.{how_many_gone}
-use Rattle.pg_finders.proofs.Sets.{test, no_both, either, equal_from, both, pair, unless}
-use Rattle.pg_finders.proofs.recursion.Listed.{listed-append, front_or_back, in_take, in_drop, take_or_drop, once_join, once_take, take_apart, apart_from, once_fits}
+use Rattle.pg_finders.proofs.Sets.{minus_both, no_both, equal_from, unless}
+use Rattle.pg_finders.proofs.recursion.Listed.{listed-append, prefix_or_rest, in_take, in_drop, take_or_drop, once_join, once_take, take_apart}
+use Rattle.pg_finders.proofs.recursion.Listed.{apart_from, once_fits}
 use Rattle.pg_finders.proofs.Solving.{solved_none, solved_whole, IsSolvedTo-subst}
 use Rattle.pg_finders.proofs.recursion.Waiting.{Agree, waits_on, waits_push, waits_pop}
-use Rattle.pg_finders.proofs.recursion.Sharing.{by_player, gone_settled, gone_aside, gone_cases, gone_none, part_of, in_part, linked_more, linked_push, linked_pop, levels_same}
+use Rattle.pg_finders.proofs.recursion.Sharing.{by_player, players_apart, pick, picked, pick_apart, pick_either, pick_length, gone_settled}
+use Rattle.pg_finders.proofs.recursion.Sharing.{gone_aside, gone_cases, gone_none, part_of, in_part, linked_more, linked_push, linked_pop}
+use Rattle.pg_finders.proofs.recursion.Sharing.{levels_same}
 
 -- the lists are one list, in which no vertex stands twice
 abbrev all_gone : SettledLists → List ℕ → List ℕ
@@ -33,14 +38,14 @@ all_gone settled aside = (settled Even ++ settled Odd) ++ aside
 all_gone_once : (settled : SettledLists) (aside : List ℕ) → AreApart settled aside → Once (all_gone settled aside)
 all_gone_once settled aside a =
     let first : Once (settled Even ++ settled Odd) = once_join (settled Even) (settled Odd) (a.settled_once Even) (a.settled_once Odd) a.players in
-    once_join (settled Even ++ settled Odd) aside first a.aside_once (λ v i. elim (front_or_back (settled Even) (settled Odd) v i) [
+    once_join (settled Even ++ settled Odd) aside first a.aside_once (λ v i. elim (prefix_or_rest (settled Even) (settled Odd) v i) [
       | inl y ↦ a.aside_apart Even v y
       | inr y ↦ a.aside_apart Odd v y
     ])
 
 all_gone_are : (settled : SettledLists) (aside : List ℕ) (v : ℕ) → In (listed (all_gone settled aside)) v → In (gone settled aside) v
-all_gone_are settled aside v i = elim (front_or_back (settled Even ++ settled Odd) aside v i) [
-  | inl y ↦ elim (front_or_back (settled Even) (settled Odd) v y) [ inl x ↦ gone_settled settled aside Even v x | inr x ↦ gone_settled settled aside Odd v x ]
+all_gone_are settled aside v i = elim (prefix_or_rest (settled Even ++ settled Odd) aside v i) [
+  | inl y ↦ elim (prefix_or_rest (settled Even) (settled Odd) v y) [ inl x ↦ gone_settled settled aside Even v x | inr x ↦ gone_settled settled aside Odd v x ]
   | inr y ↦ gone_aside settled aside v y
 ]
 
@@ -48,63 +53,75 @@ all_gone_length : (settled : SettledLists) (aside : List ℕ) → length (all_go
 all_gone_length settled aside = omega (arith, length-append (settled Even ++ settled Odd) aside, length-append (settled Even) (settled Odd))
 
 -- the lists together are no longer than the mask has vertices
-pub lists_fit : (settled : SettledLists) (aside : List ℕ) (mask : List Bool) → AreApart settled aside → ((v : ℕ) → In (gone settled aside) v → In (members mask) v) → how_many_gone settled aside ≤ size mask
-lists_fit settled aside mask a inside =
+pub lists_fit : {settled : SettledLists} {aside : List ℕ} (mask : List Bool) → AreApart settled aside
+    → ((v : ℕ) → In (gone settled aside) v → In (members mask) v) → how_many_gone settled aside ≤ size mask
+lists_fit {settled} {aside} mask a inside =
     let h = once_fits (all_gone settled aside) mask (all_gone_once settled aside a) (λ v i. inside v (all_gone_are settled aside v i)) in
     omega (arith, h, all_gone_length settled aside)
 
 -- where the lists are that long, nothing is active
-pub none_active : (g : Graph) (mask : List Bool) (active : VertexSet) (settled : SettledLists) (aside : List ℕ) (stops : List Stop) (won : Winners) (s : Choices) → IsUnderWay g (members mask) active settled aside stops won s → how_many_gone settled aside ≡ size mask → (v : ℕ) → active v ≡ false
-none_active g mask active settled aside stops won s h e v = go (test (active v))
-  where
-    go : (active v ≡ true) ⊎ (active v ≡ false) → active v ≡ false
-    go (inr n) = n
-    go (inl i) =
-        let c = part_of (members mask) settled aside v (sym (h.active_is v) ∙ i) in
-        let fresh : listed (all_gone settled aside) v ≡ false = listed-append (settled Even ++ settled Odd) aside v
-        ∙ (ap (λ b. b || listed aside v) (listed-append (settled Even) (settled Odd) v) ∙ gone_none settled aside v c.1 c.2) in
-        let fits = once_fits (v ∷ all_gone settled aside) mask (fresh, all_gone_once settled aside h.apart) (λ w m. elim (either (v == w) (listed (all_gone settled aside) w) m) [
-          | inl y ↦ subst (In (members mask)) (eqb-true v w y) c.0
-          | inr y ↦ h.listed_inside w (all_gone_are settled aside w y)
-        ]) in
-        absurd (omega (arith, fits, e, all_gone_length settled aside))
+pub none_active : {g : Graph} (mask : List Bool) {active : VertexSet} {settled : SettledLists} {aside : List ℕ} {stops : List Stop} {won : Winners}
+    {s : Choices} → IsUnderWay g (members mask) active settled aside stops won s → how_many_gone settled aside ≡ size mask → (v : ℕ) → active v ≡ false
+none_active mask {active} {settled} {aside} h e v = false_from_ne_true (active v) (λ i.
+    (let c = part_of (members mask) settled aside v (sym (h.active_is v) ∙ i) in
+    let fresh : listed (all_gone settled aside) v ≡ false = listed-append (settled Even ++ settled Odd) aside v
+    ∙ (ap (λ b. b || listed aside v) (listed-append (settled Even) (settled Odd) v) ∙ gone_none settled aside v c.1 c.2) in
+    let fits = once_fits (v ∷ all_gone settled aside) mask (fresh, all_gone_once settled aside h.apart)
+    (λ w m. elim (or_cases (v == w) (listed (all_gone settled aside) w) m) [
+      | inl y ↦ subst (In (members mask)) (eqb-true v w y) c.0
+      | inr y ↦ h.listed_inside w (all_gone_are settled aside w y)
+    ]) in
+    omega (arith, fits, e, all_gone_length settled aside)))
 
 -- The active part is begun: the vertices that are added to those set aside are its attractor, and the others stay active.
-module _ (g : Graph) (U active active' : VertexSet) (settled : SettledLists) (aside added : List ℕ) (stops : List Stop) (f : Stop) (won won' : Winners) (s s' : Choices) (h : IsUnderWay g U active settled aside stops won s) (within : (v : ℕ) → In (listed added) v → In active v) (once : Once added) (left : (v : ℕ) → active' v ≡ (active v && not (listed added v))) (begun : IsBegun g active active' f.player won' s') (same : Agree active won won' s s') (counts : (p : Player) → count_at f p ≡ length (settled p)) (from : f.aside ≡ length aside) (upto : f.upto ≡ length (aside ++ added)) where
+pub record Begins (g : Graph) (U active active' : VertexSet) (settled : SettledLists) (aside added : List ℕ) (stops : List Stop) (f : Stop)
+    (won won' : Winners) (s s' : Choices) : Type 0 where
+  pub under_way : IsUnderWay g U active settled aside stops won s
+  pub within : (v : ℕ) → In (listed added) v → In active v
+  pub once : Once added
+  pub left : (v : ℕ) → active' v ≡ (active v && not (listed added v))
+  pub begun : IsBegun g active active' f.player won' s'
+  pub same : Agree active won won' s s'
+  pub counts : (p : Player) → count_at f p ≡ length (settled p)
+  pub from : f.aside ≡ length aside
+  pub upto : f.upto ≡ length (aside ++ added)
+
+module _ {g : Graph} {U active active' : VertexSet} {settled : SettledLists} {aside added : List ℕ} {stops : List Stop} {f : Stop} {won won' : Winners}
+    {s s' : Choices} (b : Begins g U active active' settled aside added stops f won won' s s') where
   out_of_lists : (v : ℕ) → In active v → In U v × ((p : Player) → listed (settled p) v ≡ false) × (listed aside v ≡ false)
-  out_of_lists v i = part_of U settled aside v (sym (h.active_is v) ∙ i)
+  out_of_lists v i = part_of U settled aside v (sym (b.under_way.active_is v) ∙ i)
 
   active_now : (v : ℕ) → active' v ≡ part U settled (aside ++ added) v
   active_now v =
-      left v ∙ (ap (λ b. b && not (listed added v)) (h.active_is v)
-      ∙ (less (U v) (listed (settled Even) v || listed (settled Odd) v) (listed aside v) (listed added v)
-      ∙ ap (λ b. U v && not ((listed (settled Even) v || listed (settled Odd) v) || b)) (sym (listed-append aside added v))))
-    where
-      less : (a b c d : Bool) → ((a && not (b || c)) && not d) ≡ (a && not (b || (c || d)))
-      less true true c d = refl
-      less true false true d = refl
-      less true false false d = refl
-      less false b c d = refl
+      let done = listed (settled Even) v || listed (settled Odd) v in
+      b.left v ∙ (ap (λ x. x && not (listed added v)) (b.under_way.active_is v)
+      ∙ (minus_both (U v) (done || listed aside v) (listed added v)
+      ∙ ap (λ x. U v && not x) (or_assoc done (listed aside v) (listed added v) ∙ ap (λ x. done || x) (sym (listed-append aside added v)))))
 
-  front_now : prefix f settled ≡ settled
-  front_now = fun_ext (λ p. take_all (count_at f p) (settled p) (let a = counts p in omega (arith, a)))
+  prefix_now : prefix f settled ≡ settled
+  prefix_now = fun_ext (λ p. take_all (count_at f p) (settled p) (let a = b.counts p in omega (arith, a)))
 
   level_now : level_at U settled (aside ++ added) f ≡ record { inside = active; left = active'; player = f.player }
   level_now =
-      let begins : take f.aside (aside ++ added) ≡ aside = take-append-le f.aside aside added (omega (arith, from)) ∙ take_all f.aside aside (omega (arith, from)) in
-      let whole : take f.upto (aside ++ added) ≡ aside ++ added = take_all f.upto (aside ++ added) (omega (arith, upto)) in
-      let a : part U (prefix f settled) (take f.aside (aside ++ added)) ≡ active = ap (λ t. part U t (take f.aside (aside ++ added))) front_now ∙ (ap (part U settled) begins ∙ fun_ext (λ v. sym (h.active_is v))) in
-      let b : part U (prefix f settled) (take f.upto (aside ++ added)) ≡ active' = ap (λ t. part U t (take f.upto (aside ++ added))) front_now ∙ (ap (part U settled) whole ∙ fun_ext (λ v. sym (active_now v))) in
-      ap (λ X. record { inside = X; left = part U (prefix f settled) (take f.upto (aside ++ added)); player = f.player }) a
-      ∙ ap (λ X. record { inside = active; left = X; player = f.player }) b
+      let begins : take f.aside (aside ++ added) ≡ aside =
+      take-append-le f.aside aside added (omega (arith, b.from)) ∙ take_all f.aside aside (omega (arith, b.from)) in
+      let whole : take f.upto (aside ++ added) ≡ aside ++ added = take_all f.upto (aside ++ added) (omega (arith, b.upto)) in
+      let in_all : part U (prefix f settled) (take f.aside (aside ++ added)) ≡ active =
+      ap (λ t. part U t (take f.aside (aside ++ added))) prefix_now ∙ (ap (part U settled) begins ∙ fun_ext (λ v. sym (b.under_way.active_is v))) in
+      let in_left : part U (prefix f settled) (take f.upto (aside ++ added)) ≡ active' =
+      ap (λ t. part U t (take f.upto (aside ++ added))) prefix_now ∙ (ap (part U settled) whole ∙ fun_ext (λ v. sym (active_now v))) in
+      ap (λ X. record { inside = X; left = part U (prefix f settled) (take f.upto (aside ++ added)); player = f.player }) in_all
+      ∙ ap (λ X. record { inside = active; left = X; player = f.player }) in_left
 
   pub stops_now : map (level_at U settled (aside ++ added)) stops ≡ map (level_at U settled aside) stops
-  stops_now = levels_same U settled aside settled (aside ++ added) (λ p. 0) (λ p. length (settled p)) 0 (length aside) stops h.linked (λ p k l. refl) (λ k l. take-append-le k aside added l)
+  stops_now = levels_same U settled aside settled (aside ++ added) (λ p. 0) (λ p. length (settled p)) 0 (length aside) stops b.under_way.linked
+      (λ p k l. refl) (λ k l. take-append-le k aside added l)
 
   pub inside_now : (level_at U settled (aside ++ added) f).inside ≡ active
   inside_now = ap (λ (l : Level). l.inside) level_now
 
-  levels_now : map (level_at U settled (aside ++ added)) (stops ++ f ∷ []) ≡ map (level_at U settled aside) stops ++ record { inside = active; left = active'; player = f.player } ∷ []
+  levels_now : map (level_at U settled (aside ++ added)) (stops ++ f ∷ [])
+      ≡ map (level_at U settled aside) stops ++ record { inside = active; left = active'; player = f.player } ∷ []
   levels_now =
       map-append (level_at U settled (aside ++ added)) stops (f ∷ [])
       ∙ (ap (λ ls. ls ++ level_at U settled (aside ++ added) f ∷ []) stops_now
@@ -112,36 +129,51 @@ module _ (g : Graph) (U active active' : VertexSet) (settled : SettledLists) (as
 
   pub under_way_begin : IsUnderWay g U active' settled (aside ++ added) (stops ++ f ∷ []) won' s'
   under_way_begin = record {
-    linked = subst (λ n. Linked (λ p. 0) (λ p. length (settled p)) 0 (stops ++ f ∷ []) n) upto (linked_push (λ p. 0) (λ p. length (settled p)) 0 stops (length aside) f h.linked from (omega (arith, from, upto, length-append aside added)) counts);
+    linked = subst (λ n. Linked (λ p. 0) (λ p. length (settled p)) 0 (stops ++ f ∷ []) n) b.upto
+        (linked_push (λ p. 0) (λ p. length (settled p)) 0 stops (length aside) f b.under_way.linked b.from
+        (omega (arith, b.from, b.upto, length-append aside added)) b.counts);
     apart = record {
-      settled_once = h.apart.settled_once;
-      aside_once = once_join aside added h.apart.aside_once once (apart_from aside added (λ v i j. no_both (listed aside v) i (out_of_lists v (within v j)).2));
-      players = h.apart.players;
-      aside_apart = λ p. apart_from (settled p) (aside ++ added) (λ v i j. elim (front_or_back aside added v j) [
-        | inl y ↦ no_both (listed aside v) y (h.apart.aside_apart p v i)
-        | inr y ↦ no_both (listed (settled p) v) i ((out_of_lists v (within v y)).1 p)
+      settled_once = b.under_way.apart.settled_once;
+      aside_once = once_join aside added b.under_way.apart.aside_once b.once (apart_from aside added (λ v i j. no_both i (out_of_lists v (b.within v j)).2));
+      players = b.under_way.apart.players;
+      aside_apart = λ p. apart_from (settled p) (aside ++ added) (λ v i j. elim (prefix_or_rest aside added v j) [
+        | inl y ↦ no_both y (b.under_way.apart.aside_apart p v i)
+        | inr y ↦ no_both i ((out_of_lists v (b.within v y)).1 p)
       ]);
     };
     listed_inside = λ v i. elim (gone_cases settled (aside ++ added) v i) [
-      | inl (p, y) ↦ h.listed_inside v (gone_settled settled aside p v y)
-      | inr y ↦ elim (front_or_back aside added v y) [
-        | inl x ↦ h.listed_inside v (gone_aside settled aside v x)
-        | inr x ↦ (out_of_lists v (within v x)).0
+      | inl (p, y) ↦ b.under_way.listed_inside v (gone_settled settled aside p v y)
+      | inr y ↦ elim (prefix_or_rest aside added v y) [
+        | inl x ↦ b.under_way.listed_inside v (gone_aside settled aside v x)
+        | inr x ↦ (out_of_lists v (b.within v x)).0
       ]
     ];
     active_is = active_now;
-    his = λ p v i. (same v (not_active p v i (test (active v)))).0 ∙ h.his p v i;
+    his = λ p v i. (b.same v (false_from_ne_true (active v) (λ y. no_both i ((out_of_lists v y).1 p)))).0 ∙ b.under_way.his p v i;
     waits = subst (λ levels. Waits g U levels active' won' s') (sym levels_now)
         (waits_push g U (map (level_at U settled aside) stops) (record { inside = active; left = active'; player = f.player }) active' won' s'
-        (waits_on g U (map (level_at U settled aside) stops) active active won won' s s' h.waits same (solved_none g active won' s')) begun (solved_none g active' won' s'));
+        (waits_on g U (map (level_at U settled aside) stops) active active won won' s s' b.under_way.waits b.same (solved_none)) b.begun (solved_none));
   }
-    where
-      not_active : (p : Player) (v : ℕ) → In (listed (settled p)) v → (active v ≡ true) ⊎ (active v ≡ false) → active v ≡ false
-      not_active p v i (inl y) = absurd (no_both (listed (settled p) v) i ((out_of_lists v y).1 p))
-      not_active p v i (inr n) = n
+
+-- What is taken of a subgame for its player and for the opponent, each behind the prefix of his list; the others of it are active.
+pub record Finishes (g : Graph) (p : Player) (I active : VertexSet) (before settled : SettledLists) (own other : List ℕ) (won won' : Winners)
+    (s s' : Choices) : Type 0 where
+  pub own_is : settled p ≡ before p ++ own
+  pub other_is : settled (opponent p) ≡ before (opponent p) ++ other
+  pub own_within : (v : ℕ) → In (listed own) v → In I v
+  pub other_within : (v : ℕ) → In (listed other) v → In I v
+  pub own_once : Once own
+  pub other_once : Once other
+  pub apart : Apart own other
+  pub left : (v : ℕ) → active v ≡ (I v && not (listed own v || listed other v))
+  pub own_won : (v : ℕ) → In (listed own) v → won' v ≡ p
+  pub other_won : (v : ℕ) → In (listed other) v → won' v ≡ opponent p
+  pub same : Agree I won won' s s'
+  pub solved : IsSolvedTo g I active won' s'
 
 -- The last subgame that waits.
-module _ (g : Graph) (U active : VertexSet) (settled : SettledLists) (aside : List ℕ) (stops : List Stop) (f : Stop) (won : Winners) (s : Choices) (h : IsUnderWay g U active settled aside (stops ++ f ∷ []) won s) where
+module _ {g : Graph} {U active : VertexSet} {settled : SettledLists} {aside : List ℕ} (stops : List Stop) (f : Stop) {won : Winners} {s : Choices}
+    (h : IsUnderWay g U active settled aside (stops ++ f ∷ []) won s) where
   abbrev last : Level
   last = level_at U settled aside f
 
@@ -151,7 +183,8 @@ module _ (g : Graph) (U active : VertexSet) (settled : SettledLists) (aside : Li
   pub stop_fits : ((p : Player) → count_at f p ≤ length (settled p)) × (f.aside ≤ length aside)
   stop_fits = (links.2, omega (arith, links.1, links.3))
 
-  popped : Waits g U (map (level_at U settled aside) stops) last.inside won s × IsBegun g last.inside last.left f.player won s × IsSolvedTo g last.left active won s
+  popped : Waits g U (map (level_at U settled aside) stops) last.inside won s × IsBegun g last.inside last.left f.player won s
+      × IsSolvedTo g last.left active won s
   popped = waits_pop g U (map (level_at U settled aside) stops) last active won s
       (subst (λ levels. Waits g U levels active won s) (map-append (level_at U settled aside) stops (f ∷ [])) h.waits)
 
@@ -167,50 +200,34 @@ module _ (g : Graph) (U active : VertexSet) (settled : SettledLists) (aside : Li
   abbrev aside_since : List ℕ
   aside_since = drop f.aside aside
 
-  -- what was settled or set aside since the subgame was begun is in no front
+  -- what was settled or set aside since the subgame was begun is in no prefix
   settled_new : (p : Player) (v : ℕ) → In (listed (since p)) v → ((q : Player) → listed (prefix f settled q) v ≡ false)
   settled_new p v i = by_player (λ q. listed (prefix f settled q) v ≡ false) p
-      (out (prefix f settled p) (λ j. no_both (listed (since p) v) i (take_apart (count_at f p) (settled p) (h.apart.settled_once p) v j)))
-      (out (prefix f settled (opponent p)) (λ j. players_apart p v (in_drop (count_at f p) (settled p) v i) (in_take (count_at f (opponent p)) (settled (opponent p)) v j)))
-    where
-      out : (xs : List ℕ) → (In (listed xs) v → ⊥) → listed xs v ≡ false
-      out xs n = go (test (listed xs v))
-        where
-          go : (listed xs v ≡ true) ⊎ (listed xs v ≡ false) → listed xs v ≡ false
-          go (inl y) = absurd (n y)
-          go (inr m) = m
-
-      players_apart : (p : Player) (v : ℕ) → In (listed (settled p)) v → In (listed (settled (opponent p))) v → ⊥
-      players_apart Even v i j = no_both (listed (settled Odd) v) j (h.apart.players v i)
-      players_apart Odd v i j = no_both (listed (settled Odd) v) i (h.apart.players v j)
+      (false_from_ne_true (listed (prefix f settled p) v) (λ j. no_both i (take_apart (count_at f p) (settled p) (h.apart.settled_once p) v j)))
+      (false_from_ne_true (listed (prefix f settled (opponent p)) v) (λ j.
+      players_apart h.apart p v (in_drop (count_at f p) (settled p) v i) (in_take (count_at f (opponent p)) (settled (opponent p)) v j)))
 
   out_of_aside : (v : ℕ) → ((p : Player) × In (listed (settled p)) v) → (k : ℕ) → listed (take k aside) v ≡ false
-  out_of_aside v (p, i) k = go (test (listed (take k aside) v))
-    where
-      go : (listed (take k aside) v ≡ true) ⊎ (listed (take k aside) v ≡ false) → listed (take k aside) v ≡ false
-      go (inl y) = absurd (no_both (listed aside v) (in_take k aside v y) (h.apart.aside_apart p v i))
-      go (inr n) = n
+  out_of_aside v (p, i) k = false_from_ne_true (listed (take k aside) v) (λ y. no_both (in_take k aside v y) (h.apart.aside_apart p v i))
 
   aside_new : (v : ℕ) → In (listed aside_since) v → ((q : Player) → listed (prefix f settled q) v ≡ false) × (listed (take f.aside aside) v ≡ false)
-  aside_new v i = (λ q. out q (test (listed (prefix f settled q) v)), cut (test (listed (take f.aside aside) v)))
-    where
-      out : (q : Player) → (listed (prefix f settled q) v ≡ true) ⊎ (listed (prefix f settled q) v ≡ false) → listed (prefix f settled q) v ≡ false
-      out q (inl y) = absurd (no_both (listed aside v) (in_drop f.aside aside v i) (h.apart.aside_apart q v (in_take (count_at f q) (settled q) v y)))
-      out q (inr n) = n
-
-      cut : (listed (take f.aside aside) v ≡ true) ⊎ (listed (take f.aside aside) v ≡ false) → listed (take f.aside aside) v ≡ false
-      cut (inl y) = absurd (no_both (listed aside_since v) i (take_apart f.aside aside h.apart.aside_once v y))
-      cut (inr n) = n
+  aside_new v i = (
+    λ q. false_from_ne_true (listed (prefix f settled q) v)
+        (λ y. no_both (in_drop f.aside aside v i) (h.apart.aside_apart q v (in_take (count_at f q) (settled q) v y))),
+    false_from_ne_true (listed (take f.aside aside) v) (λ y. no_both i (take_apart f.aside aside h.apart.aside_once v y)),
+  )
 
   pub since_inside : (p : Player) (v : ℕ) → In (listed (since p)) v → In last.inside v
   since_inside p v i =
       let m = in_drop (count_at f p) (settled p) v i in
-      in_part U (prefix f settled) (take f.aside aside) v (h.listed_inside v (gone_settled settled aside p v m)) (settled_new p v i) (out_of_aside v (p, m) f.aside)
+      in_part U (prefix f settled) (take f.aside aside) v (h.listed_inside v (gone_settled settled aside p v m)) (settled_new p v i)
+      (out_of_aside v (p, m) f.aside)
 
   pub since_left : (p : Player) (v : ℕ) → In (listed (since p)) v → In last.left v
   since_left p v i =
       let m = in_drop (count_at f p) (settled p) v i in
-      in_part U (prefix f settled) (take f.upto aside) v (h.listed_inside v (gone_settled settled aside p v m)) (settled_new p v i) (out_of_aside v (p, m) f.upto)
+      in_part U (prefix f settled) (take f.upto aside) v (h.listed_inside v (gone_settled settled aside p v m)) (settled_new p v i)
+      (out_of_aside v (p, m) f.upto)
 
   pub aside_inside : (v : ℕ) → In (listed aside_since) v → In last.inside v
   aside_inside v i =
@@ -220,16 +237,16 @@ module _ (g : Graph) (U active : VertexSet) (settled : SettledLists) (aside : Li
   -- where nothing is active, the subgame has nothing else, and of these the ones that were settled are left
   module _ (none : (v : ℕ) → active v ≡ false) where
     listed_somewhere : (v : ℕ) → In U v → ((p : Player) × In (listed (settled p)) v) ⊎ In (listed aside) v
-    listed_somewhere v u = gone_cases settled aside v (unless (U v) (gone settled aside v) u (sym (h.active_is v) ∙ none v))
+    listed_somewhere v u = gone_cases settled aside v (unless u (sym (h.active_is v) ∙ none v))
 
     pub inside_cases : (v : ℕ) → In last.inside v → ((p : Player) × In (listed (since p)) v) ⊎ In (listed aside_since) v
     inside_cases v i = elim (listed_somewhere v (part_of U (prefix f settled) (take f.aside aside) v i).0) [
       | inl (p, y) ↦ elim (take_or_drop (count_at f p) (settled p) v y) [
-        | inl x ↦ absurd (no_both (listed (prefix f settled p) v) x ((part_of U (prefix f settled) (take f.aside aside) v i).1 p))
+        | inl x ↦ absurd (no_both x ((part_of U (prefix f settled) (take f.aside aside) v i).1 p))
         | inr x ↦ inl (p, x)
       ]
       | inr y ↦ elim (take_or_drop f.aside aside v y) [
-        | inl x ↦ absurd (no_both (listed (take f.aside aside) v) x (part_of U (prefix f settled) (take f.aside aside) v i).2)
+        | inl x ↦ absurd (no_both x (part_of U (prefix f settled) (take f.aside aside) v i).2)
         | inr x ↦ inr x
       ]
     ]
@@ -237,28 +254,47 @@ module _ (g : Graph) (U active : VertexSet) (settled : SettledLists) (aside : Li
     pub left_cases : (v : ℕ) → In last.left v → (p : Player) × In (listed (since p)) v
     left_cases v i = elim (listed_somewhere v (part_of U (prefix f settled) (take f.upto aside) v i).0) [
       | inl (p, y) ↦ elim (take_or_drop (count_at f p) (settled p) v y) [
-        | inl x ↦ absurd (no_both (listed (prefix f settled p) v) x ((part_of U (prefix f settled) (take f.upto aside) v i).1 p))
+        | inl x ↦ absurd (no_both x ((part_of U (prefix f settled) (take f.upto aside) v i).1 p))
         | inr x ↦ (p, x)
       ]
-      | inr y ↦ absurd (no_both (listed (take f.upto aside) v) (subst (λ xs. In (listed xs) v) (sym (take_all f.upto aside (omega (arith, links.3)))) y) (part_of U (prefix f settled) (take f.upto aside) v i).2)
+      | inr y ↦ absurd (no_both (subst (λ xs. In (listed xs) v) (sym (take_all f.upto aside (omega (arith, links.3)))) y)
+          (part_of U (prefix f settled) (take f.upto aside) v i).2)
     ]
 
     pub left_solved : IsSolvedInside g last.left won s
-    left_solved = solved_whole g last.left won s (IsSolvedTo-subst g last.left active no_vertices won s none popped.2)
+    left_solved = solved_whole (IsSolvedTo-subst none popped.2)
 
     -- what a player won of what is left
     pub won_since : (p : Player) (v : ℕ) → won_inside last.left won p v ≡ listed (since p) v
-    won_since p v = equal_from (won_inside last.left won p v) (listed (since p) v) to (λ i. pair (last.left v) (same_player (won v) p) (since_left p v i) (is_same (won v) p (h.his p v (in_drop (count_at f p) (settled p) v i))))
+    won_since p v =
+        equal_from (won_inside last.left won p v) (listed (since p) v) to
+        (λ i. and_from (last.left v) (same_player (won v) p) (since_left p v i) (is_same (won v) p (h.his p v (in_drop (count_at f p) (settled p) v i))))
       where
         to : In (won_inside last.left won p) v → In (listed (since p)) v
         to i =
-            let b = both (last.left v) (same_player (won v) p) i in
+            let b = and_parts (last.left v) (same_player (won v) p) i in
             let q = left_cases v b.0 in
             let e : q.0 ≡ p = sym (h.his q.0 v (in_drop (count_at f q.0) (settled q.0) v q.1)) ∙ same_is (won v) p b.1 in
             subst (λ r. In (listed (since r)) v) e q.1
 
-  -- It is finished: each list goes back to where it was, and then gets what is taken of the subgame. The others of it are active.
-  module _ (active' : VertexSet) (settled' taken : SettledLists) (won' : Winners) (s' : Choices) (is : (p : Player) → settled' p ≡ prefix f settled p ++ taken p) (within : (p : Player) (v : ℕ) → In (listed (taken p)) v → In last.inside v) (once : (p : Player) → Once (taken p)) (players : Apart (taken Even) (taken Odd)) (left : (v : ℕ) → active' v ≡ (last.inside v && not (listed (taken Even) v || listed (taken Odd) v))) (won_now : (p : Player) (v : ℕ) → In (listed (taken p)) v → won' v ≡ p) (same : Agree last.inside won won' s s') (more : IsSolvedTo g last.inside active' won' s') where
+  -- It is finished: each list goes back to where it was, and then gets what is taken of the subgame.
+  module _ {active' : VertexSet} {settled' : SettledLists} {own other : List ℕ} {won' : Winners} {s' : Choices}
+      (t : Finishes g f.player last.inside active' (prefix f settled) settled' own other won won' s s') where
+    abbrev taken : SettledLists
+    taken = pick f.player own other
+
+    is : (p : Player) → settled' p ≡ prefix f settled p ++ taken p
+    is = picked (λ p xs. settled' p ≡ prefix f settled p ++ xs) f.player own other t.own_is t.other_is
+
+    within : (p : Player) (v : ℕ) → In (listed (taken p)) v → In last.inside v
+    within = picked (λ p xs. (v : ℕ) → In (listed xs) v → In last.inside v) f.player own other t.own_within t.other_within
+
+    once : (p : Player) → Once (taken p)
+    once = picked (λ p xs. Once xs) f.player own other t.own_once t.other_once
+
+    won_now : (p : Player) (v : ℕ) → In (listed (taken p)) v → won' v ≡ p
+    won_now = picked (λ p xs. (v : ℕ) → In (listed xs) v → won' v ≡ p) f.player own other t.own_won t.other_won
+
     abbrev A : List ℕ
     A = take f.aside aside
 
@@ -266,20 +302,19 @@ module _ (g : Graph) (U active : VertexSet) (settled : SettledLists) (aside : Li
     inside_parts v i = part_of U (prefix f settled) A v i
 
     parts : (p : Player) (v : ℕ) → In (listed (settled' p)) v → In (listed (prefix f settled p)) v ⊎ In (listed (taken p)) v
-    parts p v i = front_or_back (prefix f settled p) (taken p) v (subst (λ xs. In (listed xs) v) (is p) i)
+    parts p v i = prefix_or_rest (prefix f settled p) (taken p) v (subst (λ xs. In (listed xs) v) (is p) i)
 
     not_inside : (p : Player) (v : ℕ) → In (listed (prefix f settled p)) v → last.inside v ≡ false
-    not_inside p v i = go (test (last.inside v))
-      where
-        go : (last.inside v ≡ true) ⊎ (last.inside v ≡ false) → last.inside v ≡ false
-        go (inl y) = absurd (no_both (listed (prefix f settled p) v) i ((inside_parts v y).1 p))
-        go (inr n) = n
+    not_inside p v i = false_from_ne_true (last.inside v) (λ y. no_both i ((inside_parts v y).1 p))
 
     active_finished : (v : ℕ) → active' v ≡ part U settled' A v
     active_finished v =
-        left v ∙ (less (U v) (listed (prefix f settled Even) v) (listed (prefix f settled Odd) v) (listed A v) (listed (taken Even) v) (listed (taken Odd) v)
-        ∙ (ap (λ b. U v && not ((b || (listed (prefix f settled Odd) v || listed (taken Odd) v)) || listed A v)) (sym (listed-append (prefix f settled Even) (taken Even) v) ∙ ap (λ xs. listed xs v) (sym (is Even)))
-        ∙ ap (λ b. U v && not ((listed (settled' Even) v || b) || listed A v)) (sym (listed-append (prefix f settled Odd) (taken Odd) v) ∙ ap (λ xs. listed xs v) (sym (is Odd)))))
+        t.left v ∙ (ap (λ b. last.inside v && not b) (sym (pick_either f.player own other v))
+        ∙ (less (U v) (listed (prefix f settled Even) v) (listed (prefix f settled Odd) v) (listed A v) (listed (taken Even) v) (listed (taken Odd) v)
+        ∙ (ap (λ b. U v && not ((b || (listed (prefix f settled Odd) v || listed (taken Odd) v)) || listed A v))
+        (sym (listed-append (prefix f settled Even) (taken Even) v) ∙ ap (λ xs. listed xs v) (sym (is Even)))
+        ∙ ap (λ b. U v && not ((listed (settled' Even) v || b) || listed A v))
+        (sym (listed-append (prefix f settled Odd) (taken Odd) v) ∙ ap (λ xs. listed xs v) (sym (is Odd))))))
       where
         less : (u a b c d e : Bool) → ((u && not ((a || b) || c)) && not (d || e)) ≡ (u && not (((a || d) || (b || e)) || c))
         less false a b c d e = refl
@@ -304,27 +339,29 @@ module _ (g : Graph) (U active : VertexSet) (settled : SettledLists) (aside : Li
 
     pub stops_kept : map (level_at U settled' A) stops ≡ map (level_at U settled aside) stops
     stops_kept = levels_same U settled aside settled' A (λ p. 0) (count_at f) 0 f.aside stops links.0
-        (λ p k l. ap (take k) (is p) ∙ (take-append-le k (prefix f settled p) (taken p) (let a = counts p in omega (arith, l, a)) ∙ take_of_take k (count_at f p) (settled p) l))
+        (λ p k l. ap (take k) (is p) ∙ (take-append-le k (prefix f settled p) (taken p) (let a = counts p in omega (arith, l, a))
+        ∙ take_of_take k (count_at f p) (settled p) l))
         (λ k l. take_of_take k f.aside aside l)
 
     pub finish_apart : AreApart settled' A
     finish_apart = record {
-      settled_once = λ p. subst Once (sym (is p)) (once_join (prefix f settled p) (taken p) (once_take (count_at f p) (settled p) (h.apart.settled_once p)) (once p)
-          (apart_from (prefix f settled p) (taken p) (λ v i j. no_both (listed (prefix f settled p) v) i ((inside_parts v (within p v j)).1 p))));
+      settled_once =
+          λ p. subst Once (sym (is p)) (once_join (prefix f settled p) (taken p) (once_take (count_at f p) (settled p) (h.apart.settled_once p)) (once p)
+          (apart_from (prefix f settled p) (taken p) (λ v i j. no_both i ((inside_parts v (within p v j)).1 p))));
       aside_once = once_take f.aside aside h.apart.aside_once;
       players = apart_from (settled' Even) (settled' Odd) (λ v i j. elim (parts Even v i) [
         | inl x ↦ elim (parts Odd v j) [
-          | inl y ↦ no_both (listed (settled Odd) v) (in_take (count_at f Odd) (settled Odd) v y) (h.apart.players v (in_take (count_at f Even) (settled Even) v x))
-          | inr y ↦ no_both (listed (prefix f settled Even) v) x ((inside_parts v (within Odd v y)).1 Even)
+          | inl y ↦ no_both (in_take (count_at f Odd) (settled Odd) v y) (h.apart.players v (in_take (count_at f Even) (settled Even) v x))
+          | inr y ↦ no_both x ((inside_parts v (within Odd v y)).1 Even)
         ]
         | inr x ↦ elim (parts Odd v j) [
-          | inl y ↦ no_both (listed (prefix f settled Odd) v) y ((inside_parts v (within Even v x)).1 Odd)
-          | inr y ↦ no_both (listed (taken Odd) v) y (players v x)
+          | inl y ↦ no_both y ((inside_parts v (within Even v x)).1 Odd)
+          | inr y ↦ no_both y (pick_apart f.player own other t.apart v x)
         ]
       ]);
       aside_apart = λ p. apart_from (settled' p) A (λ v i j. elim (parts p v i) [
-        | inl x ↦ no_both (listed aside v) (in_take f.aside aside v j) (h.apart.aside_apart p v (in_take (count_at f p) (settled p) v x))
-        | inr x ↦ no_both (listed A v) j (inside_parts v (within p v x)).2
+        | inl x ↦ no_both (in_take f.aside aside v j) (h.apart.aside_apart p v (in_take (count_at f p) (settled p) v x))
+        | inr x ↦ no_both j (inside_parts v (within p v x)).2
       ]);
     }
 
@@ -339,40 +376,40 @@ module _ (g : Graph) (U active : VertexSet) (settled : SettledLists) (aside : Li
 
     pub under_way_finish : IsUnderWay g U active' settled' A stops won' s'
     under_way_finish = record {
-      linked = subst (λ n. Linked (λ p. 0) (λ p. length (settled' p)) 0 stops n) (sym length_aside) (linked_more (λ p. 0) (count_at f) (λ p. length (settled' p)) 0 stops f.aside
+      linked = subst (λ n. Linked (λ p. 0) (λ p. length (settled' p)) 0 stops n) (sym length_aside)
+          (linked_more (λ p. 0) (count_at f) (λ p. length (settled' p)) 0 stops f.aside
           (λ p. (let a = ap length (is p) in let b = counts p in omega (arith, a, b, length-append (prefix f settled p) (taken p)))) links.0);
       apart = finish_apart;
       listed_inside = finish_inside;
       active_is = active_finished;
       his = λ p v i. elim (parts p v i) [
-        | inl x ↦ (same v (not_inside p v x)).0 ∙ h.his p v (in_take (count_at f p) (settled p) v x)
+        | inl x ↦ (t.same v (not_inside p v x)).0 ∙ h.his p v (in_take (count_at f p) (settled p) v x)
         | inr x ↦ won_now p v x
       ];
       waits = subst (λ levels. Waits g U levels active' won' s') (sym stops_kept)
-          (waits_on g U (map (level_at U settled aside) stops) last.inside active' won won' s s' popped.0 same more);
+          (waits_on g U (map (level_at U settled aside) stops) last.inside active' won won' s s' popped.0 t.same t.solved);
     }
 
-    pub finish_more : (p : Player) → 0 < length (taken p) → f.even + f.odd + f.aside < how_many_gone settled' A
-    finish_more p l =
+    pub finish_more : 0 < length own + length other → f.even + f.odd + f.aside < how_many_gone settled' A
+    finish_more l =
         let a : length (settled' Even) ≡ f.even + length (taken Even) = sized Even in
         let b : length (settled' Odd) ≡ f.odd + length (taken Odd) = sized Odd in
-        go p l a b
+        let n : length (taken Even) + length (taken Odd) ≡ length own + length other = pick_length f.player own other in
+        omega (arith, l, a, b, n, length_aside)
       where
         sized : (r : Player) → length (settled' r) ≡ count_at f r + length (taken r)
         sized r = ap length (is r) ∙ (length-append (prefix f settled r) (taken r) ∙ ap (λ n. n + length (taken r)) (counts r))
 
-        go : (r : Player) → 0 < length (taken r) → length (settled' Even) ≡ f.even + length (taken Even) → length (settled' Odd) ≡ f.odd + length (taken Odd) → f.even + f.odd + f.aside < how_many_gone settled' A
-        go Even l a b = omega (arith, l, a, b, length_aside)
-        go Odd l a b = omega (arith, l, a, b, length_aside)
-
 -- where nothing is active and nothing waits, all is solved
-pub under_way_done : (g : Graph) (U active : VertexSet) (settled : SettledLists) (aside : List ℕ) (stops : List Stop) (won : Winners) (s : Choices) → IsUnderWay g U active settled aside stops won s → stops ≡ [] → ((v : ℕ) → active v ≡ no_vertices v) → IsSolvedInside g U won s
-under_way_done g U active settled aside stops won s h e none =
-    solved_whole g U won s (IsSolvedTo-subst g U active no_vertices won s none (subst (λ fs. Waits g U (map (level_at U settled aside) fs) active won s) e h.waits))
+pub under_way_done : {g : Graph} {U active : VertexSet} {settled : SettledLists} {aside : List ℕ} {stops : List Stop} {won : Winners} {s : Choices}
+    → IsUnderWay g U active settled aside stops won s → stops ≡ [] → ((v : ℕ) → active v ≡ no_vertices v) → IsSolvedInside g U won s
+under_way_done {g} {U} {active} {settled} {aside} {stops} {won} {s} h e none =
+    solved_whole (IsSolvedTo-subst none (subst (λ fs. Waits g U (map (level_at U settled aside) fs) active won s) e h.waits))
 
 -- where nothing is listed, all of the set is active
-pub under_way_start : (g : Graph) (U active : VertexSet) (settled : SettledLists) (aside : List ℕ) (stops : List Stop) (won : Winners) (s : Choices) → ((v : ℕ) → active v ≡ U v) → ((p : Player) → settled p ≡ []) → aside ≡ [] → stops ≡ [] → IsUnderWay g U active settled aside stops won s
-under_way_start g U active settled aside stops won s e a b c = record {
+pub under_way_start : {g : Graph} {U active : VertexSet} {settled : SettledLists} {aside : List ℕ} {stops : List Stop} {won : Winners} {s : Choices}
+    → ((v : ℕ) → active v ≡ U v) → ((p : Player) → settled p ≡ []) → aside ≡ [] → stops ≡ [] → IsUnderWay g U active settled aside stops won s
+under_way_start {g} {U} {active} {settled} {aside} {stops} {won} {s} e a b c = record {
   linked = rw (c, b) (λ p. (let q = a p in omega arith), refl);
   apart = record {
     settled_once = λ p. subst Once (sym (a p)) tt;
@@ -384,14 +421,11 @@ under_way_start g U active settled aside stops won s e a b c = record {
     | inl (p, y) ↦ absurd (nothing (settled p) v (a p) y)
     | inr y ↦ absurd (nothing aside v b y)
   ];
-  active_is = λ v. e v ∙ (all_of (U v) ∙ ap (λ x. U v && not x) (sym (gone_none settled aside v (λ p. ap (λ xs. listed xs v) (a p)) (ap (λ xs. listed xs v) b))));
+  active_is = λ v. e v ∙ (sym (and-true (U v)) ∙ ap (λ x. U v && not x)
+      (sym (gone_none settled aside v (λ p. ap (λ xs. listed xs v) (a p)) (ap (λ xs. listed xs v) b))));
   his = λ p v i. absurd (nothing (settled p) v (a p) i);
-  waits = rw c (IsSolvedTo-subst g U U active won s (λ v. sym (e v)) (solved_none g U won s));
+  waits = rw c (IsSolvedTo-subst (λ v. sym (e v)) (solved_none));
 }
   where
     nothing : (xs : List ℕ) (v : ℕ) → xs ≡ [] → In (listed xs) v → ⊥
     nothing xs v q i = cc (ap (λ ys. listed ys v) q, i)
-
-    all_of : (b : Bool) → b ≡ (b && true)
-    all_of true = refl
-    all_of false = refl

@@ -1,5 +1,6 @@
 -- A search against the edges: a vertex more, and what it has found in the end.
-use Rattle.std.proofs.Common.{◌≡◌, ◌≢◌, ℕ, zero, suc, ◌<◌, ◌≤◌, Bool, true, false, ◌⊎◌, inl, inr, List, [], ◌∷◌, ◌++◌, length, set, replicate, refl, sym, ◌∙◌, subst, arith, length-set, length-append, get_or-set_same, get_or-set_other}
+use Rattle.std.proofs.Common.{◌≡◌, ◌≢◌, ℕ, zero, suc, ◌<◌, ◌≤◌, Bool, true, false, ◌⊎◌, inl, inr, List, [], ◌∷◌, ◌++◌, length, set, replicate, refl}
+use Rattle.std.proofs.Common.{sym, ◌∙◌, subst, arith, length-set, length-append, get_or-set_same, get_or-set_other}
 use Rattle.std.specs.Prelude.{slice_index, ◌==◌, if◌then◌else◌}
 use Rattle.std.proofs.lemmas.Bool.{cases_eq, eq-eqb}
 use Rattle.std.proofs.lemmas.List.{get_or_append_left, get_or_push, length-replicate}
@@ -35,7 +36,8 @@ module _ (g : Graph) (U : VertexSet) (top goal : ℕ) where
     nearer = λ v i. absurd (let z = none_mask n v in cc (i, z));
   }
 
-  module _ (taken : List Bool) (next : List ℕ) (v to : ℕ) (l : v < length g) (new : members taken v ≡ false) (e : EdgeBelow g U top v to) (near : (to ≡ goal) ⊎ In (members taken) to) (h : AreLeading g U top goal taken next) where
+  module _ (taken : List Bool) (next : List ℕ) (v to : ℕ) (l : v < length g) (new : members taken v ≡ false) (e : EdgeBelow g U top v to)
+      (near : (to ≡ goal) ⊎ In (members taken) to) (h : AreLeading g U top goal taken next) where
     lt : v < length taken
     lt = omega (arith, h.size)
 
@@ -64,7 +66,8 @@ module _ (g : Graph) (U : VertexSet) (top goal : ℕ) where
     nearer_new (inl q) = inl q
     nearer_new (inr i) = inr (still_set taken v to lt i, omega (arith, old_rank to (not_new to i), new_rank))
 
-    nearer_old : (x y : ℕ) → x ≢ v → (y ≡ goal) ⊎ (In (members taken) y × (h.rank y < h.rank x)) → (y ≡ goal) ⊎ (In (members (set taken v true)) y × (ranks y < ranks x))
+    nearer_old : (x y : ℕ) → x ≢ v → (y ≡ goal) ⊎ (In (members taken) y × (h.rank y < h.rank x))
+        → (y ≡ goal) ⊎ (In (members (set taken v true)) y × (ranks y < ranks x))
     nearer_old x y n (inl q) = inl q
     nearer_old x y n (inr (i, f)) = inr (still_set taken v y lt i, omega (arith, f, old_rank y (not_new y i), old_rank x n))
 
@@ -78,14 +81,18 @@ module _ (g : Graph) (U : VertexSet) (top goal : ℕ) where
         | inr (n, j) ↦ subst (EdgeBelow g U top x) (sym (old_next x n)) (h.edge x j)
       ];
       nearer = λ x i. elim (set_cases taken v x lt i) [
-        | inl q ↦ subst (λ z. (slice_index (set next v to) z ≡ goal) ⊎ (In (members (set taken v true)) (slice_index (set next v to) z) × (ranks (slice_index (set next v to) z) < ranks z))) (sym q)
+        | inl q ↦ subst (λ z. (slice_index (set next v to) z ≡ goal)
+            ⊎ (In (members (set taken v true)) (slice_index (set next v to) z) × (ranks (slice_index (set next v to) z) < ranks z))) (sym q)
             (subst (λ y. (y ≡ goal) ⊎ (In (members (set taken v true)) y × (ranks y < ranks v))) (sym new_next) (nearer_new near))
-        | inr (n, j) ↦ subst (λ y. (y ≡ goal) ⊎ (In (members (set taken v true)) y × (ranks y < ranks x))) (sym (old_next x n)) (nearer_old x (slice_index next x) n (h.nearer x j))
+        | inr (n, j) ↦
+            subst (λ y. (y ≡ goal) ⊎ (In (members (set taken v true)) y × (ranks y < ranks x))) (sym (old_next x n))
+            (nearer_old x (slice_index next x) n (h.nearer x j))
       ];
     }
 
   -- where all that leads to the goal or to a taken vertex is taken, so is the start of each walk to the goal
-  pub walk_taken : (taken : VertexSet) → ((w : ℕ) → (w ≡ goal) ⊎ In taken w → IsSeen g U top taken w) → (v : ℕ) (vs : List ℕ) → Walk (EdgeBelow g U top) v vs goal → In taken v
+  pub walk_taken : (taken : VertexSet) → ((w : ℕ) → (w ≡ goal) ⊎ In taken w → IsSeen g U top taken w) → (v : ℕ) (vs : List ℕ)
+      → Walk (EdgeBelow g U top) v vs goal → In taken v
   walk_taken taken closed v [] e = closed goal (inl refl) v e
   walk_taken taken closed v (w ∷ ws) e = closed w (inr (walk_taken taken closed w ws e.1)) v e.0
 
@@ -108,14 +115,16 @@ module _ (g : Graph) (goal : ℕ) where
       one_below : (i : ℕ) → i < 1 → slice_index (goal ∷ []) i < length g
       one_below i li = rw (one i li) l
 
-  pub queue_push : (taken : List Bool) (queue : List ℕ) (v : ℕ) → v < length g → v < length taken → IsQueue g goal taken queue → IsQueue g goal (set taken v true) (queue ++ v ∷ [])
+  pub queue_push : (taken : List Bool) (queue : List ℕ) (v : ℕ) → v < length g → v < length taken → IsQueue g goal taken queue
+      → IsQueue g goal (set taken v true) (queue ++ v ∷ [])
   queue_push taken queue v l lt h = record {
     below = λ i li. elim (last_or queue v i li) [
       | inl m ↦ subst (λ x. x < length g) (sym (get_or_append_left queue (v ∷ []) 0 i m)) (h.below i m)
       | inr q ↦ subst (λ x. x < length g) (sym (get_or_push queue v 0 i (sym q))) l
     ];
     only = λ i li. elim (last_or queue v i li) [
-      | inl m ↦ subst (λ x. (x ≡ goal) ⊎ In (members (set taken v true)) x) (sym (get_or_append_left queue (v ∷ []) 0 i m)) (kept (slice_index queue i) (h.only i m))
+      | inl m ↦ subst (λ x. (x ≡ goal) ⊎ In (members (set taken v true)) x) (sym (get_or_append_left queue (v ∷ []) 0 i m))
+          (kept (slice_index queue i) (h.only i m))
       | inr q ↦ subst (λ x. (x ≡ goal) ⊎ In (members (set taken v true)) x) (sym (get_or_push queue v 0 i (sym q))) (inr (now_set taken v lt))
     ];
     start = (h.start.0, omega (arith, h.start.1, length-append queue (v ∷ [])), get_or_append_left queue (v ∷ []) 0 h.start.0 h.start.1 ∙ h.start.2);
@@ -130,16 +139,19 @@ module _ (g : Graph) (goal : ℕ) where
       kept x (inr i) = inr (still_set taken v x lt i)
 
   -- the whole queue was gone through
-  pub all_seen : (U : VertexSet) (top : ℕ) (taken : List Bool) (queue : List ℕ) (at : ℕ) → length queue ≤ at → IsQueue g goal taken queue → ((i : ℕ) → i < at → IsSeen g U top (members taken) (slice_index queue i)) → (w : ℕ) → (w ≡ goal) ⊎ In (members taken) w → IsSeen g U top (members taken) w
+  pub all_seen : (U : VertexSet) (top : ℕ) (taken : List Bool) (queue : List ℕ) (at : ℕ) → length queue ≤ at → IsQueue g goal taken queue
+      → ((i : ℕ) → i < at → IsSeen g U top (members taken) (slice_index queue i)) → (w : ℕ) → (w ≡ goal) ⊎ In (members taken) w
+      → IsSeen g U top (members taken) w
   all_seen U top taken queue at l h done w (inl q) =
       subst (IsSeen g U top (members taken)) (h.start.2 ∙ sym q) (done h.start.0 (omega (arith, l, h.start.1)))
   all_seen U top taken queue at l h done w (inr i) =
       let k = h.known w i in
       subst (IsSeen g U top (members taken)) k.2 (done k.0 (omega (arith, l, k.1)))
 
-pub follows_push : (a : List Bool) (b : List ℕ) (taken : List Bool) (queue : List ℕ) (v : ℕ) → v < length taken → Follows a b taken queue → Follows a b (set taken v true) (queue ++ v ∷ [])
+pub follows_push : (a : List Bool) (b : List ℕ) (taken : List Bool) (queue : List ℕ) (v : ℕ) → v < length taken → Follows a b taken queue
+    → Follows a b (set taken v true) (queue ++ v ∷ [])
 follows_push a b taken queue v l h = record {
   grows = λ x i. still_set taken v x l (h.grows x i);
   longer = omega (arith, h.longer, length-append queue (v ∷ []));
-  front = λ i li. get_or_append_left queue (v ∷ []) 0 i (omega (arith, h.longer)) ∙ h.front i li;
+  prefix = λ i li. get_or_append_left queue (v ∷ []) 0 i (omega (arith, h.longer)) ∙ h.prefix i li;
 }

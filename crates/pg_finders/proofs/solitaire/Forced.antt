@@ -9,7 +9,7 @@ use Rattle.pg_game.specs.Player.{same_player, opponent, of_parity}
 use Rattle.pg_game.specs.Graph.{Graph, HasEdge, owner_of, priority_of, successors_of}
 use Rattle.pg_game.specs.VertexSet.{VertexSet, In, members}
 use Rattle.pg_game.specs.Subgame.{IsSubgame}
-use Rattle.pg_game.specs.Kept.{kept, KeptEdge}
+use Rattle.pg_game.specs.Kept.{Choices, kept, KeptEdge}
 use Rattle.pg_game.specs.Walk.{Walk, ClosedWalk, greatest_priority}
 use Rattle.pg_game.specs.Least.{NoneHas}
 use Rattle.pg_game.specs.Region.{OnlyGoodWalks, OnBadWalk}
@@ -25,11 +25,11 @@ use Rattle.pg_finders.specs.Finding.{HasOneSuccessor, IsSolitaire}
 use Rattle.pg_finders.specs.private.Solved.{WinsOn}
 use Rattle.pg_finders.specs.Claims.{own_choices, rows_below}
 use Rattle.pg_finders.specs.private.solitaire.Solitaire.{HasOneAt, IsSingle, owned, good_for, choices_by, EdgeBelow, AreLeading}
-use Rattle.pg_finders.proofs.Sets.{twice, both, pair}
+use Rattle.pg_finders.proofs.Sets.{twice}
 use Rattle.pg_finders.proofs.ClosedWalks.{Among, closed_among, closed_inside, closed_begins, never_falls, greatest_reached}
 use Rattle.pg_finders.proofs.Solving.{kept_leads, choice_leads}
 use Rattle.pg_finders.proofs.Good.{rows_named, good_rows}
-use Rattle.std.proofs.lemmas.Bool.{eqb-true, eq-eqb}
+use Rattle.std.proofs.lemmas.Bool.{eqb-true, eq-eqb, and_parts, and_from}
 
 -- what is single is one
 pub one_from_single : (g : Graph) (U : VertexSet) (v : ℕ) (o : Option ℕ) → (IsNone o → ⊥) → IfSome o (λ w. IsSingle g U v w) → HasOneAt g U v
@@ -37,8 +37,11 @@ one_from_single g U v None some h = absurd (some refl)
 one_from_single g U v (Some s) some h = λ w x a b d e. h.only w a b ∙ sym (h.only x d e)
 
 -- the rows of a set that a player holds are a good claim
-pub held_good : (g : Graph) (U : VertexSet) (p : Player) (X : VertexSet) (next : List ℕ) → IsSubgame g U → WinsOn g U p X (choices_by next) → (v : ℕ) → In X v → IsGoodIn g U p (rows_below X (own_choices g p (choices_by next)) (length g))
-held_good g U p X next sub held v i = good_rows g U p X (choices_by next) held below (some (rows_below X (own_choices g p (choices_by next)) (length g)) (rows_named g U p X (choices_by next) held below v ∙ i))
+pub held_good : (g : Graph) (U : VertexSet) (p : Player) (X : VertexSet) (next : List ℕ) → IsSubgame g U → WinsOn g U p X (choices_by next) → (v : ℕ)
+    → In X v → IsGoodIn g U p (rows_below X (own_choices g p (choices_by next)) (length g))
+held_good g U p X next sub held v i =
+    good_rows g U p X (choices_by next) held below (some (rows_below X (own_choices g p (choices_by next)) (length g))
+    (rows_named g U p X (choices_by next) held below v ∙ i))
   where
     below : (v : ℕ) → In U v → v < length g
     below v i = ltb-true v (length g) (sub.vertices v i)
@@ -52,102 +55,129 @@ cases true true x y = refl
 cases true false x y = refl
 cases false b x y = refl
 
-module _ (k : Kept) (U : VertexSet) (q : Player) (inside : (v : ℕ) → members k.inside v ≡ U v) (chosen : (v : ℕ) → members k.chosen v ≡ owned k.game.now U q v) (bad : (v : ℕ) → members k.bad v ≡ good_for k.game.now U (opponent q) v) (single : (v : ℕ) → In U v → owner_of k.game.now v ≡ q → IsSingle k.game.now U v (slice_index k.choices.items v)) where
+module _ (k : Kept) (U : VertexSet) (q : Player) (inside : (v : ℕ) → members k.inside v ≡ U v)
+    (chosen : (v : ℕ) → members k.chosen v ≡ owned k.game.now U q v) (bad : (v : ℕ) → members k.bad v ≡ good_for k.game.now U (opponent q) v)
+    (single : (v : ℕ) → In U v → owner_of k.game.now v ≡ q → IsSingle k.game.now U v (slice_index k.choices.items v)) where
   abbrev g : Graph
   g = k.game.now
 
-  row_is : (v : ℕ) → kept_row k v ≡ (if U v then kept k.game.now q (choices_by k.choices.items) v else [])
-  row_is v = rw (chosen v, inside v) (cases (U v) (same_player (owner_of k.game.now v) q) (slice_index k.choices.items v ∷ []) (successors_of k.game.now v))
+  abbrev s : Choices
+  s = choices_by k.choices.items
 
-  to_kept : (v w : ℕ) → Edge k v w → KeptEdge k.game.now q U (choices_by k.choices.items) v w
+  row_is : (v : ℕ) → kept_row k v ≡ (if U v then kept g q s v else [])
+  row_is v = rw (chosen v, inside v) (cases (U v) (same_player (owner_of g v) q) (slice_index k.choices.items v ∷ []) (successors_of g v))
+
+  to_kept : (v w : ℕ) → Edge k v w → KeptEdge g q U s v w
   to_kept v w m = go (U v) refl (subst (λ (xs : List ℕ). Contains xs w) (row_is v) m)
     where
-      go : (b : Bool) → U v ≡ b → Contains (if U v then kept k.game.now q (choices_by k.choices.items) v else []) w → KeptEdge k.game.now q U (choices_by k.choices.items) v w
+      go : (b : Bool) → U v ≡ b → Contains (if U v then kept g q s v else []) w → KeptEdge g q U s v w
       go true n h = (n, (rw n at h))
       go false n h = let none : Contains [] w = rw n at h in absurd (Contains-nil w none)
 
-  from_kept : (v w : ℕ) → KeptEdge k.game.now q U (choices_by k.choices.items) v w → Edge k v w
+  from_kept : (v w : ℕ) → KeptEdge g q U s v w → Edge k v w
   from_kept v w (n, m) = subst (λ (xs : List ℕ). Contains xs w) (sym (row_is v)) (rw n m)
 
-  begins : (v : ℕ) (vs : List ℕ) → ClosedWalk (KeptEdge k.game.now q U (choices_by k.choices.items)) (v ∷ vs) → In U v
+  begins : (v : ℕ) (vs : List ℕ) → ClosedWalk (KeptEdge g q U s) (v ∷ vs) → In U v
   begins v [] c = c.0
   begins v (w ∷ ws) c = c.0.0
 
-  bad_is_worst : (v : ℕ) → OnBadWalk k.game.now q U (choices_by k.choices.items) v → IsWorst k v
+  bad_is_worst : (v : ℕ) → OnBadWalk g q U s v → IsWorst k v
   bad_is_worst v h = (
-    bad v ∙ pair (U v) (same_player (of_parity (priority_of k.game.now v)) (opponent q)) (begins v h.0 h.1) (is_same (of_parity (priority_of k.game.now v)) (opponent q) h.3),
-    (h.0, ClosedWalk-weaker (KeptEdge k.game.now q U (choices_by k.choices.items)) (Edge k) from_kept (v ∷ h.0) h.1, h.2),
+    bad v ∙ and_from (U v) (same_player (of_parity (priority_of g v)) (opponent q)) (begins v h.0 h.1) (is_same (of_parity (priority_of g v)) (opponent q) h.3),
+    (h.0, ClosedWalk-weaker (KeptEdge g q U s) (Edge k) from_kept (v ∷ h.0) h.1, h.2),
   )
 
   -- without a bad closed walk all vertices are his
-  pub all_held : NoneHas (IsWorst k) → WinsOn k.game.now U q U (choices_by k.choices.items)
+  pub all_held : NoneHas (IsWorst k) → WinsOn g U q U s
   all_held none = record {
     within = λ v i. i;
     choices = λ v i o. (let s = single v i o in (slice_index k.choices.items v, refl, s.edge, s.inside));
     closed = λ v w i o e u. u;
-    good = good_from_none k.game.now q U (choices_by k.choices.items) (λ v b. none v (bad_is_worst v b));
+    good = good_from_none g q U s (λ v b. none v (bad_is_worst v b));
   }
 
-  edge_of : (v w : ℕ) → Edge k v w → HasEdge k.game.now v w × In U v
+  edge_of : (v w : ℕ) → Edge k v w → HasEdge g v w × In U v
   edge_of v w m =
       let h = to_kept v w m in
-      elim (kept_leads k.game.now q (choices_by k.choices.items) v w h.1) [
-        | inl (o, c) ↦ (subst (λ x. HasEdge k.game.now v x) (choice_leads (Some (slice_index k.choices.items v)) (slice_index k.choices.items v) w refl c) (single v h.0 o).edge, h.0)
+      elim (kept_leads g q s v w h.1) [
+        | inl (o, c) ↦ (
+          subst (λ x. HasEdge g v x) (choice_leads (Some (slice_index k.choices.items v)) (slice_index k.choices.items v) w refl c)
+              (single v h.0 o).edge,
+          h.0,
+        )
         | inr (o, e) ↦ (e, h.0)
       ]
 
-  walk_below : (top v : ℕ) (ws : List ℕ) (end : ℕ) → Walk (Edge k) v ws end → priority_of k.game.now v ≤ top → greatest_priority k.game.now ws ≤ top → Walk (EdgeBelow k.game.now U top) v ws end
+  walk_below : (top v : ℕ) (ws : List ℕ) (end : ℕ) → Walk (Edge k) v ws end → priority_of g v ≤ top → greatest_priority g ws ≤ top
+      → Walk (EdgeBelow g U top) v ws end
   walk_below top v [] end e l m = (let h = edge_of v end e in (h.0, h.1, l))
   walk_below top v (w ∷ ws) end e l m = (let h = edge_of v w e.0 in ((h.0, h.1, l), walk_below top w ws end e.1 (omega (arith, m)) (omega (arith, m))))
 
   -- what a bad closed walk says of its greatest vertex
-  pub worst_leads : (v : ℕ) → IsWorst k v → (vs : List ℕ) × Walk (EdgeBelow k.game.now U (priority_of k.game.now v)) v vs v
-  worst_leads v h = (h.1.0, walk_below (priority_of k.game.now v) v h.1.0 v h.1.1 (omega arith) (omega (arith, h.1.2)))
+  pub worst_leads : (v : ℕ) → IsWorst k v → (vs : List ℕ) × Walk (EdgeBelow g U (priority_of g v)) v vs v
+  worst_leads v h = (h.1.0, walk_below (priority_of g v) v h.1.0 v h.1.1 (omega arith) (omega (arith, h.1.2)))
 
-  pub worst_parity : (v : ℕ) → IsWorst k v → of_parity (priority_of k.game.now v) ≡ opponent q
-  worst_parity v h = same_is (of_parity (priority_of k.game.now v)) (opponent q) (both (U v) (same_player (of_parity (priority_of k.game.now v)) (opponent q)) (sym (bad v) ∙ h.0)).1
+  pub worst_parity : (v : ℕ) → IsWorst k v → of_parity (priority_of g v) ≡ opponent q
+  worst_parity v h =
+      same_is (of_parity (priority_of g v)) (opponent q) (and_parts (U v) (same_player (of_parity (priority_of g v)) (opponent q)) (sym (bad v) ∙ h.0)).1
 
-module _ (g : Graph) (U : VertexSet) (q : Player) (one : HasOneSuccessor g U q) (goal : ℕ) (taken : List Bool) (next : List ℕ) (lead : AreLeading g U (priority_of g goal) goal taken next) (there : In (members taken) goal) (parity : of_parity (priority_of g goal) ≡ opponent q) where
-  next_taken : (v : ℕ) → In (members taken) v → In (members taken) (slice_index next v)
-  next_taken v i = elim (lead.nearer v i) [ inl e ↦ subst (In (members taken)) (sym e) there | inr h ↦ h.0 ]
+module _ (g : Graph) (U : VertexSet) (q : Player) (one : HasOneSuccessor g U q) (goal : ℕ) (taken : List Bool) (next : List ℕ)
+    (lead : AreLeading g U (priority_of g goal) goal taken next) (there : In (members taken) goal) (parity : of_parity (priority_of g goal) ≡ opponent q) where
+  abbrev p : Player
+  p = opponent q
 
-  follows_next : (v w : ℕ) → Among (KeptEdge g (opponent q) (members taken) (choices_by next)) (In (members taken)) v w → slice_index next v ≡ w
-  follows_next v w (e, i, j) = elim (kept_leads g (opponent q) (choices_by next) v w e.1) [
+  abbrev T : VertexSet
+  T = members taken
+
+  abbrev choices : Choices
+  choices = choices_by next
+
+  -- the edges that the choices keep among the vertices taken
+  abbrev Inner : ℕ → ℕ → Type 0
+  Inner = Among (KeptEdge g p T choices) (In T)
+
+  next_taken : (v : ℕ) → In T v → In T (slice_index next v)
+  next_taken v i = elim (lead.nearer v i) [ inl e ↦ subst (In T) (sym e) there | inr h ↦ h.0 ]
+
+  follows_next : (v w : ℕ) → Inner v w → slice_index next v ≡ w
+  follows_next v w (e, i, j) = elim (kept_leads g p choices v w e.1) [
     | inl (o, c) ↦ choice_leads (Some (slice_index next v)) (slice_index next v) w refl c
     | inr (o, m) ↦ (let h = lead.edge v i in
         one v (slice_index next v) w h.1 (o ∙ twice q) h.0 (lead.edge (slice_index next v) (next_taken v i)).1 m (lead.edge w j).1)
   ]
 
   -- a closed walk that misses the goal would come nearer for ever
-  missed : (walk : List ℕ) → ClosedWalk (Among (KeptEdge g (opponent q) (members taken) (choices_by next)) (In (members taken))) walk → ((u : ℕ) → Contains walk u → u ≢ goal) → ⊥
+  missed : (walk : List ℕ) → ClosedWalk Inner walk → ((u : ℕ) → Contains walk u → u ≢ goal) → ⊥
   missed walk c miss =
-      never_falls (Among (Among (KeptEdge g (opponent q) (members taken) (choices_by next)) (In (members taken))) (λ u. u ≢ goal)) lead.rank
+      never_falls (Among Inner (λ u. u ≢ goal)) lead.rank
       (λ v w e. elim (lead.nearer v e.0.1) [
         | inl z ↦ absurd (e.2 (sym (follows_next v w e.0) ∙ z))
         | inr h ↦ subst (λ x. lead.rank x < lead.rank v) (follows_next v w e.0) h.1
-      ]) walk (closed_among (Among (KeptEdge g (opponent q) (members taken) (choices_by next)) (In (members taken))) (λ u. u ≢ goal) walk c miss)
+      ]) walk (closed_among Inner (λ u. u ≢ goal) walk c miss)
 
-  good : OnlyGoodWalks g (opponent q) (members taken) (choices_by next)
+  good : OnlyGoodWalks g p T choices
   good walk c =
-      let d = closed_inside (KeptEdge g (opponent q) (members taken) (choices_by next)) (In (members taken)) (λ v w e. e.0) walk c in
-      let i = closed_begins (KeptEdge g (opponent q) (members taken) (choices_by next)) (In (members taken)) (λ v w e. e.0) walk c in
+      let d = closed_inside (KeptEdge g p T choices) (In T) (λ v w e. e.0) walk c in
+      let i = closed_begins (KeptEdge g p T choices) (In T) (λ v w e. e.0) walk c in
       elim (some_or_none (λ u. eqb u goal) walk) [
-        | inl (u, m, y) ↦ ap of_parity (greatest_reached g (priority_of g goal) walk (λ x n. (lead.edge x (i x n)).2) u m (ap (priority_of g) (eqb-true u goal y))) ∙ parity
+        | inl (u, m, y) ↦
+            ap of_parity (greatest_reached g (priority_of g goal) walk (λ x n. (lead.edge x (i x n)).2) u m (ap (priority_of g) (eqb-true u goal y))) ∙ parity
         | inr none ↦ absurd (missed walk d (λ u m e. (let y = eq-eqb u goal e in let n = none u m in cc (y, n))))
       ]
 
   -- what leads to the goal is his whose parity it has
-  pub lead_held : WinsOn g U (opponent q) (members taken) (choices_by next)
+  pub lead_held : WinsOn g U p T choices
   lead_held = record {
     within = λ v i. (lead.edge v i).1;
     choices = λ v i o. (slice_index next v, refl, (lead.edge v i).0, next_taken v i);
     closed = λ v w i o e u. (let h = lead.edge v i in
-        subst (In (members taken)) (one v (slice_index next v) w h.1 (o ∙ twice q) h.0 (lead.edge (slice_index next v) (next_taken v i)).1 e u) (next_taken v i));
+        subst (In T) (one v (slice_index next v) w h.1 (o ∙ twice q) h.0 (lead.edge (slice_index next v) (next_taken v i)).1 e u) (next_taken v i));
     good = good;
   }
 
 -- what a call answers is good, where its rows are
-pub ok_good : (g : Graph) (U : VertexSet) (p : Player) (rows : ClaimRows) (r : Result Claim AllocError) → IfOk r (λ (c : Claim). c.player ≡ p) → IfOk r (λ (c : Claim). c.rows ≡ rows) → IsGoodIn g U p rows → IfOk r (λ (c : Claim). IsGoodIn g U c.player c.rows)
+pub ok_good : (g : Graph) (U : VertexSet) (p : Player) (rows : ClaimRows) (r : Result Claim AllocError) → IfOk r (λ (c : Claim). c.player ≡ p)
+    → IfOk r (λ (c : Claim). c.rows ≡ rows) → IsGoodIn g U p rows → IfOk r (λ (c : Claim). IsGoodIn g U c.player c.rows)
 ok_good g U p rows (Ok c) a b h = subst (λ q. IsGoodIn g U q c.rows) (sym a) (subst (λ xs. IsGoodIn g U p xs) (sym b) h)
 ok_good g U p rows (Err e) a b h = tt
 

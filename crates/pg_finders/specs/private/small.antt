@@ -1,4 +1,5 @@
 -- What the search for small dominions keeps.
+pub mod Excluded
 pub mod Few
 pub mod Partial
 pub mod Walked

@@ -43,7 +43,8 @@ impl Subgame {
         requires end { end ≤ length order.now.ranked.items }
         ensures sizes { HasSizes (length game.now) self.new }
         ensures active { self.new.active ≡ self.old.active }
-        ensures given { (k : ℕ) → first ≤ k → k < end → In (active_of self.old) (vertex_at_place order.now k) → IsGiven game.now (active_of self.old) player self.new.plan (vertex_at_place order.now k) }
+        ensures given { (k : ℕ) → first ≤ k → k < end → In (active_of self.old) (vertex_at_place order.now k)
+            → IsGiven game.now (active_of self.old) player self.new.plan (vertex_at_place order.now k) }
         ensures same { SameOutside (active_of self.old) self.old.plan self.new.plan }
     {
         'places: for place in first..end {
@@ -113,7 +114,8 @@ pub fn begin(
     requires active { In (active_of subgame.old) (vertex_at_place order.old (order.old.upto - 1)) }
     ensures sizes { OnOk result (HasSizes (length game.now) subgame.new) }
     ensures once { OnOk result (Once list.new.items) }
-    ensures begun { OnOk result (IsBegun game.now (active_of subgame.old) (active_of subgame.new) (of_parity top) (winners_of subgame.new.plan) (choices_of subgame.new.plan)) }
+    ensures begun { OnOk result (IsBegun game.now (active_of subgame.old) (active_of subgame.new) (of_parity top) (winners_of subgame.new.plan)
+        (choices_of subgame.new.plan)) }
     ensures listed { OnOk result ((v : ℕ) → listed list.new.items v ≡ without (active_of subgame.old) (active_of subgame.new) v) }
     ensures same { OnOk result (SameOutside (active_of subgame.old) subgame.old.plan subgame.new.plan) }
     ensures ranked { order.new.ranked.items ≡ order.old.ranked.items }

@@ -79,10 +79,13 @@ impl Settled {
         requires known { IsKnown game.now (members inside.now) player (active_of subgame.old) subgame.old.plan (settled_of self.old player) }
         requires place { from ≤ length aside.now }
         requires below { All (λ v. v < length game.now) aside.now }
-        requires rest { AttractsNoActive game.now player (union (active_of subgame.old) (listed (settled_of self.old player))) (listed (settled_of self.old player)) (without (active_of subgame.old) (listed (drop from aside.now))) }
+        requires rest { AttractsNoActive game.now player (union (active_of subgame.old) (listed (settled_of self.old player)))
+            (listed (settled_of self.old player)) (without (active_of subgame.old) (listed (drop from aside.now))) }
         ensures ready { OnOk result (IsReady (length game.now) subgame.new (settled_of self.new player)) }
-        ensures grown { OnOk result (IsGrown game.now player (active_of subgame.old) subgame.old.plan (settled_of self.old player) (active_of subgame.new) subgame.new.plan (settled_of self.new player)) }
-        ensures done { OnOk result (AttractsNoActive game.now player (union (active_of subgame.old) (listed (settled_of self.old player))) (listed (settled_of self.new player)) (active_of subgame.new)) }
+        ensures grown { OnOk result (IsGrown game.now player (active_of subgame.old) subgame.old.plan (settled_of self.old player)
+            (active_of subgame.new) subgame.new.plan (settled_of self.new player)) }
+        ensures done { OnOk result (AttractsNoActive game.now player (union (active_of subgame.old) (listed (settled_of self.old player)))
+            (listed (settled_of self.new player)) (active_of subgame.new)) }
         ensures other { settled_of self.new (opponent player) ≡ settled_of self.old (opponent player) }
     {
         match player {

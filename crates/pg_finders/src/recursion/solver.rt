@@ -101,8 +101,10 @@ impl Solver {
     fn enter(&mut self, game: &Game, inside: &Mask) -> Result<bool, Memory>
         requires { IsRunning game.now inside.now self.old self.old.stops.items }
         ensures running { OnOk result (IsRunning game.now inside.now self.new self.new.stops.items) }
-        ensures fewer { IfOk result (λ entered. entered ≡ true → work (size inside.now) self.new self.new.stops.items < work (size inside.now) self.old self.old.stops.items) }
-        ensures same { IfOk result (λ entered. entered ≡ false → work (size inside.now) self.new self.new.stops.items ≡ work (size inside.now) self.old self.old.stops.items) }
+        ensures fewer { IfOk result (λ entered. entered ≡ true
+            → work (size inside.now) self.new self.new.stops.items < work (size inside.now) self.old self.old.stops.items) }
+        ensures same { IfOk result (λ entered. entered ≡ false
+            → work (size inside.now) self.new self.new.stops.items ≡ work (size inside.now) self.old self.old.stops.items) }
         ensures none { IfOk result (λ entered. entered ≡ false → (v : ℕ) → active_of self.new.subgame v ≡ false) }
     {
         // for the proof: there are so few vertices that the numbers listed add up without overflow
@@ -140,7 +142,8 @@ impl Solver {
         requires done { (v : ℕ) → active_of self.old.subgame v ≡ false }
         requires all { length (settled_of self.old.settled (opponent stop.player)) ≡ count_at stop (opponent stop.player) }
         ensures running { OnOk result (IsRunning game.now inside.now self.new self.new.stops.items) }
-        ensures fewer { OnOk result (work (size inside.now) self.new self.new.stops.items < work (size inside.now) self.old (self.old.stops.items ++ stop ∷ [])) }
+        ensures fewer { OnOk result (work (size inside.now) self.new self.new.stops.items < work (size inside.now) self.old
+            (self.old.stops.items ++ stop ∷ [])) }
     {
         self.settled
             .append_from(stop.player, &self.aside, stop.aside)?;
@@ -155,7 +158,9 @@ impl Solver {
         requires aside_below { All (λ v. v < length self.old.subgame.active) self.old.aside.items }
         requires settled_below { (p : Player) → All (λ v. v < length self.old.subgame.active) (settled_of self.old.settled p) }
         ensures length { length self.new.subgame.active ≡ length self.old.subgame.active }
-        ensures active { (v : ℕ) → active_of self.new.subgame v ≡ ((active_of self.old.subgame v || listed (drop stop.aside self.old.aside.items) v) || listed (drop (count_at stop stop.player) (settled_of self.old.settled stop.player)) v) }
+        ensures active { (v : ℕ) → active_of self.new.subgame v
+            ≡ ((active_of self.old.subgame v || listed (drop stop.aside self.old.aside.items) v) || listed
+            (drop (count_at stop stop.player) (settled_of self.old.settled stop.player)) v) }
         ensures own { settled_of self.new.settled stop.player ≡ take (count_at stop stop.player) (settled_of self.old.settled stop.player) }
         ensures other { settled_of self.new.settled (opponent stop.player) ≡ settled_of self.old.settled (opponent stop.player) }
         ensures aside { self.new.aside ≡ self.old.aside }
@@ -181,7 +186,8 @@ impl Solver {
         requires done { (v : ℕ) → active_of self.old.subgame v ≡ false }
         requires some { length (settled_of self.old.settled (opponent stop.player)) ≢ count_at stop (opponent stop.player) }
         ensures running { OnOk result (IsRunning game.now inside.now self.new self.new.stops.items) }
-        ensures fewer { OnOk result (work (size inside.now) self.new self.new.stops.items < work (size inside.now) self.old (self.old.stops.items ++ stop ∷ [])) }
+        ensures fewer { OnOk result (work (size inside.now) self.new self.new.stops.items < work (size inside.now) self.old
+            (self.old.stops.items ++ stop ∷ [])) }
     {
         let other = stop.player.other();
         self.reopen(stop);
@@ -203,7 +209,8 @@ impl Solver {
         requires running { IsRunning game.now inside.now self.old (self.old.stops.items ++ stop ∷ []) }
         requires done { (v : ℕ) → active_of self.old.subgame v ≡ false }
         ensures running { OnOk result (IsRunning game.now inside.now self.new self.new.stops.items) }
-        ensures fewer { OnOk result (work (size inside.now) self.new self.new.stops.items < work (size inside.now) self.old (self.old.stops.items ++ stop ∷ [])) }
+        ensures fewer { OnOk result (work (size inside.now) self.new self.new.stops.items < work (size inside.now) self.old
+            (self.old.stops.items ++ stop ∷ [])) }
     {
         let other = stop.player.other();
         if self.settled.count(other) == stop.count(other) {

@@ -8,7 +8,8 @@ ghost use Rattle.pg_game.specs.VertexSet.{In, Within, all_vertices, members, uni
 ghost use Rattle.pg_game.specs.private.VertexSet.{without};
 ghost use Rattle.pg_game.specs.Subgame.{IsSubgame};
 ghost use Rattle.pg_finders.specs.private.recursion.Listed.{listed};
-ghost use Rattle.pg_finders.specs.private.recursion.Growing.{active_of, won_of, HasSizes, IsReady, IsKnown, IsGrown, IsTakenOrActive, IsTested, AttractsNoActive, Before};
+ghost use Rattle.pg_finders.specs.private.recursion.Growing.{active_of, won_of, HasSizes, IsReady, IsKnown, IsGrown, IsTakenOrActive, IsTested};
+ghost use Rattle.pg_finders.specs.private.recursion.Growing.{AttractsNoActive, Before};
 ghost use Rattle.pg_finders.specs.Part.{IsOut};
 
 use crate::recursion::plan::Plan;
@@ -54,9 +55,11 @@ impl Subgame {
         requires ready { IsReady (length game.now) self.old list.old.items }
         requires active { In (active_of self.old) v }
         requires own { owner_of game.now v ≡ player → (w : ℕ) × (choice ≡ Some w) × HasEdge game.now v w × In (listed list.old.items) w }
-        requires forced { owner_of game.now v ≡ opponent player → (w : ℕ) → HasEdge game.now v w → In (union (active_of self.old) (listed list.old.items)) w → In (listed list.old.items) w }
+        requires forced { owner_of game.now v ≡ opponent player → (w : ℕ) → HasEdge game.now v w
+            → In (union (active_of self.old) (listed list.old.items)) w → In (listed list.old.items) w }
         ensures ready { OnOk result (IsReady (length game.now) self.new list.new.items) }
-        ensures grown { OnOk result (IsGrown game.now player (active_of self.old) self.old.plan list.old.items (active_of self.new) self.new.plan list.new.items) }
+        ensures grown { OnOk result (IsGrown game.now player (active_of self.old) self.old.plan list.old.items
+            (active_of self.new) self.new.plan list.new.items) }
         ensures taken { OnOk result (active_of self.new v ≡ false) }
     {
         list.push(v)?;
@@ -80,7 +83,8 @@ impl Subgame {
         requires edge { HasEdge game.now from to }
         requires listed { In (listed list.old.items) to }
         ensures ready { OnOk result (IsReady (length game.now) self.new list.new.items) }
-        ensures grown { OnOk result (IsGrown game.now player (active_of self.old) self.old.plan list.old.items (active_of self.new) self.new.plan list.new.items) }
+        ensures grown { OnOk result (IsGrown game.now player (active_of self.old) self.old.plan list.old.items
+            (active_of self.new) self.new.plan list.new.items) }
         ensures settled { OnOk result (IsTakenOrActive game.now player (active_of self.old) (active_of self.new) from) }
     {
         if !self.active.has(from) {
@@ -107,7 +111,8 @@ impl Subgame {
         requires vertex { to < length game.now }
         requires listed { In (listed list.old.items) to }
         ensures ready { OnOk result (IsReady (length game.now) self.new list.new.items) }
-        ensures grown { OnOk result (IsGrown game.now player (active_of self.old) self.old.plan list.old.items (active_of self.new) self.new.plan list.new.items) }
+        ensures grown { OnOk result (IsGrown game.now player (active_of self.old) self.old.plan list.old.items
+            (active_of self.new) self.new.plan list.new.items) }
         ensures settled { OnOk result ((u : ℕ) → HasEdge game.now u to → IsTakenOrActive game.now player (active_of self.old) (active_of self.new) u) }
     {
         for from in game.predecessors(to) {
@@ -134,7 +139,6 @@ impl Subgame {
         ensures found { IfSome result (λ w. HasEdge game.now v w × In (won_of (members inside.now) (active_of self.now) self.now.plan player) w) }
         ensures none { IsNone result → IsOut game.now (won_of (members inside.now) (active_of self.now) self.now.plan player) v }
     {
-        let _n = game.len();
         for w in game.successors(v) {
             if self.has_won(inside, player, *w) {
                 return Some(*w);
@@ -158,7 +162,8 @@ impl Subgame {
         requires known { IsKnown game.now (members inside.now) player (active_of self.old) self.old.plan list.old.items }
         requires vertex { v < length game.now }
         ensures ready { OnOk result (IsReady (length game.now) self.new list.new.items) }
-        ensures grown { OnOk result (IsGrown game.now player (active_of self.old) self.old.plan list.old.items (active_of self.new) self.new.plan list.new.items) }
+        ensures grown { OnOk result (IsGrown game.now player (active_of self.old) self.old.plan list.old.items
+            (active_of self.new) self.new.plan list.new.items) }
         ensures tested { OnOk result (IsTested game.now player (listed list.old.items) (active_of self.old) (active_of self.new) v) }
     {
         if !self.active.has(v) {
@@ -190,8 +195,10 @@ impl Subgame {
         requires known { IsKnown game.now (members inside.now) player (active_of self.old) self.old.plan list.old.items }
         requires below { All (λ v. v < length game.now) vertices.now }
         ensures ready { OnOk result (IsReady (length game.now) self.new list.new.items) }
-        ensures grown { OnOk result (IsGrown game.now player (active_of self.old) self.old.plan list.old.items (active_of self.new) self.new.plan list.new.items) }
-        ensures tested { OnOk result ((v : ℕ) → In (listed vertices.now) v → IsTested game.now player (listed list.old.items) (active_of self.old) (active_of self.new) v) }
+        ensures grown { OnOk result (IsGrown game.now player (active_of self.old) self.old.plan list.old.items
+            (active_of self.new) self.new.plan list.new.items) }
+        ensures tested { OnOk result ((v : ℕ) → In (listed vertices.now) v
+            → IsTested game.now player (listed list.old.items) (active_of self.old) (active_of self.new) v) }
     {
         for v in vertices {
             self.retake(game, inside, player, list, *v)?;
@@ -211,10 +218,13 @@ impl Subgame {
         requires ready { IsReady (length game.now) self.old list.old.items }
         requires below { Within (union (active_of self.old) (listed list.old.items)) (all_vertices game.now) }
         requires place { from ≤ length list.old.items }
-        requires done { AttractsNoActive game.now player (union (active_of self.old) (listed list.old.items)) (listed (take from list.old.items)) (active_of self.old) }
+        requires done { AttractsNoActive game.now player (union (active_of self.old) (listed list.old.items)) (listed (take from list.old.items))
+            (active_of self.old) }
         ensures ready { OnOk result (IsReady (length game.now) self.new list.new.items) }
-        ensures grown { OnOk result (IsGrown game.now player (active_of self.old) self.old.plan list.old.items (active_of self.new) self.new.plan list.new.items) }
-        ensures done { OnOk result (AttractsNoActive game.now player (union (active_of self.old) (listed list.old.items)) (listed list.new.items) (active_of self.new)) }
+        ensures grown { OnOk result (IsGrown game.now player (active_of self.old) self.old.plan list.old.items
+            (active_of self.new) self.new.plan list.new.items) }
+        ensures done { OnOk result (AttractsNoActive game.now player (union (active_of self.old) (listed list.old.items)) (listed list.new.items)
+            (active_of self.new)) }
     {
         'list: for next in from..usize::MAX {
             if next >= list.len() {
@@ -236,8 +246,10 @@ impl Subgame {
         requires ready { IsReady (length game.now) self.old list.old.items }
         requires subgame { IsSubgame game.now (union (active_of self.old) (listed list.old.items)) }
         ensures ready { OnOk result (IsReady (length game.now) self.new list.new.items) }
-        ensures grown { OnOk result (IsGrown game.now player (active_of self.old) self.old.plan list.old.items (active_of self.new) self.new.plan list.new.items) }
-        ensures done { OnOk result (AttractsNoActive game.now player (union (active_of self.old) (listed list.old.items)) (listed list.new.items) (active_of self.new)) }
+        ensures grown { OnOk result (IsGrown game.now player (active_of self.old) self.old.plan list.old.items
+            (active_of self.new) self.new.plan list.new.items) }
+        ensures done { OnOk result (AttractsNoActive game.now player (union (active_of self.old) (listed list.old.items)) (listed list.new.items)
+            (active_of self.new)) }
     {
         self.attract_from(game, player, list, 0)
     }
@@ -256,10 +268,13 @@ impl Subgame {
         requires length { length inside.now ≡ length game.now }
         requires known { IsKnown game.now (members inside.now) player (active_of self.old) self.old.plan list.old.items }
         requires below { All (λ v. v < length game.now) vertices.now }
-        requires rest { AttractsNoActive game.now player (union (active_of self.old) (listed list.old.items)) (listed list.old.items) (without (active_of self.old) (listed vertices.now)) }
+        requires rest { AttractsNoActive game.now player (union (active_of self.old) (listed list.old.items)) (listed list.old.items)
+            (without (active_of self.old) (listed vertices.now)) }
         ensures ready { OnOk result (IsReady (length game.now) self.new list.new.items) }
-        ensures grown { OnOk result (IsGrown game.now player (active_of self.old) self.old.plan list.old.items (active_of self.new) self.new.plan list.new.items) }
-        ensures done { OnOk result (AttractsNoActive game.now player (union (active_of self.old) (listed list.old.items)) (listed list.new.items) (active_of self.new)) }
+        ensures grown { OnOk result (IsGrown game.now player (active_of self.old) self.old.plan list.old.items
+            (active_of self.new) self.new.plan list.new.items) }
+        ensures done { OnOk result (AttractsNoActive game.now player (union (active_of self.old) (listed list.old.items)) (listed list.new.items)
+            (active_of self.new)) }
     {
         let from = list.len();
         self.retake_all(game, inside, player, list, vertices)?;

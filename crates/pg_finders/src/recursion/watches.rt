@@ -35,7 +35,6 @@ impl Watches {
         ensures found { IsTrue result → (w : ℕ) × HasEdge game.now v w × In (members active.now) w }
         ensures none { IsFalse result → IsOut game.now (members active.now) v }
     {
-        let _n = game.len();
         let successors = game.successors(v);
         let end = successors.len() as u32;
         let begin = self.places[v as usize].min(end);

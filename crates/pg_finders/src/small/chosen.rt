@@ -1,5 +1,5 @@
 //! A few vertices, in the order in which they were added, each with a choice or none. Takes no memory.
-ghost use Rattle.std.specs.Prelude.{◌≡◌, ◌≢◌, ℕ, ◌≤◌, ◌<◌, ◌++◌, ◌∷◌, [], length, slice_set, slice_index_or, Some, None, IsTrue, IsFalse};
+ghost use Rattle.std.specs.Prelude.{◌≡◌, ◌≢◌, ℕ, ◌≤◌, ◌<◌, ◌++◌, ◌∷◌, [], length, slice_set, slice_index_or, take, None, IsTrue, IsFalse};
 ghost use Rattle.pg_dominion.specs.Claim.{named};
 ghost use Rattle.pg_finders.specs.private.small.Partial.{no_row, vertex_in, choice_at};
 
@@ -34,16 +34,6 @@ impl Chosen {
         Chosen { rows, len: 1 }
     }
 
-    /// The same anew.
-    pub fn copy(&self) -> Chosen
-        ensures { result ≡ self.now }
-    {
-        Chosen {
-            rows: self.rows,
-            len: self.len,
-        }
-    }
-
     /// How many vertices there are.
     pub fn len(&self) -> usize
         ensures number { result ≡ length self.now }
@@ -57,6 +47,7 @@ impl Chosen {
         requires { at < length self.now }
         ensures { result ≡ slice_index_or self.now at no_row }
     {
+        // for the proof: the place is one of the array
         let _len = self.len;
         self.rows[at]
     }
@@ -113,12 +104,21 @@ impl Chosen {
     }
 
     /// Sets the choice at a place.
-    pub fn choose(&mut self, at: usize, w: u32)
+    pub fn choose(&mut self, at: usize, choice: Option<u32>)
         requires { at < length self.old }
-        ensures { self.new ≡ slice_set self.old at (vertex_in self.old at, Some w) }
+        ensures { self.new ≡ slice_set self.old at (vertex_in self.old at, choice) }
     {
         let v = self.row(at).0;
+        // for the proof: the place is one of the array
         let _len = self.len;
-        self.rows[at] = (v, Some(w));
+        self.rows[at] = (v, choice);
+    }
+
+    /// Leaves the first vertices.
+    pub fn truncate(&mut self, len: usize)
+        requires { len ≤ length self.old }
+        ensures { self.new ≡ take len self.old }
+    {
+        self.len = len;
     }
 }

@@ -1,20 +1,23 @@
 //! The search for a small claim, depth-first over the choices at the player's vertices. It takes no memory, and
 //! calls itself at most as deep as the bound.
-ghost use Rattle.std.specs.Prelude.{◌≡◌, ◌≢◌, ℕ, false, ◌≤◌, ◌<◌, ◌+◌, ◌-◌, ◌⊎◌, length, IsTrue, IsFalse, IfSome, IsNone};
+ghost use Rattle.std.specs.Prelude.{◌≡◌, ◌≢◌, ℕ, false, ◌≤◌, ◌<◌, ◌+◌, ◌-◌, ◌⊎◌, ◌++◌, ◌∷◌, [], length, take, slice_set, Some, None, IsTrue, IsFalse};
 ghost use Rattle.pg_game.specs.Graph.{HasEdge, owner_of};
 ghost use Rattle.pg_game.specs.VertexSet.{In, Within, members};
 ghost use Rattle.pg_dominion.specs.Claim.{named};
 ghost use Rattle.pg_finders.specs.Finding.{most_choices, inner_degree, AtMostInside};
+ghost use Rattle.pg_finders.specs.private.small.Excluded.{IsBetween, NoneHasBetween};
 ghost use Rattle.pg_finders.specs.private.small.Partial.{vertex_in, AreDifferentRows, IsPartial, Extends, NoneAgrees};
-ghost use Rattle.pg_finders.specs.private.small.Searched.{Chooses, IfFound, IfNothing, IfGaveUp, IsNextPartial, StillAgrees, StillAgreesAt, NoneAgreesAt, HasNoRoom, LacksRoom};
+ghost use Rattle.pg_finders.specs.private.small.Searched.{Chooses, IfFound, IfNothing, IfGaveUp, IsNextPartial, StillAgrees, StillAgreesAt};
+ghost use Rattle.pg_finders.specs.private.small.Searched.{NoneAgreesAt, HasNoRoom, LacksRoom};
 
 use crate::small::chosen::Chosen;
 use crate::small::walks::Search;
 
 /// How a search ended.
-#[derive(Drop)]
+#[derive(Clone, Copy, Drop)]
 pub enum Step {
-    Found(Chosen),
+    /// The rows are the claim.
+    Found,
     Nothing,
     GaveUp,
 }
@@ -42,24 +45,6 @@ impl<'a> Search<'a> {
         true
     }
 
-    /// Whether the rows are full, and a successor inside is none of them.
-    fn lacks_room(&self, chosen: &Chosen, v: u32) -> bool
-        requires size { length self.now.mask.now ≡ length self.now.game.now }
-        requires bounded { length chosen.now ≤ self.now.bound }
-        requires vertex { v < length self.now.game.now }
-        ensures { IsTrue result → LacksRoom self.now.game.now (members self.now.mask.now) chosen.now self.now.bound v }
-    {
-        if chosen.len() < self.bound {
-            return false;
-        }
-        for w in self.game.successors(v) {
-            if self.mask.has(*w) && !chosen.has(*w) {
-                return true;
-            }
-        }
-        false
-    }
-
     /// Adds all successors inside of a row's vertex. Whether the bound allows it.
     fn add_successors(&self, chosen: &mut Chosen, v: u32) -> bool
         requires bound { self.now.bound ≤ 8 }
@@ -83,120 +68,165 @@ impl<'a> Search<'a> {
         true
     }
 
-    /// The rows once the opponent's vertex at a place is settled, or none.
-    fn settled(&self, chosen: &Chosen, at: usize) -> Option<Chosen>
-        requires bound { self.now.bound ≤ 8 }
+    /// Whether a successor inside is in no small claim.
+    fn leads_to_excluded(&self, v: u32) -> bool
         requires size { length self.now.mask.now ≡ length self.now.game.now }
-        requires state { IsPartial self.now.game.now (members self.now.mask.now) self.now.player self.now.bound chosen.now at }
-        requires at { at < length chosen.now }
-        requires owner { owner_of self.now.game.now (vertex_in chosen.now at) ≢ self.now.player }
-        ensures next { IfSome result (λ next. IsNextPartial self.now.game.now (members self.now.mask.now) self.now.player self.now.bound chosen.now at next) }
-        ensures agrees { IfSome result (λ next. StillAgrees self.now.game.now (members self.now.mask.now) self.now.player chosen.now at next) }
-        ensures none { IsNone result → NoneAgrees self.now.game.now (members self.now.mask.now) self.now.player self.now.bound chosen.now at }
+        requires vertex { v < length self.now.game.now }
+        ensures { IsTrue result → (w : ℕ) × HasEdge self.now.game.now v w × In (members self.now.mask.now) w
+            × IsBetween self.now.excluded.low self.now.excluded.high w }
+    {
+        for w in self.game.successors(v) {
+            if self.excluded.contains(*w) && self.mask.has(*w) {
+                return true;
+            }
+        }
+        false
+    }
+
+    /// Settles the opponent's vertex at a place, where a claim can have all that it leads to; otherwise nothing changes.
+    fn settle(&self, chosen: &mut Chosen, at: usize) -> bool
+        requires bound { self.now.bound ≤ 8 }
+        requires excluded { NoneHasBetween self.now.game.now
+            (members self.now.mask.now) self.now.player self.now.bound self.now.excluded.low self.now.excluded.high }
+        requires size { length self.now.mask.now ≡ length self.now.game.now }
+        requires state { IsPartial self.now.game.now (members self.now.mask.now) self.now.player self.now.bound chosen.old at }
+        requires at { at < length chosen.old }
+        requires owner { owner_of self.now.game.now (vertex_in chosen.old at) ≢ self.now.player }
+        ensures next { IsTrue result → IsNextPartial self.now.game.now (members self.now.mask.now) self.now.player self.now.bound chosen.old at chosen.new }
+        ensures agrees { IsTrue result → StillAgrees self.now.game.now (members self.now.mask.now) self.now.player chosen.old at chosen.new }
+        ensures begins { IsTrue result → take (length chosen.old) chosen.new ≡ chosen.old }
+        ensures none { IsFalse result → NoneAgrees self.now.game.now (members self.now.mask.now) self.now.player self.now.bound chosen.old at }
+        ensures back { IsFalse result → chosen.new ≡ chosen.old }
     {
         let v = chosen.vertex(at);
-        if self.lacks_room(chosen, v) {
-            return None;
+        if self.leads_to_excluded(v) {
+            return false;
         }
-        let mut next = chosen.copy();
-        if !self.add_successors(&mut next, v) {
-            return None;
+        let len = chosen.len();
+        if !self.add_successors(chosen, v) {
+            chosen.truncate(len);
+            return false;
         }
-        if !self.stays_good(&next, at) {
-            return None;
+        if !self.stays_good(chosen, at) {
+            chosen.truncate(len);
+            return false;
         }
-        Some(next)
+        true
     }
 
-    /// The rows once the player has chosen a vertex that is there, or none.
-    fn with_known(&self, chosen: &Chosen, at: usize, w: u32) -> Option<Chosen>
-        requires state { IsPartial self.now.game.now (members self.now.mask.now) self.now.player self.now.bound chosen.now at }
-        requires at { at < length chosen.now }
-        requires owner { owner_of self.now.game.now (vertex_in chosen.now at) ≡ self.now.player }
-        requires edge { HasEdge self.now.game.now (vertex_in chosen.now at) w }
-        requires known { In (named chosen.now) w }
-        ensures next { IfSome result (λ next. IsNextPartial self.now.game.now (members self.now.mask.now) self.now.player self.now.bound chosen.now at next) }
-        ensures agrees { IfSome result (λ next. StillAgreesAt self.now.game.now (members self.now.mask.now) self.now.player chosen.now at (vertex_in chosen.now at) w next) }
-        ensures none { IsNone result → NoneAgreesAt self.now.game.now (members self.now.mask.now) self.now.player self.now.bound chosen.now at (vertex_in chosen.now at) w }
+    /// Chooses a vertex that is there, unless that closes a bad walk; then nothing changes.
+    fn choose_known(&self, chosen: &mut Chosen, at: usize, w: u32) -> bool
+        requires state { IsPartial self.now.game.now (members self.now.mask.now) self.now.player self.now.bound chosen.old at }
+        requires at { at < length chosen.old }
+        requires owner { owner_of self.now.game.now (vertex_in chosen.old at) ≡ self.now.player }
+        requires edge { HasEdge self.now.game.now (vertex_in chosen.old at) w }
+        requires known { In (named chosen.old) w }
+        ensures next { IsTrue result → IsNextPartial self.now.game.now (members self.now.mask.now) self.now.player self.now.bound chosen.old at chosen.new }
+        ensures agrees { IsTrue result → StillAgreesAt self.now.game.now (members self.now.mask.now) self.now.player chosen.old at
+            (vertex_in chosen.old at) w chosen.new }
+        ensures chosen { IsTrue result → chosen.new ≡ slice_set chosen.old at (vertex_in chosen.old at, Some w) }
+        ensures none { IsFalse result → NoneAgreesAt self.now.game.now (members self.now.mask.now) self.now.player self.now.bound chosen.old at
+            (vertex_in chosen.old at) w }
+        ensures back { IsFalse result → chosen.new ≡ chosen.old }
     {
-        let mut next = chosen.copy();
-        next.choose(at, w);
-        if !self.stays_good(&next, at) {
-            return None;
+        let before = chosen.choice(at);
+        chosen.choose(at, Some(w));
+        if !self.stays_good(chosen, at) {
+            chosen.choose(at, before);
+            return false;
         }
-        Some(next)
+        true
     }
 
-    /// The rows once the player has chosen a vertex that is not there yet. It becomes the last row, so no walk is closed.
-    fn with_fresh(&self, chosen: &Chosen, at: usize, w: u32) -> Chosen
+    /// Chooses a vertex that is not there yet. It becomes the last row, so no walk is closed.
+    fn choose_fresh(&self, chosen: &mut Chosen, at: usize, w: u32)
         requires bound { self.now.bound ≤ 8 }
-        requires state { IsPartial self.now.game.now (members self.now.mask.now) self.now.player self.now.bound chosen.now at }
-        requires at { at < length chosen.now }
-        requires owner { owner_of self.now.game.now (vertex_in chosen.now at) ≡ self.now.player }
+        requires state { IsPartial self.now.game.now (members self.now.mask.now) self.now.player self.now.bound chosen.old at }
+        requires at { at < length chosen.old }
+        requires owner { owner_of self.now.game.now (vertex_in chosen.old at) ≡ self.now.player }
         requires vertex { w < length self.now.game.now }
-        requires edge { HasEdge self.now.game.now (vertex_in chosen.now at) w }
+        requires edge { HasEdge self.now.game.now (vertex_in chosen.old at) w }
         requires inside { In (members self.now.mask.now) w }
-        requires fresh { named chosen.now w ≡ false }
-        requires room { length chosen.now < self.now.bound }
-        ensures next { IsNextPartial self.now.game.now (members self.now.mask.now) self.now.player self.now.bound chosen.now at result }
-        ensures agrees { StillAgreesAt self.now.game.now (members self.now.mask.now) self.now.player chosen.now at (vertex_in chosen.now at) w result }
+        requires fresh { named chosen.old w ≡ false }
+        requires room { length chosen.old < self.now.bound }
+        ensures next { IsNextPartial self.now.game.now (members self.now.mask.now) self.now.player self.now.bound chosen.old at chosen.new }
+        ensures agrees { StillAgreesAt self.now.game.now (members self.now.mask.now) self.now.player chosen.old at (vertex_in chosen.old at) w chosen.new }
+        ensures chosen { chosen.new ≡ slice_set chosen.old at (vertex_in chosen.old at, Some w) ++ (w, None) ∷ [] }
     {
-        let mut next = chosen.copy();
-        next.choose(at, w);
-        next.push(w);
-        next
+        chosen.choose(at, Some(w));
+        chosen.push(w);
     }
 
-    /// The rows once the player has chosen at a place, or none. The choice is tried, so `left` goes down by one.
-    fn with_choice(&self, chosen: &Chosen, at: usize, w: u32, left: &mut u64) -> Option<Chosen>
+    /// Chooses at a place, where a claim can; otherwise nothing changes.
+    fn choose(&self, chosen: &mut Chosen, at: usize, w: u32) -> bool
         requires bound { self.now.bound ≤ 8 }
-        requires state { IsPartial self.now.game.now (members self.now.mask.now) self.now.player self.now.bound chosen.now at }
-        requires at { at < length chosen.now }
-        requires owner { owner_of self.now.game.now (vertex_in chosen.now at) ≡ self.now.player }
+        requires excluded { NoneHasBetween self.now.game.now
+            (members self.now.mask.now) self.now.player self.now.bound self.now.excluded.low self.now.excluded.high }
+        requires state { IsPartial self.now.game.now (members self.now.mask.now) self.now.player self.now.bound chosen.old at }
+        requires at { at < length chosen.old }
+        requires owner { owner_of self.now.game.now (vertex_in chosen.old at) ≡ self.now.player }
         requires vertex { w < length self.now.game.now }
-        requires edge { HasEdge self.now.game.now (vertex_in chosen.now at) w }
+        requires edge { HasEdge self.now.game.now (vertex_in chosen.old at) w }
         requires inside { In (members self.now.mask.now) w }
-        requires some { 0 < left.old }
-        ensures counted { left.new + 1 ≡ left.old }
-        ensures next { IfSome result (λ next. IsNextPartial self.now.game.now (members self.now.mask.now) self.now.player self.now.bound chosen.now at next) }
-        ensures agrees { IfSome result (λ next. StillAgreesAt self.now.game.now (members self.now.mask.now) self.now.player chosen.now at (vertex_in chosen.now at) w next) }
-        ensures none { IsNone result → NoneAgreesAt self.now.game.now (members self.now.mask.now) self.now.player self.now.bound chosen.now at (vertex_in chosen.now at) w }
+        ensures next { IsTrue result → IsNextPartial self.now.game.now (members self.now.mask.now) self.now.player self.now.bound chosen.old at chosen.new }
+        ensures agrees { IsTrue result → StillAgreesAt self.now.game.now (members self.now.mask.now) self.now.player chosen.old at
+            (vertex_in chosen.old at) w chosen.new }
+        ensures begins { IsTrue result → take (length chosen.old) chosen.new ≡ slice_set chosen.old at (vertex_in chosen.old at, Some w) }
+        ensures none { IsFalse result → NoneAgreesAt self.now.game.now (members self.now.mask.now) self.now.player self.now.bound chosen.old at
+            (vertex_in chosen.old at) w }
+        ensures back { IsFalse result → chosen.new ≡ chosen.old }
     {
-        *left -= 1;
+        if self.excluded.contains(w) {
+            return false;
+        }
         if chosen.has(w) {
-            return self.with_known(chosen, at, w);
+            return self.choose_known(chosen, at, w);
         }
         if self.bound <= chosen.len() {
-            return None;
+            return false;
         }
-        Some(self.with_fresh(chosen, at, w))
+        self.choose_fresh(chosen, at, w);
+        true
     }
 
-    /// Goes on from the first rows, which are settled. `left` counts the choices that may still be tried: where the player
-    /// chooses, one is tried for what is found, and all before there is nothing.
-    pub fn go_on(&self, chosen: &Chosen, done: usize, left: &mut u64) -> Step
+    /// Goes on from the first rows, which are settled, until the rows are a claim; where nothing is found they are as before.
+    /// `left` counts the choices that may still be tried: where the player chooses, one is tried for what is found, and all
+    /// before there is nothing.
+    pub fn go_on(&self, chosen: &mut Chosen, done: usize, left: &mut u64) -> Step
         requires bound { self.now.bound ≤ 8 }
+        requires excluded { NoneHasBetween self.now.game.now
+            (members self.now.mask.now) self.now.player self.now.bound self.now.excluded.low self.now.excluded.high }
         requires size { length self.now.mask.now ≡ length self.now.game.now }
-        requires state { IsPartial self.now.game.now (members self.now.mask.now) self.now.player self.now.bound chosen.now done }
-        ensures found { IfFound result (λ rows. IsPartial self.now.game.now (members self.now.mask.now) self.now.player self.now.bound rows (length rows)) }
-        ensures keeps { IfFound result (λ rows. Within (named chosen.now) (named rows)) }
-        ensures none { IfNothing result (NoneAgrees self.now.game.now (members self.now.mask.now) self.now.player self.now.bound chosen.now done) }
-        ensures used { IfNothing result ((degree : ℕ) → AtMostInside self.now.game.now (members self.now.mask.now) degree → left.old ≤ left.new + most_choices degree (self.now.bound - done)) }
+        requires state { IsPartial self.now.game.now (members self.now.mask.now) self.now.player self.now.bound chosen.old done }
+        ensures found { IfFound result (IsPartial self.now.game.now (members self.now.mask.now) self.now.player self.now.bound chosen.new (length chosen.new)) }
+        ensures keeps { IfFound result (Within (named chosen.old) (named chosen.new)) }
+        ensures back { IfNothing result (chosen.new ≡ chosen.old) }
+        ensures none { IfNothing result (NoneAgrees self.now.game.now (members self.now.mask.now) self.now.player self.now.bound chosen.old done) }
+        ensures used { IfNothing result ((degree : ℕ) → AtMostInside self.now.game.now (members self.now.mask.now) degree
+            → left.old ≤ left.new + most_choices degree (self.now.bound - done)) }
         ensures lowered { left.new ≤ left.old }
-        ensures tried_one { IfFound result (λ rows. Chooses self.now.game.now self.now.player chosen.now done → left.new < left.old) }
-        ensures tried_all { IfNothing result (Chooses self.now.game.now self.now.player chosen.now done → left.new + inner_degree self.now.game.now (members self.now.mask.now) (vertex_in chosen.now done) ≤ left.old) }
-        ensures gave_up { IfGaveUp result ((degree : ℕ) → AtMostInside self.now.game.now (members self.now.mask.now) degree → left.old < most_choices degree (self.now.bound - done)) }
+        ensures tried_one { IfFound result (Chooses self.now.game.now self.now.player chosen.old done → left.new < left.old) }
+        ensures tried_all { IfNothing result (Chooses self.now.game.now self.now.player chosen.old done
+            → left.new + inner_degree self.now.game.now (members self.now.mask.now) (vertex_in chosen.old done) ≤ left.old) }
+        ensures gave_up { IfGaveUp result ((degree : ℕ) → AtMostInside self.now.game.now (members self.now.mask.now) degree
+            → left.old < most_choices degree (self.now.bound - done)) }
     {
-        if done >= chosen.len() {
-            return Step::Found(chosen.copy());
+        let len = chosen.len();
+        if done >= len {
+            return Step::Found;
         }
         let v = chosen.vertex(done);
         if self.game.owner(v) != self.player {
-            return match self.settled(chosen, done) {
-                Some(next) => self.go_on(&next, done + 1, left),
-                None => Step::Nothing,
-            };
+            if !self.settle(chosen, done) {
+                return Step::Nothing;
+            }
+            let step = self.go_on(chosen, done + 1, left);
+            if let Step::Nothing = step {
+                chosen.truncate(len);
+            }
+            return step;
         }
+        let before = chosen.choice(done);
         'choices: for w in self.game.successors(v) {
             if !self.mask.has(*w) {
                 continue;
@@ -204,13 +234,17 @@ impl<'a> Search<'a> {
             if *left == 0 {
                 return Step::GaveUp;
             }
-            if let Some(next) = self.with_choice(chosen, done, *w, left) {
-                match self.go_on(&next, done + 1, left) {
-                    Step::Found(rows) => return Step::Found(rows),
-                    Step::Nothing => {}
-                    Step::GaveUp => return Step::GaveUp,
-                }
+            *left -= 1;
+            if !self.choose(chosen, done, *w) {
+                continue;
             }
+            match self.go_on(chosen, done + 1, left) {
+                Step::Found => return Step::Found,
+                Step::Nothing => {}
+                Step::GaveUp => return Step::GaveUp,
+            }
+            chosen.truncate(len);
+            chosen.choose(done, before);
         }
         Step::Nothing
     }

@@ -6,6 +6,7 @@ ghost use Rattle.pg_finders.specs.private.small.Partial.{AreFew};
 ghost use Rattle.pg_finders.specs.private.small.Walked.{RowLeadsTo, IsReachedNext, IsReached, WalksBack};
 
 use crate::small::chosen::Chosen;
+use crate::small::excluded::Excluded;
 use pg_game::{Game, Mask, Player};
 
 /// What a small search looks for, and where.
@@ -15,6 +16,8 @@ pub struct Search<'a> {
     pub mask: &'a Mask,
     pub player: Player,
     pub bound: usize,
+    /// No good claim within the bound has one of these.
+    pub excluded: Excluded,
 }
 
 impl<'a> Search<'a> {

@@ -37,7 +37,6 @@ fn reach(
     ensures follows { OnOk result (Follows lead.old.taken queue.old.items lead.new.taken queue.new.items) }
     ensures seen { OnOk result (IsSeen game.now (members mask.now) (priority_of game.now goal) (members lead.new.taken) to) }
 {
-    let _n = game.len();
     let top = game.priority(goal);
     'edges: for from in game.predecessors(to) {
         let v = *from;
@@ -56,7 +55,8 @@ pub fn lead_to(alloc: Global, game: &Game, mask: &Mask, goal: u32) -> Result<Lea
     requires size { length mask.now ≡ length game.now }
     requires goal { goal < length game.now }
     ensures leading { IfOk result (λ lead. AreLeading game.now (members mask.now) (priority_of game.now goal) goal lead.taken lead.next.items) }
-    ensures all { IfOk result (λ lead. (v : ℕ) (vs : List ℕ) → Walk (EdgeBelow game.now (members mask.now) (priority_of game.now goal)) v vs goal → In (members lead.taken) v) }
+    ensures all { IfOk result (λ lead. (v : ℕ) (vs : List ℕ) → Walk (EdgeBelow game.now (members mask.now) (priority_of game.now goal)) v vs goal
+        → In (members lead.taken) v) }
 {
     let n = game.len();
     let mut lead = Lead {

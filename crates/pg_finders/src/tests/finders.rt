@@ -266,12 +266,29 @@ fn from_both(rt: &impl Abort, alloc: Global, game: &Game, budget: u64) -> Result
 #[test]
 fn seeds_share_the_budget(rt: HostRuntime) -> Result<(), Fail> {
     let alloc = rt.alloc();
-    let vertices = [(1, EVEN, [0].as_slice()), (0, EVEN, [1].as_slice())];
+    let vertices = [(0, EVEN, [0].as_slice()), (1, EVEN, [1].as_slice())];
     let game = game_of(alloc, vertices.as_slice())?;
-    let row = [(1, Some(1))];
+    let row = [(0, Some(0))];
     let found = from_both(&rt, alloc, &game, 2)?;
     check_eq!(rt; rows_in(&found), row.as_slice());
     let less = from_both(&rt, alloc, &game, 1)?;
+    check!(rt; matches!(less, Small::GaveUp));
+    Ok(())
+}
+
+#[test]
+fn a_seed_that_was_searched_is_not_searched_again(rt: HostRuntime) -> Result<(), Fail> {
+    let alloc = rt.alloc();
+    let vertices = [
+        (1, EVEN, [1].as_slice()),
+        (1, EVEN, [2].as_slice()),
+        (1, EVEN, [1].as_slice()),
+    ];
+    let game = game_of(alloc, vertices.as_slice())?;
+    // two choices from vertex 1, and then one from vertex 0
+    let nothing = from_both(&rt, alloc, &game, 3)?;
+    check!(rt; matches!(nothing, Small::Nothing));
+    let less = from_both(&rt, alloc, &game, 2)?;
     check!(rt; matches!(less, Small::GaveUp));
     Ok(())
 }

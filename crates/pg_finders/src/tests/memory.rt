@@ -244,7 +244,7 @@ fn each_job_is_done_after_a_refusal(rt: HostRuntime) -> Result<(), Fail> {
     let both = [(EVEN, 1), (ODD, 1)];
     compare_found(&rt, alloc, &Job::Loops, both.as_slice())?;
     compare_found(&rt, alloc, &Job::Solitaire, [].as_slice())?;
-    compare_found(&rt, alloc, &small, [(ODD, 1)].as_slice())?;
+    compare_found(&rt, alloc, &small, [(ODD, 2)].as_slice())?;
     let all = [(EVEN, 3), (ODD, 2)];
     compare_found(&rt, alloc, &Job::Recursion, all.as_slice())
 }

@@ -160,33 +160,34 @@ fn assert_claims(
 #[test]
 fn a_dominion_of_four_vertices_takes_thousands_of_choices(rt: HostRuntime) -> Result<(), Fail> {
     let alloc = rt.alloc();
-    let six = [0, 1, 2, 3, 4, 5];
-    let one_of_six = (1, EVEN, six.as_slice());
+    let seven = [5, 6, 7, 8, 9, 10, 11];
+    let one_of_seven = (1, EVEN, seven.as_slice());
     let vertices = [
-        one_of_six,
-        one_of_six,
-        one_of_six,
-        one_of_six,
-        one_of_six,
-        one_of_six,
-        (1, ODD, [0, 1].as_slice()),
-        (2, EVEN, [8].as_slice()),
-        (0, ODD, [9, 10].as_slice()),
-        (1, EVEN, [7, 9].as_slice()),
-        (0, EVEN, [7].as_slice()),
+        (2, EVEN, [1].as_slice()),
+        (0, ODD, [2, 3].as_slice()),
+        (1, EVEN, [0, 2].as_slice()),
+        (0, EVEN, [0].as_slice()),
+        (1, ODD, [5, 6].as_slice()),
+        one_of_seven,
+        one_of_seven,
+        one_of_seven,
+        one_of_seven,
+        one_of_seven,
+        one_of_seven,
+        one_of_seven,
     ];
     let game = game_of(alloc, vertices.as_slice())?;
-    let rows = [(7, Some(8)), (8, None), (9, Some(7)), (10, Some(7))];
+    let rows = [(0, Some(1)), (1, None), (2, Some(0)), (3, Some(0))];
     'jobs: for (bound, budget, claims, gave_up) in [
         (4, 10_000, 1, false),
-        (4, 3_207, 1, false),
-        (4, 3_206, 0, true),
+        (4, 2_159, 1, false),
+        (4, 2_158, 0, true),
         (4, 1_000, 0, true),
         (3, 1_000, 0, false),
-        (3, 956, 0, false),
-        (3, 955, 0, true),
-        (5, 7_959, 1, false),
-        (5, 7_958, 0, true),
+        (3, 692, 0, false),
+        (3, 691, 0, true),
+        (5, 5_687, 1, false),
+        (5, 5_686, 0, true),
     ] {
         let job = Job::Small {
             player: EVEN,

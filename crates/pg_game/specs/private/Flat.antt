@@ -1,15 +1,13 @@
 -- Specifications in lists of their parts, and those that are a game as they stand (private).
-use Rattle.std.specs.Prelude.{ℕ, ◌<◌, ◌≤◌, List, length, map}
+use Rattle.std.specs.Prelude.{ℕ, ◌<◌, ◌≤◌, List, length}
 use Rattle.pg_game.specs.declared.player.Player.{Player}
-use Rattle.pg_game.specs.declared.game.Spec.{Spec}
-use Rattle.pg_game.specs.Graph.{Vertex, IsGame, AreSuccessors}
+use Rattle.pg_game.specs.Graph.{IsGame, AreSuccessors}
 use Rattle.pg_game.specs.Limits.{IsWithinLimits}
 use Rattle.pg_game.specs.private.Names.{AreOwnPlaces}
 use Rattle.pg_game.specs.private.Rows.{row_at, size_of}
 use Rattle.pg_game.specs.Specification.{max_vertices, max_edges}
 use Rattle.pg_game.specs.private.Stored.{AreParts}
 use Rattle.pg_game.specs.View.{graph_of}
-use Rattle.pg_game.specs.Flat.{spec_from, specs_from}
 
 abbrev pub AreSuccessorRows : List (List ℕ) → Type 0
 AreSuccessorRows rows = (v : ℕ) → v < length rows → AreSuccessors (length rows) (row_at rows v)

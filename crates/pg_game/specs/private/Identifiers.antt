@@ -1,5 +1,6 @@
 -- Specifications, one part of each; places of identifiers in a list of them.
-use Rattle.std.specs.Prelude.{ℕ, ◌<◌, ◌≤◌, ◌↔◌, List, [], ◌∷◌, ◌++◌, length, map, find, position, not, nat_eq, Option, None, slice_index, option_to_list, Contains}
+use Rattle.std.specs.Prelude.{ℕ, ◌<◌, ◌≤◌, ◌↔◌, List, [], ◌∷◌, ◌++◌, length, map, find, position, not, nat_eq, Option, None, slice_index}
+use Rattle.std.specs.Prelude.{option_to_list, Contains}
 use Rattle.std.specs.List.{list_any}
 use Rattle.std.specs.List.Sorted.{IsStrictlyIncreasing}
 use Rattle.pg_game.specs.declared.player.Player.{Player}

@@ -1,7 +1,6 @@
 -- Lists of numbers in compressed sparse rows (private).
-use Rattle.std.specs.Prelude.{ℕ, ◌≡◌, ◌+◌, ◌<◌, ◌≤◌, ◌^◌, ◌↔◌, List, [], ◌∷◌, length, sum_by, slice_index, slice_index_or, slice_range, Contains}
+use Rattle.std.specs.Prelude.{ℕ, ◌≡◌, ◌+◌, ◌<◌, ◌≤◌, ◌^◌, ◌↔◌, List, [], length, sum_by, slice_index, slice_index_or, Contains}
 use Rattle.std.specs.List.Sorted.{IsStrictlyIncreasing}
-use Rattle.pg_game.specs.Rows.{rows_of}
 
 -- offsets rise from 0 to the number of targets
 pub record IsCompressed (offsets targets : List ℕ) : Type 0 where

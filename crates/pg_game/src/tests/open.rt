@@ -3,8 +3,9 @@
 ghost use Rattle.std.specs.Prelude.{All};
 ghost use Rattle.pg_game.specs.Specification.{AreNumbers};
 
-use crate::tests::{EVEN, ODD, look};
-use crate::{Game, Memory, OpenSpecs, Player};
+use crate::tests::{EVEN, ODD, Told, from_rows, look};
+use crate::{Game, GameFault, Memory, OpenSpecs, Player};
+use std::alloc::Global;
 use std::test::Fail;
 
 /// Closes a specification with two successors, after another that was dropped.
@@ -25,16 +26,22 @@ fn close_two(
     specs.close(id.min(2_147_483_647), priority.min(2_147_483_647), owner)
 }
 
-#[test]
-fn what_is_dropped_or_left_open_is_in_no_specification(rt: HostRuntime) -> Result<(), Fail> {
-    let alloc = rt.alloc();
+const TOLD: &[Told] = &[
+    ((0, 3, ODD, &[0, 1]), &[0, 1]),
+    ((1, 4, EVEN, &[0, 1]), &[0, 1]),
+];
+
+/// The game of two specifications, with successors that were dropped or left open.
+fn closed(alloc: Global) -> Result<Game, GameFault> {
     let mut specs = OpenSpecs::new(alloc)?;
     close_two(&mut specs, 0, 3, ODD, (0, 1))?;
     close_two(&mut specs, 1, 4, EVEN, (1, 0))?;
     specs.push(7)?;
-    let game = Game::from_rows(alloc, specs.finish())?;
-    assert_eq!(rt; game.len(), 2);
-    look(&rt, &game, 0, (0, 3, ODD, &[0, 1]), &[0, 1]);
-    look(&rt, &game, 1, (1, 4, EVEN, &[0, 1]), &[0, 1]);
-    Ok(())
+    from_rows(alloc, specs.finish())
+}
+
+#[test]
+fn what_is_dropped_or_left_open_is_in_no_specification(rt: HostRuntime) -> Result<(), Fail> {
+    let game = closed(rt.alloc())?;
+    look(&rt, &game, TOLD)
 }

@@ -3,8 +3,8 @@
 ghost use Rattle.std.specs.Prelude.{All};
 ghost use Rattle.pg_game.specs.Specification.{AreNumbers};
 
-use crate::tests::{EVEN, ODD, Row, look, specs_of};
-use crate::{Game, OpenSpecs, Player, Spec, Specs};
+use crate::tests::{EVEN, IN_ORDER, ODD, Told, look, specs_of};
+use crate::{Game, GameFault, OpenSpecs, Player, Spec, Specs};
 use std::alloc::Global;
 use std::test::Fail;
 
@@ -26,28 +26,31 @@ fn own_successors(alloc: Global, specs: Vec<Spec>) -> Result<u32, Fail>
 
 #[test]
 fn the_edges_of_a_game_are_gone_through(rt: HostRuntime) -> Result<(), Fail> {
-    let rows: [Row; 2] = [(0, 2, EVEN, &[0, 1]), (1, 1, ODD, &[1])];
-    let specs = specs_of(rt.alloc(), &rows)?;
-    assert_eq!(rt; own_successors(rt.alloc(), specs)?, 2);
+    let specs = specs_of(rt.alloc(), IN_ORDER)?;
+    check_eq!(rt; own_successors(rt.alloc(), specs)?, 2);
     Ok(())
 }
 
-#[test]
-fn specifications_are_pushed_with_their_successors(rt: HostRuntime) -> Result<(), Fail> {
-    let alloc = rt.alloc();
+/// The vertices of `IN_ORDER`.
+const TOLD_IN_ORDER: &[Told] = &[((0, 2, EVEN, &[0, 1]), &[0]), ((1, 1, ODD, &[1]), &[0, 1])];
+
+/// The game of `IN_ORDER`.
+fn pushed(alloc: Global) -> Result<Game, GameFault> {
     let mut specs = Specs::with_capacity(alloc, 2, 3)?;
     specs.push(0, 2, Player::Even, [0, 1].as_slice())?;
     specs.push(1, 1, Player::Odd, [1].as_slice())?;
     let game = Game::from_rows(alloc, specs)?;
-    assert_eq!(rt; game.len(), 2);
-    look(&rt, &game, 0, (0, 2, EVEN, &[0, 1]), &[0]);
-    look(&rt, &game, 1, (1, 1, ODD, &[1]), &[0, 1]);
-    Ok(())
+    Ok(game)
 }
 
 #[test]
-fn successors_are_pushed_one_by_one(rt: HostRuntime) -> Result<(), Fail> {
-    let alloc = rt.alloc();
+fn specifications_are_pushed_with_their_successors(rt: HostRuntime) -> Result<(), Fail> {
+    let game = pushed(rt.alloc())?;
+    look(&rt, &game, TOLD_IN_ORDER)
+}
+
+/// The same game.
+fn pushed_one_by_one(alloc: Global) -> Result<Game, GameFault> {
     let mut specs = OpenSpecs::new(alloc)?;
     specs.push(0)?;
     specs.push(1)?;
@@ -55,8 +58,11 @@ fn successors_are_pushed_one_by_one(rt: HostRuntime) -> Result<(), Fail> {
     specs.push(1)?;
     specs.close(1, 1, Player::Odd)?;
     let game = Game::from_rows(alloc, specs.finish())?;
-    assert_eq!(rt; game.len(), 2);
-    look(&rt, &game, 0, (0, 2, EVEN, &[0, 1]), &[0]);
-    look(&rt, &game, 1, (1, 1, ODD, &[1]), &[0, 1]);
-    Ok(())
+    Ok(game)
+}
+
+#[test]
+fn successors_are_pushed_one_by_one(rt: HostRuntime) -> Result<(), Fail> {
+    let game = pushed_one_by_one(rt.alloc())?;
+    look(&rt, &game, TOLD_IN_ORDER)
 }

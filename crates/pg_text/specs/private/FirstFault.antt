@@ -21,7 +21,9 @@ FirstLarge ts None = AllFit (tokens_of ts)
 FirstLarge ts (Some p) = HasLarge ts p
 
 abbrev pub HasPlayer : (List Token → Type 0) → List Placed → ℕ → Type 0
-HasPlayer IsBefore ts p = (before after : List Placed) × (t : Placed) × (n : ℕ) × (ts ≡ before ++ t ∷ after) × (p ≡ t.place) × IsBefore (tokens_of before) × (t.token ≡ Number n) × (1 < n)
+HasPlayer IsBefore ts p =
+    (before after : List Placed) × (t : Placed) × (n : ℕ) × (ts ≡ before ++ t ∷ after) × (p ≡ t.place) × IsBefore (tokens_of before) × (t.token ≡ Number n)
+    × (1 < n)
 
 -- the first player above 1, where one is known
 abbrev pub FirstPlayer : (List Token → Type 0) → List Placed → Option ℕ → Type 0

@@ -49,7 +49,11 @@ HoldsRead (reading.Started h k) specs id priority owner successors = specs ≡ [
 HoldsRead (reading.Ready f) specs id priority owner successors = AreLines specs f.lines
 HoldsRead (reading.Id f i) specs id priority owner successors = AreLines specs f.lines × (id ≡ i)
 HoldsRead (reading.Priority f i p) specs id priority owner successors = AreLines specs f.lines × (id ≡ i) × (priority ≡ p)
-HoldsRead (reading.Owner f i p o) specs id priority owner successors = AreLines specs f.lines × (id ≡ i) × (priority ≡ p) × (owner ≡ player_of o) × (o < 2) × (successors ≡ [])
-HoldsRead (reading.Listing f i p o w vs) specs id priority owner successors = AreLines specs f.lines × (id ≡ i) × (priority ≡ p) × (owner ≡ player_of o) × (o < 2) × (successors ≡ w ∷ vs)
-HoldsRead (reading.Successor f i p o w vs) specs id priority owner successors = AreLines specs f.lines × (id ≡ i) × (priority ≡ p) × (owner ≡ player_of o) × (o < 2) × (successors ≡ w ∷ vs)
-HoldsRead (reading.Named f i p o w vs b) specs id priority owner successors = AreLines specs f.lines × (id ≡ i) × (priority ≡ p) × (owner ≡ player_of o) × (o < 2) × (successors ≡ w ∷ vs)
+HoldsRead (reading.Owner f i p o) specs id priority owner successors =
+    AreLines specs f.lines × (id ≡ i) × (priority ≡ p) × (owner ≡ player_of o) × (o < 2) × (successors ≡ [])
+HoldsRead (reading.Listing f i p o w vs) specs id priority owner successors =
+    AreLines specs f.lines × (id ≡ i) × (priority ≡ p) × (owner ≡ player_of o) × (o < 2) × (successors ≡ w ∷ vs)
+HoldsRead (reading.Successor f i p o w vs) specs id priority owner successors =
+    AreLines specs f.lines × (id ≡ i) × (priority ≡ p) × (owner ≡ player_of o) × (o < 2) × (successors ≡ w ∷ vs)
+HoldsRead (reading.Named f i p o w vs b) specs id priority owner successors =
+    AreLines specs f.lines × (id ≡ i) × (priority ≡ p) × (owner ≡ player_of o) × (o < 2) × (successors ≡ w ∷ vs)

@@ -8,7 +8,8 @@ use Rattle.pg_text.specs.declared.solution_reader.SolutionLine.{SolutionLine}
 use Rattle.pg_text.specs.declared.solution_reader.Reader.{Reader}
 use Rattle.pg_text.specs.Token.{Token, Placed, tokens_of}
 use Rattle.pg_text.specs.SolutionText.{WrittenSolutionLine, IsBeforeWinner}
-use Rattle.pg_text.specs.private.FirstFault.{placed, FirstLarge, FirstPlayer}
+use Rattle.pg_text.specs.private.FirstFault.{FirstLarge, FirstPlayer}
+use Rattle.pg_text.specs.private.Advance.{TakesToken}
 use Rattle.pg_text.specs.private.SolutionRun as reading
 use Rattle.pg_text.specs.private.SolutionRun.{Reading, run}
 
@@ -59,10 +60,5 @@ KeepsReader ts r = Keeps ts r.state (map line_of r.lines.items) r.id (digit_of r
 abbrev pub Stops : List Placed → Token → Type 0
 Stops ts t = run (Some reading.Start) (tokens_of ts ++ t ∷ []) ≡ None
 
-abbrev pub TakenOr : Bool → Type 0 → Type 0 → Type 0
-TakenOr true A B = A
-TakenOr false A B = B
-
--- the reader took the token, or it can't stand there
 abbrev pub Takes : Reader → Reader → Bool → Token → ℕ → Type 0
-Takes old new taken t place = (ts : List Placed) → KeepsReader ts old → TakenOr taken (KeepsReader (ts ++ placed t place ∷ []) new) (Stops ts t)
+Takes old new taken t place = TakesToken KeepsReader Stops old new taken t place

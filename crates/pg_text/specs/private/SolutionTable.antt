@@ -19,7 +19,8 @@ pub record HoldsLines (g : Graph) (lines : List WrittenSolutionLine) (rows : Sol
   pub no_stranger : first_stranger g lines ≡ None
   pub first : twice ≡ first_twice lines
   pub marked : (v : ℕ) → v < length g → members said v ≡ has_line lines (id_of g v)
-  pub says : twice ≡ None → (v : ℕ) → v < length g → (l : WrittenSolutionLine) → Contains lines l → l.id ≡ id_of g v → slice_index_or rows v (Even, None) ≡ row_of_line g l
+  pub says : twice ≡ None → (v : ℕ) → v < length g → (l : WrittenSolutionLine) → Contains lines l → l.id ≡ id_of g v
+      → slice_index_or rows v (Even, None) ≡ row_of_line g l
 
 abbrev pub HoldsTable : Graph → List WrittenSolutionLine → Table → Type 0
 HoldsTable g lines t = HoldsLines g lines t.rows.items t.said t.twice

@@ -3,6 +3,8 @@
 use super::{BOTH_WIN, game, game_fault, solution_fault};
 use crate::fault::{SolutionTextFault, TextFault};
 use pg_game::GameFault;
+use std::alloc::Global;
+use std::process::Abort;
 use std::test::Fail;
 
 /// The answer for a game text of this byte alone.
@@ -34,29 +36,22 @@ fn in_a_name(byte: u8) -> Option<TextFault> {
     }
 }
 
+/// A game's text with this byte has this answer.
+fn compare_at(rt: &impl Abort, alloc: Global, byte: u8, text: &[u8], want: Option<TextFault>) {
+    check_eq!(rt; game_fault(alloc, text), want, "at {byte}");
+}
+
 #[test]
 fn each_byte_has_its_answer(rt: HostRuntime) {
     let alloc = rt.alloc();
     for byte in 0..=255u8 {
-        check_eq!(rt;
-            game_fault(alloc, [byte].as_slice()),
-            Some(alone(byte)),
-            "at {byte}"
-        );
+        compare_at(&rt, alloc, byte, [byte].as_slice(), Some(alone(byte)));
         let number = [b'0', b' ', b'0', b' ', b'0', b' ', b'0', byte, b'0', b';'];
-        check_eq!(rt;
-            game_fault(alloc, number.as_slice()),
-            in_a_number(byte),
-            "at {byte}"
-        );
+        compare_at(&rt, alloc, byte, number.as_slice(), in_a_number(byte));
         let name = [
             b'0', b' ', b'0', b' ', b'0', b' ', b'0', b'"', byte, b'"', b';',
         ];
-        check_eq!(rt;
-            game_fault(alloc, name.as_slice()),
-            in_a_name(byte),
-            "at {byte}"
-        );
+        compare_at(&rt, alloc, byte, name.as_slice(), in_a_name(byte));
     }
 }
 
@@ -74,25 +69,29 @@ fn a_cut_game_text_is_refused_at_its_end(rt: HostRuntime) {
     }
 }
 
+/// The answer for so many bytes of a solution text.
+fn at_length(len: u32) -> Option<SolutionTextFault> {
+    match len {
+        0 => Some(SolutionTextFault::Missing(0)),
+        1..=8 => Some(SolutionTextFault::Syntax(0)),
+        9..=11 => Some(SolutionTextFault::Syntax(len)),
+        12..=13 => Some(SolutionTextFault::Missing(0)),
+        14..=18 => Some(SolutionTextFault::Syntax(len)),
+        19..=20 => Some(SolutionTextFault::Missing(1)),
+        21..=25 => Some(SolutionTextFault::Syntax(len)),
+        _ => None,
+    }
+}
+
 #[test]
 fn a_cut_solution_text_is_refused_at_its_end_or_lacks_lines(rt: HostRuntime) -> Result<(), Fail> {
     let alloc = rt.alloc();
     let game = game(alloc, BOTH_WIN.as_bytes())?;
     let text = b"paritysol 1;\n0 0 0;\n1 1 1;\n".as_slice();
     for len in 0..=27u32 {
-        let want = match len {
-            0 => Some(SolutionTextFault::Missing(0)),
-            1..=8 => Some(SolutionTextFault::Syntax(0)),
-            9..=11 => Some(SolutionTextFault::Syntax(len)),
-            12..=13 => Some(SolutionTextFault::Missing(0)),
-            14..=18 => Some(SolutionTextFault::Syntax(len)),
-            19..=20 => Some(SolutionTextFault::Missing(1)),
-            21..=25 => Some(SolutionTextFault::Syntax(len)),
-            _ => None,
-        };
         check_eq!(rt;
             solution_fault(alloc, &game, &text[..len as usize]),
-            want,
+            at_length(len),
             "at {len}"
         );
     }

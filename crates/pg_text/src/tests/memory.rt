@@ -31,6 +31,40 @@ const WRITTEN_WINNERS: &[u8] = b"paritysol 9;\n0 0;\n1 0;\n2 0;\n3 0;\n9 0;\n";
 
 const KNOWN: &[u8] = b"2 0 1; 9 1; 0 1 9;";
 
+const EVEN: Player = Player::Even;
+
+const ODD: Player = Player::Odd;
+
+/// Winners and choices of `SOLUTION`.
+const ROWS: &[(Player, Option<u32>)] = &[
+    (EVEN, None),
+    (EVEN, None),
+    (EVEN, Some(1)),
+    (EVEN, Some(4)),
+    (EVEN, None),
+];
+
+/// Those of `KNOWN`.
+const KNOWN_ROWS: &[Option<(Player, Option<u32>)>] = &[
+    Some((ODD, Some(4))),
+    None,
+    Some((EVEN, Some(1))),
+    None,
+    Some((ODD, None)),
+];
+
+/// Identifier, priority, owner and successors of a vertex.
+type Vertex<'a> = (u32, u32, Player, &'a [u32]);
+
+/// The vertices of `GAME`.
+const VERTICES: &[Vertex] = &[
+    (0, 6, ODD, &[2, 4]),
+    (1, 8, ODD, &[2, 3, 4]),
+    (2, 7, EVEN, &[0, 1, 3, 4]),
+    (3, 6, EVEN, &[2, 4]),
+    (9, 5, ODD, &[0]),
+];
+
 /// How a test ends where memory is refused to what it needs itself.
 fn lacking() -> Fail {
     Fail::from("no memory for the test itself")
@@ -60,32 +94,24 @@ fn read_twice(alloc: Global) -> Result<Game, TextFault> {
     }
 }
 
-/// Priority, owner and successors of a vertex of the game.
-fn compare_vertex(
-    rt: &impl Abort,
-    game: &Game,
-    id: u32,
-    priority: u32,
-    owner: Player,
-    successors: &[u32],
-) -> Result<(), Fail> {
-    let Some(v) = game.vertex_of(id) else {
+/// A vertex of the game is this one.
+fn compare_vertex(rt: &impl Abort, game: &Game, vertex: Vertex) -> Result<(), Fail> {
+    let Some(v) = game.vertex_of(vertex.0) else {
         return Err(Fail::from("no such vertex"));
     };
-    check_eq!(rt; game.priority(v), priority);
-    check_eq!(rt; game.owner(v), owner);
-    check_eq!(rt; game.successors(v), successors);
+    check_eq!(rt; game.priority(v), vertex.1);
+    check_eq!(rt; game.owner(v), vertex.2);
+    check_eq!(rt; game.successors(v), vertex.3);
     Ok(())
 }
 
 /// The game is that of the text.
 fn compare_game(rt: &impl Abort, game: &Game) -> Result<(), Fail> {
     check_eq!(rt; game.len(), 5);
-    compare_vertex(rt, game, 0, 6, Player::Odd, [2, 4].as_slice())?;
-    compare_vertex(rt, game, 1, 8, Player::Odd, [2, 3, 4].as_slice())?;
-    compare_vertex(rt, game, 2, 7, Player::Even, [0, 1, 3, 4].as_slice())?;
-    compare_vertex(rt, game, 3, 6, Player::Even, [2, 4].as_slice())?;
-    compare_vertex(rt, game, 9, 5, Player::Odd, [0].as_slice())
+    for vertex in VERTICES {
+        compare_vertex(rt, game, *vertex)?;
+    }
+    Ok(())
 }
 
 #[test]
@@ -107,15 +133,7 @@ fn a_solution_is_read_after_a_refusal(rt: HostRuntime) -> Result<(), Fail> {
     let alloc = rt.alloc();
     let game = needed_game(alloc)?;
     let solution = read_solution_twice(alloc, &game)?;
-    let even = Player::Even;
-    let want = [
-        (even, None),
-        (even, None),
-        (even, Some(1)),
-        (even, Some(4)),
-        (even, None),
-    ];
-    check_eq!(rt; solution.rows.as_slice(), want.as_slice());
+    check_eq!(rt; solution.rows.as_slice(), ROWS);
     compare_game(&rt, &game)
 }
 
@@ -132,14 +150,7 @@ fn what_is_known_is_read_after_a_refusal(rt: HostRuntime) -> Result<(), Fail> {
     let alloc = rt.alloc();
     let game = needed_game(alloc)?;
     let known = read_known_twice(alloc, &game)?;
-    let want = [
-        Some((Player::Odd, Some(4))),
-        None,
-        Some((Player::Even, Some(1))),
-        None,
-        Some((Player::Odd, None)),
-    ];
-    check!(rt; known.rows.as_slice() == want.as_slice());
+    check!(rt; known.rows.as_slice() == KNOWN_ROWS);
     compare_game(&rt, &game)
 }
 

@@ -25,5 +25,6 @@ IsAnswerTo g claim amount answer = IsSettledAnswer g claim amount answer
 pub record AreNoted (g : Graph) (claims : List Claim) (old new : ReportRow) : Type 0 where
   pub answers : List (Result ℕ Refusal)
   pub number : length answers ≡ length claims
-  pub each : (k : ℕ) (claim : Claim) (answer : Result ℕ Refusal) → slice_get claims k ≡ Some claim → slice_get answers k ≡ Some answer → (amount : ℕ) × IsAnswerTo g claim amount answer
+  pub each : (k : ℕ) (claim : Claim) (answer : Result ℕ Refusal) → slice_get claims k ≡ Some claim → slice_get answers k ≡ Some answer
+      → (amount : ℕ) × IsAnswerTo g claim amount answer
   pub row : new ≡ fold noted old answers

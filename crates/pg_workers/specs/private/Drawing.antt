@@ -6,7 +6,8 @@ use Rattle.atomic_table.specs.Table.{State, Me, Step}
 use Rattle.pg_workers.specs.declared.drawing.Drawer.{Drawer}
 use Rattle.pg_workers.specs.Counting.{AreFair}
 
--- what one seat knows: how many numbers there are, how many tickets it stands for, how many of these were told that none is left, and the numbers that they drew
+-- what one seat knows: how many numbers there are, how many tickets it stands for, how many of these were told that none is left,
+-- and the numbers that they drew
 abbrev pub drawer : ℕ → ℕ → ℕ → List ℕ → Drawer
 drawer total tickets told_none drawn = record { total = total; tickets = tickets; told_none = told_none; drawn = drawn }
 

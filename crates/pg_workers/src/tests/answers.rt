@@ -21,7 +21,7 @@ fn is_false(game: &[Plain], lost: u32, claim: &Claim) -> bool {
 }
 
 /// Numbers of claims: posted, of vertices that they settled, stale and refused.
-#[derive(Clone, Copy, Debug, Drop, PartialEq, Eq)]
+#[derive(Clone, Copy, Drop)]
 struct Counts {
     posted: u64,
     settled: u64,
@@ -65,13 +65,11 @@ fn answer_all(game: &[Plain], state: State, claims: &[Claim]) -> (State, Counts)
     (after, counts)
 }
 
-fn counts_of(row: &ReportRow) -> Counts {
-    Counts {
-        posted: row.posted,
-        settled: row.settled,
-        stale: row.stale,
-        refused: row.refused,
-    }
+/// Compares what was posted, settled, stale and refused in a job.
+fn compare_counts(rt: &impl Abort, row: &ReportRow, counts: Counts) {
+    let found = [row.posted, row.settled, row.stale, row.refused];
+    let want = [counts.posted, counts.settled, counts.stale, counts.refused];
+    check_eq!(rt; found, want, "job {}", row.job);
 }
 
 /// Checks the report of a run with one worker, who posts the same claims in each job.
@@ -79,7 +77,7 @@ pub fn check_alone(rt: &impl Abort, game: &[Plain], claims: &[Claim], report: &[
     let mut state = State::NOTHING;
     for row in report {
         let (after, counts) = answer_all(game, state, claims);
-        check_eq!(rt; counts_of(row), counts, "job {}", row.job);
+        compare_counts(rt, row, counts);
         state = after;
     }
 }
@@ -141,14 +139,16 @@ impl Bounds {
             0
         );
         for row in outcome.report.iter() {
-            let answered = row.posted.wrapping_add(row.stale).wrapping_add(row.refused);
-            check_eq!(rt; answered, self.all, "job {}", row.job);
-            let most = self.refused.wrapping_add(self.open);
-            check!(rt;
-                self.refused <= row.refused && row.refused <= most,
-                "job {}",
-                row.job
-            );
+            self.check_row(rt, row);
         }
+    }
+
+    fn check_row(&self, rt: &impl Abort, row: &ReportRow) {
+        let job = row.job;
+        let answered = row.posted.wrapping_add(row.stale).wrapping_add(row.refused);
+        check_eq!(rt; answered, self.all, "job {job}");
+        let most = self.refused.wrapping_add(self.open);
+        let is_within = self.refused <= row.refused && row.refused <= most;
+        check!(rt; is_within, "job {job}");
     }
 }

@@ -13,7 +13,22 @@ pub fn same<T: PartialEq + Debug + Drop, D: Display + Drop>(
     std::assert_eq!(rt; found, want, "{what}");
 }
 
+/// As `same`, with no type for what is said.
+pub fn same_as<T: PartialEq + Debug + Drop>(rt: &impl Abort, found: T, want: T, what: &str) {
+    same(rt, found, want, what);
+}
+
+/// Ends the test where the counts differ.
+pub fn same_count(rt: &impl Abort, found: usize, want: usize, what: &str) {
+    same(rt, found, want, what);
+}
+
 /// Ends the test where it isn't so.
 pub fn holds<D: Display + Drop>(rt: &impl Abort, is_so: bool, what: D) {
     std::assert!(rt; is_so, "{what}");
+}
+
+/// As `holds`, with no type for what is said.
+pub fn holds_as(rt: &impl Abort, is_so: bool, what: &str) {
+    holds(rt, is_so, what);
 }

@@ -39,11 +39,24 @@ fn one_ticket(alloc: Global, total: u64) -> Result<(Jobs, Ticket), Fail>
 }
 
 /// The next number, of which a test is told nothing.
-pub fn next(jobs: &Jobs, ticket: &mut Ticket) -> Option<u64>
+fn next(jobs: &Jobs, ticket: &mut Ticket) -> Option<u64>
     requires { ticket.old.series ≡ jobs.now.series }
     ensures { ticket.new.series ≡ ticket.old.series }
 {
     jobs.draw(ticket)
+}
+
+/// Draws, and compares the number.
+pub fn draws(rt: &impl Abort, jobs: &Jobs, ticket: &mut Ticket, want: Option<u64>)
+    requires { ticket.old.series ≡ jobs.now.series }
+    ensures { ticket.new.series ≡ ticket.old.series }
+{
+    check_eq!(rt; next(jobs, ticket), want);
+}
+
+/// Compares what a ticket has drawn.
+pub fn has_drawn(rt: &impl Abort, ticket: &Ticket, want: &[u64]) {
+    check_eq!(rt; ticket.drawn(), want);
 }
 
 /// Draws until there are no more, and lets other threads run after each draw, by the number drawn.
@@ -182,15 +195,29 @@ fn each_number_is_drawn_once_in_many_orders(rt: HostRuntime) -> Result<(), Fail>
     Ok(())
 }
 
+fn draws_once(rt: &impl Abort, jobs: &Jobs, mut ticket: Ticket)
+    requires { ticket.series ≡ jobs.now.series }
+{
+    has_drawn(rt, &ticket, &[]);
+    draws(rt, jobs, &mut ticket, Some(0));
+    has_drawn(rt, &ticket, &[0]);
+    draws(rt, jobs, &mut ticket, None);
+    has_drawn(rt, &ticket, &[0]);
+}
+
 #[test]
 fn a_ticket_keeps_what_it_draws(rt: HostRuntime) -> Result<(), Fail> {
-    let (jobs, mut ticket) = one_ticket(rt.alloc(), 1)?;
-    check!(rt; ticket.drawn().is_empty());
-    check_eq!(rt; next(&jobs, &mut ticket), Some(0));
-    check!(rt; ticket.drawn() == [0].as_slice());
-    check!(rt; next(&jobs, &mut ticket).is_none());
-    check!(rt; ticket.drawn() == [0].as_slice());
+    let (jobs, ticket) = one_ticket(rt.alloc(), 1)?;
+    draws_once(&rt, &jobs, ticket);
     Ok(())
+}
+
+fn draws_no_more(rt: &impl Abort, jobs: &Jobs, mut ticket: Ticket)
+    requires series { ticket.series ≡ jobs.now.series }
+    requires told { ticket.told_none ≡ true }
+{
+    check_eq!(rt; drawn_again(jobs, &mut ticket, 1_000), 0);
+    has_drawn(rt, &ticket, &[0, 1, 2]);
 }
 
 #[test]
@@ -198,10 +225,28 @@ fn a_ticket_that_was_told_none_is_told_none_a_thousand_times_more(
     rt: HostRuntime,
 ) -> Result<(), Fail> {
     let (jobs, ticket) = one_ticket(rt.alloc(), 3)?;
-    let mut ticket = draw_all(&jobs, ticket, 0);
-    check_eq!(rt; drawn_again(&jobs, &mut ticket, 1_000), 0);
-    check!(rt; ticket.drawn() == [0, 1, 2].as_slice());
+    draws_no_more(&rt, &jobs, draw_all(&jobs, ticket, 0));
     Ok(())
+}
+
+/// How many numbers were drawn. Each ticket was told that none is left.
+fn drawn_in_all(rt: &impl Abort, all: &[Drawn]) -> usize {
+    let mut count = 0usize;
+    for drawn in all {
+        check!(rt; drawn.told_none);
+        count = count.wrapping_add(drawn.numbers.len());
+    }
+    count
+}
+
+/// Draws until there are no more, and asks a thousand times more.
+fn draw_beyond(jobs: &Jobs, ticket: Ticket) -> Ticket
+    requires { ticket.series ≡ jobs.now.series }
+    ensures { (result.series ≡ ticket.series) × (result.told_none ≡ true) }
+{
+    let mut ticket = draw_all(jobs, ticket, 0);
+    let _none = drawn_again(jobs, &mut ticket, 1_000);
+    ticket
 }
 
 /// Each ticket on a thread of its own is told that none is left, and asks a thousand times more.
@@ -215,17 +260,8 @@ fn a_ticket_that_was_told_none_on_a_thread_of_its_own_is_told_none_again(
     let draw = |ticket: Ticket| -> Ticket
         requires { ticket.series ≡ shared.now.series }
         ensures { (result.series ≡ ticket.series) × (result.told_none ≡ true) }
-    {
-        let mut ticket = draw_all(shared, ticket, 0);
-        let _none = drawn_again(shared, &mut ticket, 1_000);
-        ticket
-    };
+    { draw_beyond(shared, ticket) };
     let tickets = thread::map_vec(&rt, tickets, &draw)?;
-    let mut count = 0usize;
-    for drawn in jobs.close(tickets).iter() {
-        check!(rt; drawn.told_none);
-        count = count.wrapping_add(drawn.numbers.len());
-    }
-    check_eq!(rt; count, 3);
+    check_count!(rt; drawn_in_all(&rt, jobs.close(tickets).as_slice()), 3);
     Ok(())
 }

@@ -4,6 +4,7 @@ use pg_dominion::Claim;
 use pg_finders::{Copied, Finder, Found, Job, Solved, Standard, zielonka};
 use pg_game::{Game, Memory, Player, Sequence};
 use std::alloc::Global;
+use std::process::Abort;
 use std::sync::OnceLock;
 
 pub const EVEN: Player = Player::Even;
@@ -18,6 +19,17 @@ pub fn claim_of(alloc: Global, player: Player, rows: &[Row]) -> Result<Claim, Me
         player,
         rows: Sequence::new(Vec::from_slice(alloc, rows)?),
     })
+}
+
+/// Adds a claim of these rows.
+fn add(alloc: Global, claims: &mut Vec<Claim>, player: Player, rows: &[Row]) -> Result<(), Memory> {
+    claims.push(claim_of(alloc, player, rows)?)?;
+    Ok(())
+}
+
+/// The game of a copy, of which nothing is said.
+fn game_in<'a>(copied: &'a Copied) -> &'a Game {
+    copied.inside.game()
 }
 
 fn found(claims: Vec<Claim>) -> Found {
@@ -36,17 +48,32 @@ fn least_row(game: &Game, v: u32, player: Player) -> Row {
     }
 }
 
+/// Adds a claim of a vertex alone.
+fn add_single(
+    alloc: Global,
+    claims: &mut Vec<Claim>,
+    game: &Game,
+    v: u32,
+    player: Player,
+) -> Result<(), Memory> {
+    add(alloc, claims, player, &[least_row(game, v, player)])
+}
+
+fn add_singles(alloc: Global, claims: &mut Vec<Claim>, game: &Game) -> Result<(), Memory> {
+    for v in 0..game.len() {
+        add_single(alloc, claims, game, v, EVEN)?;
+        add_single(alloc, claims, game, v, ODD)?;
+    }
+    Ok(())
+}
+
 /// Claims every vertex alone, for Even and then for Odd, with its least successor as the choice.
 pub struct Singles;
 
 impl Finder for Singles {
     fn find(&self, alloc: Global, copied: &Copied, _job: &Job) -> Result<Found, Memory> {
-        let game = copied.inside.game();
         let mut claims = Vec::new(alloc);
-        for v in 0..game.len() {
-            claims.push(claim_of(alloc, EVEN, &[least_row(game, v, EVEN)])?)?;
-            claims.push(claim_of(alloc, ODD, &[least_row(game, v, ODD)])?)?;
-        }
+        add_singles(alloc, &mut claims, game_in(copied))?;
         Ok(found(claims))
     }
 }
@@ -63,17 +90,42 @@ fn rising(alloc: Global, game: &Game, player: Player, count: u32) -> Result<Clai
     })
 }
 
+/// Adds a claim of so many rows for each player.
+fn add_rising(
+    alloc: Global,
+    claims: &mut Vec<Claim>,
+    game: &Game,
+    count: u32,
+) -> Result<(), Memory> {
+    claims.push(rising(alloc, game, EVEN, count)?)?;
+    claims.push(rising(alloc, game, ODD, count)?)?;
+    Ok(())
+}
+
 /// Claims all vertices for each player, with least successors as choices.
 pub struct Wholes;
 
 impl Finder for Wholes {
     fn find(&self, alloc: Global, copied: &Copied, _job: &Job) -> Result<Found, Memory> {
-        let game = copied.inside.game();
+        let game = game_in(copied);
         let mut claims = Vec::new(alloc);
-        claims.push(rising(alloc, game, EVEN, game.len())?)?;
-        claims.push(rising(alloc, game, ODD, game.len())?)?;
+        add_rising(alloc, &mut claims, game, game.len())?;
         Ok(found(claims))
     }
+}
+
+fn add_misshapen(
+    alloc: Global,
+    claims: &mut Vec<Claim>,
+    game: &Game,
+    player: Player,
+) -> Result<(), Memory> {
+    let n = game.len();
+    add(alloc, claims, player, &[])?;
+    let falling = [least_row(game, 1, player), least_row(game, 0, player)];
+    add(alloc, claims, player, &falling)?;
+    let outside = [(n, None), (n.saturating_add(1), Some(n))];
+    add(alloc, claims, player, &outside)
 }
 
 /// Claims nothing, claims falling rows, and claims what is no vertex, for each player.
@@ -81,18 +133,22 @@ pub struct Misshapen;
 
 impl Finder for Misshapen {
     fn find(&self, alloc: Global, copied: &Copied, _job: &Job) -> Result<Found, Memory> {
-        let game = copied.inside.game();
-        let n = game.len();
+        let game = game_in(copied);
         let mut claims = Vec::new(alloc);
-        for player in [EVEN, ODD] {
-            claims.push(claim_of(alloc, player, &[])?)?;
-            let falling = [least_row(game, 1, player), least_row(game, 0, player)];
-            claims.push(claim_of(alloc, player, &falling)?)?;
-            let outside = [(n, None), (n.saturating_add(1), Some(n))];
-            claims.push(claim_of(alloc, player, &outside)?)?;
-        }
+        add_misshapen(alloc, &mut claims, game, EVEN)?;
+        add_misshapen(alloc, &mut claims, game, ODD)?;
         Ok(found(claims))
     }
+}
+
+/// The solution of a copy, of which nothing is said.
+pub fn both_regions(alloc: Global, copied: &Copied) -> Result<[Claim; 2], Memory> {
+    let Solved { even, odd } = zielonka(alloc, &copied.inside)?;
+    Ok([even, odd])
+}
+
+fn add_copy(alloc: Global, claims: &mut Vec<Claim>, claim: &Claim) -> Result<(), Memory> {
+    add(alloc, claims, claim.player, claim.rows.as_slice())
 }
 
 /// Gives the solution of the first copy that it sees for ever.
@@ -112,13 +168,12 @@ impl FirstSolution {
 impl Finder for FirstSolution {
     fn find(&self, alloc: Global, copied: &Copied, _job: &Job) -> Result<Found, Memory> {
         if self.solution.get().is_none() {
-            let Solved { even, odd } = zielonka(alloc, &copied.inside)?;
-            let _ = self.solution.try_set([even, odd]);
+            let _ = self.solution.try_set(both_regions(alloc, copied)?);
         }
         let mut claims = Vec::new(alloc);
         if let Some([even, odd]) = self.solution.get() {
-            claims.push(claim_of(alloc, even.player, even.rows.as_slice())?)?;
-            claims.push(claim_of(alloc, odd.player, odd.rows.as_slice())?)?;
+            add_copy(alloc, &mut claims, even)?;
+            add_copy(alloc, &mut claims, odd)?;
         }
         Ok(found(claims))
     }
@@ -142,13 +197,11 @@ impl Overlapping {
 impl Finder for Overlapping {
     fn find(&self, alloc: Global, copied: &Copied, job: &Job) -> Result<Found, Memory> {
         let Found {
-            mut claims,
-            gave_up: _,
-        } = Singles.find(alloc, copied, job)?;
-        let Found {
             claims: more,
             gave_up: _,
         } = self.first.find(alloc, copied, job)?;
+        let mut claims = Vec::new(alloc);
+        add_singles(alloc, &mut claims, game_in(copied))?;
         for claim in more {
             claims.push(claim)?;
         }
@@ -165,6 +218,13 @@ impl Finder for NoMemory {
     }
 }
 
+fn add_all(alloc: Global, claims: &mut Vec<Claim>, all: &[(Player, &[Row])]) -> Result<(), Memory> {
+    for (player, rows) in all {
+        add(alloc, claims, *player, *rows)?;
+    }
+    Ok(())
+}
+
 /// Gives the same claims for each job, so many times.
 #[derive(Drop)]
 pub struct Fixed<'a> {
@@ -176,12 +236,21 @@ impl<'a> Finder for Fixed<'a> {
     fn find(&self, alloc: Global, _copied: &Copied, _job: &Job) -> Result<Found, Memory> {
         let mut claims = Vec::new(alloc);
         for _time in 0..self.times {
-            for (player, rows) in self.claims {
-                claims.push(claim_of(alloc, *player, *rows)?)?;
-            }
+            add_all(alloc, &mut claims, self.claims)?;
         }
         Ok(found(claims))
     }
+}
+
+/// Adds a claim of so many rows of the first vertex.
+fn add_equal(
+    alloc: Global,
+    claims: &mut Vec<Claim>,
+    game: &Game,
+    count: u32,
+) -> Result<(), Memory> {
+    let equal = vec![in alloc; least_row(game, 0, EVEN); count as usize]?;
+    add(alloc, claims, EVEN, equal.as_slice())
 }
 
 /// Claims in the first job so many rows for each player, rising past the game's end, and as many rows of the first vertex,
@@ -193,16 +262,14 @@ pub struct Long {
 
 impl Finder for Long {
     fn find(&self, alloc: Global, copied: &Copied, job: &Job) -> Result<Found, Memory> {
-        let game = copied.inside.game();
+        let game = game_in(copied);
         let mut claims = Vec::new(alloc);
         if *job == Job::Loops {
-            claims.push(rising(alloc, game, EVEN, self.count)?)?;
-            claims.push(rising(alloc, game, ODD, self.count)?)?;
-            let equal = vec![in alloc; least_row(game, 0, EVEN); self.count as usize]?;
-            claims.push(claim_of(alloc, EVEN, equal.as_slice())?)?;
+            add_rising(alloc, &mut claims, game, self.count)?;
+            add_equal(alloc, &mut claims, game, self.count)?;
         }
         let last = game.len().saturating_sub(1);
-        claims.push(claim_of(alloc, ODD, &[(last, Some(last))])?)?;
+        add(alloc, &mut claims, ODD, &[(last, Some(last))])?;
         Ok(found(claims))
     }
 }
@@ -234,6 +301,17 @@ pub struct Recorder {
     pub jobs: Vec<OnceLock<Job>>,
 }
 
+impl Recorder {
+    /// Room for so many jobs.
+    pub fn with_places(alloc: Global, count: u32) -> Result<Recorder, Memory> {
+        let mut jobs = Vec::new(alloc);
+        for _job in 0..count {
+            jobs.push(OnceLock::new())?;
+        }
+        Ok(Recorder { jobs })
+    }
+}
+
 impl Finder for Recorder {
     fn find(&self, alloc: Global, _copied: &Copied, job: &Job) -> Result<Found, Memory> {
         for place in self.jobs.iter() {
@@ -249,6 +327,13 @@ impl Finder for Recorder {
 #[derive(Drop)]
 pub struct Watcher {
     pub settled: OnceLock<u64>,
+}
+
+impl Watcher {
+    /// What was noted is this.
+    pub fn compare_settled(&self, rt: &impl Abort, want: u64) {
+        check_eq!(rt; self.settled.get().copied(), Some(want));
+    }
 }
 
 impl Finder for Watcher {

@@ -17,8 +17,17 @@ use std::thread::Threads;
 pub const TWO_LOOPS: &[u8] = b"0 2 0 0,1; 1 1 1 1;";
 
 /// Even wins everything, and only by the right choices.
-pub const CONTINENTS: &[u8] =
-    b"parity 4; 0 6 1 4,2; 4 5 1 0; 1 8 1 2,4,3; 3 6 0 4,2; 2 7 0 3,1,0,4;";
+const CONTINENTS: &[u8] = b"parity 4; 0 6 1 4,2; 4 5 1 0; 1 8 1 2,4,3; 3 6 0 4,2; 2 7 0 3,1,0,4;";
+
+/// `TWO_LOOPS`, whose letters are no part of a test.
+pub fn two_loops() -> &'static [u8] {
+    TWO_LOOPS
+}
+
+/// `CONTINENTS`, whose letters are no part of a test.
+pub fn continents() -> &'static [u8] {
+    CONTINENTS
+}
 
 /// Adds a vertex of Even with priority 0 whose one successor is itself.
 fn add_own_loop(alloc: Global, specs: &mut Vec<Spec>, v: u32) -> Result<(), Fail>

@@ -5,7 +5,7 @@ ghost use Rattle.std.specs.Prelude.{◌≤◌};
 use crate::tests::finders::{
     EVEN, FirstSolution, Fixed, Long, Misshapen, NoMemory, ODD, Singles, Wholes,
 };
-use crate::tests::games::{CONTINENTS, outcome_of};
+use crate::tests::games::{continents, outcome_of};
 use pg_finders::{Finder, Standard};
 use pg_game::Player;
 use std::alloc::Global;
@@ -13,6 +13,14 @@ use std::process::Abort;
 use std::sync::Wait;
 use std::test::Fail;
 use std::thread::Threads;
+
+/// Even wins all five vertices.
+fn check_winner(rt: &impl Abort, rows: &[(Player, Option<u32>)], workers: u32) {
+    check_eq!(rt; rows.len(), 5, "{workers} workers");
+    for row in rows {
+        check_eq!(rt; row.0, Player::Even, "{workers} workers");
+    }
+}
 
 fn even_wins_with<R: Threads + Wait + Abort + Sync>(
     rt: &R,
@@ -22,13 +30,8 @@ fn even_wins_with<R: Threads + Wait + Abort + Sync>(
 ) -> Result<(), Fail>
     requires { (1 ≤ workers) × (workers ≤ 64) }
 {
-    let outcome = outcome_of(rt, alloc, CONTINENTS, workers, finder)?;
-    let rows = outcome.solution.rows.as_slice();
-    check_eq!(rt; rows.len(), 5, "{workers} workers");
-    check!(rt;
-        rows.iter().all(|row| row.0 == Player::Even),
-        "{workers} workers"
-    );
+    let outcome = outcome_of(rt, alloc, continents(), workers, finder)?;
+    check_winner(rt, outcome.solution.rows.as_slice(), workers);
     Ok(())
 }
 

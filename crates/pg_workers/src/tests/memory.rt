@@ -6,10 +6,10 @@
 
 ghost use Rattle.std.specs.Prelude.{◌≡◌, ◌≤◌, All, IfOk};
 
-use crate::tests::draws::next;
+use crate::tests::draws::{draws, has_drawn};
 use crate::tests::finders::{EVEN, ODD};
 use crate::tests::games::{TWO_LOOPS, run_on};
-use crate::tests::replay::{State, replay};
+use crate::tests::replay::{State, compare_replay};
 use crate::{Jobs, Outcome, Pass, SolveFault, Ticket};
 use pg_finders::Standard;
 use pg_game::{Game, Memory};
@@ -40,17 +40,24 @@ fn opened(alloc: Global, total: u64, seats: u32) -> Result<(Jobs, Vec<Ticket>), 
     }
 }
 
+/// The ticket draws all numbers of three jobs.
+fn draws_three(rt: &impl Abort, jobs: &Jobs, mut ticket: Ticket)
+    requires { ticket.series ≡ jobs.now.series }
+{
+    draws(rt, jobs, &mut ticket, Some(0));
+    draws(rt, jobs, &mut ticket, Some(1));
+    draws(rt, jobs, &mut ticket, Some(2));
+    has_drawn(rt, &ticket, &[0, 1, 2]);
+}
+
 #[test]
 fn jobs_that_are_opened_after_a_refusal_are_all_drawn(rt: HostRuntime) -> Result<(), Fail> {
     let (jobs, mut tickets) = opened(rt.alloc(), 3, 5)?;
-    check_eq!(rt; tickets.len(), 5);
-    let Some(mut ticket) = tickets.pop() else {
-        return Err(Fail::from("no ticket"));
-    };
-    check_eq!(rt; next(&jobs, &mut ticket), Some(0));
-    check_eq!(rt; next(&jobs, &mut ticket), Some(1));
-    check_eq!(rt; next(&jobs, &mut ticket), Some(2));
-    check!(rt; ticket.drawn() == [0, 1, 2].as_slice());
+    check_count!(rt; tickets.len(), 5);
+    match tickets.pop() {
+        Some(ticket) => draws_three(&rt, &jobs, ticket),
+        None => return Err(Fail::from("no ticket")),
+    }
     Ok(())
 }
 
@@ -75,6 +82,15 @@ fn solved_again<R: Threads + Wait + Sync>(
     }
 }
 
+fn check_loops(rt: &impl Abort, outcome: &Outcome) {
+    let solution = [(EVEN, Some(0)), (ODD, Some(1))];
+    check!(rt; outcome.solution.rows.as_slice() == solution.as_slice());
+    let plain = [(2, EVEN, 0b11), (1, ODD, 0b10)];
+    let want = Ok(State { even: 1, odd: 2 });
+    compare_replay(rt, plain.as_slice(), outcome.entries.as_slice(), want);
+    check_count!(rt; outcome.report.len(), 5);
+}
+
 /// A run on the game of two winners gives its solution and a right journal, whatever is refused, and a row for each job.
 fn is_solved<R: Threads + Wait + Abort + Sync>(
     rt: &R,
@@ -85,12 +101,7 @@ fn is_solved<R: Threads + Wait + Abort + Sync>(
 {
     let game = two_loops(alloc)?;
     let outcome = solved_again(rt, alloc, &game, workers)?;
-    let solution = [(EVEN, Some(0)), (ODD, Some(1))];
-    check!(rt; outcome.solution.rows.as_slice() == solution.as_slice());
-    let plain = [(2, EVEN, 0b11), (1, ODD, 0b10)];
-    let end = replay(plain.as_slice(), outcome.entries.as_slice());
-    check_eq!(rt; end, Ok(State { even: 1, odd: 2 }));
-    check_eq!(rt; outcome.report.len(), 5);
+    check_loops(rt, &outcome);
     Ok(())
 }
 

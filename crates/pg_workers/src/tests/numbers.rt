@@ -56,17 +56,27 @@ fn small(player: Player, first: u32, count: u32) -> Job {
     }
 }
 
+fn compare_job(rt: &impl Abort, bound: u32, n: u32, number: u64, want: Job)
+    requires { n ≤ max_vertices }
+{
+    let found = job_of(rt, &with_bound(bound), n, number);
+    check_eq!(rt; found, want, "job {number} of {n} vertices");
+}
+
 #[test]
 fn jobs_have_their_numbers(rt: HostRuntime) {
-    let options = with_bound(4);
-    check_eq!(rt; job_of(&rt, &options, 65, 0), Job::Loops);
-    check_eq!(rt; job_of(&rt, &options, 65, 1), Job::Solitaire);
-    check_eq!(rt; job_of(&rt, &options, 65, 3), small(Player::Odd, 0, 64));
-    check_eq!(rt; job_of(&rt, &options, 65, 4), small(Player::Even, 64, 1));
-    check_eq!(rt; job_of(&rt, &options, 65, 6), Job::Recursion);
-    let last = small(Player::Even, 130_944, 1);
-    check_eq!(rt; job_of(&rt, &options, 130_945, 2_048), last);
-    let largest = small(Player::Odd, 1_047_552, 1_024);
-    check_eq!(rt; job_of(&rt, &options, 1_048_576, 2_049), largest);
-    check_eq!(rt; job_of(&rt, &with_bound(0), 65, 2), Job::Recursion);
+    compare_job(&rt, 4, 65, 0, Job::Loops);
+    compare_job(&rt, 4, 65, 1, Job::Solitaire);
+    compare_job(&rt, 4, 65, 3, small(Player::Odd, 0, 64));
+    compare_job(&rt, 4, 65, 4, small(Player::Even, 64, 1));
+    compare_job(&rt, 4, 65, 6, Job::Recursion);
+    compare_job(&rt, 4, 130_945, 2_048, small(Player::Even, 130_944, 1));
+    compare_job(
+        &rt,
+        4,
+        1_048_576,
+        2_049,
+        small(Player::Odd, 1_047_552, 1_024),
+    );
+    compare_job(&rt, 0, 65, 2, Job::Recursion);
 }

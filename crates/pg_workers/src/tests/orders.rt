@@ -7,6 +7,7 @@ use crate::tests::games::run_on;
 use crate::tests::random::Both;
 use crate::tests::replay::{State, check_outcome};
 use crate::{Gate, Outcome};
+use pg_board::Entry;
 use pg_finders::Finder;
 use std::alloc::Global;
 use std::process::Abort;
@@ -154,25 +155,47 @@ impl Gate for Ordered {
     }
 }
 
-/// A run by a plan: nobody gives up, and everything that was posted by a worker was by the first in the order.
+/// Everything that was posted by a worker was by the first in the order, in so many entries.
+fn check_entries(rt: &impl Abort, entries: &[Entry], plan: Plan, count: usize) {
+    check_count!(rt; entries.len(), count);
+    for entry in entries {
+        check_eq!(rt; Some(entry.worker), plan.worker_at(0), "{plan:?}");
+    }
+}
+
+/// A run by a plan, in which nobody gives up.
 fn planned_run<R: Threads + Wait + Abort + Sync, F: Finder>(
     rt: &R,
     alloc: Global,
     both: &Both,
     plan: Plan,
     finder: &F,
-) -> Result<(State, Outcome), Fail>
+) -> Result<Outcome, Fail>
     requires { (1 ≤ plan.workers) × (plan.workers ≤ 3) }
 {
     let gate = Ordered::new(plan);
-    let workers = plan.workers;
-    let outcome = run_on(rt, alloc, &both.game, workers, &gate, finder)?;
+    let outcome = run_on(rt, alloc, &both.game, plan.workers, &gate, finder)?;
     check!(rt; !gate.seen.into_inner().gave_up, "{plan:?}");
-    let end = check_outcome(rt, both.plain.as_slice(), &outcome, workers);
-    for entry in outcome.entries.iter() {
-        check_eq!(rt; Some(entry.worker), plan.worker_at(0), "{plan:?}");
-    }
-    Ok((end, outcome))
+    Ok(outcome)
+}
+
+/// A run by a plan ends in this state, by so many entries of the first worker.
+fn compare_planned<R: Threads + Wait + Abort + Sync, F: Finder>(
+    rt: &R,
+    alloc: Global,
+    both: &Both,
+    plan: Plan,
+    finder: &F,
+    want: State,
+    count: usize,
+) -> Result<(), Fail>
+    requires { (1 ≤ plan.workers) × (plan.workers ≤ 3) }
+{
+    let outcome = planned_run(rt, alloc, both, plan, finder)?;
+    let end = check_outcome(rt, both.plain.as_slice(), &outcome, plan.workers);
+    check_eq!(rt; end, want);
+    check_entries(rt, outcome.entries.as_slice(), plan, count);
+    Ok(())
 }
 
 /// The game of two winners and the five continents by a plan. What the first worker posts settles all.
@@ -185,18 +208,17 @@ fn runs_of<R: Threads + Wait + Abort + Sync>(
     requires { (1 ≤ plan.workers) × (plan.workers ≤ 3) }
 {
     let [loops, continents] = games;
-    let (end, outcome) = planned_run(rt, alloc, loops, plan, &Singles)?;
-    check_eq!(rt; end, State { even: 1, odd: 2 });
-    check_eq!(rt; outcome.entries.len(), 2);
-    let whole = [(0, None), (1, None), (2, Some(1)), (3, Some(4)), (4, None)];
+    let won = State { even: 1, odd: 2 };
+    compare_planned(rt, alloc, loops, plan, &Singles, won, 2)?;
     let finder = Fixed {
-        claims: &[(EVEN, whole.as_slice())],
+        claims: &[(
+            EVEN,
+            &[(0, None), (1, None), (2, Some(1)), (3, Some(4)), (4, None)],
+        )],
         times: 1,
     };
-    let (end, outcome) = planned_run(rt, alloc, continents, plan, &finder)?;
-    check_eq!(rt; end, State { even: 31, odd: 0 });
-    check_eq!(rt; outcome.entries.len(), 1);
-    Ok(())
+    let won = State { even: 31, odd: 0 };
+    compare_planned(rt, alloc, continents, plan, &finder, won, 1)
 }
 
 /// The game of two winners, and the five continents.

@@ -7,7 +7,7 @@ use pg_finders::{Copied, Finder, Found, Job};
 use pg_game::Memory;
 use std::alloc::Global;
 use std::sync::OnceLock;
-use std::test::*;
+use std::test::Fail;
 
 /// Enough vertices for some batches.
 const VERTICES: u32 = 1_024;
@@ -60,7 +60,7 @@ fn small_searches_begin_once_loops_and_solitaire_parts_are_posted(
             settled: OnceLock::new(),
         };
         let _outcome = run_on(&rt, alloc, &game, 4, &Pass, &finder)?;
-        assert!(rt; finder.settled.get().copied() == Some(u64::from(VERTICES)));
+        finder.compare_settled(&rt, u64::from(VERTICES));
     }
     Ok(())
 }
@@ -74,7 +74,7 @@ fn the_recursion_begins_once_all_other_jobs_are_posted(rt: HostRuntime) -> Resul
             settled: OnceLock::new(),
         };
         let _outcome = run_on(&rt, alloc, &game, 4, &Pass, &finder)?;
-        assert!(rt; finder.settled.get().copied() == Some(u64::from(VERTICES)));
+        check_eq!(rt; finder.settled.get().copied(), Some(u64::from(VERTICES)));
     }
     Ok(())
 }

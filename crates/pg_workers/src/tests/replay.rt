@@ -146,6 +146,16 @@ pub fn replay(game: &[Plain], entries: &[Entry]) -> Result<State, Wrong> {
     Ok(state)
 }
 
+/// Compares what replaying entries gives.
+pub fn compare_replay(
+    rt: &impl Abort,
+    game: &[Plain],
+    entries: &[Entry],
+    want: Result<State, Wrong>,
+) {
+    check_eq!(rt; replay(game, entries), want);
+}
+
 /// The player and the choice of the first entry that names the vertex.
 fn state_of(entries: &[Entry], v: u32) -> Option<(Player, Option<u32>)> {
     for entry in entries {
@@ -207,12 +217,20 @@ fn check_report(rt: &impl Abort, outcome: &Outcome, workers: u32) {
         );
         posted = posted.wrapping_add(more);
     }
+    check_rest(rt, entries, posted);
+    check_jobs(rt, report, workers);
+}
+
+/// The entries of the calling thread are the last, at most two, and all that nobody else posted.
+fn check_rest(rt: &impl Abort, entries: &[Entry], posted: u64) {
     let [by_none, _] = posted_by(entries, 0);
     check!(rt; by_none <= 2);
     check_eq!(rt; entries.len() as u64, posted.wrapping_add(by_none));
-    let places = entries.iter().map(|entry| entry.worker == 0);
-    check!(rt; places.is_sorted());
-    check_jobs(rt, report, workers);
+    let mut is_rest = false;
+    for entry in entries {
+        check!(rt; entry.worker == 0 || !is_rest);
+        is_rest = entry.worker == 0;
+    }
 }
 
 fn check_jobs(rt: &impl Abort, report: &[ReportRow], workers: u32) {
@@ -252,6 +270,18 @@ fn entry_of(alloc: Global, player: Player, claimed: u32, rows: &[Row]) -> Result
     })
 }
 
+/// An entry is wrong by itself.
+fn compare_wrong(rt: &impl Abort, entry: Entry, wrong: Wrong) {
+    let entries = [entry];
+    let [Entry { rows, .. }] = &entries;
+    check_eq!(rt;
+        replay(SHARED.as_slice(), entries.as_slice()),
+        Err(wrong),
+        "{:?}",
+        rows.as_slice()
+    );
+}
+
 #[test]
 fn each_wrong_entry_is_told(rt: HostRuntime) -> Result<(), Fail> {
     let alloc = rt.alloc();
@@ -278,29 +308,26 @@ fn each_wrong_entry_is_told(rt: HostRuntime) -> Result<(), Fail> {
         ),
         (EVEN, 1, [(0, Some(0))].as_slice(), Wrong::Left),
     ] {
-        let entries = [entry_of(alloc, player, claimed, rows)?];
-        check_eq!(rt;
-            replay(SHARED.as_slice(), entries.as_slice()),
-            Err(wrong),
-            "{rows:?}"
-        );
+        compare_wrong(&rt, entry_of(alloc, player, claimed, rows)?, wrong);
     }
+    Ok(())
+}
+
+fn add_evens_loop(alloc: Global, entries: &mut Vec<Entry>) -> Result<(), Fail> {
+    entries.push(entry_of(alloc, EVEN, 1, &[(0, Some(0)), (1, None)])?)?;
     Ok(())
 }
 
 #[test]
 fn an_entry_that_is_posted_twice_is_told(rt: HostRuntime) -> Result<(), Fail> {
     let alloc = rt.alloc();
-    let even = [(0, Some(0)), (1, None)];
     let mut entries = Vec::new(alloc);
-    entries.push(entry_of(alloc, EVEN, 1, even.as_slice())?)?;
-    entries.push(entry_of(alloc, ODD, 1, [(2, Some(2))].as_slice())?)?;
-    let end = replay(SHARED.as_slice(), entries.as_slice());
-    check_eq!(rt; end, Ok(State { even: 3, odd: 4 }));
-    entries.push(entry_of(alloc, EVEN, 1, even.as_slice())?)?;
-    check_eq!(rt;
-        replay(SHARED.as_slice(), entries.as_slice()),
-        Err(Wrong::Again)
-    );
+    add_evens_loop(alloc, &mut entries)?;
+    entries.push(entry_of(alloc, ODD, 1, &[(2, Some(2))])?)?;
+    let end = Ok(State { even: 3, odd: 4 });
+    compare_replay(&rt, SHARED.as_slice(), entries.as_slice(), end);
+    add_evens_loop(alloc, &mut entries)?;
+    let again = Err(Wrong::Again);
+    compare_replay(&rt, SHARED.as_slice(), entries.as_slice(), again);
     Ok(())
 }

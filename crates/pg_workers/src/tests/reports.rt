@@ -1,7 +1,7 @@
 //! What the report says of each job, on runs with one worker.
 
 use crate::tests::finders::{EVEN, Fixed, Halting, Long, NoMemory, ODD, Singles};
-use crate::tests::games::{TWO_LOOPS, outcome_of};
+use crate::tests::games::{outcome_of, two_loops};
 use crate::{Outcome, ReportRow};
 use pg_finders::{Finder, Standard};
 use pg_game::Player;
@@ -26,6 +26,22 @@ fn row(job: u64, counts: [u64; 4]) -> ReportRow {
     }
 }
 
+/// The row of a job of worker 1 that posted nothing.
+fn idle_row(job: u64, gave_up: bool, memory: bool) -> ReportRow {
+    let mut idle = row(job, [0; 4]);
+    idle.gave_up = gave_up;
+    idle.memory = memory;
+    idle
+}
+
+/// Compares the row at a place, which is its job's.
+fn compare_row(rt: &impl Abort, outcome: &Outcome, place: usize, want: ReportRow) {
+    match outcome.report.get(place) {
+        Some(found) => check_eq!(rt; *found, want, "row {place}"),
+        None => panic!(*rt; "no row {place}"),
+    }
+}
+
 /// The numbers of a run with one worker on the game of two winners: those of the first job, and those of each later one.
 fn assert_counts<R: Threads + Wait + Abort + Sync>(
     rt: &R,
@@ -34,16 +50,17 @@ fn assert_counts<R: Threads + Wait + Abort + Sync>(
     first: [u64; 4],
     later: [u64; 4],
 ) -> Result<(), Fail> {
-    let outcome = outcome_of(rt, alloc, TWO_LOOPS, 1, finder)?;
-    let expected = [
-        row(0, first),
-        row(1, later),
-        row(2, later),
-        row(3, later),
-        row(4, later),
-    ];
-    check_eq!(rt; outcome.report.as_slice(), expected.as_slice());
+    let outcome = outcome_of(rt, alloc, two_loops(), 1, finder)?;
+    compare_rows(rt, &outcome, first, later);
     Ok(())
+}
+
+fn compare_rows(rt: &impl Abort, outcome: &Outcome, first: [u64; 4], later: [u64; 4]) {
+    check_count!(rt; outcome.report.len(), 5);
+    compare_row(rt, outcome, 0, row(0, first));
+    for job in 1..5u32 {
+        compare_row(rt, outcome, job as usize, row(u64::from(job), later));
+    }
 }
 
 #[test]
@@ -97,29 +114,33 @@ fn a_worker_goes_on_after_claims_of_a_million_rows(rt: HostRuntime) -> Result<()
 
 #[test]
 fn memory_that_is_refused_in_each_search_is_noted(rt: HostRuntime) -> Result<(), Fail> {
-    let outcome = outcome_of(&rt, rt.alloc(), TWO_LOOPS, 1, &NoMemory)?;
-    for (number, found) in (0u64..).zip(outcome.report.iter()) {
-        let mut expected = row(number, [0; 4]);
-        expected.memory = true;
-        check_eq!(rt; *found, expected);
-    }
+    let outcome = outcome_of(&rt, rt.alloc(), two_loops(), 1, &NoMemory)?;
+    check_no_memory(&rt, &outcome);
     Ok(())
+}
+
+fn check_no_memory(rt: &impl Abort, outcome: &Outcome) {
+    check_count!(rt; outcome.report.len(), 5);
+    for job in 0..5u32 {
+        let want = idle_row(u64::from(job), false, true);
+        compare_row(rt, outcome, job as usize, want);
+    }
 }
 
 #[test]
 fn each_row_says_whether_its_search_gave_up_or_had_no_memory(rt: HostRuntime) -> Result<(), Fail> {
-    let outcome = outcome_of(&rt, rt.alloc(), TWO_LOOPS, 1, &Halting)?;
-    let mut expected = [
-        row(0, [0; 4]),
-        row(1, [0; 4]),
-        row(2, [0; 4]),
-        row(3, [0; 4]),
-        row(4, [0; 4]),
-    ];
-    expected[1].memory = true;
-    expected[2].gave_up = true;
-    check_eq!(rt; outcome.report.as_slice(), expected.as_slice());
+    let outcome = outcome_of(&rt, rt.alloc(), two_loops(), 1, &Halting)?;
+    check_halted(&rt, &outcome);
     Ok(())
+}
+
+fn check_halted(rt: &impl Abort, outcome: &Outcome) {
+    check_count!(rt; outcome.report.len(), 5);
+    compare_row(rt, outcome, 0, idle_row(0, false, false));
+    compare_row(rt, outcome, 1, idle_row(1, false, true));
+    compare_row(rt, outcome, 2, idle_row(2, true, false));
+    compare_row(rt, outcome, 3, idle_row(3, false, false));
+    compare_row(rt, outcome, 4, idle_row(4, false, false));
 }
 
 /// Worker, player and vertex of an entry with one row.
@@ -129,20 +150,27 @@ fn told(outcome: &Outcome, entry: usize) -> Option<(u32, Player, u32)> {
     Some((entry.worker, entry.player, row.0))
 }
 
+fn compare_told(rt: &impl Abort, outcome: &Outcome, entry: usize, want: (u32, Player, u32)) {
+    check_eq!(rt; told(outcome, entry), Some(want), "entry {entry}");
+}
+
+/// A worker posted both loops.
+fn check_worker(rt: &impl Abort, outcome: &Outcome, worker: u32) {
+    check_count!(rt; outcome.entries.len(), 2);
+    compare_told(rt, outcome, 0, (worker, EVEN, 0));
+    compare_told(rt, outcome, 1, (worker, ODD, 1));
+}
+
 #[test]
 fn an_entry_names_the_worker_who_posted_it(rt: HostRuntime) -> Result<(), Fail> {
-    let outcome = outcome_of(&rt, rt.alloc(), TWO_LOOPS, 1, &Standard)?;
-    check_eq!(rt; outcome.entries.len(), 2);
-    check_eq!(rt; told(&outcome, 0), Some((1, EVEN, 0)));
-    check_eq!(rt; told(&outcome, 1), Some((1, ODD, 1)));
+    let outcome = outcome_of(&rt, rt.alloc(), two_loops(), 1, &Standard)?;
+    check_worker(&rt, &outcome, 1);
     Ok(())
 }
 
 #[test]
 fn the_calling_thread_posts_evens_claim_and_then_odds(rt: HostRuntime) -> Result<(), Fail> {
-    let outcome = outcome_of(&rt, rt.alloc(), TWO_LOOPS, 1, &NoMemory)?;
-    check_eq!(rt; outcome.entries.len(), 2);
-    check_eq!(rt; told(&outcome, 0), Some((0, EVEN, 0)));
-    check_eq!(rt; told(&outcome, 1), Some((0, ODD, 1)));
+    let outcome = outcome_of(&rt, rt.alloc(), two_loops(), 1, &NoMemory)?;
+    check_worker(&rt, &outcome, 0);
     Ok(())
 }

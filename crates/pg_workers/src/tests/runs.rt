@@ -1,8 +1,8 @@
 //! Workers run at once, whatever order they come in, and are given each job.
 
 use crate::tests::finders::{EVEN, NoMemory, ODD, Recorder, Watcher};
-use crate::tests::games::{TWO_LOOPS, gated_outcome, own_loops, solved};
-use crate::tests::gates::{Alternating, Holder};
+use crate::tests::games::{gated_outcome, own_loops, solved, two_loops};
+use crate::tests::gates::{Alternating, Holder, Seen};
 use crate::{Options, Pass};
 use pg_finders::{Finder, Job, Standard};
 use pg_game::Player;
@@ -12,6 +12,13 @@ use std::sync::{OnceLock, Wait};
 use std::test::Fail;
 use std::thread::Threads;
 
+/// Nobody gave up, and each job was told of once before and once after its posts.
+fn check_seen(rt: &impl Abort, seen: &Seen) {
+    check!(rt; !seen.gave_up);
+    check!(rt; seen.found == [1; 5]);
+    check!(rt; seen.posted == [1; 5]);
+}
+
 /// Two workers on the game of two winners, one of which is held. Each job is told of once before and once after its posts.
 fn held_run<R: Threads + Wait + Abort + Sync>(
     rt: &R,
@@ -20,12 +27,9 @@ fn held_run<R: Threads + Wait + Abort + Sync>(
     finder: &impl Finder,
 ) -> Result<(), Fail> {
     let gate = Holder::new(held);
-    let outcome = gated_outcome(rt, alloc, TWO_LOOPS, 2, &gate, finder)?;
-    let seen = gate.seen.into_inner();
-    check!(rt; !seen.gave_up);
-    check!(rt; seen.found == [1; 5]);
-    check!(rt; seen.posted == [1; 5]);
-    check!(rt; outcome.report.len() == 5);
+    let outcome = gated_outcome(rt, alloc, two_loops(), 2, &gate, finder)?;
+    check_count!(rt; outcome.report.len(), 5);
+    check_seen(rt, &gate.seen.into_inner());
     Ok(())
 }
 
@@ -52,10 +56,10 @@ fn the_gate_is_told_of_posts_only_after_them(rt: HostRuntime) -> Result<(), Fail
     let finder = Watcher {
         settled: OnceLock::new(),
     };
-    let outcome = gated_outcome(&rt, rt.alloc(), TWO_LOOPS, 2, &gate, &finder)?;
+    let outcome = gated_outcome(&rt, rt.alloc(), two_loops(), 2, &gate, &finder)?;
+    check_count!(rt; outcome.report.len(), 5);
     check!(rt; !gate.progress.into_inner().gave_up);
-    check!(rt; outcome.report.len() == 5);
-    check_eq!(rt; finder.settled.get().copied(), Some(2));
+    finder.compare_settled(&rt, 2);
     Ok(())
 }
 
@@ -69,35 +73,42 @@ fn small(player: Player, first: u32, count: u32) -> Job {
     }
 }
 
-/// One worker on 65 vertices: two batches, the second of one vertex.
-#[test]
-fn a_worker_is_given_each_job_in_order(rt: HostRuntime) -> Result<(), Fail> {
-    let alloc = rt.alloc();
+/// One worker on 65 vertices: two batches, the second of one vertex. Notes up to eight jobs.
+fn recorded<R: Threads + Wait + Abort + Sync>(rt: &R, alloc: Global) -> Result<Recorder, Fail> {
+    let recorder = Recorder::with_places(alloc, 8)?;
     let game = own_loops(alloc, 65)?;
     let options = Options {
         workers: 1,
         bound: 7,
         budget: 12,
     };
-    let mut jobs = Vec::new(alloc);
-    for _job in 0..8 {
-        jobs.push(OnceLock::new())?;
-    }
-    let recorder = Recorder { jobs };
-    let outcome = solved(&rt, alloc, &game, &options, &Pass, &recorder)?;
-    check!(rt; outcome.report.len() == 7);
-    let expected = [
-        Some(Job::Loops),
-        Some(Job::Solitaire),
-        Some(small(EVEN, 0, 64)),
-        Some(small(ODD, 0, 64)),
-        Some(small(EVEN, 64, 1)),
-        Some(small(ODD, 64, 1)),
-        Some(Job::Recursion),
-        None,
-    ];
-    for (place, job) in recorder.jobs.iter().zip(&expected) {
-        check_eq!(rt; place.get().copied(), *job);
-    }
+    let outcome = solved(rt, alloc, &game, &options, &Pass, &recorder)?;
+    check_count!(rt; outcome.report.len(), 7);
+    Ok(recorder)
+}
+
+fn compare_job(rt: &impl Abort, recorder: &Recorder, place: usize, want: Option<Job>) {
+    let found = match recorder.jobs.get(place) {
+        Some(job) => job.get().copied(),
+        None => panic!(*rt; "no place {place}"),
+    };
+    check_eq!(rt; found, want, "place {place}");
+}
+
+#[test]
+fn a_worker_is_given_each_job_in_order(rt: HostRuntime) -> Result<(), Fail> {
+    let recorder = recorded(&rt, rt.alloc())?;
+    check_jobs(&rt, &recorder);
     Ok(())
+}
+
+fn check_jobs(rt: &impl Abort, recorder: &Recorder) {
+    compare_job(rt, recorder, 0, Some(Job::Loops));
+    compare_job(rt, recorder, 1, Some(Job::Solitaire));
+    compare_job(rt, recorder, 2, Some(small(EVEN, 0, 64)));
+    compare_job(rt, recorder, 3, Some(small(ODD, 0, 64)));
+    compare_job(rt, recorder, 4, Some(small(EVEN, 64, 1)));
+    compare_job(rt, recorder, 5, Some(small(ODD, 64, 1)));
+    compare_job(rt, recorder, 6, Some(Job::Recursion));
+    compare_job(rt, recorder, 7, None);
 }

@@ -4,15 +4,18 @@ ghost use Rattle.std.specs.Prelude.{◌≤◌};
 
 use crate::tests::answers::{Bounds, check_alone};
 use crate::tests::finders::{
-    EVEN, FirstSolution, Fixed, Misshapen, NoMemory, ODD, Overlapping, Singles, Wholes,
+    EVEN, FirstSolution, Fixed, Misshapen, NoMemory, ODD, Overlapping, Row, Singles, Wholes,
+    both_regions,
 };
 use crate::tests::games::run_on;
 use crate::tests::random::{Both, Random};
-use crate::tests::replay::check_outcome;
+use crate::tests::reference::Plain;
+use crate::tests::replay::{State, check_outcome};
 use crate::{Gate, Outcome, Pass};
 use pg_board::Board;
 use pg_dominion::Claim;
-use pg_finders::{Finder, Job, Solved, Standard, zielonka};
+use pg_finders::{Copied, Finder, Job, Standard};
+use pg_game::{Game, Memory, Player};
 use std::alloc::Global;
 use std::process::Abort;
 use std::sync::{Mutex, Wait};
@@ -94,14 +97,18 @@ fn count_different(mut numbers: Vec<u64>) -> usize {
     numbers.len()
 }
 
+/// A copy of the whole game, of which nothing is said.
+fn copy_of<'g>(alloc: Global, game: &'g Game) -> Result<Copied<'g>, Memory> {
+    Board::open(alloc, game)?.copy(alloc)
+}
+
 /// What the finder claims on a copy of the whole game, or none where it has no memory.
 fn claims_on<F: Finder>(
     alloc: Global,
     both: &Both,
     finder: &F,
 ) -> Result<Option<Vec<Claim>>, Fail> {
-    let board = Board::open(alloc, &both.game)?;
-    let copied = board.copy(alloc)?;
+    let copied = copy_of(alloc, &both.game)?;
     match finder.find(alloc, &copied, &Job::Loops) {
         Ok(found) => Ok(Some(found.claims)),
         Err(_) => Ok(None),
@@ -133,6 +140,52 @@ fn scheduled_run<R: Threads + Wait + Abort + Sync, F: Finder>(
     Ok((outcome, gate.progress.into_inner().order))
 }
 
+/// The run with one worker, and the bounds for those with several, where the finder claims something.
+fn alone<R: Threads + Wait + Abort + Sync, F: Finder>(
+    rt: &R,
+    alloc: Global,
+    both: &Both,
+    finder: &F,
+) -> Result<Option<Bounds>, Fail> {
+    let claims = claims_on(alloc, both, finder)?;
+    let outcome = run_on(rt, alloc, &both.game, 1, &Pass, finder)?;
+    let plain = both.plain.as_slice();
+    let end = check_outcome(rt, plain, &outcome, 1);
+    Ok(match &claims {
+        Some(claims) => Some(bounds_of(rt, plain, end, claims.as_slice(), &outcome)),
+        None => None,
+    })
+}
+
+/// Checks the run with one worker, who posts these claims in each job.
+fn bounds_of(
+    rt: &impl Abort,
+    plain: &[Plain],
+    end: State,
+    claims: &[Claim],
+    outcome: &Outcome,
+) -> Bounds {
+    check_alone(rt, plain, claims, outcome.report.as_slice());
+    Bounds::new(plain, end, claims)
+}
+
+/// The game under all schedules. Tells the order of each.
+fn orders_of<R: Threads + Wait + Abort + Sync, F: Finder>(
+    rt: &R,
+    alloc: Global,
+    both: &Both,
+    bounds: &Option<Bounds>,
+    finder: &F,
+) -> Result<Vec<u64>, Fail> {
+    let mut orders = Vec::new(alloc);
+    for seed in 0..SCHEDULES {
+        let (outcome, order) = scheduled_run(rt, alloc, both, seed, finder)?;
+        check_claims(rt, bounds, &outcome);
+        orders.push(order)?;
+    }
+    Ok(orders)
+}
+
 /// The random game of a number under all schedules, and with one worker first. The finder claims the same in each job. Tells
 /// how many orders there were.
 fn replay_game<R: Threads + Wait + Abort + Sync, F: Finder>(
@@ -142,21 +195,14 @@ fn replay_game<R: Threads + Wait + Abort + Sync, F: Finder>(
     finder: &F,
 ) -> Result<usize, Fail> {
     let both = Both::numbered(alloc, number)?;
-    let plain = both.plain.as_slice();
-    let claims = claims_on(alloc, &both, finder)?;
-    let alone = run_on(rt, alloc, &both.game, 1, &Pass, finder)?;
-    let end = check_outcome(rt, plain, &alone, 1);
-    if let Some(claims) = &claims {
-        check_alone(rt, plain, claims.as_slice(), alone.report.as_slice());
-    }
-    let bounds = claims.map(|claims| Bounds::new(plain, end, claims.as_slice()));
-    let mut orders = Vec::new(alloc);
-    for seed in 0..SCHEDULES {
-        let (outcome, order) = scheduled_run(rt, alloc, &both, seed, finder)?;
-        check_claims(rt, &bounds, &outcome);
-        orders.push(order)?;
-    }
+    let bounds = alone(rt, alloc, &both, finder)?;
+    let orders = orders_of(rt, alloc, &both, &bounds, finder)?;
     Ok(count_different(orders))
+}
+
+/// There were orders enough.
+fn check_orders(rt: &impl Abort, orders: usize) {
+    check!(rt; orders >= LEAST_ORDERS, "{orders} orders");
 }
 
 /// All games under all schedules, which make different orders.
@@ -170,7 +216,7 @@ fn replay_games<R: Threads + Wait + Abort + Sync, F: Finder>(
         let more = replay_game(rt, alloc, number, finder)?;
         orders = orders.wrapping_add(more);
     }
-    check!(rt; orders >= LEAST_ORDERS, "{orders} orders");
+    check_orders(rt, orders);
     Ok(())
 }
 
@@ -203,7 +249,7 @@ fn schedules_of_the_first_solution(rt: HostRuntime) -> Result<(), Fail> {
         let more = replay_game(&rt, alloc, number, &FirstSolution::new())?;
         orders = orders.wrapping_add(more);
     }
-    check!(rt; orders >= LEAST_ORDERS, "{orders} orders");
+    check_orders(&rt, orders);
     Ok(())
 }
 
@@ -216,8 +262,19 @@ fn schedules_of_claims_that_are_settled_in_part(rt: HostRuntime) -> Result<(), F
         let more = replay_game(&rt, alloc, number, &Overlapping::new())?;
         orders = orders.wrapping_add(more);
     }
-    check!(rt; orders >= LEAST_ORDERS, "{orders} orders");
+    check_orders(&rt, orders);
     Ok(())
+}
+
+/// The solution of the random game of a number.
+fn solution_of(alloc: Global, number: u64) -> Result<[Claim; 2], Fail> {
+    let both = Both::numbered(alloc, number)?;
+    Ok(both_regions(alloc, &copy_of(alloc, &both.game)?)?)
+}
+
+/// What a finder of fixed claims is given.
+fn row_of(claim: &Claim) -> (Player, &[Row]) {
+    (claim.player, claim.rows.as_slice())
 }
 
 /// The random game of a number, of which the solution of another random game is claimed.
@@ -226,13 +283,8 @@ fn replay_with_another<R: Threads + Wait + Abort + Sync>(
     alloc: Global,
     number: u64,
 ) -> Result<usize, Fail> {
-    let other = Both::numbered(alloc, number.wrapping_add(GAMES))?;
-    let board = Board::open(alloc, &other.game)?;
-    let Solved { even, odd } = zielonka(alloc, &board.copy(alloc)?.inside)?;
-    let claims = [
-        (even.player, even.rows.as_slice()),
-        (odd.player, odd.rows.as_slice()),
-    ];
+    let [even, odd] = &solution_of(alloc, number.wrapping_add(GAMES))?;
+    let claims = [row_of(even), row_of(odd)];
     let finder = Fixed {
         claims: claims.as_slice(),
         times: 2,
@@ -248,7 +300,7 @@ fn schedules_of_another_games_solution(rt: HostRuntime) -> Result<(), Fail> {
         let more = replay_with_another(&rt, alloc, number)?;
         orders = orders.wrapping_add(more);
     }
-    check!(rt; orders >= LEAST_ORDERS, "{orders} orders");
+    check_orders(&rt, orders);
     Ok(())
 }
 
@@ -266,6 +318,12 @@ fn schedules_of_the_greatest_numbers(rt: HostRuntime) -> Result<(), Fail> {
     replay_games(&rt, rt.alloc(), &finder)
 }
 
+fn check_none_refused(rt: &impl Abort, outcome: &Outcome) {
+    for row in outcome.report.iter() {
+        check!(rt; row.refused == 0 && !row.memory);
+    }
+}
+
 /// The product's finder claims dominions of its copies, and no copy is too old for one of them: none is refused.
 #[test]
 fn schedules_of_the_products_finder(rt: HostRuntime) -> Result<(), Fail> {
@@ -274,9 +332,7 @@ fn schedules_of_the_products_finder(rt: HostRuntime) -> Result<(), Fail> {
         let both = Both::numbered(alloc, number)?;
         for seed in 0..SCHEDULES {
             let (outcome, _) = scheduled_run(&rt, alloc, &both, seed, &Standard)?;
-            for row in outcome.report.iter() {
-                check!(rt; row.refused == 0 && !row.memory);
-            }
+            check_none_refused(&rt, &outcome);
         }
     }
     Ok(())

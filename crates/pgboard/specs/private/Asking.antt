@@ -1,10 +1,7 @@
 -- What a command line may ask for (private).
-use Rattle.std.specs.Prelude.{ℕ, ◌≡◌, ◌≤◌, List, Option, Some, None, option_map, string_bytes}
-use Rattle.pgboard.specs.declared.fault.AskedFault.{AskedFault}
-use Rattle.pgboard.specs.declared.fault.AskedFault.TheVariants as fault
+use Rattle.std.specs.Prelude.{ℕ, List, Option, Some, None, option_map, string_bytes}
 use Rattle.pgboard.specs.declared.asked.Asked.{Asked}
 use Rattle.pgboard.specs.declared.asked.Asked.TheVariants.{Joined, Verify, Tidy, Solve, Trace, Help}
-use Rattle.pgboard.specs.Asking.{IsInRange, second_path_of, Says}
 
 -- the path of the file of the game, where one was given
 abbrev pub path_of : Asked → Option (List ℕ)

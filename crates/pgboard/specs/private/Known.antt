@@ -1,14 +1,10 @@
 -- What a run learns of the text of what is known, which may be left out (private).
-use Rattle.std.proofs.Common.{inl, inr}
-use Rattle.std.specs.Prelude.{ℕ, ◌≢◌, ◌≤◌, ◌⊎◌, List, [], length, Option, Some, None, IfSome}
-use Rattle.std.specs.Borrow.{MutBor}
+use Rattle.std.specs.Prelude.{ℕ, ◌≢◌, List}
 use Rattle.pg_game.specs.Graph.{Graph}
-use Rattle.pg_text.specs.Known.{KnownRows, IsKnownTextOf, IsKnownFaultOf}
+use Rattle.pg_text.specs.Known.{IsKnownFaultOf}
 use Rattle.pg_text.specs.declared.fault.SolutionTextFault.TheVariants as solution_fault
-use Rattle.pg_text.specs.Reading.{max_text}
 use Rattle.pgboard.specs.declared.fault.RunFault.{RunFault}
 use Rattle.pgboard.specs.declared.fault.RunFault.TheVariants as fault
-use Rattle.pgboard.specs.Known.{left_in, IfGiven, OnGiven, IsReadKnown}
 
 -- why the text says nothing that is known of the game
 abbrev pub IsRefusedText : Graph → List ℕ → RunFault → Type 0

@@ -1,15 +1,14 @@
 -- What a run learns of the texts that its sources have, and why it gives no answer (private).
-use Rattle.std.specs.Prelude.{ℕ, ◌≢◌, ◌<◌, ◌≤◌, List, length, Option, IfSome}
+use Rattle.std.specs.Prelude.{ℕ, ◌≢◌, List}
 use Rattle.pg_game.specs.Graph.{Graph}
 use Rattle.pg_text.specs.Solution.{SolutionRows}
-use Rattle.pg_text.specs.Reading.{max_text, IsTextOf, IsFaultOf, IsSolutionTextOf, IsSolutionFaultOf}
+use Rattle.pg_text.specs.Reading.{IsFaultOf, IsSolutionTextOf, IsSolutionFaultOf}
 use Rattle.pg_text.specs.declared.fault.TextFault.TheVariants as game_fault
 use Rattle.pg_text.specs.declared.fault.SolutionTextFault.TheVariants as solution_fault
 use Rattle.pgboard.specs.declared.verdict.Verdict.{Verdict}
 use Rattle.pgboard.specs.declared.fault.RunFault.{RunFault}
 use Rattle.pgboard.specs.declared.fault.RunFault.TheVariants as fault
 use Rattle.pgboard.specs.Joined.{IsVerdict}
-use Rattle.pgboard.specs.Run.{IsReadGame, IsUnread, IsNoGame, IsNoSolution, IsGameFault}
 
 -- why the text is no game's
 abbrev pub IsRefusedGame : List ℕ → RunFault → Type 0

@@ -68,7 +68,8 @@ fn solution_from<R: Threads + Wait + Sync>(
     game: &[u8],
     known: &[u8],
 ) -> Result<Vec<u8>, RunFault>
-    ensures game { IfOk result (λ text. (g : Graph) × (rows : KnownRows) × IsTextOf game.now g × IsKnownTextOf g known.now rows × ((p : Player) → IsKnownRegion g rows p) × IsSolveText false g text.items) }
+    ensures game { IfOk result (λ text. (g : Graph) × (rows : KnownRows) × IsTextOf game.now g × IsKnownTextOf g known.now rows
+        × ((p : Player) → IsKnownRegion g rows p) × IsSolveText false g text.items) }
     ensures within { IfOk result (λ _. (length game.now ≤ max_text) × (length known.now ≤ max_text)) }
 {
     let options = SolveOptions {

@@ -1,10 +1,10 @@
 use Rattle.std.proofs.Common.{ℕ, length, sym, ◌∙◌, subst, arith, ltb-true, refl}
+use Rattle.std.proofs.lemmas.Bool.{or_right}
 use Rattle.pg_game.specs.Graph.{HasEdge}
 use Rattle.pg_game.specs.VertexSet.{VertexSet, In, union}
 use Rattle.pg_dominion.specs.Area.{listed_by}
 use Rattle.pg_dominion.specs.private.Attracting.{IsTakenOrOpen}
 use Rattle.pg_dominion.proofs.Taking.{takes_none, takes_then, takes_set, takes_longer, next_listed, next_reached, all_done}
-use Rattle.pg_dominion.proofs.Booleans.{or_right}
 use Rattle.pg_dominion.proofs.area.attract_from.Goals as goal
 
 pub list-init : goal.list-init
@@ -20,7 +20,8 @@ pub reach-requires-clause-taken : goal.reach-requires-clause-taken
 reach-requires-clause-taken g c =
     let f = g.A.Area.vertex_of in
     let item = c.index-item.result.now in
-    subst (λ (v : ℕ). In (listed_by f c.list.list.items) v) (sym c.vertex.ensures) (next_listed f c.list.list.items c.list.next item (omega arith) item c.index-item.ensures)
+    subst (λ (v : ℕ). In (listed_by f c.list.list.items) v) (sym c.vertex.ensures)
+    (next_listed f c.list.list.items c.list.next item (omega arith) item c.index-item.ensures)
 
 pub reach-requires-clause-vertex : goal.reach-requires-clause-vertex
 reach-requires-clause-vertex g c =
@@ -29,7 +30,8 @@ reach-requires-clause-vertex g c =
     let item = c.index-item.result.now in
     let v = c.vertex.result in
     let ys = c.list.list.items in
-    let i : In (listed_by f ys) v = subst (λ (v : ℕ). In (listed_by f ys) v) (sym c.vertex.ensures) (next_listed f ys c.list.next item (omega arith) item c.index-item.ensures) in
+    let i : In (listed_by f ys) v
+    = subst (λ (v : ℕ). In (listed_by f ys) v) (sym c.vertex.ensures) (next_listed f ys c.list.next item (omega arith) item c.index-item.ensures) in
     ltb-true v (length c.args.game.now) (c.requires.below v (sym (c.list.invariant.takes.same v) ∙ or_right (a.free c.list.area v) (listed_by f ys v) i))
 
 pub list-preserved : goal.list-preserved
@@ -50,7 +52,8 @@ list-preserved g c =
     let U = union F (listed_by f xs) in
     let settled : (u : ℕ) → In U u → HasEdge game u (f item) → IsTakenOrOpen game p U (listed_by f ys) (listed_by f zs) u =
     subst (λ (v : ℕ). (u : ℕ) → In U u → HasEdge game u v → IsTakenOrOpen game p U (listed_by f ys) (listed_by f zs) u) c.vertex.ensures
-    (subst (λ (X : VertexSet). (u : ℕ) → In X u → HasEdge game u c.vertex.result → IsTakenOrOpen game p X (listed_by f ys) (listed_by f zs) u) (takes_set f F F1 xs ys old.takes) h.settled) in
+    (subst (λ (X : VertexSet). (u : ℕ) → In X u → HasEdge game u c.vertex.result → IsTakenOrOpen game p X (listed_by f ys) (listed_by f zs) u)
+    (takes_set f F F1 xs ys old.takes) h.settled) in
     record {
       ready = h.ready;
       grown = g.met.A.Area.grown_then game p c.args.area.now c.list.area c.reach.new.area xs ys zs old.grown h.grown;
@@ -62,9 +65,11 @@ list-preserved g c =
 pub returns-after-list-clause-done : goal.returns-after-list-clause-done
 returns-after-list-clause-done g c =
     let a = g.A.Area in
-    all_done a.vertex_of c.args.game.now c.args.player (union (a.free c.args.area.now) (listed_by a.vertex_of c.args.list.now.items)) c.list.list.items c.list.next (omega arith) c.list.invariant.done
+    all_done a.vertex_of c.args.game.now c.args.player
+    (union (a.free c.args.area.now) (listed_by a.vertex_of c.args.list.now.items)) c.list.list.items c.list.next (omega arith) c.list.invariant.done
 
 pub returns-then-next-len-clause-done : goal.returns-then-next-len-clause-done
 returns-then-next-len-clause-done g c =
     let a = g.A.Area in
-    all_done a.vertex_of c.args.game.now c.args.player (union (a.free c.args.area.now) (listed_by a.vertex_of c.args.list.now.items)) c.list.list.items c.list.next (omega arith) c.list.invariant.done
+    all_done a.vertex_of c.args.game.now c.args.player
+    (union (a.free c.args.area.now) (listed_by a.vertex_of c.args.list.now.items)) c.list.list.items c.list.next (omega arith) c.list.invariant.done

@@ -18,12 +18,14 @@ loop-from-init g c = record {
 
 pub consider-requires-clause-edge : goal.consider-requires-clause-edge
 consider-requires-clause-edge g c =
-    (c.predecessors-from-items.ensures.exact (slice_index c.predecessors-from-items.result.now c.loop-from.from-index)).0 (Contains-get_or c.predecessors-from-items.result.now c.loop-from.from-index 0 c.loop-from-test.true)
+    (c.predecessors-from-items.ensures.exact (slice_index c.predecessors-from-items.result.now c.loop-from.from-index)).0
+    (Contains-get_or c.predecessors-from-items.result.now c.loop-from.from-index 0 c.loop-from-test.true)
 
 pub consider-requires-clause-taken : goal.consider-requires-clause-taken
 consider-requires-clause-taken g c =
     let a = g.A.Area in
-    takes_within a.vertex_of (a.free c.args.area.now) (a.free c.loop-from.area) c.args.list.now.items c.loop-from.list.items c.loop-from.invariant.takes c.args.to c.requires.taken
+    takes_within a.vertex_of (a.free c.args.area.now)
+    (a.free c.loop-from.area) c.args.list.now.items c.loop-from.list.items c.loop-from.invariant.takes c.args.to c.requires.taken
 
 pub loop-from-preserved : goal.loop-from-preserved
 loop-from-preserved g c =
@@ -41,12 +43,14 @@ loop-from-preserved g c =
     let F2 = a.free c.consider.new.area in
     let U = union F (listed_by f xs) in
     let from = slice_index c.predecessors-from-items.result.now c.loop-from.from-index in
-    let here = subst (λ (X : VertexSet). In X from → IsTakenOrOpen game p X (listed_by f ys) (listed_by f zs) from) (takes_set f F F1 xs ys old.takes) h.settled in
+    let here = subst (λ (X : VertexSet). In X from → IsTakenOrOpen game p X (listed_by f ys) (listed_by f zs) from)
+    (takes_set f F F1 xs ys old.takes) h.settled in
     record {
       ready = h.ready;
       grown = g.met.A.Area.grown_then game p c.args.area.now c.loop-from.area c.consider.new.area xs ys zs old.grown h.grown;
       takes = takes_then f F F1 F2 xs ys zs old.takes h.takes;
-      settled = below_more _ _ (λ k l i. IsSettled-later game p U (listed_by f xs) (listed_by f ys) (listed_by f zs) _ (takes_within f F1 F2 ys zs h.takes) (old.settled k l i))
+      settled = below_more _ _ (λ k l i. IsSettled-later game p U (listed_by f xs) (listed_by f ys) (listed_by f zs) _ (takes_within f F1 F2 ys zs h.takes)
+          (old.settled k l i))
           (λ i. IsSettled-before game p U (listed_by f xs) (listed_by f ys) (listed_by f zs) _ (takes_within f F F1 xs ys old.takes) (here i));
     }
 
@@ -57,5 +61,6 @@ returns-clause-settled g c = λ u i e.
     let m = (c.predecessors-from-items.ensures.exact u).1 e in
     let q : slice_index us m.0 ≡ u = get_or_default us m.0 0 u m.1 ∙ m.2 in
     let U = union (a.free c.args.area.now) (listed_by a.vertex_of c.args.list.now.items) in
-    subst (λ (x : ℕ). IsTakenOrOpen c.args.game.now c.args.player U (listed_by a.vertex_of c.args.list.now.items) (listed_by a.vertex_of c.loop-from.list.items) x) q
+    subst (λ (x : ℕ). IsTakenOrOpen c.args.game.now c.args.player U (listed_by a.vertex_of c.args.list.now.items)
+    (listed_by a.vertex_of c.loop-from.list.items) x) q
     (c.loop-from.invariant.settled m.0 (omega (arith, m.1, c.loop-from-test.false)) (subst (λ (x : ℕ). In U x) (sym q) i))

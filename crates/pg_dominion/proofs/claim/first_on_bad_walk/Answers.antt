@@ -2,7 +2,7 @@ use Rattle.std.proofs.Common.{sym, ◌∙◌}
 use Rattle.pg_game.specs.Region.{OnBadWalk}
 use Rattle.pg_dominion.specs.Claim.{named, choice_in}
 use Rattle.pg_dominion.specs.KeptEdges.{IsWorst}
-use Rattle.pg_dominion.proofs.NoneBad.{none_on_bad_walk, same_least}
+use Rattle.pg_dominion.proofs.Staying.{none_on_bad_walk, same_least}
 use Rattle.pg_dominion.proofs.claim.first_on_bad_walk.Goals as goal
 
 pub returns-then-not-names_bad_vertex : goal.returns-then-not-names_bad_vertex
@@ -13,4 +13,5 @@ returns-then-not-names_bad_vertex c =
 pub returns : goal.returns
 returns c =
     let claim = c.args.claim.now in
-    same_least (IsWorst c.in_ok-kept.kept) (OnBadWalk c.args.game.now claim.player (named claim.rows) (choice_in claim.rows)) c.in_ok-kept.ensures.worst c.in_ok-least.least c.in_ok-least.ensures
+    same_least (IsWorst c.in_ok-kept.kept) (OnBadWalk c.args.game.now claim.player (named claim.rows)
+    (choice_in claim.rows)) c.in_ok-kept.ensures.worst c.in_ok-least.least c.in_ok-least.ensures

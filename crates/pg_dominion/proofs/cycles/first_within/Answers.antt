@@ -1,4 +1,5 @@
-use Rattle.std.proofs.Common.{arith, below_more, rules}
+use Rattle.std.proofs.lemmas.Bool.{true≢false}
+use Rattle.std.proofs.Common.{sym, ◌∙◌, arith, below_more}
 use Rattle.pg_game.proofs.Masks.{member_below}
 use Rattle.pg_dominion.specs.KeptEdges.{IsWorst}
 use Rattle.pg_dominion.proofs.Searching.{OnTop-from_reaches, Reaches-from_top, not_below}
@@ -8,7 +9,7 @@ pub returns-then-branch : goal.returns-then-branch
 returns-then-branch c =
     let k = c.args.kept.now in
     record {
-      has = (cc (c.has.ensures, c.if-not-has.false), OnTop-from_reaches k c.starts.v (c.in_ok-walks_back.ensures.back (search rules)));
+      has = (cc (c.has.ensures, c.if-not-has.false), OnTop-from_reaches k c.starts.v (c.in_ok-walks_back.ensures.back c.if-branch.true));
       least = λ u w. not_below (IsWorst k) c.starts.v u c.starts.invariant.none w;
     }
 
@@ -19,7 +20,7 @@ starts-preserved c =
     record {
       labels = h.labels;
       size = h.size;
-      none = below_more _ _ c.starts.invariant.none (λ w. h.none (search rules) (Reaches-from_top k c.starts.v w.1));
+      none = below_more _ _ c.starts.invariant.none (λ w. h.none c.if-branch.false (Reaches-from_top k c.starts.v w.1));
     }
 
 pub starts-preserved-then-is_alone : goal.starts-preserved-then-is_alone
@@ -34,3 +35,15 @@ starts-preserved-then-is_alone c =
 
 pub returns : goal.returns
 returns c = λ v w. c.starts.invariant.none v (omega (arith, member_below c.args.kept.now.bad v w.0, c.requires.bad)) w
+
+pub starts-init : goal.starts-init
+starts-init c = record { labels = c.in_ok-labels.ensures; size = c.in_ok-search.ensures; none = λ u l. absurd (omega (arith, l)) }
+
+pub starts-preserved-then-not-has : goal.starts-preserved-then-not-has
+starts-preserved-then-not-has c =
+    let inv = c.starts.invariant in
+    let out = sym c.has.ensures ∙ c.if-not-has.true in
+    record { labels = inv.labels; size = inv.size; none = below_more _ _ inv.none (λ w. absurd (true≢false (sym w.0 ∙ out))) }
+
+pub returns-in-Some : goal.returns-in-Some
+returns-in-Some c = rw c.in-Some.is at c.in_ok-least.ensures

@@ -1,7 +1,37 @@
-use Rattle.std.proofs.Common.{sym, arith, below_more}
+use Rattle.std.proofs.Common.{◌≡◌, ◌<◌, ℕ, length, get_or, sym, refl, subst, arith, below_more}
+use Rattle.std.specs.Prelude.{None, ◌==◌}
+use Rattle.std.proofs.lemmas.Bool.{eq-eqb}
+use Rattle.std.proofs.lemmas.List.Folds.{list_any_at}
+use Rattle.pg_game.specs.VertexSet.{In}
+use Rattle.pg_dominion.specs.Claim.{ClaimRows, named}
+use Rattle.pg_dominion.proofs.Rows.{named_right}
 use Rattle.pg_dominion.proofs.Staying.{none_from_rows}
 use Rattle.pg_dominion.proofs.small.is_shown_small.Goals as goal
 use Rattle.pg_dominion.proofs.small.is_shown_small.Goals.{else-is_bad-via-then-is_bad+in_ok-never_returns+else-not-branch, else-is_bad-via-else-is_bad}
+
+-- a row names its vertex
+named_at : (xs rows : ClaimRows) (i : ℕ) → xs ≡ rows → i < length xs → In (named rows) (get_or xs i (0, None)).0
+named_at xs rows i e l =
+    let v = (get_or xs i (0, None)).0 in
+    subst (λ (ys : ClaimRows). In (named ys) v) e (list_any_at (λ r. r.0 == v) xs i (0, None) l (eq-eqb v v refl))
+
+pub rows-init : goal.rows-init
+rows-init c = λ i l. absurd (omega (arith, l))
+
+pub is_bad-requires : goal.is_bad-requires
+is_bad-requires c =
+    let claim = c.args.claim.now in
+    let n = named_at c.as_slice-rows.result.now claim.rows c.rows.row-index c.as_slice-rows.ensures c.rows-test.true in
+    (named_right c.args.game.now claim.player claim.rows _ c.requires.right.each n).vertex
+
+pub never_returns-requires-clause-start : goal.never_returns-requires-clause-start
+never_returns-requires-clause-start c =
+    let claim = c.args.claim.now in
+    let n = named_at c.as_slice-rows.result.now claim.rows c.rows.row-index c.as_slice-rows.ensures c.rows-test.true in
+    (named_right c.args.game.now claim.player claim.rows _ c.requires.right.each n).vertex
+
+pub never_returns-requires-clause-vertex : goal.never_returns-requires-clause-vertex
+never_returns-requires-clause-vertex c = named_at c.as_slice-rows.result.now c.args.claim.now.rows c.rows.row-index c.as_slice-rows.ensures c.rows-test.true
 
 pub rows-preserved : goal.rows-preserved
 rows-preserved c =
@@ -16,4 +46,5 @@ rows-preserved c =
 pub returns : goal.returns
 returns c = λ _.
     let claim = c.args.claim.now in
-    none_from_rows c.args.game.now claim.player claim.rows c.as_slice-rows.result.now c.rows.row-index c.as_slice-rows.ensures (omega (arith, c.rows-test.false)) c.rows.invariant
+    none_from_rows c.args.game.now claim.player claim.rows c.as_slice-rows.result.now c.rows.row-index c.as_slice-rows.ensures
+    (omega (arith, c.rows-test.false)) c.rows.invariant

@@ -14,15 +14,18 @@ pub of-row-requires : goal.of-row-requires
 of-row-requires c =
     let claim = c.args.claim.now in
     let h = c.in-Some.ensures in
-    let e : choice_in claim.rows c.args.v ≡ c.in-Some.choice = subst (λ (xs : ClaimRows). choice_in xs c.args.v ≡ c.in-Some.choice) c.as_slice-rows.ensures h.1 in
-    subst (λ (o : Option ℕ). IsRightRow c.args.game.now claim.player (c.args.v, o)) e (named_right c.args.game.now claim.player claim.rows c.args.v c.requires.shape.right.each c.requires.vertex)
+    let e : choice_in claim.rows c.args.v ≡ c.in-Some.choice
+    = subst (λ (xs : ClaimRows). choice_in xs c.args.v ≡ c.in-Some.choice) c.as_slice-rows.ensures h.1 in
+    subst (λ (o : Option ℕ). IsRightRow c.args.game.now claim.player (c.args.v, o)) e
+    (named_right c.args.game.now claim.player claim.rows c.args.v c.requires.shape.right.each c.requires.vertex)
 
 pub returns-clause-stays : goal.returns-clause-stays
 returns-clause-stays c = λ _.
     let claim = c.args.claim.now in
     let g = c.args.game.now in
     let h = c.in-Some.ensures in
-    let e : choice_in claim.rows c.args.v ≡ c.in-Some.choice = subst (λ (xs : ClaimRows). choice_in xs c.args.v ≡ c.in-Some.choice) c.as_slice-rows.ensures h.1 in
+    let e : choice_in claim.rows c.args.v ≡ c.in-Some.choice
+    = subst (λ (xs : ClaimRows). choice_in xs c.args.v ≡ c.in-Some.choice) c.as_slice-rows.ensures h.1 in
     Stays-from_row g claim.player claim.rows c.args.start c.ends.list.items c.args.v c.as_slice-ends.result.now c.ends.end-index
     (c.as_slice-ends.ensures ∙ kept_in_row g claim.player claim.rows c.of-row.result c.args.v c.in-Some.choice c.of-row.ensures.agrees c.of-row.ensures.row e)
     (omega (arith, c.ends-test.false)) c.ends.invariant.stays
@@ -36,7 +39,9 @@ ends-preserved-then-priority-top c =
       longer = c.ends.invariant.longer;
       stays = below_more _ _ c.ends.invariant.stays (λ n low. elim c.then-priority-top.branch [
         | then-priority-top-via-then-priority-top w ↦ absurd (omega (arith, low, w.if-priority-top.true, c.priority.ensures, c.priority-top.ensures))
-        | then-priority-top-via-else-priority-top+then-contains w ↦ (let t : list_any (λ (y : ℕ). y == u) q ≡ true = subst (λ (xs : List ℕ). list_any (λ (y : ℕ). y == u) xs ≡ true) w.as_slice.ensures.value (sym w.contains.ensures.value ∙ w.if-contains.true) in (c.if-w-start.false, any_from q u t))
+        | then-priority-top-via-else-priority-top+then-contains w ↦
+            (let t : list_any (λ (y : ℕ). y == u) q ≡ true = subst (λ (xs : List ℕ). list_any (λ (y : ℕ). y == u) xs ≡ true) w.as_slice.ensures.value
+            (sym w.contains.ensures.value ∙ w.if-contains.true) in (c.if-w-start.false, any_from q u t))
       ]);
     }
 

@@ -1,4 +1,5 @@
-use Rattle.std.proofs.Common.{arith, below_more}
+use Rattle.pg_dominion.specs.private.KeptEdges.{Leads}
+use Rattle.std.proofs.Common.{arith, below_more, ℕ, subst, ◌∙◌}
 use Rattle.pg_dominion.proofs.Searching.{IsSpread-later, GoesOn-then, GoesOn-less}
 use Rattle.pg_dominion.proofs.walks.finds_back.Goals as goal
 
@@ -27,9 +28,29 @@ queue-preserved c =
       later = GoesOn-then _ old.queue.items new.queue.items _ old.least new.least c.queue.invariant.later h.later;
       within = omega (arith, h.later.longer);
       spread = below_more _ _
-          (λ i l. IsSpread-later k L G c.args.top c.args.own old.places.items old.queue.items new.places.items new.queue.items old.least new.least i (omega arith) h.later h.state (c.queue.invariant.spread i l))
+          (λ i l. IsSpread-later k L G c.args.top c.args.own old.places.items old.queue.items new.places.items new.queue.items old.least new.least i
+          (omega arith) h.later h.state (c.queue.invariant.spread i l))
           (h.spread c.if-branch.false);
     }
 
 pub returns-then-next-len-clause-spread : goal.returns-then-next-len-clause-spread
 returns-then-next-len-clause-spread c = λ _ i l. c.queue.invariant.spread i (omega (arith, l, c.if-next-len.true, c.len.ensures))
+
+pub returns-then-branch-clause-first : goal.returns-then-branch-clause-first
+returns-then-branch-clause-first c =
+    let inv = c.queue.invariant in
+    c.in_ok-spread.ensures.later.front 0 inv.state.some ∙ inv.later.front 0 c.requires.state.some
+
+pub returns-then-branch-clause-back : goal.returns-then-branch-clause-back
+returns-then-branch-clause-back c = λ _.
+    subst (λ (x : ℕ). Leads c.args.kept.now c.args.top x x) (c.queue.invariant.later.front 0 c.requires.state.some)
+    (c.in_ok-spread.ensures.back c.if-branch.true)
+
+pub returns-after-queue-clause-first : goal.returns-after-queue-clause-first
+returns-after-queue-clause-first c = c.queue.invariant.later.front 0 c.requires.state.some
+
+pub returns-after-queue-clause-spread : goal.returns-after-queue-clause-spread
+returns-after-queue-clause-spread c = λ _ i l. c.queue.invariant.spread i (omega (arith, l, c.queue-test.false))
+
+pub returns-then-next-len-clause-first : goal.returns-then-next-len-clause-first
+returns-then-next-len-clause-first c = c.queue.invariant.later.front 0 c.requires.state.some

@@ -8,5 +8,6 @@ invariant-queue l = record {
   state : Searching l.kept l.labels.levels.items l.labels.groups.items l.top l.own l.search.places.items l.search.queue.items;
   later : GoesOn l.fn.search.queue.items l.fn.search.least l.search.queue.items l.search.least;
   within : l.next ≤ length l.search.queue.items;
-  spread : (i : ℕ) → i < l.next → IsSpread l.kept l.labels.levels.items l.labels.groups.items l.top l.own l.search.least l.search.places.items l.search.queue.items i;
+  spread : (i : ℕ) → i < l.next
+      → IsSpread l.kept l.labels.levels.items l.labels.groups.items l.top l.own l.search.least l.search.places.items l.search.queue.items i;
 }

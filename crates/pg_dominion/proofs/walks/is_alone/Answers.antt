@@ -11,5 +11,6 @@ returns-then-index-priority c = λ e.
     let G = c.args.labels.now.groups.items in
     let h = c.requires.labels in
     let read : c.index.result.now ≡ slice_index L v = get_or_read L v _ (omega (arith, c.requires.vertex, h.levels_size)) c.index.ensures 0 in
-    let r : c.index-then-index-priority.result.now ≡ slice_index G v = get_or_read G v _ (omega (arith, c.requires.vertex, h.groups_size)) c.index-then-index-priority.ensures 0 in
+    let r : c.index-then-index-priority.result.now ≡ slice_index G v
+    = get_or_read G v _ (omega (arith, c.requires.vertex, h.groups_size)) c.index-then-index-priority.ensures 0 in
     h.alone (priority_of c.args.kept.now.game.now v) v (omega (arith, read, c.if-index-priority.true, c.priority.ensures)) (sym r ∙ eqb-true _ _ e)

@@ -25,5 +25,24 @@ queue-preserved c =
       | then-at-search w ↦ inl (w.if-at-search.true, w.group-is)
       | else-at-search w ↦ inr (w.if-at-search.false, w.group-is)
     ] in
-    noted_next L G s.places.items s.queue.items c.args.level c.args.start s.least c.queue.labels.levels.items c.queue.labels.groups.items at v c.if-at-search.group q p
+    noted_next L G s.places.items s.queue.items c.args.level c.args.start s.least c.queue.labels.levels.items c.queue.labels.groups.items at v
+    c.if-at-search.group q p
     (omega (arith, b, q, old.levels_size, c.requires.levels)) (omega (arith, b, q, old.groups_size, c.requires.groups)) h old
+
+pub overflow_add-group : goal.overflow_add-group
+overflow_add-group c =
+    let q = c.args.search.now.queue.items in
+    let l : c.queue.at < length q = omega (arith, c.queue-test.true, c.len-at-end.ensures) in
+    omega (arith, get_or_read q c.queue.at _ l c.index-v.ensures 0, c.requires.below c.queue.at l, c.requires.short)
+
+pub index_mut-requires : goal.index_mut-requires
+index_mut-requires c =
+    let q = c.args.search.now.queue.items in
+    let l : c.queue.at < length q = omega (arith, c.queue-test.true, c.len-at-end.ensures) in
+    omega (arith, get_or_read q c.queue.at _ l c.index-v.ensures 0, c.requires.below c.queue.at l, c.queue.invariant.levels_size, c.requires.levels)
+
+pub index_mut-requires-in-queue : goal.index_mut-requires-in-queue
+index_mut-requires-in-queue c =
+    let q = c.args.search.now.queue.items in
+    let l : c.queue.at < length q = omega (arith, c.queue-test.true, c.len-at-end.ensures) in
+    omega (arith, get_or_read q c.queue.at _ l c.index-v.ensures 0, c.requires.below c.queue.at l, c.queue.invariant.groups_size, c.requires.groups)

@@ -1,10 +1,12 @@
-use Rattle.std.proofs.Common.{◌≡◌, ℕ, ◌<◌, ◌≤◌, inl, inr, [], ◌∷◌, ◌++◌, length, set, slice_index, refl, sym, ◌∙◌, ap, subst, arith, below_more, length-append, get_or-set_same}
+use Rattle.std.proofs.Common.{◌≡◌, ℕ, ◌<◌, ◌≤◌, inl, inr, [], ◌∷◌, ◌++◌, length, set, slice_index, refl, sym, ◌∙◌, ap, subst, arith, below_more}
+use Rattle.std.proofs.Common.{length-append, get_or-set_same}
 use Rattle.std.proofs.lemmas.List.{get_or_read, get_or_push}
 use Rattle.pg_game.specs.Graph.{priority_of}
 use Rattle.pg_dominion.specs.KeptEdges.{kept_row}
 use Rattle.pg_dominion.specs.private.KeptEdges.{EdgeUnder, Leads, IsFollowed, IsQueued}
 use Rattle.pg_dominion.proofs.Searching.{Leads-edge, Searching-push, queue_short, IsFollowed-later, GoesOn-then, GoesOn-push, GoesOn-less, edge_at, place_in}
-use Rattle.pg_dominion.proofs.walks.spread.Goals.{else-index-top-via-then-index-top+else-index-own, else-index-top-via-else-index-top, else-place-end-via-then-place-end+else-index-to, else-place-end-via-else-place-end}
+use Rattle.pg_dominion.proofs.walks.spread.Goals.{else-index-top-via-then-index-top+else-index-own, else-index-top-via-else-index-top}
+use Rattle.pg_dominion.proofs.walks.spread.Goals.{else-place-end-via-then-place-end+else-index-to, else-place-end-via-else-place-end}
 use Rattle.pg_dominion.proofs.walks.spread.Goals as goal
 
 pub row-init : goal.row-init
@@ -35,7 +37,8 @@ row-preserved-then-index-own c =
     let u = slice_index c.row-row.result.now c.row.w-index in
     let l : u < length c.args.kept.now.game.now = c.row-row.ensures.below c.row.w-index c.row-test.true in
     let read : c.index.result.now ≡ slice_index L u = get_or_read L u _ (omega (arith, l, c.requires.labels.levels_size)) c.index.ensures 0 in
-    let r : c.index-then-index-top.result.now ≡ slice_index G u = get_or_read G u _ (omega (arith, l, c.requires.labels.groups_size)) c.index-then-index-top.ensures 0 in
+    let r : c.index-then-index-top.result.now ≡ slice_index G u
+    = get_or_read G u _ (omega (arith, l, c.requires.labels.groups_size)) c.index-then-index-top.ensures 0 in
     record {
       least = inv.least;
       state = inv.state;
@@ -65,14 +68,16 @@ row-preserved-then-index-to c =
       least = omega (arith, inv.least, c.if-place-eq0.false, c.min-search.ensures);
       state = inv.state;
       later = GoesOn-then c.args.search.now.queue.items Q Q c.args.search.now.least m m' inv.later less;
-      spread = below_more _ _ (λ j lj h. IsFollowed-later c.args.kept.now L G c.args.top c.args.own P Q P Q m m' c.args.at (slice_index ws j) less inv.state (inv.spread j lj h))
+      spread = below_more _ _ (λ j lj h. IsFollowed-later c.args.kept.now L G c.args.top c.args.own P Q P Q m m' c.args.at
+          (slice_index ws j) less inv.state (inv.spread j lj h))
           (λ _. inr ((omega (arith, place, lt), q), inr (omega (arith, c.min-search.ensures, place))));
     }
 
 pub overflow_cast-end : goal.overflow_cast-end
 overflow_cast-end c =
     let s = c.row.search in
-    let h = queue_short c.args.kept.now c.args.labels.now.levels.items c.args.labels.now.groups.items c.args.top c.args.own s.places.items s.queue.items c.row.invariant.state in
+    let h = queue_short c.args.kept.now c.args.labels.now.levels.items c.args.labels.now.groups.items c.args.top c.args.own s.places.items s.queue.items
+    c.row.invariant.state in
     omega (arith, h, c.len-end.ensures, c.len-n.ensures.number, c.len-n.type_inv)
 
 pub returns-then-place-eq0-clause-back : goal.returns-then-place-eq0-clause-back
@@ -86,10 +91,17 @@ returns-then-place-eq0-clause-back c = λ _.
     let u = slice_index ws c.row.w-index in
     let i = c.index-in-row.result.now in
     let low : priority_of k.game.now u ≤ top = omega (arith, c.priority.ensures, c.if-priority-top.false) in
-    let r : c.index-then-place-end.result.now ≡ slice_index Q i = get_or_read Q i _ (omega (arith, c.if-place-end.true, c.len-end.ensures)) c.index-then-place-end.ensures 0 in
+    let r : c.index-then-place-end.result.now ≡ slice_index Q i
+    = get_or_read Q i _ (omega (arith, c.if-place-end.true, c.len-end.ensures)) c.index-then-place-end.ensures 0 in
     let first : u ≡ slice_index Q 0 = sym c.if-index-to.true ∙ r ∙ ap (λ (x : ℕ). slice_index Q x) c.if-place-eq0.true in
-    let v : slice_index Q at ≡ c.index-v.result.now = inv.later.front at c.requires.place ∙ sym (get_or_read c.args.search.now.queue.items at _ c.requires.place c.index-v.ensures 0) in
-    let edge : EdgeUnder k top (slice_index Q at) u = subst (λ (x : ℕ). EdgeUnder k top x u) (sym v) (edge_at (kept_row k c.index-v.result.now) ws c.row.w-index c.row-row.ensures.all c.row-test.true, low) in
+    let v : slice_index Q at ≡ c.index-v.result.now
+    = inv.later.front at c.requires.place ∙ sym (get_or_read c.args.search.now.queue.items at _ c.requires.place c.index-v.ensures 0) in
+    let edge : EdgeUnder k top (slice_index Q at) u =
+    subst (λ (x : ℕ). EdgeUnder k top x u) (sym v) (
+      edge_at
+          (kept_row k c.index-v.result.now) ws c.row.w-index c.row-row.ensures.all c.row-test.true,
+      low,
+    ) in
     let back = Leads-edge k top (slice_index Q 0) (slice_index Q at) u (inv.state.reached at (omega (arith, c.requires.place, inv.later.longer))) edge in
     subst (λ (x : ℕ). Leads k top x x) (inv.later.front 0 c.requires.state.some) (subst (λ (x : ℕ). Leads k top (slice_index Q 0) x) first back)
 
@@ -114,7 +126,8 @@ row-preserved c =
     let place : c.index-in-row.result.now ≡ slice_index P u = get_or_read P u _ lp c.index-in-row.ensures 0 in
     let counts : top < slice_index L u → slice_index G u ≡ own = elim c.else-index-top.branch [
       | else-index-top-via-then-index-top+else-index-own w ↦
-          (λ _. let r : w.index-then-index-top.result.now ≡ slice_index G u = get_or_read G u _ (omega (arith, l, c.requires.labels.groups_size)) w.index-then-index-top.ensures 0 in sym r ∙ w.if-index-own.false)
+          (λ _. let r : w.index-then-index-top.result.now ≡ slice_index G u =
+          get_or_read G u _ (omega (arith, l, c.requires.labels.groups_size)) w.index-then-index-top.ensures 0 in sym r ∙ w.if-index-own.false)
       | else-index-top-via-else-index-top w ↦ (λ b. absurd (omega (arith, b, read, w.if-index-top.false)))
     ] in
     let new : IsQueued P Q u → ⊥ = elim c.else-place-end.branch [
@@ -124,9 +137,16 @@ row-preserved c =
       | else-place-end-via-else-place-end w ↦ (λ q. absurd (omega (arith, q.0, place, w.if-place-end.false, c.len-end.ensures)))
     ] in
     let lat : at < length Q = omega (arith, c.requires.place, inv.later.longer) in
-    let v : slice_index Q at ≡ c.index-v.result.now = inv.later.front at c.requires.place ∙ sym (get_or_read c.args.search.now.queue.items at _ c.requires.place c.index-v.ensures 0) in
-    let edge : EdgeUnder k top (slice_index Q at) u = subst (λ (x : ℕ). EdgeUnder k top x u) (sym v) (edge_at (kept_row k c.index-v.result.now) ws c.row.w-index c.row-row.ensures.all c.row-test.true, low) in
-    let st = Searching-push k L G top own P Q u l new counts (Leads-edge k top (slice_index Q 0) (slice_index Q at) u (inv.state.reached at lat) edge) inv.state in
+    let v : slice_index Q at ≡ c.index-v.result.now
+    = inv.later.front at c.requires.place ∙ sym (get_or_read c.args.search.now.queue.items at _ c.requires.place c.index-v.ensures 0) in
+    let edge : EdgeUnder k top (slice_index Q at) u =
+    subst (λ (x : ℕ). EdgeUnder k top x u) (sym v) (
+      edge_at
+          (kept_row k c.index-v.result.now) ws c.row.w-index c.row-row.ensures.all c.row-test.true,
+      low,
+    ) in
+    let st = Searching-push k L G top own P Q u l new counts
+    (Leads-edge k top (slice_index Q 0) (slice_index Q at) u (inv.state.reached at lat) edge) inv.state in
     let on = GoesOn-push Q m u in
     let e : slice_index (set P u (length Q)) u ≡ length Q = get_or-set_same P u (length Q) 0 lp in
     let end : c.len-end.result ≡ length Q = omega (arith, c.len-end.ensures) in
@@ -134,8 +154,12 @@ row-preserved c =
       least = inv.least;
       state = st;
       later = GoesOn-then c.args.search.now.queue.items Q (Q ++ u ∷ []) c.args.search.now.least m m inv.later on;
-      spread = below_more _ _ (λ i li h. IsFollowed-later k L G top own P Q (set P u (length Q)) (Q ++ u ∷ []) m m at (slice_index ws i) on st (inv.spread i li h))
-          (λ _. inr ((omega (arith, e, length-append Q (u ∷ [])), ap (λ (x : ℕ). slice_index (Q ++ u ∷ []) x) e ∙ get_or_push Q u 0 (length Q) refl), inl (omega (arith, e, lat))));
+      spread = below_more _ _ (λ i li h. IsFollowed-later k L G top own P Q (set P u (length Q)) (Q ++ u ∷ []) m m at (slice_index ws i) on st
+          (inv.spread i li h))
+          (λ _. inr (
+            (omega (arith, e, length-append Q (u ∷ [])), ap (λ (x : ℕ). slice_index (Q ++ u ∷ []) x) e ∙ get_or_push Q u 0 (length Q) refl),
+            inl (omega (arith, e, lat)),
+          ));
     }
 
 pub returns-clause-spread : goal.returns-clause-spread
@@ -145,8 +169,10 @@ returns-clause-spread c = λ _ w e.
     let s = c.row.search in
     let inv = c.row.invariant in
     let at = c.args.at in
-    let v : slice_index s.queue.items at ≡ c.index-v.result.now = inv.later.front at c.requires.place ∙ sym (get_or_read c.args.search.now.queue.items at _ c.requires.place c.index-v.ensures 0) in
+    let v : slice_index s.queue.items at ≡ c.index-v.result.now
+    = inv.later.front at c.requires.place ∙ sym (get_or_read c.args.search.now.queue.items at _ c.requires.place c.index-v.ensures 0) in
     let f : EdgeUnder k c.args.top c.index-v.result.now w = subst (λ (x : ℕ). EdgeUnder k c.args.top x w) v e in
     let p = place_in (kept_row k c.index-v.result.now) ws w c.row-row.ensures.all f.0 in
     let low : priority_of k.game.now (slice_index ws p.0) ≤ c.args.top = rw p.2 f.1 in
-    subst (λ (x : ℕ). IsFollowed c.args.labels.now.levels.items c.args.labels.now.groups.items c.args.top c.args.own s.least s.places.items s.queue.items at x) p.2 (inv.spread p.0 (omega (arith, p.1, c.row-test.false)) low)
+    subst (λ (x : ℕ). IsFollowed c.args.labels.now.levels.items c.args.labels.now.groups.items c.args.top c.args.own s.least s.places.items s.queue.items
+    at x) p.2 (inv.spread p.0 (omega (arith, p.1, c.row-test.false)) low)

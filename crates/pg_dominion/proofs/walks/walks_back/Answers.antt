@@ -1,11 +1,14 @@
-use Rattle.std.proofs.Common.{◌≡◌, ℕ, ◌+◌, length, slice_index, refl, sym, ◌∙◌, subst}
-use Rattle.pg_dominion.specs.private.KeptEdges.{Leads, AreNoted}
-use Rattle.pg_dominion.proofs.Labelled.{searching_first, labelled_more, no_way_back}
+use Rattle.std.proofs.Common.{◌≡◌, ℕ, ◌+◌, length, slice_index, refl, sym, ◌∙◌, subst, arith}
+use Rattle.pg_dominion.specs.private.KeptEdges.{AreNoted, Leads}
+use Rattle.pg_dominion.proofs.Labelled.{searching_first, labelled_more, none_reached}
 use Rattle.pg_dominion.proofs.walks.walks_back.Goals as goal
 
 pub finds_back-requires-clause-state : goal.finds_back-requires-clause-state
 finds_back-requires-clause-state c =
-    rw (c.in_ok-push.ensures.items, c.clear.ensures.items) (searching_first c.args.kept.now c.args.labels.now.levels.items c.args.labels.now.groups.items c.priority-top.result c.group_above-own.result c.args.search.now.places.items c.args.start c.requires.start c.requires.size c.group_above-own.ensures)
+    let l = c.args.labels.now in
+    rw (c.in_ok-push.ensures.items, c.clear.ensures.items)
+    (searching_first c.args.kept.now l.levels.items l.groups.items c.priority-top.result c.group_above-own.result c.args.search.now.places.items c.args.start
+    c.requires.start c.requires.size c.group_above-own.ensures.above)
 
 pub returns-then-own-eq0-clause-labels : goal.returns-then-own-eq0-clause-labels
 returns-then-own-eq0-clause-labels c =
@@ -16,23 +19,41 @@ returns-then-own-eq0-clause-labels c =
     let L' = c.note.new.labels.levels.items in
     let G' = c.note.new.labels.groups.items in
     let e : slice_index s.queue.items 0 ≡ c.args.start = h.first ∙ (rw (c.in_ok-push.ensures.items, c.clear.ensures.items) refl) in
-    labelled_more c.args.kept.now L G c.priority-top.result c.group_above-own.result s.least s.places.items s.queue.items c.requires.labels h.state (h.spread c.if-branch.false) c.if-own-eq0.true h.least L' G'
-    (subst (λ (x : ℕ). AreNoted L G s.places.items s.queue.items (c.priority-top.result + 1) x s.least (length s.queue.items) L' G') (sym e) c.note.ensures)
+    let top = c.priority-top.result in
+    labelled_more c.args.kept.now L G top c.group_above-own.result s.least s.places.items s.queue.items c.requires.labels h.state (h.spread c.if-branch.false)
+    c.if-own-eq0.true h.least L' G'
+    (subst (λ (x : ℕ). AreNoted L G s.places.items s.queue.items (top + 1) x s.least (length s.queue.items) L' G') (sym e) c.note.ensures)
 
 pub returns-then-own-eq0-clause-none : goal.returns-then-own-eq0-clause-none
-returns-then-own-eq0-clause-none c = λ _ r.
+returns-then-own-eq0-clause-none c = λ _.
     let h = c.in_ok-finds_back.ensures in
     let s = c.finds_back.new.search in
-    let top = c.priority-top.result in
-    let e : slice_index s.queue.items 0 ≡ c.args.start = h.first ∙ (rw (c.in_ok-push.ensures.items, c.clear.ensures.items) refl) in
-    no_way_back c.args.kept.now c.args.labels.now.levels.items c.args.labels.now.groups.items top c.group_above-own.result s.least s.places.items s.queue.items c.requires.labels h.state (h.spread c.if-branch.false) h.least
-    (subst (λ (x : ℕ). Leads c.args.kept.now top x x) (sym e) (subst (λ (t : ℕ). Leads c.args.kept.now t c.args.start c.args.start) (sym c.priority-top.ensures) r))
+    let l = c.args.labels.now in
+    none_reached c.args.kept.now l.levels.items l.groups.items c.priority-top.result c.group_above-own.result s.least s.places.items s.queue.items
+    c.requires.labels h.state (h.spread c.if-branch.false) h.least c.args.start
+    (h.first ∙ (rw (c.in_ok-push.ensures.items, c.clear.ensures.items) refl)) c.priority-top.ensures
 
 pub returns-else-own-eq0-clause-none : goal.returns-else-own-eq0-clause-none
-returns-else-own-eq0-clause-none c = λ _ r.
+returns-else-own-eq0-clause-none c = λ _.
     let h = c.in_ok-finds_back.ensures in
     let s = c.finds_back.new.search in
-    let top = c.priority-top.result in
-    let e : slice_index s.queue.items 0 ≡ c.args.start = h.first ∙ (rw (c.in_ok-push.ensures.items, c.clear.ensures.items) refl) in
-    no_way_back c.args.kept.now c.args.labels.now.levels.items c.args.labels.now.groups.items top c.group_above-own.result s.least s.places.items s.queue.items c.requires.labels h.state (h.spread c.if-branch.false) h.least
-    (subst (λ (x : ℕ). Leads c.args.kept.now top x x) (sym e) (subst (λ (t : ℕ). Leads c.args.kept.now t c.args.start c.args.start) (sym c.priority-top.ensures) r))
+    let l = c.args.labels.now in
+    none_reached c.args.kept.now l.levels.items l.groups.items c.priority-top.result c.group_above-own.result s.least s.places.items s.queue.items
+    c.requires.labels h.state (h.spread c.if-branch.false) h.least c.args.start
+    (h.first ∙ (rw (c.in_ok-push.ensures.items, c.clear.ensures.items) refl)) c.priority-top.ensures
+
+pub returns-then-branch-clause-back : goal.returns-then-branch-clause-back
+returns-then-branch-clause-back c = λ _.
+    let e : slice_index c.push.new.self.items 0 ≡ c.args.start = rw (c.in_ok-push.ensures.items, c.clear.ensures.items) refl in
+    let back = c.in_ok-finds_back.ensures.back c.if-branch.true in
+    subst (λ (t : ℕ). Leads c.args.kept.now t c.args.start c.args.start) c.priority-top.ensures
+    (subst (λ (x : ℕ). Leads c.args.kept.now c.priority-top.result x x) e back)
+
+pub note-requires-clause-below : goal.note-requires-clause-below
+note-requires-clause-below c = λ i l. omega (arith, c.in_ok-finds_back.ensures.state.below i l, c.in_ok-finds_back.ensures.state.size)
+
+pub note-requires-clause-placed : goal.note-requires-clause-placed
+note-requires-clause-placed c = c.in_ok-finds_back.ensures.state.placed
+
+pub returns-else-own-eq0-clause-labels : goal.returns-else-own-eq0-clause-labels
+returns-else-own-eq0-clause-labels c = c.requires.labels

@@ -7,8 +7,12 @@ use Rattle.pg_finders.proofs.loops.Singles.{all_rows, exactly_loops, chooses_its
 use Rattle.pg_finders.proofs.loops.find_loop.Goals as goal
 use Rattle.pg_finders.proofs.loops.find_loop.Goals.{After-is_empty}
 
-rows_are : (c : After-is_empty) → c.loop-v.rows.items ≡ rows_below (loops c.args.inside.now.graph (members c.args.inside.now.mask) c.args.player) (own_choices c.args.inside.now.graph c.args.player itself) (length c.args.inside.now.graph)
-rows_are c = all_rows c.args.inside.now.graph c.game-game.result.now c.args.inside.now.mask c.mask-mask.result.now c.args.player c.loop-v.rows.items c.loop-v.v c.len-v-end.result c.game-game.ensures.graph c.mask-mask.ensures c.len-v-end.ensures.number c.loop-v-test.false c.loop-v.auto.v-end c.loop-v.invariant
+rows_are : (c : After-is_empty) → c.loop-v.rows.items
+    ≡ rows_below (loops c.args.inside.now.graph (members c.args.inside.now.mask) c.args.player) (own_choices c.args.inside.now.graph c.args.player itself)
+    (length c.args.inside.now.graph)
+rows_are c =
+    all_rows c.args.inside.now.graph c.game-game.result.now c.args.inside.now.mask c.mask-mask.result.now c.args.player c.loop-v.rows.items c.loop-v.v
+    c.len-v-end.result c.game-game.ensures.graph c.mask-mask.ensures c.len-v-end.ensures.number c.loop-v-test.false c.loop-v.auto.v-end c.loop-v.invariant
 
 pub returns-then-is_empty-clause-none : goal.returns-then-is_empty-clause-none
 returns-then-is_empty-clause-none c =

@@ -31,5 +31,6 @@ returns c =
     let n : owner_of g v ≢ p = search rules in
     let s = c.requires.subgame.successor v i in
     equal_from c.stays.result (loops g U p v)
-    (λ y. (let only = c.stays.ensures.0 y in test_from_loop g U p v record { inside = i; parity = q; itself = subst (λ x. HasEdge g v x) (only s.0 s.1 s.2) s.1; only = λ _. only }))
+    (λ y. (let only = c.stays.ensures.0 y in test_from_loop g U p v record
+    { inside = i; parity = q; itself = subst (λ x. HasEdge g v x) (only s.0 s.1 s.2) s.1; only = λ _. only }))
     (λ y. c.stays.ensures.1 ((loop_from_test g U p v y).only n))

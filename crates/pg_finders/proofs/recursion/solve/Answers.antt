@@ -7,14 +7,17 @@ use Rattle.pg_finders.specs.Claims.{AreClaims}
 use Rattle.pg_finders.proofs.Good.{are_claims}
 use Rattle.pg_finders.proofs.recursion.solve.Goals as goal
 
-solved : (c : goal.After-drop-plan-3) → IsSolvedInside c.game-game.result.now (members c.mask-mask.result.now) (winners_of c.into_plan-plan.result) (choices_of c.into_plan-plan.result)
-solved c = subst (λ plan. IsSolvedInside c.game-game.result.now (members c.mask-mask.result.now) (winners_of plan) (choices_of plan)) (sym c.into_plan-plan.ensures) c.in_ok-run.ensures.solved
+solved : (c : goal.After-drop-plan-3) → IsSolvedInside c.game-game.result.now (members c.mask-mask.result.now) (winners_of c.into_plan-plan.result)
+    (choices_of c.into_plan-plan.result)
+solved c = subst (λ plan. IsSolvedInside c.game-game.result.now (members c.mask-mask.result.now) (winners_of plan) (choices_of plan))
+    (sym c.into_plan-plan.ensures) c.in_ok-run.ensures.solved
 
 pub returns : goal.returns
 returns c =
     let g = c.game-game.result.now in
     let mask = c.mask-mask.result.now in
-    let there : IsSubgame g (members c.args.inside.now.mask) = subst (λ h. IsSubgame h (members c.args.inside.now.mask)) (sym c.game-game.ensures.graph) c.game-game.ensures.part.subgame in
+    let there : IsSubgame g (members c.args.inside.now.mask) =
+    subst (λ h. IsSubgame h (members c.args.inside.now.mask)) (sym c.game-game.ensures.graph) c.game-game.ensures.part.subgame in
     let sub : IsSubgame g (members mask) = subst (λ m. IsSubgame g (members m)) (sym c.mask-mask.ensures) there in
     let claims : AreClaims g (members mask) c.in_ok-even.even c.in_ok-odd.odd =
     are_claims g (members mask) (winners_of c.into_plan-plan.result) (choices_of c.into_plan-plan.result) sub (solved c)

@@ -4,7 +4,8 @@ use Rattle.pg_game.specs.Graph.{owner_of}
 use Rattle.pg_game.specs.VertexSet.{In, members}
 use Rattle.pg_finders.proofs.solitaire.Forced.{one_from_single}
 use Rattle.pg_finders.proofs.solitaire.has_one_successor.Goals as goal
-use Rattle.pg_finders.proofs.solitaire.has_one_successor.Goals.{else-has-via-then-has+then-eq+else-is_none, else-has-via-then-has+else-eq, else-has-via-else-has}
+use Rattle.pg_finders.proofs.solitaire.has_one_successor.Goals.{else-has-via-then-has+then-eq+else-is_none, else-has-via-then-has+else-eq}
+use Rattle.pg_finders.proofs.solitaire.has_one_successor.Goals.{else-has-via-else-has}
 
 pub returns-then-is_none : goal.returns-then-is_none
 returns-then-is_none c =
@@ -18,7 +19,9 @@ returns-then-is_none c =
 pub loop-v-preserved : goal.loop-v-preserved
 loop-v-preserved c = below_more _ _ c.loop-v.invariant
     (elim c.else-has.branch [
-      | else-has-via-then-has+then-eq+else-is_none w ↦ (λ i o. one_from_single c.args.game.now (members c.args.mask.now) c.loop-v.v w.single_successor.result (λ n. search rules) w.single_successor.ensures.found)
+      | else-has-via-then-has+then-eq+else-is_none w ↦
+          (λ i o. one_from_single c.args.game.now (members c.args.mask.now) c.loop-v.v w.single_successor.result
+          (λ n. search rules) w.single_successor.ensures.found)
       | else-has-via-then-has+else-eq w ↦ (λ i o. absurd (search rules))
       | else-has-via-else-has w ↦ (λ i o. absurd (search rules))
     ])

@@ -14,7 +14,8 @@ loop-v-preserved c =
     rw c.in_ok-push.ensures.items record {
       size = search (rules, length-append);
       single = below_more _ _
-          (λ u l i o. subst (IsSingle g U u) (sym (get_or_append_left xs (x ∷ []) 0 u (omega (arith, c.loop-v.invariant.size)))) (c.loop-v.invariant.single u l i o))
+          (λ u l i o. subst (IsSingle g U u) (sym (get_or_append_left xs (x ∷ []) 0 u (omega (arith, c.loop-v.invariant.size))))
+          (c.loop-v.invariant.single u l i o))
           (λ i o. subst (IsSingle g U c.loop-v.v) (sym (get_or_push xs x 0 c.loop-v.v c.loop-v.invariant.size)) (c.forced_choice.ensures i o));
     }
 

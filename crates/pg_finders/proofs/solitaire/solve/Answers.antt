@@ -1,4 +1,5 @@
 use Rattle.std.proofs.Common.{◌≡◌, ℕ, length, slice_index, refl, sym, ◌∙◌, ap, arith, rules}
+use Rattle.std.proofs.lemmas.Bool.{and_parts}
 use Rattle.pg_game.specs.Player.{opponent, same_player}
 use Rattle.pg_game.specs.Graph.{owner_of}
 use Rattle.pg_game.specs.Least.{NoneHas, IsLeast}
@@ -9,7 +10,6 @@ use Rattle.pg_dominion.specs.declared.kept.Kept.{Kept}
 use Rattle.pg_dominion.specs.KeptEdges.{IsWorst}
 use Rattle.pg_finders.specs.Claims.{own_choices, rows_below}
 use Rattle.pg_finders.specs.private.solitaire.Solitaire.{good_for, choices_by}
-use Rattle.pg_finders.proofs.Sets.{both}
 use Rattle.pg_finders.proofs.solitaire.Forced.{all_held, worst_leads, worst_parity, lead_held, held_good, ok_good}
 use Rattle.pg_finders.proofs.solitaire.solve.Goals as goal
 
@@ -24,7 +24,7 @@ first_worst-requires c =
       chosen = c.in_ok-owned_by.ensures.0;
       choices = s.size;
       bad = c.in_ok-of_parity.ensures.0;
-      below = λ v i. (let b = both (U v) (same_player (owner_of g v) q) (sym (c.in_ok-owned_by.ensures.1 v) ∙ i) in
+      below = λ v i. (let b = and_parts (U v) (same_player (owner_of g v) q) (sym (c.in_ok-owned_by.ensures.1 v) ∙ i) in
           let h = s.single v b.0 (same_is (owner_of g v) q b.1) in
           omega (arith, member_below c.args.mask.now (slice_index c.in_ok-single_successors.field-0.items v) h.inside, c.requires.size));
     }
@@ -34,12 +34,23 @@ returns-in-None c =
     let g = c.args.game.now in
     let U = members c.args.mask.now in
     let q = c.args.forced in
-    let k : Kept = record { game = c.args.game; inside = c.in_ok-copy.field-0; chosen = c.in_ok-owned_by.field-0; choices = c.in_ok-single_successors.field-0; bad = c.in_ok-of_parity.field-0 } in
+    let k : Kept =
+    record {
+      game =
+          c.args.game;
+      inside =
+          c.in_ok-copy.field-0;
+      chosen = c.in_ok-owned_by.field-0;
+      choices = c.in_ok-single_successors.field-0;
+      bad = c.in_ok-of_parity.field-0;
+    } in
     let next = c.in_ok-single_successors.field-0.items in
     let none : NoneHas (IsWorst k) = search rules in
-    let held = all_held k U q (λ v. rw c.in_ok-copy.ensures refl) c.in_ok-owned_by.ensures.1 (λ v. rw (← c.other.ensures) (c.in_ok-of_parity.ensures.1 v)) c.in_ok-single_successors.ensures.single none in
+    let held = all_held k U q (λ v. rw c.in_ok-copy.ensures refl) c.in_ok-owned_by.ensures.1
+    (λ v. rw (← c.other.ensures) (c.in_ok-of_parity.ensures.1 v)) c.in_ok-single_successors.ensures.single none in
     let some = c.requires.some in
-    ok_good g U q (rows_below (members c.args.mask.now) (own_choices g q (choices_by c.as_slice.result.now)) (length g)) c.claim_of.result c.claim_of.ensures.player c.claim_of.ensures.rows
+    ok_good g U q (rows_below (members c.args.mask.now) (own_choices g q (choices_by c.as_slice.result.now))
+    (length g)) c.claim_of.result c.claim_of.ensures.player c.claim_of.ensures.rows
     (rw c.as_slice.ensures.value (held_good g U q U next c.requires.subgame held some.0 some.1))
 
 pub returns : goal.returns
@@ -47,7 +58,16 @@ returns c =
     let g = c.args.game.now in
     let U = members c.args.mask.now in
     let q = c.args.forced in
-    let k : Kept = record { game = c.args.game; inside = c.in_ok-copy.field-0; chosen = c.in_ok-owned_by.field-0; choices = c.in_ok-single_successors.field-0; bad = c.in_ok-of_parity.field-0 } in
+    let k : Kept =
+    record {
+      game =
+          c.args.game;
+      inside =
+          c.in_ok-copy.field-0;
+      chosen = c.in_ok-owned_by.field-0;
+      choices = c.in_ok-single_successors.field-0;
+      bad = c.in_ok-of_parity.field-0;
+    } in
     let v = c.in-Some.goal in
     let lead = c.in_ok-lead-in-Some.lead in
     let least : IsLeast (IsWorst k) v = rw c.in-Some.is at c.in_ok-first_worst.ensures in
@@ -56,5 +76,7 @@ returns c =
     let parity = worst_parity k U q (λ x. rw c.in_ok-copy.ensures refl) c.in_ok-owned_by.ensures.1 bad c.in_ok-single_successors.ensures.single v least.has in
     let there = c.in_ok-lead-in-Some.ensures.all v walk.0 walk.1 in
     let held = lead_held g U q c.requires.one v lead.taken lead.next.items c.in_ok-lead-in-Some.ensures.leading there parity in
-    ok_good g U (opponent q) (rows_below (members lead.taken) (own_choices g (opponent q) (choices_by c.as_slice-in-Some.result.now)) (length g)) c.claim_of-in-Some.result (rw (← c.other-in-Some.ensures) c.claim_of-in-Some.ensures.player) (rw (← c.other-in-Some.ensures) c.claim_of-in-Some.ensures.rows)
+    ok_good g U (opponent q) (rows_below (members lead.taken) (own_choices g (opponent q) (choices_by c.as_slice-in-Some.result.now))
+    (length g)) c.claim_of-in-Some.result (rw (← c.other-in-Some.ensures) c.claim_of-in-Some.ensures.player)
+    (rw (← c.other-in-Some.ensures) c.claim_of-in-Some.ensures.rows)
     (rw c.as_slice-in-Some.ensures.value (held_good g U (opponent q) (members lead.taken) lead.next.items c.requires.subgame held v there))

@@ -34,18 +34,18 @@ place (u ∷ us) v = if u == v then 0 else suc (place us v)
 abbrev pub Before : List ℕ → ℕ → ℕ → Type 0
 Before list v w = In (listed list) w × (place list w < place list v)
 
--- The player took active vertices: those of `more`, behind the front. Each of his has a choice that is listed earlier, and each edge
+-- The player took active vertices: those of `more`, behind the prefix. Each of his has a choice that is listed earlier, and each edge
 -- of the opponent's to a vertex that was active or listed leads to one listed earlier.
-pub record IsGrown (g : Graph) (p : Player) (before : VertexSet) (old : Plan) (front : List ℕ) (after : VertexSet) (new : Plan) (list : List ℕ) : Type 0 where
+pub record IsGrown (g : Graph) (p : Player) (before : VertexSet) (old : Plan) (prefix : List ℕ) (after : VertexSet) (new : Plan) (list : List ℕ) : Type 0 where
   pub more : List ℕ
-  pub list_is : list ≡ front ++ more
+  pub list_is : list ≡ prefix ++ more
   pub once : Once more
   pub were_active : (v : ℕ) → In (listed more) v → In before v
   pub active_is : (v : ℕ) → after v ≡ without before (listed more) v
   pub his : (v : ℕ) → In (listed more) v → winners_of new v ≡ p
   pub same : SameOutside before old new
   pub leads : (v : ℕ) → In (listed more) v → owner_of g v ≡ p → (w : ℕ) × (choices_of new v ≡ Some w) × HasEdge g v w × Before list v w
-  pub pushed : (v w : ℕ) → In (listed more) v → owner_of g v ≡ opponent p → HasEdge g v w → In (union before (listed front)) w → Before list v w
+  pub pushed : (v w : ℕ) → In (listed more) v → owner_of g v ≡ opponent p → HasEdge g v w → In (union before (listed prefix)) w → Before list v w
 
 -- the vertex is taken, or it is the opponent's and had a way to an active one
 abbrev pub IsTakenOrActive : Graph → Player → VertexSet → VertexSet → ℕ → Type 0
@@ -63,7 +63,8 @@ pub record IsKnown (g : Graph) (U : VertexSet) (p : Player) (active : VertexSet)
 
 -- the vertex is taken, or it is the player's with no edge into D, or the opponent's and had a way to an active one
 abbrev pub IsTested : Graph → Player → VertexSet → VertexSet → VertexSet → ℕ → Type 0
-IsTested g p D before now v = (now v ≡ false) ⊎ (((owner_of g v ≡ p) × ((w : ℕ) → HasEdge g v w → D w ≡ false)) ⊎ ((owner_of g v ≢ p) × (w : ℕ) × HasEdge g v w × In before w))
+IsTested g p D before now v =
+    (now v ≡ false) ⊎ (((owner_of g v ≡ p) × ((w : ℕ) → HasEdge g v w → D w ≡ false)) ⊎ ((owner_of g v ≢ p) × (w : ℕ) × HasEdge g v w × In before w))
 
 -- no active vertex is attracted by those of D inside U
 pub record AttractsNoActive (g : Graph) (p : Player) (U D active : VertexSet) : Type 0 where

@@ -29,7 +29,8 @@ pub record IsRunning (g : Graph) (inside : List Bool) (solver : Solver) (stops :
   pub order : IsOrder g solver.order
   pub stand : AllStand solver.order.ranked.items (active_of solver.subgame) solver.order.upto
   pub placed : AllPlaced solver.order.ranked.items (map (level_at (members inside) (settled_of solver.settled) solver.aside.items) stops) stops
-  pub under_way : IsUnderWay g (members inside) (active_of solver.subgame) (settled_of solver.settled) solver.aside.items stops (winners_of solver.subgame.plan) (choices_of solver.subgame.plan)
+  pub under_way : IsUnderWay g (members inside) (active_of solver.subgame) (settled_of solver.settled) solver.aside.items stops
+      (winners_of solver.subgame.plan) (choices_of solver.subgame.plan)
 
 -- the steps that are left at most, where the whole has n vertices
 abbrev pub steps_left : ℕ → List Stop → ℕ

@@ -48,7 +48,8 @@ pub record AreApart (settled : SettledLists) (aside : List ℕ) : Type 0 where
   pub aside_apart : (p : Player) → Apart (settled p) aside
 
 -- the run of the loop: what is active, what is settled, what is set aside, and where subgames wait
-pub record IsUnderWay (g : Graph) (U active : VertexSet) (settled : SettledLists) (aside : List ℕ) (stops : List Stop) (won : Winners) (s : Choices) : Type 0 where
+pub record IsUnderWay (g : Graph) (U active : VertexSet) (settled : SettledLists) (aside : List ℕ) (stops : List Stop) (won : Winners)
+    (s : Choices) : Type 0 where
   pub linked : Linked (λ p. 0) (λ p. length (settled p)) 0 stops (length aside)
   pub apart : AreApart settled aside
   pub listed_inside : (v : ℕ) → In (gone settled aside) v → In U v

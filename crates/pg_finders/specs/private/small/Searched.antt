@@ -8,18 +8,18 @@ use Rattle.pg_finders.specs.declared.small.search.Step.{Step}
 use Rattle.pg_finders.specs.declared.small.search.Step.TheVariants.{Found, Nothing, GaveUp}
 use Rattle.pg_finders.specs.private.small.Partial.{vertex_in, IsPartial, ExtendsChoices}
 
-abbrev pub IfFound : Step → (ClaimRows → Type 0) → Type 0
-IfFound (Found rows) P = P rows
+abbrev pub IfFound : Step → Type 0 → Type 0
+IfFound Found P = P
 IfFound Nothing P = Unit {0}
 IfFound GaveUp P = Unit {0}
 
 abbrev pub IfNothing : Step → Type 0 → Type 0
-IfNothing (Found rows) P = Unit {0}
+IfNothing Found P = Unit {0}
 IfNothing Nothing P = P
 IfNothing GaveUp P = Unit {0}
 
 abbrev pub IfGaveUp : Step → Type 0 → Type 0
-IfGaveUp (Found rows) P = Unit {0}
+IfGaveUp Found P = Unit {0}
 IfGaveUp Nothing P = Unit {0}
 IfGaveUp GaveUp P = P
 
@@ -38,11 +38,13 @@ StillAgrees g U p rows at next = (claim : ClaimRows) → IsGoodIn g U p claim �
 
 -- the same, where it chooses w at v
 abbrev pub StillAgreesAt : Graph → VertexSet → Player → ClaimRows → ℕ → ℕ → ℕ → ClaimRows → Type 0
-StillAgreesAt g U p rows at v w next = (claim : ClaimRows) → IsGoodIn g U p claim → choice_in claim v ≡ Some w → ExtendsChoices g p claim rows at → ExtendsChoices g p claim next (at + 1)
+StillAgreesAt g U p rows at v w next =
+    (claim : ClaimRows) → IsGoodIn g U p claim → choice_in claim v ≡ Some w → ExtendsChoices g p claim rows at → ExtendsChoices g p claim next (at + 1)
 
 -- no good claim of at most so many vertices agrees with the rows and chooses w at v
 abbrev pub NoneAgreesAt : Graph → VertexSet → Player → ℕ → ClaimRows → ℕ → ℕ → ℕ → Type 0
-NoneAgreesAt g U p bound rows at v w = (claim : ClaimRows) → IsGoodIn g U p claim → length claim ≤ bound → choice_in claim v ≡ Some w → ExtendsChoices g p claim rows at → ⊥
+NoneAgreesAt g U p bound rows at v w =
+    (claim : ClaimRows) → IsGoodIn g U p claim → length claim ≤ bound → choice_in claim v ≡ Some w → ExtendsChoices g p claim rows at → ⊥
 
 -- the rows are full, and w is not among them
 abbrev pub HasNoRoom : ClaimRows → ℕ → ℕ → Type 0

@@ -13,4 +13,5 @@ pub record IsLeastFrom (rows : ClaimRows) (low at : ℕ) : Type 0 where
 -- the same among the first so many
 abbrev pub LeastSoFar : ClaimRows → ℕ → ℕ → Option ℕ → Type 0
 LeastSoFar rows low i None = (k : ℕ) → k < i → vertex_in rows k < low
-LeastSoFar rows low i (Some at) = (at < length rows) × (low ≤ vertex_in rows at) × ((k : ℕ) → k < i → low ≤ vertex_in rows k → vertex_in rows at ≤ vertex_in rows k)
+LeastSoFar rows low i (Some at) =
+    (at < length rows) × (low ≤ vertex_in rows at) × ((k : ℕ) → k < i → low ≤ vertex_in rows k → vertex_in rows at ≤ vertex_in rows k)

@@ -18,7 +18,8 @@ Under g p rows done top v w = KeptEdge g p (named (take done rows)) (choice_in r
 
 -- a walk over such edges, from the row's vertex back to it, where the priority is its own
 abbrev pub WalksBack : Graph → Player → ClaimRows → ℕ → ℕ → Type 0
-WalksBack g p rows done start = (ws : List ℕ) × Walk (Under g p rows done (priority_of g (vertex_in rows start))) (vertex_in rows start) ws (vertex_in rows start)
+WalksBack g p rows done start =
+    (ws : List ℕ) × Walk (Under g p rows done (priority_of g (vertex_in rows start))) (vertex_in rows start) ws (vertex_in rows start)
 
 -- the row is the start, or is left no more
 abbrev pub IsFrom : ℕ → List Bool → ℕ → Type 0
@@ -30,4 +31,5 @@ IsReachedNext g p rows done start left to = (from : ℕ) × (from < done) × IsF
 
 -- the row is left, low enough, and next
 abbrev pub IsReached : Graph → Player → ClaimRows → ℕ → ℕ → List Bool → ℕ → Type 0
-IsReached g p rows done start left to = (to < done) × In (members left) to × (priority_of g (vertex_in rows to) ≤ priority_of g (vertex_in rows start)) × IsReachedNext g p rows done start left to
+IsReached g p rows done start left to =
+    (to < done) × In (members left) to × (priority_of g (vertex_in rows to) ≤ priority_of g (vertex_in rows start)) × IsReachedNext g p rows done start left to

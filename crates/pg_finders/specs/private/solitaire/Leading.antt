@@ -14,4 +14,4 @@ pub record IsQueue (g : Graph) (goal : ℕ) (taken : List Bool) (queue : List �
 pub record Follows (taken : List Bool) (queue : List ℕ) (taken' : List Bool) (queue' : List ℕ) : Type 0 where
   pub grows : Within (members taken) (members taken')
   pub longer : length queue ≤ length queue'
-  pub front : (i : ℕ) → i < length queue → slice_index queue' i ≡ slice_index queue i
+  pub prefix : (i : ℕ) → i < length queue → slice_index queue' i ≡ slice_index queue i

@@ -4,4 +4,13 @@ use Rattle.pg_text.proofs.OneSolutionFault.{one_solution_fault, solution_text_or
 use Rattle.pg_text.proofs.laws.one_answer.Goals as goal
 
 pub returns : goal.returns
-returns c = record { tokens = tokens_or_lexical; game = text_or_fault; fault = one_fault; memory = no_game_wants_memory; solution = solution_text_or_fault; solution_fault = one_solution_fault }
+returns c = record {
+  tokens =
+      tokens_or_lexical;
+  game =
+      text_or_fault;
+  fault = one_fault;
+  memory = no_game_wants_memory;
+  solution = solution_text_or_fault;
+  solution_fault = one_solution_fault;
+}

@@ -4,5 +4,9 @@ use Rattle.pg_text.proofs.Runs.{run_more}
 use Rattle.pg_text.proofs.lexer.blanks_end.Goals as goal
 
 pub blanks-preserved : goal.blanks-preserved
-blanks-preserved c =
-    (omega arith, c.blanks.invariant.1 ++ get_or c.args.text.now c.blanks.to 0 ∷ [], run_more is_blank c.args.text.now c.args.from c.blanks.to c.blanks.invariant.1 c.blanks.invariant.2 c.blanks-test.true (sym c.blank.ensures ∙ c.if-blank.true))
+blanks-preserved c = (
+  omega arith,
+  c.blanks.invariant.1 ++ get_or c.args.text.now c.blanks.to 0 ∷ [],
+  run_more is_blank c.args.text.now c.args.from c.blanks.to c.blanks.invariant.1 c.blanks.invariant.2 c.blanks-test.true
+      (sym c.blank.ensures ∙ c.if-blank.true),
+)

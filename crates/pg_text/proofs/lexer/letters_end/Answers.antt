@@ -4,5 +4,9 @@ use Rattle.pg_text.proofs.Runs.{run_more}
 use Rattle.pg_text.proofs.lexer.letters_end.Goals as goal
 
 pub letters-preserved : goal.letters-preserved
-letters-preserved c =
-    (omega arith, c.letters.invariant.1 ++ get_or c.args.text.now c.letters.to 0 ∷ [], run_more is_letter c.args.text.now c.args.from c.letters.to c.letters.invariant.1 c.letters.invariant.2 c.letters-test.true (sym c.letter.ensures ∙ c.if-letter.true))
+letters-preserved c = (
+  omega arith,
+  c.letters.invariant.1 ++ get_or c.args.text.now c.letters.to 0 ∷ [],
+  run_more is_letter c.args.text.now c.args.from c.letters.to c.letters.invariant.1 c.letters.invariant.2 c.letters-test.true
+      (sym c.letter.ensures ∙ c.if-letter.true),
+)

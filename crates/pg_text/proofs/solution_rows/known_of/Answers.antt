@@ -10,7 +10,8 @@ returns-in_err-table_of-clause-rows c =
     let g = c.args.game.now in
     let ls = map line_of c.args.lines.now in
     let e = c.in_err-table_of.field-0.0 in
-    passed_on c.from_residual.result e (λ k. AreKnownLinesOf g ls k.rows) (λ f. IsKnownRowFaultOf g ls f) c.from_residual.ensures.1 (known_fault g ls e c.in_err-table_of.ensures)
+    passed_on c.from_residual.result e (λ k. AreKnownLinesOf g ls k.rows) (λ f. IsKnownRowFaultOf g ls f) c.from_residual.ensures.1
+    (known_fault g ls e c.in_err-table_of.ensures)
 
 pub returns-clause-size : goal.returns-clause-size
 returns-clause-size c = let h = c.in_ok-table_of.ensures in known_size c.args.game.now _ c.known.result _ (c.known.ensures _ h)

@@ -8,9 +8,14 @@ use Rattle.pg_text.specs.private.SolutionTable.{IsNamed}
 use Rattle.pg_text.proofs.Identifiers.{not_named}
 use Rattle.pg_text.proofs.solution_rows.named.Goals as goal
 
-either : (g : Graph) (id : ℕ) (o : Option ℕ) → IfSome o (λ v. (v < length g) × (id_of g v ≡ id)) → IfNone o ((v : ℕ) → v < length g → id_of g v ≡ id → ⊥) → MatchResult (ok_or o (Stranger id)) (λ v. IsNamed g id v) (λ e. (e ≡ Stranger id) × (is_id g id ≡ false))
+either : (g : Graph) (id : ℕ) (o : Option ℕ) → IfSome o (λ v. (v < length g) × (id_of g v ≡ id)) → IfNone o ((v : ℕ) → v < length g → id_of g v ≡ id → ⊥)
+    → MatchResult (ok_or o (Stranger id)) (λ v. IsNamed g id v) (λ e. (e ≡ Stranger id) × (is_id g id ≡ false))
 either g id None found missing = (refl, not_named g id missing)
 either g id (Some v) (l, e) missing = record { vertex = l; id_is = e }
 
 pub returns : goal.returns
-returns c = subst (λ r. MatchResult r (λ v. IsNamed c.args.game.now c.args.id v) (λ e. (e ≡ Stranger c.args.id) × (is_id c.args.game.now c.args.id ≡ false))) (sym c.ok_or.ensures.value) (either c.args.game.now c.args.id c.vertex_of.result c.vertex_of.ensures.found c.vertex_of.ensures.missing)
+returns c =
+    let g = c.args.game.now in
+    let id = c.args.id in
+    subst (λ r. MatchResult r (λ v. IsNamed g id v) (λ e. (e ≡ Stranger id) × (is_id g id ≡ false))) (sym c.ok_or.ensures.value)
+    (either g id c.vertex_of.result c.vertex_of.ensures.found c.vertex_of.ensures.missing)

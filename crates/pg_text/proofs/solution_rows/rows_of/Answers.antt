@@ -11,7 +11,8 @@ returns-in_err-table_of-clause-rows c =
     let g = c.args.game.now in
     let ls = map line_of c.args.lines.now in
     let e = c.in_err-table_of.field-0.0 in
-    passed_on c.from_residual.result e (λ s. AreLinesOf g ls s.rows) (λ f. IsRowFaultOf g ls f) c.from_residual.ensures.1 (row_fault g ls e c.in_err-table_of.ensures)
+    passed_on c.from_residual.result e (λ s. AreLinesOf g ls s.rows) (λ f. IsRowFaultOf g ls f) c.from_residual.ensures.1
+    (row_fault g ls e c.in_err-table_of.ensures)
 
 pub returns-clause-fit : goal.returns-clause-fit
 returns-clause-fit c = let h = c.in_ok-table_of.ensures in fit_answer c.args.game.now _ c.finish.result _ h.game (c.finish.ensures _ h)

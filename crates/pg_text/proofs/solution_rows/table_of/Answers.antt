@@ -10,11 +10,15 @@ pub returns-in_err-take : goal.returns-in_err-take
 returns-in_err-take c =
     let g = c.args.game.now in
     let ls = c.args.lines.now in
-    let k = is_stranger g ls c.lines.line-index _ c.in_err-take.field-0.0 c.lines-test.true c.lines.invariant.no_stranger (c.in_err-take.ensures _ c.lines.invariant) in
-    passed_on c.from_residual-in_err-take.result c.in_err-take.field-0.0 (λ table. HoldsTable g (map line_of ls) table) (λ e. IsLookUpFaultOf g (map line_of ls) e) c.from_residual-in_err-take.ensures.1 k
+    let e = c.in_err-take.field-0.0 in
+    let i = c.lines.invariant in
+    let k = is_stranger g ls c.lines.line-index _ e c.lines-test.true i.no_stranger (c.in_err-take.ensures _ i) in
+    passed_on c.from_residual-in_err-take.result e (λ table. HoldsTable g (map line_of ls) table)
+    (λ e. IsLookUpFaultOf g (map line_of ls) e) c.from_residual-in_err-take.ensures.1 k
 
 pub lines-preserved : goal.lines-preserved
 lines-preserved c =
     let g = c.args.game.now in
     let t = c.take.new.self in
-    subst (λ (lines : List WrittenSolutionLine). HoldsLines g lines t.rows.items t.said t.twice) (sym (next_line c.args.lines.now c.lines.line-index _ c.lines-test.true)) (c.in_ok-take.ensures _ c.lines.invariant)
+    subst (λ (lines : List WrittenSolutionLine). HoldsLines g lines t.rows.items t.said t.twice)
+    (sym (next_line c.args.lines.now c.lines.line-index _ c.lines-test.true)) (c.in_ok-take.ensures _ c.lines.invariant)

@@ -13,7 +13,10 @@ vertices-preserved c =
       (let h = c.number_before-at.ensures.near in let p = c.byte_before-at.ensures.place in omega arith),
       (let h = c.number_before-at.ensures.before in let p = c.byte_before-at.ensures.place in omega arith),
       c.byte_before-at.ensures.size ∙ (c.number_before-at.ensures.size ∙ size),
-      c.byte_before-at.ensures.written ∙ (ap (λ xs. 44 ∷ xs) (c.number_before-at.ensures.written ∙ (ap (λ n. decimal n ++ drop c.vertices.at c.vertices.line) c.id.ensures ∙ ap (λ xs. f (get_or c.args.vertices.now (c.vertices.left - 1) 0) ++ xs) is)) ∙ list_more f c.args.vertices.now c.vertices.left (drop c.args.end c.args.line.now) (omega arith) high),
+      c.byte_before-at.ensures.written ∙ (ap (λ xs. 44 ∷ xs)
+          (c.number_before-at.ensures.written ∙ (ap (λ n. decimal n ++ drop c.vertices.at c.vertices.line) c.id.ensures
+          ∙ ap (λ xs. f (get_or c.args.vertices.now (c.vertices.left - 1) 0) ++ xs) is))
+          ∙ list_more f c.args.vertices.now c.vertices.left (drop c.args.end c.args.line.now) (omega arith) high),
     )
 
 pub returns-clause-written : goal.returns-clause-written
@@ -21,4 +24,7 @@ returns-clause-written c =
     let f : ℕ → List ℕ = λ w. decimal (id_of c.args.game.now w) in
     let (some, high, room, end, low, size, is) = c.vertices.invariant in
     let one : c.vertices.left ≡ 1 = omega arith in
-    c.number_before.ensures.written ∙ (ap (λ n. decimal n ++ drop c.vertices.at c.vertices.line) c.id-2.ensures ∙ (ap (λ xs. f (get_or c.args.vertices.now 0 0) ++ xs) is ∙ (ap (λ n. f (get_or c.args.vertices.now 0 0) ++ (flat_map (λ w. 44 ∷ f w) (drop n c.args.vertices.now) ++ drop c.args.end c.args.line.now)) one ∙ list_whole f c.args.vertices.now (drop c.args.end c.args.line.now) c.requires.some)))
+    c.number_before.ensures.written ∙ (ap (λ n. decimal n ++ drop c.vertices.at c.vertices.line) c.id-2.ensures
+    ∙ (ap (λ xs. f (get_or c.args.vertices.now 0 0) ++ xs) is
+    ∙ (ap (λ n. f (get_or c.args.vertices.now 0 0) ++ (flat_map (λ w. 44 ∷ f w) (drop n c.args.vertices.now) ++ drop c.args.end c.args.line.now)) one
+    ∙ list_whole f c.args.vertices.now (drop c.args.end c.args.line.now) c.requires.some)))

@@ -14,7 +14,9 @@ regroup : (a b c d rest : List ℕ) → a ++ (32 ∷ b ++ (c ++ (d ++ rest))) �
 regroup a b c d rest = simp append_assoc
 
 -- one more row
-row_more : (g : Graph) (rows : SolutionRows) (v : ℕ) → length rows ≡ length g → v < length g → written_rows g (drop v g) (drop v rows) ≡ written_rows g (vertex_at g v ∷ []) (get_or rows v (Even, None) ∷ []) ++ written_rows g (drop (v + 1) g) (drop (v + 1) rows)
+row_more : (g : Graph) (rows : SolutionRows) (v : ℕ) → length rows ≡ length g → v < length g
+    → written_rows g (drop v g) (drop v rows) ≡ written_rows g (vertex_at g v ∷ []) (get_or rows v (Even, None) ∷ [])
+    ++ written_rows g (drop (v + 1) g) (drop (v + 1) rows)
 row_more g rows v e l =
     let x = vertex_at g v in
     let r = get_or rows v (Even, None) in
@@ -29,7 +31,8 @@ put_row-requires-clause-choice c =
     let g = c.args.game.now in
     let n = c.requires.size in
     let l : c.rows.v < length c.args.solution.now.rows = omega arith in
-    subst (λ (rows : SolutionRows). IfSome (get_or rows c.rows.v (Even, None)).1 (λ w. w < length g)) (sym c.as_slice-rows.ensures) (all_at (λ r. IfSome r.1 (λ w. w < length g)) c.args.solution.now.rows c.rows.v (Even, None) c.requires.choices l)
+    subst (λ (rows : SolutionRows). IfSome (get_or rows c.rows.v (Even, None)).1 (λ w. w < length g)) (sym c.as_slice-rows.ensures)
+    (all_at (λ r. IfSome r.1 (λ w. w < length g)) c.args.solution.now.rows c.rows.v (Even, None) c.requires.choices l)
 
 pub rows-preserved : goal.rows-preserved
 rows-preserved c =
@@ -39,7 +42,8 @@ rows-preserved c =
     let l : c.rows.v < length g = omega arith in
     let rest : List ℕ = written_rows g (drop (c.rows.v + 1) g) (drop (c.rows.v + 1) rows) in
     let one : List ℕ = written_rows g (vertex_at g c.rows.v ∷ []) (get_or rows c.rows.v (Even, None) ∷ []) in
-    ap (λ (xs : List ℕ). xs ++ rest) c.in_ok-put_row.ensures ∙ (append_assoc c.rows.out.items one rest ∙ (ap (λ (xs : List ℕ). c.rows.out.items ++ xs) (sym (row_more g rows c.rows.v n l)) ∙ c.rows.invariant))
+    ap (λ (xs : List ℕ). xs ++ rest) c.in_ok-put_row.ensures
+    ∙ (append_assoc c.rows.out.items one rest ∙ (ap (λ (xs : List ℕ). c.rows.out.items ++ xs) (sym (row_more g rows c.rows.v n l)) ∙ c.rows.invariant))
 
 pub returns-clause-short : goal.returns-clause-short
 returns-clause-short c =

@@ -1,5 +1,4 @@
-use Rattle.std.proofs.Common.{rules, ◌≡◌, ◌∙◌, Err, sym, subst}
-use Rattle.std.specs.Prelude.{Result, IfErr}
+use Rattle.std.proofs.Common.{rules, ◌≡◌, ◌∙◌, Err, sym, subst, Result, IfErr}
 use Rattle.pg_board.specs.Play.{Play}
 use Rattle.pg_workers.specs.Known.{IsSolveFault}
 use Rattle.pg_workers.specs.declared.known.SolveFault.{SolveFault}
@@ -10,7 +9,8 @@ pub returns-in_err-post_known-2-clause-fault : goal.returns-in_err-post_known-2-
 returns-in_err-post_known-2-clause-fault c =
     let mid = c.post_known.new.board in
     let same = c.in_ok-post_known.ensures.graph ∙ c.in_ok-board.ensures.graph in
-    let h = odd_fault c.args.game.now c.args.known.now.rows c.in_ok-board.board mid c.in_ok-board.ensures.graph c.in_ok-board.ensures.journal c.in_ok-post_known.ensures.settles same c.game-posted.ensures.lawful c.in_err-post_known-2.field-0.0 c.in_err-post_known-2.ensures.fault in
+    let h = odd_fault c.args.game.now c.args.known.now.rows c.in_ok-board.board mid c.in_ok-board.ensures.graph c.in_ok-board.ensures.journal
+    c.in_ok-post_known.ensures.settles same c.game-posted.ensures.lawful c.in_err-post_known-2.field-0.0 c.in_err-post_known-2.ensures.fault in
     let e : c.from_residual-in_err-post_known-2.result ≡ Err c.in_err-post_known-2.field-0.0 = search rules in
     subst (λ (r : Result Play SolveFault). IfErr r (λ x. IsSolveFault c.args.game.now c.args.known.now.rows x)) (sym e) h
 
@@ -18,4 +18,5 @@ pub returns-clause-known : goal.returns-clause-known
 returns-clause-known c =
     let mid = c.post_known.new.board in
     let same = c.in_ok-post_known.ensures.graph ∙ c.in_ok-board.ensures.graph in
-    has_known c.args.game.now c.args.known.now.rows c.in_ok-board.board mid c.in_ok-board.ensures.graph c.in_ok-board.ensures.journal c.in_ok-post_known.ensures.settles c.post_known-2.new.board same c.in_ok-post_known-2.ensures.settles
+    has_known c.args.game.now c.args.known.now.rows c.in_ok-board.board mid c.in_ok-board.ensures.graph c.in_ok-board.ensures.journal
+    c.in_ok-post_known.ensures.settles c.post_known-2.new.board same c.in_ok-post_known-2.ensures.settles

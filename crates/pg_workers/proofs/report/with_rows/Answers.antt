@@ -10,7 +10,8 @@ pub place_rows-requires : goal.place_rows-requires
 place_rows-requires c =
     let at = c.loop-rows in
     let prefix = c.requires.prefix in
-    let places = has_places prefix.0 c.args.report.items at.report.items c.args.all.now at.rows-index c.rows-item.result c.requires.blank prefix.1 prefix.2 c.loop-rows-test.true c.rows-item.is at.invariant.1 in
+    let places = has_places prefix.0 c.args.report.items at.report.items c.args.all.now at.rows-index c.rows-item.result c.requires.blank prefix.1 prefix.2
+    c.loop-rows-test.true c.rows-item.is at.invariant.1 in
     subst (λ (now : List ReportRow). HasPlaces now c.as_slice.result.now) (sym c.as_mut_slice.ensures.value)
     (subst (HasPlaces at.report.items) (sym c.as_slice.ensures.value) places)
 
@@ -29,10 +30,13 @@ loop-rows-preserved c =
     let long = p.placed.size ∙ c.as_mut_slice.ensures.len in
     let back : take at.report.len (new ++ drop (length new) at.report.items) ≡ new = written new (drop (length new) at.report.items) at.report.len long in
     let more = more_settled c.args.all.now at.rows-index rows c.loop-rows-test.true c.rows-item.is in
-    let sum : settled_in new ≡ settled_in at.report.items + settled_in rows.items = p.settled ∙ ap (λ (l : List ReportRow). settled_in l + settled_in c.as_slice.result.now) here ∙ ap (λ (l : List ReportRow). settled_in at.report.items + settled_in l) theirs in
+    let sum : settled_in new ≡ settled_in at.report.items + settled_in rows.items =
+    p.settled ∙ ap (λ (l : List ReportRow). settled_in l + settled_in c.as_slice.result.now) here ∙ ap
+    (λ (l : List ReportRow). settled_in at.report.items + settled_in l) theirs in
     let before = i.2 in (
       i.0,
       subst (λ (now : List ReportRow). AreNotedRows c.args.report.items now (rows_in (take (at.rows-index + 1) c.args.all.now))) (sym back)
-          (more_placed prefix.0 c.args.report.items at.report.items new c.args.all.now at.rows-index rows prefix.2 c.loop-rows-test.true c.rows-item.is i.1 placed),
+          (more_placed prefix.0 c.args.report.items at.report.items new c.args.all.now at.rows-index rows prefix.2 c.loop-rows-test.true
+          c.rows-item.is i.1 placed),
       ap settled_in back ∙ omega arith,
     )

@@ -1,5 +1,4 @@
-use Rattle.std.proofs.Common.{◌≡◌, ℕ, ◌+◌, List, Vec, Global, sum, sym, ap, ◌∙◌, subst, arith}
-use Rattle.std.specs.Prelude.{min}
+use Rattle.std.proofs.Common.{◌≡◌, ℕ, ◌+◌, List, Vec, Global, sum, sym, ap, ◌∙◌, subst, arith, min}
 use Rattle.std.proofs.lemmas.List.Sums.{sum-map, sum_by_push}
 use Rattle.pg_workers.specs.declared.report.ReportRow.{ReportRow}
 use Rattle.pg_workers.specs.Report.{IsDrawnRow, settled_in}
@@ -33,8 +32,10 @@ returns-clause-settled g c =
     let rows = c.take_apart-shares.result.2.items in
     let amounts = c.take_apart-shares.ensures.amounts in
     let together : settled_in (rows_in c.as_slice.result.now) ≡ sum c.take_apart-shares.result.0.items =
-    ap (λ (all : List (Vec ReportRow Global)). settled_in (rows_in all)) c.as_slice.ensures.value ∙ settled_in-rows_in rows ∙ sym (sum-map settled_by_one rows) ∙ ap sum amounts in
-    let all : sum c.push_reserved.new.self.items ≡ sum c.take_apart-shares.result.0.items + c.args.first = ap sum c.push_reserved.ensures.items ∙ sum_by_push (λ (n : ℕ). n) c.take_apart-shares.result.0.items c.args.first in
+    ap (λ (all : List (Vec ReportRow Global)). settled_in (rows_in all)) c.as_slice.ensures.value ∙ settled_in-rows_in rows ∙ sym
+    (sum-map settled_by_one rows) ∙ ap sum amounts in
+    let all : sum c.push_reserved.new.self.items ≡ sum c.take_apart-shares.result.0.items + c.args.first =
+    ap sum c.push_reserved.ensures.items ∙ sum_by_push (λ (n : ℕ). n) c.take_apart-shares.result.0.items c.args.first in
     omega (arith, together, all, c.close-board.ensures.exact, c.in_ok-report.ensures.settled, c.with_rows.ensures.settled)
 
 -- a row is of a worker where its job was drawn, and else it is blank
@@ -48,5 +49,7 @@ returns-clause-rows g c =
     let prefix = of_front n (λ (t : HeldTicket). t.numbers) back.result.1.items rows drawn.fair back.ensures.numbers in
     let made = c.with_rows in
     let placed : AreNotedRows c.in_ok-report.report.items made.result.items (rows_in rows) =
-    subst (λ (all : List (Vec ReportRow Global)). AreNotedRows c.in_ok-report.report.items made.result.items (rows_in all)) c.as_slice.ensures.value made.ensures.placed in
-    is_report workers n c.in_ok-report.report.items made.result.items (rows_in rows) c.in_ok-report.ensures.blank placed prefix (all_rows (IsDrawnRow workers) rows back.ensures.done)
+    subst (λ (all : List (Vec ReportRow Global)). AreNotedRows c.in_ok-report.report.items made.result.items
+    (rows_in all)) c.as_slice.ensures.value made.ensures.placed in
+    is_report workers n c.in_ok-report.report.items made.result.items (rows_in rows) c.in_ok-report.ensures.blank placed prefix
+    (all_rows (IsDrawnRow workers) rows back.ensures.done)

@@ -1,5 +1,4 @@
-use Rattle.std.proofs.Common.{rules, arith, ◌≡◌, ◌<◌, ◌∙◌, ℕ, true, length, ap, sym}
-use Rattle.std.specs.Prelude.{Option, Some, option_map, slice_get}
+use Rattle.std.proofs.Common.{rules, arith, ◌≡◌, ◌<◌, ◌∙◌, ℕ, true, length, ap, Option, option_map, slice_get}
 use Rattle.pg_text.specs.Known.{known_of, known_choice}
 use Rattle.pg_finders.specs.Claims.{own_choices, rows_below}
 use Rattle.pgboard.proofs.Rows.{row_of_vertex}
@@ -14,5 +13,6 @@ returns-then-before-row-clause-row c =
     let inside : c.loop-v.v < length g = omega arith in
     let place : c.args.row ≡ length (rows_below (known_of known p) (own_choices g p (known_choice known)) c.loop-v.v) = omega arith in
     let row = row_of_vertex (known_of known p) (own_choices g p (known_choice known)) (length g) c.loop-v.v inside member in
-    ap (λ (i : ℕ). option_map (λ (r : ℕ × Option ℕ). r.0) (slice_get (rows_below (known_of known p) (own_choices g p (known_choice known)) (length g)) i)) place
+    ap (λ (i : ℕ). option_map (λ (r : ℕ × Option ℕ). r.0)
+    (slice_get (rows_below (known_of known p) (own_choices g p (known_choice known)) (length g)) i)) place
     ∙ ap (λ (o : Option (ℕ × Option ℕ)). option_map (λ (r : ℕ × Option ℕ). r.0) o) row

@@ -1,36 +1,39 @@
 use Rattle.std.proofs.lemmas.Result.{err_from_is_err_and}
-use Rattle.pgboard.proofs.Judging.{err_again, no_game, no_solution_of, no_output, judged_known, judged_within}
+use Rattle.pgboard.proofs.Judging.{err_again, joined_text, no_game, no_solution_of, no_output, judged_known, judged_within}
 use Rattle.pgboard.proofs.run.run_joined.Goals as goal
 
 pub returns-in_err-game-clause-fault : goal.returns-in_err-game-clause-fault
 returns-in_err-game-clause-fault g c =
-    let p = err_from_is_err_and c.from_residual-in_err-game.result c.from_residual-in_err-game.ensures.1 in rw (p.1, p.2)
-    (no_game _ c.in_ok-text.text.items c.as_slice.result.now c.parts.result.0.now c.parts.result.1.now c.in_ok-text.ensures.text c.in_ok-text.ensures.limit c.as_slice.ensures.value
-    c.parts.ensures.game c.parts.ensures.solution _ c.in_err-game.ensures.fault)
+    let p = err_from_is_err_and c.from_residual-in_err-game.result c.from_residual-in_err-game.ensures.1 in
+    let t = joined_text (g.I.Source.left c.args.input.now) c.in_ok-text.ensures.text c.in_ok-text.ensures.limit c.as_slice.ensures.value
+    c.parts.ensures.game c.parts.ensures.solution in
+    rw (p.1, p.2) (no_game t _ c.in_err-game.ensures.fault)
 
 pub returns-in_err-verdict-clause-fault : goal.returns-in_err-verdict-clause-fault
 returns-in_err-verdict-clause-fault g c =
-    let p = err_from_is_err_and c.from_residual-in_err-verdict.result c.from_residual-in_err-verdict.ensures.1 in rw (p.1, p.2)
-    (no_solution_of _ c.in_ok-text.text.items c.as_slice.result.now c.parts.result.0.now c.parts.result.1.now c.in_ok-text.ensures.text c.in_ok-text.ensures.limit c.as_slice.ensures.value
-    c.parts.ensures.game c.parts.ensures.solution _ c.in_ok-game.ensures.game _ c.in_err-verdict.ensures.fault)
+    let p = err_from_is_err_and c.from_residual-in_err-verdict.result c.from_residual-in_err-verdict.ensures.1 in
+    let t = joined_text (g.I.Source.left c.args.input.now) c.in_ok-text.ensures.text c.in_ok-text.ensures.limit c.as_slice.ensures.value
+    c.parts.ensures.game c.parts.ensures.solution in
+    rw (p.1, p.2) (no_solution_of t _ c.in_ok-game.ensures.game _ c.in_err-verdict.ensures.fault)
 
 pub returns-in_err-write_verdict-clause-fault : goal.returns-in_err-write_verdict-clause-fault
 returns-in_err-write_verdict-clause-fault g c =
-    let p = err_from_is_err_and c.from_residual-in_err-write_verdict.result c.from_residual-in_err-write_verdict.ensures.1 in rw (p.1, p.2)
-    (no_output _ c.in_ok-text.text.items c.as_slice.result.now c.parts.result.0.now c.parts.result.1.now c.in_ok-text.ensures.text c.in_ok-text.ensures.limit c.as_slice.ensures.value
-    c.parts.ensures.game c.parts.ensures.solution _ c.in_ok-game.ensures.game c.in_ok-verdict.verdict _ c.in_ok-verdict.ensures.verdict c.in_err-write_verdict.ensures.only)
+    let p = err_from_is_err_and c.from_residual-in_err-write_verdict.result c.from_residual-in_err-write_verdict.ensures.1 in
+    let t = joined_text (g.I.Source.left c.args.input.now) c.in_ok-text.ensures.text c.in_ok-text.ensures.limit c.as_slice.ensures.value
+    c.parts.ensures.game c.parts.ensures.solution in
+    rw (p.1, p.2)
+    (no_output t _ c.in_ok-game.ensures.game c.in_ok-verdict.verdict _ c.in_ok-verdict.ensures.verdict c.in_err-write_verdict.ensures.only)
 
 pub returns-in_err-write_verdict-clause-cut : goal.returns-in_err-write_verdict-clause-cut
 returns-in_err-write_verdict-clause-cut g c =
-    let p = err_from_is_err_and c.from_residual-in_err-write_verdict.result c.from_residual-in_err-write_verdict.ensures.1 in rw (p.1, p.2)
-    (λ e. (
-      c.in_ok-verdict.verdict,
-      c.in_err-write_verdict.ensures.cut (err_again _ _ e),
-      judged_known _ c.in_ok-text.text.items c.as_slice.result.now c.parts.result.0.now c.parts.result.1.now c.in_ok-text.ensures.text c.in_ok-text.ensures.limit c.as_slice.ensures.value
-          c.parts.ensures.game c.parts.ensures.solution _ c.in_ok-game.ensures.game c.in_ok-verdict.verdict c.in_ok-verdict.ensures.verdict,
-    ))
+    let p = err_from_is_err_and c.from_residual-in_err-write_verdict.result c.from_residual-in_err-write_verdict.ensures.1 in
+    let t = joined_text (g.I.Source.left c.args.input.now) c.in_ok-text.ensures.text c.in_ok-text.ensures.limit c.as_slice.ensures.value
+    c.parts.ensures.game c.parts.ensures.solution in
+    let judged = judged_known t _ c.in_ok-game.ensures.game c.in_ok-verdict.verdict c.in_ok-verdict.ensures.verdict in
+    rw (p.1, p.2) (λ e. (c.in_ok-verdict.verdict, c.in_err-write_verdict.ensures.cut (err_again _ _ e), judged))
 
 pub returns-clause-judged : goal.returns-clause-judged
 returns-clause-judged g c =
-    judged_within _ c.in_ok-text.text.items c.as_slice.result.now c.parts.result.0.now c.parts.result.1.now c.in_ok-text.ensures.text c.in_ok-text.ensures.limit c.as_slice.ensures.value
-    c.parts.ensures.game c.parts.ensures.solution _ c.in_ok-game.ensures.game c.in_ok-verdict.verdict c.in_ok-verdict.ensures.verdict
+    let t = joined_text (g.I.Source.left c.args.input.now) c.in_ok-text.ensures.text c.in_ok-text.ensures.limit c.as_slice.ensures.value
+    c.parts.ensures.game c.parts.ensures.solution in
+    judged_within t _ c.in_ok-game.ensures.game c.in_ok-verdict.verdict c.in_ok-verdict.ensures.verdict

@@ -1,4 +1,4 @@
-use Rattle.std.proofs.Common.{◌≡◌, ℕ, List, inr, subst}
+use Rattle.std.proofs.Common.{ℕ, List, inr, subst}
 use Rattle.std.specs.Io.KnownBytes.{Appends}
 use Rattle.std.proofs.lemmas.Result.{err_from_is_err_and}
 use Rattle.pg_text.specs.Known.{IsKnownTextOf}
@@ -14,7 +14,12 @@ returns-in_err-known-clause-fault g c =
     let p = err_from_is_err_and c.from_residual-in_err-known.result c.from_residual-in_err-known.ensures.1 in
     let whole = subst (λ (l : List ℕ). IsRefusedText c.in_ok-game.game l c.in_err-known.field-0.0) c.as_slice.ensures.value c.in_err-known.ensures.fault in
     rw (p.1, p.2)
-    (inr (inr (c.in_ok-game.game, c.in_ok-game.ensures.game, not_known_text _ c.in_ok-text.text.items c.in_ok-text.ensures.text c.in_ok-text.ensures.limit _ _ whole)))
+    (inr (inr (
+      c.in_ok-game.game,
+      c.in_ok-game.ensures.game,
+      not_known_text _ c.in_ok-text.text.items c.in_ok-text.ensures.text
+          c.in_ok-text.ensures.limit _ _ whole,
+    )))
 
 pub returns-in_err-text-2-clause-fault : goal.returns-in_err-text-2-clause-fault
 returns-in_err-text-2-clause-fault g c =
@@ -35,7 +40,8 @@ returns-in_err-text-2-clause-nothing g c =
 pub returns-clause-written : goal.returns-clause-written
 returns-clause-written g c =
     let known = subst (λ (l : List ℕ). IsKnownTextOf c.in_ok-game.game l c.in_ok-known.known.rows) c.as_slice.ensures.value c.in_ok-known.ensures.known in
-    let made = solved _ c.in_ok-text.text.items c.in_ok-text.ensures.text c.in_ok-text.ensures.limit _ _ known _ _ c.in_ok-text-2.text.items c.in_ok-game.ensures.game c.in_ok-text-2.ensures.regions c.in_ok-text-2.ensures.text in
+    let made = solved _ c.in_ok-text.text.items c.in_ok-text.ensures.text c.in_ok-text.ensures.limit _ _ known _ _ c.in_ok-text-2.text.items
+    c.in_ok-game.ensures.game c.in_ok-text-2.ensures.regions c.in_ok-text-2.ensures.text in
     all_out (λ (t : List ℕ). IsSolveOutput (g.I.Source.left c.args.input.now) (g.K.Source.left c.args.known.now) c.args.options.now.winners t)
     (λ (t : List ℕ). Appends (g.O.Sink.taken c.args.out.now) (g.O.Sink.taken c.write_all.new.out) t)
     c.in_ok-text-2.text.items c.as_slice-2.result.now c.as_slice-2.ensures.value made c.write_all.result c.write_all.ensures.written
@@ -43,7 +49,8 @@ returns-clause-written g c =
 pub returns-clause-cut : goal.returns-clause-cut
 returns-clause-cut g c =
     let known = subst (λ (l : List ℕ). IsKnownTextOf c.in_ok-game.game l c.in_ok-known.known.rows) c.as_slice.ensures.value c.in_ok-known.ensures.known in
-    let made = solved _ c.in_ok-text.text.items c.in_ok-text.ensures.text c.in_ok-text.ensures.limit _ _ known _ _ c.in_ok-text-2.text.items c.in_ok-game.ensures.game c.in_ok-text-2.ensures.regions c.in_ok-text-2.ensures.text in
+    let made = solved _ c.in_ok-text.text.items c.in_ok-text.ensures.text c.in_ok-text.ensures.limit _ _ known _ _ c.in_ok-text-2.text.items
+    c.in_ok-game.ensures.game c.in_ok-text-2.ensures.regions c.in_ok-text-2.ensures.text in
     front_out (λ (t : List ℕ). IsSolveOutput (g.I.Source.left c.args.input.now) (g.K.Source.left c.args.known.now) c.args.options.now.winners t)
     (λ (t : List ℕ). AppendsPrefix (g.O.Sink.taken c.args.out.now) (g.O.Sink.taken c.write_all.new.out) t)
     c.in_ok-text-2.text.items c.as_slice-2.result.now c.as_slice-2.ensures.value made c.write_all.result fault.Write c.write_all.ensures.cut

@@ -1,4 +1,4 @@
-use Rattle.std.proofs.Common.{◌≡◌, true, List, ℕ, Bool, sym, subst}
+use Rattle.std.proofs.Common.{◌≡◌, true, Bool, sym, subst}
 use Rattle.pg_text.proofs.Exact.{exact_rows}
 use Rattle.pgboard.specs.Solving.{IsSolveText}
 use Rattle.pgboard.proofs.Solved.{winners_text}
@@ -10,7 +10,8 @@ write_winners-requires g c = exact_rows _ _ c.len-n.ensures.game c.in-Ok.ensures
 pub returns-then-options-clause-text : goal.returns-then-options-clause-text
 returns-then-options-clause-text g c =
     let winners : c.args.options.now.winners ≡ true = c.if-options.true in
-    subst (λ (b : Bool). IsSolveText b c.args.game.now c.in_ok-text.text.items) (sym winners) (winners_text _ _ _ c.in-Ok.ensures.outcome.exact c.in_ok-text.ensures.text)
+    subst (λ (b : Bool). IsSolveText b c.args.game.now c.in_ok-text.text.items) (sym winners)
+    (winners_text _ _ _ c.in-Ok.ensures.outcome.exact c.in_ok-text.ensures.text)
 
 pub write_solution-requires : goal.write_solution-requires
 write_solution-requires g c = exact_rows _ _ c.len-n.ensures.game c.in-Ok.ensures.outcome.exact

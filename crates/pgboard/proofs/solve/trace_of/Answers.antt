@@ -1,4 +1,4 @@
-use Rattle.std.proofs.Common.{ℕ, ◌≡◌, ◌∙◌, List, length, ap, sym, subst}
+use Rattle.std.proofs.Common.{ℕ, ◌∙◌, List, length, ap, sym, subst}
 use Rattle.std.specs.List.{AllByRecursion}
 use Rattle.pg_board.specs.Journal.{Journal}
 use Rattle.pg_workers.specs.declared.report.ReportRow.{ReportRow}
@@ -23,6 +23,7 @@ returns g c =
       lawful = outcome.lawful;
       full = outcome.full;
       order = outcome.report;
+      rows = outcome.rows;
       adds_up = subst (λ (n : ℕ). AddsUp n c.in-Ok.outcome.entries.items c.in-Ok.outcome.report.items) none outcome.adds_up.2;
       text_is = c.in_ok-text.ensures
           ∙ ap (λ (j : Journal). trace_text c.args.game.now j c.as_slice-2.result.now) c.as_slice.ensures.value

@@ -1,9 +1,11 @@
 use Rattle.std.proofs.Common.{ℕ, List, length, Option, ◌∷◌, ◌++◌, ◌∙◌, ap, decimal}
-use Rattle.pgboard.proofs.Lines.{line_of_six}
+use Rattle.pgboard.proofs.Lines.{first, next, last}
 use Rattle.pgboard.proofs.trace.put_entry_head.Goals as goal
 
 pub returns : goal.returns
 returns c =
     let player = c.in_ok-put_next-3.ensures ∙ ap (λ (n : ℕ). c.put_next-2.new.out.items ++ 32 ∷ decimal n) c.digit.ensures in
-    let rows = c.in_ok-put_next-5.ensures ∙ ap (λ (rs : List (ℕ × Option ℕ)). c.put_next-4.new.out.items ++ 32 ∷ decimal (length rs)) c.as_slice.ensures in
-    line_of_six _ _ _ _ _ _ _ _ _ _ _ _ _ _ c.in_ok-extend_from_slice.ensures.items c.in_ok-put_next.ensures c.in_ok-put_next-2.ensures player c.in_ok-put_next-4.ensures rows c.in_ok-extend_from_slice-2.ensures.items
+    let rows = c.in_ok-put_next-5.ensures ∙ ap
+    (λ (rs : List (ℕ × Option ℕ)). c.put_next-4.new.out.items ++ 32 ∷ decimal (length rs)) c.as_slice.ensures in
+    let begun = next _ (next _ (first c.in_ok-extend_from_slice.ensures.items) c.in_ok-put_next.ensures) c.in_ok-put_next-2.ensures in
+    last (next _ (next _ (next _ begun player) c.in_ok-put_next-4.ensures) rows) c.in_ok-extend_from_slice-2.ensures.items

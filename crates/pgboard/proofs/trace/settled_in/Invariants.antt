@@ -1,4 +1,4 @@
-use Rattle.std.specs.Prelude.{◌≡◌, ◌≤◌, ◌*◌, ◌^◌, ℕ, take}
+use Rattle.std.specs.Prelude.{◌≡◌, ◌≤◌, ◌*◌, ◌^◌, take}
 use Rattle.pg_board.specs.Journal.{number_settled}
 use Rattle.pgboard.proofs.trace.settled_in.Given as goal
 

@@ -6,4 +6,6 @@ added : (a b c xs ys zs : List ℕ) → b ≡ a ++ xs → c ≡ b ++ (ys ++ zs) 
 added a b c xs ys zs p q = q ∙ ap (λ l. l ++ (ys ++ zs)) p ∙ simp append_assoc
 
 pub returns-in_ok-put_named-in-Leaves : goal.returns-in_ok-put_named-in-Leaves
-returns-in_ok-put_named-in-Leaves c = rw c.in-Leaves.is (added c.args.line.now.items c.put_number.new.line.items _ (decimal c.in-Leaves.v) (codes " leaves to ") (decimal c.in-Leaves.w) c.in_ok-put_number-in-Leaves.ensures c.in_ok-put_named-in-Leaves.ensures)
+returns-in_ok-put_named-in-Leaves c =
+    rw c.in-Leaves.is (added c.args.line.now.items c.put_number.new.line.items _ (decimal c.in-Leaves.v) (codes " leaves to ")
+    (decimal c.in-Leaves.w) c.in_ok-put_number-in-Leaves.ensures c.in_ok-put_named-in-Leaves.ensures)

@@ -1,5 +1,4 @@
-use Rattle.std.proofs.Common.{rules, ◌≡◌, ℕ, ◌<◌, true, List, Bool, length, replicate, sym, ◌∙◌, ap, subst}
-use Rattle.std.specs.Prelude.{Option, All}
+use Rattle.std.proofs.Common.{rules, ◌≡◌, ℕ, ◌<◌, true, List, Bool, length, replicate, sym, ◌∙◌, ap, subst, Option, All}
 use Rattle.pg_game.specs.declared.player.Player.TheVariants.{Even, Odd}
 use Rattle.pg_game.specs.VertexSet.{members}
 use Rattle.pg_game.specs.Subgame.{IsSubgame}

@@ -1,11 +1,9 @@
-use Rattle.std.proofs.Common.{◌≡◌, ◌∙◌, ℕ, length, sym, subst, ap, arith}
-use Rattle.std.specs.Prelude.{List, Bool, Option}
+use Rattle.std.proofs.Common.{◌≡◌, ◌∙◌, ℕ, length, sym, subst, ap, arith, List, Bool, Option}
 use mathlib.Core.Path.{fun_ext}
 use Rattle.pg_game.specs.declared.player.Player.{Player}
 use Rattle.pg_game.specs.Graph.{Graph}
 use Rattle.pg_game.specs.VertexSet.{VertexSet, members}
 use Rattle.pg_game.specs.Subgame.{IsSubgame}
-use Rattle.pg_game.proofs.Edges.{edge_inside}
 use Rattle.pg_dominion.specs.Claim.{ClaimRows, IsGoodIn}
 use Rattle.pg_board.specs.Play.{Play}
 use Rattle.pg_board.specs.State.{State, unsettled}
@@ -24,15 +22,18 @@ pub of_subgame-requires-clause-subgame : goal.of_subgame-requires-clause-subgame
 of_subgame-requires-clause-subgame c =
     let b = c.self.inside in
     let i = c.self.invariant.0 in
-    subst (λ (U : VertexSet). IsSubgame b.game.now U) (same_set b.game.now (state_of b.entries.items) b.regions.table.items b.regions.unsettled c.in_ok-mask.mask c.in_ok-mask.ensures i.regions.mask i.state)
+    subst (λ (U : VertexSet). IsSubgame b.game.now U)
+    (same_set b.game.now (state_of b.entries.items) b.regions.table.items b.regions.unsettled c.in_ok-mask.mask c.in_ok-mask.ensures i.regions.mask i.state)
     (lawful_now b.game.now b.entries.items i.lawful).open_part
 
 pub returns-clause-dominions : goal.returns-clause-dominions
 returns-clause-dominions c =
     let b = c.self.inside in
     let i = c.self.invariant.0 in
-    let same = same_set b.game.now (state_of b.entries.items) b.regions.table.items b.regions.unsettled c.of_subgame.result.mask (c.of_subgame.ensures.mask ∙ c.in_ok-mask.ensures) i.regions.mask i.state in
+    let same = same_set b.game.now (state_of b.entries.items) b.regions.table.items b.regions.unsettled c.of_subgame.result.mask
+    (c.of_subgame.ensures.mask ∙ c.in_ok-mask.ensures) i.regions.mask i.state in
     let at : c.len.result ≡ length b.entries.items = omega (arith, c.len.ensures, b.entries.ok.0) in
-    subst (λ (x : Play). (p : Player) (rows : ClaimRows) → IsGoodIn x.graph (members c.of_subgame.result.mask) p rows → IsDominionAfter x.graph x.journal c.len.result p rows) c.self.view_is
+    subst (λ (x : Play). (p : Player) (rows : ClaimRows) → IsGoodIn x.graph (members c.of_subgame.result.mask) p rows
+    → IsDominionAfter x.graph x.journal c.len.result p rows) c.self.view_is
     (λ p rows good. subst (λ (n : ℕ). IsDominionAfter b.game.now b.entries.items n p rows) (sym at)
-    (dominion_now b.game.now (edge_inside b.game.now c.len-n.ensures.game) b.entries.items i.lawful p rows (subst (λ (U : VertexSet). IsGoodIn b.game.now U p rows) (sym same) good)))
+    (dominion_now b.game.now c.len-n.ensures.game b.entries.items i.lawful p rows (subst (λ (U : VertexSet). IsGoodIn b.game.now U p rows) (sym same) good)))

@@ -2,14 +2,11 @@ use mathlib.Core.Path.{fun_ext}
 use Rattle.std.proofs.Common.{◌≡◌, ◌≤◌, ℕ, ◌+◌, [], ◌∷◌, ◌++◌, length, refl, sym, ◌∙◌, ap, subst, arith, rules}
 use Rattle.std.specs.Prelude.{nat_eq, vec_capacity}
 use Rattle.std.specs.List.{IsDistinct}
-use Rattle.pg_game.specs.declared.player.Player.{Player}
-use Rattle.pg_game.specs.Graph.{Graph, IsGame}
 use Rattle.pg_game.specs.VertexSet.{VertexSet, Within, members}
 use Rattle.pg_game.specs.Subgame.{IsSubgame}
 use Rattle.pg_dominion.specs.Claim.{ClaimRows, named}
 use Rattle.pg_board.specs.declared.entry.Entry.{Entry}
 use Rattle.pg_board.specs.declared.entry.Posted.{Posted}
-use Rattle.pg_board.specs.declared.regions.Regions.{Regions}
 use Rattle.pg_board.specs.Play.{Play}
 use Rattle.pg_board.specs.State.{IsGoodOn, rest_of}
 use Rattle.pg_board.specs.Journal.{Journal, state_of}
@@ -19,105 +16,115 @@ use Rattle.pg_board.proofs.Push.{distinct_rising}
 use Rattle.pg_board.proofs.Posting.{few_rows}
 use Rattle.pg_board.specs.Post.{Adds}
 use Rattle.pg_board.proofs.RestIsGood.{vertices}
-use Rattle.pg_board.proofs.Entering.{IsEntering, HasRows, board_subgame, rest_within, entry_answers, grown_fits, board_entered, has_grown, IsGrowing-more}
+use Rattle.pg_board.proofs.Entering.{IsEntering, HasGrown, HasRows, board_subgame, rest_within, entry_answers, grown_fits, board_entered, has_grown}
+use Rattle.pg_board.proofs.Entering.{IsGrowing-more}
 use Rattle.pg_board.proofs.board.Board.enter.Goals as goal
+use Rattle.pg_board.proofs.board.Board.enter.Goals.{After-len-claimed, After-len-settled, After-push_reserved}
 
 -- what is required, said of the fields
-entering : {x : Play} {g : Graph} {j : Journal} {r : Regions} {number : ℕ} (p : Player) (R : ClaimRows) → record { graph = g; journal = j } ≡ x → IsGame g
-    → IsBoard g j r number → IsGoodOn x.graph (state_of x.journal) p R → rest_of (state_of x.journal) R ≡ R → IsEntering g j r number p R
-entering p R view game board good twice = record {
-  game = game;
-  board = board;
-  good = subst (λ (y : Play). IsGoodOn y.graph (state_of y.journal) p R) (sym view) good;
-  twice = subst (λ (y : Play). rest_of (state_of y.journal) R ≡ R) (sym view) twice;
+entering : (c : After-len-claimed)
+    → IsEntering c.self.inside.game.now c.self.inside.entries.items c.self.inside.regions c.self.inside.number c.args.player c.args.rows.now.items
+entering c = record {
+  game = c.len-n.ensures.game;
+  board = c.self.invariant.0;
+  good = subst (λ (y : Play). IsGoodOn y.graph (state_of y.journal) c.args.player c.args.rows.now.items) (sym c.self.view_is) c.requires.good;
+  twice = subst (λ (y : Play). rest_of (state_of y.journal) c.args.rows.now.items ≡ c.args.rows.now.items) (sym c.self.view_is) c.requires.unsettled;
 }
+
+grown : (c : After-len-settled)
+    → HasGrown c.self.inside.game.now c.args.player c.self.inside.regions c.attract.new.self c.args.rows.now.items c.attract.new.rows.items
+grown c =
+    let settled = c.settle_all.ensures in
+    let attracted = c.attract.ensures in
+    has_grown c.self.inside.game.now c.args.player c.settle_all.new.self c.attract.new.self c.args.rows.now.items c.attract.new.rows.items attracted.grows
+    c.self.inside.regions c.as_slice.result.now c.as_slice.ensures.value settled.same settled.told attracted.growing.regions attracted.done
+
+-- the number of the rows
+size_is : (c : After-len-settled) → length c.copy_or_take-entered.result.items ≡ length c.attract.new.rows.items
+size_is c = ap (λ (xs : ClaimRows). length xs) c.copy_or_take-entered.ensures
+
+abbrev entry : After-push_reserved → Entry
+entry c = record { worker = c.args.worker; player = c.args.player; claimed = c.len-claimed.result; rows = c.new.result }
+
+has_rows : (c : After-push_reserved) → HasRows (entry c) c.args.player c.args.rows.now.items c.attract.new.rows.items
+has_rows c = record {
+  player = refl;
+  claimed = omega (arith, c.len-claimed.ensures, c.args.rows.now.ok.0);
+  rows_are = c.new.ensures ∙ c.copy_or_take-entered.ensures;
+}
+
+settled_is : (c : After-push_reserved) → c.len-settled.result ≡ length c.new.result
+settled_is c =
+    let copied : length c.new.result ≡ length c.copy_or_take-entered.result.items = ap (λ (xs : ClaimRows). length xs) c.new.ensures in
+    omega (arith, copied, c.len-settled.ensures, c.copy_or_take-entered.result.ok.0)
 
 pub attract-requires-clause-growing : goal.attract-requires-clause-growing
 attract-requires-clause-growing c =
-    let b = c.self.inside in
-    let room : length b.game.now ≤ vec_capacity c.args.rows.now = subst (λ (x : Play). length x.graph ≤ vec_capacity c.args.rows.now) (sym c.self.view_is) c.requires.room in
-    subst (λ (xs : ClaimRows). IsGrowing b.game.now c.settle_all.new.self xs (vec_capacity c.args.rows.now)) c.as_slice.ensures.value
-    (IsGrowing-more b.game.now c.settle_all.new.self c.as_slice.result.now (length b.game.now) (vec_capacity c.args.rows.now) room c.settle_all.ensures.growing)
+    let g = c.self.inside.game.now in
+    let room : length g ≤ vec_capacity c.args.rows.now =
+    subst (λ (x : Play). length x.graph ≤ vec_capacity c.args.rows.now) (sym c.self.view_is) c.requires.room in
+    subst (λ (xs : ClaimRows). IsGrowing g c.settle_all.new.self xs (vec_capacity c.args.rows.now)) c.as_slice.ensures.value
+    (IsGrowing-more g c.settle_all.new.self c.as_slice.result.now (length g) (vec_capacity c.args.rows.now) room c.settle_all.ensures.growing)
 
 pub settle_all-requires-clause-unsettled : goal.settle_all-requires-clause-unsettled
 settle_all-requires-clause-unsettled c =
-    let q = entering c.args.player c.args.rows.now.items c.self.view_is c.len-n.ensures.game c.self.invariant.0 c.requires.good c.requires.unsettled in
+    let q = entering (goal.at.settle_all-requires-clause-unsettled c).After-len-claimed in
     subst (λ (xs : ClaimRows). Within (named xs) (members c.self.inside.regions.unsettled)) (sym c.as_slice.ensures.value) (rest_within q)
 
 pub settle_all-requires-clause-distinct : goal.settle_all-requires-clause-distinct
 settle_all-requires-clause-distinct c =
-    let q = entering c.args.player c.args.rows.now.items c.self.view_is c.len-n.ensures.game c.self.invariant.0 c.requires.good c.requires.unsettled in
-    subst (λ (xs : ClaimRows). IsDistinct nat_eq (vertices xs)) (sym c.as_slice.ensures.value) (distinct_rising (vertices c.args.rows.now.items) q.good.shape.right.rising)
+    let q = entering (goal.at.settle_all-requires-clause-distinct c).After-len-claimed in
+    subst (λ (xs : ClaimRows). IsDistinct nat_eq (vertices xs)) (sym c.as_slice.ensures.value)
+    (distinct_rising (vertices c.args.rows.now.items) q.good.shape.right.rising)
 
 pub attract-requires-clause-subgame : goal.attract-requires-clause-subgame
 attract-requires-clause-subgame c =
-    let b = c.self.inside in
-    let q = entering c.args.player c.args.rows.now.items c.self.view_is c.len-n.ensures.game c.self.invariant.0 c.requires.good c.requires.unsettled in
-    let same = subst (λ (xs : ClaimRows). (v : ℕ) → open_before c.settle_all.new.self xs v ≡ members b.regions.unsettled v) c.as_slice.ensures.value c.settle_all.ensures.same in
-    subst (λ (U : VertexSet). IsSubgame b.game.now U) (sym (fun_ext same)) (board_subgame q)
+    let q = entering (goal.at.attract-requires-clause-subgame c).After-len-claimed in
+    let old = members c.self.inside.regions.unsettled in
+    let same = subst (λ (xs : ClaimRows). (v : ℕ) → open_before c.settle_all.new.self xs v ≡ old v) c.as_slice.ensures.value c.settle_all.ensures.same in
+    subst (λ (U : VertexSet). IsSubgame c.self.inside.game.now U) (sym (fun_ext same)) (board_subgame q)
 
 pub overflow_cast-claimed : goal.overflow_cast-claimed
 overflow_cast-claimed c =
-    let q = entering c.args.player c.args.rows.now.items c.self.view_is c.len-n.ensures.game c.self.invariant.0 c.requires.good c.requires.unsettled in
-    let few = few_rows c.self.inside.game.now c.args.player c.args.rows.now.items q.good.shape.right in
-    let limit = c.len-n.ensures.limits.vertices in
-    omega (arith, few, c.len-claimed.ensures, c.args.rows.now.ok.0)
+    let q = entering (goal.at.overflow_cast-claimed c).After-len-claimed in
+    omega (arith, few_rows q.good.shape.right, c.len-n.ensures.limits.vertices, c.len-claimed.ensures, c.args.rows.now.ok.0)
 
 pub overflow_cast-settled : goal.overflow_cast-settled
 overflow_cast-settled c =
-    let q = entering c.args.player c.args.rows.now.items c.self.view_is c.len-n.ensures.game c.self.invariant.0 c.requires.good c.requires.unsettled in
-    let w = has_grown c.self.inside.game.now c.args.player c.settle_all.new.self c.attract.new.self c.args.rows.now.items c.attract.new.rows.items c.attract.ensures.grows
-    c.self.inside.regions c.as_slice.result.now c.as_slice.ensures.value c.settle_all.ensures.same c.settle_all.ensures.told c.attract.ensures.growing.regions c.attract.ensures.done in
-    let fits = grown_fits q w in
-    let limit = c.len-n.ensures.limits.vertices in
-    let size : length c.copy_or_take-entered.result.items ≡ length c.attract.new.rows.items = ap (λ (xs : ClaimRows). length xs) c.copy_or_take-entered.ensures in
-    omega (arith, fits, size, c.len-settled.ensures, c.copy_or_take-entered.result.ok.0)
+    let at = goal.at.overflow_cast-settled c in
+    let fits = grown_fits (entering at.After-len-claimed) (grown at.After-len-settled) in
+    omega (arith, fits, size_is at.After-len-settled, c.len-n.ensures.limits.vertices, c.len-settled.ensures, c.copy_or_take-entered.result.ok.0)
 
 pub overflow_add-self : goal.overflow_add-self
 overflow_add-self c =
-    let q = entering c.args.player c.args.rows.now.items c.self.view_is c.len-n.ensures.game c.self.invariant.0 c.requires.good c.requires.unsettled in
-    let w = has_grown c.self.inside.game.now c.args.player c.settle_all.new.self c.attract.new.self c.args.rows.now.items c.attract.new.rows.items c.attract.ensures.grows
-    c.self.inside.regions c.as_slice.result.now c.as_slice.ensures.value c.settle_all.ensures.same c.settle_all.ensures.told c.attract.ensures.growing.regions c.attract.ensures.done in
-    let fits = grown_fits q w in
-    let limit = c.len-n.ensures.limits.vertices in
-    let size : length c.copy_or_take-entered.result.items ≡ length c.attract.new.rows.items = ap (λ (xs : ClaimRows). length xs) c.copy_or_take-entered.ensures in
-    omega (arith, fits, size, c.len-settled.ensures, c.copy_or_take-entered.result.ok.0)
+    let at = goal.at.overflow_add-self c in
+    let fits = grown_fits (entering at.After-len-claimed) (grown at.After-len-settled) in
+    omega (arith, fits, size_is at.After-len-settled, c.len-n.ensures.limits.vertices, c.len-settled.ensures, c.copy_or_take-entered.result.ok.0)
 
 pub invariant_of-self-2 : goal.invariant_of-self-2
 invariant_of-self-2 c =
+    let at = goal.at.invariant_of-self-2 c in
     let b = c.self.inside in
-    let q = entering c.args.player c.args.rows.now.items c.self.view_is c.len-n.ensures.game c.self.invariant.0 c.requires.good c.requires.unsettled in
-    let w = has_grown b.game.now c.args.player c.settle_all.new.self c.attract.new.self c.args.rows.now.items c.attract.new.rows.items c.attract.ensures.grows
-    b.regions c.as_slice.result.now c.as_slice.ensures.value c.settle_all.ensures.same c.settle_all.ensures.told c.attract.ensures.growing.regions c.attract.ensures.done in
-    let e : Entry = record { worker = c.args.worker; player = c.args.player; claimed = c.len-claimed.result; rows = c.new.result } in
-    let has : HasRows e c.args.player c.args.rows.now.items c.attract.new.rows.items =
-    record { player = refl; claimed = omega (arith, c.len-claimed.ensures, c.args.rows.now.ok.0); rows_are = c.new.ensures ∙ c.copy_or_take-entered.ensures } in
-    let copied : length c.new.result ≡ length c.copy_or_take-entered.result.items = ap (λ (xs : ClaimRows). length xs) c.new.ensures in
-    let size : c.len-settled.result ≡ length c.new.result = omega (arith, copied, c.len-settled.ensures, c.copy_or_take-entered.result.ok.0) in
-    let journal : c.push_reserved.new.self.items ≡ b.entries.items ++ e ∷ [] = search rules in (
-      subst (λ (j : Journal). IsBoard b.game.now j c.attract.new.self (b.number + c.len-settled.result)) (sym journal) (board_entered q w e has c.len-settled.result size),
-      c.self.invariant.1,
-    )
+    let e = entry at.After-push_reserved in
+    let entered = board_entered (entering at.After-len-claimed) (grown at.After-len-settled) e (has_rows at.After-push_reserved) c.len-settled.result
+    (settled_is at.After-push_reserved) in
+    let journal : c.push_reserved.new.self.items ≡ b.entries.items ++ e ∷ [] = search rules in
+    (subst (λ (j : Journal). IsBoard b.game.now j c.attract.new.self (b.number + c.len-settled.result)) (sym journal) entered, c.self.invariant.1)
 
 pub returns-clause-added : goal.returns-clause-added
 returns-clause-added c =
+    let at = goal.at.returns-clause-added c in
     let b = c.self.inside in
-    let q = entering c.args.player c.args.rows.now.items c.self.view_is c.len-n.ensures.game c.self.invariant.0 c.requires.good c.requires.unsettled in
-    let w = has_grown b.game.now c.args.player c.settle_all.new.self c.attract.new.self c.args.rows.now.items c.attract.new.rows.items c.attract.ensures.grows
-    b.regions c.as_slice.result.now c.as_slice.ensures.value c.settle_all.ensures.same c.settle_all.ensures.told c.attract.ensures.growing.regions c.attract.ensures.done in
-    let e : Entry = record { worker = c.args.worker; player = c.args.player; claimed = c.len-claimed.result; rows = c.new.result } in
-    let has : HasRows e c.args.player c.args.rows.now.items c.attract.new.rows.items =
-    record { player = refl; claimed = omega (arith, c.len-claimed.ensures, c.args.rows.now.ok.0); rows_are = c.new.ensures ∙ c.copy_or_take-entered.ensures } in
-    let copied : length c.new.result ≡ length c.copy_or_take-entered.result.items = ap (λ (xs : ClaimRows). length xs) c.new.ensures in
+    let e = entry at.After-push_reserved in
     let old : length c.reserve.new.self.items ≡ length b.entries.items = ap (λ (xs : Journal). length xs) c.reserve.ensures.items in
     let posted : Posted = record { entry = c.len-entry.result; claimed = c.len-claimed.result; settled = c.len-settled.result } in
     let now : Play = record { graph = b.game.now; journal = c.push_reserved.new.self.items } in
     subst (λ (x : Play). Adds x now c.args.worker (record { player = c.args.player; rows = c.args.rows.now.items }) posted) c.self.view_is (record {
       entry = e;
       journal = search rules;
-      answers = entry_answers q w e has;
+      answers = entry_answers (entering at.After-len-claimed) (grown at.After-len-settled) e (has_rows at.After-push_reserved);
       by_worker = refl;
       number = omega (arith, old, c.len-entry.ensures, c.reserve.new.self.ok.0);
       claimed = refl;
-      settled = omega (arith, copied, c.len-settled.ensures, c.copy_or_take-entered.result.ok.0);
+      settled = settled_is at.After-push_reserved;
     })

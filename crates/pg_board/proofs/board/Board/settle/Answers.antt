@@ -1,20 +1,29 @@
 use Rattle.std.proofs.Common.{sym, subst}
-use Rattle.pg_game.specs.Graph.{IsGame}
 use Rattle.pg_dominion.specs.declared.claim.Claim.{Claim}
 use Rattle.pg_dominion.specs.Claim.{IsSound}
 use Rattle.pg_dominion.specs.Checked.{claim_of, claim_rows, AgreesWithGame, IsForeign}
 use Rattle.pg_dominion.proofs.Agreed.{sound}
 use Rattle.pg_dominion.proofs.Recorded.{never_foreign}
 use Rattle.pg_board.specs.Play.{Play}
-use Rattle.pg_board.specs.Journal.{state_of, IsLawful}
-use Rattle.pg_board.proofs.OldCopies.{IsAnswered, old_copy, lawful_after, checked_refusal}
+use Rattle.pg_board.specs.Journal.{state_of}
+use Rattle.pg_board.proofs.OldCopies.{IsAnswered, stands_at, old_copy, lawful_after, checked_refusal}
 use Rattle.pg_board.proofs.board.Board.settle.Goals as goal
+use Rattle.pg_board.proofs.board.Board.settle.Goals.{After-settle_sound}
+
+answered : (c : After-settle_sound) → IsAnswered c.args.self.now c.settle_sound.new.self c.args.worker c.claim.result.now c.settle_sound.result
+answered c = let e = c.settle_sound.ensures in record { posted = e.posted; refused = e.refused; unchanged = e.unchanged }
+
+-- the same of the claim that is made of the checked one
+answered_of : (c : After-settle_sound) → IsAnswered c.args.self.now c.settle_sound.new.self c.args.worker (claim_of c.args.checked.now) c.settle_sound.result
+answered_of c =
+    subst (λ (k : Claim). IsAnswered c.args.self.now c.settle_sound.new.self c.args.worker k c.settle_sound.result) c.claim.ensures.claim (answered c)
 
 pub returns-in-Some-clause-old_copies : goal.returns-in-Some-clause-old_copies
 returns-in-Some-clause-old_copies c = λ k a d.
     let q = c.args.checked.now in
     let x = c.args.self.now in
-    let foreign : IsForeign x.graph q.player q.rows c.in-Some.v = subst (λ (y : Play). IsForeign y.graph q.player q.rows c.in-Some.v) c.self.view_is c.in-Some.ensures in
+    let foreign : IsForeign x.graph q.player q.rows c.in-Some.v =
+    subst (λ (y : Play). IsForeign y.graph q.player q.rows c.in-Some.v) c.self.view_is c.in-Some.ensures in
     absurd (never_foreign x.graph q.player q.rows c.in-Some.v a foreign)
 
 pub settle_sound-requires : goal.settle_sound-requires
@@ -26,41 +35,25 @@ settle_sound-requires c =
     (subst (λ (k : Claim). IsSound b.game.now k.player k.rows) (sym c.claim.ensures.claim) here)
 
 pub returns-clause-posted : goal.returns-clause-posted
-returns-clause-posted c =
-    let x = c.args.self.now in
-    let s = c.settle_sound in
-    let h : IsAnswered x s.new.self c.args.worker c.claim.result.now s.result =
-    record { posted = s.ensures.posted; refused = s.ensures.refused; unchanged = s.ensures.unchanged } in
-    (subst (λ (k : Claim). IsAnswered x s.new.self c.args.worker k s.result) c.claim.ensures.claim h).posted
+returns-clause-posted c = (answered_of (goal.at.returns-clause-posted c).After-settle_sound).posted
 
 pub returns-clause-refused : goal.returns-clause-refused
 returns-clause-refused c =
     let x = c.args.self.now in
     let s = c.settle_sound in
     let q = c.args.checked.now in
-    let h : IsAnswered x s.new.self c.args.worker c.claim.result.now s.result =
-    record { posted = s.ensures.posted; refused = s.ensures.refused; unchanged = s.ensures.unchanged } in
     let agrees : AgreesWithGame x.graph q.player q.rows = subst (λ (y : Play). AgreesWithGame y.graph q.player q.rows) c.self.view_is c.in_default.ensures in
     checked_refusal x.graph (state_of x.journal) q agrees s.result s.ensures.of_state
-    (subst (λ (k : Claim). IsAnswered x s.new.self c.args.worker k s.result) c.claim.ensures.claim h).refused
+    (answered_of (goal.at.returns-clause-refused c).After-settle_sound).refused
 
 pub returns-clause-lawful : goal.returns-clause-lawful
 returns-clause-lawful c =
-    let x = c.args.self.now in
-    let s = c.settle_sound in
-    let game : IsGame x.graph = subst (λ (y : Play). IsGame y.graph) c.self.view_is c.len-n.ensures.game in
-    let lawful : IsLawful x.graph x.journal = subst (λ (y : Play). IsLawful y.graph y.journal) c.self.view_is c.self.invariant.0.lawful in
-    let h : IsAnswered x s.new.self c.args.worker c.claim.result.now s.result =
-    record { posted = s.ensures.posted; refused = s.ensures.refused; unchanged = s.ensures.unchanged } in
-    lawful_after x s.new.self c.args.worker c.claim.result.now s.result game lawful h s.ensures.game
+    let stands = stands_at c.self.view_is c.len-n.ensures.game c.self.invariant.0 in
+    lawful_after c.settle_sound.result stands (answered (goal.at.returns-clause-lawful c).After-settle_sound) c.settle_sound.ensures.game
 
 pub returns-clause-old_copies : goal.returns-clause-old_copies
 returns-clause-old_copies c = λ k a d.
-    let x = c.args.self.now in
+    let stands = stands_at c.self.view_is c.len-n.ensures.game c.self.invariant.0 in
     let s = c.settle_sound in
-    let game : IsGame x.graph = subst (λ (y : Play). IsGame y.graph) c.self.view_is c.len-n.ensures.game in
-    let lawful : IsLawful x.graph x.journal = subst (λ (y : Play). IsLawful y.graph y.journal) c.self.view_is c.self.invariant.0.lawful in
-    let h : IsAnswered x s.new.self c.args.worker c.claim.result.now s.result =
-    record { posted = s.ensures.posted; refused = s.ensures.refused; unchanged = s.ensures.unchanged } in
-    old_copy x game lawful (claim_of c.args.checked.now) k d s.new.self c.args.worker s.result
-    (subst (λ (k : Claim). IsAnswered x s.new.self c.args.worker k s.result) c.claim.ensures.claim h)
+    old_copy c.args.self.now stands (claim_of c.args.checked.now) k d s.new.self c.args.worker s.result
+    (answered_of (goal.at.returns-clause-old_copies c).After-settle_sound)

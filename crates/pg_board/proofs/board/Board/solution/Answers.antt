@@ -1,5 +1,4 @@
-use Rattle.std.proofs.Common.{◌≡◌, length, ◌∙◌, ap, subst, arith}
-use Rattle.std.specs.Prelude.{slice_get}
+use Rattle.std.proofs.Common.{◌≡◌, length, ◌∙◌, ap, subst, arith, slice_get}
 use Rattle.pg_text.specs.Solution.{SolutionRows, IsExactSolution}
 use Rattle.pg_board.specs.Play.{Play}
 use Rattle.pg_board.specs.Journal.{state_of}

@@ -1,20 +1,17 @@
 use Rattle.std.specs.Prelude.{vec_capacity}
 use Rattle.pg_board.proofs.Growing.{Takes, IsGrowing-take, Grows-take}
-use Rattle.pg_board.proofs.Tables.{Settles}
 use Rattle.pg_board.proofs.growth.RegionsArea.take.Goals as goal
+use Rattle.pg_board.proofs.growth.RegionsArea.take.Goals.{After-settle}
+
+taken : (c : After-settle)
+    → Takes c.args._game.now c.args.player c.args.self.now c.settle.new.self c.args.list.now.items (c.args.v, c.args.choice) (vec_capacity c.args.list.now)
+taken c =
+    let h = c.settle.ensures in
+    record { settles = record { table = h.table; mask = h.mask; passed = h.passed }; unsettled = c.requires.free; growing = c.requires.ready }
 
 pub returns-clause-ready : goal.returns-clause-ready
 returns-clause-ready c =
-    let h = c.settle.ensures in
-    let settles : Settles c.args.self.now c.settle.new.self c.args.player (c.args.v, c.args.choice) = record { table = h.table; mask = h.mask; passed = h.passed } in
-    let taken : Takes c.args._game.now c.args.player c.args.self.now c.settle.new.self c.args.list.now.items (c.args.v, c.args.choice) (vec_capacity c.args.list.now) =
-    record { settles = settles; unsettled = c.requires.free; growing = c.requires.ready } in
-    rw (c.push_reserved.ensures.items, c.push_reserved.ensures.capacity) (IsGrowing-take taken)
+    rw (c.push_reserved.ensures.items, c.push_reserved.ensures.capacity) (IsGrowing-take (taken (goal.at.returns-clause-ready c).After-settle))
 
 pub returns-clause-grown : goal.returns-clause-grown
-returns-clause-grown c =
-    let h = c.settle.ensures in
-    let settles : Settles c.args.self.now c.settle.new.self c.args.player (c.args.v, c.args.choice) = record { table = h.table; mask = h.mask; passed = h.passed } in
-    let taken : Takes c.args._game.now c.args.player c.args.self.now c.settle.new.self c.args.list.now.items (c.args.v, c.args.choice) (vec_capacity c.args.list.now) =
-    record { settles = settles; unsettled = c.requires.free; growing = c.requires.ready } in
-    rw c.push_reserved.ensures.items (Grows-take taken c.requires.leads)
+returns-clause-grown c = rw c.push_reserved.ensures.items (Grows-take (taken (goal.at.returns-clause-grown c).After-settle) c.requires.leads)

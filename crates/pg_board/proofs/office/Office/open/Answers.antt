@@ -10,4 +10,5 @@ in_front n x h = let e : n ≡ suc (n - 1) = omega arith in ap (λ k. replicate 
 pub returns-clause-shares : goal.returns-clause-shares
 returns-clause-shares g c =
     let e : number_settled c.in_ok-board.board.journal ≡ 0 = ap number_settled c.in_ok-board.ensures.journal in
-    IfOk-weaker c.open_with.result _ _ (λ o h. h ∙ (ap (λ n. n ∷ replicate (c.args.seats - 1) 0) e ∙ in_front c.args.seats 0 c.requires.seats.0)) c.open_with.ensures.shares
+    IfOk-weaker c.open_with.result _ _
+    (λ o h. h ∙ (ap (λ n. n ∷ replicate (c.args.seats - 1) 0) e ∙ in_front c.args.seats 0 c.requires.seats.0)) c.open_with.ensures.shares

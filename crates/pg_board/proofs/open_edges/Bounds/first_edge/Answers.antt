@@ -28,4 +28,6 @@ rows-preserved c = λ k w l.
 pub returns : goal.returns
 returns c =
     let b = c.args.self.now in
-    none_outside b.game.now b.player (union (named b.rest.now) (settled (table_state b.regions.now.table.items) b.player)) c.args.rows.now c.requires.right c.rows.row-index c.rows-test.false c.rows.invariant
+    none_outside b.game.now b.player
+    (union (named b.rest.now) (settled
+    (table_state b.regions.now.table.items) b.player)) c.args.rows.now c.requires.right c.rows.row-index c.rows-test.false c.rows.invariant

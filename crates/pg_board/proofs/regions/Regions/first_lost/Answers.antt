@@ -11,7 +11,8 @@ returns-then-is_settled_for c =
     let claim = c.args.claim.now in
     let e = c.as_slice-row-items.ensures in
     let i = c.rows.row-index in
-    let here : settled st c.other-opponent.result (row_at c.as_slice-row-items.result.now i).0 ≡ true = sym c.is_settled_for.ensures ∙ c.if-is_settled_for.true in
+    let here : settled st c.other-opponent.result (row_at c.as_slice-row-items.result.now i).0 ≡ true =
+    sym c.is_settled_for.ensures ∙ c.if-is_settled_for.true in
     rw e (least_lost st claim.player claim.rows i (rw e at c.rows-test.true) c.requires
     (rw (e, c.other-opponent.ensures) at c.rows.invariant) (rw (e, c.other-opponent.ensures) at here))
 

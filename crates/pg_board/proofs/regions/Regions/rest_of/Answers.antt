@@ -1,4 +1,5 @@
-use Rattle.std.proofs.Common.{◌≡◌, ℕ, ◌<◌, ◌++◌, ◌∷◌, [], length, set, None, Option, sym, ◌∙◌, ap, subst, arith, length-set, length-append}
+use Rattle.std.proofs.Common.{◌≡◌, ℕ, ◌<◌, ◌++◌, ◌∷◌, [], length, set, None, Option, sym, ◌∙◌, ap, subst, arith, length-set}
+use Rattle.std.proofs.Common.{length-append}
 use Rattle.std.proofs.lemmas.List.Elements.{All-get_or}
 use Rattle.pg_dominion.specs.Claim.{ClaimRows}
 use Rattle.pg_board.specs.private.Regions.{table_state}
@@ -15,12 +16,15 @@ rows-preserved c =
     let r = row_at rows i in
     let old = c.rows.invariant in
     let l : i < length c.args.claim.now.rows = rw e at c.rows-test.true in
-    let below : r.0 < length c.args.places.now.items = rw e (All-get_or (λ (r : ℕ × Option ℕ). r.0 < length c.args.places.now.items) c.args.claim.now.rows i (0, None) l c.requires.rows) in
+    let below : r.0 < length c.args.places.now.items =
+    rw e (All-get_or (λ (r : ℕ × Option ℕ). r.0 < length c.args.places.now.items) c.args.claim.now.rows i (0, None) l c.requires.rows) in
     let at : c.len.result ≡ length c.rows.rest.items = omega (arith, c.len.ensures, c.rows.rest.ok.0) in
     let more : c.push_reserved.new.self.items ≡ c.rows.rest.items ++ r ∷ [] = c.push_reserved.ensures.items in
     let size : length c.push_reserved.new.self.items ≡ length (c.rows.rest.items ++ r ∷ []) = ap (λ (xs : ClaimRows). length xs) more in
     record {
-      rows = more ∙ (rw old.rows (sym (rest_kept (table_state c.args.self.now.table.items) rows i c.rows-test.true (sym c.is_unsettled.ensures ∙ c.if-not-is_unsettled.false))));
+      rows =
+          more ∙ (rw old.rows (sym (rest_kept (table_state c.args.self.now.table.items) rows i c.rows-test.true
+          (sym c.is_unsettled.ensures ∙ c.if-not-is_unsettled.false))));
       room = c.push_reserved.ensures.capacity ∙ old.room;
       size = length-set c.rows.places.items r.0 c.len.result ∙ old.size;
       placed = subst (λ (xs : ClaimRows). HavePlaces xs (set c.rows.places.items r.0 c.len.result)) (sym more)

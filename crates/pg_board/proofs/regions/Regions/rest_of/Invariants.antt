@@ -1,5 +1,4 @@
-use Rattle.std.proofs.Common.{◌≡◌, ◌≤◌, length, take}
-use Rattle.std.specs.Prelude.{vec_capacity}
+use Rattle.std.proofs.Common.{◌≡◌, ◌≤◌, length, take, vec_capacity}
 use Rattle.pg_board.specs.State.{rest_of}
 use Rattle.pg_board.specs.private.Regions.{table_state}
 use Rattle.pg_board.specs.private.OpenEdges.{HavePlaces}

@@ -48,7 +48,9 @@ rows-preserved c =
     record {
       growing = subst (λ (xs : ClaimRows). IsGrowing g c.settle.new.self xs (length g)) (sym more) (IsGrowing-take taken);
       same = λ v. ap (λ (xs : ClaimRows). open_before c.settle.new.self xs v) more ∙ (same-take taken v ∙ old.same v);
-      told = λ v. subst (λ (xs : ClaimRows). table_state c.settle.new.self.table.items v ≡ state_with (table_state c.args.self.now.table.items) p xs v) (sym more)
+      told =
+          λ v. subst (λ (xs : ClaimRows). table_state c.settle.new.self.table.items v ≡ state_with (table_state c.args.self.now.table.items) p xs v)
+          (sym more)
           (told-take taken (table_state c.args.self.now.table.items) old.told v);
     }
 
@@ -58,5 +60,7 @@ returns c =
     record {
       growing = subst (λ (xs : ClaimRows). IsGrowing c.args.game.now c.rows.self xs (length c.args.game.now)) all c.rows.invariant.growing;
       same = λ v. subst (λ (xs : ClaimRows). open_before c.rows.self xs v ≡ members c.args.self.now.unsettled v) all (c.rows.invariant.same v);
-      told = λ v. subst (λ (xs : ClaimRows). table_state c.rows.self.table.items v ≡ state_with (table_state c.args.self.now.table.items) c.args.player xs v) all (c.rows.invariant.told v);
+      told =
+          λ v. subst (λ (xs : ClaimRows). table_state c.rows.self.table.items v ≡ state_with
+          (table_state c.args.self.now.table.items) c.args.player xs v) all (c.rows.invariant.told v);
     }

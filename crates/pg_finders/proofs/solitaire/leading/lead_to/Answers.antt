@@ -13,7 +13,8 @@ queue-init c =
     let g = c.args.game.now in
     let n = c.len-n.result in
     rw (c.in_ok-empty.ensures, c.in_ok-push.ensures.items, c.new-queue.ensures.items) record {
-      state = leading_none g (members c.args.mask.now) (priority_of g c.args.goal) c.args.goal n c.in_ok-vec.field-0.items c.len-n.ensures.number (omega (arith, c.in_ok-vec.ensures.len, c.len-n.ensures.number));
+      state = leading_none g (members c.args.mask.now) (priority_of g c.args.goal) c.args.goal n c.in_ok-vec.field-0.items c.len-n.ensures.number
+          (omega (arith, c.in_ok-vec.ensures.len, c.len-n.ensures.number));
       queue = queue_one g c.args.goal _ c.requires.goal (none_mask n);
       done = λ i l. absurd (omega (arith, l));
       within = omega arith;
@@ -35,8 +36,8 @@ queue-preserved c =
       state = h.state;
       queue = h.queue;
       done = below_more _ _
-          (λ i li v m. h.follows.grows v (c.queue.invariant.done i li v (subst (λ x. EdgeBelow g U top v x) (h.follows.front i (omega arith)) m)))
-          (λ v m. h.seen v (subst (λ x. EdgeBelow g U top v x) (h.follows.front c.queue.at l ∙ sym e) m));
+          (λ i li v m. h.follows.grows v (c.queue.invariant.done i li v (subst (λ x. EdgeBelow g U top v x) (h.follows.prefix i (omega arith)) m)))
+          (λ v m. h.seen v (subst (λ x. EdgeBelow g U top v x) (h.follows.prefix c.queue.at l ∙ sym e) m));
       within = omega (arith, h.follows.longer);
     }
 

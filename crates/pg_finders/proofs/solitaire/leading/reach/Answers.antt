@@ -38,4 +38,5 @@ returns-clause-seen c = λ v e.
     let us = c.predecessors-from-items.result.now in
     let m = (c.predecessors-from-items.ensures.exact v).1 e.0 in
     let q : slice_index us m.0 ≡ v = get_or_default us m.0 0 v m.1 ∙ m.2 in
-    subst (In (members c.edges.lead.taken)) q (c.edges.invariant.seen m.0 (omega (arith, m.1, c.edges-test.false)) (subst (λ x. EdgeBelow c.args.game.now (members c.args.mask.now) (priority_of c.args.game.now c.args.goal) x c.args.to) (sym q) e))
+    subst (In (members c.edges.lead.taken)) q (c.edges.invariant.seen m.0 (omega (arith, m.1, c.edges-test.false))
+    (subst (λ x. EdgeBelow c.args.game.now (members c.args.mask.now) (priority_of c.args.game.now c.args.goal) x c.args.to) (sym q) e))

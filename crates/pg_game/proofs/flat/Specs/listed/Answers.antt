@@ -9,16 +9,15 @@ use Rattle.pg_game.proofs.Moved.{still_none, still_of}
 use Rattle.pg_game.proofs.Taken.{length_specs}
 use Rattle.pg_game.proofs.flat.Specs.listed.Goals as goal
 
-still_some : (specs sorted : List Spec) → IsPermutation specs sorted → (o : Option Graph) → IfSome o (λ g. IsGame g × IsGameOf sorted g × (first_fault sorted ≡ None)) → IfSome o (λ g. IsGame g × IsGameOf specs g × (first_fault specs ≡ None))
+still_some : (specs sorted : List Spec) → IsPermutation specs sorted → (o : Option Graph) →
+    IfSome o (λ g. IsGame g × IsGameOf sorted g × (first_fault sorted ≡ None)) → IfSome o (λ g. IsGame g × IsGameOf specs g × (first_fault specs ≡ None))
 still_some specs sorted moved None h = h
-still_some specs sorted moved (Some g) (game, of, none) = (game, still_of specs sorted moved g of, still_none specs sorted moved none)
+still_some specs sorted moved (Some g) (game, of, none) = (game, still_of moved g of, still_none moved none)
 
 pub by_identifier-requires : goal.by_identifier-requires
 by_identifier-requires c =
-    let s = c.self.inside in
-    let n = length_specs s.ids.items s.priorities.items s.owners.items s.rows c.self.invariant in
     let e = ap (λ (xs : List Spec). length xs) c.self.view_is in
-    omega (arith, n, e, c.if-len-gt-MAX_VERTICES.false, c.len.ensures, s.ids.ok.0)
+    omega (arith, length_specs c.self.invariant, e, c.if-len-gt-MAX_VERTICES.false, c.len.ensures, c.self.inside.ids.ok.0)
 
 pub placed-requires-2 : goal.placed-requires-2
 placed-requires-2 c = All-permutation AreNumbers c.args.self.now c.in_ok-sorted.sorted c.in_ok-sorted.ensures c.requires

@@ -1,4 +1,4 @@
-use Rattle.std.proofs.Common.{◌≡◌, ℕ, ◌+◌, ◌<◌, [], ◌∷◌, ◌++◌, List, length, take, map, get_or, sym, ◌∙◌, ap, arith}
+use Rattle.std.proofs.Common.{◌≡◌, ℕ, ◌<◌, [], ◌∷◌, ◌++◌, List, length, take, map, get_or, sym, ◌∙◌, ap, arith}
 use Rattle.std.proofs.lemmas.List.{get_or_read, take_all, take_more, map_push}
 use Rattle.pg_game.specs.declared.player.Player.TheVariants.{Even}
 use Rattle.pg_game.specs.declared.game.Spec.{Spec}
@@ -8,30 +8,23 @@ use Rattle.pg_game.proofs.flat.Specs.picked.Goals as goal
 
 pub row-row-requires : goal.row-row-requires
 row-row-requires c =
-    let s = c.self.inside in
-    let parts = c.self.invariant in
-    let l = place_within s.ids.items s.priorities.items s.owners.items s.rows parts c.args.self.now c.self.view_is _ (c.requires c.lines.line-index (0, 0) c.lines-test.true) in
-    omega (arith, l, parts.successors)
+    let l = place_within c.self.invariant c.self.view_is _ (c.requires c.lines.line-index (0, 0) c.lines-test.true) in
+    omega (arith, l, c.self.invariant.successors)
 
 pub index-requires : goal.index-requires
 index-requires c =
-    let s = c.self.inside in
-    let l = place_within s.ids.items s.priorities.items s.owners.items s.rows c.self.invariant c.args.self.now c.self.view_is _ (c.requires c.lines.line-index (0, 0) c.lines-test.true) in
-    omega (arith, l, s.ids.ok.0)
+    let l = place_within c.self.invariant c.self.view_is _ (c.requires c.lines.line-index (0, 0) c.lines-test.true) in
+    omega (arith, l, c.self.inside.ids.ok.0)
 
 pub index-requires-in-lines : goal.index-requires-in-lines
 index-requires-in-lines c =
-    let s = c.self.inside in
-    let parts = c.self.invariant in
-    let l = place_within s.ids.items s.priorities.items s.owners.items s.rows parts c.args.self.now c.self.view_is _ (c.requires c.lines.line-index (0, 0) c.lines-test.true) in
-    omega (arith, l, parts.priorities, s.priorities.ok.0)
+    let l = place_within c.self.invariant c.self.view_is _ (c.requires c.lines.line-index (0, 0) c.lines-test.true) in
+    omega (arith, l, c.self.invariant.priorities, c.self.inside.priorities.ok.0)
 
 pub index-requires-in-lines-2 : goal.index-requires-in-lines-2
 index-requires-in-lines-2 c =
-    let s = c.self.inside in
-    let parts = c.self.invariant in
-    let l = place_within s.ids.items s.priorities.items s.owners.items s.rows parts c.args.self.now c.self.view_is _ (c.requires c.lines.line-index (0, 0) c.lines-test.true) in
-    omega (arith, l, parts.owners, s.owners.ok.0)
+    let l = place_within c.self.invariant c.self.view_is _ (c.requires c.lines.line-index (0, 0) c.lines-test.true) in
+    omega (arith, l, c.self.invariant.owners, c.self.inside.owners.ok.0)
 
 pub lines-preserved : goal.lines-preserved
 lines-preserved c = λ d.
@@ -40,22 +33,24 @@ lines-preserved c = λ d.
     let lines = c.args.lines.now in
     let k = c.lines.line-index in
     let v = (get_or lines k (0, 0)).1 in
-    let specs = specs_from s.ids.items s.priorities.items s.owners.items s.rows in
-    let within : v < length s.ids.items = place_within s.ids.items s.priorities.items s.owners.items s.rows parts c.args.self.now c.self.view_is v (c.requires k (0, 0) c.lines-test.true) in
+    let within : v < length s.ids.items = place_within parts c.self.view_is v (c.requires k (0, 0) c.lines-test.true) in
+    let f = λ (line : ℕ × ℕ). get_or (specs_from s.ids.items s.priorities.items s.owners.items s.rows) line.1 d in
     let id : c.index.result.now ≡ get_or s.ids.items v 0 = get_or_read s.ids.items v _ within c.index.ensures 0 in
-    let priority : c.index-in-lines.result.now ≡ get_or s.priorities.items v 0 = get_or_read s.priorities.items v _ (omega (arith, within, parts.priorities)) c.index-in-lines.ensures 0 in
-    let owner : c.index-in-lines-2.result.now ≡ get_or s.owners.items v Even = get_or_read s.owners.items v _ (omega (arith, within, parts.owners)) c.index-in-lines-2.ensures Even in
+    let priority : c.index-in-lines.result.now ≡ get_or s.priorities.items v 0 =
+    get_or_read s.priorities.items v _ (omega (arith, within, parts.priorities)) c.index-in-lines.ensures 0 in
+    let owner : c.index-in-lines-2.result.now ≡ get_or s.owners.items v Even =
+    get_or_read s.owners.items v _ (omega (arith, within, parts.owners)) c.index-in-lines-2.ensures Even in
     let row : c.row-row.result.now ≡ get_or s.rows v [] = c.row-row.ensures.row in
-    let spec : spec_of c.index.result.now c.index-in-lines.result.now c.index-in-lines-2.result.now c.row-row.result.now ≡ get_or specs v d = (λ i. spec_of (id i) (priority i) (owner i) (row i)) ∙ sym (spec_at s.ids.items s.priorities.items s.owners.items s.rows parts v d within) in
-    let more : map (λ (line : ℕ × ℕ). get_or specs line.1 d) (take (k + 1) lines) ≡ map (λ (line : ℕ × ℕ). get_or specs line.1 d) (take k lines) ++ get_or specs v d ∷ [] = ap (λ (ls : List (ℕ × ℕ)). map (λ (line : ℕ × ℕ). get_or specs line.1 d) ls) (take_more lines k (0, 0) c.lines-test.true) ∙ map_push (λ (line : ℕ × ℕ). get_or specs line.1 d) (take k lines) (get_or lines k (0, 0)) in
-    let before : c.lines.specs ≡ map (λ (line : ℕ × ℕ). get_or specs line.1 d) (take k lines) = c.lines.invariant d in
+    let spec = (λ i. spec_of (id i) (priority i) (owner i) (row i)) ∙ sym (spec_at parts v d within) in
+    let more = ap (λ (ls : List (ℕ × ℕ)). map f ls) (take_more lines k (0, 0) c.lines-test.true) ∙ map_push f (take k lines) (get_or lines k (0, 0)) in
+    let before : c.lines.specs ≡ map f (take k lines) = c.lines.invariant d in
     c.in_ok-push.ensures.pushed ∙ ((λ i. before i ++ spec i ∷ []) ∙ sym more)
 
 pub returns : goal.returns
 returns c = λ d.
     let s = c.self.inside in
     let lines = c.args.lines.now in
-    let specs = specs_from s.ids.items s.priorities.items s.owners.items s.rows in
+    let f = λ (line : ℕ × ℕ). get_or (specs_from s.ids.items s.priorities.items s.owners.items s.rows) line.1 d in
     c.lines.invariant d
-    ∙ (ap (λ (ls : List (ℕ × ℕ)). map (λ (line : ℕ × ℕ). get_or specs line.1 d) ls) (take_all c.lines.line-index lines c.lines-test.false)
+    ∙ (ap (λ (ls : List (ℕ × ℕ)). map f ls) (take_all c.lines.line-index lines c.lines-test.false)
     ∙ ap (λ (xs : List Spec). map (λ (line : ℕ × ℕ). get_or xs line.1 d) lines) c.self.view_is)

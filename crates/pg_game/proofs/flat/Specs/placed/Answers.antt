@@ -2,6 +2,7 @@ use Rattle.std.proofs.Common.{◌≡◌, List, ℕ, refl, subst, sym, arith, ap,
 use Rattle.std.specs.Prelude.{All, None}
 use Rattle.pg_game.specs.declared.game.Spec.{Spec}
 use Rattle.pg_game.specs.Specification.{AreNumbers, IsGameOf, first_fault}
+use Rattle.pg_game.specs.Flat.{specs_from}
 use Rattle.pg_game.specs.View.{graph_of}
 use Rattle.pg_game.specs.private.Placed.{ArePlaced}
 use Rattle.pg_game.proofs.Laid.{placed_none, placed_game, placed_of, placed_listed}
@@ -17,26 +18,27 @@ placed_at c =
       laid = rw (c.in-Some.is, c.as_slice-ids.ensures.value) at c.in_ok-rows.ensures;
     }
 
+numbers_at : (c : goal.In_ok-from_slice-3) → All AreNumbers
+    (specs_from c.self.inside.ids.items c.self.inside.priorities.items c.self.inside.owners.items c.self.inside.rows)
+numbers_at c = subst (λ (xs : List Spec). All AreNumbers xs) (sym c.self.view_is) c.requires
+
 pub invariant_of-result : goal.invariant_of-result
 invariant_of-result c =
     let s = c.self.inside in
-    let rows = c.in-Some.rows in
-    let numbers = subst (λ (xs : List Spec). All AreNumbers xs) (sym c.self.view_is) c.requires in
     let ids : c.in_ok-from_slice.field-0.items ≡ s.ids.items = c.in_ok-from_slice.ensures.items ∙ c.as_slice-ids.ensures.value in
     let ps : c.in_ok-from_slice-2.field-0.items ≡ s.priorities.items = c.in_ok-from_slice-2.ensures.items ∙ c.as_slice.ensures.value in
     let os : c.in_ok-from_slice-3.field-0.items ≡ s.owners.items = c.in_ok-from_slice-3.ensures.items ∙ c.as_slice-2.ensures.value in
-    rw (ids, ps, os) (placed_listed s.ids.items s.priorities.items s.owners.items s.rows rows c.self.invariant (placed_at c) numbers)
+    rw (ids, ps, os) (placed_listed c.self.invariant (placed_at c) (numbers_at c))
 
 pub returns : goal.returns
 returns c =
     let s = c.self.inside in
-    let rows = c.in-Some.rows in
-    let placed = placed_at c in
-    let numbers = subst (λ (xs : List Spec). All AreNumbers xs) (sym c.self.view_is) c.requires in
     let ids : c.in_ok-from_slice.field-0.items ≡ s.ids.items = c.in_ok-from_slice.ensures.items ∙ c.as_slice-ids.ensures.value in
     let ps : c.in_ok-from_slice-2.field-0.items ≡ s.priorities.items = c.in_ok-from_slice-2.ensures.items ∙ c.as_slice.ensures.value in
     let os : c.in_ok-from_slice-3.field-0.items ≡ s.owners.items = c.in_ok-from_slice-3.ensures.items ∙ c.as_slice-2.ensures.value in
-    let game = placed_game s.ids.items s.priorities.items s.owners.items s.rows rows c.self.invariant placed numbers in
-    let of = subst (λ (xs : List Spec). IsGameOf xs (graph_of s.ids.items s.priorities.items s.owners.items rows)) c.self.view_is (placed_of s.ids.items s.priorities.items s.owners.items s.rows rows c.self.invariant placed numbers) in
-    let none = subst (λ (xs : List Spec). first_fault xs ≡ None) c.self.view_is (placed_none s.ids.items s.priorities.items s.owners.items s.rows rows c.self.invariant placed) in
-    rw (ids, ps, os) (game, of, none)
+    let g = graph_of s.ids.items s.priorities.items s.owners.items c.in-Some.rows in
+    rw (ids, ps, os) (
+      placed_game c.self.invariant (placed_at c) (numbers_at c),
+      subst (λ (xs : List Spec). IsGameOf xs g) c.self.view_is (placed_of c.self.invariant (placed_at c) (numbers_at c)),
+      subst (λ (xs : List Spec). first_fault xs ≡ None) c.self.view_is (placed_none c.self.invariant (placed_at c)),
+    )

@@ -2,7 +2,7 @@ use Rattle.std.proofs.Common.{◌≡◌, ◌<◌, [], ◌∷◌, ◌++◌, lengt
 use Rattle.std.proofs.lemmas.List.{get_or_read, take_all}
 use Rattle.pg_game.specs.declared.player.Player.TheVariants.{Even}
 use Rattle.pg_game.specs.Flat.{specs_from}
-use Rattle.pg_game.proofs.Taken.{length_specs, spec_in, specs_taken, spec_of}
+use Rattle.pg_game.proofs.Taken.{length_specs, specs_taken, spec_of}
 use Rattle.pg_game.proofs.flat.Specs.to_vec.Goals as goal
 
 pub lines-preserved : goal.lines-preserved
@@ -11,17 +11,17 @@ lines-preserved c =
     let v = c.lines.v in
     let parts = c.self.invariant in
     let within : v < length s.ids.items = let l = c.lines-test.true in let n = c.len-n.ensures in omega (arith, l, n, parts.successors) in
-    let taken = specs_taken s.ids.items s.priorities.items s.owners.items s.rows parts v within in
+    let taken = specs_taken parts v within in
     let id : c.index.result.now ≡ get_or s.ids.items v 0 = get_or_read s.ids.items v _ within c.index.ensures 0 in
-    let priority : c.index-in-lines.result.now ≡ get_or s.priorities.items v 0 = get_or_read s.priorities.items v _ (omega (arith, within, parts.priorities)) c.index-in-lines.ensures 0 in
-    let owner : c.index-in-lines-2.result.now ≡ get_or s.owners.items v Even = get_or_read s.owners.items v _ (omega (arith, within, parts.owners)) c.index-in-lines-2.ensures Even in
+    let priority : c.index-in-lines.result.now ≡ get_or s.priorities.items v 0 =
+    get_or_read s.priorities.items v _ (omega (arith, within, parts.priorities)) c.index-in-lines.ensures 0 in
+    let owner : c.index-in-lines-2.result.now ≡ get_or s.owners.items v Even =
+    get_or_read s.owners.items v _ (omega (arith, within, parts.owners)) c.index-in-lines-2.ensures Even in
     let row : c.new.result ≡ get_or s.rows v [] = c.new.ensures ∙ (c.in_ok-from_slice.ensures.items ∙ c.row.ensures.row) in
-    let spec : spec_of c.index.result.now c.index-in-lines.result.now c.index-in-lines-2.result.now c.new.result ≡ spec_in s.ids.items s.priorities.items s.owners.items s.rows parts v = λ i. spec_of (id i) (priority i) (owner i) (row i) in
     let before : c.lines.specs.items ≡ take v (specs_from s.ids.items s.priorities.items s.owners.items s.rows) = c.lines.invariant in
-    c.in_ok-push.ensures.items ∙ ((λ i. before i ++ spec i ∷ []) ∙ sym taken)
+    c.in_ok-push.ensures.items ∙ ((λ i. before i ++ spec_of (id i) (priority i) (owner i) (row i) ∷ []) ∙ sym taken)
 
 pub returns : goal.returns
 returns c =
-    let s = c.self.inside in
-    let n = length_specs s.ids.items s.priorities.items s.owners.items s.rows c.self.invariant in
-    c.lines.invariant ∙ (take_all c.lines.v (specs_from s.ids.items s.priorities.items s.owners.items s.rows) (let e = c.self.invariant.successors in omega (arith, n, e)) ∙ c.self.view_is)
+    let e = c.self.invariant.successors in
+    c.lines.invariant ∙ (take_all c.lines.v _ (omega (arith, length_specs c.self.invariant, e)) ∙ c.self.view_is)

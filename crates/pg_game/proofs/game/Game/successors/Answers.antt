@@ -1,22 +1,16 @@
 use Rattle.std.proofs.Common.{sym, ◌∙◌, subst, arith}
 use Rattle.pg_game.specs.Graph.{Graph, IsGame}
-use Rattle.pg_game.proofs.Look.{length_is, successors_are}
+use Rattle.pg_game.proofs.Parts.{length_is, successors_are}
 use Rattle.pg_game.proofs.game.Game.successors.Goals as goal
 
 pub row-requires : goal.row-requires
-row-requires c =
-    let s = c.self.inside in
-    let n = length_is s.ids s.priorities.items s.owners.items s.successors c.self.invariant.parts c.args.self.now c.self.view_is in
-    omega (arith, n, c.self.invariant.parts.successors)
+row-requires c = omega (arith, length_is c.self.invariant.parts c.self.view_is, c.self.invariant.parts.successors)
 
 pub returns-clause-all : goal.returns-clause-all
-returns-clause-all c =
-    let s = c.self.inside in
-    c.row.ensures.row ∙ sym (successors_are s.ids s.priorities.items s.owners.items s.successors c.self.invariant.parts c.args.self.now c.self.view_is c.args.v)
+returns-clause-all c = c.row.ensures.row ∙ sym (successors_are c.self.invariant.parts c.self.view_is c.args.v)
 
 pub returns-clause-below : goal.returns-clause-below
 returns-clause-below c =
-    let s = c.self.inside in
-    let e = c.row.ensures.row ∙ sym (successors_are s.ids s.priorities.items s.owners.items s.successors c.self.invariant.parts c.args.self.now c.self.view_is c.args.v) in
+    let e = c.row.ensures.row ∙ sym (successors_are c.self.invariant.parts c.self.view_is c.args.v) in
     let i : IsGame c.args.self.now = subst (λ (g : Graph). IsGame g) c.self.view_is c.self.invariant.game in
     rw e (i.successors c.args.v c.requires).below

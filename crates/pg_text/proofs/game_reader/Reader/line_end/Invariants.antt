@@ -1,9 +1,10 @@
 use Rattle.std.proofs.Common.{length, ◌-◌, ◌≤◌}
-use Rattle.pg_text.specs.private.GameAdvance.{Advances}
+use Rattle.pg_text.specs.private.Advance.{Advances}
+use Rattle.pg_text.specs.private.GameKeeps.{KeepsReader}
 use Rattle.pg_text.proofs.game_reader.Reader.line_end.Given as goal
 
 abbrev pub invariant-successors : goal.invariant-successors
-invariant-successors l = (l.from ≤ l.at) × (l.at ≤ length l.text) × Advances l.fn.self l.self l.text l.from l.at
+invariant-successors l = (l.from ≤ l.at) × (l.at ≤ length l.text) × Advances KeepsReader l.fn.self l.self l.text l.from l.at
 
 abbrev pub decreases-successors : goal.decreases-successors
 decreases-successors l = length l.text - l.at

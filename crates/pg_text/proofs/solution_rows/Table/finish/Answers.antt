@@ -12,7 +12,7 @@ returns-then-not-has c = λ lines h.
     let none : t.twice ≡ None = search rules in
     let l : c.vertices.v < length g = omega arith in
     let e : members t.said c.vertices.v ≡ false = search rules in
-    let k = is_missing g lines t.rows.items t.said t.twice h none c.vertices.v l e c.vertices.invariant in
+    let k = is_missing h none c.vertices.v l e c.vertices.invariant in
     subst (λ i. (first_stranger g lines ≡ None) × (first_twice lines ≡ None) × (first_missing g lines ≡ Some i)) (sym c.id.ensures) k
 
 pub returns : goal.returns
@@ -20,5 +20,5 @@ returns c = λ lines h.
     let g = c.args.game.now in
     let t = c.args.self in
     let none : t.twice ≡ None = search rules in
-    let k = say_rows g lines t.rows.items t.said t.twice h none (λ u l. c.vertices.invariant u (omega arith)) in
+    let k = say_rows h none (λ u l. c.vertices.invariant u (omega arith)) in
     subst (λ rows. AreLinesOf g lines rows) (sym c.new.ensures) k

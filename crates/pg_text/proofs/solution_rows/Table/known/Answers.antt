@@ -9,5 +9,5 @@ returns c = λ lines h.
     let g = c.args.game.now in
     let t = c.args.self in
     let none : t.twice ≡ None = search rules in
-    let k = say_known g lines t.rows.items t.said t.twice h none c.vertices.rows.items (omega arith) (λ u l. c.vertices.invariant.2 u (omega arith)) in
+    let k = say_known h none c.vertices.rows.items (omega arith) (λ u l. c.vertices.invariant.2 u (omega arith)) in
     subst (λ rows. AreKnownLinesOf g lines rows) (sym c.new.ensures) k

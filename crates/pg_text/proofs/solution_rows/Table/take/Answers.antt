@@ -10,8 +10,11 @@ returns c = λ lines h.
     let g = c.args.game.now in
     let l = c.args.line.now in
     let choice : IsChoice g l.choice c.match-line.choice = elim c.match-line.branch [
-      | in-Some+in_ok-named-in-Some w ↦ subst (λ (o : Option ℕ). IsChoice g o c.match-line.choice) (sym w.in-Some.is) (subst (λ (o : Option ℕ). IsChoice g (Some w.in-Some.id) o) (sym w.choice-is) w.in_ok-named-in-Some.ensures)
-      | in-None w ↦ subst (λ (o : Option ℕ). IsChoice g o c.match-line.choice) (sym w.in-None.is) (subst (λ (o : Option ℕ). IsChoice g None o) (sym w.choice-is) tt)
+      | in-Some+in_ok-named-in-Some w ↦ subst (λ (o : Option ℕ). IsChoice g o c.match-line.choice) (sym w.in-Some.is)
+          (subst (λ (o : Option ℕ). IsChoice g (Some w.in-Some.id) o) (sym w.choice-is) w.in_ok-named-in-Some.ensures)
+      | in-None w ↦ subst (λ (o : Option ℕ). IsChoice g o c.match-line.choice) (sym w.in-None.is)
+          (subst (λ (o : Option ℕ). IsChoice g None o) (sym w.choice-is) tt)
     ] in
     let n = c.in_ok-v.ensures in
-    c.put.ensures g lines (line_of l) h n refl (row_is g l.id l.winner l.choice c.match-line.choice h.game choice) (at_home g l.id c.in_ok-v.v (line_of l).winner l.choice c.match-line.choice n choice)
+    let row = row_is g l.id l.winner l.choice c.match-line.choice h.game choice in
+    c.put.ensures g lines (line_of l) h n refl row (at_home g l.id c.in_ok-v.v (line_of l).winner l.choice c.match-line.choice n choice)

@@ -1,5 +1,5 @@
-use Rattle.std.proofs.Common.{◌≡◌, ℕ, ◌<◌, List, [], ◌∷◌, ◌++◌, All, length, sym, ap, ◌∙◌, subst, arith, length-append, append_assoc, append-nil}
-use Rattle.std.specs.Prelude.{if◌then◌else◌, cond, flat_map}
+use Rattle.std.proofs.Common.{◌≡◌, ℕ, ◌<◌, List, [], ◌∷◌, ◌++◌, All, length, sym, ap, ◌∙◌, subst, arith, length-append}
+use Rattle.std.proofs.Common.{append_assoc, append-nil, if◌then◌else◌, cond, flat_map}
 use Rattle.std.specs.Vec.Iter.{into_iter_items}
 use Rattle.std.proofs.lemmas.List.{nil_from_length}
 use Rattle.std.proofs.lemmas.List.Sums.{sum_by_push, sum_by-cons}
@@ -21,7 +21,8 @@ join_seat-requires c =
     let whole = remade c.args.tickets.items c.remove.new.self.items c.remove.result some_ticket c.remove.ensures.value c.remove.ensures.items in
     let own = λ (t : HeldTicket). t.series ≡ c.args.self.series in
     let first = all_here own [] c.remove.new.self.items c.remove.result (subst (All own) whole c.requires.own) in
-    let this = all_here own (c.remove.result ∷ at.yielded) (into_iter_items c.next.new.self) x (subst (All own) (whole ∙ ap (λ l. c.remove.result ∷ l) (sym left)) c.requires.own) in
+    let this = all_here own (c.remove.result ∷ at.yielded) (into_iter_items c.next.new.self) x
+    (subst (All own) (whole ∙ ap (λ l. c.remove.result ∷ l) (sym left)) c.requires.own) in
     let mine = ap (λ o. o.series.table) c.self.view_is in
     let one = ap (λ m. m.0.tickets) c.ticket.invariant.seat in (
       i.2 ∙ ap (λ t. t.series.table) c.seat.view_is ∙ ap (λ s. s.table) first ∙ sym mine,
@@ -55,9 +56,13 @@ loop-ticket-preserved c =
           omega arith),
       ap (λ m. m.0.drawn) j.2 ∙ ap (λ l. l ++ c.ticket.inside.seat.me.0.drawn) i.6
           ∙ append_assoc c.seat.inside.seat.me.0.drawn (flat_map (λ (t : HeldTicket). t.numbers) at.yielded) c.ticket.inside.seat.me.0.drawn
-          ∙ ap (λ l. c.seat.inside.seat.me.0.drawn ++ l) (ap (λ z. flat_map (λ (t : HeldTicket). t.numbers) at.yielded ++ z) numbers ∙ sym (flat_map-push (λ (t : HeldTicket). t.numbers) at.yielded x)),
-      listed-push (λ (d : Drawn). d.numbers.items) (λ (t : HeldTicket). t.numbers) _ at.room.items c.push_reserved.new.self.items _ at.yielded x p.items i.7 (ap (λ t. t.numbers) view),
-      listed-push (λ (d : Drawn). d.told_none) (λ (t : HeldTicket). t.told_none) _ at.room.items c.push_reserved.new.self.items _ at.yielded x p.items i.8 (ap (λ t. t.told_none) view),
+          ∙ ap (λ l. c.seat.inside.seat.me.0.drawn ++ l)
+          (ap (λ z. flat_map (λ (t : HeldTicket). t.numbers) at.yielded ++ z) numbers ∙ sym
+          (flat_map-push (λ (t : HeldTicket). t.numbers) at.yielded x)),
+      listed-push (λ (d : Drawn). d.numbers.items) (λ (t : HeldTicket). t.numbers) _ at.room.items c.push_reserved.new.self.items _ at.yielded x p.items i.7
+          (ap (λ t. t.numbers) view),
+      listed-push (λ (d : Drawn). d.told_none) (λ (t : HeldTicket). t.told_none) _ at.room.items c.push_reserved.new.self.items _ at.yielded x p.items i.8
+          (ap (λ t. t.told_none) view),
       (let a = p.len in let was = i.9 in omega arith),
       p.capacity ∙ i.10,
     )
@@ -71,12 +76,14 @@ returns-clause-fair c =
     let done = sym (append-nil at.yielded) ∙ ap (λ l. at.yielded ++ l) (sym empty) ∙ i.0 ∙ c.into_iter-ticket-iterator.ensures.into_iter_gives.0 in
     let some_ticket : 0 < length c.args.tickets.items = let l = c.requires.all in let s = ap (λ o. o.seats) c.self.view_is in omega (arith, jobs.some_seat) in
     let whole : c.args.tickets.items ≡ c.remove.result ∷ at.yielded =
-    remade c.args.tickets.items c.remove.new.self.items c.remove.result some_ticket c.remove.ensures.value c.remove.ensures.items ∙ ap (λ l. c.remove.result ∷ l) (sym done) in
+    remade c.args.tickets.items c.remove.new.self.items c.remove.result some_ticket c.remove.ensures.value c.remove.ensures.items ∙ ap
+    (λ l. c.remove.result ∷ l) (sym done) in
     let last = c.close_with.ensures.values.2 in
     let first = c.seat.invariant.seat in
     let view = c.seat.view_is in
     let all_seats : at.seat.me.0.tickets ≡ c.self.inside.table.shared.key.seats =
-    let l = ap length whole in let s = ap (λ o. o.seats) c.self.view_is in let k = ap (λ k. k.seats) jobs.key in let t = i.4 in let r = c.requires.all in omega arith in
+    let l = ap length whole in let s = ap (λ o. o.seats) c.self.view_is in let k = ap (λ k. k.seats) jobs.key in let t = i.4 in let r = c.requires.all in
+    omega arith in
     let known = knows_all _ _ _ _ last.0 last.1.0 last.1.1 all_seats in
     let total = ap (λ k. k.total) jobs.key ∙ ap (λ o. o.series.total) c.self.view_is in
     let told = ap (λ m. m.0.told_none) first ∙ ap (λ t. if t.told_none then 1 else 0) view in

@@ -1,23 +1,22 @@
-use Rattle.std.proofs.Common.{◌≡◌, ℕ, ◌≤◌, ◌&&◌, not, All, ◌++◌, ◌∷◌, [], length, vec_len, map, sym, ◌∙◌, ap, subst, arith}
+use Rattle.std.proofs.Common.{◌≡◌, ◌≤◌, ◌&&◌, not, All, ◌++◌, ◌∷◌, [], length, vec_len, map, sym, ◌∙◌, ap, subst, arith}
 use Rattle.std.specs.List.Sorted.{IsNonDecreasingBy}
 use Rattle.pg_game.specs.declared.player.Player.{Player}
 use Rattle.pg_game.specs.declared.player.Player.TheVariants.{Even, Odd}
-use Rattle.pg_game.specs.VertexSet.{In, members}
+use Rattle.pg_game.specs.VertexSet.{members}
 use Rattle.pg_finders.specs.declared.recursion.solver.Stop.{Stop}
 use Rattle.pg_finders.specs.declared.recursion.order.Ranked.{Ranked}
-use Rattle.pg_finders.specs.private.recursion.Listed.{listed}
 use Rattle.pg_finders.specs.private.recursion.Settled.{settled_of}
 use Rattle.pg_finders.specs.private.recursion.Order.{IsRanked, AllStand}
 use Rattle.pg_finders.specs.private.recursion.Planned.{winners_of, choices_of}
 use Rattle.pg_finders.specs.private.Solved.{IsBegun}
 use Rattle.pg_finders.specs.private.recursion.Growing.{active_of}
-use Rattle.pg_finders.specs.private.recursion.UnderWay.{level_at, count_at, IsUnderWay}
+use Rattle.pg_finders.specs.private.recursion.UnderWay.{level_at, count_at}
 use Rattle.pg_finders.specs.private.recursion.Running.{AllPlaced}
 use Rattle.pg_finders.proofs.Sets.{only}
 use Rattle.pg_finders.proofs.recursion.Listed.{some_length}
 use Rattle.pg_finders.proofs.Solving.{back_equal, left_subgame}
 use Rattle.pg_finders.proofs.Sizes.{size_below}
-use Rattle.pg_finders.proofs.recursion.UnderWay.{lists_fit, none_active, under_way_begin, stops_now, inside_now}
+use Rattle.pg_finders.proofs.recursion.UnderWay.{Begins, lists_fit, none_active, under_way_begin, stops_now, inside_now}
 use Rattle.pg_finders.proofs.recursion.Running.{placed_push}
 use Rattle.pg_finders.proofs.recursion.Entering.{enters_fewer}
 use Rattle.pg_finders.proofs.recursion.solver.Solver.enter.Goals as goal
@@ -26,20 +25,26 @@ pub gone-requires : goal.gone-requires
 gone-requires c =
     let x = c.args.self.now in
     let h = c.requires.under_way in
-    let a = lists_fit (settled_of x.settled) x.aside.items c.args.inside.now h.apart h.listed_inside in
+    let a = lists_fit c.args.inside.now h.apart h.listed_inside in
     omega (arith, a, size_below c.args.inside.now, c.requires.inside_length, c.len-n.ensures)
 
 pub returns-then-gone-self-clause-none : goal.returns-then-gone-self-clause-none
 returns-then-gone-self-clause-none c _ v =
-    let x = c.args.self.now in
-    none_active c.args.game.now c.args.inside.now (active_of x.subgame) (settled_of x.settled) x.aside.items x.stops.items (winners_of x.subgame.plan) (choices_of x.subgame.plan) c.requires.under_way
-    (sym c.gone.ensures ∙ (c.if-gone-self.true ∙ c.requires.whole)) v
+    none_active c.args.inside.now c.requires.under_way (sym c.gone.ensures ∙ (c.if-gone-self.true ∙ c.requires.whole)) v
 
 abbrev After : Type 0
 After = goal.In_ok-push
 
 abbrev stop : After → Stop
-stop c = record { player = c.of_parity.result; place = c.upto-place.result; even = c.count.result; odd = c.count-2.result; aside = c.len-aside.result; upto = c.len.result }
+stop c = record {
+  player =
+      c.of_parity.result;
+  place = c.upto-place.result;
+  even = c.count.result;
+  odd = c.count-2.result;
+  aside = c.len-aside.result;
+  upto = c.len.result;
+}
 
 aside_is : (c : After) → c.append_all.new.list.items ≡ c.args.self.now.aside.items ++ c.begin.new.list.items
 aside_is c = c.in_ok-append_all.ensures ∙ ap (λ xs. c.args.self.now.aside.items ++ xs) c.deref.ensures.value
@@ -47,14 +52,10 @@ aside_is c = c.in_ok-append_all.ensures ∙ ap (λ xs. c.args.self.now.aside.ite
 ranked_is : (c : After) → c.begin.new.order.ranked.items ≡ c.args.self.now.order.ranked.items
 ranked_is c = c.in_ok-begin.ensures.ranked ∙ c.in-Some.ensures.ranked
 
-begun : (c : After) → IsBegun c.args.game.now (active_of c.args.self.now.subgame) (active_of c.begin.new.subgame) c.of_parity.result (winners_of c.begin.new.subgame.plan) (choices_of c.begin.new.subgame.plan)
-begun c = subst (λ p. IsBegun c.args.game.now (active_of c.args.self.now.subgame) (active_of c.begin.new.subgame) p (winners_of c.begin.new.subgame.plan) (choices_of c.begin.new.subgame.plan)) (sym c.of_parity.ensures) c.in_ok-begin.ensures.begun
-
-within : (c : After) (v : ℕ) → In (listed c.begin.new.list.items) v → In (active_of c.args.self.now.subgame) v
-within c v i = (only (active_of c.args.self.now.subgame v) (active_of c.begin.new.subgame v) (sym (c.in_ok-begin.ensures.listed v) ∙ i)).0
-
-left : (c : After) (v : ℕ) → active_of c.begin.new.subgame v ≡ (active_of c.args.self.now.subgame v && not (listed c.begin.new.list.items v))
-left c v = sym (back_equal (active_of c.args.self.now.subgame v) (active_of c.begin.new.subgame v) ((begun c).within v)) ∙ ap (λ b. active_of c.args.self.now.subgame v && not b) (sym (c.in_ok-begin.ensures.listed v))
+begun : (c : After) → IsBegun c.args.game.now (active_of c.args.self.now.subgame) (active_of c.begin.new.subgame) c.of_parity.result
+    (winners_of c.begin.new.subgame.plan) (choices_of c.begin.new.subgame.plan)
+begun c = subst (λ p. IsBegun c.args.game.now (active_of c.args.self.now.subgame) (active_of c.begin.new.subgame) p (winners_of c.begin.new.subgame.plan)
+    (choices_of c.begin.new.subgame.plan)) (sym c.of_parity.ensures) c.in_ok-begin.ensures.begun
 
 counts : (c : After) (p : Player) → count_at (stop c) p ≡ length (settled_of c.args.self.now.settled p)
 counts c Even = c.count.ensures
@@ -68,26 +69,36 @@ upto c = let a : c.len.result ≡ vec_len c.append_all.new.list = c.len.ensures 
     let b : c.len.result ≡ length c.append_all.new.list.items = omega (arith, a, c.append_all.new.list.ok) in
     b ∙ ap (λ xs. length xs) (aside_is c)
 
-under_way : (c : After) → IsUnderWay c.args.game.now (members c.args.inside.now) (active_of c.begin.new.subgame) (settled_of c.args.self.now.settled) (c.args.self.now.aside.items ++ c.begin.new.list.items) (c.args.self.now.stops.items ++ stop c ∷ []) (winners_of c.begin.new.subgame.plan) (choices_of c.begin.new.subgame.plan)
-under_way c =
-    let x = c.args.self.now in
-    let y = c.begin.new.subgame in
-    under_way_begin c.args.game.now (members c.args.inside.now) (active_of x.subgame) (active_of y) (settled_of x.settled) x.aside.items c.begin.new.list.items x.stops.items (stop c)
-    (winners_of x.subgame.plan) (winners_of y.plan) (choices_of x.subgame.plan) (choices_of y.plan) c.requires.under_way (within c) c.in_ok-begin.ensures.once (left c) (begun c) c.in_ok-begin.ensures.same (counts c) (from c) (upto c)
+begins : (c : After) → Begins c.args.game.now (members c.args.inside.now) (active_of c.args.self.now.subgame) (active_of c.begin.new.subgame)
+    (settled_of c.args.self.now.settled) c.args.self.now.aside.items c.begin.new.list.items c.args.self.now.stops.items (stop c)
+    (winners_of c.args.self.now.subgame.plan) (winners_of c.begin.new.subgame.plan) (choices_of c.args.self.now.subgame.plan)
+    (choices_of c.begin.new.subgame.plan)
+begins c =
+    let A = active_of c.args.self.now.subgame in
+    let C = active_of c.begin.new.subgame in
+    record {
+      under_way = c.requires.under_way;
+      within = λ v i. (only (A v) (C v) (sym (c.in_ok-begin.ensures.listed v) ∙ i)).0;
+      once = c.in_ok-begin.ensures.once;
+      left = λ v. sym (back_equal (A v) (C v) ((begun c).within v)) ∙ ap (λ b. A v && not b) (sym (c.in_ok-begin.ensures.listed v));
+      begun = begun c;
+      same = c.in_ok-begin.ensures.same;
+      counts = counts c;
+      from = from c;
+      upto = upto c;
+    }
 
-placed : (c : After) → AllPlaced c.begin.new.order.ranked.items (map (level_at (members c.args.inside.now) (settled_of c.args.self.now.settled) (c.args.self.now.aside.items ++ c.begin.new.list.items)) (c.args.self.now.stops.items ++ stop c ∷ [])) (c.args.self.now.stops.items ++ stop c ∷ [])
+placed : (c : After) → AllPlaced c.begin.new.order.ranked.items
+    (map (level_at (members c.args.inside.now) (settled_of c.args.self.now.settled) (c.args.self.now.aside.items ++ c.begin.new.list.items))
+    (c.args.self.now.stops.items ++ stop c ∷ [])) (c.args.self.now.stops.items ++ stop c ∷ [])
 placed c =
     let x = c.args.self.now in
-    let y = c.begin.new.subgame in
-    let U = members c.args.inside.now in
-    let kept = stops_now c.args.game.now U (active_of x.subgame) (active_of y) (settled_of x.settled) x.aside.items c.begin.new.list.items x.stops.items (stop c)
-    (winners_of x.subgame.plan) (winners_of y.plan) (choices_of x.subgame.plan) (choices_of y.plan) c.requires.under_way (within c) c.in_ok-begin.ensures.once (left c) (begun c) c.in_ok-begin.ensures.same (counts c) (from c) (upto c) in
-    let here = inside_now c.args.game.now U (active_of x.subgame) (active_of y) (settled_of x.settled) x.aside.items c.begin.new.list.items x.stops.items (stop c)
-    (winners_of x.subgame.plan) (winners_of y.plan) (choices_of x.subgame.plan) (choices_of y.plan) c.requires.under_way (within c) c.in_ok-begin.ensures.once (left c) (begun c) c.in_ok-begin.ensures.same (counts c) (from c) (upto c) in
-    subst (λ ranked. AllPlaced ranked (map (level_at U (settled_of x.settled) (x.aside.items ++ c.begin.new.list.items)) (x.stops.items ++ stop c ∷ [])) (x.stops.items ++ stop c ∷ [])) (sym (ranked_is c))
-    (placed_push x.order.ranked.items (level_at U (settled_of x.settled) (x.aside.items ++ c.begin.new.list.items)) x.stops.items (stop c)
-    (subst (λ ls. AllPlaced x.order.ranked.items ls x.stops.items) (sym kept) c.requires.placed)
-    (subst (λ Z. AllStand x.order.ranked.items Z c.upto-place.result) (sym here) (subst (λ n. AllStand x.order.ranked.items (active_of x.subgame) n) (sym c.upto-place.ensures) c.requires.stand))
+    let level = level_at (members c.args.inside.now) (settled_of x.settled) (x.aside.items ++ c.begin.new.list.items) in
+    subst (λ ranked. AllPlaced ranked (map level (x.stops.items ++ stop c ∷ [])) (x.stops.items ++ stop c ∷ [])) (sym (ranked_is c))
+    (placed_push x.order.ranked.items level x.stops.items (stop c)
+    (subst (λ ls. AllPlaced x.order.ranked.items ls x.stops.items) (sym (stops_now (begins c))) c.requires.placed)
+    (subst (λ Z. AllStand x.order.ranked.items Z c.upto-place.result) (sym (inside_now (begins c)))
+    (subst (λ n. AllStand x.order.ranked.items (active_of x.subgame) n) (sym c.upto-place.ensures) c.requires.stand))
     (omega (arith, c.upto-place.ensures, c.requires.order.upto)))
 
 pub returns-clause-running : goal.returns-clause-running
@@ -99,23 +110,20 @@ returns-clause-running c =
       inside_length = c.requires.inside_length;
       whole = c.requires.whole;
       sizes = c.in_ok-begin.ensures.sizes;
-      subgame = left_subgame g (active_of x.subgame) (active_of c.begin.new.subgame) c.of_parity.result (winners_of c.begin.new.subgame.plan) (choices_of c.begin.new.subgame.plan) (begun c);
+      subgame = left_subgame (begun c);
       order = record {
         right = subst (All (IsRanked g)) (sym (ranked_is c)) c.requires.order.right;
         rising = subst (IsNonDecreasingBy (λ (r : Ranked). r.priority)) (sym (ranked_is c)) c.requires.order.rising;
-        upto = subst (λ xs. c.begin.new.order.upto ≤ length xs) (sym (ranked_is c)) (omega (arith, c.in_ok-begin.ensures.upto, c.in-Some.ensures.upto, c.requires.order.upto));
+        upto = subst (λ xs. c.begin.new.order.upto ≤ length xs) (sym (ranked_is c))
+            (omega (arith, c.in_ok-begin.ensures.upto, c.in-Some.ensures.upto, c.requires.order.upto));
       };
       stand = c.in_ok-begin.ensures.stand;
       placed = rw (stops, aside_is c) (placed c);
-      under_way = rw (stops, aside_is c) (under_way c);
+      under_way = rw (stops, aside_is c) (under_way_begin (begins c));
     }
 
 pub returns-clause-fewer : goal.returns-clause-fewer
 returns-clause-fewer c _ =
-    let x = c.args.self.now in
-    let stops : c.push.new.self.items ≡ x.stops.items ++ stop c ∷ [] = c.in_ok-push.ensures.items in
-    let h = under_way c in
+    let stops : c.push.new.self.items ≡ c.args.self.now.stops.items ++ stop c ∷ [] = c.in_ok-push.ensures.items in
     let s = (begun c).some in
-    rw (stops, aside_is c)
-    (enters_fewer c.args.inside.now (settled_of x.settled) x.aside.items c.begin.new.list.items x.stops.items (stop c) h.apart h.listed_inside
-    (some_length c.begin.new.list.items s.0 (c.in_ok-begin.ensures.listed s.0 ∙ s.1)) (counts c) (from c))
+    rw (stops, aside_is c) (enters_fewer c.args.inside.now (begins c) (some_length c.begin.new.list.items s.0 (c.in_ok-begin.ensures.listed s.0 ∙ s.1)))

@@ -3,8 +3,6 @@ use Rattle.pg_game.specs.VertexSet.{members}
 use Rattle.pg_game.specs.Subgame.{IsSubgame}
 use Rattle.pg_finders.specs.private.recursion.Settled.{settled_of}
 use Rattle.pg_finders.specs.private.recursion.Order.{AllStand}
-use Rattle.pg_finders.specs.private.recursion.Planned.{winners_of, choices_of}
-use Rattle.pg_finders.specs.private.recursion.Growing.{active_of}
 use Rattle.pg_finders.specs.private.recursion.UnderWay.{level_at}
 use Rattle.pg_finders.specs.private.recursion.Running.{AllPlaced}
 use Rattle.pg_finders.proofs.Sizes.{size_is}
@@ -21,7 +19,7 @@ returns c =
       subgame = subst (λ m. IsSubgame c.args.game.now (members m)) (sym e) c.requires.subgame;
       order = c.in_ok-order.ensures.order;
       stand = subst (λ m. AllStand c.in_ok-order.order.ranked.items (members m) c.in_ok-order.order.upto) (sym e) c.in_ok-order.ensures.all;
-      placed = subst (λ fs. AllPlaced c.in_ok-order.order.ranked.items (map (level_at (members c.args.inside.now) (settled_of c.new-3.result) c.new-4.result.items) fs) fs) (sym c.new-5.ensures.items) tt;
-      under_way = under_way_start c.args.game.now (members c.args.inside.now) (active_of c.in_ok-subgame.subgame) (settled_of c.new-3.result) c.new-4.result.items c.new-5.result.items (winners_of c.in_ok-subgame.subgame.plan) (choices_of c.in_ok-subgame.subgame.plan)
-          (λ v. rw e refl) c.new-3.ensures c.new-4.ensures.items c.new-5.ensures.items;
+      placed = subst (λ fs. AllPlaced c.in_ok-order.order.ranked.items
+          (map (level_at (members c.args.inside.now) (settled_of c.new-3.result) c.new-4.result.items) fs) fs) (sym c.new-5.ensures.items) tt;
+      under_way = under_way_start (λ v. rw e refl) c.new-3.ensures c.new-4.ensures.items c.new-5.ensures.items;
     }

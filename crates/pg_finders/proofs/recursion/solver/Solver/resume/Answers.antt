@@ -1,15 +1,16 @@
-use Rattle.std.proofs.Common.{◌≡◌, ℕ, false, ◌<◌, ◌≤◌, All, length, take, sym, ◌∙◌, ap, subst}
+use Rattle.std.proofs.Common.{◌≡◌, ℕ, ◌<◌, ◌≤◌, All, length, take, sym, ◌∙◌, ap, subst}
 use Rattle.std.specs.List.Sorted.{IsNonDecreasingBy}
 use Rattle.pg_game.specs.declared.player.Player.{Player}
 use Rattle.pg_game.specs.Player.{opponent}
 use Rattle.pg_game.specs.VertexSet.{VertexSet, In, members, union}
 use Rattle.pg_finders.specs.declared.recursion.order.Ranked.{Ranked}
+use Rattle.pg_finders.specs.declared.recursion.plan.Plan.{Plan}
 use Rattle.pg_finders.specs.private.recursion.Listed.{listed, Once}
 use Rattle.pg_finders.specs.private.recursion.Settled.{SettledLists, settled_of}
 use Rattle.pg_finders.specs.private.recursion.Order.{IsRanked}
-use Rattle.pg_finders.specs.private.recursion.Planned.{winners_of, choices_of, HasSize}
+use Rattle.pg_finders.specs.private.recursion.Planned.{HasSize}
 use Rattle.pg_finders.specs.private.recursion.Growing.{active_of, IsGrown, AttractsNoActive}
-use Rattle.pg_finders.specs.private.recursion.UnderWay.{gone, count_at, prefix, level_at}
+use Rattle.pg_finders.specs.private.recursion.UnderWay.{gone, count_at, level_at}
 use Rattle.pg_finders.specs.private.recursion.Running.{AllPlaced}
 use Rattle.pg_finders.proofs.Sets.{twice}
 use Rattle.pg_finders.proofs.Masks.{inside_mask}
@@ -17,19 +18,21 @@ use Rattle.pg_finders.proofs.recursion.Listed.{all_below}
 use Rattle.pg_finders.proofs.recursion.Sharing.{gone_settled, gone_aside}
 use Rattle.pg_finders.proofs.recursion.Running.{placed_pop}
 use Rattle.pg_finders.proofs.recursion.UnderWay.{stop_fits}
-use Rattle.pg_finders.proofs.recursion.Leaving.{reopened_apart, reopened_known, reopened_rest, resume_subgame, resume_inside, resume_under_way, resume_kept, resume_fewer}
+use Rattle.pg_finders.proofs.recursion.Leaving.{IsAtEnd, IsFinished, Retakes, at_end, reopened_apart, reopened_known, reopened_rest, resume_subgame}
+use Rattle.pg_finders.proofs.recursion.Leaving.{resume_inside, resume_finished}
 use Rattle.pg_finders.proofs.recursion.solver.Solver.resume.Goals as goal
 
 abbrev Start : Type 0
 Start = goal.After-reopen-arg-1
 
-fits : (c : Start) → ((p : Player) → count_at c.args.stop p ≤ length (settled_of c.args.self.now.settled p)) × (c.args.stop.aside ≤ length c.args.self.now.aside.items)
-fits c =
-    let x = c.args.self.now in
-    stop_fits c.args.game.now (members c.args.inside.now) (active_of x.subgame) (settled_of x.settled) x.aside.items x.stops.items c.args.stop (winners_of x.subgame.plan) (choices_of x.subgame.plan) c.requires.running.under_way
+fits : (c : Start) → ((p : Player) → count_at c.args.stop p ≤ length (settled_of c.args.self.now.settled p))
+    × (c.args.stop.aside ≤ length c.args.self.now.aside.items)
+fits c = stop_fits c.args.self.now.stops.items c.args.stop c.requires.running.under_way
 
 below : (c : Start) (v : ℕ) → In (gone (settled_of c.args.self.now.settled) c.args.self.now.aside.items) v → v < length c.args.self.now.subgame.active
-below c v i = subst (λ n. v < n) (c.requires.running.inside_length ∙ sym c.requires.running.sizes.active) (inside_mask c.args.inside.now v (c.requires.running.under_way.listed_inside v i))
+below c v i =
+    subst (λ n. v < n) (c.requires.running.inside_length ∙ sym c.requires.running.sizes.active)
+    (inside_mask c.args.inside.now v (c.requires.running.under_way.listed_inside v i))
 
 pub reopen-requires-clause-aside : goal.reopen-requires-clause-aside
 reopen-requires-clause-aside c = (fits c).1
@@ -38,24 +41,30 @@ pub reopen-requires-clause-counts : goal.reopen-requires-clause-counts
 reopen-requires-clause-counts c = (fits c).0
 
 pub reopen-requires-clause-aside_below : goal.reopen-requires-clause-aside_below
-reopen-requires-clause-aside_below c = all_below (length c.args.self.now.subgame.active) c.args.self.now.aside.items (λ v i. below c v (gone_aside (settled_of c.args.self.now.settled) c.args.self.now.aside.items v i))
+reopen-requires-clause-aside_below c =
+    all_below (length c.args.self.now.subgame.active) c.args.self.now.aside.items
+    (λ v i. below c v (gone_aside (settled_of c.args.self.now.settled) c.args.self.now.aside.items v i))
 
 pub reopen-requires-clause-settled_below : goal.reopen-requires-clause-settled_below
-reopen-requires-clause-settled_below c p = all_below (length c.args.self.now.subgame.active) (settled_of c.args.self.now.settled p) (λ v i. below c v (gone_settled (settled_of c.args.self.now.settled) c.args.self.now.aside.items p v i))
+reopen-requires-clause-settled_below c p =
+    all_below (length c.args.self.now.subgame.active) (settled_of c.args.self.now.settled p)
+    (λ v i. below c v (gone_settled (settled_of c.args.self.now.settled) c.args.self.now.aside.items p v i))
 
 abbrev Reopened : Type 0
 Reopened = goal.After-deref
 
 -- what the opponent has is as it was
-lost : (c : Reopened) → settled_of c.reopen.new.self.settled c.other-other.result ≡ settled_of c.args.self.now.settled (opponent c.args.stop.player)
-lost c = ap (settled_of c.reopen.new.self.settled) c.other-other.ensures ∙ c.reopen.ensures.other
+same_lost : (c : Reopened) → settled_of c.reopen.new.self.settled c.other-other.result ≡ settled_of c.args.self.now.settled (opponent c.args.stop.player)
+same_lost c = ap (settled_of c.reopen.new.self.settled) c.other-other.ensures ∙ c.reopen.ensures.other
+
+ended : (c : Reopened) → IsAtEnd c.args.game.now c.args.inside.now c.args.self.now c.args.self.now.stops.items c.args.stop
+ended c = at_end c.args.self.now.stops.items c.args.stop c.requires.running c.requires.done
 
 aside_is : (c : Reopened) → c.reopen.new.self.aside.items ≡ c.args.self.now.aside.items
 aside_is c = ap (λ a. a.items) c.reopen.ensures.aside
 
 pub attract-requires-clause-ready : goal.attract-requires-clause-ready
 attract-requires-clause-ready c =
-    let x = c.args.self.now in
     let r = c.reopen.ensures in
     record {
       sizes = record {
@@ -63,24 +72,16 @@ attract-requires-clause-ready c =
         watches = ap (λ w. length w.places.items) r.watches ∙ c.requires.running.sizes.watches;
         plan = subst (HasSize (length c.args.game.now)) (sym r.plan) c.requires.running.sizes.plan;
       };
-      once = subst Once (sym (lost c)) (c.requires.running.under_way.apart.settled_once (opponent c.args.stop.player));
-      apart = λ v i. reopened_apart c.args.game.now c.args.inside.now (active_of x.subgame) (settled_of x.settled) x.aside.items x.stops.items c.args.stop x.subgame.plan c.requires.running.under_way c.requires.done
-          (active_of c.reopen.new.self.subgame) r.active v (subst (λ xs. In (listed xs) v) (lost c) i);
+      once = subst Once (sym (same_lost c)) (c.requires.running.under_way.apart.settled_once (opponent c.args.stop.player));
+      apart = λ v i. reopened_apart (ended c) (active_of c.reopen.new.self.subgame) r.active v (subst (λ xs. In (listed xs) v) (same_lost c) i);
     }
 
 pub attract-requires-clause-known : goal.attract-requires-clause-known
 attract-requires-clause-known c =
-    let x = c.args.self.now in
-    let r = c.reopen.ensures in
-    rw (c.other-other.ensures, r.plan, r.other)
-    (reopened_known c.args.game.now c.args.inside.now (active_of x.subgame) (settled_of x.settled) x.aside.items x.stops.items c.args.stop x.subgame.plan c.requires.running.under_way c.requires.done
-    (active_of c.reopen.new.self.subgame) r.active)
+    let r = c.reopen.ensures in rw (c.other-other.ensures, r.plan, r.other) (reopened_known (ended c) (active_of c.reopen.new.self.subgame) r.active)
 
 pub attract-requires-clause-place : goal.attract-requires-clause-place
-attract-requires-clause-place c =
-    let x = c.args.self.now in
-    rw (c.deref.ensures.value, aside_is c)
-    (stop_fits c.args.game.now (members c.args.inside.now) (active_of x.subgame) (settled_of x.settled) x.aside.items x.stops.items c.args.stop (winners_of x.subgame.plan) (choices_of x.subgame.plan) c.requires.running.under_way).1
+attract-requires-clause-place c = rw (c.deref.ensures.value, aside_is c) (stop_fits c.args.self.now.stops.items c.args.stop c.requires.running.under_way).1
 
 pub attract-requires-clause-below : goal.attract-requires-clause-below
 attract-requires-clause-below c =
@@ -91,17 +92,15 @@ attract-requires-clause-below c =
 
 pub attract-requires-clause-rest : goal.attract-requires-clause-rest
 attract-requires-clause-rest c =
-    let x = c.args.self.now in
     let r = c.reopen.ensures in
-    rw (c.deref.ensures.value, aside_is c, c.other-other.ensures, r.other)
-    (reopened_rest c.args.game.now c.args.inside.now (active_of x.subgame) (settled_of x.settled) x.aside.items x.stops.items c.args.stop x.subgame.plan c.requires.running.under_way c.requires.done
-    (active_of c.reopen.new.self.subgame) r.active)
+    rw (c.deref.ensures.value, aside_is c, c.other-other.ensures, r.other) (reopened_rest (ended c) (active_of c.reopen.new.self.subgame) r.active)
 
 pub go_back-requires : goal.go_back-requires
 go_back-requires c =
     let x = c.args.self.now in
     subst (λ o. c.args.stop.place ≤ length o.ranked.items) (sym c.reopen.ensures.order)
-    (placed_pop x.order.ranked.items (level_at (members c.args.inside.now) (settled_of x.settled) x.aside.items) x.stops.items c.args.stop c.requires.running.placed).2
+    (placed_pop x.order.ranked.items (level_at (members c.args.inside.now)
+    (settled_of x.settled) x.aside.items) x.stops.items c.args.stop c.requires.running.placed).2
 
 abbrev After : Type 0
 After = goal.After-go_back
@@ -115,27 +114,35 @@ C c = active_of c.attract.new.subgame
 abbrev now : After → SettledLists
 now c = settled_of c.attract.new.self
 
-own : (c : After) → now c c.args.stop.player ≡ prefix c.args.stop (settled_of c.args.self.now.settled) c.args.stop.player
-own c =
-    let e : opponent c.other-other.result ≡ c.args.stop.player = ap opponent c.other-other.ensures ∙ twice c.args.stop.player in
-    subst (λ p. now c p ≡ settled_of c.reopen.new.self.settled p) e c.attract.ensures.other ∙ c.reopen.ensures.own
+abbrev lost : After → Player
+lost c = opponent c.args.stop.player
 
-grown : (c : After) → IsGrown c.args.game.now (opponent c.args.stop.player) (A c) c.args.self.now.subgame.plan (settled_of c.args.self.now.settled (opponent c.args.stop.player)) (C c) c.attract.new.subgame.plan (now c (opponent c.args.stop.player))
-grown c =
-    subst (λ plan. IsGrown c.args.game.now (opponent c.args.stop.player) (A c) plan (settled_of c.args.self.now.settled (opponent c.args.stop.player)) (C c) c.attract.new.subgame.plan (now c (opponent c.args.stop.player))) c.reopen.ensures.plan
-    (subst (λ xs. IsGrown c.args.game.now (opponent c.args.stop.player) (A c) c.reopen.new.self.subgame.plan xs (C c) c.attract.new.subgame.plan (now c (opponent c.args.stop.player))) c.reopen.ensures.other
-    (subst (λ q. IsGrown c.args.game.now q (A c) c.reopen.new.self.subgame.plan (settled_of c.reopen.new.self.settled q) (C c) c.attract.new.subgame.plan (now c q)) c.other-other.ensures c.in_ok-attract.ensures.grown))
+abbrev retaken : After → Plan
+retaken c = c.attract.new.subgame.plan
 
-done : (c : After) → AttractsNoActive c.args.game.now (opponent c.args.stop.player) (union (A c) (listed (settled_of c.args.self.now.settled (opponent c.args.stop.player)))) (listed (now c (opponent c.args.stop.player))) (C c)
-done c =
-    subst (λ xs. AttractsNoActive c.args.game.now (opponent c.args.stop.player) (union (A c) (listed xs)) (listed (now c (opponent c.args.stop.player))) (C c)) c.reopen.ensures.other
-    (subst (λ q. AttractsNoActive c.args.game.now q (union (A c) (listed (settled_of c.reopen.new.self.settled q))) (listed (now c q)) (C c)) c.other-other.ensures c.in_ok-attract.ensures.done)
+retakes : (c : After) → Retakes c.args.game.now c.args.stop (A c) c.args.self.now.subgame.plan (settled_of c.args.self.now.settled) (now c) (C c) (retaken c)
+retakes c =
+    let g = c.args.game.now in
+    let r = c.reopen.ensures in
+    let h = c.in_ok-attract.ensures in
+    let q : c.other-other.result ≡ lost c = c.other-other.ensures in
+    record {
+      some = c.requires.some;
+      grown = subst (λ plan. IsGrown g (lost c) (A c) plan (settled_of c.args.self.now.settled (lost c)) (C c) (retaken c) (now c (lost c))) r.plan
+          (subst (λ xs. IsGrown g (lost c) (A c) c.reopen.new.self.subgame.plan xs (C c) (retaken c) (now c (lost c))) r.other
+          (subst (λ p. IsGrown g p (A c) c.reopen.new.self.subgame.plan (settled_of c.reopen.new.self.settled p) (C c) (retaken c) (now c p)) q h.grown));
+      done = subst (λ xs. AttractsNoActive g (lost c) (union (A c) (listed xs)) (listed (now c (lost c))) (C c)) r.other
+          (subst (λ p. AttractsNoActive g p (union (A c) (listed (settled_of c.reopen.new.self.settled p))) (listed (now c p)) (C c)) q h.done);
+      once = subst (λ p. Once (now c p)) q h.ready.once;
+      apart = λ v i. h.ready.apart v (subst (λ p. In (listed (now c p)) v) (sym q) i);
+      own = subst (λ p. now c p ≡ settled_of c.reopen.new.self.settled p) (ap opponent q ∙ twice c.args.stop.player) c.attract.ensures.other ∙ r.own;
+    }
 
-once : (c : After) → Once (now c (opponent c.args.stop.player))
-once c = subst (λ q. Once (now c q)) c.other-other.ensures c.in_ok-attract.ensures.ready.once
+over : (c : After) → IsAtEnd c.args.game.now c.args.inside.now c.args.self.now c.args.self.now.stops.items c.args.stop
+over c = at_end c.args.self.now.stops.items c.args.stop c.requires.running c.requires.done
 
-apart : (c : After) (v : ℕ) → In (listed (now c (opponent c.args.stop.player))) v → C c v ≡ false
-apart c v i = c.in_ok-attract.ensures.ready.apart v (subst (λ q. In (listed (now c q)) v) (sym c.other-other.ensures) i)
+finished : (c : After) → IsFinished c.args.game.now c.args.inside.now c.args.self.now c.args.self.now.stops.items c.args.stop (C c) (now c) (retaken c)
+finished c = resume_finished (over c) (A c) c.reopen.ensures.active (retakes c)
 
 ranked_is : (c : After) → c.go_back.new.self.ranked.items ≡ c.args.self.now.order.ranked.items
 ranked_is c = c.go_back.ensures.ranked ∙ ap (λ o. o.ranked.items) c.reopen.ensures.order
@@ -149,34 +156,23 @@ set_aside c = c.truncate.ensures.items ∙ ap (λ a. take c.args.stop.aside a.it
 pub returns-clause-running : goal.returns-clause-running
 returns-clause-running c =
     let x = c.args.self.now in
-    let g = c.args.game.now in
-    let r = c.reopen.ensures in
-    let popped = placed_pop x.order.ranked.items (level_at (members c.args.inside.now) (settled_of x.settled) x.aside.items) x.stops.items c.args.stop c.requires.running.placed in
+    let was = c.requires.running in
+    let popped =
+    placed_pop x.order.ranked.items (level_at (members c.args.inside.now) (settled_of x.settled) x.aside.items) x.stops.items c.args.stop was.placed in
     record {
-      inside_length = c.requires.running.inside_length;
-      whole = r.size ∙ c.requires.running.whole;
+      inside_length = was.inside_length;
+      whole = c.reopen.ensures.size ∙ was.whole;
       sizes = c.in_ok-attract.ensures.ready.sizes;
-      subgame = resume_subgame g c.args.inside.now (active_of x.subgame) (settled_of x.settled) x.aside.items x.stops.items c.args.stop x.subgame.plan c.requires.running.under_way c.requires.done
-          (A c) r.active (now c) (C c) c.attract.new.subgame.plan c.requires.some (grown c) (done c) (once c) (apart c) (own c);
+      subgame = resume_subgame (over c) (A c) c.reopen.ensures.active (retakes c);
       order = record {
-        right = subst (All (IsRanked g)) (sym (ranked_is c)) c.requires.running.order.right;
-        rising = subst (IsNonDecreasingBy (λ (r : Ranked). r.priority)) (sym (ranked_is c)) c.requires.running.order.rising;
+        right = subst (All (IsRanked c.args.game.now)) (sym (ranked_is c)) was.order.right;
+        rising = subst (IsNonDecreasingBy (λ (r : Ranked). r.priority)) (sym (ranked_is c)) was.order.rising;
         upto = rw (c.go_back.ensures.upto, ranked_is c) popped.2;
       };
-      stand = rw (c.go_back.ensures.upto, ranked_is c) (λ v i. popped.1 v
-          (resume_inside g c.args.inside.now (active_of x.subgame) (settled_of x.settled) x.aside.items x.stops.items c.args.stop x.subgame.plan c.requires.running.under_way c.requires.done
-          (A c) r.active (now c) (C c) c.attract.new.subgame.plan c.requires.some (grown c) (done c) (once c) (apart c) (own c) v i));
-      placed = rw (stops_are c, set_aside c, ranked_is c) (subst (λ ls. AllPlaced x.order.ranked.items ls x.stops.items)
-          (sym (resume_kept g c.args.inside.now (active_of x.subgame) (settled_of x.settled) x.aside.items x.stops.items c.args.stop x.subgame.plan c.requires.running.under_way c.requires.done
-          (A c) r.active (now c) (C c) c.attract.new.subgame.plan c.requires.some (grown c) (done c) (once c) (apart c) (own c))) popped.0);
-      under_way = rw (stops_are c, set_aside c)
-          (resume_under_way g c.args.inside.now (active_of x.subgame) (settled_of x.settled) x.aside.items x.stops.items c.args.stop x.subgame.plan c.requires.running.under_way c.requires.done
-          (A c) r.active (now c) (C c) c.attract.new.subgame.plan c.requires.some (grown c) (done c) (once c) (apart c) (own c));
+      stand = rw (c.go_back.ensures.upto, ranked_is c) (λ v i. popped.1 v (resume_inside (over c) (A c) c.reopen.ensures.active (retakes c) v i));
+      placed = rw (stops_are c, set_aside c, ranked_is c) (subst (λ ls. AllPlaced x.order.ranked.items ls x.stops.items) (sym (finished c).kept) popped.0);
+      under_way = rw (stops_are c, set_aside c) (finished c).under_way;
     }
 
 pub returns-clause-fewer : goal.returns-clause-fewer
-returns-clause-fewer c =
-    let x = c.args.self.now in
-    rw (stops_are c, set_aside c)
-    (resume_fewer c.args.game.now c.args.inside.now (active_of x.subgame) (settled_of x.settled) x.aside.items x.stops.items c.args.stop x.subgame.plan c.requires.running.under_way c.requires.done
-    (A c) c.reopen.ensures.active (now c) (C c) c.attract.new.subgame.plan c.requires.some (grown c) (done c) (once c) (apart c) (own c))
+returns-clause-fewer c = rw (stops_are c, set_aside c) (finished c).fewer

@@ -1,9 +1,5 @@
 use Rattle.std.proofs.Common.{◌≡◌, [], arith}
 use Rattle.std.proofs.lemmas.List.{nil_from_length}
-use Rattle.pg_game.specs.VertexSet.{members}
-use Rattle.pg_finders.specs.private.recursion.Settled.{settled_of}
-use Rattle.pg_finders.specs.private.recursion.Planned.{winners_of, choices_of}
-use Rattle.pg_finders.specs.private.recursion.Growing.{active_of}
 use Rattle.pg_finders.proofs.recursion.UnderWay.{under_way_done}
 use Rattle.pg_finders.proofs.recursion.solver.Solver.run.Goals as goal
 
@@ -11,5 +7,4 @@ pub returns-clause-solved : goal.returns-clause-solved
 returns-clause-solved c =
     let x = c.enter.new.self in
     let none : x.stops.items ≡ [] = nil_from_length x.stops.items (omega (arith, c.in_default.ensures.cases.0, x.stops.ok)) in
-    under_way_done c.args.game.now (members c.args.inside.now) (active_of x.subgame) (settled_of x.settled) x.aside.items x.stops.items (winners_of x.subgame.plan) (choices_of x.subgame.plan) c.in_ok-enter.ensures.running.under_way none
-    (c.in_ok-enter.ensures.none c.if-branch.false)
+    under_way_done c.in_ok-enter.ensures.running.under_way none (c.in_ok-enter.ensures.none c.if-branch.false)

@@ -1,5 +1,4 @@
-use Rattle.std.proofs.Common.{take, refl}
-use Rattle.pg_game.specs.VertexSet.{union}
+use Rattle.std.proofs.Common.{refl}
 use Rattle.pg_game.proofs.Grown.{in_first}
 use Rattle.pg_finders.specs.private.recursion.Listed.{listed}
 use Rattle.pg_finders.specs.private.recursion.Growing.{active_of}
@@ -11,5 +10,4 @@ attract_from-requires-clause-below c = c.requires.subgame.vertices
 
 pub attract_from-requires-clause-done : goal.attract_from-requires-clause-done
 attract_from-requires-clause-done c =
-    done_none c.args.game.now c.args.player (union (active_of c.args.self.now) (listed c.args.list.now.items)) (listed (take 0 c.args.list.now.items)) (active_of c.args.self.now)
-    (λ v i. c.requires.subgame.successor v (in_first (active_of c.args.self.now v) (listed c.args.list.now.items v) i)) (λ v. refl)
+    done_none (λ v i. c.requires.subgame.successor v (in_first (active_of c.args.self.now v) (listed c.args.list.now.items v) i)) (λ v. refl)

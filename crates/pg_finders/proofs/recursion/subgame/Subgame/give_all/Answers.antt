@@ -16,12 +16,18 @@ give-requires-clause-subgame c = subst (λ m. IsSubgame c.args.game.now (members
 abbrev After : Type 0
 After = goal.After-give
 
-kept : (c : After) (w : ℕ) → IsGiven c.args.game.now (active_of c.args.self.now) c.args.player c.places.self.plan w → IsGiven c.args.game.now (active_of c.args.self.now) c.args.player c.give.new.self.plan w
-kept c w h = subst (λ m. IsGiven c.args.game.now (members m) c.args.player c.places.self.plan w → IsGiven c.args.game.now (members m) c.args.player c.give.new.self.plan w) c.places.invariant.active (c.give.ensures.kept w) h
+kept : (c : After) (w : ℕ) → IsGiven c.args.game.now (active_of c.args.self.now) c.args.player c.places.self.plan w
+    → IsGiven c.args.game.now (active_of c.args.self.now) c.args.player c.give.new.self.plan w
+kept c w h =
+    subst (λ m. IsGiven c.args.game.now (members m) c.args.player c.places.self.plan w
+    → IsGiven c.args.game.now (members m) c.args.player c.give.new.self.plan w) c.places.invariant.active (c.give.ensures.kept w) h
 
-now : (c : After) → In (active_of c.args.self.now) (vertex_at_place c.args.order.now c.places.place) → IsGiven c.args.game.now (active_of c.args.self.now) c.args.player c.give.new.self.plan (vertex_at_place c.args.order.now c.places.place)
-now c = subst (λ v. In (active_of c.args.self.now) v → IsGiven c.args.game.now (active_of c.args.self.now) c.args.player c.give.new.self.plan v) c.vertex.ensures
-    (subst (λ m. In (members m) c.vertex.result → IsGiven c.args.game.now (members m) c.args.player c.give.new.self.plan c.vertex.result) c.places.invariant.active c.give.ensures.given)
+now : (c : After) → In (active_of c.args.self.now) (vertex_at_place c.args.order.now c.places.place)
+    → IsGiven c.args.game.now (active_of c.args.self.now) c.args.player c.give.new.self.plan (vertex_at_place c.args.order.now c.places.place)
+now c = subst (λ v. In (active_of c.args.self.now) v
+    → IsGiven c.args.game.now (active_of c.args.self.now) c.args.player c.give.new.self.plan v) c.vertex.ensures
+    (subst (λ m. In (members m) c.vertex.result → IsGiven c.args.game.now
+    (members m) c.args.player c.give.new.self.plan c.vertex.result) c.places.invariant.active c.give.ensures.given)
 
 pub places-preserved : goal.places-preserved
 places-preserved c = record {
@@ -29,7 +35,9 @@ places-preserved c = record {
   active = c.give.ensures.active ∙ c.places.invariant.active;
   given = λ k f l i. elim (order k c.places.place) [
     | inl h ↦ kept c (vertex_at_place c.args.order.now k) (c.places.invariant.given k f h i)
-    | inr (inl e) ↦ subst (λ j. In (active_of c.args.self.now) (vertex_at_place c.args.order.now j) → IsGiven c.args.game.now (active_of c.args.self.now) c.args.player c.give.new.self.plan (vertex_at_place c.args.order.now j)) (sym e) (now c) i
+    | inr (inl e) ↦
+        subst (λ j. In (active_of c.args.self.now) (vertex_at_place c.args.order.now j)
+        → IsGiven c.args.game.now (active_of c.args.self.now) c.args.player c.give.new.self.plan (vertex_at_place c.args.order.now j)) (sym e) (now c) i
     | inr (inr h) ↦ absurd (omega (arith, l, h))
   ];
   same = λ v n. (

@@ -1,9 +1,10 @@
-use Rattle.std.proofs.Common.{nat_eq, ◌⊎◌, inl, inr, true, ◌≡◌, ℕ, false, length, ◌++◌, ◌∷◌, [], sym, ◌∙◌, ap, subst, length-set}
+use Rattle.std.proofs.Common.{nat_eq, ◌≡◌, ℕ, false, length, ◌++◌, ◌∷◌, [], sym, ◌∙◌, ap, subst, length-set}
+use Rattle.std.proofs.lemmas.Bool.{false_from_ne_true}
 use Rattle.pg_game.specs.VertexSet.{In, members}
 use Rattle.pg_game.specs.private.VertexSet.{without}
 use Rattle.pg_finders.specs.private.recursion.Listed.{listed, Once}
 use Rattle.pg_finders.specs.private.recursion.Growing.{active_of}
-use Rattle.pg_finders.proofs.Sets.{no_both, test}
+use Rattle.pg_finders.proofs.Sets.{no_both}
 use Rattle.pg_finders.proofs.Masks.{members-unset}
 use Rattle.pg_finders.proofs.recursion.Growing.{once_push, apart_push}
 use Rattle.pg_finders.proofs.recursion.subgame.Subgame.leave_out.Goals as goal
@@ -15,11 +16,7 @@ now : (c : After) (w : ℕ) → members c.remove.new.self w ≡ without (active_
 now c w = ap (λ m. members m w) c.remove.ensures ∙ members-unset c.args.self.now.active c.args.v w
 
 fresh : (c : After) → listed c.args.list.now.items c.args.v ≡ false
-fresh c = go (test (listed c.args.list.now.items c.args.v))
-  where
-    go : (listed c.args.list.now.items c.args.v ≡ true) ⊎ (listed c.args.list.now.items c.args.v ≡ false) → listed c.args.list.now.items c.args.v ≡ false
-    go (inl y) = absurd (no_both (active_of c.args.self.now c.args.v) (sym c.has.ensures ∙ c.if-has.true) (c.requires.ready.apart c.args.v y))
-    go (inr n) = n
+fresh c = false_from_ne_true (listed c.args.list.now.items c.args.v) (λ y. no_both (sym c.has.ensures ∙ c.if-has.true) (c.requires.ready.apart c.args.v y))
 
 pub returns-in_ok-push-clause-ready : goal.returns-in_ok-push-clause-ready
 returns-in_ok-push-clause-ready c =
@@ -31,5 +28,6 @@ returns-in_ok-push-clause-ready c =
         plan = c.requires.ready.sizes.plan;
       };
       once = subst Once (sym e) (once_push c.args.list.now.items c.args.v c.requires.ready.once (fresh c));
-      apart = λ w i. apart_push c.args.list.now.items c.args.v (active_of c.args.self.now) (members c.remove.new.self) c.requires.ready.apart (now c) w (subst (λ xs. In (listed xs) w) e i);
+      apart = λ w i. apart_push c.args.list.now.items c.args.v (active_of c.args.self.now) (members c.remove.new.self) c.requires.ready.apart (now c) w
+          (subst (λ xs. In (listed xs) w) e i);
     }

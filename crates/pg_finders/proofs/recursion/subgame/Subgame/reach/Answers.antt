@@ -8,28 +8,29 @@ use Rattle.pg_finders.proofs.recursion.subgame.Subgame.reach.Goals as goal
 pub loop-from-init : goal.loop-from-init
 loop-from-init c = record {
   ready = c.requires.ready;
-  grown = grown_none c.args.game.now c.args.player (active_of c.args.self.now) c.args.self.now.plan c.args.list.now.items;
+  grown = grown_none;
   settled = λ k l. absurd (omega (arith, l));
 }
 
 pub consider-requires-clause-edge : goal.consider-requires-clause-edge
 consider-requires-clause-edge c =
-    (c.predecessors-from-items.ensures.exact (slice_index c.predecessors-from-items.result.now c.loop-from.from-index)).0 (Contains-get_or c.predecessors-from-items.result.now c.loop-from.from-index 0 c.loop-from-test.true)
+    (c.predecessors-from-items.ensures.exact (slice_index c.predecessors-from-items.result.now c.loop-from.from-index)).0
+    (Contains-get_or c.predecessors-from-items.result.now c.loop-from.from-index 0 c.loop-from-test.true)
 
 pub loop-from-preserved : goal.loop-from-preserved
 loop-from-preserved c =
     let g = c.args.game.now in
     let p = c.args.player in
-    let was = c.args.self.now in
-    let mid = c.loop-from.self in
-    let now = c.consider.new.self in
+    let was = active_of c.args.self.now in
+    let mid = active_of c.loop-from.self in
+    let now = active_of c.consider.new.self in
     let old = c.loop-from.invariant in
     let h = c.in_ok-consider.ensures in
     record {
       ready = h.ready;
-      grown = grown_then g p (active_of was) (active_of mid) (active_of now) was.plan mid.plan now.plan c.args.list.now.items c.loop-from.list.items c.consider.new.list.items old.grown h.grown;
-      settled = below_more _ _ (λ k l. settled_later g p (active_of was) (active_of mid) (active_of now) _ (grown_fewer g p (active_of mid) (active_of now) mid.plan now.plan c.loop-from.list.items c.consider.new.list.items h.grown _) (old.settled k l))
-          (settled_before g p (active_of was) (active_of mid) (active_of now) _ (grown_active g p (active_of was) (active_of mid) was.plan mid.plan c.args.list.now.items c.loop-from.list.items old.grown) h.settled);
+      grown = grown_then old.grown h.grown;
+      settled = below_more _ _ (λ k l. settled_later g p was mid now _ (grown_fewer h.grown _) (old.settled k l))
+          (settled_before g p was mid now _ (grown_active old.grown) h.settled);
     }
 
 pub returns-clause-settled : goal.returns-clause-settled

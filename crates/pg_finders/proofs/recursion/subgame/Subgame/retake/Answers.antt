@@ -1,9 +1,8 @@
-use Rattle.pg_finders.specs.private.recursion.Growing.{active_of}
 use Rattle.pg_finders.proofs.recursion.Growing.{grown_none}
 use Rattle.pg_finders.proofs.recursion.subgame.Subgame.retake.Goals as goal
 
 pub returns-in-None-clause-grown : goal.returns-in-None-clause-grown
-returns-in-None-clause-grown c = grown_none c.args.game.now c.args.player (active_of c.args.self.now) c.args.self.now.plan c.args.list.now.items
+returns-in-None-clause-grown c = grown_none
 
 pub returns-then-has_active-clause-grown : goal.returns-then-has_active-clause-grown
-returns-then-has_active-clause-grown c = grown_none c.args.game.now c.args.player (active_of c.args.self.now) c.args.self.now.plan c.args.list.now.items
+returns-then-has_active-clause-grown c = grown_none

@@ -17,8 +17,13 @@ returns-in-Some c =
     let rows = c.args.chosen.now in
     let v = vertex_in rows c.args.at in
     let o : owner_of g v ≡ p = search rules in
-    let h : choice_in rows v ≡ Some c.in-Some.w = choice_of_place rows c.args.at c.requires.rows.different c.requires.at ∙ (sym c.choice.ensures ∙ c.in-Some.is) in
-    record { none = λ f to l m. c.stands_before.ensures.none f to (omega (arith, l)) (sym (eqb-true c.in-Some.w (vertex_in rows to) ((leads_some g p (choice_in rows) v c.in-Some.w (vertex_in rows to) o h).1 m))) }
+    let h : choice_in rows v ≡ Some c.in-Some.w =
+    choice_of_place rows c.args.at c.requires.rows.different c.requires.at ∙ (sym c.choice.ensures ∙ c.in-Some.is) in
+    record {
+      none =
+          λ f to l m. c.stands_before.ensures.none f to (omega (arith, l))
+          (sym (eqb-true c.in-Some.w (vertex_in rows to) ((leads_some g p (choice_in rows) v c.in-Some.w (vertex_in rows to) o h).1 m)));
+    }
 
 pub returns-in-None : goal.returns-in-None
 returns-in-None c =

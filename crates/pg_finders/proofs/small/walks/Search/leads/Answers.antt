@@ -14,7 +14,8 @@ returns-in-Some c =
     let rows = c.args.chosen.now in
     let v = vertex_in rows c.args.from in
     let o : owner_of g v ≡ p = search rules in
-    let h : choice_in rows v ≡ Some c.in-Some.x = choice_of_place rows c.args.from c.requires.rows.different c.requires.from ∙ (sym c.choice.ensures ∙ c.in-Some.is) in
+    let h : choice_in rows v ≡ Some c.in-Some.x =
+    choice_of_place rows c.args.from c.requires.rows.different c.requires.from ∙ (sym c.choice.ensures ∙ c.in-Some.is) in
     rw c.vertex-w.ensures (leads_some g p (choice_in rows) v c.in-Some.x (vertex_in rows c.args.to) o h)
 
 pub returns-in-None : goal.returns-in-None

@@ -1,0 +1,30 @@
+use Rattle.std.proofs.Common.{refl, sym, ap, subst, ◌∙◌}
+use Rattle.pg_board.specs.Play.{Play}
+use Rattle.std.specs.Arc.{arc_value}
+use Rattle.pg_board.specs.Journal.{number_settled}
+use Rattle.pg_board.specs.private.Office.{IsPresentCopy}
+use Rattle.pg_board.proofs.Added.{number_grows, total_grows, settles_some, rises}
+use Rattle.pg_board.proofs.office.Desk.settle.Goals as goal
+
+pub invariant_of-self : goal.invariant_of-self
+invariant_of-self g c = let same = sym c.in_err-settled.ensures.unchanged in record {
+  exact = c.audit.ensures.total ∙ (c.args.self.now.exact ∙ ap (λ (b : Play). number_settled b.journal) same);
+  present = λ x is. subst (λ (b : Play). IsPresentCopy b (arc_value x)) same (c.args.self.now.present x is);
+}
+
+pub invariant_of-self-2 : goal.invariant_of-self-2
+invariant_of-self-2 g c = record {
+  exact = total_grows c.add.ensures.total (c.audit.ensures.total ∙ c.args.self.now.exact) c.from-added.ensures (number_grows c.in_ok-settled.ensures.posted.1);
+  present = λ x is. cc;
+}
+
+pub returns-clause-posted : goal.returns-clause-posted
+returns-clause-posted g c = (_, c.in_ok-settled.ensures.posted.1, refl)
+
+pub returns-clause-answer : goal.returns-clause-answer
+returns-clause-answer g c = let p = c.in_ok-settled.ensures.posted in (c.in_ok-settled.ensures.agrees, (p.0, (_, p.1.answers, p.1.settled)))
+
+pub returns-clause-added : goal.returns-clause-added
+returns-clause-added g c =
+    let p = c.in_ok-settled.ensures.posted in
+    (rw p.1.settled (settles_some p.0 p.1.answers), rises c.share.view_is c.from-added.ensures)

@@ -1,0 +1,11 @@
+use Rattle.std.proofs.Common.{◌≡◌, ap}
+use Rattle.std.specs.Arc.{arc_value}
+use Rattle.pg_finders.specs.declared.inside.Copied.{Copied}
+use Rattle.pg_board.proofs.Present.{reached}
+use Rattle.pg_board.proofs.office.Office.shared_copy.Goals as goal
+
+pub returns-then-deref-share : goal.returns-then-deref-share
+returns-then-deref-share c d =
+    let h = d.in_ok-copied.ensures.some in
+    let here : d.deref.result.now ≡ arc_value d.in_ok-copied.copied = d.deref.ensures in
+    (h.0, h.1, h.2, h.3, reached _ _ _ _ d.share.view_is d.if-deref-share.true (ap (λ (x : Copied). x.settled) here))

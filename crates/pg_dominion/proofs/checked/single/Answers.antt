@@ -1,0 +1,23 @@
+use Rattle.std.proofs.Common.{◌≡◌, ℕ, ◌+◌, ◌-◌, [], ◌∷◌, ap, arith, below_more}
+use Rattle.std.proofs.Math.Seq.{drop-cons}
+use Rattle.pg_game.specs.Graph.{successors_of}
+use Rattle.pg_dominion.proofs.Searching.{place_in}
+use Rattle.pg_dominion.proofs.checked.single.Goals as goal
+
+pub loop-k-init : goal.loop-k-init
+loop-k-init c = λ i l. absurd (omega (arith, l))
+
+pub loop-k-preserved : goal.loop-k-preserved
+loop-k-preserved c = below_more _ _ c.loop-k.invariant c.if-successors-k.false
+
+pub returns-then-successors-k : goal.returns-then-successors-k
+returns-then-successors-k c =
+    let k = c.loop-k.k in
+    let one : k + 1 - k ≡ 1 = omega arith in
+    rw (one, drop-cons c.successors-successors.result.now k 0 c.loop-k-test.true) (ap (λ (x : ℕ). x ∷ []) c.if-successors-k.true)
+
+pub unreachable-requires : goal.unreachable-requires
+unreachable-requires c =
+    let ws = c.successors-successors in
+    let q = place_in (successors_of c.args.game.now c.args.v) ws.result.now c.args.w ws.ensures.all c.requires.edge in
+    c.loop-k.invariant q.0 (omega (arith, q.1, c.loop-k-test.false)) q.2

@@ -1,0 +1,18 @@
+-- What is shown of vertices by earlier searches.
+use Rattle.std.specs.Prelude.{ℕ, ◌≤◌, ◌<◌, length}
+use Rattle.pg_game.specs.declared.player.Player.{Player}
+use Rattle.pg_game.specs.Graph.{Graph}
+use Rattle.pg_game.specs.VertexSet.{VertexSet, In}
+use Rattle.pg_dominion.specs.Claim.{ClaimRows, named, IsGoodIn}
+
+-- from the first number on, below the second
+abbrev pub IsBetween : ℕ → ℕ → ℕ → Type 0
+IsBetween low high v = (low ≤ v) × (v < high)
+
+-- no good claim of at most so many vertices has the vertex
+abbrev pub NoneHas : Graph → VertexSet → Player → ℕ → ℕ → Type 0
+NoneHas g U p bound v = (claim : ClaimRows) → IsGoodIn g U p claim → length claim ≤ bound → In (named claim) v → ⊥
+
+-- nor one between the numbers
+abbrev pub NoneHasBetween : Graph → VertexSet → Player → ℕ → ℕ → ℕ → Type 0
+NoneHasBetween g U p bound low high = (v : ℕ) → IsBetween low high v → NoneHas g U p bound v

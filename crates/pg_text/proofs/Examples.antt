@@ -1,0 +1,94 @@
+-- Examples, for the reader of the definitions: nothing is proved from these.
+use Rattle.std.proofs.Common.{◌≡◌, ℕ, zero, suc, ◌<◌, ◌≤◌, inl, inr, [], ◌∷◌, ◌^◌, length, refl, sym, ap, subst, arith, decimal}
+use Rattle.std.specs.Prelude.{Some, None, codes}
+use Rattle.std.specs.Fmt.{digits}
+use Rattle.std.proofs.Math.ListN.{replicate}
+use Rattle.std.specs.List.{Contains}
+use Rattle.pg_game.specs.declared.player.Player.TheVariants.{Even, Odd}
+use Rattle.pg_game.specs.Graph.{Graph, HasEdge}
+use Rattle.pg_game.specs.Least.{NoneHas, IsLeast}
+use Rattle.pg_game.proofs.Members.{Contains-head, Contains-one, Contains-cons}
+use Rattle.pg_text.specs.Written.{written_game, written_solution}
+use Rattle.pg_text.specs.Solution.{SolutionRows, winner_of, IsSolution}
+use Rattle.pg_text.specs.Verdict.{LacksChoice, HasBadChoice, Leaves, IsOnBadWalk}
+use Rattle.pg_text.proofs.Verdict.{solution_from_no_fault, won}
+
+-- 0 2 0 0,1; 1 1 1 1;
+abbrev two : Graph
+two =
+    record { id = 0; priority = 2; owner = Even; successors = 0 ∷ 1 ∷ [] }
+    ∷ record { id = 1; priority = 1; owner = Odd; successors = 1 ∷ [] } ∷ []
+
+-- 0 0 0; 1 1 1;
+abbrev both_win : SolutionRows
+both_win = (Even, Some 0) ∷ (Odd, Some 1) ∷ []
+
+two_edges : (v w : ℕ) → v < length two → HasEdge two v w → w < length two
+two_edges zero w l m = elim (Contains-cons 0 w (1 ∷ []) m) [
+  | inl e ↦ omega arith
+  | inr m' ↦ (let e = Contains-one 1 w m' in omega arith)
+]
+two_edges (suc zero) w l m = let e = Contains-one 1 w m in omega arith
+two_edges (suc (suc v)) w l m = absurd (omega arith)
+
+two_lacks : NoneHas (LacksChoice two both_win)
+two_lacks zero h = cc h.2
+two_lacks (suc zero) h = cc h.2
+two_lacks (suc (suc v)) h = omega (arith, h.0)
+
+two_bad : NoneHas (HasBadChoice two both_win)
+two_bad zero (l, o, (w, e, n)) = let f : 0 ≡ w = cc e in n (subst (Contains (0 ∷ 1 ∷ [])) f (Contains-head 0 (1 ∷ [])))
+two_bad (suc zero) (l, o, (w, e, n)) = let f : 1 ≡ w = cc e in n (subst (Contains (1 ∷ [])) f (Contains-head 1 []))
+two_bad (suc (suc v)) (l, o, r) = omega (arith, l)
+
+two_leaves : (v w : ℕ) → Leaves two both_win v w → ⊥
+two_leaves zero w ((i, m), n) = n (ap (winner_of both_win) (sym (Contains-one 0 w m)))
+two_leaves (suc zero) w ((i, m), n) = n (ap (winner_of both_win) (sym (Contains-one 1 w m)))
+two_leaves (suc (suc v)) w ((i, m), n) = omega (arith, (won two both_win refl Even (suc (suc v)) i).0)
+
+two_walks : NoneHas (IsOnBadWalk two both_win)
+two_walks zero (vs, c, e, b) = cc b
+two_walks (suc zero) (vs, c, e, b) = cc b
+two_walks (suc (suc v)) ([], c, e, b) = cc (c.0)
+two_walks (suc (suc v)) (w ∷ ws, c, e, b) = cc (c.0.0)
+
+-- an example: a solution of the game
+pub two_solved : IsSolution two both_win
+two_solved = solution_from_no_fault two both_win refl two_edges two_lacks two_bad two_leaves two_walks
+
+-- 0 6 1 4,2; 4 5 1 0; 1 8 1 2,4,3; 3 6 0 4,2; 2 7 0 3,1,0,4;
+abbrev five : Graph
+five =
+    record { id = 0; priority = 6; owner = Odd; successors = 2 ∷ 4 ∷ [] }
+    ∷ record { id = 1; priority = 8; owner = Odd; successors = 2 ∷ 3 ∷ 4 ∷ [] }
+    ∷ record { id = 2; priority = 7; owner = Even; successors = 0 ∷ 1 ∷ 3 ∷ 4 ∷ [] }
+    ∷ record { id = 3; priority = 6; owner = Even; successors = 2 ∷ 4 ∷ [] }
+    ∷ record { id = 4; priority = 5; owner = Odd; successors = 0 ∷ [] } ∷ []
+
+-- 0 0; 1 0; 2 0 0; 3 0 4; 4 0;
+abbrev wrong : SolutionRows
+wrong = (Even, None) ∷ (Even, None) ∷ (Even, Some 0) ∷ (Even, Some 4) ∷ (Even, None) ∷ []
+
+-- an example: the walk 0, 2, 0 has greatest priority 7, and 2 is the least such vertex
+pub five_fails : IsLeast (IsOnBadWalk five wrong) 2
+five_fails = record { has = (0 ∷ [], ((refl, Contains-head 0 []), (refl, Contains-head 2 (4 ∷ []))), refl, refl); least = least }
+  where
+    least : (u : ℕ) → IsOnBadWalk five wrong u → 2 ≤ u
+    least zero (vs, c, e, b) = absurd (cc b)
+    least (suc zero) (vs, c, e, b) = absurd (cc b)
+    least (suc (suc u)) h = omega arith
+
+-- an example: the written text of the game
+pub written_five : written_game five ≡ codes "parity 4;\n0 6 1 2,4;\n1 8 1 2,3,4;\n2 7 0 0,1,3,4;\n3 6 0 2,4;\n4 5 1 0;\n"
+unfolding digits
+written_five = refl
+
+-- an example: the written text of the solution
+pub written_two : written_solution two both_win ≡ codes "paritysol 1;\n0 0 0;\n1 1 1;\n"
+unfolding digits
+written_two = refl
+
+-- an example: a number of 65 digits is written by its last 64, so the laws on written texts speak of at most 64
+pub too_wide : decimal (10 ^ 64) ≡ replicate 64 48
+unfolding digits
+too_wide = refl

@@ -1,0 +1,18 @@
+use Rattle.std.proofs.Common.{length, sym, subst}
+use Rattle.std.specs.List.{AllByRecursion}
+use Rattle.pg_text.proofs.WrittenReads.{all_at}
+use Rattle.pg_board.specs.declared.entry.Entry.{Entry}
+use Rattle.pgboard.specs.private.Trace.{AreVertices}
+use Rattle.pgboard.proofs.Traced.{one_entry_more}
+use Rattle.pgboard.proofs.trace.put_entries.Goals as goal
+
+pub put_entry-requires : goal.put_entry-requires
+put_entry-requires c =
+    subst (λ (e : Entry). AllByRecursion (AreVertices (length c.args.game.now)) e.rows) (sym c.index-entries-i.is)
+    (all_at (λ (e : Entry). AllByRecursion (AreVertices (length c.args.game.now)) e.rows) c.args.entries.now c.loop-i.i c.index-entries-i.result
+    c.requires c.loop-i-test.true)
+
+pub loop-i-preserved : goal.loop-i-preserved
+loop-i-preserved c =
+    one_entry_more c.args.game.now c.args.entries.now c.loop-i.i c.index-entries-i.result c.loop-i.out.items c.put_entry.new.out.items _
+    c.loop-i-test.true c.index-entries-i.is c.in_ok-put_entry.ensures c.loop-i.invariant

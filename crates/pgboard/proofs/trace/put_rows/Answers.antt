@@ -1,0 +1,20 @@
+use Rattle.std.proofs.Common.{length}
+use Rattle.std.specs.Prelude.{None}
+use Rattle.pg_text.proofs.WrittenReads.{all_at}
+use Rattle.pgboard.specs.Trace.{row_line}
+use Rattle.pgboard.specs.private.Trace.{AreVertices}
+use Rattle.pgboard.proofs.Traced.{one_more}
+use Rattle.pgboard.proofs.trace.put_rows.Goals as goal
+
+pub put_row-requires-clause-vertex : goal.put_row-requires-clause-vertex
+put_row-requires-clause-vertex c =
+    (all_at (AreVertices (length c.args.game.now)) c.args.rows.now c.loop-row.row-index (0, None) c.requires c.loop-row-test.true).vertex
+
+pub put_row-requires-clause-choice : goal.put_row-requires-clause-choice
+put_row-requires-clause-choice c =
+    (all_at (AreVertices (length c.args.game.now)) c.args.rows.now c.loop-row.row-index (0, None) c.requires c.loop-row-test.true).choice
+
+pub loop-row-preserved : goal.loop-row-preserved
+loop-row-preserved c =
+    one_more (row_line c.args.game.now) c.args.rows.now c.loop-row.row-index (0, None) c.loop-row.out.items c.put_row.new.out.items _ c.loop-row-test.true
+    c.in_ok-put_row.ensures c.loop-row.invariant
