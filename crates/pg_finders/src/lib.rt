@@ -3,6 +3,7 @@
 //! its subgame.
 #![tactic(auto)]
 
+mod adaptive;
 mod choice;
 mod finder;
 mod inside;
@@ -15,6 +16,7 @@ mod standard;
 #[cfg(test)]
 mod tests;
 
+pub use adaptive::Adaptive;
 pub use finder::{Finder, Found, Job};
 pub use inside::{Copied, Inside};
 pub use loops::find_loop;

@@ -22,6 +22,7 @@ macro_rules! check {
     };
 }
 
+mod adaptive;
 mod asserting;
 mod claims;
 mod dominions;

@@ -31,7 +31,7 @@ use asked::Asked;
 use device::Std;
 use fault::{AskedFault, RunFault};
 use input::Input;
-use pg_finders::Standard;
+use pg_finders::Adaptive;
 use pg_workers::Pass;
 use std::alloc::Global;
 use std::env;
@@ -108,7 +108,7 @@ fn run_on_files<T: Threads + Wait + Sync>(
         &mut second,
         &mut out,
         &Pass,
-        &Standard,
+        &Adaptive::new(),
     )
 }
 

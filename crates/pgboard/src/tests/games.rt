@@ -14,11 +14,12 @@ pub const FIVE: &[u8] =
 pub const FOUR_AND_FIVE: &[u8] =
     b"0 0 0 1; 1 0 0 2; 2 0 0 3; 3 0 0 0,4; 4 1 1 5; 5 1 1 6; 6 1 1 7; 7 1 1 8; 8 1 1 0,4;";
 
-/// Odd wins everything. Seven vertices of Even's have edges to each of them: to look from each of them for a dominion of
-/// at most four takes 7 * (1 + 6 + 6 * 5 + 6 * 5 * 4) choices, which makes 7,693, and from each of Odd's two 7 more.
-pub const SEVEN_TO_EACH: &[u8] =
-    b"0 1 0 0,1,2,3,4,5,6; 1 1 0 0,1,2,3,4,5,6; 2 1 0 0,1,2,3,4,5,6; 3 1 0 0,1,2,3,4,5,6; 4 1 0 0,1,2,3,4,5,6; 5 1 0 0,1,2,3,4,5,6; 6 1 0 0,1,2,3,4,5,6; 7 1 1 0,8; 8 1 1 0,7;";
+/// Odd wins everything. Nine vertices of Even's have edges to each of them. To look from each of them for a dominion of
+/// at most four, the last one first and without those looked from before, takes 9 * (1 + (k - 1) * (1 + (k - 2) * (k - 2)))
+/// choices with k of them left, in all 8,721, and from Odd's two 9 more.
+pub const NINE_TO_EACH: &[u8] =
+    b"0 1 0 0,1,2,3,4,5,6,7,8; 1 1 0 0,1,2,3,4,5,6,7,8; 2 1 0 0,1,2,3,4,5,6,7,8; 3 1 0 0,1,2,3,4,5,6,7,8; 4 1 0 0,1,2,3,4,5,6,7,8; 5 1 0 0,1,2,3,4,5,6,7,8; 6 1 0 0,1,2,3,4,5,6,7,8; 7 1 0 0,1,2,3,4,5,6,7,8; 8 1 0 0,1,2,3,4,5,6,7,8; 9 1 1 0,10; 10 1 1 0,9;";
 
-/// The same with eight vertices of Even's, which takes 8 * 8 * (1 + 7 + 7 * 6 + 7 * 6 * 5) choices, 16,640.
-pub const EIGHT_TO_EACH: &[u8] =
-    b"0 1 0 0,1,2,3,4,5,6,7; 1 1 0 0,1,2,3,4,5,6,7; 2 1 0 0,1,2,3,4,5,6,7; 3 1 0 0,1,2,3,4,5,6,7; 4 1 0 0,1,2,3,4,5,6,7; 5 1 0 0,1,2,3,4,5,6,7; 6 1 0 0,1,2,3,4,5,6,7; 7 1 0 0,1,2,3,4,5,6,7; 8 1 1 0,9; 9 1 1 0,8;";
+/// The same with ten vertices of Even's, which takes 15,560 choices.
+pub const TEN_TO_EACH: &[u8] =
+    b"0 1 0 0,1,2,3,4,5,6,7,8,9; 1 1 0 0,1,2,3,4,5,6,7,8,9; 2 1 0 0,1,2,3,4,5,6,7,8,9; 3 1 0 0,1,2,3,4,5,6,7,8,9; 4 1 0 0,1,2,3,4,5,6,7,8,9; 5 1 0 0,1,2,3,4,5,6,7,8,9; 6 1 0 0,1,2,3,4,5,6,7,8,9; 7 1 0 0,1,2,3,4,5,6,7,8,9; 8 1 0 0,1,2,3,4,5,6,7,8,9; 9 1 0 0,1,2,3,4,5,6,7,8,9; 10 1 1 0,11; 11 1 1 0,10;";

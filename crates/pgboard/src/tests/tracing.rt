@@ -2,7 +2,7 @@
 use super::calls::traced;
 use super::devices::Bounded;
 use super::finders::{NoMemory, Singles};
-use super::games::{EIGHT_TO_EACH, FOUR_AND_FIVE, LAYERS, ONE_EACH, SEVEN_TO_EACH};
+use super::games::{FOUR_AND_FIVE, LAYERS, NINE_TO_EACH, ONE_EACH, TEN_TO_EACH};
 use pg_finders::{Finder, Standard};
 use pg_workers::Pass;
 use std::alloc::Global;
@@ -88,27 +88,27 @@ total 2 9 0 0\n",
 }
 
 #[test]
-fn a_search_of_seven_thousand_choices_ends(rt: HostRuntime) {
+fn a_search_of_nine_thousand_choices_ends(rt: HostRuntime) {
     assert_traced(
         &rt,
         rt.alloc(),
-        SEVEN_TO_EACH,
+        NINE_TO_EACH,
         &Standard,
-        "journal 2 9\nentry 0 1 1 2 2\n7 8;\n8 7;\nentry 1 1 1 7 7\n0;\n1;\n2;\n3;\n4;\n5;\n6;\nreport 5\n\
-job 0 1 0 0 0 0 0 0\njob 1 1 0 0 0 0 0 0\njob 2 1 0 0 0 0 0 0\njob 3 1 1 2 0 0 0 0\njob 4 1 1 7 0 0 0 0\n\
-total 2 9 0 0\n",
+        "journal 2 11\nentry 0 1 1 2 2\n9 10;\n10 9;\nentry 1 1 1 9 9\n0;\n1;\n2;\n3;\n4;\n5;\n6;\n7;\n8;\nreport 5\n\
+job 0 1 0 0 0 0 0 0\njob 1 1 0 0 0 0 0 0\njob 2 1 0 0 0 0 0 0\njob 3 1 1 2 0 0 0 0\njob 4 1 1 9 0 0 0 0\n\
+total 2 11 0 0\n",
     );
 }
 
 #[test]
-fn a_search_of_sixteen_thousand_choices_is_given_up(rt: HostRuntime) {
+fn a_search_of_fifteen_thousand_choices_is_given_up(rt: HostRuntime) {
     assert_traced(
         &rt,
         rt.alloc(),
-        EIGHT_TO_EACH,
+        TEN_TO_EACH,
         &Standard,
-        "journal 2 10\nentry 0 1 1 2 2\n8 9;\n9 8;\nentry 1 1 1 8 8\n0;\n1;\n2;\n3;\n4;\n5;\n6;\n7;\nreport 5\n\
-job 0 1 0 0 0 0 0 0\njob 1 1 0 0 0 0 0 0\njob 2 1 0 0 0 0 1 0\njob 3 1 1 2 0 0 0 0\njob 4 1 1 8 0 0 0 0\n\
-total 2 10 0 0\n",
+        "journal 2 12\nentry 0 1 1 2 2\n10 11;\n11 10;\nentry 1 1 1 10 10\n0;\n1;\n2;\n3;\n4;\n5;\n6;\n7;\n8;\n9;\nreport 5\n\
+job 0 1 0 0 0 0 0 0\njob 1 1 0 0 0 0 0 0\njob 2 1 0 0 0 0 1 0\njob 3 1 1 2 0 0 0 0\njob 4 1 1 10 0 0 0 0\n\
+total 2 12 0 0\n",
     );
 }
