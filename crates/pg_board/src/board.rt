@@ -27,10 +27,14 @@ use std::alloc::Global;
 use std::marker::Model;
 use std::mem;
 
-/// A vector of the items alone where memory for it is there, and else the one that has them.
+/// The items in a vector of their own: in the one that has them where they fill half of it or memory for a copy is refused,
+/// and else in a copy.
 fn copy_or_take(alloc: Global, items: &mut Vec<(u32, Option<u32>)>) -> Vec<(u32, Option<u32>)>
     ensures { result.items ≡ items.old.items }
 {
+    if items.len() >= items.capacity() / 2 {
+        return mem::replace(items, Vec::new(alloc));
+    }
     match Vec::from_slice(alloc, items.as_slice()) {
         Ok(copy) => copy,
         Err(_) => mem::replace(items, Vec::new(alloc)),
@@ -203,7 +207,7 @@ impl<'g> Board<'g> {
     }
 
     /// Settles the rest and what it attracts, in one entry. All that it needs is taken before anything is settled; the
-    /// rows alone are copied afterwards, and where memory for that is refused, the entry keeps the room that has them.
+    /// rows alone are copied afterwards, unless the entry keeps the room that has them.
     fn enter(
         &mut self,
         alloc: Global,

@@ -10,7 +10,7 @@ ghost use Rattle.pgboard.specs.private.Refused.{IsUnsolved};
 use crate::fault::{KnownFault, RunFault};
 use pg_board::Refusal;
 use pg_dominion::ClaimFault;
-use pg_game::{Game, Memory, Player};
+use pg_game::{Game, Memory, Player, Sequence};
 use pg_text::{Known, SolutionTextFault, read_known};
 use pg_workers::SolveFault;
 use std::alloc::{AllocError, Global};
@@ -34,15 +34,10 @@ pub fn nothing_known(alloc: Global, game: &Game) -> Result<Known, Memory>
     ensures text { IfOk result (λ known. IsKnownTextOf game.now [] known.rows) }
     ensures rows { IfOk result (λ known. known.rows ≡ replicate (length game.now) None) }
 {
-    // for the proof alone, which takes from it that the game is one
-    let _n = game.len();
-    match read_known(alloc, game, b"") {
-        Ok(known) => Ok(known),
-        Err(fault) => match fault {
-            SolutionTextFault::Memory => Err(AllocError),
-            _ => unreachable!(),
-        },
-    }
+    let rows = vec![in alloc; None; game.len() as usize]?;
+    Ok(Known {
+        rows: Sequence::new(rows),
+    })
 }
 
 /// Whether the player is known to win the vertex.

@@ -29,32 +29,36 @@ fn found_by(rt: &impl Abort, alloc: Global, adaptive: &Adaptive, job: Job) -> Re
     Ok(adaptive.find(alloc, &copied, &job)?)
 }
 
-/// A finder after so many jobs in a row that found nothing and weren't given up.
-fn after_in_vain(rt: &impl Abort, alloc: Global, jobs: u32) -> Result<Adaptive, Fail> {
-    let adaptive = Adaptive::new();
-    'jobs: for _ in 0..jobs {
-        let found = found_by(rt, alloc, &adaptive, small(1))?;
+/// Has it look so many times in a row where nothing is to be found, and holds it to looking each time.
+fn look_in_vain(
+    rt: &impl Abort,
+    alloc: Global,
+    adaptive: &Adaptive,
+    times: u32,
+) -> Result<(), Fail> {
+    'times: for _ in 0..times {
+        let found = found_by(rt, alloc, adaptive, small(1))?;
         check!(*rt; !found.gave_up);
         check_eq!(*rt; found.claims.len(), 0);
     }
-    Ok(adaptive)
+    Ok(())
 }
 
 #[test]
 fn what_is_found_after_127_jobs_in_vain_begins_the_count_anew(rt: HostRuntime) -> Result<(), Fail> {
     let alloc = rt.alloc();
-    let adaptive = after_in_vain(&rt, alloc, 127)?;
+    let adaptive = Adaptive::new();
+    look_in_vain(&rt, alloc, &adaptive, 127)?;
     let found = found_by(&rt, alloc, &adaptive, small(0))?;
     check_eq!(rt; found.claims.len(), 1);
-    let later = found_by(&rt, alloc, &adaptive, small(1))?;
-    check!(rt; !later.gave_up);
-    Ok(())
+    look_in_vain(&rt, alloc, &adaptive, 128)
 }
 
 #[test]
 fn small_jobs_alone_are_given_up_after_128_in_vain(rt: HostRuntime) -> Result<(), Fail> {
     let alloc = rt.alloc();
-    let adaptive = after_in_vain(&rt, alloc, 128)?;
+    let adaptive = Adaptive::new();
+    look_in_vain(&rt, alloc, &adaptive, 128)?;
     let found = found_by(&rt, alloc, &adaptive, small(0))?;
     check!(rt; found.gave_up);
     check_eq!(rt; found.claims.len(), 0);

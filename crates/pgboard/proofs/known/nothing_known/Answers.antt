@@ -1,8 +1,6 @@
-use Rattle.pgboard.proofs.Nothing.{no_fault, nothing_said}
+use Rattle.std.proofs.Common.{rules}
+use Rattle.pgboard.proofs.Nothing.{says_nothing}
 use Rattle.pgboard.proofs.known.nothing_known.Goals as goal
 
-pub unreachable-requires : goal.unreachable-requires
-unreachable-requires c = c.in_default.not-Memory (no_fault _ c.len-n.ensures.game _ c.in-Err.ensures.fault)
-
-pub returns-in-Ok-clause-rows : goal.returns-in-Ok-clause-rows
-returns-in-Ok-clause-rows c = nothing_said _ _ c.in-Ok.ensures.rows
+pub returns-clause-text : goal.returns-clause-text
+returns-clause-text c = says_nothing c.args.game.now c.new.result (search rules)
