@@ -1,23 +1,25 @@
--- The steps of an attraction in place: nothing is taken, one vertex is taken, and one step after another.
-use Rattle.std.proofs.Common.{◌≡◌, ◌≢◌, ℕ, suc, ◌<◌, true, false, ◌&&◌, not, ◌⊎◌, inl, inr, List, [], ◌∷◌, ◌++◌, length, take, get_or, ◌+◌, ◌≤◌, refl}
+-- The steps of an attraction in place: nothing is taken, one vertex is taken, and one step after another; and what is done.
+use Rattle.std.proofs.Common.{◌≡◌, ◌≢◌, ℕ, suc, ◌<◌, true, false, ◌&&◌, not, ◌⊎◌, inl, inr, List, [], ◌∷◌, ◌++◌, length, take, ◌≤◌, refl}
 use Rattle.std.proofs.Common.{sym, ◌∙◌, ap, subst, arith, append_assoc, length-append}
 use Rattle.std.specs.Prelude.{Some, ◌==◌}
 use Rattle.std.proofs.Math.Bool.{and-true, or-false}
-use Rattle.std.proofs.lemmas.Bool.{eqb-true, eq-eqb, or_cases, cases_Bool, or_left, or_right, and_left, and_right, or_parts, not_from_true, false_from_ne_true}
-use Rattle.std.proofs.lemmas.List.{append-nil, take_more, take-append-le, take_all}
+use Rattle.std.proofs.lemmas.Bool.{eq-eqb, or_cases, cases_Bool, or_left, or_right, and_left, and_right, or_parts, not_from_true, false_from_ne_true}
+use Rattle.std.proofs.lemmas.List.{append-nil, take-append-le, take_all}
 use Rattle.pg_game.specs.declared.player.Player.{Player}
 use Rattle.pg_game.specs.Player.{opponent}
-use Rattle.pg_game.specs.Graph.{Graph, HasEdge, owner_of, successors_of}
+use Rattle.pg_game.specs.Graph.{Graph, HasEdge, owner_of}
 use Rattle.pg_game.specs.VertexSet.{VertexSet, In, union}
 use Rattle.pg_game.specs.private.VertexSet.{without}
-use Rattle.pg_game.proofs.Members.{some_or_none}
+use Rattle.pg_game.proofs.Players.{not_own, other_from_not}
+use Rattle.pg_dominion.specs.Attraction.{IsAttractedRow}
+use Rattle.pg_dominion.specs.Area.{AttractsNoFurther}
 use Rattle.pg_finders.specs.declared.recursion.plan.Plan.{Plan}
 use Rattle.pg_finders.specs.private.recursion.Listed.{listed, Once}
 use Rattle.pg_finders.specs.private.recursion.Planned.{winners_of, choices_of, SameAt}
 use Rattle.pg_finders.specs.private.Solved.{IsAttracted}
-use Rattle.pg_finders.specs.private.recursion.Growing.{place, Before, IsGrown, IsTakenOrActive, AttractsNoActive}
+use Rattle.pg_finders.specs.private.recursion.Growing.{place, Before, IsGrown, AttractsNoActive}
 use Rattle.pg_finders.proofs.Sets.{only, minus, minus_both, no_both, equal_from}
-use Rattle.pg_finders.proofs.recursion.Listed.{listed-append, once_join, apart_from, in_prefix, in_rest, prefix_or_rest, one_listed, listed_at, in_take}
+use Rattle.pg_finders.proofs.recursion.Listed.{listed-append, once_join, apart_from, in_prefix, in_rest, prefix_or_rest, one_listed}
 
 place_prefix : (xs ys : List ℕ) (v : ℕ) → In (listed xs) v → place (xs ++ ys) v ≡ place xs v
 place_prefix [] ys v i = absurd (cc i)
@@ -59,20 +61,18 @@ grown_none {A = A} {prefix = prefix} = record {
   pushed = λ v w i. absurd (cc i);
 }
 
--- The player takes an active vertex: his has a choice that is listed, and the opponent's leads to none that is active.
+-- the player takes an active vertex, by a row that leads to what is listed
 pub record TakesOne (g : Graph) (p : Player) (A : VertexSet) (old : Plan) (prefix : List ℕ) (A' : VertexSet) (new : Plan) (v : ℕ) : Type 0 where
   pub active : In A v
-  pub fresh : listed prefix v ≡ false
   pub now : (w : ℕ) → A' w ≡ without A (λ u. v == u) w
   pub winner : winners_of new v ≡ p
   pub elsewhere : (w : ℕ) → w ≢ v → SameAt old new w
-  pub own : owner_of g v ≡ p → (w : ℕ) × (choices_of new v ≡ Some w) × HasEdge g v w × In (listed prefix) w
-  pub forced : owner_of g v ≡ opponent p → (w : ℕ) → HasEdge g v w → In (union A (listed prefix)) w → In (listed prefix) w
+  pub leads : IsAttractedRow g p (union A (listed prefix)) (listed prefix) (v, choices_of new v)
 
 module _ {g : Graph} {p : Player} {A A' : VertexSet} {old new : Plan} {prefix : List ℕ} {v : ℕ} (h : TakesOne g p A old prefix A' new v) where
   earlier : (w : ℕ) → In (listed prefix) w → Before (prefix ++ v ∷ []) v w
   earlier w i =
-      let a = place_new prefix v h.fresh in
+      let a = place_new prefix v h.leads.fresh in
       let b = place_prefix prefix (v ∷ []) w i in
       let d = place_below prefix w i in
       (in_prefix prefix (v ∷ []) w i, omega (arith, a, b, d))
@@ -87,9 +87,9 @@ module _ {g : Graph} {p : Player} {A A' : VertexSet} {old new : Plan} {prefix : 
     his = λ w i. subst (λ u. winners_of new u ≡ p) (one_listed v w i) h.winner;
     same = λ w n. h.elsewhere w (λ e. no_both (subst (In A) (sym e) h.active) n);
     leads = λ w i. subst (λ u. owner_of g u ≡ p → (x : ℕ) × (choices_of new u ≡ Some x) × HasEdge g u x × Before (prefix ++ v ∷ []) u x) (one_listed v w i)
-        (λ o. (let c = h.own o in (c.0, c.1, c.2, earlier c.0 c.3)));
+        (λ o. (let c = h.leads.own o in (c.0, c.1, c.2, earlier c.0 c.3)));
     pushed = λ w x i o e u. subst (λ y. owner_of g y ≡ opponent p → HasEdge g y x → Before (prefix ++ v ∷ []) y x) (one_listed v w i)
-        (λ o' e'. earlier x (h.forced o' x e' u)) o e;
+        (λ o' e'. earlier x ((h.leads.forced (not_own p (owner_of g v) o')).1 x e' u)) o e;
   }
 
 -- what a step says of the lists and the active vertices
@@ -135,9 +135,6 @@ module _ {g : Graph} {p : Player} {A A' : VertexSet} {old new : Plan} {prefix li
 
       from : In (union A (listed prefix)) v → In (union A' (listed list)) v
       from i = elim (cases_Bool (listed list v)) [ inl y ↦ or_right (A' v) (listed list v) y | inr n ↦ or_left (A' v) (listed list v) (grown_left v i n) ]
-
-  pub grown_longer : length prefix ≤ length list
-  grown_longer = let a = ap length h.list_is in omega (arith, a, length-append prefix h.more)
 
   -- the list begins with the prefix
   pub prefix_taken : take (length prefix) list ≡ prefix
@@ -198,61 +195,6 @@ module _ {g : Graph} {p : Player} {A A1 A2 : VertexSet} {old mid new : Plan} {pr
     ];
   }
 
-  -- the vertex at the place is visited, once those with an edge to it are taken or lead to an active one
-  module _ (apart : (v : ℕ) → In (listed list1) v → A1 v ≡ false) (next to : ℕ) (l : next < length list1) (e : to ≡ get_or list1 next to)
-      (settled : (u : ℕ) → HasEdge g u to → IsTakenOrActive g p A1 A2 u) where
-    visited : take (next + 1) list2 ≡ take next list1 ++ to ∷ []
-    visited =
-        ap (take (next + 1)) b.list_is
-        ∙ (take-append-le (next + 1) list1 b.more (omega (arith, l))
-        ∙ (take_more list1 next to l ∙ ap (λ x. take next list1 ++ x ∷ []) (sym e)))
-
-    visited_cases : (v : ℕ) → In (listed (take (next + 1) list2)) v → In (listed (take next list1)) v ⊎ (to ≡ v)
-    visited_cases v i =
-        elim (prefix_or_rest (take next list1) (to ∷ []) v (subst (λ xs. In (listed xs) v) visited i)) [ inl y ↦ inl y | inr y ↦ inr (one_listed to v y) ]
-
-    not_visited : (v : ℕ) → listed (take next list1) v ≡ false → v ≢ to → listed (take (next + 1) list2) v ≡ false
-    not_visited v f n = false_from_ne_true (listed (take (next + 1) list2) v) (λ y. elim (visited_cases v y) [
-      | inl x ↦ no_both x f
-      | inr q ↦ n (sym q)
-    ])
-
-    active_not_visited : (v : ℕ) → In A1 v → listed (take (next + 1) list2) v ≡ false
-    active_not_visited v i = false_from_ne_true (listed (take (next + 1) list2) v) (λ y. no_both i (apart v (elim (visited_cases v y) [
-      | inl x ↦ in_take next list1 v x
-      | inr q ↦ subst (λ u. In (listed list1) u) q (listed_at list1 next to l e)
-    ])))
-
-    edge_or_not : (v : ℕ) → HasEdge g v to ⊎ ((w : ℕ) → HasEdge g v w → w ≢ to)
-    edge_or_not v = elim (some_or_none (λ x. x == to) (successors_of g v)) [
-      | inl (x, m, t) ↦ inl (subst (HasEdge g v) (eqb-true x to t) m)
-      | inr none ↦ inr (λ w m q. (let t : (w == to) ≡ true = eq-eqb w to q in no_both t (none w m)))
-    ]
-
-    pub step_done : AttractsNoActive g p (union A (listed prefix)) (listed (take next list1)) A1
-        → AttractsNoActive g p (union A (listed prefix)) (listed (take (next + 1) list2)) A2
-    step_done d = record {
-      own = λ v w i o k. elim (edge_or_not v) [
-        | inl m ↦ elim (settled v m) [ inl f ↦ absurd (no_both i f) | inr h ↦ absurd (h.0 o) ]
-        | inr none ↦ not_visited w (d.own v w (grown_active b v i) o k) (none w k)
-      ];
-      other = λ v i o. elim (edge_or_not v) [
-        | inl m ↦ elim (settled v m) [
-          | inl f ↦ absurd (no_both i f)
-          | inr (n, w, k, j) ↦ (w, k, or_left (A w) (listed prefix w) (grown_active a w j), active_not_visited w j)
-        ]
-        | inr none ↦ (let q = d.other v (grown_active b v i) o in (q.0, q.1, q.2, not_visited q.0 q.3 (none q.0 q.1)))
-      ];
-    }
-
--- nothing is done yet
-pub done_none : {g : Graph} {p : Player} {U D A : VertexSet} → ((v : ℕ) → In A v → (w : ℕ) × HasEdge g v w × In U w) → ((v : ℕ) → D v ≡ false)
-    → AttractsNoActive g p U D A
-done_none successor none = record {
-  own = λ v w i o e. none w;
-  other = λ v i o. (let h = successor v i in (h.0, h.1, h.2, none h.0));
-}
-
 -- one more vertex is listed
 pub once_push : (xs : List ℕ) (v : ℕ) → Once xs → listed xs v ≡ false → Once (xs ++ v ∷ [])
 once_push xs v o n = once_join xs (v ∷ []) o (refl, tt) (apart_from xs (v ∷ []) (λ w i j. no_both i (subst (λ u. listed xs u ≡ false) (one_listed v w j) n)))
@@ -264,11 +206,25 @@ apart_push xs v A A' apart now w i = now w ∙ elim (prefix_or_rest xs (v ∷ []
   | inr y ↦ and_right (A w) (not (v == w)) (not_from_true (v == w) (eq-eqb v w (one_listed v w y)))
 ]
 
--- what was settled by an earlier step stays so, and what a later one settles was so before
-pub settled_later : (g : Graph) (p : Player) (A B C : VertexSet) (v : ℕ) → (B v ≡ false → C v ≡ false) → IsTakenOrActive g p A B v → IsTakenOrActive g p A C v
-settled_later g p A B C v f (inl n) = inl (f n)
-settled_later g p A B C v f (inr h) = inr h
+-- Nothing more is attracted: as it is said of the vertices that are not listed, and of the active ones.
+pub no_active : {g : Graph} {p : Player} {U D A S : VertexSet} → ((v : ℕ) → In S v → A v ≡ false) → ((v : ℕ) → union A S v ≡ U v)
+    → AttractsNoFurther g p U D S → AttractsNoActive g p U D A
+no_active {g = g} {p = p} {U = U} {A = A} {S = S} apart same d = record {
+  own = λ v w i. d.own v w (within v i) (out v i);
+  other = λ v i o. d.other v (within v i) (out v i) (not_own p (owner_of g v) o);
+}
+  where
+    within : (v : ℕ) → In A v → In U v
+    within v i = sym (same v) ∙ or_left (A v) (S v) i
 
-pub settled_before : (g : Graph) (p : Player) (A B C : VertexSet) (v : ℕ) → ((w : ℕ) → In B w → In A w) → IsTakenOrActive g p B C v → IsTakenOrActive g p A C v
-settled_before g p A B C v f (inl n) = inl n
-settled_before g p A B C v f (inr (n, w, e, i)) = inr (n, w, e, f w i)
+    out : (v : ℕ) → In A v → S v ≡ false
+    out v i = false_from_ne_true (S v) (λ y. no_both i (apart v y))
+
+pub no_further : {g : Graph} {p : Player} {D A S : VertexSet} → AttractsNoActive g p (union A S) D A → AttractsNoFurther g p (union A S) D S
+no_further {g = g} {p = p} {A = A} {S = S} d = record {
+  own = λ v w u n. d.own v w (active v u n);
+  other = λ v u n o. d.other v (active v u n) (other_from_not p (owner_of g v) o);
+}
+  where
+    active : (v : ℕ) → In (union A S) v → S v ≡ false → In A v
+    active v u n = elim (or_cases (A v) (S v) u) [ inl y ↦ y | inr y ↦ absurd (no_both y n) ]

@@ -105,9 +105,6 @@ listed_get [] k d l = absurd (omega (arith, l))
 listed_get (x ∷ xs) zero d l = rw (eq-eqb x x refl) refl
 listed_get (x ∷ xs) (suc k) d l = or_right (x == get_or xs k d) (listed xs (get_or xs k d)) (listed_get xs k d (omega (arith, l)))
 
-pub listed_at : (xs : List ℕ) (k : ℕ) (x : ℕ) → k < length xs → x ≡ get_or xs k x → In (listed xs) x
-listed_at xs k x l e = subst (λ y. In (listed xs) y) (sym e) (listed_get xs k x l)
-
 -- where all that is listed is below a number, each item is
 pub all_below : (n : ℕ) (xs : List ℕ) → ((v : ℕ) → In (listed xs) v → v < n) → All (λ v. v < n) xs
 all_below n xs f k d l = f (get_or xs k d) (listed_get xs k d l)

@@ -1,19 +1,19 @@
 //! A subgame in hand: its active vertices, and the plan that is being made for them. A player attracts in
 //! place: what he takes is no longer active and is listed behind what it leads to (Zielonka 1998).
 
-ghost use Rattle.std.specs.Prelude.{◌≡◌, ◌≢◌, ◌<◌, ◌≤◌, ℕ, length, take, All, IfOk, IfSome, IsNone, OnOk, Option, Some, false, ◌⊎◌, ◌++◌, ◌∷◌, []};
-ghost use Rattle.pg_game.specs.Graph.{HasEdge, owner_of};
-ghost use Rattle.pg_game.specs.Player.{opponent};
-ghost use Rattle.pg_game.specs.VertexSet.{In, Within, all_vertices, members, union};
+ghost use Rattle.std.specs.Prelude.{◌≡◌, ◌<◌, ℕ, length, All, IfOk, IfSome, IsNone, OnOk};
+ghost use Rattle.pg_game.specs.Graph.{HasEdge};
+ghost use Rattle.pg_game.specs.VertexSet.{In, members, union};
 ghost use Rattle.pg_game.specs.private.VertexSet.{without};
 ghost use Rattle.pg_game.specs.Subgame.{IsSubgame};
 ghost use Rattle.pg_finders.specs.private.recursion.Listed.{listed};
-ghost use Rattle.pg_finders.specs.private.recursion.Growing.{active_of, won_of, HasSizes, IsReady, IsKnown, IsGrown, IsTakenOrActive, IsTested};
-ghost use Rattle.pg_finders.specs.private.recursion.Growing.{AttractsNoActive, Before};
+ghost use Rattle.pg_finders.specs.private.recursion.Growing.{active_of, won_of, HasSizes, IsReady, IsKnown, IsGrown, IsTested};
+ghost use Rattle.pg_finders.specs.private.recursion.Growing.{AttractsNoActive};
 ghost use Rattle.pg_finders.specs.Part.{IsOut};
 
 use crate::recursion::plan::Plan;
 use crate::recursion::watches::Watches;
+use pg_dominion::{Area, attract_from};
 use pg_game::{Game, Mask, Memory, Player};
 use std::alloc::Global;
 
@@ -40,85 +40,6 @@ impl Subgame {
             plan,
             watches,
         })
-    }
-
-    /// Takes an active vertex for the player, with a choice that is listed, or one whose edges lead to
-    /// listed vertices or out.
-    fn take(
-        &mut self,
-        game: &Game,
-        player: Player,
-        list: &mut Vec<u32>,
-        v: u32,
-        choice: Option<u32>,
-    ) -> Result<(), Memory>
-        requires ready { IsReady (length game.now) self.old list.old.items }
-        requires active { In (active_of self.old) v }
-        requires own { owner_of game.now v ≡ player → (w : ℕ) × (choice ≡ Some w) × HasEdge game.now v w × In (listed list.old.items) w }
-        requires forced { owner_of game.now v ≡ opponent player → (w : ℕ) → HasEdge game.now v w
-            → In (union (active_of self.old) (listed list.old.items)) w → In (listed list.old.items) w }
-        ensures ready { OnOk result (IsReady (length game.now) self.new list.new.items) }
-        ensures grown { OnOk result (IsGrown game.now player (active_of self.old) self.old.plan list.old.items
-            (active_of self.new) self.new.plan list.new.items) }
-        ensures taken { OnOk result (active_of self.new v ≡ false) }
-    {
-        list.push(v)?;
-        self.active.remove(v);
-        self.plan.write(v, player, choice);
-        Ok(())
-    }
-
-    /// Takes `from` for the player where it is his, or where no edge of the opponent's leads to an active
-    /// vertex.
-    fn consider(
-        &mut self,
-        game: &Game,
-        player: Player,
-        list: &mut Vec<u32>,
-        from: u32,
-        to: u32,
-    ) -> Result<(), Memory>
-        requires ready { IsReady (length game.now) self.old list.old.items }
-        requires vertex { from < length game.now }
-        requires edge { HasEdge game.now from to }
-        requires listed { In (listed list.old.items) to }
-        ensures ready { OnOk result (IsReady (length game.now) self.new list.new.items) }
-        ensures grown { OnOk result (IsGrown game.now player (active_of self.old) self.old.plan list.old.items
-            (active_of self.new) self.new.plan list.new.items) }
-        ensures settled { OnOk result (IsTakenOrActive game.now player (active_of self.old) (active_of self.new) from) }
-    {
-        if !self.active.has(from) {
-            return Ok(());
-        }
-        if game.owner(from) == player {
-            return self.take(game, player, list, from, Some(to));
-        }
-        if self.watches.has_active(game, &self.active, from) {
-            return Ok(());
-        }
-        self.take(game, player, list, from, None)
-    }
-
-    /// Takes what is attracted by `to` at once.
-    fn reach(
-        &mut self,
-        game: &Game,
-        player: Player,
-        list: &mut Vec<u32>,
-        to: u32,
-    ) -> Result<(), Memory>
-        requires ready { IsReady (length game.now) self.old list.old.items }
-        requires vertex { to < length game.now }
-        requires listed { In (listed list.old.items) to }
-        ensures ready { OnOk result (IsReady (length game.now) self.new list.new.items) }
-        ensures grown { OnOk result (IsGrown game.now player (active_of self.old) self.old.plan list.old.items
-            (active_of self.new) self.new.plan list.new.items) }
-        ensures settled { OnOk result ((u : ℕ) → HasEdge game.now u to → IsTakenOrActive game.now player (active_of self.old) (active_of self.new) u) }
-    {
-        for from in game.predecessors(to) {
-            self.consider(game, player, list, *from, to)?;
-        }
-        Ok(())
     }
 
     /// Whether the player won the vertex inside: it is planned as his and not active.
@@ -171,14 +92,14 @@ impl Subgame {
         }
         if game.owner(v) == player {
             return match self.won_successor(game, inside, player, v) {
-                Some(w) => self.take(game, player, list, v, Some(w)),
+                Some(w) => self.take(game, player, v, Some(w), list),
                 None => Ok(()),
             };
         }
         if self.watches.has_active(game, &self.active, v) {
             return Ok(());
         }
-        self.take(game, player, list, v, None)
+        self.take(game, player, v, None, list)
     }
 
     /// Takes those of the vertices that the player attracts at once.
@@ -206,36 +127,6 @@ impl Subgame {
         Ok(())
     }
 
-    /// Takes all that the player attracts to the listed vertices, where those before the place attract no
-    /// active vertex.
-    fn attract_from(
-        &mut self,
-        game: &Game,
-        player: Player,
-        list: &mut Vec<u32>,
-        from: usize,
-    ) -> Result<(), Memory>
-        requires ready { IsReady (length game.now) self.old list.old.items }
-        requires below { Within (union (active_of self.old) (listed list.old.items)) (all_vertices game.now) }
-        requires place { from ≤ length list.old.items }
-        requires done { AttractsNoActive game.now player (union (active_of self.old) (listed list.old.items)) (listed (take from list.old.items))
-            (active_of self.old) }
-        ensures ready { OnOk result (IsReady (length game.now) self.new list.new.items) }
-        ensures grown { OnOk result (IsGrown game.now player (active_of self.old) self.old.plan list.old.items
-            (active_of self.new) self.new.plan list.new.items) }
-        ensures done { OnOk result (AttractsNoActive game.now player (union (active_of self.old) (listed list.old.items)) (listed list.new.items)
-            (active_of self.new)) }
-    {
-        'list: for next in from..usize::MAX {
-            if next >= list.len() {
-                break;
-            }
-            let to = list[next];
-            self.reach(game, player, list, to)?;
-        }
-        Ok(())
-    }
-
     /// Takes all that the player attracts to the listed vertices, among them and the active ones.
     pub fn attract(
         &mut self,
@@ -251,7 +142,7 @@ impl Subgame {
         ensures done { OnOk result (AttractsNoActive game.now player (union (active_of self.old) (listed list.old.items)) (listed list.new.items)
             (active_of self.new)) }
     {
-        self.attract_from(game, player, list, 0)
+        attract_from(self, game, player, list, 0)
     }
 
     /// Takes all that the player attracts to the listed vertices, which he won, where of the active ones
@@ -278,6 +169,59 @@ impl Subgame {
     {
         let from = list.len();
         self.retake_all(game, inside, player, list, vertices)?;
-        self.attract_from(game, player, list, from)
+        attract_from(self, game, player, list, from)
     }
+}
+
+impl Area for Subgame {
+    ghost use Rattle.std.specs.Prelude.{length};
+    ghost use Rattle.pg_finders.specs.private.recursion.Growing.{active_of, IsReady, KeepsGrown};
+
+    type Item = u32;
+
+    ghost vertex_of = { λ v. v };
+
+    ghost size = { λ x. length x.active };
+
+    ghost free = { λ x. active_of x };
+
+    ghost ready = { λ g x list room. IsReady (length g) x list };
+
+    ghost grown = { λ g p x list x' list'. KeepsGrown g p x list x' list' };
+
+    ghost refuses = { Unit {0} };
+
+    fn vertex(item: u32) -> u32 {
+        item
+    }
+
+    fn is_free(&self, v: u32) -> bool {
+        self.active.has(v)
+    }
+
+    fn has_way_out(&mut self, game: &Game, _list: &Vec<u32>, v: u32) -> bool {
+        self.watches.has_active(game, &self.active, v)
+    }
+
+    fn take(
+        &mut self,
+        _game: &Game,
+        player: Player,
+        v: u32,
+        choice: Option<u32>,
+        list: &mut Vec<u32>,
+    ) -> Result<(), Memory> {
+        list.push(v)?;
+        self.active.remove(v);
+        self.plan.write(v, player, choice);
+        Ok(())
+    }
+
+    ghost sized = { λ g x list room a. a.sizes.active };
+
+    ghost apart = { λ g x list room v a. a.apart v };
+
+    ghost grown_same = { λ g p x list before old prefix h. h };
+
+    ghost grown_then = { λ g p x y z list list' list'' a b before old prefix h. b before old prefix (a before old prefix h) };
 }

@@ -47,9 +47,10 @@ pub record IsGrown (g : Graph) (p : Player) (before : VertexSet) (old : Plan) (p
   pub leads : (v : ℕ) → In (listed more) v → owner_of g v ≡ p → (w : ℕ) × (choices_of new v ≡ Some w) × HasEdge g v w × Before list v w
   pub pushed : (v w : ℕ) → In (listed more) v → owner_of g v ≡ opponent p → HasEdge g v w → In (union before (listed prefix)) w → Before list v w
 
--- the vertex is taken, or it is the opponent's and had a way to an active one
-abbrev pub IsTakenOrActive : Graph → Player → VertexSet → VertexSet → ℕ → Type 0
-IsTakenOrActive g p before now v = (now v ≡ false) ⊎ ((owner_of g v ≢ p) × (w : ℕ) × HasEdge g v w × In before w)
+-- what has grown to the one subgame and list has grown to the other, wherever it began; so steps follow one another by form, with no lemma
+abbrev pub KeepsGrown : Graph → Player → Subgame → List ℕ → Subgame → List ℕ → Type 0
+KeepsGrown g p x list x' list' = (before : VertexSet) (old : Plan) (prefix : List ℕ) → IsGrown g p before old prefix (active_of x) x.plan list
+    → IsGrown g p before old prefix (active_of x') x'.plan list'
 
 -- the inactive vertices of U that the plan gives to the player
 abbrev pub won_of : VertexSet → VertexSet → Plan → Player → VertexSet

@@ -1,8 +1,15 @@
+use Rattle.std.proofs.lemmas.Result.{on_ok_weaker}
 use Rattle.pg_finders.proofs.recursion.Growing.{grown_none}
 use Rattle.pg_finders.proofs.recursion.subgame.Subgame.retake.Goals as goal
+
+pub returns-in-Some-clause-grown : goal.returns-in-Some-clause-grown
+returns-in-Some-clause-grown c = on_ok_weaker c.take.result (λ h. h _ _ _ grown_none) c.take.ensures.grown
 
 pub returns-in-None-clause-grown : goal.returns-in-None-clause-grown
 returns-in-None-clause-grown c = grown_none
 
 pub returns-then-has_active-clause-grown : goal.returns-then-has_active-clause-grown
 returns-then-has_active-clause-grown c = grown_none
+
+pub returns-clause-grown : goal.returns-clause-grown
+returns-clause-grown c = on_ok_weaker c.take-2.result (λ h. h _ _ _ grown_none) c.take-2.ensures.grown
