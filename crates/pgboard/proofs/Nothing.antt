@@ -15,13 +15,13 @@ nothing_at (suc n) (suc v) rows is lt = rw is (nothing_at n v (replicate n None)
 
 pub says_nothing : (g : Graph) (rows : KnownRows) → rows ≡ replicate (length g) None → IsKnownTextOf g [] rows
 says_nothing g rows is = record {
-    lines = [];
-    spelled = nothing_spelled;
-    says = record {
-      no_stranger = refl;
-      once = refl;
-      size = rw is (length-replicate (length g) None);
-      said = λ v lt l listed same. absurd (let h = listed.1 in omega arith);
-      unsaid = λ v lt unsaid. nothing_at (length g) v rows is lt
-    }
-  }
+  lines = [];
+  spelled = nothing_spelled;
+  says = record {
+    no_stranger = refl;
+    once = refl;
+    size = rw is (length-replicate (length g) None);
+    said = λ v lt l listed same. absurd (let h = listed.1 in omega arith);
+    unsaid = λ v lt unsaid. nothing_at (length g) v rows is lt;
+  };
+}
