@@ -22,3 +22,4 @@ pub mod Growing
 pub mod Added
 pub mod Present
 pub mod Shares
+pub mod Renewing

@@ -58,7 +58,7 @@ settled_vertices (e ∷ es) v =
     go true a o h = refl
     go false a o h = h
 
-whose : (o : Option (Player × Option ℕ)) → not (is_unsettled o) ≡ true → (p : Player) × (is_winner p o ≡ true)
+pub whose : (o : Option (Player × Option ℕ)) → not (is_unsettled o) ≡ true → (p : Player) × (is_winner p o ≡ true)
 whose None h = absurd (cc h)
 whose (Some r) h = (r.0, is_same r.0 r.0 refl)
 

@@ -1,12 +1,13 @@
 //! The board: a game, the journal of what was settled of it, and what is at hand of the journal.
 //! Its type keeps that the journal is lawful, so every board in hand has a lawful one.
 
-ghost use Rattle.std.specs.Prelude.{◌≡◌, ◌≤◌, ℕ, ◌++◌, ◌∷◌, [], ◌+◌, length, IfOk, IfErr, OnErr, IsTrue, IsSome, IfSome, ◌↔◌, vec_capacity};
+ghost use Rattle.std.specs.Prelude.{◌≡◌, ◌≤◌, ◌<◌, ℕ, ◌++◌, ◌∷◌, [], ◌+◌, length, IfOk, IfErr, OnErr, IsTrue, IsSome, IfSome, ◌↔◌, vec_capacity};
 ghost use Rattle.pg_game.specs.declared.player.Player.{Player};
 ghost use Rattle.pg_game.specs.Graph.{IsGame};
 ghost use Rattle.pg_game.specs.Limits.{IsWithinLimits};
-ghost use Rattle.pg_game.specs.VertexSet.{members};
-ghost use Rattle.pg_dominion.specs.Claim.{ClaimRows, IsGoodIn, IsSound};
+ghost use Rattle.pg_game.specs.VertexSet.{In, members};
+ghost use Rattle.pg_game.specs.private.VertexSet.{without};
+ghost use Rattle.pg_dominion.specs.Claim.{ClaimRows, IsGoodIn, IsSound, named};
 ghost use Rattle.pg_dominion.specs.Checked.{claim_rows, claim_of, AgreesWithGame};
 ghost use Rattle.pg_board.specs.State.{unsettled, rest_of, IsGoodOn, choices, winner_in};
 ghost use Rattle.pg_board.specs.Journal.{state_of, Answers, IsLawful, IsDominionAfter, number_settled, settled_by};
@@ -14,6 +15,7 @@ ghost use Rattle.pg_board.specs.Full.{IsFull, AreStateRows};
 ghost use Rattle.pg_text.specs.Solution.{IsExactSolution};
 ghost use Rattle.pg_board.specs.Refusal.{Refuses, RefusesChecked, IsOfState};
 ghost use Rattle.pg_board.specs.Post.{Adds, AnswersDominion, SettlesUnlessMemory};
+ghost use Rattle.pg_board.specs.private.Office.{IsPastCopy, IsPresentCopy};
 
 use crate::entry::{Entry, Posted};
 use crate::open_edges::Bounds;
@@ -21,7 +23,7 @@ use crate::refusal::Refusal;
 use crate::regions::Regions;
 use pg_dominion::{Checked, Claim, judge_claim};
 use pg_finders::{Copied, Inside};
-use pg_game::{Game, Memory, Player, Sequence};
+use pg_game::{Game, Mask, Memory, Player, Sequence};
 use pg_text::Solution;
 use std::alloc::Global;
 use std::marker::Model;
@@ -38,6 +40,17 @@ fn copy_or_take(alloc: Global, items: &mut Vec<(u32, Option<u32>)>) -> Vec<(u32,
     match Vec::from_slice(alloc, items.as_slice()) {
         Ok(copy) => copy,
         Err(_) => mem::replace(items, Vec::new(alloc)),
+    }
+}
+
+/// Takes the rows' vertices out of the mask.
+fn remove_named(mask: &mut Mask, rows: &[(u32, Option<u32>)])
+    requires { (v : ℕ) → In (named rows.now) v → v < length mask.old }
+    ensures length { length mask.new ≡ length mask.old }
+    ensures members { (v : ℕ) → members mask.new v ≡ without (members mask.old) (named rows.now) v }
+{
+    'rows: for row in rows {
+        mask.remove(row.0);
     }
 }
 
@@ -101,6 +114,34 @@ impl<'g> Board<'g> {
             at: self.entries.len() as u64,
             settled: self.settled(),
         })
+    }
+
+    /// A copy that this board gave before, brought up to date: what was settled since is taken out of it. Takes no memory,
+    /// and time in what was settled since.
+    pub(crate) fn renew(&self, old: Copied<'g>) -> Copied<'g>
+        requires { IsPastCopy self.now old }
+        ensures { IsPresentCopy self.now result }
+    {
+        // for the proof: the graph is a game
+        let _n = self.game.len();
+        let Copied {
+            inside,
+            at,
+            settled: _,
+        } = old;
+        let mut mask = inside.into_mask();
+        let end = self.entries.len();
+        'entries: for k in at as usize..end {
+            remove_named(&mut mask, self.entries[k].rows.as_slice());
+        }
+        let inside = Inside::of_subgame(self.game, mask);
+        let at = end as u64;
+        let settled = self.settled();
+        Copied {
+            inside,
+            at,
+            settled,
+        }
     }
 
     /// Checks the claim on the present state. Accepted, the journal gains one entry: the claim's rest, and

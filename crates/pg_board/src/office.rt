@@ -4,8 +4,9 @@
 //! amounts together are the book, and the type under the lock keeps that the book is the number settled. So the
 //! amount of a share is never above the number settled, whatever was posted meanwhile by others.
 //!
-//! The copy that was last shared lies under the lock too, until something is settled: the type keeps that it is of the
-//! board as it stands. So those who ask for a copy of an unchanged board get one and the same.
+//! The copy that was last shared lies under the lock too: the type keeps that it is of the board as it stood after some of
+//! its entries. So those who ask for a copy of an unchanged board get one and the same, and where nobody else holds it any
+//! more it is brought up to date in place of a new one.
 ghost use Rattle.std.specs.Prelude.{◌≡◌, ◌+◌, ◌-◌, ◌≤◌, ◌<◌, ℕ, ◌∷◌, [], Ok, IfOk, OnErr, sum, replicate, vec_len};
 ghost use Rattle.std.specs.Arc.{arc_value};
 ghost use Rattle.std.specs.Option.{ForSome};
@@ -17,7 +18,7 @@ ghost use Rattle.pg_board.specs.Shares.{AreExact};
 ghost use Rattle.pg_board.specs.declared.entry.Posted.{Posted};
 ghost use Rattle.pg_board.specs.Post.{Adds};
 ghost use Rattle.pg_board.specs.Office.{IsCopyOfSome, IsPostAnswer, IsAnswerOfSome, IsCheckedAnswer, IsCheckedAnswerOfSome};
-ghost use Rattle.pg_board.specs.private.Office.{IsPresentCopy};
+ghost use Rattle.pg_board.specs.private.Office.{IsPastCopy, IsPresentCopy};
 ghost use Rattle.pg_dominion.specs.Checked.{claim_of};
 
 use crate::board::Board;
@@ -30,15 +31,14 @@ use std::marker::Model;
 use std::sync::ledger::{Blank, Book, Ledger, Share as Token};
 use std::sync::{Arc, Mutex, Wait};
 
-/// What lies under the lock: the board, the book, which is the number settled, and the copy that was last shared, while
-/// it is of the board as it stands.
+/// What lies under the lock: the board, the book, which is the number settled, and the copy that was last shared.
 #[derive(Drop)]
 pub(crate) struct Desk<'g, L: Ledger> {
     board: Board<'g>,
     book: Book<L>,
     shared: Option<Arc<Copied<'g>>>,
     ghost exact: { book.total ≡ number_settled board.journal },
-    ghost present: { ForSome shared (λ c. IsPresentCopy board (arc_value c)) },
+    ghost past: { ForSome shared (λ c. IsPastCopy board (arc_value c)) },
 }
 
 /// A share of an office: the amount of vertices that was settled through it. Contracts see it as that number.
@@ -88,14 +88,13 @@ impl<'g, L: Ledger> Desk<'g, L> {
         let Desk {
             board,
             book,
-            shared,
+            shared: _,
         } = self;
         let Share { token, amount } = share;
         book.audit(token);
         // for the proof: what the board keeps before the post
         let _game = board.game();
         let posted = board.post(alloc, worker, claim)?;
-        *shared = None;
         let more = u64::from(posted.settled);
         book.add(token, more);
         // for the proof: no more is settled than there are vertices, so the sum fits
@@ -126,14 +125,13 @@ impl<'g, L: Ledger> Desk<'g, L> {
         let Desk {
             board,
             book,
-            shared,
+            shared: _,
         } = self;
         let Share { token, amount } = share;
         book.audit(token);
         // for the proof: what the board keeps before the claim is settled
         let _game = board.game();
         let settled = board.settle(alloc, worker, checked)?.settled;
-        *shared = None;
         let added = u64::from(settled);
         book.add(token, added);
         // for the proof: no more is settled than there are vertices, so the sum fits
@@ -142,7 +140,7 @@ impl<'g, L: Ledger> Desk<'g, L> {
         Ok(settled)
     }
 
-    /// The copy that was last shared, where the board is still as it was, and else a new one.
+    /// The copy that was last shared, where the board is still as it was, and else one of the board as it stands.
     fn shared_copy(&mut self, alloc: Global) -> Result<Arc<Copied<'g>>, Memory>
         ensures copy { IfOk result (λ c. IsPresentCopy self.old.board (arc_value c)) }
         ensures board { self.new.board ≡ self.old.board }
@@ -156,12 +154,31 @@ impl<'g, L: Ledger> Desk<'g, L> {
         // for the proof: what the board keeps, of which this is a copy
         let _game = board.game();
         if let Some(copied) = shared {
-            return Arc::try_clone(copied);
+            if copied.at == board.entries().len() as u64 {
+                return Arc::try_clone(copied);
+            }
         }
-        let copied = Arc::new(alloc, board.copy(alloc)?)?;
+        let copied = Arc::new(alloc, renewed(alloc, board, shared.take())?)?;
         *shared = Some(Arc::try_clone(&copied)?);
         Ok(copied)
     }
+}
+
+/// A copy of the board as it stands: an old one, brought up to date, where nobody else holds it, and else a new one.
+fn renewed<'g>(
+    alloc: Global,
+    board: &Board<'g>,
+    old: Option<Arc<Copied<'g>>>,
+) -> Result<Copied<'g>, Memory>
+    requires { ForSome old (λ c. IsPastCopy board.now (arc_value c)) }
+    ensures { IfOk result (IsPresentCopy board.now) }
+{
+    if let Some(shared) = old {
+        if let Ok(copied) = Arc::try_unwrap(shared) {
+            return Ok(board.renew(copied));
+        }
+    }
+    board.copy(alloc)
 }
 
 /// One board under a lock.

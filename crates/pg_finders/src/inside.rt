@@ -79,6 +79,13 @@ impl<'g> Inside<'g> {
     {
         &self.mask
     }
+
+    /// The mask, for itself.
+    pub fn into_mask(self) -> Mask
+        ensures { result ≡ self.entry.mask }
+    {
+        self.mask
+    }
 }
 
 /// A copy of what a board leaves unsettled, with how many entries its journal had and how many vertices were settled.

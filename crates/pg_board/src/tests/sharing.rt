@@ -1,4 +1,4 @@
-//! Copies that an office shares: one and the same until something is settled.
+//! Copies that an office shares: one and the same until something is settled, and then one that is brought up to date.
 
 ghost use Rattle.std.specs.Prelude.{◌≡◌, vec_len};
 
@@ -127,6 +127,60 @@ fn share_after_refusals<L: Ledger, R: Wait + Abort>(
 fn compare_again(rt: &impl Abort, again: &Arc<Copied>, last: &Arc<Copied>) {
     compare(rt, again, (1, 2, 1));
     check_eq!(rt; Arc::strong_count(last), 3);
+}
+
+#[test]
+fn a_copy_that_nobody_holds_is_brought_up_to_date(rt: HostRuntime) -> Result<(), Fail> {
+    let alloc = rt.alloc();
+    let game = shared_game(alloc)?;
+    for call in CALLS {
+        renew_copies::<Brand, _>(&rt, alloc, Blank::new(1), call, &game)?;
+    }
+    Ok(())
+}
+
+fn renew_copies<L: Ledger, R: Wait + Abort>(
+    rt: &R,
+    alloc: Global,
+    blank: Blank,
+    call: Call,
+    game: &Game,
+) -> Result<(), Fail>
+    requires name { blank.name ≡ L.name }
+    requires parts { (blank.parts ≡ L.parts) × (blank.parts ≡ 1) }
+{
+    let (office, mut shares) = office_of::<L>(alloc, blank, game, 1)?;
+    renew_by_one(rt, alloc, call, &office, &mut shares[0], game)
+}
+
+/// Has a copy shared, which nobody holds afterwards.
+fn share_and_drop<L: Ledger, R: Wait + Abort>(
+    rt: &R,
+    alloc: Global,
+    office: &Office<L>,
+    share: &Share<L>,
+    want: (u64, u64, u32),
+) -> Result<(), Fail> {
+    let copied = shared_through(rt, alloc, office, share)?;
+    compare(rt, &copied, want);
+    Ok(())
+}
+
+/// One copy after each of two entries, none of which is held while the next is settled.
+fn renew_by_one<L: Ledger, R: Wait + Abort>(
+    rt: &R,
+    alloc: Global,
+    call: Call,
+    office: &Office<L>,
+    share: &mut Share<L>,
+    game: &Game,
+) -> Result<(), Fail> {
+    share_and_drop(rt, alloc, office, share, (0, 0, 3))?;
+    call.put_row(rt, alloc, office, share, 1, game, EVEN, (0, Some(0)), Ok(2))?;
+    share_and_drop(rt, alloc, office, share, (1, 2, 1))?;
+    call.put_row(rt, alloc, office, share, 1, game, ODD, (2, Some(2)), Ok(1))?;
+    share_and_drop(rt, alloc, office, share, (2, 3, 0))?;
+    Ok(())
 }
 
 /// What a copy says: the number of entries, how many vertices are settled and how many are not.

@@ -2,20 +2,21 @@ use Rattle.std.proofs.Common.{refl, sym, ap, subst, ◌∙◌}
 use Rattle.pg_board.specs.Play.{Play}
 use Rattle.std.specs.Arc.{arc_value}
 use Rattle.pg_board.specs.Journal.{number_settled}
-use Rattle.pg_board.specs.private.Office.{IsPresentCopy}
+use Rattle.pg_board.specs.private.Office.{IsPastCopy}
 use Rattle.pg_board.proofs.Added.{number_grows, total_grows, settles_some, rises}
+use Rattle.pg_board.proofs.Renewing.{past_stays}
 use Rattle.pg_board.proofs.office.Desk.settle.Goals as goal
 
 pub invariant_of-self : goal.invariant_of-self
 invariant_of-self g c = let same = sym c.in_err-settled.ensures.unchanged in record {
   exact = c.audit.ensures.total ∙ (c.args.self.now.exact ∙ ap (λ (b : Play). number_settled b.journal) same);
-  present = λ x is. subst (λ (b : Play). IsPresentCopy b (arc_value x)) same (c.args.self.now.present x is);
+  past = λ x is. subst (λ (b : Play). IsPastCopy b (arc_value x)) same (c.args.self.now.past x is);
 }
 
 pub invariant_of-self-2 : goal.invariant_of-self-2
 invariant_of-self-2 g c = record {
   exact = total_grows c.add.ensures.total (c.audit.ensures.total ∙ c.args.self.now.exact) c.from-added.ensures (number_grows c.in_ok-settled.ensures.posted.1);
-  present = λ x is. cc;
+  past = λ x is. past_stays c.in_ok-settled.ensures.posted.1 c.in_ok-settled.ensures.game (c.args.self.now.past x is);
 }
 
 pub returns-clause-posted : goal.returns-clause-posted

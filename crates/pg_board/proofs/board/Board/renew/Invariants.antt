@@ -1,0 +1,11 @@
+use Rattle.std.proofs.Common.{◌≡◌, ℕ, length, take}
+use Rattle.pg_game.specs.VertexSet.{members}
+use Rattle.pg_board.specs.State.{unsettled}
+use Rattle.pg_board.specs.Journal.{state_of}
+use Rattle.pg_board.proofs.board.Board.renew.Given as goal
+
+abbrev pub invariant-entries : goal.invariant-entries
+invariant-entries l = record {
+  length : length l.mask ≡ length l.self.graph;
+  members : (v : ℕ) → members l.mask v ≡ unsettled l.self.graph (state_of (take l.k l.self.journal)) v;
+}

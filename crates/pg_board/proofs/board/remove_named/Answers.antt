@@ -1,0 +1,18 @@
+use Rattle.std.proofs.Common.{◌∙◌, ap, arith, length, false}
+use Rattle.std.proofs.Common.{length-set}
+use Rattle.pg_game.specs.VertexSet.{members}
+use Rattle.pg_board.proofs.Places.{row_at, named_at}
+use Rattle.pg_board.proofs.Renewing.{members_removed}
+use Rattle.pg_board.proofs.board.remove_named.Goals as goal
+
+pub remove-requires : goal.remove-requires
+remove-requires c =
+    let l = c.requires (row_at c.args.rows.now c.rows.row-index).0 (named_at c.args.rows.now c.rows.row-index c.rows-test.true) in
+    omega (arith, l, c.rows.invariant.length)
+
+pub rows-preserved : goal.rows-preserved
+rows-preserved c = record {
+  length = ap length c.remove.ensures ∙ (length-set c.rows.mask (row_at c.args.rows.now c.rows.row-index).0 false ∙ c.rows.invariant.length);
+  members =
+      members_removed c.rows.mask c.remove.new.self (members c.args.mask.now) c.args.rows.now c.rows.row-index c.rows-test.true c.remove.ensures c.rows.invariant.members;
+}

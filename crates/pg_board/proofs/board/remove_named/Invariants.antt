@@ -1,0 +1,11 @@
+use Rattle.std.proofs.Common.{◌≡◌, ℕ, length, take}
+use Rattle.pg_game.specs.VertexSet.{members}
+use Rattle.pg_game.specs.private.VertexSet.{without}
+use Rattle.pg_dominion.specs.Claim.{named}
+use Rattle.pg_board.proofs.board.remove_named.Given as goal
+
+abbrev pub invariant-rows : goal.invariant-rows
+invariant-rows l = record {
+  length : length l.mask ≡ length l.initial.mask;
+  members : (v : ℕ) → members l.mask v ≡ without (members l.initial.mask) (named (take l.row-index l.rows)) v;
+}
