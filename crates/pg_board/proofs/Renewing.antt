@@ -1,7 +1,11 @@
 -- An old copy of a board, and what has to be taken out of it to bring it up to date.
-use Rattle.std.proofs.Common.{◌≡◌, ℕ, ◌+◌, ◌<◌, ◌≤◌, Bool, true, false, ◌&&◌, ◌||◌, not, List, [], ◌∷◌, ◌++◌, length, take, get_or, refl, sym, ◌∙◌, ap, subst, arith}
-use Rattle.std.proofs.Common.{ltb-true, Option, Some, None, nat_lt, ◌==◌, slice_set, if◌then◌else◌}
+use Rattle.std.proofs.Common.{◌≡◌, ℕ, ◌+◌, ◌-◌, ◌<◌, ◌≤◌, Bool, true, false, ◌&&◌, ◌||◌, not, List, [], ◌∷◌, ◌++◌, length, take, get_or, refl, sym, ◌∙◌, ap, subst, arith}
+use Rattle.std.proofs.Common.{ltb-true, Global, Option, Some, None, nat_lt, ◌==◌, slice_set, if◌then◌else◌}
 use mathlib.Core.Path.{fun_ext}
+use Rattle.std.specs.Arc.{arc_value}
+use Rattle.std.specs.List.{swap_remove}
+use Rattle.std.specs.declared.sync.Arc.{Arc}
+use Rattle.std.proofs.lemmas.List.Elements.{All-get_or, All-set, All-take, All-weaker}
 use Rattle.std.proofs.lemmas.List.{take-append-le, take_all, take_more, length-append}
 use Rattle.std.proofs.Math.Seq.{take-length}
 use Rattle.std.proofs.Math.Bool.{and-false}
@@ -21,7 +25,7 @@ use Rattle.pg_board.specs.State.{is_unsettled, unsettled}
 use Rattle.pg_board.specs.Journal.{Journal, state_of, IsLawful}
 use Rattle.pg_board.specs.Office.{IsCopyOf}
 use Rattle.pg_board.specs.Post.{Adds}
-use Rattle.pg_board.specs.private.Office.{IsPastCopy, IsPresentCopy}
+use Rattle.pg_board.specs.private.Office.{ArePastCopies, IsPastCopy, IsPresentCopy}
 use Rattle.pg_finders.proofs.Masks.{members-unset}
 use Rattle.pg_board.proofs.Numbers.{lawful_now, whose}
 use Rattle.pg_board.proofs.Places.{row_at}
@@ -50,6 +54,17 @@ past_stays {old} {new} {c = c} a same h = record {
   copy = subst (λ (j : Journal). IsCopyOf j c.inside c.at c.settled)
       (sym (ap (take c.at) a.journal ∙ take-append-le c.at old.journal (a.entry ∷ []) h.within)) h.copy;
 }
+
+pub all_stay : {old new : Play} {worker : ℕ} {claim : Claim} {posted : Posted} (copies : List (Arc Copied Global)) → Adds old new worker claim posted
+    → new.graph ≡ old.graph → ArePastCopies old copies → ArePastCopies new copies
+all_stay copies a same h = All-weaker _ _ (λ x past. past_stays {c = arc_value x} a same past) copies h
+
+-- one of them is taken out
+pub ArePastCopies-swap_remove : (board : Play) (copies : List (Arc Copied Global)) (i : ℕ) (d : Arc Copied Global) → i < length copies
+    → ArePastCopies board copies → ArePastCopies board (swap_remove copies i d)
+ArePastCopies-swap_remove board copies i d l h =
+    let P = λ (c : Arc Copied Global). IsPastCopy board (arc_value c) in
+    All-take P _ _ (All-set P copies i _ (All-get_or P copies (length copies - 1) d (omega (arith, l)) h) h)
 
 -- what an entry leaves unsettled
 left : (b : Bool) (a : Player × Option ℕ) (o : Option (Player × Option ℕ))

@@ -4,12 +4,11 @@
 //! amounts together are the book, and the type under the lock keeps that the book is the number settled. So the
 //! amount of a share is never above the number settled, whatever was posted meanwhile by others.
 //!
-//! The copy that was last shared lies under the lock too: the type keeps that it is of the board as it stood after some of
-//! its entries. So those who ask for a copy of an unchanged board get one and the same, and where nobody else holds it any
-//! more it is brought up to date in place of a new one.
-ghost use Rattle.std.specs.Prelude.{◌≡◌, ◌+◌, ◌-◌, ◌≤◌, ◌<◌, ℕ, ◌∷◌, [], Ok, IfOk, OnErr, sum, replicate, vec_len};
+//! The copies that were shared lie under the lock too: the type keeps that each is of the board as it stood after some of
+//! its entries. So those who ask for a copy of an unchanged board get one and the same, and one that nobody else holds any
+//! more is brought up to date in place of a new one.
+ghost use Rattle.std.specs.Prelude.{◌≡◌, ◌+◌, ◌-◌, ◌≤◌, ◌<◌, ℕ, ◌∷◌, [], Ok, IfOk, IfSome, OnErr, length, sum, replicate, vec_capacity, vec_len};
 ghost use Rattle.std.specs.Arc.{arc_value};
-ghost use Rattle.std.specs.Option.{ForSome};
 ghost use Rattle.pg_game.specs.Graph.{IsGame};
 ghost use Rattle.pg_game.specs.Limits.{IsWithinLimits};
 ghost use Rattle.pg_game.specs.Specification.{max_vertices};
@@ -18,7 +17,7 @@ ghost use Rattle.pg_board.specs.Shares.{AreExact};
 ghost use Rattle.pg_board.specs.declared.entry.Posted.{Posted};
 ghost use Rattle.pg_board.specs.Post.{Adds};
 ghost use Rattle.pg_board.specs.Office.{IsCopyOfSome, IsPostAnswer, IsAnswerOfSome, IsCheckedAnswer, IsCheckedAnswerOfSome};
-ghost use Rattle.pg_board.specs.private.Office.{IsPastCopy, IsPresentCopy};
+ghost use Rattle.pg_board.specs.private.Office.{ArePastCopies, IsPresentCopy};
 ghost use Rattle.pg_dominion.specs.Checked.{claim_of};
 
 use crate::board::Board;
@@ -31,14 +30,15 @@ use std::marker::Model;
 use std::sync::ledger::{Blank, Book, Ledger, Share as Token};
 use std::sync::{Arc, Mutex, Wait};
 
-/// What lies under the lock: the board, the book, which is the number settled, and the copy that was last shared.
+/// What lies under the lock: the board, the book, which is the number settled, and the copies that were shared, the newest
+/// last. There are at most as many as were held at once, and one more.
 #[derive(Drop)]
 pub(crate) struct Desk<'g, L: Ledger> {
     board: Board<'g>,
     book: Book<L>,
-    shared: Option<Arc<Copied<'g>>>,
+    copies: Vec<Arc<Copied<'g>>>,
     ghost exact: { book.total ≡ number_settled board.journal },
-    ghost past: { ForSome shared (λ c. IsPastCopy board (arc_value c)) },
+    ghost past: { ArePastCopies board copies.items },
 }
 
 /// A share of an office: the amount of vertices that was settled through it. Contracts see it as that number.
@@ -88,7 +88,7 @@ impl<'g, L: Ledger> Desk<'g, L> {
         let Desk {
             board,
             book,
-            shared: _,
+            copies: _,
         } = self;
         let Share { token, amount } = share;
         book.audit(token);
@@ -125,7 +125,7 @@ impl<'g, L: Ledger> Desk<'g, L> {
         let Desk {
             board,
             book,
-            shared: _,
+            copies: _,
         } = self;
         let Share { token, amount } = share;
         book.audit(token);
@@ -149,34 +149,63 @@ impl<'g, L: Ledger> Desk<'g, L> {
         let Desk {
             board,
             book: _,
-            shared,
+            copies,
         } = self;
         // for the proof: what the board keeps, of which this is a copy
         let _game = board.game();
-        if let Some(copied) = shared {
-            if copied.at == board.entries().len() as u64 {
-                return Arc::try_clone(copied);
+        if let Some(last) = copies.last() {
+            if last.at == board.entries().len() as u64 {
+                return Arc::try_clone(last);
             }
         }
-        let copied = Arc::new(alloc, renewed(alloc, board, shared.take())?)?;
-        *shared = Some(Arc::try_clone(&copied)?);
+        copies.reserve(1)?;
+        let copied = Arc::new(alloc, present_copy(alloc, board, copies)?)?;
+        copies.push_reserved(Arc::try_clone(&copied)?);
         Ok(copied)
     }
 }
 
-/// A copy of the board as it stands: an old one, brought up to date, where nobody else holds it, and else a new one.
-fn renewed<'g>(
+/// The place of a copy that nobody else holds.
+fn free_place(copies: &[Arc<Copied>]) -> Option<usize>
+    ensures { IfSome result (λ at. at < length copies.now) }
+{
+    for at in 0..copies.len() {
+        if Arc::strong_count(&copies[at]) == 1 {
+            return Some(at);
+        }
+    }
+    None
+}
+
+/// One of the copies that nobody else holds, taken out of the list and brought up to date.
+fn renewed<'g>(board: &Board<'g>, copies: &mut Vec<Arc<Copied<'g>>>) -> Option<Copied<'g>>
+    requires { ArePastCopies board.now copies.old.items }
+    ensures past { ArePastCopies board.now copies.new.items }
+    ensures room { vec_capacity copies.new ≡ vec_capacity copies.old }
+    ensures fewer { vec_len copies.new ≤ vec_len copies.old }
+    ensures present { IfSome result (IsPresentCopy board.now) }
+{
+    let at = free_place(copies.as_slice())?;
+    let Ok(copied) = Arc::try_unwrap(copies.swap_remove(at)) else {
+        return None;
+    };
+    Some(board.renew(copied))
+}
+
+/// A copy of the board as it stands: one that was shared, where nobody else holds it, and else a new one.
+fn present_copy<'g>(
     alloc: Global,
     board: &Board<'g>,
-    old: Option<Arc<Copied<'g>>>,
+    copies: &mut Vec<Arc<Copied<'g>>>,
 ) -> Result<Copied<'g>, Memory>
-    requires { ForSome old (λ c. IsPastCopy board.now (arc_value c)) }
-    ensures { IfOk result (IsPresentCopy board.now) }
+    requires { ArePastCopies board.now copies.old.items }
+    ensures past { ArePastCopies board.now copies.new.items }
+    ensures room { vec_capacity copies.new ≡ vec_capacity copies.old }
+    ensures fewer { vec_len copies.new ≤ vec_len copies.old }
+    ensures present { IfOk result (IsPresentCopy board.now) }
 {
-    if let Some(shared) = old {
-        if let Ok(copied) = Arc::try_unwrap(shared) {
-            return Ok(board.renew(copied));
-        }
+    if let Some(copied) = renewed(board, copies) {
+        return Ok(copied);
     }
     board.copy(alloc)
 }
@@ -234,7 +263,7 @@ impl<'g, L: Ledger> Office<'g, L> {
             desk: Mutex::new(Desk {
                 board,
                 book,
-                shared: None,
+                copies: Vec::new(alloc),
             }),
         };
         Ok((office, shares))
@@ -250,7 +279,7 @@ impl<'g, L: Ledger> Office<'g, L> {
         let Desk {
             board,
             mut book,
-            shared: _,
+            copies: _,
         } = desk.into_inner();
         let Some(last) = shares.pop() else {
             unreachable!()

@@ -1,5 +1,8 @@
--- The copy that an office shares, and brings up to date once something was settled.
-use Rattle.std.specs.Prelude.{◌≡◌, ◌≤◌, length, take}
+-- The copies that an office shares, and brings up to date once something was settled.
+use Rattle.std.specs.Prelude.{◌≡◌, ◌≤◌, List, All, length, take}
+use Rattle.std.specs.Arc.{arc_value}
+use Rattle.std.specs.Global.{Global}
+use Rattle.std.specs.declared.sync.Arc.{Arc}
 use Rattle.pg_finders.specs.declared.inside.Copied.{Copied}
 use Rattle.pg_board.specs.Play.{Play}
 use Rattle.pg_board.specs.Office.{IsCopyOf}
@@ -14,3 +17,6 @@ pub record IsPastCopy (board : Play) (c : Copied) : Type 0 where
   pub graph : c.inside.graph ≡ board.graph
   pub within : c.at ≤ length board.journal
   pub copy : IsCopyOf (take c.at board.journal) c.inside c.at c.settled
+
+abbrev pub ArePastCopies : Play → List (Arc Copied Global) → Type 0
+ArePastCopies board copies = All (λ c. IsPastCopy board (arc_value c)) copies

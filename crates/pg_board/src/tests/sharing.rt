@@ -89,7 +89,7 @@ fn compare_first(rt: &impl Abort, first: &Arc<Copied>, second: &Arc<Copied>) {
     check_eq!(rt; Arc::strong_count(first), 3);
 }
 
-/// Once something is settled the office lets go of the first copy, which is as it was.
+/// Once something is settled another copy is shared; the first one, which is still held, is as it was.
 fn share_later<L: Ledger, R: Wait + Abort>(
     rt: &R,
     alloc: Global,
@@ -99,10 +99,10 @@ fn share_later<L: Ledger, R: Wait + Abort>(
     game: &Game,
     first: &Arc<Copied>,
 ) -> Result<(), Fail> {
-    compare(rt, first, (0, 0, 3));
     let later = shared_through(rt, alloc, office, share)?;
     compare(rt, &later, (1, 2, 1));
-    check_eq!(rt; Arc::strong_count(first), 2);
+    compare(rt, first, (0, 0, 3));
+    check_eq!(rt; Arc::strong_count(first), 3);
     share_after_refusals(rt, alloc, call, office, share, game, &later)
 }
 

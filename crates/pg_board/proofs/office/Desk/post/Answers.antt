@@ -1,22 +1,21 @@
 use Rattle.std.proofs.Common.{refl, sym, ap, subst, ◌∙◌}
 use Rattle.pg_board.specs.Play.{Play}
-use Rattle.std.specs.Arc.{arc_value}
 use Rattle.pg_board.specs.Journal.{number_settled}
-use Rattle.pg_board.specs.private.Office.{IsPastCopy}
+use Rattle.pg_board.specs.private.Office.{ArePastCopies}
 use Rattle.pg_board.proofs.Added.{number_grows, total_grows, settles_some, rises}
-use Rattle.pg_board.proofs.Renewing.{past_stays}
+use Rattle.pg_board.proofs.Renewing.{all_stay}
 use Rattle.pg_board.proofs.office.Desk.post.Goals as goal
 
 pub invariant_of-self : goal.invariant_of-self
 invariant_of-self g c = let same = sym c.in_err-posted.ensures.unchanged in record {
   exact = c.audit.ensures.total ∙ (c.args.self.now.exact ∙ ap (λ (b : Play). number_settled b.journal) same);
-  past = λ x is. subst (λ (b : Play). IsPastCopy b (arc_value x)) same (c.args.self.now.past x is);
+  past = subst (λ (b : Play). ArePastCopies b c.args.self.now.copies.items) same c.args.self.now.past;
 }
 
 pub invariant_of-self-2 : goal.invariant_of-self-2
 invariant_of-self-2 g c = record {
   exact = total_grows c.add.ensures.total (c.audit.ensures.total ∙ c.args.self.now.exact) c.from-more.ensures (number_grows c.in_ok-posted.ensures.posted.1);
-  past = λ x is. past_stays c.in_ok-posted.ensures.posted.1 c.in_ok-posted.ensures.game (c.args.self.now.past x is);
+  past = all_stay c.args.self.now.copies.items c.in_ok-posted.ensures.posted.1 c.in_ok-posted.ensures.game c.args.self.now.past;
 }
 
 pub returns-clause-posted : goal.returns-clause-posted
