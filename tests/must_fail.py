@@ -153,7 +153,7 @@ class Lanes:
     """Lets as many proofs run at once as there are processors and memory, those of other scripts with the same folder counted.
 
     A lane is a file of the folder, taken by a lock on it, which ends with the process. While the folder has a file `front`, whoever
-    made it takes up the first processor.
+    made it takes up the first processor, where there are more.
     """
 
     folder, count, waiting = None, 1, []
@@ -169,7 +169,7 @@ class Lanes:
             return None
 
     def free_lane(self):
-        begin = 1 if os.path.exists(f"{self.folder}/front") else 0
+        begin = 1 if self.count > 1 and os.path.exists(f"{self.folder}/front") else 0
         return next(filter(None, (self.locked(it, fcntl.LOCK_EX | fcntl.LOCK_NB) for it in range(begin, self.count))), None)
 
     def is_first_free(self):
