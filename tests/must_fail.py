@@ -1,7 +1,7 @@
 #!/usr/bin/env python3
 """Plants the must-fail edits of each crate, several at a time, and holds the prover to refusing every one of them.
 
-    tests/must_fail.py [--in TREE --after LOG] [CRATE [WORD..]]
+    tests/must_fail.py [--in TREE --after LOG --lanes FOLDER] [CRATE [WORD..]]
 
 The edits stand in `crates/NAME/must-fail/`, in the kit's form. `rt must-fail` tries them one by one, and reads all
 libraries anew for each, which takes hours. Here a round plants edits of different functions in a copy of the crate, at most
@@ -16,7 +16,9 @@ line is 'N passed, M failed'.
 """
 
 import argparse
+import contextlib
 import difflib
+import fcntl
 import glob
 import os
 import re
@@ -24,7 +26,6 @@ import shutil
 import subprocess
 import sys
 import tempfile
-import threading
 import time
 from concurrent.futures import ThreadPoolExecutor
 
@@ -148,37 +149,85 @@ def rounds_of(edits):
     return [entries for entries, _ in rounds]
 
 
-def lanes(beside):
-    """How many proofs may run at once, where others run beside them (the gate takes two processors then) or none does."""
-    with open("/proc/meminfo", encoding="utf-8") as file:
-        free = 1024 * int(re.search(r"MemAvailable:\s+(\d+)", file.read())[1])
-    return max(1, min(len(os.sched_getaffinity(0)) // (2 if beside else 1), free // MEMORY))
-
-
 class Lanes:
-    """Lets checks run at once, on half of the processors while the log's writer proves tests, and then on all of them."""
+    """Lets as many proofs run at once as there are processors and memory, those of other scripts with the same folder counted.
 
-    def __init__(self):
-        self.running, self.changed = 0, threading.Condition()
-        self.beside, self.alone = lanes(True), lanes(False)
-        self.log = None
+    A lane is a file of the folder, taken by a lock on it, which ends with the process. While the folder has a file `front`, whoever
+    made it takes up the first processor, where there are more.
+    """
 
-    def limit(self):
-        return self.beside if self.log and not re.search(COUNT, read(self.log)) else self.alone
+    folder, count, waiting = None, 1, []
 
-    def __enter__(self):
-        with self.changed:
-            while self.running >= self.limit():
-                self.changed.wait(1)
-            self.running += 1
+    def locked(self, name, how):
+        """The file, locked, if it can be."""
+        file = open(f"{self.folder}/{name}", "w", encoding="utf-8")
+        try:
+            fcntl.flock(file, how)
+            return file
+        except BlockingIOError:
+            file.close()
+            return None
 
-    def __exit__(self, *_):
-        with self.changed:
-            self.running -= 1
-            self.changed.notify()
+    def free_lane(self):
+        begin = 1 if self.count > 1 and os.path.exists(f"{self.folder}/front") else 0
+        return next(filter(None, (self.locked(it, fcntl.LOCK_EX | fcntl.LOCK_NB) for it in range(begin, self.count))), None)
+
+    def is_first_free(self):
+        first = self.locked("first", fcntl.LOCK_EX | fcntl.LOCK_NB)
+        if first:
+            first.close()
+        return first is not None
 
 
 LANES = Lanes()
+
+
+@contextlib.contextmanager
+def in_lanes(folder):
+    """Takes lanes in this folder, or in one of its own."""
+    with open("/proc/meminfo", encoding="utf-8") as file:
+        free = 1024 * int(re.search(r"MemAvailable:\s+(\d+)", file.read())[1])
+    LANES.count = max(1, min(len(os.sched_getaffinity(0)), free // MEMORY))
+    with tempfile.TemporaryDirectory(prefix="lanes-") as own:
+        LANES.folder = folder or own
+        yield
+
+
+@contextlib.contextmanager
+def lane(length, is_first=False):
+    """Waits for a lane: here what takes longest goes first, and what is first, before all that other scripts wait for."""
+    # (shared by all who are first, so nobody waits for it)
+    first = LANES.locked("first", fcntl.LOCK_SH) if is_first else None
+    LANES.waiting.append(length)
+    taken = None
+    while not taken:
+        if length == max(LANES.waiting) and (is_first or LANES.is_first_free()):
+            taken = LANES.free_lane()
+        if not taken:
+            time.sleep(0.2)
+    LANES.waiting.remove(length)
+    if first:
+        first.close()
+    with taken:
+        yield
+
+
+def linked(folder, to):
+    """Copies kept work, what was proved by links where they can be made: a check replaces such a file, and changes none."""
+
+    def copy(one, other):
+        with contextlib.suppress(OSError):
+            if one.endswith(".oantt"):
+                return os.link(one, other)
+        return shutil.copy2(one, other)
+
+    return shutil.copytree(folder, to, copy_function=copy)
+
+
+def listing(folder):
+    """What tells whether a file of the folder was changed, lost or added."""
+    paths = [f"{at}/{name}" for at, _, names in os.walk(folder) for name in names]
+    return {it: (found.st_ino, found.st_size, found.st_mtime_ns) for it in paths for found in [os.lstat(it)]}
 
 
 def check(crate, edits, kept, flags):
@@ -189,9 +238,10 @@ def check(crate, edits, kept, flags):
                 shutil.copytree(f"{crate.folder}/{part}", f"{room}/{part}")
         plant(room, edits)
         how = {"stdin": subprocess.DEVNULL, "stdout": subprocess.PIPE, "stderr": subprocess.STDOUT, "errors": "replace"}
-        with LANES:
+        # (all of the rounds wait for the crate's check as it stands)
+        with lane(len(edits) or sys.maxsize):
             # what is checked with an edit would take the place of what was kept, to be checked anew for the next
-            own = shutil.copytree(kept, f"{room}/kept") if edits else kept
+            own = linked(kept, f"{room}/kept") if edits else kept
             words = [rtlib.RATTLE, "check", *crate.words(["--jobs", "1"], keeps=False), "--incremental", own, *flags]
             return subprocess.run([*rtlib.guarded(), *words], cwd=room, **how)
 
@@ -233,11 +283,11 @@ def try_round(crate, edits, kept):
     return try_round(crate, left[:half], kept) + try_round(crate, left[half:], kept)
 
 
-def wait_for(lines, log):
-    """Waits until what writes the log has written these lines. Whether it has; it ends with a count."""
+def wait_for(patterns, log):
+    """Waits until what writes the log has written a line that begins so, for each pattern. Whether it has; it ends with a count."""
     while log:
         said = read(log)
-        if all(f"{it}\n" in said for it in lines):
+        if all(re.search(f"(?m)^{it}", said) for it in patterns):
             break
         if re.search(COUNT, said):
             return False
@@ -255,7 +305,7 @@ def try_crate(crate, words, log):
     """How many edits there are, and how many of them are not refused."""
     paths = sorted(glob.glob(f"{ROOT}/crates/{crate.name}/must-fail/*.edit"))
     paths = [it for it in paths if not words or any(word in os.path.basename(it) for word in words)]
-    if not wait_for([f"rt: {crate.name}: its tests are proved"], log):
+    if not wait_for([f"rt: {crate.name}: its tests are proved$"], log):
         print(f"FAILED must_fail/{crate.name}: it is not proved with its tests", flush=True)
         return len(paths), len(paths)
     crate = own_copy(crate)
@@ -269,14 +319,18 @@ def try_crate(crate, words, log):
     with tempfile.TemporaryDirectory(prefix="must-fail-kept-") as room:
         kept = f"{room}/kept"
         if crate.has_kept():
-            shutil.copytree(f"{crate.folder}/{rtlib.KEPT[1]}", kept)
+            linked(f"{crate.folder}/{rtlib.KEPT[1]}", kept)
         if check(crate, [], kept, []).returncode:
             print(f"FAILED must_fail/{crate.name}: it is not proved as it stands", flush=True)
             return len(paths), len(paths)
+        begun = listing(kept)
         # how many of them run at once is up to LANES
         with ThreadPoolExecutor(max(1, len(rounds))) as pool:
             for names in pool.map(lambda it: try_round(crate, it, kept), rounds):
                 through += names
+        if listing(kept) != begun:
+            print(f"FAILED must_fail/{crate.name}: a round changed what the others begin with", flush=True)
+            return len(paths), len(paths)
     print(f"{crate.name}: {len(paths)} edits in {len(rounds)} rounds, {len(through)} let through", flush=True)
     for name in through:
         print(f"FAILED must_fail/{crate.name} {name}", flush=True)
@@ -287,6 +341,7 @@ def main():
     parser = argparse.ArgumentParser(description="Plants the must-fail edits of each crate, and holds the prover to refusing them.")
     parser.add_argument("--in", dest="tree", default=ROOT)
     parser.add_argument("--after", metavar="LOG", help="what tests/unit_tests.py says, which is at work in the tree")
+    parser.add_argument("--lanes", metavar="FOLDER", help="where the scripts that run beside it take their lanes")
     parser.add_argument("crate", nargs="?")
     parser.add_argument("words", nargs="*")
     given = parser.parse_args()
@@ -295,8 +350,7 @@ def main():
     crates = [it for it in rtlib.crates_below(given.tree) if given.crate in (None, it.name)]
     # lowest first, since their edits need the least
     crates.sort(key=lambda it: len(it.below()))
-    LANES.log = given.after
-    with ThreadPoolExecutor(max(1, len(crates))) as pool:
+    with in_lanes(given.lanes), ThreadPoolExecutor(max(1, len(crates))) as pool:
         tried = list(pool.map(lambda it: try_crate(it, given.words, given.after), crates))
     count, failed = sum(it[0] for it in tried), sum(it[1] for it in tried)
     print(f"{count - failed} passed, {failed} failed")

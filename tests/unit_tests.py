@@ -2,7 +2,7 @@
 """Proves and runs the unit tests of each crate over the libraries that `rt ci` proved from nothing.
 
     tests/unit_tests.py --leave-out TREE
-    tests/unit_tests.py --in TREE --over PROVED --after LOG [CRATE..]
+    tests/unit_tests.py --in TREE --over PROVED --after LOG [--lanes FOLDER] [CRATE..]
 
 `rt ci` proves each crate twice, with its tests and without, and keeps neither proof. So it gets a copy of the sources
 without tests, which `--leave-out` makes of a copy; and here each crate is proved with its tests, as soon as `rt ci`, whose
@@ -71,14 +71,17 @@ def try_crate(crate, tree, proved, log):
     """How many of the crate's tests passed, and how many things went wrong."""
     # what has no tests is not proved here
     needed = crate.below() if crate.has_tests() else [*crate.below(), crate]
-    if not must_fail.wait_for([f"rt: {it.name} proved" for it in needed], log):
+    # (the second where an earlier run proved the same text, and what that made is taken)
+    if not must_fail.wait_for([f"rt: {it.name} (proved$|is kept: )" for it in needed], log):
         print(f"FAILED unit_tests/{crate.name}: it, or a crate below, is not proved", flush=True)
         return 0, 1
     own = own_tree(tree, crate, proved)
     if not crate.has_tests():
         print(f"{crate.name} has no tests\nrt: {crate.name}: its tests are proved", flush=True)
         return 0, 0
-    is_well, passed, failed, said = tests_of(own)
+    # the highest crate first: nothing else has so long a chain behind it
+    with must_fail.lane(len(crate.below()), is_first=True):
+        is_well, passed, failed, said = tests_of(own)
     if is_well:
         os.makedirs(f"{crate.folder}/out")
         shutil.copy(f"{own.folder}/out/{crate.name}_tests", f"{crate.folder}/out")
@@ -95,6 +98,7 @@ def main():
     parser.add_argument("--in", dest="tree", metavar="TREE", default=must_fail.ROOT)
     parser.add_argument("--over", metavar="PROVED", help="where the crates below are proved")
     parser.add_argument("--after", metavar="LOG", help="what `rt ci` says, which is at work there")
+    parser.add_argument("--lanes", metavar="FOLDER", help="where the scripts that run beside it take their lanes")
     parser.add_argument("crate", nargs="*")
     given = parser.parse_args()
     if given.leave_out:
@@ -103,8 +107,7 @@ def main():
     # its first call sets a signal's handler, which only the main thread may
     rtlib.guarded()
     crates = [it for it in rtlib.crates_below(given.tree) if not given.crate or it.name in given.crate]
-    crates.sort(key=lambda it: len(it.below()))
-    with ThreadPoolExecutor(must_fail.lanes(True)) as pool:
+    with must_fail.in_lanes(given.lanes), ThreadPoolExecutor(max(1, len(crates))) as pool:
         tried = list(pool.map(lambda it: try_crate(it, given.tree, given.over or given.tree, given.after), crates))
     passed, failed = sum(it[0] for it in tried), sum(it[1] for it in tried)
     print(f"{passed} passed, {failed} failed")
