@@ -1,4 +1,5 @@
 -- Examples, for the reader of the definitions: nothing is proved from these.
+use Rattle.std.proofs.Common.{rules}
 use Rattle.std.proofs.Common.{◌≡◌, ℕ, zero, suc, ◌<◌, ◌≤◌, inl, inr, [], ◌∷◌, ◌^◌, length, refl, sym, ap, subst, arith, decimal}
 use Rattle.std.specs.Prelude.{Some, None, codes}
 use Rattle.std.specs.Fmt.{digits}
@@ -24,10 +25,7 @@ abbrev both_win : SolutionRows
 both_win = (Even, Some 0) ∷ (Odd, Some 1) ∷ []
 
 two_edges : (v w : ℕ) → v < length two → HasEdge two v w → w < length two
-two_edges zero w l m = elim (Contains-cons 0 w (1 ∷ []) m) [
-  | inl e ↦ omega arith
-  | inr m' ↦ (let e = Contains-one 1 w m' in omega arith)
-]
+two_edges zero w l m = search (rules)
 two_edges (suc zero) w l m = let e = Contains-one 1 w m in omega arith
 two_edges (suc (suc v)) w l m = absurd (omega arith)
 

@@ -1,4 +1,5 @@
 -- Each text is at fault in one place or spells tokens, and not both.
+use Rattle.std.proofs.Common.{rules}
 use Rattle.std.proofs.Common.{◌≡◌, ℕ, zero, suc, ◌+◌, ◌≤◌, ◌<◌, Bool, true, false, ◌⊎◌, inl, inr, List, [], ◌∷◌, ◌++◌, length, refl, sym, ◌∙◌, ap}
 use Rattle.std.proofs.Common.{subst, arith, append_assoc, length-append}
 use Rattle.std.specs.Prelude.{◌==◌}
@@ -66,13 +67,7 @@ no_token t b after body rest (inr (q, a)) s e =
 
 extend : (place : ℕ) (text : List ℕ) (t : Placed) (bl bo re after : List ℕ) (b : ℕ) (before : List ℕ) → Wrong b after
     → Begins place before t bl bo re → text ≡ before ++ b ∷ after → Begins place text t bl bo (re ++ b ∷ after)
-extend place text t bl bo re after b before w h e = record {
-  split = e ∙ (ap (λ xs. xs ++ b ∷ after) h.split ∙ (append_assoc bl (bo ++ re) (b ∷ after) ∙ ap (λ xs. bl ++ xs) (append_assoc bo re (b ∷ after))));
-  blank = h.blank;
-  placed = h.placed;
-  spelled = h.spelled;
-  whole = whole_on t.token b re after w h.whole;
-}
+extend place text t bl bo re after b before w h e = search (rules, h.split, append_assoc, h.blank, h.placed, h.spelled, whole_on, t.token, h.whole)
 
 -- a text with a wrong byte behind tokens spells no tokens
 stuck : (place : ℕ) (text before after : List ℕ) (b : ℕ) (ts us : List Placed) → Spells place before ts → is_blank b ≡ false

@@ -1,4 +1,5 @@
 -- What a reader of game texts knows of the tokens that it has read.
+use Rattle.std.proofs.Common.{rules}
 use Rattle.std.proofs.Common.{◌≡◌, ℕ, ◌<◌, true, false, List, [], ◌∷◌, ◌++◌, length, refl, sym, ◌∙◌, ap, subst, arith, Option, Some, None, map}
 use Rattle.std.specs.Prelude.{codes, nat_lt}
 use Rattle.std.specs.Str.{bytes_eq}
@@ -63,9 +64,7 @@ shape_in r s e = subst (λ (q : State). Shape q r) e (shape r)
 -- one more line
 lines_more : (specs : List Spec) (lines : List WrittenGameLine) (spec : Spec) (l : WrittenGameLine) → AreLines specs lines → spec ≡ spec_of l → l.owner < 2
     → AreLines (specs ++ spec ∷ []) (lines ++ l ∷ [])
-lines_more specs lines spec l a e h =
-    let e' = ap (λ s. map spec_of lines ++ s ∷ []) e ∙ sym (map-append spec_of lines (l ∷ [])) in
-    (ap (λ ss. ss ++ spec ∷ []) a.0 ∙ e', all-push (λ k. k.owner < 2) lines l a.1 h)
+lines_more specs lines spec l a e h = search (rules, map-append, spec, all-push)
 
 -- where a token can't stand
 no_number : (r : Reading) (s : State) (n : ℕ) → reader_state r ≡ s → (s ≡ state.Start → ⊥) → (s ≡ state.HeadWord → ⊥) → (s ≡ state.Headed → ⊥)
@@ -133,9 +132,7 @@ module _ {ts : List Placed} {s : State} {specs : List Spec} {id priority : ℕ} 
   word_stops letters x y z = stops (Word letters) (no_word k.read s letters k.state_is x y z)
 
   goes : (t : Token) (place : ℕ) (r q : Reading) → k.read ≡ r → step r t ≡ Some q → run (Some reading.Start) (tokens_of (ts ++ placed t place ∷ [])) ≡ Some q
-  goes t place r q e f =
-      ap (run (Some reading.Start)) (tokens_append ts (placed t place ∷ [])) ∙ (run-append (Some reading.Start) (tokens_of ts) (t ∷ [])
-      ∙ (ap (λ o. run o (t ∷ [])) (k.ran ∙ ap Some e) ∙ ap (λ o. run o []) f))
+  goes t place r q e f = search (rules, tokens_append, run-append, k.ran)
 
   as_read : (r : Reading) → k.read ≡ r → large ≡ None → wrong ≡ None → HoldsRead r specs id priority owner successors
   as_read r e l w = subst (λ (q : Reading). HoldsRead q specs id priority owner successors) e (k.agrees l w)
@@ -323,29 +320,19 @@ module _ (text : List ℕ) {ts : List Placed} {s : State} {specs : List Spec} {i
       (λ (ls, i). let h : None ≡ Some ls = sym (finished_none k.read (ap is_complete k.state_is ∙ e)) ∙ lines_are (tokens_of ts) k.read k.ran ls i in cc h)
 
   some_text : is_complete s ≡ true → (f : Front) × (k.read ≡ reading.Ready f) × IsGameText (tokens_of ts) f.lines
-  some_text e =
-      let (f, g) = finished_lines k.read (ap is_complete k.state_is ∙ e) in
-      (f, g, text_is (tokens_of ts) k.read k.ran f.lines (ap finished g))
+  some_text e = search (rules, finished_lines, k.read, k.state_is, text_is, k.ran, finished)
 
   all_fit : large ≡ None → AllFit (tokens_of ts)
   all_fit l = subst (λ (o : Option ℕ). FirstLarge ts o) l k.numbers
 
   pub ends_large : is_complete s ≡ true → (p : ℕ) → large ≡ Some p → IsNumberFault IsSomeGameText text p
-  ends_large e p l =
-      let (f, g, i) = some_text e in
-      number_fault BeginsGameText IsSomeGameText text ts p spells (f.lines, i) (subst (λ (o : Option ℕ). FirstLarge ts o) l k.numbers)
+  ends_large e p l = search (rules, some_text, number_fault, k.numbers)
 
   pub ends_wrong : is_complete s ≡ true → (p : ℕ) → large ≡ None → wrong ≡ Some p → IsPlayerFault IsSomeGameText IsBeforeOwner text p
-  ends_wrong e p l w =
-      let (f, g, i) = some_text e in
-      let h = subst (λ (o : Option ℕ). FirstPlayer IsBeforeOwner ts o) w (k.players l) in
-      player_fault BeginsGameText IsSomeGameText text IsBeforeOwner ts p spells (f.lines, i) (all_fit l) h
+  ends_wrong e p l w = search (rules, some_text, k.players, player_fault, all_fit)
 
   pub ends_well : is_complete s ≡ true → large ≡ None → wrong ≡ None → SpellsSpecs text specs
-  ends_well e l w =
-      let (f, g, i) = some_text e in
-      let a : AreLines specs f.lines = subst (λ (q : Reading). HoldsRead q specs id priority owner successors) g (k.agrees l w) in
-      (f.lines, record { tokens = ts; spelled = spells; grammar = i; numbers = all_fit l; owners = a.1 }, a.0)
+  ends_well e l w = search (rules, some_text, k.agrees, spelled, all_fit)
 
 pub reader_reads : Reads KeepsReader Stops BeginsGameText
 reader_reads = record { begins = λ ts r k. text_begins (tokens_of ts) k.read k.ran; stops = λ ts t n. begins_none (tokens_of ts ++ t ∷ []) n }

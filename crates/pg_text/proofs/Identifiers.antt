@@ -1,4 +1,5 @@
 -- Which identifiers a game has, and which vertex each of them names.
+use Rattle.std.proofs.Common.{rules}
 use Rattle.std.proofs.Common.{◌≡◌, ◌≢◌, ℕ, zero, suc, ◌+◌, ◌<◌, Bool, true, false, not, List, [], ◌∷◌, ◌++◌, length, map, get_or, refl, sym, ◌∙◌, ap}
 use Rattle.std.proofs.Common.{subst, arith}
 use Rattle.std.specs.Prelude.{◌==◌, if◌then◌else◌, nat_lt, count_by, find, flat_map, Option, Some, None, IfSome, option_map}
@@ -48,9 +49,7 @@ number_at g id v i n =
 
 -- strangers of more lines
 pub stranger-append : (g : Graph) (xs ys : List WrittenSolutionLine) → first_stranger g (xs ++ ys) ≡ option_or (first_stranger g xs) (first_stranger g ys)
-stranger-append g xs ys =
-    let f : WrittenSolutionLine → List ℕ = λ l. l.id ∷ option_list l.choice in
-    ap (find (λ i. not (is_id g i))) (flat_map-append f xs ys) ∙ find-append (λ i. not (is_id g i)) (flat_map f xs) (flat_map f ys)
+stranger-append g xs ys = search (rules, flat_map-append, find-append)
 
 none_parts : (a b : Option ℕ) → option_or a b ≡ None → (a ≡ None) × (b ≡ None)
 none_parts None b h = (refl, h)
@@ -72,9 +71,7 @@ home_id g id winner c e = true_from_ne_false (is_id g id) (λ f. let k : Some id
 home_choice : (g : Graph) (id winner : ℕ) (c : Option ℕ) → first_stranger g (record { id = id; winner = winner; choice = c } ∷ []) ≡ None
     → IfSome c (λ i. is_id g i ≡ true)
 home_choice g id winner None e = tt
-home_choice g id winner (Some i) e =
-    let t = home_id g id winner (Some i) e in
-    true_from_ne_false (is_id g i) (λ f. let k : Some i ≡ None = rw (t, f) at e in cc k)
+home_choice g id winner (Some i) e = search (rules, home_id, true_from_ne_false)
 
 pub line_home : (g : Graph) (lines : List WrittenSolutionLine) (l : WrittenSolutionLine) → first_stranger g lines ≡ None → Contains lines l
     → first_stranger g (l ∷ []) ≡ None

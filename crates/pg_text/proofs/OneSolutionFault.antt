@@ -1,4 +1,5 @@
 -- A text has at most one fault as a solution of a game, and none where it is a solution's.
+use Rattle.std.proofs.Common.{rules}
 use Rattle.std.proofs.Common.{◌≡◌, ℕ, zero, suc, ◌<◌, ◌⊎◌, inl, inr, List, [], ◌∷◌, ◌++◌, refl, sym, ◌∙◌, ap, subst, arith}
 use Rattle.std.specs.Prelude.{Option, Some, None, IfSome, ⊤}
 use Rattle.std.specs.List.{AllByRecursion}
@@ -74,10 +75,7 @@ before_run h ls i more =
 
 -- a winner inside what is read to the end is below 2 where all that were read are
 inner_winner : (xs m : List Token) (n : ℕ) (s : Reading) → IsBeforeWinner xs → run (Some Start) (xs ++ token.Number n ∷ m) ≡ Some s → Below s → n < 2
-inner_winner xs m n s (h, ls, i, o, x) e b =
-    let f : run (Some (Id h ls i)) (token.Number n ∷ m) ≡ Some s =
-    sym (before_run h ls i (token.Number n ∷ m)) ∙ (ap (λ ts. run (Some Start) (ts ++ token.Number n ∷ m)) (sym x) ∙ e) in
-    (below_run (state.Winner h ls i n) s m f b).1
+inner_winner xs m n s (h, ls, i, o, x) e b = search (rules, before_run, below_run)
 
 later_winner : (xs ys m : List Token) (n : ℕ) → IsBeforeWinner xs → IsBeforeWinner ys → ys ≡ xs ++ token.Number n ∷ m → n < 2
 later_winner xs ys m n a (h, ls, i, o, y) e =
@@ -196,6 +194,4 @@ stage_below Memory = omega arith
 stage_below _ = omega arith
 
 pub solution_text_or_fault : SolutionTextOrFault
-solution_text_or_fault g text rows e t b =
-    let p : Passed g text 7 = (t.lines, t.spelled, t.says.no_stranger, t.says.once, t.says.complete) in
-    no_fault (Passed g text) (before g text) Memory stage (IsSolutionFaultOf g text) (passed g text) (stopped g text) 7 e p (stage_below e) b
+solution_text_or_fault g text rows e t b = search (rules, t.lines, t.spelled, t.says.no_stranger, t.says.once, t.says.complete, no_fault, before, passed, stopped, stage_below)

@@ -1,4 +1,5 @@
 -- Tokens that follow one another.
+use Rattle.std.proofs.Common.{rules}
 use Rattle.std.proofs.Common.{◌≡◌, ℕ, ◌+◌, Bool, List, [], ◌∷◌, ◌++◌, length, drop, refl, sym, ◌∙◌, ap, subst, arith, append_assoc, length-append}
 use Rattle.pg_text.specs.declared.lexer.Kind.{Kind}
 use Rattle.pg_text.specs.declared.lexer.Kind.TheVariants as kind
@@ -24,8 +25,7 @@ reaches_all text at mid to (t ∷ ts) us (m, i, r) s = (m, i, reaches_all text m
 pub reaches_spells : (text : List ℕ) (at to : ℕ) (ts us : List Placed) → ReadsTo text at ts to → Spells to (drop to text) us
     → Spells at (drop at text) (ts ++ us)
 reaches_spells text at to [] us r s = subst (λ m. Spells m (drop m text) us) r s
-reaches_spells text at to (t ∷ ts) us (m, i, r) s =
-    (i.blanks, i.body, drop m text, i.begins, subst (λ n. Spells n (drop m text) (ts ++ us)) i.end (reaches_spells text m to ts us r s))
+reaches_spells text at to (t ∷ ts) us (m, i, r) s = search (rules, reaches_spells text m to ts us r s, i.blanks, i.body, i.begins, i.end)
 
 -- a run that ends before more bytes ends before fewer
 ends_sooner : (test : ℕ → Bool) (xs ys : List ℕ) → EndsRun test (xs ++ ys) → EndsRun test xs
@@ -60,19 +60,7 @@ reaches_cut text at stop (t ∷ ts) blanks back (m, i, r) e b =
     )
 
 pub lexical_fault : (text : List ℕ) (ts : List Placed) (stop bad : ℕ) → ReadsTo text 0 ts stop → IsNoToken text stop bad → IsLexicalFault text bad
-lexical_fault text ts stop bad r n =
-    let c = reaches_cut text 0 stop ts n.blanks (n.byte ∷ n.after) r n.split n.blank in
-    record {
-      before = c.0;
-      byte = n.byte;
-      after = n.after;
-      tokens = ts;
-      split = c.1;
-      placed = let e = c.3 in let f = n.placed in omega arith;
-      spelled = c.2;
-      solid = n.solid;
-      wrong = n.wrong;
-    }
+lexical_fault text ts stop bad r n = search (rules, reaches_cut, n.blanks, n.byte, n.after, n.split, n.blank, n.placed, n.solid, n.wrong)
 
 pub later_fault : (text : List ℕ) (ts : List Placed) (at bad : ℕ) → ReadsTo text 0 ts at → IsBadFrom text at bad → IsLexicalFault text bad
 later_fault text ts at bad r (us, stop, s, n) = lexical_fault text (ts ++ us) stop bad (reaches_all text 0 at stop ts us r s) n

@@ -1,4 +1,5 @@
 -- The written text of a game or of a solution spells one text.
+use Rattle.std.proofs.Common.{rules}
 use Rattle.std.proofs.Common.{◌≡◌, ℕ, ◌+◌, ◌-◌, ◌%◌, ◌^◌, ◌<◌, ◌≤◌, suc, get_or, true, List, [], ◌∷◌, ◌++◌, length, map, refl, sym, ◌∙◌, ap, subst}
 use Rattle.std.proofs.Common.{arith, append_assoc, length-append, Option, Some, None, decimal, lit<}
 use Rattle.std.specs.Prelude.{flat_map, codes, option_map, IfSome, ⊤}
@@ -122,12 +123,7 @@ spells_further {rest = rest} {ts = ts} (n ∷ ns) a s w =
 spells_list : {rest : List ℕ} {ts : List Token} (ns : List ℕ) → 0 < length ns → AreSmall ns → SpellsTokens rest ts → EndsRun is_digit rest
     → SpellsTokens (join_with_byte 44 (map decimal ns) ++ rest) (separated ns ++ ts)
 spells_list [] h a s w = absurd (omega arith)
-spells_list {rest = rest} {ts = ts} (n ∷ ns) h a s w =
-    let f : List ℕ = behind_commas ns in
-    let e : join_with_byte 44 (map decimal (n ∷ ns)) ++ rest ≡ decimal n ++ (f ++ rest) =
-    ap (λ xs. xs ++ rest) (join_first decimal n ns) ∙ append_assoc (decimal n) f rest in
-    let g : separated (n ∷ ns) ++ ts ≡ Number n ∷ (further ns ++ ts) = ap (λ us. us ++ ts) (separated-first n ns) in
-    rw (e, g) (spells_number n a.0 (spells_further ns a.1 s w) (list_ends ns rest w))
+spells_list {rest = rest} {ts = ts} (n ∷ ns) h a s w = search (rules, join_first, append_assoc, further, separated-first, spells_number, spells_further, list_ends)
 
 -- the line that the written text has for a vertex
 abbrev pub line_of : Graph → Vertex → games.WrittenGameLine
@@ -258,9 +254,7 @@ spells_row : {rest : List ℕ} {ts : List Token} (g : Graph) (x : Vertex) (r : P
     → SpellsTokens rest ts
     → SpellsTokens (decimal x.id ++ (32 ∷ decimal (digit_of r.0) ++ (written_choice g r.1 ++ (codes ";\n" ++ rest))))
     (solutions.solution_line_tokens (row_line g x r) ++ ts)
-spells_row {rest = rest} g x r i h s =
-    let winner = spells_number (digit_of r.0) (digit_short r.0) (spells_choice g r.1 h s) (choice_ends g r.1 rest) in
-    spells_number x.id i (spells_blank 32 refl winner) refl
+spells_row {rest = rest} g x r i h s = search (rules, spells_number, digit_short, spells_choice, choice_ends, x.id, spells_blank)
 
 spells_rows : (g : Graph) (xs : List Vertex) (rows : SolutionRows) → AllByRecursion (λ x. x.id < 10 ^ 64) xs
     → AllByRecursion (HasChoice (λ n. n < 10 ^ 64) g) rows
@@ -271,11 +265,7 @@ spells_rows g (x ∷ xs) (r ∷ rows) a b = spells_row g x r a.0 b.0 (spells_row
 
 have_choices : (P : ℕ → Type 0) (g : Graph) (rows : SolutionRows) → ((v : ℕ) → v < length g → P (id_of g v)) → AreSolutionRows g rows
     → AllByRecursion (HasChoice P g) rows
-have_choices P g rows ids are = all_imply (λ r. IfSome r.1 (λ w. w < length g)) (HasChoice P g) rows (λ r h. one r.1 h) are.choices
-  where
-    one : (c : Option ℕ) → IfSome c (λ w. w < length g) → IfSome c (λ w. P (id_of g w))
-    one None h = tt
-    one (Some w) h = ids w h
+have_choices P g rows ids are = search (rules, all_imply, are.choices)
 
 -- the written text of winners and choices spells their own lines
 pub spells_solution : (g : Graph) (rows : SolutionRows) → IsGame g → HasShortNumbers g → AreSolutionRows g rows
@@ -287,10 +277,7 @@ spells_solution g rows i short are =
     (spells_header (codes "paritysol") (greatest_id g) (omega arith) letters (last_id (λ n. n < 10 ^ 64) g i short.ids) lines).from 0
 
 pub short_numbers : (g : Graph) → IsWithinLimits g → HasShortNumbers g
-short_numbers g w = record {
-  ids = λ v l. let h = w.ids v l in omega (arith, lit< {m = max_number} {n = 10 ^ 64} tt);
-  priorities = λ v l. let h = w.numbers v l in omega (arith, lit< {m = max_number} {n = 10 ^ 64} tt);
-}
+short_numbers g w = search (rules, w.ids, w.numbers)
 
 fits_number : (n : ℕ) → n ≤ max_number → fits (Number n) ≡ true
 fits_number n h = le-leb n max_number h
@@ -337,9 +324,7 @@ fits_rows : (g : Graph) (xs : List Vertex) (rows : SolutionRows) → AllByRecurs
     → AllFit (flat_map solutions.solution_line_tokens (row_lines g xs rows))
 fits_rows g [] rows a b = tt
 fits_rows g (x ∷ xs) [] a b = tt
-fits_rows g (x ∷ xs) (r ∷ rows) a b =
-    all-append (λ t. fits t ≡ true) (solutions.solution_line_tokens (row_line g x r)) (flat_map solutions.solution_line_tokens (row_lines g xs rows))
-    (fits_number x.id a.0, (fits_digit r.0, fits_choice g r.1 b.0)) (fits_rows g xs rows a.1 b.1)
+fits_rows g (x ∷ xs) (r ∷ rows) a b = search (rules, fits_rows g xs rows a.1 b.1, all-append, fits_number, x.id, fits_digit, fits_choice)
 
 pub small_winners : (g : Graph) (xs : List Vertex) (rows : SolutionRows) → AllByRecursion (λ l. l.winner < 2) (row_lines g xs rows)
 small_winners g [] rows = tt
