@@ -43,20 +43,7 @@ Shape state.Successor r = (f : Front) × (i p o w : ℕ) × (vs : List ℕ) × (
 Shape state.Named r = (f : Front) × (i p o w : ℕ) × (vs b : List ℕ) × (r ≡ reading.Named f i p o w vs b)
 
 shape : (r : Reading) → Shape (reader_state r) r
-shape reading.Start = refl
-shape reading.HeadWord = refl
-shape (reading.HeadNumber m) = (m, refl)
-shape (reading.Headed m) = (m, refl)
-shape (reading.StartWord h) = (h, refl)
-shape (reading.StartNumber h k) = (h, k, refl)
-shape (reading.Started h k) = (h, k, refl)
-shape (reading.Ready f) = (f, refl)
-shape (reading.Id f i) = (f, i, refl)
-shape (reading.Priority f i p) = (f, i, p, refl)
-shape (reading.Owner f i p o) = (f, i, p, o, refl)
-shape (reading.Listing f i p o w vs) = (f, i, p, o, w, vs, refl)
-shape (reading.Successor f i p o w vs) = (f, i, p, o, w, vs, refl)
-shape (reading.Named f i p o w vs b) = (f, i, p, o, w, vs, b, refl)
+shape x0 = search (rules)
 
 pub shape_in : (r : Reading) (s : State) → reader_state r ≡ s → Shape s r
 shape_in r s e = subst (λ (q : State). Shape q r) e (shape r)
@@ -70,39 +57,21 @@ lines_more specs lines spec l a e h = search (rules, map-append, spec, all-push)
 no_number : (r : Reading) (s : State) (n : ℕ) → reader_state r ≡ s → (s ≡ state.Start → ⊥) → (s ≡ state.HeadWord → ⊥) → (s ≡ state.Headed → ⊥)
     → (s ≡ state.StartWord → ⊥) → (s ≡ state.Started → ⊥) → (s ≡ state.Ready → ⊥) → (s ≡ state.Id → ⊥) → (s ≡ state.Priority → ⊥)
     → (s ≡ state.Owner → ⊥) → (s ≡ state.Listing → ⊥) → on_number r n ≡ None
-no_number reading.Start s n e x0 x1 x2 x3 x4 x5 x6 x7 x8 x9 = absurd (x0 (sym e))
-no_number reading.HeadWord s n e x0 x1 x2 x3 x4 x5 x6 x7 x8 x9 = absurd (x1 (sym e))
-no_number (reading.Headed m) s n e x0 x1 x2 x3 x4 x5 x6 x7 x8 x9 = absurd (x2 (sym e))
-no_number (reading.StartWord h) s n e x0 x1 x2 x3 x4 x5 x6 x7 x8 x9 = absurd (x3 (sym e))
-no_number (reading.Started h k) s n e x0 x1 x2 x3 x4 x5 x6 x7 x8 x9 = absurd (x4 (sym e))
-no_number (reading.Ready f) s n e x0 x1 x2 x3 x4 x5 x6 x7 x8 x9 = absurd (x5 (sym e))
-no_number (reading.Id f i) s n e x0 x1 x2 x3 x4 x5 x6 x7 x8 x9 = absurd (x6 (sym e))
-no_number (reading.Priority f i p) s n e x0 x1 x2 x3 x4 x5 x6 x7 x8 x9 = absurd (x7 (sym e))
-no_number (reading.Owner f i p o) s n e x0 x1 x2 x3 x4 x5 x6 x7 x8 x9 = absurd (x8 (sym e))
-no_number (reading.Listing f i p o w vs) s n e x0 x1 x2 x3 x4 x5 x6 x7 x8 x9 = absurd (x9 (sym e))
-no_number _ s n e x0 x1 x2 x3 x4 x5 x6 x7 x8 x9 = refl
+no_number x0 s n e x4 x1 x2 x3 x8 x5 x6 x7 x12 x9 = search (rules)
 
 no_semicolon : (r : Reading) (s : State) → reader_state r ≡ s → (s ≡ state.HeadNumber → ⊥) → (s ≡ state.StartNumber → ⊥) → (s ≡ state.Successor → ⊥)
     → (s ≡ state.Named → ⊥) → on_semicolon r ≡ None
-no_semicolon (reading.HeadNumber m) s e x0 x1 x2 x3 = absurd (x0 (sym e))
-no_semicolon (reading.StartNumber h k) s e x0 x1 x2 x3 = absurd (x1 (sym e))
-no_semicolon (reading.Successor f i p o w vs) s e x0 x1 x2 x3 = absurd (x2 (sym e))
-no_semicolon (reading.Named f i p o w vs b) s e x0 x1 x2 x3 = absurd (x3 (sym e))
-no_semicolon _ s e x0 x1 x2 x3 = refl
+no_semicolon x0 s e x3 x1 x2 x6 = search (rules)
 
 no_comma : (r : Reading) (s : State) → reader_state r ≡ s → (s ≡ state.Successor → ⊥) → on_comma r ≡ None
-no_comma (reading.Successor f i p o w vs) s e x = absurd (x (sym e))
-no_comma _ s e x = refl
+no_comma x0 s e x = search (rules)
 
 no_name : (r : Reading) (s : State) (bytes : List ℕ) → reader_state r ≡ s → (s ≡ state.Successor → ⊥) → on_name r bytes ≡ None
-no_name (reading.Successor f i p o w vs) s bytes e x = absurd (x (sym e))
-no_name _ s bytes e x = refl
+no_name x0 s bytes e x = search (rules)
 
 no_word : (r : Reading) (s : State) (letters : List ℕ) → reader_state r ≡ s → (s ≡ state.Start → bytes_eq letters (codes "parity") ≡ false)
     → (s ≡ state.Start → bytes_eq letters (codes "start") ≡ false) → (s ≡ state.Headed → bytes_eq letters (codes "start") ≡ false) → on_word r letters ≡ None
-no_word reading.Start s letters e x y z = let t = x (sym e) in let u = y (sym e) in rw (t, u) refl
-no_word (reading.Headed m) s letters e x y z = let t = z (sym e) in rw t refl
-no_word _ s letters e x y z = refl
+no_word x0 s letters e x y z = search (rules)
 
 module _ {ts : List Placed} {s : State} {specs : List Spec} {id priority : ℕ} {owner : Player} {successors : List ℕ} {large wrong : Option ℕ}
     (k : Keeps ts s specs id priority owner successors large wrong) where
@@ -305,12 +274,10 @@ keeps_none specs id priority owner successors e = record {
 
 -- where a text may end, the lines that were read
 finished_lines : (r : Reading) → is_complete (reader_state r) ≡ true → (f : Front) × (r ≡ reading.Ready f)
-finished_lines (reading.Ready f) e = (f, refl)
-finished_lines _ e = absurd (cc e)
+finished_lines x0 e = search (rules)
 
 finished_none : (r : Reading) → is_complete (reader_state r) ≡ false → finished r ≡ None
-finished_none (reading.Ready f) e = absurd (cc e)
-finished_none _ e = refl
+finished_none x0 e = search (rules)
 
 -- what was read, at the end of the text
 module _ (text : List ℕ) {ts : List Placed} {s : State} {specs : List Spec} {id priority : ℕ} {owner : Player} {successors : List ℕ} {large wrong : Option ℕ}

@@ -52,8 +52,7 @@ pub stranger-append : (g : Graph) (xs ys : List WrittenSolutionLine) → first_s
 stranger-append g xs ys = search (rules, flat_map-append, find-append)
 
 none_parts : (a b : Option ℕ) → option_or a b ≡ None → (a ≡ None) × (b ≡ None)
-none_parts None b h = (refl, h)
-none_parts (Some y) b h = absurd (cc h)
+none_parts x0 b h = search (rules)
 
 -- where no line names a stranger, none of them does
 home_at : (g : Graph) (lines : List WrittenSolutionLine) (k : ℕ) (d : WrittenSolutionLine) → first_stranger g lines ≡ None → k < length lines
@@ -70,8 +69,7 @@ home_id g id winner c e = true_from_ne_false (is_id g id) (λ f. let k : Some id
 
 home_choice : (g : Graph) (id winner : ℕ) (c : Option ℕ) → first_stranger g (record { id = id; winner = winner; choice = c } ∷ []) ≡ None
     → IfSome c (λ i. is_id g i ≡ true)
-home_choice g id winner None e = tt
-home_choice g id winner (Some i) e = search (rules, home_id, true_from_ne_false)
+home_choice g id winner x3 e = search (rules, home_id, true_from_ne_false)
 
 pub line_home : (g : Graph) (lines : List WrittenSolutionLine) (l : WrittenSolutionLine) → first_stranger g lines ≡ None → Contains lines l
     → first_stranger g (l ∷ []) ≡ None

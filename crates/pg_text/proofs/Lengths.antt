@@ -23,8 +23,7 @@ short_number : (n : ℕ) → n ≤ max_number → length (decimal n) ≤ most_di
 short_number n l = length-decimal-le_wide most_digits n (omega arith) (omega arith) (omega (arith, lit< {m = max_number} {n = 10 ^ 64} tt))
 
 short_digit : (p : Player) → length (decimal (digit_of p)) ≤ 1
-short_digit Even = length-decimal-le_wide 1 0 (omega arith) (omega arith) (omega arith)
-short_digit Odd = length-decimal-le_wide 1 1 (omega arith) (omega arith) (omega arith)
+short_digit x0 = search (rules, length-decimal-le_wide)
 
 -- numbers separated by commas, and one comma more
 short_list : (g : Graph) (w : ℕ) (ws : List ℕ) → AllByRecursion (λ n. n ≤ max_number) (map (λ u. id_of g u) (w ∷ ws))
@@ -77,8 +76,7 @@ module _ (g : Graph) (i : IsGame g) (w : IsWithinLimits g) where
   short_rows long (x ∷ xs) (r ∷ rows) a b = search (rules, short_rows long xs rows a.1 b.1, length-append, x.id, short_number, short_digit)
 
   short_choice : (c : Option ℕ) → IfSome c (λ v. v < length g) → length (written_choice g c) ≤ 1 + most_digits
-  short_choice None h = omega arith
-  short_choice (Some v) h = let k = short_number (id_of g v) (w.ids v h) in omega arith
+  short_choice x0 h = search (rules, short_number)
 
   -- a text of rows whose choices are at most so long
   short_text : (long : ℕ) (rows : SolutionRows) → AllByRecursion (λ r. length (written_choice g r.1) ≤ long) rows

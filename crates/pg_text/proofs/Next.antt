@@ -16,8 +16,7 @@ use Rattle.pg_text.proofs.Runs.{all-append}
 -- a run whose first byte passes has a byte
 run_nonempty : (test : ℕ → Bool) (text : List ℕ) (from to : ℕ) (run : List ℕ) → IsRun test text from to run → from < length text
     → test (get_or text from 0) ≡ true → EndsRun test (drop to text) → 0 < length run
-run_nonempty test text from to [] r h p e = search (rules, r.end, get_or, drop_more)
-run_nonempty test text from to (b ∷ run) r h p e = omega arith
+run_nonempty test text from to x4 r h p e = search (rules, get_or, drop_more)
 
 module _ (text : List ℕ) (from : ℕ) (inside : from < length text) where
   -- a body that begins here is a token
@@ -105,10 +104,7 @@ piece_past kind.Bad text at from end to run r i = record {
 
 -- a token takes a byte at least
 body_nonempty : (t : Token) (body : List ℕ) → IsSpelling t body → 0 < length body
-body_nonempty (Number n) body s = s.0
-body_nonempty (Word n) body s = s.0
-body_nonempty (Name n) body s = let e = ap length s.1 in omega arith
-body_nonempty _ body s = let e = ap length s in omega arith
+body_nonempty x0 body s = search (rules)
 
 -- it ends behind the place, and within the text
 pub token_ahead : (text : List ℕ) (at from to : ℕ) (t : Token) → IsToken text at from to t → (at < to) × (at ≤ length text → to ≤ length text)

@@ -29,13 +29,10 @@ reaches_spells text at to (t ∷ ts) us (m, i, r) s = search (rules, reaches_spe
 
 -- a run that ends before more bytes ends before fewer
 ends_sooner : (test : ℕ → Bool) (xs ys : List ℕ) → EndsRun test (xs ++ ys) → EndsRun test xs
-ends_sooner test [] ys e = tt
-ends_sooner test (x ∷ xs) ys e = e
+ends_sooner test x1 ys e = search (rules)
 
 whole_sooner : (t : Token) (xs ys : List ℕ) → IsWhole t (xs ++ ys) → IsWhole t xs
-whole_sooner (Number n) xs ys w = ends_sooner is_digit xs ys w
-whole_sooner (Word n) xs ys w = ends_sooner is_letter xs ys w
-whole_sooner _ xs ys w = tt
+whole_sooner x0 xs ys w = search (rules, ends_sooner)
 
 -- tokens up to a place spell the text up to there, and up to the end of blanks that follow
 abbrev Cut : List ℕ → ℕ → List Placed → List ℕ → ℕ → Type 0
@@ -68,13 +65,7 @@ later_fault text ts at bad r (us, stop, s, n) = lexical_fault text (ts ++ us) st
 -- a piece that is neither the end nor a fault is a token
 pub piece_token : (k : Kind) (text : List ℕ) (at from to : ℕ) → IsPieceOf k text at from to → (k ≡ kind.Bad → ⊥) → (k ≡ kind.End → ⊥)
     → (t : Token) × IsToken text at from to t
-piece_token (kind.Number value) text at from to (n, e, i) b d = (Number n, i)
-piece_token kind.Word text at from to (n, i) b d = (Word n, i)
-piece_token kind.Name text at from to (n, i) b d = (Name n, i)
-piece_token kind.Comma text at from to i b d = (Comma, i)
-piece_token kind.Semicolon text at from to i b d = (Semicolon, i)
-piece_token kind.End text at from to i b d = absurd (d refl)
-piece_token kind.Bad text at from to i b d = absurd (b refl)
+piece_token x0 text at from to i b d = search (rules)
 
 -- where only blanks follow
 pub reaches_end : (text : List ℕ) (at to : ℕ) (ts : List Placed) → ReadsTo text at ts to → AllAre is_blank (drop to text) → Spells at (drop at text) ts

@@ -169,24 +169,16 @@ IsChoice g None (Some v) = ⊥
 IsChoice g (Some id) None = ⊥
 
 pub player_back : (p : Player) → p ≡ player_of (digit_of p)
-player_back Even = refl
-player_back Odd = refl
+player_back x0 = search (rules)
 
 -- a line whose identifiers are the game's says its row, and is no stranger
 pub row_is : (g : Graph) (id : ℕ) (winner : Player) (c w : Option ℕ) → IsGame g → IsChoice g c w
     → (winner, w) ≡ row_of_line g (record { id = id; winner = digit_of winner; choice = c })
-row_is g id winner None None i k = ap (λ p. (p, None)) (player_back winner)
-row_is g id winner (Some k) (Some v) i n =
-    ap (λ p. (p, Some v)) (player_back winner) ∙ ap (λ u. (player_of (digit_of winner), Some u)) (sym (number_at g k v i n))
-row_is g id winner None (Some v) i n = absurd n
-row_is g id winner (Some k) None i n = absurd n
+row_is g id winner x3 x4 i k = search (rules, player_back, number_at)
 
 pub at_home : (g : Graph) (id v winner : ℕ) (c w : Option ℕ) → IsNamed g id v → IsChoice g c w
     → first_stranger g (record { id = id; winner = winner; choice = c } ∷ []) ≡ None
-at_home g id v winner None None n k = let t = named_is g id v n in rw t refl
-at_home g id v winner (Some k) (Some u) n m = let t = named_is g id v n in let s = named_is g k u m in rw (t, s) refl
-at_home g id v winner None (Some u) n m = absurd m
-at_home g id v winner (Some k) None n m = absurd m
+at_home g id v winner x4 x5 n k = search (rules, named_is)
 
 -- the next line of those that were read
 pub next_line : (ls : List SolutionLine) (i : ℕ) (d : SolutionLine) → i < length ls

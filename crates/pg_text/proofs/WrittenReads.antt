@@ -104,8 +104,7 @@ all_at P (x ∷ xs) zero d a l = a.0
 all_at P (x ∷ xs) (suc k) d a l = all_at P xs k d a.1 (omega arith)
 
 choice_named : (g : Graph) (c : Option ℕ) → IfSome c (λ w. w < length g) → IsChoice g (option_map (λ w. id_of g w) c) c
-choice_named g None h = tt
-choice_named g (Some w) h = record { vertex = h; id_is = refl }
+choice_named g x1 h = search (rules)
 
 none_home : (g : Graph) (lines : List solutions.WrittenSolutionLine) → AllByRecursion (λ l. first_stranger g (l ∷ []) ≡ None) lines
     → first_stranger g lines ≡ None

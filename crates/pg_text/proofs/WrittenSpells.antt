@@ -140,8 +140,7 @@ pub record HasNumbers (P : ℕ → Type 0) (g : Graph) (x : Vertex) : Type 0 whe
   pub some : 0 < length (map (λ w. id_of g w) x.successors)
 
 digit_short : (p : Player) → digit_of p < 10 ^ 64
-digit_short Even = omega arith
-digit_short Odd = omega arith
+digit_short x0 = search (rules)
 
 map-twice : (g : Graph) (ws : List ℕ) → map (λ w. decimal (id_of g w)) ws ≡ map decimal (map (λ w. id_of g w) ws)
 map-twice g [] = refl
@@ -243,12 +242,10 @@ HasChoice P g r = IfSome r.1 (λ w. P (id_of g w))
 -- behind a winner, the rest of a row
 spells_choice : {rest : List ℕ} {ts : List Token} (g : Graph) (c : Option ℕ) → IfSome c (λ w. id_of g w < 10 ^ 64) → SpellsTokens rest ts
     → SpellsTokens (written_choice g c ++ (59 ∷ 10 ∷ rest)) ((solutions.choice_tokens (option_map (λ w. id_of g w) c) ++ Semicolon ∷ []) ++ ts)
-spells_choice g None h s = spells_end s
-spells_choice g (Some w) h s = spells_blank 32 refl (spells_number (id_of g w) h (spells_end s) refl)
+spells_choice g x1 h s = grind (arith, spells_end, spells_blank, spells_number)
 
 choice_ends : (g : Graph) (c : Option ℕ) (rest : List ℕ) → EndsRun is_digit (written_choice g c ++ (59 ∷ 10 ∷ rest))
-choice_ends g None rest = refl
-choice_ends g (Some w) rest = refl
+choice_ends g x1 rest = search (rules)
 
 spells_row : {rest : List ℕ} {ts : List Token} (g : Graph) (x : Vertex) (r : Player × Option ℕ) → x.id < 10 ^ 64 → HasChoice (λ n. n < 10 ^ 64) g r
     → SpellsTokens rest ts
@@ -288,8 +285,7 @@ fits_separated (n ∷ []) a = (fits_number n a.0, tt)
 fits_separated (n ∷ m ∷ ns) a = (fits_number n a.0, (refl, fits_separated (m ∷ ns) a.1))
 
 fits_digit : (p : Player) → fits (Number (digit_of p)) ≡ true
-fits_digit Even = refl
-fits_digit Odd = refl
+fits_digit x0 = search (rules)
 
 fits_lines : (g : Graph) (xs : List Vertex) → AllByRecursion (λ x. HasNumbers (λ n. n ≤ max_number) g x) xs
     → AllFit (flat_map games.game_line_tokens (map (λ x. line_of g x) xs))
@@ -316,8 +312,7 @@ written_game_spells g i w =
 
 fits_choice : (g : Graph) (c : Option ℕ) → IfSome c (λ w. id_of g w ≤ max_number)
     → AllFit (solutions.choice_tokens (option_map (λ w. id_of g w) c) ++ Semicolon ∷ [])
-fits_choice g None h = (refl, tt)
-fits_choice g (Some w) h = (fits_number (id_of g w) h, (refl, tt))
+fits_choice g x1 h = search (rules, fits_number)
 
 fits_rows : (g : Graph) (xs : List Vertex) (rows : SolutionRows) → AllByRecursion (λ x. x.id ≤ max_number) xs
     → AllByRecursion (HasChoice (λ n. n ≤ max_number) g) rows
