@@ -1,12 +1,12 @@
 -- A private reader goes on over a text, a token at a time.
-use Rattle.std.proofs.Common.{rules, arith}
-use Rattle.std.proofs.Common.{◌≡◌, ℕ, Bool, true, false, List, [], ◌∷◌, ◌++◌, subst}
+use Rattle.std.proofs.Common.{rules}
+use Rattle.std.proofs.Common.{◌≡◌, ℕ, Bool, true, false, List, [], ◌∷◌, ◌++◌}
 use Rattle.pg_text.specs.Token.{Token, Placed, tokens_of}
 use Rattle.pg_text.specs.Fault.{IsLexicalFault, IsSyntaxFault}
 use Rattle.pg_text.specs.private.FirstFault.{placed}
 use Rattle.pg_text.specs.private.Piece.{IsToken}
 use Rattle.pg_text.specs.private.Reach.{ReadsTo, SpellsRest, IsBadFrom}
-use Rattle.pg_text.specs.private.Advance.{Advances, FailsWith, TakenOr, TakesToken, IsUnexpected}
+use Rattle.pg_text.specs.private.Advance.{Advances, FailsWith, TakesToken, IsUnexpected}
 use Rattle.pg_text.proofs.Reach.{reaches_more, later_fault}
 use Rattle.pg_text.proofs.FirstFaults.{syntax_here}
 

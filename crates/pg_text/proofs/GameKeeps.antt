@@ -1,6 +1,6 @@
 -- What a reader of game texts knows of the tokens that it has read.
 use Rattle.std.proofs.Common.{rules}
-use Rattle.std.proofs.Common.{◌≡◌, ℕ, ◌<◌, true, false, List, [], ◌∷◌, ◌++◌, length, refl, sym, ◌∙◌, ap, subst, arith, Option, Some, None, map}
+use Rattle.std.proofs.Common.{◌≡◌, ℕ, ◌<◌, true, false, List, [], ◌∷◌, ◌++◌, length, refl, sym, ◌∙◌, ap, subst, arith, Option, Some, None}
 use Rattle.std.specs.Prelude.{codes, nat_lt}
 use Rattle.std.specs.Str.{bytes_eq}
 use Rattle.std.proofs.lemmas.Bool.{ltb-true, ltb-false}
@@ -16,7 +16,7 @@ use Rattle.pg_text.specs.Token.{Token, Number, Word, Name, Comma, Semicolon, Pla
 use Rattle.pg_text.specs.GameText.{WrittenGameLine, player_of, spec_of, IsBeforeOwner, IsGameText, BeginsGameText}
 use Rattle.pg_text.specs.Reading.{IsSomeGameText}
 use Rattle.pg_text.specs.Fault.{fits, AllFit, IsSyntaxFault, IsNumberFault, IsPlayerFault}
-use Rattle.pg_text.specs.private.FirstFault.{placed, first_at, FirstLarge, FirstPlayer}
+use Rattle.pg_text.specs.private.FirstFault.{placed, first_at, FirstLarge}
 use Rattle.pg_text.specs.private.GameKeeps.{Keeps, KeepsReader, Stops, SpellsSpecs}
 use Rattle.pg_text.specs.private.GameStates.{reader_state, is_complete, AreLines, HoldsRead}
 use Rattle.pg_text.proofs.FirstFaults.{all-push, IsTaken, taken_none, taken_large, first_large-fit, none_known, first_player-more}

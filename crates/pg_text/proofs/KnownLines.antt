@@ -1,13 +1,12 @@
 -- What the table of a game's vertices says that is known, and why it is not asked further.
 use Rattle.std.proofs.Common.{rules}
-use Rattle.std.proofs.Common.{◌≡◌, ℕ, ◌<◌, true, false, length, get_or, refl, sym, ◌∙◌, ap, subst, arith, List, Bool}
-use Rattle.std.specs.Prelude.{Option, Some, None, if◌then◌else◌, MatchResult, Result, Ok, Err, IfOk, IsErrAnd}
+use Rattle.std.proofs.Common.{◌≡◌, ℕ, ◌<◌, true, false, length, get_or, refl, sym, ◌∙◌, ap, arith, List, Bool}
+use Rattle.std.specs.Prelude.{Option, Some, None, if◌then◌else◌, MatchResult, Result, IfOk, IsErrAnd}
 use Rattle.std.proofs.lemmas.Option.{slice_get-get_or}
 use Rattle.pg_game.specs.declared.player.Player.TheVariants.{Even}
 use Rattle.pg_game.specs.Graph.{Graph}
 use Rattle.pg_game.specs.VertexSet.{members}
 use Rattle.pg_text.specs.declared.fault.SolutionTextFault.{SolutionTextFault}
-use Rattle.pg_text.specs.declared.fault.SolutionTextFault.TheVariants as fault
 use Rattle.pg_text.specs.declared.solution.Known.{Known}
 use Rattle.pg_text.specs.SolutionText.{WrittenSolutionLine}
 use Rattle.pg_text.specs.Solution.{SolutionRows}

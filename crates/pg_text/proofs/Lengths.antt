@@ -1,14 +1,13 @@
 -- How long written texts are, within the limits of games.
 use Rattle.std.proofs.Common.{rules}
 use Rattle.std.proofs.Common.{ℕ, ◌+◌, ◌*◌, ◌^◌, ◌<◌, ◌≤◌, List, [], ◌∷◌, ◌++◌, length, map, arith, lit<, length-append, decimal}
-use Rattle.std.specs.Prelude.{Option, Some, None, IfSome, codes, flat_map, sum_by}
+use Rattle.std.specs.Prelude.{Option, None, IfSome, codes, flat_map, sum_by}
 use Rattle.std.specs.List.{AllByRecursion, join_with_byte}
 use Rattle.std.proofs.Math.Nat.{mul-le-mul_right}
 use Rattle.std.proofs.lemmas.Fmt.{length-decimal-le_wide}
 use Rattle.std.proofs.lemmas.List.Concat.{flat_map-cons}
 use Rattle.std.proofs.lemmas.List.Sums.{sum_by-cons}
 use Rattle.pg_game.specs.declared.player.Player.{Player}
-use Rattle.pg_game.specs.declared.player.Player.TheVariants.{Even, Odd}
 use Rattle.pg_game.specs.Player.{digit_of}
 use Rattle.pg_game.specs.Graph.{Graph, Vertex, IsGame, id_of, no_vertex}
 use Rattle.pg_game.specs.Specification.{max_number, max_vertices}

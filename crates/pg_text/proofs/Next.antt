@@ -1,9 +1,9 @@
 -- The token at a place, from runs of bytes.
 use Rattle.std.proofs.Common.{rules}
 use Rattle.std.proofs.Common.{◌≡◌, ℕ, ◌+◌, ◌-◌, ◌<◌, ◌≤◌, zero, suc, Bool, true, false, List, [], ◌∷◌, ◌++◌, length, drop, take, get_or, refl, sym}
-use Rattle.std.proofs.Common.{◌∙◌, ap, subst, arith, inr, ◌⊎◌, append_assoc, length-append, length-drop}
+use Rattle.std.proofs.Common.{◌∙◌, ap, subst, arith, ◌⊎◌, append_assoc, length-append, length-drop}
 use Rattle.memchr.specs.Find.{IsFirstByte, is_byte}
-use Rattle.std.specs.Prelude.{not, ◌==◌, ◌≢◌, Some, None}
+use Rattle.std.specs.Prelude.{not, ◌≢◌, Some, None}
 use Rattle.std.proofs.lemmas.Bool.{eqb-true, ne_eqb, false_from_ne_true}
 use Rattle.std.proofs.lemmas.List.{take_all, drop_more, drop-drop, take-append-drop, length-take-le, take_at, drop_at}
 use Rattle.pg_text.specs.declared.lexer.Kind.{Kind}

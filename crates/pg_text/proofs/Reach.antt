@@ -3,8 +3,8 @@ use Rattle.std.proofs.Common.{rules}
 use Rattle.std.proofs.Common.{◌≡◌, ℕ, ◌+◌, Bool, List, [], ◌∷◌, ◌++◌, length, drop, refl, sym, ◌∙◌, ap, subst, arith, append_assoc, length-append}
 use Rattle.pg_text.specs.declared.lexer.Kind.{Kind}
 use Rattle.pg_text.specs.declared.lexer.Kind.TheVariants as kind
-use Rattle.pg_text.specs.Token.{Token, Number, Word, Name, Comma, Semicolon, IsWhole, Placed, Begins, Spells}
-use Rattle.pg_text.specs.Bytes.{is_blank, is_digit, is_letter, AllAre, EndsRun}
+use Rattle.pg_text.specs.Token.{Token, IsWhole, Placed, Begins, Spells}
+use Rattle.pg_text.specs.Bytes.{is_blank, AllAre, EndsRun}
 use Rattle.pg_text.specs.Fault.{IsLexicalFault}
 use Rattle.pg_text.specs.private.FirstFault.{placed}
 use Rattle.pg_text.specs.private.Piece.{IsToken, IsNoToken, IsPieceOf, IsNextPiece}

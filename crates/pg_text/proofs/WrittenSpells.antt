@@ -1,7 +1,7 @@
 -- The written text of a game or of a solution spells one text.
 use Rattle.std.proofs.Common.{rules}
 use Rattle.std.proofs.Common.{◌≡◌, ℕ, ◌+◌, ◌-◌, ◌%◌, ◌^◌, ◌<◌, ◌≤◌, suc, get_or, true, List, [], ◌∷◌, ◌++◌, length, map, refl, sym, ◌∙◌, ap, subst}
-use Rattle.std.proofs.Common.{arith, append_assoc, length-append, Option, Some, None, decimal, lit<}
+use Rattle.std.proofs.Common.{arith, append_assoc, length-append, Option, Some, None, decimal}
 use Rattle.std.specs.Prelude.{flat_map, codes, option_map, IfSome, ⊤}
 use Rattle.std.specs.List.{AllByRecursion, join_with_byte}
 use Rattle.std.proofs.lemmas.Bool.{le-leb}
@@ -11,7 +11,6 @@ use Rattle.std.proofs.lemmas.List.{length-map}
 use Rattle.pg_text.proofs.SolutionKeeps.{owner_small}
 use Rattle.pg_text.proofs.FirstFaults.{all-append}
 use Rattle.pg_game.specs.declared.player.Player.{Player}
-use Rattle.pg_game.specs.declared.player.Player.TheVariants.{Even, Odd}
 use Rattle.pg_game.specs.Player.{digit_of}
 use Rattle.pg_game.specs.Graph.{Graph, Vertex, id_of, priority_of, owner_of, IsGame, no_vertex, successors_of}
 use Rattle.pg_text.specs.Token.{Token, Number, Word, Comma, Semicolon, IsSpelling, IsWhole, Placed, tokens_of, Begins, Spells}

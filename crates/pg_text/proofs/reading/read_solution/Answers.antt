@@ -1,11 +1,9 @@
 use Rattle.std.proofs.Common.{rules}
-use Rattle.std.proofs.Common.{ℕ, List, map, sym, subst}
+use Rattle.std.proofs.Common.{ℕ, List}
 use Rattle.std.specs.Prelude.{Result, Ok, Err, MatchResult, IfOk}
 use Rattle.pg_game.specs.Graph.{Graph}
 use Rattle.pg_text.specs.declared.fault.SolutionTextFault.{SolutionTextFault}
 use Rattle.pg_text.specs.declared.solution.Solution.{Solution}
-use Rattle.pg_text.specs.declared.solution_reader.SolutionLine.{SolutionLine}
-use Rattle.pg_text.specs.private.SolutionKeeps.{line_of}
 use Rattle.pg_text.specs.SolutionText as solutions
 use Rattle.pg_text.specs.SolutionLines.{AreLinesOf}
 use Rattle.pg_text.specs.Reading.{SpellsSolution, IsSolutionTextOf}

@@ -1,8 +1,4 @@
 use Rattle.std.proofs.Common.{rules}
-use Rattle.std.proofs.Common.{map}
-use Rattle.pg_text.specs.private.SolutionKeeps.{line_of}
-use Rattle.pg_text.specs.private.SolutionTable.{IsKnownRowFaultOf}
-use Rattle.pg_text.specs.Known.{AreKnownLinesOf}
 use Rattle.pg_text.proofs.KnownLines.{passed_on, known_fault, known_size}
 use Rattle.pg_text.proofs.solution_rows.known_of.Goals as goal
 

@@ -1,8 +1,4 @@
 use Rattle.std.proofs.Common.{rules}
-use Rattle.std.proofs.Common.{map}
-use Rattle.pg_text.specs.private.SolutionKeeps.{line_of}
-use Rattle.pg_text.specs.private.SolutionTable.{IsRowFaultOf}
-use Rattle.pg_text.specs.SolutionLines.{AreLinesOf}
 use Rattle.pg_text.proofs.KnownLines.{passed_on, row_fault}
 use Rattle.pg_text.proofs.RowsFit.{fit_answer}
 use Rattle.pg_text.proofs.solution_rows.rows_of.Goals as goal

@@ -1,8 +1,7 @@
 use Rattle.std.proofs.Common.{rules}
-use Rattle.std.proofs.Common.{List, map, sym, subst}
-use Rattle.pg_text.specs.SolutionText.{WrittenSolutionLine}
+use Rattle.std.proofs.Common.{map}
 use Rattle.pg_text.specs.private.SolutionKeeps.{line_of}
-use Rattle.pg_text.specs.private.SolutionTable.{HoldsLines, HoldsTable, IsLookUpFaultOf}
+use Rattle.pg_text.specs.private.SolutionTable.{HoldsTable, IsLookUpFaultOf}
 use Rattle.pg_text.proofs.SolutionTable.{next_line, is_stranger}
 use Rattle.pg_text.proofs.KnownLines.{passed_on}
 use Rattle.pg_text.proofs.solution_rows.table_of.Goals as goal

@@ -1,7 +1,5 @@
 use Rattle.std.proofs.lemmas.Grind.{common_steps}
-use Rattle.std.proofs.Common.{ap, drop, length, List, ℕ, arith, length-append}
-use Rattle.std.specs.Prelude.{flat_map}
-use Rattle.pg_text.specs.Written.{written_vertex}
+use Rattle.std.proofs.Common.{arith, length-append}
 use Rattle.pg_text.proofs.Lengths.{short_game}
 use Rattle.pg_text.proofs.writing.write_game.Goals as goal
 

@@ -1,13 +1,12 @@
 use Rattle.std.proofs.Common.{rules}
 use Rattle.std.proofs.lemmas.Grind.{common_steps}
-use Rattle.std.proofs.Common.{◌≡◌, ℕ, ◌+◌, ◌<◌, List, [], ◌∷◌, ◌++◌, length, drop, get_or, sym, ◌∙◌, ap, subst, arith, append_assoc, length-append}
-use Rattle.std.specs.Prelude.{None, IfSome, codes, decimal}
+use Rattle.std.proofs.Common.{◌≡◌, ℕ, ◌+◌, ◌<◌, List, [], ◌∷◌, ◌++◌, length, drop, get_or, arith, append_assoc, length-append}
+use Rattle.std.specs.Prelude.{None}
 use Rattle.std.proofs.lemmas.List.{drop_more}
 use Rattle.pg_game.specs.declared.player.Player.TheVariants.{Even}
-use Rattle.pg_game.specs.Graph.{Graph, Vertex, vertex_at, no_vertex}
-use Rattle.pg_game.specs.Player.{digit_of}
-use Rattle.pg_text.specs.Solution.{SolutionRows, AreSolutionRows}
-use Rattle.pg_text.specs.Written.{written_choice, written_rows}
+use Rattle.pg_game.specs.Graph.{Graph, vertex_at}
+use Rattle.pg_text.specs.Solution.{SolutionRows}
+use Rattle.pg_text.specs.Written.{written_rows}
 use Rattle.pg_text.proofs.WrittenReads.{all_at}
 use Rattle.pg_text.proofs.Lengths.{short_solution}
 use Rattle.pg_text.proofs.writing.write_solution.Goals as goal

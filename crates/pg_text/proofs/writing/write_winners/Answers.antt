@@ -1,6 +1,5 @@
 use Rattle.std.proofs.lemmas.Grind.{common_steps}
-use Rattle.std.proofs.Common.{ap, drop, length, map, List, ℕ, arith, length-append, None}
-use Rattle.pg_text.specs.Written.{written_rows}
+use Rattle.std.proofs.Common.{arith, length-append}
 use Rattle.pg_text.proofs.Lengths.{short_winners}
 use Rattle.pg_text.proofs.writing.write_winners.Goals as goal
 

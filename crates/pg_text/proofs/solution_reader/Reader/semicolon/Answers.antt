@@ -1,8 +1,5 @@
-use Rattle.std.proofs.Common.{◌≡◌, ◌++◌, ◌∷◌, [], map, ap, ◌∙◌, Some, None, rules}
+use Rattle.std.proofs.Common.{rules}
 use Rattle.std.proofs.lemmas.List.{map-append}
-use Rattle.pg_game.specs.Player.{digit_of}
-use Rattle.pg_text.specs.private.SolutionKeeps.{line_of}
-use Rattle.pg_text.specs.private.SolutionRun.{line}
 use Rattle.pg_text.proofs.SolutionKeeps.{semicolon_head_number, semicolon_winner, semicolon_choice, semicolon_stops}
 use Rattle.pg_text.proofs.solution_reader.Reader.semicolon.Goals as goal
 

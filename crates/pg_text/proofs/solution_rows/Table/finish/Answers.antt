@@ -1,7 +1,4 @@
-use Rattle.std.proofs.Common.{◌≡◌, ◌<◌, false, rules, length, sym, subst, arith}
-use Rattle.std.specs.Prelude.{Some, None}
-use Rattle.pg_game.specs.VertexSet.{members}
-use Rattle.pg_text.specs.SolutionLines.{AreLinesOf, first_stranger, first_missing, first_twice}
+use Rattle.std.proofs.Common.{rules}
 use Rattle.pg_text.proofs.SolutionTable.{is_missing, say_rows}
 use Rattle.pg_text.proofs.solution_rows.Table.finish.Goals as goal
 
