@@ -16,7 +16,7 @@ use Rattle.pg_text.proofs.Runs.{all-append}
 -- a run whose first byte passes has a byte
 run_nonempty : (test : ℕ → Bool) (text : List ℕ) (from to : ℕ) (run : List ℕ) → IsRun test text from to run → from < length text
     → test (get_or text from 0) ≡ true → EndsRun test (drop to text) → 0 < length run
-run_nonempty test text from to x4 r h p e = search (rules, get_or, drop_more)
+run_nonempty test text from to x4 r h p e = search (rules, drop_more)
 
 module _ (text : List ℕ) (from : ℕ) (inside : from < length text) where
   -- a body that begins here is a token
@@ -65,7 +65,7 @@ plain_all hay none = subst (AllAre is_no_quote) (take_all (length hay) hay (omeg
 -- the bytes up to the first quote
 pub quote_split : (text : List ℕ) (start k : ℕ) → k < length (drop start text) → is_quote (get_or (drop start text) k 0) ≡ true
     → drop start text ≡ take k (drop start text) ++ 34 ∷ drop (start + k + 1) text
-quote_split text start k h q = search (rules, drop_more, eqb-true, get_or, drop-drop, take-append-drop)
+quote_split text start k h q = search (rules, drop_more, eqb-true, drop-drop, take-append-drop)
 
 -- a token behind blanks
 pub token_past : (text : List ℕ) (at from end to : ℕ) (run : List ℕ) (t : Token) → IsRun is_blank text at from run → IsToken text from end to t

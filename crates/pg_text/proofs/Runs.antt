@@ -15,7 +15,7 @@ all-append test (x ∷ xs) ys a b = (a.0, all-append test xs ys a.1 b)
 
 pub run_more : (test : ℕ → Bool) (text : List ℕ) (from to : ℕ) (run : List ℕ) → IsRun test text from to run → to < length text
     → test (get_or text to 0) ≡ true → IsRun test text from (to + 1) (run ++ get_or text to 0 ∷ [])
-run_more test text from to run r h p = search (rules, r.split, drop_more, append_assoc, get_or, all-append, r.passes, r.end, length-append)
+run_more test text from to run r h p = search (rules, r.split, drop_more, append_assoc, all-append, r.passes, r.end, length-append)
 
 pub fold-push : (ds : List ℕ) (n d : ℕ) → fold (λ n d. 10 * n + (d - 48)) n (ds ++ d ∷ []) ≡ 10 * fold (λ n d. 10 * n + (d - 48)) n ds + (d - 48)
 fold-push [] n d = refl
@@ -33,11 +33,11 @@ pub record Counts (value n : ℕ) : Type 0 where
 -- one more digit, where the value so far is within the limit
 pub counts_more : (value d n : ℕ) (ds : List ℕ) → Counts value (value_of ds) → value ≤ 2147483647 → d < 256 → n ≡ d - 48
     → Counts (value * 10 + n) (value_of (ds ++ d ∷ []))
-counts_more value d n ds c h b e = search (rules, cases_lt, c.small, c.large, value-push)
+counts_more value d n ds c h b e = search (rules, cases_lt, value-push)
 
 -- and where it is above
 pub counts_same : (value d : ℕ) (ds : List ℕ) → Counts value (value_of ds) → 2147483647 < value → Counts value (value_of (ds ++ d ∷ []))
-counts_same value d ds c h = search (rules, cases_lt, c.small, value-push, c.bound)
+counts_same value d ds c h = search (rules, cases_lt, value-push)
 
 -- digits of a number with so few of them
 pub digits_more : (value k d n : ℕ) (ds : List ℕ) → value < 10 ^ k → value ≡ value_of ds → is_digit d ≡ true → n ≡ d - 48

@@ -45,14 +45,14 @@ any-ids (l ∷ lines) n = ap (λ b. (l.id == n) || b) (any-ids lines n)
 -- one more line: which identifier has two first
 pub twice-push : (lines : List WrittenSolutionLine) (l : WrittenSolutionLine)
     → first_twice (lines ++ l ∷ []) ≡ option_or (first_twice lines) (if has_line lines l.id then Some l.id else None)
-twice-push lines l = search (rules, map-append, repeated-push, l.id, any-ids)
+twice-push lines l = search (rules, map-append, repeated-push, any-ids)
 
 pub has_line-push : (lines : List WrittenSolutionLine) (l : WrittenSolutionLine) (id : ℕ) → has_line (lines ++ l ∷ []) id ≡ (has_line lines id || (l.id == id))
 has_line-push lines l id = list_any-append (λ x. x.id == id) lines (l ∷ []) ∙ ap (λ b. has_line lines id || b) (or-false (l.id == id))
 
 -- a line is found by its identifier
 pub has_line_at : (lines : List WrittenSolutionLine) (l : WrittenSolutionLine) → Contains lines l → has_line lines l.id ≡ true
-has_line_at lines l (k, h, e) = search (rules, list_any_at, l.id, eq-eqb)
+has_line_at lines l (k, h, e) = search (rules, list_any_at, eq-eqb)
 
 module _ {g : Graph} {lines : List WrittenSolutionLine} {rows : SolutionRows} {said : List Bool} {twice : Option ℕ} (h : HoldsLines g lines rows said twice)
     (l : WrittenSolutionLine) (v : ℕ) (n : IsNamed g l.id v) (home : first_stranger g (l ∷ []) ≡ None) where
@@ -72,7 +72,7 @@ module _ {g : Graph} {lines : List WrittenSolutionLine} {rows : SolutionRows} {s
 
   -- a line of a vertex that has one already
   pub holds_again : members said v ≡ true → HoldsLines g (lines ++ l ∷ []) rows said (option_or twice (Some l.id))
-  holds_again t = search (rules, l.id, mark_is, h.game, h.size, h.marks, still_none, h.first, twice-push, h.marked, has_line-push, eqb-true, or-false)
+  holds_again t = search (rules, mark_is, h.game, h.size, h.marks, still_none, h.first, twice-push, h.marked, has_line-push, eqb-true, or-false)
 
   -- the first line of a vertex
   pub holds_more : members said v ≡ false → HoldsLines g (lines ++ l ∷ []) (set rows v (row_of_line g l)) (set said v true) twice

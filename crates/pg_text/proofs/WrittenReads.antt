@@ -113,7 +113,7 @@ none_home g (l ∷ lines) a = let h = a.0 in let t = none_home g lines a.1 in st
 
 module _ (g : Graph) (rows : SolutionRows) (i : IsGame g) (are : AreSolutionRows g rows) where
   choice_at : (v : ℕ) → v < length g → IsChoice g (option_map (λ w. id_of g w) (get_or rows v no_row).1) (get_or rows v no_row).1
-  choice_at v l = search (rules, choice_named, get_or, no_row, are.size, all_at, are.choices)
+  choice_at v l = search (rules, choice_named, no_row, are.size, all_at, are.choices)
 
   named : (v : ℕ) → v < length g → IsNamed g (id_of g v) v
   named v l = record { vertex = l; id_is = refl }
@@ -149,7 +149,7 @@ module _ (g : Graph) (rows : SolutionRows) (i : IsGame g) (are : AreSolutionRows
   row_back v l = row_is g (id_of g v) (get_or rows v no_row).0 (option_map (λ w. id_of g w) (get_or rows v no_row).1) (get_or rows v no_row).1 i (choice_at v l)
 
   says : AreRowsOf g (row_lines g g rows) rows
-  says = search (rules, are.size, length-row_lines, row_line, get_or, no_row, stands_at, number_at, named, slice_get-get_or, row_back)
+  says = search (rules, are.size, length-row_lines, row_line, no_row, stands_at, number_at, named, slice_get-get_or, row_back)
 
   no_others : (others : SolutionRows) → AreRowsOf g (row_lines g g rows) others → others ≡ rows
   no_others others o = same_lists others rows (o.size ∙ sym are.size) (λ k d l.

@@ -1,17 +1,19 @@
 use Rattle.std.proofs.Common.{rules}
-use Rattle.std.proofs.Common.{get_or}
+use Rattle.std.proofs.Common.{◌∙◌, sym, get_or, inl}
 use Rattle.std.proofs.lemmas.Slice.{between_to_end}
 use Rattle.pg_text.proofs.Next.{name_found, name_lost, word_at, nothing_at, begins_none}
 use Rattle.pg_text.proofs.lexer.word_or_name.Goals as goal
 
 pub returns-in-Some-clause-token : goal.returns-in-Some-clause-token
-returns-in-Some-clause-token c = search (rules, name_found, c.args.text.now, c.args.from, c.in-Some.more, c.requires.inside, c.if-first-eq34.true, between_to_end, c.in-Some.ensures)
+returns-in-Some-clause-token c = search (rules, name_found, c.requires.inside, c.if-first-eq34.true, between_to_end, c.in-Some.ensures)
 
 pub returns-in-None-clause-token : goal.returns-in-None-clause-token
-returns-in-None-clause-token c = search (rules, name_lost, c.args.text.now, c.args.from, c.requires.inside, c.if-first-eq34.true, between_to_end, c.in-None.ensures)
+returns-in-None-clause-token c = search (rules, name_lost, c.requires.inside, c.if-first-eq34.true, between_to_end, c.in-None.ensures)
 
 pub returns-then-letter-clause-token : goal.returns-then-letter-clause-token
-returns-then-letter-clause-token c = search (rules, c.letters_end.ensures.run, word_at, c.args.text.now, c.args.from, c.requires.inside, c.letters_end.result, c.letter.ensures, c.if-letter.true, c.letters_end.ensures.ends)
+returns-then-letter-clause-token c = search (rules, c.letters_end.ensures.run, word_at, c.requires.inside, c.letter.ensures, c.if-letter.true, c.letters_end.ensures.ends)
 
 pub returns-clause-token : goal.returns-clause-token
-returns-clause-token c = search (rules, nothing_at, c.args.text.now, c.args.from, c.requires.inside, c.requires.solid, begins_none, get_or, c.requires.no_digit, c.letter.ensures, c.if-letter.false, c.if-first-eq34.false, c.requires.no_comma, c.requires.no_semicolon)
+returns-clause-token c = nothing_at c.args.text.now c.args.from c.requires.inside c.requires.solid
+    (inl (begins_none (get_or c.args.text.now c.args.from 0) c.requires.no_digit
+    (sym c.letter.ensures ∙ c.if-letter.false) c.if-first-eq34.false c.requires.no_comma c.requires.no_semicolon))

@@ -16,4 +16,4 @@ rows_read g text lines F (Ok s) spelled says = record { lines = lines; spelled =
 rows_read g text lines F (Err e) spelled says = tt
 
 pub returns-clause-rows : goal.returns-clause-rows
-returns-clause-rows c = search (rules, c.args.text.now, c.as_slice.result.now, c.as_slice.ensures.value, c.in_ok-lines.ensures, rows_read, c.rows_of.result, c.rows_of.ensures.rows)
+returns-clause-rows c = search (rules, c.as_slice.ensures.value, c.in_ok-lines.ensures, rows_read, c.rows_of.ensures.rows)

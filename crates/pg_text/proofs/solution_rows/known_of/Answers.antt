@@ -3,7 +3,7 @@ use Rattle.pg_text.proofs.KnownLines.{passed_on, known_fault, known_size}
 use Rattle.pg_text.proofs.solution_rows.known_of.Goals as goal
 
 pub returns-in_err-table_of-clause-rows : goal.returns-in_err-table_of-clause-rows
-returns-in_err-table_of-clause-rows c = search (rules, c.args.game.now, c.args.lines.now, passed_on, c.from_residual.result, known_fault, c.in_err-table_of.ensures)
+returns-in_err-table_of-clause-rows c = search (rules, passed_on, known_fault, c.in_err-table_of.ensures)
 
 pub returns-clause-size : goal.returns-clause-size
 returns-clause-size c = let h = c.in_ok-table_of.ensures in known_size c.args.game.now _ c.known.result _ (c.known.ensures _ h)

@@ -15,4 +15,4 @@ either g id None found missing = (refl, not_named g id missing)
 either g id (Some v) (l, e) missing = record { vertex = l; id_is = e }
 
 pub returns : goal.returns
-returns c = search (rules, c.args.game.now, c.args.id, c.ok_or.ensures.value, either, c.vertex_of.result, c.vertex_of.ensures.found, c.vertex_of.ensures.missing)
+returns c = search (rules, c.ok_or.ensures.value, either, c.vertex_of.ensures.found, c.vertex_of.ensures.missing)

@@ -1,7 +1,7 @@
-use Rattle.std.proofs.Common.{rules}
-use Rattle.std.proofs.Common.{map}
+use Rattle.std.proofs.Common.{List, map, sym, subst}
+use Rattle.pg_text.specs.SolutionText.{WrittenSolutionLine}
 use Rattle.pg_text.specs.private.SolutionKeeps.{line_of}
-use Rattle.pg_text.specs.private.SolutionTable.{HoldsTable, IsLookUpFaultOf}
+use Rattle.pg_text.specs.private.SolutionTable.{HoldsLines, HoldsTable, IsLookUpFaultOf}
 use Rattle.pg_text.proofs.SolutionTable.{next_line, is_stranger}
 use Rattle.pg_text.proofs.KnownLines.{passed_on}
 use Rattle.pg_text.proofs.solution_rows.table_of.Goals as goal
@@ -17,4 +17,8 @@ returns-in_err-take c =
     (λ e. IsLookUpFaultOf g (map line_of ls) e) c.from_residual-in_err-take.ensures.1 k
 
 pub lines-preserved : goal.lines-preserved
-lines-preserved c = search (rules, c.args.game.now, c.take.new.self, c.take.new.self.rows.items, c.take.new.self.said, c.take.new.self.twice, next_line, c.args.lines.now, c.lines.line-index, c.lines-test.true, c.in_ok-take.ensures, c.lines.invariant)
+lines-preserved c =
+    let g = c.args.game.now in
+    let t = c.take.new.self in
+    subst (λ (lines : List WrittenSolutionLine). HoldsLines g lines t.rows.items t.said t.twice)
+    (sym (next_line c.args.lines.now c.lines.line-index _ c.lines-test.true)) (c.in_ok-take.ensures _ c.lines.invariant)

@@ -1,12 +1,11 @@
-use Rattle.std.proofs.Common.{rules}
-use Rattle.std.proofs.lemmas.Grind.{common_steps}
-use Rattle.std.proofs.Common.{◌≡◌, ℕ, ◌+◌, ◌<◌, List, [], ◌∷◌, ◌++◌, length, drop, get_or, arith, append_assoc, length-append}
-use Rattle.std.specs.Prelude.{None}
+use Rattle.std.proofs.Common.{◌≡◌, ℕ, ◌+◌, ◌<◌, List, [], ◌∷◌, ◌++◌, length, drop, get_or, sym, ◌∙◌, ap, subst, arith, append_assoc, length-append}
+use Rattle.std.specs.Prelude.{None, IfSome, codes, decimal}
 use Rattle.std.proofs.lemmas.List.{drop_more}
 use Rattle.pg_game.specs.declared.player.Player.TheVariants.{Even}
-use Rattle.pg_game.specs.Graph.{Graph, vertex_at}
-use Rattle.pg_text.specs.Solution.{SolutionRows}
-use Rattle.pg_text.specs.Written.{written_rows}
+use Rattle.pg_game.specs.Graph.{Graph, Vertex, vertex_at, no_vertex}
+use Rattle.pg_game.specs.Player.{digit_of}
+use Rattle.pg_text.specs.Solution.{SolutionRows, AreSolutionRows}
+use Rattle.pg_text.specs.Written.{written_choice, written_rows}
 use Rattle.pg_text.proofs.WrittenReads.{all_at}
 use Rattle.pg_text.proofs.Lengths.{short_solution}
 use Rattle.pg_text.proofs.writing.write_solution.Goals as goal
@@ -18,13 +17,40 @@ regroup a b c d rest = simp append_assoc
 row_more : (g : Graph) (rows : SolutionRows) (v : ℕ) → length rows ≡ length g → v < length g
     → written_rows g (drop v g) (drop v rows) ≡ written_rows g (vertex_at g v ∷ []) (get_or rows v (Even, None) ∷ [])
     ++ written_rows g (drop (v + 1) g) (drop (v + 1) rows)
-row_more g rows v e l = grind (arith, common_steps, get_or, drop_more, regroup)
+row_more g rows v e l =
+    let x = vertex_at g v in
+    let r = get_or rows v (Even, None) in
+    let a : drop v g ≡ x ∷ drop (v + 1) g = drop_more g v no_vertex l in
+    let b : drop v rows ≡ r ∷ drop (v + 1) rows = drop_more rows v (Even, None) (omega arith) in
+    ap (λ (xs : List Vertex). written_rows g xs (drop v rows)) a
+    ∙ (ap (λ (rs : SolutionRows). written_rows g (x ∷ drop (v + 1) g) rs) b
+    ∙ regroup (decimal x.id) (decimal (digit_of r.0)) (written_choice g r.1) (codes ";\n") (written_rows g (drop (v + 1) g) (drop (v + 1) rows)))
 
 pub put_row-requires-clause-choice : goal.put_row-requires-clause-choice
-put_row-requires-clause-choice c = search (rules, c.args.game.now, c.requires.size, c.rows.v, c.args.solution.now.rows, get_or, c.as_slice-rows.ensures, all_at, c.requires.choices)
+put_row-requires-clause-choice c =
+    let g = c.args.game.now in
+    let n = c.requires.size in
+    let l : c.rows.v < length c.args.solution.now.rows = omega arith in
+    subst (λ (rows : SolutionRows). IfSome (get_or rows c.rows.v (Even, None)).1 (λ w. w < length g)) (sym c.as_slice-rows.ensures)
+    (all_at (λ r. IfSome r.1 (λ w. w < length g)) c.args.solution.now.rows c.rows.v (Even, None) c.requires.choices l)
 
 pub rows-preserved : goal.rows-preserved
-rows-preserved c = search (rules, c.args.game.now, c.as_slice-rows.result.now, c.as_slice-rows.ensures, c.requires.size, c.rows.v, get_or, c.in_ok-put_row.ensures, append_assoc, c.rows.out.items, row_more, c.rows.invariant)
+rows-preserved c =
+    let g = c.args.game.now in
+    let rows = c.as_slice-rows.result.now in
+    let n : length rows ≡ length g = ap (λ (rs : SolutionRows). length rs) c.as_slice-rows.ensures ∙ c.requires.size in
+    let l : c.rows.v < length g = omega arith in
+    let rest : List ℕ = written_rows g (drop (c.rows.v + 1) g) (drop (c.rows.v + 1) rows) in
+    let one : List ℕ = written_rows g (vertex_at g c.rows.v ∷ []) (get_or rows c.rows.v (Even, None) ∷ []) in
+    ap (λ (xs : List ℕ). xs ++ rest) c.in_ok-put_row.ensures
+    ∙ (append_assoc c.rows.out.items one rest ∙ (ap (λ (xs : List ℕ). c.rows.out.items ++ xs) (sym (row_more g rows c.rows.v n l)) ∙ c.rows.invariant))
 
 pub returns-clause-short : goal.returns-clause-short
-returns-clause-short c = grind (arith, common_steps, c.args.game.now, c.as_slice-rows.result.now, c.rows.v, c.rows.invariant, length-append, c.rows.out.items, c.as_slice-rows.ensures, c.requires, short_solution, c.len-v-end.ensures.game, c.len-v-end.ensures.limits)
+returns-clause-short c =
+    let g = c.args.game.now in
+    let rows = c.as_slice-rows.result.now in
+    let rest : List ℕ = written_rows g (drop c.rows.v g) (drop c.rows.v rows) in
+    let all = ap (λ (text : List ℕ). length text) c.rows.invariant in
+    let parts = length-append c.rows.out.items rest in
+    let are : AreSolutionRows g rows = subst (AreSolutionRows g) (sym c.as_slice-rows.ensures) c.requires in
+    omega (arith, short_solution g c.len-v-end.ensures.game c.len-v-end.ensures.limits rows are)

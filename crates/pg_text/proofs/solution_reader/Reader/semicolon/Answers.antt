@@ -7,10 +7,10 @@ pub returns-in-HeadNumber-clause-taken : goal.returns-in-HeadNumber-clause-taken
 returns-in-HeadNumber-clause-taken c place ts k = semicolon_head_number k c.in-HeadNumber.is place
 
 pub returns-in_ok-push-in-Winner-clause-taken : goal.returns-in_ok-push-in-Winner-clause-taken
-returns-in_ok-push-in-Winner-clause-taken c place ts k = search (rules, c.args.self.now, c.push.new.self.items, c.args.self.now.lines.items, c.args.self.now.id, c.args.self.now.winner, map-append, semicolon_winner, c.in-Winner.is)
+returns-in_ok-push-in-Winner-clause-taken c place ts k = search (rules, map-append, semicolon_winner, c.in-Winner.is)
 
 pub returns-in_ok-push-in-Choice-clause-taken : goal.returns-in_ok-push-in-Choice-clause-taken
-returns-in_ok-push-in-Choice-clause-taken c place ts k = search (rules, c.args.self.now, c.push-in-Choice.new.self.items, c.args.self.now.lines.items, c.args.self.now.id, c.args.self.now.winner, c.args.self.now.choice, map-append, semicolon_choice, c.in-Choice.is)
+returns-in_ok-push-in-Choice-clause-taken c place ts k = search (rules, map-append, semicolon_choice, c.in-Choice.is)
 
 pub returns-in_default-clause-taken : goal.returns-in_default-clause-taken
 returns-in_default-clause-taken c place ts k = semicolon_stops k c.in_default.not-HeadNumber c.in_default.not-Winner c.in_default.not-Choice

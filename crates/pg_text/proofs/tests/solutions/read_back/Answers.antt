@@ -24,7 +24,11 @@ no_fault g rows text (Ok s) i w are e f = tt
 no_fault g rows text (Err x) i w are e f = search (rules, solution_text_or_fault, written_solution_is_text)
 
 pub returns-clause-same : goal.returns-clause-same
-returns-clause-same c = search (rules, same_rows, c.args.game.now, c.args.solution.now.rows, c.read_solution.result, c.len-n.ensures.game, c.len-n.ensures.limits, c.requires, c.as_slice.ensures.value, c.in_ok-text.ensures.text, c.read_solution.ensures.rows)
+returns-clause-same c =
+    same_rows c.args.game.now c.args.solution.now.rows _ c.read_solution.result c.len-n.ensures.game c.len-n.ensures.limits c.requires
+    (c.as_slice.ensures.value ∙ c.in_ok-text.ensures.text) c.read_solution.ensures.rows
 
 pub returns-clause-fault : goal.returns-clause-fault
-returns-clause-fault c = search (rules, no_fault, c.args.game.now, c.args.solution.now.rows, c.read_solution.result, c.len-n.ensures.game, c.len-n.ensures.limits, c.requires, c.as_slice.ensures.value, c.in_ok-text.ensures.text, c.read_solution.ensures.fault)
+returns-clause-fault c =
+    no_fault c.args.game.now c.args.solution.now.rows _ c.read_solution.result c.len-n.ensures.game c.len-n.ensures.limits c.requires
+    (c.as_slice.ensures.value ∙ c.in_ok-text.ensures.text) c.read_solution.ensures.fault
