@@ -27,4 +27,5 @@ none_mask n v = (has_none (λ u. false) n).above v (omega arith)
 
 -- a vertex is taken out of a mask
 pub members-unset : (mask : List Bool) (v : ℕ) → (w : ℕ) → members (slice_set mask v false) w ≡ (members mask w && not (v == w))
-members-unset mask v w = search (rules, cases_Bool, and-false, eqb-true, and-true, get_or-set_other, no_both, eq-eqb, cases_lt, get_or-set_same, members_past, length-set)
+members-unset mask v w =
+    search (rules, cases_Bool, and-false, eqb-true, and-true, get_or-set_other, no_both, eq-eqb, cases_lt, get_or-set_same, members_past, length-set)

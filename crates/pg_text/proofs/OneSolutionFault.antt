@@ -173,4 +173,5 @@ stage_below : (e : SolutionTextFault) → stage e < 7
 stage_below x0 = search (rules)
 
 pub solution_text_or_fault : SolutionTextOrFault
-solution_text_or_fault g text rows e t b = search (rules, t.lines, t.spelled, t.says.no_stranger, t.says.once, t.says.complete, no_fault, before, passed, stopped, stage_below)
+solution_text_or_fault g text rows e t b =
+    search (rules, t.lines, t.spelled, t.says.no_stranger, t.says.once, t.says.complete, no_fault, before, passed, stopped, stage_below)

@@ -122,7 +122,8 @@ spells_further {rest = rest} {ts = ts} (n ∷ ns) a s w =
 spells_list : {rest : List ℕ} {ts : List Token} (ns : List ℕ) → 0 < length ns → AreSmall ns → SpellsTokens rest ts → EndsRun is_digit rest
     → SpellsTokens (join_with_byte 44 (map decimal ns) ++ rest) (separated ns ++ ts)
 spells_list [] h a s w = absurd (omega arith)
-spells_list {rest = rest} {ts = ts} (n ∷ ns) h a s w = search (rules, join_first, append_assoc, further, separated-first, spells_number, spells_further, list_ends)
+spells_list {rest = rest} {ts = ts} (n ∷ ns) h a s w =
+    search (rules, join_first, append_assoc, further, separated-first, spells_number, spells_further, list_ends)
 
 -- the line that the written text has for a vertex
 abbrev pub line_of : Graph → Vertex → games.WrittenGameLine

@@ -11,7 +11,8 @@ pub returns-in-None-clause-token : goal.returns-in-None-clause-token
 returns-in-None-clause-token c = search (rules, name_lost, c.requires.inside, c.if-first-eq34.true, between_to_end, c.in-None.ensures)
 
 pub returns-then-letter-clause-token : goal.returns-then-letter-clause-token
-returns-then-letter-clause-token c = search (rules, c.letters_end.ensures.run, word_at, c.requires.inside, c.letter.ensures, c.if-letter.true, c.letters_end.ensures.ends)
+returns-then-letter-clause-token c =
+    search (rules, c.letters_end.ensures.run, word_at, c.requires.inside, c.letter.ensures, c.if-letter.true, c.letters_end.ensures.ends)
 
 pub returns-clause-token : goal.returns-clause-token
 returns-clause-token c = nothing_at c.args.text.now c.args.from c.requires.inside c.requires.solid

@@ -22,7 +22,27 @@ no_fault g text (Ok h) i w e f = tt
 no_fault g text (Err x) i w e f = text_or_fault (written_game g) g x (written_game_is_text g i w) (subst (λ t. IsFaultOf t x) e f)
 
 pub returns-clause-same : goal.returns-clause-same
-returns-clause-same c = search (rules, same_game, c.read_game.result, c.len-n.ensures.game, c.len-n.ensures.limits, c.as_slice.ensures.value, c.in_ok-text.ensures.text, c.read_game.ensures.game)
+returns-clause-same c =
+    search (
+      rules,
+      same_game,
+      c.read_game.result,
+      c.len-n.ensures.game,
+      c.len-n.ensures.limits,
+      c.as_slice.ensures.value,
+      c.in_ok-text.ensures.text,
+      c.read_game.ensures.game,
+    )
 
 pub returns-clause-fault : goal.returns-clause-fault
-returns-clause-fault c = search (rules, no_fault, c.read_game.result, c.len-n.ensures.game, c.len-n.ensures.limits, c.as_slice.ensures.value, c.in_ok-text.ensures.text, c.read_game.ensures.fault)
+returns-clause-fault c =
+    search (
+      rules,
+      no_fault,
+      c.read_game.result,
+      c.len-n.ensures.game,
+      c.len-n.ensures.limits,
+      c.as_slice.ensures.value,
+      c.in_ok-text.ensures.text,
+      c.read_game.ensures.fault,
+    )
