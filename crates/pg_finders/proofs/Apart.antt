@@ -1,5 +1,6 @@
 -- Rows by place: what stands there, and what they name.
-use Rattle.std.proofs.Common.{◌≡◌, ◌≢◌, ℕ, zero, suc, ◌+◌, ◌<◌, ◌≤◌, Bool, true, false, ◌||◌, inl, inr, [], ◌∷◌, length, take, set, get_or, refl, sym}
+use Rattle.std.proofs.Common.{rules}
+use Rattle.std.proofs.Common.{◌≡◌, ◌≢◌, ℕ, zero, suc, ◌+◌, ◌<◌, ◌≤◌, true, false, ◌||◌, inl, inr, [], ◌∷◌, length, take, set, get_or, refl, sym}
 use Rattle.std.proofs.Common.{◌∙◌, ap, arith}
 use Rattle.std.specs.Prelude.{Option, ◌==◌}
 use Rattle.std.proofs.lemmas.Bool.{eqb-true, eq-eqb, cases_Bool}
@@ -29,11 +30,7 @@ pub named_more : (rows : ClaimRows) (at v : ℕ) → at < length rows → named 
 named_more rows at v l = list_any_more (λ (r : ℕ × Option ℕ). r.0 == v) rows at no_row l
 
 pub differ : (x v : ℕ) → x ≢ v → (x == v) ≡ false
-differ x v n = go (x == v) refl
-  where
-    go : (b : Bool) → (x == v) ≡ b → b ≡ false
-    go true e = absurd (n (eqb-true x v e))
-    go false e = refl
+differ x v n = search (rules, eqb-true)
 
 pub unnamed_more : (rows : ClaimRows) (at v : ℕ) → at < length rows → named (take at rows) v ≡ false → vertex_in rows at ≢ v
     → named (take (at + 1) rows) v ≡ false
@@ -55,18 +52,10 @@ place_of (r ∷ rows) v i = elim (cases_Bool (r.0 == v)) [
 ]
 
 pub front_named : (rows : ClaimRows) (done k : ℕ) → done ≤ length rows → k < done → named (take done rows) (vertex_in rows k) ≡ true
-front_named rows done k m l =
-    named_here (take done rows) k (vertex_in rows k) (omega (arith, length-take-le done rows m))
-    (ap (λ (r : ℕ × Option ℕ). r.0) (get_or-take done rows k no_row l))
+front_named rows done k m l = search (rules, named_here, length-take-le, get_or-take)
 
 pub front_place : (rows : ClaimRows) (done v : ℕ) → done ≤ length rows → named (take done rows) v ≡ true → (k : ℕ) × (k < done) × (vertex_in rows k ≡ v)
-front_place rows done v m i =
-    let h = place_of (take done rows) v i in
-    let l : h.0 < done = omega (arith, h.1, length-take-le done rows m) in
-    (h.0, l, sym (ap (λ (r : ℕ × Option ℕ). r.0) (get_or-take done rows h.0 no_row l)) ∙ h.2)
+front_place rows done v m i = search (rules, place_of, length-take-le, get_or-take)
 
 pub same_place : (rows : ClaimRows) (j k : ℕ) → AreDifferent rows → j < length rows → k < length rows → vertex_in rows j ≡ vertex_in rows k → j ≡ k
-same_place rows j k d a b e = elim (order j k) [
-  | inl l ↦ absurd (d j k l b e)
-  | inr h ↦ elim h [ inl q ↦ q | inr l ↦ absurd (d k j l a (sym e)) ]
-]
+same_place rows j k d a b e = search (rules, order)

@@ -1,5 +1,6 @@
 -- What the finders answer, put together for a job.
-use Rattle.std.proofs.Common.{◌≡◌, ℕ, Option, Some, None}
+use Rattle.std.proofs.Common.{rules}
+use Rattle.std.proofs.Common.{◌≡◌, ℕ, Option, Some}
 use Rattle.std.specs.Prelude.{◌↔◌, MatchOption}
 use Rattle.pg_game.specs.declared.player.Player.{Player}
 use Rattle.pg_game.specs.Graph.{Graph, owner_of}
@@ -15,11 +16,9 @@ pub loops_of : (g : Graph) (U : VertexSet) (p : Player) (found : Option Claim) �
     → MatchOption found (NoneHas (IsLoop g U p)) (λ c. Unit {0}) → MatchOption found (Unit {0}) (λ c. (v : ℕ) → In (named c.rows) v ↔ IsLoop g U p v)
     → MatchOption found (Unit {0}) (λ c. (v : ℕ) → In (named c.rows) v → owner_of g v ≡ p → choice_in c.rows v ≡ Some v)
     → MatchOption found (Unit {0}) (λ c. IsGoodIn g U p c.rows) → AreLoopsOf g U p found
-loops_of g U p None a n l o h = n
-loops_of g U p (Some x) a n l o h = record { player = a; vertices = l; choices = o; good = h }
+loops_of g x1 p x3 a n l o h = search (rules)
 
 -- two facts of a claim that may be there, in one
 pub both_of : (P : Type 0) (Q : Claim → Type 0) (found : Option Claim) → MatchOption found (P → ⊥) (λ c. P) → MatchOption found (Unit {0}) Q
     → MatchOption found (P → ⊥) (λ c. P × Q c)
-both_of P Q None n h = n
-both_of P Q (Some x) n h = (n, h)
+both_of x0 x1 x2 n h = search (rules)

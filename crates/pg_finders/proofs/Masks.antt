@@ -1,5 +1,6 @@
 -- Masks that are filled by rising vertex.
-use Rattle.std.proofs.Common.{◌≡◌, ℕ, ◌<◌, ◌≤◌, Bool, true, false, ◌&&◌, not, ◌⊎◌, inl, inr, List, length, replicate, sym, subst, arith, length-set}
+use Rattle.std.proofs.Common.{rules}
+use Rattle.std.proofs.Common.{◌≡◌, ℕ, ◌<◌, ◌≤◌, Bool, true, false, ◌&&◌, not, ◌⊎◌, List, length, replicate, arith, length-set}
 use Rattle.std.proofs.Common.{get_or-set_same, get_or-set_other}
 use Rattle.std.specs.Prelude.{◌==◌, slice_set}
 use Rattle.std.proofs.lemmas.Bool.{eqb-true, eq-eqb, cases_Bool, cases_lt}
@@ -19,26 +20,12 @@ pub inside_mask : (mask : List Bool) (v : ℕ) → members mask v ≡ true → v
 inside_mask mask v i = grind (arith, members_past mask v)
 
 pub has_none : (X : VertexSet) (n : ℕ) → HasBelow X 0 (replicate n false)
-has_none X n = record {
-  below = λ v l. absurd (omega arith);
-  above = λ v l. elim (cases_lt v n) [
-    | inl h ↦ get_or-replicate n v false false h
-    | inr h ↦ members_past (replicate n false) v (omega (arith, h, length-replicate n false))
-  ];
-}
+has_none X n = search (rules, cases_lt, get_or-replicate, members_past, length-replicate)
 
 pub none_mask : (n v : ℕ) → members (replicate n false) v ≡ false
 none_mask n v = (has_none (λ u. false) n).above v (omega arith)
 
 -- a vertex is taken out of a mask
 pub members-unset : (mask : List Bool) (v : ℕ) → (w : ℕ) → members (slice_set mask v false) w ≡ (members mask w && not (v == w))
-members-unset mask v w = elim (cases_Bool (v == w)) [
-  | inl e ↦ rw (e, and-false) (subst (λ u. members (slice_set mask v false) u ≡ false) (eqb-true v w e) unset)
-  | inr n ↦ rw (n, and-true) (get_or-set_other mask v w false false (λ q. no_both (eq-eqb v w (sym q)) n))
-]
-  where
-    unset : members (slice_set mask v false) v ≡ false
-    unset = elim (cases_lt v (length mask)) [
-      | inl l ↦ get_or-set_same mask v false false l
-      | inr l ↦ members_past (slice_set mask v false) v (omega (arith, l, length-set mask v false))
-    ]
+members-unset mask v w =
+    search (rules, cases_Bool, and-false, eqb-true, and-true, get_or-set_other, no_both, eq-eqb, cases_lt, get_or-set_same, members_past, length-set)

@@ -1,4 +1,5 @@
 -- The steps by which a subgame is solved: what an attractor leaves, what the player of the greatest priority gets, what the opponent takes.
+use Rattle.std.proofs.Common.{rules}
 use mathlib.Core.Path.{fun_ext}
 use Rattle.std.proofs.Common.{◌≡◌, ℕ, ◌<◌, ◌≤◌, Bool, true, false, ◌&&◌, not, ◌⊎◌, inl, inr, refl, sym, ◌∙◌, ap, subst}
 use Rattle.std.specs.Prelude.{Option, Some, if◌then◌else◌}
@@ -23,10 +24,7 @@ use Rattle.pg_finders.proofs.ClosedWalks.{Among, closed_among, closed_inside, cl
 -- where a kept edge leads: along the player's choice, or along any edge of the opponent's vertex
 pub kept_leads : (g : Graph) (p : Player) (s : Choices) (v w : ℕ) → Contains (kept g p s v) w
     → ((owner_of g v ≡ p) × Contains (option_list (s v)) w) ⊎ ((owner_of g v ≡ opponent p) × HasEdge g v w)
-kept_leads g p s v w m = elim (own_or_other (owner_of g v) p) [
-  | inl o ↦ inl (o, (let y = is_same (owner_of g v) p o in let n : Contains (option_list (s v)) w = rw y at m in n))
-  | inr o ↦ inr (o, (let y = not_same (owner_of g v) p o in let n : HasEdge g v w = rw y at m in n))
-]
+kept_leads g p s v w m = search (rules, own_or_other, is_same, not_same)
 
 -- with the choice known
 pub choice_leads : (s : Option ℕ) (c w : ℕ) → s ≡ Some c → Contains (option_list s) w → c ≡ w
@@ -46,12 +44,7 @@ Holds-same {g} {p = p} {X = X} {s = s} {t = t} same h = record {
 }
 
 pub Holds-none : {g : Graph} {U : VertexSet} {p : Player} {X : VertexSet} {s : Choices} → ((v : ℕ) → In X v → ⊥) → WinsOn g U p X s
-Holds-none {g} {p = p} {X = X} {s = s} empty = record {
-  within = λ v i. absurd (empty v i);
-  choices = λ v i o. absurd (empty v i);
-  closed = λ v w i o e u. absurd (empty v i);
-  good = λ walk c. absurd (never_empty (KeptEdge g p X s) (λ v w k. empty v k.0) walk c);
-}
+Holds-none {g} {p = p} {X = X} {s = s} empty = search (rules, never_empty)
 
 pub Holds-subst : {g : Graph} {U : VertexSet} {p : Player} {X Y : VertexSet} {s : Choices} → ((v : ℕ) → X v ≡ Y v) → WinsOn g U p X s → WinsOn g U p Y s
 Holds-subst {g} {U} {p} {s = s} e h = subst (λ Z. WinsOn g U p Z s) (fun_ext e) h
@@ -111,25 +104,13 @@ module _ {g : Graph} {U R Q : VertexSet} {won : Winners} {s : Choices} (first : 
   q_out w n = elim (cases_Bool (Q w)) [ inl y ↦ absurd (no_both (second.rest w y) n) | inr m ↦ m ]
 
   from_first : (p : Player) (v : ℕ) → In (D p) v → In (X p) v
-  from_first p v i =
-      let a = and_parts (without U R v) (same_player (won v) p) i in
-      let b = only (U v) (R v) a.0 in
-      and_from (without U Q v) (same_player (won v) p) (minus b.0 (q_out v b.1)) a.1
+  from_first p v i = search (rules, and_parts, only, and_from, minus, q_out)
 
   from_second : (p : Player) (v : ℕ) → In (F p) v → In (X p) v
-  from_second p v i =
-      let a = and_parts (without R Q v) (same_player (won v) p) i in
-      let b = only (R v) (Q v) a.0 in
-      and_from (without U Q v) (same_player (won v) p) (minus (first.rest v b.0) b.1) a.1
+  from_second p v i = search (rules, and_parts, only, and_from, minus, first.rest)
 
   parts : (p : Player) (v : ℕ) → In (X p) v → (In (D p) v × (R v ≡ false)) ⊎ (In (F p) v × (R v ≡ true))
-  parts p v i =
-      let a = and_parts (without U Q v) (same_player (won v) p) i in
-      let b = only (U v) (Q v) a.0 in
-      elim (cases_Bool (R v)) [
-        | inl y ↦ inr (and_from (without R Q v) (same_player (won v) p) (minus y b.1) a.1, y)
-        | inr n ↦ inl (and_from (without U R v) (same_player (won v) p) (minus b.0 n) a.1, n)
-      ]
+  parts p v i = search (rules, and_parts, only, cases_Bool, and_from, minus)
 
   -- an edge inside U from the opponent's vertex
   stays_won : (p : Player) (v w : ℕ) → In (X p) v → owner_of g v ≡ opponent p → HasEdge g v w → In U w → In (X p) w
@@ -197,29 +178,16 @@ module _ (g : Graph) (q : Player) (U A L B : VertexSet) (won : Winners) (s t : C
     (a : IsAttracted g q U L B t rank) (keeps : (v : ℕ) → In L v → t v ≡ s v) (his : (v : ℕ) → In B v → won v ≡ q) where
   -- the part is held in U too
   old_closed : (v w : ℕ) → In L v → owner_of g v ≡ opponent q → HasEdge g v w → In U w → In L w
-  old_closed v w i o e u = elim (cases_Bool (A w)) [
-    | inl y ↦ absurd (shut v w (sub.within v i) o e y)
-    | inr n ↦ sub.closed v w i o e (minus u n)
-  ]
+  old_closed v w i o e u = search (rules, cases_Bool, sub.within, sub.closed, minus)
 
   abbrev E : ℕ → ℕ → Type 0
   E = Among (KeptEdge g q B t) (In B)
 
   stays_old : (v w : ℕ) → E v w → In L v → In L w
-  stays_old v w (k, i, j) l = elim (kept_leads g q t v w k.1) [
-    | inl (o, c) ↦ (let h = sub.choices v l o in
-        let e = choice_leads (t v) h.0 w (keeps v l ∙ h.1) c in
-        subst (In L) e h.3)
-    | inr (o, e) ↦ old_closed v w l o e (a.inside w j)
-  ]
+  stays_old v w (k, i, j) l = search (rules, kept_leads, sub.choices, choice_leads, old_closed, a.inside)
 
   falls : (v w : ℕ) → Among E (λ v. L v ≡ false) v w → rank w < rank v
-  falls v w ((k, i, j), n, m) = elim (kept_leads g q t v w k.1) [
-    | inl (o, c) ↦ (let h = a.leads v i n o in
-        let e = choice_leads (t v) h.0 w h.1 c in
-        subst (λ x. rank x < rank v) e h.4)
-    | inr (o, e) ↦ (a.pushed v w i n o e (a.inside w j)).1
-  ]
+  falls v w ((k, i, j), n, m) = search (rules, kept_leads, a.leads, choice_leads, a.pushed, a.inside)
 
   pub grown_held : WinsOn g U q B t
   grown_held = record {
@@ -279,10 +247,7 @@ module _ (g : Graph) (p : Player) (U T A : VertexSet) (won : Winners) (s : Choic
   ]
 
   falls_in : (v w : ℕ) → Among G (In A) v w → rank w < rank v
-  falls_in v w ((k, i, j), y, z) = elim (kept_leads g p s v w k.1) [
-    | inl (o, c) ↦ (let h = a.leads v y i.1 o in subst (λ x. rank x < rank v) (choice_leads (s v) h.0 w h.1 c) h.4)
-    | inr (o, e) ↦ (a.pushed v w y i.1 o e j.0).1
-  ]
+  falls_in v w ((k, i, j), y, z) = search (rules, kept_leads, a.leads, choice_leads, a.pushed)
 
   pub all_held : WinsOn g U p U s
   all_held = record {
@@ -370,9 +335,7 @@ module _ {g : Graph} {U L : VertexSet} {p : Player} {won : Winners} {s : Choices
 
   -- the opponent's vertex that is left has no edge into the attractor
   no_way_in : (q : Player) → p ≡ opponent q → (v w : ℕ) → In (without U A) v → owner_of g v ≡ opponent q → HasEdge g v w → In A w → ⊥
-  no_way_in q x v w i o e j =
-      let h = only (U v) (A v) i in
-      no_both (begun.attracted.own v w h.0 (o ∙ sym x) e j) h.1
+  no_way_in q x v w i o e j = search (rules, only, no_both, begun.attracted.own)
 
   -- the player won all that was left, so he wins all
   pub all_won : IsSolvedInside g L won s → ((v : ℕ) → In L v → won v ≡ p) → IsSolvedTo g U no_vertices won s

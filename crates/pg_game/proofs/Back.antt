@@ -1,4 +1,5 @@
 -- Predecessors are the sources of rows.
+use Rattle.std.proofs.Common.{rules}
 use Rattle.std.proofs.Common.{◌≡◌, ℕ, ◌<◌, List, length, get_or, refl, ◌∙◌, sym, subst, arith}
 use Rattle.std.proofs.lemmas.List.Elements.{Contains-get_or}
 use Rattle.pg_game.specs.declared.player.Player.{Player}
@@ -27,18 +28,9 @@ module _ {ids ps : List ℕ} {os : List Player} {rows : List (List ℕ)} (a : Ar
       subst (λ (k : ℕ). AreSuccessors k (row_at rows v)) n (rw (successors_are a refl v) at (game.successors v (omega (arith, l, n))))
 
   pub game_rows : IsGame (graph_of ids ps os rows) → AreRisingRows rows
-  game_rows game = record {
-    below = λ v k l m. (row_of game v l).below k m;
-    rising = λ v l. (row_of game v l).rising;
-  }
+  game_rows game = search (rules, row_of)
 
 -- with its predecessors
 pub stored_from : {ids ps : List ℕ} {os : List Player} {rows back : List (List ℕ)} → IsListed ids ps os rows →
     length back ≡ length rows → ((w : ℕ) → w < length rows → AreSources rows w (row_at back w)) → IsStored ids ps os rows back
-stored_from listed size sources = record {
-  parts = listed.parts;
-  game = listed.game;
-  limits = listed.limits;
-  size = size ∙ listed.parts.successors;
-  predecessors = λ v l. back_of listed.parts (sources v (let e = listed.parts.successors in omega (arith, l, e)));
-}
+stored_from listed size sources = search (rules, listed.parts, listed.game, listed.limits, listed.parts.successors, back_of)

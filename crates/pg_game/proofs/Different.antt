@@ -1,4 +1,5 @@
 -- How many different numbers a list has, and which vertex an identifier names: by rising lists.
+use Rattle.std.proofs.Common.{rules}
 use Rattle.std.proofs.Common.{◌≡◌, ◌≢◌, ℕ, zero, suc, ◌+◌, ◌<◌, ◌≤◌, Bool, true, false, not, ◌↔◌, inl, inr, List, [], ◌∷◌, length, get_or, refl, sym}
 use Rattle.std.proofs.Common.{◌∙◌, ap, subst, arith, lt-ltb}
 use Rattle.std.specs.Prelude.{◌==◌, nat_lt, count_by}
@@ -29,9 +30,7 @@ without_one n ys = filter (λ y. not (y == n)) ys
 
 keep_all : (n : ℕ) (ys : List ℕ) → (Contains ys n → ⊥) → without_one n ys ≡ ys
 keep_all n [] none = refl
-keep_all n (y ∷ ys) none =
-    let f : (y == n) ≡ false = false_from_ne_true (y == n) (λ t. none (0, omega arith, eqb-true y n t)) in
-    rw f (ap (λ zs. y ∷ zs) (keep_all n ys (λ m. none (Contains-tail y n ys m))))
+keep_all n (y ∷ ys) none = search (rules, keep_all n ys (λ m. none (Contains-tail y n ys m)), false_from_ne_true, eqb-true)
 
 length-without_one : (n : ℕ) (ys : List ℕ) → IsStrictlyIncreasing ys → Contains ys n → length (without_one n ys) + 1 ≡ length ys
 length-without_one n [] up m = absurd (Contains-nil n m)
@@ -106,7 +105,4 @@ smaller_before xs i up l = sym (length-filter (λ x. nat_lt x (get_or xs i 0)) x
 -- no more than all of them
 pub different_most : (xs : List ℕ) → different xs ≤ length xs
 different_most [] = omega arith
-different_most (n ∷ ns) = let h = different_most ns in elim (cases_Bool (list_any (λ m. m == n) ns)) [
-  | inl e ↦ rw e (omega (arith, h))
-  | inr e ↦ rw e (omega (arith, h))
-]
+different_most (n ∷ ns) = search (rules, different_most ns, cases_Bool)

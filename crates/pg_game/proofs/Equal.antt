@@ -1,11 +1,11 @@
 -- Equality of games, part by part.
-use Rattle.std.proofs.Common.{◌≡◌, ℕ, Bool, true, false, ◌&&◌, List, refl, sym, ◌∙◌, ap}
+use Rattle.std.proofs.Common.{rules}
+use Rattle.std.proofs.Common.{◌≡◌, ℕ, Bool, true, false, ◌&&◌, List, sym, ◌∙◌, ap}
 use Rattle.std.specs.Prelude.{nat_eq, not}
 use Rattle.std.specs.Bool.{Decides}
 use Rattle.std.specs.Cmp.Lexicographic.{pointwise, pointwise_decides}
 use Rattle.std.proofs.lemmas.Bool.{eqb-true, eq-eqb, not-false, and_parts, and_from}
 use Rattle.pg_game.specs.declared.player.Player.{Player}
-use Rattle.pg_game.specs.declared.player.Player.TheVariants.{Even, Odd}
 use Rattle.pg_game.specs.Player.{digit_of}
 use Rattle.pg_game.specs.Graph.{Graph, Vertex}
 use Rattle.pg_game.specs.View.{graph_of}
@@ -14,10 +14,7 @@ use Rattle.pg_game.specs.Same.{same_vertex, same_graph}
 use Rattle.pg_game.proofs.Parts as part
 
 same_digit : (p q : Player) → digit_of p ≡ digit_of q → p ≡ q
-same_digit Even Even e = refl
-same_digit Even Odd e = absurd (cc e)
-same_digit Odd Even e = absurd (cc e)
-same_digit Odd Odd e = refl
+same_digit x0 x1 e = search (rules)
 
 numbers_decide : (xs ys : List ℕ) → Decides (pointwise nat_eq xs ys) (xs ≡ ys)
 numbers_decide xs ys = pointwise_decides (λ x y. (eqb-true x y, eq-eqb x y)) xs ys

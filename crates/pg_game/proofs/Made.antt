@@ -1,5 +1,6 @@
 -- The game that is made of specifications without fault.
-use Rattle.std.proofs.Common.{◌≡◌, ℕ, ◌+◌, ◌<◌, ◌≤◌, true, List, [], ◌∷◌, length, map, get_or, refl, sym, ◌∙◌, ap, subst, arith}
+use Rattle.std.proofs.Common.{rules}
+use Rattle.std.proofs.Common.{◌≡◌, ℕ, ◌<◌, ◌≤◌, true, List, [], ◌∷◌, length, map, get_or, refl, sym, ◌∙◌, ap, subst, arith}
 use Rattle.std.specs.Prelude.{All, Some, slice_get, sum_by}
 use Rattle.std.specs.List.{Contains}
 use Rattle.std.specs.List.Sorted.{IsStrictlyIncreasing, IsPermutation}
@@ -41,9 +42,7 @@ no_spec = record { id = 0; priority = 0; owner = Even; successors = [] }
 
 sum-map : (g : Graph) → sum_by (λ (x : Vertex). length x.successors) g ≡ size_of (map (λ (x : Vertex). x.successors) g)
 sum-map [] = refl
-sum-map (x ∷ g) =
-    sum_by-cons (λ (y : Vertex). length y.successors) x g
-    ∙ (ap (λ n. length x.successors + n) (sum-map g) ∙ sym (sum_by-cons (λ (r : List ℕ). length r) x.successors (map (λ (y : Vertex). y.successors) g)))
+sum-map (x ∷ g) = search (rules, sum-map g, sum_by-cons, x.successors)
 
 module _ {specs sorted : List Spec} {ids : List ℕ} {rows : List (List ℕ)} (laid : IsLaid specs sorted ids rows) where
   abbrev ps : List ℕ
@@ -59,11 +58,7 @@ module _ {specs sorted : List Spec} {ids : List ℕ} {rows : List (List ℕ)} (l
   length_ids = sym (ap (λ (xs : List ℕ). length xs) laid.ids_are) ∙ length-map sorted (λ (s : Spec). s.id)
 
   parts : AreParts ids ps os rows
-  parts = record {
-    priorities = length-map sorted (λ (s : Spec). s.priority) ∙ sym length_ids;
-    owners = length-map sorted (λ (s : Spec). s.owner) ∙ sym length_ids;
-    successors = laid.size ∙ sym length_ids;
-  }
+  parts = search (rules, length-map, length_ids, laid.size)
 
   length_g : length g ≡ length ids
   length_g = part.length_is parts refl
@@ -113,10 +108,7 @@ module _ {specs sorted : List Spec} {ids : List ℕ} {rows : List (List ℕ)} (l
       }
 
   pub made_rows : AreRisingRows rows
-  made_rows = record {
-    below = λ v k l h. (let r = row_game v (omega (arith, l, laid.size)) in let b = r.below k h in omega (arith, b, laid.size, length_ids));
-    rising = λ v l. (row_game v (omega (arith, l, laid.size))).rising;
-  }
+  made_rows = search (rules, row_game, laid.size, length_ids)
 
   pub made_game : IsGame g
   made_game = record {

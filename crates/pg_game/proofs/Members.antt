@@ -1,4 +1,5 @@
 -- Membership in a list, by cases on the list; a search in a list.
+use Rattle.std.proofs.Common.{rules}
 use Rattle.std.proofs.Common.{◌≡◌, ℕ, zero, suc, ◌||◌, Bool, true, false, ◌⊎◌, inl, inr, List, [], ◌∷◌, refl, arith}
 use Rattle.std.specs.List.{Contains}
 
@@ -12,8 +13,7 @@ pub Contains-tail : (x w : ℕ) (xs : List ℕ) → Contains xs w → Contains (
 Contains-tail x w xs (k, lt, e) = (suc k, omega arith, e)
 
 pub Contains-cons : (x w : ℕ) (xs : List ℕ) → Contains (x ∷ xs) w → (x ≡ w) ⊎ Contains xs w
-Contains-cons x w xs (zero, lt, e) = inl e
-Contains-cons x w xs (suc k, lt, e) = inr (k, omega arith, e)
+Contains-cons x w xs x3 = search (rules)
 
 pub Contains-one : (x w : ℕ) → Contains (x ∷ []) w → x ≡ w
 Contains-one x w h = elim (Contains-cons x w [] h) [ inl e ↦ e | inr m ↦ absurd (Contains-nil w m) ]

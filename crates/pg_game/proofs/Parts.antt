@@ -1,4 +1,5 @@
 -- The vertices of a game's parts.
+use Rattle.std.proofs.Common.{rules}
 use Rattle.std.proofs.Common.{◌≡◌, ℕ, zero, suc, List, [], ◌∷◌, length, get_or, refl, sym, ◌∙◌, ap, arith, map}
 use Rattle.std.proofs.lemmas.List.{length-map, get_or-map, ext_get_or}
 use Rattle.pg_game.specs.declared.player.Player.{Player}
@@ -10,11 +11,7 @@ use Rattle.pg_game.specs.private.Stored.{AreParts}
 -- the parts without the first of each
 pub tails : {i p : ℕ} {o : Player} {ws : List ℕ} {ids ps : List ℕ} {os : List Player} {rows : List (List ℕ)} →
     AreParts (i ∷ ids) (p ∷ ps) (o ∷ os) (ws ∷ rows) → AreParts ids ps os rows
-tails a = record {
-  priorities = let h = a.priorities in omega arith;
-  owners = let h = a.owners in omega arith;
-  successors = let h = a.successors in omega arith;
-}
+tails a = search (rules, a.successors, a.priorities, a.owners)
 
 length-graph_of : (ids ps : List ℕ) (os : List Player) (rows : List (List ℕ)) → AreParts ids ps os rows → length (graph_of ids ps os rows) ≡ length ids
 length-graph_of [] ps os rows a = refl

@@ -1,8 +1,9 @@
 -- Places of identifiers in a rising list of them.
-use Rattle.std.proofs.Common.{◌≡◌, ℕ, zero, suc, ◌+◌, ◌<◌, ◌≤◌, true, false, ◌⊎◌, inl, inr, List, [], ◌∷◌, ◌++◌, length, drop, get_or, sym, ◌∙◌, ap}
+use Rattle.std.proofs.Common.{rules}
+use Rattle.std.proofs.Common.{◌≡◌, ℕ, zero, suc, ◌+◌, ◌<◌, ◌≤◌, ◌⊎◌, inl, inr, List, [], ◌∷◌, ◌++◌, length, drop, get_or, sym, ◌∙◌, ap}
 use Rattle.std.proofs.Common.{subst, arith, add-one, nat_eq}
-use Rattle.std.specs.Prelude.{Option, Some, None, position, option_to_list, ◌↔◌, nat_lt}
-use Rattle.std.specs.List.{Contains, position_or_len}
+use Rattle.std.specs.Prelude.{Option, Some, None, position, option_to_list, ◌↔◌}
+use Rattle.std.specs.List.{Contains}
 use Rattle.std.specs.List.Sorted.{IsStrictlyIncreasing}
 use Rattle.std.proofs.lemmas.Bool.{eqb-true, eq-eqb, ltb-false, cases_Bool}
 use Rattle.std.proofs.lemmas.List.{drop_more}
@@ -23,18 +24,10 @@ order p q = grind arith
 
 -- places go as their numbers do
 pub place_before : (xs : List ℕ) → IsStrictlyIncreasing xs → (p q : ℕ) → p < length xs → q < length xs → get_or xs p 0 < get_or xs q 0 → p < q
-place_before xs up p q lp lq l = elim (order p q) [
-  | inl h ↦ h
-  | inr (inl e) ↦ absurd (let f : get_or xs p 0 ≡ get_or xs q 0 = ap (λ k. get_or xs k 0) e in omega (arith, f, l))
-  | inr (inr h) ↦ absurd (let k = rises xs up q p h lp in omega (arith, k, l))
-]
+place_before xs up p q lp lq l = search (rules, order, rises)
 
 pub same_place : (xs : List ℕ) → IsStrictlyIncreasing xs → (p q : ℕ) → p < length xs → q < length xs → get_or xs p 0 ≡ get_or xs q 0 → p ≡ q
-same_place xs up p q lp lq e = elim (order p q) [
-  | inl h ↦ absurd (let k = rises xs up p q h lq in omega (arith, k, e))
-  | inr (inl f) ↦ f
-  | inr (inr h) ↦ absurd (let k = rises xs up q p h lp in omega (arith, k, e))
-]
+same_place xs up p q lp lq e = search (rules, order, rises)
 
 -- a rising list with a lesser number before it
 pub rising_cons : (p : ℕ) (xs : List ℕ) → IsStrictlyIncreasing xs → ((w : ℕ) → Contains xs w → p < w) → IsStrictlyIncreasing (p ∷ xs)
@@ -48,35 +41,16 @@ Stands keys x =
     ⊎ ((position (nat_eq x) keys ≡ None) × ((v : ℕ) → v < length keys → get_or keys v 0 ≡ x → ⊥))
 
 stands : (keys : List ℕ) (x : ℕ) → Stands keys x
-stands keys x = let at : ℕ = position_or_len (nat_eq x) keys in elim (cases_Bool (nat_lt at (length keys))) [
-  | inl t ↦ (let is : position (nat_eq x) keys ≡ Some at = rw t in
-      let h = position-Some (nat_eq x) keys at 0 is in
-      inl (at, is, h.0, sym (eqb-true x (get_or keys at 0) h.1)))
-  | inr f ↦ (let is : position (nat_eq x) keys ≡ None = rw f in
-      let far : length keys ≤ at = ltb-false at (length keys) f in
-      inr (
-        is,
-        λ v l e.
-            let n : nat_eq x (get_or keys v 0) ≡ false = fails_before_first (nat_eq x) keys v 0 (omega arith) in
-            let y : nat_eq x (get_or keys v 0) ≡ true = eq-eqb x (get_or keys v 0) (sym e) in
-            cc (n, y),
-      ))
-]
+stands keys x = search (rules, nat_eq, cases_Bool, position-Some, eqb-true, ltb-false, fails_before_first, eq-eqb)
 
 -- a number that stands at its own place in a rising list
 pub own_place : (keys : List ℕ) → IsStrictlyIncreasing keys → (x : ℕ) → x < length keys → get_or keys x 0 ≡ x → position (nat_eq x) keys ≡ Some x
-own_place keys up x l e = elim (stands keys x) [
-  | inl (p, is, lp, at) ↦ is ∙ ap (λ k. Some k) (same_place keys up p x lp l (at ∙ sym e))
-  | inr (is, n) ↦ absurd (n x l e)
-]
+own_place keys up x l e = search (rules, stands, same_place)
 
 module _ (keys : List ℕ) (up : IsStrictlyIncreasing keys) where
   no_more : (xs : List ℕ) → length (places_of keys xs) ≤ length xs
   no_more [] = omega arith
-  no_more (x ∷ xs) = elim (stands keys x) [
-    | inl (p, is, l, e) ↦ rw is (let h = no_more xs in omega arith)
-    | inr (is, n) ↦ rw is (let h = no_more xs in omega arith)
-  ]
+  no_more (x ∷ xs) = search (rules, no_more xs, stands)
 
   place_known : (xs : List ℕ) (w : ℕ) → Contains (places_of keys xs) w → (w < length keys) × Contains xs (get_or keys w 0)
   place_known [] w m = absurd (Contains-nil w m)

@@ -1,4 +1,5 @@
 -- One more of each part is one more specification.
+use Rattle.std.proofs.Common.{rules}
 use Rattle.std.proofs.Common.{◌≡◌, ℕ, List, [], ◌∷◌, ◌++◌, map, refl, ap, ◌∙◌, arith, length-append}
 use Rattle.std.proofs.lemmas.List.{map_push}
 use Rattle.pg_game.specs.declared.player.Player.{Player}
@@ -28,10 +29,4 @@ module _ {ids ps : List ℕ} {os : List Player} {rows : List (List ℕ)} (a : Ar
   specs_more = ap (λ (g : Graph). map spec_from g) (graph_more ids ps os rows a i p o ws) ∙ map_push spec_from (graph_of ids ps os rows) (vertex_from i p o ws)
 
   pub parts_more : AreParts (ids ++ i ∷ []) (ps ++ p ∷ []) (os ++ o ∷ []) (rows ++ ws ∷ [])
-  parts_more =
-      let k = length-append ids (i ∷ []) in
-      record {
-        priorities = let h = length-append ps (p ∷ []) in omega (arith, h, k, a.priorities);
-        owners = let h = length-append os (o ∷ []) in omega (arith, h, k, a.owners);
-        successors = let h = length-append rows (ws ∷ []) in omega (arith, h, k, a.successors);
-      }
+  parts_more = search (rules, length-append, a.priorities, a.owners, a.successors)

@@ -1,4 +1,5 @@
 -- Rows between offsets: how many, each one, and one more.
+use Rattle.std.proofs.Common.{rules}
 use Rattle.std.proofs.Common.{◌≡◌, ℕ, zero, suc, ◌+◌, ◌-◌, ◌<◌, ◌≤◌, ◌⊎◌, inl, inr, List, [], ◌∷◌, ◌++◌, length, take, drop, get_or, ◌^◌, refl, sym}
 use Rattle.std.proofs.Common.{◌∙◌, arith, length-append, add-one}
 use Rattle.std.specs.Prelude.{slice_range}
@@ -21,9 +22,7 @@ row_of (a ∷ b ∷ os) ts (suc k) l = rw add-one (rw add-one at (row_of (b ∷ 
 
 -- a range within a list stays where the list grows
 range_stays : (ts xs : List ℕ) (a b : ℕ) → a ≤ b → b ≤ length ts → slice_range (ts ++ xs) a b ≡ slice_range ts a b
-range_stays ts xs a b l m =
-    let e : drop a (ts ++ xs) ≡ drop a ts ++ xs = drop-append-le a ts xs (omega arith) in
-    rw e (take-append-le (b - a) (drop a ts) xs (omega (arith, length-drop a ts)))
+range_stays ts xs a b l m = search (rules, drop-append-le, take-append-le, length-drop)
 
 take_all : (xs : List ℕ) (n : ℕ) → n ≡ length xs → take n xs ≡ xs
 take_all xs n e = rw e (take-length xs)
@@ -87,25 +86,7 @@ size-rows_of {os} {ts} c =
 
 pub IsCompressed-push : {os ts : List ℕ} (xs : List ℕ) (e : ℕ) → IsCompressed os ts → e ≡ length ts + length xs → length os < 2 ^ 32 → e < 2 ^ 32 →
     IsCompressed (os ++ e ∷ []) (ts ++ xs)
-IsCompressed-push {os} {ts} xs e c q small few =
-    let some = c.nonempty in
-    let grown = length-append os (e ∷ []) in
-    let targets = length-append ts xs in
-    record {
-      nonempty = omega arith;
-      short = omega arith;
-      few = omega arith;
-      first = get_or_append_left os (e ∷ []) 0 0 some ∙ c.first;
-      rising = λ k l. let from = get_or_append_left os (e ∷ []) 0 k (omega (arith, grown)) in elim (last_of (length os) k (omega (arith, grown))) [
-        | inl below ↦ (let to = get_or_append_left os (e ∷ []) 0 (k + 1) below in omega (arith, from, to, c.rising k below))
-        | inr end ↦ (let to = get_or_push os e 0 (k + 1) (sym end) in omega (arith, from, to, c.within k (omega arith)))
-      ];
-      within = λ k l. elim (below_or_last (length os) k (omega (arith, grown))) [
-        | inl below ↦ (let at = get_or_append_left os (e ∷ []) 0 k below in omega (arith, at, targets, c.within k below))
-        | inr end ↦ (let at = get_or_push os e 0 k (sym end) in omega (arith, at, targets))
-      ];
-      last = λ k l. (let at = get_or_push os e 0 k (omega (arith, grown)) in omega (arith, at, targets));
-    }
+IsCompressed-push {os} {ts} xs e c q small few = search (rules, length-append, get_or_append_left, last_of, get_or_push, below_or_last)
 
 -- the two offsets of a row that are read, and the row
 pub row_bounds : {os ts : List ℕ} (v a b : ℕ) → IsCompressed os ts → v + 1 < length os → a ≡ get_or os v a → b ≡ get_or os (v + 1) b →

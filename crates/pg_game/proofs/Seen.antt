@@ -1,5 +1,6 @@
 -- The first identifier that is repeated, one specification after another.
-use Rattle.std.proofs.Common.{◌≡◌, ℕ, ◌+◌, ◌<◌, true, false, List, [], ◌∷◌, ◌++◌, length, take, drop, map, get_or, inl, inr, refl, sym, ◌∙◌, ap, nat_eq}
+use Rattle.std.proofs.Common.{rules}
+use Rattle.std.proofs.Common.{◌≡◌, ℕ, ◌+◌, ◌<◌, true, false, List, [], ◌∷◌, ◌++◌, length, take, drop, map, get_or, refl, sym, ◌∙◌, ap, nat_eq}
 use Rattle.std.specs.Prelude.{Some, reverse, ◌==◌}
 use Rattle.std.specs.List.{list_any}
 use Rattle.std.proofs.lemmas.Bool.{eqb-true, eq-eqb, false_from_ne_true, cases_Bool}
@@ -14,11 +15,7 @@ abbrev pub earlier : List Spec → ℕ → List ℕ
 earlier specs i = reverse (take i (ids_of specs))
 
 pub eqb_flip : (a b : ℕ) → (a == b) ≡ nat_eq b a
-eqb_flip a b = elim (cases_Bool (a == b)) [
-  | inl t ↦ (let u : nat_eq b a ≡ true = eq-eqb b a (sym (eqb-true a b t)) in t ∙ sym u)
-  | inr f ↦ (let u : nat_eq b a ≡ false = false_from_ne_true (nat_eq b a)
-      (λ t. let v : (a == b) ≡ true = eq-eqb a b (sym (eqb-true b a t)) in cc (v, f)) in f ∙ sym u)
-]
+eqb_flip a b = search (rules, cases_Bool, nat_eq, eq-eqb, eqb-true, false_from_ne_true)
 
 flipped : (n : ℕ) (xs : List ℕ) → list_any (λ m. m == n) xs ≡ list_any (nat_eq n) xs
 flipped n [] = refl
@@ -26,12 +23,7 @@ flipped n (x ∷ xs) = rw (eqb_flip x n, flipped n xs) refl
 
 module _ (specs : List Spec) (i : ℕ) (s : Spec) (l : i < length specs) (is : s ≡ get_or specs i s) where
   next_id : drop i (ids_of specs) ≡ s.id ∷ drop (i + 1) (ids_of specs)
-  next_id =
-      let a = drop-map (λ (x : Spec). x.id) i specs in
-      let b = drop-map (λ (x : Spec). x.id) (i + 1) specs in
-      let c = drop_more specs i s l in
-      a ∙ (ap (λ (xs : List Spec). map (λ (x : Spec). x.id) xs) (c ∙ ap (λ (x : Spec). x ∷ drop (i + 1) specs) (sym is))
-      ∙ ap (λ (xs : List ℕ). s.id ∷ xs) (sym b))
+  next_id = search (rules, drop-map, drop_more, s.id)
 
   pub one_more : take (i + 1) (ids_of specs) ≡ take i (ids_of specs) ++ s.id ∷ []
   one_more =

@@ -1,5 +1,6 @@
 -- Sorted identifiers and sorted specifications go together.
-use Rattle.std.proofs.Common.{◌≡◌, ℕ, ◌<◌, ◌≤◌, List, length, get_or, nat_cmp, subst, ap, arith}
+use Rattle.std.proofs.Common.{rules}
+use Rattle.std.proofs.Common.{◌≡◌, ℕ, ◌<◌, ◌≤◌, List, length, get_or, nat_cmp, subst, arith}
 use Rattle.std.specs.Prelude.{nat_eq, All, None}
 use Rattle.std.specs.List.{IsDistinct}
 use Rattle.std.specs.List.Sorted.{IsStrictlyIncreasing, IsPermutation, IsSorted, IsNonDecreasing, IsNonDecreasingBy}
@@ -8,7 +9,7 @@ use Rattle.std.proofs.lemmas.List.Sorted.{IsNonDecreasingBy-from_sort, IsPermuta
 use Rattle.std.proofs.lemmas.List.Sorted.{Contains-permutation, length_permutation, sum_by-IsPermutation}
 use Rattle.std.proofs.lemmas.Map.Keys.{IsStrictlyIncreasing-from_distinct, IsDistinct-IsPermutation}
 use Rattle.pg_game.specs.declared.game.Spec.{Spec}
-use Rattle.pg_game.specs.Specification.{AreNumbers, first_fault, edges, different, max_vertices, max_edges}
+use Rattle.pg_game.specs.Specification.{AreNumbers, first_fault, edges, max_vertices, max_edges}
 use Rattle.pg_game.specs.private.Identifiers.{ids_of, ArePlaces}
 use Rattle.pg_game.specs.private.Rows.{row_at, size_of}
 use Rattle.pg_game.proofs.Sound.{sound_is}
@@ -39,25 +40,11 @@ sorted_from {specs} {sorted} {before} {ids} is moved sames d up rises =
 
 pub sorted_few : {specs sorted : List Spec} {ids : List ℕ} → first_fault specs ≡ None → IsPermutation specs sorted → ids_of sorted ≡ ids →
     (length ids ≤ max_vertices) × (length sorted ≤ max_vertices) × (edges sorted ≤ max_edges)
-sorted_few {specs} {sorted} none moved is =
-    let sound = sound_is specs none in
-    let n = length_permutation specs sorted moved in
-    let k = ap (λ (xs : List ℕ). length xs) is in
-    let e = sum_by-IsPermutation (λ (s : Spec). different s.successors) specs sorted moved in
-    (omega (arith, n, k, length-map sorted (λ (s : Spec). s.id), sound.vertices), omega (arith, n, sound.vertices), omega (arith, e, sound.edges_fit))
+sorted_few {specs} {sorted} none moved is = search (rules, sound_is, length_permutation, sum_by-IsPermutation, length-map)
 
 -- what sorting and laying out give
 pub laid_from : {specs sorted : List Spec} {ids : List ℕ} (rows : List (List ℕ)) → All AreNumbers specs → first_fault specs ≡ None
     → IsPermutation specs sorted →
     (ids_of sorted ≡ ids) × IsStrictlyIncreasing ids → length rows ≡ length sorted → size_of rows ≤ edges sorted →
     ((v : ℕ) (d : Spec) → v < length sorted → ArePlaces ids (get_or sorted v d).successors (row_at rows v)) → IsLaid specs sorted ids rows
-laid_from {specs} rows numbers sound moved both size edges_are each = record {
-  sound = sound_is specs sound;
-  numbers = numbers;
-  moved = moved;
-  ids_are = both.0;
-  rising = both.1;
-  size = size;
-  edges_are = edges_are;
-  each = each;
-}
+laid_from {specs} rows numbers sound moved both size edges_are each = search (rules, sound_is)

@@ -1,4 +1,5 @@
 -- Specifications without fault, test by test.
+use Rattle.std.proofs.Common.{rules}
 use Rattle.std.proofs.Common.{◌≡◌, ℕ, zero, suc, ◌<◌, ◌≤◌, Bool, true, false, ◌⊎◌, inl, inr, List, [], ◌∷◌, length, refl, sym, subst, arith}
 use Rattle.std.specs.Prelude.{Option, Some, None, if◌then◌else◌, nat_lt, not, find}
 use Rattle.std.specs.List.{Contains}
@@ -6,7 +7,7 @@ use Rattle.std.proofs.lemmas.Bool.{ltb-false, le-ltb, lt-ltb, not-false}
 use Rattle.pg_game.proofs.Members.{Contains-head, Contains-tail, Contains-cons}
 use Rattle.pg_game.specs.declared.game.Spec.{Spec}
 use Rattle.pg_game.specs.declared.game.GameFault.{GameFault}
-use Rattle.pg_game.specs.declared.game.GameFault.TheVariants.{NoVertex, TooManyVertices, Twice, NoSuccessor, TooManyEdges, Unknown, Memory}
+use Rattle.pg_game.specs.declared.game.GameFault.TheVariants.{NoSuccessor, TooManyEdges, Unknown}
 use Rattle.pg_game.specs.Specification.{first_fault, fault_or, is_empty, first_repeated, first_without, first_unknown, first_unspecified, paired_or}
 use Rattle.pg_game.specs.Specification.{IsSpecified, OrMemory, edges, max_vertices, max_edges}
 use Rattle.pg_game.specs.private.Identifiers.{ids_of, twice_of}
@@ -24,38 +25,19 @@ no_test true f o e = absurd (cc e)
 no_test false f o e = (refl, e)
 
 no_fault : {A : Type 0} (f : A → GameFault) (a : Option A) (o : Option GameFault) → fault_or f a o ≡ None → (a ≡ None) × (o ≡ None)
-no_fault f None o e = (refl, e)
-no_fault f (Some x) o e = absurd (cc e)
+no_fault f x1 o e = search (rules)
 
 some_first : {X : Type 0} (xs : List X) → is_empty xs ≡ false → 0 < length xs
-some_first [] e = absurd (cc e)
-some_first (x ∷ xs) e = omega arith
+some_first x0 e = search (rules)
 
 pub sound_is : (specs : List Spec) → first_fault specs ≡ None → IsSound specs
-sound_is specs e =
-    let a = no_test (is_empty specs) NoVertex _ e in
-    let b = no_test (nat_lt max_vertices (length specs)) TooManyVertices _ a.1 in
-    let c = no_fault (λ i. Twice i) (first_repeated [] (ids_of specs)) _ b.1 in
-    let d = no_fault (λ i. NoSuccessor i) (first_without specs) _ c.1 in
-    let f = no_test (nat_lt max_edges (edges specs)) TooManyEdges _ d.1 in
-    let h = no_fault (λ (id, i). Unknown id i) (first_unknown specs specs) None f.1 in
-    record {
-      nonempty = some_first specs a.0;
-      vertices = ltb-false max_vertices (length specs) b.0;
-      once = c.0;
-      successors = d.0;
-      edges_fit = ltb-false max_edges (edges specs) f.0;
-      known = h.0;
-    }
+sound_is specs e = search (rules, no_test, no_fault, some_first, ltb-false)
 
 pub not_empty : {X : Type 0} (xs : List X) → 0 < length xs → is_empty xs ≡ false
-not_empty [] l = absurd (omega arith)
-not_empty (x ∷ xs) l = refl
+not_empty x0 l = search (rules)
 
 pub sound_has_none : (specs : List Spec) → IsSound specs → first_fault specs ≡ None
-sound_has_none specs s =
-    let few = le-ltb max_vertices (length specs) s.vertices in
-    rw (not_empty specs s.nonempty, few, s.once, s.successors, le-ltb max_edges (edges specs) s.edges_fit, s.known) refl
+sound_has_none specs s = search (rules, le-ltb, s.vertices, not_empty, s.nonempty, s.once, s.successors, s.edges_fit, s.known)
 
 -- some, not too many, and no identifier twice
 pub record AreListed (specs : List Spec) : Type 0 where
@@ -79,26 +61,17 @@ module _ (specs : List Spec) (s : AreListed specs) where
   unknown_named e l f = listed _ _ _ e (le-ltb max_edges (edges specs) l) f
 
 still : {P Q : Type 0} (e : GameFault) → (P → Q) → OrMemory P e → OrMemory Q e
-still NoVertex f p = f p
-still TooManyVertices f p = f p
-still (Twice i) f p = f p
-still (NoSuccessor i) f p = f p
-still TooManyEdges f p = f p
-still (Unknown id i) f p = f p
-still Memory f p = p
+still x0 f p = search (rules)
 
 first_of : {A : Type 0} (f : A → GameFault) (a : Option A) (o : Option GameFault) (e : GameFault) → fault_or f a None ≡ Some e → fault_or f a o ≡ Some e
-first_of f None o e is = absurd (cc is)
-first_of f (Some x) o e is = is
+first_of f x1 o e is = search (rules)
 
 pub twice_named : (specs : List Spec) → 0 < length specs → length specs ≤ max_vertices → (e : GameFault)
     → OrMemory (twice_of specs ≡ Some e) e → OrMemory (first_fault specs ≡ Some e) e
-twice_named specs some few e =
-    still e (λ is. rw (not_empty specs some, le-ltb max_vertices (length specs) few) (first_of (λ i. Twice i) (first_repeated [] (ids_of specs)) _ e is))
+twice_named specs some few e = search (rules, still, not_empty, le-ltb, first_of)
 
 head_of : (s t : Spec) (specs : List Spec) → Contains (s ∷ specs) t → (s ≡ t) ⊎ Contains specs t
-head_of s t specs (zero, l, e) = inl e
-head_of s t specs (suc k, l, e) = inr (k, omega arith, e)
+head_of s t specs x3 = search (rules)
 
 pub none_or : (b : Bool) (i : ℕ) (o : Option ℕ) → (if b then Some i else o) ≡ None → (b ≡ false) × (o ≡ None)
 none_or true i o e = absurd (cc e)
@@ -115,8 +88,7 @@ each_has (t ∷ specs) e s m =
     ]
 
 none_pair : (id : ℕ) (o : Option ℕ) (p : Option (ℕ × ℕ)) → paired_or id o p ≡ None → (o ≡ None) × (p ≡ None)
-none_pair id None p e = (refl, e)
-none_pair id (Some i) p e = absurd (cc e)
+none_pair id x1 p e = search (rules)
 
 none_found : (p : ℕ → Bool) (xs : List ℕ) → find p xs ≡ None → (i : ℕ) → Contains xs i → p i ≡ false
 none_found p [] e i (k, l, q) = absurd (omega arith)

@@ -1,4 +1,5 @@
 -- The first successor that is not specified, one specification after another.
+use Rattle.std.proofs.Common.{rules}
 use Rattle.std.proofs.Common.{◌≡◌, ℕ, ◌+◌, ◌<◌, true, List, [], ◌∷◌, length, drop, get_or, refl, sym, ◌∙◌, ap, nat_eq}
 use Rattle.std.specs.Prelude.{Some, None}
 use Rattle.std.specs.Cmp.{nat_eq_equiv}
@@ -24,9 +25,7 @@ to_specified specs i m = sym (specified_is specs i) ∙ list_any-from_Contains n
 
 pub outside_is : (specs : List Spec) (keys xs : List ℕ) → keys ≡ ids_of specs → first_outside keys xs ≡ first_unspecified specs xs
 outside_is specs keys [] e = refl
-outside_is specs keys (x ∷ xs) e =
-    let a : list_any (nat_eq x) keys ≡ IsSpecified specs x = ap (λ (ks : List ℕ). list_any (nat_eq x) ks) e ∙ specified_is specs x in
-    rw (a, outside_is specs keys xs e) refl
+outside_is specs keys (x ∷ xs) e = search (rules, outside_is specs keys xs e, nat_eq, specified_is)
 
 module _ (specs : List Spec) (k : ℕ) (s : Spec) (l : k < length specs) (is : s ≡ get_or specs k s) where
   next : drop k specs ≡ s ∷ drop (k + 1) specs

@@ -1,11 +1,12 @@
 -- A private reader goes on over a text, a token at a time.
-use Rattle.std.proofs.Common.{◌≡◌, ℕ, Bool, true, false, List, [], ◌∷◌, ◌++◌, subst}
+use Rattle.std.proofs.Common.{rules}
+use Rattle.std.proofs.Common.{◌≡◌, ℕ, Bool, true, false, List, [], ◌∷◌, ◌++◌}
 use Rattle.pg_text.specs.Token.{Token, Placed, tokens_of}
 use Rattle.pg_text.specs.Fault.{IsLexicalFault, IsSyntaxFault}
 use Rattle.pg_text.specs.private.FirstFault.{placed}
 use Rattle.pg_text.specs.private.Piece.{IsToken}
 use Rattle.pg_text.specs.private.Reach.{ReadsTo, SpellsRest, IsBadFrom}
-use Rattle.pg_text.specs.private.Advance.{Advances, FailsWith, TakenOr, TakesToken, IsUnexpected}
+use Rattle.pg_text.specs.private.Advance.{Advances, FailsWith, TakesToken, IsUnexpected}
 use Rattle.pg_text.proofs.Reach.{reaches_more, later_fault}
 use Rattle.pg_text.proofs.FirstFaults.{syntax_here}
 
@@ -18,25 +19,14 @@ module _ {R : Type 0} {Keeps : List Placed → R → Type 0} {Stops : List Place
     (reads : Reads Keeps Stops BeginsText)
     {text : List ℕ} {at from to : ℕ} {t : Token} (i : IsToken text at from to t) (old : R) where
   pub unexpected : (ts : List Placed) → ReadsTo text 0 ts at → Keeps ts old → Stops ts t → IsUnexpected BeginsText text from to
-  unexpected ts r k n = record {
-    before = ts;
-    at = at;
-    token = t;
-    reached = r;
-    stands = i;
-    begins = reads.begins ts old k;
-    stops = reads.stops ts t n;
-  }
+  unexpected ts r k n = search (rules, reads.begins, reads.stops)
 
   pub token_taken : (new : R) {taken : Bool} → taken ≡ true → TakesToken Keeps Stops old new taken t from → Advances Keeps old new text at to
-  token_taken new e takes ts r k =
-      let us = ts ++ placed t from ∷ [] in
-      (us, reaches_more text 0 at from to ts t r i, subst (λ b. TakenOr b (Keeps us new) (Stops ts t)) e (takes ts k))
+  token_taken new e takes ts r k = search (rules, reaches_more)
 
   pub token_stops : (new : R) {taken : Bool} {HasFault : Type 0} → taken ≡ false → TakesToken Keeps Stops old new taken t from
       → (IsUnexpected BeginsText text from to → HasFault) → FailsWith Keeps old text at HasFault
-  token_stops new e takes fault ts r k =
-      fault (unexpected ts r k (subst (λ b. TakenOr b (Keeps (ts ++ placed t from ∷ []) new) (Stops ts t)) e (takes ts k)))
+  token_stops new e takes fault ts r k = search (rules, unexpected)
 
 -- a text with a token that is not expected has a later lexical fault, or is at fault there
 module _ {BeginsText : List Token → Type 0} {text : List ℕ} {from to : ℕ} (u : IsUnexpected BeginsText text from to) where

@@ -4,7 +4,7 @@ use Rattle.std.specs.Prelude.{Option, Some, None, IfSome, nat_lt, slice_get}
 use Rattle.std.specs.List.{AllByRecursion}
 use Rattle.std.proofs.lemmas.Option.{slice_get_within, get_or_from_slice_get}
 use Rattle.pg_game.specs.declared.player.Player.{Player}
-use Rattle.pg_game.specs.declared.player.Player.TheVariants.{Even, Odd}
+use Rattle.pg_game.specs.declared.player.Player.TheVariants.{Even}
 use Rattle.pg_game.specs.Graph.{Graph, IsGame, HasEdge, owner_of}
 use Rattle.pg_game.specs.VertexSet.{In}
 use Rattle.pg_game.proofs.Edges.{edge_inside}
@@ -15,10 +15,7 @@ pub edge_below : (g : Graph) → IsGame g → (v w : ℕ) → v < length g → H
 edge_below g game v w lt e = let h : nat_lt w (length g) ≡ true = edge_inside g game v w lt e in search rules
 
 pub same_or_not : (p q : Player) → (p ≡ q) ⊎ (p ≡ q → ⊥)
-same_or_not Even Even = inl refl
-same_or_not Even Odd = inr (λ e. cc)
-same_or_not Odd Even = inr (λ e. cc)
-same_or_not Odd Odd = inl refl
+same_or_not x0 x1 = search (rules)
 
 pub chosen_below : (n w : ℕ) (o : Option ℕ) → o ≡ Some w → w < n → IfSome o (λ x. x < n)
 chosen_below n w o is lt = rw is lt

@@ -1,5 +1,6 @@
 -- Examples, for the reader of the definitions: nothing is proved from these.
-use Rattle.std.proofs.Common.{◌≡◌, ℕ, zero, suc, ◌<◌, ◌≤◌, inl, inr, [], ◌∷◌, ◌^◌, length, refl, sym, ap, subst, arith, decimal}
+use Rattle.std.proofs.Common.{rules}
+use Rattle.std.proofs.Common.{◌≡◌, ℕ, zero, suc, ◌<◌, ◌≤◌, [], ◌∷◌, ◌^◌, length, refl, sym, ap, subst, arith, decimal}
 use Rattle.std.specs.Prelude.{Some, None, codes}
 use Rattle.std.specs.Fmt.{digits}
 use Rattle.std.proofs.Math.ListN.{replicate}
@@ -7,7 +8,7 @@ use Rattle.std.specs.List.{Contains}
 use Rattle.pg_game.specs.declared.player.Player.TheVariants.{Even, Odd}
 use Rattle.pg_game.specs.Graph.{Graph, HasEdge}
 use Rattle.pg_game.specs.Least.{NoneHas, IsLeast}
-use Rattle.pg_game.proofs.Members.{Contains-head, Contains-one, Contains-cons}
+use Rattle.pg_game.proofs.Members.{Contains-head, Contains-one}
 use Rattle.pg_text.specs.Written.{written_game, written_solution}
 use Rattle.pg_text.specs.Solution.{SolutionRows, winner_of, IsSolution}
 use Rattle.pg_text.specs.Verdict.{LacksChoice, HasBadChoice, Leaves, IsOnBadWalk}
@@ -24,10 +25,7 @@ abbrev both_win : SolutionRows
 both_win = (Even, Some 0) ∷ (Odd, Some 1) ∷ []
 
 two_edges : (v w : ℕ) → v < length two → HasEdge two v w → w < length two
-two_edges zero w l m = elim (Contains-cons 0 w (1 ∷ []) m) [
-  | inl e ↦ omega arith
-  | inr m' ↦ (let e = Contains-one 1 w m' in omega arith)
-]
+two_edges zero w l m = search (rules)
 two_edges (suc zero) w l m = let e = Contains-one 1 w m in omega arith
 two_edges (suc (suc v)) w l m = absurd (omega arith)
 

@@ -1,4 +1,5 @@
 -- Each text is at fault in one place or spells tokens, and not both.
+use Rattle.std.proofs.Common.{rules}
 use Rattle.std.proofs.Common.{◌≡◌, ℕ, zero, suc, ◌+◌, ◌≤◌, ◌<◌, Bool, true, false, ◌⊎◌, inl, inr, List, [], ◌∷◌, ◌++◌, length, refl, sym, ◌∙◌, ap}
 use Rattle.std.proofs.Common.{subst, arith, append_assoc, length-append}
 use Rattle.std.specs.Prelude.{◌==◌}
@@ -14,21 +15,16 @@ abbrev pub Wrong : ℕ → List ℕ → Type 0
 Wrong b after = (begins_token b ≡ false) ⊎ ((b ≡ 34) × AllAre is_no_quote after)
 
 wrong_digit : (b : ℕ) (after : List ℕ) → Wrong b after → is_digit b ≡ false
-wrong_digit b after (inl e) = grind (arith, nat_tests)
-wrong_digit b after (inr (e, a)) = rw e refl
+wrong_digit b after x2 = search (rules, nat_tests)
 
 wrong_letter : (b : ℕ) (after : List ℕ) → Wrong b after → is_letter b ≡ false
-wrong_letter b after (inl e) = grind (arith, nat_tests)
-wrong_letter b after (inr (e, a)) = rw e refl
+wrong_letter b after x2 = search (rules, nat_tests)
 
 ends_on : (test : ℕ → Bool) (b : ℕ) (re after : List ℕ) → test b ≡ false → EndsRun test re → EndsRun test (re ++ b ∷ after)
-ends_on test b [] after f e = f
-ends_on test b (x ∷ xs) after f e = e
+ends_on test b x2 after f e = search (rules)
 
 whole_on : (t : Token) (b : ℕ) (re after : List ℕ) → Wrong b after → IsWhole t re → IsWhole t (re ++ b ∷ after)
-whole_on (Number n) b re after w h = ends_on is_digit b re after (wrong_digit b after w) h
-whole_on (Word l) b re after w h = ends_on is_letter b re after (wrong_letter b after w) h
-whole_on _ b re after w h = tt
+whole_on x0 b re after w h = search (rules, ends_on, wrong_digit, wrong_letter)
 
 -- a byte that begins a token is not wrong
 no_quote_in : (inner more : List ℕ) → AllAre is_no_quote (inner ++ 34 ∷ more) → ⊥
@@ -39,12 +35,10 @@ kind_begins : (b : ℕ) → byte_kind b < 5 → begins_token b ≡ true
 kind_begins b h = grind (arith, nat_tests)
 
 kind_small : (t : Token) → kind_of t < 5
-kind_small (Number n) = omega arith
-kind_small _ = omega arith
+kind_small x0 = search (rules)
 
 quote_name : (t : Token) → kind_of t ≡ 2 → (inner : List ℕ) × (t ≡ Name inner)
-quote_name (Name n) e = (n, refl)
-quote_name _ e = absurd (omega arith)
+quote_name x0 e = search (rules)
 
 -- no token begins where a byte is wrong
 no_token : (t : Token) (b : ℕ) (after body rest : List ℕ) → Wrong b after → IsSpelling t body → b ∷ after ≡ body ++ rest → ⊥
@@ -66,13 +60,7 @@ no_token t b after body rest (inr (q, a)) s e =
 
 extend : (place : ℕ) (text : List ℕ) (t : Placed) (bl bo re after : List ℕ) (b : ℕ) (before : List ℕ) → Wrong b after
     → Begins place before t bl bo re → text ≡ before ++ b ∷ after → Begins place text t bl bo (re ++ b ∷ after)
-extend place text t bl bo re after b before w h e = record {
-  split = e ∙ (ap (λ xs. xs ++ b ∷ after) h.split ∙ (append_assoc bl (bo ++ re) (b ∷ after) ∙ ap (λ xs. bl ++ xs) (append_assoc bo re (b ∷ after))));
-  blank = h.blank;
-  placed = h.placed;
-  spelled = h.spelled;
-  whole = whole_on t.token b re after w h.whole;
-}
+extend place text t bl bo re after b before w h e = search (rules, h.split, append_assoc, h.blank, h.placed, h.spelled, whole_on, t.token, h.whole)
 
 -- a text with a wrong byte behind tokens spells no tokens
 stuck : (place : ℕ) (text before after : List ℕ) (b : ℕ) (ts us : List Placed) → Spells place before ts → is_blank b ≡ false
@@ -153,13 +141,10 @@ run_of test [] = ([], [], refl, tt, tt)
 run_of test (x ∷ xs) = run_cons test x xs (test x) refl (run_of test xs)
 
 ends_before : (test : ℕ → Bool) (b : ℕ) (re after ys : List ℕ) → ys ≡ re ++ b ∷ after → EndsRun test ys → EndsRun test re
-ends_before test b [] after ys e n = tt
-ends_before test b (x ∷ xs) after ys e n = subst (EndsRun test) e n
+ends_before test b x2 after ys e n = search (rules)
 
 whole_before : (t : Token) (b : ℕ) (re after ys : List ℕ) → ys ≡ re ++ b ∷ after → IsWhole t ys → IsWhole t re
-whole_before (Number n) b re after ys e h = ends_before is_digit b re after ys e h
-whole_before (Word l) b re after ys e h = ends_before is_letter b re after ys e h
-whole_before _ b re after ys e h = tt
+whole_before x0 b re after ys e h = search (rules, ends_before)
 
 -- a token at the front, and what is behind it
 token_first : (place : ℕ) (text bl bo ys : List ℕ) (t : Token) → text ≡ bl ++ (bo ++ ys) → AllAre is_blank bl → IsSpelling t bo → IsWhole t ys

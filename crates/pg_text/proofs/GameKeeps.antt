@@ -1,5 +1,6 @@
 -- What a reader of game texts knows of the tokens that it has read.
-use Rattle.std.proofs.Common.{◌≡◌, ℕ, ◌<◌, true, false, List, [], ◌∷◌, ◌++◌, length, refl, sym, ◌∙◌, ap, subst, arith, Option, Some, None, map}
+use Rattle.std.proofs.Common.{rules}
+use Rattle.std.proofs.Common.{◌≡◌, ℕ, ◌<◌, true, false, List, [], ◌∷◌, ◌++◌, length, refl, sym, ◌∙◌, ap, subst, arith, Option, Some, None}
 use Rattle.std.specs.Prelude.{codes, nat_lt}
 use Rattle.std.specs.Str.{bytes_eq}
 use Rattle.std.proofs.lemmas.Bool.{ltb-true, ltb-false}
@@ -15,7 +16,7 @@ use Rattle.pg_text.specs.Token.{Token, Number, Word, Name, Comma, Semicolon, Pla
 use Rattle.pg_text.specs.GameText.{WrittenGameLine, player_of, spec_of, IsBeforeOwner, IsGameText, BeginsGameText}
 use Rattle.pg_text.specs.Reading.{IsSomeGameText}
 use Rattle.pg_text.specs.Fault.{fits, AllFit, IsSyntaxFault, IsNumberFault, IsPlayerFault}
-use Rattle.pg_text.specs.private.FirstFault.{placed, first_at, FirstLarge, FirstPlayer}
+use Rattle.pg_text.specs.private.FirstFault.{placed, first_at, FirstLarge}
 use Rattle.pg_text.specs.private.GameKeeps.{Keeps, KeepsReader, Stops, SpellsSpecs}
 use Rattle.pg_text.specs.private.GameStates.{reader_state, is_complete, AreLines, HoldsRead}
 use Rattle.pg_text.proofs.FirstFaults.{all-push, IsTaken, taken_none, taken_large, first_large-fit, none_known, first_player-more}
@@ -42,20 +43,7 @@ Shape state.Successor r = (f : Front) × (i p o w : ℕ) × (vs : List ℕ) × (
 Shape state.Named r = (f : Front) × (i p o w : ℕ) × (vs b : List ℕ) × (r ≡ reading.Named f i p o w vs b)
 
 shape : (r : Reading) → Shape (reader_state r) r
-shape reading.Start = refl
-shape reading.HeadWord = refl
-shape (reading.HeadNumber m) = (m, refl)
-shape (reading.Headed m) = (m, refl)
-shape (reading.StartWord h) = (h, refl)
-shape (reading.StartNumber h k) = (h, k, refl)
-shape (reading.Started h k) = (h, k, refl)
-shape (reading.Ready f) = (f, refl)
-shape (reading.Id f i) = (f, i, refl)
-shape (reading.Priority f i p) = (f, i, p, refl)
-shape (reading.Owner f i p o) = (f, i, p, o, refl)
-shape (reading.Listing f i p o w vs) = (f, i, p, o, w, vs, refl)
-shape (reading.Successor f i p o w vs) = (f, i, p, o, w, vs, refl)
-shape (reading.Named f i p o w vs b) = (f, i, p, o, w, vs, b, refl)
+shape x0 = search (rules)
 
 pub shape_in : (r : Reading) (s : State) → reader_state r ≡ s → Shape s r
 shape_in r s e = subst (λ (q : State). Shape q r) e (shape r)
@@ -63,47 +51,27 @@ shape_in r s e = subst (λ (q : State). Shape q r) e (shape r)
 -- one more line
 lines_more : (specs : List Spec) (lines : List WrittenGameLine) (spec : Spec) (l : WrittenGameLine) → AreLines specs lines → spec ≡ spec_of l → l.owner < 2
     → AreLines (specs ++ spec ∷ []) (lines ++ l ∷ [])
-lines_more specs lines spec l a e h =
-    let e' = ap (λ s. map spec_of lines ++ s ∷ []) e ∙ sym (map-append spec_of lines (l ∷ [])) in
-    (ap (λ ss. ss ++ spec ∷ []) a.0 ∙ e', all-push (λ k. k.owner < 2) lines l a.1 h)
+lines_more specs lines spec l a e h = search (rules, map-append, spec, all-push)
 
 -- where a token can't stand
 no_number : (r : Reading) (s : State) (n : ℕ) → reader_state r ≡ s → (s ≡ state.Start → ⊥) → (s ≡ state.HeadWord → ⊥) → (s ≡ state.Headed → ⊥)
     → (s ≡ state.StartWord → ⊥) → (s ≡ state.Started → ⊥) → (s ≡ state.Ready → ⊥) → (s ≡ state.Id → ⊥) → (s ≡ state.Priority → ⊥)
     → (s ≡ state.Owner → ⊥) → (s ≡ state.Listing → ⊥) → on_number r n ≡ None
-no_number reading.Start s n e x0 x1 x2 x3 x4 x5 x6 x7 x8 x9 = absurd (x0 (sym e))
-no_number reading.HeadWord s n e x0 x1 x2 x3 x4 x5 x6 x7 x8 x9 = absurd (x1 (sym e))
-no_number (reading.Headed m) s n e x0 x1 x2 x3 x4 x5 x6 x7 x8 x9 = absurd (x2 (sym e))
-no_number (reading.StartWord h) s n e x0 x1 x2 x3 x4 x5 x6 x7 x8 x9 = absurd (x3 (sym e))
-no_number (reading.Started h k) s n e x0 x1 x2 x3 x4 x5 x6 x7 x8 x9 = absurd (x4 (sym e))
-no_number (reading.Ready f) s n e x0 x1 x2 x3 x4 x5 x6 x7 x8 x9 = absurd (x5 (sym e))
-no_number (reading.Id f i) s n e x0 x1 x2 x3 x4 x5 x6 x7 x8 x9 = absurd (x6 (sym e))
-no_number (reading.Priority f i p) s n e x0 x1 x2 x3 x4 x5 x6 x7 x8 x9 = absurd (x7 (sym e))
-no_number (reading.Owner f i p o) s n e x0 x1 x2 x3 x4 x5 x6 x7 x8 x9 = absurd (x8 (sym e))
-no_number (reading.Listing f i p o w vs) s n e x0 x1 x2 x3 x4 x5 x6 x7 x8 x9 = absurd (x9 (sym e))
-no_number _ s n e x0 x1 x2 x3 x4 x5 x6 x7 x8 x9 = refl
+no_number x0 s n e x4 x1 x2 x3 x8 x5 x6 x7 x12 x9 = search (rules)
 
 no_semicolon : (r : Reading) (s : State) → reader_state r ≡ s → (s ≡ state.HeadNumber → ⊥) → (s ≡ state.StartNumber → ⊥) → (s ≡ state.Successor → ⊥)
     → (s ≡ state.Named → ⊥) → on_semicolon r ≡ None
-no_semicolon (reading.HeadNumber m) s e x0 x1 x2 x3 = absurd (x0 (sym e))
-no_semicolon (reading.StartNumber h k) s e x0 x1 x2 x3 = absurd (x1 (sym e))
-no_semicolon (reading.Successor f i p o w vs) s e x0 x1 x2 x3 = absurd (x2 (sym e))
-no_semicolon (reading.Named f i p o w vs b) s e x0 x1 x2 x3 = absurd (x3 (sym e))
-no_semicolon _ s e x0 x1 x2 x3 = refl
+no_semicolon x0 s e x3 x1 x2 x6 = search (rules)
 
 no_comma : (r : Reading) (s : State) → reader_state r ≡ s → (s ≡ state.Successor → ⊥) → on_comma r ≡ None
-no_comma (reading.Successor f i p o w vs) s e x = absurd (x (sym e))
-no_comma _ s e x = refl
+no_comma x0 s e x = search (rules)
 
 no_name : (r : Reading) (s : State) (bytes : List ℕ) → reader_state r ≡ s → (s ≡ state.Successor → ⊥) → on_name r bytes ≡ None
-no_name (reading.Successor f i p o w vs) s bytes e x = absurd (x (sym e))
-no_name _ s bytes e x = refl
+no_name x0 s bytes e x = search (rules)
 
 no_word : (r : Reading) (s : State) (letters : List ℕ) → reader_state r ≡ s → (s ≡ state.Start → bytes_eq letters (codes "parity") ≡ false)
     → (s ≡ state.Start → bytes_eq letters (codes "start") ≡ false) → (s ≡ state.Headed → bytes_eq letters (codes "start") ≡ false) → on_word r letters ≡ None
-no_word reading.Start s letters e x y z = let t = x (sym e) in let u = y (sym e) in rw (t, u) refl
-no_word (reading.Headed m) s letters e x y z = let t = z (sym e) in rw t refl
-no_word _ s letters e x y z = refl
+no_word x0 s letters e x y z = search (rules)
 
 module _ {ts : List Placed} {s : State} {specs : List Spec} {id priority : ℕ} {owner : Player} {successors : List ℕ} {large wrong : Option ℕ}
     (k : Keeps ts s specs id priority owner successors large wrong) where
@@ -133,9 +101,7 @@ module _ {ts : List Placed} {s : State} {specs : List Spec} {id priority : ℕ} 
   word_stops letters x y z = stops (Word letters) (no_word k.read s letters k.state_is x y z)
 
   goes : (t : Token) (place : ℕ) (r q : Reading) → k.read ≡ r → step r t ≡ Some q → run (Some reading.Start) (tokens_of (ts ++ placed t place ∷ [])) ≡ Some q
-  goes t place r q e f =
-      ap (run (Some reading.Start)) (tokens_append ts (placed t place ∷ [])) ∙ (run-append (Some reading.Start) (tokens_of ts) (t ∷ [])
-      ∙ (ap (λ o. run o (t ∷ [])) (k.ran ∙ ap Some e) ∙ ap (λ o. run o []) f))
+  goes t place r q e f = search (rules, tokens_append, run-append, k.ran)
 
   as_read : (r : Reading) → k.read ≡ r → large ≡ None → wrong ≡ None → HoldsRead r specs id priority owner successors
   as_read r e l w = subst (λ (q : Reading). HoldsRead q specs id priority owner successors) e (k.agrees l w)
@@ -308,12 +274,10 @@ keeps_none specs id priority owner successors e = record {
 
 -- where a text may end, the lines that were read
 finished_lines : (r : Reading) → is_complete (reader_state r) ≡ true → (f : Front) × (r ≡ reading.Ready f)
-finished_lines (reading.Ready f) e = (f, refl)
-finished_lines _ e = absurd (cc e)
+finished_lines x0 e = search (rules)
 
 finished_none : (r : Reading) → is_complete (reader_state r) ≡ false → finished r ≡ None
-finished_none (reading.Ready f) e = absurd (cc e)
-finished_none _ e = refl
+finished_none x0 e = search (rules)
 
 -- what was read, at the end of the text
 module _ (text : List ℕ) {ts : List Placed} {s : State} {specs : List Spec} {id priority : ℕ} {owner : Player} {successors : List ℕ} {large wrong : Option ℕ}
@@ -323,29 +287,19 @@ module _ (text : List ℕ) {ts : List Placed} {s : State} {specs : List Spec} {i
       (λ (ls, i). let h : None ≡ Some ls = sym (finished_none k.read (ap is_complete k.state_is ∙ e)) ∙ lines_are (tokens_of ts) k.read k.ran ls i in cc h)
 
   some_text : is_complete s ≡ true → (f : Front) × (k.read ≡ reading.Ready f) × IsGameText (tokens_of ts) f.lines
-  some_text e =
-      let (f, g) = finished_lines k.read (ap is_complete k.state_is ∙ e) in
-      (f, g, text_is (tokens_of ts) k.read k.ran f.lines (ap finished g))
+  some_text e = search (rules, finished_lines, k.read, k.state_is, text_is, k.ran, finished)
 
   all_fit : large ≡ None → AllFit (tokens_of ts)
   all_fit l = subst (λ (o : Option ℕ). FirstLarge ts o) l k.numbers
 
   pub ends_large : is_complete s ≡ true → (p : ℕ) → large ≡ Some p → IsNumberFault IsSomeGameText text p
-  ends_large e p l =
-      let (f, g, i) = some_text e in
-      number_fault BeginsGameText IsSomeGameText text ts p spells (f.lines, i) (subst (λ (o : Option ℕ). FirstLarge ts o) l k.numbers)
+  ends_large e p l = search (rules, some_text, number_fault, k.numbers)
 
   pub ends_wrong : is_complete s ≡ true → (p : ℕ) → large ≡ None → wrong ≡ Some p → IsPlayerFault IsSomeGameText IsBeforeOwner text p
-  ends_wrong e p l w =
-      let (f, g, i) = some_text e in
-      let h = subst (λ (o : Option ℕ). FirstPlayer IsBeforeOwner ts o) w (k.players l) in
-      player_fault BeginsGameText IsSomeGameText text IsBeforeOwner ts p spells (f.lines, i) (all_fit l) h
+  ends_wrong e p l w = search (rules, some_text, k.players, player_fault, all_fit)
 
   pub ends_well : is_complete s ≡ true → large ≡ None → wrong ≡ None → SpellsSpecs text specs
-  ends_well e l w =
-      let (f, g, i) = some_text e in
-      let a : AreLines specs f.lines = subst (λ (q : Reading). HoldsRead q specs id priority owner successors) g (k.agrees l w) in
-      (f.lines, record { tokens = ts; spelled = spells; grammar = i; numbers = all_fit l; owners = a.1 }, a.0)
+  ends_well e l w = search (rules, some_text, k.agrees, spelled, all_fit)
 
 pub reader_reads : Reads KeepsReader Stops BeginsGameText
 reader_reads = record { begins = λ ts r k. text_begins (tokens_of ts) k.read k.ran; stops = λ ts t n. begins_none (tokens_of ts ++ t ∷ []) n }

@@ -1,7 +1,8 @@
 -- Which identifiers a game has, and which vertex each of them names.
-use Rattle.std.proofs.Common.{◌≡◌, ◌≢◌, ℕ, zero, suc, ◌+◌, ◌<◌, Bool, true, false, not, List, [], ◌∷◌, ◌++◌, length, map, get_or, refl, sym, ◌∙◌, ap}
+use Rattle.std.proofs.Common.{rules}
+use Rattle.std.proofs.Common.{◌≡◌, ◌≢◌, ℕ, zero, suc, ◌+◌, ◌<◌, Bool, true, false, List, [], ◌∷◌, ◌++◌, length, map, get_or, refl, sym, ◌∙◌, ap}
 use Rattle.std.proofs.Common.{subst, arith}
-use Rattle.std.specs.Prelude.{◌==◌, if◌then◌else◌, nat_lt, count_by, find, flat_map, Option, Some, None, IfSome, option_map}
+use Rattle.std.specs.Prelude.{◌==◌, if◌then◌else◌, nat_lt, count_by, Option, Some, None, IfSome, option_map}
 use Rattle.std.specs.Option.{option_or}
 use Rattle.std.specs.List.{Contains, list_any}
 use Rattle.std.proofs.lemmas.Bool.{eqb-true, eq-eqb, false_from_ne_true, true_from_ne_false}
@@ -9,7 +10,6 @@ use Rattle.std.proofs.lemmas.Grind.{flat_map-append}
 use Rattle.std.proofs.lemmas.List.{get_or-map, length-map}
 use Rattle.std.proofs.lemmas.List.Folds.{find-append, fold-map, list_any_at}
 use Rattle.pg_game.specs.Graph.{Graph, IsGame, id_of, no_vertex}
-use Rattle.pg_game.specs.Kept.{option_list}
 use Rattle.pg_game.proofs.Different.{smaller_before}
 use Rattle.pg_text.specs.SolutionText.{WrittenSolutionLine}
 use Rattle.pg_text.specs.SolutionLines.{is_id, number_in, first_stranger}
@@ -48,13 +48,10 @@ number_at g id v i n =
 
 -- strangers of more lines
 pub stranger-append : (g : Graph) (xs ys : List WrittenSolutionLine) → first_stranger g (xs ++ ys) ≡ option_or (first_stranger g xs) (first_stranger g ys)
-stranger-append g xs ys =
-    let f : WrittenSolutionLine → List ℕ = λ l. l.id ∷ option_list l.choice in
-    ap (find (λ i. not (is_id g i))) (flat_map-append f xs ys) ∙ find-append (λ i. not (is_id g i)) (flat_map f xs) (flat_map f ys)
+stranger-append g xs ys = search (rules, flat_map-append, find-append)
 
 none_parts : (a b : Option ℕ) → option_or a b ≡ None → (a ≡ None) × (b ≡ None)
-none_parts None b h = (refl, h)
-none_parts (Some y) b h = absurd (cc h)
+none_parts x0 b h = search (rules)
 
 -- where no line names a stranger, none of them does
 home_at : (g : Graph) (lines : List WrittenSolutionLine) (k : ℕ) (d : WrittenSolutionLine) → first_stranger g lines ≡ None → k < length lines
@@ -71,10 +68,7 @@ home_id g id winner c e = true_from_ne_false (is_id g id) (λ f. let k : Some id
 
 home_choice : (g : Graph) (id winner : ℕ) (c : Option ℕ) → first_stranger g (record { id = id; winner = winner; choice = c } ∷ []) ≡ None
     → IfSome c (λ i. is_id g i ≡ true)
-home_choice g id winner None e = tt
-home_choice g id winner (Some i) e =
-    let t = home_id g id winner (Some i) e in
-    true_from_ne_false (is_id g i) (λ f. let k : Some i ≡ None = rw (t, f) at e in cc k)
+home_choice g id winner x3 e = search (rules, home_id, true_from_ne_false)
 
 pub line_home : (g : Graph) (lines : List WrittenSolutionLine) (l : WrittenSolutionLine) → first_stranger g lines ≡ None → Contains lines l
     → first_stranger g (l ∷ []) ≡ None

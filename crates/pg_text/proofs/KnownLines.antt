@@ -1,12 +1,12 @@
 -- What the table of a game's vertices says that is known, and why it is not asked further.
-use Rattle.std.proofs.Common.{◌≡◌, ℕ, ◌<◌, true, false, length, get_or, refl, sym, ◌∙◌, ap, subst, arith, List, Bool}
-use Rattle.std.specs.Prelude.{Option, Some, None, if◌then◌else◌, MatchResult, Result, Ok, Err, IfOk, IsErrAnd}
+use Rattle.std.proofs.Common.{rules}
+use Rattle.std.proofs.Common.{◌≡◌, ℕ, ◌<◌, true, false, length, get_or, refl, sym, ◌∙◌, ap, arith, List, Bool}
+use Rattle.std.specs.Prelude.{Option, Some, None, if◌then◌else◌, MatchResult, Result, IfOk, IsErrAnd}
 use Rattle.std.proofs.lemmas.Option.{slice_get-get_or}
 use Rattle.pg_game.specs.declared.player.Player.TheVariants.{Even}
 use Rattle.pg_game.specs.Graph.{Graph}
 use Rattle.pg_game.specs.VertexSet.{members}
 use Rattle.pg_text.specs.declared.fault.SolutionTextFault.{SolutionTextFault}
-use Rattle.pg_text.specs.declared.fault.SolutionTextFault.TheVariants as fault
 use Rattle.pg_text.specs.declared.solution.Known.{Known}
 use Rattle.pg_text.specs.SolutionText.{WrittenSolutionLine}
 use Rattle.pg_text.specs.Solution.{SolutionRows}
@@ -38,21 +38,15 @@ module _ {g : Graph} {lines : List WrittenSolutionLine} {rows : SolutionRows} {s
 
 -- a fault of looking up is one of rows
 pub row_fault : (g : Graph) (lines : List WrittenSolutionLine) (e : SolutionTextFault) → IsLookUpFaultOf g lines e → IsRowFaultOf g lines e
-row_fault g lines (fault.Stranger id) h = h
-row_fault g lines fault.Memory h = tt
-row_fault g lines _ h = absurd h
+row_fault g lines x2 h = search (rules)
 
 pub known_fault : (g : Graph) (lines : List WrittenSolutionLine) (e : SolutionTextFault) → IsLookUpFaultOf g lines e → IsKnownRowFaultOf g lines e
-known_fault g lines (fault.Stranger id) h = h
-known_fault g lines fault.Memory h = tt
-known_fault g lines _ h = absurd h
+known_fault g lines x2 h = search (rules)
 
 pub known_size : (g : Graph) (lines : List WrittenSolutionLine) (r : Result Known SolutionTextFault) (Q : SolutionTextFault → Type 0)
     → MatchResult r (λ k. AreKnownLinesOf g lines k.rows) Q → IfOk r (λ k. length k.rows ≡ length g)
-known_size g lines (Ok k) Q a = a.size
-known_size g lines (Err e) Q a = tt
+known_size g lines x2 x3 a = search (rules)
 
 -- an error that is handed on
 pub passed_on : {A E : Type 0} (r : Result A E) (e : E) (P : A → Type 0) (Q : E → Type 0) → IsErrAnd r (λ x. x ≡ e) → Q e → MatchResult r P Q
-passed_on (Ok a) e P Q is q = absurd is
-passed_on (Err x) e P Q is q = subst Q (sym is) q
+passed_on x0 e x2 x3 is q = search (rules)

@@ -1,13 +1,13 @@
 -- How long written texts are, within the limits of games.
+use Rattle.std.proofs.Common.{rules}
 use Rattle.std.proofs.Common.{ℕ, ◌+◌, ◌*◌, ◌^◌, ◌<◌, ◌≤◌, List, [], ◌∷◌, ◌++◌, length, map, arith, lit<, length-append, decimal}
-use Rattle.std.specs.Prelude.{Option, Some, None, IfSome, codes, flat_map, sum_by}
+use Rattle.std.specs.Prelude.{Option, None, IfSome, codes, flat_map, sum_by}
 use Rattle.std.specs.List.{AllByRecursion, join_with_byte}
 use Rattle.std.proofs.Math.Nat.{mul-le-mul_right}
 use Rattle.std.proofs.lemmas.Fmt.{length-decimal-le_wide}
 use Rattle.std.proofs.lemmas.List.Concat.{flat_map-cons}
 use Rattle.std.proofs.lemmas.List.Sums.{sum_by-cons}
 use Rattle.pg_game.specs.declared.player.Player.{Player}
-use Rattle.pg_game.specs.declared.player.Player.TheVariants.{Even, Odd}
 use Rattle.pg_game.specs.Player.{digit_of}
 use Rattle.pg_game.specs.Graph.{Graph, Vertex, IsGame, id_of, no_vertex}
 use Rattle.pg_game.specs.Specification.{max_number, max_vertices}
@@ -22,17 +22,13 @@ short_number : (n : ℕ) → n ≤ max_number → length (decimal n) ≤ most_di
 short_number n l = length-decimal-le_wide most_digits n (omega arith) (omega arith) (omega (arith, lit< {m = max_number} {n = 10 ^ 64} tt))
 
 short_digit : (p : Player) → length (decimal (digit_of p)) ≤ 1
-short_digit Even = length-decimal-le_wide 1 0 (omega arith) (omega arith) (omega arith)
-short_digit Odd = length-decimal-le_wide 1 1 (omega arith) (omega arith) (omega arith)
+short_digit x0 = search (rules, length-decimal-le_wide)
 
 -- numbers separated by commas, and one comma more
 short_list : (g : Graph) (w : ℕ) (ws : List ℕ) → AllByRecursion (λ n. n ≤ max_number) (map (λ u. id_of g u) (w ∷ ws))
     → length (join_with_byte 44 (map (λ u. decimal (id_of g u)) (w ∷ ws))) + 1 ≤ length (w ∷ ws) * (most_digits + 1)
 short_list g w [] a = omega (arith, short_number (id_of g w) a.0)
-short_list g w (u ∷ us) a =
-    let e = short_list g u us a.1 in
-    let k = length-append (decimal (id_of g w)) (44 ∷ join_with_byte 44 (map (λ v. decimal (id_of g v)) (u ∷ us))) in
-    omega (arith, short_number (id_of g w) a.0)
+short_list g w (u ∷ us) a = search (rules, short_list g u us a.1, length-append, short_number)
 
 -- the line of a vertex with these successors
 short_line : (g : Graph) (x : Vertex) (ws : List ℕ) → x.id ≤ max_number → x.priority ≤ max_number → 0 < length (map (λ w. id_of g w) ws)
@@ -41,14 +37,7 @@ short_line : (g : Graph) (x : Vertex) (ws : List ℕ) → x.id ≤ max_number �
     ++ (32 ∷ decimal (digit_of x.owner) ++ (32 ∷ join_with_byte 44 (map (λ w. decimal (id_of g w)) ws) ++ codes ";\n"))))
     ≤ 25 + length ws * (most_digits + 1)
 short_line g x [] i p h a = absurd (omega arith)
-short_line g x (w ∷ ws) i p h a =
-    let list = short_list g w ws a in
-    let listed : List ℕ = 32 ∷ join_with_byte 44 (map (λ u. decimal (id_of g u)) (w ∷ ws)) ++ codes ";\n" in
-    let d = length-append (32 ∷ join_with_byte 44 (map (λ u. decimal (id_of g u)) (w ∷ ws))) (codes ";\n") in
-    let c = length-append (32 ∷ decimal (digit_of x.owner)) listed in
-    let b = length-append (32 ∷ decimal x.priority) (32 ∷ decimal (digit_of x.owner) ++ listed) in
-    let a = length-append (decimal x.id) (32 ∷ decimal x.priority ++ (32 ∷ decimal (digit_of x.owner) ++ listed)) in
-    omega (arith, short_number x.id i, short_number x.priority p, short_digit x.owner)
+short_line g x (w ∷ ws) i p h a = search (rules, short_list, length-append, x.owner, x.priority, x.id, short_number, short_digit)
 
 short_lines : (g : Graph) (xs : List Vertex) → AllByRecursion (λ x. HasNumbers (λ n. n ≤ max_number) g x) xs
     → length (flat_map (written_vertex g) xs) ≤ length xs * 25 + sum_by (λ x. length x.successors) xs * (most_digits + 1)
@@ -63,11 +52,7 @@ short_lines g (x ∷ xs) a =
 
 short_header : (word : List ℕ) (n : ℕ) (rest : List ℕ) → n ≤ max_number
     → length (word ++ (decimal n ++ (codes ";\n" ++ rest))) ≤ greatest_header word + length rest
-short_header word n rest l =
-    let c = length-append (codes ";\n") rest in
-    let b = length-append (decimal n) (codes ";\n" ++ rest) in
-    let a = length-append word (decimal n ++ (codes ";\n" ++ rest)) in
-    omega (arith, short_number n l)
+short_header word n rest l = search (rules, length-append, short_number)
 
 module _ (g : Graph) (i : IsGame g) (w : IsWithinLimits g) where
   short_last : greatest_id g ≤ max_number
@@ -87,18 +72,10 @@ module _ (g : Graph) (i : IsGame g) (w : IsWithinLimits g) where
       → length (written_rows g xs rows) ≤ length xs * (most_digits + 4 + long)
   short_rows long [] rows a b = omega arith
   short_rows long (x ∷ xs) [] a b = omega arith
-  short_rows long (x ∷ xs) (r ∷ rows) a b =
-      let more = short_rows long xs rows a.1 b.1 in
-      let rest : List ℕ = written_rows g xs rows in
-      let d = length-append (codes ";\n") rest in
-      let c = length-append (written_choice g r.1) (codes ";\n" ++ rest) in
-      let e = length-append (32 ∷ decimal (digit_of r.0)) (written_choice g r.1 ++ (codes ";\n" ++ rest)) in
-      let f = length-append (decimal x.id) (32 ∷ decimal (digit_of r.0) ++ (written_choice g r.1 ++ (codes ";\n" ++ rest))) in
-      omega (arith, short_number x.id a.0, short_digit r.0, b.0)
+  short_rows long (x ∷ xs) (r ∷ rows) a b = search (rules, short_rows long xs rows a.1 b.1, length-append, x.id, short_number, short_digit)
 
   short_choice : (c : Option ℕ) → IfSome c (λ v. v < length g) → length (written_choice g c) ≤ 1 + most_digits
-  short_choice None h = omega arith
-  short_choice (Some v) h = let k = short_number (id_of g v) (w.ids v h) in omega arith
+  short_choice x0 h = search (rules, short_number)
 
   -- a text of rows whose choices are at most so long
   short_text : (long : ℕ) (rows : SolutionRows) → AllByRecursion (λ r. length (written_choice g r.1) ≤ long) rows

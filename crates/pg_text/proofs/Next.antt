@@ -1,8 +1,9 @@
 -- The token at a place, from runs of bytes.
+use Rattle.std.proofs.Common.{rules}
 use Rattle.std.proofs.Common.{◌≡◌, ℕ, ◌+◌, ◌-◌, ◌<◌, ◌≤◌, zero, suc, Bool, true, false, List, [], ◌∷◌, ◌++◌, length, drop, take, get_or, refl, sym}
-use Rattle.std.proofs.Common.{◌∙◌, ap, subst, arith, inr, ◌⊎◌, append_assoc, length-append, length-drop}
+use Rattle.std.proofs.Common.{◌∙◌, ap, subst, arith, ◌⊎◌, append_assoc, length-append, length-drop}
 use Rattle.memchr.specs.Find.{IsFirstByte, is_byte}
-use Rattle.std.specs.Prelude.{not, ◌==◌, ◌≢◌, Some, None}
+use Rattle.std.specs.Prelude.{not, ◌≢◌, Some, None}
 use Rattle.std.proofs.lemmas.Bool.{eqb-true, ne_eqb, false_from_ne_true}
 use Rattle.std.proofs.lemmas.List.{take_all, drop_more, drop-drop, take-append-drop, length-take-le, take_at, drop_at}
 use Rattle.pg_text.specs.declared.lexer.Kind.{Kind}
@@ -15,22 +16,13 @@ use Rattle.pg_text.proofs.Runs.{all-append}
 -- a run whose first byte passes has a byte
 run_nonempty : (test : ℕ → Bool) (text : List ℕ) (from to : ℕ) (run : List ℕ) → IsRun test text from to run → from < length text
     → test (get_or text from 0) ≡ true → EndsRun test (drop to text) → 0 < length run
-run_nonempty test text from to [] r h p e = absurd (
-    let s : to ≡ from = let f = r.end in omega arith in
-    let g : EndsRun test (get_or text from 0 ∷ drop (from + 1) text) = subst (EndsRun test) (ap (λ n. drop n text) s ∙ drop_more text from 0 h) e in
-    cc (p, g))
-run_nonempty test text from to (b ∷ run) r h p e = omega arith
+run_nonempty test text from to x4 r h p e = search (rules, drop_more)
 
 module _ (text : List ℕ) (from : ℕ) (inside : from < length text) where
   -- a body that begins here is a token
   from_body : (t : Token) (to : ℕ) (body : List ℕ) → drop from text ≡ body ++ drop to text → to ≡ from + length body → IsSpelling t body
       → IsWhole t (drop to text) → IsToken text from from to t
-  from_body t to body e n s w = record {
-    blanks = [];
-    body = body;
-    begins = record { split = e; blank = tt; placed = omega arith; spelled = s; whole = w };
-    end = omega arith;
-  }
+  from_body t to body e n s w = grind (arith)
 
   pub word_at : (to : ℕ) (run : List ℕ) → IsRun is_letter text from to run → is_letter (get_or text from 0) ≡ true → EndsRun is_letter (drop to text)
       → IsToken text from from to (Word run)
@@ -57,10 +49,7 @@ module _ (text : List ℕ) (from : ℕ) (inside : from < length text) where
 
   pub name_at : (inner : List ℕ) (to : ℕ) → get_or text from 0 ≡ 34 → AllAre is_no_quote inner → drop (from + 1) text ≡ inner ++ 34 ∷ drop to text
       → to ≡ from + length inner + 2 → IsToken text from from to (Name inner)
-  name_at inner to q p e n =
-      from_body (Name inner) to (34 ∷ (inner ++ 34 ∷ []))
-      (drop_more text from 0 inside ∙ (ap (λ b. b ∷ drop (from + 1) text) q ∙ ap (λ xs. 34 ∷ xs) (e ∙ sym (append_assoc inner (34 ∷ []) (drop to text)))))
-      (let f = length-append inner (34 ∷ []) in omega arith) (p, refl) tt
+  name_at inner to q p e n = search (rules, from_body, drop_more, append_assoc, length-append)
 
 -- no quote among the first bytes
 pub plain_front : (hay : List ℕ) (k : ℕ) → ((j : ℕ) → j < k → is_quote (get_or hay j 0) ≡ true → ⊥) → AllAre is_no_quote (take k hay)
@@ -76,12 +65,7 @@ plain_all hay none = subst (AllAre is_no_quote) (take_all (length hay) hay (omeg
 -- the bytes up to the first quote
 pub quote_split : (text : List ℕ) (start k : ℕ) → k < length (drop start text) → is_quote (get_or (drop start text) k 0) ≡ true
     → drop start text ≡ take k (drop start text) ++ 34 ∷ drop (start + k + 1) text
-quote_split text start k h q =
-    let hay = drop start text in
-    let e : drop k hay ≡ 34 ∷ drop (start + k + 1) text =
-    drop_more hay k 0 h ∙ (ap (λ b. b ∷ drop (k + 1) hay) (eqb-true (get_or hay k 0) 34 q)
-    ∙ ap (λ xs. 34 ∷ xs) (drop-drop (k + 1) start text ∙ ap (λ n. drop n text) (omega arith))) in
-    sym (take-append-drop k hay) ∙ ap (λ xs. take k hay ++ xs) e
+quote_split text start k h q = search (rules, drop_more, eqb-true, drop-drop, take-append-drop)
 
 -- a token behind blanks
 pub token_past : (text : List ℕ) (at from end to : ℕ) (run : List ℕ) (t : Token) → IsRun is_blank text at from run → IsToken text from end to t
@@ -120,10 +104,7 @@ piece_past kind.Bad text at from end to run r i = record {
 
 -- a token takes a byte at least
 body_nonempty : (t : Token) (body : List ℕ) → IsSpelling t body → 0 < length body
-body_nonempty (Number n) body s = s.0
-body_nonempty (Word n) body s = s.0
-body_nonempty (Name n) body s = let e = ap length s.1 in omega arith
-body_nonempty _ body s = let e = ap length s in omega arith
+body_nonempty x0 body s = search (rules)
 
 -- it ends behind the place, and within the text
 pub token_ahead : (text : List ℕ) (at from to : ℕ) (t : Token) → IsToken text at from to t → (at < to) × (at ≤ length text → to ≤ length text)
@@ -156,17 +137,11 @@ name_found text hay from more h q e f =
 
 pub name_lost : (text hay : List ℕ) (from : ℕ) → from < length text → get_or text from 0 ≡ 34 → hay ≡ drop (from + 1) text
     → IsFirstByte (is_byte 34) hay None → IsNoToken text from from
-name_lost text hay from h q e f =
-    let g : IsFirstByte (is_byte 34) (drop (from + 1) text) None = subst (λ xs. IsFirstByte (is_byte 34) xs None) e f in
-    nothing_at text from h (rw q refl) (inr (q, plain_all (drop (from + 1) text) (λ j k t. g j (omega arith) k t)))
+name_lost text hay from h q e f = search (rules, nothing_at, plain_all)
 
 -- a byte that is none of those that begin a token
 pub begins_none : (b : ℕ) → is_digit b ≡ false → is_letter b ≡ false → b ≢ 34 → b ≢ 44 → b ≢ 59 → begins_token b ≡ false
-begins_none b d l q c s =
-    let x : (b == 34) ≡ false = ne_eqb b 34 q in
-    let y : (b == 44) ≡ false = ne_eqb b 44 c in
-    let z : (b == 59) ≡ false = ne_eqb b 59 s in
-    rw (d, l, x, y, z) refl
+begins_none b d l q c s = search (rules, ne_eqb)
 
 -- the bytes between the places of a word are its letters
 pub word_bytes : (text : List ℕ) (at from to : ℕ) (letters : List ℕ) → IsToken text at from to (Word letters) → take (to - from) (drop from text) ≡ letters

@@ -1,4 +1,5 @@
 -- A text has at most one fault as a solution of a game, and none where it is a solution's.
+use Rattle.std.proofs.Common.{rules}
 use Rattle.std.proofs.Common.{◌≡◌, ℕ, zero, suc, ◌<◌, ◌⊎◌, inl, inr, List, [], ◌∷◌, ◌++◌, refl, sym, ◌∙◌, ap, subst, arith}
 use Rattle.std.specs.Prelude.{Option, Some, None, IfSome, ⊤}
 use Rattle.std.specs.List.{AllByRecursion}
@@ -36,21 +37,11 @@ Below (state.Winner h ls i w) = Won ls × (w < 2)
 Below (Choice h ls i w c) = Won ls × (w < 2)
 
 nothing_below : (o : Option Reading) → IfSome o (λ s. Below s → ⊤)
-nothing_below None = tt
-nothing_below (Some s) = λ b. tt
+nothing_below x0 = search (rules)
 
 -- so were those that were read before
 below_step : (r : Reading) (t : Token) → IfSome (step r t) (λ s. Below s → Below r)
-below_step (Ready h ls) (token.Number n) = λ b. b
-below_step (Ready h ls) _ = tt
-below_step (Id h ls i) (token.Number n) = λ b. b.0
-below_step (Id h ls i) _ = tt
-below_step (state.Winner h ls i w) (token.Number n) = λ b. b
-below_step (state.Winner h ls i w) Semicolon = λ b. all-push_parts (λ l. l.winner < 2) ls (line i w None) b
-below_step (state.Winner h ls i w) _ = tt
-below_step (Choice h ls i w c) Semicolon = λ b. all-push_parts (λ l. l.winner < 2) ls (line i w (Some c)) b
-below_step (Choice h ls i w c) _ = tt
-below_step r t = nothing_below (step r t)
+below_step r t = search (rules, all-push_parts, nothing_below)
 
 below_run : (r s : Reading) (ts : List Token) → run (Some r) ts ≡ Some s → Below s → Below r
 below_run r s [] e b = let f : r ≡ s = cc in subst Below (sym f) b
@@ -61,9 +52,7 @@ below_run r s (t ∷ ts) e b = go (λ q f. below_run q s ts f b) (step r t) (bel
     go later (Some q) one f = one (later q f)
 
 next_line : (h : Option ℕ) (ls : List WrittenSolutionLine) (i : ℕ) → run (Some (end_of h ls)) (token.Number i ∷ []) ≡ Some (Id h ls i)
-next_line None [] i = refl
-next_line None (l ∷ ls) i = refl
-next_line (Some n) ls i = refl
+next_line x0 ls i = search (rules)
 
 before_run : (h : Option ℕ) (ls : List WrittenSolutionLine) (i : ℕ) (more : List Token)
     → run (Some Start) ((solution_tokens h ls ++ token.Number i ∷ []) ++ more) ≡ run (Some (Id h ls i)) more
@@ -74,10 +63,7 @@ before_run h ls i more =
 
 -- a winner inside what is read to the end is below 2 where all that were read are
 inner_winner : (xs m : List Token) (n : ℕ) (s : Reading) → IsBeforeWinner xs → run (Some Start) (xs ++ token.Number n ∷ m) ≡ Some s → Below s → n < 2
-inner_winner xs m n s (h, ls, i, o, x) e b =
-    let f : run (Some (Id h ls i)) (token.Number n ∷ m) ≡ Some s =
-    sym (before_run h ls i (token.Number n ∷ m)) ∙ (ap (λ ts. run (Some Start) (ts ++ token.Number n ∷ m)) (sym x) ∙ e) in
-    (below_run (state.Winner h ls i n) s m f b).1
+inner_winner xs m n s (h, ls, i, o, x) e b = search (rules, before_run, below_run)
 
 later_winner : (xs ys m : List Token) (n : ℕ) → IsBeforeWinner xs → IsBeforeWinner ys → ys ≡ xs ++ token.Number n ∷ m → n < 2
 later_winner xs ys m n a (h, ls, i, o, y) e =
@@ -91,9 +77,7 @@ winner_once : (text : List ℕ) (a b : ℕ) → IsPlayerFault IsSomeSolutionText
 winner_once = player_once BeginsSolutionText IsSomeSolutionText IsBeforeWinner solution_prefix solution_begins (λ xs ys m n a b c. later_winner xs ys m n a b)
 
 below_end : (h : Option ℕ) (ls : List WrittenSolutionLine) → Won ls → Below (end_of h ls)
-below_end None [] w = tt
-below_end None (l ∷ ls) w = w
-below_end (Some n) ls w = w
+below_end x0 ls w = search (rules)
 
 -- a wrong winner is in no text whose winners are 0 and 1
 winner_or_lines : (text : List ℕ) (a : ℕ) (us : List Placed) (lines : List WrittenSolutionLine) → IsPlayerFault IsSomeSolutionText IsBeforeWinner text a
@@ -155,13 +139,7 @@ before g text (suc (suc (suc (suc (suc (suc zero)))))) (ls, s, r, t, m) = (ls, s
 before g text _ p = p
 
 passed : (g : Graph) (text : List ℕ) (e : SolutionTextFault) → IsSolutionFaultOf g text e → Passed g text (stage e)
-passed g text (Syntax x) (ts, s, r) = (ts, s)
-passed g text (Number x) (ts, s, i, r) = (ts, s, i)
-passed g text (Winner x) (ts, s, i, f, r) = (ts, s, i, f)
-passed g text (Stranger x) (ls, s, r) = (ls, s)
-passed g text (Twice x) (ls, s, n, r) = (ls, s, n)
-passed g text (Missing x) (ls, s, n, t, r) = (ls, s, n, t)
-passed g text _ r = tt
+passed g text x2 r = search (rules)
 
 stopped : (g : Graph) (text : List ℕ) (e : SolutionTextFault) → IsSolutionFaultOf g text e → Passed g text (suc (stage e)) → e ≡ Memory
 stopped g text Memory a p = refl
@@ -192,10 +170,8 @@ one_solution_fault g text =
     one_fault_of (Passed g text) (before g text) Memory stage (IsSolutionFaultOf g text) (passed g text) (stopped g text) (same g text)
 
 stage_below : (e : SolutionTextFault) → stage e < 7
-stage_below Memory = omega arith
-stage_below _ = omega arith
+stage_below x0 = search (rules)
 
 pub solution_text_or_fault : SolutionTextOrFault
 solution_text_or_fault g text rows e t b =
-    let p : Passed g text 7 = (t.lines, t.spelled, t.says.no_stranger, t.says.once, t.says.complete) in
-    no_fault (Passed g text) (before g text) Memory stage (IsSolutionFaultOf g text) (passed g text) (stopped g text) 7 e p (stage_below e) b
+    search (rules, t.lines, t.spelled, t.says.no_stranger, t.says.once, t.says.complete, no_fault, before, passed, stopped, stage_below)

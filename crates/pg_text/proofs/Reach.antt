@@ -1,9 +1,10 @@
 -- Tokens that follow one another.
+use Rattle.std.proofs.Common.{rules}
 use Rattle.std.proofs.Common.{◌≡◌, ℕ, ◌+◌, Bool, List, [], ◌∷◌, ◌++◌, length, drop, refl, sym, ◌∙◌, ap, subst, arith, append_assoc, length-append}
 use Rattle.pg_text.specs.declared.lexer.Kind.{Kind}
 use Rattle.pg_text.specs.declared.lexer.Kind.TheVariants as kind
-use Rattle.pg_text.specs.Token.{Token, Number, Word, Name, Comma, Semicolon, IsWhole, Placed, Begins, Spells}
-use Rattle.pg_text.specs.Bytes.{is_blank, is_digit, is_letter, AllAre, EndsRun}
+use Rattle.pg_text.specs.Token.{Token, IsWhole, Placed, Begins, Spells}
+use Rattle.pg_text.specs.Bytes.{is_blank, AllAre, EndsRun}
 use Rattle.pg_text.specs.Fault.{IsLexicalFault}
 use Rattle.pg_text.specs.private.FirstFault.{placed}
 use Rattle.pg_text.specs.private.Piece.{IsToken, IsNoToken, IsPieceOf, IsNextPiece}
@@ -24,18 +25,14 @@ reaches_all text at mid to (t ∷ ts) us (m, i, r) s = (m, i, reaches_all text m
 pub reaches_spells : (text : List ℕ) (at to : ℕ) (ts us : List Placed) → ReadsTo text at ts to → Spells to (drop to text) us
     → Spells at (drop at text) (ts ++ us)
 reaches_spells text at to [] us r s = subst (λ m. Spells m (drop m text) us) r s
-reaches_spells text at to (t ∷ ts) us (m, i, r) s =
-    (i.blanks, i.body, drop m text, i.begins, subst (λ n. Spells n (drop m text) (ts ++ us)) i.end (reaches_spells text m to ts us r s))
+reaches_spells text at to (t ∷ ts) us (m, i, r) s = search (rules, reaches_spells text m to ts us r s, i.blanks, i.body, i.begins, i.end)
 
 -- a run that ends before more bytes ends before fewer
 ends_sooner : (test : ℕ → Bool) (xs ys : List ℕ) → EndsRun test (xs ++ ys) → EndsRun test xs
-ends_sooner test [] ys e = tt
-ends_sooner test (x ∷ xs) ys e = e
+ends_sooner test x1 ys e = search (rules)
 
 whole_sooner : (t : Token) (xs ys : List ℕ) → IsWhole t (xs ++ ys) → IsWhole t xs
-whole_sooner (Number n) xs ys w = ends_sooner is_digit xs ys w
-whole_sooner (Word n) xs ys w = ends_sooner is_letter xs ys w
-whole_sooner _ xs ys w = tt
+whole_sooner x0 xs ys w = search (rules, ends_sooner)
 
 -- tokens up to a place spell the text up to there, and up to the end of blanks that follow
 abbrev Cut : List ℕ → ℕ → List Placed → List ℕ → ℕ → Type 0
@@ -60,19 +57,7 @@ reaches_cut text at stop (t ∷ ts) blanks back (m, i, r) e b =
     )
 
 pub lexical_fault : (text : List ℕ) (ts : List Placed) (stop bad : ℕ) → ReadsTo text 0 ts stop → IsNoToken text stop bad → IsLexicalFault text bad
-lexical_fault text ts stop bad r n =
-    let c = reaches_cut text 0 stop ts n.blanks (n.byte ∷ n.after) r n.split n.blank in
-    record {
-      before = c.0;
-      byte = n.byte;
-      after = n.after;
-      tokens = ts;
-      split = c.1;
-      placed = let e = c.3 in let f = n.placed in omega arith;
-      spelled = c.2;
-      solid = n.solid;
-      wrong = n.wrong;
-    }
+lexical_fault text ts stop bad r n = search (rules, reaches_cut, n.blanks, n.byte, n.after, n.split, n.blank, n.placed, n.solid, n.wrong)
 
 pub later_fault : (text : List ℕ) (ts : List Placed) (at bad : ℕ) → ReadsTo text 0 ts at → IsBadFrom text at bad → IsLexicalFault text bad
 later_fault text ts at bad r (us, stop, s, n) = lexical_fault text (ts ++ us) stop bad (reaches_all text 0 at stop ts us r s) n
@@ -80,13 +65,7 @@ later_fault text ts at bad r (us, stop, s, n) = lexical_fault text (ts ++ us) st
 -- a piece that is neither the end nor a fault is a token
 pub piece_token : (k : Kind) (text : List ℕ) (at from to : ℕ) → IsPieceOf k text at from to → (k ≡ kind.Bad → ⊥) → (k ≡ kind.End → ⊥)
     → (t : Token) × IsToken text at from to t
-piece_token (kind.Number value) text at from to (n, e, i) b d = (Number n, i)
-piece_token kind.Word text at from to (n, i) b d = (Word n, i)
-piece_token kind.Name text at from to (n, i) b d = (Name n, i)
-piece_token kind.Comma text at from to i b d = (Comma, i)
-piece_token kind.Semicolon text at from to i b d = (Semicolon, i)
-piece_token kind.End text at from to i b d = absurd (d refl)
-piece_token kind.Bad text at from to i b d = absurd (b refl)
+piece_token x0 text at from to i b d = search (rules)
 
 -- where only blanks follow
 pub reaches_end : (text : List ℕ) (at to : ℕ) (ts : List Placed) → ReadsTo text at ts to → AllAre is_blank (drop to text) → Spells at (drop at text) ts

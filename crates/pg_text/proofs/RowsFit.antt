@@ -1,6 +1,7 @@
 -- The rows that the lines of a solution text say have vertices for choices.
+use Rattle.std.proofs.Common.{rules}
 use Rattle.std.proofs.Common.{◌≡◌, ℕ, zero, suc, ◌<◌, Bool, true, false, not, List, [], ◌∷◌, length, map, get_or, refl, sym, subst, arith}
-use Rattle.std.specs.Prelude.{◌==◌, Option, Some, None, IfSome, IfOk, MatchResult, Result, Ok, Err, find, slice_get}
+use Rattle.std.specs.Prelude.{◌==◌, Option, Some, None, IfSome, IfOk, MatchResult, Result, find, slice_get}
 use Rattle.std.specs.List.{Contains}
 use Rattle.std.proofs.lemmas.Bool.{eqb-true, not-false}
 use Rattle.std.proofs.lemmas.List.{get_or-map, length-map}
@@ -59,5 +60,4 @@ module _ (g : Graph) (lines : List WrittenSolutionLine) (rows : SolutionRows) (i
 -- where the rows of lines are answered
 pub fit_answer : (g : Graph) (lines : List WrittenSolutionLine) (r : Result Solution SolutionTextFault) (Q : SolutionTextFault → Type 0) → IsGame g
     → MatchResult r (λ s. AreLinesOf g lines s.rows) Q → IfOk r (λ s. AreSolutionRows g s.rows)
-fit_answer g lines (Ok s) Q i a = are_rows g lines s.rows i a
-fit_answer g lines (Err e) Q i a = tt
+fit_answer g lines x2 x3 i a = search (rules, are_rows)

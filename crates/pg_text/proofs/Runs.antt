@@ -1,6 +1,7 @@
 -- Runs of bytes that pass a test.
-use Rattle.std.proofs.Common.{◌≡◌, ℕ, ◌+◌, ◌*◌, ◌-◌, ◌^◌, ◌<◌, ◌≤◌, Bool, true, false, List, [], ◌∷◌, ◌++◌, length, drop, get_or, refl, sym, ◌∙◌, ap}
-use Rattle.std.proofs.Common.{arith, add-one, inl, inr, append_assoc, length-append}
+use Rattle.std.proofs.Common.{rules}
+use Rattle.std.proofs.Common.{◌≡◌, ℕ, ◌+◌, ◌*◌, ◌-◌, ◌^◌, ◌<◌, ◌≤◌, Bool, true, false, List, [], ◌∷◌, ◌++◌, length, get_or, refl, ◌∙◌, ap}
+use Rattle.std.proofs.Common.{arith, add-one, append_assoc, length-append}
 use Rattle.std.specs.Prelude.{fold, ◌&&◌, nat_le}
 use Rattle.std.proofs.lemmas.Bool.{cases_lt, leb-true}
 use Rattle.std.proofs.lemmas.List.{drop_more}
@@ -14,11 +15,7 @@ all-append test (x ∷ xs) ys a b = (a.0, all-append test xs ys a.1 b)
 
 pub run_more : (test : ℕ → Bool) (text : List ℕ) (from to : ℕ) (run : List ℕ) → IsRun test text from to run → to < length text
     → test (get_or text to 0) ≡ true → IsRun test text from (to + 1) (run ++ get_or text to 0 ∷ [])
-run_more test text from to run r h p = record {
-  split = r.split ∙ (ap (λ xs. run ++ xs) (drop_more text to 0 h) ∙ sym (append_assoc run (get_or text to 0 ∷ []) (drop (to + 1) text)));
-  passes = all-append test run (get_or text to 0 ∷ []) r.passes (p, tt);
-  end = let e = r.end in let f = length-append run (get_or text to 0 ∷ []) in omega arith;
-}
+run_more test text from to run r h p = search (rules, r.split, drop_more, append_assoc, all-append, r.passes, r.end, length-append)
 
 pub fold-push : (ds : List ℕ) (n d : ℕ) → fold (λ n d. 10 * n + (d - 48)) n (ds ++ d ∷ []) ≡ 10 * fold (λ n d. 10 * n + (d - 48)) n ds + (d - 48)
 fold-push [] n d = refl
@@ -36,17 +33,11 @@ pub record Counts (value n : ℕ) : Type 0 where
 -- one more digit, where the value so far is within the limit
 pub counts_more : (value d n : ℕ) (ds : List ℕ) → Counts value (value_of ds) → value ≤ 2147483647 → d < 256 → n ≡ d - 48
     → Counts (value * 10 + n) (value_of (ds ++ d ∷ []))
-counts_more value d n ds c h b e =
-    let same : value ≡ value_of ds = elim (cases_lt 2147483647 (value_of ds)) [ inr l ↦ c.small l | inl l ↦ absurd (let f = c.large l in omega arith) ] in
-    let p = value-push ds d in
-    record { small = λ s. omega arith; large = λ s. omega arith; bound = omega arith }
+counts_more value d n ds c h b e = search (rules, cases_lt, value-push)
 
 -- and where it is above
 pub counts_same : (value d : ℕ) (ds : List ℕ) → Counts value (value_of ds) → 2147483647 < value → Counts value (value_of (ds ++ d ∷ []))
-counts_same value d ds c h =
-    let above : 2147483647 < value_of ds = elim (cases_lt 2147483647 (value_of ds)) [ inr l ↦ absurd (let f = c.small l in omega arith) | inl l ↦ l ] in
-    let p = value-push ds d in
-    record { small = λ s. absurd (omega arith); large = λ s. h; bound = c.bound }
+counts_same value d ds c h = search (rules, cases_lt, value-push)
 
 -- digits of a number with so few of them
 pub digits_more : (value k d n : ℕ) (ds : List ℕ) → value < 10 ^ k → value ≡ value_of ds → is_digit d ≡ true → n ≡ d - 48

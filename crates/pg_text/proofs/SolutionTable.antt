@@ -1,7 +1,8 @@
 -- The table of a game's vertices, one line of a solution text after another.
+use Rattle.std.proofs.Common.{rules}
 use Rattle.std.proofs.Common.{◌≡◌, ℕ, zero, suc, ◌+◌, ◌<◌, Bool, true, false, not, ◌||◌, inl, inr, List, [], ◌∷◌, ◌++◌, length, map, take, drop}
 use Rattle.std.proofs.Common.{get_or, set, refl, sym, ◌∙◌, ap, subst, arith, length-set, get_or-set_same, get_or-set_other}
-use Rattle.std.specs.Prelude.{◌==◌, if◌then◌else◌, Option, Some, None, find, slice_get, slice_index_or}
+use Rattle.std.specs.Prelude.{◌==◌, if◌then◌else◌, Option, Some, None, find, slice_get}
 use Rattle.std.specs.Option.{option_or}
 use Rattle.std.specs.List.{Contains, list_any}
 use Rattle.std.proofs.lemmas.Bool.{eqb-true, eq-eqb, false_from_ne_true}
@@ -11,7 +12,7 @@ use Rattle.std.proofs.lemmas.List.Elements.{Contains-push_cases}
 use Rattle.std.proofs.lemmas.List.Folds.{list_any-append, list_any_at}
 use Rattle.std.proofs.Math.Bool.{or-false, or-true}
 use Rattle.pg_game.specs.declared.player.Player.{Player}
-use Rattle.pg_game.specs.declared.player.Player.TheVariants.{Even, Odd}
+use Rattle.pg_game.specs.declared.player.Player.TheVariants.{Even}
 use Rattle.pg_game.specs.Player.{digit_of}
 use Rattle.pg_game.specs.Graph.{Graph, IsGame, id_of, no_vertex}
 use Rattle.pg_game.specs.Specification.{first_repeated}
@@ -35,21 +36,7 @@ among ns n = list_any (λ m. m == n) ns
 repeated-push : (earlier ns : List ℕ) (n : ℕ)
     → first_repeated earlier (ns ++ n ∷ []) ≡ option_or (first_repeated earlier ns) (if among earlier n || among ns n then Some n else None)
 repeated-push earlier [] n = rw or-false refl
-repeated-push earlier (x ∷ ns) n = go (among earlier x) refl (repeated-push (x ∷ earlier) ns n)
-  where
-    turn : (a b c : Bool) → ((a || b) || c) ≡ (b || (a || c))
-    turn true true c = refl
-    turn true false c = refl
-    turn false true c = refl
-    turn false false c = refl
-
-    go : (b : Bool) → among earlier x ≡ b
-        → (first_repeated (x ∷ earlier) (ns ++ n ∷ []) ≡ option_or (first_repeated (x ∷ earlier) ns)
-        (if among (x ∷ earlier) n || among ns n then Some n else None))
-        → first_repeated earlier (x ∷ ns ++ n ∷ []) ≡ option_or (first_repeated earlier (x ∷ ns)) (if among earlier n || among (x ∷ ns) n then Some n else None)
-    go true e h = rw e refl
-    go false e h =
-        rw e (h ∙ ap (λ (b : Bool). option_or (first_repeated (x ∷ earlier) ns) (if b then Some n else None)) (turn (x == n) (among earlier n) (among ns n)))
+repeated-push earlier (x ∷ ns) n = search (rules, repeated-push (x ∷ earlier) ns n)
 
 any-ids : (lines : List WrittenSolutionLine) (n : ℕ) → among (map (λ l. l.id) lines) n ≡ has_line lines n
 any-ids [] n = refl
@@ -58,19 +45,14 @@ any-ids (l ∷ lines) n = ap (λ b. (l.id == n) || b) (any-ids lines n)
 -- one more line: which identifier has two first
 pub twice-push : (lines : List WrittenSolutionLine) (l : WrittenSolutionLine)
     → first_twice (lines ++ l ∷ []) ≡ option_or (first_twice lines) (if has_line lines l.id then Some l.id else None)
-twice-push lines l =
-    let f : WrittenSolutionLine → ℕ = λ x. x.id in
-    ap (first_repeated []) (map-append f lines (l ∷ []))
-    ∙ (repeated-push [] (map f lines) l.id
-    ∙ ap (λ (b : Bool). option_or (first_twice lines) (if b then Some l.id else None)) (any-ids lines l.id))
+twice-push lines l = search (rules, map-append, repeated-push, any-ids)
 
 pub has_line-push : (lines : List WrittenSolutionLine) (l : WrittenSolutionLine) (id : ℕ) → has_line (lines ++ l ∷ []) id ≡ (has_line lines id || (l.id == id))
 has_line-push lines l id = list_any-append (λ x. x.id == id) lines (l ∷ []) ∙ ap (λ b. has_line lines id || b) (or-false (l.id == id))
 
 -- a line is found by its identifier
 pub has_line_at : (lines : List WrittenSolutionLine) (l : WrittenSolutionLine) → Contains lines l → has_line lines l.id ≡ true
-has_line_at lines l (k, h, e) =
-    list_any_at (λ x. x.id == l.id) lines k l h (eq-eqb (slice_index_or lines k l).id l.id (ap (λ (x : WrittenSolutionLine). x.id) e))
+has_line_at lines l (k, h, e) = search (rules, list_any_at, eq-eqb)
 
 module _ {g : Graph} {lines : List WrittenSolutionLine} {rows : SolutionRows} {said : List Bool} {twice : Option ℕ} (h : HoldsLines g lines rows said twice)
     (l : WrittenSolutionLine) (v : ℕ) (n : IsNamed g l.id v) (home : first_stranger g (l ∷ []) ≡ None) where
@@ -90,26 +72,7 @@ module _ {g : Graph} {lines : List WrittenSolutionLine} {rows : SolutionRows} {s
 
   -- a line of a vertex that has one already
   pub holds_again : members said v ≡ true → HoldsLines g (lines ++ l ∷ []) rows said (option_or twice (Some l.id))
-  holds_again t =
-      let some : has_line lines l.id ≡ true = sym mark_is ∙ t in
-      record {
-        game = h.game;
-        size = h.size;
-        marks = h.marks;
-        no_stranger = still_none;
-        first = ap (λ (o : Option ℕ). option_or o (Some l.id)) h.first ∙ sym (twice-push lines l ∙ ap more some);
-        marked = λ u lu. h.marked u lu ∙ (already u lu some (l.id == id_of g u) refl ∙ sym (has_line-push lines l (id_of g u)));
-        says = λ e. absurd (some_first twice e);
-      }
-    where
-      some_first : (o : Option ℕ) → option_or o (Some l.id) ≡ None → ⊥
-      some_first None e = cc e
-      some_first (Some x) e = cc e
-
-      already : (u : ℕ) → u < length g → has_line lines l.id ≡ true → (b : Bool) → (l.id == id_of g u) ≡ b
-          → has_line lines (id_of g u) ≡ (has_line lines (id_of g u) || (l.id == id_of g u))
-      already u lu some true e = let q : l.id ≡ id_of g u = eqb-true l.id (id_of g u) e in rw (e, ← q, some) refl
-      already u lu some false e = rw (e, or-false) refl
+  holds_again t = search (rules, mark_is, h.game, h.size, h.marks, still_none, h.first, twice-push, h.marked, has_line-push, eqb-true, or-false)
 
   -- the first line of a vertex
   pub holds_more : members said v ≡ false → HoldsLines g (lines ++ l ∷ []) (set rows v (row_of_line g l)) (set said v true) twice
@@ -206,24 +169,16 @@ IsChoice g None (Some v) = ⊥
 IsChoice g (Some id) None = ⊥
 
 pub player_back : (p : Player) → p ≡ player_of (digit_of p)
-player_back Even = refl
-player_back Odd = refl
+player_back x0 = search (rules)
 
 -- a line whose identifiers are the game's says its row, and is no stranger
 pub row_is : (g : Graph) (id : ℕ) (winner : Player) (c w : Option ℕ) → IsGame g → IsChoice g c w
     → (winner, w) ≡ row_of_line g (record { id = id; winner = digit_of winner; choice = c })
-row_is g id winner None None i k = ap (λ p. (p, None)) (player_back winner)
-row_is g id winner (Some k) (Some v) i n =
-    ap (λ p. (p, Some v)) (player_back winner) ∙ ap (λ u. (player_of (digit_of winner), Some u)) (sym (number_at g k v i n))
-row_is g id winner None (Some v) i n = absurd n
-row_is g id winner (Some k) None i n = absurd n
+row_is g id winner x3 x4 i k = search (rules, player_back, number_at)
 
 pub at_home : (g : Graph) (id v winner : ℕ) (c w : Option ℕ) → IsNamed g id v → IsChoice g c w
     → first_stranger g (record { id = id; winner = winner; choice = c } ∷ []) ≡ None
-at_home g id v winner None None n k = let t = named_is g id v n in rw t refl
-at_home g id v winner (Some k) (Some u) n m = let t = named_is g id v n in let s = named_is g k u m in rw (t, s) refl
-at_home g id v winner None (Some u) n m = absurd m
-at_home g id v winner (Some k) None n m = absurd m
+at_home g id v winner x4 x5 n k = search (rules, named_is)
 
 -- the next line of those that were read
 pub next_line : (ls : List SolutionLine) (i : ℕ) (d : SolutionLine) → i < length ls

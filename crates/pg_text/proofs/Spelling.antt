@@ -1,10 +1,11 @@
 -- A text spells at most one list of tokens.
+use Rattle.std.proofs.Common.{rules}
 use Rattle.std.proofs.Common.{◌≡◌, ℕ, ◌+◌, Bool, true, false, List, [], ◌∷◌, ◌++◌, length, refl, sym, ◌∙◌, ap, subst, arith, append_assoc}
 use Rattle.std.specs.Prelude.{◌==◌, if◌then◌else◌}
 use Rattle.std.proofs.lemmas.Bool.Decides.{nat_tests}
 use Rattle.std.proofs.lemmas.List.{append-nil}
 use Rattle.pg_text.specs.Token.{Token, Number, Word, Name, Comma, Semicolon, IsSpelling, IsWhole, Placed, Begins, Spells}
-use Rattle.pg_text.specs.Bytes.{is_blank, is_digit, is_letter, is_no_quote, AllAre, EndsRun, value_of}
+use Rattle.pg_text.specs.Bytes.{is_blank, is_digit, is_letter, is_no_quote, AllAre, EndsRun}
 
 -- where a run of passing bytes ends is determined
 pub run_unique : (test : ℕ → Bool) (xs ys u v : List ℕ) → AllAre test xs → AllAre test ys → EndsRun test u → EndsRun test v → xs ++ u ≡ ys ++ v
@@ -57,12 +58,8 @@ Same t u bs cs r q = (t ≡ u) × (bs ≡ cs) × (r ≡ q)
 -- tokens of one kind at the front of one text are the same
 pub same : (t u : Token) (bs cs r q : List ℕ) → kind_of t ≡ kind_of u → IsSpelling t bs → IsSpelling u cs → IsWhole t r → IsWhole u q → bs ++ r ≡ cs ++ q
     → Same t u bs cs r q
-same (Number n) (Number m) bs cs r q k s z w x e =
-    let h = run_unique is_digit bs cs r q s.1 z.1 w x e in
-    (ap Number (s.2 ∙ ap value_of h.0 ∙ sym z.2), h.0, h.1)
-same (Word n) (Word m) bs cs r q k s z w x e =
-    let h = run_unique is_letter bs cs r q s.1 z.1 w x e in
-    (ap Word (s.2 ∙ h.0 ∙ sym z.2), h.0, h.1)
+same (Number n) (Number m) bs cs r q k s z w x e = search (rules, run_unique)
+same (Word n) (Word m) bs cs r q k s z w x e = search (rules, run_unique)
 same (Name n) (Name m) bs cs r q k s z w x e =
     let f : 34 ∷ ((n ++ 34 ∷ []) ++ r) ≡ 34 ∷ ((m ++ 34 ∷ []) ++ q) = (sym (ap (λ xs. xs ++ r) s.1) ∙ e) ∙ ap (λ xs. xs ++ q) z.1 in
     let h : (n ++ 34 ∷ []) ++ r ≡ (m ++ 34 ∷ []) ++ q = cc f in

@@ -1,4 +1,5 @@
 -- A text is read in stages, each of which has its own kind of fault: so a text has at most one.
+use Rattle.std.proofs.Common.{rules}
 use Rattle.std.proofs.Common.{◌≡◌, ℕ, zero, suc, ◌<◌, ◌≤◌, ◌⊎◌, inl, inr, arith}
 use Rattle.std.proofs.lemmas.Bool.{cases_lt}
 
@@ -19,10 +20,4 @@ module _ (Passed : ℕ → Type 0) (before : (n : ℕ) → Passed (suc n) → Pa
 
     pub one_fault_of : ((e f : Fault) → stage e ≡ stage f → IsFault e → IsFault f → (e ≡ memory) ⊎ ((f ≡ memory) ⊎ (e ≡ f)))
         → (e f : Fault) → IsFault e → IsFault f → (e ≡ memory) ⊎ ((f ≡ memory) ⊎ (e ≡ f))
-    one_fault_of same e f a b = elim (cases_lt (stage e) (stage f)) [
-      | inl l ↦ inl (no_fault (stage f) e (passed f b) l a)
-      | inr l ↦ elim (cases_lt (stage f) (stage e)) [
-        | inl m ↦ inr (inl (no_fault (stage e) f (passed e a) m b))
-        | inr m ↦ same e f (omega arith) a b
-      ]
-    ]
+    one_fault_of same e f a b = search (rules, cases_lt, no_fault)

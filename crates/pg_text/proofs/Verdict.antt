@@ -1,6 +1,7 @@
 -- Winners and choices without a fault are a solution, and a solution has no fault.
+use Rattle.std.proofs.Common.{rules}
 use Rattle.std.proofs.Common.{◌≡◌, ℕ, ◌<◌, Bool, true, false, ◌⊎◌, inl, inr, List, [], ◌∷◌, length, lt-ltb, refl, sym, ◌∙◌, subst, arith}
-use Rattle.std.specs.Prelude.{Option, Some, None, nat_lt, nat_eq}
+use Rattle.std.specs.Prelude.{Option, Some, None, nat_eq}
 use Rattle.std.specs.List.{Contains}
 use Rattle.std.proofs.lemmas.Bool.{ltb-true, eqb-true, eq-eqb, and_parts}
 use Rattle.pg_game.proofs.Players.{same_is, is_same}
@@ -8,11 +9,11 @@ use Rattle.pg_game.specs.declared.player.Player.{Player}
 use Rattle.pg_game.specs.Player.{same_player}
 use Rattle.pg_game.specs.Graph.{Graph, HasEdge, owner_of, successors_of}
 use Rattle.pg_game.specs.VertexSet.{In}
-use Rattle.pg_game.specs.Kept.{KeptEdge, option_list}
+use Rattle.pg_game.specs.Kept.{KeptEdge}
 use Rattle.pg_game.specs.Walk.{ClosedWalk}
 use Rattle.pg_game.specs.Region.{OnBadWalk}
 use Rattle.pg_game.specs.Least.{NoneHas}
-use Rattle.pg_game.proofs.Members.{some_or_none, Contains-one}
+use Rattle.pg_game.proofs.Members.{some_or_none}
 use Rattle.pg_game.proofs.Rotate.{good_from_none}
 use Rattle.pg_text.specs.Solution.{SolutionRows, winner_of, choice_of, won_by, IsSolution}
 use Rattle.pg_text.specs.Verdict.{LacksChoice, HasBadChoice, Leaves, IsOnBadWalk}
@@ -27,10 +28,7 @@ has_or_not ws w = elim (some_or_none (λ x. nat_eq x w) ws) [
 module _ (g : Graph) (rows : SolutionRows) (size : length rows ≡ length g) where
   -- a vertex of the player's set is one of the game, and he is its winner
   pub won : (p : Player) (v : ℕ) → In (won_by rows p) v → (v < length g) × (winner_of rows v ≡ p)
-  won p v i =
-      let h = and_parts (nat_lt v (length rows)) (same_player (winner_of rows v) p) i in
-      let l : v < length rows = ltb-true v (length rows) h.0 in
-      (omega arith, same_is (winner_of rows v) p h.1)
+  won p v i = search (rules, and_parts, ltb-true, same_is)
 
   choice_cases : (v : ℕ) → v < length g → owner_of g v ≡ winner_of rows v → NoneHas (LacksChoice g rows) → NoneHas (HasBadChoice g rows) → (c : Option ℕ)
       → choice_of rows v ≡ c → (w : ℕ) × (choice_of rows v ≡ Some w) × HasEdge g v w
@@ -47,15 +45,7 @@ module _ (g : Graph) (rows : SolutionRows) (size : length rows ≡ length g) whe
 
     -- a kept edge is an edge
     kept_edge : (p : Player) (v w : ℕ) → KeptEdge g p (won_by rows p) (choice_of rows) v w → HasEdge g v w
-    kept_edge p v w (i, m) = go (same_player (owner_of g v) p) refl
-      where
-        go : (b : Bool) → same_player (owner_of g v) p ≡ b → HasEdge g v w
-        go false e = rw e at m
-        go true e =
-            let c = choice_is p v i (same_is (owner_of g v) p e) in
-            let n : Contains (option_list (choice_of rows v)) w = rw e at m in
-            let one : Contains (c.0 ∷ []) w = subst (λ o. Contains (option_list o) w) c.1 n in
-            subst (HasEdge g v) (Contains-one c.0 w one) c.2
+    kept_edge p v w (i, m) = search (rules, choice_is, same_is)
 
     -- the winner of a vertex that the player wins is the player
     as_winner : (p : Player) (v w : ℕ) → winner_of rows v ≡ p → KeptEdge g p (won_by rows p) (choice_of rows) v w

@@ -1,4 +1,5 @@
 -- The written text of a game, or of winners and choices, reads as these and as nothing else.
+use Rattle.std.proofs.Common.{rules}
 use Rattle.std.proofs.Common.{◌≡◌, ℕ, zero, suc, ◌+◌, ◌<◌, false, not, List, [], ◌∷◌, length, map, get_or, refl, sym, ◌∙◌, ap, subst, arith}
 use Rattle.std.specs.Prelude.{◌==◌, Option, Some, None, IfSome, option_map, slice_get}
 use Rattle.std.specs.List.{AllByRecursion, Contains, list_any}
@@ -103,8 +104,7 @@ all_at P (x ∷ xs) zero d a l = a.0
 all_at P (x ∷ xs) (suc k) d a l = all_at P xs k d a.1 (omega arith)
 
 choice_named : (g : Graph) (c : Option ℕ) → IfSome c (λ w. w < length g) → IsChoice g (option_map (λ w. id_of g w) c) c
-choice_named g None h = tt
-choice_named g (Some w) h = record { vertex = h; id_is = refl }
+choice_named g x1 h = search (rules)
 
 none_home : (g : Graph) (lines : List solutions.WrittenSolutionLine) → AllByRecursion (λ l. first_stranger g (l ∷ []) ≡ None) lines
     → first_stranger g lines ≡ None
@@ -113,8 +113,7 @@ none_home g (l ∷ lines) a = let h = a.0 in let t = none_home g lines a.1 in st
 
 module _ (g : Graph) (rows : SolutionRows) (i : IsGame g) (are : AreSolutionRows g rows) where
   choice_at : (v : ℕ) → v < length g → IsChoice g (option_map (λ w. id_of g w) (get_or rows v no_row).1) (get_or rows v no_row).1
-  choice_at v l =
-      choice_named g (get_or rows v no_row).1 (let e = are.size in all_at (λ r. IfSome r.1 (λ w. w < length g)) rows v no_row are.choices (omega arith))
+  choice_at v l = search (rules, choice_named, no_row, are.size, all_at, are.choices)
 
   named : (v : ℕ) → v < length g → IsNamed g (id_of g v) v
   named v l = record { vertex = l; id_is = refl }
@@ -150,18 +149,7 @@ module _ (g : Graph) (rows : SolutionRows) (i : IsGame g) (are : AreSolutionRows
   row_back v l = row_is g (id_of g v) (get_or rows v no_row).0 (option_map (λ w. id_of g w) (get_or rows v no_row).1) (get_or rows v no_row).1 i (choice_at v l)
 
   says : AreRowsOf g (row_lines g g rows) rows
-  says = record {
-    size = are.size;
-    each = λ l (k, lk, e).
-        let n = length-row_lines g g rows are.size in
-        let h : k < length g = omega arith in
-        let m = are.size in
-        let is : l ≡ row_line g (vertex_at g k) (get_or rows k no_row) = sym e ∙ stands_at k l h in
-        let at : number_in g (id_of g k) ≡ k = number_at g (id_of g k) k i (named k h) in
-        subst (λ (x : solutions.WrittenSolutionLine). slice_get rows (number_in g x.id) ≡ Some (row_of_line g x)) (sym is)
-        (subst (λ v. slice_get rows v ≡ Some (row_of_line g (row_line g (vertex_at g k) (get_or rows k no_row)))) (sym at)
-        (slice_get-get_or rows k no_row (omega arith) ∙ ap (λ r. Some r) (row_back k h)));
-  }
+  says = search (rules, are.size, length-row_lines, row_line, no_row, stands_at, number_at, named, slice_get-get_or, row_back)
 
   no_others : (others : SolutionRows) → AreRowsOf g (row_lines g g rows) others → others ≡ rows
   no_others others o = same_lists others rows (o.size ∙ sym are.size) (λ k d l.

@@ -1,6 +1,7 @@
 -- The written text of a game or of a solution spells one text.
+use Rattle.std.proofs.Common.{rules}
 use Rattle.std.proofs.Common.{◌≡◌, ℕ, ◌+◌, ◌-◌, ◌%◌, ◌^◌, ◌<◌, ◌≤◌, suc, get_or, true, List, [], ◌∷◌, ◌++◌, length, map, refl, sym, ◌∙◌, ap, subst}
-use Rattle.std.proofs.Common.{arith, append_assoc, length-append, Option, Some, None, decimal, lit<}
+use Rattle.std.proofs.Common.{arith, append_assoc, length-append, Option, Some, None, decimal}
 use Rattle.std.specs.Prelude.{flat_map, codes, option_map, IfSome, ⊤}
 use Rattle.std.specs.List.{AllByRecursion, join_with_byte}
 use Rattle.std.proofs.lemmas.Bool.{le-leb}
@@ -10,7 +11,6 @@ use Rattle.std.proofs.lemmas.List.{length-map}
 use Rattle.pg_text.proofs.SolutionKeeps.{owner_small}
 use Rattle.pg_text.proofs.FirstFaults.{all-append}
 use Rattle.pg_game.specs.declared.player.Player.{Player}
-use Rattle.pg_game.specs.declared.player.Player.TheVariants.{Even, Odd}
 use Rattle.pg_game.specs.Player.{digit_of}
 use Rattle.pg_game.specs.Graph.{Graph, Vertex, id_of, priority_of, owner_of, IsGame, no_vertex, successors_of}
 use Rattle.pg_text.specs.Token.{Token, Number, Word, Comma, Semicolon, IsSpelling, IsWhole, Placed, tokens_of, Begins, Spells}
@@ -123,11 +123,7 @@ spells_list : {rest : List ℕ} {ts : List Token} (ns : List ℕ) → 0 < length
     → SpellsTokens (join_with_byte 44 (map decimal ns) ++ rest) (separated ns ++ ts)
 spells_list [] h a s w = absurd (omega arith)
 spells_list {rest = rest} {ts = ts} (n ∷ ns) h a s w =
-    let f : List ℕ = behind_commas ns in
-    let e : join_with_byte 44 (map decimal (n ∷ ns)) ++ rest ≡ decimal n ++ (f ++ rest) =
-    ap (λ xs. xs ++ rest) (join_first decimal n ns) ∙ append_assoc (decimal n) f rest in
-    let g : separated (n ∷ ns) ++ ts ≡ Number n ∷ (further ns ++ ts) = ap (λ us. us ++ ts) (separated-first n ns) in
-    rw (e, g) (spells_number n a.0 (spells_further ns a.1 s w) (list_ends ns rest w))
+    search (rules, join_first, append_assoc, further, separated-first, spells_number, spells_further, list_ends)
 
 -- the line that the written text has for a vertex
 abbrev pub line_of : Graph → Vertex → games.WrittenGameLine
@@ -144,8 +140,7 @@ pub record HasNumbers (P : ℕ → Type 0) (g : Graph) (x : Vertex) : Type 0 whe
   pub some : 0 < length (map (λ w. id_of g w) x.successors)
 
 digit_short : (p : Player) → digit_of p < 10 ^ 64
-digit_short Even = omega arith
-digit_short Odd = omega arith
+digit_short x0 = search (rules)
 
 map-twice : (g : Graph) (ws : List ℕ) → map (λ w. decimal (id_of g w)) ws ≡ map decimal (map (λ w. id_of g w) ws)
 map-twice g [] = refl
@@ -247,20 +242,16 @@ HasChoice P g r = IfSome r.1 (λ w. P (id_of g w))
 -- behind a winner, the rest of a row
 spells_choice : {rest : List ℕ} {ts : List Token} (g : Graph) (c : Option ℕ) → IfSome c (λ w. id_of g w < 10 ^ 64) → SpellsTokens rest ts
     → SpellsTokens (written_choice g c ++ (59 ∷ 10 ∷ rest)) ((solutions.choice_tokens (option_map (λ w. id_of g w) c) ++ Semicolon ∷ []) ++ ts)
-spells_choice g None h s = spells_end s
-spells_choice g (Some w) h s = spells_blank 32 refl (spells_number (id_of g w) h (spells_end s) refl)
+spells_choice g x1 h s = grind (arith, spells_end, spells_blank, spells_number)
 
 choice_ends : (g : Graph) (c : Option ℕ) (rest : List ℕ) → EndsRun is_digit (written_choice g c ++ (59 ∷ 10 ∷ rest))
-choice_ends g None rest = refl
-choice_ends g (Some w) rest = refl
+choice_ends g x1 rest = search (rules)
 
 spells_row : {rest : List ℕ} {ts : List Token} (g : Graph) (x : Vertex) (r : Player × Option ℕ) → x.id < 10 ^ 64 → HasChoice (λ n. n < 10 ^ 64) g r
     → SpellsTokens rest ts
     → SpellsTokens (decimal x.id ++ (32 ∷ decimal (digit_of r.0) ++ (written_choice g r.1 ++ (codes ";\n" ++ rest))))
     (solutions.solution_line_tokens (row_line g x r) ++ ts)
-spells_row {rest = rest} g x r i h s =
-    let winner = spells_number (digit_of r.0) (digit_short r.0) (spells_choice g r.1 h s) (choice_ends g r.1 rest) in
-    spells_number x.id i (spells_blank 32 refl winner) refl
+spells_row {rest = rest} g x r i h s = search (rules, spells_number, digit_short, spells_choice, choice_ends, x.id, spells_blank)
 
 spells_rows : (g : Graph) (xs : List Vertex) (rows : SolutionRows) → AllByRecursion (λ x. x.id < 10 ^ 64) xs
     → AllByRecursion (HasChoice (λ n. n < 10 ^ 64) g) rows
@@ -271,11 +262,7 @@ spells_rows g (x ∷ xs) (r ∷ rows) a b = spells_row g x r a.0 b.0 (spells_row
 
 have_choices : (P : ℕ → Type 0) (g : Graph) (rows : SolutionRows) → ((v : ℕ) → v < length g → P (id_of g v)) → AreSolutionRows g rows
     → AllByRecursion (HasChoice P g) rows
-have_choices P g rows ids are = all_imply (λ r. IfSome r.1 (λ w. w < length g)) (HasChoice P g) rows (λ r h. one r.1 h) are.choices
-  where
-    one : (c : Option ℕ) → IfSome c (λ w. w < length g) → IfSome c (λ w. P (id_of g w))
-    one None h = tt
-    one (Some w) h = ids w h
+have_choices P g rows ids are = search (rules, all_imply, are.choices)
 
 -- the written text of winners and choices spells their own lines
 pub spells_solution : (g : Graph) (rows : SolutionRows) → IsGame g → HasShortNumbers g → AreSolutionRows g rows
@@ -287,10 +274,7 @@ spells_solution g rows i short are =
     (spells_header (codes "paritysol") (greatest_id g) (omega arith) letters (last_id (λ n. n < 10 ^ 64) g i short.ids) lines).from 0
 
 pub short_numbers : (g : Graph) → IsWithinLimits g → HasShortNumbers g
-short_numbers g w = record {
-  ids = λ v l. let h = w.ids v l in omega (arith, lit< {m = max_number} {n = 10 ^ 64} tt);
-  priorities = λ v l. let h = w.numbers v l in omega (arith, lit< {m = max_number} {n = 10 ^ 64} tt);
-}
+short_numbers g w = search (rules, w.ids, w.numbers)
 
 fits_number : (n : ℕ) → n ≤ max_number → fits (Number n) ≡ true
 fits_number n h = le-leb n max_number h
@@ -301,8 +285,7 @@ fits_separated (n ∷ []) a = (fits_number n a.0, tt)
 fits_separated (n ∷ m ∷ ns) a = (fits_number n a.0, (refl, fits_separated (m ∷ ns) a.1))
 
 fits_digit : (p : Player) → fits (Number (digit_of p)) ≡ true
-fits_digit Even = refl
-fits_digit Odd = refl
+fits_digit x0 = search (rules)
 
 fits_lines : (g : Graph) (xs : List Vertex) → AllByRecursion (λ x. HasNumbers (λ n. n ≤ max_number) g x) xs
     → AllFit (flat_map games.game_line_tokens (map (λ x. line_of g x) xs))
@@ -329,17 +312,14 @@ written_game_spells g i w =
 
 fits_choice : (g : Graph) (c : Option ℕ) → IfSome c (λ w. id_of g w ≤ max_number)
     → AllFit (solutions.choice_tokens (option_map (λ w. id_of g w) c) ++ Semicolon ∷ [])
-fits_choice g None h = (refl, tt)
-fits_choice g (Some w) h = (fits_number (id_of g w) h, (refl, tt))
+fits_choice g x1 h = search (rules, fits_number)
 
 fits_rows : (g : Graph) (xs : List Vertex) (rows : SolutionRows) → AllByRecursion (λ x. x.id ≤ max_number) xs
     → AllByRecursion (HasChoice (λ n. n ≤ max_number) g) rows
     → AllFit (flat_map solutions.solution_line_tokens (row_lines g xs rows))
 fits_rows g [] rows a b = tt
 fits_rows g (x ∷ xs) [] a b = tt
-fits_rows g (x ∷ xs) (r ∷ rows) a b =
-    all-append (λ t. fits t ≡ true) (solutions.solution_line_tokens (row_line g x r)) (flat_map solutions.solution_line_tokens (row_lines g xs rows))
-    (fits_number x.id a.0, (fits_digit r.0, fits_choice g r.1 b.0)) (fits_rows g xs rows a.1 b.1)
+fits_rows g (x ∷ xs) (r ∷ rows) a b = search (rules, fits_rows g xs rows a.1 b.1, all-append, fits_number, x.id, fits_digit, fits_choice)
 
 pub small_winners : (g : Graph) (xs : List Vertex) (rows : SolutionRows) → AllByRecursion (λ l. l.winner < 2) (row_lines g xs rows)
 small_winners g [] rows = tt

@@ -1,5 +1,6 @@
 -- The vertices that are dominions alone, as a set; together they are a good claim.
-use Rattle.std.proofs.Common.{◌≡◌, ◌≢◌, ℕ, zero, suc, ◌<◌, ◌≤◌, Bool, true, false, ◌&&◌, ◌||◌, not, ◌↔◌, inl, inr, List, [], ◌∷◌, length, refl, sym}
+use Rattle.std.proofs.Common.{rules}
+use Rattle.std.proofs.Common.{◌≡◌, ℕ, zero, suc, ◌<◌, ◌≤◌, Bool, true, false, ◌&&◌, ◌||◌, not, ◌↔◌, inl, inr, List, [], ◌∷◌, length, refl, sym}
 use Rattle.std.proofs.Common.{◌∙◌, subst, ap, arith, ltb-true}
 use Rattle.std.specs.Prelude.{Some, ◌==◌}
 use Rattle.std.specs.List.{list_any, Contains}
@@ -53,38 +54,16 @@ module _ (g : Graph) (U : VertexSet) (p : Player) (v : ℕ) where
   ]
 
   pub test_from_stays : ((w : ℕ) → HasEdge g v w → In U w → w ≡ v) → leads_away g U v ≡ false
-  test_from_stays h = elim (cases_Bool (leads_away g U v)) [
-    | inr n ↦ n
-    | inl y ↦ absurd (let a = any_some (λ x. U x && not (x == v)) (successors_of g v) y in
-        let b = and_parts (U a.0) (not (a.0 == v)) a.2 in
-        let q = eq-eqb a.0 v (h a.0 a.1 b.0) in
-        let c : not true ≡ true = subst (λ z. not z ≡ true) q b.1 in
-        cc c)
-  ]
+  test_from_stays h = search (rules, cases_Bool, any_some, and_parts, eq-eqb)
 
   pub itself_from_test : leads_to_itself g v ≡ true → HasEdge g v v
-  itself_from_test y =
-      let a = any_some (λ w. w == v) (successors_of g v) y in
-      subst (λ w. HasEdge g v w) (eqb-true a.0 v a.2) a.1
+  itself_from_test y = search (rules, any_some, eqb-true)
 
   pub test_from_itself : HasEdge g v v → leads_to_itself g v ≡ true
   test_from_itself m = some_any (λ w. w == v) (successors_of g v) v m (eq-eqb v v refl)
 
   pub loop_from_test : loops g U p v ≡ true → IsLoop g U p v
-  loop_from_test y =
-      let a = and_parts (U v && same_player (of_parity (priority_of g v)) p && leads_to_itself g v)
-      (same_player (owner_of g v) p || not (leads_away g U v)) y in
-      let b = and_parts (U v && same_player (of_parity (priority_of g v)) p) (leads_to_itself g v) a.0 in
-      let c = and_parts (U v) (same_player (of_parity (priority_of g v)) p) b.0 in
-      record {
-        inside = c.0;
-        parity = same_is (of_parity (priority_of g v)) p c.1;
-        itself = itself_from_test b.1;
-        only = λ o. stays_from_test (or_not (same_player (owner_of g v) p) (leads_away g U v) a.1 (not_owned o));
-      }
-    where
-      not_owned : owner_of g v ≢ p → same_player (owner_of g v) p ≡ false
-      not_owned o = elim (cases_Bool (same_player (owner_of g v) p)) [ inr n ↦ n | inl z ↦ absurd (o (same_is (owner_of g v) p z)) ]
+  loop_from_test y = search (rules, and_parts, same_is, itself_from_test, stays_from_test, or_not, cases_Bool)
 
   pub test_from_loop : IsLoop g U p v → loops g U p v ≡ true
   test_from_loop h =
@@ -108,10 +87,7 @@ one_vertex E f v (w ∷ ws) end e u m = elim (Contains-cons v u (w ∷ ws) m) [
 
 module _ (g : Graph) (U : VertexSet) (p : Player) where
   stays_there : (v w : ℕ) → Among (KeptEdge g p (loops g U p) itself) (In (loops g U p)) v w → w ≡ v
-  stays_there v w (k, i, j) = elim (kept_leads g p itself v w k.1) [
-    | inl (o, m) ↦ sym (choice_leads (Some v) v w refl m)
-    | inr (o, m) ↦ (loop_from_test g U p v i).only (λ q. not_both (owner_of g v) p q o) w m (loop_from_test g U p w j).inside
-  ]
+  stays_there v w (k, i, j) = search (rules, kept_leads, choice_leads, loop_from_test, not_both)
 
   good : (walk : List ℕ) → ClosedWalk (KeptEdge g p (loops g U p) itself) walk → of_parity (greatest_priority g walk) ≡ p
   good [] c = absurd c
@@ -127,21 +103,12 @@ module _ (g : Graph) (U : VertexSet) (p : Player) where
 
   -- the player holds them, where each is its own choice
   pub loops_held : WinsOn g U p (loops g U p) itself
-  loops_held = record {
-    within = λ v i. (loop_from_test g U p v i).inside;
-    choices = λ v i o. (v, refl, (loop_from_test g U p v i).itself, i);
-    closed = λ v w i o m u. (let e = (loop_from_test g U p v i).only (λ q. not_both (owner_of g v) p q o) w m u in subst (In (loops g U p)) (sym e) i);
-    good = good;
-  }
+  loops_held = search (rules, loop_from_test, not_both, good)
 
 -- the rows that are gathered over all vertices
 pub all_rows : (g h : Graph) (mask bits : List Bool) (p : Player) (rows : ClaimRows) (i n : ℕ) → h ≡ g → bits ≡ mask → n ≡ length h → n ≤ i → i ≤ n
     → rows ≡ rows_below (loops h (members bits) p) (own_choices h p itself) i → rows ≡ rows_below (loops g (members mask) p) (own_choices g p itself) (length g)
-all_rows g h mask bits p rows i n a b c d e r =
-    let l : i ≡ length g = omega (arith, ap length a) in
-    subst (λ k. rows ≡ rows_below (loops g (members mask) p) (own_choices g p itself) k) l
-    (subst (λ m. rows ≡ rows_below (loops g (members m) p) (own_choices g p itself) i) b
-    (subst (λ z. rows ≡ rows_below (loops z (members bits) p) (own_choices z p itself) i) a r))
+all_rows g h mask bits p rows i n a b c d e r = search (rules)
 
 module _ (g : Graph) (mask : List Bool) (p : Player) (part : IsPart (record { graph = g; mask = mask })) (rows : ClaimRows)
     (all : rows ≡ rows_below (loops g (members mask) p) (own_choices g p itself) (length g)) where

@@ -1,5 +1,6 @@
 -- An attraction that goes on once other vertices are active: what it knows of the vertices that were won before, and what it is in the
 -- subgame, whose part of the list begins behind a prefix.
+use Rattle.std.proofs.Common.{rules}
 use Rattle.std.proofs.Common.{◌≡◌, ℕ, suc, ◌+◌, false, inl, inr, List, [], ◌∷◌, ◌++◌, length, All, refl, sym, ◌∙◌, subst, arith, append_assoc}
 use Rattle.std.specs.Prelude.{◌==◌}
 use Rattle.std.proofs.lemmas.Bool.{eqb-true, cases_Bool, or_cases, and_parts, and_from, or_parts, or_left, or_right, false_from_ne_true}
@@ -19,10 +20,7 @@ use Rattle.pg_finders.proofs.recursion.Growing.{grown_cases, grown_prefix, grown
 
 -- what a vertex is that the player won
 pub won_parts : (U A : VertexSet) (plan : Plan) (p : Player) (v : ℕ) → In (won_of U A plan p) v → In U v × (A v ≡ false) × (winners_of plan v ≡ p)
-won_parts U A plan p v i =
-    let b = and_parts (without U A v) (same_player (winners_of plan v) p) i in
-    let c = only (U v) (A v) b.0 in
-    (c.0, c.1, same_is (winners_of plan v) p b.1)
+won_parts U A plan p v i = search (rules, and_parts, only, same_is)
 
 pub won_from : (U A : VertexSet) (plan : Plan) (p : Player) (v : ℕ) → In U v → A v ≡ false → winners_of plan v ≡ p → In (won_of U A plan p) v
 won_from U A plan p v u n e = and_from (without U A v) (same_player (winners_of plan v) p) (minus u n) (is_same (winners_of plan v) p e)
@@ -44,14 +42,11 @@ known_grown {U = U} {p = p} {A = A} {A' = A'} {old = old} {new = new} k h = reco
 
 -- what an earlier test says stays so, and what a later one says was so before
 pub tested_later : (g : Graph) (p : Player) (D A B C : VertexSet) (v : ℕ) → (B v ≡ false → C v ≡ false) → IsTested g p D A B v → IsTested g p D A C v
-tested_later g p D A B C v f (inl n) = inl (f n)
-tested_later g p D A B C v f (inr h) = inr h
+tested_later g p x2 x3 x4 x5 v f x8 = search (rules)
 
 pub tested_before : (g : Graph) (p : Player) (D E A B C : VertexSet) (v : ℕ) → ((w : ℕ) → E w ≡ false → D w ≡ false) → ((w : ℕ) → In B w → In A w)
     → IsTested g p E B C v → IsTested g p D A C v
-tested_before g p D E A B C v d f (inl n) = inl n
-tested_before g p D E A B C v d f (inr (inl (o, none))) = inr (inl (o, λ w e. d w (none w e)))
-tested_before g p D E A B C v d f (inr (inr (n, w, e, i))) = inr (inr (n, w, e, f w i))
+tested_before g p x2 x3 x4 x5 x6 v d f x10 = search (rules)
 
 -- what holds of all holds of each that is listed
 pub all_listed : (P : ℕ → Type 0) (xs : List ℕ) → All P xs → (v : ℕ) → In (listed xs) v → P v
@@ -63,10 +58,7 @@ all_listed P (x ∷ xs) h v i = elim (or_cases (x == v) (listed xs v) i) [
 
 -- D may be tested in a set that is equal
 pub done_equal : {g : Graph} {p : Player} {U V D A : VertexSet} → ((v : ℕ) → U v ≡ V v) → AttractsNoActive g p U D A → AttractsNoActive g p V D A
-done_equal e d = record {
-  own = d.own;
-  other = λ v i o. (let q = d.other v i o in (q.0, q.1, sym (e q.0) ∙ q.2, q.3));
-}
+done_equal e d = search (rules, d.own, d.other)
 
 -- the given vertices are tested, and nothing attracts the others: so the prefix is done
 pub tested_done : {g : Graph} {p : Player} {A A' : VertexSet} {old new : Plan} {prefix list : List ℕ} (vertices : List ℕ)
@@ -102,10 +94,7 @@ place_rest (x ∷ xs) ys v n =
     rw a.0 (omega (arith, b))
 
 before_rest : (xs ys : List ℕ) (v w : ℕ) → listed xs v ≡ false → listed xs w ≡ false → Before (xs ++ ys) v w → Before ys v w
-before_rest xs ys v w n m b =
-    let d = place_rest xs ys v n in
-    let e = place_rest xs ys w m in
-    (elim (prefix_or_rest xs ys w b.0) [ inl y ↦ absurd (no_both y m) | inr y ↦ y ], omega (arith, d, e, b.1))
+before_rest xs ys v w n m b = search (rules, place_rest, prefix_or_rest, no_both)
 
 module _ {g : Graph} {p : Player} {A A' : VertexSet} {old new : Plan} (prefix xs : List ℕ) {list : List ℕ}
     (h : IsGrown g p A old (prefix ++ xs) A' new list) (inactive : (v : ℕ) → In (listed prefix) v → A v ≡ false) (apart : Apart prefix xs) where

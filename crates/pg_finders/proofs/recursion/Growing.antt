@@ -1,4 +1,5 @@
 -- The steps of an attraction in place: nothing is taken, one vertex is taken, and one step after another; and what is done.
+use Rattle.std.proofs.Common.{rules}
 use Rattle.std.proofs.Common.{◌≡◌, ◌≢◌, ℕ, suc, ◌<◌, true, false, ◌&&◌, not, ◌⊎◌, inl, inr, List, [], ◌∷◌, ◌++◌, length, take, refl}
 use Rattle.std.proofs.Common.{sym, ◌∙◌, ap, subst, arith, append_assoc}
 use Rattle.std.specs.Prelude.{Some, ◌==◌}
@@ -41,25 +42,11 @@ place_new (x ∷ xs) v n = let a = or_parts (x == v) (listed xs v) n in rw a.0 (
 
 -- what was listed earlier stays so
 before_prefix : (xs ys : List ℕ) (v w : ℕ) → In (listed xs) v → Before xs v w → Before (xs ++ ys) v w
-before_prefix xs ys v w i b = (
-  in_prefix xs ys w b.0,
-  (
-      let e = place_prefix xs ys v i in let f = place_prefix xs ys w b.0 in omega (arith, e, f, b.1)),
-)
+before_prefix xs ys v w i b = search (rules, in_prefix, place_prefix)
 
 -- nothing is taken
 pub grown_none : {g : Graph} {p : Player} {A : VertexSet} {plan : Plan} {prefix : List ℕ} → IsGrown g p A plan prefix A plan prefix
-grown_none {A = A} {prefix = prefix} = record {
-  more = [];
-  list_is = sym (append-nil prefix);
-  once = tt;
-  were_active = λ v i. absurd (cc i);
-  active_is = λ v. sym (and-true (A v));
-  his = λ v i. absurd (cc i);
-  same = λ v n. (refl, refl);
-  leads = λ v i. absurd (cc i);
-  pushed = λ v w i. absurd (cc i);
-}
+grown_none {A = A} {prefix = prefix} = search (rules, append-nil, and-true)
 
 -- the player takes an active vertex, by a row that leads to what is listed
 pub record TakesOne (g : Graph) (p : Player) (A : VertexSet) (old : Plan) (prefix : List ℕ) (A' : VertexSet) (new : Plan) (v : ℕ) : Type 0 where
@@ -71,11 +58,7 @@ pub record TakesOne (g : Graph) (p : Player) (A : VertexSet) (old : Plan) (prefi
 
 module _ {g : Graph} {p : Player} {A A' : VertexSet} {old new : Plan} {prefix : List ℕ} {v : ℕ} (h : TakesOne g p A old prefix A' new v) where
   earlier : (w : ℕ) → In (listed prefix) w → Before (prefix ++ v ∷ []) v w
-  earlier w i =
-      let a = place_new prefix v h.leads.fresh in
-      let b = place_prefix prefix (v ∷ []) w i in
-      let d = place_below prefix w i in
-      (in_prefix prefix (v ∷ []) w i, omega (arith, a, b, d))
+  earlier w i = search (rules, place_new, h.leads.fresh, place_prefix, place_below, in_prefix)
 
   pub grown_one : IsGrown g p A old prefix A' new (prefix ++ v ∷ [])
   grown_one = record {
@@ -114,32 +97,19 @@ module _ {g : Graph} {p : Player} {A A' : VertexSet} {old new : Plan} {prefix li
 
   -- what is inside and not listed is active
   pub grown_left : (v : ℕ) → In (union A (listed prefix)) v → listed list v ≡ false → In A' v
-  grown_left v u n = elim (or_cases (A v) (listed prefix v) u) [
-    | inl y ↦ h.active_is v ∙ minus y (false_from_ne_true (listed h.more v) (λ z. no_both (grown_more v z) n))
-    | inr y ↦ absurd (no_both (grown_prefix v y) n)
-  ]
+  grown_left v u n = search (rules, or_cases, h.active_is, minus, false_from_ne_true, h.more, no_both, grown_more, grown_prefix)
 
   -- all that is listed is in the subgame
   pub grown_inside : (v : ℕ) → In (listed list) v → In (union A (listed prefix)) v
-  grown_inside v i = elim (grown_cases v i) [
-    | inl y ↦ or_right (A v) (listed prefix v) y
-    | inr y ↦ or_left (A v) (listed prefix v) (h.were_active v y)
-  ]
+  grown_inside v i = search (rules, grown_cases, or_right, or_left, h.were_active)
 
   -- what is active or listed stays the same
   pub grown_union : (v : ℕ) → union A' (listed list) v ≡ union A (listed prefix) v
-  grown_union v = equal_from (union A' (listed list) v) (union A (listed prefix) v) to from
-    where
-      to : In (union A' (listed list)) v → In (union A (listed prefix)) v
-      to i = elim (or_cases (A' v) (listed list v) i) [ inl y ↦ or_left (A v) (listed prefix v) (grown_active v y) | inr y ↦ grown_inside v y ]
-
-      from : In (union A (listed prefix)) v → In (union A' (listed list)) v
-      from i = elim (cases_Bool (listed list v)) [ inl y ↦ or_right (A' v) (listed list v) y | inr n ↦ or_left (A' v) (listed list v) (grown_left v i n) ]
+  grown_union v = search (rules, equal_from, or_cases, or_left, grown_active, grown_inside, cases_Bool, or_right, grown_left)
 
   -- the list begins with the prefix
   pub prefix_taken : take (length prefix) list ≡ prefix
-  prefix_taken =
-      ap (take (length prefix)) h.list_is ∙ (take-append-le (length prefix) prefix h.more (omega arith) ∙ take_all (length prefix) prefix (omega arith))
+  prefix_taken = search (rules, h.list_is, take-append-le, h.more, take_all)
 
   -- what is not in the list is not in its prefix
   pub prefix_misses : (v : ℕ) → listed list v ≡ false → listed prefix v ≡ false
@@ -201,10 +171,7 @@ once_push xs v o n = once_join xs (v ∷ []) o (refl, tt) (apart_from xs (v ∷ 
 
 pub apart_push : (xs : List ℕ) (v : ℕ) (A A' : VertexSet) → ((w : ℕ) → In (listed xs) w → A w ≡ false) → ((w : ℕ) → A' w ≡ without A (λ u. v == u) w)
     → (w : ℕ) → In (listed (xs ++ v ∷ [])) w → A' w ≡ false
-apart_push xs v A A' apart now w i = now w ∙ elim (prefix_or_rest xs (v ∷ []) w i) [
-  | inl y ↦ and_left (A w) (not (v == w)) (apart w y)
-  | inr y ↦ and_right (A w) (not (v == w)) (not_from_true (v == w) (eq-eqb v w (one_listed v w y)))
-]
+apart_push xs v A A' apart now w i = search (rules, prefix_or_rest, and_left, and_right, not_from_true, eq-eqb, one_listed)
 
 -- Nothing more is attracted: as it is said of the vertices that are not listed, and of the active ones.
 pub no_active : {g : Graph} {p : Player} {U D A S : VertexSet} → ((v : ℕ) → In S v → A v ≡ false) → ((v : ℕ) → union A S v ≡ U v)
@@ -221,10 +188,4 @@ no_active {g = g} {p = p} {U = U} {A = A} {S = S} apart same d = record {
     out v i = false_from_ne_true (S v) (λ y. no_both i (apart v y))
 
 pub no_further : {g : Graph} {p : Player} {D A S : VertexSet} → AttractsNoActive g p (union A S) D A → AttractsNoFurther g p (union A S) D S
-no_further {g = g} {p = p} {A = A} {S = S} d = record {
-  own = λ v w u n. d.own v w (active v u n);
-  other = λ v u n o. d.other v (active v u n) (other_from_not p (owner_of g v) o);
-}
-  where
-    active : (v : ℕ) → In (union A S) v → S v ≡ false → In A v
-    active v u n = elim (or_cases (A v) (S v) u) [ inl y ↦ y | inr y ↦ absurd (no_both y n) ]
+no_further {g = g} {p = p} {A = A} {S = S} d = search (rules, d.own, d.other, other_from_not, or_cases, no_both)

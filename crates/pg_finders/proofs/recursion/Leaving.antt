@@ -1,5 +1,6 @@
 -- What the loop owes where it finishes the last subgame that waits: all is settled as the player's, or what the opponent won and
 -- attracts is settled and the others are active again.
+use Rattle.std.proofs.Common.{rules}
 use mathlib.Core.Path.{fun_ext}
 use Rattle.std.proofs.Common.{◌≡◌, ◌≢◌, ℕ, ◌+◌, ◌-◌, ◌<◌, Bool, true, false, ◌&&◌, ◌||◌, not, ◌⊎◌, inl, inr, List, [], ◌∷◌, ◌++◌, length, take, drop}
 use Rattle.std.proofs.Common.{map, refl, sym, ◌∙◌, ap, subst, arith, append_assoc, length-drop, length-append}
@@ -161,13 +162,7 @@ module _ {g : Graph} {inside : List Bool} {x : Solver} {stops : List Stop} {f : 
 
     -- all inside is what the player has
     taken_all : (v : ℕ) → In I v → In (listed (since p ++ B)) v
-    taken_all v i = elim (cases v i) [
-      | inl (r, y) ↦ elim (own_or_other r p) [
-        | inl e ↦ in_prefix (since p) B v (subst (λ t. In (listed (since t)) v) e y)
-        | inr e ↦ absurd (none_lost v (subst (λ t. In (listed (since t)) v) e y))
-      ]
-      | inr y ↦ in_rest (since p) B v y
-    ]
+    taken_all v i = search (rules, cases, own_or_other, in_prefix, none_lost, in_rest)
 
     own_cases : (P : ℕ → Type 0) → ((v : ℕ) → In (listed (since p)) v → P v) → ((v : ℕ) → In (listed B) v → P v) → (v : ℕ) → In (listed (since p ++ B)) v → P v
     own_cases P a b v i = elim (prefix_or_rest (since p) B v i) [ inl y ↦ a v y | inr y ↦ b v y ]
@@ -202,10 +197,7 @@ module _ {g : Graph} {inside : List Bool} {x : Solver} {stops : List Stop} {f : 
   -- The subgame is reopened: what was set aside and what the player won is active.
   module _ (A : VertexSet) (active : (v : ℕ) → A v ≡ ((X v || listed B v) || listed (since p) v)) where
     active_cases : (v : ℕ) → In A v → In (listed B) v ⊎ In (listed (since p)) v
-    active_cases v y = elim (or_cases (X v || listed B v) (listed (since p) v) (sym (active v) ∙ y)) [
-      | inl z ↦ elim (or_cases (X v) (listed B v) z) [ inl x ↦ absurd (no_both x (h.none v)) | inr x ↦ inl x ]
-      | inr z ↦ inr z
-    ]
+    active_cases v y = search (rules, or_cases, no_both, h.none)
 
     active_aside : (v : ℕ) → In (listed B) v → In A v
     active_aside v y = active v ∙ or_left (X v || listed B v) (listed (since p) v) (or_right (X v) (listed B v) y)
@@ -217,26 +209,11 @@ module _ {g : Graph} {inside : List Bool} {x : Solver} {stops : List Stop} {f : 
     active_inside v y = elim (active_cases v y) [ inl x ↦ aside_of v x | inr x ↦ inside_of p v x ]
 
     pub reopened : (v : ℕ) → union A (listed (since q)) v ≡ I v
-    reopened v = equal_from (union A (listed (since q)) v) (I v) to from
-      where
-        to : In (union A (listed (since q))) v → In I v
-        to i = elim (or_cases (A v) (listed (since q) v) i) [ inl y ↦ active_inside v y | inr y ↦ inside_of q v y ]
-
-        from : In I v → In (union A (listed (since q))) v
-        from i = elim (cases v i) [
-          | inl (r, y) ↦ elim (own_or_other r p) [
-            | inl e ↦ or_left (A v) (listed (since q) v) (active_own v (subst (λ t. In (listed (since t)) v) e y))
-            | inr e ↦ or_right (A v) (listed (since q) v) (subst (λ t. In (listed (since t)) v) e y)
-          ]
-          | inr y ↦ or_left (A v) (listed (since q) v) (active_aside v y)
-        ]
+    reopened v = search (rules, equal_from, or_cases, active_inside, inside_of, cases, own_or_other, or_left, active_own, or_right, active_aside)
 
     -- what the opponent won is not active
     pub reopened_apart : (v : ℕ) → In (listed (settled q)) v → A v ≡ false
-    reopened_apart v j = false_from_ne_true (A v) (λ y. elim (active_cases v y) [
-      | inl k ↦ no_both (in_drop f.aside aside v k) (run.apart.aside_apart q v j)
-      | inr k ↦ players_apart run.apart p v (in_drop (count_at f p) (settled p) v k) j
-    ])
+    reopened_apart v j = search (rules, false_from_ne_true, active_cases, no_both, in_drop, f.aside, players_apart)
 
     inside_parts : (v : ℕ) → In I v → In U v × (listed (prefix f settled q) v ≡ false)
     inside_parts v i = (let c = part_of U (prefix f settled) (take f.aside aside) v i in (c.0, c.1 q))
@@ -268,10 +245,7 @@ module _ {g : Graph} {inside : List Bool} {x : Solver} {stops : List Stop} {f : 
 
     -- an edge of the opponent's vertex doesn't lead to what he won before
     pub reopened_away : (v w : ℕ) → In A v → owner_of g v ≡ q → HasEdge g v w → In (listed (prefix f settled q)) w → ⊥
-    reopened_away v w i o e j = elim (cases_Bool (I w)) [
-      | inl y ↦ no_both j (inside_parts w y).1
-      | inr n ↦ (let m = in_take (count_at f q) (settled q) w j in not_won w (out_of_inside v w (active_inside v i) o e (in_whole w m) n) (run.his q w m))
-    ]
+    reopened_away v w i o e j = search (rules, cases_Bool, no_both, inside_parts, in_take, not_won, out_of_inside, active_inside, in_whole)
 
     -- nothing that the player won leads to what the opponent won
     pub reopened_rest : AttractsNoActive g q (union A (listed (settled q))) (listed (settled q)) (without A (listed B))

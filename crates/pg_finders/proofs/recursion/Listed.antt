@@ -1,4 +1,5 @@
 -- Lists of vertices as sets.
+use Rattle.std.proofs.Common.{rules}
 use Rattle.std.proofs.Common.{◌≡◌, ℕ, zero, suc, ◌<◌, ◌≤◌, Bool, true, false, ◌||◌, ◌⊎◌, inl, inr, List, [], ◌∷◌, ◌++◌, length, take, drop, get_or}
 use Rattle.std.proofs.Common.{All, refl, sym, ◌∙◌, subst, arith}
 use Rattle.std.specs.Prelude.{◌==◌, slice_set}
@@ -70,10 +71,7 @@ once_right (x ∷ xs) ys h = once_right xs ys h.1
 
 pub once_join : (xs ys : List ℕ) → Once xs → Once ys → Apart xs ys → Once (xs ++ ys)
 once_join [] ys a b f = b
-once_join (x ∷ xs) ys a b f = (
-  listed-append xs ys x ∙ rw (a.0, f x (or_left (x == x) (listed xs x) (eq-eqb x x refl))) refl,
-  once_join xs ys a.1 b (λ v i. f v (or_right (x == v) (listed xs v) i)),
-)
+once_join (x ∷ xs) ys a b f = search (rules, once_join xs ys a.1 b (λ v i. f v (or_right (x == v) (listed xs v) i)), listed-append, or_left, eq-eqb, or_right)
 
 pub once_take : (k : ℕ) (xs : List ℕ) → Once xs → Once (take k xs)
 once_take k xs o = once_left (take k xs) (drop k xs) (subst Once (sym (take-append-drop k xs)) o)

@@ -1,4 +1,5 @@
 -- What a step of the solver owes besides the levels: the places in the order by priority, and the steps that are left.
+use Rattle.std.proofs.Common.{rules}
 use Rattle.std.proofs.Common.{◌≡◌, ℕ, ◌+◌, ◌-◌, ◌<◌, ◌≤◌, List, [], ◌∷◌, ◌++◌, length, map, refl, arith}
 use Rattle.pg_finders.specs.declared.recursion.order.Ranked.{Ranked}
 use Rattle.pg_finders.specs.declared.recursion.solver.Stop.{Stop}
@@ -34,7 +35,4 @@ work_begin n m k stops f e l h =
 -- and where the last one is finished
 pub work_finish : (n m k : ℕ) (stops : List Stop) (f : Stop) → f.even + f.odd + f.aside < k → k ≤ n
     → steps (n - k) + steps_left n stops < steps (n - m) + steps_left n (stops ++ f ∷ [])
-work_finish n m k stops f l h =
-    let a = left_push n stops f in
-    let b = steps_finish (n - (f.even + f.odd + f.aside)) (n - k) (omega (arith, l, h)) in
-    omega (arith, a, b)
+work_finish n m k stops f l h = search (rules, left_push, steps_finish, f.even, f.odd, f.aside)

@@ -1,5 +1,6 @@
 -- Lists that are shared: what stops in a row say of them, and which levels stay the same.
-use Rattle.std.proofs.Common.{◌≡◌, ℕ, ◌+◌, ◌≤◌, false, ◌||◌, ◌⊎◌, inl, inr, List, [], ◌∷◌, ◌++◌, length, take, map, refl, sym, ◌∙◌, ap, arith}
+use Rattle.std.proofs.Common.{rules}
+use Rattle.std.proofs.Common.{◌≡◌, ℕ, ◌+◌, ◌≤◌, false, ◌||◌, ◌⊎◌, List, [], ◌∷◌, ◌++◌, length, take, map, refl, sym, ◌∙◌, ap, arith}
 use Rattle.std.proofs.lemmas.Bool.{or_cases, or_left, or_right, false_from_ne_true}
 use Rattle.std.proofs.Math.Bool.{or_comm}
 use Rattle.pg_game.specs.declared.player.Player.{Player}
@@ -17,10 +18,7 @@ use Rattle.pg_finders.proofs.recursion.Listed.{apart_other}
 
 -- what holds for a player and for the opponent holds for each player
 pub by_player : (P : Player → Type 0) (p : Player) → P p → P (opponent p) → (q : Player) → P q
-by_player P Even a b Even = a
-by_player P Even a b Odd = b
-by_player P Odd a b Even = b
-by_player P Odd a b Odd = a
+by_player x0 x1 a b x4 = search (rules)
 
 -- one list for the player, another for the opponent
 abbrev pub pick : Player → List ℕ → List ℕ → SettledLists
@@ -28,44 +26,32 @@ pick p xs ys q = if same_player q p then xs else ys
 
 -- what holds of each of the two lists holds of each player's
 pub picked : (P : Player → List ℕ → Type 0) (p : Player) (xs ys : List ℕ) → P p xs → P (opponent p) ys → (q : Player) → P q (pick p xs ys q)
-picked P Even xs ys a b Even = a
-picked P Even xs ys a b Odd = b
-picked P Odd xs ys a b Even = b
-picked P Odd xs ys a b Odd = a
+picked x0 x1 xs ys a b x6 = search (rules)
 
 pub pick_apart : (p : Player) (xs ys : List ℕ) → Apart xs ys → Apart (pick p xs ys Even) (pick p xs ys Odd)
-pick_apart Even xs ys a = a
-pick_apart Odd xs ys a = apart_other xs ys a
+pick_apart x0 xs ys a = search (rules, apart_other)
 
 pub pick_either : (p : Player) (xs ys : List ℕ) (v : ℕ) → (listed (pick p xs ys Even) v || listed (pick p xs ys Odd) v) ≡ (listed xs v || listed ys v)
-pick_either Even xs ys v = refl
-pick_either Odd xs ys v = or_comm (listed ys v) (listed xs v)
+pick_either x0 xs ys v = search (rules, or_comm)
 
 pub pick_length : (p : Player) (xs ys : List ℕ) → length (pick p xs ys Even) + length (pick p xs ys Odd) ≡ length xs + length ys
-pick_length Even xs ys = refl
-pick_length Odd xs ys = omega arith
+pick_length x0 xs ys = search (rules)
 
 -- nothing is settled for both players
 pub players_apart : {settled : SettledLists} {aside : List ℕ} → AreApart settled aside → (p : Player) (v : ℕ) → In (listed (settled p)) v
     → In (listed (settled (opponent p))) v → ⊥
-players_apart {settled} a Even v i j = no_both j (a.players v i)
-players_apart {settled} a Odd v i j = no_both i (a.players v j)
+players_apart {settled} a x2 v i j = search (rules, no_both)
 
 pub gone_settled : (settled : SettledLists) (aside : List ℕ) (p : Player) (v : ℕ) → In (listed (settled p)) v → In (gone settled aside) v
-gone_settled settled aside Even v i =
-    or_left (listed (settled Even) v || listed (settled Odd) v) (listed aside v) (or_left (listed (settled Even) v) (listed (settled Odd) v) i)
-gone_settled settled aside Odd v i =
-    or_left (listed (settled Even) v || listed (settled Odd) v) (listed aside v) (or_right (listed (settled Even) v) (listed (settled Odd) v) i)
+gone_settled settled aside Even v i = search (rules, or_left)
+gone_settled settled aside Odd v i = search (rules, or_left, or_right)
 
 pub gone_aside : (settled : SettledLists) (aside : List ℕ) (v : ℕ) → In (listed aside) v → In (gone settled aside) v
 gone_aside settled aside v i = or_right (listed (settled Even) v || listed (settled Odd) v) (listed aside v) i
 
 pub gone_cases : (settled : SettledLists) (aside : List ℕ) (v : ℕ) → In (gone settled aside) v
     → ((p : Player) × In (listed (settled p)) v) ⊎ In (listed aside) v
-gone_cases settled aside v i = elim (or_cases (listed (settled Even) v || listed (settled Odd) v) (listed aside v) i) [
-  | inl y ↦ elim (or_cases (listed (settled Even) v) (listed (settled Odd) v) y) [ inl x ↦ inl (Even, x) | inr x ↦ inl (Odd, x) ]
-  | inr y ↦ inr y
-]
+gone_cases settled aside v i = search (rules, or_cases)
 
 pub gone_none : (settled : SettledLists) (aside : List ℕ) (v : ℕ) → ((p : Player) → listed (settled p) v ≡ false) → listed aside v ≡ false
     → gone settled aside v ≡ false
@@ -73,10 +59,7 @@ gone_none settled aside v f a = rw (f Even, f Odd, a) refl
 
 pub not_gone : (settled : SettledLists) (aside : List ℕ) (v : ℕ) → gone settled aside v ≡ false
     → ((p : Player) → listed (settled p) v ≡ false) × (listed aside v ≡ false)
-not_gone settled aside v n = (λ p. out_of (settled p) (λ i. gone_settled settled aside p v i), out_of aside (λ i. gone_aside settled aside v i))
-  where
-    out_of : (xs : List ℕ) → (In (listed xs) v → In (gone settled aside) v) → listed xs v ≡ false
-    out_of xs f = false_from_ne_true (listed xs v) (λ y. no_both (f y) n)
+not_gone settled aside v n = search (rules, gone_settled, gone_aside, false_from_ne_true, no_both)
 
 -- a vertex of the part is in the set and in no list
 pub part_of : (U : VertexSet) (settled : SettledLists) (aside : List ℕ) (v : ℕ) → In (part U settled aside) v
@@ -89,8 +72,7 @@ in_part U settled aside v u f a = minus u (gone_none settled aside v f a)
 
 linked_le : (i n : Player → ℕ) (first : ℕ) (stops : List Stop) (last : ℕ) → Linked i n first stops last → ((p : Player) → i p ≤ n p) × (first ≤ last)
 linked_le i n first [] last l = (l.0, omega (arith, l.1))
-linked_le i n first (x ∷ xs) last l =
-    let h = linked_le (count_at x) n x.upto xs last l.3 in (λ p. (let a = l.0 p in let b = h.0 p in omega (arith, a, b)), omega (arith, l.1, l.2, h.1))
+linked_le i n first (x ∷ xs) last l = search (rules, linked_le (count_at x) n x.upto xs last l.3, x.upto)
 
 pub linked_more : (i n m : Player → ℕ) (first : ℕ) (stops : List Stop) (last : ℕ) → ((p : Player) → n p ≤ m p) → Linked i n first stops last
     → Linked i m first stops last
@@ -99,8 +81,7 @@ linked_more i n m first (x ∷ xs) last e l = (l.0, l.1, l.2, linked_more (count
 
 pub linked_push : (i n : Player → ℕ) (first : ℕ) (stops : List Stop) (last : ℕ) (f : Stop) → Linked i n first stops last → f.aside ≡ last
     → f.aside ≤ f.upto → ((p : Player) → count_at f p ≡ n p) → Linked i n first (stops ++ f ∷ []) f.upto
-linked_push i n first [] last f l a b c =
-    (λ p. (let x = l.0 p in let y = c p in omega (arith, x, y)), a ∙ sym l.1, b, (λ p. (let y = c p in omega (arith, y)), refl))
+linked_push i n first [] last f l a b c = search (rules)
 linked_push i n first (x ∷ xs) last f l a b c = (l.0, l.1, l.2, linked_push (count_at x) n x.upto xs last f l.3 a b c)
 
 pub linked_pop : (i n : Player → ℕ) (first : ℕ) (stops : List Stop) (last : ℕ) (f : Stop) → Linked i n first (stops ++ f ∷ []) last

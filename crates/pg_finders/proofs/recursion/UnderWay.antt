@@ -1,4 +1,5 @@
 -- The steps of the loop over shared lists: a subgame is begun, or the last one that waits is finished.
+use Rattle.std.proofs.Common.{rules}
 use mathlib.Core.Path.{fun_ext}
 use Rattle.std.proofs.Common.{◌≡◌, ℕ, ◌+◌, ◌<◌, ◌≤◌, Bool, true, false, ◌&&◌, ◌||◌, not, ◌⊎◌, inl, inr, List, [], ◌∷◌, ◌++◌, length, take, drop, map}
 use Rattle.std.proofs.Common.{refl, sym, ◌∙◌, ap, subst, arith, length-append, length-take}
@@ -9,7 +10,7 @@ use Rattle.std.proofs.lemmas.List.{map-append, take-append-le, take_all}
 use Rattle.std.proofs.lemmas.Grind.{common_steps}
 use Rattle.pg_game.specs.declared.player.Player.{Player}
 use Rattle.pg_game.specs.declared.player.Player.TheVariants.{Even, Odd}
-use Rattle.pg_game.specs.Player.{opponent, same_player}
+use Rattle.pg_game.specs.Player.{opponent}
 use Rattle.pg_game.specs.Graph.{Graph}
 use Rattle.pg_game.specs.VertexSet.{VertexSet, In, members, no_vertices}
 use Rattle.pg_game.specs.Kept.{Choices}
@@ -36,18 +37,10 @@ abbrev all_gone : SettledLists → List ℕ → List ℕ
 all_gone settled aside = (settled Even ++ settled Odd) ++ aside
 
 all_gone_once : (settled : SettledLists) (aside : List ℕ) → AreApart settled aside → Once (all_gone settled aside)
-all_gone_once settled aside a =
-    let first : Once (settled Even ++ settled Odd) = once_join (settled Even) (settled Odd) (a.settled_once Even) (a.settled_once Odd) a.players in
-    once_join (settled Even ++ settled Odd) aside first a.aside_once (λ v i. elim (prefix_or_rest (settled Even) (settled Odd) v i) [
-      | inl y ↦ a.aside_apart Even v y
-      | inr y ↦ a.aside_apart Odd v y
-    ])
+all_gone_once settled aside a = search (rules, once_join, a.settled_once, a.players, a.aside_once, prefix_or_rest, a.aside_apart)
 
 all_gone_are : (settled : SettledLists) (aside : List ℕ) (v : ℕ) → In (listed (all_gone settled aside)) v → In (gone settled aside) v
-all_gone_are settled aside v i = elim (prefix_or_rest (settled Even ++ settled Odd) aside v i) [
-  | inl y ↦ elim (prefix_or_rest (settled Even) (settled Odd) v y) [ inl x ↦ gone_settled settled aside Even v x | inr x ↦ gone_settled settled aside Odd v x ]
-  | inr y ↦ gone_aside settled aside v y
-]
+all_gone_are settled aside v i = search (rules, prefix_or_rest, gone_settled, gone_aside)
 
 all_gone_length : (settled : SettledLists) (aside : List ℕ) → length (all_gone settled aside) ≡ how_many_gone settled aside
 all_gone_length settled aside = omega (arith, length-append (settled Even ++ settled Odd) aside, length-append (settled Even) (settled Odd))
@@ -114,18 +107,14 @@ module _ {g : Graph} {U active active' : VertexSet} {settled : SettledLists} {as
       ∙ ap (λ X. record { inside = active; left = X; player = f.player }) in_left
 
   pub stops_now : map (level_at U settled (aside ++ added)) stops ≡ map (level_at U settled aside) stops
-  stops_now = levels_same U settled aside settled (aside ++ added) (λ p. 0) (λ p. length (settled p)) 0 (length aside) stops b.under_way.linked
-      (λ p k l. refl) (λ k l. take-append-le k aside added l)
+  stops_now = search (rules, levels_same, b.under_way.linked, take-append-le)
 
   pub inside_now : (level_at U settled (aside ++ added) f).inside ≡ active
   inside_now = ap (λ (l : Level). l.inside) level_now
 
   levels_now : map (level_at U settled (aside ++ added)) (stops ++ f ∷ [])
       ≡ map (level_at U settled aside) stops ++ record { inside = active; left = active'; player = f.player } ∷ []
-  levels_now =
-      map-append (level_at U settled (aside ++ added)) stops (f ∷ [])
-      ∙ (ap (λ ls. ls ++ level_at U settled (aside ++ added) f ∷ []) stops_now
-      ∙ ap (λ l. map (level_at U settled aside) stops ++ l ∷ []) level_now)
+  levels_now = search (rules, map-append, stops_now, level_now)
 
   pub under_way_begin : IsUnderWay g U active' settled (aside ++ added) (stops ++ f ∷ []) won' s'
   under_way_begin = record {
@@ -202,37 +191,22 @@ module _ {g : Graph} {U active : VertexSet} {settled : SettledLists} {aside : Li
 
   -- what was settled or set aside since the subgame was begun is in no prefix
   settled_new : (p : Player) (v : ℕ) → In (listed (since p)) v → ((q : Player) → listed (prefix f settled q) v ≡ false)
-  settled_new p v i = by_player (λ q. listed (prefix f settled q) v ≡ false) p
-      (false_from_ne_true (listed (prefix f settled p) v) (λ j. no_both i (take_apart (count_at f p) (settled p) (h.apart.settled_once p) v j)))
-      (false_from_ne_true (listed (prefix f settled (opponent p)) v) (λ j.
-      players_apart h.apart p v (in_drop (count_at f p) (settled p) v i) (in_take (count_at f (opponent p)) (settled (opponent p)) v j)))
+  settled_new p v i = search (rules, by_player, false_from_ne_true, no_both, take_apart, h.apart.settled_once, players_apart, h.apart, in_drop, in_take)
 
   out_of_aside : (v : ℕ) → ((p : Player) × In (listed (settled p)) v) → (k : ℕ) → listed (take k aside) v ≡ false
   out_of_aside v (p, i) k = false_from_ne_true (listed (take k aside) v) (λ y. no_both (in_take k aside v y) (h.apart.aside_apart p v i))
 
   aside_new : (v : ℕ) → In (listed aside_since) v → ((q : Player) → listed (prefix f settled q) v ≡ false) × (listed (take f.aside aside) v ≡ false)
-  aside_new v i = (
-    λ q. false_from_ne_true (listed (prefix f settled q) v)
-        (λ y. no_both (in_drop f.aside aside v i) (h.apart.aside_apart q v (in_take (count_at f q) (settled q) v y))),
-    false_from_ne_true (listed (take f.aside aside) v) (λ y. no_both i (take_apart f.aside aside h.apart.aside_once v y)),
-  )
+  aside_new v i = search (rules, false_from_ne_true, no_both, in_drop, f.aside, h.apart.aside_apart, in_take, take_apart, h.apart.aside_once)
 
   pub since_inside : (p : Player) (v : ℕ) → In (listed (since p)) v → In last.inside v
-  since_inside p v i =
-      let m = in_drop (count_at f p) (settled p) v i in
-      in_part U (prefix f settled) (take f.aside aside) v (h.listed_inside v (gone_settled settled aside p v m)) (settled_new p v i)
-      (out_of_aside v (p, m) f.aside)
+  since_inside p v i = search (rules, in_drop, in_part, f.aside, h.listed_inside, gone_settled, settled_new, out_of_aside)
 
   pub since_left : (p : Player) (v : ℕ) → In (listed (since p)) v → In last.left v
-  since_left p v i =
-      let m = in_drop (count_at f p) (settled p) v i in
-      in_part U (prefix f settled) (take f.upto aside) v (h.listed_inside v (gone_settled settled aside p v m)) (settled_new p v i)
-      (out_of_aside v (p, m) f.upto)
+  since_left p v i = search (rules, in_drop, in_part, f.upto, h.listed_inside, gone_settled, settled_new, out_of_aside)
 
   pub aside_inside : (v : ℕ) → In (listed aside_since) v → In last.inside v
-  aside_inside v i =
-      let n = aside_new v i in
-      in_part U (prefix f settled) (take f.aside aside) v (h.listed_inside v (gone_aside settled aside v (in_drop f.aside aside v i))) n.0 n.1
+  aside_inside v i = search (rules, aside_new, in_part, f.aside, h.listed_inside, gone_aside, in_drop)
 
   -- where nothing is active, the subgame has nothing else, and of these the ones that were settled are left
   module _ (none : (v : ℕ) → active v ≡ false) where
@@ -240,16 +214,7 @@ module _ {g : Graph} {U active : VertexSet} {settled : SettledLists} {aside : Li
     listed_somewhere v u = gone_cases settled aside v (unless u (sym (h.active_is v) ∙ none v))
 
     pub inside_cases : (v : ℕ) → In last.inside v → ((p : Player) × In (listed (since p)) v) ⊎ In (listed aside_since) v
-    inside_cases v i = elim (listed_somewhere v (part_of U (prefix f settled) (take f.aside aside) v i).0) [
-      | inl (p, y) ↦ elim (take_or_drop (count_at f p) (settled p) v y) [
-        | inl x ↦ absurd (no_both x ((part_of U (prefix f settled) (take f.aside aside) v i).1 p))
-        | inr x ↦ inl (p, x)
-      ]
-      | inr y ↦ elim (take_or_drop f.aside aside v y) [
-        | inl x ↦ absurd (no_both x (part_of U (prefix f settled) (take f.aside aside) v i).2)
-        | inr x ↦ inr x
-      ]
-    ]
+    inside_cases v i = search (rules, listed_somewhere, part_of, f.aside, take_or_drop, no_both)
 
     pub left_cases : (v : ℕ) → In last.left v → (p : Player) × In (listed (since p)) v
     left_cases v i = elim (listed_somewhere v (part_of U (prefix f settled) (take f.upto aside) v i).0) [
@@ -266,16 +231,7 @@ module _ {g : Graph} {U active : VertexSet} {settled : SettledLists} {aside : Li
 
     -- what a player won of what is left
     pub won_since : (p : Player) (v : ℕ) → won_inside last.left won p v ≡ listed (since p) v
-    won_since p v =
-        equal_from (won_inside last.left won p v) (listed (since p) v) to
-        (λ i. and_from (last.left v) (same_player (won v) p) (since_left p v i) (is_same (won v) p (h.his p v (in_drop (count_at f p) (settled p) v i))))
-      where
-        to : In (won_inside last.left won p) v → In (listed (since p)) v
-        to i =
-            let b = and_parts (last.left v) (same_player (won v) p) i in
-            let q = left_cases v b.0 in
-            let e : q.0 ≡ p = sym (h.his q.0 v (in_drop (count_at f q.0) (settled q.0) v q.1)) ∙ same_is (won v) p b.1 in
-            subst (λ r. In (listed (since r)) v) e q.1
+    won_since p v = search (rules, equal_from, and_from, since_left, is_same, h.his, in_drop, and_parts, left_cases, same_is)
 
   -- It is finished: each list goes back to where it was, and then gets what is taken of the subgame.
   module _ {active' : VertexSet} {settled' : SettledLists} {own other : List ℕ} {won' : Winners} {s' : Choices}
@@ -366,13 +322,7 @@ module _ {g : Graph} {U active : VertexSet} {settled : SettledLists} {aside : Li
     }
 
     pub finish_inside : (v : ℕ) → In (gone settled' A) v → In U v
-    finish_inside v i = elim (gone_cases settled' A v i) [
-      | inl (p, y) ↦ elim (parts p v y) [
-        | inl x ↦ h.listed_inside v (gone_settled settled aside p v (in_take (count_at f p) (settled p) v x))
-        | inr x ↦ (inside_parts v (within p v x)).0
-      ]
-      | inr y ↦ h.listed_inside v (gone_aside settled aside v (in_take f.aside aside v y))
-    ]
+    finish_inside v i = search (rules, gone_cases, parts, h.listed_inside, gone_settled, in_take, inside_parts, within, gone_aside, f.aside)
 
     pub under_way_finish : IsUnderWay g U active' settled' A stops won' s'
     under_way_finish = record {
@@ -391,14 +341,7 @@ module _ {g : Graph} {U active : VertexSet} {settled : SettledLists} {aside : Li
     }
 
     pub finish_more : 0 < length own + length other → f.even + f.odd + f.aside < how_many_gone settled' A
-    finish_more l =
-        let a : length (settled' Even) ≡ f.even + length (taken Even) = sized Even in
-        let b : length (settled' Odd) ≡ f.odd + length (taken Odd) = sized Odd in
-        let n : length (taken Even) + length (taken Odd) ≡ length own + length other = pick_length f.player own other in
-        omega (arith, l, a, b, n, length_aside)
-      where
-        sized : (r : Player) → length (settled' r) ≡ count_at f r + length (taken r)
-        sized r = ap length (is r) ∙ (length-append (prefix f settled r) (taken r) ∙ ap (λ n. n + length (taken r)) (counts r))
+    finish_more l = search (rules, f.even, f.odd, pick_length, f.player, length_aside, is, length-append, counts)
 
 -- where nothing is active and nothing waits, all is solved
 pub under_way_done : {g : Graph} {U active : VertexSet} {settled : SettledLists} {aside : List ℕ} {stops : List Stop} {won : Winners} {s : Choices}

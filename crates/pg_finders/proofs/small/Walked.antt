@@ -1,5 +1,6 @@
 -- A search for a walk back over a few rows: its steps, and what it says in the end.
-use Rattle.std.proofs.Common.{◌≡◌, ◌≢◌, ℕ, ◌+◌, ◌<◌, ◌≤◌, Bool, true, false, inl, inr, List, [], ◌∷◌, ◌++◌, length, take, set, refl, sym, ◌∙◌, ap}
+use Rattle.std.proofs.Common.{rules}
+use Rattle.std.proofs.Common.{◌≡◌, ◌≢◌, ℕ, ◌+◌, ◌<◌, ◌≤◌, Bool, false, inl, inr, List, [], ◌∷◌, ◌++◌, length, take, set, sym, ◌∙◌, ap}
 use Rattle.std.proofs.Common.{subst, arith, length-set, get_or-set_same, get_or-set_other}
 use Rattle.std.specs.Prelude.{Some, None, ◌==◌, IsTrue}
 use Rattle.std.specs.List.{Contains}
@@ -11,7 +12,6 @@ use Rattle.pg_game.specs.VertexSet.{In, members}
 use Rattle.pg_game.specs.Kept.{Choices, kept, KeptEdge}
 use Rattle.pg_game.specs.Walk.{Walk, ClosedWalk, greatest_priority}
 use Rattle.pg_game.specs.Region.{OnlyGoodWalks}
-use Rattle.pg_game.proofs.Members.{Contains-head, Contains-one}
 use Rattle.pg_game.proofs.Players.{other_from_not, is_same}
 use Rattle.pg_game.proofs.Walks.{ClosedWalk-weaker}
 use Rattle.pg_game.proofs.Rotate.{good_from_none}
@@ -28,25 +28,13 @@ use Rattle.pg_finders.proofs.Apart.{front_named, front_place, same_place, named_
 -- where the player chose x, the kept edge leads to x alone
 pub leads_some : (g : Graph) (p : Player) (s : Choices) (v x w : ℕ) → owner_of g v ≡ p → s v ≡ Some x
     → (IsTrue (x == w) → Contains (kept g p s v) w) × (Contains (kept g p s v) w → IsTrue (x == w))
-leads_some g p s v x w o e =
-    let y = is_same (owner_of g v) p o in
-    let k : kept g p s v ≡ x ∷ [] = rw (y, e) refl in (
-      λ t. subst (λ (xs : List ℕ). Contains xs w) (sym k) (subst (λ z. Contains (x ∷ []) z) (eqb-true x w t) (Contains-head x [])),
-      λ m. eq-eqb x w (Contains-one x w (subst (λ (xs : List ℕ). Contains xs w) k m)),
-    )
+leads_some g p s v x w o e = search (rules, is_same, eqb-true, eq-eqb)
 
 pub leads_none : (g : Graph) (p : Player) (s : Choices) (v w : ℕ) → owner_of g v ≡ p → s v ≡ None → Contains (kept g p s v) w → ⊥
-leads_none g p s v w o e m =
-    let y = is_same (owner_of g v) p o in
-    let k : kept g p s v ≡ [] = rw (y, e) refl in
-    let n : Contains [] w = subst (λ (xs : List ℕ). Contains xs w) k m in
-    absurd (omega (arith, n.1))
+leads_none g p s v w o e m = search (rules, is_same)
 
 pub leads_other : (g : Graph) (p : Player) (s : Choices) (v w : ℕ) → owner_of g v ≢ p → Contains (kept g p s v) w → Contains (successors_of g v) w
-leads_other g p s v w o m =
-    let n = not_same (owner_of g v) p (other_from_not p (owner_of g v) o) in
-    let k : kept g p s v ≡ successors_of g v = rw n refl in
-    subst (λ (xs : List ℕ). Contains xs w) k m
+leads_other g p s v w o m = search (rules, not_same, other_from_not)
 
 module _ (g : Graph) (p : Player) (rows : ClaimRows) (done : ℕ) (within : done ≤ length rows) where
   edge : (top from to : ℕ) → from < done → to < done → RowLeadsTo g p rows from to → priority_of g (vertex_in rows to) ≤ top
@@ -71,10 +59,7 @@ module _ (g : Graph) (p : Player) (rows : ClaimRows) (done : ℕ) (within : done
 
   pub ways_push : (start to : ℕ) (left : List Bool) → ((k : ℕ) → k < done → members left k ≡ false → Way start k) → Way start to → (k : ℕ) → k < done
       → members (set left to false) k ≡ false → Way start k
-  ways_push start to left walks way k l n = elim (cases_eq k to) [
-    | inl q ↦ subst (Way start) (sym q) way
-    | inr d ↦ walks k l (sym (get_or-set_other left to k false false d) ∙ n)
-  ]
+  ways_push start to left walks way k l n = search (rules, cases_eq, get_or-set_other)
 
   -- where no row is reached any more, a walk from the start ends at a row that is left no more
   ends : (start : ℕ) (left : List Bool) → ((to : ℕ) → IsReached g p rows done start left to → ⊥) → (from : ℕ) → from < done → IsFrom start left from
@@ -101,11 +86,7 @@ module _ (g : Graph) (p : Player) (rows : ClaimRows) (done : ℕ) (within : done
 
   pub no_way_back : (start : ℕ) (left : List Bool) → AreDifferent rows → start < done → In (members left) start
       → ((to : ℕ) → IsReached g p rows done start left to → ⊥) → WalksBack g p rows done start → ⊥
-  no_way_back start left d s i none (ws, walk) =
-      let h = ends start left none start s (inl refl) ws (vertex_in rows start) walk in
-      let q = same_place rows h.0 start d (omega (arith, h.1)) (omega (arith, s)) h.2 in
-      let z : members left start ≡ false = subst (λ x. members left x ≡ false) q h.3 in
-      cc (i, z)
+  no_way_back start left d s i none (ws, walk) = search (rules, ends, same_place)
 
   over : (top v : ℕ) (ws : List ℕ) (end : ℕ) → Walk (Under g p rows done top) v ws end
       → Walk (KeptEdge g p (named (take done rows)) (choice_in rows)) v ws end × (greatest_priority g ws ≤ top)
@@ -177,10 +158,4 @@ fresh_closes_none g p rows at w l o c away good =
     (eqb-true w (vertex_in rows to) ((leads_some g p (choice_in rows) (vertex_in rows at) w (vertex_in rows to) o c).1 e)))) good
 
 pub left_less : (left : List Bool) (to : ℕ) → to < length left → In (members left) to → size (set left to false) < size left
-left_less left to l i = size_less (set left to false) left (length-set left to false) stays to i (get_or-set_same left to false false l)
-  where
-    stays : (v : ℕ) → members (set left to false) v ≡ true → members left v ≡ true
-    stays v j = elim (cases_eq v to) [
-      | inl q ↦ rw q i
-      | inr n ↦ sym (get_or-set_other left to v false false n) ∙ j
-    ]
+left_less left to l i = search (rules, size_less, length-set, get_or-set_same, cases_eq, get_or-set_other)

@@ -1,5 +1,6 @@
 -- A search against the edges: a vertex more, and what it has found in the end.
-use Rattle.std.proofs.Common.{◌≡◌, ◌≢◌, ℕ, zero, suc, ◌<◌, ◌≤◌, Bool, true, false, ◌⊎◌, inl, inr, List, [], ◌∷◌, ◌++◌, length, set, replicate, refl}
+use Rattle.std.proofs.Common.{rules}
+use Rattle.std.proofs.Common.{◌≡◌, ◌≢◌, ℕ, suc, ◌<◌, ◌≤◌, Bool, true, false, ◌⊎◌, inl, inr, List, [], ◌∷◌, ◌++◌, length, set, replicate, refl}
 use Rattle.std.proofs.Common.{sym, ◌∙◌, subst, arith, length-set, length-append, get_or-set_same, get_or-set_other}
 use Rattle.std.specs.Prelude.{slice_index, ◌==◌, if◌then◌else◌}
 use Rattle.std.proofs.lemmas.Bool.{cases_eq, eq-eqb}
@@ -15,10 +16,7 @@ use Rattle.pg_finders.proofs.Masks.{none_mask}
 
 -- a member of a mask with one more vertex
 set_cases : (mask : List Bool) (v x : ℕ) → v < length mask → In (members (set mask v true)) x → (x ≡ v) ⊎ ((x ≢ v) × In (members mask) x)
-set_cases mask v x l i = elim (cases_eq x v) [
-  | inl e ↦ inl e
-  | inr n ↦ inr (n, sym (get_or-set_other mask v x true false n) ∙ i)
-]
+set_cases mask v x l i = search (rules, cases_eq, get_or-set_other)
 
 pub still_set : (mask : List Bool) (v x : ℕ) → v < length mask → In (members mask) x → In (members (set mask v true)) x
 still_set mask v x l i = members-set mask v l x ∙ rw i refl
@@ -63,13 +61,11 @@ module _ (g : Graph) (U : VertexSet) (top goal : ℕ) where
     new_next = get_or-set_same next v to 0 ln
 
     nearer_new : ((to ≡ goal) ⊎ In (members taken) to) → (to ≡ goal) ⊎ (In (members (set taken v true)) to × (ranks to < ranks v))
-    nearer_new (inl q) = inl q
-    nearer_new (inr i) = inr (still_set taken v to lt i, omega (arith, old_rank to (not_new to i), new_rank))
+    nearer_new x0 = search (rules, still_set, lt, old_rank, not_new, new_rank)
 
     nearer_old : (x y : ℕ) → x ≢ v → (y ≡ goal) ⊎ (In (members taken) y × (h.rank y < h.rank x))
         → (y ≡ goal) ⊎ (In (members (set taken v true)) y × (ranks y < ranks x))
-    nearer_old x y n (inl q) = inl q
-    nearer_old x y n (inr (i, f)) = inr (still_set taken v y lt i, omega (arith, f, old_rank y (not_new y i), old_rank x n))
+    nearer_old x y n x3 = search (rules, still_set, lt, old_rank, not_new)
 
     pub leading_push : AreLeading g U top goal (set taken v true) (set next v to)
     leading_push = record {
@@ -101,19 +97,7 @@ last_or queue v i l = let h = length-append queue (v ∷ []) in grind arith
 
 module _ (g : Graph) (goal : ℕ) where
   pub queue_one : (taken : List Bool) → goal < length g → ((v : ℕ) → members taken v ≡ false) → IsQueue g goal taken (goal ∷ [])
-  queue_one taken l none = record {
-    below = λ i li. one_below i li;
-    only = λ i li. inl (one i li);
-    start = (0, omega arith, refl);
-    known = λ v i. absurd (let z = none v in cc (i, z));
-  }
-    where
-      one : (i : ℕ) → i < 1 → slice_index (goal ∷ []) i ≡ goal
-      one zero li = refl
-      one (suc i) li = absurd (omega (arith, li))
-
-      one_below : (i : ℕ) → i < 1 → slice_index (goal ∷ []) i < length g
-      one_below i li = rw (one i li) l
+  queue_one taken l none = search (rules)
 
   pub queue_push : (taken : List Bool) (queue : List ℕ) (v : ℕ) → v < length g → v < length taken → IsQueue g goal taken queue
       → IsQueue g goal (set taken v true) (queue ++ v ∷ [])
@@ -150,8 +134,4 @@ module _ (g : Graph) (goal : ℕ) where
 
 pub follows_push : (a : List Bool) (b : List ℕ) (taken : List Bool) (queue : List ℕ) (v : ℕ) → v < length taken → Follows a b taken queue
     → Follows a b (set taken v true) (queue ++ v ∷ [])
-follows_push a b taken queue v l h = record {
-  grows = λ x i. still_set taken v x l (h.grows x i);
-  longer = omega (arith, h.longer, length-append queue (v ∷ []));
-  prefix = λ i li. get_or_append_left queue (v ∷ []) 0 i (omega (arith, h.longer)) ∙ h.prefix i li;
-}
+follows_push a b taken queue v l h = search (rules, still_set, h.grows, h.longer, length-append, get_or_append_left, h.prefix)

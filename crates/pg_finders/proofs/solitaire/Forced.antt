@@ -1,6 +1,7 @@
 -- A subgame where one player has no choice: what the other wins by a closed walk, and that without one all is his who has no choice.
+use Rattle.std.proofs.Common.{rules}
 use Rattle.std.proofs.Common.{◌≡◌, ◌≢◌, ℕ, ◌<◌, ◌≤◌, Bool, true, false, ◌&&◌, inl, inr, List, [], ◌∷◌, length, refl, sym, ◌∙◌, ap, subst, arith, ltb-true, eqb}
-use Rattle.std.specs.Prelude.{Option, Some, None, Result, Ok, Err, IfOk, slice_index, IfSome, IsNone, if◌then◌else◌}
+use Rattle.std.specs.Prelude.{Option, Some, Result, IfOk, slice_index, IfSome, IsNone, if◌then◌else◌}
 use Rattle.std.specs.declared.alloc.AllocError.{AllocError}
 use Rattle.std.specs.List.{Contains}
 use Rattle.pg_game.specs.declared.player.Player.{Player}
@@ -13,7 +14,7 @@ use Rattle.pg_game.specs.Kept.{Choices, kept, KeptEdge}
 use Rattle.pg_game.specs.Walk.{Walk, ClosedWalk, greatest_priority}
 use Rattle.pg_game.specs.Least.{NoneHas}
 use Rattle.pg_game.specs.Region.{OnlyGoodWalks, OnBadWalk}
-use Rattle.pg_game.proofs.Members.{Contains-nil, some_or_none}
+use Rattle.pg_game.proofs.Members.{some_or_none}
 use Rattle.pg_game.proofs.Walks.{ClosedWalk-weaker}
 use Rattle.pg_game.proofs.Rotate.{good_from_none}
 use Rattle.pg_game.proofs.Players.{same_is, is_same}
@@ -33,8 +34,7 @@ use Rattle.std.proofs.lemmas.Bool.{eqb-true, eq-eqb, and_parts, and_from}
 
 -- what is single is one
 pub one_from_single : (g : Graph) (U : VertexSet) (v : ℕ) (o : Option ℕ) → (IsNone o → ⊥) → IfSome o (λ w. IsSingle g U v w) → HasOneAt g U v
-one_from_single g U v None some h = absurd (some refl)
-one_from_single g U v (Some s) some h = λ w x a b d e. h.only w a b ∙ sym (h.only x d e)
+one_from_single g x1 v x3 some h = search (rules)
 
 -- the rows of a set that a player holds are a good claim
 pub held_good : (g : Graph) (U : VertexSet) (p : Player) (X : VertexSet) (next : List ℕ) → IsSubgame g U → WinsOn g U p X (choices_by next) → (v : ℕ)
@@ -68,11 +68,7 @@ module _ (k : Kept) (U : VertexSet) (q : Player) (inside : (v : ℕ) → members
   row_is v = rw (chosen v, inside v) (cases (U v) (same_player (owner_of g v) q) (slice_index k.choices.items v ∷ []) (successors_of g v))
 
   to_kept : (v w : ℕ) → Edge k v w → KeptEdge g q U s v w
-  to_kept v w m = go (U v) refl (subst (λ (xs : List ℕ). Contains xs w) (row_is v) m)
-    where
-      go : (b : Bool) → U v ≡ b → Contains (if U v then kept g q s v else []) w → KeptEdge g q U s v w
-      go true n h = (n, (rw n at h))
-      go false n h = let none : Contains [] w = rw n at h in absurd (Contains-nil w none)
+  to_kept v w m = search (rules, row_is)
 
   from_kept : (v w : ℕ) → KeptEdge g q U s v w → Edge k v w
   from_kept v w (n, m) = subst (λ (xs : List ℕ). Contains xs w) (sym (row_is v)) (rw n m)
@@ -89,12 +85,7 @@ module _ (k : Kept) (U : VertexSet) (q : Player) (inside : (v : ℕ) → members
 
   -- without a bad closed walk all vertices are his
   pub all_held : NoneHas (IsWorst k) → WinsOn g U q U s
-  all_held none = record {
-    within = λ v i. i;
-    choices = λ v i o. (let s = single v i o in (slice_index k.choices.items v, refl, s.edge, s.inside));
-    closed = λ v w i o e u. u;
-    good = good_from_none g q U s (λ v b. none v (bad_is_worst v b));
-  }
+  all_held none = search (rules, k.choices.items, good_from_none, bad_is_worst)
 
   edge_of : (v w : ℕ) → Edge k v w → HasEdge g v w × In U v
   edge_of v w m =
@@ -118,8 +109,7 @@ module _ (k : Kept) (U : VertexSet) (q : Player) (inside : (v : ℕ) → members
   worst_leads v h = (h.1.0, walk_below (priority_of g v) v h.1.0 v h.1.1 (omega arith) (omega (arith, h.1.2)))
 
   pub worst_parity : (v : ℕ) → IsWorst k v → of_parity (priority_of g v) ≡ opponent q
-  worst_parity v h =
-      same_is (of_parity (priority_of g v)) (opponent q) (and_parts (U v) (same_player (of_parity (priority_of g v)) (opponent q)) (sym (bad v) ∙ h.0)).1
+  worst_parity v h = search (rules, same_is, and_parts)
 
 module _ (g : Graph) (U : VertexSet) (q : Player) (one : HasOneSuccessor g U q) (goal : ℕ) (taken : List Bool) (next : List ℕ)
     (lead : AreLeading g U (priority_of g goal) goal taken next) (there : In (members taken) goal) (parity : of_parity (priority_of g goal) ≡ opponent q) where
@@ -178,8 +168,7 @@ module _ (g : Graph) (U : VertexSet) (q : Player) (one : HasOneSuccessor g U q) 
 -- what a call answers is good, where its rows are
 pub ok_good : (g : Graph) (U : VertexSet) (p : Player) (rows : ClaimRows) (r : Result Claim AllocError) → IfOk r (λ (c : Claim). c.player ≡ p)
     → IfOk r (λ (c : Claim). c.rows ≡ rows) → IsGoodIn g U p rows → IfOk r (λ (c : Claim). IsGoodIn g U c.player c.rows)
-ok_good g U p rows (Ok c) a b h = subst (λ q. IsGoodIn g U q c.rows) (sym a) (subst (λ xs. IsGoodIn g U p xs) (sym b) h)
-ok_good g U p rows (Err e) a b h = tt
+ok_good g x1 p rows x4 a b h = search (rules)
 
 pub not_solitaire : (g : Graph) (U : VertexSet) → (HasOneSuccessor g U Even → ⊥) → (HasOneSuccessor g U Odd → ⊥) → IsSolitaire g U → ⊥
 not_solitaire g U a b (some, (Even, h)) = a h

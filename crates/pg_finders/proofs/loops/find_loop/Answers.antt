@@ -22,10 +22,7 @@ returns-then-is_empty-clause-none c =
     no_loops i.graph i.mask c.args.player c.game-game.ensures.part c.loop-v.rows.items (rows_are b) e
 
 pub returns-clause-loops : goal.returns-clause-loops
-returns-clause-loops c =
-    let i = c.args.inside.now in
-    let b = (goal.at.returns-clause-loops c).After-is_empty in
-    rw c.new.ensures (exactly_loops i.graph i.mask c.args.player c.game-game.ensures.part c.loop-v.rows.items (rows_are b))
+returns-clause-loops c = search (rules, c.new.ensures, exactly_loops, c.game-game.ensures.part, rows_are)
 
 pub returns-clause-choices : goal.returns-clause-choices
 returns-clause-choices c =

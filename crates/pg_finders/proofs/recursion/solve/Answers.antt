@@ -1,3 +1,4 @@
+use Rattle.std.proofs.Common.{rules}
 use Rattle.std.proofs.Common.{sym, subst}
 use Rattle.pg_game.specs.VertexSet.{members}
 use Rattle.pg_game.specs.Subgame.{IsSubgame}
@@ -9,8 +10,7 @@ use Rattle.pg_finders.proofs.recursion.solve.Goals as goal
 
 solved : (c : goal.After-drop-plan-3) → IsSolvedInside c.game-game.result.now (members c.mask-mask.result.now) (winners_of c.into_plan-plan.result)
     (choices_of c.into_plan-plan.result)
-solved c = subst (λ plan. IsSolvedInside c.game-game.result.now (members c.mask-mask.result.now) (winners_of plan) (choices_of plan))
-    (sym c.into_plan-plan.ensures) c.in_ok-run.ensures.solved
+solved c = search (rules, c.into_plan-plan.ensures, c.in_ok-run.ensures.solved)
 
 pub returns : goal.returns
 returns c =

@@ -1,3 +1,4 @@
+use Rattle.std.proofs.Common.{rules}
 use Rattle.std.proofs.Common.{◌≡◌, ℕ, zero, suc, ◌+◌, ◌-◌, ◌<◌, ◌≤◌, ◌++◌, List, [], ◌∷◌, length, sym, ◌∙◌, ap, arith}
 use Rattle.std.specs.Prelude.{slice_index}
 use Rattle.std.specs.List.{range_with_len}
@@ -7,18 +8,10 @@ use Rattle.pg_finders.proofs.standard.batch.Goals as goal
 -- one more number of a range
 range_more : (a n : ℕ) → range_with_len a (n + 1) ≡ range_with_len a n ++ (a + n) ∷ []
 range_more a zero = let e : a ≡ a + 0 = omega arith in ap (λ (x : ℕ). x ∷ []) e
-range_more a (suc n) =
-    let k : suc n + 1 ≡ suc (n + 1) = omega arith in
-    let f : (a + 1) + n ≡ a + suc n = omega arith in
-    ap (range_with_len a) k ∙ (ap (λ (xs : List ℕ). a ∷ xs) (range_more (a + 1) n) ∙ ap (λ (x : ℕ). (a ∷ range_with_len (a + 1) n) ++ x ∷ []) f)
+range_more a (suc n) = search (rules, range_more (a + 1) n)
 
 range_below : (a m n : ℕ) (xs : List ℕ) → xs ≡ range_with_len a m → a + m ≤ n → (k : ℕ) → k < length xs → slice_index xs k < n
-range_below a m n xs e l k h =
-    let size = length-range_with_len a m in
-    let same = ap (λ (ys : List ℕ). length ys) e in
-    let lk : k < m = omega arith in
-    let at : slice_index xs k ≡ a + k = ap (λ (ys : List ℕ). slice_index ys k) e ∙ get_or-range_with_len a m k 0 lk in
-    omega arith
+range_below a m n xs e l k h = search (rules, length-range_with_len, get_or-range_with_len)
 
 pub loop-v-preserved : goal.loop-v-preserved
 loop-v-preserved c =

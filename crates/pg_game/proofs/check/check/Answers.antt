@@ -1,7 +1,7 @@
-use Rattle.std.proofs.Common.{ℕ, zero, suc, ◌≡◌, ◌<◌, false, length, refl, sym, subst, ◌∙◌, arith, Result, Ok, Err, IfErr, IsErrAnd}
-use Rattle.std.specs.Prelude.{Some, ◌==◌}
+use Rattle.std.proofs.Common.{rules}
+use Rattle.std.proofs.Common.{ℕ, zero, suc, ◌≡◌, ◌<◌, false, sym, subst, ◌∙◌, arith, Result, Ok, Err, IfErr, IsErrAnd}
+use Rattle.std.specs.Prelude.{◌==◌}
 use Rattle.std.proofs.lemmas.Bool.{lt-ltb}
-use Rattle.pg_game.specs.Specification.{first_fault, max_vertices, OrMemory}
 use Rattle.pg_game.proofs.Sound.{not_empty, twice_named, without_named, edges_named, unknown_named, sound_has_none}
 use Rattle.pg_game.proofs.check.check.Goals as goal
 
@@ -14,14 +14,11 @@ passed_on (Ok x) e Q is q = tt
 passed_on (Err x) e Q is q = subst Q (sym is) q
 
 pub returns-then-specs-gt-MAX_VERTICES-clause-fault : goal.returns-then-specs-gt-MAX_VERTICES-clause-fault
-returns-then-specs-gt-MAX_VERTICES-clause-fault c =
-    rw (not_empty c.args.specs.now (omega arith), lt-ltb max_vertices (length c.args.specs.now) c.if-specs-gt-MAX_VERTICES.true) refl
+returns-then-specs-gt-MAX_VERTICES-clause-fault c = search (rules, not_empty, lt-ltb, c.if-specs-gt-MAX_VERTICES.true)
 
 pub returns-in_err-ids-clause-fault : goal.returns-in_err-ids-clause-fault
 returns-in_err-ids-clause-fault c =
-    let specs = c.args.specs.now in
-    passed_on c.from_residual.result c.in_err-ids.field-0.0 (λ e. OrMemory (first_fault specs ≡ Some e) e) c.from_residual.ensures.1
-    (twice_named specs (some_of _ c.if-is_empty.ensures) c.if-specs-gt-MAX_VERTICES.false _ c.in_err-ids.ensures.fault)
+    search (rules, passed_on, twice_named, some_of, c.if-is_empty.ensures, c.if-specs-gt-MAX_VERTICES.false, c.in_err-ids.ensures.fault)
 
 pub returns-in-Some-clause-fault : goal.returns-in-Some-clause-fault
 returns-in-Some-clause-fault c =

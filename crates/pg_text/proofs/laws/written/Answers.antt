@@ -1,14 +1,7 @@
+use Rattle.std.proofs.Common.{rules}
 use Rattle.pg_text.proofs.Spelling.{one_spelling}
 use Rattle.pg_text.proofs.WrittenReads.{written_game_reads, written_solution_reads, written_game_is_text, written_solution_is_text}
 use Rattle.pg_text.proofs.laws.written.Goals as goal
 
 pub returns : goal.returns
-returns c = record {
-  tokens =
-      one_spelling 0;
-  games =
-      written_game_reads;
-  solutions = written_solution_reads;
-  game_texts = written_game_is_text;
-  solution_texts = written_solution_is_text;
-}
+returns c = search (rules, one_spelling, written_game_reads, written_solution_reads, written_game_is_text, written_solution_is_text)

@@ -1,8 +1,6 @@
+use Rattle.std.proofs.Common.{rules}
 use Rattle.pg_text.proofs.Next.{piece_past}
 use Rattle.pg_text.proofs.lexer.next_token.Goals as goal
 
 pub returns-clause-token : goal.returns-clause-token
-returns-clause-token c =
-    let r = c.blanks_end-from.ensures.run in
-    piece_past c.word_or_name.result.kind c.args.text.now c.args.at c.blanks_end-from.result c.word_or_name.result.from c.word_or_name.result.to r.0 r.1
-    c.word_or_name.ensures.token
+returns-clause-token c = search (rules, c.blanks_end-from.ensures.run, piece_past, c.word_or_name.ensures.token)

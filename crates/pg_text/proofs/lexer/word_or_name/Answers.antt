@@ -1,25 +1,18 @@
-use Rattle.std.proofs.Common.{◌+◌, arith, ◌∙◌, sym, length, get_or, inl}
+use Rattle.std.proofs.Common.{rules}
+use Rattle.std.proofs.Common.{◌∙◌, sym, get_or, inl}
 use Rattle.std.proofs.lemmas.Slice.{between_to_end}
 use Rattle.pg_text.proofs.Next.{name_found, name_lost, word_at, nothing_at, begins_none}
 use Rattle.pg_text.proofs.lexer.word_or_name.Goals as goal
 
 pub returns-in-Some-clause-token : goal.returns-in-Some-clause-token
-returns-in-Some-clause-token c =
-    name_found c.args.text.now _ c.args.from c.in-Some.more c.requires.inside c.if-first-eq34.true
-    (between_to_end c.args.text.now (c.args.from + 1) (length c.args.text.now) (omega arith)) c.in-Some.ensures
+returns-in-Some-clause-token c = search (rules, name_found, c.requires.inside, c.if-first-eq34.true, between_to_end, c.in-Some.ensures)
 
 pub returns-in-None-clause-token : goal.returns-in-None-clause-token
-returns-in-None-clause-token c =
-    name_lost c.args.text.now _ c.args.from c.requires.inside c.if-first-eq34.true
-    (between_to_end c.args.text.now (c.args.from + 1) (length c.args.text.now) (omega arith)) c.in-None.ensures
+returns-in-None-clause-token c = search (rules, name_lost, c.requires.inside, c.if-first-eq34.true, between_to_end, c.in-None.ensures)
 
 pub returns-then-letter-clause-token : goal.returns-then-letter-clause-token
 returns-then-letter-clause-token c =
-    let r = c.letters_end.ensures.run in (
-      r.0,
-      word_at c.args.text.now c.args.from c.requires.inside c.letters_end.result r.0 r.1
-          (sym c.letter.ensures ∙ c.if-letter.true) c.letters_end.ensures.ends,
-    )
+    search (rules, c.letters_end.ensures.run, word_at, c.requires.inside, c.letter.ensures, c.if-letter.true, c.letters_end.ensures.ends)
 
 pub returns-clause-token : goal.returns-clause-token
 returns-clause-token c = nothing_at c.args.text.now c.args.from c.requires.inside c.requires.solid

@@ -1,10 +1,9 @@
-use Rattle.std.proofs.Common.{ℕ, List, map, sym, subst}
+use Rattle.std.proofs.Common.{rules}
+use Rattle.std.proofs.Common.{ℕ, List}
 use Rattle.std.specs.Prelude.{Result, Ok, Err, MatchResult, IfOk}
 use Rattle.pg_game.specs.Graph.{Graph}
 use Rattle.pg_text.specs.declared.fault.SolutionTextFault.{SolutionTextFault}
 use Rattle.pg_text.specs.declared.solution.Solution.{Solution}
-use Rattle.pg_text.specs.declared.solution_reader.SolutionLine.{SolutionLine}
-use Rattle.pg_text.specs.private.SolutionKeeps.{line_of}
 use Rattle.pg_text.specs.SolutionText as solutions
 use Rattle.pg_text.specs.SolutionLines.{AreLinesOf}
 use Rattle.pg_text.specs.Reading.{SpellsSolution, IsSolutionTextOf}
@@ -17,7 +16,4 @@ rows_read g text lines F (Ok s) spelled says = record { lines = lines; spelled =
 rows_read g text lines F (Err e) spelled says = tt
 
 pub returns-clause-rows : goal.returns-clause-rows
-returns-clause-rows c =
-    let spelled : SpellsSolution c.args.text.now (map line_of c.as_slice.result.now) =
-    subst (λ (ls : List SolutionLine). SpellsSolution c.args.text.now (map line_of ls)) (sym c.as_slice.ensures.value) c.in_ok-lines.ensures in
-    rows_read _ _ _ _ c.rows_of.result spelled c.rows_of.ensures.rows
+returns-clause-rows c = search (rules, c.as_slice.ensures.value, c.in_ok-lines.ensures, rows_read, c.rows_of.ensures.rows)

@@ -1,17 +1,9 @@
-use Rattle.std.proofs.Common.{map}
-use Rattle.pg_text.specs.private.SolutionKeeps.{line_of}
-use Rattle.pg_text.specs.private.SolutionTable.{IsKnownRowFaultOf}
-use Rattle.pg_text.specs.Known.{AreKnownLinesOf}
+use Rattle.std.proofs.Common.{rules}
 use Rattle.pg_text.proofs.KnownLines.{passed_on, known_fault, known_size}
 use Rattle.pg_text.proofs.solution_rows.known_of.Goals as goal
 
 pub returns-in_err-table_of-clause-rows : goal.returns-in_err-table_of-clause-rows
-returns-in_err-table_of-clause-rows c =
-    let g = c.args.game.now in
-    let ls = map line_of c.args.lines.now in
-    let e = c.in_err-table_of.field-0.0 in
-    passed_on c.from_residual.result e (λ k. AreKnownLinesOf g ls k.rows) (λ f. IsKnownRowFaultOf g ls f) c.from_residual.ensures.1
-    (known_fault g ls e c.in_err-table_of.ensures)
+returns-in_err-table_of-clause-rows c = search (rules, passed_on, known_fault, c.in_err-table_of.ensures)
 
 pub returns-clause-size : goal.returns-clause-size
 returns-clause-size c = let h = c.in_ok-table_of.ensures in known_size c.args.game.now _ c.known.result _ (c.known.ensures _ h)

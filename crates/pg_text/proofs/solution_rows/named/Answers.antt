@@ -1,4 +1,5 @@
-use Rattle.std.proofs.Common.{◌≡◌, ℕ, ◌<◌, false, length, refl, sym, subst}
+use Rattle.std.proofs.Common.{rules}
+use Rattle.std.proofs.Common.{◌≡◌, ℕ, ◌<◌, false, length, refl}
 use Rattle.std.specs.Prelude.{Option, Some, None, IfSome, IfNone, MatchResult}
 use Rattle.std.specs.Option.{ok_or}
 use Rattle.pg_game.specs.Graph.{Graph, id_of}
@@ -14,8 +15,4 @@ either g id None found missing = (refl, not_named g id missing)
 either g id (Some v) (l, e) missing = record { vertex = l; id_is = e }
 
 pub returns : goal.returns
-returns c =
-    let g = c.args.game.now in
-    let id = c.args.id in
-    subst (λ r. MatchResult r (λ v. IsNamed g id v) (λ e. (e ≡ Stranger id) × (is_id g id ≡ false))) (sym c.ok_or.ensures.value)
-    (either g id c.vertex_of.result c.vertex_of.ensures.found c.vertex_of.ensures.missing)
+returns c = search (rules, c.ok_or.ensures.value, either, c.vertex_of.ensures.found, c.vertex_of.ensures.missing)

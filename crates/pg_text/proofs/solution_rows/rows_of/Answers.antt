@@ -1,18 +1,10 @@
-use Rattle.std.proofs.Common.{map}
-use Rattle.pg_text.specs.private.SolutionKeeps.{line_of}
-use Rattle.pg_text.specs.private.SolutionTable.{IsRowFaultOf}
-use Rattle.pg_text.specs.SolutionLines.{AreLinesOf}
+use Rattle.std.proofs.Common.{rules}
 use Rattle.pg_text.proofs.KnownLines.{passed_on, row_fault}
 use Rattle.pg_text.proofs.RowsFit.{fit_answer}
 use Rattle.pg_text.proofs.solution_rows.rows_of.Goals as goal
 
 pub returns-in_err-table_of-clause-rows : goal.returns-in_err-table_of-clause-rows
-returns-in_err-table_of-clause-rows c =
-    let g = c.args.game.now in
-    let ls = map line_of c.args.lines.now in
-    let e = c.in_err-table_of.field-0.0 in
-    passed_on c.from_residual.result e (λ s. AreLinesOf g ls s.rows) (λ f. IsRowFaultOf g ls f) c.from_residual.ensures.1
-    (row_fault g ls e c.in_err-table_of.ensures)
+returns-in_err-table_of-clause-rows c = search (rules, passed_on, row_fault, c.in_err-table_of.ensures)
 
 pub returns-clause-fit : goal.returns-clause-fit
 returns-clause-fit c = let h = c.in_ok-table_of.ensures in fit_answer c.args.game.now _ c.finish.result _ h.game (c.finish.ensures _ h)

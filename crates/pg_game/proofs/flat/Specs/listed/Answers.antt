@@ -1,4 +1,5 @@
-use Rattle.std.proofs.Common.{◌≡◌, List, length, ap, arith}
+use Rattle.std.proofs.Common.{rules}
+use Rattle.std.proofs.Common.{◌≡◌, List}
 use Rattle.std.specs.Prelude.{Option, None, Some, IfSome}
 use Rattle.std.specs.List.Sorted.{IsPermutation}
 use Rattle.std.proofs.lemmas.List.Sorted.{All-permutation}
@@ -15,9 +16,7 @@ still_some specs sorted moved None h = h
 still_some specs sorted moved (Some g) (game, of, none) = (game, still_of moved g of, still_none moved none)
 
 pub by_identifier-requires : goal.by_identifier-requires
-by_identifier-requires c =
-    let e = ap (λ (xs : List Spec). length xs) c.self.view_is in
-    omega (arith, length_specs c.self.invariant, e, c.if-len-gt-MAX_VERTICES.false, c.len.ensures, c.self.inside.ids.ok.0)
+by_identifier-requires c = search (rules, length_specs, c.self.invariant, c.if-len-gt-MAX_VERTICES.false, c.len.ensures)
 
 pub placed-requires-2 : goal.placed-requires-2
 placed-requires-2 c = All-permutation AreNumbers c.args.self.now c.in_ok-sorted.sorted c.in_ok-sorted.ensures c.requires

@@ -1,3 +1,4 @@
+use Rattle.std.proofs.Common.{rules}
 use Rattle.std.proofs.Common.{◌≡◌, ◌<◌, [], ◌∷◌, ◌++◌, length, take, get_or, sym, ◌∙◌, arith}
 use Rattle.std.proofs.lemmas.List.{get_or_read, take_all}
 use Rattle.pg_game.specs.declared.player.Player.TheVariants.{Even}
@@ -22,6 +23,4 @@ lines-preserved c =
     c.in_ok-push.ensures.items ∙ ((λ i. before i ++ spec_of (id i) (priority i) (owner i) (row i) ∷ []) ∙ sym taken)
 
 pub returns : goal.returns
-returns c =
-    let e = c.self.invariant.successors in
-    c.lines.invariant ∙ (take_all c.lines.v _ (omega (arith, length_specs c.self.invariant, e)) ∙ c.self.view_is)
+returns c = search (rules, c.self.invariant.successors, c.lines.invariant, take_all, length_specs, c.self.invariant)

@@ -1,6 +1,5 @@
 use Rattle.std.proofs.Common.{rules}
 use Rattle.std.proofs.lemmas.List.Sorted.{IsNonDecreasingBy-from_sort_by_key}
-use Rattle.std.proofs.lemmas.Result.{IfOk-weaker}
 use Rattle.pg_game.specs.declared.game.Spec.{Spec}
 use Rattle.pg_game.proofs.Sorting.{sorted_from}
 use Rattle.pg_game.proofs.game.Game.lay_out.Goals as goal
@@ -15,8 +14,4 @@ of_sorted-requires c =
     record { specified = (c.args.specs.items, moved, c.requires.numbers, c.requires.sound); ids = both.0; rising = both.1 }
 
 pub returns : goal.returns
-returns c = record {
-  game = IfOk-weaker c.of_sorted.result _ _
-      (λ g made. made c.args.specs.items (rw c.as_slice.ensures.value c.sort_unstable_by_key.ensures.permutation) c.requires.numbers c.requires.sound)
-      c.of_sorted.ensures.game;
-}
+returns c = search (rules, c.as_slice.ensures.value, c.sort_unstable_by_key.ensures.permutation, c.requires.numbers, c.requires.sound, c.of_sorted.ensures.game)

@@ -1,5 +1,4 @@
-use Rattle.std.proofs.Common.{ap}
-use Rattle.pg_game.specs.Opened.{Opened}
+use Rattle.std.proofs.Common.{rules}
 use Rattle.pg_game.proofs.open.OpenSpecs.finish.Goals as goal
 
 pub of_parts-requires : goal.of_parts-requires
@@ -9,5 +8,4 @@ pub of_parts-requires-2 : goal.of_parts-requires-2
 of_parts-requires-2 c = rw (c.of_parts.ensures, c.truncate.ensures.items) c.self.invariant.parts
 
 pub returns : goal.returns
-returns c =
-    rw (c.of_parts-2.ensures, c.of_parts.ensures, c.truncate.ensures.items) (ap (λ (o : Opened). o.specs) c.self.view_is)
+returns c = search (rules, c.of_parts-2.ensures, c.of_parts.ensures, c.truncate.ensures.items)

@@ -1,3 +1,4 @@
+use Rattle.std.proofs.Common.{rules}
 use Rattle.std.proofs.Common.{◌≡◌, List, ℕ, ◌∙◌, subst}
 use Rattle.std.specs.Prelude.{Result, Ok, Err, IfOk, IfErr}
 use Rattle.pg_game.specs.Graph.{Graph, IsGame}
@@ -22,8 +23,26 @@ no_fault g text (Err x) i w e f = text_or_fault (written_game g) g x (written_ga
 
 pub returns-clause-same : goal.returns-clause-same
 returns-clause-same c =
-    same_game _ _ c.read_game.result c.len-n.ensures.game c.len-n.ensures.limits (c.as_slice.ensures.value ∙ c.in_ok-text.ensures.text) c.read_game.ensures.game
+    search (
+      rules,
+      same_game,
+      c.read_game.result,
+      c.len-n.ensures.game,
+      c.len-n.ensures.limits,
+      c.as_slice.ensures.value,
+      c.in_ok-text.ensures.text,
+      c.read_game.ensures.game,
+    )
 
 pub returns-clause-fault : goal.returns-clause-fault
 returns-clause-fault c =
-    no_fault _ _ c.read_game.result c.len-n.ensures.game c.len-n.ensures.limits (c.as_slice.ensures.value ∙ c.in_ok-text.ensures.text) c.read_game.ensures.fault
+    search (
+      rules,
+      no_fault,
+      c.read_game.result,
+      c.len-n.ensures.game,
+      c.len-n.ensures.limits,
+      c.as_slice.ensures.value,
+      c.in_ok-text.ensures.text,
+      c.read_game.ensures.fault,
+    )

@@ -1,3 +1,4 @@
+use Rattle.std.proofs.Common.{rules}
 use Rattle.std.proofs.Common.{◌≡◌, ℕ, ◌<◌, ◌≤◌, All, length, take, sym, ◌∙◌, ap, subst}
 use Rattle.std.specs.List.Sorted.{IsNonDecreasingBy}
 use Rattle.pg_game.specs.declared.player.Player.{Player}
@@ -30,9 +31,7 @@ fits : (c : Start) → ((p : Player) → count_at c.args.stop p ≤ length (sett
 fits c = stop_fits c.args.self.now.stops.items c.args.stop c.requires.running.under_way
 
 below : (c : Start) (v : ℕ) → In (gone (settled_of c.args.self.now.settled) c.args.self.now.aside.items) v → v < length c.args.self.now.subgame.active
-below c v i =
-    subst (λ n. v < n) (c.requires.running.inside_length ∙ sym c.requires.running.sizes.active)
-    (inside_mask c.args.inside.now v (c.requires.running.under_way.listed_inside v i))
+below c v i = search (rules, c.requires.running.inside_length, c.requires.running.sizes.active, inside_mask, c.requires.running.under_way.listed_inside)
 
 pub reopen-requires-clause-aside : goal.reopen-requires-clause-aside
 reopen-requires-clause-aside c = (fits c).1
@@ -41,14 +40,10 @@ pub reopen-requires-clause-counts : goal.reopen-requires-clause-counts
 reopen-requires-clause-counts c = (fits c).0
 
 pub reopen-requires-clause-aside_below : goal.reopen-requires-clause-aside_below
-reopen-requires-clause-aside_below c =
-    all_below (length c.args.self.now.subgame.active) c.args.self.now.aside.items
-    (λ v i. below c v (gone_aside (settled_of c.args.self.now.settled) c.args.self.now.aside.items v i))
+reopen-requires-clause-aside_below c = search (rules, all_below, below, gone_aside)
 
 pub reopen-requires-clause-settled_below : goal.reopen-requires-clause-settled_below
-reopen-requires-clause-settled_below c p =
-    all_below (length c.args.self.now.subgame.active) (settled_of c.args.self.now.settled p)
-    (λ v i. below c v (gone_settled (settled_of c.args.self.now.settled) c.args.self.now.aside.items p v i))
+reopen-requires-clause-settled_below c p = search (rules, all_below, below, gone_settled)
 
 abbrev Reopened : Type 0
 Reopened = goal.After-deref
@@ -96,11 +91,7 @@ attract-requires-clause-rest c =
     rw (c.deref.ensures.value, aside_is c, c.other-other.ensures, r.other) (reopened_rest (ended c) (active_of c.reopen.new.self.subgame) r.active)
 
 pub go_back-requires : goal.go_back-requires
-go_back-requires c =
-    let x = c.args.self.now in
-    subst (λ o. c.args.stop.place ≤ length o.ranked.items) (sym c.reopen.ensures.order)
-    (placed_pop x.order.ranked.items (level_at (members c.args.inside.now)
-    (settled_of x.settled) x.aside.items) x.stops.items c.args.stop c.requires.running.placed).2
+go_back-requires c = search (rules, c.reopen.ensures.order, placed_pop, c.requires.running.placed)
 
 abbrev After : Type 0
 After = goal.After-go_back

@@ -1,3 +1,4 @@
+use Rattle.std.proofs.Common.{rules}
 use Rattle.std.proofs.Common.{◌≡◌, ◌++◌, drop, sym, ◌∙◌, ap, subst}
 use Rattle.pg_game.specs.VertexSet.{members}
 use Rattle.pg_finders.specs.private.recursion.Settled.{settled_of}
@@ -21,9 +22,7 @@ own c = c.in_ok-append_from.ensures.own ∙ ap (λ xs. settled_of c.args.self.no
 
 finished : (c : After) → IsFinished c.args.game.now c.args.inside.now c.args.self.now c.args.self.now.stops.items c.args.stop
     (active_of c.args.self.now.subgame) (settled_of c.append_from.new.self) c.args.self.now.subgame.plan
-finished c =
-    settle_finished (at_end c.args.self.now.stops.items c.args.stop c.requires.running c.requires.done) (settled_of c.append_from.new.self) c.requires.all
-    (own c) c.in_ok-append_from.ensures.other
+finished c = search (rules, settle_finished, at_end, c.requires.running, c.requires.done, c.requires.all, own, c.in_ok-append_from.ensures.other)
 
 pub returns-clause-running : goal.returns-clause-running
 returns-clause-running c =

@@ -1,3 +1,4 @@
+use Rattle.std.proofs.Common.{rules}
 use Rattle.pg_finders.proofs.recursion.subgame.Subgame.give_all.Goals as goal
 use Rattle.std.proofs.Common.{◌≡◌, ◌∙◌, ℕ, false, inl, inr, sym, subst, arith}
 use Rattle.pg_game.specs.VertexSet.{In, members}
@@ -24,10 +25,7 @@ kept c w h =
 
 now : (c : After) → In (active_of c.args.self.now) (vertex_at_place c.args.order.now c.places.place)
     → IsGiven c.args.game.now (active_of c.args.self.now) c.args.player c.give.new.self.plan (vertex_at_place c.args.order.now c.places.place)
-now c = subst (λ v. In (active_of c.args.self.now) v
-    → IsGiven c.args.game.now (active_of c.args.self.now) c.args.player c.give.new.self.plan v) c.vertex.ensures
-    (subst (λ m. In (members m) c.vertex.result → IsGiven c.args.game.now
-    (members m) c.args.player c.give.new.self.plan c.vertex.result) c.places.invariant.active c.give.ensures.given)
+now c = search (rules, c.vertex.ensures, c.places.invariant.active, c.give.ensures.given)
 
 pub places-preserved : goal.places-preserved
 places-preserved c = record {

@@ -1,3 +1,4 @@
+use Rattle.std.proofs.Common.{rules}
 use Rattle.std.proofs.Common.{ℕ, subst, arith, below_more}
 use Rattle.std.proofs.lemmas.List.{get_or_default}
 use Rattle.pg_finders.specs.private.recursion.Listed.{listed}
@@ -7,15 +8,10 @@ use Rattle.pg_finders.proofs.recursion.Again.{known_grown, tested_later, tested_
 use Rattle.pg_finders.proofs.recursion.subgame.Subgame.retake_all.Goals as goal
 
 pub loop-v-init : goal.loop-v-init
-loop-v-init c = record {
-  ready = c.requires.ready;
-  grown = grown_none;
-  tested = λ k l. absurd (omega (arith, l));
-}
+loop-v-init c = search (rules, c.requires.ready, grown_none)
 
 pub retake-requires-clause-known : goal.retake-requires-clause-known
-retake-requires-clause-known c =
-    known_grown c.requires.known c.loop-v.invariant.grown
+retake-requires-clause-known c = search (rules, known_grown, c.requires.known, c.loop-v.invariant.grown)
 
 pub loop-v-preserved : goal.loop-v-preserved
 loop-v-preserved c =

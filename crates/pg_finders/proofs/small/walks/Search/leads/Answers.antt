@@ -1,5 +1,7 @@
+use Rattle.std.proofs.Common.{arith}
+use Rattle.std.proofs.lemmas.Grind.{common_steps}
 use Rattle.std.proofs.Common.{◌≡◌, sym, ◌∙◌, rules}
-use Rattle.std.specs.Prelude.{Some, None}
+use Rattle.std.specs.Prelude.{Some}
 use Rattle.pg_game.specs.Graph.{owner_of}
 use Rattle.pg_dominion.specs.Claim.{choice_in}
 use Rattle.pg_finders.specs.private.small.Partial.{vertex_in}
@@ -19,11 +21,4 @@ returns-in-Some c =
     rw c.vertex-w.ensures (leads_some g p (choice_in rows) v c.in-Some.x (vertex_in rows c.args.to) o h)
 
 pub returns-in-None : goal.returns-in-None
-returns-in-None c =
-    let g = c.args.self.now.game.now in
-    let p = c.args.self.now.player in
-    let rows = c.args.chosen.now in
-    let v = vertex_in rows c.args.from in
-    let o : owner_of g v ≡ p = search rules in
-    let h : choice_in rows v ≡ None = choice_of_place rows c.args.from c.requires.rows.different c.requires.from ∙ (sym c.choice.ensures ∙ c.in-None.is) in
-    (λ t. absurd (cc t), λ m. absurd (leads_none g p (choice_in rows) v (vertex_in rows c.args.to) o h m))
+returns-in-None c = grind (arith, common_steps, choice_of_place, c.requires.rows.different, c.requires.from, c.choice.ensures, c.in-None.is, leads_none)

@@ -1,4 +1,4 @@
-use Rattle.std.proofs.Common.{sym, ◌∙◌, subst, arith, length-set, get_or-set_other, rules}
+use Rattle.std.proofs.Common.{sym, ◌∙◌, subst, length-set, get_or-set_other, rules}
 use Rattle.std.specs.Prelude.{IsNone}
 use Rattle.pg_game.specs.Graph.{priority_of}
 use Rattle.pg_game.specs.Walk.{Walk}
@@ -20,14 +20,7 @@ returns-then-to-start-clause-back c = λ _.
     )
 
 pub rows-smaller : goal.rows-smaller
-rows-smaller c =
-    left_less c.rows.left c.in-Some.to (omega (
-      arith,
-      c.in-Some.ensures.found.0,
-      c.requires.done,
-      c.requires.rows.few,
-      c.rows.invariant.size,
-    )) c.in-Some.ensures.found.1
+rows-smaller c = search (rules, left_less, c.requires.done, c.requires.rows.few, c.rows.invariant.size)
 
 pub rows-preserved : goal.rows-preserved
 rows-preserved c =
