@@ -1,5 +1,6 @@
 -- An old copy of a board, and what has to be taken out of it to bring it up to date.
-use Rattle.std.proofs.Common.{◌≡◌, ℕ, ◌+◌, ◌-◌, ◌<◌, ◌≤◌, Bool, true, false, ◌&&◌, ◌||◌, not, List, [], ◌∷◌, ◌++◌, length, take, get_or, refl, sym, ◌∙◌, ap, subst, arith}
+use Rattle.std.proofs.Common.{◌≡◌, ℕ, ◌+◌, ◌-◌, ◌<◌, ◌≤◌, Bool, true, false, ◌&&◌, not, List, [], ◌∷◌, ◌++◌, length, take, get_or, refl, sym, ◌∙◌}
+use Rattle.std.proofs.Common.{ap, subst, arith}
 use Rattle.std.proofs.Common.{ltb-true, Global, Option, Some, None, nat_lt, ◌==◌, slice_set, if◌then◌else◌}
 use mathlib.Core.Path.{fun_ext}
 use Rattle.std.specs.Arc.{arc_value}
@@ -27,6 +28,7 @@ use Rattle.pg_board.specs.Office.{IsCopyOf}
 use Rattle.pg_board.specs.Post.{Adds}
 use Rattle.pg_board.specs.private.Office.{ArePastCopies, IsPastCopy, IsPresentCopy}
 use Rattle.pg_finders.proofs.Masks.{members-unset}
+use Rattle.pg_finders.proofs.Sets.{minus_both}
 use Rattle.pg_board.proofs.Numbers.{lawful_now, whose}
 use Rattle.pg_board.proofs.Places.{row_at}
 use Rattle.pg_board.proofs.Push.{state_push}
@@ -37,12 +39,6 @@ past_of_present {board} {c} h = record {
   within = omega (arith, h.copy.at_is);
   copy = subst (λ (j : Journal). IsCopyOf j c.inside c.at c.settled)
       (sym (ap (λ n. take n board.journal) h.copy.at_is ∙ take-length board.journal)) h.copy;
-}
-
-pub present_of_past : {board : Play} {c : Copied} → c.at ≡ length board.journal → IsPastCopy board c → IsPresentCopy board c
-present_of_past {board} {c} at h = record {
-  graph = h.graph;
-  copy = subst (λ (j : Journal). IsCopyOf j c.inside c.at c.settled) (ap (λ n. take n board.journal) at ∙ take-length board.journal) h.copy;
 }
 
 -- a copy stays one of the entries before it while others are added
@@ -95,25 +91,18 @@ module _ (j : Journal) (k : ℕ) (e : Entry) (l : k < length j) (at : e ≡ get_
       let w = whose (state_of (take (k + 1) j) v) (ap not shut) in
       ltb-true v (length g) (((lawful.states (k + 1) (omega arith)).regions w.0).vertices v w.1)
 
-neither : (a b c : Bool) → ((a && not b) && not c) ≡ (a && not (b || c))
-neither true b c = go b
-  where
-    go : (b : Bool) → (not b && not c) ≡ not (b || c)
-    go true = refl
-    go false = refl
-neither false b c = refl
-
 -- one more row's vertex is taken out of the mask
 pub members_removed : (mask new : List Bool) (X : VertexSet) (rows : ClaimRows) (i : ℕ) → i < length rows → new ≡ slice_set mask (row_at rows i).0 false
     → ((v : ℕ) → members mask v ≡ without X (named (take i rows)) v) → (v : ℕ) → members new v ≡ without X (named (take (i + 1) rows)) v
 members_removed mask new X rows i l e h v =
     let r = row_at rows i in
-    ap (λ m. members m v) e ∙ (members-unset mask r.0 v ∙ (ap (λ b. b && not (r.0 == v)) (h v) ∙ (neither (X v) (named (take i rows) v) (r.0 == v)
+    ap (λ m. members m v) e ∙ (members-unset mask r.0 v ∙ (ap (λ b. b && not (r.0 == v)) (h v) ∙ (minus_both (X v) (named (take i rows) v) (r.0 == v)
     ∙ ap (λ b. X v && not b) (sym (ap (λ xs. named xs v) (take_more rows i (0, None) l) ∙ named-push (take i rows) r v)))))
 
 -- once all entries are looked at the mask is a subgame
 pub subgame_left : (board : Play) (mask : List Bool) (k : ℕ) → IsLawful board.graph board.journal → length board.journal ≤ k
     → ((v : ℕ) → members mask v ≡ unsettled board.graph (state_of (take k board.journal)) v) → IsSubgame board.graph (members mask)
 subgame_left board mask k lawful all is =
-    let whole : (v : ℕ) → members mask v ≡ unsettled board.graph (state_of board.journal) v = λ v. is v ∙ ap (λ (j : Journal). unsettled board.graph (state_of j) v) (take_all k board.journal all) in
+    let left : Journal → VertexSet = λ j. unsettled board.graph (state_of j) in
+    let whole : (v : ℕ) → members mask v ≡ left board.journal v = λ v. is v ∙ ap (λ (j : Journal). left j v) (take_all k board.journal all) in
     subst (IsSubgame board.graph) (sym (fun_ext whole)) (lawful_now board.graph board.journal lawful).open_part

@@ -11,8 +11,11 @@ remove-requires c =
     omega (arith, l, c.rows.invariant.length)
 
 pub rows-preserved : goal.rows-preserved
-rows-preserved c = record {
-  length = ap length c.remove.ensures ∙ (length-set c.rows.mask (row_at c.args.rows.now c.rows.row-index).0 false ∙ c.rows.invariant.length);
-  members =
-      members_removed c.rows.mask c.remove.new.self (members c.args.mask.now) c.args.rows.now c.rows.row-index c.rows-test.true c.remove.ensures c.rows.invariant.members;
-}
+rows-preserved c =
+    let old = c.rows.invariant in
+    let i = c.rows.row-index in
+    let rows = c.args.rows.now in
+    record {
+      length = ap length c.remove.ensures ∙ (length-set c.rows.mask (row_at rows i).0 false ∙ old.length);
+      members = members_removed c.rows.mask c.remove.new.self (members c.args.mask.now) rows i c.rows-test.true c.remove.ensures old.members;
+    }
