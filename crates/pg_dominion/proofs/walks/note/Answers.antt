@@ -1,3 +1,4 @@
+use Rattle.std.proofs.Common.{rules}
 use Rattle.std.proofs.Common.{◌≡◌, ℕ, ◌+◌, ◌<◌, ◌≤◌, ◌⊎◌, inl, inr, length, slice_index, sym, ◌∙◌, ap, arith}
 use Rattle.std.proofs.lemmas.List.{get_or_read}
 use Rattle.pg_dominion.proofs.Labelled.{noted_none, noted_next}
@@ -5,9 +6,7 @@ use Rattle.pg_dominion.proofs.walks.note.Goals.{then-at-search, else-at-search}
 use Rattle.pg_dominion.proofs.walks.note.Goals as goal
 
 pub queue-init : goal.queue-init
-queue-init c =
-    let s = c.args.search.now in
-    noted_none c.args.labels.now.levels.items c.args.labels.now.groups.items s.places.items s.queue.items c.args.level c.args.start s.least
+queue-init c = search (rules, noted_none)
 
 pub queue-preserved : goal.queue-preserved
 queue-preserved c =
@@ -30,19 +29,30 @@ queue-preserved c =
     (omega (arith, b, q, old.levels_size, c.requires.levels)) (omega (arith, b, q, old.groups_size, c.requires.groups)) h old
 
 pub overflow_add-group : goal.overflow_add-group
-overflow_add-group c =
-    let q = c.args.search.now.queue.items in
-    let l : c.queue.at < length q = omega (arith, c.queue-test.true, c.len-at-end.ensures) in
-    omega (arith, get_or_read q c.queue.at _ l c.index-v.ensures 0, c.requires.below c.queue.at l, c.requires.short)
+overflow_add-group c = search (rules, c.queue-test.true, c.len-at-end.ensures, get_or_read, c.index-v.ensures, c.requires.below, c.requires.short)
 
 pub index_mut-requires : goal.index_mut-requires
 index_mut-requires c =
-    let q = c.args.search.now.queue.items in
-    let l : c.queue.at < length q = omega (arith, c.queue-test.true, c.len-at-end.ensures) in
-    omega (arith, get_or_read q c.queue.at _ l c.index-v.ensures 0, c.requires.below c.queue.at l, c.queue.invariant.levels_size, c.requires.levels)
+    search (
+      rules,
+      c.queue-test.true,
+      c.len-at-end.ensures,
+      get_or_read,
+      c.index-v.ensures,
+      c.requires.below,
+      c.queue.invariant.levels_size,
+      c.requires.levels,
+    )
 
 pub index_mut-requires-in-queue : goal.index_mut-requires-in-queue
 index_mut-requires-in-queue c =
-    let q = c.args.search.now.queue.items in
-    let l : c.queue.at < length q = omega (arith, c.queue-test.true, c.len-at-end.ensures) in
-    omega (arith, get_or_read q c.queue.at _ l c.index-v.ensures 0, c.requires.below c.queue.at l, c.queue.invariant.groups_size, c.requires.groups)
+    search (
+      rules,
+      c.queue-test.true,
+      c.len-at-end.ensures,
+      get_or_read,
+      c.index-v.ensures,
+      c.requires.below,
+      c.queue.invariant.groups_size,
+      c.requires.groups,
+    )
