@@ -1,6 +1,5 @@
 -- A row is written for a vertex that is taken.
-use Rattle.std.proofs.Common.{rules}
-use Rattle.std.proofs.Common.{◌≡◌, ℕ, ◌-◌, List, take, drop, ap, ◌∙◌, length-drop, false, ◌∷◌, ◌++◌, [], refl, sym, subst, inl, inr, length, arith}
+use Rattle.std.proofs.Common.{◌≡◌, ℕ, ◌-◌, List, take, drop, ap, ◌∙◌, length-drop, false, ◌∷◌, ◌++◌, [], refl, sym, subst, inl, inr, length, arith, rules}
 use Rattle.std.proofs.Common.{length-append}
 use Rattle.std.specs.Prelude.{Option, ◌==◌, if◌then◌else◌}
 use Rattle.std.proofs.lemmas.List.{take_all}

@@ -1,7 +1,6 @@
 -- The shape of a claim, one row after another.
-use Rattle.std.proofs.Common.{rules}
-use Rattle.std.proofs.Common.{◌≡◌, ℕ, zero, suc, ◌+◌, ◌<◌, ◌≤◌, false, inl, inr, List, [], ◌∷◌, ◌++◌, length, take, drop, map, get_or, refl, sym}
-use Rattle.std.proofs.Common.{subst, arith, length-append}
+use Rattle.std.proofs.Common.{◌≡◌, ℕ, zero, suc, ◌+◌, ◌<◌, ◌≤◌, false, inl, inr, List, [], ◌∷◌, ◌++◌, length, take, drop, map, get_or, refl, sym, subst, arith}
+use Rattle.std.proofs.Common.{length-append, rules}
 use Rattle.pg_game.proofs.Rows.{below_or_last}
 use Rattle.std.specs.Prelude.{Option, slice_index}
 use Rattle.std.specs.List.{AllByRecursion}

@@ -1,5 +1,4 @@
-use Rattle.std.proofs.Common.{rules}
-use Rattle.std.proofs.Common.{ℕ, length, sym, ◌∙◌, subst, arith, ltb-true}
+use Rattle.std.proofs.Common.{ℕ, length, sym, ◌∙◌, subst, arith, ltb-true, rules}
 use Rattle.std.proofs.lemmas.Bool.{or_right}
 use Rattle.pg_game.specs.Graph.{HasEdge}
 use Rattle.pg_game.specs.VertexSet.{VertexSet, In, union}

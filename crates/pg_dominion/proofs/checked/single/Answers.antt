@@ -1,5 +1,4 @@
-use Rattle.std.proofs.Common.{rules}
-use Rattle.std.proofs.Common.{arith, below_more}
+use Rattle.std.proofs.Common.{arith, below_more, rules}
 use Rattle.std.proofs.Math.Seq.{drop-cons}
 use Rattle.pg_game.specs.Graph.{successors_of}
 use Rattle.pg_dominion.proofs.Searching.{place_in}

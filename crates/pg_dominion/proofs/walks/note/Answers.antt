@@ -1,5 +1,4 @@
-use Rattle.std.proofs.Common.{rules}
-use Rattle.std.proofs.Common.{◌≡◌, ℕ, ◌+◌, ◌<◌, ◌≤◌, ◌⊎◌, inl, inr, length, slice_index, sym, ◌∙◌, ap, arith}
+use Rattle.std.proofs.Common.{◌≡◌, ℕ, ◌+◌, ◌<◌, ◌≤◌, ◌⊎◌, inl, inr, length, slice_index, sym, ◌∙◌, ap, arith, rules}
 use Rattle.std.proofs.lemmas.List.{get_or_read}
 use Rattle.pg_dominion.proofs.Labelled.{noted_none, noted_next}
 use Rattle.pg_dominion.proofs.walks.note.Goals.{then-at-search, else-at-search}
@@ -33,26 +32,12 @@ overflow_add-group c = search (rules, c.queue-test.true, c.len-at-end.ensures, g
 
 pub index_mut-requires : goal.index_mut-requires
 index_mut-requires c =
-    search (
-      rules,
-      c.queue-test.true,
-      c.len-at-end.ensures,
-      get_or_read,
-      c.index-v.ensures,
-      c.requires.below,
-      c.queue.invariant.levels_size,
-      c.requires.levels,
-    )
+    let q = c.args.search.now.queue.items in
+    let l : c.queue.at < length q = omega (arith, c.queue-test.true, c.len-at-end.ensures) in
+    omega (arith, get_or_read q c.queue.at _ l c.index-v.ensures 0, c.requires.below c.queue.at l, c.queue.invariant.levels_size, c.requires.levels)
 
 pub index_mut-requires-in-queue : goal.index_mut-requires-in-queue
 index_mut-requires-in-queue c =
-    search (
-      rules,
-      c.queue-test.true,
-      c.len-at-end.ensures,
-      get_or_read,
-      c.index-v.ensures,
-      c.requires.below,
-      c.queue.invariant.groups_size,
-      c.requires.groups,
-    )
+    let q = c.args.search.now.queue.items in
+    let l : c.queue.at < length q = omega (arith, c.queue-test.true, c.len-at-end.ensures) in
+    omega (arith, get_or_read q c.queue.at _ l c.index-v.ensures 0, c.requires.below c.queue.at l, c.queue.invariant.groups_size, c.requires.groups)

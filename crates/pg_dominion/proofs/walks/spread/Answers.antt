@@ -1,6 +1,5 @@
-use Rattle.std.proofs.Common.{rules}
-use Rattle.std.proofs.Common.{◌≡◌, ℕ, ◌<◌, ◌≤◌, inl, inr, [], ◌∷◌, ◌++◌, length, set, slice_index, refl, sym, ◌∙◌, ap, subst, arith, below_more}
-use Rattle.std.proofs.Common.{length-append, get_or-set_same}
+use Rattle.std.proofs.Common.{◌≡◌, ℕ, ◌<◌, ◌≤◌, inl, inr, [], ◌∷◌, ◌++◌, length, set, slice_index, refl, sym, ◌∙◌, ap, subst, arith, below_more, length-append}
+use Rattle.std.proofs.Common.{get_or-set_same, rules}
 use Rattle.std.proofs.lemmas.List.{get_or_read, get_or_push}
 use Rattle.pg_game.specs.Graph.{priority_of}
 use Rattle.pg_dominion.specs.KeptEdges.{kept_row}
