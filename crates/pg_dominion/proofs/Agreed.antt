@@ -1,12 +1,11 @@
 -- Rows that are checked by themselves and agree with a game are a sound claim of it.
-use Rattle.std.proofs.Common.{◌≡◌, ◌≢◌, ℕ, zero, suc, Bool, true, false, inl, inr, List, [], ◌∷◌, length, map, max, refl, sym, ◌∙◌, ap, subst, arith}
+use Rattle.std.proofs.Common.{◌≡◌, ◌≢◌, ℕ, zero, suc, Bool, true, false, inl, inr, List, [], ◌∷◌, length, map, max, refl, sym, ◌∙◌, ap, arith, rules}
 use Rattle.std.specs.Prelude.{◌==◌}
 use Rattle.std.specs.List.{Contains, AllByRecursion}
-use Rattle.std.specs.List.Sorted.{IsStrictlyIncreasing}
 use Rattle.std.proofs.lemmas.Bool.{eqb-true, cases_Bool}
 use Rattle.pg_game.specs.declared.player.Player.{Player}
 use Rattle.pg_game.specs.Player.{same_player, of_parity}
-use Rattle.pg_game.specs.Graph.{Graph, owner_of, priority_of}
+use Rattle.pg_game.specs.Graph.{Graph, priority_of}
 use Rattle.pg_game.specs.VertexSet.{In}
 use Rattle.pg_game.specs.Kept.{Choices, KeptEdge, kept}
 use Rattle.pg_game.specs.Walk.{Walk, ClosedWalk, greatest, greatest_priority}
@@ -14,7 +13,7 @@ use Rattle.pg_game.proofs.Players.{same_is, is_same}
 use Rattle.pg_game.proofs.Walks.{ClosedWalk-weaker}
 use Rattle.pg_dominion.specs.declared.checked.CheckedRow.{CheckedRow}
 use Rattle.pg_dominion.specs.Claim.{named, choice_in, IsRightRow, IsSound}
-use Rattle.pg_dominion.specs.Checked.{head_option, claim_row, claim_rows, AgreesAt, AgreesWithGame, RowEdge, row_priority, AreChecked}
+use Rattle.pg_dominion.specs.Checked.{claim_row, claim_rows, AgreesAt, AgreesWithGame, RowEdge, row_priority, AreChecked}
 
 other_is : (q p : Player) → same_player q p ≡ false → q ≢ p
 other_is q p e h = cc (is_same q p h, e)
@@ -40,24 +39,11 @@ module _ (g : Graph) (p : Player) where
 
   pub kept_cases : (s : Choices) (r : CheckedRow) → AgreesAt g p r → s r.vertex ≡ (claim_row p r).1 → (b : Bool) → same_player r.owner p ≡ b
       → kept g p s r.vertex ≡ r.kept
-  kept_cases s r a e true c =
-      let o = a.own (same_is r.owner p c) in
-      let k : same_player (owner_of g r.vertex) p ≡ true = rw (← a.owner) c in
-      let h : s r.vertex ≡ head_option r.kept = e ∙ (rw c refl) in
-      rw (k, h, o.1) refl
-  kept_cases s r a e false c =
-      let k : same_player (owner_of g r.vertex) p ≡ false = rw (← a.owner) c in
-      rw k (sym (a.other (other_is r.owner p c)))
+  kept_cases s r a e true c = search (rules, a.own, same_is, r.owner, r.vertex, a.owner, r.kept)
+  kept_cases s r a e false c = search (rules, r.vertex, a.owner, a.other, other_is, r.owner)
 
   edge : (rows : List CheckedRow) → AgreesWithGame g p rows → (v w : ℕ) → ClaimEdge rows v w → RowEdge rows v w
-  edge rows a v w (i, k) =
-      let f = found rows a v i in
-      let c : choice_in (claim_rows p rows) f.0.vertex ≡ (claim_row p f.0).1
-      = subst (λ x. choice_in (claim_rows p rows) x ≡ (claim_row p f.0).1) (sym f.2) f.4 in
-      let q = kept_cases (choice_in (claim_rows p rows)) f.0 f.3 c (same_player f.0.owner p) refl in
-      let m : Contains (kept g p (choice_in (claim_rows p rows)) f.0.vertex) w
-      = subst (λ x. Contains (kept g p (choice_in (claim_rows p rows)) x) w) (sym f.2) k in
-      (f.0, f.1, f.2, subst (λ l. Contains l w) q m)
+  edge rows a v w (i, k) = search (rules, found, kept_cases)
 
   priority : (rows : List CheckedRow) → AgreesWithGame g p rows → (v : ℕ) → In (named (claim_rows p rows)) v → row_priority rows v ≡ priority_of g v
   priority rows a v i = let f = found rows a v i in f.5 ∙ (f.3.priority ∙ ap (priority_of g) f.2)
@@ -65,10 +51,7 @@ module _ (g : Graph) (p : Player) where
   pub walk_priority : (rows : List CheckedRow) → AgreesWithGame g p rows → (v : ℕ) (vs : List ℕ) (last : ℕ) → Walk (ClaimEdge rows) v vs last
       → greatest (row_priority rows) (v ∷ vs) ≡ greatest_priority g (v ∷ vs)
   walk_priority rows a v [] last e = ap (λ n. max n 0) (priority rows a v e.0)
-  walk_priority rows a v (w ∷ ws) last (e, r) =
-      let h = priority rows a v e.0 in
-      let k = walk_priority rows a w ws last r in
-      ap (λ n. max n (greatest (row_priority rows) (w ∷ ws))) h ∙ ap (λ n. max (priority_of g v) n) k
+  walk_priority rows a v (w ∷ ws) last (e, r) = search (rules, walk_priority rows a w ws last r, priority)
 
   pub vertices : (rows : List CheckedRow) → map (λ r. r.0) (claim_rows p rows) ≡ map (λ r. r.vertex) rows
   vertices [] = refl
@@ -79,18 +62,8 @@ module _ (g : Graph) (p : Player) where
   lengths (r ∷ rows) = ap suc (lengths rows)
 
   right_cases : (r : CheckedRow) → AgreesAt g p r → (b : Bool) → same_player r.owner p ≡ b → IsRightRow g p (claim_row p r)
-  right_cases r a true c =
-      let o = a.own (same_is r.owner p c) in
-      record {
-        vertex = a.vertex;
-        own = λ _. (o.0, rw (c, o.1) refl, o.2);
-        other = λ n. absurd (n (sym a.owner ∙ same_is r.owner p c));
-      }
-  right_cases r a false c = record {
-    vertex = a.vertex;
-    own = λ e. absurd (other_is r.owner p c (a.owner ∙ e));
-    other = λ _. rw c refl;
-  }
+  right_cases r a true c = search (rules, a.own, same_is, r.owner, a.vertex, a.owner)
+  right_cases r a false c = search (rules, a.vertex, other_is, r.owner, a.owner)
 
   rights : (rows : List CheckedRow) → AgreesWithGame g p rows → AllByRecursion (IsRightRow g p) (claim_rows p rows)
   rights [] a = tt
@@ -104,10 +77,4 @@ module _ (g : Graph) (p : Player) where
       ap of_parity (sym (walk_priority rows a v vs v w)) ∙ h
 
   pub sound : (rows : List CheckedRow) → AreChecked p rows → AgreesWithGame g p rows → IsSound g p (claim_rows p rows)
-  sound rows c a = record {
-    shape = record {
-      nonempty = rw (lengths rows) c.nonempty;
-      right = record { each = rights rows a; rising = subst IsStrictlyIncreasing (sym (vertices rows)) c.rising };
-    };
-    good = good_walk rows c a;
-  }
+  sound rows c a = search (rules, lengths, rights, vertices, good_walk)

@@ -1,6 +1,6 @@
 -- The steps of an attraction, and what it is when nothing is left to do.
-use Rattle.std.proofs.Common.{◌≡◌, ◌≢◌, ℕ, ◌<◌, Bool, true, false, ◌||◌, ◌⊎◌, inl, inr, List, [], ◌∷◌, ◌++◌, length, take, drop, get_or, set, refl}
-use Rattle.std.proofs.Common.{sym, ◌∙◌, ap, subst, arith, append_assoc, length-append, get_or-set_same, get_or-set_other}
+use Rattle.std.proofs.Common.{◌≡◌, ◌≢◌, ℕ, ◌<◌, Bool, true, false, ◌||◌, ◌⊎◌, inl, inr, List, [], ◌∷◌, ◌++◌, length, take, drop, get_or, set, refl, sym, ◌∙◌}
+use Rattle.std.proofs.Common.{ap, subst, arith, append_assoc, length-append, get_or-set_same, get_or-set_other, rules}
 use Rattle.std.specs.Prelude.{Option, ◌==◌, if◌then◌else◌}
 use Rattle.std.proofs.lemmas.Bool.{eqb-true, eq-eqb, false_from_ne_true, cases_Bool, or_left, or_right, or_cases}
 use Rattle.std.proofs.lemmas.List.{append-nil, take-append-le, take-append-drop}
@@ -24,12 +24,10 @@ module _ (g : Graph) (p : Player) (U : VertexSet) where
   HasOpen-before S S' v w (x, e, u, f) = (x, e, u, false_from_ne_true (S x) (λ t. let h = w x t in cc (h, f)))
 
   pub IsSettled-before : (B S S' : VertexSet) (v : ℕ) → Within B S → IsTakenOrOpen g p U S S' v → IsTakenOrOpen g p U B S' v
-  IsSettled-before B S S' v w (inl i) = inl i
-  IsSettled-before B S S' v w (inr (o, h)) = inr (o, HasOpen-before B S v w h)
+  IsSettled-before x0 x1 x2 v w x5 = search (rules, HasOpen-before)
 
   pub IsSettled-later : (B S S' : VertexSet) (v : ℕ) → Within S S' → IsTakenOrOpen g p U B S v → IsTakenOrOpen g p U B S' v
-  IsSettled-later B S S' v w (inl i) = inl (w v i)
-  IsSettled-later B S S' v w (inr h) = inr h
+  IsSettled-later x0 x1 x2 v w x5 = search (rules)
 
   -- one more vertex is done, once those with an edge to it are settled
   pub IsDone-more : (D D' S S' : VertexSet) (to : ℕ) → Within S S' → Within D' S → ((x : ℕ) → In D' x → In D x ⊎ (x ≡ to))
@@ -75,11 +73,7 @@ module _ (g : Graph) (p : Player) (U : VertexSet) where
 
 -- a list after a write, at any place
 pub read_set : {X : Type 0} (xs : List X) (v x : ℕ) (y d : X) → v < length xs → get_or (set xs v y) x d ≡ (if v == x then y else get_or xs x d)
-read_set xs v x y d l = go (v == x) refl
-  where
-    go : (b : Bool) → (v == x) ≡ b → get_or (set xs v y) x d ≡ (if b then y else get_or xs x d)
-    go true e = (let q : v ≡ x = eqb-true v x e in rw (← q) (get_or-set_same xs v y d l))
-    go false e = (let n : x ≢ v = λ h. (let t : (v == x) ≡ true = eq-eqb v x (sym h) in cc (t, e)) in get_or-set_other xs v x y d n)
+read_set xs v x y d l = search (rules, eqb-true, get_or-set_same, eq-eqb, get_or-set_other)
 
 pub Continues-push : (xs : ClaimRows) (r : ℕ × Option ℕ) → Continues xs (xs ++ r ∷ [])
 Continues-push xs r = record { longer = omega (arith, length-append xs (r ∷ [])); front = λ n l. take-append-le n xs (r ∷ []) l }

@@ -1,5 +1,5 @@
 -- A row is written for a vertex that is taken.
-use Rattle.std.proofs.Common.{◌≡◌, ℕ, ◌-◌, List, take, drop, ap, ◌∙◌, length-drop, false, ◌∷◌, ◌++◌, [], refl, sym, subst, inl, inr, length, arith}
+use Rattle.std.proofs.Common.{◌≡◌, ℕ, ◌-◌, List, take, drop, ap, ◌∙◌, length-drop, false, ◌∷◌, ◌++◌, [], refl, sym, subst, inl, inr, length, arith, rules}
 use Rattle.std.proofs.Common.{length-append}
 use Rattle.std.specs.Prelude.{Option, ◌==◌, if◌then◌else◌}
 use Rattle.std.proofs.lemmas.List.{take_all}
@@ -29,8 +29,7 @@ extends_taken g p free free' rows row now i leads = record {
 
 -- there is no row from the end on
 pub lead_none : (g : Graph) (p : Player) (U : VertexSet) (rows : ClaimRows) → LeadFrom g p U (length rows) rows
-lead_none g p U rows before after r e l =
-    absurd (let h = length-append before (r ∷ after) in let k : length rows ≡ length (before ++ r ∷ after) = rw e refl in omega (arith, h, k, l))
+lead_none g p U rows before after r e l = search (rules, length-append)
 
 -- the slice from a place on is what is left there
 pub rest_from : {X : Type 0} (n m : ℕ) (xs ys : List X) → n ≡ m → xs ≡ ys → take (length xs - n) (drop n xs) ≡ drop m ys

@@ -1,6 +1,6 @@
 -- What a search that found no way back has shown of all that it reached.
-use Rattle.std.proofs.Common.{◌≡◌, ◌≢◌, ℕ, ◌+◌, ◌<◌, ◌≤◌, ◌⊎◌, inl, inr, List, [], ◌∷◌, length, replicate, set, refl, sym, ◌∙◌, ap, subst, arith}
-use Rattle.std.proofs.Common.{length-set, get_or-set_same, get_or-set_other}
+use Rattle.std.proofs.Common.{◌≡◌, ◌≢◌, ℕ, ◌+◌, ◌<◌, ◌≤◌, ◌⊎◌, inl, inr, List, [], ◌∷◌, length, replicate, set, refl, sym, ◌∙◌, ap, subst, arith, length-set}
+use Rattle.std.proofs.Common.{get_or-set_same, get_or-set_other, rules}
 use Rattle.std.proofs.lemmas.Bool.{cases_eq, cases_lt}
 use Rattle.std.proofs.lemmas.List.{get_or-replicate, get_or_past, length-replicate}
 use Rattle.std.specs.Prelude.{slice_index}
@@ -12,37 +12,19 @@ use Rattle.pg_dominion.specs.private.KeptEdges.{Searching, IsSpread, AreNoted}
 use Rattle.pg_dominion.proofs.Searching.{Leads-edge, Leads-then, Leads-weaker}
 
 pub queued_or : (places queue : List ℕ) (x : ℕ) → IsQueued places queue x ⊎ (IsQueued places queue x → ⊥)
-queued_or places queue x = elim (cases_lt (slice_index places x) (length queue)) [
-  | inr l ↦ inr (λ q. absurd (omega (arith, l, q.0)))
-  | inl l ↦ elim (cases_eq (slice_index queue (slice_index places x)) x) [ inl e ↦ inl (l, e) | inr n ↦ inr (λ q. n q.1) ]
-]
+queued_or places queue x = search (rules, cases_lt, cases_eq)
 
 blank_at : (n x : ℕ) → slice_index (replicate n 0) x ≡ 0
-blank_at n x = elim (cases_lt x n) [
-  | inl l ↦ get_or-replicate n x 0 0 l
-  | inr l ↦ get_or_past (replicate n 0) x 0 (omega (arith, l, length-replicate {A = ℕ} n 0))
-]
+blank_at n x = search (rules, cases_lt, get_or-replicate, get_or_past, length-replicate)
 
 -- before any search
 pub labelled_blank : (k : Kept) (n : ℕ) → n ≡ length k.game.now → (levels groups : List ℕ) → levels ≡ replicate n 0 → groups ≡ replicate n 0
     → AreLabelled k levels groups
-labelled_blank k n e levels groups l m = record {
-  levels_size = ap (λ (xs : List ℕ). length xs) l ∙ length-replicate {A = ℕ} n 0 ∙ e;
-  groups_size = ap (λ (xs : List ℕ). length xs) m ∙ length-replicate {A = ℕ} n 0 ∙ e;
-  blank = λ x _. ap (λ (xs : List ℕ). slice_index xs x) l ∙ blank_at n x;
-  together = λ top x y b _ _. absurd (let z = ap (λ (xs : List ℕ). slice_index xs x) l ∙ blank_at n x in omega (arith, b, z));
-  alone = λ top x b _ _. absurd (let z = ap (λ (xs : List ℕ). slice_index xs x) l ∙ blank_at n x in omega (arith, b, z));
-}
+labelled_blank k n e levels groups l m = search (rules, length-replicate, blank_at)
 
 module _ (levels groups places queue : List ℕ) (level start least : ℕ) where
   pub noted_none : AreNoted levels groups places queue level start least 0 levels groups
-  noted_none = record {
-    levels_size = refl;
-    groups_size = refl;
-    inside = λ x b. absurd (omega (arith, b.0));
-    group = λ x b. absurd (omega (arith, b.0));
-    outside = λ x _. (refl, refl);
-  }
+  noted_none = search (rules)
 
   pub noted_next : (levels' groups' : List ℕ) (n v g : ℕ) → slice_index queue n ≡ v → slice_index places v ≡ n → v < length levels'
       → v < length groups'
@@ -145,9 +127,7 @@ module _ (k : Kept) (levels groups : List ℕ) (top own least : ℕ) (places que
   no_closed x q l (vs, walk) = absurd (let h = rises x q l x vs x (inl refl) q (omega arith) walk (vs, walk) in omega (arith, h))
 
   pub first_queued : IsQueued places queue (slice_index queue 0) × (slice_index places (slice_index queue 0) ≡ 0)
-  first_queued =
-      let e = s.placed 0 s.some in
-      ((omega (arith, e, s.some), ap (λ (x : ℕ). slice_index queue x) e), e)
+  first_queued = search (rules, s.placed, s.some)
 
   no_way_back : 0 < least → Leads k top (slice_index queue 0) (slice_index queue 0) → ⊥
   no_way_back l walk = no_closed (slice_index queue 0) first_queued.0 (omega (arith, l, first_queued.1)) walk
@@ -156,10 +136,7 @@ module _ (k : Kept) (levels groups : List ℕ) (top own least : ℕ) (places que
   none_reached l start e t r = no_way_back l (subst (λ (x : ℕ). Leads k top x x) (sym e) (subst (λ (u : ℕ). Leads k u start start) (sym t) r))
 
   low : own ≡ 0 → (x : ℕ) → IsQueued places queue x → slice_index levels x ≤ top
-  low o x q = elim (cases_lt top (slice_index levels x)) [
-    | inr l ↦ l
-    | inl l ↦ absurd (let e = labels.blank x (counts x q l ∙ o) in omega (arith, l, e))
-  ]
+  low o x q = search (rules, cases_lt, labels.blank, counts)
 
   module _ (o : own ≡ 0) (pos : 0 < least) (levels' groups' : List ℕ)
       (noted : AreNoted levels groups places queue (top + 1) (slice_index queue 0) least (length queue) levels' groups') where

@@ -1,6 +1,6 @@
 -- Rows laid out by vertex, and the closed walks of a claim on them.
-use Rattle.std.proofs.Common.{◌≡◌, ◌≢◌, ℕ, ◌+◌, ◌<◌, Bool, true, false, ◌&&◌, ◌||◌, ◌↔◌, inl, inr, List, [], ◌∷◌, ◌++◌, length, take, get_or, set}
-use Rattle.std.proofs.Common.{refl, sym, ◌∙◌, ap, subst, arith, length-set, get_or-set_same, get_or-set_other, ltb-true}
+use Rattle.std.proofs.Common.{◌≡◌, ◌≢◌, ℕ, ◌+◌, ◌<◌, Bool, true, false, ◌&&◌, ◌||◌, ◌↔◌, inl, inr, List, [], ◌∷◌, ◌++◌, length, take, get_or, refl, sym, ◌∙◌}
+use Rattle.std.proofs.Common.{ap, subst, arith, length-set, get_or-set_same, get_or-set_other, ltb-true, rules}
 use Rattle.std.specs.Prelude.{Option, Some, None, slice_index, ◌==◌, if◌then◌else◌}
 use Rattle.std.specs.List.{Contains, AllByRecursion}
 use Rattle.std.proofs.lemmas.Bool.{ne_eqb, cases_Bool, cases_eq, and_parts, and_from}
@@ -8,52 +8,31 @@ use Rattle.std.proofs.lemmas.List.{take_more}
 use Rattle.std.proofs.lemmas.List.Elements.{All-from_recursion}
 use Rattle.pg_game.specs.declared.player.Player.{Player}
 use Rattle.pg_game.specs.Player.{same_player, opponent, of_parity}
-use Rattle.pg_game.specs.Graph.{Graph, IsGame, HasEdge, priority_of, owner_of, successors_of}
+use Rattle.pg_game.specs.Graph.{Graph, IsGame, HasEdge, priority_of, owner_of}
 use Rattle.pg_game.specs.VertexSet.{members}
 use Rattle.pg_game.specs.Kept.{kept, KeptEdge}
 use Rattle.pg_game.specs.Region.{OnBadWalk}
 use Rattle.pg_game.proofs.Edges.{edge_inside}
 use Rattle.pg_game.proofs.Masks.{members-set}
-use Rattle.pg_game.proofs.Members.{Contains-nil}
 use Rattle.pg_game.proofs.Players.{same_is, is_same}
 use Rattle.pg_game.proofs.Walks.{ClosedWalk-weaker}
 use Rattle.pg_dominion.specs.declared.kept.Kept.{Kept}
 use Rattle.pg_dominion.specs.Claim.{ClaimRows, named, choice_in, IsRightRow, AreRight}
 use Rattle.pg_dominion.specs.KeptEdges.{IsKept, Edge, IsWorst, kept_row}
-use Rattle.pg_dominion.specs.private.Shape.{Layout, HasPlaces, IsLaid, laid_with, chosen_at, is_bad, marked, chosen_with, choices_with}
+use Rattle.pg_dominion.specs.private.Shape.{Layout, HasPlaces, IsLaid, laid_with, chosen_at, is_bad, marked, chosen_with}
 use Rattle.pg_dominion.proofs.Shape.{next_unnamed}
 use Rattle.pg_dominion.proofs.Searching.{starts_in}
 use Rattle.pg_dominion.proofs.Rows.{named-push, named-push_same, named-push_other, choice-none, choice-push_same, choice-push_other, named_right}
 
 -- one row more leaves each list as long as it is
 pub has_places : (g : Graph) (t : Layout) (r : ℕ × Option ℕ) (b : Bool) → HasPlaces g t → HasPlaces g (laid_with t r b)
-has_places g t (v, c) b s = record {
-  inside = length-set t.inside v true ∙ s.inside;
-  chosen = chosen c;
-  choices = choices c;
-  bad = bad b;
-}
-  where
-    chosen : (c : Option ℕ) → length (chosen_with t.chosen v c) ≡ length g
-    chosen None = s.chosen
-    chosen (Some w) = length-set t.chosen v true ∙ s.chosen
-
-    choices : (c : Option ℕ) → length (choices_with t.choices v c) ≡ length g
-    choices None = s.choices
-    choices (Some w) = length-set t.choices v w ∙ s.choices
-
-    bad : (b : Bool) → length (marked b t.bad v) ≡ length g
-    bad true = length-set t.bad v true ∙ s.bad
-    bad false = s.bad
+has_places g t (v, c) b s = search (rules, length-set, t.inside, s.inside, t.chosen, s.chosen, t.choices, s.choices, t.bad, s.bad)
 
 -- what it says of its vertex, where nothing was said
 module _ (g : Graph) (t : Layout) (v : ℕ) (l : v < length g) (s : HasPlaces g t) where
   pub choice_at-same : (c : Option ℕ) (b : Bool) → chosen_at t v ≡ None → chosen_at (laid_with t (v, c) b) v ≡ c
   choice_at-same None b f = f
-  choice_at-same (Some w) b f =
-      let e : get_or (set t.chosen v true) v false ≡ true = get_or-set_same t.chosen v true false (omega (arith, l, s.chosen)) in
-      let h : get_or (set t.choices v w) v 0 ≡ w = get_or-set_same t.choices v w 0 (omega (arith, l, s.choices)) in
-      rw (e, h) refl
+  choice_at-same (Some w) b f = search (rules, t.chosen, get_or-set_same, s.chosen, t.choices, s.choices)
 
   pub marked-same : (b : Bool) → members t.bad v ≡ false → members (marked b t.bad v) v ≡ b
   marked-same true f = get_or-set_same t.bad v true false (omega (arith, l, s.bad))
@@ -62,14 +41,11 @@ module _ (g : Graph) (t : Layout) (v : ℕ) (l : v < length g) (s : HasPlaces g 
 -- and of another vertex what was said
 module _ (t : Layout) (v x : ℕ) (n : x ≢ v) where
   pub chosen-other : (c : Option ℕ) → members (chosen_with t.chosen v c) x ≡ members t.chosen x
-  chosen-other None = refl
-  chosen-other (Some w) = get_or-set_other t.chosen v x true false n
+  chosen-other x0 = search (rules, get_or-set_other)
 
   pub choice_at-other : (c : Option ℕ) (b : Bool) → chosen_at (laid_with t (v, c) b) x ≡ chosen_at t x
   choice_at-other None b = refl
-  choice_at-other (Some w) b =
-      let e : get_or (set t.choices v w) x 0 ≡ get_or t.choices x 0 = get_or-set_other t.choices v x w 0 n in
-      rw (chosen-other (Some w), e) refl
+  choice_at-other (Some w) b = search (rules, t.choices, get_or-set_other, chosen-other)
 
   pub marked-other : (b : Bool) → members (marked b t.bad v) x ≡ members t.bad x
   marked-other true = get_or-set_other t.bad v x true false n
@@ -131,22 +107,10 @@ module _ (k : Kept) (p : Player) (rows : ClaimRows) (game : IsGame k.game.now)
 
   -- the kept edges of a claim are those of the layout
   row_is : (v : ℕ) → kept_row k v ≡ row v
-  row_is v =
-      row_cases (members k.chosen v) (slice_index k.choices.items v) _ (choice_in rows v) (a.choices_is v) ∙ rw (a.inside_is v) (go (named rows v) refl)
-    where
-      inner : IsRightRow g p (v, choice_in rows v) → (b : Bool) → same_player (owner_of g v) p ≡ b
-          → from_choice (choice_in rows v) (successors_of g v) ≡ kept g p (choice_in rows) v
-      inner r true s = let c = r.own (same_is (owner_of g v) p s) in rw (s, c.1) refl
-      inner r false s = let e = r.other (other v s) in rw (s, e) refl
-
-      go : (b : Bool) → named rows v ≡ b → from_choice (choice_in rows v) (if named rows v then successors_of g v else []) ≡ row v
-      go true n = rw n (inner (named_right g p rows v right n) (same_player (owner_of g v) p) refl)
-      go false n = let e = choice-none rows v n in rw (n, e) refl
+  row_is v = search (rules, row_cases, k.chosen, k.choices.items, a.choices_is, a.inside_is, same_is, other, named_right, choice-none)
 
   to_kept : (v w : ℕ) → Edge k v w → Own v w
-  to_kept v w m =
-      let h : Contains (row v) w = subst (λ (xs : List ℕ). Contains xs w) (row_is v) m in
-      elim (cases_Bool (named rows v)) [ inl n ↦ (n, (rw n at h)) | inr n ↦ absurd (let none : Contains [] w = rw n at h in Contains-nil w none) ]
+  to_kept v w m = search (rules, row_is, cases_Bool)
 
   from_kept : (v w : ℕ) → Own v w → Edge k v w
   from_kept v w (n, m) = subst (λ (xs : List ℕ). Contains xs w) (sym (row_is v)) (rw n m)

@@ -1,6 +1,6 @@
 -- A solution laid out as kept edges: its leaving edges and its closed walks.
-use Rattle.std.proofs.Common.{◌≡◌, ℕ, ◌+◌, ◌<◌, ◌≤◌, Bool, true, false, ◌↔◌, inl, inr, List, [], ◌∷◌, length, get_or, set, refl, sym, ◌∙◌, ap, subst}
-use Rattle.std.proofs.Common.{arith, get_or-set_same, get_or-set_other, ltb-true, lt-ltb}
+use Rattle.std.proofs.Common.{◌≡◌, ℕ, ◌+◌, ◌<◌, ◌≤◌, Bool, true, false, ◌↔◌, inl, inr, List, [], ◌∷◌, length, get_or, set, refl, sym, ◌∙◌, ap, subst, arith}
+use Rattle.std.proofs.Common.{get_or-set_same, get_or-set_other, ltb-true, lt-ltb, rules}
 use Rattle.std.specs.Prelude.{Option, Some, None, slice_index}
 use Rattle.std.specs.List.{Contains}
 use Rattle.std.specs.List.Sorted.{IsStrictlyIncreasing}
@@ -54,12 +54,7 @@ module _ (k : Kept) (rows : SolutionRows) (game : IsGame k.game.now) (size : len
 
   -- what is kept of a vertex rises
   pub row_rising : (v : ℕ) → v < length g → IsStrictlyIncreasing (kept_row k v)
-  row_rising v l = go (members k.chosen v) (members k.inside v) refl refl
-    where
-      go : (b c : Bool) → members k.chosen v ≡ b → members k.inside v ≡ c → IsStrictlyIncreasing (kept_row k v)
-      go true c e f = rw e (λ i h. absurd (omega arith))
-      go false true e f = rw (e, f) (game.successors v l).rising
-      go false false e f = rw (e, f) (λ i h. absurd (omega arith))
+  row_rising v l = search (rules, k.chosen, k.inside, game.successors)
 
   pub edge_below : IsKept k → (v w : ℕ) → v < length g → Edge k v w → w < length g
   edge_below kept v w l m = go (members k.chosen v) (members k.inside v) refl refl
@@ -79,9 +74,7 @@ module _ (k : Kept) (rows : SolutionRows) (game : IsGame k.game.now) (size : len
     leaves_from v w l h = ((is_won v l, subst (λ (xs : List ℕ). Contains xs w) (plan v l) h.0), h.1)
 
     pub leaves_to : (v w : ℕ) → Leaves g rows v w → (v < length g) × LeavesTo k rows v w
-    leaves_to v w h =
-        let l = (won g rows size (winner_of rows v) v h.0.0).0 in
-        (l, (subst (λ (xs : List ℕ). Contains xs w) (sym (plan v l)) h.0.1, h.1))
+    leaves_to v w h = search (rules, won)
 
     module _ (kept_is : IsKept k) (leaves : (v w : ℕ) → Leaves g rows v w → ⊥) where
       step : (p : Player) (v w : ℕ) → In (won_by rows p) v → Edge k v w → KeptEdge g p (won_by rows p) (choice_of rows) v w × In (won_by rows p) w
@@ -103,9 +96,7 @@ module _ (k : Kept) (rows : SolutionRows) (game : IsGame k.game.now) (size : len
       to_kept p v (w ∷ ws) last i e = let s = step p v w i e.0 in (s.0, to_kept p w ws last s.1 e.1)
 
       from_kept : (p : Player) (v w : ℕ) → KeptEdge g p (won_by rows p) (choice_of rows) v w → Edge k v w
-      from_kept p v w (i, m) =
-          let h = won g rows size p v i in
-          subst (λ (xs : List ℕ). Contains xs w) (sym (plan v h.0)) (subst (λ (q : Player). Contains (kept g q (choice_of rows) v) w) (sym h.1) m)
+      from_kept p v w (i, m) = search (rules, won)
 
       pub worst_is_on_bad_walk : ((v : ℕ) → v < length g → members k.bad v ≡ is_bad g (winner_of rows v) v) → (v : ℕ)
           → IsWorst k v ↔ IsOnBadWalk g rows v
@@ -130,15 +121,7 @@ module _ (k : Kept) (rows : SolutionRows) (game : IsGame k.game.now) (size : len
 
   module _ (a : IsPlanned g rows (length g) (layout_of k)) (lacks : NoneHas (LacksChoice g rows)) (wrong : NoneHas (HasBadChoice g rows)) where
     pub planned_is_plan : IsPlanOf k rows
-    planned_is_plan v l =
-        row_cases (members k.chosen v) (slice_index k.choices.items v) _ (own_choice g rows v) (a.choices_is v l)
-        ∙ rw (a.inside_is v l) (go (same_player (owner_of g v) (winner_of rows v)) refl (choice_of rows v) refl)
-      where
-        go : (b : Bool) → same_player (owner_of g v) (winner_of rows v) ≡ b → (c : Option ℕ) → choice_of rows v ≡ c
-            → from_choice (own_choice g rows v) (successors_of g v) ≡ kept g (winner_of rows v) (choice_of rows) v
-        go false e c f = rw e refl
-        go true e None f = absurd (lacks v (l, same_is (owner_of g v) (winner_of rows v) e, f))
-        go true e (Some w) f = rw (e, f) refl
+    planned_is_plan v l = search (rules, row_cases, k.chosen, k.choices.items, a.choices_is, a.inside_is, from_choice, same_is)
 
     pub planned_is_kept : IsKept k
     planned_is_kept = record {

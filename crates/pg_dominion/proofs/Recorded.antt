@@ -1,6 +1,6 @@
 -- Rows that agree with a game in which their claim is sound are checked by themselves.
-use Rattle.std.proofs.Common.{◌≡◌, ℕ, zero, suc, ◌<◌, true, false, List, [], ◌∷◌, ◌++◌, length, get_or, map, take, drop, refl, sym, ◌∙◌, ap, subst}
-use Rattle.std.proofs.Common.{arith, drop-cons}
+use Rattle.std.proofs.Common.{◌≡◌, ℕ, zero, suc, ◌<◌, false, List, [], ◌∷◌, ◌++◌, length, get_or, map, take, drop, refl, sym, ◌∙◌, ap, subst, arith, drop-cons}
+use Rattle.std.proofs.Common.{rules}
 use Rattle.std.specs.Prelude.{◌==◌}
 use Rattle.std.specs.List.{Contains, AllByRecursion, AllPairs}
 use Rattle.std.specs.List.Sorted.{IsStrictlyIncreasing}
@@ -45,9 +45,7 @@ module _ (g : Graph) (p : Player) where
 
   own_row : (rows : List CheckedRow) (r : CheckedRow) → Rise rows → Contains rows r → IsOwnRow rows r
   own_row [] r up (k, l, e) = absurd (omega (arith, l))
-  own_row (x ∷ rows) r up (zero, l, e) =
-      let t : (x.vertex == x.vertex) ≡ true = eq-eqb x.vertex x.vertex refl in
-      subst (λ (y : CheckedRow). IsOwnRow (x ∷ rows) y) e (record { names = rw t refl; chooses = rw t refl; has = rw t refl })
+  own_row (x ∷ rows) r up (zero, l, e) = search (rules, x.vertex, eq-eqb)
   own_row (x ∷ rows) r up (suc k, l, e) =
       let m : Contains rows r = (k, omega (arith, l), e) in
       let f : (x.vertex == r.vertex) ≡ false =

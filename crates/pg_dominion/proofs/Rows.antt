@@ -1,5 +1,5 @@
 -- One more row: what the rows name and choose with it, and that they lead in turn. Each named row of right ones is right.
-use Rattle.std.proofs.Common.{◌≡◌, ◌≢◌, ℕ, true, false, ◌||◌, ◌⊎◌, inl, inr, [], ◌∷◌, ◌++◌, refl, sym, ◌∙◌, ap, subst}
+use Rattle.std.proofs.Common.{◌≡◌, ◌≢◌, ℕ, true, false, ◌||◌, ◌⊎◌, inl, inr, [], ◌∷◌, ◌++◌, refl, sym, ◌∙◌, ap, subst, rules}
 use Rattle.std.proofs.Math.Bool.{or-false}
 use Rattle.std.specs.Prelude.{Option, None, ◌==◌}
 use Rattle.std.specs.List.{AllByRecursion}
@@ -41,12 +41,7 @@ split_push (y ∷ ys) r (b ∷ bs) x after e =
 -- a set may be told otherwise
 pub LeadsTo-same : (g : Graph) (p : Player) (U S S' : VertexSet) (r : ℕ × Option ℕ) → ((v : ℕ) → S v ≡ S' v) → IsAttractedRow g p U S r
     → IsAttractedRow g p U S' r
-LeadsTo-same g p U S S' r same l = record {
-  inside = l.inside;
-  fresh = sym (same r.0) ∙ l.fresh;
-  own = λ o. (let c = l.own o in (c.0, c.1, c.2, sym (same c.0) ∙ c.3));
-  forced = λ o. (let f = l.forced o in (f.0, λ w e u. sym (same w) ∙ f.1 w e u));
-}
+LeadsTo-same g p U S S' r same l = search (rules)
 
 pub choice-none : (rows : ClaimRows) (v : ℕ) → named rows v ≡ false → choice_in rows v ≡ None
 choice-none [] v i = refl

@@ -1,8 +1,8 @@
 -- The shape of a claim, one row after another.
-use Rattle.std.proofs.Common.{◌≡◌, ℕ, zero, suc, ◌+◌, ◌<◌, ◌≤◌, false, inl, inr, List, [], ◌∷◌, ◌++◌, length, take, drop, map, get_or, refl, sym}
-use Rattle.std.proofs.Common.{subst, arith, length-append}
+use Rattle.std.proofs.Common.{◌≡◌, ℕ, zero, suc, ◌+◌, ◌<◌, ◌≤◌, false, inl, inr, List, [], ◌∷◌, ◌++◌, length, take, drop, map, get_or, refl, sym, subst, arith}
+use Rattle.std.proofs.Common.{length-append, rules}
 use Rattle.pg_game.proofs.Rows.{below_or_last}
-use Rattle.std.specs.Prelude.{Option, slice_index, ◌==◌}
+use Rattle.std.specs.Prelude.{Option, slice_index}
 use Rattle.std.specs.List.{AllByRecursion}
 use Rattle.std.specs.List.Sorted.{IsStrictlyIncreasing}
 use Rattle.std.proofs.lemmas.Bool.{eqb-true, false_from_ne_true}
@@ -60,9 +60,7 @@ AreRight-push g p rows r a right l = record {
 -- a vertex from the next on is not named
 pub unnamed : (rows : ClaimRows) (v : ℕ) → next_after rows ≤ v → named rows v ≡ false
 unnamed [] v l = refl
-unnamed (x ∷ rows) v l =
-    let f : (x.0 == v) ≡ false =
-    false_from_ne_true (x.0 == v) (λ t. let e = eqb-true x.0 v t in absurd (omega arith)) in rw (f, unnamed rows v (omega arith)) refl
+unnamed (x ∷ rows) v l = search (rules, unnamed rows v (omega arith), false_from_ne_true, eqb-true)
 
 pub AreRight-last : (g : Graph) (p : Player) (rows : ClaimRows) (r : ℕ × Option ℕ) → AreRight g p (rows ++ r ∷ [])
     → IsRightRow g p r × (next_after rows ≤ r.0)
@@ -84,16 +82,7 @@ all_front P [] ys a = tt
 all_front P (x ∷ xs) ys a = (a.0, all_front P xs ys a.1)
 
 pub AreRight-front : (g : Graph) (p : Player) (xs ys : ClaimRows) → AreRight g p (xs ++ ys) → AreRight g p xs
-AreRight-front g p xs ys a = record {
-  each = all_front (IsRightRow g p) xs ys a.each;
-  rising = λ k l.
-      let up : IsStrictlyIncreasing (vertices xs ++ vertices ys)
-      = subst (λ (zs : List ℕ). IsStrictlyIncreasing zs) (map-append (λ (x : ℕ × Option ℕ). x.0) xs ys) a.rising in
-      let e = get_or_append_left (vertices xs) (vertices ys) 0 k (omega arith) in
-      let f = get_or_append_left (vertices xs) (vertices ys) 0 (k + 1) l in
-      let h = up k (omega (arith, length-append (vertices xs) (vertices ys))) in
-      let i : get_or (vertices xs) k 0 < get_or (vertices xs) (k + 1) 0 = omega (arith, e, f, h) in i;
-}
+AreRight-front g p xs ys a = search (rules, all_front, a.each, map-append, a.rising, get_or_append_left, length-append)
 
 -- the next row's vertex is not named by the rows before it
 pub next_unnamed : (g : Graph) (p : Player) (rows : ClaimRows) (i : ℕ) (d : ℕ × Option ℕ) → AreRight g p rows → i < length rows

@@ -1,12 +1,12 @@
 -- A search along a claim's rows that found no way back: there is none.
+use Rattle.std.proofs.Common.{rules}
 use Rattle.std.proofs.Common.{◌≡◌, ◌≢◌, ℕ, suc, ◌<◌, ◌≤◌, ◌↔◌, true, false, inl, inr, List, [], ◌∷◌, ◌++◌, length, get_or, refl, sym, ◌∙◌, ap, subst, arith}
-use Rattle.std.specs.Prelude.{Option, Some, None, MatchOption, slice_index, ◌==◌}
+use Rattle.std.specs.Prelude.{Option, None, MatchOption, slice_index, ◌==◌}
 use Rattle.std.specs.List.{Contains, list_any}
 use Rattle.std.proofs.lemmas.Bool.{eqb-true, cases_Bool}
 use Rattle.std.proofs.lemmas.List.{append_assoc}
 use Rattle.std.proofs.lemmas.List.Elements.{Contains-append_left}
 use Rattle.pg_game.specs.declared.player.Player.{Player}
-use Rattle.pg_game.specs.Player.{same_player, of_parity, opponent}
 use Rattle.pg_game.specs.Graph.{Graph, priority_of}
 use Rattle.pg_game.specs.VertexSet.{In}
 use Rattle.pg_game.specs.Kept.{KeptEdge, kept}
@@ -34,11 +34,7 @@ module _ (g : Graph) (p : Player) (rows : ClaimRows) where
   -- what a row keeps is what the claim keeps of its vertex
   pub kept_in_row : (r : CheckedRow) (v : ℕ) (c : Option ℕ) → AgreesAt g p r → claim_row p r ≡ (v, c) → choice_in rows v ≡ c
       → r.kept ≡ kept g p (choice_in rows) v
-  kept_in_row r v c a e h =
-      let ev : r.vertex ≡ v = ap (λ (x : ℕ × Option ℕ). x.0) e in
-      let ec : (claim_row p r).1 ≡ c = ap (λ (x : ℕ × Option ℕ). x.1) e in
-      let s : choice_in rows r.vertex ≡ (claim_row p r).1 = ap (choice_in rows) ev ∙ (h ∙ sym ec) in
-      sym (kept_cases g p (choice_in rows) r a s (same_player r.owner p) refl) ∙ ap (kept g p (choice_in rows)) ev
+  kept_in_row r v c a e h = search (rules, r.vertex, kept_cases, r.owner)
 
   pub Stays-from_row : (start : ℕ) (list : List ℕ) (v : ℕ) (ws : List ℕ) (n : ℕ) → ws ≡ kept g p (choice_in rows) v → length ws ≤ n
       → ((i : ℕ) → i < n → In (named rows) (slice_index ws i) → priority_of g (slice_index ws i) ≤ priority_of g start
@@ -87,11 +83,7 @@ module _ (g : Graph) (p : Player) (rows : ClaimRows) where
   pub none_from_rows : (xs : ClaimRows) (n : ℕ) → xs ≡ rows → length xs ≤ n
       → ((i : ℕ) → i < n → is_bad g p (get_or xs i (0, None)).0 ≡ true → OnBadWalk g p (named rows) (choice_in rows) (get_or xs i (0, None)).0 → ⊥)
       → NoneHas (OnBadWalk g p (named rows) (choice_in rows))
-  none_from_rows xs n e l h v (vs, walk, top, parity) =
-      let t : is_bad g p v ≡ true = is_same (of_parity (priority_of g v)) (opponent p) parity in
-      let q = place_named xs v (subst (λ (ys : ClaimRows). In (named ys) v) (sym e) (starts v vs v walk)) in
-      h q.0 (omega (arith, q.1)) (subst (λ (x : ℕ). is_bad g p x ≡ true) (sym q.2) t)
-      (subst (λ (x : ℕ). OnBadWalk g p (named rows) (choice_in rows) x) (sym q.2) (vs, walk, top, parity))
+  none_from_rows xs n e l h v (vs, walk, top, parity) = search (rules, is_same, place_named, starts)
 
 named_good : (g : Graph) (p : Player) (rows : ClaimRows) → list_any (λ r. is_bad g p r.0) rows ≡ false → (v : ℕ) → In (named rows) v
     → is_bad g p v ≡ false
@@ -104,13 +96,9 @@ named_good g p (r ∷ rows) e v y = let both = none_first (is_bad g p r.0) (list
 -- a claim that names no vertex of the opponent's parity
 pub none_on_bad_walk : (g : Graph) (p : Player) (rows : ClaimRows) → list_any (λ r. is_bad g p r.0) rows ≡ false
     → NoneHas (OnBadWalk g p (named rows) (choice_in rows))
-none_on_bad_walk g p rows e v (vs, walk, top, parity) =
-    let f : is_bad g p v ≡ false = named_good g p rows e v (starts_in g p (named rows) (choice_in rows) v vs v walk) in
-    let t : is_bad g p v ≡ true = is_same (of_parity (priority_of g v)) (opponent p) parity in
-    cc (t, f)
+none_on_bad_walk g p rows e v (vs, walk, top, parity) = search (rules, named_good, starts_in, is_same)
 
 -- what is said of one property as of another
 pub same_least : (P Q : ℕ → Type 0) → ((v : ℕ) → P v ↔ Q v) → (least : Option ℕ) → MatchOption least (NoneHas P) (IsLeast P)
     → MatchOption least (NoneHas Q) (IsLeast Q)
-same_least P Q same None h = λ v q. h v ((same v).1 q)
-same_least P Q same (Some v) h = record { has = (same v).0 h.has; least = λ u q. h.least u ((same u).1 q) }
+same_least x0 x1 same x3 h = search (rules)

@@ -1,9 +1,9 @@
 -- Vertices that are taken one after another, each listed: what stays the same, and what is done once they are reached.
+use Rattle.std.proofs.Common.{◌≡◌, ℕ, ◌+◌, ◌<◌, ◌≤◌, true, false, ◌||◌, inl, inr, List, [], ◌∷◌, ◌++◌, length, take, get_or, sym, ◌∙◌, ap, subst, arith}
+use Rattle.std.proofs.Common.{append_assoc, length-append, rules}
 use mathlib.Core.Path.{fun_ext}
 use Rattle.std.proofs.Math.Bool.{or-false}
-use Rattle.std.proofs.Common.{◌≡◌, ℕ, ◌+◌, ◌<◌, ◌≤◌, Bool, true, false, ◌||◌, inl, inr, List, [], ◌∷◌, ◌++◌, length, take, get_or, refl, sym, ◌∙◌, ap}
-use Rattle.std.proofs.Common.{subst, arith, append_assoc, length-append}
-use Rattle.std.specs.Prelude.{◌==◌, if◌then◌else◌, OnOk, Result, Ok, Err}
+use Rattle.std.specs.Prelude.{◌==◌, if◌then◌else◌, OnOk, Result}
 use Rattle.std.proofs.lemmas.Bool.{eqb-true, eq-eqb, or_left, or_right, or_cases}
 use Rattle.std.proofs.lemmas.List.{append-nil, take_more, take_all, take-append-le, take-append-drop}
 use Rattle.std.proofs.lemmas.List.Folds.{list_any-append}
@@ -15,8 +15,7 @@ use Rattle.pg_dominion.specs.private.Attracting.{IsTakenOrOpen}
 use Rattle.pg_dominion.proofs.Attracting.{IsDone-more}
 
 pub on_ok_both : {T E : Type 0} (P Q : Type 0) (r : Result T E) → OnOk r P → OnOk r Q → OnOk r (P × Q)
-on_ok_both P Q (Ok x) p q = (p, q)
-on_ok_both P Q (Err e) p q = tt
+on_ok_both x0 x1 x2 p q = search (rules)
 
 module _ {A : Type 0} (f : A → ℕ) where
   listed-push : (xs : List A) (x : A) (v : ℕ) → listed_by f (xs ++ x ∷ []) v ≡ (listed_by f xs v || (f x == v))
@@ -31,29 +30,10 @@ module _ {A : Type 0} (f : A → ℕ) where
 
   pub takes_one : (F F' F'' : VertexSet) (xs xs' : List A) (v : ℕ) → ((w : ℕ) → F' w ≡ F w) → In F v
       → (x : A) × (f x ≡ v) × (xs' ≡ xs ++ x ∷ []) → ((w : ℕ) → F'' w ≡ (if v == w then false else F' w)) → Takes f F xs F'' xs'
-  takes_one F F' F'' xs xs' v same i (x, e, l) now = record {
-    more = x ∷ [];
-    list_is = l;
-    same = λ w. ap (λ ys. F'' w || listed_by f ys w) l
-        ∙ (ap (λ b. F'' w || b) (listed-push xs x w) ∙ (ap (λ u. F'' w || (listed_by f xs w || (u == w))) e
-        ∙ (ap (λ b. b || (listed_by f xs w || (v == w))) (now w) ∙ go w (v == w) refl)));
-  }
-    where
-      here : (a n : Bool) → a ≡ true → (false || (n || true)) ≡ (a || n)
-      here true true e = refl
-      here true false e = refl
-      here false n e = absurd (cc e)
-
-      go : (w : ℕ) (b : Bool) → (v == w) ≡ b → ((if b then false else F' w) || (listed_by f xs w || b)) ≡ (F w || listed_by f xs w)
-      go w true e = here (F w) (listed_by f xs w) (subst (λ (u : ℕ). F u ≡ true) (eqb-true v w e) i)
-      go w false e = ap (λ b. b || (listed_by f xs w || false)) (same w) ∙ ap (λ b. F w || b) (or-false (listed_by f xs w))
+  takes_one F F' F'' xs xs' v same i (x, e, l) now = search (rules, listed-push, eqb-true, or-false)
 
   pub takes_then : (F F' F'' : VertexSet) (xs ys zs : List A) → Takes f F xs F' ys → Takes f F' ys F'' zs → Takes f F xs F'' zs
-  takes_then F F' F'' xs ys zs a b = record {
-    more = a.more ++ b.more;
-    list_is = b.list_is ∙ (ap (λ l. l ++ b.more) a.list_is ∙ append_assoc xs a.more b.more);
-    same = λ v. b.same v ∙ a.same v;
-  }
+  takes_then F F' F'' xs ys zs a b = search (rules, a.more, b.more, b.list_is, a.list_is, append_assoc, b.same, a.same)
 
   module _ (F F' : VertexSet) (xs xs' : List A) (t : Takes f F xs F' xs') where
     pub takes_longer : length xs ≤ length xs'
@@ -63,8 +43,7 @@ module _ {A : Type 0} (f : A → ℕ) where
     takes_front n l = ap (take n) t.list_is ∙ take-append-le n xs t.more l
 
     pub takes_within : Within (listed_by f xs) (listed_by f xs')
-    takes_within v i =
-        ap (λ ys. listed_by f ys v) t.list_is ∙ (list_any-append (λ y. f y == v) xs t.more ∙ or_left (listed_by f xs v) (listed_by f t.more v) i)
+    takes_within v i = search (rules, t.list_is, list_any-append, t.more, or_left)
 
     pub takes_set : union F' (listed_by f xs') ≡ union F (listed_by f xs)
     takes_set = fun_ext t.same
@@ -79,9 +58,7 @@ module _ {A : Type 0} (f : A → ℕ) where
         (list_any-append (λ y. f y == v) (take (n + 1) xs) _ ∙ or_left (listed_by f (take (n + 1) xs) v) _ i)
 
     pub next_listed : In (listed_by f xs) (f x)
-    next_listed =
-        in_take (f x) (ap (λ ys. listed_by f ys (f x)) one_more
-        ∙ (listed-push (take n xs) x (f x) ∙ or_right (listed_by f (take n xs) (f x)) (f x == f x) (eq-eqb (f x) (f x) refl)))
+    next_listed = search (rules, in_take, one_more, listed-push, or_right, eq-eqb)
 
     -- the next item's vertex is reached
     pub next_reached : (g : Graph) (p : Player) (U F F' : VertexSet) (xs' : List A) → Takes f F xs F' xs'

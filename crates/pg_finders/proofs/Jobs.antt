@@ -1,6 +1,5 @@
 -- What the finders answer, put together for a job.
-use Rattle.std.proofs.Common.{rules}
-use Rattle.std.proofs.Common.{◌≡◌, ℕ, Option, Some}
+use Rattle.std.proofs.Common.{◌≡◌, ℕ, Option, Some, rules}
 use Rattle.std.specs.Prelude.{◌↔◌, MatchOption}
 use Rattle.pg_game.specs.declared.player.Player.{Player}
 use Rattle.pg_game.specs.Graph.{Graph, owner_of}

@@ -1,7 +1,6 @@
 -- Places of identifiers in a rising list of them.
-use Rattle.std.proofs.Common.{rules}
-use Rattle.std.proofs.Common.{◌≡◌, ℕ, zero, suc, ◌+◌, ◌<◌, ◌≤◌, ◌⊎◌, inl, inr, List, [], ◌∷◌, ◌++◌, length, drop, get_or, sym, ◌∙◌, ap}
-use Rattle.std.proofs.Common.{subst, arith, add-one, nat_eq}
+use Rattle.std.proofs.Common.{◌≡◌, ℕ, zero, suc, ◌+◌, ◌<◌, ◌≤◌, ◌⊎◌, inl, inr, List, [], ◌∷◌, ◌++◌, length, drop, get_or, sym, ◌∙◌, ap, subst, arith, add-one}
+use Rattle.std.proofs.Common.{nat_eq, rules}
 use Rattle.std.specs.Prelude.{Option, Some, None, position, option_to_list, ◌↔◌}
 use Rattle.std.specs.List.{Contains}
 use Rattle.std.specs.List.Sorted.{IsStrictlyIncreasing}

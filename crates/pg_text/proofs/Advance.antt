@@ -1,6 +1,5 @@
 -- A private reader goes on over a text, a token at a time.
-use Rattle.std.proofs.Common.{rules}
-use Rattle.std.proofs.Common.{◌≡◌, ℕ, Bool, true, false, List, [], ◌∷◌, ◌++◌}
+use Rattle.std.proofs.Common.{◌≡◌, ℕ, Bool, true, false, List, [], ◌∷◌, ◌++◌, rules}
 use Rattle.pg_text.specs.Token.{Token, Placed, tokens_of}
 use Rattle.pg_text.specs.Fault.{IsLexicalFault, IsSyntaxFault}
 use Rattle.pg_text.specs.private.FirstFault.{placed}

@@ -1,6 +1,5 @@
 -- What the table of a game's vertices says that is known, and why it is not asked further.
-use Rattle.std.proofs.Common.{rules}
-use Rattle.std.proofs.Common.{◌≡◌, ℕ, ◌<◌, true, false, length, get_or, refl, sym, ◌∙◌, ap, arith, List, Bool}
+use Rattle.std.proofs.Common.{◌≡◌, ℕ, ◌<◌, true, false, length, get_or, refl, sym, ◌∙◌, ap, arith, List, Bool, rules}
 use Rattle.std.specs.Prelude.{Option, Some, None, if◌then◌else◌, MatchResult, Result, IfOk, IsErrAnd}
 use Rattle.std.proofs.lemmas.Option.{slice_get-get_or}
 use Rattle.pg_game.specs.declared.player.Player.TheVariants.{Even}

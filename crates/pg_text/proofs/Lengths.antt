@@ -1,6 +1,5 @@
 -- How long written texts are, within the limits of games.
-use Rattle.std.proofs.Common.{rules}
-use Rattle.std.proofs.Common.{ℕ, ◌+◌, ◌*◌, ◌^◌, ◌<◌, ◌≤◌, List, [], ◌∷◌, ◌++◌, length, map, arith, lit<, length-append, decimal}
+use Rattle.std.proofs.Common.{ℕ, ◌+◌, ◌*◌, ◌^◌, ◌<◌, ◌≤◌, List, [], ◌∷◌, ◌++◌, length, map, arith, lit<, length-append, decimal, rules}
 use Rattle.std.specs.Prelude.{Option, None, IfSome, codes, flat_map, sum_by}
 use Rattle.std.specs.List.{AllByRecursion, join_with_byte}
 use Rattle.std.proofs.Math.Nat.{mul-le-mul_right}

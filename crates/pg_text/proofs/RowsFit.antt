@@ -1,6 +1,5 @@
 -- The rows that the lines of a solution text say have vertices for choices.
-use Rattle.std.proofs.Common.{rules}
-use Rattle.std.proofs.Common.{◌≡◌, ℕ, zero, suc, ◌<◌, Bool, true, false, not, List, [], ◌∷◌, length, map, get_or, refl, sym, subst, arith}
+use Rattle.std.proofs.Common.{◌≡◌, ℕ, zero, suc, ◌<◌, Bool, true, false, not, List, [], ◌∷◌, length, map, get_or, refl, sym, subst, arith, rules}
 use Rattle.std.specs.Prelude.{◌==◌, Option, Some, None, IfSome, IfOk, MatchResult, Result, find, slice_get}
 use Rattle.std.specs.List.{Contains}
 use Rattle.std.proofs.lemmas.Bool.{eqb-true, not-false}

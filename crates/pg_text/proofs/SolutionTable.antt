@@ -1,7 +1,6 @@
 -- The table of a game's vertices, one line of a solution text after another.
-use Rattle.std.proofs.Common.{rules}
-use Rattle.std.proofs.Common.{◌≡◌, ℕ, zero, suc, ◌+◌, ◌<◌, Bool, true, false, not, ◌||◌, inl, inr, List, [], ◌∷◌, ◌++◌, length, map, take, drop}
-use Rattle.std.proofs.Common.{get_or, set, refl, sym, ◌∙◌, ap, subst, arith, length-set, get_or-set_same, get_or-set_other}
+use Rattle.std.proofs.Common.{◌≡◌, ℕ, zero, suc, ◌+◌, ◌<◌, Bool, true, false, not, ◌||◌, inl, inr, List, [], ◌∷◌, ◌++◌, length, map, take, drop, get_or, set}
+use Rattle.std.proofs.Common.{refl, sym, ◌∙◌, ap, subst, arith, length-set, get_or-set_same, get_or-set_other, rules}
 use Rattle.std.specs.Prelude.{◌==◌, if◌then◌else◌, Option, Some, None, find, slice_get}
 use Rattle.std.specs.Option.{option_or}
 use Rattle.std.specs.List.{Contains, list_any}

@@ -1,7 +1,6 @@
 -- An attraction that goes on once other vertices are active: what it knows of the vertices that were won before, and what it is in the
 -- subgame, whose part of the list begins behind a prefix.
-use Rattle.std.proofs.Common.{rules}
-use Rattle.std.proofs.Common.{◌≡◌, ℕ, suc, ◌+◌, false, inl, inr, List, [], ◌∷◌, ◌++◌, length, All, refl, sym, ◌∙◌, subst, arith, append_assoc}
+use Rattle.std.proofs.Common.{◌≡◌, ℕ, suc, ◌+◌, false, inl, inr, List, [], ◌∷◌, ◌++◌, length, All, refl, sym, ◌∙◌, subst, arith, append_assoc, rules}
 use Rattle.std.specs.Prelude.{◌==◌}
 use Rattle.std.proofs.lemmas.Bool.{eqb-true, cases_Bool, or_cases, and_parts, and_from, or_parts, or_left, or_right, false_from_ne_true}
 use Rattle.pg_game.specs.declared.player.Player.{Player}

@@ -1,6 +1,5 @@
 -- What a step of the solver owes besides the levels: the places in the order by priority, and the steps that are left.
-use Rattle.std.proofs.Common.{rules}
-use Rattle.std.proofs.Common.{◌≡◌, ℕ, ◌+◌, ◌-◌, ◌<◌, ◌≤◌, List, [], ◌∷◌, ◌++◌, length, map, refl, arith}
+use Rattle.std.proofs.Common.{◌≡◌, ℕ, ◌+◌, ◌-◌, ◌<◌, ◌≤◌, List, [], ◌∷◌, ◌++◌, length, map, refl, arith, rules}
 use Rattle.pg_finders.specs.declared.recursion.order.Ranked.{Ranked}
 use Rattle.pg_finders.specs.declared.recursion.solver.Stop.{Stop}
 use Rattle.pg_finders.specs.private.recursion.Waiting.{Level, steps, steps_after}

@@ -1,6 +1,5 @@
 -- Lists that are shared: what stops in a row say of them, and which levels stay the same.
-use Rattle.std.proofs.Common.{rules}
-use Rattle.std.proofs.Common.{◌≡◌, ℕ, ◌+◌, ◌≤◌, false, ◌||◌, ◌⊎◌, List, [], ◌∷◌, ◌++◌, length, take, map, refl, sym, ◌∙◌, ap, arith}
+use Rattle.std.proofs.Common.{◌≡◌, ℕ, ◌+◌, ◌≤◌, false, ◌||◌, ◌⊎◌, List, [], ◌∷◌, ◌++◌, length, take, map, refl, sym, ◌∙◌, ap, arith, rules}
 use Rattle.std.proofs.lemmas.Bool.{or_cases, or_left, or_right, false_from_ne_true}
 use Rattle.std.proofs.Math.Bool.{or_comm}
 use Rattle.pg_game.specs.declared.player.Player.{Player}

@@ -1,8 +1,7 @@
 -- The steps of the loop over shared lists: a subgame is begun, or the last one that waits is finished.
-use Rattle.std.proofs.Common.{rules}
+use Rattle.std.proofs.Common.{◌≡◌, ℕ, ◌+◌, ◌<◌, ◌≤◌, Bool, true, false, ◌&&◌, ◌||◌, not, ◌⊎◌, inl, inr, List, [], ◌∷◌, ◌++◌, length, take, drop, map, refl, sym}
+use Rattle.std.proofs.Common.{◌∙◌, ap, subst, arith, length-append, length-take, rules}
 use mathlib.Core.Path.{fun_ext}
-use Rattle.std.proofs.Common.{◌≡◌, ℕ, ◌+◌, ◌<◌, ◌≤◌, Bool, true, false, ◌&&◌, ◌||◌, not, ◌⊎◌, inl, inr, List, [], ◌∷◌, ◌++◌, length, take, drop, map}
-use Rattle.std.proofs.Common.{refl, sym, ◌∙◌, ap, subst, arith, length-append, length-take}
 use Rattle.std.specs.Prelude.{◌==◌}
 use Rattle.std.proofs.lemmas.Bool.{eqb-true, or_cases, and_parts, and_from, false_from_ne_true}
 use Rattle.std.proofs.Math.Bool.{and-true, or_assoc}
@@ -28,9 +27,8 @@ use Rattle.pg_finders.proofs.recursion.Listed.{listed-append, prefix_or_rest, in
 use Rattle.pg_finders.proofs.recursion.Listed.{apart_from, once_fits}
 use Rattle.pg_finders.proofs.Solving.{solved_none, solved_whole, IsSolvedTo-subst}
 use Rattle.pg_finders.proofs.recursion.Waiting.{Agree, waits_on, waits_push, waits_pop}
-use Rattle.pg_finders.proofs.recursion.Sharing.{by_player, players_apart, pick, picked, pick_apart, pick_either, pick_length, gone_settled}
-use Rattle.pg_finders.proofs.recursion.Sharing.{gone_aside, gone_cases, gone_none, part_of, in_part, linked_more, linked_push, linked_pop}
-use Rattle.pg_finders.proofs.recursion.Sharing.{levels_same}
+use Rattle.pg_finders.proofs.recursion.Sharing.{by_player, players_apart, pick, picked, pick_apart, pick_either, pick_length, gone_settled, gone_aside}
+use Rattle.pg_finders.proofs.recursion.Sharing.{gone_cases, gone_none, part_of, in_part, linked_more, linked_push, linked_pop, levels_same}
 
 -- the lists are one list, in which no vertex stands twice
 abbrev all_gone : SettledLists → List ℕ → List ℕ

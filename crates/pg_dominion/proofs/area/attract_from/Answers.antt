@@ -1,4 +1,4 @@
-use Rattle.std.proofs.Common.{ℕ, length, sym, ◌∙◌, subst, arith, ltb-true, refl}
+use Rattle.std.proofs.Common.{ℕ, length, sym, ◌∙◌, subst, arith, ltb-true, rules}
 use Rattle.std.proofs.lemmas.Bool.{or_right}
 use Rattle.pg_game.specs.Graph.{HasEdge}
 use Rattle.pg_game.specs.VertexSet.{VertexSet, In, union}
@@ -8,20 +8,10 @@ use Rattle.pg_dominion.proofs.Taking.{takes_none, takes_then, takes_set, takes_l
 use Rattle.pg_dominion.proofs.area.attract_from.Goals as goal
 
 pub list-init : goal.list-init
-list-init g c = record {
-  ready = c.requires.ready;
-  grown = g.met.A.Area.grown_same c.args.game.now c.args.player c.args.area.now c.args.list.now.items;
-  takes = takes_none g.A.Area.vertex_of (g.A.Area.free c.args.area.now) (g.A.Area.free c.args.area.now) c.args.list.now.items (λ v. refl);
-  done = c.requires.done;
-  within = c.requires.place;
-}
+list-init g c = search (rules, c.requires.ready, g.met.A.Area.grown_same, takes_none, g.A.Area.vertex_of, g.A.Area.free, c.requires.done, c.requires.place)
 
 pub reach-requires-clause-taken : goal.reach-requires-clause-taken
-reach-requires-clause-taken g c =
-    let f = g.A.Area.vertex_of in
-    let item = c.index-item.result.now in
-    subst (λ (v : ℕ). In (listed_by f c.list.list.items) v) (sym c.vertex.ensures)
-    (next_listed f c.list.list.items c.list.next item (omega arith) item c.index-item.ensures)
+reach-requires-clause-taken g c = search (rules, g.A.Area.vertex_of, c.vertex.ensures, next_listed, c.index-item.ensures)
 
 pub reach-requires-clause-vertex : goal.reach-requires-clause-vertex
 reach-requires-clause-vertex g c =

@@ -1,4 +1,4 @@
-use Rattle.std.proofs.Common.{◌≡◌, ℕ, slice_index, sym, ◌∙◌, subst, arith, below_more, refl}
+use Rattle.std.proofs.Common.{◌≡◌, ℕ, slice_index, sym, ◌∙◌, subst, arith, below_more, rules}
 use Rattle.std.proofs.lemmas.List.{get_or_default}
 use Rattle.std.proofs.lemmas.List.Elements.{Contains-get_or}
 use Rattle.pg_game.specs.VertexSet.{VertexSet, In, union}
@@ -9,12 +9,7 @@ use Rattle.pg_dominion.proofs.Attracting.{IsSettled-before, IsSettled-later}
 use Rattle.pg_dominion.proofs.area.reach.Goals as goal
 
 pub loop-from-init : goal.loop-from-init
-loop-from-init g c = record {
-  ready = c.requires.ready;
-  grown = g.met.A.Area.grown_same c.args.game.now c.args.player c.args.area.now c.args.list.now.items;
-  takes = takes_none g.A.Area.vertex_of (g.A.Area.free c.args.area.now) (g.A.Area.free c.args.area.now) c.args.list.now.items (λ v. refl);
-  settled = λ k l. absurd (omega (arith, l));
-}
+loop-from-init g c = search (rules, c.requires.ready, g.met.A.Area.grown_same, takes_none, g.A.Area.vertex_of, g.A.Area.free)
 
 pub consider-requires-clause-edge : goal.consider-requires-clause-edge
 consider-requires-clause-edge g c =
@@ -22,10 +17,7 @@ consider-requires-clause-edge g c =
     (Contains-get_or c.predecessors-from-items.result.now c.loop-from.from-index 0 c.loop-from-test.true)
 
 pub consider-requires-clause-taken : goal.consider-requires-clause-taken
-consider-requires-clause-taken g c =
-    let a = g.A.Area in
-    takes_within a.vertex_of (a.free c.args.area.now)
-    (a.free c.loop-from.area) c.args.list.now.items c.loop-from.list.items c.loop-from.invariant.takes c.args.to c.requires.taken
+consider-requires-clause-taken g c = search (rules, g.A.Area, takes_within, g.A.Area.vertex_of, g.A.Area.free, c.loop-from.invariant.takes, c.requires.taken)
 
 pub loop-from-preserved : goal.loop-from-preserved
 loop-from-preserved g c =

@@ -1,4 +1,4 @@
-use Rattle.std.proofs.Common.{◌≡◌, ℕ, ◌+◌, ◌-◌, [], ◌∷◌, ap, arith, below_more}
+use Rattle.std.proofs.Common.{arith, below_more, rules}
 use Rattle.std.proofs.Math.Seq.{drop-cons}
 use Rattle.pg_game.specs.Graph.{successors_of}
 use Rattle.pg_dominion.proofs.Searching.{place_in}
@@ -11,10 +11,7 @@ pub loop-k-preserved : goal.loop-k-preserved
 loop-k-preserved c = below_more _ _ c.loop-k.invariant c.if-successors-k.false
 
 pub returns-then-successors-k : goal.returns-then-successors-k
-returns-then-successors-k c =
-    let k = c.loop-k.k in
-    let one : k + 1 - k ≡ 1 = omega arith in
-    rw (one, drop-cons c.successors-successors.result.now k 0 c.loop-k-test.true) (ap (λ (x : ℕ). x ∷ []) c.if-successors-k.true)
+returns-then-successors-k c = search (rules, drop-cons, c.loop-k-test.true, c.if-successors-k.true)
 
 pub unreachable-requires : goal.unreachable-requires
 unreachable-requires c =

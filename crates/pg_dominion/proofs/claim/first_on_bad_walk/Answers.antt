@@ -1,7 +1,4 @@
-use Rattle.std.proofs.Common.{sym, ◌∙◌}
-use Rattle.pg_game.specs.Region.{OnBadWalk}
-use Rattle.pg_dominion.specs.Claim.{named, choice_in}
-use Rattle.pg_dominion.specs.KeptEdges.{IsWorst}
+use Rattle.std.proofs.Common.{sym, ◌∙◌, rules}
 use Rattle.pg_dominion.proofs.Staying.{none_on_bad_walk, same_least}
 use Rattle.pg_dominion.proofs.claim.first_on_bad_walk.Goals as goal
 
@@ -11,7 +8,4 @@ returns-then-not-names_bad_vertex c =
     none_on_bad_walk c.args.game.now claim.player claim.rows (sym c.names_bad_vertex.ensures ∙ c.if-not-names_bad_vertex.true)
 
 pub returns : goal.returns
-returns c =
-    let claim = c.args.claim.now in
-    same_least (IsWorst c.in_ok-kept.kept) (OnBadWalk c.args.game.now claim.player (named claim.rows)
-    (choice_in claim.rows)) c.in_ok-kept.ensures.worst c.in_ok-least.least c.in_ok-least.ensures
+returns c = search (rules, same_least, c.in_ok-kept.ensures.worst, c.in_ok-least.ensures)

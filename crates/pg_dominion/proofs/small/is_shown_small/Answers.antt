@@ -1,5 +1,5 @@
-use Rattle.std.proofs.Common.{◌≡◌, ◌<◌, ℕ, length, get_or, sym, refl, subst, arith, below_more}
-use Rattle.std.specs.Prelude.{None, ◌==◌}
+use Rattle.std.proofs.Common.{◌≡◌, ◌<◌, ℕ, length, get_or, sym, arith, below_more, rules}
+use Rattle.std.specs.Prelude.{None}
 use Rattle.std.proofs.lemmas.Bool.{eq-eqb}
 use Rattle.std.proofs.lemmas.List.Folds.{list_any_at}
 use Rattle.pg_game.specs.VertexSet.{In}
@@ -11,9 +11,7 @@ use Rattle.pg_dominion.proofs.small.is_shown_small.Goals.{else-is_bad-via-then-i
 
 -- a row names its vertex
 named_at : (xs rows : ClaimRows) (i : ℕ) → xs ≡ rows → i < length xs → In (named rows) (get_or xs i (0, None)).0
-named_at xs rows i e l =
-    let v = (get_or xs i (0, None)).0 in
-    subst (λ (ys : ClaimRows). In (named ys) v) e (list_any_at (λ r. r.0 == v) xs i (0, None) l (eq-eqb v v refl))
+named_at xs rows i e l = search (rules, list_any_at, eq-eqb)
 
 pub rows-init : goal.rows-init
 rows-init c = λ i l. absurd (omega (arith, l))
@@ -44,7 +42,4 @@ rows-preserved c =
     ])
 
 pub returns : goal.returns
-returns c = λ _.
-    let claim = c.args.claim.now in
-    none_from_rows c.args.game.now claim.player claim.rows c.as_slice-rows.result.now c.rows.row-index c.as_slice-rows.ensures
-    (omega (arith, c.rows-test.false)) c.rows.invariant
+returns c = search (rules, none_from_rows, c.as_slice-rows.ensures, c.rows-test.false, c.rows.invariant)

@@ -1,18 +1,9 @@
-use Rattle.pg_dominion.specs.private.KeptEdges.{Leads}
-use Rattle.std.proofs.Common.{arith, below_more, ℕ, subst, ◌∙◌}
-use Rattle.pg_dominion.proofs.Searching.{IsSpread-later, GoesOn-then, GoesOn-less}
+use Rattle.std.proofs.Common.{arith, below_more, rules}
+use Rattle.pg_dominion.proofs.Searching.{IsSpread-later, GoesOn-then}
 use Rattle.pg_dominion.proofs.walks.finds_back.Goals as goal
 
 pub queue-init : goal.queue-init
-queue-init c =
-    let s = c.args.search.now in
-    record {
-      least = c.requires.least;
-      state = c.requires.state;
-      later = GoesOn-less s.queue.items s.least s.least (omega arith);
-      within = omega arith;
-      spread = λ i l. absurd (omega (arith, l));
-    }
+queue-init c = search (rules, c.requires.least, c.requires.state)
 
 pub queue-preserved : goal.queue-preserved
 queue-preserved c =
@@ -38,13 +29,10 @@ returns-then-next-len-clause-spread c = λ _ i l. c.queue.invariant.spread i (om
 
 pub returns-then-branch-clause-first : goal.returns-then-branch-clause-first
 returns-then-branch-clause-first c =
-    let inv = c.queue.invariant in
-    c.in_ok-spread.ensures.later.front 0 inv.state.some ∙ inv.later.front 0 c.requires.state.some
+    search (rules, c.queue.invariant, c.in_ok-spread.ensures.later.front, c.queue.invariant.state.some, c.queue.invariant.later.front, c.requires.state.some)
 
 pub returns-then-branch-clause-back : goal.returns-then-branch-clause-back
-returns-then-branch-clause-back c = λ _.
-    subst (λ (x : ℕ). Leads c.args.kept.now c.args.top x x) (c.queue.invariant.later.front 0 c.requires.state.some)
-    (c.in_ok-spread.ensures.back c.if-branch.true)
+returns-then-branch-clause-back c = search (rules, c.queue.invariant.later.front, c.requires.state.some, c.in_ok-spread.ensures.back, c.if-branch.true)
 
 pub returns-after-queue-clause-first : goal.returns-after-queue-clause-first
 returns-after-queue-clause-first c = c.queue.invariant.later.front 0 c.requires.state.some

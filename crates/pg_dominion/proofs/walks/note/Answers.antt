@@ -1,13 +1,11 @@
-use Rattle.std.proofs.Common.{◌≡◌, ℕ, ◌+◌, ◌<◌, ◌≤◌, ◌⊎◌, inl, inr, length, slice_index, sym, ◌∙◌, ap, arith}
+use Rattle.std.proofs.Common.{◌≡◌, ℕ, ◌+◌, ◌<◌, ◌≤◌, ◌⊎◌, inl, inr, length, slice_index, sym, ◌∙◌, ap, arith, rules}
 use Rattle.std.proofs.lemmas.List.{get_or_read}
 use Rattle.pg_dominion.proofs.Labelled.{noted_none, noted_next}
 use Rattle.pg_dominion.proofs.walks.note.Goals.{then-at-search, else-at-search}
 use Rattle.pg_dominion.proofs.walks.note.Goals as goal
 
 pub queue-init : goal.queue-init
-queue-init c =
-    let s = c.args.search.now in
-    noted_none c.args.labels.now.levels.items c.args.labels.now.groups.items s.places.items s.queue.items c.args.level c.args.start s.least
+queue-init c = search (rules, noted_none)
 
 pub queue-preserved : goal.queue-preserved
 queue-preserved c =
@@ -30,10 +28,7 @@ queue-preserved c =
     (omega (arith, b, q, old.levels_size, c.requires.levels)) (omega (arith, b, q, old.groups_size, c.requires.groups)) h old
 
 pub overflow_add-group : goal.overflow_add-group
-overflow_add-group c =
-    let q = c.args.search.now.queue.items in
-    let l : c.queue.at < length q = omega (arith, c.queue-test.true, c.len-at-end.ensures) in
-    omega (arith, get_or_read q c.queue.at _ l c.index-v.ensures 0, c.requires.below c.queue.at l, c.requires.short)
+overflow_add-group c = search (rules, c.queue-test.true, c.len-at-end.ensures, get_or_read, c.index-v.ensures, c.requires.below, c.requires.short)
 
 pub index_mut-requires : goal.index_mut-requires
 index_mut-requires c =

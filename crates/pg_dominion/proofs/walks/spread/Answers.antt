@@ -1,5 +1,5 @@
-use Rattle.std.proofs.Common.{◌≡◌, ℕ, ◌<◌, ◌≤◌, inl, inr, [], ◌∷◌, ◌++◌, length, set, slice_index, refl, sym, ◌∙◌, ap, subst, arith, below_more}
-use Rattle.std.proofs.Common.{length-append, get_or-set_same}
+use Rattle.std.proofs.Common.{◌≡◌, ℕ, ◌<◌, ◌≤◌, inl, inr, [], ◌∷◌, ◌++◌, length, set, slice_index, refl, sym, ◌∙◌, ap, subst, arith, below_more, length-append}
+use Rattle.std.proofs.Common.{get_or-set_same, rules}
 use Rattle.std.proofs.lemmas.List.{get_or_read, get_or_push}
 use Rattle.pg_game.specs.Graph.{priority_of}
 use Rattle.pg_dominion.specs.KeptEdges.{kept_row}
@@ -74,11 +74,7 @@ row-preserved-then-index-to c =
     }
 
 pub overflow_cast-end : goal.overflow_cast-end
-overflow_cast-end c =
-    let s = c.row.search in
-    let h = queue_short c.args.kept.now c.args.labels.now.levels.items c.args.labels.now.groups.items c.args.top c.args.own s.places.items s.queue.items
-    c.row.invariant.state in
-    omega (arith, h, c.len-end.ensures, c.len-n.ensures.number, c.len-n.type_inv)
+overflow_cast-end c = search (rules, queue_short, c.row.invariant.state, c.len-end.ensures, c.len-n.ensures.number, c.len-n.type_inv)
 
 pub returns-then-place-eq0-clause-back : goal.returns-then-place-eq0-clause-back
 returns-then-place-eq0-clause-back c = λ _.

@@ -1,5 +1,5 @@
-use Rattle.std.proofs.Common.{◌≡◌, ℕ, ◌+◌, length, slice_index, refl, sym, ◌∙◌, subst, arith}
-use Rattle.pg_dominion.specs.private.KeptEdges.{AreNoted, Leads}
+use Rattle.std.proofs.Common.{◌≡◌, ℕ, ◌+◌, length, slice_index, refl, sym, ◌∙◌, subst, arith, rules}
+use Rattle.pg_dominion.specs.private.KeptEdges.{AreNoted}
 use Rattle.pg_dominion.proofs.Labelled.{searching_first, labelled_more, none_reached}
 use Rattle.pg_dominion.proofs.walks.walks_back.Goals as goal
 
@@ -43,11 +43,8 @@ returns-else-own-eq0-clause-none c = λ _.
     (h.first ∙ (rw (c.in_ok-push.ensures.items, c.clear.ensures.items) refl)) c.priority-top.ensures
 
 pub returns-then-branch-clause-back : goal.returns-then-branch-clause-back
-returns-then-branch-clause-back c = λ _.
-    let e : slice_index c.push.new.self.items 0 ≡ c.args.start = rw (c.in_ok-push.ensures.items, c.clear.ensures.items) refl in
-    let back = c.in_ok-finds_back.ensures.back c.if-branch.true in
-    subst (λ (t : ℕ). Leads c.args.kept.now t c.args.start c.args.start) c.priority-top.ensures
-    (subst (λ (x : ℕ). Leads c.args.kept.now c.priority-top.result x x) e back)
+returns-then-branch-clause-back c =
+    search (rules, slice_index, c.in_ok-push.ensures.items, c.clear.ensures.items, c.in_ok-finds_back.ensures.back, c.if-branch.true, c.priority-top.ensures)
 
 pub note-requires-clause-below : goal.note-requires-clause-below
 note-requires-clause-below c = λ i l. omega (arith, c.in_ok-finds_back.ensures.state.below i l, c.in_ok-finds_back.ensures.state.size)

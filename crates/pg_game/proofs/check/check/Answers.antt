@@ -1,5 +1,4 @@
-use Rattle.std.proofs.Common.{rules}
-use Rattle.std.proofs.Common.{ℕ, zero, suc, ◌≡◌, ◌<◌, false, sym, subst, ◌∙◌, arith, Result, Ok, Err, IfErr, IsErrAnd}
+use Rattle.std.proofs.Common.{ℕ, zero, suc, ◌≡◌, ◌<◌, false, sym, subst, ◌∙◌, arith, Result, Ok, Err, IfErr, IsErrAnd, rules}
 use Rattle.std.specs.Prelude.{◌==◌}
 use Rattle.std.proofs.lemmas.Bool.{lt-ltb}
 use Rattle.pg_game.proofs.Sound.{not_empty, twice_named, without_named, edges_named, unknown_named, sound_has_none}

@@ -1,5 +1,4 @@
-use Rattle.std.proofs.Common.{rules}
-use Rattle.std.proofs.Common.{◌≡◌, ℕ, ◌<◌, false, length, refl}
+use Rattle.std.proofs.Common.{◌≡◌, ℕ, ◌<◌, false, length, refl, rules}
 use Rattle.std.specs.Prelude.{Option, Some, None, IfSome, IfNone, MatchResult}
 use Rattle.std.specs.Option.{ok_or}
 use Rattle.pg_game.specs.Graph.{Graph, id_of}

@@ -1,4 +1,4 @@
-use Rattle.std.proofs.Common.{◌≡◌, ◌<◌, ℕ, Bool, List, length, set, false, inl, inr, refl, sym, length-set, ◌∙◌}
+use Rattle.std.proofs.Common.{◌≡◌, ◌<◌, ℕ, Bool, List, length, set, false, inl, inr, refl, sym, length-set, ◌∙◌, rules}
 use Rattle.std.specs.Prelude.{◌==◌}
 use Rattle.std.proofs.lemmas.Bool.{cases_Bool, or_cases}
 use Rattle.pg_dominion.specs.Claim.{named}
@@ -11,26 +11,16 @@ use Rattle.pg_dominion.proofs.attractor.CopiedArea.take.Goals as goal
 
 -- what is not in a mask is not in it without another vertex
 taken_out : (mask : List Bool) (v w : ℕ) → v < length mask → members mask w ≡ false → members (set mask v false) w ≡ false
-taken_out mask v w l f = elim (cases_Bool (v == w)) [
-  | inl e ↦ rw (read_set mask v w false false l, e) refl
-  | inr e ↦ rw (read_set mask v w false false l, e) f
-]
+taken_out mask v w l f = search (rules, cases_Bool, read_set)
 
 pub returns-clause-grown : goal.returns-clause-grown
-returns-clause-grown c =
-    let mask = c.args.self.now.free in
-    let v = c.args.v in
-    rw (c.remove.ensures, c.in_ok-push.ensures.items)
-    (extends_taken c.args._game.now c.args._player (members mask) (members (set mask v false)) c.args.list.now.items (v, c.args.choice)
-    (λ w. read_set mask v w false false (member_below mask v c.requires.free)) c.requires.free c.requires.leads)
+returns-clause-grown c = search (rules, c.remove.ensures, c.in_ok-push.ensures.items, extends_taken, read_set, member_below, c.requires.free, c.requires.leads)
 
 pub returns-clause-listed : goal.returns-clause-listed
 returns-clause-listed c = ((c.args.v, c.args.choice), refl, c.in_ok-push.ensures.items)
 
 pub returns-clause-free : goal.returns-clause-free
-returns-clause-free c = λ w.
-    let mask = c.args.self.now.free in
-    rw c.remove.ensures (read_set mask c.args.v w false false (member_below mask c.args.v c.requires.free))
+returns-clause-free c = search (rules, c.remove.ensures, read_set, member_below, c.requires.free)
 
 pub returns-clause-ready : goal.returns-clause-ready
 returns-clause-ready c =

@@ -1,4 +1,4 @@
-use Rattle.std.proofs.Common.{◌≡◌, sym, ◌∙◌, arith, rules}
+use Rattle.std.proofs.Common.{◌≡◌, ◌∙◌, arith, rules}
 use Rattle.std.proofs.lemmas.Bool.{true≢false}
 use Rattle.pg_dominion.proofs.checked.CheckedRow.agrees.Goals as goal
 
@@ -16,8 +16,4 @@ returns-then-eq-clause-agrees c = λ t.
     }
 
 pub returns-then-eq-clause-foreign : goal.returns-then-eq-clause-foreign
-returns-then-eq-clause-foreign c = λ f a.
-    let row = c.args.self.now in
-    let o : row.owner ≡ c.args.player = search rules in
-    let k = a.own o in
-    true≢false (sym (c.has_edge.ensures.1 (rw (c.as_slice-kept.ensures, k.1) k.2)) ∙ f)
+returns-then-eq-clause-foreign c = search (rules, true≢false, c.as_slice-kept.ensures)

@@ -1,5 +1,4 @@
-use Rattle.std.proofs.Common.{rules}
-use Rattle.std.proofs.Common.{◌≡◌, List, ℕ, ◌∙◌, subst}
+use Rattle.std.proofs.Common.{◌≡◌, List, ℕ, ◌∙◌, subst, rules}
 use Rattle.std.specs.Prelude.{Result, Ok, Err, IfOk, IfErr}
 use Rattle.pg_game.specs.Graph.{Graph, IsGame}
 use Rattle.pg_game.specs.Limits.{IsWithinLimits}
@@ -23,26 +22,8 @@ no_fault g text (Err x) i w e f = text_or_fault (written_game g) g x (written_ga
 
 pub returns-clause-same : goal.returns-clause-same
 returns-clause-same c =
-    search (
-      rules,
-      same_game,
-      c.read_game.result,
-      c.len-n.ensures.game,
-      c.len-n.ensures.limits,
-      c.as_slice.ensures.value,
-      c.in_ok-text.ensures.text,
-      c.read_game.ensures.game,
-    )
+    same_game _ _ c.read_game.result c.len-n.ensures.game c.len-n.ensures.limits (c.as_slice.ensures.value ∙ c.in_ok-text.ensures.text) c.read_game.ensures.game
 
 pub returns-clause-fault : goal.returns-clause-fault
 returns-clause-fault c =
-    search (
-      rules,
-      no_fault,
-      c.read_game.result,
-      c.len-n.ensures.game,
-      c.len-n.ensures.limits,
-      c.as_slice.ensures.value,
-      c.in_ok-text.ensures.text,
-      c.read_game.ensures.fault,
-    )
+    no_fault _ _ c.read_game.result c.len-n.ensures.game c.len-n.ensures.limits (c.as_slice.ensures.value ∙ c.in_ok-text.ensures.text) c.read_game.ensures.fault

@@ -1,5 +1,4 @@
-use Rattle.std.proofs.Common.{rules}
-use Rattle.std.proofs.Common.{◌≡◌, ◌++◌, drop, sym, ◌∙◌, ap, subst}
+use Rattle.std.proofs.Common.{◌≡◌, ◌++◌, drop, sym, ◌∙◌, ap, subst, rules}
 use Rattle.pg_game.specs.VertexSet.{members}
 use Rattle.pg_finders.specs.private.recursion.Settled.{settled_of}
 use Rattle.pg_finders.specs.private.recursion.Growing.{active_of}

@@ -1,6 +1,5 @@
-use Rattle.std.proofs.Common.{rules}
+use Rattle.std.proofs.Common.{◌≡◌, ◌∙◌, ℕ, false, inl, inr, sym, subst, arith, rules}
 use Rattle.pg_finders.proofs.recursion.subgame.Subgame.give_all.Goals as goal
-use Rattle.std.proofs.Common.{◌≡◌, ◌∙◌, ℕ, false, inl, inr, sym, subst, arith}
 use Rattle.pg_game.specs.VertexSet.{In, members}
 use Rattle.pg_game.specs.Subgame.{IsSubgame}
 use Rattle.pg_finders.specs.private.recursion.Growing.{active_of}

@@ -1,5 +1,4 @@
-use Rattle.std.proofs.Common.{rules}
-use Rattle.std.proofs.Common.{ℕ, subst, arith, below_more}
+use Rattle.std.proofs.Common.{ℕ, subst, arith, below_more, rules}
 use Rattle.std.proofs.lemmas.List.{get_or_default}
 use Rattle.pg_finders.specs.private.recursion.Listed.{listed}
 use Rattle.pg_finders.specs.private.recursion.Growing.{active_of, IsTested}
