@@ -1,4 +1,4 @@
-use Rattle.std.proofs.Common.{◌≡◌, List, ℕ, ◌∙◌, subst, rules}
+use Rattle.std.proofs.Common.{◌≡◌, List, ℕ, ◌∙◌, subst}
 use Rattle.std.specs.Prelude.{Result, Ok, Err, IfOk, IfErr}
 use Rattle.pg_game.specs.Graph.{Graph, IsGame}
 use Rattle.pg_game.specs.Limits.{IsWithinLimits}
@@ -20,7 +20,8 @@ same_rows g rows text (Err x) i w are e f = tt
 no_fault : (g : Graph) (rows : SolutionRows) (text : List ℕ) (r : Result Solution SolutionTextFault) → IsGame g → IsWithinLimits g → AreSolutionRows g rows
     → text ≡ written_solution g rows → IfErr r (λ x. IsSolutionFaultOf g text x) → IfErr r (λ x. x ≡ fault.Memory)
 no_fault g rows text (Ok s) i w are e f = tt
-no_fault g rows text (Err x) i w are e f = search (rules, solution_text_or_fault, written_solution_is_text)
+no_fault g rows text (Err x) i w are e f =
+    solution_text_or_fault g (written_solution g rows) rows x (written_solution_is_text g rows i w are) (subst (λ t. IsSolutionFaultOf g t x) e f)
 
 pub returns-clause-same : goal.returns-clause-same
 returns-clause-same c =
