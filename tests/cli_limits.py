@@ -3,7 +3,8 @@
 
     tests/cli_limits.py BINARY
 
-The texts are too long for files of a case, so they are made here. The greatest game has as many vertices, edges and
+The texts are too long for files of a case, so they are made here. Were searches from each vertex alone all that looks for bad
+closed walks, the long cycle and the ladder would not end in time. The greatest game has as many vertices, edges and
 priorities as may be and every number of ten digits, so that its text and its solution are as long as any that is written.
 A line for each case that ran a second or more says how long. The last line is 'N passed, M failed'.
 """
@@ -19,6 +20,8 @@ VERTICES, EDGES = 1_048_576, 16_777_216
 # each vertex with so many successors is as many edges as may be
 WIDTH = 4_096
 DEGREE = EDGES // VERTICES
+# of a ladder of as many vertices as fit
+LEVELS = (VERTICES - 1) // 3
 # the first identifier and the first priority of the greatest game
 FIRST, LEAST = 1_100_000_000, 1_000_000_000
 LONGEST_GAME, LONGEST_SOLUTION = 210_763_795, 26_214_422
@@ -55,6 +58,24 @@ def written(text, greatest):
 def all_to_even(count, own=False):
     """A solution in which Even wins everywhere, by own loops if he has a choice."""
     return b"paritysol %d;\n" % (count - 1) + b"".join(b"%d 0 %d;\n" % (v, v) if own else b"%d 0;\n" % v for v in range(count))
+
+
+def long_cycle(count):
+    """One cycle, owned by player 1, that player 0 wins by its last vertex: each search for a bad walk from another goes far."""
+    return b"".join(b"%d 1 1 %d;\n" % (v, v + 1) for v in range(count - 1)) + b"%d 2 1 0;\n" % (count - 1)
+
+
+def ladder(levels):
+    """A ring whose vertices, of player 1, have a vertex of each level to go by, which player 0 wins, with a lower bad one behind it.
+
+    From the bad vertex of a level a search goes through all levels below, and no closed walk is bad.
+    """
+    ring = [b"%d 0 1 %d,%d;\n" % (v, v + 1, levels + 1 + 2 * v) for v in range(levels)] + [b"%d 0 1 0;\n" % levels]
+    for level in range(levels):
+        good = levels + 1 + 2 * level
+        ring.append(b"%d %d 1 %d,%d;\n" % (good, 2 * level + 2, level + 1, good + 1))
+        ring.append(b"%d %d 1 %d;\n" % (good + 1, 2 * level + 1, good - 2 if level else 0))
+    return b"".join(ring)
 
 
 def greatest_game():
@@ -111,6 +132,8 @@ CASES = {
     "a_vertex_specified_twice_comes_before_edges": (["tidy"], lambda: (b"0 0 0 %s;\n" % row_of(range(WIDTH))) * (WIDTH + 1), "game: vertex 0: specified twice"),
     "each_vertex_may_have_a_priority_of_its_own": (["tidy"], lambda: own_loops(VERTICES, lambda v: v), prints(lambda: written(own_loops(VERTICES, lambda v: v), VERTICES - 1))),
     "a_solution_of_as_many_vertices_as_may_be": ([], lambda: own_loops(VERTICES) + b"%" + all_to_even(VERTICES, own=True), prints(lambda: b"ok\n")),
+    "a_cycle_of_as_many_vertices_as_may_be": ([], lambda: long_cycle(VERTICES) + b"%" + all_to_even(VERTICES), prints(lambda: b"ok\n")),
+    "a_ladder_of_a_million_vertices": ([], lambda: ladder(LEVELS) + b"%" + all_to_even(3 * LEVELS + 1), prints(lambda: b"ok\n")),
     "solve_as_many_vertices_as_may_be": (["solve", "--winners"], lambda: own_loops(VERTICES), prints(lambda: all_to_even(VERTICES))),
     "solve_as_many_edges_as_may_be": (["solve", "--winners"], lambda: rows_of_all(WIDTH, WIDTH), prints(lambda: all_to_even(WIDTH))),
     "solve_own_loops_of_even_priorities": (["solve", "--workers", "1", "--bound", "0"], lambda: own_loops(5_000, lambda v: 2 * v), prints(lambda: all_to_even(5_000, own=True))),

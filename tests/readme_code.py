@@ -3,7 +3,7 @@
 
 A block `rust` stands, line by line, in a unit test of its crate, or in a function that a test there calls. Indentation and
 empty lines don't count, the test may have assertions of its own between two lines, and `use` lines may stand anywhere in the
-file, where the crate is `crate`. A block `c` stands in the C program of README.md, which tests/embed.py compiles and runs. A
+file. A block `c` stands in the C program of README.md, which tests/embed.py compiles and runs. A
 block `sh` is run by tests/examples.py or tests/embed.py, and a block `text` is what one of these prints, or the synopsis that
 tests/help_agrees.py reads. Any other block is refused. Blocks that are changed on purpose, by a word or in their language,
 have to be refused, too. The last line is 'N passed, M failed'.
@@ -75,17 +75,16 @@ def stands_in(code, file):
 
 @functools.lru_cache(maxsize=None)
 def tests_of(crate):
-    """The files of a crate's unit tests."""
-    source = os.path.join(ROOT, "crates", crate, "src")
-    paths = glob.glob(f"{source}/**/tests.rt", recursive=True) + glob.glob(f"{source}/**/tests/**/*.rt", recursive=True)
+    """The files of a crate's unit tests: those in the crate itself, and those in a crate of their own."""
+    sources = [os.path.join(ROOT, "crates", it, "src") for it in (crate, f"{crate}_tests")]
+    paths = [path for it in sources for form in ("tests.rt", "tests/**/*.rt") for path in glob.glob(f"{it}/**/{form}", recursive=True)]
     return [pages.text_of(it) for it in sorted(set(paths))]
 
 
 def rust_fault(page, code):
     """Why the code of a page is in no test."""
     crate = os.path.basename(os.path.dirname(page))
-    own = re.sub(rf"(?m)^use {crate}::", "use crate::", code) if crate else code
-    is_there = crate and any(stands_in(own, it) for it in tests_of(crate))
+    is_there = crate and any(stands_in(code, it) for it in tests_of(crate))
     return None if is_there else f"no unit test of {crate or 'no crate'} has it"
 
 

@@ -1,5 +1,5 @@
 #!/usr/bin/env python3
-"""Refuses each allocation in turn to the unit tests that stand in a module `memory`, as tests/unit_tests.py has built them.
+"""Refuses each allocation in turn to the unit tests that stand in a module `memory`, as `rt ci` has built them.
 
 Such a test makes its calls, looks after a refusal that nothing has changed, and makes the call again. So each run passes,
 or ends because memory was refused to what the test needs itself, and says so in one message that no call gives; a failed

@@ -206,7 +206,8 @@ def restated(items, known):
 
 
 def sources():
-    for crate in antt.CRATES:
+    """The files of the crates and of the crates of their tests."""
+    for crate in [*antt.CRATES, *[f"{it}_tests" for it in antt.CRATES]]:
         for part in ("src", "specs", "proofs"):
             for kind in ("rt", "antt"):
                 yield from glob.glob(os.path.join(antt.ROOT, "crates", crate, part, "**", f"*.{kind}"), recursive=True)

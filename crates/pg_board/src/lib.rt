@@ -12,8 +12,6 @@ mod open_edges;
 mod refusal;
 mod regions;
 mod rest;
-#[cfg(test)]
-mod tests;
 
 pub use board::Board;
 pub use entry::{Entry, Posted};

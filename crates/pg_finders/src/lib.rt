@@ -13,8 +13,6 @@ mod recursion;
 mod small;
 mod solitaire;
 mod standard;
-#[cfg(test)]
-mod tests;
 
 pub use adaptive::Adaptive;
 pub use finder::{Finder, Found, Job};

@@ -16,8 +16,6 @@ mod reading;
 mod solution;
 mod solution_reader;
 mod solution_rows;
-#[cfg(test)]
-mod tests;
 mod writing;
 
 pub use fault::{SolutionTextFault, TextFault};

@@ -12,8 +12,6 @@ mod report;
 mod rest;
 mod scope;
 mod solve;
-#[cfg(test)]
-mod tests;
 mod worker;
 
 pub use gate::{Gate, Pass};

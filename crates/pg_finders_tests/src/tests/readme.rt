@@ -1,0 +1,70 @@
+//! The code of README.md, which `tests/readme_code.py` of the repository looks for here.
+
+ghost use Rattle.std.specs.Prelude.{◌≡◌, ◌<◌, length};
+
+use crate::tests::games::{EVEN, ODD, Vertex, game_of, single};
+use pg_finders::{Inside, Small, find_small, zielonka};
+use pg_game::{Game, Mask, Player};
+use std::alloc::{AllocError, Global};
+use std::process::Abort;
+use std::test::Fail;
+
+/// What is said of a part of a game, with a search for a dominion of Even's that holds the seed.
+fn said(alloc: Global, game: &Game, mask: Mask, seed: u32) -> Result<String, AllocError>
+    requires size { length mask ≡ length game.now }
+    requires seed { seed < length game.now }
+{
+    let seeds = [seed];
+    let Ok(inside) = Inside::new(game, mask) else {
+        return format!(in alloc; "no subgame");
+    };
+    // solved.even and solved.odd are claims that share the mask out
+    let solved = zielonka(alloc, &inside)?;
+    let won = solved.even.rows.as_slice().len();
+    match find_small(alloc, &inside, Player::Even, seeds.as_slice(), 4, 10_000)? {
+        // a claim of at most four vertices, with a seed among them
+        Small::Found(claim) => {
+            let rows = claim.rows.as_slice().len();
+            format!(in alloc; "Even wins {won}; a claim has {rows}")
+        }
+        // proved: there is none
+        Small::Nothing => format!(in alloc; "Even wins {won}; no small claim has a seed"),
+        // the budget ended the search
+        Small::GaveUp => format!(in alloc; "Even wins {won}; nothing was found"),
+    }
+}
+
+/// Compares what is said of a part of a game.
+fn compare_said(
+    rt: &impl Abort,
+    alloc: Global,
+    game: &Game,
+    mask: Mask,
+    want: &str,
+) -> Result<(), Fail>
+    requires { length mask ≡ length game.now }
+{
+    assert!(*rt; game.len() > 0);
+    let found = said(alloc, game, mask, 0)?;
+    check_eq!(*rt; found.as_str(), want);
+    Ok(())
+}
+
+#[test]
+fn a_part_of_a_game_is_solved_and_searched(rt: HostRuntime) -> Result<(), Fail> {
+    let alloc = rt.alloc();
+    let vertices: [Vertex; 3] = [(2, EVEN, &[0, 1]), (1, ODD, &[1]), (0, ODD, &[0])];
+    let game = game_of(alloc, vertices.as_slice())?;
+    let all = Mask::full(alloc, game.len())?;
+    let last = single(&rt, alloc, &game, 2)?;
+    let second = single(&rt, alloc, &game, 1)?;
+    compare_said(&rt, alloc, &game, all, "Even wins 2; a claim has 1")?;
+    compare_said(&rt, alloc, &game, last, "no subgame")?;
+    compare_said(
+        &rt,
+        alloc,
+        &game,
+        second,
+        "Even wins 0; no small claim has a seed",
+    )
+}

@@ -1,0 +1,254 @@
+//! `find_small` against the dominions by their definition, on each smallest game and on random ones.
+
+ghost use Rattle.std.specs.Prelude.{◌≡◌, IfOk, length};
+
+use crate::tests::dominions::{Random, Table, has, is_within};
+use crate::tests::games::{EVEN, ODD, whole};
+use crate::tests::reference::{Numbered, rows_of_length};
+use pg_dominion::{Claim, check_claim};
+use pg_finders::{Inside, Small, find_small};
+use pg_game::{Game, Mask, Player};
+use std::alloc::Global;
+use std::process::Abort;
+use std::test::Fail;
+
+/// The vertices that the claim names.
+fn named(claim: &Claim) -> u32 {
+    let mut set = 0;
+    for row in claim.rows.as_slice() {
+        if row.0 < 32 {
+            set |= 1 << row.0;
+        }
+    }
+    set
+}
+
+/// Each choice lies in the set.
+fn assert_chosen_in(rt: &impl Abort, claim: &Claim, set: u32) {
+    for row in claim.rows.as_slice() {
+        if let Some(w) = row.1 {
+            check!(*rt; has(set, w));
+        }
+    }
+}
+
+/// A game, a subgame of it by its members, and the player who looks for dominions.
+#[derive(Clone, Copy)]
+struct Place<'a, 'g> {
+    table: &'a Table,
+    inside: &'a Inside<'g>,
+    members: u32,
+    player: Player,
+}
+
+impl Place<'_, '_> {
+    /// The claim is good in the subgame, the player's, within the bound, and holds the seed.
+    fn assert_good(self, rt: &impl Abort, alloc: Global, claim: &Claim, seed: u32, bound: u32) {
+        let set = named(claim);
+        check_eq!(*rt; claim.player, self.player);
+        check!(*rt; claim.rows.as_slice().len() <= bound as usize);
+        check!(*rt; has(set, seed));
+        check!(*rt; self.table.is_closed(self.members, self.player, set));
+        assert_chosen_in(rt, claim, set);
+        check!(*rt; check_claim(alloc, self.inside.game(), claim).is_ok());
+    }
+
+    /// What a search from the seed answers, whose budget is ample.
+    fn found(self, rt: &impl Abort, alloc: Global, seed: u32, bound: u32) -> Result<Small, Fail> {
+        assert!(*rt; seed < self.inside.game().len());
+        assert!(*rt; 1 <= bound);
+        assert!(*rt; bound <= 8);
+        let seeds = [seed];
+        Ok(find_small(
+            alloc,
+            self.inside,
+            self.player,
+            seeds.as_slice(),
+            bound,
+            1_000_000,
+        )?)
+    }
+
+    /// A search from the seed finds a good claim where there is a dominion that holds it, and else nothing.
+    fn assert_search(
+        self,
+        rt: &impl Abort,
+        alloc: Global,
+        seed: u32,
+        bound: u32,
+        in_dominion: bool,
+    ) -> Result<(), Fail> {
+        match self.found(rt, alloc, seed, bound)? {
+            Small::Found(claim) => {
+                check!(*rt; in_dominion, "none has {seed}");
+                self.assert_good(rt, alloc, &claim, seed, bound);
+            }
+            Small::Nothing => check!(*rt; !in_dominion, "one has {seed}"),
+            Small::GaveUp => panic!(*rt; "gave up"),
+        }
+        Ok(())
+    }
+
+    /// The searches within the bound, from each seed.
+    fn assert_seeds(
+        self,
+        rt: &impl Abort,
+        alloc: Global,
+        bound: u32,
+        in_dominions: u32,
+    ) -> Result<(), Fail> {
+        for seed in 0..self.table.len() {
+            self.assert_search(rt, alloc, seed, bound, has(in_dominions, seed))?;
+        }
+        Ok(())
+    }
+
+    /// The searches within each bound of 1 to 4.
+    fn assert_bounds(self, rt: &impl Abort, alloc: Global) -> Result<(), Fail> {
+        let mut held = 0;
+        for bound in 1..5 {
+            held |= self
+                .table
+                .in_dominions(alloc, self.members, self.player, bound)?;
+            self.assert_seeds(rt, alloc, bound, held)?;
+        }
+        Ok(())
+    }
+}
+
+/// Each search for the player in the whole game answers what is there by definition.
+fn assert_whole(rt: &impl Abort, alloc: Global, table: &Table, player: Player) -> Result<(), Fail> {
+    let game = table.game(alloc)?;
+    let inside = whole(rt, alloc, &game)?;
+    let place = Place {
+        table,
+        inside: &inside,
+        members: table.all(),
+        player,
+    };
+    place.assert_bounds(rt, alloc)
+}
+
+fn assert_in_every_game(rt: &impl Abort, alloc: Global, player: Player) -> Result<(), Fail> {
+    for len in 1..4 {
+        let k = rows_of_length(len);
+        let all = match len {
+            1 => k,
+            2 => k.saturating_mul(k),
+            _ => k.saturating_mul(k).saturating_mul(k),
+        };
+        for number in 0..all {
+            let table = Table::numbered(alloc, Numbered::new(len, number))?;
+            assert_whole(rt, alloc, &table, player)?;
+        }
+    }
+    Ok(())
+}
+
+#[test]
+fn evens_searches_in_every_game_of_up_to_three_vertices_and_priorities_to_two_find_what_all_sets_and_choices_have(
+    rt: HostRuntime,
+) -> Result<(), Fail> {
+    assert_in_every_game(&rt, rt.alloc(), EVEN)
+}
+
+#[test]
+fn odds_searches_in_every_game_of_up_to_three_vertices_and_priorities_to_two_find_what_all_sets_and_choices_have(
+    rt: HostRuntime,
+) -> Result<(), Fail> {
+    assert_in_every_game(&rt, rt.alloc(), ODD)
+}
+
+/// The mask with the members of the set.
+fn mask_of(alloc: Global, game: &Game, set: u32) -> Result<Mask, Fail>
+    ensures { IfOk result (λ mask. length mask ≡ length game.now) }
+{
+    let n = game.len();
+    let mut mask = Mask::empty(alloc, n)?;
+    'vertices: for v in 0..n {
+        if has(set, v) {
+            mask.insert(v);
+        }
+    }
+    Ok(mask)
+}
+
+/// Each search in the subgame answers what is there by definition.
+fn assert_part(
+    rt: &impl Abort,
+    alloc: Global,
+    table: &Table,
+    inside: &Inside,
+    members: u32,
+) -> Result<(), Fail> {
+    for player in [EVEN, ODD] {
+        let place = Place {
+            table,
+            inside,
+            members,
+            player,
+        };
+        place.assert_bounds(rt, alloc)?;
+    }
+    Ok(())
+}
+
+/// Whether the members are a subgame, whose searches then answer what is there.
+fn is_part_as_defined(
+    rt: &impl Abort,
+    alloc: Global,
+    table: &Table,
+    game: &Game,
+    members: u32,
+) -> Result<bool, Fail> {
+    match Inside::new(game, mask_of(alloc, game, members)?) {
+        Ok(inside) => {
+            assert_part(rt, alloc, table, &inside, members)?;
+            Ok(true)
+        }
+        Err(_) => Ok(false),
+    }
+}
+
+#[test]
+fn searches_in_random_games_of_up_to_seven_vertices_find_what_all_sets_and_choices_have(
+    rt: HostRuntime,
+) -> Result<(), Fail> {
+    let alloc = rt.alloc();
+    let mut random = Random::new(20_241_122);
+    for _round in 0..1_000u32 {
+        let n = random.below(7).saturating_add(1);
+        let table = Table::random(alloc, &mut random, n)?;
+        assert_whole(&rt, alloc, &table, EVEN)?;
+        assert_whole(&rt, alloc, &table, ODD)?;
+    }
+    Ok(())
+}
+
+/// How many of some random sets of vertices of a random game are a subgame, whose searches answer what is there.
+fn random_parts(rt: &impl Abort, alloc: Global, random: &mut Random) -> Result<u32, Fail> {
+    let n = random.below(7).saturating_add(1);
+    let table = Table::random(alloc, random, n)?;
+    let game = table.game(alloc)?;
+    let mut parts = 0u32;
+    for _round in 0..4u32 {
+        if is_part_as_defined(rt, alloc, &table, &game, random.members(n))? {
+            parts = parts.saturating_add(1);
+        }
+    }
+    Ok(parts)
+}
+
+#[test]
+fn searches_in_random_subgames_find_what_all_sets_and_choices_have(
+    rt: HostRuntime,
+) -> Result<(), Fail> {
+    let alloc = rt.alloc();
+    let mut random = Random::new(7);
+    let mut parts = 0u32;
+    for _round in 0..1_000u32 {
+        parts = parts.saturating_add(random_parts(&rt, alloc, &mut random)?);
+    }
+    check!(rt; parts > 1_000);
+    Ok(())
+}

@@ -1,0 +1,99 @@
+//! Texts cut at every length, and every byte value in the places where bytes differ.
+
+use super::{BOTH_WIN, game, game_fault, solution_fault};
+use pg_game::GameFault;
+use pg_text::{SolutionTextFault, TextFault};
+use std::alloc::Global;
+use std::process::Abort;
+use std::test::Fail;
+
+/// The answer for a game text of this byte alone.
+fn alone(byte: u8) -> TextFault {
+    match byte {
+        b' ' | b'\t' | b'\r' | b'\n' | b'0'..=b'9' => TextFault::Syntax(1),
+        b'a'..=b'z' | b'A'..=b'Z' | b',' | b';' => TextFault::Syntax(0),
+        _ => TextFault::Lexical(0),
+    }
+}
+
+/// The answer for `0 0 0 0`, this byte and `0;`.
+fn in_a_number(byte: u8) -> Option<TextFault> {
+    match byte {
+        b',' | b'0' => None,
+        b'1'..=b'9' => { Some(TextFault::Game(GameFault::Unknown(0, u32::from(byte - b'0') * 10))) }
+        b' ' | b'\t' | b'\r' | b'\n' => Some(TextFault::Syntax(8)),
+        b'a'..=b'z' | b'A'..=b'Z' => Some(TextFault::Syntax(7)),
+        b';' => Some(TextFault::Syntax(9)),
+        _ => Some(TextFault::Lexical(7)),
+    }
+}
+
+/// The answer for a name of this byte.
+fn in_a_name(byte: u8) -> Option<TextFault> {
+    match byte {
+        b'"' => Some(TextFault::Lexical(9)),
+        _ => None,
+    }
+}
+
+/// A game's text with this byte has this answer.
+fn compare_at(rt: &impl Abort, alloc: Global, byte: u8, text: &[u8], want: Option<TextFault>) {
+    check_eq!(rt; game_fault(alloc, text), want, "at {byte}");
+}
+
+#[test]
+fn each_byte_has_its_answer(rt: HostRuntime) {
+    let alloc = rt.alloc();
+    for byte in 0..=255u8 {
+        compare_at(&rt, alloc, byte, [byte].as_slice(), Some(alone(byte)));
+        let number = [b'0', b' ', b'0', b' ', b'0', b' ', b'0', byte, b'0', b';'];
+        compare_at(&rt, alloc, byte, number.as_slice(), in_a_number(byte));
+        let name = [
+            b'0', b' ', b'0', b' ', b'0', b' ', b'0', b'"', byte, b'"', b';',
+        ];
+        compare_at(&rt, alloc, byte, name.as_slice(), in_a_name(byte));
+    }
+}
+
+#[test]
+fn a_cut_game_text_is_refused_at_its_end(rt: HostRuntime) {
+    let alloc = rt.alloc();
+    let text = b"parity 0;\n0 0 0 0;\n".as_slice();
+    for len in 0..=19u32 {
+        let want = match len {
+            0..=5 => Some(TextFault::Syntax(0)),
+            6..=17 => Some(TextFault::Syntax(len)),
+            _ => None,
+        };
+        check_eq!(rt; game_fault(alloc, &text[..len as usize]), want, "at {len}");
+    }
+}
+
+/// The answer for so many bytes of a solution text.
+fn at_length(len: u32) -> Option<SolutionTextFault> {
+    match len {
+        0 => Some(SolutionTextFault::Missing(0)),
+        1..=8 => Some(SolutionTextFault::Syntax(0)),
+        9..=11 => Some(SolutionTextFault::Syntax(len)),
+        12..=13 => Some(SolutionTextFault::Missing(0)),
+        14..=18 => Some(SolutionTextFault::Syntax(len)),
+        19..=20 => Some(SolutionTextFault::Missing(1)),
+        21..=25 => Some(SolutionTextFault::Syntax(len)),
+        _ => None,
+    }
+}
+
+#[test]
+fn a_cut_solution_text_is_refused_at_its_end_or_lacks_lines(rt: HostRuntime) -> Result<(), Fail> {
+    let alloc = rt.alloc();
+    let game = game(alloc, BOTH_WIN.as_bytes())?;
+    let text = b"paritysol 1;\n0 0 0;\n1 1 1;\n".as_slice();
+    for len in 0..=27u32 {
+        check_eq!(rt;
+            solution_fault(alloc, &game, &text[..len as usize]),
+            at_length(len),
+            "at {len}"
+        );
+    }
+    Ok(())
+}

@@ -1,0 +1,139 @@
+//! Gates that hold workers, and count what they are told.
+
+use pg_workers::Gate;
+use std::sync::{Mutex, Wait};
+
+/// How often a held worker looks whether it may go on before it gives up.
+const TURNS: u64 = 10_000_000;
+
+/// What a gate of two workers has seen.
+#[derive(Drop)]
+pub struct Seen {
+    held: u32,
+    is_holding: bool,
+    has_posted: [bool; 3],
+    pub gave_up: bool,
+    pub found: [u32; 5],
+    pub posted: [u32; 5],
+}
+
+/// Holds one of two workers at its first `found` until the other's `posted` was seen, before or since. Worker 0 stands for
+/// whichever comes first.
+#[derive(Drop)]
+pub struct Holder {
+    pub seen: Mutex<Seen>,
+}
+
+impl Holder {
+    pub fn new(held: u32) -> Holder {
+        Holder {
+            seen: Mutex::new(Seen {
+                held,
+                is_holding: false,
+                has_posted: [false; 3],
+                gave_up: false,
+                found: [0; 5],
+                posted: [0; 5],
+            }),
+        }
+    }
+}
+
+/// Counts the call, and says whether this worker is to be held.
+fn enters(seen: &mut Seen, worker: u32, job: u64) -> bool {
+    if let Some(count) = seen.found.get_mut(job as usize) {
+        *count = count.wrapping_add(1);
+    }
+    if seen.is_holding || (seen.held != 0 && seen.held != worker) {
+        return false;
+    }
+    seen.is_holding = true;
+    true
+}
+
+/// Whether the other one of two workers has posted.
+fn has_other_posted(seen: &Seen, worker: u32) -> bool {
+    let [_, first, second] = seen.has_posted;
+    if worker == 1 { second } else { first }
+}
+
+impl Gate for Holder {
+    fn found<R: Wait>(&self, rt: &R, worker: u32, job: u64) {
+        if !enters(&mut *self.seen.lock(rt), worker, job) {
+            return;
+        }
+        for _ in 0..TURNS {
+            if has_other_posted(&*self.seen.lock(rt), worker) {
+                return;
+            }
+        }
+        self.seen.lock(rt).gave_up = true;
+    }
+
+    fn posted<R: Wait>(&self, rt: &R, worker: u32, job: u64) {
+        let mut guard = self.seen.lock(rt);
+        let seen = &mut *guard;
+        if let Some(count) = seen.posted.get_mut(job as usize) {
+            *count = count.wrapping_add(1);
+        }
+        if let Some(has_posted) = seen.has_posted.get_mut(worker as usize) {
+            *has_posted = true;
+        }
+    }
+}
+
+/// How far two workers have come.
+#[derive(Drop)]
+pub struct Progress {
+    first_posted: bool,
+    later_found: u32,
+    pub gave_up: bool,
+}
+
+/// Holds the worker that is told of the first job's posts until the other has had two more copies searched, and the
+/// other before its first post until then.
+#[derive(Drop)]
+pub struct Alternating {
+    pub progress: Mutex<Progress>,
+}
+
+impl Alternating {
+    pub fn new() -> Alternating {
+        Alternating {
+            progress: Mutex::new(Progress {
+                first_posted: false,
+                later_found: 0,
+                gave_up: false,
+            }),
+        }
+    }
+}
+
+impl Gate for Alternating {
+    fn found<R: Wait>(&self, rt: &R, _worker: u32, job: u64) {
+        if job == 0 {
+            return;
+        }
+        let later = self.progress.lock(rt).later_found;
+        self.progress.lock(rt).later_found = later.wrapping_add(1);
+        for _ in 0..TURNS {
+            if self.progress.lock(rt).first_posted {
+                return;
+            }
+        }
+        self.progress.lock(rt).gave_up = true;
+    }
+
+    fn posted<R: Wait>(&self, rt: &R, _worker: u32, job: u64) {
+        if job != 0 {
+            return;
+        }
+        self.progress.lock(rt).first_posted = true;
+        for _ in 0..TURNS {
+            if self.progress.lock(rt).later_found >= 2 {
+                return;
+            }
+        }
+        self.progress.lock(rt).gave_up = true;
+    }
+}
