@@ -3,8 +3,7 @@
 
     tests/cli_limits.py BINARY
 
-The texts are too long for files of a case, so they are made here. Were searches from each vertex alone all that looks for bad
-closed walks, the long cycle and the ladder would not end in time. The greatest game has as many vertices, edges and
+The texts are too long for files of a case, so they are made here. The greatest game has as many vertices, edges and
 priorities as may be and every number of ten digits, so that its text and its solution are as long as any that is written.
 A line for each case that ran a second or more says how long. The last line is 'N passed, M failed'.
 """

@@ -19,6 +19,8 @@ mod ranking;
 mod small;
 mod solution;
 mod tables;
+#[cfg(test)]
+mod tests;
 mod walks;
 
 pub use area::{Area, attract_from};

@@ -17,6 +17,8 @@ mod open;
 mod placed;
 mod player;
 mod sequence;
+#[cfg(test)]
+mod tests;
 
 pub use flat::Specs;
 pub use game::{Game, GameFault, Spec};
