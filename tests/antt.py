@@ -136,7 +136,15 @@ def imports(text):
             found[other.strip() or name] = f"{module}.{name}".removeprefix("Rattle.")
     for module, alias in re.findall(r"use ([\w.+'-]+) as (\w+)", text):
         found[f"{alias}."] = module.removeprefix("Rattle.")
-    return found
+    return {name: origin(whole) for name, whole in found.items()}
+
+
+def origin(whole):
+    """Where the item stands that a crate's proofs/Common.antt passes on by this name."""
+    crate, _, name = whole.partition(".proofs.Common.")
+    if not name or crate not in CRATES:
+        return whole
+    return imports(read(f"crates/{crate}/proofs/Common.antt"))[name]
 
 
 def names_in(text, known, own, module):

@@ -16,21 +16,18 @@ CRATES = os.path.join(harness.ROOT, "crates")
 LINE, SOURCE, ANSWERS = 160, 800, 60
 
 LONG = {
-    "pg_board/board/Board/enter": 130,
-    "pg_board/board/Board/settle_in": 81,
-    "pg_board/regions/Regions/settle_all": 66,
-    "pg_dominion/area/attract_from": 65,
-    "pg_dominion/small/stays": 61,
-    "pg_dominion/walks/spread": 174,
-    "pg_finders/recursion/begin/begin": 142,
-    "pg_finders/recursion/solver/Solver/enter": 129,
-    "pg_finders/recursion/solver/Solver/resume": 168,
-    "pg_finders/small/find_small": 105,
-    "pg_finders/small/walks/Search/+go_on": 263,
-    "pg_finders/small/walks/Search/choose_known": 114,
-    "pg_finders/small/walks/Search/settle": 116,
-    "pg_finders/solitaire/solve": 82,
-    "pg_workers/jobs/Jobs/close": 95,
+    "pg_board/board/Board/enter": 108,
+    "pg_board/board/Board/settle_in": 72,
+    "pg_dominion/walks/spread": 171,
+    "pg_finders/recursion/begin/begin": 131,
+    "pg_finders/recursion/solver/Solver/enter": 118,
+    "pg_finders/recursion/solver/Solver/resume": 158,
+    "pg_finders/small/find_small": 99,
+    "pg_finders/small/walks/Search/+go_on": 257,
+    "pg_finders/small/walks/Search/choose_known": 109,
+    "pg_finders/small/walks/Search/settle": 111,
+    "pg_finders/solitaire/solve": 73,
+    "pg_workers/jobs/Jobs/close": 85,
 }
 
 

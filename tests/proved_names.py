@@ -20,6 +20,8 @@ CRATES = os.path.join(ROOT, "crates")
 PAGE = os.path.join(ROOT, "docs", "PROVED.md")
 LAW = "a statement without a body"
 EXPORT = 'pub extern "C" '
+# what it hands on is for tests alone
+SUPPORT = "pg_test_support"
 # the program hands nothing on: these files have its runs, and what they stand on
 PROGRAM = [f"pgboard/src/{it}.rt" for it in ("answer", "device", "fault", "reading", "run", "solve", "verdict", "words", "writing")]
 
@@ -165,7 +167,7 @@ def is_export(path, call):
 
 def public_calls():
     """Each public call that has a clause, with its file."""
-    for crate in sorted(os.listdir(CRATES)):
+    for crate in sorted(set(os.listdir(CRATES)) - {SUPPORT}):
         names, open_files = handed_on(crate)
         for path in sorted(glob.glob(os.path.join(CRATES, crate, "src", "**", "*.rt"), recursive=True)):
             path = os.path.relpath(path, CRATES)

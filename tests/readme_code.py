@@ -3,7 +3,7 @@
 
 A block `rust` stands, line by line, in a unit test of its crate, or in a function that a test there calls. Indentation and
 empty lines don't count, the test may have assertions of its own between two lines, and `use` lines may stand anywhere in the
-file, where the crate may be `crate`. A block `c` stands in the C program of README.md, which tests/embed.py compiles and runs. A
+file. A block `c` stands in the C program of README.md, which tests/embed.py compiles and runs. A
 block `sh` is run by tests/examples.py or tests/embed.py, and a block `text` is what one of these prints, or the synopsis that
 tests/help_agrees.py reads. Any other block is refused. Blocks that are changed on purpose, by a word or in their language,
 have to be refused, too. The last line is 'N passed, M failed'.
@@ -84,9 +84,7 @@ def tests_of(crate):
 def rust_fault(page, code):
     """Why the code of a page is in no test."""
     crate = os.path.basename(os.path.dirname(page))
-    # (in the crate itself it is `crate`)
-    forms = [code, re.sub(rf"(?m)^use {crate}::", "use crate::", code)] if crate else []
-    is_there = any(stands_in(form, it) for form in forms for it in tests_of(crate))
+    is_there = crate and any(stands_in(code, it) for it in tests_of(crate))
     return None if is_there else f"no unit test of {crate or 'no crate'} has it"
 
 

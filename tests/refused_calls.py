@@ -4,6 +4,7 @@
 Such a test makes its calls, looks after a refusal that nothing has changed, and makes the call again. So each run passes,
 or ends because memory was refused to what the test needs itself, and says so in one message that no call gives; a failed
 assertion ends it by a signal.
+Some tests differ in one thing, and the first of them needs fewer allocations (`FEWER`): so it is seen which way a call goes.
 Needs cc. The line before the last says how many refusals there were, and the last one is 'N passed, M failed'.
 """
 
@@ -49,6 +50,24 @@ def fault(program, name):
     return None if sum(got[0] == 0 for _, got in answers[:count]) else "each refusal ends the test"
 
 
+# The first test of each row needs fewer allocations than the second and this number more. The games of a row have as many vertices.
+# Lists in order are the game as they stand; others are laid out flat, without a value for each of the 40 vertices; and the searches
+# of a long cycle end before a ranking is made, as it is of a ladder.
+FEWER = {
+    "pg_game_tests_tests": [
+        ("many_lists_in_order_are_a_game_after_a_refusal", "many_lists_with_repeated_successors_are_laid_out_after_a_refusal", 0),
+        ("many_falling_lists_are_laid_out_after_a_refusal", "many_lists_in_order_are_a_game_after_a_refusal", 40),
+    ],
+    "pg_dominion_tests_tests": [("a_long_cycle_is_judged_after_a_refusal", "a_ladder_is_judged_after_a_refusal", 0)],
+}
+
+
+def count_fault(program, fewer, more, room):
+    """Why the one test doesn't need fewer allocations than the other and this number more."""
+    counts = [program.counted([f"tests::memory::{it}"])[1][0] for it in (fewer, more)]
+    return None if 0 < counts[0] < counts[1] + room else f"{counts[0]} allocations, and {counts[1]} in {more}"
+
+
 def checks():
     refusals = 0
     with tempfile.TemporaryDirectory(prefix="pgboard-refused-") as room:
@@ -56,6 +75,8 @@ def checks():
             program = Program(binary, room)
             for name in tests_of(binary):
                 yield f"{os.path.basename(binary)} {name}", fault(program, name)
+            for row in FEWER.get(os.path.basename(binary), []):
+                yield f"{os.path.basename(binary)} {row[0]}: fewer", count_fault(program, *row)
             refusals += program.refusals["REFUSE_ALLOC"]
     print(f"refused: {refusals} allocations of calls")
 

@@ -206,8 +206,8 @@ def restated(items, known):
 
 
 def sources():
-    """The files of the crates and of the crates of their tests."""
-    for crate in [*antt.CRATES, *[f"{it}_tests" for it in antt.CRATES]]:
+    """The files of the crates, of the crates of their tests, and of what these share."""
+    for crate in [*antt.CRATES, *[f"{it}_tests" for it in antt.CRATES], "pg_test_support"]:
         for part in ("src", "specs", "proofs"):
             for kind in ("rt", "antt"):
                 yield from glob.glob(os.path.join(antt.ROOT, "crates", crate, part, "**", f"*.{kind}"), recursive=True)

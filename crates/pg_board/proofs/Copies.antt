@@ -1,17 +1,8 @@
 -- A claim that is good in what a journal leaves unsettled is a dominion after it.
-use Rattle.std.proofs.Common.{◌≡◌, ℕ, inl, inr, length, sym, subst, arith, ltb-true, ◌∙◌, ap, Some}
-use Rattle.std.proofs.Math.Seq.{take-length}
-use Rattle.std.proofs.lemmas.Bool.{or_left, or_right}
-use Rattle.pg_game.specs.declared.player.Player.{Player}
-use Rattle.pg_game.specs.Graph.{Graph, IsGame}
-use Rattle.pg_game.proofs.Edges.{edge_inside}
-use Rattle.pg_game.specs.VertexSet.{In, union}
-use Rattle.pg_game.specs.Kept.{KeptEdge}
-use Rattle.pg_dominion.proofs.Rows.{named_right}
-use Rattle.pg_dominion.specs.Claim.{ClaimRows, named, choice_in, IsGoodIn}
-use Rattle.pg_finders.proofs.Solving.{kept_leads, choice_leads}
-use Rattle.pg_board.specs.State.{State, settled, unsettled, IsLawfulState, IsDominion}
-use Rattle.pg_board.specs.Journal.{Journal, state_of, IsLawful, IsDominionAfter}
+use Rattle.pg_board.proofs.Common.{rules, ◌≡◌, ℕ, inl, inr, length, ltb-true, ◌∙◌, ap, Some, take-length, or_left, or_right, Player, Graph, IsGame, edge_inside}
+use Rattle.pg_board.proofs.Common.{In, union, KeptEdge, named_right, ClaimRows, named, choice_in, IsGoodIn, choice_leads, State, settled, unsettled}
+use Rattle.pg_board.proofs.Common.{IsLawfulState, Journal, state_of, IsLawful, IsDominionAfter}
+use Rattle.pg_finders.proofs.Solving.{kept_leads}
 use Rattle.pg_board.proofs.Numbers.{lawful_now}
 use Rattle.pg_board.proofs.Whole.{part_of, not_to_other, all_of}
 
@@ -34,12 +25,6 @@ module _ (g : Graph) (game : IsGame g) (st : State) (lawful : IsLawfulState g st
         ])
   ]
 
-  pub dominion_from_good : IsDominion g st p rows
-  dominion_from_good = record { shape = good.shape; vertices = good.vertices; good = good.good; closed = closed }
-
 pub dominion_now : (g : Graph) → IsGame g → (j : Journal) → IsLawful g j → (p : Player) (rows : ClaimRows)
     → IsGoodIn g (unsettled g (state_of j)) p rows → IsDominionAfter g j (length j) p rows
-dominion_now g game j lawful p rows good = (
-  omega arith,
-  subst (λ xs. IsDominion g (state_of xs) p rows) (sym (take-length j)) (dominion_from_good g game (state_of j) (lawful_now g j lawful) p rows good),
-)
+dominion_now g game j lawful p rows good = search (rules, take-length, lawful_now, good.shape, good.vertices, good.good, closed)

@@ -1,42 +1,27 @@
 -- The entry of a good rest and of what it attracts.
-use mathlib.Core.Path.{fun_ext}
-use Rattle.std.proofs.Common.{◌≡◌, ℕ, ◌+◌, ◌≤◌, Bool, true, false, [], ◌∷◌, ◌++◌, length, take, drop, refl, sym, ◌∙◌, ap}
-use Rattle.std.proofs.Common.{subst, arith, lt-ltb, length-append, get_or, nat_lt, ◌↔◌, if◌then◌else◌}
-use Rattle.std.proofs.lemmas.List.Sums.{sum_by_push, sum_by-le}
-use Rattle.std.proofs.Math.Seq.{take-append_seam, drop-append_seam, take-length}
-use Rattle.pg_game.specs.declared.player.Player.{Player}
-use Rattle.pg_game.specs.Graph.{Graph, IsGame}
-use Rattle.pg_game.specs.VertexSet.{VertexSet, In, Within, all_vertices, union, members}
-use Rattle.pg_game.specs.Subgame.{IsSubgame}
-use Rattle.pg_game.specs.Attractor.{Attractor}
-use Rattle.pg_dominion.specs.Claim.{ClaimRows, named}
-use Rattle.pg_dominion.specs.Attraction.{AttractInTurn, IsAttraction}
-use Rattle.pg_dominion.proofs.Rows.{named_right}
-use Rattle.pg_board.specs.declared.entry.Entry.{Entry}
-use Rattle.pg_board.specs.State.{State, settled, is_unsettled, unsettled, rest_of, IsGoodOn}
-use Rattle.pg_board.specs.Journal.{Journal, state_of, claimed_rows, attracted_rows, Answers, IsLawful, number_settled}
-use Rattle.pg_board.specs.declared.regions.Regions.{Regions}
-use Rattle.pg_board.specs.private.Regions.{table_state, state_with, AreRegions, IsBoard}
+use Rattle.pg_board.proofs.Common.{rules, ◌≡◌, ℕ, ◌+◌, ◌≤◌, Bool, true, false, [], ◌∷◌, ◌++◌, length, take, drop, refl, sym, ◌∙◌, subst, arith, lt-ltb}
+use Rattle.pg_board.proofs.Common.{length-append, get_or, ◌↔◌, if◌then◌else◌, fun_ext, sum_by_push, take-length, Player, Graph, IsGame, VertexSet, In, Within}
+use Rattle.pg_board.proofs.Common.{all_vertices, union, members, IsSubgame, Attractor, ClaimRows, named, IsAttraction, named_right, Entry, State, settled}
+use Rattle.pg_board.proofs.Common.{unsettled, rest_of, IsGoodOn, Journal, state_of, claimed_rows, Answers, IsLawful, number_settled, Regions, table_state}
+use Rattle.pg_board.proofs.Common.{state_with, AreRegions, IsBoard, All-from_get_or, or_assoc, named-append, open_before, IsGrowing}
+use Rattle.std.proofs.lemmas.List.Sums.{sum_by-le}
+use Rattle.std.proofs.Math.Seq.{take-append_seam, drop-append_seam}
 use Rattle.pg_board.proofs.RestIsGood.{in_rest}
 use Rattle.pg_board.proofs.Push.{state_push}
 use Rattle.pg_board.proofs.Lawful.{lawful_push}
 use Rattle.pg_board.proofs.Numbers.{lawful_now, number_within}
-use Rattle.std.proofs.lemmas.List.Elements.{All-from_get_or}
 use Rattle.std.proofs.lemmas.Bool.{and_from}
-use Rattle.std.proofs.Math.Bool.{or_assoc}
 use Rattle.pg_dominion.specs.Area.{AttractsNoFurther}
 use Rattle.pg_dominion.specs.private.Attracting.{LeadFrom}
-use Rattle.pg_dominion.proofs.Named.{named-append}
 use Rattle.pg_dominion.proofs.Attracting.{grown_attraction, grown_rows}
 use Rattle.pg_dominion.proofs.Extending.{lead_none}
-use Rattle.pg_board.specs.private.Growth.{open_before, IsGrowing, Grows}
+use Rattle.pg_board.specs.private.Growth.{Grows}
 use Rattle.pg_board.proofs.Whole.{whole}
 
 -- a rest lies in the unsettled part
 pub rest_inside : (g : Graph) (st : State) (p : Player) (R : ClaimRows) → IsGoodOn g st p R → rest_of st R ≡ R → Within (named R) (unsettled g st)
 rest_inside g st p R good twice v i =
-    and_from (nat_lt v (length g)) (is_unsettled (st v)) (lt-ltb v (length g) (named_right g p R v good.shape.right.each i).vertex)
-    (in_rest st R v (subst (λ (xs : ClaimRows). In (named xs) v) (sym twice) i)).1
+    search (rules, (named_right g p R v good.shape.right.each i).vertex, and_from, lt-ltb, named_right, good.shape.right.each, in_rest)
 
 -- the entry of a claim that is its own rest, on a lawful journal: its rows, and behind them what they attract
 pub record Enters (g : Graph) (j : Journal) (p : Player) (R A : ClaimRows) (e : Entry) : Type 0 where
@@ -56,9 +41,6 @@ module _ (g : Graph) (j : Journal) (p : Player) (R A : ClaimRows) (e : Entry) (h
   claimed_are : claimed_rows e ≡ R
   claimed_are = rw (h.claimed, h.rows) (take-append_seam R A)
 
-  attracted_are : attracted_rows e ≡ A
-  attracted_are = rw (h.claimed, h.rows) (drop-append_seam R A)
-
   all : IsAttraction g p (all_vertices g) (union (settled st p) (named R)) A
   all = whole g h.game st (lawful_now g j h.lawful) p (named R) (rest_inside g st p R h.good h.twice) A h.attraction
 
@@ -74,8 +56,7 @@ module _ (g : Graph) (j : Journal) (p : Player) (R A : ClaimRows) (e : Entry) (h
     claimed = rw (h.claimed, h.rows) (omega (arith, length-append R A));
     rest = claimed_are ∙ sym h.twice;
     exact = λ v. subst (λ (xs : ClaimRows). Exact xs v) (sym claimed_are) (λ i. (all.exact v).0 (sym (names v) ∙ i), λ i. names v ∙ (all.exact v).1 i);
-    turns = subst (λ (xs : ClaimRows). AttractInTurn g p (all_vertices g) (union (settled st p) (named xs)) (attracted_rows e)) (sym claimed_are)
-        (subst (λ (xs : ClaimRows). AttractInTurn g p (all_vertices g) (union (settled st p) (named R)) xs) (sym attracted_are) all.turns);
+    turns = search (rules, claimed_are, all.turns, h.claimed, drop-append_seam);
   }
 
   pub lawful_more : IsLawful g (j ++ e ∷ [])
@@ -86,12 +67,6 @@ module _ (g : Graph) (j : Journal) (p : Player) (R A : ClaimRows) (e : Entry) (h
 
   pub number_fits : number_settled j + length e.rows ≤ length g
   number_fits = let n = number_within g (j ++ e ∷ []) lawful_more in omega (arith, number_more)
-
-  pub state_more : (v : ℕ) → state_with st p e.rows v ≡ state_of (j ++ e ∷ []) v
-  state_more v = sym (state_push j e v ∙ rw h.player refl)
-
-pub open_set : (g : Graph) (j : Journal) (r : Regions) (number : ℕ) → IsBoard g j r number → members r.unsettled ≡ unsettled g (state_of j)
-open_set g j r number b = fun_ext (λ v. b.regions.mask v ∙ ap (λ (s : State). unsettled g s v) (fun_ext b.state))
 
 -- a claim that is its own rest, before it is entered
 pub record IsEntering (g : Graph) (j : Journal) (r : Regions) (number : ℕ) (p : Player) (R : ClaimRows) : Type 0 where
@@ -115,7 +90,7 @@ pub record HasRows (e : Entry) (p : Player) (R rows : ClaimRows) : Type 0 where
 
 module _ {g : Graph} {j : Journal} {r : Regions} {number : ℕ} {p : Player} {R : ClaimRows} (q : IsEntering g j r number p R) where
   opened : members r.unsettled ≡ unsettled g (state_of j)
-  opened = open_set g j r number q.board
+  opened = search (rules, q.board)
 
   pub board_subgame : IsSubgame g (members r.unsettled)
   board_subgame = subst (λ (U : VertexSet). IsSubgame g U) (sym opened) (lawful_now g j q.board.lawful).open_part
@@ -126,16 +101,7 @@ module _ {g : Graph} {j : Journal} {r : Regions} {number : ℕ} {p : Player} {R 
   module _ {r2 : Regions} {rows : ClaimRows} (grown : HasGrown g p r r2 R rows) where
     module _ (e : Entry) (has : HasRows e p R rows) where
       enters : Enters g j p R (drop (length R) rows) e
-      enters = record {
-        game = q.game;
-        lawful = q.board.lawful;
-        good = q.good;
-        twice = q.twice;
-        attraction = subst (λ (U : VertexSet). IsAttraction g p U (named R) (drop (length R) rows)) opened grown.attraction;
-        player = has.player;
-        claimed = has.claimed;
-        rows = has.rows_are ∙ grown.parts;
-      }
+      enters = search (rules, q.game, q.board.lawful, q.good, q.twice, opened, grown.attraction, has.claimed, has.rows_are, grown.parts)
 
       pub entry_answers : Answers g (state_of j) p R e
       entry_answers = answered g j p R (drop (length R) rows) e enters
@@ -147,9 +113,7 @@ module _ {g : Graph} {j : Journal} {r : Regions} {number : ℕ} {p : Player} {R 
       board_entered n size = record {
         lawful = lawful_more g j p R (drop (length R) rows) e enters;
         regions = grown.regions;
-        state =
-            λ v. subst (λ (xs : ClaimRows). table_state r2.table.items v ≡ state_with (table_state r.table.items) p xs v) (sym has.rows_are) (grown.tells v)
-            ∙ (ap (λ (s : State). state_with s p e.rows v) (fun_ext q.board.state) ∙ state_more g j p R (drop (length R) rows) e enters v);
+        state = λ v. search (rules, fun_ext q.board.state, has.rows_are, grown.tells, q.board.state, enters, state_push);
         number_is = (let m = number_more g j p R (drop (length R) rows) e enters in omega (arith, q.board.number_is));
       }
 
@@ -171,16 +135,11 @@ IsGrowing-start g r rows room regions none size = subst (λ (xs : ClaimRows). Is
     ones b = if b then 1 else 0
 
     at_most : (b : Bool) → ones b ≤ 1
-    at_most true = omega arith
-    at_most false = omega arith
+    at_most b = search rules
 
 -- more room does
 pub IsGrowing-more : (g : Graph) (r : Regions) (rows : ClaimRows) (n m : ℕ) → n ≤ m → IsGrowing g r rows n → IsGrowing g r rows m
-IsGrowing-more g r rows n m l growing = record {
-  regions = growing.regions;
-  apart = growing.apart;
-  fits = (let h = growing.fits in omega (arith, l, h));
-}
+IsGrowing-more g r rows n m l growing = search (rules, growing.regions, growing.apart, growing.fits)
 
 -- the claim's rows are settled, and then what they attract
 module _ (g : Graph) (p : Player) (r1 r2 : Regions) (R rows : ClaimRows) (grows : Grows g p r1 R r2 rows) where

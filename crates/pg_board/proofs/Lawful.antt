@@ -1,17 +1,8 @@
 -- A lawful journal with an entry that answers a good claim is lawful.
-use Rattle.std.proofs.Common.{◌≡◌, ℕ, zero, suc, ◌<◌, ◌≤◌, ◌⊎◌, inl, inr, [], ◌∷◌, ◌++◌, length, take, refl, sym, ◌∙◌}
-use Rattle.std.proofs.Common.{ap, subst, arith, Option, Some, slice_get, nat_eq}
-use Rattle.std.specs.List.{IsDistinct}
-use Rattle.std.proofs.lemmas.List.{take-append-le, append-nil, map-append}
+use Rattle.pg_board.proofs.Common.{rules, ◌≡◌, ℕ, zero, suc, ◌≤◌, ◌⊎◌, inl, inr, [], ◌∷◌, ◌++◌, length, take, refl, sym, ◌∙◌, ap, subst, arith, Some, slice_get}
+use Rattle.pg_board.proofs.Common.{nat_eq, IsDistinct, take-append-le, append-nil, map-append, slice_get_within, take-length, Player, Graph, ClaimRows, Entry}
+use Rattle.pg_board.proofs.Common.{State, IsGoodOn, is_unsettled, Journal, state_of, claimed_rows, Answers, IsLawful}
 use Rattle.std.proofs.lemmas.Grind.{flat_map-append}
-use Rattle.std.proofs.lemmas.Option.{slice_get_within}
-use Rattle.std.proofs.Math.Seq.{take-length}
-use Rattle.pg_game.specs.declared.player.Player.{Player}
-use Rattle.pg_game.specs.Graph.{Graph}
-use Rattle.pg_dominion.specs.Claim.{ClaimRows}
-use Rattle.pg_board.specs.declared.entry.Entry.{Entry}
-use Rattle.pg_board.specs.State.{State, IsGoodOn, IsLawfulState, is_unsettled}
-use Rattle.pg_board.specs.Journal.{Journal, state_of, claimed_rows, Answers, IsLawful}
 use Rattle.pg_board.proofs.RestIsGood.{vertices}
 use Rattle.pg_board.proofs.Distinct.{AllRows, distinct-append, each_settled}
 use Rattle.pg_board.proofs.Push.{IsAdded, lawful_state, own_claim_good, own_claim_answered, once_rows, each_open}
@@ -35,31 +26,18 @@ module _ {g : Graph} {j : Journal} {p : Player} {rows : ClaimRows} {e : Entry} (
     good = each_entry (λ st f. IsGoodOn g st f.player (claimed_rows f)) added.lawful.good (own_claim_good added);
     answered = each_entry (λ st f. Answers g st f.player (claimed_rows f) f) added.lawful.answered (own_claim_answered added);
     states = λ k h. elim (split_le k (length j) (subst (λ n. k ≤ n) (length-snoc j e) h)) [
-      | inl a ↦ subst (λ xs. IsLawfulState g (state_of xs)) (sym (take-append-le k j (e ∷ []) a)) (added.lawful.states k a)
-      | inr a ↦ subst (λ xs. IsLawfulState g (state_of xs)) (sym (whole k a)) (lawful_state added)
+      | inl a ↦ rw (take-append-le k j (e ∷ []) a) (added.lawful.states k a)
+      | inr a ↦ rw (a ∙ sym (length-snoc j e), take-length (j ++ e ∷ [])) (lawful_state added)
     ];
   }
     where
-      before : (k : ℕ) → k < length j → take k (j ++ e ∷ []) ≡ take k j
-      before k l = take-append-le k j (e ∷ []) (omega arith)
-
-      at_end : (k : ℕ) → k ≡ length j → take k (j ++ e ∷ []) ≡ j
-      at_end k a = ap (λ n. take n (j ++ e ∷ [])) a ∙ (take-append-le (length j) j (e ∷ []) (omega arith) ∙ take-length j)
-
-      whole : (k : ℕ) → k ≡ suc (length j) → take k (j ++ e ∷ []) ≡ j ++ e ∷ []
-      whole k a = ap (λ n. take n (j ++ e ∷ [])) (a ∙ sym (length-snoc j e)) ∙ take-length (j ++ e ∷ [])
-
       -- what holds of each old entry on its state, and of the new one
       each_entry : (P : State → Entry → Type 0) → ((k : ℕ) (f : Entry) → slice_get j k ≡ Some f → P (state_of (take k j)) f) → P (state_of j) e
           → (k : ℕ) (f : Entry) → slice_get (j ++ e ∷ []) k ≡ Some f → P (state_of (take k (j ++ e ∷ []))) f
-      each_entry P old new k f h = elim (last_cases j e f k h) [
-        | inl a ↦ subst (λ xs. P (state_of xs) f) (sym (before k (slice_get_within j k f a))) (old k f a)
-        | inr (a, b) ↦ subst (λ x. P (state_of (take k (j ++ e ∷ []))) x) b (subst (λ xs. P (state_of xs) e) (sym (at_end k a)) new)
-      ]
+      each_entry P old new k f h = search (rules, last_cases, take-append-le, slice_get_within, take-length)
 
       split_le : (k n : ℕ) → k ≤ suc n → (k ≤ n) ⊎ (k ≡ suc n)
       split_le k n h = grind arith
 
       all_vertices_are : vertices (AllRows (j ++ e ∷ [])) ≡ vertices (AllRows j) ++ vertices e.rows
-      all_vertices_are = ap vertices (flat_map-append (λ (x : Entry). x.rows) j (e ∷ []) ∙ ap (λ ys. AllRows j ++ ys) (append-nil e.rows))
-          ∙ map-append (λ (x : ℕ × Option ℕ). x.0) (AllRows j) e.rows
+      all_vertices_are = search (rules, flat_map-append, append-nil, map-append)

@@ -1,3 +1,4 @@
+pub mod Common
 pub mod RestIsGood
 pub mod Turns
 pub mod Push

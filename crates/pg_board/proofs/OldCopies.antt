@@ -1,38 +1,23 @@
 -- A claim that was a dominion after some entries is posted, or it is stale: it is refused for no other reason.
-use mathlib.Core.Path.{fun_ext}
-use Rattle.std.proofs.Common.{◌≡◌, ℕ, ◌+◌, ◌||◌, ◌↔◌, inl, inr, [], ◌∷◌, length, take, refl, sym, ◌∙◌, ap, subst, arith, Ok}
-use Rattle.std.proofs.Common.{Err, Result, length-take, drop, IfOk, IfErr, OnErr}
-use Rattle.std.proofs.lemmas.List.{take-append-drop}
-use Rattle.std.proofs.Math.Bool.{or-false}
-use Rattle.pg_game.specs.declared.player.Player.{Player}
-use Rattle.pg_game.specs.Player.{opponent}
-use Rattle.pg_game.specs.Graph.{Graph, IsGame}
-use Rattle.pg_game.specs.VertexSet.{VertexSet, In, all_vertices, union}
-use Rattle.pg_game.specs.Attractor.{Attractor}
+use Rattle.pg_board.proofs.Common.{rules, ◌≡◌, ℕ, ◌+◌, ◌||◌, ◌↔◌, inl, inr, [], ◌∷◌, length, take, refl, sym, ◌∙◌, ap, subst, arith, Err, Result, drop, fun_ext}
+use Rattle.pg_board.proofs.Common.{take-append-drop, or-false, Player, opponent, Graph, IsGame, VertexSet, In, all_vertices, union, Attractor, is_same, Claim}
+use Rattle.pg_board.proofs.Common.{ClaimRows, named, choice_in, AreRight, IsClaimFault, claim_rows, Posted, Refusal, Regions, IsBoard, State, settled, rest_of}
+use Rattle.pg_board.proofs.Common.{IsGoodOn, Journal, state_of, IsLawful, IsDominionAfter, Posts, Play, Adds, AnswersDominion, SettlesUnlessMemory, Refuses}
+use Rattle.pg_board.proofs.Common.{refusal_of}
+use Rattle.std.proofs.Common.{Ok, length-take, IfOk, IfErr, OnErr}
 use Rattle.pg_game.proofs.Rotate.{none_from_good}
-use Rattle.pg_game.proofs.Players.{is_same}
-use Rattle.pg_dominion.specs.declared.claim.Claim.{Claim}
 use Rattle.pg_dominion.specs.declared.claim.ClaimFault.{ClaimFault}
-use Rattle.pg_dominion.specs.declared.claim.ClaimFault.TheVariants as claim_fault
-use Rattle.pg_dominion.specs.Claim.{ClaimRows, named, choice_in, AreRight, HasShape, IsFirstWrongRow}
-use Rattle.pg_dominion.specs.Fault.{IsClaimFault}
-use Rattle.pg_dominion.specs.Checked.{CheckedClaim, claim_rows, AgreesWithGame}
+use Rattle.pg_dominion.specs.Claim.{HasShape, IsFirstWrongRow}
+use Rattle.pg_dominion.specs.Checked.{CheckedClaim, AgreesWithGame}
 use Rattle.pg_dominion.proofs.Shape.{AreRight-front}
-use Rattle.pg_board.specs.declared.entry.Posted.{Posted}
-use Rattle.pg_board.specs.declared.refusal.Refusal.{Refusal}
-use Rattle.pg_board.specs.declared.regions.Regions.{Regions}
-use Rattle.pg_board.specs.private.Regions.{IsBoard}
-use Rattle.pg_board.specs.declared.refusal.Refusal.TheVariants as refusal
-use Rattle.pg_board.specs.State.{State, settled, rest_of, IsGoodOn}
-use Rattle.pg_board.specs.Journal.{Journal, state_of, IsLawful, IsDominionAfter}
-use Rattle.pg_board.specs.Order.{Posts}
-use Rattle.pg_board.specs.Play.{Play}
-use Rattle.pg_board.specs.Post.{Adds, AnswersDominion, SettlesDominion, SettlesUnlessMemory}
-use Rattle.pg_board.specs.Refusal.{Refuses, refusal_of, IsOfState, RefusesChecked}
+use Rattle.pg_board.specs.Post.{SettlesDominion}
+use Rattle.pg_board.specs.Refusal.{IsOfState, RefusesChecked}
 use Rattle.pg_board.proofs.Push.{IsAdded, theirs}
 use Rattle.pg_board.proofs.Lawful.{lawful_push}
 use Rattle.pg_board.proofs.Dominion.{never_lost, stays_closed}
 use Rattle.pg_board.proofs.Order.{Target, order}
+use Rattle.pg_dominion.specs.declared.claim.ClaimFault.TheVariants as claim_fault
+use Rattle.pg_board.specs.declared.refusal.Refusal.TheVariants as refusal
 
 shape_is_right : (g : Graph) (p : Player) (rows : ClaimRows) (i : ℕ) → HasShape g p rows → IsFirstWrongRow g p rows i → ⊥
 shape_is_right g p rows i shape (inl (e, z)) = let n = shape.nonempty in let l : length rows ≡ 0 = ap (λ (xs : ClaimRows). length xs) e in omega arith
@@ -84,12 +69,6 @@ module _ (x : Play) (stands : Stands x) (claim : Claim) (k : ℕ) (d : IsDominio
   own new posts v = subst (λ (T : VertexSet). In (settled (state_of new) p) v ↔ Attractor g p (all_vertices g) T v) target_is
       ((order g stands.game old new (claim ∷ []) stands.lawful ((k, d), tt) posts).1 p v)
 
-  settles_stale : rest_of (state_of old) rows ≡ [] → (new : Play) → new ≡ x → SettlesDominion x new p rows
-  settles_stale none new same = subst (λ (y : Play). SettlesDominion x y p rows) (sym same) (record {
-    own = own old (inl (none, refl));
-    other = λ v. refl;
-  })
-
   settles_posted : (new : Play) (worker : ℕ) (posted : Posted) → IsGoodOn g (state_of old) p rows → Adds x new worker claim posted
       → SettlesDominion x new p rows
   settles_posted new worker posted good a = record {
@@ -99,29 +78,22 @@ module _ (x : Play) (stands : Stands x) (claim : Claim) (k : ℕ) (d : IsDominio
   }
 
   claimed_size : (worker : ℕ) (new : Play) (posted : Posted) → Adds x new worker claim posted → posted.claimed ≡ length (rest_of (state_of old) rows)
-  claimed_size worker new posted a =
-      let e : length (take a.entry.claimed a.entry.rows) ≡ length (rest_of (state_of old) rows) = ap (λ (xs : ClaimRows). length xs) a.answers.rest in
-      let l = a.answers.claimed in
-      let c = a.claimed in
-      omega (arith, length-take a.entry.claimed a.entry.rows)
+  claimed_size worker new posted a = search (rules, a.entry.claimed, a.answers.rest, a.answers.claimed, a.claimed, length-take)
 
   pub old_copy : (new : Play) (worker : ℕ) (result : Result Posted Refusal) → IsAnswered x new worker claim result
       → AnswersDominion (state_of old) rows result × SettlesUnlessMemory x new p rows result
   old_copy new worker (Ok posted) h = (claimed_size worker new posted h.posted.1, settles_posted new worker posted h.posted.0 h.posted.1)
   old_copy new worker (Err refusal.Memory) h = (tt, tt)
-  old_copy new worker (Err refusal.Stale) h = (h.refused.2, settles_stale h.refused.2 new h.unchanged)
+  old_copy new worker (Err refusal.Stale) h = search (rules, h.refused.2, h.unchanged, own)
   old_copy new worker (Err (refusal.Claim fault)) h = absurd (no_fault fault h.refused.0 h.refused.1)
   old_copy new worker (Err (refusal.Foreign v)) h = absurd h.refused
-  old_copy new worker (Err (refusal.Lost v)) h =
-      absurd (let l = h.refused.1.has in let f = never_lost g old stands.lawful k p rows d v l.0 in let t = l.1 in cc (t, f))
+  old_copy new worker (Err (refusal.Lost v)) h = search (rules, h.refused.1.has, never_lost, stands.lawful, h.refused.1.has.0, h.refused.1.has.1)
   old_copy new worker (Err (refusal.Open v w)) h = absurd (let e = h.refused.2.edge in e.1 (stays_closed g old stands.lawful k p rows d v w e.0))
 
 -- what is answered where the check of a claim failed
 pub refused_check : (g : Graph) (st : State) (p : Player) (rows : ClaimRows) (fault : ClaimFault) → IsClaimFault g p rows fault
     → Refuses g st p rows (refusal_of fault)
-refused_check g st p rows (claim_fault.Shape i) h = (h, λ e. cc e)
-refused_check g st p rows (claim_fault.Cycle v) h = (h, λ e. cc e)
-refused_check g st p rows claim_fault.Memory h = tt
+refused_check g st p rows fault h = search rules
 
 -- the journal is lawful after a post
 pub lawful_after : {x new : Play} {worker : ℕ} {claim : Claim} (result : Result Posted Refusal) → Stands x → IsAnswered x new worker claim result
@@ -130,17 +102,6 @@ lawful_after (Ok posted) stands h graph =
     rw (graph, h.posted.1.journal) (lawful_push (added_by stands h.posted.0 h.posted.1))
 lawful_after (Err e) stands h graph = subst (λ (y : Play). IsLawful y.graph y.journal) (sym h.unchanged) stands.lawful
 
--- a refusal of the claim that lies in the state is one of the checked claim
-pub refused_checked : (g : Graph) (st : State) (c : CheckedClaim) (e : Refusal) → AgreesWithGame g c.player c.rows → IsOfState e
-    → Refuses g st c.player (claim_rows c.player c.rows) e → RefusesChecked g st c e
-refused_checked g st c (refusal.Claim fault) a o r = absurd o
-refused_checked g st c (refusal.Foreign v) a o r = absurd o
-refused_checked g st c (refusal.Lost v) a o r = (o, a, r)
-refused_checked g st c refusal.Stale a o r = (o, a, r)
-refused_checked g st c (refusal.Open v w) a o r = (o, a, r)
-refused_checked g st c refusal.Memory a o r = tt
-
 pub checked_refusal : (g : Graph) (st : State) (c : CheckedClaim) → AgreesWithGame g c.player c.rows → (r : Result Posted Refusal) → IfErr r IsOfState
     → IfErr r (λ e. Refuses g st c.player (claim_rows c.player c.rows) e) → IfErr r (λ e. RefusesChecked g st c e)
-checked_refusal g st c a (Ok posted) o r = tt
-checked_refusal g st c a (Err e) o r = refused_checked g st c e a o r
+checked_refusal g st c a r o r' = search rules

@@ -1,22 +1,11 @@
 -- The order in which claims that were dominions are posted has no effect on the regions.
-use Rattle.std.proofs.Common.{◌≡◌, ℕ, ◌<◌, ◌≤◌, Bool, true, false, ◌||◌, ◌↔◌, inl, inr, List, [], ◌∷◌, ◌++◌, length, refl}
-use Rattle.std.proofs.Common.{sym, ◌∙◌, subst, arith, if◌then◌else◌}
-use Rattle.std.proofs.lemmas.List.{take-append-le}
-use Rattle.std.proofs.lemmas.Bool.{or_cases, or_left, or_right}
-use Rattle.std.proofs.Math.Bool.{or-false}
-use Rattle.pg_game.specs.declared.player.Player.{Player}
-use Rattle.pg_game.specs.Player.{opponent, same_player}
-use Rattle.pg_game.specs.Graph.{Graph, IsGame}
-use Rattle.pg_game.specs.VertexSet.{VertexSet, In, Within, all_vertices, no_vertices, union}
-use Rattle.pg_game.specs.Attractor.{Attractor}
-use Rattle.pg_game.proofs.Attract.{target_attracted, Attractor-monotone, Attractor-idempotent}
-use Rattle.pg_game.proofs.Players.{own_or_other, same_is, is_same}
-use Rattle.pg_dominion.specs.declared.claim.Claim.{Claim}
-use Rattle.pg_dominion.specs.Claim.{named}
-use Rattle.pg_board.specs.declared.entry.Entry.{Entry}
-use Rattle.pg_board.specs.State.{settled, is_unsettled, rest_of, IsDominion}
-use Rattle.pg_board.specs.Journal.{Journal, state_of, claimed_rows, Answers, IsLawful, IsDominionAfter}
-use Rattle.pg_board.specs.Order.{Posts, claimed_by, WereDominions}
+use Rattle.pg_board.proofs.Common.{rules, ◌≡◌, ℕ, ◌<◌, ◌≤◌, true, false, ◌↔◌, inl, inr, List, [], ◌∷◌, ◌++◌, length, refl, sym, ◌∙◌, subst, arith}
+use Rattle.pg_board.proofs.Common.{if◌then◌else◌, take-append-le, or_cases, or_left, or_right, or-false, Player, opponent, same_player, Graph, IsGame}
+use Rattle.pg_board.proofs.Common.{VertexSet, In, Within, all_vertices, no_vertices, union, Attractor, target_attracted, Attractor-idempotent, own_or_other}
+use Rattle.pg_board.proofs.Common.{same_is, is_same, Claim, named, Entry, settled, is_unsettled, rest_of, IsDominion, Journal, state_of, claimed_rows, Answers}
+use Rattle.pg_board.proofs.Common.{IsLawful, IsDominionAfter, Posts}
+use Rattle.pg_game.proofs.Attract.{Attractor-monotone}
+use Rattle.pg_board.specs.Order.{claimed_by, WereDominions}
 use Rattle.pg_board.proofs.RestIsGood.{in_rest}
 use Rattle.pg_board.proofs.Numbers.{lawful_now}
 use Rattle.pg_board.proofs.Push.{IsAdded, ours_named, theirs}
@@ -56,11 +45,7 @@ still_dominions g old e (c ∷ cs) h = (still_dominion g old e c h.0, still_domi
 
 -- a vertex of the claim, where the claim is the player's
 own_claim : (q : Player) (c : Claim) (v : ℕ) → In (of_claim q c) v → (c.player ≡ q) × In (named c.rows) v
-own_claim q c v i = go (same_player c.player q) refl
-  where
-    go : (b : Bool) → same_player c.player q ≡ b → (c.player ≡ q) × In (named c.rows) v
-    go true e = (same_is c.player q e, (let f : named c.rows v ≡ true = rw e at i in f))
-    go false e = absurd (let f : false ≡ true = rw e at i in cc f)
+own_claim q c v i = search (rules, same_is)
 
 in_settled : (q : Player) (old : Journal) (cs : List Claim) (v : ℕ) → In (settled (state_of old) q) v → In (Target q old cs) v
 in_settled q old cs v i = or_left (settled (state_of old) q v) (claimed_by q cs v) i
@@ -68,19 +53,13 @@ in_settled q old cs v i = or_left (settled (state_of old) q v) (claimed_by q cs 
 in_claims : (q : Player) (old : Journal) (cs : List Claim) (v : ℕ) → In (claimed_by q cs) v → In (Target q old cs) v
 in_claims q old cs v i = or_right (settled (state_of old) q v) (claimed_by q cs v) i
 
-in_first : (q : Player) (old : Journal) (c : Claim) (cs : List Claim) (v : ℕ) → In (of_claim q c) v → In (Target q old (c ∷ cs)) v
-in_first q old c cs v i = in_claims q old (c ∷ cs) v (or_left (of_claim q c v) (claimed_by q cs v) i)
-
 in_later : (q : Player) (old : Journal) (c : Claim) (cs : List Claim) (v : ℕ) → In (claimed_by q cs) v → In (Target q old (c ∷ cs)) v
 in_later q old c cs v i = in_claims q old (c ∷ cs) v (or_right (of_claim q c v) (claimed_by q cs v) i)
 
 -- a set into which the settled vertices and those of the claims lie has the target
 from_target : (q : Player) (old : Journal) (c : Claim) (cs : List Claim) (S : VertexSet) → Within (settled (state_of old) q) S → Within (of_claim q c) S
     → Within (claimed_by q cs) S → Within (Target q old (c ∷ cs)) S
-from_target q old c cs S a b d v i = elim (or_cases (settled (state_of old) q v) (of_claim q c v || claimed_by q cs v) i) [
-  | inl x ↦ a v x
-  | inr x ↦ elim (or_cases (of_claim q c v) (claimed_by q cs v) x) [ inl y ↦ b v y | inr y ↦ d v y ]
-]
+from_target q old c cs S a b d v i = search (rules, or_cases)
 
 -- each set lies in what the other attracts, so both attract the same
 abbrev SameAttractor : Graph → Player → VertexSet → VertexSet → Type 0
@@ -132,24 +111,15 @@ module _ (g : Graph) (game : IsGame g) where
     other = theirs added
 
     into : (v : ℕ) → p ≡ q → In Start v → In (Target q old (c ∷ cs)) v
-    into v same i = elim (or_cases (settled (state_of old) p v) (named (claimed_rows e) v) i) [
-      | inl a ↦ in_settled q old (c ∷ cs) v (subst (λ x. In (settled (state_of old) x) v) same a)
-      | inr a ↦ in_first q old c cs v
-          (let n = (in_rest (state_of old) c.rows v (subst (λ xs. In (named xs) v) h.answers.rest a)).0 in
-          let y : same_player p q ≡ true = is_same p q same in
-          rw y n)
-    ]
+    into v same i = search (rules, or_cases, in_settled, in_rest, h.answers.rest, is_same, in_claims, or_left)
 
     from_settled : (v : ℕ) → In (settled (state_of longer) q) v → Attractor g q (all_vertices g) (Target q old (c ∷ cs)) v
     from_settled v a = elim (own_or_other q p) [
       | inl same ↦
-          (let a' : In (settled (state_of longer) p) v = subst (λ x. In (settled (state_of longer) x) v) same a in
-          let b = (h.answers.exact v).0 (subst (λ X. In X v) ours a') in
-          let b' : Attractor g q (all_vertices g) Start v = subst (λ x. Attractor g x (all_vertices g) Start v) (sym same) b in
-          Attractor-monotone g q (all_vertices g) Start (Target q old (c ∷ cs)) (λ x i. into x (sym same) i) v b')
+          (let b = (h.answers.exact v).0 (subst (λ X. In X v) ours (rw same at a)) in
+          Attractor-monotone g q (all_vertices g) Start (Target q old (c ∷ cs)) (λ x i. into x (sym same) i) v (rw same b))
       | inr same ↦
-          (let a' : In (settled (state_of longer) (opponent p)) v = subst (λ x. In (settled (state_of longer) x) v) same a in
-          let b : In (settled (state_of old) q) v = subst (λ x. In (settled (state_of old) x) v) (sym same) (subst (λ X. In X v) other a') in
+          (let b : In (settled (state_of old) q) v = rw same (subst (λ X. In X v) other (rw same at a)) in
           target_attracted g q (all_vertices g) (Target q old (c ∷ cs)) v (in_settled q old (c ∷ cs) v b))
     ]
 
@@ -158,8 +128,7 @@ module _ (g : Graph) (game : IsGame g) where
         let o = own_claim q c v b in
         elim (ours_or_open g old h.lawful h.was.0 p c.rows h.was.1 v o.1 (is_unsettled (state_of old v)) refl) [
           | inl r ↦
-              (let n : In (named (claimed_rows e)) v = subst (λ xs. In (named xs) v) (sym h.answers.rest) r in
-              let t : In Start v = or_right (settled (state_of old) p v) (named (claimed_rows e) v) n in
+              (let t : In Start v = or_right (settled (state_of old) p v) (named (claimed_rows e) v) (subst (λ xs. In (named xs) v) (sym h.answers.rest) r) in
               let i = (h.answers.exact v).1 (target_attracted g p (all_vertices g) Start v t) in
               subst (λ x. In (settled (state_of longer) x) v) o.0 (subst (λ X. In X v) (sym ours) i))
           | inr s ↦ stays_settled old (e ∷ []) q v (subst (λ x. In (settled (state_of old) x) v) o.0 s)

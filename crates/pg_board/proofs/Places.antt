@@ -1,12 +1,10 @@
 -- Rows by their place in the list.
-use Rattle.std.proofs.Common.{◌≡◌, ℕ, zero, suc, ◌<◌, ◌≤◌, Bool, true, false, inl, inr, [], ◌∷◌, length, get_or, take, refl}
-use Rattle.std.proofs.Common.{eq-or-lt_of_le, sym, ◌∙◌, ap, arith, Option, None, ◌==◌, nat_eq}
-use Rattle.std.specs.List.{IsDistinct}
-use Rattle.std.specs.List.Sorted.{IsStrictlyIncreasing}
-use Rattle.std.proofs.lemmas.Bool.{eqb-true, eq-eqb, false_from_ne_true, or_right}
-use Rattle.std.proofs.lemmas.List.{get_or-map, get_or-take, length-map, length-take}
-use Rattle.std.proofs.lemmas.Map.Keys.{apart_from_distinct, sorted_from_strictly_increasing, below_from_sorted}
-use Rattle.pg_dominion.specs.Claim.{ClaimRows, named}
+use Rattle.pg_board.proofs.Common.{rules, ◌≡◌, ℕ, zero, suc, ◌<◌, ◌≤◌, Bool, true, false, [], ◌∷◌, length, get_or, take, refl, sym, ◌∙◌, ap, arith, Option}
+use Rattle.pg_board.proofs.Common.{None, ◌==◌, nat_eq, IsDistinct, IsStrictlyIncreasing, eqb-true, eq-eqb, false_from_ne_true, or_right, length-map}
+use Rattle.pg_board.proofs.Common.{sorted_from_strictly_increasing, below_from_sorted, ClaimRows, named}
+use Rattle.std.proofs.Common.{eq-or-lt_of_le}
+use Rattle.std.proofs.lemmas.List.{get_or-map, get_or-take, length-take}
+use Rattle.std.proofs.lemmas.Map.Keys.{apart_from_distinct}
 use Rattle.pg_board.proofs.RestIsGood.{vertices}
 
 abbrev pub row_at : ClaimRows → ℕ → ℕ × Option ℕ
@@ -41,10 +39,7 @@ rises rows i k rising l m =
 
 pub rises_or : (rows : ClaimRows) (i k : ℕ) → IsStrictlyIncreasing (vertices rows) → i ≤ k → k < length rows
     → (row_at rows i).0 ≤ (row_at rows k).0
-rises_or rows i k rising l m = elim (eq-or-lt_of_le l) [
-  | inl e ↦ rw e (omega arith)
-  | inr less ↦ (let h = rises rows i k rising less m in omega arith)
-]
+rises_or rows i k rising l m = search (rules, eq-or-lt_of_le, rises)
 
 -- no earlier row names the vertex of a row
 pub fresh_at : (rows : ClaimRows) (i : ℕ) → IsDistinct nat_eq (vertices rows) → i < length rows → named (take i rows) (row_at rows i).0 ≡ false
@@ -55,6 +50,4 @@ fresh_at rows i distinct l = false_from_ne_true (named (take i rows) (row_at row
     let apart = apart_from_distinct nat_eq (vertices rows) q.0 i 0 distinct less (omega (arith, length-map rows (λ (r : ℕ × Option ℕ). r.0))) in
     let e : get_or (vertices rows) q.0 0 ≡ get_or (vertices rows) i 0 =
     vertex_at rows q.0 (omega arith) ∙ (ap (λ (r : ℕ × Option ℕ). r.0) (sym same) ∙ (q.2 ∙ sym (vertex_at rows i l))) in
-    let yes' : nat_eq (get_or (vertices rows) q.0 0) (get_or (vertices rows) i 0) ≡ true =
-    eq-eqb (get_or (vertices rows) q.0 0) (get_or (vertices rows) i 0) e in
-    cc (apart, yes')))
+    cc (apart, eq-eqb (get_or (vertices rows) q.0 0) (get_or (vertices rows) i 0) e)))

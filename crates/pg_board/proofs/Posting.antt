@@ -1,32 +1,14 @@
 -- What the checks of a claim against the state say together.
-use mathlib.Core.Path.{fun_ext}
-use Rattle.std.proofs.Common.{◌≡◌, ℕ, ◌<◌, ◌≤◌, Bool, true, false, length, refl, sym, ◌∙◌, ap, subst, arith, Option, nat_eq}
-use Rattle.std.specs.List.{All, list_any}
-use Rattle.std.proofs.lemmas.List.Elements.{All-from_recursion, All-weaker}
-use Rattle.std.proofs.lemmas.List.{length-map}
-use Rattle.std.proofs.lemmas.Map.Steps.{length-le_from_distinct_below}
-use Rattle.std.proofs.lemmas.Bool.{false_from_ne_true}
-use Rattle.pg_game.specs.declared.player.Player.{Player}
-use Rattle.pg_game.specs.Graph.{Graph}
-use Rattle.pg_game.specs.Least.{NoneHas}
-use Rattle.pg_game.specs.VertexSet.{VertexSet, In, union}
-use Rattle.pg_game.specs.Kept.{KeptEdge}
-use Rattle.pg_dominion.specs.declared.claim.Claim.{Claim}
-use Rattle.pg_dominion.specs.Claim.{ClaimRows, named, choice_in, IsRightRow, AreRight, IsSound}
-use Rattle.pg_dominion.proofs.Rows.{named_right}
-use Rattle.pg_board.specs.declared.entry.Posted.{Posted}
-use Rattle.pg_board.specs.State.{State, settled, rest_of, IsGoodOn}
-use Rattle.pg_board.specs.Journal.{Journal, state_of}
-use Rattle.pg_board.specs.declared.regions.Regions.{Regions}
-use Rattle.pg_board.specs.declared.refusal.Refusal.TheVariants as refusal
-use Rattle.pg_board.specs.Play.{Play}
-use Rattle.pg_board.specs.Post.{Adds}
-use Rattle.pg_board.specs.Refusal.{IsLost, IsOpenEdge, IsFirstOpenEdge, Refuses}
-use Rattle.pg_board.specs.private.Regions.{table_state, IsBoard}
-use Rattle.pg_board.specs.private.OpenEdges.{LeadsOutside, IsFirstOutside}
+use Rattle.pg_board.proofs.Common.{rules, ◌≡◌, ℕ, ◌<◌, ◌≤◌, Bool, true, false, length, refl, sym, ◌∙◌, ap, subst, arith, Option, nat_eq, fun_ext, All, list_any}
+use Rattle.pg_board.proofs.Common.{All-from_recursion, All-weaker, length-map, length-le_from_distinct_below, false_from_ne_true, Player, Graph, NoneHas}
+use Rattle.pg_board.proofs.Common.{VertexSet, In, union, KeptEdge, Claim, ClaimRows, named, choice_in, AreRight, IsSound, named_right, Posted, State, settled}
+use Rattle.pg_board.proofs.Common.{rest_of, IsGoodOn, Journal, state_of, Regions, Play, Adds, IsLost, Refuses, table_state, IsBoard, LeadsOutside}
+use Rattle.pg_board.proofs.Common.{IsFirstOutside}
+use Rattle.pg_board.specs.Refusal.{IsOpenEdge, IsFirstOpenEdge}
 use Rattle.pg_board.proofs.Push.{distinct_rising}
 use Rattle.pg_board.proofs.RestIsGood.{vertices, kept_rest, kept_of_rest, rest_twice}
 use Rattle.pg_board.proofs.Numbers.{in_vertices}
+use Rattle.pg_board.specs.declared.refusal.Refusal.TheVariants as refusal
 
 -- the vertices of the rest and the player's
 abbrev pub Bounds : State → Player → ClaimRows → VertexSet
@@ -102,14 +84,13 @@ pub adds_claim : (old new : Play) (worker : ℕ) (p : Player) (rows : ClaimRows)
     → rows ≡ rest_of (state_of old.journal) claim.rows → Adds old new worker (record { player = p; rows = rows }) posted
     → Adds old new worker claim posted
 adds_claim old new worker p rows claim posted player same a =
-    let st = state_of old.journal in
     record {
       entry = a.entry;
       journal = a.journal;
       answers = record {
         player = a.answers.player ∙ sym player;
         claimed = a.answers.claimed;
-        rest = a.answers.rest ∙ (ap (rest_of st) same ∙ rest_twice st claim.rows);
+        rest = a.answers.rest ∙ (ap (rest_of (state_of old.journal)) same ∙ rest_twice (state_of old.journal) claim.rows);
         exact = rw player a.answers.exact;
         turns = rw player a.answers.turns;
       };
@@ -130,5 +111,4 @@ few_rows {g} {p} {rows} a =
 -- right rows name vertices
 pub all_below : (g : Graph) (p : Player) (rows : ClaimRows) → AreRight g p rows → (n : ℕ) → n ≡ length g
     → All (λ (r : ℕ × Option ℕ). r.0 < n) rows
-all_below g p rows a n e =
-    All-weaker (IsRightRow g p) (λ (r : ℕ × Option ℕ). r.0 < n) (λ r right. rw e right.vertex) rows (All-from_recursion (IsRightRow g p) rows a.each)
+all_below g p rows a n e = search (rules, All-weaker, All-from_recursion, a.each)

@@ -1,32 +1,13 @@
 -- An old copy of a board, and what has to be taken out of it to bring it up to date.
-use Rattle.std.proofs.Common.{◌≡◌, ℕ, ◌+◌, ◌-◌, ◌<◌, ◌≤◌, Bool, true, false, ◌&&◌, not, List, [], ◌∷◌, ◌++◌, length, take, get_or, refl, sym, ◌∙◌}
-use Rattle.std.proofs.Common.{ap, subst, arith}
-use Rattle.std.proofs.Common.{ltb-true, Global, Option, Some, None, nat_lt, ◌==◌, slice_set, if◌then◌else◌}
-use mathlib.Core.Path.{fun_ext}
-use Rattle.std.specs.Arc.{arc_value}
+use Rattle.pg_board.proofs.Common.{rules, ◌≡◌, ℕ, ◌+◌, ◌-◌, ◌<◌, ◌≤◌, Bool, false, ◌&&◌, not, List, [], ◌∷◌, ◌++◌, length, take, get_or, sym, ◌∙◌, ap, subst}
+use Rattle.pg_board.proofs.Common.{arith, ltb-true, Global, Option, Some, None, ◌==◌, if◌then◌else◌, fun_ext, arc_value, Arc, All-get_or, All-weaker}
+use Rattle.pg_board.proofs.Common.{take-append-le, take_all, take_more, take-length, and-false, Player, Graph, VertexSet, In, members, IsSubgame, without}
+use Rattle.pg_board.proofs.Common.{ClaimRows, named, named-push, Claim, Copied, Entry, Posted, Play, is_unsettled, unsettled, Journal, state_of, IsLawful, Adds}
+use Rattle.pg_board.proofs.Common.{ArePastCopies, IsPastCopy, IsPresentCopy}
+use Rattle.std.proofs.Common.{slice_set}
 use Rattle.std.specs.List.{swap_remove}
-use Rattle.std.specs.declared.sync.Arc.{Arc}
-use Rattle.std.proofs.lemmas.List.Elements.{All-get_or, All-set, All-take, All-weaker}
-use Rattle.std.proofs.lemmas.List.{take-append-le, take_all, take_more, length-append}
-use Rattle.std.proofs.Math.Seq.{take-length}
-use Rattle.std.proofs.Math.Bool.{and-false}
-use Rattle.pg_game.specs.declared.player.Player.{Player}
-use Rattle.pg_game.specs.Graph.{Graph}
-use Rattle.pg_game.specs.VertexSet.{VertexSet, In, members}
-use Rattle.pg_game.specs.Subgame.{IsSubgame}
-use Rattle.pg_game.specs.private.VertexSet.{without}
-use Rattle.pg_dominion.specs.Claim.{ClaimRows, named}
-use Rattle.pg_dominion.proofs.Rows.{named-push}
-use Rattle.pg_dominion.specs.declared.claim.Claim.{Claim}
-use Rattle.pg_finders.specs.declared.inside.Copied.{Copied}
-use Rattle.pg_board.specs.declared.entry.Entry.{Entry}
-use Rattle.pg_board.specs.declared.entry.Posted.{Posted}
-use Rattle.pg_board.specs.Play.{Play}
-use Rattle.pg_board.specs.State.{is_unsettled, unsettled}
-use Rattle.pg_board.specs.Journal.{Journal, state_of, IsLawful}
-use Rattle.pg_board.specs.Office.{IsCopyOf}
-use Rattle.pg_board.specs.Post.{Adds}
-use Rattle.pg_board.specs.private.Office.{ArePastCopies, IsPastCopy, IsPresentCopy}
+use Rattle.std.proofs.lemmas.List.Elements.{All-set, All-take}
+use Rattle.std.proofs.lemmas.List.{length-append}
 use Rattle.pg_finders.proofs.Masks.{members-unset}
 use Rattle.pg_finders.proofs.Sets.{minus_both}
 use Rattle.pg_board.proofs.Numbers.{lawful_now, whose}
@@ -34,22 +15,12 @@ use Rattle.pg_board.proofs.Places.{row_at}
 use Rattle.pg_board.proofs.Push.{state_push}
 
 pub past_of_present : {board : Play} {c : Copied} → IsPresentCopy board c → IsPastCopy board c
-past_of_present {board} {c} h = record {
-  graph = h.graph;
-  within = omega (arith, h.copy.at_is);
-  copy = subst (λ (j : Journal). IsCopyOf j c.inside c.at c.settled)
-      (sym (ap (λ n. take n board.journal) h.copy.at_is ∙ take-length board.journal)) h.copy;
-}
+past_of_present {board} {c} h = search (rules, h.copy.at_is, c.inside, c.at, c.settled, take-length, h.copy)
 
 -- a copy stays one of the entries before it while others are added
 pub past_stays : {old new : Play} {worker : ℕ} {claim : Claim} {posted : Posted} {c : Copied} → Adds old new worker claim posted
     → new.graph ≡ old.graph → IsPastCopy old c → IsPastCopy new c
-past_stays {old} {new} {c = c} a same h = record {
-  graph = h.graph ∙ sym same;
-  within = omega (arith, h.within, ap length a.journal, length-append old.journal (a.entry ∷ []));
-  copy = subst (λ (j : Journal). IsCopyOf j c.inside c.at c.settled)
-      (sym (ap (take c.at) a.journal ∙ take-append-le c.at old.journal (a.entry ∷ []) h.within)) h.copy;
-}
+past_stays {old} {new} {c = c} a same h = search (rules, h.within, length-append, a.entry, c.inside, c.at, c.settled, take-append-le, h.copy)
 
 pub all_stay : {old new : Play} {worker : ℕ} {claim : Claim} {posted : Posted} (copies : List (Arc Copied Global)) → Adds old new worker claim posted
     → new.graph ≡ old.graph → ArePastCopies old copies → ArePastCopies new copies
@@ -65,13 +36,7 @@ ArePastCopies-swap_remove board copies i d l h =
 -- what an entry leaves unsettled
 left : (b : Bool) (a : Player × Option ℕ) (o : Option (Player × Option ℕ))
     → is_unsettled (if is_unsettled o then (if b then Some a else None) else o) ≡ (is_unsettled o && not b)
-left true a None = refl
-left false a None = refl
-left b a (Some r) = refl
-
-both : (a b c : Bool) → (a && (b && c)) ≡ ((a && b) && c)
-both true b c = refl
-both false b c = refl
+left b a o = search rules
 
 module _ (j : Journal) (k : ℕ) (e : Entry) (l : k < length j) (at : e ≡ get_or j k e) where
   open_next : (v : ℕ) → is_unsettled (state_of (take (k + 1) j) v) ≡ (is_unsettled (state_of (take k j) v) && not (named e.rows v))
@@ -80,8 +45,7 @@ module _ (j : Journal) (k : ℕ) (e : Entry) (l : k < length j) (at : e ≡ get_
       ap (λ xs. is_unsettled (state_of xs v)) more ∙ (ap is_unsettled (state_push (take k j) e v) ∙ left (named e.rows v) _ (state_of (take k j) v))
 
   pub unsettled_next : (g : Graph) (v : ℕ) → unsettled g (state_of (take (k + 1) j)) v ≡ without (unsettled g (state_of (take k j))) (named e.rows) v
-  unsettled_next g v =
-      ap (λ b. nat_lt v (length g) && b) (open_next v) ∙ both (nat_lt v (length g)) (is_unsettled (state_of (take k j) v)) (not (named e.rows v))
+  unsettled_next g v = search (rules, open_next)
 
   -- an entry of a lawful journal names vertices of the game
   pub named_below : (g : Graph) → IsLawful g j → (v : ℕ) → In (named e.rows) v → v < length g

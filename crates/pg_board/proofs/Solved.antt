@@ -1,26 +1,12 @@
 -- The state of a full journal is a solution.
-use mathlib.Core.Path.{fun_ext}
-use Rattle.std.proofs.Common.{◌≡◌, ◌≢◌, ℕ, zero, suc, ◌<◌, Bool, true, false, ◌&&◌, ◌||◌, inl, inr, [], ◌∷◌, ◌++◌, length}
-use Rattle.std.proofs.Common.{refl, sym, ◌∙◌, ap, subst, arith, lt-ltb, ltb-true, Option, Some, None, nat_lt, slice_get, if◌then◌else◌}
-use Rattle.std.proofs.lemmas.Bool.{false_from_ne_true}
-use Rattle.std.proofs.lemmas.List.{take-append-drop}
+use Rattle.pg_board.proofs.Common.{rules, ◌≡◌, ℕ, zero, suc, ◌<◌, Bool, true, false, inl, inr, [], ◌∷◌, ◌++◌, length, refl, sym, ◌∙◌, ap, subst, arith, lt-ltb}
+use Rattle.pg_board.proofs.Common.{ltb-true, Option, Some, None, nat_lt, slice_get, if◌then◌else◌, fun_ext, false_from_ne_true, cases_Bool, take-append-drop}
+use Rattle.pg_board.proofs.Common.{Player, Even, opponent, Graph, owner_of, VertexSet, In, IsRegion, Wins, own_or_other, is_same, IsExactSolution, named}
+use Rattle.pg_board.proofs.Common.{choice_in, named_right, named-append, choice-front, choice-back, place_of, Entry, is_winner, choice_in_row, State, settled}
+use Rattle.pg_board.proofs.Common.{choices, Journal, state_of, claimed_rows, attracted_rows, IsLawful, AreStateRows}
+use Rattle.std.proofs.Common.{◌≢◌}
 use Rattle.std.proofs.lemmas.Option.{slice_get-get_or}
-use Rattle.pg_game.specs.declared.player.Player.{Player}
-use Rattle.pg_game.specs.declared.player.Player.TheVariants.{Even}
-use Rattle.pg_game.specs.Player.{opponent, same_player}
-use Rattle.pg_game.specs.Graph.{Graph, owner_of}
-use Rattle.pg_game.specs.VertexSet.{VertexSet, In}
-use Rattle.pg_game.specs.Region.{IsRegion, Wins}
-use Rattle.pg_game.proofs.Players.{own_or_other, is_same}
-use Rattle.pg_text.specs.Solution.{winner_of, choice_of, won_by, IsExactSolution, SolutionRows as Solved}
-use Rattle.pg_dominion.specs.Claim.{named, choice_in}
-use Rattle.pg_dominion.proofs.Rows.{named_right}
-use Rattle.pg_dominion.proofs.Named.{named-append, choice-front, choice-back, place_of}
-use Rattle.pg_board.specs.declared.entry.Entry.{Entry}
-use Rattle.pg_text.specs.Known.{is_winner, choice_in_row}
-use Rattle.pg_board.specs.State.{State, settled, choices}
-use Rattle.pg_board.specs.Journal.{Journal, state_of, claimed_rows, attracted_rows, IsLawful}
-use Rattle.pg_board.specs.Full.{AreStateRows}
+use Rattle.pg_text.specs.Solution.{winner_of, choice_of, won_by, SolutionRows as Solved}
 use Rattle.pg_board.proofs.Push.{region_same}
 use Rattle.pg_board.proofs.Numbers.{lawful_now}
 use Rattle.pg_board.proofs.Dominion.{disjoint_for}
@@ -55,39 +41,27 @@ module _ (g : Graph) (j : Journal) (lawful : IsLawful g j) where
       split = sym (take-append-drop e.claimed e.rows)
 
       attracted : named (claimed_rows e) v ≡ false → named (attracted_rows e) v ≡ true
-      attracted f =
-          (let h : (named (claimed_rows e) v || named (attracted_rows e) v) ≡ true = sym (named-append (claimed_rows e) (attracted_rows e) v) ∙
-          (ap (λ xs. named xs v) (sym split) ∙ i) in
-          let n : (false || named (attracted_rows e) v) ≡ true = rw f at h in n)
+      attracted f = search (rules, named-append, split)
 
       forced : (n : named (attracted_rows e) v ≡ true) → choice_in (attracted_rows e) v ≡ None
       forced n = (let q = place_of (attracted_rows e) v n in
           q.chosen ∙ (((lawful.answered k e at).turns q.before q.after (v, q.choice) q.split).forced other).0)
 
       go : (b : Bool) → named (claimed_rows e) v ≡ b → choice_in e.rows v ≡ None
-      go true n = ap (λ xs. choice_in xs v) split ∙ (choice-front (claimed_rows e) (attracted_rows e) v n
-          ∙ (named_right g e.player (claimed_rows e) v (lawful.good k e at).shape.right.each n).other other)
-      go false n = ap (λ xs. choice_in xs v) split ∙ (choice-back (claimed_rows e) (attracted_rows e) v n ∙ forced (attracted n))
+      go b n = search (rules, (lawful.good k e at).shape.right.each, split, choice-front, named_right, lawful.good, choice-back, forced, attracted)
 
   others_none : (v : ℕ) (r : Player × Option ℕ) → st v ≡ Some r → owner_of g v ≢ r.0 → r.1 ≡ None
-  others_none v r e other =
-      let q = settling j v r e in
-      let player : q.entry.player ≡ r.0 = ap (λ (x : Player × Option ℕ). x.0) q.said in
-      let choice : choice_in q.entry.rows v ≡ r.1 = ap (λ (x : Player × Option ℕ). x.1) q.said in
-      sym choice ∙ entry_none q.at q.entry q.found v q.names (λ h. other (h ∙ player))
+  others_none v r e other = search (rules, settling, entry_none, settling j v r e)
 
   module _ (rows : Solved) (are : AreStateRows g st rows) where
     said : (v : ℕ) → v < length g → st v ≡ Some (winner_of rows v, choice_of rows v)
     said v l = sym (are.each v l) ∙ slice_get-get_or rows v (Even, None) (omega (arith, are.size))
 
     won : (p : Player) → settled st p ≡ won_by rows p
-    won p = fun_ext (λ v. go v (nat_lt v (length g)) refl)
-      where
-        go : (v : ℕ) (b : Bool) → nat_lt v (length g) ≡ b → settled st p v ≡ (nat_lt v (length rows) && same_player (winner_of rows v) p)
-        go v true e = rw (are.size, e) (ap (is_winner p) (said v (ltb-true v (length g) e)))
-        go v false e =
-            rw (are.size, e) (false_from_ne_true (settled st p v)
-            (λ t. (let i : nat_lt v (length g) ≡ true = ((lawful_now g j lawful).regions p).vertices v t in cc (i, e))))
+    won p = fun_ext (λ v. elim (cases_Bool (nat_lt v (length g))) [
+      | inl e ↦ rw (are.size, e) (ap (is_winner p) (said v (ltb-true v (length g) e)))
+      | inr e ↦ rw (are.size, e) (false_from_ne_true (settled st p v) (λ t. (let i = ((lawful_now g j lawful).regions p).vertices v t in cc (i, e))))
+    ])
 
     regions : (p : Player) → IsRegion g p (won_by rows p) (choice_of rows)
     regions p = subst (λ (X : VertexSet). IsRegion g p X (choice_of rows)) (won p)
@@ -102,14 +76,8 @@ module _ (g : Graph) (j : Journal) (lawful : IsLawful g j) where
         inside = rw (are.size, lt-ltb v (length g) l, e) (is_same p p refl)
 
     wins_winner : (p : Player) (v : ℕ) → v < length g → Wins g p v → winner_of rows v ≡ p
-    wins_winner p v l w = elim (own_or_other (winner_of rows v) p) [
-      | inl e ↦ e
-      | inr e ↦ absurd (disjoint_for g p v w (winner_wins (opponent p) v l e))
-    ]
+    wins_winner p v l w =
+        elim (own_or_other (winner_of rows v) p) [ inl e ↦ e | inr e ↦ absurd (disjoint_for g p v w (winner_wins (opponent p) v l e)) ]
 
     pub exact_solution : IsExactSolution g rows
-    exact_solution = record {
-      solution = record { size = are.size; regions = regions };
-      choices = λ v l other. others_none v (winner_of rows v, choice_of rows v) (said v l) other;
-      winners = λ p v l. (winner_wins p v l, wins_winner p v l);
-    }
+    exact_solution = search (rules, are.size, regions, others_none, said, winner_wins, wins_winner)

@@ -1,20 +1,10 @@
 -- Attracted rows never name a vertex of a region of the opponent.
-use Rattle.std.proofs.Common.{◌≡◌, ℕ, Bool, true, false, inl, inr, [], ◌∷◌, ◌++◌, refl, sym, ◌∙◌, subst, append_assoc, ltb-true, length}
-use Rattle.std.specs.Prelude.{Option, ◌==◌}
-use Rattle.std.proofs.lemmas.Bool.{eqb-true, or_cases, or_left, or_right}
-use Rattle.std.proofs.lemmas.List.{append-nil}
-use Rattle.pg_game.specs.declared.player.Player.{Player}
-use Rattle.pg_game.specs.Player.{opponent, same_player}
-use Rattle.pg_game.specs.Graph.{Graph, IsGame, owner_of}
-use Rattle.pg_game.proofs.Edges.{edge_inside}
-use Rattle.pg_game.specs.VertexSet.{VertexSet, In, all_vertices, union}
-use Rattle.pg_game.specs.Kept.{Choices}
-use Rattle.pg_game.specs.Region.{IsRegion}
-use Rattle.pg_game.proofs.Disjoint.{kept_own, kept_other}
-use Rattle.pg_game.proofs.Players.{own_or_other, not_own, is_same, not_same}
-use Rattle.pg_dominion.specs.Claim.{ClaimRows, named}
-use Rattle.pg_dominion.specs.Attraction.{IsAttractedRow, AttractInTurn}
-use Rattle.pg_dominion.proofs.Rows.{named-push}
+use Rattle.pg_board.proofs.Common.{rules, ◌≡◌, ℕ, Bool, true, false, inl, inr, [], ◌∷◌, ◌++◌, refl, sym, ◌∙◌, subst, append_assoc, ltb-true, length, eqb-true}
+use Rattle.pg_board.proofs.Common.{or_cases, or_left, or_right, append-nil, Player, opponent, same_player, Graph, IsGame, owner_of, edge_inside, VertexSet, In}
+use Rattle.pg_board.proofs.Common.{all_vertices, union, Choices, IsRegion, kept_own, kept_other, own_or_other, not_own, is_same, not_same, ClaimRows, named}
+use Rattle.pg_board.proofs.Common.{IsAttractedRow, named-push}
+use Rattle.std.specs.Prelude.{Option}
+use Rattle.pg_dominion.specs.Attraction.{AttractInTurn}
 
 pub differs : (p : Player) (q : Player) → q ≡ p → same_player q (opponent p) ≡ false
 differs p q e = not_same q (opponent p) (λ h. not_own p q h e)
@@ -25,9 +15,7 @@ module _ (g : Graph) (game : IsGame g) (p : Player) (S V : VertexSet) (s : Choic
       → V r.0 ≡ b → V r.0 ≡ false
   leads_away T r l away false e = e
   leads_away T r l away true e = absurd (elim (own_or_other (owner_of g r.0) p) [
-    | inl o ↦ (let c = l.own o in
-        let i : V c.0 ≡ true = other.closed r.0 c.0 (kept_other g (opponent p) V s r.0 c.0 e (differs p (owner_of g r.0) o) c.2) in
-        cc (i, away c.0 c.3))
+    | inl o ↦ search (rules, l.own, other.closed, kept_other, differs)
     | inr o ↦ (let c = other.choices r.0 e o in
         let i : V c.0 ≡ true = other.closed r.0 c.0 (kept_own g (opponent p) V s r.0 c.0 e (is_same (owner_of g r.0) (opponent p) o) c.1) in
         let f = l.forced (not_own p (owner_of g r.0) o) in
@@ -39,13 +27,7 @@ module _ (g : Graph) (game : IsGame g) (p : Player) (S V : VertexSet) (s : Choic
 
   more : (done : ClaimRows) (r : ℕ × Option ℕ) → ((v : ℕ) → In (At done) v → V v ≡ false) → V r.0 ≡ false → (v : ℕ)
       → In (At (done ++ r ∷ [])) v → V v ≡ false
-  more done r away new v i = elim (or_cases (S v) (named (done ++ r ∷ []) v) i) [
-    | inl a ↦ away v (or_left (S v) (named done v) a)
-    | inr n ↦ elim (or_cases (named done v) (r.0 == v) (sym (named-push done r v) ∙ n)) [
-      | inl a ↦ away v (or_right (S v) (named done v) a)
-      | inr e ↦ subst (λ u. V u ≡ false) (eqb-true r.0 v e) new
-    ]
-  ]
+  more done r away new v i = search (rules, or_cases, or_left, named-push, or_right, eqb-true)
 
   pub avoid : (rows done rest : ClaimRows) → AttractInTurn g p (all_vertices g) S rows → rows ≡ done ++ rest
       → ((v : ℕ) → In (At done) v → V v ≡ false) → (v : ℕ) → In (At rows) v → V v ≡ false

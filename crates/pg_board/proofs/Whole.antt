@@ -1,23 +1,14 @@
 -- What a player attracts to some unsettled vertices in the unsettled part is, beside his region, all that his
 -- region and these vertices attract in the whole game.
-use Rattle.std.proofs.Common.{◌≡◌, ℕ, Bool, true, false, ◌⊎◌, inl, inr, length, refl, sym, ◌∙◌, ltb-true, Option, nat_lt}
-use Rattle.std.proofs.lemmas.Bool.{and_parts, or_left, or_right, or_cases}
-use Rattle.std.proofs.Math.Bool.{or_assoc}
-use Rattle.pg_game.specs.declared.player.Player.{Player}
-use Rattle.pg_game.specs.Player.{opponent}
-use Rattle.pg_game.specs.Graph.{Graph, IsGame, HasEdge, owner_of}
-use Rattle.pg_game.proofs.Edges.{edge_inside}
-use Rattle.pg_game.specs.VertexSet.{VertexSet, In, Within, all_vertices, union}
-use Rattle.pg_game.specs.Attractor.{Attracts, Attractor}
-use Rattle.pg_game.specs.Region.{IsRegion}
-use Rattle.pg_game.proofs.Players.{other_from_not, is_same}
-use Rattle.pg_game.proofs.Attract.{target_attracted, own_attracted, forced_attracted}
-use Rattle.pg_game.proofs.Disjoint.{kept_own, kept_other}
-use Rattle.pg_dominion.specs.Claim.{ClaimRows, named}
-use Rattle.pg_dominion.specs.Attraction.{IsAttractedRow, IsAttraction}
+use Rattle.pg_board.proofs.Common.{rules, ◌≡◌, ℕ, true, ◌⊎◌, inl, inr, length, refl, sym, ◌∙◌, ltb-true, Option, nat_lt, and_parts, or_left, or_right, or_cases}
+use Rattle.pg_board.proofs.Common.{cases_Bool, or_assoc, Player, opponent, Graph, IsGame, HasEdge, owner_of, edge_inside, VertexSet, In, Within, all_vertices}
+use Rattle.pg_board.proofs.Common.{union, Attractor, IsRegion, is_same, same_is, target_attracted, kept_own, kept_other, ClaimRows, named, IsAttractedRow}
+use Rattle.pg_board.proofs.Common.{IsAttraction, State, settled, choices, is_unsettled, unsettled, IsLawfulState}
+use Rattle.pg_game.specs.Attractor.{Attracts}
+use Rattle.pg_game.proofs.Players.{other_from_not}
+use Rattle.pg_game.proofs.Attract.{own_attracted, forced_attracted}
 use Rattle.pg_dominion.proofs.Rows.{LeadsTo-same}
-use Rattle.pg_board.specs.State.{State, settled, choices, is_unsettled, unsettled, IsLawfulState}
-use Rattle.pg_board.proofs.Push.{open_unsettled, neither_open, not_both}
+use Rattle.pg_board.proofs.Push.{open_unsettled, neither_open}
 use Rattle.pg_board.proofs.Turns.{differs}
 
 module _ (g : Graph) (game : IsGame g) (st : State) (lawful : IsLawfulState g st) (p : Player) where
@@ -32,12 +23,10 @@ module _ (g : Graph) (game : IsGame g) (st : State) (lawful : IsLawfulState g st
 
   -- each vertex is the player's, the opponent's or unsettled
   pub part_of : (v : ℕ) → In (all_vertices g) v → (In Own v ⊎ In Other v) ⊎ In U v
-  part_of v i = go (settled st p v) (settled st (opponent p) v) refl refl
-    where
-      go : (a b : Bool) → settled st p v ≡ a → settled st (opponent p) v ≡ b → (In Own v ⊎ In Other v) ⊎ In U v
-      go true b x y = inl (inl x)
-      go false true x y = inl (inr y)
-      go false false x y = inr (rw (i, neither_open p (st v) x y) refl)
+  part_of v i = elim (cases_Bool (settled st p v)) [
+    | inl x ↦ inl (inl x)
+    | inr x ↦ elim (cases_Bool (settled st (opponent p) v)) [ inl y ↦ inl (inr y) | inr y ↦ inr (rw (i, neither_open p (st v) x y) refl) ]
+  ]
 
   open_of : (v : ℕ) → In U v → is_unsettled (st v) ≡ true
   open_of v u = (and_parts (nat_lt v (length g)) (is_unsettled (st v)) u).1
@@ -58,8 +47,7 @@ module _ (g : Graph) (game : IsGame g) (st : State) (lawful : IsLawfulState g st
   -- nor from one of the player into the player's
   not_to_own : (v w : ℕ) → In U v → owner_of g v ≡ p → HasEdge g v w → In Own w → ⊥
   not_to_own v w u o e i =
-      let a = lawful.attracted p v (own_attracted g p (all_vertices g) Own v w (all_of v u) o e (target_attracted g p (all_vertices g) Own w i)) in
-      let f = open_unsettled p (st v) (open_of v u) in cc (a, f)
+      search (rules, lawful.attracted, own_attracted, all_of, target_attracted, open_unsettled, open_of, open_unsettled p (st v) (open_of v u))
 
   -- the opponent can't leave his part of the edges into the player's set
   in_set : (S : VertexSet) → Within Own S → (v : ℕ) → In U v → owner_of g v ≡ opponent p → ((w : ℕ) → HasEdge g v w → In U w → In S w)
@@ -71,10 +59,7 @@ module _ (g : Graph) (game : IsGame g) (st : State) (lawful : IsLawfulState g st
 
   -- a vertex of the player's set is not the opponent's
   not_other : (X : VertexSet) → Within X U → (w : ℕ) → In (union Own X) w → In Other w → ⊥
-  not_other X into w i o = elim (or_cases (settled st p w) (X w) i) [
-    | inl a ↦ (let f = not_both p (st w) a in cc (f, o))
-    | inr a ↦ (let f = open_unsettled (opponent p) (st w) (open_of w (into w a)) in cc (f, o))
-  ]
+  not_other X into w i o = search (rules, or_cases, open_unsettled, open_of, differs, same_is)
 
   pub leads_whole : (S : VertexSet) (r : ℕ × Option ℕ) → IsAttractedRow g p U S r → IsAttractedRow g p (all_vertices g) (union Own S) r
   leads_whole S r l = record {
@@ -145,7 +130,6 @@ module _ (g : Graph) (game : IsGame g) (st : State) (lawful : IsLawfulState g st
 
     pub whole : IsAttraction g p (all_vertices g) (union Own T) rows
     whole = record {
-      turns = λ before after r e. LeadsTo-same g p (all_vertices g) (union Own (union T (named before))) (union (union Own T) (named before)) r
-          (λ v. sym (or_assoc (settled st p v) (T v) (named before v))) (leads_whole (union T (named before)) r (a.turns before after r e));
+      turns = λ before after r e. search (rules, LeadsTo-same, or_assoc, leads_whole, a.turns);
       exact = λ v. (λ i. into v (split v i), λ h. join v (h (union Own Taken) attracts));
     }

@@ -1,19 +1,9 @@
 -- Rows that are checked by themselves and agree with a game are a sound claim of it.
-use Rattle.std.proofs.Common.{◌≡◌, ◌≢◌, ℕ, zero, suc, Bool, true, false, inl, inr, List, [], ◌∷◌, length, map, max, refl, sym, ◌∙◌, ap, arith, rules}
-use Rattle.std.specs.Prelude.{◌==◌}
-use Rattle.std.specs.List.{Contains, AllByRecursion}
-use Rattle.std.proofs.lemmas.Bool.{eqb-true, cases_Bool}
-use Rattle.pg_game.specs.declared.player.Player.{Player}
-use Rattle.pg_game.specs.Player.{same_player, of_parity}
-use Rattle.pg_game.specs.Graph.{Graph, priority_of}
-use Rattle.pg_game.specs.VertexSet.{In}
-use Rattle.pg_game.specs.Kept.{Choices, KeptEdge, kept}
-use Rattle.pg_game.specs.Walk.{Walk, ClosedWalk, greatest, greatest_priority}
-use Rattle.pg_game.proofs.Players.{same_is, is_same}
-use Rattle.pg_game.proofs.Walks.{ClosedWalk-weaker}
-use Rattle.pg_dominion.specs.declared.checked.CheckedRow.{CheckedRow}
-use Rattle.pg_dominion.specs.Claim.{named, choice_in, IsRightRow, IsSound}
-use Rattle.pg_dominion.specs.Checked.{claim_row, claim_rows, AgreesAt, AgreesWithGame, RowEdge, row_priority, AreChecked}
+use Rattle.pg_dominion.proofs.Common.{◌≡◌, ◌≢◌, ℕ, zero, suc, Bool, true, false, inl, inr, List, [], ◌∷◌, length, map, refl, sym, ◌∙◌, ap, arith, rules, ◌==◌}
+use Rattle.pg_dominion.proofs.Common.{Contains, AllByRecursion, eqb-true, cases_Bool, Player, same_player, of_parity, Graph, priority_of, In, Choices, KeptEdge}
+use Rattle.pg_dominion.proofs.Common.{kept, Walk, ClosedWalk, greatest, greatest_priority, same_is, is_same, ClosedWalk-weaker, CheckedRow, named, choice_in}
+use Rattle.pg_dominion.proofs.Common.{IsRightRow, IsSound, claim_row, claim_rows, AgreesAt, AgreesWithGame, RowEdge, row_priority, AreChecked}
+use Rattle.std.proofs.Common.{max}
 
 other_is : (q p : Player) → same_player q p ≡ false → q ≢ p
 other_is q p e h = cc (is_same q p h, e)

@@ -1,20 +1,16 @@
 -- The steps of an attraction, and what it is when nothing is left to do.
-use Rattle.std.proofs.Common.{◌≡◌, ◌≢◌, ℕ, ◌<◌, Bool, true, false, ◌||◌, ◌⊎◌, inl, inr, List, [], ◌∷◌, ◌++◌, length, take, drop, get_or, set, refl, sym, ◌∙◌}
-use Rattle.std.proofs.Common.{ap, subst, arith, append_assoc, length-append, get_or-set_same, get_or-set_other, rules}
-use Rattle.std.specs.Prelude.{Option, ◌==◌, if◌then◌else◌}
-use Rattle.std.proofs.lemmas.Bool.{eqb-true, eq-eqb, false_from_ne_true, cases_Bool, or_left, or_right, or_cases}
-use Rattle.std.proofs.lemmas.List.{append-nil, take-append-le, take-append-drop}
-use Rattle.pg_game.specs.declared.player.Player.{Player}
-use Rattle.pg_game.specs.Graph.{Graph, HasEdge, owner_of, successors_of}
-use Rattle.pg_game.specs.VertexSet.{VertexSet, In, Within, union}
-use Rattle.pg_game.specs.Subgame.{IsSubgame}
+use Rattle.pg_dominion.proofs.Common.{◌≡◌, ◌≢◌, ℕ, ◌<◌, Bool, true, false, ◌||◌, ◌⊎◌, inl, inr, List, [], ◌∷◌, ◌++◌, length, take, drop, get_or, set, refl, sym}
+use Rattle.pg_dominion.proofs.Common.{◌∙◌, ap, subst, arith, length-append, get_or-set_same, get_or-set_other, rules, Option, ◌==◌, if◌then◌else◌, eqb-true}
+use Rattle.pg_dominion.proofs.Common.{eq-eqb, false_from_ne_true, cases_Bool, or_left, or_right, or_cases, append-nil, take-append-le, take-append-drop, Player}
+use Rattle.pg_dominion.proofs.Common.{Graph, HasEdge, owner_of, successors_of, VertexSet, In, Within, union, IsSubgame, ClaimRows, named, IsAttraction}
+use Rattle.pg_dominion.proofs.Common.{AttractsNoFurther, IsTakenOrOpen, LeadFrom}
+use Rattle.std.proofs.Common.{append_assoc}
 use Rattle.pg_game.specs.Attractor.{Attracts}
 use Rattle.pg_game.proofs.Players.{own_or_other, not_own}
 use Rattle.pg_game.proofs.Members.{some_or_none}
-use Rattle.pg_dominion.specs.Claim.{ClaimRows, named}
-use Rattle.pg_dominion.specs.Attraction.{AttractInTurn, IsAttraction}
-use Rattle.pg_dominion.specs.Area.{HasOpen, AttractsNoFurther}
-use Rattle.pg_dominion.specs.private.Attracting.{IsTakenOrOpen, Continues, LeadFrom}
+use Rattle.pg_dominion.specs.Attraction.{AttractInTurn}
+use Rattle.pg_dominion.specs.Area.{HasOpen}
+use Rattle.pg_dominion.specs.private.Attracting.{Continues}
 use Rattle.pg_dominion.proofs.Named.{named-append}
 use Rattle.pg_dominion.proofs.Rows.{named-push, LeadsTo-same}
 

@@ -1,14 +1,9 @@
 -- A row is written for a vertex that is taken.
-use Rattle.std.proofs.Common.{◌≡◌, ℕ, ◌-◌, List, take, drop, ap, ◌∙◌, length-drop, false, ◌∷◌, ◌++◌, [], refl, sym, subst, inl, inr, length, arith, rules}
-use Rattle.std.proofs.Common.{length-append}
-use Rattle.std.specs.Prelude.{Option, ◌==◌, if◌then◌else◌}
-use Rattle.std.proofs.lemmas.List.{take_all}
-use Rattle.pg_game.specs.declared.player.Player.{Player}
-use Rattle.pg_game.specs.Graph.{Graph}
-use Rattle.pg_game.specs.VertexSet.{VertexSet, In, union}
-use Rattle.pg_dominion.specs.Claim.{ClaimRows, named}
-use Rattle.pg_dominion.specs.Attraction.{IsAttractedRow}
-use Rattle.pg_dominion.specs.private.Attracting.{LeadFrom, Extends}
+use Rattle.pg_dominion.proofs.Common.{◌≡◌, ℕ, ◌-◌, List, take, drop, ap, ◌∙◌, false, ◌∷◌, ◌++◌, [], refl, sym, subst, inl, inr, length, arith, rules}
+use Rattle.pg_dominion.proofs.Common.{length-append, Option, ◌==◌, if◌then◌else◌, take_all, Player, Graph, VertexSet, In, union, ClaimRows, named}
+use Rattle.pg_dominion.proofs.Common.{IsAttractedRow, LeadFrom}
+use Rattle.std.proofs.Common.{length-drop}
+use Rattle.pg_dominion.specs.private.Attracting.{Extends}
 use Rattle.pg_dominion.proofs.Taking.{takes_one}
 use Rattle.pg_dominion.proofs.Attracting.{Continues-push}
 use Rattle.pg_dominion.proofs.Rows.{split_push}

@@ -1,14 +1,11 @@
 -- What a search that found no way back has shown of all that it reached.
-use Rattle.std.proofs.Common.{◌≡◌, ◌≢◌, ℕ, ◌+◌, ◌<◌, ◌≤◌, ◌⊎◌, inl, inr, List, [], ◌∷◌, length, replicate, set, refl, sym, ◌∙◌, ap, subst, arith, length-set}
-use Rattle.std.proofs.Common.{get_or-set_same, get_or-set_other, rules}
-use Rattle.std.proofs.lemmas.Bool.{cases_eq, cases_lt}
-use Rattle.std.proofs.lemmas.List.{get_or-replicate, get_or_past, length-replicate}
+use Rattle.pg_dominion.proofs.Common.{◌≡◌, ◌≢◌, ℕ, ◌+◌, ◌<◌, ◌≤◌, ◌⊎◌, inl, inr, List, [], ◌∷◌, length, set, refl, sym, ◌∙◌, ap, subst, arith, length-set}
+use Rattle.pg_dominion.proofs.Common.{get_or-set_same, get_or-set_other, rules, cases_eq, cases_lt, get_or-replicate, get_or_past, priority_of, Walk, Kept}
+use Rattle.pg_dominion.proofs.Common.{EdgeUnder, Leads, Reaches, AreLabelled, IsQueued, IsFollowed, Searching, IsSpread, AreNoted}
+use Rattle.std.proofs.Common.{replicate}
+use Rattle.std.proofs.lemmas.List.{length-replicate}
 use Rattle.std.specs.Prelude.{slice_index}
-use Rattle.pg_game.specs.Graph.{priority_of}
-use Rattle.pg_game.specs.Walk.{Walk}
-use Rattle.pg_dominion.specs.declared.kept.Kept.{Kept}
-use Rattle.pg_dominion.specs.private.KeptEdges.{EdgeUnder, Leads, Reaches, AreAlike, AreLabelled, IsPassed, IsGroupAt, IsBefore, IsQueued, IsFollowed}
-use Rattle.pg_dominion.specs.private.KeptEdges.{Searching, IsSpread, AreNoted}
+use Rattle.pg_dominion.specs.private.KeptEdges.{AreAlike, IsPassed, IsGroupAt, IsBefore}
 use Rattle.pg_dominion.proofs.Searching.{Leads-edge, Leads-then, Leads-weaker}
 
 pub queued_or : (places queue : List ℕ) (x : ℕ) → IsQueued places queue x ⊎ (IsQueued places queue x → ⊥)

@@ -1,25 +1,15 @@
 -- Rows laid out by vertex, and the closed walks of a claim on them.
-use Rattle.std.proofs.Common.{◌≡◌, ◌≢◌, ℕ, ◌+◌, ◌<◌, Bool, true, false, ◌&&◌, ◌||◌, ◌↔◌, inl, inr, List, [], ◌∷◌, ◌++◌, length, take, get_or, refl, sym, ◌∙◌}
-use Rattle.std.proofs.Common.{ap, subst, arith, length-set, get_or-set_same, get_or-set_other, ltb-true, rules}
-use Rattle.std.specs.Prelude.{Option, Some, None, slice_index, ◌==◌, if◌then◌else◌}
-use Rattle.std.specs.List.{Contains, AllByRecursion}
-use Rattle.std.proofs.lemmas.Bool.{ne_eqb, cases_Bool, cases_eq, and_parts, and_from}
-use Rattle.std.proofs.lemmas.List.{take_more}
+use Rattle.pg_dominion.proofs.Common.{◌≡◌, ◌≢◌, ℕ, ◌+◌, ◌<◌, Bool, true, false, ◌&&◌, ◌||◌, ◌↔◌, inl, inr, List, [], ◌∷◌, ◌++◌, length, take, get_or, refl, sym}
+use Rattle.pg_dominion.proofs.Common.{◌∙◌, ap, subst, arith, length-set, get_or-set_same, get_or-set_other, ltb-true, rules, Option, Some, None, ◌==◌}
+use Rattle.pg_dominion.proofs.Common.{if◌then◌else◌, Contains, AllByRecursion, ne_eqb, cases_Bool, cases_eq, take_more, Player, same_player, opponent}
+use Rattle.pg_dominion.proofs.Common.{of_parity, Graph, IsGame, HasEdge, priority_of, owner_of, members, kept, KeptEdge, OnBadWalk, edge_inside, same_is}
+use Rattle.pg_dominion.proofs.Common.{is_same, ClosedWalk-weaker, Kept, ClaimRows, named, choice_in, IsRightRow, AreRight, IsKept, Edge, IsWorst, kept_row}
+use Rattle.pg_dominion.proofs.Common.{Layout, IsLaid, laid_with, is_bad}
+use Rattle.std.specs.Prelude.{slice_index}
+use Rattle.std.proofs.lemmas.Bool.{and_parts, and_from}
 use Rattle.std.proofs.lemmas.List.Elements.{All-from_recursion}
-use Rattle.pg_game.specs.declared.player.Player.{Player}
-use Rattle.pg_game.specs.Player.{same_player, opponent, of_parity}
-use Rattle.pg_game.specs.Graph.{Graph, IsGame, HasEdge, priority_of, owner_of}
-use Rattle.pg_game.specs.VertexSet.{members}
-use Rattle.pg_game.specs.Kept.{kept, KeptEdge}
-use Rattle.pg_game.specs.Region.{OnBadWalk}
-use Rattle.pg_game.proofs.Edges.{edge_inside}
 use Rattle.pg_game.proofs.Masks.{members-set}
-use Rattle.pg_game.proofs.Players.{same_is, is_same}
-use Rattle.pg_game.proofs.Walks.{ClosedWalk-weaker}
-use Rattle.pg_dominion.specs.declared.kept.Kept.{Kept}
-use Rattle.pg_dominion.specs.Claim.{ClaimRows, named, choice_in, IsRightRow, AreRight}
-use Rattle.pg_dominion.specs.KeptEdges.{IsKept, Edge, IsWorst, kept_row}
-use Rattle.pg_dominion.specs.private.Shape.{Layout, HasPlaces, IsLaid, laid_with, chosen_at, is_bad, marked, chosen_with}
+use Rattle.pg_dominion.specs.private.Shape.{HasPlaces, chosen_at, marked, chosen_with}
 use Rattle.pg_dominion.proofs.Shape.{next_unnamed}
 use Rattle.pg_dominion.proofs.Searching.{starts_in}
 use Rattle.pg_dominion.proofs.Rows.{named-push, named-push_same, named-push_other, choice-none, choice-push_same, choice-push_other, named_right}

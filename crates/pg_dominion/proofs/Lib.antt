@@ -1,3 +1,4 @@
+pub mod Common
 pub mod Agreed
 pub mod Recorded
 pub mod Rows

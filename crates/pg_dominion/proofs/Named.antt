@@ -1,9 +1,6 @@
 -- Rows that name a vertex: those of two lists, and the place of the first.
-use Rattle.std.proofs.Common.{◌≡◌, ℕ, suc, ◌<◌, true, false, ◌||◌, inl, inr, [], ◌∷◌, ◌++◌, length, refl, ap, arith}
-use Rattle.std.specs.Prelude.{Option, ◌==◌, if◌then◌else◌}
-use Rattle.std.proofs.lemmas.Bool.{eqb-true, eq-eqb, cases_Bool, or_parts}
-use Rattle.std.proofs.lemmas.List.Folds.{list_any-append}
-use Rattle.pg_dominion.specs.Claim.{ClaimRows, named, choice_in}
+use Rattle.pg_dominion.proofs.Common.{◌≡◌, ℕ, suc, ◌<◌, true, false, ◌||◌, inl, inr, [], ◌∷◌, ◌++◌, length, refl, ap, arith, Option, ◌==◌, if◌then◌else◌}
+use Rattle.pg_dominion.proofs.Common.{eqb-true, eq-eqb, cases_Bool, or_parts, list_any-append, ClaimRows, named, choice_in}
 
 pub named-append : (xs ys : ClaimRows) (v : ℕ) → named (xs ++ ys) v ≡ (named xs v || named ys v)
 named-append xs ys v = list_any-append (λ r. r.0 == v) xs ys

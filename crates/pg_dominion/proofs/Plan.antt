@@ -1,30 +1,17 @@
 -- A solution laid out as kept edges: its leaving edges and its closed walks.
-use Rattle.std.proofs.Common.{◌≡◌, ℕ, ◌+◌, ◌<◌, ◌≤◌, Bool, true, false, ◌↔◌, inl, inr, List, [], ◌∷◌, length, get_or, set, refl, sym, ◌∙◌, ap, subst, arith}
-use Rattle.std.proofs.Common.{get_or-set_same, get_or-set_other, ltb-true, lt-ltb, rules}
-use Rattle.std.specs.Prelude.{Option, Some, None, slice_index}
-use Rattle.std.specs.List.{Contains}
-use Rattle.std.specs.List.Sorted.{IsStrictlyIncreasing}
-use Rattle.std.proofs.lemmas.Bool.{cases_Bool, cases_eq, cases_order}
-use Rattle.pg_game.specs.declared.player.Player.{Player}
-use Rattle.pg_game.specs.Player.{same_player, opponent, of_parity}
-use Rattle.pg_game.specs.Graph.{Graph, IsGame, HasEdge, priority_of, owner_of, successors_of}
-use Rattle.pg_game.specs.VertexSet.{In, members}
-use Rattle.pg_game.specs.Kept.{kept, KeptEdge}
-use Rattle.pg_game.specs.Walk.{Walk}
-use Rattle.pg_game.specs.Least.{NoneHas}
-use Rattle.pg_game.proofs.Edges.{edge_inside}
-use Rattle.pg_game.proofs.Masks.{member_below}
+use Rattle.pg_dominion.proofs.Common.{◌≡◌, ℕ, ◌+◌, ◌<◌, ◌≤◌, Bool, true, false, ◌↔◌, inl, inr, List, [], ◌∷◌, length, get_or, set, refl, sym, ◌∙◌, ap, subst}
+use Rattle.pg_dominion.proofs.Common.{arith, get_or-set_same, get_or-set_other, ltb-true, lt-ltb, rules, Option, Some, None, Contains, IsStrictlyIncreasing}
+use Rattle.pg_dominion.proofs.Common.{cases_Bool, cases_eq, Player, same_player, opponent, of_parity, Graph, IsGame, HasEdge, priority_of, owner_of}
+use Rattle.pg_dominion.proofs.Common.{successors_of, In, members, kept, KeptEdge, Walk, NoneHas, edge_inside, member_below, same_is, is_same, ClosedWalk-weaker}
+use Rattle.pg_dominion.proofs.Common.{winner_of, LacksChoice, HasBadChoice, Leaves, Kept, IsKept, Edge, IsWorst, kept_row, Layout, laid_with, is_bad, IsPlanned}
+use Rattle.pg_dominion.proofs.Common.{LeavesTo, sorted_from_strictly_increasing, below_from_sorted}
+use Rattle.std.specs.Prelude.{slice_index}
+use Rattle.std.proofs.lemmas.Bool.{cases_order}
 use Rattle.pg_game.proofs.Members.{Contains-nil, Contains-one}
-use Rattle.pg_game.proofs.Players.{same_is, is_same}
-use Rattle.pg_game.proofs.Walks.{ClosedWalk-weaker}
-use Rattle.pg_text.specs.Solution.{SolutionRows, winner_of, choice_of, won_by}
-use Rattle.pg_text.specs.Verdict.{LacksChoice, HasBadChoice, Leaves, IsOnBadWalk}
+use Rattle.pg_text.specs.Solution.{SolutionRows, choice_of, won_by}
+use Rattle.pg_text.specs.Verdict.{IsOnBadWalk}
 use Rattle.pg_text.proofs.Verdict.{has_or_not, won}
-use Rattle.pg_dominion.specs.declared.kept.Kept.{Kept}
-use Rattle.pg_dominion.specs.KeptEdges.{IsKept, Edge, IsWorst, kept_row}
-use Rattle.pg_dominion.specs.private.Shape.{Layout, laid_with, is_bad}
-use Rattle.pg_dominion.specs.private.Plan.{own_choice, IsPlanned, IsPlanOf, LeavesTo}
-use Rattle.std.proofs.lemmas.Map.Keys.{sorted_from_strictly_increasing, below_from_sorted}
+use Rattle.pg_dominion.specs.private.Plan.{own_choice, IsPlanOf}
 use Rattle.pg_dominion.proofs.Searching.{place_in, starts_in}
 use Rattle.pg_dominion.proofs.Laid.{has_places, choice_at-same, choice_at-other, chosen-other, marked-same, marked-other, layout_of, from_choice, row_cases}
 

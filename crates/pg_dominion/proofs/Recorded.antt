@@ -1,22 +1,13 @@
 -- Rows that agree with a game in which their claim is sound are checked by themselves.
-use Rattle.std.proofs.Common.{◌≡◌, ℕ, zero, suc, ◌<◌, false, List, [], ◌∷◌, ◌++◌, length, get_or, map, take, drop, refl, sym, ◌∙◌, ap, subst, arith, drop-cons}
-use Rattle.std.proofs.Common.{rules}
-use Rattle.std.specs.Prelude.{◌==◌}
-use Rattle.std.specs.List.{Contains, AllByRecursion, AllPairs}
-use Rattle.std.specs.List.Sorted.{IsStrictlyIncreasing}
-use Rattle.std.proofs.lemmas.Bool.{eq-eqb, eqb-true, false_from_ne_true}
-use Rattle.std.proofs.lemmas.List.{get_or-map, length-map, take-append-drop}
+use Rattle.pg_dominion.proofs.Common.{◌≡◌, ℕ, zero, suc, ◌<◌, false, List, [], ◌∷◌, ◌++◌, length, get_or, map, take, drop, refl, sym, ◌∙◌, ap, subst, arith}
+use Rattle.pg_dominion.proofs.Common.{rules, ◌==◌, Contains, AllByRecursion, IsStrictlyIncreasing, eq-eqb, eqb-true, false_from_ne_true, length-map}
+use Rattle.pg_dominion.proofs.Common.{take-append-drop, Player, same_player, of_parity, Graph, In, kept, ClosedWalk, greatest, ClosedWalk-weaker, CheckedRow}
+use Rattle.pg_dominion.proofs.Common.{named, choice_in, IsSound, claim_row, claim_rows, AgreesAt, AgreesWithGame, RowEdge, row_priority, AreChecked}
+use Rattle.std.proofs.Common.{drop-cons}
+use Rattle.std.specs.List.{AllPairs}
+use Rattle.std.proofs.lemmas.List.{get_or-map}
 use Rattle.std.proofs.lemmas.List.Kept.{AllPairs-from_increasing}
-use Rattle.pg_game.specs.declared.player.Player.{Player}
-use Rattle.pg_game.specs.Player.{same_player, of_parity}
-use Rattle.pg_game.specs.Graph.{Graph}
-use Rattle.pg_game.specs.VertexSet.{In}
-use Rattle.pg_game.specs.Kept.{kept}
-use Rattle.pg_game.specs.Walk.{ClosedWalk, greatest}
-use Rattle.pg_game.proofs.Walks.{ClosedWalk-weaker}
-use Rattle.pg_dominion.specs.declared.checked.CheckedRow.{CheckedRow}
-use Rattle.pg_dominion.specs.Claim.{named, choice_in, IsSound}
-use Rattle.pg_dominion.specs.Checked.{CheckedClaim, claim_row, claim_rows, KeepsOne, AgreesAt, AgreesWithGame, IsForeign, RowEdge, row_priority, AreChecked}
+use Rattle.pg_dominion.specs.Checked.{CheckedClaim, KeepsOne, IsForeign}
 use Rattle.pg_dominion.proofs.Agreed.{ClaimEdge, kept_cases, walk_priority, vertices, lengths}
 
 -- each row's vertex is below those of later rows

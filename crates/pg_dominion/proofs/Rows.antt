@@ -1,14 +1,7 @@
 -- One more row: what the rows name and choose with it, and that they lead in turn. Each named row of right ones is right.
-use Rattle.std.proofs.Common.{◌≡◌, ◌≢◌, ℕ, true, false, ◌||◌, ◌⊎◌, inl, inr, [], ◌∷◌, ◌++◌, refl, sym, ◌∙◌, ap, subst, rules}
-use Rattle.std.proofs.Math.Bool.{or-false}
-use Rattle.std.specs.Prelude.{Option, None, ◌==◌}
-use Rattle.std.specs.List.{AllByRecursion}
-use Rattle.std.proofs.lemmas.Bool.{eqb-true, eq-eqb, ne_eqb, cases_Bool, or_parts, or_right}
-use Rattle.pg_game.specs.declared.player.Player.{Player}
-use Rattle.pg_game.specs.Graph.{Graph}
-use Rattle.pg_game.specs.VertexSet.{VertexSet}
-use Rattle.pg_dominion.specs.Claim.{ClaimRows, named, choice_in, IsRightRow}
-use Rattle.pg_dominion.specs.Attraction.{IsAttractedRow}
+use Rattle.pg_dominion.proofs.Common.{◌≡◌, ◌≢◌, ℕ, true, false, ◌||◌, ◌⊎◌, inl, inr, [], ◌∷◌, ◌++◌, refl, sym, ◌∙◌, ap, subst, rules, or-false, Option, None}
+use Rattle.pg_dominion.proofs.Common.{◌==◌, AllByRecursion, eqb-true, eq-eqb, ne_eqb, cases_Bool, or_parts, or_right, Player, Graph, VertexSet, ClaimRows}
+use Rattle.pg_dominion.proofs.Common.{named, choice_in, IsRightRow, IsAttractedRow}
 use Rattle.pg_dominion.proofs.Named.{named-append}
 
 pub named-push : (xs : ClaimRows) (r : ℕ × Option ℕ) (v : ℕ) → named (xs ++ r ∷ []) v ≡ (named xs v || (r.0 == v))

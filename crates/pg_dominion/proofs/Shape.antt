@@ -1,17 +1,10 @@
 -- The shape of a claim, one row after another.
-use Rattle.std.proofs.Common.{◌≡◌, ℕ, zero, suc, ◌+◌, ◌<◌, ◌≤◌, false, inl, inr, List, [], ◌∷◌, ◌++◌, length, take, drop, map, get_or, refl, sym, subst, arith}
-use Rattle.std.proofs.Common.{length-append, rules}
-use Rattle.pg_game.proofs.Rows.{below_or_last}
-use Rattle.std.specs.Prelude.{Option, slice_index}
-use Rattle.std.specs.List.{AllByRecursion}
-use Rattle.std.specs.List.Sorted.{IsStrictlyIncreasing}
-use Rattle.std.proofs.lemmas.Bool.{eqb-true, false_from_ne_true}
-use Rattle.std.proofs.lemmas.List.{map_push, map-append, take-append-drop, take_more, length-map, get_or_append_left, get_or_push}
-use Rattle.std.proofs.lemmas.Map.Keys.{sorted_from_strictly_increasing, below_from_sorted}
-use Rattle.pg_game.specs.declared.player.Player.{Player}
-use Rattle.pg_game.specs.Graph.{Graph}
-use Rattle.pg_dominion.specs.Claim.{ClaimRows, named, IsRightRow, AreRight}
-use Rattle.pg_dominion.specs.private.Shape.{next_after}
+use Rattle.pg_dominion.proofs.Common.{◌≡◌, ℕ, zero, suc, ◌+◌, ◌<◌, ◌≤◌, false, inl, inr, List, [], ◌∷◌, ◌++◌, length, take, drop, map, get_or, refl, sym, subst}
+use Rattle.pg_dominion.proofs.Common.{arith, length-append, rules, below_or_last, Option, AllByRecursion, IsStrictlyIncreasing, eqb-true, false_from_ne_true}
+use Rattle.pg_dominion.proofs.Common.{take-append-drop, take_more, length-map, get_or_append_left, get_or_push, sorted_from_strictly_increasing}
+use Rattle.pg_dominion.proofs.Common.{below_from_sorted, Player, Graph, ClaimRows, named, IsRightRow, AreRight, next_after}
+use Rattle.std.specs.Prelude.{slice_index}
+use Rattle.std.proofs.lemmas.List.{map_push, map-append}
 
 abbrev vertices : ClaimRows → List ℕ
 vertices rows = map (λ r. r.0) rows

@@ -1,25 +1,11 @@
 -- A search along a claim's rows that found no way back: there is none.
-use Rattle.std.proofs.Common.{rules}
-use Rattle.std.proofs.Common.{◌≡◌, ◌≢◌, ℕ, suc, ◌<◌, ◌≤◌, ◌↔◌, true, false, inl, inr, List, [], ◌∷◌, ◌++◌, length, get_or, refl, sym, ◌∙◌, ap, subst, arith}
-use Rattle.std.specs.Prelude.{Option, None, MatchOption, slice_index, ◌==◌}
-use Rattle.std.specs.List.{Contains, list_any}
-use Rattle.std.proofs.lemmas.Bool.{eqb-true, cases_Bool}
+use Rattle.pg_dominion.proofs.Common.{rules, ◌≡◌, ◌≢◌, ℕ, suc, ◌<◌, ◌≤◌, ◌↔◌, true, false, inl, inr, List, [], ◌∷◌, ◌++◌, length, get_or, refl, sym, ◌∙◌, ap}
+use Rattle.pg_dominion.proofs.Common.{subst, arith, Option, None, ◌==◌, Contains, list_any, eqb-true, cases_Bool, Contains-append_left, Player, Graph}
+use Rattle.pg_dominion.proofs.Common.{priority_of, In, KeptEdge, kept, Walk, greatest_priority, OnBadWalk, NoneHas, IsLeast, is_same, ClaimRows, named}
+use Rattle.pg_dominion.proofs.Common.{choice_in, is_bad, CheckedRow, claim_row, AgreesAt, Stays, AreNamed}
+use Rattle.std.specs.Prelude.{MatchOption, slice_index}
 use Rattle.std.proofs.lemmas.List.{append_assoc}
-use Rattle.std.proofs.lemmas.List.Elements.{Contains-append_left}
-use Rattle.pg_game.specs.declared.player.Player.{Player}
-use Rattle.pg_game.specs.Graph.{Graph, priority_of}
-use Rattle.pg_game.specs.VertexSet.{In}
-use Rattle.pg_game.specs.Kept.{KeptEdge, kept}
-use Rattle.pg_game.specs.Walk.{Walk, greatest_priority}
-use Rattle.pg_game.specs.Region.{OnBadWalk}
-use Rattle.pg_game.specs.Least.{NoneHas, IsLeast}
 use Rattle.pg_game.proofs.Members.{none_first}
-use Rattle.pg_game.proofs.Players.{is_same}
-use Rattle.pg_dominion.specs.Claim.{ClaimRows, named, choice_in}
-use Rattle.pg_dominion.specs.private.Shape.{is_bad}
-use Rattle.pg_dominion.specs.declared.checked.CheckedRow.{CheckedRow}
-use Rattle.pg_dominion.specs.Checked.{claim_row, AgreesAt}
-use Rattle.pg_dominion.specs.private.Staying.{Stays, AreNamed}
 use Rattle.pg_dominion.proofs.Agreed.{kept_cases}
 use Rattle.pg_dominion.proofs.Searching.{place_in, push_each, starts_in}
 

@@ -1,17 +1,10 @@
 -- Vertices that are taken one after another, each listed: what stays the same, and what is done once they are reached.
-use Rattle.std.proofs.Common.{◌≡◌, ℕ, ◌+◌, ◌<◌, ◌≤◌, true, false, ◌||◌, inl, inr, List, [], ◌∷◌, ◌++◌, length, take, get_or, sym, ◌∙◌, ap, subst, arith}
-use Rattle.std.proofs.Common.{append_assoc, length-append, rules}
-use mathlib.Core.Path.{fun_ext}
-use Rattle.std.proofs.Math.Bool.{or-false}
-use Rattle.std.specs.Prelude.{◌==◌, if◌then◌else◌, OnOk, Result}
-use Rattle.std.proofs.lemmas.Bool.{eqb-true, eq-eqb, or_left, or_right, or_cases}
-use Rattle.std.proofs.lemmas.List.{append-nil, take_more, take_all, take-append-le, take-append-drop}
-use Rattle.std.proofs.lemmas.List.Folds.{list_any-append}
-use Rattle.pg_game.specs.declared.player.Player.{Player}
-use Rattle.pg_game.specs.Graph.{Graph, HasEdge}
-use Rattle.pg_game.specs.VertexSet.{VertexSet, In, Within, union}
-use Rattle.pg_dominion.specs.Area.{listed_by, Takes, AttractsNoFurther}
-use Rattle.pg_dominion.specs.private.Attracting.{IsTakenOrOpen}
+use Rattle.pg_dominion.proofs.Common.{◌≡◌, ℕ, ◌+◌, ◌<◌, ◌≤◌, true, false, ◌||◌, inl, inr, List, [], ◌∷◌, ◌++◌, length, take, get_or, sym, ◌∙◌, ap, subst, arith}
+use Rattle.pg_dominion.proofs.Common.{length-append, rules, fun_ext, or-false, ◌==◌, if◌then◌else◌, eqb-true, eq-eqb, or_left, or_right, or_cases, append-nil}
+use Rattle.pg_dominion.proofs.Common.{take_more, take_all, take-append-le, take-append-drop, list_any-append, Player, Graph, HasEdge, VertexSet, In, Within}
+use Rattle.pg_dominion.proofs.Common.{union, listed_by, Takes, AttractsNoFurther, IsTakenOrOpen}
+use Rattle.std.proofs.Common.{append_assoc}
+use Rattle.std.specs.Prelude.{OnOk, Result}
 use Rattle.pg_dominion.proofs.Attracting.{IsDone-more}
 
 pub on_ok_both : {T E : Type 0} (P Q : Type 0) (r : Result T E) → OnOk r P → OnOk r Q → OnOk r (P × Q)

@@ -19,8 +19,6 @@ mod ranking;
 mod small;
 mod solution;
 mod tables;
-#[cfg(test)]
-mod tests;
 mod walks;
 
 pub use area::{Area, attract_from};

@@ -1,13 +1,10 @@
 -- Rows by place: what stands there, and what they name.
-use Rattle.std.proofs.Common.{◌≡◌, ◌≢◌, ℕ, zero, suc, ◌+◌, ◌<◌, ◌≤◌, true, false, ◌||◌, inl, inr, [], ◌∷◌, length, take, set, get_or, refl, sym, ◌∙◌, ap, arith}
-use Rattle.std.proofs.Common.{rules}
-use Rattle.std.specs.Prelude.{Option, ◌==◌}
-use Rattle.std.proofs.lemmas.Bool.{eqb-true, eq-eqb, cases_Bool}
-use Rattle.std.proofs.lemmas.List.{get_or-take, length-take-le}
+use Rattle.pg_finders.proofs.Common.{◌≡◌, ◌≢◌, ℕ, zero, suc, ◌+◌, ◌<◌, ◌≤◌, true, false, ◌||◌, inl, inr, [], ◌∷◌, length, take, set, get_or, refl, sym, ◌∙◌, ap}
+use Rattle.pg_finders.proofs.Common.{arith, rules, Option, ◌==◌, eqb-true, eq-eqb, cases_Bool, get_or-take, ClaimRows, named, choice_in, no_row, vertex_in}
+use Rattle.pg_finders.proofs.Common.{choice_at, AreDifferent}
+use Rattle.std.proofs.lemmas.List.{length-take-le}
 use Rattle.std.proofs.lemmas.List.Folds.{list_any_at, list_any_more}
 use Rattle.std.proofs.Math.Seq.{take-set-lt}
-use Rattle.pg_dominion.specs.Claim.{ClaimRows, named, choice_in}
-use Rattle.pg_finders.specs.private.small.Partial.{no_row, vertex_in, choice_at, AreDifferent}
 use Rattle.pg_finders.specs.private.small.Few.{IsFew}
 use Rattle.pg_finders.proofs.Masks.{order}
 

@@ -1,13 +1,7 @@
 -- Closed walks: what holds of each vertex, sets that no edge leaves, ranks that fall.
-use Rattle.std.proofs.Common.{◌≡◌, ℕ, zero, suc, ◌<◌, ◌≤◌, Bool, true, false, ◌⊎◌, inl, inr, List, [], ◌∷◌, refl, sym, ◌∙◌, ap, arith}
-use Rattle.std.specs.List.{Contains}
-use Rattle.pg_game.specs.declared.player.Player.{Player}
-use Rattle.pg_game.specs.Player.{of_parity}
-use Rattle.pg_game.specs.Graph.{Graph, priority_of}
-use Rattle.pg_game.specs.VertexSet.{VertexSet, In}
-use Rattle.pg_game.specs.Walk.{Walk, ClosedWalk, greatest_priority}
-use Rattle.pg_game.proofs.Members.{Contains-head, Contains-tail, Contains-cons, Contains-nil}
-use Rattle.pg_game.proofs.Walks.{ClosedWalk-weaker}
+use Rattle.pg_finders.proofs.Common.{◌≡◌, ℕ, zero, suc, ◌<◌, ◌≤◌, Bool, true, false, ◌⊎◌, inl, inr, List, [], ◌∷◌, refl, sym, ◌∙◌, ap, arith, Contains, Player}
+use Rattle.pg_finders.proofs.Common.{of_parity, Graph, priority_of, VertexSet, In, Walk, ClosedWalk, greatest_priority, Contains-head, Contains-tail}
+use Rattle.pg_finders.proofs.Common.{Contains-cons, Contains-nil, ClosedWalk-weaker}
 use Rattle.pg_game.proofs.Grown.{OnLevel, one_level}
 
 -- an edge between vertices that have the property

@@ -1,13 +1,7 @@
 -- What the finders answer, put together for a job.
-use Rattle.std.proofs.Common.{◌≡◌, ℕ, Option, Some, rules}
+use Rattle.pg_finders.proofs.Common.{◌≡◌, ℕ, rules, Player, Graph, owner_of, VertexSet, In, NoneHas, Claim, named, choice_in, IsGoodIn, IsLoop}
+use Rattle.std.proofs.Common.{Option, Some}
 use Rattle.std.specs.Prelude.{◌↔◌, MatchOption}
-use Rattle.pg_game.specs.declared.player.Player.{Player}
-use Rattle.pg_game.specs.Graph.{Graph, owner_of}
-use Rattle.pg_game.specs.VertexSet.{VertexSet, In}
-use Rattle.pg_game.specs.Least.{NoneHas}
-use Rattle.pg_dominion.specs.declared.claim.Claim.{Claim}
-use Rattle.pg_dominion.specs.Claim.{named, choice_in, IsGoodIn}
-use Rattle.pg_finders.specs.Finding.{IsLoop}
 use Rattle.pg_finders.specs.Jobs.{AreLoopsOf}
 
 -- a player's loops, by each thing that is told of them

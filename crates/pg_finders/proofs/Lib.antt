@@ -1,3 +1,4 @@
+pub mod Common
 pub mod ClosedWalks
 pub mod Sets
 pub mod Masks

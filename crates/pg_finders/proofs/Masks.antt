@@ -1,12 +1,9 @@
 -- Masks that are filled by rising vertex.
-use Rattle.std.proofs.Common.{◌≡◌, ℕ, ◌<◌, ◌≤◌, Bool, true, false, ◌&&◌, not, ◌⊎◌, List, length, replicate, arith, length-set, get_or-set_same}
-use Rattle.std.proofs.Common.{get_or-set_other, rules}
-use Rattle.std.specs.Prelude.{◌==◌, slice_set}
-use Rattle.std.proofs.lemmas.Bool.{eqb-true, eq-eqb, cases_Bool, cases_lt}
-use Rattle.std.proofs.Math.Bool.{and-false, and-true}
-use Rattle.std.proofs.lemmas.List.{get_or_past, get_or-replicate, length-replicate}
-use Rattle.pg_game.specs.VertexSet.{VertexSet, members}
-use Rattle.pg_finders.specs.private.recursion.Planned.{HasBelow}
+use Rattle.pg_finders.proofs.Common.{◌≡◌, ℕ, ◌<◌, ◌≤◌, Bool, true, false, ◌&&◌, not, ◌⊎◌, List, length, replicate, arith, length-set, get_or-set_same}
+use Rattle.pg_finders.proofs.Common.{get_or-set_other, rules, ◌==◌, slice_set, eqb-true, eq-eqb, cases_Bool, cases_lt, and-true, length-replicate, VertexSet}
+use Rattle.pg_finders.proofs.Common.{members, HasBelow}
+use Rattle.std.proofs.Math.Bool.{and-false}
+use Rattle.std.proofs.lemmas.List.{get_or_past, get_or-replicate}
 use Rattle.pg_finders.proofs.Sets.{no_both}
 
 pub order : (v i : ℕ) → (v < i) ⊎ (v ≡ i) ⊎ (i < v)

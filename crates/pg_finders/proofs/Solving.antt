@@ -1,22 +1,10 @@
 -- The steps by which a subgame is solved: what an attractor leaves, what the player of the greatest priority gets, what the opponent takes.
-use Rattle.std.proofs.Common.{◌≡◌, ℕ, ◌<◌, ◌≤◌, Bool, true, false, ◌&&◌, not, ◌⊎◌, inl, inr, refl, sym, ◌∙◌, ap, subst, rules}
-use mathlib.Core.Path.{fun_ext}
-use Rattle.std.specs.Prelude.{Option, Some, if◌then◌else◌}
-use Rattle.std.specs.List.{Contains}
-use Rattle.std.proofs.Math.Bool.{and-true}
-use Rattle.std.proofs.lemmas.Bool.{and_parts, and_from, cases_Bool}
-use Rattle.pg_game.specs.declared.player.Player.{Player}
-use Rattle.pg_game.specs.Player.{opponent, same_player, of_parity}
-use Rattle.pg_game.specs.Graph.{Graph, HasEdge, owner_of, priority_of, successors_of}
-use Rattle.pg_game.specs.VertexSet.{VertexSet, In, no_vertices}
-use Rattle.pg_game.specs.private.VertexSet.{without}
-use Rattle.pg_game.specs.Subgame.{IsSubgame}
-use Rattle.pg_game.specs.Kept.{Choices, kept, option_list, KeptEdge}
-use Rattle.pg_game.specs.Region.{OnlyGoodWalks}
-use Rattle.pg_game.proofs.Members.{Contains-one, some_or_none}
-use Rattle.pg_game.proofs.Walks.{ClosedWalk-weaker}
-use Rattle.pg_game.proofs.Players.{own_or_other, same_is, is_same}
-use Rattle.pg_finders.specs.private.Solved.{Winners, won_inside, WinsOn, IsSolvedInside, IsSolvedTo, IsAttracted, IsBegun}
+use Rattle.pg_finders.proofs.Common.{◌≡◌, ℕ, ◌<◌, ◌≤◌, Bool, true, false, ◌&&◌, not, ◌⊎◌, inl, inr, refl, sym, ◌∙◌, ap, subst, rules, fun_ext, Option, Some}
+use Rattle.pg_finders.proofs.Common.{if◌then◌else◌, Contains, and-true, and_parts, and_from, cases_Bool, Player, opponent, same_player, of_parity, Graph}
+use Rattle.pg_finders.proofs.Common.{HasEdge, owner_of, priority_of, successors_of, VertexSet, In, no_vertices, without, IsSubgame, Choices, kept, option_list}
+use Rattle.pg_finders.proofs.Common.{KeptEdge, OnlyGoodWalks, some_or_none, ClosedWalk-weaker, own_or_other, same_is, is_same, Winners, won_inside, WinsOn}
+use Rattle.pg_finders.proofs.Common.{IsSolvedInside, IsSolvedTo, IsAttracted, IsBegun}
+use Rattle.pg_game.proofs.Members.{Contains-one}
 use Rattle.pg_finders.proofs.Sets.{not_both, twice, not_same, only, minus, back, unless, no_both, equal_from}
 use Rattle.pg_finders.proofs.ClosedWalks.{Among, closed_among, closed_inside, closed_begins, in_or_out, never_falls, never_empty, greatest_kept}
 

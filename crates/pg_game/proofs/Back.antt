@@ -1,13 +1,7 @@
 -- Predecessors are the sources of rows.
-use Rattle.std.proofs.Common.{◌≡◌, ℕ, ◌<◌, List, length, get_or, refl, ◌∙◌, sym, subst, arith, rules}
-use Rattle.std.proofs.lemmas.List.Elements.{Contains-get_or}
-use Rattle.pg_game.specs.declared.player.Player.{Player}
-use Rattle.pg_game.specs.Graph.{IsGame, AreSuccessors}
-use Rattle.pg_game.specs.Predecessors.{ArePredecessors}
-use Rattle.pg_game.specs.private.Rows.{row_at, AreRisingRows, AreSources}
-use Rattle.pg_game.specs.View.{graph_of}
-use Rattle.pg_game.specs.private.Stored.{AreParts, IsStored}
-use Rattle.pg_game.specs.private.Flat.{IsListed}
+use Rattle.pg_game.proofs.Common.{◌≡◌, ℕ, ◌<◌, List, length, get_or, refl, ◌∙◌, sym, subst, arith, rules, Contains-get_or, Player, IsGame, AreSuccessors}
+use Rattle.pg_game.proofs.Common.{ArePredecessors, row_at, AreRisingRows, AreSources, graph_of, AreParts, IsListed}
+use Rattle.pg_game.specs.private.Stored.{IsStored}
 use Rattle.pg_game.proofs.Gathered.{begins}
 use Rattle.pg_game.proofs.Parts.{length_is, successors_are}
 

@@ -1,18 +1,9 @@
 -- A game is the only game of the specifications that describe it, and these are without fault.
-use Rattle.std.proofs.Common.{◌≡◌, ℕ, ◌<◌, ◌≤◌, List, [], ◌∷◌, length, map, get_or, refl, sym, ◌∙◌, ap, subst, arith}
-use Rattle.std.specs.Prelude.{◌↔◌, Some, None, slice_get, sum_by}
-use Rattle.std.specs.List.{Contains}
-use Rattle.std.specs.List.Sorted.{IsStrictlyIncreasing}
-use Rattle.std.proofs.lemmas.List.Sums.{sum_by-cons}
-use Rattle.std.proofs.lemmas.List.{length-map, get_or-map, get_or_default, ext_get_or}
-use Rattle.std.proofs.lemmas.List.Elements.{Contains-get_or}
-use Rattle.std.proofs.lemmas.List.Sorted.{IsPermutation-refl}
-use Rattle.std.proofs.lemmas.Option.{slice_get-get_or, get_or_from_slice_get}
-use Rattle.pg_game.specs.declared.game.Spec.{Spec}
-use Rattle.pg_game.specs.Graph.{Graph, Vertex, IsGame, no_vertex, vertex_at, id_of, successors_of}
-use Rattle.pg_game.specs.Specification.{IsGameOf, IsVertexOf, number_of, edges, different, first_fault}
-use Rattle.pg_game.specs.Limits.{IsWithinLimits}
-use Rattle.pg_game.specs.private.Identifiers.{ids_of}
+use Rattle.pg_game.proofs.Common.{◌≡◌, ℕ, ◌<◌, ◌≤◌, List, [], ◌∷◌, length, map, get_or, refl, sym, ◌∙◌, ap, subst, arith, ◌↔◌, Some, None, slice_get, sum_by}
+use Rattle.pg_game.proofs.Common.{Contains, IsStrictlyIncreasing, sum_by-cons, length-map, get_or-map, get_or_default, ext_get_or, Contains-get_or}
+use Rattle.pg_game.proofs.Common.{IsPermutation-refl, slice_get-get_or, Spec, Graph, Vertex, IsGame, no_vertex, vertex_at, id_of, successors_of, IsGameOf}
+use Rattle.pg_game.proofs.Common.{IsVertexOf, number_of, edges, different, first_fault, IsWithinLimits, ids_of}
+use Rattle.std.proofs.lemmas.Option.{get_or_from_slice_get}
 use Rattle.pg_game.specs.private.Described.{spec_at, specs_of}
 use Rattle.pg_game.proofs.Members.{Contains-nil}
 use Rattle.pg_game.proofs.Different.{different_most}

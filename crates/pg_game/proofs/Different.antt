@@ -1,15 +1,11 @@
 -- How many different numbers a list has, and which vertex an identifier names: by rising lists.
-use Rattle.std.proofs.Common.{◌≡◌, ◌≢◌, ℕ, zero, suc, ◌+◌, ◌<◌, ◌≤◌, Bool, true, false, not, ◌↔◌, inl, inr, List, [], ◌∷◌, length, get_or, refl, sym, ◌∙◌, ap}
-use Rattle.std.proofs.Common.{subst, arith, lt-ltb, rules}
-use Rattle.std.specs.Prelude.{◌==◌, nat_lt, count_by}
-use Rattle.std.specs.List.{Contains, list_any, filter}
-use Rattle.std.specs.List.Sorted.{IsStrictlyIncreasing}
-use Rattle.std.proofs.lemmas.Bool.{eqb-true, eq-eqb, false_from_ne_true, le-ltb, cases_Bool}
-use Rattle.std.proofs.lemmas.List.{get_or_default}
+use Rattle.pg_game.proofs.Common.{◌≡◌, ◌≢◌, ℕ, zero, suc, ◌+◌, ◌<◌, ◌≤◌, Bool, true, false, inl, inr, List, [], ◌∷◌, length, get_or, refl, sym, ◌∙◌, ap, subst}
+use Rattle.pg_game.proofs.Common.{arith, rules, ◌==◌, nat_lt, count_by, Contains, list_any, IsStrictlyIncreasing, eqb-true, eq-eqb, false_from_ne_true, le-ltb}
+use Rattle.pg_game.proofs.Common.{cases_Bool, get_or_default, sorted_from_strictly_increasing, below_from_sorted, different}
+use Rattle.std.proofs.Common.{not, ◌↔◌, lt-ltb}
+use Rattle.std.specs.List.{filter}
 use Rattle.std.proofs.lemmas.List.Sums.{length-filter}
 use Rattle.std.proofs.lemmas.List.Kept.{IsStrictlyIncreasing-filter}
-use Rattle.std.proofs.lemmas.Map.Keys.{sorted_from_strictly_increasing, below_from_sorted}
-use Rattle.pg_game.specs.Specification.{different}
 use Rattle.pg_game.proofs.Members.{Contains-nil, Contains-head, Contains-tail, Contains-cons}
 use Rattle.pg_game.proofs.Gathered.{any_from, none_from}
 

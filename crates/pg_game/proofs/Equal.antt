@@ -1,14 +1,11 @@
 -- Equality of games, part by part.
-use Rattle.std.proofs.Common.{◌≡◌, ℕ, Bool, true, false, ◌&&◌, List, sym, ◌∙◌, ap, rules}
+use Rattle.pg_game.proofs.Common.{◌≡◌, ℕ, Bool, true, false, ◌&&◌, List, sym, ◌∙◌, ap, rules, eqb-true, eq-eqb, not-false, Player, Graph, Vertex, graph_of}
+use Rattle.pg_game.proofs.Common.{AreParts}
 use Rattle.std.specs.Prelude.{nat_eq, not}
 use Rattle.std.specs.Bool.{Decides}
 use Rattle.std.specs.Cmp.Lexicographic.{pointwise, pointwise_decides}
-use Rattle.std.proofs.lemmas.Bool.{eqb-true, eq-eqb, not-false, and_parts, and_from}
-use Rattle.pg_game.specs.declared.player.Player.{Player}
+use Rattle.std.proofs.lemmas.Bool.{and_parts, and_from}
 use Rattle.pg_game.specs.Player.{digit_of}
-use Rattle.pg_game.specs.Graph.{Graph, Vertex}
-use Rattle.pg_game.specs.View.{graph_of}
-use Rattle.pg_game.specs.private.Stored.{AreParts}
 use Rattle.pg_game.specs.Same.{same_vertex, same_graph}
 use Rattle.pg_game.proofs.Parts as part
 

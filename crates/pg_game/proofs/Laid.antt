@@ -1,24 +1,11 @@
 -- Rows by places, and the game of specifications by rising identifier.
-use Rattle.std.proofs.Common.{◌≡◌, ℕ, suc, ◌+◌, ◌<◌, ◌↔◌, true, false, inl, inr, List, [], ◌∷◌, length, map, get_or, refl, sym, ◌∙◌, ap, subst, arith}
-use Rattle.std.specs.Prelude.{All, None, ◌==◌}
-use Rattle.std.specs.List.{Contains, list_any}
-use Rattle.std.specs.List.Sorted.{IsStrictlyIncreasing}
-use Rattle.std.proofs.lemmas.Bool.{false_from_ne_true}
-use Rattle.std.proofs.lemmas.List.{length-map, get_or-map, get_or_default}
-use Rattle.std.proofs.lemmas.List.Elements.{Contains-get_or}
-use Rattle.std.proofs.lemmas.List.Sorted.{IsPermutation-refl}
-use Rattle.std.proofs.lemmas.List.Sums.{sum_by-cons}
-use Rattle.pg_game.specs.declared.player.Player.{Player}
-use Rattle.pg_game.specs.declared.game.Spec.{Spec}
-use Rattle.pg_game.specs.Graph.{Graph, IsGame}
-use Rattle.pg_game.specs.Specification.{AreNumbers, IsGameOf, IsSpecified, first_fault, first_repeated, edges, different}
-use Rattle.pg_game.specs.private.Identifiers.{priorities_of, owners_of, ArePlaces}
-use Rattle.pg_game.specs.private.Rows.{row_at, size_of}
-use Rattle.pg_game.specs.View.{graph_of}
-use Rattle.pg_game.specs.private.Stored.{AreParts}
-use Rattle.pg_game.specs.Flat.{specs_from}
-use Rattle.pg_game.specs.private.Flat.{ArePlain, IsListed}
-use Rattle.pg_game.specs.private.Placed.{AreAllPlaces, ArePlaced}
+use Rattle.pg_game.proofs.Common.{◌≡◌, ℕ, suc, ◌+◌, ◌<◌, true, false, inl, inr, List, [], ◌∷◌, length, map, get_or, refl, sym, ◌∙◌, ap, subst, arith, All, None}
+use Rattle.pg_game.proofs.Common.{◌==◌, Contains, list_any, IsStrictlyIncreasing, false_from_ne_true, length-map, get_or-map, get_or_default, Contains-get_or}
+use Rattle.pg_game.proofs.Common.{IsPermutation-refl, sum_by-cons, Player, Spec, Graph, IsGame, AreNumbers, IsGameOf, IsSpecified, first_fault, first_repeated}
+use Rattle.pg_game.proofs.Common.{edges, different, priorities_of, owners_of, ArePlaces, row_at, size_of, graph_of, AreParts, specs_from, IsListed}
+use Rattle.pg_game.proofs.Common.{AreAllPlaces, ArePlaced}
+use Rattle.std.proofs.Common.{◌↔◌}
+use Rattle.pg_game.specs.private.Flat.{ArePlain}
 use Rattle.pg_game.proofs.Members.{Contains-nil, Contains-head, Contains-tail, Contains-cons}
 use Rattle.pg_game.proofs.Gathered.{any_from}
 use Rattle.pg_game.proofs.Different.{rising_tail, below_first, different_is}

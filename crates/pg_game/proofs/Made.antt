@@ -1,24 +1,10 @@
 -- The game that is made of specifications without fault.
-use Rattle.std.proofs.Common.{◌≡◌, ℕ, ◌<◌, ◌≤◌, true, List, [], ◌∷◌, length, map, get_or, refl, sym, ◌∙◌, ap, subst, arith, rules}
-use Rattle.std.specs.Prelude.{All, Some, slice_get, sum_by}
-use Rattle.std.specs.List.{Contains}
-use Rattle.std.specs.List.Sorted.{IsStrictlyIncreasing, IsPermutation}
-use Rattle.std.proofs.lemmas.List.{length-map, get_or-map, get_or_default}
-use Rattle.std.proofs.lemmas.List.Elements.{Contains-get_or}
-use Rattle.std.proofs.lemmas.List.Sorted.{length_permutation, Contains-permutation, IsPermutation-sym, IsPermutation-map, All-permutation, sum_by-IsPermutation}
-use Rattle.std.proofs.lemmas.List.Sums.{sum_by-cons}
-use Rattle.std.proofs.lemmas.Option.{slice_get-get_or}
-use Rattle.pg_game.specs.declared.player.Player.{Player}
-use Rattle.pg_game.specs.declared.player.Player.TheVariants.{Even}
-use Rattle.pg_game.specs.declared.game.Spec.{Spec}
-use Rattle.pg_game.specs.Specification.{AreNumbers, IsSpecified, IsGameOf, IsVertexOf, number_of, edges, different}
-use Rattle.pg_game.specs.private.Identifiers.{ids_of, priorities_of, owners_of, ArePlaces}
-use Rattle.pg_game.specs.private.Rows.{row_at, size_of, AreRisingRows}
-use Rattle.pg_game.specs.Limits.{IsWithinLimits}
-use Rattle.pg_game.specs.Graph.{Graph, Vertex, IsGame, AreSuccessors, no_vertex, vertex_at, id_of, priority_of, owner_of, successors_of}
-use Rattle.pg_game.specs.View.{graph_of}
-use Rattle.pg_game.specs.private.Stored.{AreParts}
-use Rattle.pg_game.specs.private.Flat.{IsListed}
+use Rattle.pg_game.proofs.Common.{◌≡◌, ℕ, ◌<◌, ◌≤◌, true, List, [], ◌∷◌, length, map, get_or, refl, sym, ◌∙◌, ap, subst, arith, rules, All, Some, slice_get}
+use Rattle.pg_game.proofs.Common.{sum_by, Contains, IsStrictlyIncreasing, IsPermutation, length-map, get_or-map, get_or_default, Contains-get_or}
+use Rattle.pg_game.proofs.Common.{length_permutation, Contains-permutation, IsPermutation-sym, IsPermutation-map, All-permutation, sum_by-IsPermutation}
+use Rattle.pg_game.proofs.Common.{sum_by-cons, slice_get-get_or, Player, Even, Spec, AreNumbers, IsSpecified, IsGameOf, IsVertexOf, number_of, edges, different}
+use Rattle.pg_game.proofs.Common.{ids_of, priorities_of, owners_of, ArePlaces, row_at, size_of, AreRisingRows, IsWithinLimits, Graph, Vertex, IsGame}
+use Rattle.pg_game.proofs.Common.{AreSuccessors, no_vertex, vertex_at, id_of, priority_of, owner_of, successors_of, graph_of, AreParts, IsListed}
 use Rattle.pg_game.proofs.Sound.{IsSound, each_has, each_known}
 use Rattle.pg_game.proofs.Rising.{number_is}
 use Rattle.pg_game.proofs.Unknown.{from_specified}

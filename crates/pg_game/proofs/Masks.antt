@@ -1,10 +1,8 @@
 -- The set that a mask has, after a write.
-use Rattle.std.proofs.Common.{◌≡◌, ℕ, ◌<◌, Bool, true, ◌||◌, List, length, set, get_or-set_same, get_or-set_other, rules}
-use Rattle.std.specs.Prelude.{◌==◌}
-use Rattle.std.proofs.lemmas.Bool.{eqb-true, eq-eqb, cases_Bool, cases_lt}
-use Rattle.std.proofs.lemmas.List.{get_or_past}
-use Rattle.std.proofs.Math.Bool.{or-true, or-false}
-use Rattle.pg_game.specs.VertexSet.{In, members}
+use Rattle.pg_game.proofs.Common.{◌≡◌, ℕ, ◌<◌, Bool, true, ◌||◌, List, length, set, get_or-set_same, get_or-set_other, rules, ◌==◌, eqb-true, eq-eqb}
+use Rattle.pg_game.proofs.Common.{cases_Bool, cases_lt, get_or_past, or-false, In}
+use Rattle.std.proofs.Math.Bool.{or-true}
+use Rattle.pg_game.specs.VertexSet.{members}
 
 pub members-set : (mask : List Bool) (v : ℕ) → v < length mask → (x : ℕ) → members (set mask v true) x ≡ (members mask x || (v == x))
 members-set mask v l x = search (rules, cases_Bool, eqb-true, or-true, get_or-set_same, eq-eqb, or-false, get_or-set_other)

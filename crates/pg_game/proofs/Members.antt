@@ -1,6 +1,5 @@
 -- Membership in a list, by cases on the list; a search in a list.
-use Rattle.std.proofs.Common.{◌≡◌, ℕ, zero, suc, ◌||◌, Bool, true, false, ◌⊎◌, inl, inr, List, [], ◌∷◌, refl, arith, rules}
-use Rattle.std.specs.List.{Contains}
+use Rattle.pg_game.proofs.Common.{◌≡◌, ℕ, zero, suc, ◌||◌, Bool, true, false, ◌⊎◌, inl, inr, List, [], ◌∷◌, refl, arith, rules, Contains}
 
 pub Contains-nil : (w : ℕ) → Contains [] w → ⊥
 Contains-nil w (k, lt, e) = omega arith

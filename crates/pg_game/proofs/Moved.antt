@@ -1,16 +1,12 @@
 -- Specifications in another order describe the same game.
-use Rattle.std.proofs.Common.{◌≡◌, ℕ, true, false, inl, inr, List, [], ◌∷◌, length, get_or, nat_eq, refl, sym, ◌∙◌, subst, arith}
-use Rattle.std.specs.Prelude.{None, Some, slice_get, ◌==◌, if◌then◌else◌, nat_lt}
-use Rattle.std.specs.List.{Contains, IsDistinct, AllByRecursion, list_any}
-use Rattle.std.specs.List.Sorted.{IsPermutation}
-use Rattle.std.proofs.lemmas.Bool.{or_parts, or_from}
-use Rattle.std.proofs.lemmas.List.Elements.{recursion_from_All, Contains-get_or}
-use Rattle.std.proofs.lemmas.List.Sorted.{length_permutation, Contains-permutation, IsPermutation-sym, IsPermutation-map, sum_by-IsPermutation}
-use Rattle.std.proofs.lemmas.Map.Keys.{IsDistinct-IsPermutation, IsDistinct-cons, IsDistinct-head, IsDistinct-tail}
-use Rattle.pg_game.specs.declared.game.Spec.{Spec}
-use Rattle.pg_game.specs.Graph.{Graph}
-use Rattle.pg_game.specs.Specification.{IsGameOf, IsSpecified, number_of, first_fault, first_repeated, different}
-use Rattle.pg_game.specs.private.Identifiers.{ids_of}
+use Rattle.pg_game.proofs.Common.{◌≡◌, ℕ, true, false, inl, inr, List, [], ◌∷◌, length, get_or, nat_eq, refl, sym, ◌∙◌, subst, arith, None, Some, slice_get}
+use Rattle.pg_game.proofs.Common.{◌==◌, if◌then◌else◌, nat_lt, Contains, IsDistinct, AllByRecursion, list_any, IsPermutation, or_parts, Contains-get_or}
+use Rattle.pg_game.proofs.Common.{length_permutation, Contains-permutation, IsPermutation-sym, IsPermutation-map, sum_by-IsPermutation}
+use Rattle.pg_game.proofs.Common.{IsDistinct-IsPermutation, IsDistinct-cons, Spec, Graph, IsGameOf, IsSpecified, number_of, first_fault, first_repeated}
+use Rattle.pg_game.proofs.Common.{different, ids_of}
+use Rattle.std.proofs.lemmas.Bool.{or_from}
+use Rattle.std.proofs.lemmas.List.Elements.{recursion_from_All}
+use Rattle.std.proofs.lemmas.Map.Keys.{IsDistinct-head, IsDistinct-tail}
 use Rattle.pg_game.proofs.Members.{Contains-nil, Contains-head, Contains-tail, Contains-cons}
 use Rattle.pg_game.proofs.Seen.{eqb_flip}
 use Rattle.pg_game.proofs.Unknown.{from_specified, to_specified}

@@ -1,9 +1,7 @@
 -- Closing the row that is open makes it the last of the whole ones.
-use Rattle.std.proofs.Common.{◌≡◌, ℕ, ◌+◌, ◌<◌, ◌^◌, List, [], ◌∷◌, ◌++◌, length, take, drop, sym, ◌∙◌, ap, length-append}
+use Rattle.pg_game.proofs.Common.{◌≡◌, ℕ, ◌+◌, ◌<◌, ◌^◌, List, [], ◌∷◌, ◌++◌, length, take, drop, sym, ◌∙◌, ap, length-append, take-length, rows_of}
+use Rattle.pg_game.proofs.Common.{IsCompressed}
 use Rattle.std.proofs.lemmas.List.{take-append-drop}
-use Rattle.std.proofs.Math.Seq.{take-length}
-use Rattle.pg_game.specs.Rows.{rows_of}
-use Rattle.pg_game.specs.private.Rows.{IsCompressed}
 use Rattle.pg_game.specs.Opened.{whole_rows}
 use Rattle.pg_game.proofs.Rows.{rows_of-push, IsCompressed-push}
 

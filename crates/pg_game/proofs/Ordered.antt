@@ -1,8 +1,6 @@
 -- Lines with their numbers, put into another order.
-use Rattle.std.proofs.Common.{◌≡◌, ℕ, ◌<◌, List, length, map, get_or, ◌∙◌, ap, subst, arith}
-use Rattle.std.specs.List.Sorted.{IsPermutation}
-use Rattle.std.proofs.lemmas.List.{length-map, get_or-map, ext_get_or}
-use Rattle.std.proofs.lemmas.List.Sorted.{IsPermutation-map}
+use Rattle.pg_game.proofs.Common.{◌≡◌, ℕ, ◌<◌, List, length, map, get_or, ◌∙◌, ap, subst, arith, IsPermutation, length-map, get_or-map, ext_get_or}
+use Rattle.pg_game.proofs.Common.{IsPermutation-map}
 
 -- what the numbers of the lines stand for
 abbrev pub picked : {X : Type 0} → List X → X → List (ℕ × ℕ) → List X

@@ -1,11 +1,6 @@
 -- The vertices of a game's parts.
-use Rattle.std.proofs.Common.{◌≡◌, ℕ, zero, suc, List, [], ◌∷◌, length, get_or, refl, sym, ◌∙◌, ap, arith, map, rules}
-use Rattle.std.proofs.lemmas.List.{length-map, get_or-map, ext_get_or}
-use Rattle.pg_game.specs.declared.player.Player.{Player}
-use Rattle.pg_game.specs.declared.player.Player.TheVariants.{Even}
-use Rattle.pg_game.specs.Graph.{Graph, Vertex, vertex_at, no_vertex, id_of, priority_of, owner_of, successors_of}
-use Rattle.pg_game.specs.View.{graph_of}
-use Rattle.pg_game.specs.private.Stored.{AreParts}
+use Rattle.pg_game.proofs.Common.{◌≡◌, ℕ, zero, suc, List, [], ◌∷◌, length, get_or, refl, sym, ◌∙◌, ap, arith, map, rules, length-map, get_or-map, ext_get_or}
+use Rattle.pg_game.proofs.Common.{Player, Even, Graph, Vertex, vertex_at, no_vertex, id_of, priority_of, owner_of, successors_of, graph_of, AreParts}
 
 -- the parts without the first of each
 pub tails : {i p : ℕ} {o : Player} {ws : List ℕ} {ids ps : List ℕ} {os : List Player} {rows : List (List ℕ)} →

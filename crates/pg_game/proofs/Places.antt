@@ -1,17 +1,10 @@
 -- Places of identifiers in a rising list of them.
-use Rattle.std.proofs.Common.{◌≡◌, ℕ, zero, suc, ◌+◌, ◌<◌, ◌≤◌, ◌⊎◌, inl, inr, List, [], ◌∷◌, ◌++◌, length, drop, get_or, sym, ◌∙◌, ap, subst, arith, add-one}
-use Rattle.std.proofs.Common.{nat_eq, rules}
-use Rattle.std.specs.Prelude.{Option, Some, None, position, option_to_list, ◌↔◌}
-use Rattle.std.specs.List.{Contains}
-use Rattle.std.specs.List.Sorted.{IsStrictlyIncreasing}
-use Rattle.std.proofs.lemmas.Bool.{eqb-true, eq-eqb, ltb-false, cases_Bool}
-use Rattle.std.proofs.lemmas.List.{drop_more}
+use Rattle.pg_game.proofs.Common.{◌≡◌, ℕ, zero, suc, ◌+◌, ◌<◌, ◌≤◌, ◌⊎◌, inl, inr, List, [], ◌∷◌, ◌++◌, length, drop, get_or, sym, ◌∙◌, ap, subst, arith}
+use Rattle.pg_game.proofs.Common.{add-one, nat_eq, rules, Option, Some, None, position, ◌↔◌, Contains, IsStrictlyIncreasing, eqb-true, eq-eqb, ltb-false}
+use Rattle.pg_game.proofs.Common.{cases_Bool, drop_more, Contains-get_or, sorted_from_strictly_increasing, below_from_sorted, different, places_of, ArePlaces}
+use Rattle.std.specs.Prelude.{option_to_list}
 use Rattle.std.proofs.lemmas.List.Sums.{fails_before_first}
-use Rattle.std.proofs.lemmas.List.Elements.{Contains-get_or}
 use Rattle.std.proofs.lemmas.List.Quantifiers.{position-Some}
-use Rattle.std.proofs.lemmas.Map.Keys.{sorted_from_strictly_increasing, below_from_sorted}
-use Rattle.pg_game.specs.Specification.{different}
-use Rattle.pg_game.specs.private.Identifiers.{places_of, ArePlaces}
 use Rattle.pg_game.proofs.Members.{Contains-nil, Contains-head, Contains-tail, Contains-cons}
 use Rattle.pg_game.proofs.Different.{rising_tail, below_first}
 

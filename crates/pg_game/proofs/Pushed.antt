@@ -1,11 +1,6 @@
 -- One more of each part is one more specification.
-use Rattle.std.proofs.Common.{◌≡◌, ℕ, List, [], ◌∷◌, ◌++◌, map, refl, ap, ◌∙◌, arith, length-append, rules}
-use Rattle.std.proofs.lemmas.List.{map_push}
-use Rattle.pg_game.specs.declared.player.Player.{Player}
-use Rattle.pg_game.specs.Graph.{Graph, Vertex}
-use Rattle.pg_game.specs.View.{graph_of}
-use Rattle.pg_game.specs.private.Stored.{AreParts}
-use Rattle.pg_game.specs.Flat.{spec_from, specs_from}
+use Rattle.pg_game.proofs.Common.{◌≡◌, ℕ, List, [], ◌∷◌, ◌++◌, map, refl, ap, ◌∙◌, arith, length-append, rules, map_push, Player, Graph, Vertex, graph_of}
+use Rattle.pg_game.proofs.Common.{AreParts, spec_from, specs_from}
 use Rattle.pg_game.proofs.Parts.{tails}
 
 abbrev pub vertex_from : ℕ → ℕ → Player → List ℕ → Vertex

@@ -1,12 +1,9 @@
 -- Rows between offsets: how many, each one, and one more.
-use Rattle.std.proofs.Common.{◌≡◌, ℕ, zero, suc, ◌+◌, ◌-◌, ◌<◌, ◌≤◌, ◌⊎◌, inl, inr, List, [], ◌∷◌, ◌++◌, length, take, drop, get_or, ◌^◌, refl, sym, ◌∙◌, arith}
-use Rattle.std.proofs.Common.{length-append, add-one, rules}
-use Rattle.std.specs.Prelude.{slice_range}
-use Rattle.std.proofs.lemmas.List.{take-append-le, ext_get_or, get_or_append_left, get_or_push, get_or_default, drop-append-le, length-drop, length-take-le}
-use Rattle.std.proofs.lemmas.List.Sums.{sum_by-cons}
-use Rattle.std.proofs.Math.Seq.{drop-append_seam, take-length}
-use Rattle.pg_game.specs.Rows.{rows_of}
-use Rattle.pg_game.specs.private.Rows.{IsCompressed, size_of}
+use Rattle.pg_game.proofs.Common.{◌≡◌, ℕ, zero, suc, ◌+◌, ◌-◌, ◌<◌, ◌≤◌, ◌⊎◌, inl, inr, List, [], ◌∷◌, ◌++◌, length, take, drop, get_or, ◌^◌, refl, sym, ◌∙◌}
+use Rattle.pg_game.proofs.Common.{arith, length-append, add-one, rules, slice_range, ext_get_or, get_or_append_left, get_or_push, get_or_default}
+use Rattle.pg_game.proofs.Common.{length-take-le, sum_by-cons, take-length, rows_of, IsCompressed, size_of}
+use Rattle.std.proofs.lemmas.List.{take-append-le, drop-append-le, length-drop}
+use Rattle.std.proofs.Math.Seq.{drop-append_seam}
 
 pub length-rows_of : (os ts : List ℕ) → length (rows_of os ts) ≡ length os - 1
 length-rows_of [] ts = refl

@@ -1,13 +1,10 @@
 -- The first identifier that is repeated, one specification after another.
-use Rattle.std.proofs.Common.{◌≡◌, ℕ, ◌+◌, ◌<◌, true, false, List, [], ◌∷◌, ◌++◌, length, take, drop, map, get_or, refl, sym, ◌∙◌, ap, nat_eq, rules}
-use Rattle.std.specs.Prelude.{Some, reverse, ◌==◌}
-use Rattle.std.specs.List.{list_any}
-use Rattle.std.proofs.lemmas.Bool.{eqb-true, eq-eqb, false_from_ne_true, cases_Bool}
-use Rattle.std.proofs.lemmas.List.{take_more, drop_more, take-map, drop-map, map_push, reverse-append}
+use Rattle.pg_game.proofs.Common.{◌≡◌, ℕ, ◌+◌, ◌<◌, true, false, List, [], ◌∷◌, ◌++◌, length, take, drop, map, get_or, refl, sym, ◌∙◌, ap, nat_eq, rules, Some}
+use Rattle.pg_game.proofs.Common.{◌==◌, list_any, eqb-true, eq-eqb, false_from_ne_true, cases_Bool, take_more, drop_more, map_push, Spec, first_repeated}
+use Rattle.pg_game.proofs.Common.{ids_of}
+use Rattle.std.specs.Prelude.{reverse}
+use Rattle.std.proofs.lemmas.List.{take-map, drop-map, reverse-append}
 use Rattle.std.proofs.lemmas.List.Sorted.{IsPermutation-reverse, list_any-IsPermutation}
-use Rattle.pg_game.specs.declared.game.Spec.{Spec}
-use Rattle.pg_game.specs.Specification.{first_repeated}
-use Rattle.pg_game.specs.private.Identifiers.{ids_of}
 
 -- the first identifiers, the newest first
 abbrev pub earlier : List Spec → ℕ → List ℕ

@@ -1,16 +1,12 @@
 -- Sorted identifiers and sorted specifications go together.
-use Rattle.std.proofs.Common.{◌≡◌, ℕ, ◌<◌, ◌≤◌, List, length, get_or, nat_cmp, subst, arith, rules}
-use Rattle.std.specs.Prelude.{nat_eq, All, None}
-use Rattle.std.specs.List.{IsDistinct}
-use Rattle.std.specs.List.Sorted.{IsStrictlyIncreasing, IsPermutation, IsSorted, IsNonDecreasing, IsNonDecreasingBy}
-use Rattle.std.proofs.lemmas.List.{length-map, get_or-map}
-use Rattle.std.proofs.lemmas.List.Sorted.{IsNonDecreasingBy-from_sort, IsPermutation-map, IsPermutation-sym, IsPermutation-trans}
-use Rattle.std.proofs.lemmas.List.Sorted.{Contains-permutation, length_permutation, sum_by-IsPermutation}
-use Rattle.std.proofs.lemmas.Map.Keys.{IsStrictlyIncreasing-from_distinct, IsDistinct-IsPermutation}
-use Rattle.pg_game.specs.declared.game.Spec.{Spec}
-use Rattle.pg_game.specs.Specification.{AreNumbers, first_fault, edges, max_vertices, max_edges}
-use Rattle.pg_game.specs.private.Identifiers.{ids_of, ArePlaces}
-use Rattle.pg_game.specs.private.Rows.{row_at, size_of}
+use Rattle.pg_game.proofs.Common.{◌≡◌, ℕ, ◌<◌, ◌≤◌, List, length, get_or, subst, arith, rules, All, None, IsDistinct, IsStrictlyIncreasing, IsPermutation}
+use Rattle.pg_game.proofs.Common.{length-map, get_or-map, IsPermutation-map, IsPermutation-sym, Contains-permutation, length_permutation, sum_by-IsPermutation}
+use Rattle.pg_game.proofs.Common.{IsDistinct-IsPermutation, Spec, AreNumbers, first_fault, edges, max_vertices, max_edges, ids_of, ArePlaces, row_at, size_of}
+use Rattle.std.proofs.Common.{nat_cmp}
+use Rattle.std.specs.Prelude.{nat_eq}
+use Rattle.std.specs.List.Sorted.{IsSorted, IsNonDecreasing, IsNonDecreasingBy}
+use Rattle.std.proofs.lemmas.List.Sorted.{IsNonDecreasingBy-from_sort, IsPermutation-trans}
+use Rattle.std.proofs.lemmas.Map.Keys.{IsStrictlyIncreasing-from_distinct}
 use Rattle.pg_game.proofs.Sound.{sound_is}
 use Rattle.pg_game.proofs.Seen.{eqb_flip}
 use Rattle.pg_game.proofs.Made.{no_spec, IsLaid}

@@ -1,15 +1,12 @@
 -- Specifications without fault, test by test.
-use Rattle.std.proofs.Common.{◌≡◌, ℕ, zero, suc, ◌<◌, ◌≤◌, Bool, true, false, ◌⊎◌, inl, inr, List, [], ◌∷◌, length, refl, sym, subst, arith, rules}
-use Rattle.std.specs.Prelude.{Option, Some, None, if◌then◌else◌, nat_lt, not, find}
-use Rattle.std.specs.List.{Contains}
-use Rattle.std.proofs.lemmas.Bool.{ltb-false, le-ltb, lt-ltb, not-false}
+use Rattle.pg_game.proofs.Common.{◌≡◌, ℕ, zero, suc, ◌<◌, ◌≤◌, Bool, true, false, ◌⊎◌, inl, inr, List, [], ◌∷◌, length, refl, sym, subst, arith, rules, Option}
+use Rattle.pg_game.proofs.Common.{Some, None, if◌then◌else◌, nat_lt, Contains, ltb-false, le-ltb, lt-ltb, not-false, Spec, GameFault, first_fault, fault_or}
+use Rattle.pg_game.proofs.Common.{first_repeated, first_without, first_unknown, first_unspecified, IsSpecified, edges, max_vertices, max_edges, ids_of}
+use Rattle.std.specs.Prelude.{not, find}
 use Rattle.pg_game.proofs.Members.{Contains-head, Contains-tail, Contains-cons}
-use Rattle.pg_game.specs.declared.game.Spec.{Spec}
-use Rattle.pg_game.specs.declared.game.GameFault.{GameFault}
 use Rattle.pg_game.specs.declared.game.GameFault.TheVariants.{NoSuccessor, TooManyEdges, Unknown}
-use Rattle.pg_game.specs.Specification.{first_fault, fault_or, is_empty, first_repeated, first_without, first_unknown, first_unspecified, paired_or}
-use Rattle.pg_game.specs.Specification.{IsSpecified, OrMemory, edges, max_vertices, max_edges}
-use Rattle.pg_game.specs.private.Identifiers.{ids_of, twice_of}
+use Rattle.pg_game.specs.Specification.{is_empty, paired_or, OrMemory}
+use Rattle.pg_game.specs.private.Identifiers.{twice_of}
 
 pub record IsSound (specs : List Spec) : Type 0 where
   pub nonempty : 0 < length specs

@@ -1,9 +1,5 @@
 -- Edges of specifications, one after another.
-use Rattle.std.proofs.Common.{◌≡◌, ℕ, ◌+◌, ◌<◌, List, ◌∷◌, length, drop, get_or, sym, ◌∙◌, ap}
-use Rattle.std.proofs.lemmas.List.{drop_more}
-use Rattle.std.proofs.lemmas.List.Sums.{sum_by-cons}
-use Rattle.pg_game.specs.declared.game.Spec.{Spec}
-use Rattle.pg_game.specs.Specification.{edges, different}
+use Rattle.pg_game.proofs.Common.{◌≡◌, ℕ, ◌+◌, ◌<◌, List, ◌∷◌, length, drop, get_or, sym, ◌∙◌, ap, drop_more, sum_by-cons, Spec, edges, different}
 
 pub edges_more : (specs : List Spec) (k : ℕ) (s : Spec) → k < length specs → s ≡ get_or specs k s →
     edges (drop k specs) ≡ different s.successors + edges (drop (k + 1) specs)

@@ -1,14 +1,7 @@
 -- Specifications in lists of their parts, one by one.
-use Rattle.std.proofs.Common.{◌≡◌, ℕ, ◌+◌, ◌<◌, List, [], ◌∷◌, ◌++◌, length, map, take, get_or, refl, sym, ◌∙◌, ap, arith}
-use Rattle.std.proofs.lemmas.List.{take_more, length-map, get_or-map, ext_get_or}
-use Rattle.pg_game.specs.declared.player.Player.{Player}
-use Rattle.pg_game.specs.declared.player.Player.TheVariants.{Even}
-use Rattle.pg_game.specs.declared.game.Spec.{Spec}
-use Rattle.pg_game.specs.Graph.{no_vertex}
-use Rattle.pg_game.specs.View.{graph_of}
-use Rattle.pg_game.specs.private.Identifiers.{ids_of, priorities_of, owners_of}
-use Rattle.pg_game.specs.private.Stored.{AreParts}
-use Rattle.pg_game.specs.Flat.{spec_from, specs_from}
+use Rattle.pg_game.proofs.Common.{◌≡◌, ℕ, ◌+◌, ◌<◌, List, [], ◌∷◌, ◌++◌, length, map, take, get_or, refl, sym, ◌∙◌, ap, arith, take_more, length-map}
+use Rattle.pg_game.proofs.Common.{get_or-map, ext_get_or, Player, Even, Spec, no_vertex, graph_of, ids_of, priorities_of, owners_of, AreParts, spec_from}
+use Rattle.pg_game.proofs.Common.{specs_from}
 use Rattle.pg_game.proofs.Parts as part
 
 abbrev pub spec_of : ℕ → ℕ → Player → List ℕ → Spec

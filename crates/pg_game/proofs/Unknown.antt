@@ -1,14 +1,8 @@
 -- The first successor that is not specified, one specification after another.
-use Rattle.std.proofs.Common.{◌≡◌, ℕ, ◌+◌, ◌<◌, true, List, [], ◌∷◌, length, drop, get_or, refl, sym, ◌∙◌, ap, nat_eq, rules}
-use Rattle.std.specs.Prelude.{Some, None}
+use Rattle.pg_game.proofs.Common.{◌≡◌, ℕ, ◌+◌, ◌<◌, true, List, [], ◌∷◌, length, drop, get_or, refl, sym, ◌∙◌, ap, nat_eq, rules, Some, None, Contains}
+use Rattle.pg_game.proofs.Common.{list_any, eqb-true, drop_more, Spec, IsSpecified, first_unspecified, first_unknown, ids_of, first_outside}
 use Rattle.std.specs.Cmp.{nat_eq_equiv}
-use Rattle.std.specs.List.{Contains, list_any}
-use Rattle.std.proofs.lemmas.Bool.{eqb-true}
-use Rattle.std.proofs.lemmas.List.{drop_more}
 use Rattle.std.proofs.lemmas.Map.Views.{Contains-from_any, list_any-from_Contains}
-use Rattle.pg_game.specs.declared.game.Spec.{Spec}
-use Rattle.pg_game.specs.Specification.{IsSpecified, first_unspecified, first_unknown}
-use Rattle.pg_game.specs.private.Identifiers.{ids_of, first_outside}
 use Rattle.pg_game.proofs.Seen.{eqb_flip}
 
 specified_is : (specs : List Spec) (i : ℕ) → list_any (nat_eq i) (ids_of specs) ≡ IsSpecified specs i

@@ -17,8 +17,6 @@ mod open;
 mod placed;
 mod player;
 mod sequence;
-#[cfg(test)]
-mod tests;
 
 pub use flat::Specs;
 pub use game::{Game, GameFault, Spec};

@@ -1,11 +1,7 @@
 -- A private reader goes on over a text, a token at a time.
-use Rattle.std.proofs.Common.{◌≡◌, ℕ, Bool, true, false, List, [], ◌∷◌, ◌++◌, rules}
-use Rattle.pg_text.specs.Token.{Token, Placed, tokens_of}
-use Rattle.pg_text.specs.Fault.{IsLexicalFault, IsSyntaxFault}
-use Rattle.pg_text.specs.private.FirstFault.{placed}
-use Rattle.pg_text.specs.private.Piece.{IsToken}
-use Rattle.pg_text.specs.private.Reach.{ReadsTo, SpellsRest, IsBadFrom}
-use Rattle.pg_text.specs.private.Advance.{Advances, FailsWith, TakesToken, IsUnexpected}
+use Rattle.pg_text.proofs.Common.{◌≡◌, ℕ, Bool, true, false, List, [], ◌∷◌, ◌++◌, rules, Token, Placed, tokens_of, IsLexicalFault, IsSyntaxFault, placed}
+use Rattle.pg_text.proofs.Common.{IsToken, ReadsTo, SpellsRest, IsBadFrom, Advances}
+use Rattle.pg_text.specs.private.Advance.{FailsWith, TakesToken, IsUnexpected}
 use Rattle.pg_text.proofs.Reach.{reaches_more, later_fault}
 use Rattle.pg_text.proofs.FirstFaults.{syntax_here}
 

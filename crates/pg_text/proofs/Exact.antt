@@ -1,15 +1,10 @@
 -- The choices of an exact solution are vertices, so a writer takes its rows.
-use Rattle.std.proofs.Common.{rules, ◌≡◌, ℕ, zero, suc, true, ◌<◌, ◌⊎◌, inl, inr, [], ◌∷◌, length, refl, subst}
-use Rattle.std.specs.Prelude.{Option, Some, None, IfSome, nat_lt, slice_get}
-use Rattle.std.specs.List.{AllByRecursion}
-use Rattle.std.proofs.lemmas.Option.{slice_get_within, get_or_from_slice_get}
-use Rattle.pg_game.specs.declared.player.Player.{Player}
-use Rattle.pg_game.specs.declared.player.Player.TheVariants.{Even}
-use Rattle.pg_game.specs.Graph.{Graph, IsGame, HasEdge, owner_of}
-use Rattle.pg_game.specs.VertexSet.{In}
+use Rattle.pg_text.proofs.Common.{rules, ◌≡◌, ℕ, zero, suc, true, ◌<◌, ◌⊎◌, inl, inr, [], ◌∷◌, length, refl, subst, Option, Some, None, IfSome, nat_lt}
+use Rattle.pg_text.proofs.Common.{slice_get, AllByRecursion, get_or_from_slice_get, Player, Even, Graph, IsGame, HasEdge, owner_of, In, is_same, SolutionRows}
+use Rattle.pg_text.proofs.Common.{AreSolutionRows, winner_of, choice_of, won_by}
+use Rattle.std.proofs.lemmas.Option.{slice_get_within}
 use Rattle.pg_game.proofs.Edges.{edge_inside}
-use Rattle.pg_game.proofs.Players.{is_same}
-use Rattle.pg_text.specs.Solution.{SolutionRows, AreSolutionRows, IsExactSolution, winner_of, choice_of, won_by}
+use Rattle.pg_text.specs.Solution.{IsExactSolution}
 
 pub edge_below : (g : Graph) → IsGame g → (v w : ℕ) → v < length g → HasEdge g v w → w < length g
 edge_below g game v w lt e = let h : nat_lt w (length g) ≡ true = edge_inside g game v w lt e in search rules

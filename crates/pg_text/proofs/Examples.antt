@@ -1,16 +1,12 @@
 -- Examples, for the reader of the definitions: nothing is proved from these.
-use Rattle.std.proofs.Common.{◌≡◌, ℕ, zero, suc, ◌<◌, ◌≤◌, [], ◌∷◌, ◌^◌, length, refl, sym, ap, subst, arith, decimal, rules}
-use Rattle.std.specs.Prelude.{Some, None, codes}
+use Rattle.pg_text.proofs.Common.{◌≡◌, ℕ, zero, suc, ◌<◌, ◌≤◌, [], ◌∷◌, ◌^◌, length, refl, sym, ap, subst, arith, decimal, rules, Some, None, codes, Contains}
+use Rattle.pg_text.proofs.Common.{Even, Graph, HasEdge, NoneHas, written_game, written_solution, SolutionRows, winner_of, IsSolution, LacksChoice, HasBadChoice}
+use Rattle.pg_text.proofs.Common.{Leaves, IsOnBadWalk}
 use Rattle.std.specs.Fmt.{digits}
 use Rattle.std.proofs.Math.ListN.{replicate}
-use Rattle.std.specs.List.{Contains}
-use Rattle.pg_game.specs.declared.player.Player.TheVariants.{Even, Odd}
-use Rattle.pg_game.specs.Graph.{Graph, HasEdge}
-use Rattle.pg_game.specs.Least.{NoneHas, IsLeast}
+use Rattle.pg_game.specs.declared.player.Player.TheVariants.{Odd}
+use Rattle.pg_game.specs.Least.{IsLeast}
 use Rattle.pg_game.proofs.Members.{Contains-head, Contains-one}
-use Rattle.pg_text.specs.Written.{written_game, written_solution}
-use Rattle.pg_text.specs.Solution.{SolutionRows, winner_of, IsSolution}
-use Rattle.pg_text.specs.Verdict.{LacksChoice, HasBadChoice, Leaves, IsOnBadWalk}
 use Rattle.pg_text.proofs.Verdict.{solution_from_no_fault, won}
 
 -- 0 2 0 0,1; 1 1 1 1;

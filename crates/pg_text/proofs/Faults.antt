@@ -1,12 +1,8 @@
 -- Each text is at fault in one place or spells tokens, and not both.
-use Rattle.std.proofs.Common.{◌≡◌, ℕ, zero, suc, ◌+◌, ◌≤◌, ◌<◌, Bool, true, false, ◌⊎◌, inl, inr, List, [], ◌∷◌, ◌++◌, length, refl, sym, ◌∙◌, ap, subst, arith}
-use Rattle.std.proofs.Common.{append_assoc, length-append, rules}
-use Rattle.std.specs.Prelude.{◌==◌}
-use Rattle.std.proofs.lemmas.Bool.Decides.{nat_tests}
-use Rattle.std.proofs.lemmas.List.{append-nil}
-use Rattle.pg_text.specs.Token.{Token, Number, Word, Name, Comma, Semicolon, IsSpelling, IsWhole, Placed, Begins, Spells}
-use Rattle.pg_text.specs.Bytes.{is_blank, is_digit, is_letter, is_no_quote, begins_token, AllAre, EndsRun, value_of}
-use Rattle.pg_text.specs.Fault.{IsLexicalFault}
+use Rattle.pg_text.proofs.Common.{◌≡◌, ℕ, zero, suc, ◌+◌, ◌≤◌, ◌<◌, Bool, true, false, ◌⊎◌, inl, inr, List, [], ◌∷◌, ◌++◌, length, refl, sym, ◌∙◌, ap, subst}
+use Rattle.pg_text.proofs.Common.{arith, append_assoc, length-append, rules, ◌==◌, nat_tests, append-nil, Token, Number, Word, Name, Comma, Semicolon}
+use Rattle.pg_text.proofs.Common.{IsSpelling, IsWhole, Placed, Begins, Spells, is_blank, is_digit, is_letter, is_no_quote, begins_token, AllAre, EndsRun}
+use Rattle.pg_text.proofs.Common.{value_of, IsLexicalFault}
 use Rattle.pg_text.specs.Laws.{TokensOrLexical}
 use Rattle.pg_text.proofs.Spelling.{run_unique, byte_kind, kind_of, head, one_front, not_blank}
 

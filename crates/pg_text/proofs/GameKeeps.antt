@@ -1,28 +1,22 @@
 -- What a reader of game texts knows of the tokens that it has read.
-use Rattle.std.proofs.Common.{◌≡◌, ℕ, ◌<◌, true, false, List, [], ◌∷◌, ◌++◌, length, refl, sym, ◌∙◌, ap, subst, arith, Option, Some, None, rules}
-use Rattle.std.specs.Prelude.{codes, nat_lt}
-use Rattle.std.specs.Str.{bytes_eq}
-use Rattle.std.proofs.lemmas.Bool.{ltb-true, ltb-false}
-use Rattle.std.proofs.lemmas.List.{map-append}
+use Rattle.pg_text.proofs.Common.{◌≡◌, ℕ, ◌<◌, true, false, List, [], ◌∷◌, ◌++◌, length, refl, sym, ◌∙◌, ap, subst, arith, rules, codes, nat_lt, bytes_eq}
+use Rattle.pg_text.proofs.Common.{ltb-true, ltb-false, map-append, Player, Spec, Token, Number, Word, Name, Comma, Semicolon, Placed, tokens_of, Spells}
+use Rattle.pg_text.proofs.Common.{WrittenGameLine, player_of, spec_of, IsBeforeOwner, IsGameText, BeginsGameText, IsSomeGameText, fits, AllFit, IsSyntaxFault}
+use Rattle.pg_text.proofs.Common.{IsNumberFault, IsPlayerFault, placed, first_at, FirstLarge, KeepsReader, SpellsSpecs, Front, front, with_line, Reading, line}
+use Rattle.pg_text.proofs.Common.{on_comma, on_name, step, run}
+use Rattle.std.proofs.Common.{Option, Some, None}
 use Rattle.pg_text.proofs.Once.{tokens_append}
 use Rattle.pg_text.proofs.Advance.{Reads}
-use Rattle.pg_game.specs.declared.player.Player.{Player}
-use Rattle.pg_game.specs.declared.game.Spec.{Spec}
 use Rattle.pg_game.proofs.Taken.{spec_of as spec}
 use Rattle.pg_text.specs.declared.game_reader.State.{State}
-use Rattle.pg_text.specs.declared.game_reader.State.TheVariants as state
-use Rattle.pg_text.specs.Token.{Token, Number, Word, Name, Comma, Semicolon, Placed, tokens_of, Spells}
-use Rattle.pg_text.specs.GameText.{WrittenGameLine, player_of, spec_of, IsBeforeOwner, IsGameText, BeginsGameText}
-use Rattle.pg_text.specs.Reading.{IsSomeGameText}
-use Rattle.pg_text.specs.Fault.{fits, AllFit, IsSyntaxFault, IsNumberFault, IsPlayerFault}
-use Rattle.pg_text.specs.private.FirstFault.{placed, first_at, FirstLarge}
-use Rattle.pg_text.specs.private.GameKeeps.{Keeps, KeepsReader, Stops, SpellsSpecs}
+use Rattle.pg_text.specs.private.GameKeeps.{Keeps, Stops}
 use Rattle.pg_text.specs.private.GameStates.{reader_state, is_complete, AreLines, HoldsRead}
-use Rattle.pg_text.proofs.FirstFaults.{all-push, IsTaken, taken_none, taken_large, first_large-fit, none_known, first_player-more}
-use Rattle.pg_text.proofs.FirstFaults.{first_player-number, syntax_end, number_fault, player_fault}
-use Rattle.pg_text.specs.private.GameRun as reading
-use Rattle.pg_text.specs.private.GameRun.{Front, front, with_line, Reading, line, on_number, on_semicolon, on_comma, on_name, on_word, step, run}
+use Rattle.pg_text.proofs.FirstFaults.{all-push, IsTaken, taken_none, taken_large, first_large-fit, none_known, first_player-more, first_player-number}
+use Rattle.pg_text.proofs.FirstFaults.{syntax_end, number_fault, player_fault}
+use Rattle.pg_text.specs.private.GameRun.{on_number, on_semicolon, on_word}
 use Rattle.pg_text.proofs.GameRun.{run-append, tokens_are, spelled, finished, text_begins, text_is, lines_are, begins_none}
+use Rattle.pg_text.specs.declared.game_reader.State.TheVariants as state
+use Rattle.pg_text.specs.private.GameRun as reading
 
 -- what a reading in a state is
 abbrev pub Shape : State → Reading → Type 0

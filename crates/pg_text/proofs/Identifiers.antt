@@ -1,18 +1,14 @@
 -- Which identifiers a game has, and which vertex each of them names.
-use Rattle.std.proofs.Common.{◌≡◌, ◌≢◌, ℕ, zero, suc, ◌+◌, ◌<◌, Bool, true, false, List, [], ◌∷◌, ◌++◌, length, map, get_or, refl, sym, ◌∙◌, ap, subst, arith}
-use Rattle.std.proofs.Common.{rules}
-use Rattle.std.specs.Prelude.{◌==◌, if◌then◌else◌, nat_lt, count_by, Option, Some, None, IfSome, option_map}
-use Rattle.std.specs.Option.{option_or}
-use Rattle.std.specs.List.{Contains, list_any}
-use Rattle.std.proofs.lemmas.Bool.{eqb-true, eq-eqb, false_from_ne_true, true_from_ne_false}
+use Rattle.pg_text.proofs.Common.{◌≡◌, ℕ, zero, suc, ◌+◌, ◌<◌, Bool, true, false, List, [], ◌∷◌, ◌++◌, length, map, get_or, refl, sym, ◌∙◌, ap, subst, arith}
+use Rattle.pg_text.proofs.Common.{rules, ◌==◌, if◌then◌else◌, nat_lt, Option, Some, None, IfSome, option_map, option_or, Contains, list_any, eqb-true, eq-eqb}
+use Rattle.pg_text.proofs.Common.{false_from_ne_true, get_or-map, length-map, list_any_at, Graph, IsGame, id_of, no_vertex, WrittenSolutionLine, is_id}
+use Rattle.pg_text.proofs.Common.{number_in, first_stranger, IsNamed}
+use Rattle.std.proofs.Common.{◌≢◌}
+use Rattle.std.specs.Prelude.{count_by}
+use Rattle.std.proofs.lemmas.Bool.{true_from_ne_false}
 use Rattle.std.proofs.lemmas.Grind.{flat_map-append}
-use Rattle.std.proofs.lemmas.List.{get_or-map, length-map}
-use Rattle.std.proofs.lemmas.List.Folds.{find-append, fold-map, list_any_at}
-use Rattle.pg_game.specs.Graph.{Graph, IsGame, id_of, no_vertex}
+use Rattle.std.proofs.lemmas.List.Folds.{find-append, fold-map}
 use Rattle.pg_game.proofs.Different.{smaller_before}
-use Rattle.pg_text.specs.SolutionText.{WrittenSolutionLine}
-use Rattle.pg_text.specs.SolutionLines.{is_id, number_in, first_stranger}
-use Rattle.pg_text.specs.private.SolutionTable.{IsNamed}
 
 -- where a test passes
 pub some_at : {X : Type 0} (p : X → Bool) (xs : List X) (d : X) → list_any p xs ≡ true → (i : ℕ) × (i < length xs) × (p (get_or xs i d) ≡ true)

@@ -1,17 +1,11 @@
 -- What the table of a game's vertices says that is known, and why it is not asked further.
-use Rattle.std.proofs.Common.{◌≡◌, ℕ, ◌<◌, true, false, length, get_or, refl, sym, ◌∙◌, ap, arith, List, Bool, rules}
-use Rattle.std.specs.Prelude.{Option, Some, None, if◌then◌else◌, MatchResult, Result, IfOk, IsErrAnd}
-use Rattle.std.proofs.lemmas.Option.{slice_get-get_or}
-use Rattle.pg_game.specs.declared.player.Player.TheVariants.{Even}
-use Rattle.pg_game.specs.Graph.{Graph}
-use Rattle.pg_game.specs.VertexSet.{members}
-use Rattle.pg_text.specs.declared.fault.SolutionTextFault.{SolutionTextFault}
+use Rattle.pg_text.proofs.Common.{◌≡◌, ℕ, ◌<◌, true, false, length, get_or, refl, sym, ◌∙◌, ap, arith, List, Bool, rules, Option, Some, None, if◌then◌else◌}
+use Rattle.pg_text.proofs.Common.{MatchResult, Result, IfOk, slice_get-get_or, Even, Graph, members, SolutionTextFault, WrittenSolutionLine, SolutionRows}
+use Rattle.pg_text.proofs.Common.{has_line, HoldsLines, IsLookUpFaultOf, AreKnownLinesOf}
+use Rattle.std.specs.Prelude.{IsErrAnd}
 use Rattle.pg_text.specs.declared.solution.Known.{Known}
-use Rattle.pg_text.specs.SolutionText.{WrittenSolutionLine}
-use Rattle.pg_text.specs.Solution.{SolutionRows}
-use Rattle.pg_text.specs.SolutionLines.{has_line}
-use Rattle.pg_text.specs.private.SolutionTable.{HoldsLines, IsLookUpFaultOf, IsRowFaultOf, IsKnownRowFaultOf}
-use Rattle.pg_text.specs.Known.{KnownRows, AreKnownLinesOf}
+use Rattle.pg_text.specs.private.SolutionTable.{IsRowFaultOf, IsKnownRowFaultOf}
+use Rattle.pg_text.specs.Known.{KnownRows}
 use Rattle.pg_text.proofs.SolutionTable.{has_line_at}
 
 module _ {g : Graph} {lines : List WrittenSolutionLine} {rows : SolutionRows} {said : List Bool} {twice : Option ℕ}

@@ -1,18 +1,15 @@
 -- How long written texts are, within the limits of games.
-use Rattle.std.proofs.Common.{ℕ, ◌+◌, ◌*◌, ◌^◌, ◌<◌, ◌≤◌, List, [], ◌∷◌, ◌++◌, length, map, arith, lit<, length-append, decimal, rules}
-use Rattle.std.specs.Prelude.{Option, None, IfSome, codes, flat_map, sum_by}
-use Rattle.std.specs.List.{AllByRecursion, join_with_byte}
+use Rattle.pg_text.proofs.Common.{ℕ, ◌+◌, ◌*◌, ◌^◌, ◌<◌, ◌≤◌, List, [], ◌∷◌, ◌++◌, length, map, arith, length-append, decimal, rules, Option, None, IfSome}
+use Rattle.pg_text.proofs.Common.{codes, flat_map, AllByRecursion, join_with_byte, Player, digit_of, Graph, Vertex, IsGame, id_of, no_vertex, max_number}
+use Rattle.pg_text.proofs.Common.{IsWithinLimits, SolutionRows, AreSolutionRows, greatest_id, written_vertex, written_game, written_choice, written_rows}
+use Rattle.pg_text.proofs.Common.{written_solution, written_winners}
+use Rattle.std.proofs.Common.{lit<}
+use Rattle.std.specs.Prelude.{sum_by}
 use Rattle.std.proofs.Math.Nat.{mul-le-mul_right}
 use Rattle.std.proofs.lemmas.Fmt.{length-decimal-le_wide}
 use Rattle.std.proofs.lemmas.List.Concat.{flat_map-cons}
 use Rattle.std.proofs.lemmas.List.Sums.{sum_by-cons}
-use Rattle.pg_game.specs.declared.player.Player.{Player}
-use Rattle.pg_game.specs.Player.{digit_of}
-use Rattle.pg_game.specs.Graph.{Graph, Vertex, IsGame, id_of, no_vertex}
-use Rattle.pg_game.specs.Specification.{max_number, max_vertices}
-use Rattle.pg_game.specs.Limits.{IsWithinLimits}
-use Rattle.pg_text.specs.Solution.{SolutionRows, AreSolutionRows}
-use Rattle.pg_text.specs.Written.{greatest_id, written_vertex, written_game, written_choice, written_rows, written_solution, written_winners}
+use Rattle.pg_game.specs.Specification.{max_vertices}
 use Rattle.pg_text.specs.Lengths.{most_digits, greatest_header, greatest_game_text, greatest_winners_text, greatest_solution_text}
 use Rattle.pg_text.proofs.WrittenSpells.{HasNumbers, have_numbers, last_id, all_from_places, all_imply}
 

@@ -1,3 +1,4 @@
+pub mod Common
 pub mod Spelling
 pub mod Verdict
 pub mod Examples

@@ -1,16 +1,16 @@
 -- The token at a place, from runs of bytes.
-use Rattle.std.proofs.Common.{◌≡◌, ℕ, ◌+◌, ◌-◌, ◌<◌, ◌≤◌, zero, suc, Bool, true, false, List, [], ◌∷◌, ◌++◌, length, drop, take, get_or, refl, sym, ◌∙◌, ap}
-use Rattle.std.proofs.Common.{subst, arith, ◌⊎◌, append_assoc, length-append, length-drop, rules}
+use Rattle.pg_text.proofs.Common.{◌≡◌, ℕ, ◌+◌, ◌-◌, ◌<◌, ◌≤◌, zero, suc, Bool, true, false, List, [], ◌∷◌, ◌++◌, length, drop, take, get_or, refl, sym, ◌∙◌, ap}
+use Rattle.pg_text.proofs.Common.{subst, arith, ◌⊎◌, append_assoc, length-append, rules, Some, None, eqb-true, false_from_ne_true, drop_more, take-append-drop}
+use Rattle.pg_text.proofs.Common.{Kind, Token, Number, Word, Name, Comma, Semicolon, IsSpelling, IsWhole, is_blank, is_digit, is_letter, is_no_quote}
+use Rattle.pg_text.proofs.Common.{begins_token, AllAre, EndsRun, IsRun, IsToken, IsNoToken, IsPieceOf}
+use Rattle.std.proofs.Common.{length-drop}
 use Rattle.memchr.specs.Find.{IsFirstByte, is_byte}
-use Rattle.std.specs.Prelude.{not, ◌≢◌, Some, None}
-use Rattle.std.proofs.lemmas.Bool.{eqb-true, ne_eqb, false_from_ne_true}
-use Rattle.std.proofs.lemmas.List.{take_all, drop_more, drop-drop, take-append-drop, length-take-le, take_at, drop_at}
-use Rattle.pg_text.specs.declared.lexer.Kind.{Kind}
-use Rattle.pg_text.specs.declared.lexer.Kind.TheVariants as kind
-use Rattle.pg_text.specs.Token.{Token, Number, Word, Name, Comma, Semicolon, IsSpelling, IsWhole}
-use Rattle.pg_text.specs.Bytes.{is_blank, is_digit, is_letter, is_no_quote, is_quote, begins_token, AllAre, EndsRun}
-use Rattle.pg_text.specs.private.Piece.{IsRun, IsToken, IsNoToken, IsPieceOf}
+use Rattle.std.specs.Prelude.{not, ◌≢◌}
+use Rattle.std.proofs.lemmas.Bool.{ne_eqb}
+use Rattle.std.proofs.lemmas.List.{take_all, drop-drop, length-take-le, take_at, drop_at}
+use Rattle.pg_text.specs.Bytes.{is_quote}
 use Rattle.pg_text.proofs.Runs.{all-append}
+use Rattle.pg_text.specs.declared.lexer.Kind.TheVariants as kind
 
 -- a run whose first byte passes has a byte
 run_nonempty : (test : ℕ → Bool) (text : List ℕ) (from to : ℕ) (run : List ℕ) → IsRun test text from to run → from < length text

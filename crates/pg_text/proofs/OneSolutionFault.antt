@@ -1,19 +1,11 @@
 -- A text has at most one fault as a solution of a game, and none where it is a solution's.
-use Rattle.std.proofs.Common.{◌≡◌, ℕ, zero, suc, ◌<◌, ◌⊎◌, inl, inr, List, [], ◌∷◌, ◌++◌, refl, sym, ◌∙◌, ap, subst, arith, rules}
-use Rattle.std.specs.Prelude.{Option, Some, None, IfSome, ⊤}
-use Rattle.std.specs.List.{AllByRecursion}
-use Rattle.std.proofs.lemmas.List.{append-nil}
-use Rattle.pg_game.specs.Graph.{Graph}
-use Rattle.pg_text.specs.declared.fault.SolutionTextFault.{SolutionTextFault}
-use Rattle.pg_text.specs.declared.fault.SolutionTextFault.TheVariants.{Lexical, Syntax, Number, Winner, Stranger, Twice, Missing, Memory}
-use Rattle.pg_text.specs.Token as token
-use Rattle.pg_text.specs.Token.{Token, Semicolon, Placed, tokens_of, Spells}
-use Rattle.pg_text.specs.Fault.{AllFit, IsPlayerFault}
-use Rattle.pg_text.specs.SolutionText.{WrittenSolutionLine, solution_tokens, IsSolutionText, BeginsSolutionText, IsBeforeWinner}
-use Rattle.pg_text.specs.SolutionLines.{first_stranger, first_twice, first_missing}
-use Rattle.pg_text.specs.private.SolutionRun as state
-use Rattle.pg_text.specs.private.SolutionRun.{Reading, Start, HeadWord, HeadNumber, Ready, Id, Choice, line, step, run}
-use Rattle.pg_text.specs.Reading.{SpellsSolution, IsSomeSolutionText, IsSolutionFaultOf}
+use Rattle.pg_text.proofs.Common.{◌≡◌, ℕ, zero, suc, ◌<◌, ◌⊎◌, inl, inr, List, [], ◌∷◌, ◌++◌, refl, sym, ◌∙◌, ap, subst, arith, rules, Option, Some, None}
+use Rattle.pg_text.proofs.Common.{IfSome, ⊤, AllByRecursion, append-nil, Graph, SolutionTextFault, Stranger, Token, Semicolon, Placed, tokens_of, Spells}
+use Rattle.pg_text.proofs.Common.{AllFit, IsPlayerFault, WrittenSolutionLine, solution_tokens, IsSolutionText, BeginsSolutionText, IsBeforeWinner}
+use Rattle.pg_text.proofs.Common.{first_stranger, first_twice, first_missing, Choice, SpellsSolution, IsSomeSolutionText}
+use Rattle.pg_text.specs.declared.fault.SolutionTextFault.TheVariants.{Lexical, Syntax, Number, Winner, Twice, Missing, Memory}
+use Rattle.pg_text.specs.private.SolutionRun.{Reading, Start, HeadWord, HeadNumber, Ready, Id, line, step, run}
+use Rattle.pg_text.specs.Reading.{IsSolutionFaultOf}
 use Rattle.pg_text.specs.Laws.{OneSolutionFault, SolutionTextOrFault}
 use Rattle.pg_text.proofs.Spelling.{one_spelling}
 use Rattle.pg_text.proofs.Faults.{lexical_once, lexical_or_tokens}
@@ -21,6 +13,8 @@ use Rattle.pg_text.proofs.Once.{tokens_at, player_once, syntax_once, syntax_or_g
 use Rattle.pg_text.proofs.FirstFaults.{all-push_parts}
 use Rattle.pg_text.proofs.Stages.{one_fault_of, no_fault}
 use Rattle.pg_text.proofs.SolutionRun.{run-append, run-text, end_of, one_lines}
+use Rattle.pg_text.specs.Token as token
+use Rattle.pg_text.specs.private.SolutionRun as state
 
 abbrev Won : List WrittenSolutionLine → Type 0
 Won ls = AllByRecursion (λ l. l.winner < 2) ls

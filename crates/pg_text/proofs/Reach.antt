@@ -1,15 +1,10 @@
 -- Tokens that follow one another.
-use Rattle.std.proofs.Common.{◌≡◌, ℕ, ◌+◌, Bool, List, [], ◌∷◌, ◌++◌, length, drop, refl, sym, ◌∙◌, ap, subst, arith, append_assoc, length-append, rules}
-use Rattle.pg_text.specs.declared.lexer.Kind.{Kind}
-use Rattle.pg_text.specs.declared.lexer.Kind.TheVariants as kind
-use Rattle.pg_text.specs.Token.{Token, IsWhole, Placed, Begins, Spells}
-use Rattle.pg_text.specs.Bytes.{is_blank, AllAre, EndsRun}
-use Rattle.pg_text.specs.Fault.{IsLexicalFault}
-use Rattle.pg_text.specs.private.FirstFault.{placed}
-use Rattle.pg_text.specs.private.Piece.{IsToken, IsNoToken, IsPieceOf, IsNextPiece}
+use Rattle.pg_text.proofs.Common.{◌≡◌, ℕ, ◌+◌, Bool, List, [], ◌∷◌, ◌++◌, length, drop, refl, sym, ◌∙◌, ap, subst, arith, append_assoc, length-append, rules}
+use Rattle.pg_text.proofs.Common.{Kind, Token, IsWhole, Placed, Begins, Spells, is_blank, AllAre, EndsRun, IsLexicalFault, placed, IsToken, IsNoToken}
+use Rattle.pg_text.proofs.Common.{IsPieceOf, ReadsTo, IsBadFrom, append-nil}
+use Rattle.pg_text.specs.private.Piece.{IsNextPiece}
 use Rattle.pg_text.specs.declared.lexer.Piece.{Piece}
-use Rattle.pg_text.specs.private.Reach.{ReadsTo, IsBadFrom}
-use Rattle.std.proofs.lemmas.List.{append-nil}
+use Rattle.pg_text.specs.declared.lexer.Kind.TheVariants as kind
 
 pub reaches_more : (text : List ℕ) (at mid from to : ℕ) (ts : List Placed) (t : Token) → ReadsTo text at ts mid → IsToken text mid from to t
     → ReadsTo text at (ts ++ placed t from ∷ []) to

@@ -1,19 +1,10 @@
 -- The rows that the lines of a solution text say have vertices for choices.
-use Rattle.std.proofs.Common.{◌≡◌, ℕ, zero, suc, ◌<◌, Bool, true, false, not, List, [], ◌∷◌, length, map, get_or, refl, sym, subst, arith, rules}
-use Rattle.std.specs.Prelude.{◌==◌, Option, Some, None, IfSome, IfOk, MatchResult, Result, find, slice_get}
-use Rattle.std.specs.List.{Contains}
-use Rattle.std.proofs.lemmas.Bool.{eqb-true, not-false}
-use Rattle.std.proofs.lemmas.List.{get_or-map, length-map}
+use Rattle.pg_text.proofs.Common.{◌≡◌, ℕ, zero, suc, ◌<◌, Bool, true, false, not, List, [], ◌∷◌, length, map, get_or, refl, sym, subst, arith, rules, ◌==◌}
+use Rattle.pg_text.proofs.Common.{Option, Some, None, IfSome, IfOk, MatchResult, Result, find, slice_get, Contains, eqb-true, get_or-map, length-map}
+use Rattle.pg_text.proofs.Common.{get_or_from_slice_get, Player, Even, Graph, IsGame, id_of, no_vertex, SolutionTextFault, Solution, WrittenSolutionLine}
+use Rattle.pg_text.proofs.Common.{SolutionRows, AreSolutionRows, AreLinesOf, has_line, row_of_line}
+use Rattle.std.proofs.lemmas.Bool.{not-false}
 use Rattle.std.proofs.lemmas.List.Elements.{Contains-get_or}
-use Rattle.std.proofs.lemmas.Option.{get_or_from_slice_get}
-use Rattle.pg_game.specs.declared.player.Player.{Player}
-use Rattle.pg_game.specs.declared.player.Player.TheVariants.{Even}
-use Rattle.pg_game.specs.Graph.{Graph, IsGame, id_of, no_vertex}
-use Rattle.pg_text.specs.declared.fault.SolutionTextFault.{SolutionTextFault}
-use Rattle.pg_text.specs.declared.solution.Solution.{Solution}
-use Rattle.pg_text.specs.SolutionText.{WrittenSolutionLine}
-use Rattle.pg_text.specs.Solution.{SolutionRows, AreSolutionRows}
-use Rattle.pg_text.specs.SolutionLines.{AreLinesOf, has_line, row_of_line}
 use Rattle.pg_text.proofs.Identifiers.{some_at, number_at, line_home, choice_below}
 use Rattle.pg_text.proofs.WrittenSpells.{all_from_places}
 

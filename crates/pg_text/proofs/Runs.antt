@@ -1,12 +1,9 @@
 -- Runs of bytes that pass a test.
-use Rattle.std.proofs.Common.{◌≡◌, ℕ, ◌+◌, ◌*◌, ◌-◌, ◌^◌, ◌<◌, ◌≤◌, Bool, true, false, List, [], ◌∷◌, ◌++◌, length, get_or, refl, ◌∙◌, ap, arith, add-one}
-use Rattle.std.proofs.Common.{append_assoc, length-append, rules}
+use Rattle.pg_text.proofs.Common.{◌≡◌, ℕ, ◌+◌, ◌*◌, ◌-◌, ◌^◌, ◌<◌, ◌≤◌, Bool, true, false, List, [], ◌∷◌, ◌++◌, length, get_or, refl, ◌∙◌, ap, arith}
+use Rattle.pg_text.proofs.Common.{append_assoc, length-append, rules, cases_lt, leb-true, drop_more, AllAre, is_digit, value_of, IsRun}
+use Rattle.std.proofs.Common.{add-one}
 use Rattle.std.specs.Prelude.{fold, ◌&&◌, nat_le}
-use Rattle.std.proofs.lemmas.Bool.{cases_lt, leb-true}
-use Rattle.std.proofs.lemmas.List.{drop_more}
 use Rattle.std.proofs.Math.Nat.{pow-succ'}
-use Rattle.pg_text.specs.Bytes.{AllAre, is_digit, value_of}
-use Rattle.pg_text.specs.private.Piece.{IsRun}
 
 pub all-append : (test : ℕ → Bool) (xs ys : List ℕ) → AllAre test xs → AllAre test ys → AllAre test (xs ++ ys)
 all-append test [] ys a b = b

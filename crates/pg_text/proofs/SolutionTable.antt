@@ -1,32 +1,19 @@
 -- The table of a game's vertices, one line of a solution text after another.
-use Rattle.std.proofs.Common.{◌≡◌, ℕ, zero, suc, ◌+◌, ◌<◌, Bool, true, false, not, ◌||◌, inl, inr, List, [], ◌∷◌, ◌++◌, length, map, take, drop, get_or, set}
-use Rattle.std.proofs.Common.{refl, sym, ◌∙◌, ap, subst, arith, length-set, get_or-set_same, get_or-set_other, rules}
-use Rattle.std.specs.Prelude.{◌==◌, if◌then◌else◌, Option, Some, None, find, slice_get}
-use Rattle.std.specs.Option.{option_or}
-use Rattle.std.specs.List.{Contains, list_any}
-use Rattle.std.proofs.lemmas.Bool.{eqb-true, eq-eqb, false_from_ne_true}
-use Rattle.std.proofs.lemmas.List.{map-append, get_or-map, length-map, take-map, take_more, take-append-drop}
-use Rattle.std.proofs.lemmas.Option.{slice_get-get_or}
+use Rattle.pg_text.proofs.Common.{◌≡◌, ℕ, zero, suc, ◌+◌, ◌<◌, Bool, true, false, not, inl, inr, List, [], ◌∷◌, ◌++◌, length, map, take, drop, get_or, set}
+use Rattle.pg_text.proofs.Common.{refl, sym, ◌∙◌, ap, subst, arith, rules, ◌==◌, if◌then◌else◌, Option, Some, None, find, slice_get, option_or, Contains}
+use Rattle.pg_text.proofs.Common.{list_any, eqb-true, eq-eqb, false_from_ne_true, map-append, get_or-map, length-map, take-append-drop, slice_get-get_or}
+use Rattle.pg_text.proofs.Common.{list_any_at, Player, Even, digit_of, Graph, IsGame, id_of, no_vertex, first_repeated, members, SolutionTextFault}
+use Rattle.pg_text.proofs.Common.{SolutionLine, player_of, WrittenSolutionLine, SolutionRows, AreLinesOf, first_stranger, first_twice, first_missing, has_line}
+use Rattle.pg_text.proofs.Common.{row_of_line, HoldsLines, IsNamed, IsLookUpFaultOf, line_of}
+use Rattle.std.proofs.Common.{◌||◌, length-set, get_or-set_same, get_or-set_other}
+use Rattle.std.proofs.lemmas.List.{take-map, take_more}
 use Rattle.std.proofs.lemmas.List.Elements.{Contains-push_cases}
-use Rattle.std.proofs.lemmas.List.Folds.{list_any-append, list_any_at}
+use Rattle.std.proofs.lemmas.List.Folds.{list_any-append}
 use Rattle.std.proofs.Math.Bool.{or-false, or-true}
-use Rattle.pg_game.specs.declared.player.Player.{Player}
-use Rattle.pg_game.specs.declared.player.Player.TheVariants.{Even}
-use Rattle.pg_game.specs.Player.{digit_of}
-use Rattle.pg_game.specs.Graph.{Graph, IsGame, id_of, no_vertex}
-use Rattle.pg_game.specs.Specification.{first_repeated}
-use Rattle.pg_game.specs.VertexSet.{members}
 use Rattle.pg_game.proofs.Masks.{members-set}
-use Rattle.pg_text.specs.declared.fault.SolutionTextFault.{SolutionTextFault}
-use Rattle.pg_text.specs.declared.fault.SolutionTextFault.TheVariants as fault
-use Rattle.pg_text.specs.declared.solution_reader.SolutionLine.{SolutionLine}
-use Rattle.pg_text.specs.GameText.{player_of}
-use Rattle.pg_text.specs.SolutionText.{WrittenSolutionLine}
-use Rattle.pg_text.specs.Solution.{SolutionRows}
-use Rattle.pg_text.specs.SolutionLines.{AreLinesOf, first_stranger, first_twice, first_missing, has_line, row_of_line}
-use Rattle.pg_text.specs.private.SolutionTable.{HoldsLines, IsNamed, IsStrangerOf, IsLookUpFaultOf}
-use Rattle.pg_text.specs.private.SolutionKeeps.{line_of}
+use Rattle.pg_text.specs.private.SolutionTable.{IsStrangerOf}
 use Rattle.pg_text.proofs.Identifiers.{number_at, named_is, stranger-append, line_named}
+use Rattle.pg_text.specs.declared.fault.SolutionTextFault.TheVariants as fault
 
 abbrev among : List ℕ → ℕ → Bool
 among ns n = list_any (λ m. m == n) ns

@@ -1,10 +1,7 @@
 -- A text spells at most one list of tokens.
-use Rattle.std.proofs.Common.{◌≡◌, ℕ, ◌+◌, Bool, true, false, List, [], ◌∷◌, ◌++◌, length, refl, sym, ◌∙◌, ap, subst, arith, append_assoc, rules}
-use Rattle.std.specs.Prelude.{◌==◌, if◌then◌else◌}
-use Rattle.std.proofs.lemmas.Bool.Decides.{nat_tests}
-use Rattle.std.proofs.lemmas.List.{append-nil}
-use Rattle.pg_text.specs.Token.{Token, Number, Word, Name, Comma, Semicolon, IsSpelling, IsWhole, Placed, Begins, Spells}
-use Rattle.pg_text.specs.Bytes.{is_blank, is_digit, is_letter, is_no_quote, AllAre, EndsRun}
+use Rattle.pg_text.proofs.Common.{◌≡◌, ℕ, ◌+◌, Bool, true, false, List, [], ◌∷◌, ◌++◌, length, refl, sym, ◌∙◌, ap, subst, arith, append_assoc, rules, ◌==◌}
+use Rattle.pg_text.proofs.Common.{if◌then◌else◌, nat_tests, append-nil, Token, Number, Word, Name, Comma, Semicolon, IsSpelling, IsWhole, Placed, Begins}
+use Rattle.pg_text.proofs.Common.{Spells, is_blank, is_digit, is_letter, is_no_quote, AllAre, EndsRun}
 
 -- where a run of passing bytes ends is determined
 pub run_unique : (test : ℕ → Bool) (xs ys u v : List ℕ) → AllAre test xs → AllAre test ys → EndsRun test u → EndsRun test v → xs ++ u ≡ ys ++ v

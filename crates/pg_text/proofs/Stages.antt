@@ -1,6 +1,5 @@
 -- A text is read in stages, each of which has its own kind of fault: so a text has at most one.
-use Rattle.std.proofs.Common.{◌≡◌, ℕ, zero, suc, ◌<◌, ◌≤◌, ◌⊎◌, inl, inr, arith, rules}
-use Rattle.std.proofs.lemmas.Bool.{cases_lt}
+use Rattle.pg_text.proofs.Common.{◌≡◌, ℕ, zero, suc, ◌<◌, ◌≤◌, ◌⊎◌, inl, inr, arith, rules, cases_lt}
 
 -- what has passed a stage has passed the earlier ones
 module _ (Passed : ℕ → Type 0) (before : (n : ℕ) → Passed (suc n) → Passed n) where

@@ -1,21 +1,15 @@
 -- Winners and choices without a fault are a solution, and a solution has no fault.
-use Rattle.std.proofs.Common.{◌≡◌, ℕ, ◌<◌, Bool, true, false, ◌⊎◌, inl, inr, List, [], ◌∷◌, length, lt-ltb, refl, sym, ◌∙◌, subst, arith, rules}
-use Rattle.std.specs.Prelude.{Option, Some, None, nat_eq}
-use Rattle.std.specs.List.{Contains}
-use Rattle.std.proofs.lemmas.Bool.{ltb-true, eqb-true, eq-eqb, and_parts}
-use Rattle.pg_game.proofs.Players.{same_is, is_same}
-use Rattle.pg_game.specs.declared.player.Player.{Player}
-use Rattle.pg_game.specs.Player.{same_player}
-use Rattle.pg_game.specs.Graph.{Graph, HasEdge, owner_of, successors_of}
-use Rattle.pg_game.specs.VertexSet.{In}
+use Rattle.pg_text.proofs.Common.{◌≡◌, ℕ, ◌<◌, Bool, true, false, ◌⊎◌, inl, inr, List, [], ◌∷◌, length, lt-ltb, refl, sym, ◌∙◌, subst, arith, rules, Option}
+use Rattle.pg_text.proofs.Common.{Some, None, Contains, ltb-true, eqb-true, eq-eqb, is_same, Player, same_player, Graph, HasEdge, owner_of, successors_of, In}
+use Rattle.pg_text.proofs.Common.{NoneHas, SolutionRows, winner_of, choice_of, won_by, IsSolution, LacksChoice, HasBadChoice, Leaves, IsOnBadWalk}
+use Rattle.std.specs.Prelude.{nat_eq}
+use Rattle.std.proofs.lemmas.Bool.{and_parts}
+use Rattle.pg_game.proofs.Players.{same_is}
 use Rattle.pg_game.specs.Kept.{KeptEdge}
 use Rattle.pg_game.specs.Walk.{ClosedWalk}
 use Rattle.pg_game.specs.Region.{OnBadWalk}
-use Rattle.pg_game.specs.Least.{NoneHas}
 use Rattle.pg_game.proofs.Members.{some_or_none}
 use Rattle.pg_game.proofs.Rotate.{good_from_none}
-use Rattle.pg_text.specs.Solution.{SolutionRows, winner_of, choice_of, won_by, IsSolution}
-use Rattle.pg_text.specs.Verdict.{LacksChoice, HasBadChoice, Leaves, IsOnBadWalk}
 
 -- a list has the number or does not
 pub has_or_not : (ws : List ℕ) (w : ℕ) → Contains ws w ⊎ (Contains ws w → ⊥)

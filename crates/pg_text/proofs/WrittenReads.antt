@@ -1,29 +1,16 @@
 -- The written text of a game, or of winners and choices, reads as these and as nothing else.
-use Rattle.std.proofs.Common.{◌≡◌, ℕ, zero, suc, ◌+◌, ◌<◌, false, not, List, [], ◌∷◌, length, map, get_or, refl, sym, ◌∙◌, ap, subst, arith, rules}
-use Rattle.std.specs.Prelude.{◌==◌, Option, Some, None, IfSome, option_map, slice_get}
-use Rattle.std.specs.List.{AllByRecursion, Contains, list_any}
+use Rattle.pg_text.proofs.Common.{◌≡◌, ℕ, zero, suc, ◌+◌, ◌<◌, false, not, List, [], ◌∷◌, length, map, get_or, refl, sym, ◌∙◌, ap, subst, arith, rules, ◌==◌}
+use Rattle.pg_text.proofs.Common.{Option, Some, None, IfSome, option_map, slice_get, AllByRecursion, Contains, list_any, eqb-true, eq-eqb, false_from_ne_true}
+use Rattle.pg_text.proofs.Common.{length-map, get_or-map, list_any_at, slice_get-get_or, get_or_from_slice_get, Player, Even, Spec, digit_of, Graph, Vertex}
+use Rattle.pg_text.proofs.Common.{IsGame, id_of, vertex_at, no_vertex, first_repeated, first_fault, IsWithinLimits, Placed, tokens_of, IsGameText, spec_of}
+use Rattle.pg_text.proofs.Common.{IsSolutionText, SolutionRows, AreSolutionRows, greatest_id, written_game, written_solution, IsSolutionTextOf, AreLinesOf}
+use Rattle.pg_text.proofs.Common.{first_stranger, first_twice, first_missing, has_line, number_in, row_of_line, IsNamed}
 use Rattle.std.specs.List.Sorted.{IsStrictlyIncreasing}
-use Rattle.std.proofs.lemmas.Bool.{eqb-true, eq-eqb, false_from_ne_true}
-use Rattle.std.proofs.lemmas.List.{length-map, get_or-map, same_lists}
-use Rattle.std.proofs.lemmas.List.Folds.{list_any_at}
-use Rattle.std.proofs.lemmas.Option.{slice_get-get_or, get_or_from_slice_get}
+use Rattle.std.proofs.lemmas.List.{same_lists}
 use Rattle.std.proofs.lemmas.Map.Keys.{sorted_from_strictly_increasing, below_from_sorted}
-use Rattle.pg_game.specs.declared.player.Player.{Player}
-use Rattle.pg_game.specs.declared.player.Player.TheVariants.{Even}
-use Rattle.pg_game.specs.declared.game.Spec.{Spec}
-use Rattle.pg_game.specs.Player.{digit_of}
-use Rattle.pg_game.specs.Graph.{Graph, Vertex, IsGame, id_of, vertex_at, no_vertex}
-use Rattle.pg_game.specs.Specification.{IsGameOf, first_repeated, first_fault}
-use Rattle.pg_game.specs.Limits.{IsWithinLimits}
-use Rattle.pg_text.specs.Token.{Placed, tokens_of}
-use Rattle.pg_text.specs.GameText.{IsGameText, spec_of}
-use Rattle.pg_text.specs.SolutionText as solutions
-use Rattle.pg_text.specs.SolutionText.{IsSolutionText}
-use Rattle.pg_text.specs.Solution.{SolutionRows, AreSolutionRows}
-use Rattle.pg_text.specs.Written.{greatest_id, written_game, written_solution}
-use Rattle.pg_text.specs.Reading.{IsTextOf, IsSolutionTextOf}
-use Rattle.pg_text.specs.SolutionLines.{AreLinesOf, AreRowsOf, first_stranger, first_twice, first_missing, has_line, number_in, row_of_line}
-use Rattle.pg_text.specs.private.SolutionTable.{IsNamed}
+use Rattle.pg_game.specs.Specification.{IsGameOf}
+use Rattle.pg_text.specs.Reading.{IsTextOf}
+use Rattle.pg_text.specs.SolutionLines.{AreRowsOf}
 use Rattle.pg_text.specs.Laws.{WrittenGameReads, WrittenSolutionReads, WrittenGameIsText, WrittenSolutionIsText}
 use Rattle.pg_game.specs.private.Described.{spec_at, specs_of}
 use Rattle.pg_game.proofs.Described.{described_game, one_described, described_sound}
@@ -34,6 +21,7 @@ use Rattle.pg_text.proofs.Identifiers.{number_at, stranger-append}
 use Rattle.pg_text.proofs.SolutionTable.{IsChoice, player_back, find_none, row_is, at_home}
 use Rattle.pg_text.proofs.WrittenSpells.{line_of, row_line, row_lines, written_lines, written_grammar, written_owners, spells_game, spells_solution}
 use Rattle.pg_text.proofs.WrittenSpells.{short_numbers, all_from_places, small_winners, written_game_spells, written_solution_spells}
+use Rattle.pg_text.specs.SolutionText as solutions
 
 -- the written lines specify what describes the game
 spec_back : (g : Graph) (x : Vertex) → spec_of (line_of g x) ≡ spec_at g x

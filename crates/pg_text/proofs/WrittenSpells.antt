@@ -1,34 +1,22 @@
 -- The written text of a game or of a solution spells one text.
-use Rattle.std.proofs.Common.{◌≡◌, ℕ, ◌+◌, ◌-◌, ◌%◌, ◌^◌, ◌<◌, ◌≤◌, suc, get_or, true, List, [], ◌∷◌, ◌++◌, length, map, refl, sym, ◌∙◌, ap, subst, arith}
-use Rattle.std.proofs.Common.{append_assoc, length-append, Option, Some, None, decimal, rules}
-use Rattle.std.specs.Prelude.{flat_map, codes, option_map, IfSome, ⊤}
-use Rattle.std.specs.List.{AllByRecursion, join_with_byte}
-use Rattle.std.proofs.lemmas.Bool.{le-leb}
-use Rattle.std.proofs.lemmas.Bool.Decides.{nat_tests}
+use Rattle.pg_text.proofs.Common.{◌≡◌, ℕ, ◌+◌, ◌-◌, ◌^◌, ◌<◌, ◌≤◌, suc, get_or, true, List, [], ◌∷◌, ◌++◌, length, map, refl, sym, ◌∙◌, ap, subst, arith}
+use Rattle.pg_text.proofs.Common.{append_assoc, length-append, decimal, rules, flat_map, codes, option_map, IfSome, ⊤, AllByRecursion, join_with_byte, le-leb}
+use Rattle.pg_text.proofs.Common.{nat_tests, length-map, Player, digit_of, Graph, Vertex, id_of, owner_of, IsGame, no_vertex, successors_of, Token, Number}
+use Rattle.pg_text.proofs.Common.{Word, Comma, Semicolon, IsSpelling, IsWhole, Placed, tokens_of, Begins, Spells, is_blank, is_digit, is_letter, AllAre}
+use Rattle.pg_text.proofs.Common.{EndsRun, value_of, placed, max_number, IsWithinLimits, fits, AllFit, SpellsGame, SpellsSolution, IsGameText, separated}
+use Rattle.pg_text.proofs.Common.{SolutionRows, AreSolutionRows, greatest_id, written_vertex, written_game, written_choice, written_rows, written_solution}
+use Rattle.std.proofs.Common.{◌%◌, Option, Some, None}
 use Rattle.std.proofs.lemmas.Fmt.{decimal_by_steps_wide}
-use Rattle.std.proofs.lemmas.List.{length-map}
 use Rattle.pg_text.proofs.SolutionKeeps.{owner_small}
 use Rattle.pg_text.proofs.FirstFaults.{all-append}
-use Rattle.pg_game.specs.declared.player.Player.{Player}
-use Rattle.pg_game.specs.Player.{digit_of}
-use Rattle.pg_game.specs.Graph.{Graph, Vertex, id_of, priority_of, owner_of, IsGame, no_vertex, successors_of}
-use Rattle.pg_text.specs.Token.{Token, Number, Word, Comma, Semicolon, IsSpelling, IsWhole, Placed, tokens_of, Begins, Spells}
-use Rattle.pg_text.specs.Bytes.{is_blank, is_digit, is_letter, AllAre, EndsRun, value_of}
-use Rattle.pg_text.specs.private.FirstFault.{placed}
-use Rattle.pg_game.specs.Specification.{max_number}
-use Rattle.pg_game.specs.Limits.{IsWithinLimits}
-use Rattle.pg_text.specs.Fault.{fits, AllFit}
-use Rattle.pg_text.specs.Reading.{SpellsGame, SpellsSolution}
-use Rattle.pg_text.specs.GameText.{IsGameText, separated}
-use Rattle.pg_text.specs.GameText as games
-use Rattle.pg_text.specs.SolutionText as solutions
-use Rattle.pg_text.specs.Solution.{SolutionRows, AreSolutionRows}
+use Rattle.pg_game.specs.Graph.{priority_of}
 use Rattle.pg_text.specs.Laws.{HasShortNumbers}
-use Rattle.pg_text.specs.Written.{greatest_id, written_vertex, written_game, written_choice, written_rows, written_solution}
 use Rattle.pg_text.proofs.Runs.{value-push}
-use Rattle.pg_text.proofs.Runs as runs
 use Rattle.pg_text.proofs.GameRun.{further, separated-first}
 use Rattle.pg_text.proofs.Written.{join_first}
+use Rattle.pg_text.specs.GameText as games
+use Rattle.pg_text.specs.SolutionText as solutions
+use Rattle.pg_text.proofs.Runs as runs
 
 -- from any place on, the text spells these tokens
 pub record SpellsTokens (text : List ℕ) (ts : List Token) : Type 0 where

@@ -1,11 +1,9 @@
 -- The sum of a report's column `settled` is what its workers settled, and the calling thread's entries come after.
-use Rattle.std.proofs.Common.{◌≡◌, ℕ, ◌+◌, List, length, sum, take, drop, sym, ap, ◌∙◌, subst, arith, length-append, vec_len}
-use Rattle.std.specs.List.{AllByRecursion}
+use Rattle.std.proofs.Common.{rules, ◌≡◌, ℕ, ◌+◌, List, length, sum, take, sym, ap, ◌∙◌, subst, arith, length-append, vec_len}
 use Rattle.std.proofs.Math.Seq.{take-append_seam, drop-append_seam}
 use Rattle.pg_game.specs.Graph.{Graph}
 use Rattle.pg_text.specs.Solution.{IsExactSolution}
 use Rattle.pg_text.specs.Known.{KnownRows}
-use Rattle.pg_board.specs.declared.entry.Entry.{Entry}
 use Rattle.pg_board.specs.Journal.{Journal, state_of, IsLawful, number_settled}
 use Rattle.pg_board.specs.Full.{IsFull, AreStateRows}
 use Rattle.pg_board.specs.Play.{Play}
@@ -26,9 +24,7 @@ adds_up old new report known later is =
       within = omega arith;
       last = omega arith;
       settled = is ∙ ap number_settled (sym (ap (take (length old.journal)) later.journal ∙ take-append_seam old.journal later.added));
-      by_caller =
-          subst (AllByRecursion (λ (e : Entry). e.worker ≡ 0))
-          (sym (ap (drop (length old.journal)) later.journal ∙ drop-append_seam old.journal later.added)) later.by_caller;
+      by_caller = search (rules, drop-append_seam);
     }
 
 -- what a run gives once nothing is left on its board
@@ -39,9 +35,7 @@ pub is_outcome : (old new : Play) (known : KnownRows) (workers : ℕ) (o : Outco
 is_outcome old new known workers o later is lawful full state exact long numbered report (n, size, sum) = record {
   lawful = subst (λ (j : Journal). IsLawful old.graph j) (sym is) (subst (λ (g : Graph). IsLawful g new.journal) later.graph lawful);
   full = subst (λ (j : Journal). IsFull old.graph (state_of j)) (sym is) (subst (λ (g : Graph). IsFull g (state_of new.journal)) later.graph full);
-  state =
-      subst (λ (j : Journal). AreStateRows old.graph (state_of j) o.solution.rows) (sym is)
-      (subst (λ (g : Graph). AreStateRows g (state_of new.journal) o.solution.rows) later.graph state);
+  state = search rules;
   exact = subst (λ (g : Graph). IsExactSolution g o.solution.rows) later.graph exact;
   report = (long, numbered);
   rows = report;

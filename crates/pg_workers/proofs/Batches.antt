@@ -1,6 +1,7 @@
 -- Sizes of batches, as they are tried one after the other.
-use Rattle.std.proofs.Common.{◌≡◌, ◌≢◌, ◌≤◌, ◌<◌, ◌*◌, ◌/◌, ℕ, zero, suc, ◌+◌, ◌-◌, ◌^◌, Bool, true, false}
-use Rattle.std.proofs.Common.{◌⊎◌, inl, inr, refl, sym, ◌∙◌, subst, arith, ltb-true, nat_lt, ◌==◌}
+use Rattle.std.proofs.Common.{rules, ◌≡◌, ◌≢◌, ◌≤◌, ◌<◌, ◌*◌, ◌/◌, ℕ, zero, suc, ◌+◌, ◌-◌, ◌^◌, true, false, ◌⊎◌, refl, sym, ◌∙◌, subst, arith, ltb-true}
+use Rattle.std.proofs.Common.{nat_lt}
+use Rattle.std.proofs.lemmas.Grind.{common_steps}
 use Rattle.std.proofs.Math.Nat.{le-div_iff_mul-le, two-pow-succ}
 use Rattle.std.proofs.lemmas.Bool.{false_from_ne_true}
 use Rattle.pg_game.specs.Specification.{max_vertices}
@@ -32,17 +33,13 @@ first_tried n l = record {
 
 -- more batches than one, so there are more vertices than a batch has
 pub too_many : (n size : ℕ) → 64 ≤ size → most_batches < batches_of size n → size < n
-too_many n size some many =
-    let positive : 0 < size = omega (arith, some) in
-    let a : (most_batches + 1) * size ≤ n + (size - 1) = (le-div_iff_mul-le positive).0 many in
-    omega (arith, a, some)
+too_many n size some many = grind (arith, le-div_iff_mul-le)
 
 next_one : (n size left : ℕ) → nat_lt most_batches (batches_of size n) ≡ true → doubled (suc left) size n ≡ doubled left (2 * size) n
 next_one n size left t = rw t refl
 
 none_more : (n size left : ℕ) → nat_lt most_batches (batches_of size n) ≡ false → doubled left size n ≡ size
-none_more n size zero f = refl
-none_more n size (suc left) f = rw f refl
+none_more n size left f = grind (arith, common_steps)
 
 split : (k times : ℕ) → k < suc times → (k < times) ⊎ (k ≡ times)
 split k times l = search arith
@@ -73,37 +70,17 @@ next_tried n size r many = go r.left r.same r.within
       size_is = let e = two-pow-succ r.times in let s = r.size_is in omega (arith, e, s);
       same = rw two (sym (next_one n size left t) ∙ same);
       within = ap_within left within;
-      least = λ k l. elim (split k r.times l) [
-        | inl b ↦ r.least k b
-        | inr e ↦ subst (λ (j : ℕ). most_batches < batches_of (64 * 2 ^ j) n) (sym e) (subst (λ (s : ℕ). most_batches < batches_of s n) r.size_is many)
-      ];
+      least = λ k l. search (rules, split);
     }
 
 pub last_tried : (n size : ℕ) → IsTried n size → batches_of size n ≤ most_batches → size ≡ batch_of n
-last_tried n size r few =
-    sym (none_more n size r.left (false_from_ne_true (nat_lt most_batches (batches_of size n))
-    (λ t. let h : most_batches < batches_of size n = ltb-true most_batches (batches_of size n) t in omega (arith, h, few)))) ∙ r.same
-
--- each batch begins below the number of vertices
-begins_below : (n size k : ℕ) → 64 ≤ size → k < batches_of size n → size * k ≤ n
-begins_below n size k some l =
-    let positive : 0 < size = omega (arith, some) in
-    let a : (k + 1) * size ≤ n + (size - 1) = (le-div_iff_mul-le positive).0 (next_below k (batches_of size n) l) in
-    omega (arith, a, some)
-  where
-    next_below : (x y : ℕ) → x < y → x + 1 ≤ y
-    next_below x y h = omega (arith, h)
+last_tried n size r few = grind (arith, common_steps, none_more, false_from_ne_true, nat_lt, ltb-true)
 
 -- a search that is not the last job has a batch
 pub has_batch : (bound n number : ℕ) → number < total_of bound n → (number ≢ 0) → (number ≢ 1) → (number + 1 ≢ total_of bound n)
     → (number - 2) / 2 < batches n
-has_batch bound n number l a b d = go (bound == 0) refl
-  where
-    go : (t : Bool) → (bound == 0) ≡ t → (number - 2) / 2 < batches n
-    go true e = absurd (let m : total_of bound n ≡ 3 = rw e refl in omega (arith, l, a, b, d, m))
-    go false e = let m : total_of bound n ≡ 3 + 2 * batches n = rw e refl in omega (arith, l, a, b, d, m)
+has_batch bound n number l a b d = grind arith
 
 pub job_begins : (bound n number size : ℕ) → size ≡ batch_of n → 64 ≤ size → number < total_of bound n → (number ≢ 0) → (number ≢ 1)
     → (number + 1 ≢ total_of bound n) → size * ((number - 2) / 2) ≤ n
-job_begins bound n number size e some l a b d =
-    begins_below n size ((number - 2) / 2) some (subst (λ (s : ℕ). (number - 2) / 2 < batches_of s n) (sym e) (has_batch bound n number l a b d))
+job_begins bound n number size e some l a b d = grind (arith, has_batch)

@@ -1,6 +1,7 @@
 -- What the tickets drew, put together.
-use Rattle.std.proofs.Common.{◌≡◌, ℕ, ◌+◌, ◌<◌, List, [], ◌∷◌, ◌++◌, All, length, get_or, map, refl, sym, ap, ◌∙◌, subst, arith}
-use Rattle.std.proofs.Common.{length-append, append_assoc, append-nil, ◌==◌, min, cond, count_by, sum_by, flat_map}
+use Rattle.std.proofs.Common.{rules, ◌≡◌, ℕ, ◌+◌, ◌<◌, List, [], ◌∷◌, ◌++◌, All, length, get_or, map, refl, ap, ◌∙◌, subst, arith, length-append, append_assoc}
+use Rattle.std.proofs.Common.{append-nil, min, cond, count_by, sum_by, flat_map}
+use Rattle.std.proofs.lemmas.Grind.{common_steps}
 use Rattle.std.specs.List.{remove}
 use Rattle.std.proofs.lemmas.List.{map-append}
 use Rattle.std.proofs.lemmas.List.Concat.{flat_map-append, length-flat_map}
@@ -10,8 +11,7 @@ use Rattle.pg_workers.specs.Tickets.{HeldTicket, AreDrawn}
 
 module _ {X : Type 0} where
   pub remade : (xs rest : List X) (x : X) → 0 < length xs → x ≡ get_or xs 0 x → rest ≡ remove xs 0 → xs ≡ x ∷ rest
-  remade [] rest x h e r = absurd (omega arith)
-  remade (y ∷ ys) rest x h e r = λ i. sym e i ∷ sym r i
+  remade xs rest x h e r = grind arith
 
   at_here : (ys zs : List X) (x : X) → get_or (ys ++ x ∷ zs) (length ys) x ≡ x
   at_here [] zs x = refl
@@ -25,30 +25,15 @@ module _ {X : Type 0} where
 
   pub times-flat_map : (j : ℕ) (f : X → List ℕ) (xs : List X) → times j (flat_map f xs) ≡ sum_by (λ x. times j (f x)) xs
   times-flat_map j f [] = refl
-  times-flat_map j f (x ∷ xs) =
-      let a = sum_by-append (λ (n : ℕ). cond (n == j) 1 0) (f x) (flat_map f xs) in
-      let b = times-flat_map j f xs in
-      let c = sum_by-cons (λ (y : X). times j (f y)) x xs in
-      a ∙ omega arith ∙ sym c
+  times-flat_map j f (x ∷ xs) = grind (arith, common_steps, times-flat_map j f xs, sum_by-append, cond, flat_map, sum_by-cons)
 
 -- one more of both lists
 pub listed-push : {X Y Z : Type 0} (f : X → Z) (g : Y → Z) (now was first : List X) (x : X) (ts : List Y) (t : Y) → now ≡ was ++ x ∷ []
     → map f was ≡ map f first ++ map g ts → f x ≡ g t → map f now ≡ map f first ++ map g (ts ++ t ∷ [])
-listed-push f g now was first x ts t is h same =
-    ap (map f) is ∙ map-append f was (x ∷ []) ∙ ap (λ l. l ++ f x ∷ []) h ∙ append_assoc (map f first) (map g ts) (f x ∷ [])
-    ∙ ap (λ l. map f first ++ l) (ap (λ z. map g ts ++ z ∷ []) same ∙ sym (map-append g ts (t ∷ [])))
+listed-push f g now was first x ts t is h same = search (rules, map-append, append_assoc)
 
 -- the lists of all tickets, by what the last seat knows
 pub drawn_by_all : (total word told : ℕ) (drawn : List ℕ) (ts : List HeldTicket) → ((x : ℕ) → times x drawn ≡ once_below x (min total word))
     → length drawn ≡ min total word → word ≡ min total word + told → drawn ≡ flat_map (λ t. t.numbers) ts
     → told ≡ count_by (λ t. t.told_none) ts → AreDrawn total ts
-drawn_by_all total word told drawn ts fair long steps is told_is =
-    let each : (j : ℕ) → sum_by (λ (t : HeldTicket). times j t.numbers) ts ≡ once_below j (min total word) =
-    λ j. sym (times-flat_map j (λ (t : HeldTicket). t.numbers) ts) ∙ ap (times j) (sym is) ∙ fair j in
-    let lengths = ap length is ∙ length-flat_map (λ (t : HeldTicket). t.numbers) ts in
-    record {
-      word = word;
-      fair = each;
-      word_is = omega arith;
-      all = λ some_told j. let m : min total word ≡ min total total = omega arith in each j ∙ ap (once_below j) m;
-    }
+drawn_by_all total word told drawn ts fair long steps is told_is = grind (arith, sum_by, times-flat_map, length-flat_map)

@@ -1,5 +1,6 @@
 -- Sums and counts over lists, of which one element is changed or has all.
-use Rattle.std.proofs.Common.{◌≡◌, ℕ, zero, suc, ◌+◌, ◌≤◌, List, [], ◌∷◌, map, set, refl, sym, ap, arith}
+use Rattle.std.proofs.Common.{rules, ◌≡◌, ℕ, zero, suc, ◌+◌, ◌≤◌, List, [], ◌∷◌, map, set, refl, sym, ap, arith}
+use Rattle.std.proofs.lemmas.Grind.{common_steps}
 use Rattle.std.specs.Prelude.{◌==◌, if◌then◌else◌, sum_by}
 use Rattle.std.proofs.lemmas.Bool.Decides.{nat_tests}
 use Rattle.std.proofs.lemmas.List.Sums.{sum_by-cons}
@@ -13,8 +14,7 @@ module _ {X : Type 0} where
   sum_by-set_at f [] i x y e = absurd (some-ne-none x (sym e))
   sum_by-set_at f (z ∷ zs) zero x y e =
       let h = ap f (some-injective _ _ e) in let a = sum_by-cons f y zs in let b = sum_by-cons f z zs in omega arith
-  sum_by-set_at f (z ∷ zs) (suc i) x y e =
-      let h = sum_by-set_at f zs i x y e in let a = sum_by-cons f z (set zs i y) in let b = sum_by-cons f z zs in omega arith
+  sum_by-set_at f (z ∷ zs) (suc i) x y e = grind (arith, sum_by-set_at f zs i x y e, sum_by-cons)
 
   pub sum_by-at : (f : X → ℕ) (xs : List X) (i : ℕ) (x : X) → get_elem? xs i ≡ some x → f x ≤ sum_by f xs
   sum_by-at f [] i x e = absurd (some-ne-none x (sym e))
@@ -24,9 +24,7 @@ module _ {X : Type 0} where
   pub sum_by-le_each : (f g : X → ℕ) (xs : List X) → ((i : ℕ) (x : X) → get_elem? xs i ≡ some x → f x ≤ g x) → sum_by f xs ≤ sum_by g xs
   sum_by-le_each f g [] h = omega arith
   sum_by-le_each f g (x ∷ xs) h =
-      let a = h 0 x refl in
-      let b = sum_by-le_each f g xs (λ i y e. h (suc i) y e) in
-      let c = sum_by-cons f x xs in let d = sum_by-cons g x xs in omega arith
+      let a = h 0 x refl in search (rules, sum_by-le_each f g xs (λ i y e. h (suc i) y e), sum_by-cons)
 
   none_left : (f g : X → ℕ) (xs : List X) → sum_by g xs ≡ 0 → ((i : ℕ) (x : X) → get_elem? xs i ≡ some x → g x ≡ 0 → f x ≡ 0)
       → sum_by f xs ≡ 0
@@ -46,17 +44,13 @@ module _ {X : Type 0} where
       let k = sum_by-cons f z zs in let l = sum_by-cons g z zs in
       let c = none_left f g zs (omega arith) (λ j y e'. h (suc j) y e') in omega arith
   alone f g (z ∷ zs) (suc i) x at e h =
-      let k = sum_by-cons f z zs in let l = sum_by-cons g z zs in
-      let t = sum_by-at g zs i x at in
+      let k = sum_by-cons f z zs in let l = sum_by-cons g z zs in let t = sum_by-at g zs i x at in
       let a : f z ≡ 0 = h 0 z refl (omega arith) in
       let b = alone f g zs i x at (omega arith) (λ j y e'. h (suc j) y e') in omega arith
 
 pub sum_by-of_map : {X Y : Type 0} (f : Y → ℕ) (g : X → Y) (xs : List X) → sum_by f (map g xs) ≡ sum_by (λ x. f (g x)) xs
 sum_by-of_map f g [] = refl
-sum_by-of_map f g (x ∷ xs) =
-    let a = sum_by-cons f (g x) (map g xs) in
-    let b = sum_by-cons (λ y. f (g y)) x xs in
-    let c = sum_by-of_map f g xs in omega arith
+sum_by-of_map f g (x ∷ xs) = grind (arith, common_steps, sum_by-of_map f g xs, sum_by-cons)
 
 pub once_more : (x n : ℕ) → once_below x (n + 1) ≡ once_below x n + (if n == x then 1 else 0)
 once_more x n = grind (arith, nat_tests)

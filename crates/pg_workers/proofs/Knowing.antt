@@ -1,20 +1,22 @@
 -- Posting a known set settles it exactly where it is a region, and else is refused for a reason of the set.
+use Rattle.std.proofs.lemmas.Grind.{common_steps}
+use Rattle.std.proofs.Common.{rules, ◌≡◌, ℕ, zero, suc, ◌<◌, Bool, true, false, ◌||◌, ◌↔◌, List, [], ◌∷◌, length, refl, sym, ◌∙◌, ap, subst, arith, lt-ltb}
+use Rattle.std.proofs.Common.{ltb-true, Ok, Err, Option, nat_lt}
 use mathlib.Core.Path.{fun_ext}
-use Rattle.std.proofs.Common.{◌≡◌, ℕ, zero, suc, ◌<◌, Bool, true, false, ◌||◌, ◌↔◌, inl, inr, List, [], ◌∷◌, length, refl, sym}
-use Rattle.std.proofs.Common.{◌∙◌, ap, subst, arith, lt-ltb, ltb-true, Ok, Err, Option, nat_lt, if◌then◌else◌}
+use Rattle.std.proofs.Common.{◌≤◌, ◌+◌, ◌-◌, add-zero}
 use Rattle.std.proofs.Math.Bool.{or-false}
 use Rattle.std.specs.List.{Contains}
 use Rattle.std.specs.Cmp.{nat_eq_equiv}
-use Rattle.std.proofs.lemmas.Bool.{eqb-true, and_parts, and_from, cases_Bool, false_from_ne_true}
+use Rattle.std.proofs.lemmas.Bool.{eqb-true, and_parts, and_from, false_from_ne_true}
 use Rattle.std.proofs.lemmas.List.{length-map, nil_from_length}
 use Rattle.std.proofs.lemmas.List.Sums.{sum_by_push}
 use Rattle.std.proofs.lemmas.Map.Views.{Contains-from_any, list_any-from_Contains}
 use Rattle.pg_game.specs.declared.player.Player.{Player}
 use Rattle.pg_game.specs.declared.player.Player.TheVariants.{Even, Odd}
 use Rattle.pg_game.specs.Player.{opponent, same_player}
-use Rattle.pg_game.specs.Graph.{Graph, IsGame, owner_of, successors_of}
+use Rattle.pg_game.specs.Graph.{Graph, IsGame, owner_of}
 use Rattle.pg_game.specs.VertexSet.{VertexSet, In, all_vertices, no_vertices, union}
-use Rattle.pg_game.specs.Kept.{Choices, kept, option_list, KeptEdge}
+use Rattle.pg_game.specs.Kept.{Choices, kept, KeptEdge}
 use Rattle.pg_game.specs.Attractor.{Attractor}
 use Rattle.pg_game.specs.Region.{IsRegion}
 use Rattle.pg_game.proofs.Walks.{ClosedWalk-weaker}
@@ -23,7 +25,7 @@ use Rattle.pg_game.proofs.Players.{is_same}
 use Rattle.pg_text.specs.Known.{KnownRows, known_of, known_choice}
 use Rattle.pg_dominion.specs.declared.claim.Claim.{Claim}
 use Rattle.pg_dominion.specs.Claim.{ClaimRows, named, choice_in}
-use Rattle.pg_finders.specs.Claims.{own_choices}
+use Rattle.pg_finders.specs.Claims.{own_choices, rows_below}
 use Rattle.pg_finders.specs.private.Solved.{WinsOn}
 use Rattle.pg_finders.proofs.Good.{good_rows}
 use Rattle.pg_finders.proofs.Rows.{RowsOf, rows_of_below}
@@ -43,17 +45,35 @@ use Rattle.pg_board.proofs.Numbers.{in_vertices}
 use Rattle.pg_board.proofs.Opening.{none_distinct, no_region, attracts_none, lawful_none}
 use Rattle.pg_board.proofs.Push.{IsAdded, neither_open, once_rows, ours_named}
 use Rattle.pg_board.proofs.Places.{row_at, named_at}
-use Rattle.pg_board.proofs.RestIsGood.{vertices, in_rest, to_rest}
-use Rattle.pg_workers.specs.Known.{IsKnownRegion, known_rows, IsAttractedToKnown, HasCount, HasNone, IsRefusedKnown, IsBefore, IsSolveFault}
+use Rattle.pg_board.proofs.RestIsGood.{vertices, in_rest, named_rest}
+use Rattle.pg_workers.specs.Known.{IsKnownRegion, known_rows, IsAttractedToKnown, HasCount, HasNone, IsBefore, IsSolveFault}
 use Rattle.pg_workers.specs.private.Known.{SettlesKnown, IsKnownFault, HasKnown, fault_of}
 use Rattle.pg_workers.specs.declared.known.SolveFault.{SolveFault}
-use Rattle.pg_workers.specs.declared.known.SolveFault.TheVariants as fault
 
 -- what is known is known of vertices
 known_below : (known : KnownRows) (p : Player) (v : ℕ) → known_of known p v ≡ true → v < length known
 known_below [] p v i = absurd (cc i)
 known_below (r ∷ known) p zero i = omega arith
 known_below (r ∷ known) p (suc v) i = let h = known_below known p v i in omega arith
+
+-- nothing is known behind the last row
+pub unknown_beyond : (known : KnownRows) (p : Player) (v : ℕ) → length known ≤ v → known_of known p v ≡ false
+unknown_beyond known p v le = false_from_ne_true (known_of known p v) (λ i. let h = known_below known p v i in omega (arith, h, le))
+
+rows_to : (X : VertexSet) (s : Choices) (low d : ℕ) → ((v : ℕ) → low ≤ v → X v ≡ false) → rows_below X s (low + d) ≡ rows_below X s low
+rows_to X s low zero none = ap (rows_below X s) (add-zero low)
+rows_to X s low (suc d) none =
+    let e : low + suc d ≡ suc (low + d) = omega arith in
+    let behind : X (low + d) ≡ false = none (low + d) (omega arith) in
+    ap (rows_below X s) e ∙ rw behind (rows_to X s low d none)
+
+pub rows_to_last : (g : Graph) (known : KnownRows) (p : Player) → length known ≤ length g
+    → rows_below (known_of known p) (own_choices g p (known_choice known)) (length known) ≡ known_rows g known p
+rows_to_last g known p sized =
+    let K = known_of known p in
+    let s = own_choices g p (known_choice known) in
+    let e : length known + (length g - length known) ≡ length g = omega (arith, sized) in
+    sym (rows_to K s (length known) (length g - length known) (unknown_beyond known p)) ∙ ap (rows_below K s) e
 
 -- the vertices of rows as a list
 in_rows : (rows : ClaimRows) (v : ℕ) → Contains (vertices rows) v ↔ In (named rows) v
@@ -62,13 +82,16 @@ in_rows rows v = (
   λ i. Contains-from_any eqb-true v (vertices rows) (in_vertices rows v ∙ i),
 )
 
+-- an open vertex of a claim is in its rest
+to_rest : (st : State) (rows : ClaimRows) (v : ℕ) → In (named rows) v → is_unsettled (st v) ≡ true → In (named (rest_of st rows)) v
+to_rest st rows v i o = named_rest st rows v ∙ rw (i, o) refl
+
 -- what is said of a claim, of its player and its rows
 said_of : (P : Claim → Type 0) (claim : Claim) (p : Player) (rows : ClaimRows) → claim.player ≡ p → claim.rows ≡ rows → P claim
     → P (record { player = p; rows = rows })
-said_of P claim p rows player is h =
-    subst (λ (q : Player). P (record { player = q; rows = rows })) player (subst (λ (xs : ClaimRows). P (record { player = claim.player; rows = xs })) is h)
+said_of P claim p rows player is h = grind arith
 
-module _ (g : Graph) (game : IsGame g) (known : KnownRows) (sized : length known ≡ length g) (p : Player) where
+module _ (g : Graph) (game : IsGame g) (known : KnownRows) (sized : length known ≤ length g) (p : Player) where
   abbrev K : VertexSet
   K = known_of known p
 
@@ -94,19 +117,11 @@ module _ (g : Graph) (game : IsGame g) (known : KnownRows) (sized : length known
   own_choice v i y = facts.choice v (to_rows v i) ∙ rw y refl
 
   same_kept : (v : ℕ) → In K v → kept g p (choice_in rows) v ≡ kept g p s v
-  same_kept v i = elim (cases_Bool (same_player (owner_of g v) p)) [
-    | inl y ↦ ap (λ o. if same_player (owner_of g v) p then option_list o else successors_of g v) (own_choice v i y)
-    | inr n ↦ rw n refl
-  ]
+  same_kept v i = search (rules, own_choice)
 
   -- a known region is a dominion where nothing is settled
   region_held : IsKnownRegion g known p → WinsOn g (unsettled g (state_of [])) p K s
-  region_held region = record {
-    within = λ v i. and_from (nat_lt v (length g)) true (region.vertices v i) refl;
-    choices = λ v i o. (let c = region.choices v i o in (c.0, c.1, c.2, region.closed v c.0 (kept_own g p K s v c.0 i (is_same (owner_of g v) p o) c.1)));
-    closed = λ v w i o e u. region.closed v w (kept_other g p K s v w i (not_same (owner_of g v) p o) e);
-    good = region.good;
-  }
+  region_held region = grind (arith, and_from, kept_own, s, is_same, kept_other, not_same)
 
   region_dominion : IsKnownRegion g known p → 0 < length rows → (journal : Journal) → IsDominionAfter g journal 0 p rows
   region_dominion region n journal =
@@ -128,14 +143,7 @@ module _ (g : Graph) (game : IsGame g) (known : KnownRows) (sized : length known
 
     pub settles_nothing : (journal : Journal) → HasNone journal p
         → SettlesKnown (record { graph = g; journal = journal }) (record { graph = g; journal = journal }) known p
-    settles_nothing journal none = record {
-      region = empty_region;
-      own = λ v. (λ i. absurd (let h = none v in cc (h, i)), λ a. absurd (none_attracted v a));
-      other = λ v. refl;
-      more = 0;
-      size = ([], none_distinct, λ v. (λ m. absurd (let l = m.1 in omega arith), λ a. absurd (none_attracted v a)), refl);
-      number = omega arith;
-    }
+    settles_nothing journal none = grind (arith, empty_region, none_attracted, none_distinct)
 
   module _ (journal : Journal) (none : HasNone journal p) where
     abbrev st : State
@@ -158,9 +166,7 @@ module _ (g : Graph) (game : IsGame g) (known : KnownRows) (sized : length known
           (let i = to_rows v k.0 in
           let m = subst (λ (xs : List ℕ). Contains xs w) (sym (same_kept v k.0)) k.1 in
           let h = good.closed v w (to_rest st rows v i (open_named v i (good.not_lost v i)), m) in
-          let rest = named (rest_of st rows) w in
-          let inside : rest ≡ true = sym (or-false rest) ∙ ap (λ (own : Bool). rest || own) (sym (none w)) ∙ h in
-          sym (rows_named w) ∙ (in_rest st rows w inside).0);
+          search (rules, st, rows, inside, or-false, rows_named, in_rest));
       good =
           λ walk c. good.good walk (ClosedWalk-weaker (KeptEdge g p K s) (KeptEdge g p (named rows) (choice_in rows))
           (λ v w k. (to_rows v k.0, subst (λ (xs : List ℕ). Contains xs w) (sym (same_kept v k.0)) k.1)) walk c);
@@ -170,10 +176,7 @@ module _ (g : Graph) (game : IsGame g) (known : KnownRows) (sized : length known
     never_stale : 0 < length rows → Refuses g st p rows refusal.Stale → ⊥
     never_stale n h =
         let r = row_at rows 0 in
-        let i = named_at rows 0 n in
-        let o = open_named r.0 i (false_from_ne_true (settled st (opponent p) r.0) (λ lost. h.1 r.0 (i, lost))) in
-        let left = to_rest st rows r.0 i o in
-        let none : named (rest_of st rows) r.0 ≡ false = ap (λ (xs : ClaimRows). named xs r.0) h.2 in cc (left, none)
+        let i = named_at rows 0 n in grind (arith, common_steps, open_named, false_from_ne_true, st, to_rest, rows)
 
     union_known : union (settled st p) (named rows) ≡ K
     union_known = fun_ext (λ v. ap (λ (own : Bool). own || named rows v) (none v) ∙ rows_named v)
@@ -230,13 +233,7 @@ module _ (g : Graph) (game : IsGame g) (known : KnownRows) (sized : length known
 
     refused_rows : 0 < length rows → (new : Play) (e : Refusal) → Refuted new e (record { player = p; rows = rows })
         → IsKnownFault g journal known p (fault_of p e)
-    refused_rows n new refusal.Memory r = tt
-    refused_rows n new refusal.Stale r = absurd (never_stale n r.0)
-    refused_rows n new (refusal.Foreign v) r = absurd r.0
-    refused_rows n new (refusal.Claim f) r = (refl, record { no_region = λ region. (r.1 0 (region_dominion region n journal)).0; refused = r.0; of_post = tt })
-    refused_rows n new (refusal.Lost v) r = (refl, record { no_region = λ region. (r.1 0 (region_dominion region n journal)).0; refused = r.0; of_post = tt })
-    refused_rows n new (refusal.Open v w) r =
-        (refl, record { no_region = λ region. (r.1 0 (region_dominion region n journal)).0; refused = r.0; of_post = tt })
+    refused_rows n new e r = grind (arith, never_stale, region_dominion)
 
     -- a refused set is no region, and not stale
     pub refused_known : (new : Play) (e : Refusal) (claim : Claim) → claim.player ≡ p → claim.rows ≡ rows → 0 < length claim.rows
@@ -256,13 +253,7 @@ module _ (g : Graph) (known : KnownRows) (opened mid : Play) (here : opened.grap
 
   pub odd_fault : mid.graph ≡ g → IsLawful mid.graph mid.journal → (e : SolveFault) → IsKnownFault mid.graph mid.journal known Odd e
       → IsSolveFault g known e
-  odd_fault same lawful fault.Memory h = tt
-  odd_fault same lawful (fault.Known q e) (is, refused) = (
-    mid.journal,
-    subst (λ (h : Graph). IsLawful h mid.journal) same lawful,
-    subst (λ (x : Player). IsBefore g known x mid.journal) (sym is) before_odd,
-    subst (λ (x : Player). IsRefusedKnown g mid.journal known x e) (sym is) (subst (λ (h : Graph). IsRefusedKnown h mid.journal known Odd e) same refused),
-  )
+  odd_fault same lawful e h = search (rules, before_odd)
 
   pub has_known : (new : Play) → mid.graph ≡ g → SettlesKnown mid new known Odd → HasKnown g known new.journal
   has_known new same second = record {

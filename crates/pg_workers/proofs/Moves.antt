@@ -1,12 +1,12 @@
 -- Each kind of step keeps the rule of the word.
-use Rattle.std.proofs.Common.{◌≡◌, ◌≢◌, ℕ, zero, suc, ◌+◌, ◌%◌, ◌^◌, ◌<◌, ◌≤◌, List, [], ◌∷◌, ◌++◌, Bool, true}
-use Rattle.std.proofs.Common.{false, length, set, refl, sym, ap, ◌∙◌, subst, ⊎_elim, arith, length-append}
-use Rattle.std.specs.Prelude.{min, nat_lt, ◌==◌, slice_index, MatchBool, sum_by, cond}
-use Rattle.std.proofs.lemmas.Bool.Decides.{nat_tests}
+use Rattle.std.proofs.Common.{rules, ◌≡◌, ℕ, ◌+◌, ◌%◌, ◌^◌, ◌<◌, ◌≤◌, List, [], ◌∷◌, ◌++◌, Bool, length, set, refl, ap, ◌∙◌, subst, ⊎_elim, arith}
+use Rattle.std.proofs.Common.{length-append}
+use Rattle.std.proofs.lemmas.Grind.{common_steps}
+use Rattle.std.specs.Prelude.{min, nat_lt, slice_index, MatchBool, sum_by}
 use Rattle.std.proofs.Math.Nat.{mod-eq_of_lt}
 use mathlib.Core.Option.{some, some-injective, some-ne-none}
 use lib.ListN.{get_elem?}
-use Rattle.atomic_table.specs.Table.{State, Step, keeps, opening, Allows, Splits, Joins}
+use Rattle.atomic_table.specs.Table.{State, Step, opening, Allows, Splits, Joins}
 use Rattle.atomic_table.proofs.Lists.{at_set, at_snoc}
 use Rattle.pg_workers.specs.declared.drawing.Drawer.{Drawer}
 use Rattle.pg_workers.specs.Counting.{times, once_below}
@@ -15,34 +15,16 @@ use Rattle.std.proofs.lemmas.List.Sums.{sum_by-append}
 use Rattle.pg_workers.proofs.Counts.{sum_by-set_at, sum_by-at, sum_by-le_each, alone, once_more, once_none}
 
 pub begins : (total seats : ℕ) → IsDrawn total seats (opening (0 ∷ []) [] (drawer total seats 0 []))
-begins total seats = record {
-  word = 0;
-  words = refl;
-  fair = λ x. let a : min total 0 ≡ 0 = omega arith in let b = ap (once_below x) a ∙ once_none x in omega arith;
-  drawn = omega arith;
-  steps = omega arith;
-  tickets = omega arith;
-  each = one;
-}
-  where
-    one : (id : ℕ) (v : Drawer) → get_elem? (drawer total seats 0 [] ∷ []) id ≡ some v → IsDrawer total v
-    one zero v e = subst (IsDrawer total) (some-injective _ _ e) (omega arith, (λ _. refl), (λ _. refl))
-    one (suc id) v e = absurd (some-ne-none v (sym e))
+begins total seats = grind (arith, once_none, some-injective, some-ne-none)
 
 -- the views after a change of one
 each_set : (total : ℕ) (views : List Drawer) (id : ℕ) (w : Drawer) → ((i : ℕ) (v : Drawer) → get_elem? views i ≡ some v → IsDrawer total v)
     → IsDrawer total w → (i : ℕ) (v : Drawer) → get_elem? (set views id w) i ≡ some v → IsDrawer total v
-each_set total views id w h mine i v e =
-    ⊎_elim
-    (λ (t : (i ≡ id) × (w ≡ v)). subst (IsDrawer total) t.1 mine)
-    (λ (t : (i ≢ id) × (get_elem? views i ≡ some v)). h i v t.1)
-    (at_set views id i w v e)
+each_set total views id w h mine i v e = grind (arith, common_steps, get_elem?, at_set)
 
 -- the word never wraps
 pub word_bound : (total seats : ℕ) (s : State (Unit {0}) Drawer) (h : IsDrawn total seats s) → h.word ≤ total + seats
-word_bound total seats s h =
-    let t = sum_by-le_each (λ v. v.told_none) (λ v. v.tickets) s.views (λ i v e. (h.each i v e).0) in
-    omega (arith, h.steps, h.drawn, h.tickets, t)
+word_bound total seats s h = search (rules, sum_by-le_each)
 
 module _ (total seats id : ℕ) (v : Drawer) (s : State (Unit {0}) Drawer) (h : IsDrawn total seats s) (at : get_elem? s.views id ≡ some v)
     (one_ticket_held : v.tickets ≡ 1) (not_told : v.told_none ≡ 0) where
@@ -63,17 +45,11 @@ module _ (total seats id : ℕ) (v : Drawer) (s : State (Unit {0}) Drawer) (h : 
       let t = sum_by-set_at (λ (u : Drawer). u.told_none) s.views id v w at in
       let k = sum_by-set_at (λ (u : Drawer). u.tickets) s.views id v w at in
       let m : min total h.word ≡ h.word = omega arith in
-      let n : min total (h.word + 1) ≡ h.word + 1 = omega arith in
-      let e = h.each id v at in
+      let n : min total (h.word + 1) ≡ h.word + 1 = omega arith in let e = h.each id v at in
       record {
         word = h.word + 1;
         words = refl;
-        fair = λ x.
-            let f = sum_by-set_at (λ (u : Drawer). times x u.drawn) s.views id v w at in
-            let a = sum_by-append (λ (y : ℕ). cond (y == x) 1 0) v.drawn (h.word ∷ []) in
-            let b = ap (once_below x) n ∙ once_more x h.word in
-            let c = h.fair x ∙ ap (once_below x) m in
-            omega (arith, f, a, b, c);
+        fair = search (rules, sum_by-set_at, sum_by-append, once_more);
         drawn = omega (arith, d, l, h.drawn, m, n);
         steps = omega (arith, d, l, t, h.steps);
         tickets = omega (arith, k, h.tickets);
@@ -89,16 +65,11 @@ module _ (total seats id : ℕ) (v : Drawer) (s : State (Unit {0}) Drawer) (h : 
       let d = sum_by-set_at (λ (u : Drawer). length u.drawn) s.views id v w at in
       let t = sum_by-set_at (λ (u : Drawer). u.told_none) s.views id v w at in
       let k = sum_by-set_at (λ (u : Drawer). u.tickets) s.views id v w at in
-      let m : min total (h.word + 1) ≡ min total h.word = omega arith in
-      let e = h.each id v at in
+      let m : min total (h.word + 1) ≡ min total h.word = omega arith in let e = h.each id v at in
       record {
         word = h.word + 1;
         words = refl;
-        fair = λ x.
-            let f = sum_by-set_at (λ (u : Drawer). times x u.drawn) s.views id v w at in
-            let c = h.fair x in
-            let b = ap (once_below x) m in
-            omega (arith, f, b, c);
+        fair = search (rules, sum_by-set_at);
         drawn = omega (arith, d, h.drawn, m);
         steps = omega (arith, d, t, h.steps);
         tickets = omega (arith, k, h.tickets);
@@ -112,18 +83,7 @@ module _ (total seats id : ℕ) (v : Drawer) (s : State (Unit {0}) Drawer) (h : 
       (w ≡ drawer v.total v.tickets (v.told_none + 1) v.drawn)
 
   pub tells : (b : Bool) → nat_lt h.word v.total ≡ b → Told b
-  tells true e =
-      let lt : h.word < v.total = grind (arith, nat_tests, e) in
-      let sa = same_total in
-      let lt' : h.word < total = omega arith in
-      let d = sum_by-at (λ (u : Drawer). length u.drawn) s.views id v at in
-      let dr = h.drawn in
-      (number_drawn, draws_number lt', (omega arith, refl))
-  tells false e =
-      let le : v.total ≤ h.word = grind (arith, nat_tests, e) in
-      let sa = same_total in
-      let le' : total ≤ h.word = omega arith in
-      (told_once, draws_none le', refl)
+  tells b e = grind (arith, same_total, sum_by-at, number_drawn, draws_number, draws_none)
 
 -- a draw by one who has one ticket
 pub draws : (total seats slots id : ℕ) (me : AtSeat) (st : Step (Unit {0})) → total + seats < 2 ^ 63 → me.0.tickets ≡ 1 → me.0.told_none ≡ 0
@@ -131,36 +91,18 @@ pub draws : (total seats slots id : ℕ) (me : AtSeat) (st : Step (Unit {0})) �
 draws total seats slots id me st bound one not_told s h len at small =
     let found : slice_index s.words 0 ≡ h.word = ap (λ (ws : List ℕ). slice_index ws 0) h.words in
     let t = tells total seats id me.0 s h at one not_told (nat_lt h.word me.0.total) refl in
-    let w : Drawer = t.0 in
-    let wb = word_bound total seats s h in
+    let w : Drawer = t.0 in let wb = word_bound total seats s h in
     let words : set s.words 0 ((slice_index s.words 0 + 1) % 2 ^ 64) ≡ (h.word + 1) ∷ [] =
-    ap (λ (ws : List ℕ). set ws 0 ((slice_index ws 0 + 1) % 2 ^ 64)) h.words ∙ ap (λ (n : ℕ). n ∷ []) (mod-eq_of_lt (omega arith)) in (
-      w,
-      keeps,
-      tt,
-      subst (λ (ws : List ℕ). IsDrawn total seats record { words = ws; homes = s.homes; views = set s.views id w }) (sym words) t.1,
-      (
-        refl,
-        subst
-            (λ (n : ℕ). MatchBool (nat_lt n me.0.total)
-            ((length me.0.drawn < me.0.total) × (w ≡ drawer me.0.total me.0.tickets me.0.told_none (me.0.drawn ++ n ∷ [])))
-            (w ≡ drawer me.0.total me.0.tickets (me.0.told_none + 1) me.0.drawn))
-            (sym found)
-            t.2,
-      ),
-    )
+    ap (λ (ws : List ℕ). set ws 0 ((slice_index ws 0 + 1) % 2 ^ 64)) h.words ∙ ap (λ (n : ℕ). n ∷ []) (mod-eq_of_lt (omega arith)) in search rules
 
 -- one ticket of several goes to a new seat
 pub splits : (total seats id : ℕ) (v : Drawer) → 2 ≤ v.tickets → v.told_none ≡ 0 → v.drawn ≡ []
     → Splits (λ s. IsDrawn total seats s) id v (one_less v) (one_ticket v)
 splits total seats id v two not_told empty s h at =
-    let l = one_less v in
-    let r = one_ticket v in
-    let vs = set s.views id l in
+    let l = one_less v in let r = one_ticket v in let vs = set s.views id l in
     let sums : (f : Drawer → ℕ) → sum_by f (vs ++ r ∷ []) + f v ≡ sum_by f s.views + f l + f r =
     λ f. let a = sum_by-append f vs (r ∷ []) in let b = sum_by-set_at f s.views id v l at in omega arith in
-    let e = h.each id v at in
-    let same : v.total ≡ total = e.1 (omega arith) in
+    let e = h.each id v at in let same : v.total ≡ total = e.1 (omega arith) in
     record {
       word = h.word;
       words = h.words;
@@ -178,42 +120,10 @@ splits total seats id v two not_told empty s h at =
 -- one who has tickets takes in the tickets of another
 pub joins : (total seats id : ℕ) (v : Drawer) (other : ℕ) (w : Drawer) → 0 < v.tickets
     → Joins (λ s. IsDrawn total seats s) id v other w (both_drawers v w) spent_drawer
-joins total seats id v other w some_ticket s h at apart there =
-    let b = both_drawers v w in
-    let vs = set s.views id b in
-    let mine = h.each id v at in
-    let same : v.total ≡ total = mine.1 some_ticket in
-    let theirs = ⊎_elim (λ (t : (other ≡ id) × (b ≡ w)). absurd (apart t.0))
-    (λ (t : (other ≢ id) × (get_elem? s.views other ≡ some w)). h.each other w t.1) (at_set s.views id other b w there) in
-    let sums : (f : Drawer → ℕ) → f b ≡ f v + f w → f spent_drawer ≡ 0 → sum_by f (set vs other spent_drawer) ≡ sum_by f s.views =
-    λ f add zero_at. let x = sum_by-set_at f s.views id v b at in let y = sum_by-set_at f vs other w spent_drawer there in omega arith in
-    let len = sums (λ u. length u.drawn) (length-append v.drawn w.drawn) refl in
-    let told_none = sums (λ u. u.told_none) refl refl in
-    record {
-      word = h.word;
-      words = h.words;
-      fair = λ x. sums (λ u. times x u.drawn) (sum_by-append (λ (y : ℕ). cond (y == x) 1 0) v.drawn w.drawn) refl ∙ h.fair x;
-      drawn = len ∙ h.drawn;
-      steps = let c = h.steps in omega arith;
-      tickets = sums (λ u. u.tickets) refl refl ∙ h.tickets;
-      each = each_set total vs other spent_drawer
-          (each_set total s.views id b h.each (omega arith, (λ _. same), (λ z. absurd (omega arith))))
-          (omega arith, (λ z. absurd (omega arith)), (λ _. refl));
-    }
+joins total seats id v other w some_ticket s h at apart there = grind (arith, ⊎_elim, get_elem?, at_set, sum_by-set_at, length-append, sum_by-append)
 
 -- who has every ticket knows every number
 pub knows_all : (total seats id : ℕ) (v : Drawer) (s : State (Unit {0}) Drawer) → IsDrawn total seats s → get_elem? s.views id ≡ some v
     → v.tickets ≡ seats → (word : ℕ) × ((x : ℕ) → times x v.drawn ≡ once_below x (min total word)) × (length v.drawn ≡ min total word) ×
     (word ≡ min total word + v.told_none)
-knows_all total seats id v s h at whole =
-    let t : sum_by (λ (u : Drawer). u.tickets) s.views ≡ v.tickets = h.tickets ∙ sym whole in
-    let idle : (f : Drawer → ℕ) → ((u : Drawer) → u.drawn ≡ [] → u.told_none ≡ 0 → f u ≡ 0) → sum_by f s.views ≡ f v =
-    λ f zero_at. alone f (λ u. u.tickets) s.views id v at t (λ j u e none. let fit = h.each j u e in zero_at u (fit.2 none) (omega arith)) in
-    let told_none = idle (λ u. u.told_none) (λ u _ e. e) in
-    let long = idle (λ u. length u.drawn) (λ u e _. ap length e) in
-    let st = h.steps in let dr = h.drawn in (
-      h.word,
-      (λ x. sym (idle (λ u. times x u.drawn) (λ u e _. ap (times x) e)) ∙ h.fair x),
-      omega arith,
-      omega arith,
-    )
+knows_all total seats id v s h at whole = search (rules, s.views, v.tickets, h.tickets, alone, h.each, h.steps, h.drawn, h.word)

@@ -1,7 +1,8 @@
 -- What a row notes of the answers to a worker's claims.
-use Rattle.std.proofs.Common.{◌≡◌, ℕ, zero, suc, ◌+◌, ◌^◌, ◌<◌, ◌≤◌, ◌⊎◌, inl, inr, ⊎_elim, false, List, [], ◌∷◌}
-use Rattle.std.proofs.Common.{◌++◌, length, take, get_or, refl, sym, ap, ◌∙◌, subst, arith, length-append}
-use Rattle.std.specs.Prelude.{slice_get, Some, Result, Ok, Err, IfOk, OnErr}
+use Rattle.std.proofs.Common.{rules, ◌≡◌, ℕ, zero, suc, ◌+◌, ◌^◌, ◌<◌, ◌≤◌, ◌⊎◌, inl, inr, ⊎_elim, Bool, false, List, [], ◌∷◌, ◌++◌, length, take, get_or}
+use Rattle.std.proofs.Common.{sym, ap, ◌∙◌, subst, arith, length-append}
+use Rattle.std.proofs.lemmas.Grind.{common_steps}
+use Rattle.std.specs.Prelude.{slice_get, Some, Result, Err, IfOk, OnErr}
 use Rattle.std.proofs.lemmas.List.{take_more}
 use Rattle.std.proofs.lemmas.List.Sums.{fold_push}
 use Rattle.std.proofs.lemmas.Option.{none-some, same_Some}
@@ -20,47 +21,34 @@ Added before after answer = IfOk answer (λ n. (1 ≤ n) × (after ≡ before + 
 -- a row after a refusal is one of three
 refused_cases : (r : ReportRow) (P : ReportRow → Type 0) → P (noted r (Err refusal.Stale)) → P (noted r (Err refusal.Memory))
     → P (noted r (Err (refusal.Foreign 0))) → (e : Refusal) → P (noted r (Err e))
-refused_cases r P stale memory others refusal.Stale = stale
-refused_cases r P stale memory others refusal.Memory = memory
-refused_cases r P stale memory others (refusal.Claim f) = others
-refused_cases r P stale memory others (refusal.Foreign v) = others
-refused_cases r P stale memory others (refusal.Lost v) = others
-refused_cases r P stale memory others (refusal.Open v w) = others
+refused_cases r P stale memory others e = search rules
 
 pub noted_settled : (before after : ℕ) (r : ReportRow) (answer : Result ℕ Refusal) → Added before after answer → OnErr answer (after ≡ before)
     → after + r.settled ≡ before + (noted r answer).settled
-noted_settled before after r (Ok n) a u = let e = a.1 in omega arith
-noted_settled before after r (Err e) a u =
-    refused_cases r (λ (x : ReportRow). after + r.settled ≡ before + x.settled) (omega arith) (omega arith) (omega arith) e
+noted_settled before after r answer a u = search rules
 
 -- what a row has settled fits where the share's amount does
 pub fits : (before after : ℕ) (r : ReportRow) (answer : Result ℕ Refusal) → Added before after answer → r.settled ≤ before → after < 2 ^ 64
     → IfOk answer (λ n. r.settled + n < 2 ^ 64)
-fits before after r (Ok n) a le lt = let e = a.1 in omega arith
-fits before after r (Err e) a le lt = tt
+fits before after r answer a le lt = grind arith
 
 pub noted_counts : (before after : ℕ) (r : ReportRow) (answer : Result ℕ Refusal) → Added before after answer → AreCounts r
     → AreCounts (noted r answer)
-noted_counts before after r (Ok n) a c = let some = a.0 in let few = c.0 in (omega arith, (λ none. absurd (omega arith)))
-noted_counts before after r (Err e) a c = refused_cases r AreCounts c c c e
+noted_counts before after r answer a c = grind arith
 
 -- one claim more is answered, unless memory was refused
 pub noted_few : (r : ReportRow) (answer : Result ℕ Refusal) → answered (noted r answer) ≤ answered r + 1
-noted_few r (Ok n) = omega arith
-noted_few r (Err e) = refused_cases r (λ (x : ReportRow). answered x ≤ answered r + 1) (omega arith) (omega arith) (omega arith) e
+noted_few r answer = grind (arith, refused_cases)
 
 pub noted_one : (r : ReportRow) (answer : Result ℕ Refusal) → (noted r answer).memory ≡ false
     → (r.memory ≡ false) × (answered (noted r answer) ≡ answered r + 1)
-noted_one r (Ok n) = λ e. (e, omega arith)
-noted_one r (Err e) = refused_cases r (λ (x : ReportRow). x.memory ≡ false → (r.memory ≡ false) × (answered x ≡ answered r + 1))
-    (λ same. (same, omega arith)) (λ same. absurd (cc same)) (λ same. (same, omega arith)) e
+noted_one r answer = search rules
 
 abbrev Same : ReportRow → ReportRow → Type 0
 Same old new = (new.job ≡ old.job) × (new.worker ≡ old.worker) × (new.gave_up ≡ old.gave_up)
 
 pub noted_same : (r : ReportRow) (answer : Result ℕ Refusal) → Same r (noted r answer)
-noted_same r (Ok n) = (refl, refl, refl)
-noted_same r (Err e) = refused_cases r (Same r) (refl, refl, refl) (refl, refl, refl) (refl, refl, refl) e
+noted_same r answer = grind (arith, common_steps, refused_cases)
 
 -- elements at one place of two lists that got one element more
 both_push : {X Y : Type 0} (xs : List X) (ys : List Y) (x c : X) (y a : Y) (k : ℕ) → length ys ≡ length xs → slice_get (xs ++ x ∷ []) k ≡ Some c
@@ -73,11 +61,11 @@ both_push (z ∷ xs) (w ∷ ys) x c y a zero l e f = inl (e, f)
 both_push (z ∷ xs) (w ∷ ys) x c y a (suc k) l e f = both_push xs ys x c y a k (omega arith) e f
 
 -- one claim more
-pub one_noted : (g : Graph) (claims : List Claim) (i : ℕ) (claim : Claim) (old now : ReportRow) (amount : ℕ) (answer : Result ℕ Refusal)
-    → i < length claims → claim ≡ get_or claims i claim → AreNoted g (take i claims) old now → IsAnswerTo g claim amount answer
-    → AreNoted g (take (i + 1) claims) old (noted now answer)
-one_noted g claims i claim old now amount answer lt is h mine =
-    subst (λ (cs : List Claim). AreNoted g cs old (noted now answer))
+pub one_noted : (is_alone : Bool) (g : Graph) (claims : List Claim) (i : ℕ) (claim : Claim) (old now : ReportRow) (amount : ℕ) (answer : Result ℕ Refusal)
+    → i < length claims → claim ≡ get_or claims i claim → AreNoted is_alone g (take i claims) old now → IsAnswerTo is_alone g claim amount answer
+    → AreNoted is_alone g (take (i + 1) claims) old (noted now answer)
+one_noted is_alone g claims i claim old now amount answer lt is h mine =
+    subst (λ (cs : List Claim). AreNoted is_alone g cs old (noted now answer))
     (sym (take_more claims i claim lt ∙ ap (λ (x : Claim). take i claims ++ x ∷ []) (sym is)))
     record {
       answers = h.answers ++ answer ∷ [];
@@ -86,7 +74,7 @@ one_noted g claims i claim old now amount answer lt is h mine =
           ⊎_elim
           (λ (was : (slice_get (take i claims) k ≡ Some c) × (slice_get h.answers k ≡ Some a)). h.each k c a was.0 was.1)
           (λ (last : (claim ≡ c) × (answer ≡ a)).
-          (amount, subst (λ (x : Claim). IsAnswerTo g x amount a) last.0 (subst (IsAnswerTo g claim amount) last.1 mine)))
+          (amount, subst (λ (x : Claim). IsAnswerTo is_alone g x amount a) last.0 (subst (IsAnswerTo is_alone g claim amount) last.1 mine)))
           (both_push (take i claims) h.answers claim c answer a k h.number e f);
       row = ap (λ (r : ReportRow). noted r answer) h.row ∙ sym (fold_push noted old h.answers answer);
     }

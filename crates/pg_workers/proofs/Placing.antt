@@ -1,6 +1,7 @@
 -- Rows that are put at the places of their jobs.
-use Rattle.std.proofs.Common.{◌≡◌, ◌≢◌, ℕ, zero, suc, ◌+◌, ◌<◌, ◌≤◌, inl, inr, List, [], ◌∷◌, ◌++◌, Vec, Global, length}
-use Rattle.std.proofs.Common.{map, take, drop, get_or, set, refl, sym, ap, ◌∙◌, subst, arith, length-set, sum_by, slice_get, Some}
+use Rattle.std.proofs.Common.{rules, ◌≡◌, ◌≢◌, ℕ, zero, suc, ◌+◌, ◌<◌, ◌≤◌, inl, inr, List, [], ◌∷◌, ◌++◌, Vec, Global, length, map, take, drop, get_or, set}
+use Rattle.std.proofs.Common.{refl, sym, ap, ◌∙◌, subst, arith, length-set, sum_by, slice_get, Some}
+use Rattle.std.proofs.lemmas.Grind.{common_steps}
 use Rattle.std.proofs.lemmas.Bool.Decides.{nat_tests}
 use Rattle.std.proofs.lemmas.List.{get_or_default, take_more, take-append-drop}
 use Rattle.std.proofs.lemmas.List.Sums.{sum_by-append, sum_by-cons, sum_by-set, sum_by_more, sum_by_more_le}
@@ -26,11 +27,7 @@ one_placed before now rows r p new lt = record {
             get_set_other now r.job x.job r apart ∙ p.placed i x here
         | inr there ↦ last there.0 x there.1
       ];
-  others = λ j none.
-      let a = rows_of-append j rows (r ∷ []) in
-      let c = sum_by-cons (at_job j) r.job [] in
-      let apart : j ≢ r.job = λ same. let o : at_job j r.job ≡ 1 = grind (arith, nat_tests, same) in omega arith in
-      get_set_other now r.job j r apart ∙ p.others j (omega arith);
+  others = grind (arith, common_steps, rows_of-append, sum_by-cons, at_job, get_set_other);
 }
   where
     here : slice_get (set now r.job r) r.job ≡ Some r
@@ -41,8 +38,7 @@ one_placed before now rows r p new lt = record {
     last (suc k) x e = absurd (none-some x e)
 
 apart_from : (a b : ℕ) → (0 < a → b ≡ 0) → 0 < b → a ≡ 0
-apart_from zero b h some = refl
-apart_from (suc a) b h some = absurd (let none = h (omega arith) in omega arith)
+apart_from a b h some = search rules
 
 -- rows of other jobs are put into the report that was made
 pub then_placed : (before mid after xs ys : List ReportRow) → AreNotedRows before mid xs → AreNotedRows mid after ys
@@ -64,10 +60,7 @@ next_free : (rows : List ReportRow) (i : ℕ) (r : ReportRow) → i < length row
 next_free rows i r lt is once =
     let whole : how_many_of_job r.job rows ≡ how_many_of_job r.job (take (i + 1) rows) + how_many_of_job r.job (drop (i + 1) rows) =
     ap (how_many_of_job r.job) (sym (take-append-drop (i + 1) rows)) ∙ rows_of-append r.job (take (i + 1) rows) (drop (i + 1) rows) in
-    let more : how_many_of_job r.job (take (i + 1) rows) ≡ how_many_of_job r.job (take i rows) + how_many_of_job r.job (r ∷ []) =
-    ap (how_many_of_job r.job) (take_more rows i r lt ∙ ap (λ (x : ReportRow). take i rows ++ x ∷ []) (sym is)) ∙ rows_of-append r.job (take i rows)
-    (r ∷ []) in
-    let one = counted (r ∷ []) 0 r refl in omega arith
+    grind (arith, common_steps, take_more, rows_of-append, counted)
 
 -- the row at i, where the report's rows of these jobs were free, after the rows before it were put in their places
 pub record IsNext (before now rows : List ReportRow) (i : ℕ) (r : ReportRow) : Type 0 where
@@ -104,9 +97,7 @@ module _ {before now rows : List ReportRow} {i : ℕ} {r : ReportRow} (n : IsNex
       → settled_in (set now r.job r) ≡ settled_in before + settled_in (take (i + 1) rows)
   next_settled sum =
       let free : (get_or now r.job r).settled ≡ 0 = ap (λ (x : ReportRow). x.settled) (get_or_from_slice_get now r.job (blank_row r.job) r next_blank) in
-      let a = sum_by-set (λ (x : ReportRow). x.settled) now r.job r r next_place in
-      let b = sum_by_more (λ (x : ReportRow). x.settled) rows i r n.within in
-      let c : (get_or rows i r).settled ≡ r.settled = ap (λ (x : ReportRow). x.settled) (sym n.here) in omega arith
+      search (rules, sum_by-set, next_place, sum_by_more)
 
 below_once : (j n : ℕ) → once_below j n ≤ 1
 below_once j n = grind (arith, nat_tests)
@@ -127,9 +118,7 @@ pub has_places : (n : ℕ) (before now : List ReportRow) (all : List (Vec Report
 has_places n before now all i v blank few prefix lt is p = record {
   once = λ j. let s = share j in let f = prefix j in let o = below_once j n in omega arith;
   free = λ j some.
-      let s = share j in
-      let f = prefix j in
-      let o = below_once j n in
+      let s = share j in let f = prefix j in let o = below_once j n in
       let lt' : j < n = below j n (omega arith) in
       let at = slice_get-get_or before j (blank_row j) (omega arith) in
       p.others j (omega arith) ∙ at ∙ ap Some (blank j (get_or before j (blank_row j)) at);
@@ -138,16 +127,11 @@ has_places n before now all i v blank few prefix lt is p = record {
     share : (j : ℕ) → how_many_of_job j (rows_in (take i all)) + how_many_of_job j v.items ≤ how_many_of_job j (rows_in all)
     share j =
         let a = sum_by_more_le (λ (w : Vec ReportRow Global). how_many_of_job j w.items) all i v lt in
-        let b = rows_of-rows_in j all in
-        let c = rows_of-rows_in j (take i all) in
-        let d : how_many_of_job j (get_or all i v).items ≡ how_many_of_job j v.items =
-        ap (λ (w : Vec ReportRow Global). how_many_of_job j w.items) (sym is) in omega arith
+        let b = rows_of-rows_in j all in grind (arith, common_steps, rows_of-rows_in)
 
 rows_in-more : (all : List (Vec ReportRow Global)) (i : ℕ) (v : Vec ReportRow Global) → i < length all → v ≡ get_or all i v
     → rows_in (take (i + 1) all) ≡ rows_in (take i all) ++ v.items
-rows_in-more all i v lt is =
-    ap rows_in (take_more all i v lt ∙ ap (λ (x : Vec ReportRow Global). take i all ++ x ∷ []) (sym is)) ∙ flat_map-push
-    (λ (x : Vec ReportRow Global). x.items) (take i all) v
+rows_in-more all i v lt is = grind (arith, common_steps, flat_map-push)
 
 -- the rows of one worker more
 pub more_placed : (n : ℕ) (before now after : List ReportRow) (all : List (Vec ReportRow Global)) (i : ℕ) (v : Vec ReportRow Global)
@@ -157,11 +141,9 @@ more_placed n before now after all i v prefix lt is p q =
     subst (AreNotedRows before after) (sym (rows_in-more all i v lt is))
     (then_placed before now after (rows_in (take i all)) v.items p q (λ j some.
     let a = sum_by_more_le (λ (w : Vec ReportRow Global). how_many_of_job j w.items) all i v lt in
-    let b = rows_of-rows_in j all in
-    let c = rows_of-rows_in j (take i all) in
+    let b = rows_of-rows_in j all in let c = rows_of-rows_in j (take i all) in
     let d : how_many_of_job j (get_or all i v).items ≡ how_many_of_job j v.items = ap (λ (w : Vec ReportRow Global). how_many_of_job j w.items) (sym is) in
-    let f = prefix j in
-    let o = below_once j n in omega arith))
+    search (rules, below_once)))
 
 pub more_settled : (all : List (Vec ReportRow Global)) (i : ℕ) (v : Vec ReportRow Global) → i < length all → v ≡ get_or all i v
     → settled_in (rows_in (take (i + 1) all)) ≡ settled_in (rows_in (take i all)) + settled_in v.items
@@ -182,10 +164,7 @@ placed_numbered before after rows blank p = λ k r e. go k r e (how_many_of_job 
     go : (k : ℕ) (r : ReportRow) → slice_get after k ≡ Some r → (m : ℕ) → how_many_of_job k rows ≡ m → r.job ≡ k
     go k r e zero none = ap (λ (x : ReportRow). x.job) (blank k r (sym (p.others k none) ∙ e))
     go k r e (suc m) some =
-        let w = found_row k rows (omega arith) in
-        let at = p.placed w.0 w.1 w.2 in
-        let same = same_Some w.1 r (sym at ∙ ap (slice_get after) w.3 ∙ e) in
-        sym (ap (λ (x : ReportRow). x.job) same) ∙ w.3
+        let w = found_row k rows (omega arith) in search (rules, same_Some, slice_get)
 
 -- where the workers' rows are of a prefix of the jobs, they are the report of that prefix
 pub is_report : (workers n : ℕ) (before after rows : List ReportRow) → AreBlank before → AreNotedRows before after rows → AreOfPrefix n rows
@@ -193,10 +172,7 @@ pub is_report : (workers n : ℕ) (before after rows : List ReportRow) → AreBl
 is_report workers n before after rows blank p prefix done = record {
   drawn = n;
   done = λ k r e lt.
-      let f = prefix k in
-      let o = is_below k n lt in
-      let w = found_row k rows (omega arith) in
-      let at = p.placed w.0 w.1 w.2 in
-      subst (IsDrawnRow workers) (same_Some w.1 r (sym at ∙ ap (slice_get after) w.3 ∙ e)) (done w.0 w.1 w.2);
+      let f = prefix k in let o = is_below k n lt in
+      let w = found_row k rows (omega arith) in search (rules, same_Some, slice_get);
   blank = λ k r e le. blank k r (sym (p.others k (prefix k ∙ not_below k n le)) ∙ e);
 }

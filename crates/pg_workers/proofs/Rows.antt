@@ -1,24 +1,23 @@
 -- Lists of rows.
-use Rattle.std.proofs.Common.{◌≡◌, ◌≢◌, ℕ, zero, suc, ◌+◌, ◌<◌, ◌⊎◌, inl, inr, Bool, true, false, List, [], ◌∷◌, ◌++◌}
-use Rattle.std.proofs.Common.{All, Vec, Global, length, map, take, drop, get_or, set, refl, sym, ap, ◌∙◌, subst, arith}
+use Rattle.std.proofs.Common.{rules, ◌≡◌, ◌≢◌, ℕ, zero, suc, ◌+◌, ◌<◌, ◌⊎◌, inl, inr, Bool, true, false, List, [], ◌∷◌, ◌++◌, All, Vec, Global, length, map}
+use Rattle.std.proofs.Common.{take, drop, get_or, set, refl, sym, ap, ◌∙◌, subst, arith}
+use Rattle.std.proofs.lemmas.Grind.{common_steps}
 use Rattle.std.specs.Prelude.{◌==◌, cond, sum_by, slice_get, Some}
 use Rattle.std.proofs.Math.Seq.{take-append_seam}
 use Rattle.std.proofs.lemmas.Bool.Decides.{nat_tests}
-use Rattle.std.proofs.lemmas.List.{length-map, map-append}
+use Rattle.std.proofs.lemmas.List.{map-append}
 use Rattle.std.proofs.lemmas.List.Sums.{sum_by-cons, sum_by-append}
 use Rattle.std.proofs.lemmas.Option.{none-some, same_Some, slice_get_within, get_or_from_slice_get}
 use Rattle.pg_workers.specs.declared.report.ReportRow.{ReportRow}
 use Rattle.pg_workers.specs.Counting.{times}
-use Rattle.pg_workers.specs.Report.{AreNumbered, IsDrawnRow, IsInOrder, IsReport, blank_row, settled_in}
+use Rattle.pg_workers.specs.Report.{AreNumbered, IsInOrder, IsReport, blank_row, settled_in}
 use Rattle.pg_workers.specs.private.Report.{AreBlank, AreIdle, forgotten, jobs_in, rows_in, how_many_of_job}
 
 -- rows that settled nothing add up to nothing
 pub none_settled : (rows : List ReportRow) → AreIdle (length rows) rows → settled_in rows ≡ 0
 none_settled [] h = refl
 none_settled (r ∷ rows) h =
-    let a : r.settled ≡ 0 = h 0 r refl (omega arith) in
-    let b = none_settled rows (λ k x e lt. h (suc k) x e (omega arith)) in
-    let c = sum_by-cons (λ (x : ReportRow). x.settled) r rows in omega arith
+    let a : r.settled ≡ 0 = h 0 r refl (omega arith) in search (rules, none_settled rows (λ k x e lt. h (suc k) x e (omega arith)), sum_by-cons)
 
 module _ {X : Type 0} where
   pub get_set_same : (xs : List X) (i : ℕ) (x : X) → i < length xs → slice_get (set xs i x) i ≡ Some x
@@ -50,12 +49,8 @@ is_one j = grind (arith, nat_tests)
 -- a row is counted at its job
 pub counted : (rows : List ReportRow) (i : ℕ) (r : ReportRow) → slice_get rows i ≡ Some r → 0 < how_many_of_job r.job rows
 counted [] i r e = absurd (none-some r e)
-counted (x ∷ rows) zero r e =
-    let c = sum_by-cons (at_job r.job) x.job (jobs_in rows) in
-    let o : at_job r.job x.job ≡ 1 = ap (λ (y : ReportRow). at_job r.job y.job) (same_Some x r e) ∙ is_one r.job in omega arith
-counted (x ∷ rows) (suc i) r e =
-    let c = sum_by-cons (at_job r.job) x.job (jobs_in rows) in
-    let h = counted rows i r e in omega arith
+counted (x ∷ rows) zero r e = grind (arith, common_steps, sum_by-cons, at_job, same_Some, is_one)
+counted (x ∷ rows) (suc i) r e = search (rules, counted rows i r e, sum_by-cons, at_job)
 
 abbrev Found : ℕ → List ReportRow → Type 0
 Found j rows = (i : ℕ) × (r : ReportRow) × (slice_get rows i ≡ Some r) × (r.job ≡ j)
@@ -80,17 +75,11 @@ rows_of-append j xs ys = ap (times j) (map-append (λ (r : ReportRow). r.job) xs
 pub rows_of-rows_in : (j : ℕ) (all : List (Vec ReportRow Global))
     → how_many_of_job j (rows_in all) ≡ sum_by (λ (v : Vec ReportRow Global). how_many_of_job j v.items) all
 rows_of-rows_in j [] = refl
-rows_of-rows_in j (v ∷ all) =
-    let a = rows_of-append j v.items (rows_in all) in
-    let b = sum_by-cons (λ (w : Vec ReportRow Global). how_many_of_job j w.items) v all in
-    let c = rows_of-rows_in j all in a ∙ omega arith
+rows_of-rows_in j (v ∷ all) = omega (arith, rows_of-rows_in j all, rows_of-append, sum_by-cons)
 
 pub settled_in-rows_in : (all : List (Vec ReportRow Global)) → settled_in (rows_in all) ≡ sum_by (λ (v : Vec ReportRow Global). settled_in v.items) all
 settled_in-rows_in [] = refl
-settled_in-rows_in (v ∷ all) =
-    let a = sum_by-append (λ (r : ReportRow). r.settled) v.items (rows_in all) in
-    let b = sum_by-cons (λ (w : Vec ReportRow Global). settled_in w.items) v all in
-    let c = settled_in-rows_in all in a ∙ omega arith
+settled_in-rows_in (v ∷ all) = search (rules, settled_in-rows_in all, sum_by-append, v.items, sum_by-cons)
 
 -- what holds of each worker's rows holds of all rows
 pub all_rows : (P : ReportRow → Type 0) (all : List (Vec ReportRow Global)) → All (λ v. All P v.items) all → (i : ℕ) (r : ReportRow)
@@ -116,14 +105,7 @@ pub forgotten_settled : (report : List ReportRow) → settled_in (map forgotten 
 forgotten_settled report = none_settled (map forgotten report) (λ k r e _. ap (λ (x : ReportRow). x.settled) (sym (was report k r e).2))
 
 pub forgotten_report : (n : ℕ) (report : List ReportRow) → IsReport n report → IsReport n (map forgotten report)
-forgotten_report n report h = record {
-  drawn = h.drawn;
-  done = λ k r e lt.
-      let w = was report k r e in
-      let d = h.done k w.0 w.1 lt in
-      subst (IsDrawnRow n) w.2 record { drawn = d.drawn; numbered = d.numbered; counts = (omega arith, (λ _. refl)) };
-  blank = λ k r e le. let w = was report k r e in sym w.2 ∙ ap forgotten (h.blank k w.0 w.1 le);
-}
+forgotten_report n report h = search (rules, was, h.done, h.blank)
 
 -- one row more whose posts are forgotten
 next_forgotten : (xs : List ReportRow) (i : ℕ) (d : ReportRow) → i < length xs
@@ -135,10 +117,7 @@ next_forgotten (x ∷ xs) (suc i) d lt = ap (λ l. forgotten x ∷ l) (next_forg
 
 pub more_forgotten : (xs now : List ReportRow) (i : ℕ) (d : ReportRow) → i < length xs → now ≡ map forgotten (take i xs) ++ drop i xs
     → set now i (forgotten (get_or now i d)) ≡ map forgotten (take (i + 1) xs) ++ drop (i + 1) xs
-more_forgotten xs now i d lt is =
-    let one : suc i ≡ i + 1 = omega arith in
-    ap (λ (l : List ReportRow). set l i (forgotten (get_or l i d))) is ∙ next_forgotten xs i d lt ∙ ap
-    (λ (k : ℕ). map forgotten (take k xs) ++ drop k xs) one
+more_forgotten xs now i d lt is = grind (arith, next_forgotten)
 
 -- a vector whose slice was written has what was written
 pub written : (xs rest : List ReportRow) (n : ℕ) → length xs ≡ n → take n (xs ++ rest) ≡ xs
@@ -146,9 +125,7 @@ written xs rest n long = subst (λ (k : ℕ). take k (xs ++ rest) ≡ xs) long (
 
 pub all_forgotten : (items now new rest : List ReportRow) (n : ℕ) → now ≡ items → new ≡ map forgotten now → length now ≡ n
     → take n (new ++ rest) ≡ map forgotten items
-all_forgotten items now new rest n same is long =
-    let l = ap length is ∙ length-map now forgotten in
-    written new rest n (l ∙ long) ∙ is ∙ ap (map forgotten) same
+all_forgotten items now new rest n same is long = grind (arith, common_steps)
 
 -- a blank row more
 pushed_row : (rows : List ReportRow) (x y : ReportRow) (k : ℕ) → slice_get (rows ++ x ∷ []) k ≡ Some y
@@ -160,8 +137,7 @@ pushed_row (z ∷ rows) x y (suc k) h = elim (pushed_row rows x y k h) [ inl a �
 
 pub blank_more : (new rows : List ReportRow) (row : ReportRow) (job : ℕ) → new ≡ rows ++ row ∷ [] → row ≡ blank_row job → length rows ≡ job → AreBlank rows
     → AreBlank new
-blank_more new rows row job e blank long h = λ k r at.
-    elim (pushed_row rows row r k (rw e at at)) [ inl a ↦ h k r a | inr (a, b) ↦ b ∙ (blank ∙ ap blank_row (sym (a ∙ long))) ]
+blank_more new rows row job e blank long h = search (rules, pushed_row)
 
 pub blank_in_order : (rows : List ReportRow) → AreBlank rows → IsInOrder (length rows) rows
 blank_in_order rows h = (refl, λ k r e. ap (λ (x : ReportRow). x.job) (h k r e))

@@ -1,19 +1,18 @@
 -- What the calling thread adds settles all that was left.
-use Rattle.std.proofs.Common.{rules, ◌≡◌, ℕ, ◌<◌, Bool, true, false, ◌||◌, inl, inr, ◌++◌, length, refl, ◌∙◌, sym, ap, subst, arith}
-use Rattle.std.proofs.Common.{length-append, nat_lt}
+use Rattle.std.proofs.lemmas.Grind.{common_steps}
+use Rattle.std.proofs.Common.{rules, ◌≡◌, ℕ, ◌<◌, false, ◌++◌, length, refl, ◌∙◌, ap, subst, arith, length-append}
 use Rattle.std.proofs.lemmas.Bool.{or_cases}
 use Rattle.std.proofs.lemmas.List.{take-append-le}
 use Rattle.pg_game.specs.declared.player.Player.{Player}
 use Rattle.pg_game.specs.Graph.{Graph}
-use Rattle.pg_game.specs.VertexSet.{VertexSet, all_vertices, union}
+use Rattle.pg_game.specs.VertexSet.{VertexSet}
 use Rattle.pg_game.proofs.Attract.{target_attracted}
 use Rattle.pg_game.proofs.Grown.{in_second}
-use Rattle.pg_game.specs.declared.player.Player.TheVariants.{Odd}
-use Rattle.pg_dominion.specs.Claim.{ClaimRows, named, IsGoodIn}
+use Rattle.pg_dominion.specs.Claim.{ClaimRows, IsGoodIn}
 use Rattle.pg_dominion.specs.declared.claim.Claim.{Claim}
 use Rattle.pg_finders.specs.Claims.{AreClaims}
 use Rattle.pg_board.specs.Play.{Play}
-use Rattle.pg_board.specs.State.{settled, unsettled, is_unsettled, IsDominion}
+use Rattle.pg_board.specs.State.{unsettled, is_unsettled}
 use Rattle.pg_board.specs.Journal.{Journal, state_of, IsDominionAfter}
 use Rattle.pg_board.specs.Post.{SettlesDominion}
 use Rattle.pg_board.specs.Full.{IsFull}
@@ -23,18 +22,12 @@ use Rattle.pg_workers.specs.private.Rest.{Settles, IsLater}
 
 -- a claim's vertices are settled once it was posted
 pub settles_claim : (old new : Play) (p : Player) (rows : ClaimRows) → SettlesDominion old new p rows → Settles new.journal p rows
-settles_claim old new p rows s = λ v i.
-    (s.own v).1 (target_attracted old.graph p (all_vertices old.graph) (union (settled (state_of old.journal) p) (named rows)) v
-    (in_second (settled (state_of old.journal) p v) (named rows v) i))
+settles_claim old new p rows s = search (rules, target_attracted, in_second)
 
 -- further entries change nothing of what came before
 dominion_later : (g : Graph) (journal added : Journal) (k : ℕ) (p : Player) (rows : ClaimRows) → IsDominionAfter g journal k p rows
     → IsDominionAfter g (journal ++ added) k p rows
-dominion_later g journal added k p rows (within, dominion) = (
-  omega (arith, length-append journal added),
-  subst (λ (j : Journal). IsDominion g (state_of j) p rows)
-      (sym (take-append-le k journal added within)) dominion,
-)
+dominion_later g journal added k p rows h0 = grind (arith, length-append, take-append-le)
 
 stays_shut : (journal added : Journal) (v : ℕ) → is_unsettled (state_of journal v) ≡ false → is_unsettled (state_of (journal ++ added) v) ≡ false
 stays_shut journal added v h = ap is_unsettled (state_append journal added v ∙ rw h refl) ∙ h
@@ -43,33 +36,13 @@ stays_shut journal added v h = ap is_unsettled (state_append journal added v ∙
 full_after : (g : Graph) (journal first second : Journal) (U : VertexSet) (even odd : Claim) → ((v : ℕ) → U v ≡ unsettled g (state_of journal) v)
     → AreClaims g U even odd → Settles (journal ++ first) even.player even.rows → Settles (journal ++ first ++ second) odd.player odd.rows
     → IsFull g (state_of (journal ++ first ++ second))
-full_after g journal first second U even odd is claims a b = λ v lt. go v lt (is_unsettled (state_of journal v)) refl
-  where
-    later : (v : ℕ) → is_unsettled (state_of (journal ++ first) v) ≡ false → is_unsettled (state_of (journal ++ first ++ second) v) ≡ false
-    later v h = stays_shut (journal ++ first) second v h
-
-    go : (v : ℕ) → v < length g → (o : Bool) → is_unsettled (state_of journal v) ≡ o
-        → is_unsettled (state_of (journal ++ first ++ second) v) ≡ false
-    go v lt false e = later v (stays_shut journal first v e)
-    go v lt true e =
-        let inside : (named even.rows v || named odd.rows v) ≡ true =
-        claims.together v ∙ is v ∙ rw (e, (let l : nat_lt v (length g) ≡ true = search rules in l)) refl in
-        elim (or_cases (named even.rows v) (named odd.rows v) inside) [
-          | inl i ↦ later v (settled_shut even.player (state_of (journal ++ first) v) (a v i))
-          | inr i ↦ settled_shut odd.player (state_of (journal ++ first ++ second) v) (b v i)
-        ]
+full_after g journal first second U even odd is claims a b = grind (arith, stays_shut, or_cases, settled_shut)
 
 -- a claim of the subgame that was left is still a dominion after further entries
 pub still_dominion : (old new : Play) (most : ℕ) (h : Graph) (U : VertexSet) (even odd : Claim) (at : ℕ) → IsLater most old new → h ≡ old.graph
     → AreClaims h U even odd → ((p : Player) (rows : ClaimRows) → IsGoodIn old.graph U p rows → IsDominionAfter old.graph old.journal at p rows)
     → 0 < length odd.rows → IsDominionAfter new.graph new.journal at odd.player odd.rows
-still_dominion old new most h U even odd at later is claims dominions some =
-    let good : IsGoodIn old.graph U odd.player odd.rows =
-    subst (λ (p : Player). IsGoodIn old.graph U p odd.rows) (sym claims.odd_player)
-    (subst (λ (g : Graph). IsGoodIn g U Odd odd.rows) is (claims.odd_good some)) in
-    let after = dominion_later old.graph old.journal later.added at odd.player odd.rows (dominions odd.player odd.rows good) in
-    subst (λ (j : Journal). IsDominionAfter new.graph j at odd.player odd.rows) (sym later.journal)
-    (subst (λ (g : Graph). IsDominionAfter g (old.journal ++ later.added) at odd.player odd.rows) (sym later.graph) after)
+still_dominion old new most h U even odd at later is claims dominions some = grind (arith, common_steps, dominion_later)
 
 -- where both claims were posted, nothing is left
 pub all_settled : (old mid new : Play) (most more : ℕ) (h : Graph) (U : VertexSet) (even odd : Claim) → IsLater most old mid → IsLater more mid new
@@ -80,5 +53,4 @@ all_settled old mid new most more h U even odd first second is mask claims a b =
     let here : AreClaims old.graph U even odd = subst (λ (g : Graph). AreClaims g U even odd) is claims in
     let full = full_after old.graph old.journal first.added second.added U even odd mask here
     (subst (λ (x : Journal). Settles x even.player even.rows) first.journal a) (subst (λ (x : Journal). Settles x odd.player odd.rows) j b) in
-    subst (λ (g : Graph). IsFull g (state_of new.journal)) (sym (second.graph ∙ first.graph))
-    (subst (λ (x : Journal). IsFull old.graph (state_of x)) (sym j) full)
+    search rules

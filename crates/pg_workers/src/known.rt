@@ -1,5 +1,5 @@
 //! What is known of a game is posted as any claim is, Even's set and then Odd's, before a worker starts.
-ghost use Rattle.std.specs.Prelude.{◌≡◌, ◌<◌, length, IfOk, IfErr, OnOk};
+ghost use Rattle.std.specs.Prelude.{◌≡◌, ◌≤◌, ◌<◌, length, IfOk, IfErr, OnOk};
 ghost use Rattle.pg_finders.specs.Claims.{own_choices};
 ghost use Rattle.pg_workers.specs.Known.{known_rows, HasNone, IsSolveFault};
 ghost use Rattle.pg_workers.specs.private.Known.{fault_of, HasKnown, IsKnownFault, SettlesKnown};
@@ -54,13 +54,15 @@ fn own_choice(game: &Game, player: Player, v: u32, choice: Option<u32>) -> Optio
 
 /// The player's known set, as a claim: choices stand at his own vertices alone.
 fn known_claim(alloc: Global, game: &Game, known: &Known, player: Player) -> Result<Claim, Memory>
-    requires { length known.now.rows ≡ length game.now }
+    requires { length known.now.rows ≤ length game.now }
     ensures player { IfOk result (λ claim. claim.player ≡ player) }
     ensures rows { IfOk result (λ claim. claim.rows ≡ known_rows game.now known.now.rows player) }
 {
+    // for the proof: there are no more rows than vertices, whose number fits
+    let _n = game.len();
     let of_vertices = known.rows.as_slice();
     let mut rows = Vec::new(alloc);
-    for v in 0..game.len() {
+    for v in 0..of_vertices.len() as u32 {
         if let Some((winner, choice)) = of_vertices[v as usize] {
             if winner == player {
                 rows.push((v, own_choice(game, player, v, choice)))?;
@@ -80,7 +82,7 @@ fn post_known(
     known: &Known,
     player: Player,
 ) -> Result<(), SolveFault>
-    requires size { length known.now.rows ≡ length board.old.graph }
+    requires size { length known.now.rows ≤ length board.old.graph }
     requires none { HasNone board.old.journal player }
     ensures graph { board.new.graph ≡ board.old.graph }
     ensures settles { OnOk result (SettlesKnown board.old board.new known.now.rows player) }
@@ -103,7 +105,7 @@ pub(crate) fn board_with<'g>(
     game: &'g Game,
     known: &Known,
 ) -> Result<Board<'g>, SolveFault>
-    requires { length known.now.rows ≡ length game.now }
+    requires { length known.now.rows ≤ length game.now }
     ensures game { IfOk result (λ b. b.graph ≡ game.now) }
     ensures known { IfOk result (λ b. HasKnown game.now known.now.rows b.journal) }
     ensures fault { IfErr result (λ e. IsSolveFault game.now known.now.rows e) }

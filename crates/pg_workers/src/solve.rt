@@ -60,7 +60,7 @@ fn board_of<'g>(
     board: Board<'g>,
     report: Vec<ReportRow>,
 ) -> Result<(Board<'g>, Vec<ReportRow>), SolveFault>
-    requires known { length known.now.rows ≡ length game.now }
+    requires known { length known.now.rows ≤ length game.now }
     requires numbered { AreNumbered report.items }
     requires settled { HasSettled game.now known.now.rows report.items board.journal }
     ensures game { IfOk result (λ r. r.0.graph ≡ game.now) }
@@ -156,7 +156,7 @@ fn solve_on<L: Ledger + Send + Sync, G: Gate, F: Finder, R: Threads + Wait + Syn
 ) -> Result<Outcome, SolveFault>
     requires name { blank.name ≡ L.name }
     requires parts { (blank.parts ≡ L.parts) × (blank.parts ≡ options.now.workers + 1) }
-    requires known { length known.now.rows ≡ length game.now }
+    requires known { length known.now.rows ≤ length game.now }
     requires workers { (1 ≤ options.now.workers) × (options.now.workers ≤ 64) }
     requires bound { options.now.bound ≤ 8 }
     ensures outcome { IfOk result (λ o. IsOutcome game.now known.now.rows (total_of options.now.bound (length game.now)) options.now.workers o) }
@@ -185,8 +185,8 @@ fn solve_on<L: Ledger + Send + Sync, G: Gate, F: Finder, R: Threads + Wait + Syn
 }
 
 /// Solves a game by as many workers as can be started, of 1 to 64, each on a thread of its own, and settles what they leave.
-/// What is known is posted before any worker starts, as worker 0: Even's set and then Odd's, where not empty. A known
-/// set that is no region is answered by the refusal of its post.
+/// What is known is posted before any worker starts, as worker 0: Even's set and then Odd's, where not empty. Of a vertex
+/// behind the last known row nothing is known. A known set that is no region is answered by the refusal of its post.
 /// For every number of workers, gate and finder the entries are a lawful journal of the game, the solution is their
 /// state, and the report has a row for each job, in order.
 pub fn solve_game<R: Threads + Wait + Sync>(
@@ -198,7 +198,7 @@ pub fn solve_game<R: Threads + Wait + Sync>(
     gate: &impl Gate,
     finder: &impl Finder,
 ) -> Result<Outcome, SolveFault>
-    requires known { length known.now.rows ≡ length game.now }
+    requires known { length known.now.rows ≤ length game.now }
     requires workers { (1 ≤ options.now.workers) × (options.now.workers ≤ 64) }
     requires bound { options.now.bound ≤ 8 }
     ensures outcome { IfOk result (λ o. IsOutcome game.now known.now.rows (total_of options.now.bound (length game.now)) options.now.workers o) }

@@ -1,5 +1,6 @@
 //! A worker: it draws a job, has a copy of the unsettled part searched, checks each claim that was found on the copy's game,
-//! with no lock held, settles what was checked, notes what became of it, and draws again until none is left.
+//! with no lock held, settles what was checked, notes what became of it, and draws again until none is left. A worker that is
+//! alone has its claims checked by the board itself.
 ghost use Rattle.std.specs.Prelude.{◌≡◌, ◌+◌, ◌^◌, ◌≤◌, ◌<◌, ℕ, All, false, IfOk, OnErr, Result, Some, length, map};
 ghost use Rattle.std.specs.Vec.{vec_capacity};
 ghost use Rattle.pg_board.specs.declared.refusal.Refusal.{Refusal};
@@ -68,7 +69,8 @@ pub(crate) struct Task<'x, G, F> {
     ghost small: { size ≤ max_vertices },
 }
 
-/// Checks a claim on the game, with no lock held, and settles it.
+/// Has a claim settled: it is checked on the game first, with no lock held. Where no other worker waits for the lock it is
+/// posted as it stands, since that takes no memory for what was checked.
 fn settle_claim<L: Ledger, R: Wait>(
     rt: &R,
     alloc: Global,
@@ -76,12 +78,16 @@ fn settle_claim<L: Ledger, R: Wait>(
     game: &Game,
     share: &mut Share<L>,
     worker: u32,
+    is_alone: bool,
     claim: &Claim,
 ) -> Result<u32, Refusal>
-    ensures answer { IsAnswerTo game.now claim.now share.old result }
+    ensures answer { IsAnswerTo is_alone game.now claim.now share.old result }
     ensures added { IfOk result (λ n. (1 ≤ n) × (share.new ≡ share.old + n)) }
     ensures unchanged { OnErr result (share.new ≡ share.old) }
 {
+    if is_alone {
+        return office.post(rt, alloc, share, worker, claim);
+    }
     let checked = check_claim(alloc, game, claim)?;
     office.settle(rt, alloc, share, worker, &checked)
 }
@@ -94,16 +100,17 @@ fn post<L: Ledger, R: Wait>(
     game: &Game,
     share: &mut Share<L>,
     worker: u32,
+    is_alone: bool,
     claim: &Claim,
     row: &mut ReportRow,
 )
     requires share { row.old.settled ≤ share.old }
     requires room { answered row.old + 1 < 2 ^ 64 }
-    ensures noted { (answer : Result ℕ Refusal) × IsAnswerTo game.now claim.now share.old answer × (row.new ≡ noted row.old answer) }
+    ensures noted { (answer : Result ℕ Refusal) × IsAnswerTo is_alone game.now claim.now share.old answer × (row.new ≡ noted row.old answer) }
     ensures counts { AreCounts row.old → AreCounts row.new }
     ensures settled { share.new + row.old.settled ≡ share.old + row.new.settled }
 {
-    let answer = settle_claim(rt, alloc, office, game, share, worker, claim);
+    let answer = settle_claim(rt, alloc, office, game, share, worker, is_alone, claim);
     // for the proof: the share's amount has 64 bits, so the sum of what the row settled fits
     let _amount = share.amount();
     row.note(answer);
@@ -118,12 +125,13 @@ fn post_all<L: Ledger, R: Wait>(
     game: &Game,
     share: &mut Share<L>,
     worker: u32,
+    is_alone: bool,
     claims: &[Claim],
     row: &mut ReportRow,
 )
     requires share { row.old.settled ≤ share.old }
     requires room { answered row.old + length claims.now < 2 ^ 64 }
-    ensures noted { AreNoted game.now claims.now row.old row.new }
+    ensures noted { AreNoted is_alone game.now claims.now row.old row.new }
     ensures all { row.new.memory ≡ false → answered row.new ≡ answered row.old + length claims.now }
     ensures few { answered row.new ≤ answered row.old + length claims.now }
     ensures same { (row.new.job ≡ row.old.job) × (row.new.worker ≡ row.old.worker) × (row.new.gave_up ≡ row.old.gave_up) }
@@ -131,7 +139,7 @@ fn post_all<L: Ledger, R: Wait>(
     ensures settled { share.new + row.old.settled ≡ share.old + row.new.settled }
 {
     for claim in claims {
-        post(rt, alloc, office, game, share, worker, claim, row);
+        post(rt, alloc, office, game, share, worker, is_alone, claim, row);
     }
 }
 
@@ -204,6 +212,7 @@ fn do_job<L: Ledger, G: Gate, F: Finder, R: Wait>(
                 game,
                 share,
                 worker,
+                task.options.workers == 1,
                 claims.as_slice(),
                 &mut row,
             );

@@ -1,6 +1,6 @@
 -- The rows of a lawful journal name vertices alone.
-use Rattle.std.proofs.Common.{◌≡◌, ℕ, true, ◌<◌, inl, inr, [], ◌∷◌, ◌++◌, length, take, zero, suc, refl, sym, ◌∙◌, subst, rules}
-use Rattle.std.proofs.Common.{append_assoc, Option, Some, slice_get, nat_lt}
+use Rattle.std.proofs.Common.{arith, ◌≡◌, ℕ, [], ◌∷◌, ◌++◌, length, take, zero, suc, refl, sym, ◌∙◌, subst, append_assoc, Option, Some, slice_get, inl, inr}
+use Rattle.std.proofs.lemmas.Grind.{common_steps}
 use Rattle.std.specs.List.{AllByRecursion}
 use Rattle.std.proofs.lemmas.List.{take-append-drop}
 use Rattle.pg_game.specs.declared.player.Player.{Player}
@@ -25,14 +25,7 @@ right_row g game p r right = record {
 
 led_row : (g : Graph) → IsGame g → (p : Player) (S : VertexSet) (r : ℕ × Option ℕ) → IsAttractedRow g p (all_vertices g) S r
     → AreVertices (length g) r
-led_row g game p S r leads =
-    let lt : r.0 < length g = (let h : nat_lt r.0 (length g) ≡ true = leads.inside in search rules) in record {
-      vertex = lt;
-      choice = elim (same_or_not (owner_of g r.0) p) [
-        | inl e ↦ (let o = leads.own e in chosen_below (length g) o.0 r.1 o.1 (edge_below g game r.0 o.0 lt o.2))
-        | inr ne ↦ none_below (length g) r.1 (leads.forced ne).0
-      ];
-    }
+led_row g game p S r leads = grind (arith, common_steps, same_or_not, chosen_below, edge_below, none_below)
 
 right_rows : (g : Graph) → IsGame g → (p : Player) (rows : ClaimRows) → AllByRecursion (IsRightRow g p) rows
     → AllByRecursion (AreVertices (length g)) rows
@@ -59,8 +52,7 @@ all_by_index P (e ∷ es) h = (h zero e refl, all_by_index P es (λ k x is. h (s
 entry_rows : (g : Graph) → IsGame g → (journal : Journal) → IsLawful g journal → (k : ℕ) (e : Entry) → slice_get journal k ≡ Some e
     → AllByRecursion (AreVertices (length g)) e.rows
 entry_rows g game journal lawful k e is =
-    let good = lawful.good k e is in
-    let answer = lawful.answered k e is in
+    let good = lawful.good k e is in let answer = lawful.answered k e is in
     let first = right_rows g game e.player (claimed_rows e) good.shape.right.each in
     let second = led_rows g game e.player (union (settled (state_of (take k journal)) e.player) (named (claimed_rows e))) (attracted_rows e) []
     (attracted_rows e) refl answer.turns in

@@ -1,9 +1,7 @@
 -- Why a run on one joined text gives no verdict, from the parts of the text.
-use Rattle.std.proofs.Common.{◌≡◌, ◌≢◌, ◌≤◌, ◌⊎◌, ⊎_elim, ℕ, List, length, Option, Some, None, IfSome, Result, Err, IsErrOf, sym}
-use Rattle.std.proofs.Common.{ap, ◌∙◌, subst}
+use Rattle.std.proofs.Common.{rules, ◌≡◌, ◌≤◌, ◌⊎◌, ⊎_elim, ℕ, List, length, Option, IfSome, Err, IsErrOf, ap, ◌∙◌, subst}
 use Rattle.pg_game.specs.Graph.{Graph}
-use Rattle.pg_text.specs.Reading.{max_text, IsTextOf, IsSolutionFaultOf}
-use Rattle.pg_text.specs.declared.fault.SolutionTextFault.TheVariants as solution_fault
+use Rattle.pg_text.specs.Reading.{max_text, IsTextOf}
 use Rattle.pgboard.specs.declared.fault.RunFault.{RunFault}
 use Rattle.pgboard.specs.declared.fault.RunFault.TheVariants as fault
 use Rattle.pgboard.specs.declared.verdict.Verdict.{Verdict}
@@ -13,37 +11,21 @@ use Rattle.pgboard.specs.private.Run.{IsRefusedGame, IsRefusedSolution, IsVerdic
 
 -- what holds of the text that was read holds of the text that the source had
 pub of_known : (known : Option (List ℕ)) (text : List ℕ) (P : List ℕ → Type 0) → IfSome known (λ bytes. text ≡ bytes) → P text → IfSome known P
-of_known None text P e h = tt
-of_known (Some bytes) text P e h = subst P e h
+of_known known text P e h = search rules
 
 -- the same error of another type of result
 pub err_again : {A B : Type 0} (e f : RunFault) → IsErrOf {T = A} (Err e) f → IsErrOf {T = B} (Err e) f
-err_again {B = B} e f h =
-    let same : e ≡ f = cc in
-    let again : RunFault → Result B RunFault = λ x. Err x in
-    ap again same
+err_again {B = B} e f h = cc
 
 abbrev Failed : RunFault → List ℕ → Type 0
 Failed e text = JudgingFailed (game_part text) (solution_part text) (length text) e
 
 refused_game : (text : List ℕ) (e : RunFault) → length text ≤ max_text → IsRefusedGame (game_part text) e → Failed e text
-refused_game text (fault.Game f) le h = (le, h.0, h.1)
-refused_game text fault.Memory le h = tt
-refused_game text fault.Read le h = absurd h
-refused_game text fault.TooLong le h = absurd h
-refused_game text (fault.Solution f) le h = absurd h
-refused_game text (fault.Known f) le h = absurd h
-refused_game text fault.Write le h = absurd h
+refused_game text e le h = search rules
 
 refused_solution : (text : List ℕ) (g : Graph) (e : RunFault) → length text ≤ max_text → IsTextOf (game_part text) g
     → IsRefusedSolution g (solution_part text) e → Failed e text
-refused_solution text g (fault.Solution f) le is h = (le, g, is, h.0, h.1)
-refused_solution text g fault.Memory le is h = tt
-refused_solution text g fault.Read le is h = absurd h
-refused_solution text g fault.TooLong le is h = absurd h
-refused_solution text g (fault.Game f) le is h = absurd h
-refused_solution text g (fault.Known f) le is h = absurd h
-refused_solution text g fault.Write le is h = absurd h
+refused_solution text g e le is h = search rules
 
 -- a text that was read, the slice of it, and the slice's parts
 pub record IsJoinedText (known : Option (List ℕ)) (text slice game solution : List ℕ) : Type 0 where
@@ -75,16 +57,11 @@ module _ {known : Option (List ℕ)} {text slice game solution : List ℕ} (t : 
     no_solution_of e h = of_known known text (Failed e) t.read (refused_solution text g e t.within spelled (subst (λ l. IsRefusedSolution g l e) after h))
 
     judged : (verdict : Verdict) → IsVerdictOn g solution verdict → IsJudged (game_part text) (solution_part text) verdict
-    judged verdict h =
-        let there : IsVerdictOn g (solution_part text) verdict = subst (λ l. IsVerdictOn g l verdict) after h in
-        record { graph = g; rows = there.0; game_is = spelled; solution_is = there.1; verdict_is = there.2 }
+    judged verdict h = search rules
 
     pub no_output : (verdict : Verdict) (e : RunFault) → IsVerdictOn g solution verdict → (e ≡ fault.Write) ⊎ (e ≡ fault.Memory)
         → IfSome known (Failed e)
-    no_output verdict e h only = of_known known text (Failed e) t.read (⊎_elim
-        (λ w. subst (λ x. Failed x text) (sym w) (t.within, verdict, judged verdict h))
-        (λ m. let none : Failed fault.Memory text = tt in subst (λ x. Failed x text) (sym m) none)
-        only)
+    no_output verdict e h only = search (rules, of_known, ⊎_elim, judged)
 
     -- the text that the source had was judged
     pub judged_known : (verdict : Verdict) → IsVerdictOn g solution verdict
@@ -94,25 +71,14 @@ module _ {known : Option (List ℕ)} {text slice game solution : List ℕ} (t : 
     -- the text was judged, and it is within the limit
     pub judged_within : (verdict : Verdict) → IsVerdictOn g solution verdict
         → IfSome known (λ bytes. (length bytes ≤ max_text) × IsJudged (game_part bytes) (solution_part bytes) verdict)
-    judged_within verdict h =
-        of_known known text (λ bytes. (length bytes ≤ max_text) × IsJudged (game_part bytes) (solution_part bytes) verdict) t.read
-        (t.within, judged verdict h)
+    judged_within verdict h = search rules
 
 -- what a text that was read whole is refused for, its source gives no solution for
 pub no_solution_from : (known : Option (List ℕ)) (text : List ℕ) (g : Graph) (e : RunFault) → IfSome known (λ bytes. text ≡ bytes)
     → length text ≤ max_text → IsRefusedSolution g text e → IsNoSolution g known e
-no_solution_from known text g (fault.Solution f) read within h =
-    of_known known text (λ t. (length t ≤ max_text) × IsSolutionFaultOf g t f × (f ≢ solution_fault.Memory)) read (within, h.0, h.1)
-no_solution_from known text g fault.Memory read within h = tt
-no_solution_from known text g fault.Read read within h = absurd h
-no_solution_from known text g fault.TooLong read within h = absurd h
-no_solution_from known text g (fault.Game f) read within h = absurd h
-no_solution_from known text g (fault.Known f) read within h = absurd h
-no_solution_from known text g fault.Write read within h = absurd h
+no_solution_from known text g e read within h = search rules
 
 -- a verdict on a text that was read whole is one on what both sources had
 pub judged_by_both : (games solutions : Option (List ℕ)) (text : List ℕ) (g : Graph) (verdict : Verdict) → IsReadGame games g
     → IfSome solutions (λ bytes. text ≡ bytes) → IsVerdictOn g text verdict → IfSome games (λ a. IfSome solutions (λ b. IsJudged a b verdict))
-judged_by_both None solutions text g verdict is read h = tt
-judged_by_both (Some a) solutions text g verdict is read h =
-    of_known solutions text (λ b. IsJudged a b verdict) read (record { graph = g; rows = h.0; game_is = is.1; solution_is = h.1; verdict_is = h.2 })
+judged_by_both games solutions text g verdict is read h = search rules

@@ -1,5 +1,5 @@
 -- Lines of words between single spaces, written word by word.
-use Rattle.std.proofs.Common.{◌≡◌, ℕ, List, [], ◌∷◌, ◌++◌, refl, sym, ◌∙◌, ap, append_assoc}
+use Rattle.std.proofs.Common.{rules, ◌≡◌, ℕ, List, [], ◌∷◌, ◌++◌, refl, sym, ◌∙◌, ap, append_assoc}
 use Rattle.std.specs.List.{join_with_byte}
 use Rattle.pgboard.specs.Trace.{trace_line}
 
@@ -24,9 +24,7 @@ pub first : {o w r : List ℕ} → r ≡ o ++ w → Begins o w [] r
 first {o} {w} h = record { is = λ end. ap (λ t. t ++ end) h ∙ append_assoc o w end }
 
 pub next : {o w : List ℕ} {ws : List (List ℕ)} {r s : List ℕ} (x : List ℕ) → Begins o w ws r → s ≡ r ++ 32 ∷ x → Begins o w (ws ++ x ∷ []) s
-next {o} {w} {ws} {r} x b h = record {
-  is = λ end. ap (λ t. t ++ end) h ∙ append_assoc r (32 ∷ x) end ∙ b.is (32 ∷ (x ++ end)) ∙ ap (λ t. o ++ (w ++ t)) (sym (spaced_more ws x end));
-}
+next {o} {w} {ws} {r} x b h = search (rules, append_assoc, spaced_more)
 
 pub last : {o w : List ℕ} {ws : List (List ℕ)} {r s : List ℕ} → Begins o w ws r → s ≡ r ++ 10 ∷ [] → s ≡ o ++ trace_line (w ∷ ws)
 last {o} {w} {ws} b h = h ∙ b.is (10 ∷ []) ∙ ap (λ t. o ++ t) (sym (joined w ws (10 ∷ [])))

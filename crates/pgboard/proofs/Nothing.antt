@@ -1,5 +1,5 @@
 -- The empty text says nothing of a game.
-use Rattle.std.proofs.Common.{◌≡◌, ℕ, zero, suc, ◌<◌, [], length, refl, arith, Option, Some, None, slice_get, replicate}
+use Rattle.std.proofs.Common.{rules, ◌≡◌, ℕ, zero, suc, ◌<◌, [], length, refl, arith, Some, None, slice_get, replicate}
 use Rattle.std.proofs.lemmas.List.{length-replicate}
 use Rattle.pg_game.specs.Graph.{Graph}
 use Rattle.pg_text.specs.Reading.{SpellsSolution}
@@ -14,14 +14,4 @@ nothing_at (suc n) zero rows is lt = rw is refl
 nothing_at (suc n) (suc v) rows is lt = rw is (nothing_at n v (replicate n None) refl (omega (arith, lt)))
 
 pub says_nothing : (g : Graph) (rows : KnownRows) → rows ≡ replicate (length g) None → IsKnownTextOf g [] rows
-says_nothing g rows is = record {
-  lines = [];
-  spelled = nothing_spelled;
-  says = record {
-    no_stranger = refl;
-    once = refl;
-    size = rw is (length-replicate (length g) None);
-    said = λ v lt l listed same. absurd (let h = listed.1 in omega arith);
-    unsaid = λ v lt unsaid. nothing_at (length g) v rows is lt;
-  };
-}
+says_nothing g rows is = search (rules, nothing_spelled, length-replicate, nothing_at)

@@ -1,5 +1,5 @@
 -- What the post of a known set is refused for names vertices of the game, and rows of the set.
-use Rattle.std.proofs.Common.{◌≡◌, ℕ, ◌<◌, inl, inr, List, [], ◌∷◌, length, subst, if◌then◌else◌}
+use Rattle.std.proofs.Common.{rules, ◌≡◌, ℕ, ◌<◌, ◌≤◌, inl, inr, List, [], ◌∷◌, length, subst, if◌then◌else◌}
 use Rattle.std.specs.List.{Contains}
 use Rattle.pg_game.specs.declared.player.Player.{Player}
 use Rattle.pg_game.specs.Player.{same_player}
@@ -53,13 +53,10 @@ module _ (g : Graph) (game : IsGame g) (p : Player) (rows : ClaimRows) (shape : 
   open_below st v w (i, m) = let n = (in_rest st rows v i).0 in (named_below v n, kept_below v w n m)
 
 pub cycle_below : (g : Graph) (game : IsGame g) (p : Player) (rows : ClaimRows) (v : ℕ) → IsFirstOnBadWalk g p rows v → v < length g
-cycle_below g game p rows v (shape, least) =
-    let walk = least.has in
-    let edge = first_edge (KeptEdge g p (named rows) (choice_in rows)) v walk.0 v walk.1 in
-    named_below g game p rows shape v edge.1.0
+cycle_below g game p rows v (shape, least) = search (rules, first_edge, named_below)
 
 -- what the post of a player's known set was refused for
-module _ (g : Graph) (game : IsGame g) (known : KnownRows) (sized : length known ≡ length g) (p : Player) where
+module _ (g : Graph) (game : IsGame g) (known : KnownRows) (sized : length known ≤ length g) (p : Player) where
   abbrev rows_of : ClaimRows
   rows_of = known_rows g known p
 

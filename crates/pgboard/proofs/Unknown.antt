@@ -2,7 +2,7 @@
 use mathlib.Core.Path.{fun_ext}
 use Rattle.std.proofs.Common.{◌≡◌, ℕ, zero, suc, ◌<◌, ◌≤◌, false, true, ◌⊎◌, inl, inr, [], ◌∷◌, length, refl, sym, subst, arith}
 use Rattle.std.specs.Prelude.{Some, None, replicate, slice_get}
-use Rattle.std.proofs.lemmas.Bool.{cases_lt}
+use Rattle.std.proofs.lemmas.Bool.{cases_lt, cases_Bool}
 use Rattle.pg_game.specs.declared.player.Player.{Player}
 use Rattle.pg_game.specs.declared.player.Player.TheVariants.{Even, Odd}
 use Rattle.pg_game.specs.Graph.{Graph, IsGame}
@@ -12,11 +12,11 @@ use Rattle.pg_game.specs.Region.{IsRegion}
 use Rattle.pg_game.proofs.Members.{Contains-head}
 use Rattle.pg_text.specs.Known.{KnownRows, known_at, known_of, known_choice}
 use Rattle.pg_finders.specs.Claims.{own_choices, rows_below}
-use Rattle.std.proofs.lemmas.Bool.{cases_Bool}
 use Rattle.pg_board.specs.declared.refusal.Refusal.{Refusal}
 use Rattle.pg_board.proofs.Opening.{no_region, attracts_none}
 use Rattle.pg_workers.specs.declared.known.SolveFault.TheVariants as solving
 use Rattle.pg_workers.specs.Known.{known_rows, IsKnownRegion, HasCount, IsAttractedToKnown, IsKnownSize, IsSolveFault}
+use Rattle.pg_workers.proofs.Knowing.{unknown_beyond}
 use Rattle.pgboard.proofs.Rows.{row_of_vertex}
 
 -- a set without vertices is a region, and attracts none
@@ -26,16 +26,10 @@ module _ (g : Graph) (game : IsGame g) (known : KnownRows) (p : Player) (none : 
 
   none_attracted : (v : ℕ) → IsAttractedToKnown g known p v → ⊥
   none_attracted v a =
-      let h : false ≡ true = attracts_none g game p v (subst (λ (X : VertexSet). Attractor g p (all_vertices g) X v) (fun_ext none) a) in
-      cc h
-
-unknown_beyond : (known : KnownRows) (p : Player) (v : ℕ) → length known ≤ v → known_of known p v ≡ false
-unknown_beyond [] p v le = refl
-unknown_beyond (r ∷ known) p zero le = absurd (omega arith)
-unknown_beyond (r ∷ known) p (suc v) le = unknown_beyond known p v (omega (arith, le))
+      let h : false ≡ true = attracts_none g game p v (subst (λ (X : VertexSet). Attractor g p (all_vertices g) X v) (fun_ext none) a) in cc h
 
 -- a set without rows has no vertices
-pub none_of_rows : (g : Graph) (known : KnownRows) (p : Player) → length known ≡ length g → known_rows g known p ≡ [] → (v : ℕ)
+pub none_of_rows : (g : Graph) (known : KnownRows) (p : Player) → length known ≤ length g → known_rows g known p ≡ [] → (v : ℕ)
     → known_of known p v ≡ false
 none_of_rows g known p sized empty v = elim (cases_lt v (length g)) [
   | inl lt ↦ inside lt (cases_Bool (known_of known p v))
@@ -60,9 +54,13 @@ no_size : (P : ℕ → Type 0) (n : ℕ) → ((v : ℕ) → P v → ⊥) → Has
 no_size P n none ([], distinct, listed, size) = sym size
 no_size P n none (v ∷ vs, distinct, listed, size) = absurd (none v ((listed v).0 (Contains-head v vs)))
 
-module _ (g : Graph) (game : IsGame g) (known : KnownRows) (nothing : known ≡ replicate (length g) None) where
+-- rows that say nothing are regions, as no rows are
+pub nothing_regions : (g : Graph) → IsGame g → (p : Player) → IsKnownRegion g (replicate (length g) None) p
+nothing_regions g game p = empty_region g game (replicate (length g) None) p (λ v. rw (nothing_at (length g) v) refl)
+
+module _ (g : Graph) (game : IsGame g) (known : KnownRows) (nothing : known ≡ []) where
   not_known : (p : Player) (v : ℕ) → known_of known p v ≡ false
-  not_known p v = rw (nothing, nothing_at (length g) v) refl
+  not_known p v = rw nothing refl
 
   pub never_refused : (p : Player) (e : Refusal) → IsSolveFault g known (solving.Known p e) → ⊥
   never_refused p e (journal, lawful, before, why) = why.no_region (empty_region g game known p (not_known p))
@@ -73,5 +71,4 @@ module _ (g : Graph) (game : IsGame g) (known : KnownRows) (nothing : known ≡ 
   pub settles_nothing : (n : ℕ) → IsKnownSize g known n → n ≡ 0
   settles_nothing n (a, b, even, odd, is) =
       let none_of_even = attracts_nothing Even a even in
-      let none_of_odd = attracts_nothing Odd b odd in
-      omega arith
+      let none_of_odd = attracts_nothing Odd b odd in omega arith

@@ -29,23 +29,25 @@ pub fn known_of(alloc: Global, game: &Game, text: &[u8]) -> Result<Known, RunFau
     }
 }
 
-/// What is known of a game where no text is given: what the empty text says, which is nothing.
-pub fn nothing_known(alloc: Global, game: &Game) -> Result<Known, Memory>
-    ensures text { IfOk result (λ known. IsKnownTextOf game.now [] known.rows) }
-    ensures rows { IfOk result (λ known. known.rows ≡ replicate (length game.now) None) }
+/// What is known of a game where no text is given: nothing, which takes no rows.
+pub fn nothing_known(alloc: Global) -> Known
+    ensures { result.rows ≡ [] }
 {
-    let rows = vec![in alloc; None; game.len() as usize]?;
-    Ok(Known {
-        rows: Sequence::new(rows),
-    })
+    Known {
+        rows: Sequence::new(Vec::new(alloc)),
+    }
 }
 
 /// Whether the player is known to win the vertex.
 fn is_known_of(known: &Known, player: Player, v: u32) -> bool
-    requires { v < length known.now.rows }
     ensures { result ≡ known_of known.now.rows player v }
 {
-    match known.rows.as_slice()[v as usize] {
+    let at = v as usize;
+    let rows = known.rows.as_slice();
+    if at >= rows.len() {
+        return false;
+    }
+    match rows[at] {
         Some((winner, _)) => winner == player,
         None => false,
     }
@@ -54,7 +56,7 @@ fn is_known_of(known: &Known, player: Player, v: u32) -> bool
 /// The vertex in a row of the player's known set: of those that he is known to win, in order, the one with so many
 /// before it.
 fn vertex_in_row(game: &Game, known: &Known, player: Player, row: u32) -> u32
-    requires known { length known.now.rows ≡ length game.now }
+    requires known { length known.now.rows ≤ length game.now }
     requires row { row < length (known_rows game.now known.now.rows player) }
     ensures vertex { result < length game.now }
     ensures row { option_map (λ r. r.0) (slice_get (known_rows game.now known.now.rows player) row) ≡ Some result }
@@ -73,7 +75,7 @@ fn vertex_in_row(game: &Game, known: &Known, player: Player, row: u32) -> u32
 
 /// What the check of a player's known set found, by identifiers.
 fn claim_fault(game: &Game, known: &Known, player: Player, fault: ClaimFault) -> KnownFault
-    requires known { length known.now.rows ≡ length game.now }
+    requires known { length known.now.rows ≤ length game.now }
     requires fault { IsSolveFault game.now known.now.rows (SolveFault.Known player (Refusal.Claim fault)) }
     ensures { Names game.now (known_rows game.now known.now.rows player) (Refusal.Claim fault) result }
 {
@@ -91,7 +93,7 @@ fn claim_fault(game: &Game, known: &Known, player: Player, fault: ClaimFault) ->
 
 /// What the post of a player's known set was refused for, by identifiers.
 fn known_fault(game: &Game, known: &Known, player: Player, refusal: Refusal) -> KnownFault
-    requires known { length known.now.rows ≡ length game.now }
+    requires known { length known.now.rows ≤ length game.now }
     requires refusal { IsSolveFault game.now known.now.rows (SolveFault.Known player refusal) }
     ensures { Names game.now (known_rows game.now known.now.rows player) refusal result }
 {
@@ -107,7 +109,7 @@ fn known_fault(game: &Game, known: &Known, player: Player, refusal: Refusal) -> 
 
 /// Why a game is not solved from what is known of it.
 pub fn unsolved(game: &Game, known: &Known, fault: SolveFault) -> RunFault
-    requires known { length known.now.rows ≡ length game.now }
+    requires known { length known.now.rows ≤ length game.now }
     requires fault { IsSolveFault game.now known.now.rows fault }
     ensures { IsUnsolved game.now known.now.rows result }
 {
@@ -121,7 +123,7 @@ pub fn unsolved(game: &Game, known: &Known, fault: SolveFault) -> RunFault
 
 /// Why a game of which nothing is known is not solved: memory that is out is the only reason.
 pub fn only_memory(game: &Game, known: &Known, fault: SolveFault) -> Memory
-    requires known { known.now.rows ≡ replicate (length game.now) None }
+    requires known { known.now.rows ≡ [] }
     requires fault { IsSolveFault game.now known.now.rows fault }
 {
     // for the proof alone, which takes from it that the game is one

@@ -51,7 +51,7 @@ fn solve_text<R: Threads + Wait + Sync>(
     gate: &impl Gate,
     finder: &impl Finder,
 ) -> Result<Vec<u8>, RunFault>
-    requires known { length known.now.rows ≡ length game.now }
+    requires known { length known.now.rows ≤ length game.now }
     requires workers { (1 ≤ options.now.workers) × (options.now.workers ≤ 64) }
     requires bound { options.now.bound ≤ 8 }
     ensures text { IfOk result (λ text. IsSolveText options.now.winners game.now text.items) }
@@ -96,7 +96,7 @@ fn trace_of<R: Threads + Wait + Sync>(
         bound: TRACE_BOUND,
         budget: BUDGET,
     };
-    let known = nothing_known(alloc, game)?;
+    let known = nothing_known(alloc);
     let outcome = match solve_game(rt, alloc, game, &run, &known, gate, finder) {
         Ok(outcome) => outcome,
         Err(fault) => return Err(only_memory(game, &known, fault)),
@@ -172,7 +172,7 @@ fn solve_alone<I: Source, O: Sink, R: Threads + Wait + Sync>(
     let game = game_from(alloc, input)?;
     // for the proof alone, which takes from it that the game is one
     let _n = game.len();
-    let known = nothing_known(alloc, &game)?;
+    let known = nothing_known(alloc);
     let text = solve_text(rt, alloc, &game, &known, options, gate, finder)?;
     write_all(text.as_slice(), out)
 }

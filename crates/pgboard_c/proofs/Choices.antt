@@ -1,12 +1,11 @@
 -- The choices of a solution are below each number that is no less than the number of vertices.
-use Rattle.std.proofs.Common.{ℕ, ◌<◌, ◌≤◌, length, arith, Option, Some, None, IfSome}
+use Rattle.std.proofs.Common.{rules, ℕ, ◌<◌, ◌≤◌, length, Option, IfSome}
 use Rattle.pg_game.specs.Graph.{Graph, IsGame}
 use Rattle.pg_text.specs.Solution.{SolutionRows, IsExactSolution, choice_of}
 use Rattle.pg_text.proofs.Exact.{choice_below}
 
 wider : (m n : ℕ) (o : Option ℕ) → m ≤ n → IfSome o (λ w. w < m) → IfSome o (λ w. w < n)
-wider m n None le h = tt
-wider m n (Some w) le h = omega (arith, le, h)
+wider m n o le h = search rules
 
 pub choices_below : (g : Graph) (rows : SolutionRows) (n : ℕ) → IsGame g → IsExactSolution g rows → length g ≤ n → (v : ℕ) → v < length rows
     → IfSome (choice_of rows v) (λ w. w < n)

@@ -1,7 +1,5 @@
 -- What arrays say, vertex by vertex.
-use Rattle.std.proofs.Common.{rules, ◌≡◌, ℕ, zero, suc, true, ◌<◌, ◌≤◌, ◌⊎◌, inl, inr, List, [], ◌∷◌, length, refl, arith}
-use Rattle.std.proofs.Common.{length-append, get_or, All, Some, nat_lt}
-use Rattle.std.proofs.lemmas.Bool.{cases_lt}
+use Rattle.std.proofs.Common.{rules, ◌≡◌, ℕ, zero, suc, ◌<◌, ◌≤◌, List, [], ◌∷◌, length, refl, arith, length-append, All, Some}
 use Rattle.std.proofs.lemmas.List.Elements.{All-nil, All-push}
 use Rattle.pg_game.specs.declared.game.Spec.{Spec}
 use Rattle.pg_game.specs.declared.game.GameFault.TheVariants.{TooManyVertices}
@@ -14,11 +12,7 @@ length_specs a zero = refl
 length_specs a (suc v) = let l = length_specs a v in let e = length-append (specs_below a v) (array_spec a v ∷ []) in omega (arith, l, e)
 
 number_at : (a : GameArrays) (v : ℕ) → NoneHas (IsBadPriority a) → v < length a.owners → v ≤ max_number → AreNumbers (array_spec a v)
-number_at a v good lt few = record { id = few; priority = small (cases_lt max_number (get_or a.priorities v 0)) }
-  where
-    small : (max_number < get_or a.priorities v 0) ⊎ (get_or a.priorities v 0 ≤ max_number) → get_or a.priorities v 0 ≤ max_number
-    small (inl bad) = absurd (good v (lt, bad))
-    small (inr le) = le
+number_at a v good lt few = search rules
 
 -- identifiers and priorities are within the limit
 pub numbers_below : (a : GameArrays) → NoneHas (IsBadPriority a) → (v : ℕ) → v ≤ length a.owners → v ≤ 2147483648
@@ -29,5 +23,4 @@ numbers_below a good (suc v) le few = All-push AreNumbers (specs_below a v) (arr
 
 -- more specifications than there may be vertices
 pub too_many : (specs : List Spec) → max_vertices < length specs → first_fault specs ≡ Some TooManyVertices
-too_many [] lt = absurd (let e : ⊥ = omega (arith, lt) in e)
-too_many (s ∷ specs) lt = let l : nat_lt max_vertices (length (s ∷ specs)) ≡ true = search rules in rw l refl
+too_many specs lt = search rules

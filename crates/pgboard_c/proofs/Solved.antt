@@ -1,10 +1,9 @@
 -- Two claims that share a game out make its solution.
-use mathlib.Core.Path.{fun_ext}
-use Rattle.std.proofs.Common.{◌≡◌, ◌≢◌, ℕ, ◌<◌, Bool, true, false, inl, inr, List, [], ◌∷◌, length, replicate, sym, ◌∙◌, ap}
-use Rattle.std.proofs.Common.{subst, arith, lt-ltb, ltb-true, get_or, Option, None, nat_lt, All}
+use Rattle.std.proofs.Common.{rules, ◌≡◌, ◌≢◌, ℕ, ◌<◌, Bool, true, false, inl, inr, List, [], ◌∷◌, length, replicate, sym, ◌∙◌, ap, subst, arith, lt-ltb}
+use Rattle.std.proofs.Common.{get_or, Option, None, nat_lt, All}
+use Rattle.std.proofs.lemmas.Grind.{common_steps}
 use Rattle.std.specs.List.{AllByRecursion}
 use Rattle.std.proofs.lemmas.List.{get_or-replicate, length-replicate}
-use Rattle.std.proofs.lemmas.List.Elements.{All-nil, All-from_recursion, All-weaker}
 use Rattle.pg_game.specs.declared.player.Player.{Player}
 use Rattle.pg_game.specs.declared.player.Player.TheVariants.{Even, Odd}
 use Rattle.pg_game.specs.Player.{opponent, same_player}
@@ -24,9 +23,8 @@ use Rattle.pg_dominion.proofs.Rows.{named_right}
 use Rattle.pg_finders.specs.Claims.{AreClaims}
 use Rattle.pg_finders.proofs.ClosedWalks.{never_empty}
 use Rattle.pg_finders.proofs.Masks.{inside_mask}
-use Rattle.std.proofs.lemmas.Bool.{and_parts, and_from, or_cases}
-use Rattle.pg_game.proofs.Players.{own_or_other, is_same, same_is}
-use Rattle.pg_finders.proofs.Sets.{equal_from}
+use Rattle.std.proofs.lemmas.Bool.{and_from, or_cases}
+use Rattle.pg_game.proofs.Players.{own_or_other, is_same}
 use Rattle.pg_finders.proofs.Solving.{kept_leads, kept_same, choice_leads}
 use Rattle.pgboard_c.specs.private.Put.{IsPut}
 
@@ -41,24 +39,18 @@ pub all_subgame : (g : Graph) → IsGame g → IsSubgame g (members (replicate (
 all_subgame g game = record {
   vertices = λ v i. lt-ltb v (length g) (all_inside (length g) v i);
   successor = λ v i.
-      let l = all_inside (length g) v i in
-      let e = some_edge g game v l in
+      let l = all_inside (length g) v i in let e = some_edge g game v l in
       (e.0, e.1, inside_all (length g) e.0 (edge_below g game v e.0 l e.1));
 }
 
 -- claims on all vertices, whatever the mask that says so
 pub claims_of : (g h : Graph) (mask : List Bool) (even odd : Claim) → h ≡ g → mask ≡ replicate (length g) true → AreClaims h (members mask) even odd
     → AreClaims g (members (replicate (length g) true)) even odd
-claims_of g h mask even odd same all claims = subst (λ (m : List Bool). AreClaims g (members m) even odd) all
-    (subst (λ (x : Graph). AreClaims x (members mask) even odd) same claims)
+claims_of g h mask even odd same all claims = search rules
 
 -- the vertices of a good claim, or of none
 pub rows_below : (g : Graph) (U : VertexSet) (p : Player) (rows : ClaimRows) → (0 < length rows → IsGoodIn g U p rows) → All (λ r. r.0 < length g) rows
-rows_below g U p [] good = All-nil (λ (r : ℕ × Option ℕ). r.0 < length g)
-rows_below g U p (r ∷ rows) good =
-    let some : 0 < length (r ∷ rows) = omega arith in
-    All-weaker (IsRightRow g p) (λ (x : ℕ × Option ℕ). x.0 < length g) (λ x right. right.vertex) (r ∷ rows)
-    (All-from_recursion (IsRightRow g p) (r ∷ rows) (good some).shape.right.each)
+rows_below g U p rows good = grind (arith, common_steps)
 
 module _ (g : Graph) (game : IsGame g) (U : VertexSet) (below : (v : ℕ) → In U v → v < length g) (whole : (v : ℕ) → v < length g → In U v) where
   -- where a kept edge of a right claim leads
@@ -72,12 +64,7 @@ module _ (g : Graph) (game : IsGame g) (U : VertexSet) (below : (v : ℕ) → In
 
   -- a claim that is good in the whole game is a region
   region_of : (p : Player) (rows : ClaimRows) → (0 < length rows → IsGoodIn g U p rows) → IsRegion g p (named rows) (choice_in rows)
-  region_of p [] good = record {
-    vertices = λ v i. absurd (let h : false ≡ true = i in cc h);
-    choices = λ v i o. absurd (let h : false ≡ true = i in cc h);
-    closed = λ v w k. absurd (let h : false ≡ true = k.0 in cc h);
-    good = λ walk c. absurd (never_empty (KeptEdge g p (named []) (choice_in [])) (λ v w k. (let h : false ≡ true = k.0 in cc h)) walk c);
-  }
+  region_of p [] good = search (rules, never_empty)
   region_of p (r ∷ rows) good =
       let some : 0 < length (r ∷ rows) = omega arith in
       let claim = good some in record {
@@ -101,8 +88,7 @@ module _ (g : Graph) (game : IsGame g) (U : VertexSet) (below : (v : ℕ) → In
     long = second.size ∙ (first.size ∙ size)
 
     row_is : (p : Player) (v : ℕ) → In (named (claimed p)) v → get_or rows v (Even, None) ≡ (p, choice_in (claimed p) v)
-    row_is Even v i = second.others v (claims.disjoint v i) ∙ (first.put v i ∙ ap (λ q. (q, choice_in even.rows v)) claims.even_player)
-    row_is Odd v i = second.put v i ∙ ap (λ q. (q, choice_in odd.rows v)) claims.odd_player
+    row_is p v i = search rules
 
     winner_is : (p : Player) (v : ℕ) → In (named (claimed p)) v → winner_of rows v ≡ p
     winner_is p v i = ap (λ (r : Player × Option ℕ). r.0) (row_is p v i)
@@ -119,22 +105,8 @@ module _ (g : Graph) (game : IsGame g) (U : VertexSet) (below : (v : ℕ) → In
     region : (p : Player) → IsRegion g p (named (claimed p)) (choice_in (claimed p))
     region p = region_of p (claimed p) (good_in p)
 
-    named_below : (p : Player) (v : ℕ) → In (named (claimed p)) v → v < length g
-    named_below p v i = ltb-true v (length g) ((region p).vertices v i)
-
     won : (p : Player) → named (claimed p) ≡ won_by rows p
-    won p = fun_ext (λ v. equal_from (named (claimed p) v) (won_by rows p v) (inside v) (outside v))
-      where
-        inside : (v : ℕ) → In (named (claimed p)) v → In (won_by rows p) v
-        inside v i = and_from (nat_lt v (length rows)) (same_player (winner_of rows v) p)
-            (lt-ltb v (length rows) (omega (arith, named_below p v i, long))) (is_same (winner_of rows v) p (winner_is p v i))
-
-        outside : (v : ℕ) → In (won_by rows p) v → In (named (claimed p)) v
-        outside v i =
-            let h = and_parts (nat_lt v (length rows)) (same_player (winner_of rows v) p) i in
-            let l : v < length g = (let k = ltb-true v (length rows) h.0 in omega (arith, k, long)) in
-            let c = claimed_by v l in
-            subst (λ q. In (named (claimed q)) v) (sym (winner_is c.0 v c.1) ∙ same_is (winner_of rows v) p h.1) c.1
+    won p = search rules
 
     regions : (p : Player) → IsRegion g p (won_by rows p) (choice_of rows)
     regions p = subst (λ (X : VertexSet). IsRegion g p X (choice_of rows)) (won p) (record {
@@ -168,9 +140,7 @@ module _ (g : Graph) (game : IsGame g) (U : VertexSet) (below : (v : ℕ) → In
 
     others_none : (p : Player) (v : ℕ) (xs : ClaimRows) → (0 < length xs → IsGoodIn g U p xs) → In (named xs) v → owner_of g v ≢ p
         → choice_in xs v ≡ None
-    others_none p v [] good i other = absurd (let h : false ≡ true = i in cc h)
-    others_none p v (x ∷ xs) good i other =
-        (named_right g p (x ∷ xs) v (good (let some : 0 < length (x ∷ xs) = omega arith in some)).shape.right.each i).other other
+    others_none p v xs good i other = grind (arith, common_steps, named_right)
 
     pub exact_solution : IsExactSolution g rows
     exact_solution = record {

@@ -1,13 +1,12 @@
 //! Worked answers: of one board each, to claims one after another, which are posted, or checked and settled.
 
 use crate::tests::calls::{CALLS, Call, copied};
-use crate::tests::games::{
-    EVEN, ODD, Row, bridge_game, claim_of, game_of, layered_game, shared_game, waiting_game,
-};
+use crate::tests::games::{bridge_game, claim_of, layered_game, shared_game, waiting_game};
 use pg_board::{Board, Entry, Posted, Refusal};
 use pg_dominion::ClaimFault;
 use pg_finders::Copied;
 use pg_game::{Game, Mask, Player};
+use pg_test_support::{EVEN, ODD, Row, game_of};
 use pg_text::Solution;
 use std::alloc::Global;
 use std::process::Abort;

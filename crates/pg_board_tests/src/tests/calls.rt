@@ -1,10 +1,11 @@
 //! The two calls that settle a claim, on a board and through an office.
 
-use crate::tests::games::{Row, claim_of};
+use crate::tests::games::claim_of;
 use pg_board::{Board, Office, Posted, Refusal, Share};
 use pg_dominion::{Claim, check_claim};
 use pg_finders::Copied;
 use pg_game::{Game, Player};
+use pg_test_support::Row;
 use std::alloc::Global;
 use std::process::Abort;
 use std::sync::Wait;

@@ -2,13 +2,13 @@
 
 use crate::tests::calls::{CALLS, Call, copied};
 use crate::tests::games::{
-    EVEN, ODD, Row, Vertex, bridge_game, claim_of, divided_game, game_of, layered_game,
-    shared_game, winding_game,
+    bridge_game, claim_of, divided_game, layered_game, shared_game, winding_game,
 };
 use pg_board::{Board, Refusal};
 use pg_dominion::Claim;
 use pg_finders::{Copied, Finder, Found, Job, Solved, Standard, zielonka};
 use pg_game::{Game, Player};
+use pg_test_support::{EVEN, ODD, Row, Vertex, game_of};
 use std::alloc::Global;
 use std::process::Abort;
 use std::test::Fail;

@@ -6,11 +6,11 @@
 
 ghost use Rattle.std.specs.Prelude.{◌≡◌};
 
-use crate::tests::games::{EVEN, ODD, Row};
 use pg_board::{Board, Entry, Office, Posted, Refusal, Share};
 use pg_dominion::{Checked, Claim, check_claim};
 use pg_finders::Copied;
 use pg_game::{Game, Memory, Player, Sequence};
+use pg_test_support::{EVEN, ODD, Row, lacking, needed};
 use pg_text::{Solution, read_game};
 use std::alloc::Global;
 use std::marker::Brand;
@@ -21,14 +21,6 @@ use std::test::Fail;
 
 /// Even's loop, a vertex of Odd's that has to go there, and Odd's loop.
 const SHARED: &[u8] = b"0 0 0 0; 1 0 1 0; 2 1 1 2;";
-
-/// What the test needs itself, or its one message where memory is refused to that.
-fn needed<T, E: Drop>(made: Result<T, E>) -> Result<T, Fail> {
-    match made {
-        Ok(value) => Ok(value),
-        Err(_) => Err(Fail::from("no memory for the test itself")),
-    }
-}
 
 /// The game of a short text.
 fn game_of(alloc: Global, text: &[u8]) -> Result<Game, Fail> {
@@ -365,7 +357,7 @@ fn accepted_by_office<L: Ledger, R: Wait + Abort>(
     requires parts { (blank.parts ≡ L.parts) × (blank.parts ≡ 2) }
 {
     let Ok((office, mut shares)) = Office::<L>::open(alloc, blank, game, 2) else {
-        return Err(Fail::from("no memory for the test itself"));
+        return Err(lacking());
     };
     accepted_through(rt, alloc, &office, &mut shares[0], even, 2)?;
     accepted_through(rt, alloc, &office, &mut shares[1], odd, 1)?;

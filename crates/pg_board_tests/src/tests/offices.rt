@@ -3,13 +3,12 @@
 ghost use Rattle.std.specs.Prelude.{◌≡◌, ◌≤◌, IfOk, vec_len};
 
 use crate::tests::calls::{CALLS, Call};
-use crate::tests::games::{
-    EVEN, ODD, claim_of, claim_of_loops, divided_game, layered_game, loops_game, shared_game,
-};
+use crate::tests::games::{claim_of, claim_of_loops, divided_game, layered_game, shared_game};
 use pg_board::{Board, Office, Refusal, Share};
 use pg_dominion::{Checked, Claim, check_claim};
 use pg_finders::Copied;
 use pg_game::{Game, Player};
+use pg_test_support::{EVEN, ODD, own_loops};
 use std::alloc::Global;
 use std::marker::Brand;
 use std::process::Abort;
@@ -284,7 +283,7 @@ fn checked_on<'g>(alloc: Global, game: &'g Game, claim: &Claim) -> Result<Checke
 #[test]
 fn the_largest_claim_of_the_largest_game_is_accepted(rt: HostRuntime) -> Result<(), Fail> {
     let alloc = rt.alloc();
-    let game = loops_game(alloc, 1_048_576)?;
+    let game = own_loops(alloc, 1_048_576)?;
     for call in CALLS {
         settle_all::<Brand, _>(&rt, alloc, Blank::new(1), call, &game)?;
     }

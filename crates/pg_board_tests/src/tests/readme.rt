@@ -1,9 +1,10 @@
 //! The code of README.md, which `tests/readme_code.py` of the repository looks for here.
 
-use crate::tests::games::{EVEN, game_of, shared_game};
+use crate::tests::games::shared_game;
 use pg_board::{Board, Refusal};
 use pg_dominion::Claim;
 use pg_game::{Game, Player, Sequence};
+use pg_test_support::{EVEN, game_of};
 use pg_text::Solution;
 use std::alloc::Global;
 use std::process::Abort;

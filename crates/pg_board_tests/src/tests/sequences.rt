@@ -2,14 +2,13 @@
 //! games, and at random.
 
 use crate::tests::calls::Call;
-use crate::tests::games::{EVEN, ODD, claim_of, game_of_sets};
-use crate::tests::random::{Random, random_call, random_claim, random_game};
-use crate::tests::reference::{
-    Plain, answer, are_attracted, first_wrong_row, region_of, size_of, starts_with_rest, state_of,
-};
+use crate::tests::games::claim_of;
+use crate::tests::random::{random_call, random_claim, random_game};
+use crate::tests::reference::{answer, are_attracted, region_of, starts_with_rest, state_of};
 use pg_board::{Board, Entry};
 use pg_dominion::Claim;
 use pg_game::{Game, Player};
+use pg_test_support::{EVEN, ODD, Plain, Random, first_wrong_row, game_of_sets, size_of};
 use std::alloc::Global;
 use std::process::Abort;
 use std::test::Fail;

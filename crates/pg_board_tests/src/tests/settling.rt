@@ -1,14 +1,15 @@
 //! Claims that were checked on one game and are settled on a board of another, or of the same.
 
 use crate::tests::calls::Call;
-use crate::tests::games::{
-    EVEN, ODD, Row, Vertex, claim_of, divided_game, game_of, game_of_sets, layered_game,
-};
-use crate::tests::random::{Random, altered_game, random_claim, random_game};
-use crate::tests::reference::{Plain, answer, first_foreign, region_of, size_of};
+use crate::tests::games::{claim_of, divided_game, layered_game};
+use crate::tests::random::{altered_game, random_claim, random_game};
+use crate::tests::reference::{answer, region_of};
 use pg_board::{Board, Posted, Refusal};
 use pg_dominion::{Checked, CheckedRow, Claim, check_claim};
 use pg_game::{Game, Player};
+use pg_test_support::{
+    EVEN, ODD, Plain, Random, Row, Vertex, first_foreign, game_of, game_of_sets, size_of,
+};
 use std::alloc::Global;
 use std::process::Abort;
 use std::test::Fail;

@@ -5,11 +5,12 @@ ghost use Rattle.std.specs.Prelude.{◌≡◌, vec_len};
 mod memory;
 
 use crate::tests::calls::{CALLS, Call};
-use crate::tests::games::{EVEN, ODD, shared_game};
+use crate::tests::games::shared_game;
 use crate::tests::offices::office_of;
 use pg_board::{Office, Refusal, Share};
 use pg_finders::Copied;
 use pg_game::Game;
+use pg_test_support::{EVEN, ODD};
 use std::alloc::Global;
 use std::marker::Brand;
 use std::process::Abort;

@@ -1,24 +1,15 @@
 -- The vertices that are dominions alone, as a set; together they are a good claim.
-use Rattle.std.proofs.Common.{◌≡◌, ℕ, zero, suc, ◌<◌, ◌≤◌, Bool, true, false, ◌&&◌, ◌||◌, not, ◌↔◌, inl, inr, List, [], ◌∷◌, length, refl, sym, ◌∙◌, subst, ap}
-use Rattle.std.proofs.Common.{arith, ltb-true, rules}
-use Rattle.std.specs.Prelude.{Some, ◌==◌}
-use Rattle.std.specs.List.{list_any, Contains}
-use Rattle.std.proofs.lemmas.Bool.{eqb-true, eq-eqb, and_parts, and_from, cases_Bool, or_right, not_from_false}
-use Rattle.pg_game.specs.declared.player.Player.{Player}
-use Rattle.pg_game.specs.Player.{of_parity, same_player}
-use Rattle.pg_game.specs.Graph.{Graph, HasEdge, owner_of, priority_of, successors_of}
-use Rattle.pg_game.specs.VertexSet.{VertexSet, In, members}
-use Rattle.pg_game.specs.Kept.{KeptEdge}
-use Rattle.pg_game.specs.Walk.{Walk, ClosedWalk, greatest_priority}
-use Rattle.pg_game.proofs.Members.{Contains-head, Contains-tail, Contains-cons, Contains-nil}
-use Rattle.pg_game.proofs.Players.{own_or_other, same_is, is_same}
+use Rattle.pg_finders.proofs.Common.{◌≡◌, ℕ, zero, suc, ◌<◌, ◌≤◌, Bool, true, false, ◌&&◌, ◌||◌, not, inl, inr, List, [], ◌∷◌, length, refl, sym, ◌∙◌, subst}
+use Rattle.pg_finders.proofs.Common.{ap, arith, ltb-true, rules, Some, ◌==◌, Contains, eqb-true, eq-eqb, and_parts, and_from, cases_Bool, or_right, Player}
+use Rattle.pg_finders.proofs.Common.{of_parity, same_player, Graph, HasEdge, owner_of, priority_of, successors_of, VertexSet, In, members, KeptEdge, Walk}
+use Rattle.pg_finders.proofs.Common.{ClosedWalk, greatest_priority, Contains-head, Contains-tail, Contains-cons, Contains-nil, own_or_other, same_is, is_same}
+use Rattle.pg_finders.proofs.Common.{ClaimRows, named, choice_in, IsGoodIn, IsLoop, own_choices, rows_below, WinsOn, loops, itself}
+use Rattle.std.proofs.Common.{◌↔◌}
+use Rattle.std.specs.List.{list_any}
+use Rattle.std.proofs.lemmas.Bool.{not_from_false}
 use Rattle.pg_game.proofs.Grown.{in_first}
-use Rattle.pg_dominion.specs.Claim.{ClaimRows, named, choice_in, IsGoodIn}
 use Rattle.pg_finders.specs.Part.{IsPart}
-use Rattle.pg_finders.specs.Finding.{IsLoop}
-use Rattle.pg_finders.specs.Claims.{own_choices, rows_below}
-use Rattle.pg_finders.specs.private.Solved.{WinsOn}
-use Rattle.pg_finders.specs.private.loops.Singles.{loops, leads_away, leads_to_itself, itself}
+use Rattle.pg_finders.specs.private.loops.Singles.{leads_away, leads_to_itself}
 use Rattle.pg_finders.proofs.Sets.{not_both, minus}
 use Rattle.pg_finders.proofs.ClosedWalks.{Among, closed_inside, greatest_reached}
 use Rattle.pg_finders.proofs.Solving.{kept_leads, choice_leads}

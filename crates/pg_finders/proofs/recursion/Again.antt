@@ -1,18 +1,9 @@
 -- An attraction that goes on once other vertices are active: what it knows of the vertices that were won before, and what it is in the
 -- subgame, whose part of the list begins behind a prefix.
-use Rattle.std.proofs.Common.{◌≡◌, ℕ, suc, ◌+◌, false, inl, inr, List, [], ◌∷◌, ◌++◌, length, All, refl, sym, ◌∙◌, subst, arith, append_assoc, rules}
-use Rattle.std.specs.Prelude.{◌==◌}
-use Rattle.std.proofs.lemmas.Bool.{eqb-true, cases_Bool, or_cases, and_parts, and_from, or_parts, or_left, or_right, false_from_ne_true}
-use Rattle.pg_game.specs.declared.player.Player.{Player}
-use Rattle.pg_game.specs.Player.{same_player}
-use Rattle.pg_game.specs.Graph.{Graph, HasEdge, owner_of}
-use Rattle.pg_game.specs.VertexSet.{VertexSet, In, union}
-use Rattle.pg_game.specs.private.VertexSet.{without}
-use Rattle.pg_game.proofs.Players.{same_is, is_same}
-use Rattle.pg_finders.specs.declared.recursion.plan.Plan.{Plan}
-use Rattle.pg_finders.specs.private.recursion.Listed.{listed, Apart}
-use Rattle.pg_finders.specs.private.recursion.Planned.{winners_of}
-use Rattle.pg_finders.specs.private.recursion.Growing.{place, Before, won_of, IsKnown, IsGrown, IsTested, AttractsNoActive}
+use Rattle.pg_finders.proofs.Common.{◌≡◌, ℕ, suc, ◌+◌, false, inl, inr, List, [], ◌∷◌, ◌++◌, length, All, refl, sym, ◌∙◌, subst, arith, append_assoc, rules}
+use Rattle.pg_finders.proofs.Common.{◌==◌, eqb-true, cases_Bool, or_cases, and_parts, and_from, or_parts, or_left, or_right, false_from_ne_true, Player}
+use Rattle.pg_finders.proofs.Common.{same_player, Graph, HasEdge, owner_of, VertexSet, In, union, without, same_is, is_same, Plan, listed, Apart, winners_of}
+use Rattle.pg_finders.proofs.Common.{place, Before, won_of, IsKnown, IsGrown, IsTested, AttractsNoActive}
 use Rattle.pg_finders.proofs.Sets.{not_both, no_both, only, minus, unless}
 use Rattle.pg_finders.proofs.recursion.Listed.{in_rest, prefix_or_rest}
 use Rattle.pg_finders.proofs.recursion.Growing.{grown_cases, grown_prefix, grown_more, grown_active, grown_fewer, grown_taken}

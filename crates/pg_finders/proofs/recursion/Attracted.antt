@@ -1,18 +1,10 @@
 -- The rows of an attraction, as a set with choices that lead to smaller ranks.
-use Rattle.std.proofs.Common.{◌≡◌, ℕ, zero, suc, ◌<◌, true, false, inl, inr, [], ◌∷◌, ◌++◌, length, refl, sym, ◌∙◌, ap, subst, arith}
-use Rattle.std.specs.Prelude.{Option, if◌then◌else◌}
-use Rattle.std.specs.List.{Contains}
-use Rattle.std.proofs.lemmas.Bool.{cases_Bool}
-use Rattle.pg_game.specs.declared.player.Player.{Player}
-use Rattle.pg_game.specs.Graph.{Graph, owner_of}
-use Rattle.pg_game.specs.VertexSet.{VertexSet, In, Within, union}
-use Rattle.pg_game.specs.Kept.{Choices}
-use Rattle.pg_game.proofs.Walks.{or_false}
+use Rattle.pg_finders.proofs.Common.{◌≡◌, ℕ, zero, suc, ◌<◌, true, false, inl, inr, [], ◌∷◌, ◌++◌, length, refl, sym, ◌∙◌, ap, subst, arith, Option}
+use Rattle.pg_finders.proofs.Common.{if◌then◌else◌, Contains, cases_Bool, Player, Graph, owner_of, VertexSet, In, Within, union, Choices, or_false, ClaimRows}
+use Rattle.pg_finders.proofs.Common.{named, IsAttractedRow, named-append, IsAttracted}
 use Rattle.pg_game.proofs.Attract.{own_attracted, forced_attracted}
-use Rattle.pg_dominion.specs.Claim.{ClaimRows, named}
-use Rattle.pg_dominion.specs.Attraction.{IsAttractedRow, IsAttraction}
-use Rattle.pg_dominion.proofs.Named.{named-append, rank, rank_below, rank_at}
-use Rattle.pg_finders.specs.private.Solved.{IsAttracted}
+use Rattle.pg_dominion.specs.Attraction.{IsAttraction}
+use Rattle.pg_dominion.proofs.Named.{rank, rank_below, rank_at}
 use Rattle.pg_finders.proofs.Sets.{not_both}
 
 -- where a row stands

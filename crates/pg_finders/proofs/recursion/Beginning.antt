@@ -1,18 +1,7 @@
 -- What a subgame owes where it is begun in place.
-use mathlib.Core.Path.{fun_ext}
-use Rattle.std.proofs.Common.{◌≡◌, ℕ, ◌≤◌, Bool, true, false, ◌&&◌, ◌||◌, not, inl, inr, List, refl, sym, ◌∙◌, subst}
-use Rattle.std.proofs.lemmas.Bool.{or_left, false_from_ne_true}
-use Rattle.pg_game.specs.declared.player.Player.{Player}
-use Rattle.pg_game.specs.Player.{of_parity}
-use Rattle.pg_game.specs.Graph.{Graph, priority_of}
-use Rattle.pg_game.specs.VertexSet.{VertexSet, In, union}
-use Rattle.pg_game.specs.private.VertexSet.{without}
-use Rattle.pg_game.specs.Subgame.{IsSubgame}
-use Rattle.pg_finders.specs.declared.recursion.plan.Plan.{Plan}
-use Rattle.pg_finders.specs.private.recursion.Listed.{listed}
-use Rattle.pg_finders.specs.private.recursion.Planned.{winners_of, choices_of, SameAt, SameOutside, IsGiven}
-use Rattle.pg_finders.specs.private.Solved.{IsBegun, IsAttracted}
-use Rattle.pg_finders.specs.private.recursion.Growing.{place, IsGrown, AttractsNoActive}
+use Rattle.pg_finders.proofs.Common.{fun_ext, ◌≡◌, ℕ, ◌≤◌, Bool, true, false, ◌&&◌, ◌||◌, not, inl, inr, List, refl, sym, ◌∙◌, subst, or_left}
+use Rattle.pg_finders.proofs.Common.{false_from_ne_true, Player, of_parity, Graph, priority_of, VertexSet, In, union, without, IsSubgame, Plan, listed}
+use Rattle.pg_finders.proofs.Common.{winners_of, choices_of, SameAt, SameOutside, IsGiven, IsBegun, IsAttracted, place, IsGrown, AttractsNoActive}
 use Rattle.pg_finders.proofs.Sets.{no_both}
 use Rattle.pg_finders.proofs.Solving.{IsAttracted-subst}
 use Rattle.pg_finders.proofs.recursion.Growing.{grown_cases, grown_prefix, grown_attracted, grown_union}

@@ -1,15 +1,6 @@
 -- What the loop owes where it begins the active part.
-use Rattle.std.proofs.Common.{◌≡◌, ℕ, ◌+◌, ◌-◌, ◌<◌, List, Bool, [], ◌∷◌, ◌++◌, length, arith, length-append}
-use Rattle.pg_game.specs.declared.player.Player.TheVariants.{Even, Odd}
-use Rattle.pg_game.specs.Graph.{Graph}
-use Rattle.pg_game.specs.Kept.{Choices}
-use Rattle.pg_game.specs.VertexSet.{VertexSet, members}
-use Rattle.pg_finders.specs.declared.recursion.solver.Stop.{Stop}
-use Rattle.pg_finders.specs.private.recursion.Settled.{SettledLists}
-use Rattle.pg_finders.specs.private.recursion.Planned.{size}
-use Rattle.pg_finders.specs.private.Solved.{Winners}
-use Rattle.pg_finders.specs.private.recursion.Running.{how_many_gone, steps_left}
-use Rattle.pg_finders.specs.private.recursion.Waiting.{steps}
+use Rattle.pg_finders.proofs.Common.{◌≡◌, ℕ, ◌+◌, ◌-◌, ◌<◌, List, Bool, [], ◌∷◌, ◌++◌, length, arith, length-append, Even, Odd, Graph, Choices, VertexSet}
+use Rattle.pg_finders.proofs.Common.{members, Stop, SettledLists, size, Winners, how_many_gone, steps_left, steps}
 use Rattle.pg_finders.proofs.recursion.UnderWay.{Begins, under_way_begin, lists_fit}
 use Rattle.pg_finders.proofs.recursion.Running.{work_begin}
 

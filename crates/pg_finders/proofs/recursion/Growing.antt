@@ -1,23 +1,13 @@
 -- The steps of an attraction in place: nothing is taken, one vertex is taken, and one step after another; and what is done.
-use Rattle.std.proofs.Common.{◌≡◌, ◌≢◌, ℕ, suc, ◌<◌, true, false, ◌&&◌, not, ◌⊎◌, inl, inr, List, [], ◌∷◌, ◌++◌, length, take, refl, sym, ◌∙◌, ap, subst, arith}
-use Rattle.std.proofs.Common.{append_assoc, rules}
-use Rattle.std.specs.Prelude.{Some, ◌==◌}
-use Rattle.std.proofs.Math.Bool.{and-true, or-false}
-use Rattle.std.proofs.lemmas.Bool.{eq-eqb, or_cases, cases_Bool, or_left, or_right, and_left, and_right, or_parts, not_from_true, false_from_ne_true}
-use Rattle.std.proofs.lemmas.List.{append-nil, take-append-le, take_all}
-use Rattle.pg_game.specs.declared.player.Player.{Player}
-use Rattle.pg_game.specs.Player.{opponent}
-use Rattle.pg_game.specs.Graph.{Graph, HasEdge, owner_of}
-use Rattle.pg_game.specs.VertexSet.{VertexSet, In, union}
-use Rattle.pg_game.specs.private.VertexSet.{without}
-use Rattle.pg_game.proofs.Players.{not_own, other_from_not}
-use Rattle.pg_dominion.specs.Attraction.{IsAttractedRow}
+use Rattle.pg_finders.proofs.Common.{◌≡◌, ◌≢◌, ℕ, suc, ◌<◌, true, false, ◌&&◌, not, ◌⊎◌, inl, inr, List, [], ◌∷◌, ◌++◌, length, take, refl, sym, ◌∙◌, ap, subst}
+use Rattle.pg_finders.proofs.Common.{arith, append_assoc, rules, Some, ◌==◌, and-true, eq-eqb, or_cases, cases_Bool, or_left, or_right, or_parts}
+use Rattle.pg_finders.proofs.Common.{false_from_ne_true, append-nil, take-append-le, take_all, Player, opponent, Graph, HasEdge, owner_of, VertexSet, In, union}
+use Rattle.pg_finders.proofs.Common.{without, other_from_not, IsAttractedRow, Plan, listed, Once, winners_of, choices_of, SameAt, IsAttracted, place, Before}
+use Rattle.pg_finders.proofs.Common.{IsGrown, AttractsNoActive}
+use Rattle.std.proofs.Math.Bool.{or-false}
+use Rattle.std.proofs.lemmas.Bool.{and_left, and_right, not_from_true}
+use Rattle.pg_game.proofs.Players.{not_own}
 use Rattle.pg_dominion.specs.Area.{AttractsNoFurther}
-use Rattle.pg_finders.specs.declared.recursion.plan.Plan.{Plan}
-use Rattle.pg_finders.specs.private.recursion.Listed.{listed, Once}
-use Rattle.pg_finders.specs.private.recursion.Planned.{winners_of, choices_of, SameAt}
-use Rattle.pg_finders.specs.private.Solved.{IsAttracted}
-use Rattle.pg_finders.specs.private.recursion.Growing.{place, Before, IsGrown, AttractsNoActive}
 use Rattle.pg_finders.proofs.Sets.{only, minus, minus_both, no_both, equal_from}
 use Rattle.pg_finders.proofs.recursion.Listed.{listed-append, once_join, apart_from, in_prefix, in_rest, prefix_or_rest, one_listed}
 

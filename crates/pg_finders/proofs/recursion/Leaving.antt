@@ -1,39 +1,25 @@
 -- What the loop owes where it finishes the last subgame that waits: all is settled as the player's, or what the opponent won and
 -- attracts is settled and the others are active again.
-use Rattle.std.proofs.Common.{◌≡◌, ◌≢◌, ℕ, ◌+◌, ◌-◌, ◌<◌, Bool, true, false, ◌&&◌, ◌||◌, not, ◌⊎◌, inl, inr, List, [], ◌∷◌, ◌++◌, length, take, drop, map, refl}
-use Rattle.std.proofs.Common.{sym, ◌∙◌, ap, subst, arith, append_assoc, length-drop, length-append, rules}
-use mathlib.Core.Path.{fun_ext}
-use Rattle.std.proofs.lemmas.List.{append-nil, take-append-drop}
-use Rattle.std.proofs.lemmas.Bool.{and_parts, cases_Bool, or_cases, or_left, or_right, or_parts, false_from_ne_true}
-use Rattle.pg_game.specs.declared.player.Player.{Player}
-use Rattle.pg_game.specs.Player.{opponent, same_player}
-use Rattle.pg_game.specs.Graph.{Graph, HasEdge, owner_of}
-use Rattle.pg_game.specs.VertexSet.{VertexSet, In, members, union}
-use Rattle.pg_game.specs.private.VertexSet.{without}
-use Rattle.pg_game.specs.Subgame.{IsSubgame}
-use Rattle.pg_game.proofs.Players.{own_or_other, same_is}
-use Rattle.pg_finders.specs.declared.recursion.plan.Plan.{Plan}
-use Rattle.pg_finders.specs.declared.recursion.solver.Stop.{Stop}
+use Rattle.pg_finders.proofs.Common.{◌≡◌, ◌≢◌, ℕ, ◌+◌, ◌-◌, ◌<◌, Bool, true, false, ◌&&◌, ◌||◌, not, ◌⊎◌, inl, inr, List, [], ◌∷◌, ◌++◌, length, take, drop}
+use Rattle.pg_finders.proofs.Common.{map, refl, sym, ◌∙◌, ap, subst, arith, append_assoc, length-append, rules, fun_ext, append-nil, take-append-drop}
+use Rattle.pg_finders.proofs.Common.{and_parts, cases_Bool, or_cases, or_left, or_right, or_parts, false_from_ne_true, Player, opponent, same_player, Graph}
+use Rattle.pg_finders.proofs.Common.{HasEdge, owner_of, VertexSet, In, members, union, without, IsSubgame, own_or_other, same_is, Plan, Stop, listed, Once}
+use Rattle.pg_finders.proofs.Common.{Apart, SettledLists, settled_of, winners_of, choices_of, size, IsBegun, IsSolvedInside, IsAttracted, won_inside, active_of}
+use Rattle.pg_finders.proofs.Common.{place, IsKnown, IsGrown, AttractsNoActive, count_at, prefix, level_at, IsUnderWay, IsRunning, how_many_gone, steps_left}
+use Rattle.pg_finders.proofs.Common.{work, steps}
+use Rattle.std.proofs.Common.{length-drop}
 use Rattle.pg_finders.specs.declared.recursion.solver.Solver.{Solver}
-use Rattle.pg_finders.specs.private.recursion.Listed.{listed, Once, Apart}
-use Rattle.pg_finders.specs.private.recursion.Settled.{SettledLists, settled_of}
-use Rattle.pg_finders.specs.private.recursion.Planned.{winners_of, choices_of, size}
-use Rattle.pg_finders.specs.private.Solved.{IsBegun, IsSolvedInside, IsAttracted, won_inside}
-use Rattle.pg_finders.specs.private.recursion.Growing.{active_of, place, IsKnown, IsGrown, AttractsNoActive}
-use Rattle.pg_finders.specs.private.recursion.UnderWay.{count_at, prefix, level_at, IsUnderWay}
-use Rattle.pg_finders.specs.private.recursion.Running.{IsRunning, how_many_gone, steps_left, work}
-use Rattle.pg_finders.specs.private.recursion.Waiting.{steps}
 use Rattle.pg_finders.proofs.Sets.{not_both, twice, no_both, equal_from, only, minus}
-use Rattle.pg_finders.proofs.recursion.Listed.{in_prefix, in_rest, prefix_or_rest, in_take, in_drop, take_or_drop, once_join, once_drop, once_right}
-use Rattle.pg_finders.proofs.recursion.Listed.{take_apart, apart_from, some_length}
+use Rattle.pg_finders.proofs.recursion.Listed.{in_prefix, in_rest, prefix_or_rest, in_take, in_drop, take_or_drop, once_join, once_drop, once_right, take_apart}
+use Rattle.pg_finders.proofs.recursion.Listed.{apart_from, some_length}
 use Rattle.pg_finders.proofs.Solving.{IsSolvedTo-subst, IsSubgame-subst, all_won, part_lost, left_is_subgame}
 use Rattle.pg_finders.proofs.recursion.Growing.{grown_cases, grown_attracted, grown_inside, grown_union}
 use Rattle.pg_finders.proofs.recursion.Waiting.{waits_away}
 use Rattle.pg_finders.proofs.recursion.Again.{won_parts, won_from, list_behind, grown_behind, done_behind}
 use Rattle.pg_finders.proofs.recursion.Beginning.{rest_active}
 use Rattle.pg_finders.proofs.recursion.Sharing.{players_apart, gone_settled, part_of}
-use Rattle.pg_finders.proofs.recursion.UnderWay.{Finishes, lists_fit, stop_fits, last_waits, last_begun, since_inside, since_left, aside_inside}
-use Rattle.pg_finders.proofs.recursion.UnderWay.{inside_cases, left_cases, left_solved, won_since, stops_kept, finish_more, under_way_finish}
+use Rattle.pg_finders.proofs.recursion.UnderWay.{Finishes, lists_fit, stop_fits, last_waits, last_begun, since_inside, since_left, aside_inside, inside_cases}
+use Rattle.pg_finders.proofs.recursion.UnderWay.{left_cases, left_solved, won_since, stops_kept, finish_more, under_way_finish}
 use Rattle.pg_finders.proofs.recursion.Running.{work_finish}
 
 -- the last subgame that waits is at its end: nothing of it is active

@@ -1,14 +1,9 @@
 -- Lists of vertices as sets.
-use Rattle.std.proofs.Common.{◌≡◌, ℕ, zero, suc, ◌<◌, ◌≤◌, Bool, true, false, ◌||◌, ◌⊎◌, inl, inr, List, [], ◌∷◌, ◌++◌, length, take, drop, get_or, All, refl}
-use Rattle.std.proofs.Common.{sym, ◌∙◌, subst, arith, rules}
-use Rattle.std.specs.Prelude.{◌==◌, slice_set}
-use Rattle.std.proofs.lemmas.Bool.{eqb-true, eq-eqb, or_cases, or_left, or_right, false_from_ne_true}
-use Rattle.std.proofs.lemmas.List.{take-append-drop, get_or-set_other}
+use Rattle.pg_finders.proofs.Common.{◌≡◌, ℕ, zero, suc, ◌<◌, ◌≤◌, Bool, true, false, ◌||◌, ◌⊎◌, inl, inr, List, [], ◌∷◌, ◌++◌, length, take, drop, get_or, All}
+use Rattle.pg_finders.proofs.Common.{refl, sym, ◌∙◌, subst, arith, rules, ◌==◌, slice_set, eqb-true, eq-eqb, or_cases, or_left, or_right, false_from_ne_true}
+use Rattle.pg_finders.proofs.Common.{take-append-drop, In, members, or_false, listed, Once, Apart, size}
+use Rattle.std.proofs.lemmas.List.{get_or-set_other}
 use Rattle.std.proofs.lemmas.List.Folds.{list_any-append}
-use Rattle.pg_game.specs.VertexSet.{In, members}
-use Rattle.pg_game.proofs.Walks.{or_false}
-use Rattle.pg_finders.specs.private.recursion.Listed.{listed, Once, Apart}
-use Rattle.pg_finders.specs.private.recursion.Planned.{size}
 use Rattle.pg_finders.proofs.Sets.{no_both}
 use Rattle.pg_finders.proofs.Masks.{inside_mask}
 use Rattle.pg_finders.proofs.Sizes.{size_drop}

@@ -1,10 +1,6 @@
 -- What a step of the solver owes besides the levels: the places in the order by priority, and the steps that are left.
-use Rattle.std.proofs.Common.{◌≡◌, ℕ, ◌+◌, ◌-◌, ◌<◌, ◌≤◌, List, [], ◌∷◌, ◌++◌, length, map, refl, arith, rules}
-use Rattle.pg_finders.specs.declared.recursion.order.Ranked.{Ranked}
-use Rattle.pg_finders.specs.declared.recursion.solver.Stop.{Stop}
-use Rattle.pg_finders.specs.private.recursion.Waiting.{Level, steps, steps_after}
-use Rattle.pg_finders.specs.private.recursion.Order.{AllStand}
-use Rattle.pg_finders.specs.private.recursion.Running.{AllPlaced, steps_left}
+use Rattle.pg_finders.proofs.Common.{◌≡◌, ℕ, ◌+◌, ◌-◌, ◌<◌, ◌≤◌, List, [], ◌∷◌, ◌++◌, length, map, refl, arith, rules, Ranked, Stop, Level, steps, steps_after}
+use Rattle.pg_finders.proofs.Common.{AllStand, AllPlaced, steps_left}
 use Rattle.pg_finders.proofs.recursion.Waiting.{steps_begin, steps_finish}
 
 pub placed_push : (ranked : List Ranked) (level : Stop → Level) (stops : List Stop) (f : Stop) → AllPlaced ranked (map level stops) stops

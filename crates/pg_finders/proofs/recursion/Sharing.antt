@@ -1,17 +1,8 @@
 -- Lists that are shared: what stops in a row say of them, and which levels stay the same.
-use Rattle.std.proofs.Common.{◌≡◌, ℕ, ◌+◌, ◌≤◌, false, ◌||◌, ◌⊎◌, List, [], ◌∷◌, ◌++◌, length, take, map, refl, sym, ◌∙◌, ap, arith, rules}
-use Rattle.std.proofs.lemmas.Bool.{or_cases, or_left, or_right, false_from_ne_true}
+use Rattle.pg_finders.proofs.Common.{◌≡◌, ℕ, ◌+◌, ◌≤◌, false, ◌||◌, ◌⊎◌, List, [], ◌∷◌, ◌++◌, length, take, map, refl, sym, ◌∙◌, ap, arith, rules, or_cases}
+use Rattle.pg_finders.proofs.Common.{or_left, or_right, false_from_ne_true, Player, Even, Odd, opponent, same_player, if◌then◌else◌, VertexSet, In, Stop}
+use Rattle.pg_finders.proofs.Common.{listed, Apart, SettledLists, gone, part, count_at, prefix, level_at, Linked, AreApart, fun_ext}
 use Rattle.std.proofs.Math.Bool.{or_comm}
-use Rattle.pg_game.specs.declared.player.Player.{Player}
-use Rattle.pg_game.specs.declared.player.Player.TheVariants.{Even, Odd}
-use Rattle.pg_game.specs.Player.{opponent, same_player}
-use Rattle.std.specs.Prelude.{if◌then◌else◌}
-use Rattle.pg_game.specs.VertexSet.{VertexSet, In}
-use Rattle.pg_finders.specs.declared.recursion.solver.Stop.{Stop}
-use Rattle.pg_finders.specs.private.recursion.Listed.{listed, Apart}
-use Rattle.pg_finders.specs.private.recursion.Settled.{SettledLists}
-use Rattle.pg_finders.specs.private.recursion.UnderWay.{gone, part, count_at, prefix, level_at, Linked, AreApart}
-use mathlib.Core.Path.{fun_ext}
 use Rattle.pg_finders.proofs.Sets.{no_both, minus, only}
 use Rattle.pg_finders.proofs.recursion.Listed.{apart_other}
 

@@ -1,30 +1,15 @@
 -- The steps of the loop over shared lists: a subgame is begun, or the last one that waits is finished.
-use Rattle.std.proofs.Common.{◌≡◌, ℕ, ◌+◌, ◌<◌, ◌≤◌, Bool, true, false, ◌&&◌, ◌||◌, not, ◌⊎◌, inl, inr, List, [], ◌∷◌, ◌++◌, length, take, drop, map, refl, sym}
-use Rattle.std.proofs.Common.{◌∙◌, ap, subst, arith, length-append, length-take, rules}
-use mathlib.Core.Path.{fun_ext}
-use Rattle.std.specs.Prelude.{◌==◌}
-use Rattle.std.proofs.lemmas.Bool.{eqb-true, or_cases, and_parts, and_from, false_from_ne_true}
-use Rattle.std.proofs.Math.Bool.{and-true, or_assoc}
-use Rattle.std.proofs.lemmas.List.{map-append, take-append-le, take_all}
-use Rattle.std.proofs.lemmas.Grind.{common_steps}
-use Rattle.pg_game.specs.declared.player.Player.{Player}
-use Rattle.pg_game.specs.declared.player.Player.TheVariants.{Even, Odd}
-use Rattle.pg_game.specs.Player.{opponent}
-use Rattle.pg_game.specs.Graph.{Graph}
-use Rattle.pg_game.specs.VertexSet.{VertexSet, In, members, no_vertices}
-use Rattle.pg_game.specs.Kept.{Choices}
-use Rattle.pg_game.proofs.Players.{same_is, is_same}
-use Rattle.pg_finders.specs.declared.recursion.solver.Stop.{Stop}
-use Rattle.pg_finders.specs.private.Solved.{Winners, IsSolvedInside, IsSolvedTo, IsBegun, won_inside}
-use Rattle.pg_finders.specs.private.recursion.Waiting.{Level, Waits}
-use Rattle.pg_finders.specs.private.recursion.Listed.{listed, Once, Apart}
-use Rattle.pg_finders.specs.private.recursion.Settled.{SettledLists}
-use Rattle.pg_finders.specs.private.recursion.Planned.{size}
-use Rattle.pg_finders.specs.private.recursion.UnderWay.{gone, part, count_at, prefix, level_at, Linked, AreApart, IsUnderWay}
-use Rattle.pg_finders.specs.private.recursion.Running.{how_many_gone}
+use Rattle.pg_finders.proofs.Common.{◌≡◌, ℕ, ◌+◌, ◌<◌, ◌≤◌, Bool, true, false, ◌&&◌, ◌||◌, not, ◌⊎◌, inl, inr, List, [], ◌∷◌, ◌++◌, length, take, drop, map}
+use Rattle.pg_finders.proofs.Common.{refl, sym, ◌∙◌, ap, subst, arith, length-append, rules, fun_ext, ◌==◌, eqb-true, or_cases, and_parts, and_from}
+use Rattle.pg_finders.proofs.Common.{false_from_ne_true, and-true, map-append, take-append-le, take_all, common_steps, Player, Even, Odd, opponent, Graph}
+use Rattle.pg_finders.proofs.Common.{VertexSet, In, members, no_vertices, Choices, same_is, is_same, Stop, Winners, IsSolvedInside, IsSolvedTo, IsBegun}
+use Rattle.pg_finders.proofs.Common.{won_inside, Level, Waits, listed, Once, Apart, SettledLists, size, gone, part, count_at, prefix, level_at, Linked}
+use Rattle.pg_finders.proofs.Common.{AreApart, IsUnderWay, how_many_gone}
+use Rattle.std.proofs.Common.{length-take}
+use Rattle.std.proofs.Math.Bool.{or_assoc}
 use Rattle.pg_finders.proofs.Sets.{minus_both, no_both, equal_from, unless}
-use Rattle.pg_finders.proofs.recursion.Listed.{listed-append, prefix_or_rest, in_take, in_drop, take_or_drop, once_join, once_take, take_apart}
-use Rattle.pg_finders.proofs.recursion.Listed.{apart_from, once_fits}
+use Rattle.pg_finders.proofs.recursion.Listed.{listed-append, prefix_or_rest, in_take, in_drop, take_or_drop, once_join, once_take, take_apart, apart_from}
+use Rattle.pg_finders.proofs.recursion.Listed.{once_fits}
 use Rattle.pg_finders.proofs.Solving.{solved_none, solved_whole, IsSolvedTo-subst}
 use Rattle.pg_finders.proofs.recursion.Waiting.{Agree, waits_on, waits_push, waits_pop}
 use Rattle.pg_finders.proofs.recursion.Sharing.{by_player, players_apart, pick, picked, pick_apart, pick_either, pick_length, gone_settled, gone_aside}

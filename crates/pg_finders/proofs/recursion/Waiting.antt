@@ -1,15 +1,7 @@
 -- Levels that wait: one is added, one is taken away, and the last part goes on.
-use Rattle.std.proofs.Common.{◌≡◌, ℕ, zero, suc, ◌+◌, ◌<◌, ◌≤◌, false, ◌⊎◌, inl, inr, List, [], ◌∷◌, ◌++◌, sym, ◌∙◌, ap, arith}
-use Rattle.std.proofs.lemmas.Bool.{cases_Bool, false_from_ne_true}
-use Rattle.pg_game.specs.declared.player.Player.{Player}
-use Rattle.pg_game.specs.Player.{opponent}
-use Rattle.pg_game.specs.Graph.{Graph, HasEdge, owner_of}
-use Rattle.pg_game.specs.VertexSet.{VertexSet, In, Within}
-use Rattle.pg_game.specs.private.VertexSet.{without}
-use Rattle.pg_game.specs.Kept.{Choices}
-use Rattle.pg_game.proofs.Players.{own_or_other}
-use Rattle.pg_finders.specs.private.Solved.{Winners, IsSolvedTo, IsBegun}
-use Rattle.pg_finders.specs.private.recursion.Waiting.{Level, Waits, steps, steps_after}
+use Rattle.pg_finders.proofs.Common.{◌≡◌, ℕ, zero, suc, ◌+◌, ◌<◌, ◌≤◌, false, ◌⊎◌, inl, inr, List, [], ◌∷◌, ◌++◌, sym, ◌∙◌, ap, arith, cases_Bool}
+use Rattle.pg_finders.proofs.Common.{false_from_ne_true, Player, opponent, Graph, HasEdge, owner_of, VertexSet, In, Within, without, Choices, own_or_other}
+use Rattle.pg_finders.proofs.Common.{Winners, IsSolvedTo, IsBegun, Level, Waits, steps, steps_after}
 use Rattle.pg_finders.proofs.Sets.{twice, no_both, only, minus}
 use Rattle.pg_finders.proofs.Solving.{IsSolvedTo-same, solved_append, begun_same}
 

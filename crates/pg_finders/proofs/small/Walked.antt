@@ -1,24 +1,11 @@
 -- A search for a walk back over a few rows: its steps, and what it says in the end.
-use Rattle.std.proofs.Common.{◌≡◌, ◌≢◌, ℕ, ◌+◌, ◌<◌, ◌≤◌, Bool, false, inl, inr, List, [], ◌∷◌, ◌++◌, length, take, set, sym, ◌∙◌, ap, subst, arith, length-set}
-use Rattle.std.proofs.Common.{get_or-set_same, get_or-set_other, rules}
-use Rattle.std.specs.Prelude.{Some, None, ◌==◌, IsTrue}
-use Rattle.std.specs.List.{Contains}
-use Rattle.std.proofs.lemmas.Bool.{cases_eq, eqb-true, eq-eqb, or_cases, cases_Bool}
-use Rattle.pg_game.specs.declared.player.Player.{Player}
-use Rattle.pg_game.specs.Player.{opponent, of_parity}
-use Rattle.pg_game.specs.Graph.{Graph, owner_of, priority_of, successors_of}
-use Rattle.pg_game.specs.VertexSet.{In, members}
-use Rattle.pg_game.specs.Kept.{Choices, kept, KeptEdge}
-use Rattle.pg_game.specs.Walk.{Walk, ClosedWalk, greatest_priority}
-use Rattle.pg_game.specs.Region.{OnlyGoodWalks}
-use Rattle.pg_game.proofs.Players.{other_from_not, is_same}
-use Rattle.pg_game.proofs.Walks.{ClosedWalk-weaker}
-use Rattle.pg_game.proofs.Rotate.{good_from_none}
-use Rattle.pg_dominion.specs.Claim.{ClaimRows, named, choice_in}
+use Rattle.pg_finders.proofs.Common.{◌≡◌, ◌≢◌, ℕ, ◌+◌, ◌<◌, ◌≤◌, Bool, false, inl, inr, List, [], ◌∷◌, ◌++◌, length, take, set, sym, ◌∙◌, ap, subst, arith}
+use Rattle.pg_finders.proofs.Common.{length-set, get_or-set_same, get_or-set_other, rules, Some, None, ◌==◌, Contains, cases_eq, eqb-true, eq-eqb, or_cases}
+use Rattle.pg_finders.proofs.Common.{cases_Bool, Player, opponent, of_parity, Graph, owner_of, priority_of, successors_of, In, members, Choices, kept, KeptEdge}
+use Rattle.pg_finders.proofs.Common.{Walk, ClosedWalk, greatest_priority, OnlyGoodWalks, other_from_not, is_same, ClosedWalk-weaker, good_from_none, ClaimRows}
+use Rattle.pg_finders.proofs.Common.{named, choice_in, size, vertex_in, AreDifferent, RowLeadsTo, Under, WalksBack, IsFrom, IsReached}
+use Rattle.std.specs.Prelude.{IsTrue}
 use Rattle.pg_dominion.proofs.Searching.{Walk-push}
-use Rattle.pg_finders.specs.private.recursion.Planned.{size}
-use Rattle.pg_finders.specs.private.small.Partial.{vertex_in, AreDifferent}
-use Rattle.pg_finders.specs.private.small.Walked.{RowLeadsTo, Under, WalksBack, IsFrom, IsReached}
 use Rattle.pg_finders.proofs.Sets.{not_same, not_both}
 use Rattle.pg_finders.proofs.Sizes.{size_less}
 use Rattle.pg_finders.proofs.ClosedWalks.{Among, closed_inside}

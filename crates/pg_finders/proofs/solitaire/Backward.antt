@@ -1,15 +1,10 @@
 -- A search against the edges: a vertex more, and what it has found in the end.
-use Rattle.std.proofs.Common.{◌≡◌, ◌≢◌, ℕ, suc, ◌<◌, ◌≤◌, Bool, true, false, ◌⊎◌, inl, inr, List, [], ◌∷◌, ◌++◌, length, set, replicate, refl, sym, ◌∙◌, subst}
-use Rattle.std.proofs.Common.{arith, length-set, length-append, get_or-set_same, get_or-set_other, rules}
-use Rattle.std.specs.Prelude.{slice_index, ◌==◌, if◌then◌else◌}
-use Rattle.std.proofs.lemmas.Bool.{cases_eq, eq-eqb}
-use Rattle.std.proofs.lemmas.List.{get_or_append_left, get_or_push, length-replicate}
-use Rattle.pg_game.specs.Graph.{Graph}
-use Rattle.pg_game.specs.VertexSet.{VertexSet, In, members}
-use Rattle.pg_game.specs.Walk.{Walk}
+use Rattle.pg_finders.proofs.Common.{◌≡◌, ◌≢◌, ℕ, suc, ◌<◌, ◌≤◌, Bool, true, false, ◌⊎◌, inl, inr, List, [], ◌∷◌, ◌++◌, length, set, replicate, refl, sym, ◌∙◌}
+use Rattle.pg_finders.proofs.Common.{subst, arith, length-set, length-append, get_or-set_same, get_or-set_other, rules, ◌==◌, if◌then◌else◌, cases_eq, eq-eqb}
+use Rattle.pg_finders.proofs.Common.{get_or_append_left, get_or_push, length-replicate, Graph, VertexSet, In, members, Walk, EdgeBelow, AreLeading, IsSeen}
+use Rattle.pg_finders.proofs.Common.{IsQueue, Follows}
+use Rattle.std.specs.Prelude.{slice_index}
 use Rattle.pg_game.proofs.Masks.{members-set}
-use Rattle.pg_finders.specs.private.solitaire.Solitaire.{EdgeBelow, AreLeading, IsSeen}
-use Rattle.pg_finders.specs.private.solitaire.Leading.{IsQueue, Follows}
 use Rattle.pg_finders.proofs.Apart.{differ}
 use Rattle.pg_finders.proofs.Masks.{none_mask}
 

@@ -1,36 +1,20 @@
 -- A subgame where one player has no choice: what the other wins by a closed walk, and that without one all is his who has no choice.
-use Rattle.std.proofs.Common.{rules}
-use Rattle.std.proofs.Common.{◌≡◌, ◌≢◌, ℕ, ◌<◌, ◌≤◌, Bool, true, false, ◌&&◌, inl, inr, List, [], ◌∷◌, length, refl, sym, ◌∙◌, ap, subst, arith, ltb-true, eqb}
-use Rattle.std.specs.Prelude.{Option, Some, Result, IfOk, slice_index, IfSome, IsNone, if◌then◌else◌}
+use Rattle.pg_finders.proofs.Common.{rules, ◌≡◌, ◌≢◌, ℕ, ◌<◌, ◌≤◌, Bool, true, false, ◌&&◌, inl, inr, List, [], ◌∷◌, length, refl, sym, ◌∙◌, ap, subst, arith}
+use Rattle.pg_finders.proofs.Common.{ltb-true, Option, Some, IfOk, IfSome, IsNone, if◌then◌else◌, Contains, Player, Even, Odd, same_player, opponent, of_parity}
+use Rattle.pg_finders.proofs.Common.{Graph, HasEdge, owner_of, priority_of, successors_of, VertexSet, In, members, IsSubgame, Choices, kept, KeptEdge, Walk}
+use Rattle.pg_finders.proofs.Common.{ClosedWalk, greatest_priority, NoneHas, OnlyGoodWalks, some_or_none, ClosedWalk-weaker, good_from_none, same_is, is_same}
+use Rattle.pg_finders.proofs.Common.{Claim, Kept, ClaimRows, named, IsGoodIn, IsWorst, IsSolitaire, WinsOn, own_choices, rows_below, HasOneAt, IsSingle, owned}
+use Rattle.pg_finders.proofs.Common.{good_for, choices_by, EdgeBelow, AreLeading, eqb-true, eq-eqb, and_parts, and_from}
+use Rattle.std.proofs.Common.{eqb}
+use Rattle.std.specs.Prelude.{Result, slice_index}
 use Rattle.std.specs.declared.alloc.AllocError.{AllocError}
-use Rattle.std.specs.List.{Contains}
-use Rattle.pg_game.specs.declared.player.Player.{Player}
-use Rattle.pg_game.specs.declared.player.Player.TheVariants.{Even, Odd}
-use Rattle.pg_game.specs.Player.{same_player, opponent, of_parity}
-use Rattle.pg_game.specs.Graph.{Graph, HasEdge, owner_of, priority_of, successors_of}
-use Rattle.pg_game.specs.VertexSet.{VertexSet, In, members}
-use Rattle.pg_game.specs.Subgame.{IsSubgame}
-use Rattle.pg_game.specs.Kept.{Choices, kept, KeptEdge}
-use Rattle.pg_game.specs.Walk.{Walk, ClosedWalk, greatest_priority}
-use Rattle.pg_game.specs.Least.{NoneHas}
-use Rattle.pg_game.specs.Region.{OnlyGoodWalks, OnBadWalk}
-use Rattle.pg_game.proofs.Members.{some_or_none}
-use Rattle.pg_game.proofs.Walks.{ClosedWalk-weaker}
-use Rattle.pg_game.proofs.Rotate.{good_from_none}
-use Rattle.pg_game.proofs.Players.{same_is, is_same}
-use Rattle.pg_dominion.specs.declared.claim.Claim.{Claim}
-use Rattle.pg_dominion.specs.declared.kept.Kept.{Kept}
-use Rattle.pg_dominion.specs.Claim.{ClaimRows, named, IsGoodIn}
-use Rattle.pg_dominion.specs.KeptEdges.{Edge, IsWorst, kept_row}
-use Rattle.pg_finders.specs.Finding.{HasOneSuccessor, IsSolitaire}
-use Rattle.pg_finders.specs.private.Solved.{WinsOn}
-use Rattle.pg_finders.specs.Claims.{own_choices, rows_below}
-use Rattle.pg_finders.specs.private.solitaire.Solitaire.{HasOneAt, IsSingle, owned, good_for, choices_by, EdgeBelow, AreLeading}
+use Rattle.pg_game.specs.Region.{OnBadWalk}
+use Rattle.pg_dominion.specs.KeptEdges.{Edge, kept_row}
+use Rattle.pg_finders.specs.Finding.{HasOneSuccessor}
 use Rattle.pg_finders.proofs.Sets.{twice}
 use Rattle.pg_finders.proofs.ClosedWalks.{Among, closed_among, closed_inside, closed_begins, never_falls, greatest_reached}
 use Rattle.pg_finders.proofs.Solving.{kept_leads, choice_leads}
 use Rattle.pg_finders.proofs.Good.{rows_named, good_rows}
-use Rattle.std.proofs.lemmas.Bool.{eqb-true, eq-eqb, and_parts, and_from}
 
 -- what is single is one
 pub one_from_single : (g : Graph) (U : VertexSet) (v : ℕ) (o : Option ℕ) → (IsNone o → ⊥) → IfSome o (λ w. IsSingle g U v w) → HasOneAt g U v

@@ -1,7 +1,8 @@
 //! How long `Adaptive` looks for small dominions.
 
-use crate::tests::games::{EVEN, Vertex, game_of, whole};
+use crate::tests::games::whole;
 use pg_finders::{Adaptive, Copied, Finder, Found, Job};
+use pg_test_support::{EVEN, Vertex, game_of};
 use std::alloc::Global;
 use std::process::Abort;
 use std::test::Fail;

@@ -2,20 +2,15 @@
 
 ghost use Rattle.std.specs.Prelude.{◌≡◌, ◌<◌};
 
-use crate::tests::games::{
-    EVEN, ODD, Vertex, chain, even_loops, game_of, inside_of, nothing, self_loops, single, star,
-    whole,
-};
-use crate::tests::reference::{Numbered, has, rows_of_length};
+use crate::tests::games::{chain, even_loops, inside_of, nothing, self_loops, single, star, whole};
+use crate::tests::reference::{Numbered, rows_of_length};
 use pg_dominion::{Claim, check_claim};
 use pg_finders::{Inside, Solved, zielonka};
 use pg_game::Game;
+use pg_test_support::{EVEN, ODD, Row, Vertex, game_of, has};
 use std::alloc::Global;
 use std::process::Abort;
 use std::test::Fail;
-
-/// A vertex with its choice.
-type Row = (u32, Option<u32>);
 
 fn rows(claim: &Claim) -> &[Row] {
     claim.rows.as_slice()

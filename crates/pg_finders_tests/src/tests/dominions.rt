@@ -1,21 +1,13 @@
 //! The dominions with few vertices of a game of at most seven vertices, by their definition: all sets of vertices with
 //! all choices. A set of vertices is a number whose bits are its members.
 
-use crate::tests::games::{Draft, EVEN, ODD};
 use crate::tests::reference::Numbered;
 use pg_game::{Game, Player};
+use pg_test_support::{EVEN, ODD, Plain, Random, bit, game_of_sets, has};
 use std::alloc::Global;
 use std::test::Fail;
 
-fn bit(v: u32) -> u32 {
-    if v < 32 { 1 << v } else { 0 }
-}
-
-pub fn has(set: u32, v: u32) -> bool {
-    set & bit(v) != 0
-}
-
-pub fn is_within(set: u32, all: u32) -> bool {
+fn is_within(set: u32, all: u32) -> bool {
     set & all == set
 }
 
@@ -64,64 +56,38 @@ fn with_choices(alloc: Global, kept: &[Kept], v: u32, set: u32) -> Result<Vec<Ke
     Ok(all)
 }
 
-/// Numbers that look random and are the same in each run.
-#[derive(Drop)]
-pub struct Random {
-    state: u64,
+/// A set of one to three of `n` vertices.
+fn random_successors(random: &mut Random, n: u32) -> u32 {
+    let first = bit(random.below(n));
+    let second = bit(random.below(n));
+    let third = bit(random.below(n));
+    match random.below(3) {
+        0 => first,
+        1 => first | second,
+        _ => first | second | third,
+    }
 }
 
-impl Random {
-    pub fn new(seed: u64) -> Random {
-        Random { state: seed }
-    }
-
-    /// A number below `n`, or 0.
-    pub fn below(&mut self, n: u32) -> u32 {
-        self.state = self
-            .state
-            .wrapping_mul(6_364_136_223_846_793_005)
-            .wrapping_add(1_442_695_040_888_963_407);
-        let number = ((self.state >> 33) & 0x7fff_ffff) as u32;
-        if n == 0 { 0 } else { number % n }
-    }
-
-    /// A set of one to three of `n` vertices.
-    fn successors(&mut self, n: u32) -> u32 {
-        let first = bit(self.below(n));
-        let second = bit(self.below(n));
-        let third = bit(self.below(n));
-        match self.below(3) {
-            0 => first,
-            1 => first | second,
-            _ => first | second | third,
+/// A set that has about two of three of `n` vertices.
+pub fn random_members(random: &mut Random, n: u32) -> u32 {
+    let mut set = 0;
+    for v in 0..n {
+        if random.below(3) > 0 {
+            set |= bit(v);
         }
     }
-
-    /// A set that has about two of three of `n` vertices.
-    pub fn members(&mut self, n: u32) -> u32 {
-        let mut set = 0;
-        for v in 0..n {
-            if self.below(3) > 0 {
-                set |= bit(v);
-            }
-        }
-        set
-    }
+    set
 }
 
 /// A game: priority, owner and set of successors of each vertex.
 #[derive(Drop)]
 pub struct Table {
-    rows: Vec<(u32, Player, u32)>,
+    rows: Vec<Plain>,
 }
 
 impl Table {
     pub fn numbered(alloc: Global, numbered: Numbered) -> Result<Table, Fail> {
-        let mut rows = Vec::new(alloc);
-        for v in 0..numbered.len {
-            let owner = if numbered.is_odd(v) { ODD } else { EVEN };
-            rows.push((numbered.priority(v), owner, numbered.successors(v)))?;
-        }
+        let rows = numbered.rows(alloc)?;
         Ok(Table { rows })
     }
 
@@ -131,7 +97,7 @@ impl Table {
         for _v in 0..n {
             let priority = random.below(5);
             let owner = if random.below(2) == 0 { EVEN } else { ODD };
-            rows.push((priority, owner, random.successors(n)))?;
+            rows.push((priority, owner, random_successors(random, n)))?;
         }
         Ok(Table { rows })
     }
@@ -145,7 +111,7 @@ impl Table {
         bit(self.len()).saturating_sub(1)
     }
 
-    fn row(&self, v: u32) -> (u32, Player, u32) {
+    fn row(&self, v: u32) -> Plain {
         self.rows
             .as_slice()
             .get(v as usize)
@@ -162,13 +128,7 @@ impl Table {
     }
 
     pub fn game(&self, alloc: Global) -> Result<Game, Fail> {
-        let mut draft = Draft::new(alloc);
-        'rows: for v in 0..self.len() {
-            let (priority, owner, set) = self.row(v);
-            let successors = vertices_of(alloc, set)?;
-            draft.add(alloc, priority, owner, successors.as_slice())?;
-        }
-        draft.game(alloc)
+        Ok(game_of_sets(alloc, self.rows.as_slice())?)
     }
 
     /// The vertices whose priority is at most that of `v`.
@@ -277,15 +237,4 @@ impl Table {
         }
         Ok(held)
     }
-}
-
-/// The members, rising.
-fn vertices_of(alloc: Global, set: u32) -> Result<Vec<u32>, Fail> {
-    let mut vertices = Vec::new(alloc);
-    for v in 0..8 {
-        if has(set, v) {
-            vertices.push(v)?;
-        }
-    }
-    Ok(vertices)
 }

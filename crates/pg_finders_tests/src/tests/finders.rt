@@ -2,12 +2,11 @@
 
 ghost use Rattle.std.specs.Prelude.{◌≡◌, ◌<◌, length};
 
-use crate::tests::games::{
-    EVEN, ODD, Vertex, dense, game_of, inside_of, nothing, ring, rows_of, single, whole,
-};
+use crate::tests::games::{dense, inside_of, nothing, ring, rows_of, single, whole};
 use pg_dominion::Claim;
 use pg_finders::{Inside, Small, find_loop, find_small, find_solitaire};
 use pg_game::{Game, Player};
+use pg_test_support::{EVEN, ODD, Row, Vertex, game_of};
 use std::alloc::Global;
 use std::process::Abort;
 use std::test::Fail;
@@ -40,7 +39,7 @@ fn assert_no_solitaire(rt: &impl Abort, alloc: Global, inside: &Inside) -> Resul
 }
 
 /// A claim of these rows was found.
-fn assert_claimed(rt: &impl Abort, found: Option<Claim>, rows: &[(u32, Option<u32>)]) {
+fn assert_claimed(rt: &impl Abort, found: Option<Claim>, rows: &[Row]) {
     check_eq!(*rt; rows_of(&found), rows);
 }
 
@@ -76,7 +75,7 @@ fn where_both_players_choose_nothing_is_solitaire(rt: HostRuntime) -> Result<(),
 }
 
 /// A claim of Even's of these rows was found.
-fn assert_evens(rt: &impl Abort, found: Option<Claim>, rows: &[(u32, Option<u32>)]) {
+fn assert_evens(rt: &impl Abort, found: Option<Claim>, rows: &[Row]) {
     check_eq!(*rt; rows_of(&found), rows);
     check!(*rt; matches!(&found, Some(claim) if claim.player == EVEN));
 }
@@ -152,7 +151,7 @@ fn an_empty_part_has_nothing(rt: HostRuntime) -> Result<(), Fail> {
 }
 
 /// The rows that were found.
-fn rows_in(small: &Small) -> &[(u32, Option<u32>)] {
+fn rows_in(small: &Small) -> &[Row] {
     match small {
         Small::Found(claim) => claim.rows.as_slice(),
         _ => [].as_slice(),
@@ -166,7 +165,7 @@ fn assert_found(
     vertices: &[Vertex],
     bound: u32,
     budget: u64,
-    rows: &[(u32, Option<u32>)],
+    rows: &[Row],
 ) -> Result<(), Fail> {
     let small = small_of(rt, alloc, vertices, bound, budget)?;
     check_eq!(*rt; rows_in(&small), rows, "bound {bound}, budget {budget}");

@@ -1,74 +1,14 @@
-//! Games for the tests, by tables and hostile to solvers, and parts of them.
+//! Games that are hostile to solvers, and parts of games.
 
-ghost use Rattle.std.specs.Prelude.{◌≡◌, All, IfOk, OnOk, length};
-ghost use Rattle.pg_game.specs.Specification.{AreNumbers};
+ghost use Rattle.std.specs.Prelude.{◌≡◌, IfOk, length};
 
 use pg_dominion::Claim;
 use pg_finders::Inside;
-use pg_game::{Game, Mask, Player, Sequence, Spec};
+use pg_game::{Game, Mask};
+use pg_test_support::{Draft, EVEN, ODD, Row};
 use std::alloc::Global;
 use std::process::Abort;
 use std::test::Fail;
-
-pub const EVEN: Player = Player::Even;
-
-pub const ODD: Player = Player::Odd;
-
-/// The priority, the owner and the successors of a vertex.
-pub type Vertex<'a> = (u32, Player, &'a [u32]);
-
-/// A game in the making, whose identifiers are 0, 1 and so on.
-#[derive(Drop)]
-pub struct Draft {
-    specs: Vec<Spec>,
-}
-
-impl Draft {
-    pub fn new(alloc: Global) -> Draft
-        ensures { All AreNumbers result.specs.items }
-    {
-        Draft {
-            specs: Vec::new(alloc),
-        }
-    }
-
-    /// Adds a vertex of at most the greatest priority.
-    pub fn add(
-        &mut self,
-        alloc: Global,
-        priority: u32,
-        owner: Player,
-        successors: &[u32],
-    ) -> Result<(), Fail>
-        requires { All AreNumbers self.old.specs.items }
-        ensures { OnOk result (All AreNumbers self.new.specs.items) }
-    {
-        let id = self.specs.len().min(1_048_576) as u32;
-        let successors = Sequence::new(Vec::from_slice(alloc, successors)?);
-        self.specs.push(Spec {
-            id,
-            priority: priority.min(2_147_483_647),
-            owner,
-            successors,
-        })?;
-        Ok(())
-    }
-
-    pub fn game(self, alloc: Global) -> Result<Game, Fail>
-        requires { All AreNumbers self.specs.items }
-    {
-        Ok(Game::from_specs(alloc, self.specs)?)
-    }
-}
-
-/// The game of these vertices.
-pub fn game_of(alloc: Global, rows: &[Vertex]) -> Result<Game, Fail> {
-    let mut draft = Draft::new(alloc);
-    'rows: for (priority, owner, successors) in rows {
-        draft.add(alloc, *priority, *owner, *successors)?;
-    }
-    draft.game(alloc)
-}
 
 /// The game's part that the mask has, which has to be a subgame.
 pub fn inside_of<'g>(rt: &impl Abort, game: &'g Game, mask: Mask) -> Inside<'g>
@@ -107,7 +47,7 @@ pub fn single(rt: &impl Abort, alloc: Global, game: &Game, v: u32) -> Result<Mas
 }
 
 /// The vertices with their choices, where there is a claim.
-pub fn rows_of(claim: &Option<Claim>) -> &[(u32, Option<u32>)] {
+pub fn rows_of(claim: &Option<Claim>) -> &[Row] {
     match claim {
         Some(claim) => claim.rows.as_slice(),
         None => [].as_slice(),
@@ -117,61 +57,61 @@ pub fn rows_of(claim: &Option<Claim>) -> &[(u32, Option<u32>)] {
 /// Each vertex has itself alone as a successor, and a priority of its own.
 pub fn self_loops(alloc: Global, n: u32) -> Result<Game, Fail> {
     let mut draft = Draft::new(alloc);
-    'rows: for v in 0..n {
+    for v in 0..n {
         draft.add(alloc, v, EVEN, [v].as_slice())?;
     }
-    draft.game(alloc)
+    Ok(draft.game(alloc)?)
 }
 
 /// Each vertex has itself alone as a successor, and an even priority of its own.
 pub fn even_loops(alloc: Global, n: u32) -> Result<Game, Fail> {
     let mut draft = Draft::new(alloc);
-    'rows: for v in 0..n {
+    for v in 0..n {
         draft.add(alloc, v.saturating_mul(2), EVEN, [v].as_slice())?;
     }
-    draft.game(alloc)
+    Ok(draft.game(alloc)?)
 }
 
 /// Each vertex leads to the next, the last to itself, and priorities rise.
 pub fn chain(alloc: Global, n: u32) -> Result<Game, Fail> {
     let mut draft = Draft::new(alloc);
-    'rows: for v in 0..n {
+    for v in 0..n {
         let next = v.saturating_add(1);
         let to = if next < n { next } else { v };
         draft.add(alloc, v, ODD, [to].as_slice())?;
     }
-    draft.game(alloc)
+    Ok(draft.game(alloc)?)
 }
 
 /// Each vertex is Even's and leads to the first, and priorities rise.
 pub fn star(alloc: Global, n: u32) -> Result<Game, Fail> {
     let mut draft = Draft::new(alloc);
-    'rows: for v in 0..n {
+    for v in 0..n {
         draft.add(alloc, v, EVEN, [0].as_slice())?;
     }
-    draft.game(alloc)
+    Ok(draft.game(alloc)?)
 }
 
 /// Each vertex is Even's, has priority 0 and leads to the next, and the last to the first.
 pub fn ring(alloc: Global, n: u32) -> Result<Game, Fail> {
     let mut draft = Draft::new(alloc);
-    'rows: for v in 0..n {
+    for v in 0..n {
         let next = v.saturating_add(1);
         let to = if next < n { next } else { 0 };
         draft.add(alloc, 0, EVEN, [to].as_slice())?;
     }
-    draft.game(alloc)
+    Ok(draft.game(alloc)?)
 }
 
 /// Each vertex is Even's, has an odd priority and leads to all.
 pub fn dense(alloc: Global, n: u32) -> Result<Game, Fail> {
     let mut successors = Vec::new(alloc);
-    'all: for v in 0..n {
+    for v in 0..n {
         successors.push(v)?;
     }
     let mut draft = Draft::new(alloc);
-    'rows: for _v in 0..n {
+    for _v in 0..n {
         draft.add(alloc, 1, EVEN, successors.as_slice())?;
     }
-    draft.game(alloc)
+    Ok(draft.game(alloc)?)
 }

@@ -5,21 +5,19 @@
 //! them with one allocation after another refused. A run passes, or says that memory was refused to what the test needs
 //! itself.
 
-ghost use Rattle.std.specs.Prelude.{◌≡◌, ◌<◌, All, IfOk, length};
-ghost use Rattle.pg_game.specs.Specification.{AreNumbers};
+ghost use Rattle.std.specs.Prelude.{◌≡◌, ◌<◌, IfOk, length};
 
-use crate::tests::games::{EVEN, ODD, Vertex, inside_of, rows_of};
+use crate::tests::games::{inside_of, rows_of};
 use pg_dominion::Claim;
 use pg_finders::{
     Copied, Finder, Found, Inside, Job, Small, Solved, Standard, find_loop, find_small,
     find_solitaire, zielonka,
 };
-use pg_game::{Game, GameFault, Mask, Memory, Player, Sequence, Spec};
+use pg_game::{Game, Mask, Memory, Player};
+use pg_test_support::{EVEN, ODD, Row, Vertex, game_of, lacking, needed};
 use std::alloc::{AllocError, Global};
 use std::process::Abort;
 use std::test::Fail;
-
-type Row = (u32, Option<u32>);
 
 /// Even wins the first three vertices, in which Odd chooses nothing, and Odd the others.
 const VERTICES: [Vertex<'static>; 5] = [
@@ -30,46 +28,8 @@ const VERTICES: [Vertex<'static>; 5] = [
     (0, ODD, &[3]),
 ];
 
-/// How a test ends where memory is refused to what it needs itself.
-fn lacking() -> Fail {
-    Fail::from("no memory for the test itself")
-}
-
-/// Adds a specification, with numbers cut down to the greatest.
-fn add(alloc: Global, specs: &mut Vec<Spec>, vertex: &Vertex) -> Result<(), Memory>
-    requires { All AreNumbers specs.old.items }
-    ensures { All AreNumbers specs.new.items }
-{
-    let (priority, owner, successors) = vertex;
-    specs.push(Spec {
-        id: specs.len().min(1_048_576) as u32,
-        priority: (*priority).min(2_147_483_647),
-        owner: *owner,
-        successors: Sequence::new(Vec::from_slice(alloc, *successors)?),
-    })?;
-    Ok(())
-}
-
-fn specs_of(alloc: Global, vertices: &[Vertex]) -> Result<Vec<Spec>, Memory>
-    ensures { IfOk result (λ specs. All AreNumbers specs.items) }
-{
-    let mut specs = Vec::new(alloc);
-    'vertices: for vertex in vertices {
-        add(alloc, &mut specs, vertex)?;
-    }
-    Ok(specs)
-}
-
-fn made(alloc: Global, vertices: &[Vertex]) -> Result<Game, GameFault> {
-    let specs = specs_of(alloc, vertices)?;
-    Game::from_specs(alloc, specs)
-}
-
 fn needed_game(alloc: Global, vertices: &[Vertex]) -> Result<Game, Fail> {
-    match made(alloc, vertices) {
-        Ok(game) => Ok(game),
-        Err(_) => Err(lacking()),
-    }
+    needed(game_of(alloc, vertices))
 }
 
 /// All of the game.

@@ -2,9 +2,10 @@
 
 ghost use Rattle.std.specs.Prelude.{◌≡◌, ◌<◌, length};
 
-use crate::tests::games::{EVEN, ODD, Vertex, game_of, single};
+use crate::tests::games::single;
 use pg_finders::{Inside, Small, find_small, zielonka};
 use pg_game::{Game, Mask, Player};
+use pg_test_support::{EVEN, ODD, Vertex, game_of};
 use std::alloc::{AllocError, Global};
 use std::process::Abort;
 use std::test::Fail;

@@ -1,8 +1,8 @@
 //! The winning sets of a game of at most three vertices by their definition: a player wins a vertex where some choice
 //! at each vertex of his wins against every choice of the opponent's.
 
-use crate::tests::games::{Draft, EVEN, ODD};
 use pg_game::Game;
+use pg_test_support::{EVEN, ODD, Plain, game_of_sets, has};
 use std::alloc::Global;
 use std::test::Fail;
 
@@ -78,19 +78,19 @@ impl Numbered {
         w < self.len && has(self.successors(v), w)
     }
 
-    pub fn game(self, alloc: Global) -> Result<Game, Fail> {
-        let mut draft = Draft::new(alloc);
-        'rows: for v in 0..self.len {
-            let mut successors = Vec::new(alloc);
-            'row: for w in 0..self.len {
-                if self.has_edge(v, w) {
-                    successors.push(w)?;
-                }
-            }
+    /// The priority, the owner and the set of successors of each vertex.
+    pub fn rows(self, alloc: Global) -> Result<Vec<Plain>, Fail> {
+        let mut rows = Vec::new(alloc);
+        for v in 0..self.len {
             let owner = if self.is_odd(v) { ODD } else { EVEN };
-            draft.add(alloc, self.priority(v), owner, successors.as_slice())?;
+            rows.push((self.priority(v), owner, self.successors(v)))?;
         }
-        draft.game(alloc)
+        Ok(rows)
+    }
+
+    pub fn game(self, alloc: Global) -> Result<Game, Fail> {
+        let rows = self.rows(alloc)?;
+        Ok(game_of_sets(alloc, rows.as_slice())?)
     }
 
     /// Whether each choice is an edge.
@@ -157,14 +157,4 @@ impl Numbered {
         }
         Ok(wins)
     }
-}
-
-/// Whether the set of at most three vertices has the vertex.
-pub fn has(set: u32, v: u32) -> bool {
-    let bit = match v {
-        0 => 1,
-        1 => 2,
-        _ => 4,
-    };
-    set & bit != 0
 }

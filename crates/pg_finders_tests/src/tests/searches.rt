@@ -1,27 +1,15 @@
 //! `find_small` against the dominions by their definition, on each smallest game and on random ones.
 
-ghost use Rattle.std.specs.Prelude.{◌≡◌, IfOk, length};
-
-use crate::tests::dominions::{Random, Table, has, is_within};
-use crate::tests::games::{EVEN, ODD, whole};
+use crate::tests::dominions::{Table, random_members};
+use crate::tests::games::whole;
 use crate::tests::reference::{Numbered, rows_of_length};
 use pg_dominion::{Claim, check_claim};
 use pg_finders::{Inside, Small, find_small};
-use pg_game::{Game, Mask, Player};
+use pg_game::{Game, Player};
+use pg_test_support::{EVEN, ODD, Random, has, mask_of, named};
 use std::alloc::Global;
 use std::process::Abort;
 use std::test::Fail;
-
-/// The vertices that the claim names.
-fn named(claim: &Claim) -> u32 {
-    let mut set = 0;
-    for row in claim.rows.as_slice() {
-        if row.0 < 32 {
-            set |= 1 << row.0;
-        }
-    }
-    set
-}
 
 /// Each choice lies in the set.
 fn assert_chosen_in(rt: &impl Abort, claim: &Claim, set: u32) {
@@ -44,7 +32,7 @@ struct Place<'a, 'g> {
 impl Place<'_, '_> {
     /// The claim is good in the subgame, the player's, within the bound, and holds the seed.
     fn assert_good(self, rt: &impl Abort, alloc: Global, claim: &Claim, seed: u32, bound: u32) {
-        let set = named(claim);
+        let set = named(claim.rows.as_slice());
         check_eq!(*rt; claim.player, self.player);
         check!(*rt; claim.rows.as_slice().len() <= bound as usize);
         check!(*rt; has(set, seed));
@@ -159,20 +147,6 @@ fn odds_searches_in_every_game_of_up_to_three_vertices_and_priorities_to_two_fin
     assert_in_every_game(&rt, rt.alloc(), ODD)
 }
 
-/// The mask with the members of the set.
-fn mask_of(alloc: Global, game: &Game, set: u32) -> Result<Mask, Fail>
-    ensures { IfOk result (λ mask. length mask ≡ length game.now) }
-{
-    let n = game.len();
-    let mut mask = Mask::empty(alloc, n)?;
-    'vertices: for v in 0..n {
-        if has(set, v) {
-            mask.insert(v);
-        }
-    }
-    Ok(mask)
-}
-
 /// Each search in the subgame answers what is there by definition.
 fn assert_part(
     rt: &impl Abort,
@@ -201,7 +175,7 @@ fn is_part_as_defined(
     game: &Game,
     members: u32,
 ) -> Result<bool, Fail> {
-    match Inside::new(game, mask_of(alloc, game, members)?) {
+    match Inside::new(game, mask_of(alloc, game.len(), members)?) {
         Ok(inside) => {
             assert_part(rt, alloc, table, &inside, members)?;
             Ok(true)
@@ -232,7 +206,7 @@ fn random_parts(rt: &impl Abort, alloc: Global, random: &mut Random) -> Result<u
     let game = table.game(alloc)?;
     let mut parts = 0u32;
     for _round in 0..4u32 {
-        if is_part_as_defined(rt, alloc, &table, &game, random.members(n))? {
+        if is_part_as_defined(rt, alloc, &table, &game, random_members(random, n))? {
             parts = parts.saturating_add(1);
         }
     }

@@ -1,9 +1,10 @@
 //! What `Standard` gives for each job.
 
-use crate::tests::games::{EVEN, ODD, Vertex, game_of, ring, whole};
+use crate::tests::games::{ring, whole};
 use pg_dominion::Claim;
 use pg_finders::{Copied, Finder, Found, Job, Standard};
 use pg_game::{Game, Player};
+use pg_test_support::{EVEN, ODD, Row, Vertex, game_of};
 use std::alloc::Global;
 use std::process::Abort;
 use std::test::Fail;
@@ -146,7 +147,7 @@ fn assert_claims(
     job: Job,
     claims: usize,
     gave_up: bool,
-    rows: &[(u32, Option<u32>)],
+    rows: &[Row],
 ) -> Result<(), Fail> {
     let found = found_in(rt, alloc, game, job)?;
     check_eq!(*rt; found.claims.len(), claims, "{job:?}");

@@ -1,12 +1,11 @@
 //! What is answered to the claims of a finder: exactly where one worker posts them in order, and within bounds where
 //! several do.
 
-use crate::tests::reference::{
-    Plain, are_right_rows, attractor, has_bad_walk, is_rising, leaves, named,
-};
+use crate::tests::reference::{are_right_rows, has_bad_walk, is_rising, leaves};
 use crate::tests::replay::State;
 use pg_board::Entry;
 use pg_dominion::Claim;
+use pg_test_support::{Plain, attractor, named};
 use pg_workers::{Outcome, ReportRow};
 use std::process::Abort;
 

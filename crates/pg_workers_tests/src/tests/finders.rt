@@ -3,16 +3,10 @@
 use pg_dominion::Claim;
 use pg_finders::{Copied, Finder, Found, Job, Solved, Standard, zielonka};
 use pg_game::{Game, Memory, Player, Sequence};
+use pg_test_support::{EVEN, ODD, Row};
 use std::alloc::Global;
 use std::process::Abort;
 use std::sync::OnceLock;
-
-pub const EVEN: Player = Player::Even;
-
-pub const ODD: Player = Player::Odd;
-
-/// A vertex of a claim, and the choice there.
-pub type Row = (u32, Option<u32>);
 
 pub fn claim_of(alloc: Global, player: Player, rows: &[Row]) -> Result<Claim, Memory> {
     Ok(Claim {

@@ -1,11 +1,9 @@
 //! Games for the tests, and runs on them.
 
-ghost use Rattle.std.specs.Prelude.{◌≡◌, ◌≤◌, All, IfOk, length};
-ghost use Rattle.pg_game.specs.Specification.{AreNumbers};
+ghost use Rattle.std.specs.Prelude.{◌≡◌, ◌≤◌, IfOk, length};
 
-use crate::tests::reference::{Plain, has};
 use pg_finders::Finder;
-use pg_game::{Game, Player, Sequence, Spec};
+use pg_game::Game;
 use pg_text::{Known, read_game, read_known};
 use pg_workers::{Gate, Options, Outcome, Pass, SolveFault, solve_game};
 use std::alloc::Global;
@@ -27,77 +25,6 @@ pub fn two_loops() -> &'static [u8] {
 /// `CONTINENTS`, whose letters are no part of a test.
 pub fn continents() -> &'static [u8] {
     CONTINENTS
-}
-
-/// Adds a vertex of Even with priority 0 whose one successor is itself.
-fn add_own_loop(alloc: Global, specs: &mut Vec<Spec>, v: u32) -> Result<(), Fail>
-    requires { All AreNumbers specs.old.items }
-    ensures { All AreNumbers specs.new.items }
-{
-    let id = v.min(1_048_576);
-    specs.push(Spec {
-        id,
-        priority: 0,
-        owner: Player::Even,
-        successors: Sequence::new(vec![in alloc; id; 1]?),
-    })?;
-    Ok(())
-}
-
-fn own_loop_specs(alloc: Global, n: u32) -> Result<Vec<Spec>, Fail>
-    ensures { IfOk result (λ specs. All AreNumbers specs.items) }
-{
-    let mut specs = Vec::new(alloc);
-    for v in 0..n {
-        add_own_loop(alloc, &mut specs, v)?;
-    }
-    Ok(specs)
-}
-
-/// So many vertices, each won by Even by itself.
-pub fn own_loops(alloc: Global, n: u32) -> Result<Game, Fail> {
-    Ok(Game::from_specs(alloc, own_loop_specs(alloc, n)?)?)
-}
-
-/// The members of a set, rising.
-fn vertices_of(alloc: Global, set: u32) -> Result<Vec<u32>, Fail> {
-    let mut vertices = Vec::new(alloc);
-    for v in 0..32 {
-        if has(set, v) {
-            vertices.push(v)?;
-        }
-    }
-    Ok(vertices)
-}
-
-/// Adds a vertex of the reference's form.
-fn add_plain(alloc: Global, specs: &mut Vec<Spec>, vertex: Plain) -> Result<(), Fail>
-    requires { All AreNumbers specs.old.items }
-    ensures { All AreNumbers specs.new.items }
-{
-    let (priority, owner, successors) = vertex;
-    specs.push(Spec {
-        id: specs.len().min(1_048_576) as u32,
-        priority: priority.min(2_147_483_647),
-        owner,
-        successors: Sequence::new(vertices_of(alloc, successors)?),
-    })?;
-    Ok(())
-}
-
-fn plain_specs(alloc: Global, game: &[Plain]) -> Result<Vec<Spec>, Fail>
-    ensures { IfOk result (λ specs. All AreNumbers specs.items) }
-{
-    let mut specs = Vec::new(alloc);
-    'vertices: for vertex in game {
-        add_plain(alloc, &mut specs, *vertex)?;
-    }
-    Ok(specs)
-}
-
-/// The game of the reference's form.
-pub fn game_of_sets(alloc: Global, game: &[Plain]) -> Result<Game, Fail> {
-    Ok(Game::from_specs(alloc, plain_specs(alloc, game)?)?)
 }
 
 /// The game of a short text.

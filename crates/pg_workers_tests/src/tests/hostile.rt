@@ -2,12 +2,11 @@
 
 ghost use Rattle.std.specs.Prelude.{◌≤◌};
 
-use crate::tests::finders::{
-    EVEN, FirstSolution, Fixed, Long, Misshapen, NoMemory, ODD, Singles, Wholes,
-};
+use crate::tests::finders::{FirstSolution, Fixed, Long, Misshapen, NoMemory, Singles, Wholes};
 use crate::tests::games::{continents, outcome_of};
 use pg_finders::{Finder, Standard};
 use pg_game::Player;
+use pg_test_support::{EVEN, ODD};
 use std::alloc::Global;
 use std::process::Abort;
 use std::sync::Wait;

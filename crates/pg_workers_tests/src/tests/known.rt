@@ -2,12 +2,13 @@
 
 ghost use Rattle.std.specs.Prelude.{◌≤◌};
 
-use crate::tests::finders::{EVEN, ODD, Singles};
+use crate::tests::finders::Singles;
 use crate::tests::games::{known_run, two_loops};
 use pg_board::{Entry, Refusal};
 use pg_dominion::ClaimFault;
 use pg_finders::{Finder, Standard};
 use pg_game::Player;
+use pg_test_support::{EVEN, ODD};
 use pg_workers::{Outcome, ReportRow, SolveFault};
 use std::alloc::Global;
 use std::process::Abort;

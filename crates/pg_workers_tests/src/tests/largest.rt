@@ -1,7 +1,8 @@
 //! The largest claim of the largest game.
 
 use crate::tests::finders::Wholes;
-use crate::tests::games::{own_loops, solved};
+use crate::tests::games::solved;
+use pg_test_support::own_loops;
 use pg_workers::{Options, Pass, ReportRow};
 use std::process::Abort;
 use std::test::Fail;

@@ -7,11 +7,11 @@
 ghost use Rattle.std.specs.Prelude.{◌≡◌, ◌≤◌, All, IfOk};
 
 use crate::tests::draws::{draws, has_drawn};
-use crate::tests::finders::{EVEN, ODD};
 use crate::tests::games::{TWO_LOOPS, run_on};
 use crate::tests::replay::{State, compare_replay};
 use pg_finders::Standard;
 use pg_game::{Game, Memory};
+use pg_test_support::{EVEN, ODD, needed};
 use pg_text::read_game;
 use pg_workers::{Jobs, Outcome, Pass, SolveFault, Ticket};
 use std::alloc::Global;
@@ -19,14 +19,6 @@ use std::process::Abort;
 use std::sync::Wait;
 use std::test::Fail;
 use std::thread::Threads;
-
-/// What the test needs itself, or its one message where memory is refused to that.
-fn needed<T, E: Drop>(made: Result<T, E>) -> Result<T, Fail> {
-    match made {
-        Ok(value) => Ok(value),
-        Err(_) => Err(Fail::from("no memory for the test itself")),
-    }
-}
 
 /// Jobs that are opened once more where memory was refused.
 fn opened(alloc: Global, total: u64, seats: u32) -> Result<(Jobs, Vec<Ticket>), Memory>

@@ -2,12 +2,13 @@
 
 ghost use Rattle.std.specs.Prelude.{◌≤◌};
 
-use crate::tests::finders::{EVEN, Fixed, ODD, Singles};
+use crate::tests::finders::{Fixed, Singles};
 use crate::tests::games::run_on;
 use crate::tests::random::Both;
 use crate::tests::replay::{State, check_outcome};
 use pg_board::Entry;
 use pg_finders::Finder;
+use pg_test_support::{EVEN, ODD};
 use pg_workers::{Gate, Outcome};
 use std::alloc::Global;
 use std::process::Abort;

@@ -1,9 +1,10 @@
 //! Jobs of a later phase are searched on copies in which those of earlier phases have settled all that they found.
 
-use crate::tests::finders::{Row, Watcher, claim_of};
-use crate::tests::games::{own_loops, run_on};
+use crate::tests::finders::{Watcher, claim_of};
+use crate::tests::games::run_on;
 use pg_finders::{Copied, Finder, Found, Job};
 use pg_game::Memory;
+use pg_test_support::{Row, own_loops};
 use pg_workers::Pass;
 use std::alloc::Global;
 use std::sync::OnceLock;

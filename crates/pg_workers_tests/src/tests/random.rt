@@ -1,33 +1,9 @@
 //! Games at random, from a seed.
 
-use crate::tests::finders::{EVEN, ODD};
-use crate::tests::games::game_of_sets;
-use crate::tests::reference::{Plain, bit};
 use pg_game::Game;
+use pg_test_support::{EVEN, ODD, Plain, Random, bit, game_of_sets};
 use std::alloc::Global;
 use std::test::Fail;
-
-/// Numbers that look random and are the same in each run.
-#[derive(Drop)]
-pub struct Random {
-    state: u64,
-}
-
-impl Random {
-    pub fn new(seed: u64) -> Random {
-        Random { state: seed }
-    }
-
-    /// A number below `n`, or 0.
-    pub fn below(&mut self, n: u32) -> u32 {
-        self.state = self
-            .state
-            .wrapping_mul(6_364_136_223_846_793_005)
-            .wrapping_add(1_442_695_040_888_963_407);
-        let number = ((self.state >> 33) & 0x7fff_ffff) as u32;
-        number % n.max(1)
-    }
-}
 
 /// The vertex, or one or two behind it in the round of `n`.
 fn near(random: &mut Random, v: u32, n: u32) -> u32 {

@@ -1,36 +1,7 @@
-//! The definitions once more, as plain as they can be written, over games of at most 32 vertices. A set of vertices is a
-//! number whose bits are its members.
+//! What is asked of the rows of an entry, as plain as it can be written, over games of at most 32 vertices.
 
-use crate::tests::finders::{EVEN, Row};
 use pg_game::Player;
-
-/// Priority, owner and set of successors of a vertex; a game is a slice of them.
-pub type Plain = (u32, Player, u32);
-
-pub fn bit(v: u32) -> u32 {
-    if v < 32 { 1 << v } else { 0 }
-}
-
-pub fn has(set: u32, v: u32) -> bool {
-    set & bit(v) != 0
-}
-
-pub fn size_of(game: &[Plain]) -> u32 {
-    game.len().min(32) as u32
-}
-
-fn vertex(game: &[Plain], v: u32) -> Plain {
-    game.get(v as usize).copied().unwrap_or((0, EVEN, 0))
-}
-
-/// The vertices of rows.
-pub fn named(rows: &[Row]) -> u32 {
-    let mut set = 0;
-    for row in rows {
-        set |= bit(row.0);
-    }
-    set
-}
+use pg_test_support::{Plain, Row, first_bad_cycle, has, is_right_row, kept};
 
 pub fn is_rising(rows: &[Row]) -> bool {
     let mut least = 0;
@@ -43,16 +14,6 @@ pub fn is_rising(rows: &[Row]) -> bool {
     true
 }
 
-/// Whether a row names a vertex, with a successor as the choice exactly where the player owns it.
-pub fn is_right_row(game: &[Plain], player: Player, row: Row) -> bool {
-    let (_, owner, successors) = vertex(game, row.0);
-    let is_right_choice = match row.1 {
-        Some(w) => owner == player && has(successors, w),
-        None => owner != player,
-    };
-    row.0 < size_of(game) && is_right_choice
-}
-
 pub fn are_right_rows(game: &[Plain], player: Player, rows: &[Row]) -> bool {
     for row in rows {
         if !is_right_row(game, player, *row) {
@@ -60,14 +21,6 @@ pub fn are_right_rows(game: &[Plain], player: Player, rows: &[Row]) -> bool {
         }
     }
     true
-}
-
-/// The successors of a row that its choice keeps.
-pub fn kept(game: &[Plain], row: Row) -> u32 {
-    match row.1 {
-        Some(w) => bit(w),
-        None => vertex(game, row.0).2,
-    }
 }
 
 /// Whether a kept edge of the rows, from a vertex of the one set, ends outside the other.
@@ -80,67 +33,7 @@ pub fn leaves(game: &[Plain], rows: &[Row], from: u32, inside: u32) -> bool {
     false
 }
 
-/// The members of `from`, and the kept successors in `within` of its rows.
-fn step(game: &[Plain], rows: &[Row], within: u32, from: u32) -> u32 {
-    let mut set = from;
-    for row in rows {
-        if has(from, row.0) {
-            set |= kept(game, *row) & within;
-        }
-    }
-    set
-}
-
-/// The vertices of the rows of at most some priority.
-fn named_up_to(game: &[Plain], rows: &[Row], priority: u32) -> u32 {
-    let mut set = 0;
-    for row in rows {
-        if vertex(game, row.0).0 <= priority {
-            set |= bit(row.0);
-        }
-    }
-    set
-}
-
-/// Whether the row's vertex is the greatest on a closed walk of kept edges among the rows.
-fn is_greatest_on_walk(game: &[Plain], rows: &[Row], row: Row) -> bool {
-    let within = named_up_to(game, rows, vertex(game, row.0).0);
-    let mut reached = kept(game, row) & within;
-    for _round in 0..size_of(game) {
-        reached = step(game, rows, within, reached);
-    }
-    has(reached, row.0)
-}
-
 /// Whether a closed walk of kept edges among the rows has a greatest priority of the opponent's parity.
 pub fn has_bad_walk(game: &[Plain], player: Player, rows: &[Row]) -> bool {
-    for row in rows {
-        let parity = Player::of_parity(vertex(game, row.0).0);
-        if parity != player && is_greatest_on_walk(game, rows, *row) {
-            return true;
-        }
-    }
-    false
-}
-
-/// The target, each vertex of the player with a successor in it, and each of the opponent with no other successors.
-fn attract_once(game: &[Plain], player: Player, target: u32) -> u32 {
-    let mut set = target;
-    for v in 0..size_of(game) {
-        let (_, owner, successors) = vertex(game, v);
-        let is_left = successors & !target != 0;
-        let is_drawn = successors & target != 0;
-        if is_drawn && (owner == player || !is_left) {
-            set |= bit(v);
-        }
-    }
-    set
-}
-
-pub fn attractor(game: &[Plain], player: Player, target: u32) -> u32 {
-    let mut set = target;
-    for _round in 0..size_of(game) {
-        set = attract_once(game, player, set);
-    }
-    set
+    first_bad_cycle(game, player, rows).is_some()
 }

@@ -1,13 +1,12 @@
 //! A checker of the tests' own for what a run gives: it replays the journal entry by entry, by the reference's sets,
 //! compares the solution with the state at the end, and adds up the report.
 
-use crate::tests::finders::{EVEN, ODD, Row};
-use crate::tests::reference::{
-    Plain, are_right_rows, attractor, bit, has, has_bad_walk, is_right_row, is_rising, kept,
-    leaves, named, size_of,
-};
+use crate::tests::reference::{are_right_rows, has_bad_walk, is_rising, leaves};
 use pg_board::Entry;
 use pg_game::{Player, Sequence};
+use pg_test_support::{
+    EVEN, ODD, Plain, Row, attractor, bit, has, is_right_row, kept, named, size_of,
+};
 use pg_workers::{Outcome, ReportRow};
 use std::alloc::Global;
 use std::process::Abort;

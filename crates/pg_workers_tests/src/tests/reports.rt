@@ -1,9 +1,10 @@
 //! What the report says of each job, on runs with one worker.
 
-use crate::tests::finders::{EVEN, Fixed, Halting, Long, NoMemory, ODD, Singles};
+use crate::tests::finders::{Fixed, Halting, Long, NoMemory, Singles};
 use crate::tests::games::{outcome_of, two_loops};
 use pg_finders::{Finder, Standard};
 use pg_game::Player;
+use pg_test_support::{EVEN, ODD};
 use pg_workers::{Outcome, ReportRow};
 use std::alloc::Global;
 use std::process::Abort;

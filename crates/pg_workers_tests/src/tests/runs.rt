@@ -1,10 +1,11 @@
 //! Workers run at once, whatever order they come in, and are given each job.
 
-use crate::tests::finders::{EVEN, NoMemory, ODD, Recorder, Watcher};
-use crate::tests::games::{gated_outcome, own_loops, solved, two_loops};
+use crate::tests::finders::{NoMemory, Recorder, Watcher};
+use crate::tests::games::{gated_outcome, solved, two_loops};
 use crate::tests::gates::{Alternating, Holder, Seen};
 use pg_finders::{Finder, Job, Standard};
 use pg_game::Player;
+use pg_test_support::{EVEN, ODD, own_loops};
 use pg_workers::{Options, Pass};
 use std::alloc::Global;
 use std::process::Abort;

@@ -4,17 +4,16 @@ ghost use Rattle.std.specs.Prelude.{◌≤◌};
 
 use crate::tests::answers::{Bounds, check_alone};
 use crate::tests::finders::{
-    EVEN, FirstSolution, Fixed, Misshapen, NoMemory, ODD, Overlapping, Row, Singles, Wholes,
-    both_regions,
+    FirstSolution, Fixed, Misshapen, NoMemory, Overlapping, Singles, Wholes, both_regions,
 };
 use crate::tests::games::run_on;
-use crate::tests::random::{Both, Random};
-use crate::tests::reference::Plain;
+use crate::tests::random::Both;
 use crate::tests::replay::{State, check_outcome};
 use pg_board::Board;
 use pg_dominion::Claim;
 use pg_finders::{Copied, Finder, Job, Standard};
 use pg_game::{Game, Memory, Player};
+use pg_test_support::{EVEN, ODD, Plain, Random, Row};
 use pg_workers::{Gate, Outcome, Pass};
 use std::alloc::Global;
 use std::process::Abort;

@@ -1,14 +1,10 @@
-use Rattle.std.proofs.Common.{◌∙◌, ap, arith, length, false}
-use Rattle.std.proofs.Common.{length-set}
-use Rattle.pg_game.specs.VertexSet.{members}
+use Rattle.pg_board.proofs.Common.{rules, ◌∙◌, ap, length, false, length-set, members}
 use Rattle.pg_board.proofs.Places.{row_at, named_at}
 use Rattle.pg_board.proofs.Renewing.{members_removed}
 use Rattle.pg_board.proofs.board.remove_named.Goals as goal
 
 pub remove-requires : goal.remove-requires
-remove-requires c =
-    let l = c.requires (row_at c.args.rows.now c.rows.row-index).0 (named_at c.args.rows.now c.rows.row-index c.rows-test.true) in
-    omega (arith, l, c.rows.invariant.length)
+remove-requires c = search (rules, c.requires, named_at, c.rows-test.true, c.rows.invariant.length)
 
 pub rows-preserved : goal.rows-preserved
 rows-preserved c =

@@ -1,7 +1,4 @@
-use Rattle.std.proofs.Common.{◌≡◌, ℕ, length, take}
-use Rattle.pg_game.specs.VertexSet.{members}
-use Rattle.pg_game.specs.private.VertexSet.{without}
-use Rattle.pg_dominion.specs.Claim.{named}
+use Rattle.pg_board.proofs.Common.{◌≡◌, ℕ, length, take, members, without, named}
 use Rattle.pg_board.proofs.board.remove_named.Given as goal
 
 abbrev pub invariant-rows : goal.invariant-rows

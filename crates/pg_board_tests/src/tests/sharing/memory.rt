@@ -4,6 +4,7 @@ ghost use Rattle.std.specs.Prelude.{◌≡◌};
 
 use pg_board::Office;
 use pg_game::Game;
+use pg_test_support::{lacking, needed};
 use pg_text::read_game;
 use std::alloc::Global;
 use std::marker::Brand;
@@ -11,14 +12,6 @@ use std::process::Abort;
 use std::sync::Wait;
 use std::sync::ledger::{Blank, Ledger};
 use std::test::Fail;
-
-/// What the test needs itself, or its one message where memory is refused to that.
-fn needed<T, E: Drop>(made: Result<T, E>) -> Result<T, Fail> {
-    match made {
-        Ok(value) => Ok(value),
-        Err(_) => Err(Fail::from("no memory for the test itself")),
-    }
-}
 
 #[test]
 fn a_copy_is_shared_after_a_refusal(rt: HostRuntime) -> Result<(), Fail> {
@@ -37,7 +30,7 @@ fn share_after_a_refusal<L: Ledger, R: Wait + Abort>(
     requires parts { (blank.parts ≡ L.parts) × (blank.parts ≡ 1) }
 {
     let Ok((office, shares)) = Office::<L>::open(alloc, blank, game, 1) else {
-        return Err(Fail::from("no memory for the test itself"));
+        return Err(lacking());
     };
     let share = &shares[0];
     if office.shared_copy(rt, alloc, share).is_err() {

@@ -1,9 +1,4 @@
-use Rattle.std.proofs.Common.{ℕ, length, sym, ◌∙◌, subst, arith, ltb-true, rules}
-use Rattle.std.proofs.lemmas.Bool.{or_right}
-use Rattle.pg_game.specs.Graph.{HasEdge}
-use Rattle.pg_game.specs.VertexSet.{VertexSet, In, union}
-use Rattle.pg_dominion.specs.Area.{listed_by}
-use Rattle.pg_dominion.specs.private.Attracting.{IsTakenOrOpen}
+use Rattle.pg_dominion.proofs.Common.{ℕ, length, sym, ◌∙◌, subst, arith, ltb-true, rules, or_right, HasEdge, VertexSet, In, union, listed_by, IsTakenOrOpen}
 use Rattle.pg_dominion.proofs.Taking.{takes_none, takes_then, takes_set, takes_longer, next_listed, next_reached, all_done}
 use Rattle.pg_dominion.proofs.area.attract_from.Goals as goal
 

@@ -1,7 +1,4 @@
-use Rattle.std.proofs.Common.{◌≤◌, length, take}
-use Rattle.std.specs.Prelude.{vec_capacity}
-use Rattle.pg_game.specs.VertexSet.{union}
-use Rattle.pg_dominion.specs.Area.{listed_by, Takes, AttractsNoFurther}
+use Rattle.pg_dominion.proofs.Common.{◌≤◌, length, take, vec_capacity, union, listed_by, Takes, AttractsNoFurther}
 use Rattle.pg_dominion.proofs.area.attract_from.Given as goal
 
 abbrev pub invariant-list : goal.invariant-list

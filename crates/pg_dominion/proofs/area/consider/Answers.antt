@@ -1,9 +1,5 @@
-use Rattle.std.proofs.Common.{◌≡◌, ◌≢◌, true, inl, inr, refl, sym, ◌∙◌, rules}
-use Rattle.std.proofs.lemmas.Bool.{false_from_ne_true, or_left}
+use Rattle.pg_dominion.proofs.Common.{◌≡◌, ◌≢◌, true, inl, inr, refl, sym, ◌∙◌, rules, false_from_ne_true, or_left, vec_capacity, owner_of, listed_by}
 use Rattle.std.proofs.lemmas.Result.{on_ok_weaker}
-use Rattle.std.specs.Prelude.{vec_capacity}
-use Rattle.pg_game.specs.Graph.{owner_of}
-use Rattle.pg_dominion.specs.Area.{listed_by}
 use Rattle.pg_dominion.proofs.Taking.{on_ok_both, takes_one, last_listed}
 use Rattle.pg_dominion.proofs.area.consider.Goals as goal
 

@@ -1,9 +1,5 @@
-use Rattle.std.proofs.Common.{◌≡◌, ℕ, slice_index, sym, ◌∙◌, subst, arith, below_more, rules}
-use Rattle.std.proofs.lemmas.List.{get_or_default}
-use Rattle.std.proofs.lemmas.List.Elements.{Contains-get_or}
-use Rattle.pg_game.specs.VertexSet.{VertexSet, In, union}
-use Rattle.pg_dominion.specs.Area.{listed_by}
-use Rattle.pg_dominion.specs.private.Attracting.{IsTakenOrOpen}
+use Rattle.pg_dominion.proofs.Common.{◌≡◌, ℕ, slice_index, sym, ◌∙◌, subst, arith, below_more, rules, get_or_default, Contains-get_or, VertexSet, In, union}
+use Rattle.pg_dominion.proofs.Common.{listed_by, IsTakenOrOpen}
 use Rattle.pg_dominion.proofs.Taking.{takes_none, takes_then, takes_within, takes_set}
 use Rattle.pg_dominion.proofs.Attracting.{IsSettled-before, IsSettled-later}
 use Rattle.pg_dominion.proofs.area.reach.Goals as goal

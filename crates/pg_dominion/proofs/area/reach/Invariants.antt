@@ -1,8 +1,4 @@
-use Rattle.std.proofs.Common.{ℕ, ◌<◌, slice_index}
-use Rattle.std.specs.Prelude.{vec_capacity}
-use Rattle.pg_game.specs.VertexSet.{In, union}
-use Rattle.pg_dominion.specs.Area.{listed_by, Takes}
-use Rattle.pg_dominion.specs.private.Attracting.{IsTakenOrOpen}
+use Rattle.pg_dominion.proofs.Common.{ℕ, ◌<◌, slice_index, vec_capacity, In, union, listed_by, Takes, IsTakenOrOpen}
 use Rattle.pg_dominion.proofs.area.reach.Given as goal
 
 abbrev pub invariant-loop-from : goal.invariant-loop-from

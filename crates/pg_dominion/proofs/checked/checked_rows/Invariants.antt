@@ -1,5 +1,4 @@
-use Rattle.std.proofs.Common.{◌≡◌, take}
-use Rattle.pg_dominion.specs.Checked.{claim_rows, AgreesWithGame}
+use Rattle.pg_dominion.proofs.Common.{◌≡◌, take, claim_rows, AgreesWithGame}
 use Rattle.pg_dominion.proofs.checked.checked_rows.Given as goal
 
 abbrev pub invariant-rows : goal.invariant-rows

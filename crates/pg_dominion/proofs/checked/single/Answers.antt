@@ -1,6 +1,5 @@
-use Rattle.std.proofs.Common.{arith, below_more, rules}
+use Rattle.pg_dominion.proofs.Common.{arith, below_more, rules, successors_of}
 use Rattle.std.proofs.Math.Seq.{drop-cons}
-use Rattle.pg_game.specs.Graph.{successors_of}
 use Rattle.pg_dominion.proofs.Searching.{place_in}
 use Rattle.pg_dominion.proofs.checked.single.Goals as goal
 

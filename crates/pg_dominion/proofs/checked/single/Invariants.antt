@@ -1,4 +1,4 @@
-use Rattle.std.proofs.Common.{◌≡◌, ℕ, ◌<◌, slice_index}
+use Rattle.pg_dominion.proofs.Common.{◌≡◌, ℕ, ◌<◌, slice_index}
 use Rattle.pg_dominion.proofs.checked.single.Given as goal
 
 abbrev pub invariant-loop-k : goal.invariant-loop-k

@@ -1,4 +1,4 @@
-use Rattle.std.proofs.Common.{sym, ◌∙◌, rules}
+use Rattle.pg_dominion.proofs.Common.{sym, ◌∙◌, rules}
 use Rattle.pg_dominion.proofs.Staying.{none_on_bad_walk, same_least}
 use Rattle.pg_dominion.proofs.claim.first_on_bad_walk.Goals as goal
 

@@ -1,6 +1,4 @@
-use Rattle.std.proofs.Common.{◌≡◌, drop}
-use Rattle.std.specs.List.{list_any}
-use Rattle.pg_dominion.specs.private.Shape.{is_bad}
+use Rattle.pg_dominion.proofs.Common.{◌≡◌, drop, list_any, is_bad}
 use Rattle.pg_dominion.proofs.claim.names_bad_vertex.Given as goal
 
 abbrev pub invariant-rows : goal.invariant-rows

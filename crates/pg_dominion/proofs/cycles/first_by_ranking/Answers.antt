@@ -1,4 +1,4 @@
-use Rattle.pg_dominion.specs.KeptEdges.{IsWorst}
+use Rattle.pg_dominion.proofs.Common.{IsWorst}
 use Rattle.pg_dominion.proofs.Searching.{OnTop-from_reaches, not_below}
 use Rattle.pg_dominion.proofs.cycles.first_by_ranking.Goals as goal
 

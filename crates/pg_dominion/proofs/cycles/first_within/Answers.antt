@@ -1,7 +1,4 @@
-use Rattle.std.proofs.lemmas.Bool.{true≢false}
-use Rattle.std.proofs.Common.{sym, ◌∙◌, arith, below_more}
-use Rattle.pg_game.proofs.Masks.{member_below}
-use Rattle.pg_dominion.specs.KeptEdges.{IsWorst}
+use Rattle.pg_dominion.proofs.Common.{true≢false, sym, ◌∙◌, arith, below_more, member_below, IsWorst}
 use Rattle.pg_dominion.proofs.Searching.{OnTop-from_reaches, Reaches-from_top, not_below}
 use Rattle.pg_dominion.proofs.cycles.first_within.Goals as goal
 

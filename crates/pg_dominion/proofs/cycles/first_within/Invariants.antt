@@ -1,6 +1,4 @@
-use Rattle.std.proofs.Common.{◌≡◌, ℕ, ◌<◌, length}
-use Rattle.pg_dominion.specs.KeptEdges.{IsWorst}
-use Rattle.pg_dominion.specs.private.KeptEdges.{AreLabelled}
+use Rattle.pg_dominion.proofs.Common.{◌≡◌, ℕ, ◌<◌, length, IsWorst, AreLabelled}
 use Rattle.pg_dominion.proofs.cycles.first_within.Given as goal
 
 abbrev pub invariant-starts : goal.invariant-starts

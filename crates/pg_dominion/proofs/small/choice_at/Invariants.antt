@@ -1,5 +1,4 @@
-use Rattle.std.proofs.Common.{◌≡◌, drop}
-use Rattle.pg_dominion.specs.Claim.{named, choice_in}
+use Rattle.pg_dominion.proofs.Common.{◌≡◌, drop, named, choice_in}
 use Rattle.pg_dominion.proofs.small.choice_at.Given as goal
 
 abbrev pub invariant-rows : goal.invariant-rows

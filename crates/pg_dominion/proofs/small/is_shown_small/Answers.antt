@@ -1,13 +1,9 @@
-use Rattle.std.proofs.Common.{◌≡◌, ◌<◌, ℕ, length, get_or, sym, arith, below_more, rules}
-use Rattle.std.specs.Prelude.{None}
-use Rattle.std.proofs.lemmas.Bool.{eq-eqb}
+use Rattle.pg_dominion.proofs.Common.{◌≡◌, ◌<◌, ℕ, length, get_or, sym, arith, below_more, rules, None, eq-eqb, In, ClaimRows, named}
 use Rattle.std.proofs.lemmas.List.Folds.{list_any_at}
-use Rattle.pg_game.specs.VertexSet.{In}
-use Rattle.pg_dominion.specs.Claim.{ClaimRows, named}
 use Rattle.pg_dominion.proofs.Rows.{named_right}
 use Rattle.pg_dominion.proofs.Staying.{none_from_rows}
-use Rattle.pg_dominion.proofs.small.is_shown_small.Goals as goal
 use Rattle.pg_dominion.proofs.small.is_shown_small.Goals.{else-is_bad-via-then-is_bad+in_ok-never_returns+else-not-branch, else-is_bad-via-else-is_bad}
+use Rattle.pg_dominion.proofs.small.is_shown_small.Goals as goal
 
 -- a row names its vertex
 named_at : (xs rows : ClaimRows) (i : ℕ) → xs ≡ rows → i < length xs → In (named rows) (get_or xs i (0, None)).0

@@ -1,7 +1,5 @@
-use Rattle.std.proofs.Common.{◌≡◌, ℕ, ◌<◌, true, None, get_or}
-use Rattle.pg_game.specs.Region.{OnBadWalk}
-use Rattle.pg_dominion.specs.Claim.{named, choice_in}
-use Rattle.pg_dominion.specs.private.Shape.{is_bad}
+use Rattle.pg_dominion.proofs.Common.{◌≡◌, ℕ, ◌<◌, true, get_or, OnBadWalk, named, choice_in, is_bad}
+use Rattle.std.proofs.Common.{None}
 use Rattle.pg_dominion.proofs.small.is_shown_small.Given as goal
 
 abbrev pub invariant-rows : goal.invariant-rows

@@ -1,8 +1,5 @@
-use Rattle.std.proofs.Common.{◌≡◌, ◌<◌, ℕ, length, slice_index, sym, ◌∙◌, ap, subst, arith, below_more, length-append}
-use Rattle.std.proofs.lemmas.List.{get_or_append_left, get_or_read}
-use Rattle.pg_game.specs.VertexSet.{In}
-use Rattle.pg_dominion.specs.Claim.{named}
-use Rattle.pg_dominion.specs.private.Staying.{Stays}
+use Rattle.pg_dominion.proofs.Common.{◌≡◌, ◌<◌, ℕ, length, slice_index, sym, ◌∙◌, ap, subst, arith, below_more, length-append, get_or_append_left, get_or_read}
+use Rattle.pg_dominion.proofs.Common.{In, named, Stays}
 use Rattle.pg_dominion.proofs.Staying.{Stays-longer, none_returns}
 use Rattle.pg_dominion.proofs.small.never_returns.Goals as goal
 

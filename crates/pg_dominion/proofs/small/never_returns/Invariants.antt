@@ -1,5 +1,4 @@
-use Rattle.std.proofs.Common.{ℕ, ◌<◌, ◌≤◌, length, slice_index}
-use Rattle.pg_dominion.specs.private.Staying.{AreNamed, Stays}
+use Rattle.pg_dominion.proofs.Common.{ℕ, ◌<◌, ◌≤◌, length, slice_index, AreNamed, Stays}
 use Rattle.pg_dominion.proofs.small.never_returns.Given as goal
 
 abbrev pub invariant-list : goal.invariant-list

@@ -1,14 +1,11 @@
-use Rattle.std.proofs.Common.{◌≡◌, ◌∷◌, [], ℕ, true, List, slice_index, refl, sym, ◌∙◌, subst, arith, below_more}
-use Rattle.std.specs.Prelude.{Option, ◌==◌}
-use Rattle.std.specs.List.{list_any}
-use Rattle.std.proofs.lemmas.List.Elements.{Contains-append_left, Contains-append_right}
-use Rattle.pg_game.specs.VertexSet.{In}
-use Rattle.pg_dominion.specs.Claim.{ClaimRows, IsRightRow, named, choice_in}
+use Rattle.pg_dominion.proofs.Common.{◌≡◌, ◌∷◌, [], ℕ, true, List, slice_index, refl, sym, ◌∙◌, subst, arith, below_more, Option, ◌==◌, list_any}
+use Rattle.pg_dominion.proofs.Common.{Contains-append_left, In, ClaimRows, IsRightRow, named, choice_in}
+use Rattle.std.proofs.lemmas.List.Elements.{Contains-append_right}
 use Rattle.pg_game.proofs.Gathered.{any_from}
 use Rattle.pg_dominion.proofs.Rows.{named_right}
 use Rattle.pg_dominion.proofs.Staying.{kept_in_row, Stays-from_row, longer_push, AreNamed-push}
-use Rattle.pg_dominion.proofs.small.stays.Goals as goal
 use Rattle.pg_dominion.proofs.small.stays.Goals.{then-priority-top-via-then-priority-top, then-priority-top-via-else-priority-top+then-contains}
+use Rattle.pg_dominion.proofs.small.stays.Goals as goal
 
 pub of-row-requires : goal.of-row-requires
 of-row-requires c =

@@ -1,9 +1,4 @@
-use Rattle.std.proofs.Common.{◌≡◌, ◌≢◌, ℕ, ◌<◌, ◌≤◌, ◌++◌, List, slice_index}
-use Rattle.std.specs.List.{Contains}
-use Rattle.pg_game.specs.Graph.{priority_of}
-use Rattle.pg_game.specs.VertexSet.{In}
-use Rattle.pg_dominion.specs.Claim.{named}
-use Rattle.pg_dominion.specs.private.Staying.{AreNamed}
+use Rattle.pg_dominion.proofs.Common.{◌≡◌, ◌≢◌, ℕ, ◌<◌, ◌≤◌, ◌++◌, List, slice_index, Contains, priority_of, In, named, AreNamed}
 use Rattle.pg_dominion.proofs.small.stays.Given as goal
 
 abbrev pub invariant-ends : goal.invariant-ends

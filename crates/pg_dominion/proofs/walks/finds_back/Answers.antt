@@ -1,4 +1,4 @@
-use Rattle.std.proofs.Common.{arith, below_more, rules}
+use Rattle.pg_dominion.proofs.Common.{arith, below_more, rules}
 use Rattle.pg_dominion.proofs.Searching.{IsSpread-later, GoesOn-then}
 use Rattle.pg_dominion.proofs.walks.finds_back.Goals as goal
 

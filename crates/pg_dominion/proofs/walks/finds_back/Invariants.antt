@@ -1,5 +1,4 @@
-use Rattle.std.proofs.Common.{ℕ, ◌<◌, ◌≤◌, length}
-use Rattle.pg_dominion.specs.private.KeptEdges.{Searching, IsSpread, GoesOn}
+use Rattle.pg_dominion.proofs.Common.{ℕ, ◌<◌, ◌≤◌, length, Searching, IsSpread, GoesOn}
 use Rattle.pg_dominion.proofs.walks.finds_back.Given as goal
 
 abbrev pub invariant-queue : goal.invariant-queue

@@ -1,7 +1,4 @@
-use Rattle.std.proofs.Common.{◌≡◌, slice_index, sym, ◌∙◌, arith}
-use Rattle.std.proofs.lemmas.Bool.{eqb-true}
-use Rattle.std.proofs.lemmas.List.{get_or_read}
-use Rattle.pg_game.specs.Graph.{priority_of}
+use Rattle.pg_dominion.proofs.Common.{◌≡◌, slice_index, sym, ◌∙◌, arith, eqb-true, get_or_read, priority_of}
 use Rattle.pg_dominion.proofs.walks.is_alone.Goals as goal
 
 pub returns-then-index-priority : goal.returns-then-index-priority

@@ -1,5 +1,4 @@
-use Rattle.std.proofs.Common.{◌≡◌, ℕ, ◌+◌, ◌<◌, ◌≤◌, ◌⊎◌, inl, inr, length, slice_index, sym, ◌∙◌, ap, arith, rules}
-use Rattle.std.proofs.lemmas.List.{get_or_read}
+use Rattle.pg_dominion.proofs.Common.{◌≡◌, ℕ, ◌+◌, ◌<◌, ◌≤◌, ◌⊎◌, inl, inr, length, slice_index, sym, ◌∙◌, ap, arith, rules, get_or_read}
 use Rattle.pg_dominion.proofs.Labelled.{noted_none, noted_next}
 use Rattle.pg_dominion.proofs.walks.note.Goals.{then-at-search, else-at-search}
 use Rattle.pg_dominion.proofs.walks.note.Goals as goal

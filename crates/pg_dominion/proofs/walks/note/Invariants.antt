@@ -1,4 +1,4 @@
-use Rattle.pg_dominion.specs.private.KeptEdges.{AreNoted}
+use Rattle.pg_dominion.proofs.Common.{AreNoted}
 use Rattle.pg_dominion.proofs.walks.note.Given as goal
 
 abbrev pub invariant-queue : goal.invariant-queue

@@ -1,9 +1,6 @@
-use Rattle.std.proofs.Common.{◌≡◌, ℕ, ◌<◌, ◌≤◌, inl, inr, [], ◌∷◌, ◌++◌, length, set, slice_index, refl, sym, ◌∙◌, ap, subst, arith, below_more, length-append}
-use Rattle.std.proofs.Common.{get_or-set_same, rules}
-use Rattle.std.proofs.lemmas.List.{get_or_read, get_or_push}
-use Rattle.pg_game.specs.Graph.{priority_of}
-use Rattle.pg_dominion.specs.KeptEdges.{kept_row}
-use Rattle.pg_dominion.specs.private.KeptEdges.{EdgeUnder, Leads, IsFollowed, IsQueued}
+use Rattle.pg_dominion.proofs.Common.{◌≡◌, ℕ, ◌<◌, ◌≤◌, inl, inr, [], ◌∷◌, ◌++◌, length, set, slice_index, refl, sym, ◌∙◌, ap, subst, arith, below_more}
+use Rattle.pg_dominion.proofs.Common.{length-append, get_or-set_same, rules, get_or_read, get_or_push, priority_of, kept_row, EdgeUnder, Leads, IsFollowed}
+use Rattle.pg_dominion.proofs.Common.{IsQueued}
 use Rattle.pg_dominion.proofs.Searching.{Leads-edge, Searching-push, queue_short, IsFollowed-later, GoesOn-then, GoesOn-push, GoesOn-less, edge_at, place_in}
 use Rattle.pg_dominion.proofs.walks.spread.Goals.{else-index-top-via-then-index-top+else-index-own, else-index-top-via-else-index-top}
 use Rattle.pg_dominion.proofs.walks.spread.Goals.{else-place-end-via-then-place-end+else-index-to, else-place-end-via-else-place-end}

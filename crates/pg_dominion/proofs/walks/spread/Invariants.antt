@@ -1,6 +1,4 @@
-use Rattle.std.proofs.Common.{ℕ, ◌<◌, ◌≤◌, slice_index}
-use Rattle.pg_game.specs.Graph.{priority_of}
-use Rattle.pg_dominion.specs.private.KeptEdges.{Searching, IsFollowed, GoesOn}
+use Rattle.pg_dominion.proofs.Common.{ℕ, ◌<◌, ◌≤◌, slice_index, priority_of, Searching, IsFollowed, GoesOn}
 use Rattle.pg_dominion.proofs.walks.spread.Given as goal
 
 abbrev pub invariant-row : goal.invariant-row

@@ -1,5 +1,4 @@
-use Rattle.std.proofs.Common.{◌≡◌, ℕ, ◌+◌, length, slice_index, refl, sym, ◌∙◌, subst, arith, rules}
-use Rattle.pg_dominion.specs.private.KeptEdges.{AreNoted}
+use Rattle.pg_dominion.proofs.Common.{◌≡◌, ℕ, ◌+◌, length, slice_index, refl, sym, ◌∙◌, subst, arith, rules, AreNoted}
 use Rattle.pg_dominion.proofs.Labelled.{searching_first, labelled_more, none_reached}
 use Rattle.pg_dominion.proofs.walks.walks_back.Goals as goal
 

@@ -1,11 +1,7 @@
-use Rattle.std.proofs.Common.{◌≡◌, [], length, vec_len, arith, rules}
-use Rattle.std.proofs.lemmas.List.{nil_from_length}
-use Rattle.pg_game.specs.VertexSet.{members}
-use Rattle.pg_finders.specs.Claims.{own_choices, rows_below}
-use Rattle.pg_finders.specs.private.loops.Singles.{loops, itself}
+use Rattle.pg_finders.proofs.Common.{◌≡◌, [], length, vec_len, arith, rules, nil_from_length, members, own_choices, rows_below, loops, itself}
 use Rattle.pg_finders.proofs.loops.Singles.{all_rows, exactly_loops, chooses_itself, loops_good, no_loops, positive}
-use Rattle.pg_finders.proofs.loops.find_loop.Goals as goal
 use Rattle.pg_finders.proofs.loops.find_loop.Goals.{After-is_empty}
+use Rattle.pg_finders.proofs.loops.find_loop.Goals as goal
 
 rows_are : (c : After-is_empty) → c.loop-v.rows.items
     ≡ rows_below (loops c.args.inside.now.graph (members c.args.inside.now.mask) c.args.player) (own_choices c.args.inside.now.graph c.args.player itself)

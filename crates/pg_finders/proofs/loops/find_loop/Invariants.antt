@@ -1,7 +1,4 @@
-use Rattle.std.proofs.Common.{◌≡◌}
-use Rattle.pg_game.specs.VertexSet.{members}
-use Rattle.pg_finders.specs.Claims.{own_choices, rows_below}
-use Rattle.pg_finders.specs.private.loops.Singles.{loops, itself}
+use Rattle.pg_finders.proofs.Common.{◌≡◌, members, own_choices, rows_below, loops, itself}
 use Rattle.pg_finders.proofs.loops.find_loop.Given as goal
 
 abbrev pub invariant-loop-v : goal.invariant-loop-v

@@ -1,8 +1,4 @@
-use Rattle.std.proofs.Common.{◌≡◌, ◌≢◌, subst, rules}
-use Rattle.pg_game.specs.Player.{of_parity}
-use Rattle.pg_game.specs.Graph.{HasEdge, owner_of, priority_of}
-use Rattle.pg_game.specs.VertexSet.{In, members}
-use Rattle.pg_finders.specs.private.loops.Singles.{loops}
+use Rattle.pg_finders.proofs.Common.{◌≡◌, ◌≢◌, subst, rules, of_parity, HasEdge, owner_of, priority_of, In, members, loops}
 use Rattle.pg_finders.proofs.Sets.{equal_from}
 use Rattle.pg_finders.proofs.loops.Singles.{loop_from_test, test_from_loop}
 use Rattle.pg_finders.proofs.loops.is_loop.Goals as goal

@@ -1,6 +1,4 @@
-use Rattle.std.proofs.Common.{◌≡◌, ℕ, ◌<◌, get_or}
-use Rattle.pg_game.specs.Graph.{successors_of}
-use Rattle.pg_game.specs.VertexSet.{In, members}
+use Rattle.pg_finders.proofs.Common.{◌≡◌, ℕ, ◌<◌, get_or, successors_of, In, members}
 use Rattle.pg_finders.proofs.loops.stays.Given as goal
 
 abbrev pub invariant-loop-w : goal.invariant-loop-w

@@ -1,9 +1,4 @@
-use Rattle.std.proofs.Common.{sym, subst, rules}
-use Rattle.pg_game.specs.VertexSet.{members}
-use Rattle.pg_game.specs.Subgame.{IsSubgame}
-use Rattle.pg_finders.specs.private.recursion.Planned.{winners_of, choices_of}
-use Rattle.pg_finders.specs.private.Solved.{IsSolvedInside}
-use Rattle.pg_finders.specs.Claims.{AreClaims}
+use Rattle.pg_finders.proofs.Common.{sym, subst, rules, members, IsSubgame, winners_of, choices_of, IsSolvedInside, AreClaims}
 use Rattle.pg_finders.proofs.Good.{are_claims}
 use Rattle.pg_finders.proofs.recursion.solve.Goals as goal
 

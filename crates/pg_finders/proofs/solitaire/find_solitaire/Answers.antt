@@ -1,5 +1,4 @@
-use Rattle.pg_game.specs.declared.player.Player.TheVariants.{Even, Odd}
-use Rattle.pg_game.specs.VertexSet.{members}
+use Rattle.pg_finders.proofs.Common.{Even, Odd, members}
 use Rattle.pg_finders.proofs.solitaire.Forced.{not_solitaire}
 use Rattle.pg_finders.proofs.solitaire.find_solitaire.Goals as goal
 

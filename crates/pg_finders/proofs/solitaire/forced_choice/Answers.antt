@@ -1,4 +1,4 @@
-use Rattle.std.proofs.Common.{rules}
+use Rattle.pg_finders.proofs.Common.{rules}
 use Rattle.pg_finders.proofs.solitaire.forced_choice.Goals as goal
 
 pub returns-in-None : goal.returns-in-None

@@ -1,11 +1,8 @@
-use Rattle.std.proofs.Common.{◌≡◌, below_more, rules}
-use Rattle.std.specs.Prelude.{IsNone}
-use Rattle.pg_game.specs.Graph.{owner_of}
-use Rattle.pg_game.specs.VertexSet.{In, members}
+use Rattle.pg_finders.proofs.Common.{◌≡◌, below_more, rules, IsNone, owner_of, In, members}
 use Rattle.pg_finders.proofs.solitaire.Forced.{one_from_single}
-use Rattle.pg_finders.proofs.solitaire.has_one_successor.Goals as goal
 use Rattle.pg_finders.proofs.solitaire.has_one_successor.Goals.{else-has-via-then-has+then-eq+else-is_none, else-has-via-then-has+else-eq}
 use Rattle.pg_finders.proofs.solitaire.has_one_successor.Goals.{else-has-via-else-has}
+use Rattle.pg_finders.proofs.solitaire.has_one_successor.Goals as goal
 
 pub returns-then-is_none : goal.returns-then-is_none
 returns-then-is_none c =

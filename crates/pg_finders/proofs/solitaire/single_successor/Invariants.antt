@@ -1,4 +1,4 @@
-use Rattle.pg_game.specs.VertexSet.{members}
+use Rattle.pg_finders.proofs.Common.{members}
 use Rattle.pg_finders.specs.private.solitaire.Solitaire.{SingleSoFar}
 use Rattle.pg_finders.proofs.solitaire.single_successor.Given as goal
 

@@ -1,8 +1,5 @@
-use Rattle.std.proofs.Common.{◌∷◌, [], length-append, rules, sym, subst, arith, below_more}
-use Rattle.std.proofs.lemmas.List.{get_or_append_left, get_or_push}
-use Rattle.pg_game.specs.VertexSet.{members}
-use Rattle.pg_game.proofs.Masks.{member_below}
-use Rattle.pg_finders.specs.private.solitaire.Solitaire.{IsSingle}
+use Rattle.pg_finders.proofs.Common.{◌∷◌, [], length-append, rules, sym, subst, arith, below_more, get_or_append_left, get_or_push, members, member_below}
+use Rattle.pg_finders.proofs.Common.{IsSingle}
 use Rattle.pg_finders.proofs.solitaire.single_successors.Goals as goal
 
 pub loop-v-preserved : goal.loop-v-preserved

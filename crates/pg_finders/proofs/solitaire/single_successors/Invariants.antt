@@ -1,7 +1,4 @@
-use Rattle.std.proofs.Common.{◌≡◌, ℕ, ◌<◌, length, slice_index}
-use Rattle.pg_game.specs.Graph.{owner_of}
-use Rattle.pg_game.specs.VertexSet.{In, members}
-use Rattle.pg_finders.specs.private.solitaire.Solitaire.{IsSingle}
+use Rattle.pg_finders.proofs.Common.{◌≡◌, ℕ, ◌<◌, length, slice_index, owner_of, In, members, IsSingle}
 use Rattle.pg_finders.proofs.solitaire.single_successors.Given as goal
 
 abbrev pub invariant-loop-v : goal.invariant-loop-v

@@ -1,15 +1,6 @@
-use Rattle.std.proofs.Common.{◌≡◌, ℕ, length, slice_index, refl, sym, ◌∙◌, ap, arith, rules}
-use Rattle.std.proofs.lemmas.Bool.{and_parts}
-use Rattle.pg_game.specs.Player.{opponent, same_player}
-use Rattle.pg_game.specs.Graph.{owner_of}
-use Rattle.pg_game.specs.Least.{NoneHas, IsLeast}
-use Rattle.pg_game.specs.VertexSet.{members}
-use Rattle.pg_game.proofs.Masks.{member_below}
-use Rattle.pg_game.proofs.Players.{same_is}
-use Rattle.pg_dominion.specs.declared.kept.Kept.{Kept}
-use Rattle.pg_dominion.specs.KeptEdges.{IsWorst}
-use Rattle.pg_finders.specs.Claims.{own_choices, rows_below}
-use Rattle.pg_finders.specs.private.solitaire.Solitaire.{good_for, choices_by}
+use Rattle.pg_finders.proofs.Common.{◌≡◌, ℕ, length, slice_index, refl, sym, ◌∙◌, ap, arith, rules, and_parts, opponent, same_player, owner_of, NoneHas}
+use Rattle.pg_finders.proofs.Common.{members, member_below, same_is, Kept, IsWorst, own_choices, rows_below, good_for, choices_by}
+use Rattle.pg_game.specs.Least.{IsLeast}
 use Rattle.pg_finders.proofs.solitaire.Forced.{all_held, worst_leads, worst_parity, lead_held, held_good, ok_good}
 use Rattle.pg_finders.proofs.solitaire.solve.Goals as goal
 

@@ -1,5 +1,4 @@
-use Rattle.std.proofs.Common.{◌≡◌, ℕ, ◌-◌, ◌<◌, length, slice_index}
-use Rattle.std.specs.List.{range_with_len}
+use Rattle.pg_finders.proofs.Common.{◌≡◌, ℕ, ◌-◌, ◌<◌, length, slice_index, range_with_len}
 use Rattle.pg_finders.proofs.standard.batch.Given as goal
 
 abbrev pub invariant-loop-v : goal.invariant-loop-v

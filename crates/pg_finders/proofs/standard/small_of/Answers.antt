@@ -1,13 +1,7 @@
-use Rattle.std.proofs.Common.{◌≡◌, ℕ, Bool, false, List, [], ◌∷◌, Result, Ok, Err, subst}
-use Rattle.std.specs.Prelude.{min, IfOk}
-use Rattle.pg_game.specs.declared.player.Player.{Player}
-use Rattle.pg_game.specs.Graph.{Graph}
-use Rattle.pg_game.specs.VertexSet.{VertexSet, members}
-use Rattle.pg_dominion.specs.declared.claim.Claim.{Claim}
-use Rattle.pg_dominion.specs.Claim.{ClaimRows}
+use Rattle.pg_finders.proofs.Common.{◌≡◌, ℕ, Bool, false, List, [], ◌∷◌, subst, min, IfOk, Player, Graph, VertexSet, members, Claim, ClaimRows, IsOfSmall}
+use Rattle.std.proofs.Common.{Result, Ok, Err}
 use Rattle.pg_finders.specs.declared.finder.Found.{Found}
 use Rattle.pg_finders.specs.Finding.{IsSmall}
-use Rattle.pg_finders.specs.Jobs.{IsOfSmall}
 use Rattle.pg_finders.proofs.standard.small_of.Goals as goal
 
 told : {E : Type 0} (g : Graph) (U : VertexSet) (p : Player) (seeds : List ℕ) (bound budget : ℕ) (r : Result Found E) (xs : List Claim) (t : Bool)

@@ -1,6 +1,5 @@
-use Rattle.std.proofs.Common.{ℕ, zero, suc, ◌≡◌, ◌<◌, false, sym, subst, ◌∙◌, arith, Result, Ok, Err, IfErr, IsErrAnd, rules}
-use Rattle.std.specs.Prelude.{◌==◌}
-use Rattle.std.proofs.lemmas.Bool.{lt-ltb}
+use Rattle.pg_game.proofs.Common.{ℕ, zero, suc, ◌≡◌, ◌<◌, false, sym, subst, ◌∙◌, arith, rules, ◌==◌, lt-ltb}
+use Rattle.std.proofs.Common.{Result, Ok, Err, IfErr, IsErrAnd}
 use Rattle.pg_game.proofs.Sound.{not_empty, twice_named, without_named, edges_named, unknown_named, sound_has_none}
 use Rattle.pg_game.proofs.check.check.Goals as goal
 

@@ -1,5 +1,4 @@
-use Rattle.std.proofs.Common.{◌≡◌, ℕ, ◌++◌, List, arith, ◌∙◌, ap}
-use Rattle.pg_game.specs.Specification.{different}
+use Rattle.pg_game.proofs.Common.{◌≡◌, ℕ, ◌++◌, List, arith, ◌∙◌, ap, different}
 use Rattle.pg_game.proofs.Sums.{edges_more}
 use Rattle.pg_game.proofs.faults.count_edges.Goals as goal
 

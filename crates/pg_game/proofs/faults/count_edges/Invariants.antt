@@ -1,5 +1,4 @@
-use Rattle.std.proofs.Common.{◌≡◌, ◌+◌, ◌≤◌, drop}
-use Rattle.pg_game.specs.Specification.{edges, max_edges}
+use Rattle.pg_game.proofs.Common.{◌≡◌, ◌+◌, ◌≤◌, drop, edges, max_edges}
 use Rattle.pg_game.proofs.faults.count_edges.Given as goal
 
 abbrev pub invariant-specs : goal.invariant-specs

@@ -1,5 +1,4 @@
-use Rattle.std.proofs.Common.{◌≤◌, length, arith, ap, List, ℕ}
-use Rattle.pg_game.specs.Specification.{different}
+use Rattle.pg_game.proofs.Common.{◌≤◌, length, arith, ap, List, ℕ, different}
 use Rattle.pg_game.proofs.Different.{different_most}
 use Rattle.pg_game.proofs.Sums.{edges_more}
 use Rattle.pg_game.proofs.faults.count_successors.Goals as goal

@@ -1,7 +1,4 @@
-use Rattle.std.proofs.Common.{rules, ◌≡◌, sym, ◌∙◌}
-use Rattle.std.specs.Prelude.{Some, None}
-use Rattle.pg_game.specs.Specification.{first_unspecified}
-use Rattle.pg_game.specs.private.Identifiers.{first_outside}
+use Rattle.pg_game.proofs.Common.{rules, ◌≡◌, sym, ◌∙◌, Some, None, first_unspecified, first_outside}
 use Rattle.pg_game.proofs.Unknown.{outside_is, unknown_here, unknown_later}
 use Rattle.pg_game.proofs.faults.first_unknown.Goals as goal
 

@@ -1,5 +1,4 @@
-use Rattle.std.proofs.Common.{◌≡◌, drop}
-use Rattle.pg_game.specs.Specification.{first_unknown}
+use Rattle.pg_game.proofs.Common.{◌≡◌, drop, first_unknown}
 use Rattle.pg_game.proofs.faults.first_unknown.Given as goal
 
 abbrev pub invariant-specs : goal.invariant-specs

@@ -1,5 +1,4 @@
-use Rattle.std.proofs.Common.{◌≡◌, drop}
-use Rattle.pg_game.specs.private.Identifiers.{first_outside}
+use Rattle.pg_game.proofs.Common.{◌≡◌, drop, first_outside}
 use Rattle.pg_game.proofs.faults.first_unspecified.Given as goal
 
 abbrev pub invariant-successors : goal.invariant-successors

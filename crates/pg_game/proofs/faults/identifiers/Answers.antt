@@ -1,10 +1,7 @@
-use Rattle.std.proofs.Common.{◌≡◌, ℕ, List, [], ◌∷◌, ◌++◌, true, false, take, sym, ◌∙◌, ap, nat_eq}
-use Rattle.std.specs.Prelude.{Option, None, if◌then◌else◌}
-use Rattle.std.specs.List.{list_any}
-use Rattle.std.proofs.lemmas.Bool.{not-true, not-false}
+use Rattle.pg_game.proofs.Common.{◌≡◌, ℕ, List, [], ◌∷◌, ◌++◌, true, false, take, sym, ◌∙◌, ap, nat_eq, Option, None, if◌then◌else◌, list_any, not-false}
+use Rattle.pg_game.proofs.Common.{fault_or, ids_of}
+use Rattle.std.proofs.lemmas.Bool.{not-true}
 use Rattle.pg_game.specs.declared.game.GameFault.TheVariants.{Twice}
-use Rattle.pg_game.specs.Specification.{fault_or}
-use Rattle.pg_game.specs.private.Identifiers.{ids_of}
 use Rattle.pg_game.proofs.Seen.{one_more, repeated_here, repeated_later}
 use Rattle.pg_game.proofs.faults.identifiers.Goals as goal
 

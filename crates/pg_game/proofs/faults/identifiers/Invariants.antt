@@ -1,7 +1,4 @@
-use Rattle.std.proofs.Common.{◌≡◌, take, drop, nat_eq, []}
-use Rattle.std.specs.List.{IsDistinct}
-use Rattle.pg_game.specs.Specification.{first_repeated}
-use Rattle.pg_game.specs.private.Identifiers.{ids_of}
+use Rattle.pg_game.proofs.Common.{◌≡◌, take, drop, nat_eq, [], IsDistinct, first_repeated, ids_of}
 use Rattle.pg_game.proofs.Seen.{earlier}
 use Rattle.pg_game.proofs.faults.identifiers.Given as goal
 

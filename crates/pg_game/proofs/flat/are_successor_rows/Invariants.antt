@@ -1,6 +1,4 @@
-use Rattle.std.proofs.Common.{ℕ, ◌<◌}
-use Rattle.pg_game.specs.Graph.{AreSuccessors}
-use Rattle.pg_game.specs.private.Rows.{row_at}
+use Rattle.pg_game.proofs.Common.{ℕ, ◌<◌, AreSuccessors, row_at}
 use Rattle.pg_game.proofs.flat.are_successor_rows.Given as goal
 
 abbrev pub invariant-rows : goal.invariant-rows

@@ -1,4 +1,4 @@
-use Rattle.std.proofs.Common.{ℕ, ◌+◌, ◌<◌, slice_index}
+use Rattle.pg_game.proofs.Common.{ℕ, ◌+◌, ◌<◌, slice_index}
 use Rattle.pg_game.proofs.flat.are_successors.Given as goal
 
 abbrev pub invariant-row : goal.invariant-row

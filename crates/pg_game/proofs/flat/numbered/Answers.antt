@@ -1,5 +1,4 @@
-use Rattle.std.proofs.Common.{◌≡◌, ◌+◌, ◌<◌, ℕ, List, [], ◌∷◌, ◌++◌, length, get_or, length-append, rules}
-use Rattle.std.proofs.lemmas.List.{get_or_append_left, get_or_push}
+use Rattle.pg_game.proofs.Common.{◌≡◌, ◌+◌, ◌<◌, ℕ, List, [], ◌∷◌, ◌++◌, length, get_or, length-append, rules, get_or_append_left, get_or_push}
 use Rattle.pg_game.proofs.Rows.{below_or_last}
 use Rattle.pg_game.proofs.flat.numbered.Goals as goal
 

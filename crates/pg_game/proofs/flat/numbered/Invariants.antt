@@ -1,4 +1,4 @@
-use Rattle.std.proofs.Common.{◌≡◌, ℕ, ◌<◌, length, slice_index_or}
+use Rattle.pg_game.proofs.Common.{◌≡◌, ℕ, ◌<◌, length, slice_index_or}
 use Rattle.pg_game.proofs.flat.numbered.Given as goal
 
 abbrev pub invariant-lines : goal.invariant-lines

@@ -1,6 +1,4 @@
-use Rattle.std.proofs.Common.{refl, arith}
-use Rattle.std.proofs.lemmas.List.{ext_get_or}
-use Rattle.pg_game.specs.declared.player.Player.TheVariants.{Even}
+use Rattle.pg_game.proofs.Common.{refl, arith, ext_get_or, Even}
 use Rattle.pg_game.proofs.game.same_owners.Goals as goal
 
 pub returns : goal.returns

@@ -1,5 +1,4 @@
-use Rattle.std.proofs.Common.{◌≡◌, ◌<◌, ℕ, slice_index_or}
-use Rattle.pg_game.specs.declared.player.Player.TheVariants.{Even}
+use Rattle.pg_game.proofs.Common.{◌≡◌, ◌<◌, ℕ, slice_index_or, Even}
 use Rattle.pg_game.proofs.game.same_owners.Given as goal
 
 abbrev pub invariant-owners : goal.invariant-owners

@@ -1,5 +1,4 @@
-use Rattle.std.proofs.Common.{◌≡◌, ◌++◌, drop}
-use Rattle.pg_game.specs.private.Identifiers.{owners_of}
+use Rattle.pg_game.proofs.Common.{◌≡◌, ◌++◌, drop, owners_of}
 use Rattle.pg_game.proofs.layout.owners.Given as goal
 
 abbrev pub invariant-specs : goal.invariant-specs

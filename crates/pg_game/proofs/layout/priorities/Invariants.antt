@@ -1,5 +1,4 @@
-use Rattle.std.proofs.Common.{◌≡◌, ◌++◌, drop}
-use Rattle.pg_game.specs.private.Identifiers.{priorities_of}
+use Rattle.pg_game.proofs.Common.{◌≡◌, ◌++◌, drop, priorities_of}
 use Rattle.pg_game.proofs.layout.priorities.Given as goal
 
 abbrev pub invariant-specs : goal.invariant-specs

@@ -1,10 +1,7 @@
-use Rattle.std.proofs.Common.{◌≡◌, ℕ, ◌+◌, ◌↔◌, List, [], ◌∷◌, ◌++◌, length, drop, get_or, nat_eq, sym, ◌∙◌, ap, append_assoc}
-use Rattle.std.specs.Prelude.{Some, None, position}
-use Rattle.std.specs.List.{Contains}
+use Rattle.pg_game.proofs.Common.{◌≡◌, ℕ, ◌+◌, List, [], ◌∷◌, ◌++◌, length, drop, get_or, nat_eq, sym, ◌∙◌, ap, Some, None, position, Contains}
+use Rattle.pg_game.proofs.Common.{drop_of_length-le, different, places_of}
+use Rattle.std.proofs.Common.{◌↔◌, append_assoc}
 use Rattle.std.proofs.lemmas.List.{append-nil}
-use Rattle.std.proofs.Math.ListN.{drop_of_length-le}
-use Rattle.pg_game.specs.Specification.{different}
-use Rattle.pg_game.specs.private.Identifiers.{places_of}
 use Rattle.pg_game.proofs.Different.{different_is}
 use Rattle.pg_game.proofs.Places.{are_places, places_more}
 use Rattle.pg_game.proofs.layout.put_places.Goals as goal

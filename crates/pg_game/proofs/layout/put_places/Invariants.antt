@@ -1,5 +1,4 @@
-use Rattle.std.proofs.Common.{◌≡◌, ◌++◌, drop}
-use Rattle.pg_game.specs.private.Identifiers.{places_of}
+use Rattle.pg_game.proofs.Common.{◌≡◌, ◌++◌, drop, places_of}
 use Rattle.pg_game.proofs.layout.put_places.Given as goal
 
 abbrev pub invariant-wanted : goal.invariant-wanted

@@ -1,9 +1,7 @@
-use Rattle.std.proofs.Common.{◌≡◌, ℕ, inl, inr, List, [], ◌∷◌, length, get_or, sym, ◌∙◌, ap, arith, length-append}
+use Rattle.pg_game.proofs.Common.{◌≡◌, ℕ, inl, inr, List, [], ◌∷◌, length, get_or, sym, ◌∙◌, ap, arith, length-append, get_or_append_left, get_or_push}
+use Rattle.pg_game.proofs.Common.{get_or_default, sum_by_push, ArePlaces}
 use Rattle.std.specs.Prelude.{slice_index_or}
-use Rattle.std.proofs.lemmas.List.{get_or_append_left, get_or_push, get_or_default}
-use Rattle.std.proofs.lemmas.List.Sums.{sum_by_push}
 use Rattle.pg_game.proofs.Rows.{below_or_last}
-use Rattle.pg_game.specs.private.Identifiers.{ArePlaces}
 use Rattle.pg_game.proofs.Sums.{edges_more}
 use Rattle.pg_game.proofs.layout.successors.Goals as goal
 

@@ -1,8 +1,4 @@
-use Rattle.std.proofs.Common.{◌≡◌, ◌+◌, ◌<◌, ◌≤◌, ℕ, length, drop, slice_index_or}
-use Rattle.pg_game.specs.declared.game.Spec.{Spec}
-use Rattle.pg_game.specs.Specification.{edges}
-use Rattle.pg_game.specs.private.Identifiers.{ArePlaces}
-use Rattle.pg_game.specs.private.Rows.{size_of, row_at}
+use Rattle.pg_game.proofs.Common.{◌≡◌, ◌+◌, ◌<◌, ◌≤◌, ℕ, length, drop, slice_index_or, Spec, edges, ArePlaces, size_of, row_at}
 use Rattle.pg_game.proofs.layout.successors.Given as goal
 
 abbrev pub invariant-specs : goal.invariant-specs

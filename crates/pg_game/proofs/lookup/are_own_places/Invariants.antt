@@ -1,4 +1,4 @@
-use Rattle.std.proofs.Common.{◌≡◌, ℕ, ◌<◌, slice_index}
+use Rattle.pg_game.proofs.Common.{◌≡◌, ℕ, ◌<◌, slice_index}
 use Rattle.pg_game.proofs.lookup.are_own_places.Given as goal
 
 abbrev pub invariant-ids : goal.invariant-ids

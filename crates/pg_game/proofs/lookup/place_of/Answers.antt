@@ -1,4 +1,4 @@
-use Rattle.std.proofs.Common.{rules}
+use Rattle.pg_game.proofs.Common.{rules}
 use Rattle.pg_game.proofs.Places.{own_place}
 use Rattle.pg_game.proofs.lookup.place_of.Goals as goal
 

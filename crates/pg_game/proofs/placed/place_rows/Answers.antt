@@ -1,10 +1,6 @@
-use Rattle.std.proofs.Common.{◌≡◌, ℕ, ◌+◌, ◌<◌, ◌≤◌, inl, inr, List, [], ◌∷◌, ◌++◌, length, arith, length-append, true}
-use Rattle.std.proofs.lemmas.List.{get_or_append_left, get_or_push}
-use Rattle.std.proofs.lemmas.List.Sums.{sum_by_push}
+use Rattle.pg_game.proofs.Common.{◌≡◌, ℕ, ◌+◌, ◌<◌, ◌≤◌, inl, inr, List, [], ◌∷◌, ◌++◌, length, arith, length-append, true, get_or_append_left, get_or_push}
+use Rattle.pg_game.proofs.Common.{sum_by_push, max_edges, row_at, size_of, AreAllPlaces}
 use Rattle.pg_game.proofs.Rows.{below_or_last}
-use Rattle.pg_game.specs.Specification.{max_edges}
-use Rattle.pg_game.specs.private.Rows.{row_at, size_of}
-use Rattle.pg_game.specs.private.Placed.{AreAllPlaces}
 use Rattle.pg_game.proofs.placed.place_rows.Goals as goal
 
 more_rows : (ids : List ℕ) (rows old : List (List ℕ)) (row : List ℕ) (v : ℕ) → length old ≡ v

@@ -1,7 +1,4 @@
-use Rattle.std.proofs.Common.{◌≡◌, ℕ, ◌<◌, ◌≤◌, length}
-use Rattle.pg_game.specs.Specification.{max_edges}
-use Rattle.pg_game.specs.private.Rows.{row_at, size_of}
-use Rattle.pg_game.specs.private.Placed.{AreAllPlaces}
+use Rattle.pg_game.proofs.Common.{◌≡◌, ℕ, ◌<◌, ◌≤◌, length, max_edges, row_at, size_of, AreAllPlaces}
 use Rattle.pg_game.proofs.placed.place_rows.Given as goal
 
 abbrev pub invariant-rows : goal.invariant-rows

@@ -1,7 +1,4 @@
-use Rattle.std.proofs.Common.{ℕ, ◌<◌, length, slice_index, inl, inr, refl, sym, ◌∙◌, ap, subst, arith}
-use Rattle.std.specs.List.{Contains}
-use Rattle.std.proofs.lemmas.List.{get_or_default}
-use Rattle.std.proofs.lemmas.List.Elements.{Contains-get_or}
+use Rattle.pg_game.proofs.Common.{ℕ, ◌<◌, length, slice_index, inl, inr, refl, sym, ◌∙◌, ap, subst, arith, Contains, get_or_default, Contains-get_or}
 use Rattle.pg_game.proofs.Places.{order}
 use Rattle.pg_game.proofs.placed.put_row.Goals as goal
 

@@ -1,5 +1,4 @@
-use Rattle.std.proofs.Common.{◌≡◌, ℕ, ◌<◌, length, slice_index}
-use Rattle.std.specs.List.{Contains}
+use Rattle.pg_game.proofs.Common.{◌≡◌, ℕ, ◌<◌, length, slice_index, Contains}
 use Rattle.pg_game.proofs.placed.put_row.Given as goal
 
 abbrev pub invariant-row : goal.invariant-row

@@ -1,6 +1,4 @@
-use Rattle.std.proofs.Common.{length, ◌-◌, ℕ, ◌≤◌, List}
-use Rattle.pg_text.specs.Bytes.{is_blank}
-use Rattle.pg_text.specs.private.Piece.{IsRun}
+use Rattle.pg_text.proofs.Common.{length, ◌-◌, ℕ, ◌≤◌, List, is_blank, IsRun}
 use Rattle.pg_text.proofs.lexer.blanks_end.Given as goal
 
 abbrev pub invariant-blanks : goal.invariant-blanks

@@ -1,5 +1,4 @@
-use Rattle.std.proofs.Common.{arith, ◌∙◌, sym, ◌++◌, ◌∷◌, [], get_or}
-use Rattle.pg_text.specs.Bytes.{is_letter}
+use Rattle.pg_text.proofs.Common.{arith, ◌∙◌, sym, ◌++◌, ◌∷◌, [], get_or, is_letter}
 use Rattle.pg_text.proofs.Runs.{run_more}
 use Rattle.pg_text.proofs.lexer.letters_end.Goals as goal
 

@@ -1,6 +1,4 @@
-use Rattle.std.proofs.Common.{length, ◌-◌, ℕ, ◌≤◌, List}
-use Rattle.pg_text.specs.Bytes.{is_letter}
-use Rattle.pg_text.specs.private.Piece.{IsRun}
+use Rattle.pg_text.proofs.Common.{length, ◌-◌, ℕ, ◌≤◌, List, is_letter, IsRun}
 use Rattle.pg_text.proofs.lexer.letters_end.Given as goal
 
 abbrev pub invariant-letters : goal.invariant-letters

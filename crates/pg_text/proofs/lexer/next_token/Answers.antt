@@ -1,4 +1,4 @@
-use Rattle.std.proofs.Common.{rules}
+use Rattle.pg_text.proofs.Common.{rules}
 use Rattle.pg_text.proofs.Next.{piece_past}
 use Rattle.pg_text.proofs.lexer.next_token.Goals as goal
 

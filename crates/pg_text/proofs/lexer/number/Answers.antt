@@ -1,8 +1,7 @@
-use Rattle.std.proofs.Common.{arith, ◌∙◌, sym, ◌++◌, ◌∷◌, [], get_or}
-use Rattle.pg_text.specs.Bytes.{is_digit}
+use Rattle.pg_text.proofs.Common.{arith, ◌∙◌, sym, ◌++◌, ◌∷◌, [], get_or, is_digit}
 use Rattle.pg_text.proofs.Runs.{run_more, counts_more, counts_same}
-use Rattle.pg_text.proofs.lexer.number.Goals as goal
 use Rattle.pg_text.proofs.lexer.number.Goals.{then-value-le-GREATEST, else-value-le-GREATEST}
+use Rattle.pg_text.proofs.lexer.number.Goals as goal
 
 pub digits-preserved : goal.digits-preserved
 digits-preserved c = (

@@ -1,6 +1,4 @@
-use Rattle.std.proofs.Common.{length, ◌-◌, ℕ, ◌≤◌, List}
-use Rattle.pg_text.specs.Bytes.{is_digit, value_of}
-use Rattle.pg_text.specs.private.Piece.{IsRun}
+use Rattle.pg_text.proofs.Common.{length, ◌-◌, ℕ, ◌≤◌, List, is_digit, value_of, IsRun}
 use Rattle.pg_text.proofs.Runs.{Counts}
 use Rattle.pg_text.proofs.lexer.number.Given as goal
 

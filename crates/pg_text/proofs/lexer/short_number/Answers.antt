@@ -1,6 +1,4 @@
-use Rattle.std.proofs.Common.{◌≡◌, ◌+◌, ◌++◌, ◌∷◌, [], ℕ, get_or, sym, subst, ◌∙◌, arith, true}
-use Rattle.pg_text.specs.Bytes.{is_digit}
-use Rattle.pg_text.specs.private.Piece.{IsRun}
+use Rattle.pg_text.proofs.Common.{◌≡◌, ◌+◌, ◌++◌, ◌∷◌, [], ℕ, get_or, sym, subst, ◌∙◌, arith, true, is_digit, IsRun}
 use Rattle.pg_text.proofs.Runs.{run_more, digits_more}
 use Rattle.pg_text.proofs.lexer.short_number.Goals as goal
 

@@ -1,6 +1,4 @@
-use Rattle.std.proofs.Common.{◌≡◌, ℕ, ◌+◌, ◌<◌, ◌^◌, List}
-use Rattle.pg_text.specs.Bytes.{is_digit, value_of}
-use Rattle.pg_text.specs.private.Piece.{IsRun}
+use Rattle.pg_text.proofs.Common.{◌≡◌, ℕ, ◌+◌, ◌<◌, ◌^◌, List, is_digit, value_of, IsRun}
 use Rattle.pg_text.proofs.lexer.short_number.Given as goal
 
 abbrev pub invariant-digits : goal.invariant-digits

@@ -1,4 +1,4 @@
-use Rattle.std.proofs.Common.{◌∙◌, sym, get_or, inl, rules}
+use Rattle.pg_text.proofs.Common.{◌∙◌, sym, get_or, inl, rules}
 use Rattle.std.proofs.lemmas.Slice.{between_to_end}
 use Rattle.pg_text.proofs.Next.{name_found, name_lost, word_at, nothing_at, begins_none}
 use Rattle.pg_text.proofs.lexer.word_or_name.Goals as goal

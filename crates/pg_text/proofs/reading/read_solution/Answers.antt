@@ -1,11 +1,6 @@
-use Rattle.std.proofs.Common.{ℕ, List, rules}
-use Rattle.std.specs.Prelude.{Result, Ok, Err, MatchResult, IfOk}
-use Rattle.pg_game.specs.Graph.{Graph}
-use Rattle.pg_text.specs.declared.fault.SolutionTextFault.{SolutionTextFault}
-use Rattle.pg_text.specs.declared.solution.Solution.{Solution}
+use Rattle.pg_text.proofs.Common.{ℕ, List, rules, Result, MatchResult, IfOk, Graph, SolutionTextFault, Solution, AreLinesOf, SpellsSolution, IsSolutionTextOf}
+use Rattle.std.specs.Prelude.{Ok, Err}
 use Rattle.pg_text.specs.SolutionText as solutions
-use Rattle.pg_text.specs.SolutionLines.{AreLinesOf}
-use Rattle.pg_text.specs.Reading.{SpellsSolution, IsSolutionTextOf}
 use Rattle.pg_text.proofs.reading.read_solution.Goals as goal
 
 -- lines that the text spells, and that say the rows

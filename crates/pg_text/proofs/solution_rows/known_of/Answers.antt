@@ -1,4 +1,4 @@
-use Rattle.std.proofs.Common.{rules}
+use Rattle.pg_text.proofs.Common.{rules}
 use Rattle.pg_text.proofs.KnownLines.{passed_on, known_fault, known_size}
 use Rattle.pg_text.proofs.solution_rows.known_of.Goals as goal
 

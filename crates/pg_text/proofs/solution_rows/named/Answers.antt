@@ -1,10 +1,6 @@
-use Rattle.std.proofs.Common.{◌≡◌, ℕ, ◌<◌, false, length, refl, rules}
-use Rattle.std.specs.Prelude.{Option, Some, None, IfSome, IfNone, MatchResult}
+use Rattle.pg_text.proofs.Common.{◌≡◌, ℕ, ◌<◌, false, length, refl, rules, Option, Some, None, IfSome, MatchResult, Graph, id_of, Stranger, is_id, IsNamed}
+use Rattle.std.specs.Prelude.{IfNone}
 use Rattle.std.specs.Option.{ok_or}
-use Rattle.pg_game.specs.Graph.{Graph, id_of}
-use Rattle.pg_text.specs.declared.fault.SolutionTextFault.TheVariants.{Stranger}
-use Rattle.pg_text.specs.SolutionLines.{is_id}
-use Rattle.pg_text.specs.private.SolutionTable.{IsNamed}
 use Rattle.pg_text.proofs.Identifiers.{not_named}
 use Rattle.pg_text.proofs.solution_rows.named.Goals as goal
 

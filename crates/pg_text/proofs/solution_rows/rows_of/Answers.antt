@@ -1,4 +1,4 @@
-use Rattle.std.proofs.Common.{rules}
+use Rattle.pg_text.proofs.Common.{rules}
 use Rattle.pg_text.proofs.KnownLines.{passed_on, row_fault}
 use Rattle.pg_text.proofs.RowsFit.{fit_answer}
 use Rattle.pg_text.proofs.solution_rows.rows_of.Goals as goal

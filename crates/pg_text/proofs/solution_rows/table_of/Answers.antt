@@ -1,7 +1,4 @@
-use Rattle.std.proofs.Common.{List, map, sym, subst}
-use Rattle.pg_text.specs.SolutionText.{WrittenSolutionLine}
-use Rattle.pg_text.specs.private.SolutionKeeps.{line_of}
-use Rattle.pg_text.specs.private.SolutionTable.{HoldsLines, HoldsTable, IsLookUpFaultOf}
+use Rattle.pg_text.proofs.Common.{List, map, sym, subst, WrittenSolutionLine, line_of, HoldsLines, HoldsTable, IsLookUpFaultOf}
 use Rattle.pg_text.proofs.SolutionTable.{next_line, is_stranger}
 use Rattle.pg_text.proofs.KnownLines.{passed_on}
 use Rattle.pg_text.proofs.solution_rows.table_of.Goals as goal

@@ -1,6 +1,4 @@
-use Rattle.std.proofs.Common.{map, take}
-use Rattle.pg_text.specs.private.SolutionKeeps.{line_of}
-use Rattle.pg_text.specs.private.SolutionTable.{HoldsTable}
+use Rattle.pg_text.proofs.Common.{map, take, line_of, HoldsTable}
 use Rattle.pg_text.proofs.solution_rows.table_of.Given as goal
 
 abbrev pub invariant-lines : goal.invariant-lines

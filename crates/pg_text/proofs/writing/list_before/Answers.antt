@@ -1,5 +1,5 @@
-use Rattle.std.proofs.Common.{◌≡◌, ◌∙◌, ◌-◌, ◌++◌, ◌∷◌, ap, arith, List, ℕ, decimal, drop, get_or, flat_map}
-use Rattle.pg_game.specs.Graph.{id_of}
+use Rattle.pg_text.proofs.Common.{◌≡◌, ◌∙◌, ◌-◌, ◌++◌, ◌∷◌, ap, arith, List, ℕ, decimal, drop, get_or, id_of}
+use Rattle.std.proofs.Common.{flat_map}
 use Rattle.pg_text.proofs.Written.{list_more, list_whole}
 use Rattle.pg_text.proofs.writing.list_before.Goals as goal
 

@@ -1,5 +1,5 @@
-use Rattle.std.proofs.Common.{◌≡◌, ◌≤◌, ◌<◌, ◌+◌, ◌-◌, ◌*◌, ◌++◌, ◌∷◌, drop, decimal, flat_map, length}
-use Rattle.pg_game.specs.Graph.{id_of}
+use Rattle.pg_text.proofs.Common.{◌≡◌, ◌≤◌, ◌<◌, ◌+◌, ◌-◌, ◌*◌, ◌++◌, ◌∷◌, drop, decimal, length, id_of}
+use Rattle.std.proofs.Common.{flat_map}
 use Rattle.pg_text.proofs.writing.list_before.Given as goal
 
 abbrev pub invariant-vertices : goal.invariant-vertices

@@ -1,6 +1,4 @@
-use Rattle.std.proofs.Common.{ap, drop, length, List, ℕ, arith, length-append}
-use Rattle.std.specs.Prelude.{flat_map}
-use Rattle.pg_text.specs.Written.{written_vertex}
+use Rattle.pg_text.proofs.Common.{ap, drop, length, List, ℕ, arith, length-append, flat_map, written_vertex}
 use Rattle.pg_text.proofs.Lengths.{short_game}
 use Rattle.pg_text.proofs.writing.write_game.Goals as goal
 

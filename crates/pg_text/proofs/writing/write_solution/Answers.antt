@@ -1,11 +1,7 @@
-use Rattle.std.proofs.Common.{◌≡◌, ℕ, ◌+◌, ◌<◌, List, [], ◌∷◌, ◌++◌, length, drop, get_or, sym, ◌∙◌, ap, subst, arith, append_assoc, length-append}
-use Rattle.std.specs.Prelude.{None, IfSome, codes, decimal}
-use Rattle.std.proofs.lemmas.List.{drop_more}
-use Rattle.pg_game.specs.declared.player.Player.TheVariants.{Even}
-use Rattle.pg_game.specs.Graph.{Graph, Vertex, vertex_at, no_vertex}
-use Rattle.pg_game.specs.Player.{digit_of}
-use Rattle.pg_text.specs.Solution.{SolutionRows, AreSolutionRows}
-use Rattle.pg_text.specs.Written.{written_choice, written_rows}
+use Rattle.pg_text.proofs.Common.{◌≡◌, ℕ, ◌+◌, ◌<◌, List, [], ◌∷◌, ◌++◌, length, drop, get_or, sym, ◌∙◌, ap, subst, arith, append_assoc, length-append, None}
+use Rattle.pg_text.proofs.Common.{IfSome, codes, drop_more, Even, Graph, Vertex, vertex_at, no_vertex, digit_of, SolutionRows, AreSolutionRows, written_choice}
+use Rattle.pg_text.proofs.Common.{written_rows}
+use Rattle.std.specs.Prelude.{decimal}
 use Rattle.pg_text.proofs.WrittenReads.{all_at}
 use Rattle.pg_text.proofs.Lengths.{short_solution}
 use Rattle.pg_text.proofs.writing.write_solution.Goals as goal

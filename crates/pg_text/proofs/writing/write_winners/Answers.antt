@@ -1,5 +1,5 @@
-use Rattle.std.proofs.Common.{ap, drop, length, map, List, ℕ, arith, length-append, None}
-use Rattle.pg_text.specs.Written.{written_rows}
+use Rattle.pg_text.proofs.Common.{ap, drop, length, map, List, ℕ, arith, length-append, written_rows}
+use Rattle.std.proofs.Common.{None}
 use Rattle.pg_text.proofs.Lengths.{short_winners}
 use Rattle.pg_text.proofs.writing.write_winners.Goals as goal
 

@@ -9,8 +9,7 @@ use Rattle.pg_workers.proofs.known.post_known.Goals as goal
 
 pub returns-then-is_empty-clause-settles : goal.returns-then-is_empty-clause-settles
 returns-then-is_empty-clause-settles c =
-    let old = c.args.board.now in
-    let known = c.args.known.now.rows in
+    let old = c.args.board.now in let known = c.args.known.now.rows in
     let claim = c.in_ok-claim.claim in
     let is : claim.rows ≡ known_rows old.graph known c.args.player =
     subst (λ (g : Graph). claim.rows ≡ known_rows g known c.args.player) c.game-game.ensures.graph c.in_ok-claim.ensures.rows in
@@ -20,8 +19,7 @@ returns-then-is_empty-clause-settles c =
 
 pub returns-in-Ok-clause-settles : goal.returns-in-Ok-clause-settles
 returns-in-Ok-clause-settles c =
-    let old = c.args.board.now in
-    let known = c.args.known.now.rows in
+    let old = c.args.board.now in let known = c.args.known.now.rows in
     let claim = c.in_ok-claim.claim in
     let is : claim.rows ≡ known_rows old.graph known c.args.player =
     subst (λ (g : Graph). claim.rows ≡ known_rows g known c.args.player) c.game-game.ensures.graph c.in_ok-claim.ensures.rows in
@@ -31,13 +29,11 @@ returns-in-Ok-clause-settles c =
 
 pub returns-clause-fault : goal.returns-clause-fault
 returns-clause-fault c =
-    let old = c.args.board.now in
-    let known = c.args.known.now.rows in
+    let old = c.args.board.now in let known = c.args.known.now.rows in
     let claim = c.in_ok-claim.claim in
     let is : claim.rows ≡ known_rows old.graph known c.args.player =
     subst (λ (g : Graph). claim.rows ≡ known_rows g known c.args.player) c.game-game.ensures.graph c.in_ok-claim.ensures.rows in
-    let some : 0 < length claim.rows = search rules in
-    let post = c.in-Err.ensures in
+    let some : 0 < length claim.rows = search rules in let post = c.in-Err.ensures in
     subst (λ (e : SolveFault). IsKnownFault old.graph old.journal known c.args.player e) (sym c.refused.ensures)
     (refused_known old.graph c.game-game.ensures.game known c.requires.size c.args.player old.journal c.requires.none c.post.new.self c.in-Err.refusal claim
     c.in_ok-claim.ensures.player is some (post.refused, post.old_copies))

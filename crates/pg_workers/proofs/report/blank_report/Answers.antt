@@ -4,8 +4,7 @@ use Rattle.pg_workers.proofs.report.blank_report.Goals as goal
 
 pub loop-job-preserved : goal.loop-job-preserved
 loop-job-preserved c =
-    let i = c.loop-job.invariant in
-    let pushed = c.push_reserved.ensures in
+    let i = c.loop-job.invariant in let pushed = c.push_reserved.ensures in
     let old = c.loop-job.report in (
       pushed.len ∙ ap (λ n. n + 1) i.0,
       pushed.capacity ∙ i.1,
@@ -14,8 +13,7 @@ loop-job-preserved c =
 
 pub returns : goal.returns
 returns c =
-    let rows = c.loop-job.report in
-    let i = c.loop-job.invariant in
+    let rows = c.loop-job.report in let i = c.loop-job.invariant in
     let done = c.loop-job-test.false in
     let below = c.loop-job.auto.job-end in record {
       rows = (omega arith, (blank_in_order rows.items i.2).1);

@@ -8,8 +8,7 @@ use Rattle.pg_workers.proofs.report.with_rows.Goals as goal
 
 pub place_rows-requires : goal.place_rows-requires
 place_rows-requires c =
-    let at = c.loop-rows in
-    let prefix = c.requires.prefix in
+    let at = c.loop-rows in let prefix = c.requires.prefix in
     let places = has_places prefix.0 c.args.report.items at.report.items c.args.all.now at.rows-index c.rows-item.result c.requires.blank prefix.1 prefix.2
     c.loop-rows-test.true c.rows-item.is at.invariant.1 in
     subst (λ (now : List ReportRow). HasPlaces now c.as_slice.result.now) (sym c.as_mut_slice.ensures.value)
@@ -17,13 +16,9 @@ place_rows-requires c =
 
 pub loop-rows-preserved : goal.loop-rows-preserved
 loop-rows-preserved c =
-    let at = c.loop-rows in
-    let i = at.invariant in
-    let prefix = c.requires.prefix in
-    let new = c.place_rows.new.report in
-    let rows = c.rows-item.result in
-    let here = c.as_mut_slice.ensures.value in
-    let theirs = c.as_slice.ensures.value in
+    let at = c.loop-rows in let i = at.invariant in let prefix = c.requires.prefix in
+    let new = c.place_rows.new.report in let rows = c.rows-item.result in
+    let here = c.as_mut_slice.ensures.value in let theirs = c.as_slice.ensures.value in
     let p = c.place_rows.ensures in
     let placed : AreNotedRows at.report.items new rows.items =
     subst (λ (now : List ReportRow). AreNotedRows now new rows.items) here (subst (AreNotedRows c.as_mut_slice.result.now new) theirs p.placed) in

@@ -9,7 +9,6 @@ post_last-requires-2 c = λ some.
 
 pub returns-clause-full : goal.returns-clause-full
 returns-clause-full c =
-    let copied = c.in_ok-copied.ensures in
-    let first = c.in_ok-post_last.ensures in
+    let copied = c.in_ok-copied.ensures in let first = c.in_ok-post_last.ensures in
     let second = c.in_ok-post_last-2.ensures in
     all_settled _ _ _ _ _ _ _ _ _ first.later second.later copied.graph copied.mask c.in_ok-even.ensures first.settles second.settles

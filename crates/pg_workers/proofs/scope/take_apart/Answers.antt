@@ -9,12 +9,9 @@ use Rattle.pg_workers.proofs.scope.take_apart.Goals as goal
 
 pub loop-slot-preserved : goal.loop-slot-preserved
 loop-slot-preserved g c =
-    let i = c.loop-slot.invariant in
-    let slot = c.in-Some.slot in
-    let popped = c.in-Some.ensures.cases in
-    let a = c.push_reserved.ensures in
-    let b = c.push_reserved-in-Some.ensures in
-    let d = c.push_reserved-in-Some-2.ensures in
+    let i = c.loop-slot.invariant in let slot = c.in-Some.slot in
+    let popped = c.in-Some.ensures.cases in let a = c.push_reserved.ensures in
+    let b = c.push_reserved-in-Some.ensures in let d = c.push_reserved-in-Some-2.ensures in
     let p0 = i.0 in let p1 = i.1 in let p2 = i.2 in
     let al = a.len in let bl = b.len in let dl = d.len in (
       omega arith,

@@ -7,8 +7,7 @@ use Rattle.pg_workers.proofs.solve.outcome_of.Goals as goal
 
 pub returns : goal.returns
 returns c = λ known n settled report.
-    let new = c.settle_rest.new.board in
-    let rest = c.in_ok-settle_rest.ensures in
+    let new = c.settle_rest.new.board in let rest = c.in_ok-settle_rest.ensures in
     let told = c.in_ok-solution.ensures in
     let state : AreStateRows new.graph (state_of new.journal) c.in-Some.solution.rows = rw c.in-Some.is at told.state in
     let exact : IsExactSolution new.graph c.in-Some.solution.rows = rw c.in-Some.is at told.solution in

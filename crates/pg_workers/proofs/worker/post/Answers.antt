@@ -6,8 +6,7 @@ use Rattle.pg_workers.proofs.worker.post.Goals as goal
 
 pub note-requires-clause-settled : goal.note-requires-clause-settled
 note-requires-clause-settled g c =
-    let answer = c.settle_claim-answer in
-    let small = c.amount-amount.type_inv in
+    let answer = c.settle_claim-answer in let small = c.amount-amount.type_inv in
     let is = c.amount-amount.ensures in
     fits _ _ c.args.row.now answer.result answer.ensures.added c.requires.share (omega arith)
 
@@ -23,5 +22,4 @@ pub returns-clause-settled : goal.returns-clause-settled
 returns-clause-settled g c =
     let answer = c.settle_claim-answer in
     let s = noted_settled _ _ c.args.row.now answer.result answer.ensures.added answer.ensures.unchanged in
-    let e = ap (λ (r : ReportRow). r.settled) c.note.ensures in
-    omega arith
+    let e = ap (λ (r : ReportRow). r.settled) c.note.ensures in omega arith

@@ -7,16 +7,12 @@ use Rattle.pg_workers.proofs.worker.post_all.Goals as goal
 
 pub loop-claim-preserved : goal.loop-claim-preserved
 loop-claim-preserved g c =
-    let at = c.loop-claim in
-    let i = at.invariant in
-    let p = c.post.ensures in
-    let answer = p.noted.0 in
-    let same = noted_same at.row answer in
-    let is = p.noted.2 in
+    let at = c.loop-claim in let i = at.invariant in let p = c.post.ensures in
+    let answer = p.noted.0 in let same = noted_same at.row answer in let is = p.noted.2 in
     let more = ap answered is in (
-      subst (λ (r : ReportRow). AreNoted c.args.game.now (take (at.claim-index + 1) c.args.claims.now) c.args.row.now r) (sym is)
-          (one_noted c.args.game.now c.args.claims.now at.claim-index c.claim-item.result c.args.row.now at.row at.share answer c.loop-claim-test.true
-          c.claim-item.is i.0 p.noted.1),
+      subst (λ (r : ReportRow). AreNoted c.args.is_alone c.args.game.now (take (at.claim-index + 1) c.args.claims.now) c.args.row.now r) (sym is)
+          (one_noted c.args.is_alone c.args.game.now c.args.claims.now at.claim-index c.claim-item.result c.args.row.now at.row at.share answer
+          c.loop-claim-test.true c.claim-item.is i.0 p.noted.1),
       (λ e.
           let one = noted_one at.row answer (sym (ap (λ (r : ReportRow). r.memory) is) ∙ e) in
           let before = i.1 one.0 in omega (arith, one.1, before, more)),

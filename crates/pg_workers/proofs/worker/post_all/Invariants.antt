@@ -6,7 +6,7 @@ use Rattle.pg_workers.proofs.worker.post_all.Given as goal
 
 abbrev pub invariant-loop-claim : goal.invariant-loop-claim
 invariant-loop-claim g l =
-    AreNoted l.game (take l.claim-index l.claims) l.initial.row l.row
+    AreNoted l.is_alone l.game (take l.claim-index l.claims) l.initial.row l.row
     × (l.row.memory ≡ false → answered l.row ≡ answered l.initial.row + l.claim-index)
     × (answered l.row ≤ answered l.initial.row + l.claim-index)
     × (l.row.job ≡ l.initial.row.job) × (l.row.worker ≡ l.initial.row.worker) × (l.row.gave_up ≡ l.initial.row.gave_up)

@@ -17,7 +17,7 @@ write_trace-requires g c =
 pub returns : goal.returns
 returns g c =
     let outcome = c.in-Ok.ensures.outcome in
-    let none = settles_nothing _ c.len-n.ensures.game _ c.in_ok-known.ensures.rows _ outcome.adds_up.1 in record {
+    let none = settles_nothing _ c.len-n.ensures.game _ c.nothing_known-known.ensures _ outcome.adds_up.1 in record {
       journal = c.in-Ok.outcome.entries.items;
       report = c.in-Ok.outcome.report.items;
       lawful = outcome.lawful;

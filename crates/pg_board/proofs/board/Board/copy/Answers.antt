@@ -1,14 +1,5 @@
-use Rattle.std.proofs.Common.{◌≡◌, ◌∙◌, ℕ, length, sym, subst, ap, arith, List, Bool, Option}
-use mathlib.Core.Path.{fun_ext}
-use Rattle.pg_game.specs.declared.player.Player.{Player}
-use Rattle.pg_game.specs.Graph.{Graph}
-use Rattle.pg_game.specs.VertexSet.{VertexSet, members}
-use Rattle.pg_game.specs.Subgame.{IsSubgame}
-use Rattle.pg_dominion.specs.Claim.{ClaimRows, IsGoodIn}
-use Rattle.pg_board.specs.Play.{Play}
-use Rattle.pg_board.specs.State.{State, unsettled}
-use Rattle.pg_board.specs.Journal.{state_of, IsDominionAfter}
-use Rattle.pg_board.specs.private.Regions.{table_state}
+use Rattle.pg_board.proofs.Common.{◌≡◌, ◌∙◌, ℕ, length, sym, subst, ap, arith, List, Bool, Option, fun_ext, Player, Graph, VertexSet, members, IsSubgame}
+use Rattle.pg_board.proofs.Common.{ClaimRows, IsGoodIn, Play, State, unsettled, state_of, IsDominionAfter, table_state}
 use Rattle.pg_board.proofs.Numbers.{lawful_now}
 use Rattle.pg_board.proofs.Copies.{dominion_now}
 use Rattle.pg_board.proofs.board.Board.copy.Goals as goal

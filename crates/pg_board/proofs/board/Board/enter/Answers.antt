@@ -1,25 +1,13 @@
-use mathlib.Core.Path.{fun_ext}
-use Rattle.std.proofs.Common.{◌≡◌, ◌≤◌, ℕ, ◌+◌, [], ◌∷◌, ◌++◌, length, refl, sym, ◌∙◌, ap, subst, arith, rules}
-use Rattle.std.specs.Prelude.{nat_eq, vec_capacity}
-use Rattle.std.specs.List.{IsDistinct}
-use Rattle.pg_game.specs.VertexSet.{VertexSet, Within, members}
-use Rattle.pg_game.specs.Subgame.{IsSubgame}
-use Rattle.pg_dominion.specs.Claim.{ClaimRows, named}
-use Rattle.pg_board.specs.declared.entry.Entry.{Entry}
-use Rattle.pg_board.specs.declared.entry.Posted.{Posted}
-use Rattle.pg_board.specs.Play.{Play}
-use Rattle.pg_board.specs.State.{IsGoodOn, rest_of}
-use Rattle.pg_board.specs.Journal.{Journal, state_of}
-use Rattle.pg_board.specs.private.Growth.{open_before, IsGrowing}
-use Rattle.pg_board.specs.private.Regions.{IsBoard}
+use Rattle.pg_board.proofs.Common.{fun_ext, ◌≡◌, ℕ, ◌+◌, [], ◌∷◌, ◌++◌, length, refl, sym, ap, subst, arith, rules, IsDistinct, VertexSet, members, IsSubgame}
+use Rattle.pg_board.proofs.Common.{ClaimRows, Entry, Posted, Play, IsGoodOn, rest_of, Journal, state_of, open_before, IsBoard, Adds}
+use Rattle.std.specs.Prelude.{nat_eq}
 use Rattle.pg_board.proofs.Push.{distinct_rising}
 use Rattle.pg_board.proofs.Posting.{few_rows}
-use Rattle.pg_board.specs.Post.{Adds}
 use Rattle.pg_board.proofs.RestIsGood.{vertices}
 use Rattle.pg_board.proofs.Entering.{IsEntering, HasGrown, HasRows, board_subgame, rest_within, entry_answers, grown_fits, board_entered, has_grown}
 use Rattle.pg_board.proofs.Entering.{IsGrowing-more}
-use Rattle.pg_board.proofs.board.Board.enter.Goals as goal
 use Rattle.pg_board.proofs.board.Board.enter.Goals.{After-len-claimed, After-len-settled, After-push_reserved}
+use Rattle.pg_board.proofs.board.Board.enter.Goals as goal
 
 -- what is required, said of the fields
 entering : (c : After-len-claimed)
@@ -47,11 +35,7 @@ abbrev entry : After-push_reserved → Entry
 entry c = record { worker = c.args.worker; player = c.args.player; claimed = c.len-claimed.result; rows = c.new.result }
 
 has_rows : (c : After-push_reserved) → HasRows (entry c) c.args.player c.args.rows.now.items c.attract.new.rows.items
-has_rows c = record {
-  player = refl;
-  claimed = omega (arith, c.len-claimed.ensures, c.args.rows.now.ok.0);
-  rows_are = c.new.ensures ∙ c.copy_or_take-entered.ensures;
-}
+has_rows c = search (rules, c.len-claimed.ensures, c.args.rows.now.ok.0, c.new.ensures, c.copy_or_take-entered.ensures)
 
 settled_is : (c : After-push_reserved) → c.len-settled.result ≡ length c.new.result
 settled_is c =
@@ -59,17 +43,11 @@ settled_is c =
     omega (arith, copied, c.len-settled.ensures, c.copy_or_take-entered.result.ok.0)
 
 pub attract-requires-clause-growing : goal.attract-requires-clause-growing
-attract-requires-clause-growing c =
-    let g = c.self.inside.game.now in
-    let room : length g ≤ vec_capacity c.args.rows.now =
-    subst (λ (x : Play). length x.graph ≤ vec_capacity c.args.rows.now) (sym c.self.view_is) c.requires.room in
-    subst (λ (xs : ClaimRows). IsGrowing g c.settle_all.new.self xs (vec_capacity c.args.rows.now)) c.as_slice.ensures.value
-    (IsGrowing-more g c.settle_all.new.self c.as_slice.result.now (length g) (vec_capacity c.args.rows.now) room c.settle_all.ensures.growing)
+attract-requires-clause-growing c = search (rules, c.self.view_is, c.requires.room, c.as_slice.ensures.value, IsGrowing-more, c.settle_all.ensures.growing)
 
 pub settle_all-requires-clause-unsettled : goal.settle_all-requires-clause-unsettled
 settle_all-requires-clause-unsettled c =
-    let q = entering (goal.at.settle_all-requires-clause-unsettled c).After-len-claimed in
-    subst (λ (xs : ClaimRows). Within (named xs) (members c.self.inside.regions.unsettled)) (sym c.as_slice.ensures.value) (rest_within q)
+    search (rules, entering, c.as_slice.ensures.value, rest_within, entering (goal.at.settle_all-requires-clause-unsettled c).After-len-claimed)
 
 pub settle_all-requires-clause-distinct : goal.settle_all-requires-clause-distinct
 settle_all-requires-clause-distinct c =

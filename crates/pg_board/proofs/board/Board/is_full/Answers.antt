@@ -1,8 +1,5 @@
-use Rattle.std.proofs.Common.{◌∙◌, sym, subst, IsTrue, ◌↔◌, nat_eq}
-use Rattle.std.proofs.lemmas.Bool.{eqb-true, eq-eqb}
-use Rattle.pg_board.specs.Play.{Play}
-use Rattle.pg_board.specs.Journal.{state_of}
-use Rattle.pg_board.specs.Full.{IsFull}
+use Rattle.pg_board.proofs.Common.{◌∙◌, sym, subst, ◌↔◌, nat_eq, eqb-true, eq-eqb, Play, state_of, IsFull}
+use Rattle.std.proofs.Common.{IsTrue}
 use Rattle.pg_board.proofs.Numbers.{full_from_number, number_from_full}
 use Rattle.pg_board.proofs.board.Board.is_full.Goals as goal
 

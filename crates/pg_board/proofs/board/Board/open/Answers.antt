@@ -1,6 +1,4 @@
-use Rattle.std.proofs.Common.{sym, subst, refl, arith, List}
-use Rattle.pg_board.specs.declared.entry.Entry.{Entry}
-use Rattle.pg_board.specs.private.Regions.{IsBoard}
+use Rattle.pg_board.proofs.Common.{sym, subst, refl, arith, List, Entry, IsBoard}
 use Rattle.pg_board.proofs.Opening.{lawful_none}
 use Rattle.pg_board.proofs.board.Board.open.Goals as goal
 

@@ -1,14 +1,8 @@
-use Rattle.std.proofs.Common.{◌≡◌, Err, Result, refl, sym, subst, rules}
-use Rattle.pg_dominion.specs.Fault.{IsClaimFault}
-use Rattle.pg_board.specs.declared.entry.Posted.{Posted}
-use Rattle.pg_board.specs.declared.refusal.Refusal.{Refusal}
-use Rattle.pg_board.specs.Play.{Play}
-use Rattle.pg_board.specs.Journal.{state_of}
-use Rattle.pg_board.specs.Refusal.{refusal_of}
-use Rattle.pg_board.specs.Post.{AnswersDominion, SettlesUnlessMemory}
+use Rattle.pg_board.proofs.Common.{◌≡◌, Err, Result, refl, sym, subst, rules, IsClaimFault, Posted, Refusal, Play, state_of, refusal_of, AnswersDominion}
+use Rattle.pg_board.proofs.Common.{SettlesUnlessMemory}
 use Rattle.pg_board.proofs.OldCopies.{IsAnswered, stands_at, old_copy, refused_check, lawful_after}
-use Rattle.pg_board.proofs.board.Board.post.Goals as goal
 use Rattle.pg_board.proofs.board.Board.post.Goals.{After-settle_sound}
+use Rattle.pg_board.proofs.board.Board.post.Goals as goal
 
 answered : (c : After-settle_sound) → IsAnswered c.args.self.now c.settle_sound.new.self c.args.worker c.args.claim.now c.settle_sound.result
 answered c = let e = c.settle_sound.ensures in record { posted = e.posted; refused = e.refused; unchanged = e.unchanged }

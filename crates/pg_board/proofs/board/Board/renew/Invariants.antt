@@ -1,7 +1,4 @@
-use Rattle.std.proofs.Common.{◌≡◌, ℕ, length, take}
-use Rattle.pg_game.specs.VertexSet.{members}
-use Rattle.pg_board.specs.State.{unsettled}
-use Rattle.pg_board.specs.Journal.{state_of}
+use Rattle.pg_board.proofs.Common.{◌≡◌, ℕ, length, take, members, unsettled, state_of}
 use Rattle.pg_board.proofs.board.Board.renew.Given as goal
 
 abbrev pub invariant-entries : goal.invariant-entries

@@ -1,22 +1,17 @@
-use Rattle.std.proofs.Common.{sym, subst}
-use Rattle.pg_dominion.specs.declared.claim.Claim.{Claim}
-use Rattle.pg_dominion.specs.Claim.{IsSound}
-use Rattle.pg_dominion.specs.Checked.{claim_of, claim_rows, AgreesWithGame, IsForeign}
+use Rattle.pg_board.proofs.Common.{rules, sym, subst, Claim, IsSound, claim_rows, Play}
+use Rattle.pg_dominion.specs.Checked.{claim_of, IsForeign}
 use Rattle.pg_dominion.proofs.Agreed.{sound}
 use Rattle.pg_dominion.proofs.Recorded.{never_foreign}
-use Rattle.pg_board.specs.Play.{Play}
-use Rattle.pg_board.specs.Journal.{state_of}
 use Rattle.pg_board.proofs.OldCopies.{IsAnswered, stands_at, old_copy, lawful_after, checked_refusal}
-use Rattle.pg_board.proofs.board.Board.settle.Goals as goal
 use Rattle.pg_board.proofs.board.Board.settle.Goals.{After-settle_sound}
+use Rattle.pg_board.proofs.board.Board.settle.Goals as goal
 
 answered : (c : After-settle_sound) → IsAnswered c.args.self.now c.settle_sound.new.self c.args.worker c.claim.result.now c.settle_sound.result
 answered c = let e = c.settle_sound.ensures in record { posted = e.posted; refused = e.refused; unchanged = e.unchanged }
 
 -- the same of the claim that is made of the checked one
 answered_of : (c : After-settle_sound) → IsAnswered c.args.self.now c.settle_sound.new.self c.args.worker (claim_of c.args.checked.now) c.settle_sound.result
-answered_of c =
-    subst (λ (k : Claim). IsAnswered c.args.self.now c.settle_sound.new.self c.args.worker k c.settle_sound.result) c.claim.ensures.claim (answered c)
+answered_of c = search (rules, c.claim.ensures.claim, answered)
 
 pub returns-in-Some-clause-old_copies : goal.returns-in-Some-clause-old_copies
 returns-in-Some-clause-old_copies c = λ k a d.
@@ -39,12 +34,8 @@ returns-clause-posted c = (answered_of (goal.at.returns-clause-posted c).After-s
 
 pub returns-clause-refused : goal.returns-clause-refused
 returns-clause-refused c =
-    let x = c.args.self.now in
-    let s = c.settle_sound in
-    let q = c.args.checked.now in
-    let agrees : AgreesWithGame x.graph q.player q.rows = subst (λ (y : Play). AgreesWithGame y.graph q.player q.rows) c.self.view_is c.in_default.ensures in
-    checked_refusal x.graph (state_of x.journal) q agrees s.result s.ensures.of_state
-    (answered_of (goal.at.returns-clause-refused c).After-settle_sound).refused
+    let h = (answered_of (goal.at.returns-clause-refused c).After-settle_sound).refused in
+    search (rules, h, c.self.view_is, c.in_default.ensures, checked_refusal, c.settle_sound.ensures.of_state)
 
 pub returns-clause-lawful : goal.returns-clause-lawful
 returns-clause-lawful c =

@@ -1,16 +1,9 @@
-use Rattle.std.proofs.Common.{◌≡◌, ℕ, ◌<◌, length, refl, sym, ◌∙◌, subst, arith, false, ◌==◌}
+use Rattle.pg_board.proofs.Common.{rules, ◌≡◌, ℕ, ◌<◌, length, refl, sym, ◌∙◌, subst, arith, false, ◌==◌, Claim, ClaimRows, AreRight, Play, rest_of, IsGoodOn}
+use Rattle.pg_board.proofs.Common.{state_of, Refuses, table_state, Adds}
 use Rattle.std.proofs.lemmas.Bool.{eqb-false}
-use Rattle.pg_dominion.specs.declared.claim.Claim.{Claim}
-use Rattle.pg_dominion.specs.Claim.{ClaimRows, AreRight}
-use Rattle.pg_board.specs.Play.{Play}
-use Rattle.pg_board.specs.State.{rest_of, IsGoodOn}
-use Rattle.pg_board.specs.Journal.{state_of}
-use Rattle.pg_board.specs.Refusal.{Refuses}
-use Rattle.pg_board.specs.declared.refusal.Refusal.TheVariants as refusal
-use Rattle.pg_board.specs.private.Regions.{table_state}
-use Rattle.pg_board.specs.Post.{Adds}
 use Rattle.pg_board.proofs.RestIsGood.{rest_right, rest_is_good, rest_twice}
 use Rattle.pg_board.proofs.Posting.{checked, rest_now, refused_open, claim_good, sound_here, adds_claim, few_rows, all_below}
+use Rattle.pg_board.specs.declared.refusal.Refusal.TheVariants as refusal
 use Rattle.pg_board.proofs.board.Board.settle_in.Goals as goal
 
 nonempty : (rows : ClaimRows) {n : ℕ} → n ≡ length rows → (n == 0) ≡ false → 0 < length rows
@@ -34,9 +27,7 @@ returns-in-Some-first_edge-clause-refused c =
 
 pub rest_of-requires-clause-rows : goal.rest_of-requires-clause-rows
 rest_of-requires-clause-rows c =
-    let b = c.self.inside in
-    let claim = c.args.claim.now in
-    all_below b.game.now claim.player claim.rows (sound_here c.self.view_is c.requires).shape.right (length b.places.items) c.self.invariant.1
+    search (rules, (sound_here c.self.view_is c.requires).shape.right, all_below, sound_here, c.self.view_is, c.requires, c.self.invariant.1)
 
 pub rest_of-requires-clause-room : goal.rest_of-requires-clause-room
 rest_of-requires-clause-room c =

@@ -1,7 +1,4 @@
-use Rattle.std.proofs.Common.{◌≡◌, List, take, get_or, length, ◌<◌, sym, subst, ap, arith}
-use Rattle.pg_board.specs.declared.entry.Entry.{Entry}
-use Rattle.pg_board.specs.Play.{Play}
-use Rattle.pg_board.specs.Journal.{settled_by}
+use Rattle.pg_board.proofs.Common.{◌≡◌, List, take, get_or, length, ◌<◌, sym, subst, ap, arith, Entry, Play, settled_by}
 use Rattle.pg_board.proofs.Numbers.{number_within, more_settled_by}
 use Rattle.pg_board.proofs.board.Board.settled_by.Goals as goal
 

@@ -1,5 +1,4 @@
-use Rattle.std.proofs.Common.{◌≡◌, take}
-use Rattle.pg_board.specs.Journal.{settled_by}
+use Rattle.pg_board.proofs.Common.{◌≡◌, take, settled_by}
 use Rattle.pg_board.proofs.board.Board.settled_by.Given as goal
 
 abbrev pub invariant-entries : goal.invariant-entries

@@ -1,8 +1,5 @@
-use Rattle.std.proofs.Common.{◌≡◌, length, ◌∙◌, ap, subst, arith, slice_get}
-use Rattle.pg_text.specs.Solution.{SolutionRows, IsExactSolution}
-use Rattle.pg_board.specs.Play.{Play}
-use Rattle.pg_board.specs.Journal.{state_of}
-use Rattle.pg_board.specs.Full.{AreStateRows}
+use Rattle.pg_board.proofs.Common.{◌≡◌, length, ◌∙◌, ap, subst, arith, slice_get, IsExactSolution, Play, state_of, AreStateRows}
+use Rattle.pg_text.specs.Solution.{SolutionRows}
 use Rattle.pg_board.proofs.Solved.{exact_solution}
 use Rattle.pg_board.proofs.board.Board.solution.Goals as goal
 

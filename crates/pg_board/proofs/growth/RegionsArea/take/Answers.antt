@@ -1,13 +1,12 @@
+use Rattle.pg_board.proofs.Common.{rules}
 use Rattle.std.specs.Prelude.{vec_capacity}
 use Rattle.pg_board.proofs.Growing.{Takes, IsGrowing-take, Grows-take}
-use Rattle.pg_board.proofs.growth.RegionsArea.take.Goals as goal
 use Rattle.pg_board.proofs.growth.RegionsArea.take.Goals.{After-settle}
+use Rattle.pg_board.proofs.growth.RegionsArea.take.Goals as goal
 
 taken : (c : After-settle)
     → Takes c.args._game.now c.args.player c.args.self.now c.settle.new.self c.args.list.now.items (c.args.v, c.args.choice) (vec_capacity c.args.list.now)
-taken c =
-    let h = c.settle.ensures in
-    record { settles = record { table = h.table; mask = h.mask; passed = h.passed }; unsettled = c.requires.free; growing = c.requires.ready }
+taken c = search (rules, c.settle.ensures.passed, c.requires.free, c.requires.ready)
 
 pub returns-clause-ready : goal.returns-clause-ready
 returns-clause-ready c =

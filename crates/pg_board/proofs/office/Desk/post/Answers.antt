@@ -1,16 +1,10 @@
-use Rattle.std.proofs.Common.{refl, sym, ap, subst, ◌∙◌}
-use Rattle.pg_board.specs.Play.{Play}
-use Rattle.pg_board.specs.Journal.{number_settled}
-use Rattle.pg_board.specs.private.Office.{ArePastCopies}
+use Rattle.pg_board.proofs.Common.{rules, refl, ◌∙◌}
 use Rattle.pg_board.proofs.Added.{number_grows, total_grows, settles_some, rises}
 use Rattle.pg_board.proofs.Renewing.{all_stay}
 use Rattle.pg_board.proofs.office.Desk.post.Goals as goal
 
 pub invariant_of-self : goal.invariant_of-self
-invariant_of-self g c = let same = sym c.in_err-posted.ensures.unchanged in record {
-  exact = c.audit.ensures.total ∙ (c.args.self.now.exact ∙ ap (λ (b : Play). number_settled b.journal) same);
-  past = subst (λ (b : Play). ArePastCopies b c.args.self.now.copies.items) same c.args.self.now.past;
-}
+invariant_of-self g c = search (rules, c.in_err-posted.ensures.unchanged, c.audit.ensures.total, c.args.self.now.exact, c.args.self.now.past)
 
 pub invariant_of-self-2 : goal.invariant_of-self-2
 invariant_of-self-2 g c = record {

@@ -1,9 +1,5 @@
-use Rattle.std.proofs.Common.{◌≡◌, ◌∙◌, List, Global, sym, subst, arith}
+use Rattle.pg_board.proofs.Common.{rules, ◌≡◌, ◌∙◌, List, Global, sym, subst, arith, arc_value, Arc, Copied, ArePastCopies, IsPastCopy, IsPresentCopy}
 use Rattle.std.proofs.lemmas.List.Elements.{All-push}
-use Rattle.std.specs.Arc.{arc_value}
-use Rattle.std.specs.declared.sync.Arc.{Arc}
-use Rattle.pg_finders.specs.declared.inside.Copied.{Copied}
-use Rattle.pg_board.specs.private.Office.{ArePastCopies, IsPastCopy, IsPresentCopy}
 use Rattle.pg_board.proofs.Present.{present_of_some}
 use Rattle.pg_board.proofs.Renewing.{past_of_present}
 use Rattle.pg_board.proofs.office.Desk.shared_copy.Goals as goal
@@ -24,8 +20,7 @@ invariant_of-self-2 g c = record {
 }
 
 pub returns-clause-copy : goal.returns-clause-copy
-returns-clause-copy g c =
-    subst (λ (y : Copied). IsPresentCopy c.args.self.now.board y) (sym c.in_ok-copied.ensures.ok) c.in_ok-present_copy.ensures.present
+returns-clause-copy g c = search (rules, c.in_ok-copied.ensures.ok, c.in_ok-present_copy.ensures.present)
 
 pub returns-clause-some : goal.returns-clause-some
 returns-clause-some g c =

@@ -1,7 +1,4 @@
-use Rattle.std.proofs.Common.{◌≡◌, subst, ◌∙◌, ap}
-use Rattle.pg_game.specs.Limits.{IsWithinLimits}
-use Rattle.pg_board.specs.Play.{Play}
-use Rattle.pg_board.specs.Journal.{IsLawful, number_settled}
+use Rattle.pg_board.proofs.Common.{◌≡◌, subst, ◌∙◌, ap, IsWithinLimits, Play, IsLawful, number_settled}
 use Rattle.pg_board.proofs.Present.{copies_some, reached}
 use Rattle.pg_board.proofs.office.Office.copy.Goals as goal
 

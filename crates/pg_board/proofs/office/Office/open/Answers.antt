@@ -1,6 +1,6 @@
-use Rattle.std.proofs.Common.{◌≡◌, ℕ, suc, ◌-◌, ◌≤◌, ◌∷◌, replicate, sym, ◌∙◌, ap, arith}
+use Rattle.pg_board.proofs.Common.{◌≡◌, ℕ, suc, ◌-◌, ◌≤◌, ◌∷◌, sym, ◌∙◌, ap, arith, number_settled}
+use Rattle.std.proofs.Common.{replicate}
 use Rattle.std.proofs.lemmas.Result.{IfOk-weaker}
-use Rattle.pg_board.specs.Journal.{number_settled}
 use Rattle.pg_board.proofs.office.Office.open.Goals as goal
 
 -- one more of the same in front

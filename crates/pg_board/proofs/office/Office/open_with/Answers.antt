@@ -1,4 +1,4 @@
-use Rattle.std.proofs.Common.{◌∙◌}
+use Rattle.pg_board.proofs.Common.{◌∙◌}
 use Rattle.pg_board.proofs.Shares.{one_longer, one_more, one_part_less, nothing_left}
 use Rattle.pg_board.proofs.office.Office.open_with.Goals as goal
 

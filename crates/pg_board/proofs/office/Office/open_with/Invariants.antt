@@ -1,4 +1,5 @@
-use Rattle.std.specs.Prelude.{◌≡◌, ◌+◌, ◌∷◌, replicate, vec_len}
+use Rattle.pg_board.proofs.Common.{vec_len}
+use Rattle.std.specs.Prelude.{◌≡◌, ◌+◌, ◌∷◌, replicate}
 use Rattle.std.specs.Vec.{vec_capacity}
 use Rattle.pg_board.proofs.office.Office.open_with.Given as goal
 

@@ -1,6 +1,4 @@
-use Rattle.std.proofs.Common.{◌≡◌, ap}
-use Rattle.std.specs.Arc.{arc_value}
-use Rattle.pg_finders.specs.declared.inside.Copied.{Copied}
+use Rattle.pg_board.proofs.Common.{◌≡◌, ap, arc_value, Copied}
 use Rattle.pg_board.proofs.Present.{reached}
 use Rattle.pg_board.proofs.office.Office.shared_copy.Goals as goal
 

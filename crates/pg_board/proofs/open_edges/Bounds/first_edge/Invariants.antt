@@ -1,9 +1,4 @@
-use Rattle.std.proofs.Common.{ℕ, ◌<◌, get_or, None}
-use Rattle.pg_game.specs.VertexSet.{union}
-use Rattle.pg_dominion.specs.Claim.{named}
-use Rattle.pg_board.specs.State.{settled}
-use Rattle.pg_board.specs.private.Regions.{table_state}
-use Rattle.pg_board.specs.private.OpenEdges.{EndsOutside}
+use Rattle.pg_board.proofs.Common.{ℕ, ◌<◌, get_or, None, union, named, settled, table_state, EndsOutside}
 use Rattle.pg_board.proofs.open_edges.Bounds.first_edge.Given as goal
 
 abbrev pub invariant-rows : goal.invariant-rows

@@ -1,8 +1,4 @@
-use Rattle.std.proofs.Common.{◌≡◌, None, sym, ◌∙◌, rules}
-use Rattle.pg_game.specs.VertexSet.{union}
-use Rattle.pg_dominion.specs.Claim.{named}
-use Rattle.pg_board.specs.State.{settled}
-use Rattle.pg_board.specs.private.Regions.{table_state}
+use Rattle.pg_board.proofs.Common.{◌≡◌, None, sym, ◌∙◌, rules, union, named, settled, table_state}
 use Rattle.pg_board.proofs.Ends.{no_successor, first_successor}
 use Rattle.pg_board.proofs.open_edges.Bounds.first_end.Goals as goal
 

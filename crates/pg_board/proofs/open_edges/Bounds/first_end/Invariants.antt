@@ -1,8 +1,4 @@
-use Rattle.std.proofs.Common.{◌≡◌, ℕ, ◌<◌, true, get_or}
-use Rattle.pg_game.specs.VertexSet.{union}
-use Rattle.pg_dominion.specs.Claim.{named}
-use Rattle.pg_board.specs.State.{settled}
-use Rattle.pg_board.specs.private.Regions.{table_state}
+use Rattle.pg_board.proofs.Common.{◌≡◌, ℕ, ◌<◌, true, get_or, union, named, settled, table_state}
 use Rattle.pg_board.proofs.open_edges.Bounds.first_end.Given as goal
 
 abbrev pub invariant-row : goal.invariant-row

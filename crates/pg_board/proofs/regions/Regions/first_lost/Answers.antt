@@ -1,6 +1,4 @@
-use Rattle.std.proofs.Common.{◌≡◌, true, sym, ◌∙◌}
-use Rattle.pg_board.specs.State.{settled}
-use Rattle.pg_board.specs.private.Regions.{table_state}
+use Rattle.pg_board.proofs.Common.{◌≡◌, true, sym, ◌∙◌, settled, table_state}
 use Rattle.pg_board.proofs.Places.{row_at}
 use Rattle.pg_board.proofs.Lost.{none_lost, least_lost}
 use Rattle.pg_board.proofs.regions.Regions.first_lost.Goals as goal

@@ -1,4 +1,4 @@
-use Rattle.pg_board.specs.private.Regions.{table_state}
+use Rattle.pg_board.proofs.Common.{table_state}
 use Rattle.pg_board.proofs.Lost.{NoneBefore}
 use Rattle.pg_board.proofs.regions.Regions.first_lost.Given as goal
 

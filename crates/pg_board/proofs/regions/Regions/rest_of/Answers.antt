@@ -1,9 +1,5 @@
-use Rattle.std.proofs.Common.{◌≡◌, ℕ, ◌<◌, ◌++◌, ◌∷◌, [], length, set, None, Option, sym, ◌∙◌, ap, subst, arith, length-set}
-use Rattle.std.proofs.Common.{length-append}
-use Rattle.std.proofs.lemmas.List.Elements.{All-get_or}
-use Rattle.pg_dominion.specs.Claim.{ClaimRows}
-use Rattle.pg_board.specs.private.Regions.{table_state}
-use Rattle.pg_board.specs.private.OpenEdges.{HavePlaces}
+use Rattle.pg_board.proofs.Common.{◌≡◌, ℕ, ◌<◌, ◌++◌, ◌∷◌, [], length, set, None, Option, sym, ◌∙◌, ap, subst, arith, length-set, length-append, All-get_or}
+use Rattle.pg_board.proofs.Common.{ClaimRows, table_state, HavePlaces}
 use Rattle.pg_board.proofs.Places.{row_at}
 use Rattle.pg_board.proofs.RestPlaces.{ArePlaced-push, rest_kept}
 use Rattle.pg_board.proofs.regions.Regions.rest_of.Goals as goal

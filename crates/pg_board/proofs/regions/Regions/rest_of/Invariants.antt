@@ -1,7 +1,5 @@
-use Rattle.std.proofs.Common.{◌≡◌, ◌≤◌, length, take, vec_capacity}
-use Rattle.pg_board.specs.State.{rest_of}
-use Rattle.pg_board.specs.private.Regions.{table_state}
-use Rattle.pg_board.specs.private.OpenEdges.{HavePlaces}
+use Rattle.pg_board.proofs.Common.{◌≡◌, ◌≤◌, length, take, rest_of, table_state, HavePlaces}
+use Rattle.std.proofs.Common.{vec_capacity}
 use Rattle.pg_board.proofs.regions.Regions.rest_of.Given as goal
 
 abbrev pub invariant-rows : goal.invariant-rows

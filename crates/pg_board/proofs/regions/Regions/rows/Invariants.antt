@@ -1,5 +1,4 @@
-use Rattle.std.proofs.Common.{◌≡◌, ℕ, ◌<◌, length, slice_get}
-use Rattle.pg_board.specs.private.Regions.{table_state}
+use Rattle.pg_board.proofs.Common.{◌≡◌, ℕ, ◌<◌, length, slice_get, table_state}
 use Rattle.pg_board.proofs.regions.Regions.rows.Given as goal
 
 abbrev pub invariant-table : goal.invariant-table

@@ -1,10 +1,5 @@
-use Rattle.std.proofs.Common.{◌≡◌, ◌+◌, ◌++◌, ◌∷◌, [], length, take, None, refl, sym, ◌∙◌, ap, subst, arith}
-use Rattle.std.proofs.lemmas.List.{take_more, take_all}
-use Rattle.pg_game.specs.VertexSet.{members}
-use Rattle.pg_game.proofs.Masks.{member_below}
-use Rattle.pg_dominion.specs.Claim.{ClaimRows}
-use Rattle.pg_board.specs.private.Regions.{table_state, state_with}
-use Rattle.pg_board.specs.private.Growth.{open_before, IsGrowing}
+use Rattle.pg_board.proofs.Common.{rules, ◌≡◌, ◌+◌, ◌++◌, ◌∷◌, [], length, take, None, sym, ◌∙◌, ap, subst, arith, take_more, take_all, member_below, ClaimRows}
+use Rattle.pg_board.proofs.Common.{table_state, state_with, open_before, IsGrowing}
 use Rattle.pg_board.proofs.Places.{row_at}
 use Rattle.pg_board.proofs.Tables.{Settles, state_with-none}
 use Rattle.pg_board.proofs.Growing.{Takes, row_open, before_none, IsGrowing-take, same-take, told-take}
@@ -12,11 +7,7 @@ use Rattle.pg_board.proofs.Entering.{IsGrowing-start}
 use Rattle.pg_board.proofs.regions.Regions.settle_all.Goals as goal
 
 pub rows-init : goal.rows-init
-rows-init c = record {
-  growing = IsGrowing-start c.args.game.now c.args.self.now [] (length c.args.game.now) c.requires.regions refl (omega arith);
-  same = λ v. before_none c.args.self.now v;
-  told = λ v. sym (state_with-none (table_state c.args.self.now.table.items) c.args.player v);
-}
+rows-init c = search (rules, IsGrowing-start, c.requires.regions, before_none, state_with-none)
 
 pub settle-requires-clause-table : goal.settle-requires-clause-table
 settle-requires-clause-table c =
@@ -26,10 +17,7 @@ settle-requires-clause-table c =
     omega (arith, l, old.growing.regions.size, old.growing.regions.mask_size)
 
 pub settle-requires-clause-mask : goal.settle-requires-clause-mask
-settle-requires-clause-mask c =
-    let old = c.rows.invariant in
-    let unsettled = row_open c.rows.self c.args.self.now c.args.rows.now c.rows.row-index c.rows-test.true old.same c.requires.unsettled c.requires.distinct in
-    member_below c.rows.self.unsettled (row_at c.args.rows.now c.rows.row-index).0 unsettled
+settle-requires-clause-mask c = search (rules, row_open, c.rows-test.true, c.rows.invariant.same, c.requires.distinct, member_below)
 
 pub rows-preserved : goal.rows-preserved
 rows-preserved c =
@@ -56,11 +44,4 @@ rows-preserved c =
 
 pub returns : goal.returns
 returns c =
-    let all : take c.rows.row-index c.args.rows.now ≡ c.args.rows.now = take_all c.rows.row-index c.args.rows.now c.rows-test.false in
-    record {
-      growing = subst (λ (xs : ClaimRows). IsGrowing c.args.game.now c.rows.self xs (length c.args.game.now)) all c.rows.invariant.growing;
-      same = λ v. subst (λ (xs : ClaimRows). open_before c.rows.self xs v ≡ members c.args.self.now.unsettled v) all (c.rows.invariant.same v);
-      told =
-          λ v. subst (λ (xs : ClaimRows). table_state c.rows.self.table.items v ≡ state_with
-          (table_state c.args.self.now.table.items) c.args.player xs v) all (c.rows.invariant.told v);
-    }
+    search (rules, c.rows.invariant.growing, c.rows.invariant.same, c.rows.invariant.told, take_all c.rows.row-index c.args.rows.now c.rows-test.false)

@@ -1,7 +1,4 @@
-use Rattle.std.proofs.Common.{◌≡◌, ℕ, length, take}
-use Rattle.pg_game.specs.VertexSet.{members}
-use Rattle.pg_board.specs.private.Regions.{table_state, state_with}
-use Rattle.pg_board.specs.private.Growth.{open_before, IsGrowing}
+use Rattle.pg_board.proofs.Common.{◌≡◌, ℕ, length, take, members, table_state, state_with, open_before, IsGrowing}
 use Rattle.pg_board.proofs.regions.Regions.settle_all.Given as goal
 
 abbrev pub invariant-rows : goal.invariant-rows

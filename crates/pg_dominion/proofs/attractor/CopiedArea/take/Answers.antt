@@ -1,10 +1,6 @@
-use Rattle.std.proofs.Common.{◌≡◌, ◌<◌, ℕ, Bool, List, length, set, false, inl, inr, refl, sym, length-set, ◌∙◌, rules}
-use Rattle.std.specs.Prelude.{◌==◌}
-use Rattle.std.proofs.lemmas.Bool.{cases_Bool, or_cases}
-use Rattle.pg_dominion.specs.Claim.{named}
+use Rattle.pg_dominion.proofs.Common.{◌≡◌, ◌<◌, ℕ, Bool, List, length, set, false, inl, inr, refl, sym, length-set, ◌∙◌, rules, ◌==◌, cases_Bool, or_cases}
+use Rattle.pg_dominion.proofs.Common.{named, members, member_below}
 use Rattle.pg_dominion.proofs.Rows.{named-push}
-use Rattle.pg_game.specs.VertexSet.{members}
-use Rattle.pg_game.proofs.Masks.{member_below}
 use Rattle.pg_dominion.proofs.Attracting.{read_set}
 use Rattle.pg_dominion.proofs.Extending.{extends_taken}
 use Rattle.pg_dominion.proofs.attractor.CopiedArea.take.Goals as goal

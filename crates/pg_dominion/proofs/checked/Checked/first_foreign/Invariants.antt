@@ -1,5 +1,4 @@
-use Rattle.std.proofs.Common.{take}
-use Rattle.pg_dominion.specs.Checked.{AgreesWithGame}
+use Rattle.pg_dominion.proofs.Common.{take, AgreesWithGame}
 use Rattle.pg_dominion.proofs.checked.Checked.first_foreign.Given as goal
 
 abbrev pub invariant-rows : goal.invariant-rows

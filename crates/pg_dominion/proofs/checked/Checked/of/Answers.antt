@@ -1,5 +1,4 @@
-use Rattle.std.proofs.Common.{◌≡◌, sym, ◌∙◌, subst}
-use Rattle.pg_dominion.specs.Claim.{ClaimRows, IsSound}
+use Rattle.pg_dominion.proofs.Common.{◌≡◌, sym, ◌∙◌, subst, ClaimRows, IsSound}
 use Rattle.pg_dominion.proofs.Recorded.{checked}
 use Rattle.pg_dominion.proofs.checked.Checked.of.Goals as goal
 

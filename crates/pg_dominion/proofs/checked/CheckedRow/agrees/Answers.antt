@@ -1,5 +1,4 @@
-use Rattle.std.proofs.Common.{◌≡◌, ◌∙◌, arith, rules}
-use Rattle.std.proofs.lemmas.Bool.{true≢false}
+use Rattle.pg_dominion.proofs.Common.{◌≡◌, ◌∙◌, arith, rules, true≢false}
 use Rattle.pg_dominion.proofs.checked.CheckedRow.agrees.Goals as goal
 
 pub returns-then-eq-clause-agrees : goal.returns-then-eq-clause-agrees

@@ -1,17 +1,6 @@
-use Rattle.std.proofs.Common.{◌≡◌, ℕ, ◌<◌, ◌≤◌, ◌-◌, false, inl, inr, List, sym, ◌∙◌, ap, subst, arith}
-use Rattle.std.specs.Prelude.{slice_index_or}
-use Rattle.std.proofs.lemmas.Bool.{cases_lt, or_cases, or_left, or_right}
-use Rattle.pg_game.specs.declared.player.Player.{Player}
-use Rattle.pg_game.specs.Graph.{priority_of}
-use Rattle.pg_game.specs.Player.{of_parity}
-use Rattle.pg_game.specs.VertexSet.{VertexSet, In, members, union}
-use Rattle.pg_finders.specs.private.recursion.Listed.{listed}
-use Rattle.pg_finders.specs.private.recursion.Order.{vertex_at_place, priority_at, no_rank}
-use Rattle.pg_finders.specs.private.recursion.Planned.{winners_of, choices_of, IsGiven, SameOutside}
-use Rattle.pg_finders.specs.private.recursion.Growing.{active_of}
-use Rattle.pg_finders.specs.declared.recursion.order.Ranked.{Ranked}
-use Rattle.pg_finders.specs.declared.recursion.plan.Plan.{Plan}
-use Rattle.pg_finders.specs.private.Solved.{IsBegun}
+use Rattle.pg_finders.proofs.Common.{◌≡◌, ℕ, ◌<◌, ◌≤◌, ◌-◌, false, inl, inr, List, sym, ◌∙◌, ap, subst, arith, slice_index_or, cases_lt, or_cases, or_left}
+use Rattle.pg_finders.proofs.Common.{or_right, Player, priority_of, of_parity, VertexSet, In, members, union, listed, vertex_at_place, priority_at, no_rank}
+use Rattle.pg_finders.proofs.Common.{winners_of, choices_of, IsGiven, SameOutside, active_of, Ranked, Plan, IsBegun}
 use Rattle.pg_finders.proofs.Sets.{no_both}
 use Rattle.pg_finders.proofs.Solving.{IsSubgame-subst}
 use Rattle.pg_finders.proofs.recursion.Growing.{grown_active}

@@ -1,4 +1,4 @@
-use Rattle.std.proofs.Common.{◌≡◌, ◌++◌, take}
+use Rattle.pg_finders.proofs.Common.{◌≡◌, ◌++◌, take}
 use Rattle.pg_finders.proofs.recursion.settled.append_all.Given as goal
 
 abbrev pub invariant-loop-v : goal.invariant-loop-v

@@ -1,6 +1,4 @@
-use Rattle.std.proofs.Common.{◌≡◌, ℕ, length, take}
-use Rattle.pg_game.specs.VertexSet.{members, union}
-use Rattle.pg_finders.specs.private.recursion.Listed.{listed}
+use Rattle.pg_finders.proofs.Common.{◌≡◌, ℕ, length, take, members, union, listed}
 use Rattle.pg_finders.proofs.recursion.solver.insert_all.Given as goal
 
 abbrev pub invariant-loop-v : goal.invariant-loop-v

@@ -1,5 +1,4 @@
-use Rattle.std.proofs.Common.{◌≡◌, ◌<◌, ◌≤◌, ℕ, slice_index, false}
-use Rattle.pg_game.specs.VertexSet.{members}
+use Rattle.pg_finders.proofs.Common.{◌≡◌, ◌<◌, ◌≤◌, ℕ, slice_index, false, members}
 use Rattle.pg_finders.proofs.recursion.watches.first_active.Given as goal
 
 abbrev pub invariant-loop-at : goal.invariant-loop-at

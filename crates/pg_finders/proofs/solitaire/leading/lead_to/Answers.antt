@@ -1,12 +1,9 @@
-use Rattle.std.proofs.Common.{◌≡◌, ◌<◌, length, slice_index, sym, ◌∙◌, subst, arith, below_more}
+use Rattle.pg_finders.proofs.Common.{◌≡◌, ◌<◌, length, slice_index, sym, ◌∙◌, subst, arith, below_more, priority_of, members, EdgeBelow}
 use Rattle.std.proofs.lemmas.List.{get_or_read}
-use Rattle.pg_game.specs.Graph.{priority_of}
-use Rattle.pg_game.specs.VertexSet.{members}
-use Rattle.pg_finders.specs.private.solitaire.Solitaire.{EdgeBelow}
 use Rattle.pg_finders.proofs.Masks.{none_mask}
 use Rattle.pg_finders.proofs.solitaire.Backward.{leading_none, queue_one, all_seen, walk_taken}
-use Rattle.pg_finders.proofs.solitaire.leading.lead_to.Goals as goal
 use Rattle.pg_finders.proofs.solitaire.leading.lead_to.Goals.{else-queue-test, then-queue-test+then-at-len}
+use Rattle.pg_finders.proofs.solitaire.leading.lead_to.Goals as goal
 
 pub queue-init : goal.queue-init
 queue-init c =

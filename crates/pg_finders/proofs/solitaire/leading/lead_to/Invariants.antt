@@ -1,8 +1,4 @@
-use Rattle.std.proofs.Common.{ℕ, ◌<◌, ◌≤◌, length, slice_index}
-use Rattle.pg_game.specs.Graph.{priority_of}
-use Rattle.pg_game.specs.VertexSet.{members}
-use Rattle.pg_finders.specs.private.solitaire.Solitaire.{AreLeading, IsSeen}
-use Rattle.pg_finders.specs.private.solitaire.Leading.{IsQueue}
+use Rattle.pg_finders.proofs.Common.{ℕ, ◌<◌, ◌≤◌, length, slice_index, priority_of, members, AreLeading, IsSeen, IsQueue}
 use Rattle.pg_finders.proofs.solitaire.leading.lead_to.Given as goal
 
 abbrev pub invariant-queue : goal.invariant-queue

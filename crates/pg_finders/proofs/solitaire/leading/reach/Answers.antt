@@ -1,9 +1,5 @@
-use Rattle.std.proofs.Common.{◌≡◌, ◌<◌, ◌≤◌, ◌⊎◌, inl, inr, false, length, slice_index, sym, ◌∙◌, subst, arith, below_more}
-use Rattle.std.proofs.lemmas.List.{get_or_default}
-use Rattle.std.proofs.lemmas.List.Elements.{Contains-get_or}
-use Rattle.pg_game.specs.Graph.{priority_of}
-use Rattle.pg_game.specs.VertexSet.{In, members}
-use Rattle.pg_finders.specs.private.solitaire.Solitaire.{EdgeBelow}
+use Rattle.pg_finders.proofs.Common.{◌≡◌, ◌<◌, ◌≤◌, ◌⊎◌, inl, inr, false, length, slice_index, sym, ◌∙◌, subst, arith, below_more, get_or_default}
+use Rattle.pg_finders.proofs.Common.{Contains-get_or, priority_of, In, members, EdgeBelow}
 use Rattle.pg_finders.proofs.solitaire.Backward.{leading_push, queue_push, follows_push, still_set, now_set}
 use Rattle.pg_finders.proofs.solitaire.leading.reach.Goals as goal
 

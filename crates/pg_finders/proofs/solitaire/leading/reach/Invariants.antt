@@ -1,8 +1,4 @@
-use Rattle.std.proofs.Common.{ℕ, ◌<◌, slice_index}
-use Rattle.pg_game.specs.Graph.{priority_of}
-use Rattle.pg_game.specs.VertexSet.{In, members}
-use Rattle.pg_finders.specs.private.solitaire.Solitaire.{AreLeading, EdgeBelow}
-use Rattle.pg_finders.specs.private.solitaire.Leading.{IsQueue, Follows}
+use Rattle.pg_finders.proofs.Common.{ℕ, ◌<◌, slice_index, priority_of, In, members, AreLeading, EdgeBelow, IsQueue, Follows}
 use Rattle.pg_finders.proofs.solitaire.leading.reach.Given as goal
 
 abbrev pub invariant-edges : goal.invariant-edges

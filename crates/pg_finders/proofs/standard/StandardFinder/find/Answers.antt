@@ -1,15 +1,9 @@
-use Rattle.std.proofs.Common.{ℕ, List, length, Option, ap, subst, ◌∙◌}
-use Rattle.std.specs.Prelude.{◌++◌, min, IfOk}
+use Rattle.pg_finders.proofs.Common.{ℕ, List, length, ap, subst, ◌∙◌, min, IfOk, append-nil, Even, Odd, Graph, members, Claim, IsGoodIn, IsSolitaire, IsOfSmall}
+use Rattle.std.proofs.Common.{Option}
+use Rattle.std.specs.Prelude.{◌++◌}
 use Rattle.std.specs.Option.{option_to_list}
-use Rattle.std.proofs.lemmas.List.{append-nil}
 use Rattle.std.proofs.lemmas.Result.{IfOk-weaker}
-use Rattle.pg_game.specs.declared.player.Player.TheVariants.{Even, Odd}
-use Rattle.pg_game.specs.Graph.{Graph}
-use Rattle.pg_game.specs.VertexSet.{members}
-use Rattle.pg_dominion.specs.declared.claim.Claim.{Claim}
-use Rattle.pg_dominion.specs.Claim.{IsGoodIn}
-use Rattle.pg_finders.specs.Finding.{IsSolitaire}
-use Rattle.pg_finders.specs.Jobs.{IsOfSmall, seeds_of, with_rows}
+use Rattle.pg_finders.specs.Jobs.{seeds_of, with_rows}
 use Rattle.pg_finders.proofs.Jobs.{loops_of, both_of}
 use Rattle.pg_finders.proofs.standard.StandardFinder.find.Goals as goal
 

@@ -1,9 +1,4 @@
-use Rattle.std.proofs.Common.{◌≡◌, ℕ, ◌<◌, List, length, ◌∙◌, sym, ap, arith}
-use Rattle.std.proofs.lemmas.List.Sorted.{All-permutation}
-use Rattle.pg_game.specs.declared.game.Spec.{Spec}
-use Rattle.pg_game.specs.Flat.{specs_from}
-use Rattle.pg_game.specs.private.Stored.{AreParts}
-use Rattle.pg_game.specs.declared.player.Player.{Player}
+use Rattle.pg_game.proofs.Common.{◌≡◌, ℕ, ◌<◌, List, length, ◌∙◌, sym, ap, arith, All-permutation, Spec, specs_from, AreParts, Player}
 use Rattle.pg_game.proofs.Made.{no_spec}
 use Rattle.pg_game.proofs.Ordered.{AreNumbered, picked_moves}
 use Rattle.pg_game.proofs.Taken.{length_specs}

@@ -1,10 +1,4 @@
-use Rattle.std.proofs.Common.{◌≡◌, List, refl, subst, sym}
-use Rattle.std.specs.Prelude.{All, None}
-use Rattle.pg_game.specs.declared.game.Spec.{Spec}
-use Rattle.pg_game.specs.Specification.{AreNumbers, IsGameOf, first_fault}
-use Rattle.pg_game.specs.Flat.{specs_from}
-use Rattle.pg_game.specs.View.{graph_of}
-use Rattle.pg_game.specs.private.Placed.{ArePlaced}
+use Rattle.pg_game.proofs.Common.{◌≡◌, List, refl, subst, sym, All, None, Spec, AreNumbers, IsGameOf, first_fault, specs_from, graph_of, ArePlaced}
 use Rattle.pg_game.proofs.Laid.{plain_placed, placed_none, placed_game, placed_of, placed_listed}
 use Rattle.pg_game.proofs.flat.Specs.into_listed.Goals as goal
 

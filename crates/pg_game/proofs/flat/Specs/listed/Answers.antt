@@ -1,10 +1,5 @@
-use Rattle.std.proofs.Common.{◌≡◌, List, rules}
-use Rattle.std.specs.Prelude.{Option, None, Some, IfSome}
-use Rattle.std.specs.List.Sorted.{IsPermutation}
-use Rattle.std.proofs.lemmas.List.Sorted.{All-permutation}
-use Rattle.pg_game.specs.declared.game.Spec.{Spec}
-use Rattle.pg_game.specs.Graph.{Graph, IsGame}
-use Rattle.pg_game.specs.Specification.{AreNumbers, IsGameOf, first_fault}
+use Rattle.pg_game.proofs.Common.{◌≡◌, List, rules, Option, None, Some, IsPermutation, All-permutation, Spec, Graph, IsGame, AreNumbers, IsGameOf, first_fault}
+use Rattle.std.specs.Prelude.{IfSome}
 use Rattle.pg_game.proofs.Moved.{still_none, still_of}
 use Rattle.pg_game.proofs.Taken.{length_specs}
 use Rattle.pg_game.proofs.flat.Specs.listed.Goals as goal

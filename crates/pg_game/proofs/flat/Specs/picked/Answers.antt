@@ -1,8 +1,5 @@
-use Rattle.std.proofs.Common.{◌≡◌, ℕ, ◌<◌, [], ◌∷◌, ◌++◌, List, length, take, map, get_or, sym, ◌∙◌, ap, arith}
-use Rattle.std.proofs.lemmas.List.{get_or_read, take_all, take_more, map_push}
-use Rattle.pg_game.specs.declared.player.Player.TheVariants.{Even}
-use Rattle.pg_game.specs.declared.game.Spec.{Spec}
-use Rattle.pg_game.specs.Flat.{specs_from}
+use Rattle.pg_game.proofs.Common.{◌≡◌, ℕ, ◌<◌, [], ◌∷◌, ◌++◌, List, length, take, map, get_or, sym, ◌∙◌, ap, arith, get_or_read, take_all, take_more, map_push}
+use Rattle.pg_game.proofs.Common.{Even, Spec, specs_from}
 use Rattle.pg_game.proofs.Taken.{place_within, spec_at, spec_of}
 use Rattle.pg_game.proofs.flat.Specs.picked.Goals as goal
 

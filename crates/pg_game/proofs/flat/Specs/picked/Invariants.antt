@@ -1,6 +1,4 @@
-use Rattle.std.proofs.Common.{◌≡◌, take, slice_index_or, map}
-use Rattle.pg_game.specs.declared.game.Spec.{Spec}
-use Rattle.pg_game.specs.Flat.{specs_from}
+use Rattle.pg_game.proofs.Common.{◌≡◌, take, slice_index_or, map, Spec, specs_from}
 use Rattle.pg_game.proofs.flat.Specs.picked.Given as goal
 
 abbrev pub invariant-lines : goal.invariant-lines

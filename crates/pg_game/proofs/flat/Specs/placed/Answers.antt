@@ -1,10 +1,5 @@
-use Rattle.std.proofs.Common.{◌≡◌, List, ℕ, refl, subst, sym, arith, ap, length, ◌∙◌}
-use Rattle.std.specs.Prelude.{All, None}
-use Rattle.pg_game.specs.declared.game.Spec.{Spec}
-use Rattle.pg_game.specs.Specification.{AreNumbers, IsGameOf, first_fault}
-use Rattle.pg_game.specs.Flat.{specs_from}
-use Rattle.pg_game.specs.View.{graph_of}
-use Rattle.pg_game.specs.private.Placed.{ArePlaced}
+use Rattle.pg_game.proofs.Common.{◌≡◌, List, ℕ, refl, subst, sym, arith, ap, length, ◌∙◌, All, None, Spec, AreNumbers, IsGameOf, first_fault, specs_from}
+use Rattle.pg_game.proofs.Common.{graph_of, ArePlaced}
 use Rattle.pg_game.proofs.Laid.{placed_none, placed_game, placed_of, placed_listed}
 use Rattle.pg_game.proofs.flat.Specs.placed.Goals as goal
 

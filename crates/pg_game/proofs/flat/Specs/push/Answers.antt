@@ -1,6 +1,4 @@
-use Rattle.std.proofs.Common.{◌++◌, ◌∷◌, [], List, ap, ◌∙◌}
-use Rattle.pg_game.specs.declared.game.Spec.{Spec}
-use Rattle.pg_game.specs.Flat.{spec_from}
+use Rattle.pg_game.proofs.Common.{◌++◌, ◌∷◌, [], List, ap, ◌∙◌, Spec, spec_from}
 use Rattle.pg_game.proofs.Pushed.{specs_more, parts_more, vertex_from}
 use Rattle.pg_game.proofs.flat.Specs.push.Goals as goal
 

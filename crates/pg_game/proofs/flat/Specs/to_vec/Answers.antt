@@ -1,7 +1,4 @@
-use Rattle.std.proofs.Common.{◌≡◌, ◌<◌, [], ◌∷◌, ◌++◌, length, take, get_or, sym, ◌∙◌, arith, rules}
-use Rattle.std.proofs.lemmas.List.{get_or_read, take_all}
-use Rattle.pg_game.specs.declared.player.Player.TheVariants.{Even}
-use Rattle.pg_game.specs.Flat.{specs_from}
+use Rattle.pg_game.proofs.Common.{◌≡◌, ◌<◌, [], ◌∷◌, ◌++◌, length, take, get_or, sym, ◌∙◌, arith, rules, get_or_read, take_all, Even, specs_from}
 use Rattle.pg_game.proofs.Taken.{length_specs, specs_taken, spec_of}
 use Rattle.pg_game.proofs.flat.Specs.to_vec.Goals as goal
 

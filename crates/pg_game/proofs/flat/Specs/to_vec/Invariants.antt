@@ -1,5 +1,4 @@
-use Rattle.std.proofs.Common.{◌≡◌, take}
-use Rattle.pg_game.specs.Flat.{specs_from}
+use Rattle.pg_game.proofs.Common.{◌≡◌, take, specs_from}
 use Rattle.pg_game.proofs.flat.Specs.to_vec.Given as goal
 
 abbrev pub invariant-lines : goal.invariant-lines

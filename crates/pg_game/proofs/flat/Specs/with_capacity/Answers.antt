@@ -1,4 +1,4 @@
-use Rattle.std.proofs.Common.{refl}
+use Rattle.pg_game.proofs.Common.{refl}
 use Rattle.pg_game.proofs.flat.Specs.with_capacity.Goals as goal
 
 pub invariant_of-result : goal.invariant_of-result

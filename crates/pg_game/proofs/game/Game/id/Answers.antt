@@ -1,4 +1,4 @@
-use Rattle.std.proofs.Common.{ℕ, List, length, get_or, sym, ◌∙◌, ap, arith}
+use Rattle.pg_game.proofs.Common.{ℕ, List, length, get_or, sym, ◌∙◌, ap, arith}
 use Rattle.pg_game.proofs.Parts.{length_is, id_is}
 use Rattle.pg_game.proofs.game.Game.id.Goals as goal
 

@@ -1,5 +1,4 @@
-use Rattle.std.proofs.Common.{rules, ◌≡◌, true, false, sym, ◌∙◌}
-use Rattle.pg_game.specs.View.{graph_of}
+use Rattle.pg_game.proofs.Common.{rules, ◌≡◌, true, false, sym, ◌∙◌, graph_of}
 use Rattle.pg_game.proofs.Equal.{same_parts, differ, agree}
 use Rattle.pg_game.proofs.game.Game.is_same.Goals as goal
 

@@ -1,6 +1,5 @@
-use Rattle.std.proofs.Common.{rules}
+use Rattle.pg_game.proofs.Common.{rules, Spec}
 use Rattle.std.proofs.lemmas.List.Sorted.{IsNonDecreasingBy-from_sort_by_key}
-use Rattle.pg_game.specs.declared.game.Spec.{Spec}
 use Rattle.pg_game.proofs.Sorting.{sorted_from}
 use Rattle.pg_game.proofs.game.Game.lay_out.Goals as goal
 

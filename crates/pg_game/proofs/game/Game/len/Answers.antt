@@ -1,4 +1,4 @@
-use Rattle.std.proofs.Common.{ℕ, List, length, ap, arith, rules}
+use Rattle.pg_game.proofs.Common.{ℕ, List, length, ap, arith, rules}
 use Rattle.pg_game.proofs.Parts.{length_is}
 use Rattle.pg_game.proofs.game.Game.len.Goals as goal
 

@@ -1,5 +1,4 @@
-use Rattle.std.proofs.Common.{List, ℕ, refl, subst}
-use Rattle.std.specs.List.Sorted.{IsStrictlyIncreasing}
+use Rattle.pg_game.proofs.Common.{List, ℕ, refl, subst, IsStrictlyIncreasing}
 use Rattle.pg_game.proofs.Parts.{ids_are}
 use Rattle.pg_game.proofs.Back.{game_rows, stored_from}
 use Rattle.pg_game.proofs.game.Game.of_listed.Goals as goal

@@ -1,4 +1,4 @@
-use Rattle.std.proofs.Common.{arith}
+use Rattle.pg_game.proofs.Common.{arith}
 use Rattle.pg_game.proofs.Back.{stored_from}
 use Rattle.pg_game.proofs.Made.{made_rows, made_game, made_of, made_listed}
 use Rattle.pg_game.proofs.Sorting.{sorted_few, laid_from}

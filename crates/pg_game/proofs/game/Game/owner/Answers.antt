@@ -1,6 +1,4 @@
-use Rattle.std.proofs.Common.{◌<◌, length, sym, ◌∙◌, arith}
-use Rattle.std.proofs.lemmas.List.{get_or_read}
-use Rattle.pg_game.specs.declared.player.Player.TheVariants.{Even}
+use Rattle.pg_game.proofs.Common.{◌<◌, length, sym, ◌∙◌, arith, get_or_read, Even}
 use Rattle.pg_game.proofs.Parts.{length_is, owner_is}
 use Rattle.pg_game.proofs.game.Game.owner.Goals as goal
 

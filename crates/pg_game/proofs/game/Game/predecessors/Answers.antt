@@ -1,6 +1,4 @@
-use Rattle.std.proofs.Common.{subst, arith}
-use Rattle.pg_game.specs.Graph.{Graph}
-use Rattle.pg_game.specs.Predecessors.{ArePredecessors}
+use Rattle.pg_game.proofs.Common.{subst, arith, Graph, ArePredecessors}
 use Rattle.pg_game.proofs.Parts.{length_is}
 use Rattle.pg_game.proofs.game.Game.predecessors.Goals as goal
 

@@ -1,5 +1,4 @@
-use Rattle.std.proofs.Common.{sym, ◌∙◌, subst, arith}
-use Rattle.pg_game.specs.Graph.{Graph, IsGame}
+use Rattle.pg_game.proofs.Common.{sym, ◌∙◌, subst, arith, Graph, IsGame}
 use Rattle.pg_game.proofs.Parts.{length_is, successors_are}
 use Rattle.pg_game.proofs.game.Game.successors.Goals as goal
 

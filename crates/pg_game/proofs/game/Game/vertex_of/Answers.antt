@@ -1,4 +1,4 @@
-use Rattle.std.proofs.Common.{sym, ◌∙◌, arith, rules}
+use Rattle.pg_game.proofs.Common.{sym, ◌∙◌, arith, rules}
 use Rattle.pg_game.proofs.Parts.{length_is, id_is}
 use Rattle.pg_game.proofs.game.Game.vertex_of.Goals as goal
 

@@ -1,4 +1,4 @@
-use Rattle.std.proofs.Common.{◌≡◌, ◌+◌, drop}
+use Rattle.pg_game.proofs.Common.{◌≡◌, ◌+◌, drop}
 use Rattle.pg_game.specs.VertexSet.{how_many}
 use Rattle.pg_game.proofs.mask.Mask.count.Given as goal
 

@@ -1,4 +1,4 @@
-use Rattle.std.proofs.Common.{◌≡◌, ◌++◌, ◌∷◌, [], length, drop, ap, ◌∙◌, arith}
+use Rattle.pg_game.proofs.Common.{◌≡◌, ◌++◌, ◌∷◌, [], length, drop, ap, ◌∙◌, arith}
 use Rattle.pg_game.proofs.Pushed.{specs_more, parts_more}
 use Rattle.pg_game.proofs.Opened.{rows_closed, compressed_closed}
 use Rattle.pg_game.proofs.open.OpenSpecs.close.Goals as goal

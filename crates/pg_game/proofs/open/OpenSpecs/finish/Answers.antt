@@ -1,4 +1,4 @@
-use Rattle.std.proofs.Common.{rules}
+use Rattle.pg_game.proofs.Common.{rules}
 use Rattle.pg_game.proofs.open.OpenSpecs.finish.Goals as goal
 
 pub of_parts-requires : goal.of_parts-requires

@@ -1,4 +1,4 @@
-use Rattle.std.proofs.Common.{◌≡◌, true, false, rules}
+use Rattle.pg_text.proofs.Common.{◌≡◌, true, false, rules}
 use Rattle.pg_text.specs.private.GameStates.{is_complete}
 use Rattle.pg_text.proofs.GameKeeps.{ends_early, ends_large, ends_wrong, ends_well}
 use Rattle.pg_text.proofs.game_reader.Reader.finish.Goals as goal

@@ -1,6 +1,4 @@
-use Rattle.std.proofs.Common.{length, ◌-◌, ◌≤◌}
-use Rattle.pg_text.specs.private.Advance.{Advances}
-use Rattle.pg_text.specs.private.GameKeeps.{KeepsReader}
+use Rattle.pg_text.proofs.Common.{length, ◌-◌, ◌≤◌, Advances, KeepsReader}
 use Rattle.pg_text.proofs.game_reader.Reader.line_end.Given as goal
 
 abbrev pub invariant-successors : goal.invariant-successors

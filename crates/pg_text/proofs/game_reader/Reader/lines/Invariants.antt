@@ -1,6 +1,4 @@
-use Rattle.std.proofs.Common.{length, ◌-◌, ◌≤◌}
-use Rattle.pg_text.specs.private.Advance.{Advances}
-use Rattle.pg_text.specs.private.GameKeeps.{KeepsReader}
+use Rattle.pg_text.proofs.Common.{length, ◌-◌, ◌≤◌, Advances, KeepsReader}
 use Rattle.pg_text.proofs.game_reader.Reader.lines.Given as goal
 
 abbrev pub invariant-lines : goal.invariant-lines

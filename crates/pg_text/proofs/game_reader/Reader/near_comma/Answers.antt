@@ -1,4 +1,4 @@
-use Rattle.std.proofs.Common.{arith}
+use Rattle.pg_text.proofs.Common.{arith}
 use Rattle.pg_text.proofs.Next.{comma_at}
 use Rattle.pg_text.proofs.Advance.{token_taken, token_stops}
 use Rattle.pg_text.proofs.GameKeeps.{reader_reads}

@@ -1,5 +1,4 @@
-use Rattle.std.proofs.Common.{length, ◌-◌, ◌≤◌}
-use Rattle.pg_text.specs.private.Advance.{Advances}
+use Rattle.pg_text.proofs.Common.{length, ◌-◌, ◌≤◌, Advances}
 use Rattle.pg_text.specs.private.SolutionKeeps.{KeepsReader}
 use Rattle.pg_text.proofs.solution_reader.Reader.lines.Given as goal
 

@@ -1,4 +1,4 @@
-use Rattle.std.proofs.Common.{rules}
+use Rattle.pg_text.proofs.Common.{rules}
 use Rattle.pg_text.proofs.Advance.{token_taken, token_stops}
 use Rattle.pg_text.proofs.SolutionKeeps.{reader_reads}
 use Rattle.pg_text.proofs.solution_reader.Reader.near_number.Goals as goal

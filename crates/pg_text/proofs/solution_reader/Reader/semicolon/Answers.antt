@@ -1,5 +1,4 @@
-use Rattle.std.proofs.Common.{rules}
-use Rattle.std.proofs.lemmas.List.{map-append}
+use Rattle.pg_text.proofs.Common.{rules, map-append}
 use Rattle.pg_text.proofs.SolutionKeeps.{semicolon_head_number, semicolon_winner, semicolon_choice, semicolon_stops}
 use Rattle.pg_text.proofs.solution_reader.Reader.semicolon.Goals as goal
 

@@ -1,4 +1,4 @@
-use Rattle.std.proofs.Common.{rules}
+use Rattle.pg_text.proofs.Common.{rules}
 use Rattle.pg_text.proofs.SolutionTable.{is_missing, say_rows}
 use Rattle.pg_text.proofs.solution_rows.Table.finish.Goals as goal
 

@@ -1,5 +1,4 @@
-use Rattle.std.proofs.Common.{◌≡◌, ℕ, ◌<◌, true}
-use Rattle.pg_game.specs.VertexSet.{members}
+use Rattle.pg_text.proofs.Common.{◌≡◌, ℕ, ◌<◌, true, members}
 use Rattle.pg_text.proofs.solution_rows.Table.finish.Given as goal
 
 abbrev pub invariant-vertices : goal.invariant-vertices

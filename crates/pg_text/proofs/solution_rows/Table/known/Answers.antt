@@ -1,6 +1,4 @@
-use Rattle.std.proofs.Common.{◌≡◌, rules, sym, subst, arith}
-use Rattle.std.specs.Prelude.{None}
-use Rattle.pg_text.specs.Known.{AreKnownLinesOf}
+use Rattle.pg_text.proofs.Common.{◌≡◌, rules, sym, subst, arith, None, AreKnownLinesOf}
 use Rattle.pg_text.proofs.KnownLines.{say_known}
 use Rattle.pg_text.proofs.solution_rows.Table.known.Goals as goal
 

@@ -1,8 +1,6 @@
-use Rattle.std.proofs.Common.{◌≡◌, ℕ, ◌<◌, ◌≤◌, get_or, vec_len}
-use Rattle.std.specs.Prelude.{Some, None, if◌then◌else◌}
+use Rattle.pg_text.proofs.Common.{◌≡◌, ℕ, ◌<◌, ◌≤◌, get_or, Some, None, if◌then◌else◌, Even, members}
+use Rattle.std.proofs.Common.{vec_len}
 use Rattle.std.specs.Vec.{vec_capacity}
-use Rattle.pg_game.specs.declared.player.Player.TheVariants.{Even}
-use Rattle.pg_game.specs.VertexSet.{members}
 use Rattle.pg_text.proofs.solution_rows.Table.known.Given as goal
 
 abbrev pub invariant-vertices : goal.invariant-vertices

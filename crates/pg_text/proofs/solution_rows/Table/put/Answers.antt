@@ -1,8 +1,5 @@
-use Rattle.std.proofs.Common.{◌≡◌, ℕ, true, false, ◌∷◌, ◌++◌, [], set, refl, sym, ◌∙◌, ap, subst}
-use Rattle.std.specs.Prelude.{Option, Some, None}
-use Rattle.std.specs.Option.{is_some, option_or}
-use Rattle.pg_text.specs.SolutionLines.{row_of_line}
-use Rattle.pg_text.specs.private.SolutionTable.{HoldsLines}
+use Rattle.pg_text.proofs.Common.{◌≡◌, ℕ, true, false, ◌∷◌, ◌++◌, [], set, refl, sym, ◌∙◌, ap, subst, Option, Some, None, option_or, row_of_line, HoldsLines}
+use Rattle.std.specs.Option.{is_some}
 use Rattle.pg_text.proofs.SolutionTable.{holds_again, holds_more}
 use Rattle.pg_text.proofs.solution_rows.Table.put.Goals as goal
 

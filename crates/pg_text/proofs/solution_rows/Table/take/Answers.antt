@@ -1,9 +1,7 @@
-use Rattle.std.proofs.Common.{ℕ, refl, sym, subst}
-use Rattle.std.specs.Prelude.{Option, Some, None}
-use Rattle.pg_text.specs.private.SolutionKeeps.{line_of}
+use Rattle.pg_text.proofs.Common.{ℕ, refl, sym, subst, Option, Some, None, line_of}
 use Rattle.pg_text.proofs.SolutionTable.{IsChoice, row_is, at_home}
-use Rattle.pg_text.proofs.solution_rows.Table.take.Goals as goal
 use Rattle.pg_text.proofs.solution_rows.Table.take.Goals.{in-Some+in_ok-named-in-Some, in-None}
+use Rattle.pg_text.proofs.solution_rows.Table.take.Goals as goal
 
 pub returns : goal.returns
 returns c = λ lines h.

@@ -1,5 +1,5 @@
-use Rattle.std.proofs.Common.{◌≡◌, ℕ, ◌<◌, List, [], ◌∷◌, ◌++◌, All, length, sym, ap, ◌∙◌, subst, arith, length-append}
-use Rattle.std.proofs.Common.{append_assoc, append-nil, if◌then◌else◌, cond, flat_map}
+use Rattle.std.proofs.Common.{◌≡◌, ℕ, ◌<◌, List, [], ◌∷◌, ◌++◌, All, length, sym, ap, ◌∙◌, subst, arith, length-append, append_assoc, append-nil, if◌then◌else◌}
+use Rattle.std.proofs.Common.{cond, flat_map}
 use Rattle.std.specs.Vec.Iter.{into_iter_items}
 use Rattle.std.proofs.lemmas.List.{nil_from_length}
 use Rattle.std.proofs.lemmas.List.Sums.{sum_by_push, sum_by-cons}
@@ -12,9 +12,7 @@ use Rattle.pg_workers.proofs.jobs.Jobs.close.Goals as goal
 -- the ticket and the first one are of these jobs
 pub join_seat-requires : goal.join_seat-requires
 join_seat-requires c =
-    let at = c.loop-ticket in
-    let i = at.invariant in
-    let jobs = c.self.invariant in
+    let at = c.loop-ticket in let i = at.invariant in let jobs = c.self.invariant in
     let x = c.in-Some.ticket in
     let left = ap (λ l. at.yielded ++ l) (sym c.in-Some.ensures.steps.0) ∙ i.0 ∙ c.into_iter-ticket-iterator.ensures.into_iter_gives.0 in
     let some_ticket : 0 < length c.args.tickets.items = let l = c.requires.all in let s = ap (λ o. o.seats) c.self.view_is in omega (arith, jobs.some_seat) in
@@ -34,14 +32,10 @@ join_seat-requires c =
 
 pub loop-ticket-preserved : goal.loop-ticket-preserved
 loop-ticket-preserved c =
-    let at = c.loop-ticket in
-    let i = at.invariant in
-    let x = c.in-Some.ticket in
+    let at = c.loop-ticket in let i = at.invariant in let x = c.in-Some.ticket in
     let steps : into_iter_items at.ticket-iterator ≡ x ∷ into_iter_items c.next.new.self = c.in-Some.ensures.steps.0 in
-    let j = c.join_seat.ensures in
-    let other = c.ticket.invariant.seat in
-    let view = c.ticket.view_is in
-    let p = c.push_reserved-in-loop-ticket.ensures in
+    let j = c.join_seat.ensures in let other = c.ticket.invariant.seat in
+    let view = c.ticket.view_is in let p = c.push_reserved-in-loop-ticket.ensures in
     let long = length-append at.yielded (x ∷ []) in
     let numbers = ap (λ m. m.0.drawn) other ∙ ap (λ t. t.numbers) view in (
       append_assoc at.yielded (x ∷ []) _ ∙ rw (← steps) i.0,
@@ -52,8 +46,7 @@ loop-ticket-preserved c =
       (let a = ap (λ m. m.0.told_none) j.2 in
           let b = ap (λ m. m.0.told_none) other ∙ ap (λ t. if t.told_none then 1 else 0) view in
           let o = sum_by_push (λ (t : HeldTicket). cond t.told_none 1 0) at.yielded x in
-          let was = i.5 in
-          omega arith),
+          let was = i.5 in omega arith),
       ap (λ m. m.0.drawn) j.2 ∙ ap (λ l. l ++ c.ticket.inside.seat.me.0.drawn) i.6
           ∙ append_assoc c.seat.inside.seat.me.0.drawn (flat_map (λ (t : HeldTicket). t.numbers) at.yielded) c.ticket.inside.seat.me.0.drawn
           ∙ ap (λ l. c.seat.inside.seat.me.0.drawn ++ l)
@@ -69,17 +62,14 @@ loop-ticket-preserved c =
 
 pub returns-clause-fair : goal.returns-clause-fair
 returns-clause-fair c =
-    let at = c.loop-ticket in
-    let i = at.invariant in
-    let jobs = c.self.invariant in
+    let at = c.loop-ticket in let i = at.invariant in let jobs = c.self.invariant in
     let empty : into_iter_items at.ticket-iterator ≡ [] = nil_from_length _ (sym i.1 ∙ c.in-None.ensures.steps.0) in
     let done = sym (append-nil at.yielded) ∙ ap (λ l. at.yielded ++ l) (sym empty) ∙ i.0 ∙ c.into_iter-ticket-iterator.ensures.into_iter_gives.0 in
     let some_ticket : 0 < length c.args.tickets.items = let l = c.requires.all in let s = ap (λ o. o.seats) c.self.view_is in omega (arith, jobs.some_seat) in
     let whole : c.args.tickets.items ≡ c.remove.result ∷ at.yielded =
     remade c.args.tickets.items c.remove.new.self.items c.remove.result some_ticket c.remove.ensures.value c.remove.ensures.items ∙ ap
     (λ l. c.remove.result ∷ l) (sym done) in
-    let last = c.close_with.ensures.values.2 in
-    let first = c.seat.invariant.seat in
+    let last = c.close_with.ensures.values.2 in let first = c.seat.invariant.seat in
     let view = c.seat.view_is in
     let all_seats : at.seat.me.0.tickets ≡ c.self.inside.table.shared.key.seats =
     let l = ap length whole in let s = ap (λ o. o.seats) c.self.view_is in let k = ap (λ k. k.seats) jobs.key in let t = i.4 in let r = c.requires.all in

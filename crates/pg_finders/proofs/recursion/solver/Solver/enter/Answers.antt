@@ -1,17 +1,6 @@
-use Rattle.std.proofs.Common.{◌≡◌, ◌≤◌, ◌&&◌, not, All, ◌++◌, ◌∷◌, [], length, vec_len, map, sym, ◌∙◌, ap, subst, arith}
-use Rattle.std.specs.List.Sorted.{IsNonDecreasingBy}
-use Rattle.pg_game.specs.declared.player.Player.{Player}
-use Rattle.pg_game.specs.declared.player.Player.TheVariants.{Even, Odd}
-use Rattle.pg_game.specs.VertexSet.{members}
-use Rattle.pg_finders.specs.declared.recursion.solver.Stop.{Stop}
-use Rattle.pg_finders.specs.declared.recursion.order.Ranked.{Ranked}
-use Rattle.pg_finders.specs.private.recursion.Settled.{settled_of}
-use Rattle.pg_finders.specs.private.recursion.Order.{IsRanked, AllStand}
-use Rattle.pg_finders.specs.private.recursion.Planned.{winners_of, choices_of}
-use Rattle.pg_finders.specs.private.Solved.{IsBegun}
-use Rattle.pg_finders.specs.private.recursion.Growing.{active_of}
-use Rattle.pg_finders.specs.private.recursion.UnderWay.{level_at, count_at}
-use Rattle.pg_finders.specs.private.recursion.Running.{AllPlaced}
+use Rattle.pg_finders.proofs.Common.{◌≡◌, ◌≤◌, ◌&&◌, not, All, ◌++◌, ◌∷◌, [], length, vec_len, map, sym, ◌∙◌, ap, subst, arith, IsNonDecreasingBy, Player, Even}
+use Rattle.pg_finders.proofs.Common.{Odd, members, Stop, Ranked, settled_of, IsRanked, AllStand, winners_of, choices_of, IsBegun, active_of, level_at, count_at}
+use Rattle.pg_finders.proofs.Common.{AllPlaced}
 use Rattle.pg_finders.proofs.Sets.{only}
 use Rattle.pg_finders.proofs.recursion.Listed.{some_length}
 use Rattle.pg_finders.proofs.Solving.{back_equal, left_subgame}

@@ -1,10 +1,4 @@
-use Rattle.std.proofs.Common.{◌≡◌, map, refl, sym, ◌∙◌, subst}
-use Rattle.pg_game.specs.VertexSet.{members}
-use Rattle.pg_game.specs.Subgame.{IsSubgame}
-use Rattle.pg_finders.specs.private.recursion.Settled.{settled_of}
-use Rattle.pg_finders.specs.private.recursion.Order.{AllStand}
-use Rattle.pg_finders.specs.private.recursion.UnderWay.{level_at}
-use Rattle.pg_finders.specs.private.recursion.Running.{AllPlaced}
+use Rattle.pg_finders.proofs.Common.{◌≡◌, map, refl, sym, ◌∙◌, subst, members, IsSubgame, settled_of, AllStand, level_at, AllPlaced}
 use Rattle.pg_finders.proofs.Sizes.{size_is}
 use Rattle.pg_finders.proofs.recursion.UnderWay.{under_way_start}
 use Rattle.pg_finders.proofs.recursion.solver.Solver.new.Goals as goal

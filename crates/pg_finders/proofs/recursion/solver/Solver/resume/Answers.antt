@@ -1,17 +1,7 @@
-use Rattle.std.proofs.Common.{◌≡◌, ℕ, ◌<◌, ◌≤◌, All, length, take, sym, ◌∙◌, ap, subst, rules}
-use Rattle.std.specs.List.Sorted.{IsNonDecreasingBy}
-use Rattle.pg_game.specs.declared.player.Player.{Player}
-use Rattle.pg_game.specs.Player.{opponent}
-use Rattle.pg_game.specs.VertexSet.{VertexSet, In, members, union}
-use Rattle.pg_finders.specs.declared.recursion.order.Ranked.{Ranked}
-use Rattle.pg_finders.specs.declared.recursion.plan.Plan.{Plan}
-use Rattle.pg_finders.specs.private.recursion.Listed.{listed, Once}
-use Rattle.pg_finders.specs.private.recursion.Settled.{SettledLists, settled_of}
-use Rattle.pg_finders.specs.private.recursion.Order.{IsRanked}
+use Rattle.pg_finders.proofs.Common.{◌≡◌, ℕ, ◌<◌, ◌≤◌, All, length, take, sym, ◌∙◌, ap, subst, rules, IsNonDecreasingBy, Player, opponent, VertexSet, In}
+use Rattle.pg_finders.proofs.Common.{members, union, Ranked, Plan, listed, Once, SettledLists, settled_of, IsRanked, active_of, IsGrown, AttractsNoActive, gone}
+use Rattle.pg_finders.proofs.Common.{count_at, level_at, AllPlaced}
 use Rattle.pg_finders.specs.private.recursion.Planned.{HasSize}
-use Rattle.pg_finders.specs.private.recursion.Growing.{active_of, IsGrown, AttractsNoActive}
-use Rattle.pg_finders.specs.private.recursion.UnderWay.{gone, count_at, level_at}
-use Rattle.pg_finders.specs.private.recursion.Running.{AllPlaced}
 use Rattle.pg_finders.proofs.Sets.{twice}
 use Rattle.pg_finders.proofs.Masks.{inside_mask}
 use Rattle.pg_finders.proofs.recursion.Listed.{all_below}

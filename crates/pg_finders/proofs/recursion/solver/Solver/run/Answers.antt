@@ -1,5 +1,4 @@
-use Rattle.std.proofs.Common.{◌≡◌, [], arith}
-use Rattle.std.proofs.lemmas.List.{nil_from_length}
+use Rattle.pg_finders.proofs.Common.{◌≡◌, [], arith, nil_from_length}
 use Rattle.pg_finders.proofs.recursion.UnderWay.{under_way_done}
 use Rattle.pg_finders.proofs.recursion.solver.Solver.run.Goals as goal
 

@@ -1,5 +1,4 @@
-use Rattle.pg_finders.specs.private.recursion.Planned.{size}
-use Rattle.pg_finders.specs.private.recursion.Running.{IsRunning, work}
+use Rattle.pg_finders.proofs.Common.{size, IsRunning, work}
 use Rattle.pg_finders.proofs.recursion.solver.Solver.run.Given as goal
 
 abbrev pub invariant-steps : goal.invariant-steps

@@ -1,9 +1,4 @@
-use Rattle.std.proofs.Common.{◌≡◌, ◌++◌, drop, sym, ◌∙◌, ap, subst, rules}
-use Rattle.pg_game.specs.VertexSet.{members}
-use Rattle.pg_finders.specs.private.recursion.Settled.{settled_of}
-use Rattle.pg_finders.specs.private.recursion.Growing.{active_of}
-use Rattle.pg_finders.specs.private.recursion.UnderWay.{level_at}
-use Rattle.pg_finders.specs.private.recursion.Running.{AllPlaced}
+use Rattle.pg_finders.proofs.Common.{◌≡◌, ◌++◌, drop, sym, ◌∙◌, ap, subst, rules, members, settled_of, active_of, level_at, AllPlaced}
 use Rattle.pg_finders.proofs.recursion.Running.{placed_pop}
 use Rattle.pg_finders.proofs.recursion.UnderWay.{stop_fits}
 use Rattle.pg_finders.proofs.recursion.Leaving.{IsFinished, at_end, settle_finished}

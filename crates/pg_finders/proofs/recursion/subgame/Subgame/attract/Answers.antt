@@ -1,4 +1,4 @@
-use Rattle.std.proofs.lemmas.Result.{on_ok_weaker}
+use Rattle.pg_finders.proofs.Common.{on_ok_weaker}
 use Rattle.pg_finders.proofs.recursion.Growing.{grown_none}
 use Rattle.pg_finders.proofs.recursion.subgame.Subgame.attract.Goals as goal
 

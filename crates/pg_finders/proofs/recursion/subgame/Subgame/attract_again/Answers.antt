@@ -1,9 +1,5 @@
-use Rattle.std.proofs.Common.{◌≡◌, length, vec_len, take, sym, ◌∙◌, ap, subst, arith}
-use Rattle.std.proofs.lemmas.Result.{on_ok_weaker}
-use Rattle.pg_game.specs.VertexSet.{union}
+use Rattle.pg_finders.proofs.Common.{◌≡◌, length, vec_len, take, sym, ◌∙◌, ap, subst, arith, on_ok_weaker, union, listed, active_of, AttractsNoActive}
 use Rattle.pg_dominion.proofs.Taking.{on_ok_both}
-use Rattle.pg_finders.specs.private.recursion.Listed.{listed}
-use Rattle.pg_finders.specs.private.recursion.Growing.{active_of, AttractsNoActive}
 use Rattle.pg_finders.proofs.recursion.Growing.{grown_union, prefix_taken, no_active, no_further}
 use Rattle.pg_finders.proofs.recursion.Again.{done_equal, tested_done}
 use Rattle.pg_finders.proofs.recursion.subgame.Subgame.attract_again.Goals as goal

@@ -1,11 +1,6 @@
-use Rattle.std.proofs.Common.{◌≡◌, ◌∙◌, ℕ, false, inl, inr, sym, subst, arith, rules}
-use Rattle.pg_finders.proofs.recursion.subgame.Subgame.give_all.Goals as goal
-use Rattle.pg_game.specs.VertexSet.{In, members}
-use Rattle.pg_game.specs.Subgame.{IsSubgame}
-use Rattle.pg_finders.specs.private.recursion.Growing.{active_of}
-use Rattle.pg_finders.specs.private.recursion.Order.{vertex_at_place}
-use Rattle.pg_finders.specs.private.recursion.Planned.{IsGiven}
+use Rattle.pg_finders.proofs.Common.{◌≡◌, ◌∙◌, ℕ, false, inl, inr, sym, subst, arith, rules, In, members, IsSubgame, active_of, vertex_at_place, IsGiven}
 use Rattle.pg_finders.proofs.Masks.{order}
+use Rattle.pg_finders.proofs.recursion.subgame.Subgame.give_all.Goals as goal
 
 pub give-requires-clause-sizes : goal.give-requires-clause-sizes
 give-requires-clause-sizes c = c.places.invariant.sizes

@@ -1,8 +1,5 @@
-use Rattle.std.proofs.Common.{◌≡◌, ◌<◌, ◌≤◌, ℕ, length}
-use Rattle.pg_game.specs.VertexSet.{In}
-use Rattle.pg_finders.specs.private.recursion.Order.{vertex_at_place}
-use Rattle.pg_finders.specs.private.recursion.Planned.{IsGiven, SameOutside}
-use Rattle.pg_finders.specs.private.recursion.Growing.{active_of, HasSizes}
+use Rattle.pg_finders.proofs.Common.{◌≡◌, ◌<◌, ◌≤◌, ℕ, length, In, vertex_at_place, IsGiven, SameOutside, active_of}
+use Rattle.pg_finders.specs.private.recursion.Growing.{HasSizes}
 use Rattle.pg_finders.proofs.recursion.subgame.Subgame.give_all.Given as goal
 
 abbrev pub invariant-places : goal.invariant-places

@@ -1,4 +1,4 @@
-use Rattle.std.proofs.Common.{arith}
+use Rattle.pg_finders.proofs.Common.{arith}
 use Rattle.pg_finders.proofs.recursion.subgame.Subgame.leave_all_out.Goals as goal
 
 pub leave_out-requires-clause-ready : goal.leave_out-requires-clause-ready

@@ -1,8 +1,4 @@
-use Rattle.std.proofs.Common.{◌≡◌, ◌<◌, ◌≤◌, ℕ, false}
-use Rattle.pg_game.specs.VertexSet.{In, union}
-use Rattle.pg_finders.specs.private.recursion.Listed.{listed}
-use Rattle.pg_finders.specs.private.recursion.Order.{vertex_at_place}
-use Rattle.pg_finders.specs.private.recursion.Growing.{active_of, IsReady}
+use Rattle.pg_finders.proofs.Common.{◌≡◌, ◌<◌, ◌≤◌, ℕ, false, In, union, listed, vertex_at_place, active_of, IsReady}
 use Rattle.pg_finders.proofs.recursion.subgame.Subgame.leave_all_out.Given as goal
 
 abbrev pub invariant-places : goal.invariant-places

@@ -1,9 +1,6 @@
-use Rattle.std.proofs.Common.{nat_eq, ◌≡◌, ℕ, false, length, ◌++◌, ◌∷◌, [], sym, ◌∙◌, ap, subst, length-set}
-use Rattle.std.proofs.lemmas.Bool.{false_from_ne_true}
-use Rattle.pg_game.specs.VertexSet.{In, members}
-use Rattle.pg_game.specs.private.VertexSet.{without}
-use Rattle.pg_finders.specs.private.recursion.Listed.{listed, Once}
-use Rattle.pg_finders.specs.private.recursion.Growing.{active_of}
+use Rattle.pg_finders.proofs.Common.{◌≡◌, ℕ, false, length, ◌++◌, ◌∷◌, [], sym, ◌∙◌, ap, subst, length-set, false_from_ne_true, In, members, without, listed}
+use Rattle.pg_finders.proofs.Common.{Once, active_of}
+use Rattle.std.proofs.Common.{nat_eq}
 use Rattle.pg_finders.proofs.Sets.{no_both}
 use Rattle.pg_finders.proofs.Masks.{members-unset}
 use Rattle.pg_finders.proofs.recursion.Growing.{once_push, apart_push}

@@ -1,7 +1,4 @@
-use Rattle.std.proofs.Common.{ℕ, subst, arith, below_more, rules}
-use Rattle.std.proofs.lemmas.List.{get_or_default}
-use Rattle.pg_finders.specs.private.recursion.Listed.{listed}
-use Rattle.pg_finders.specs.private.recursion.Growing.{active_of, IsTested}
+use Rattle.pg_finders.proofs.Common.{ℕ, subst, arith, below_more, rules, get_or_default, listed, active_of, IsTested}
 use Rattle.pg_finders.proofs.recursion.Growing.{grown_none, grown_then, grown_active, grown_fewer, prefix_misses}
 use Rattle.pg_finders.proofs.recursion.Again.{known_grown, tested_later, tested_before, all_listed}
 use Rattle.pg_finders.proofs.recursion.subgame.Subgame.retake_all.Goals as goal

@@ -1,6 +1,4 @@
-use Rattle.std.proofs.Common.{ℕ, ◌<◌, length, slice_index}
-use Rattle.pg_finders.specs.private.recursion.Listed.{listed}
-use Rattle.pg_finders.specs.private.recursion.Growing.{active_of, IsReady, IsGrown, IsTested}
+use Rattle.pg_finders.proofs.Common.{ℕ, ◌<◌, length, slice_index, listed, active_of, IsReady, IsGrown, IsTested}
 use Rattle.pg_finders.proofs.recursion.subgame.Subgame.retake_all.Given as goal
 
 abbrev pub invariant-loop-v : goal.invariant-loop-v

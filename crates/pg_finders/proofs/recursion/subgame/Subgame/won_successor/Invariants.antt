@@ -1,7 +1,4 @@
-use Rattle.std.proofs.Common.{◌≡◌, ℕ, ◌<◌, false, get_or}
-use Rattle.pg_game.specs.Graph.{successors_of}
-use Rattle.pg_game.specs.VertexSet.{members}
-use Rattle.pg_finders.specs.private.recursion.Growing.{active_of, won_of}
+use Rattle.pg_finders.proofs.Common.{◌≡◌, ℕ, ◌<◌, false, get_or, successors_of, members, active_of, won_of}
 use Rattle.pg_finders.proofs.recursion.subgame.Subgame.won_successor.Given as goal
 
 abbrev pub invariant-loop-w : goal.invariant-loop-w

@@ -1,7 +1,5 @@
-use Rattle.std.proofs.Common.{nat_eq, ◌≡◌, ℕ, false, length, ◌∙◌, ap, length-set}
-use Rattle.pg_game.specs.VertexSet.{members}
-use Rattle.pg_game.specs.private.VertexSet.{without}
-use Rattle.pg_finders.specs.private.recursion.Growing.{active_of}
+use Rattle.pg_finders.proofs.Common.{◌≡◌, ℕ, false, length, ◌∙◌, ap, length-set, members, without, active_of}
+use Rattle.std.proofs.Common.{nat_eq}
 use Rattle.pg_finders.proofs.Masks.{members-unset}
 use Rattle.pg_finders.proofs.recursion.Growing.{grown_one, grown_then, once_push, apart_push}
 use Rattle.pg_finders.proofs.recursion.subgame.SubgameArea.take.Goals as goal

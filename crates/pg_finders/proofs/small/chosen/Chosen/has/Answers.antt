@@ -1,5 +1,4 @@
-use Rattle.std.proofs.Common.{rules}
-use Rattle.std.proofs.lemmas.List.{take_all}
+use Rattle.pg_finders.proofs.Common.{rules, take_all}
 use Rattle.pg_finders.proofs.Apart.{named_here, unnamed_more}
 use Rattle.pg_finders.proofs.small.chosen.Chosen.has.Goals as goal
 

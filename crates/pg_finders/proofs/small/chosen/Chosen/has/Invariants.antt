@@ -1,5 +1,4 @@
-use Rattle.std.proofs.Common.{◌≡◌, false, take}
-use Rattle.pg_dominion.specs.Claim.{named}
+use Rattle.pg_finders.proofs.Common.{◌≡◌, false, take, named}
 use Rattle.pg_finders.proofs.small.chosen.Chosen.has.Given as goal
 
 abbrev pub invariant-loop-at : goal.invariant-loop-at

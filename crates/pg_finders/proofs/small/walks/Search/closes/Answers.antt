@@ -1,10 +1,4 @@
-use Rattle.std.proofs.Common.{◌≡◌, sym, ◌∙◌, arith, below_more, rules}
-use Rattle.std.specs.Prelude.{Some}
-use Rattle.std.proofs.lemmas.Bool.{eqb-true}
-use Rattle.std.proofs.lemmas.List.{get_or_default}
-use Rattle.pg_game.specs.Graph.{owner_of}
-use Rattle.pg_dominion.specs.Claim.{choice_in}
-use Rattle.pg_finders.specs.private.small.Partial.{vertex_in}
+use Rattle.pg_finders.proofs.Common.{◌≡◌, sym, ◌∙◌, arith, below_more, rules, Some, eqb-true, get_or_default, owner_of, choice_in, vertex_in}
 use Rattle.pg_finders.proofs.Apart.{choice_of_place}
 use Rattle.pg_finders.proofs.small.Walked.{leads_some, leads_none, leads_other}
 use Rattle.pg_finders.proofs.small.walks.Search.closes.Goals as goal

@@ -1,5 +1,4 @@
-use Rattle.std.proofs.Common.{ℕ, ◌≢◌, ◌<◌, ◌≤◌, slice_index}
-use Rattle.pg_finders.specs.private.small.Partial.{vertex_in}
+use Rattle.pg_finders.proofs.Common.{ℕ, ◌≢◌, ◌<◌, ◌≤◌, slice_index, vertex_in}
 use Rattle.pg_finders.proofs.small.walks.Search.closes.Given as goal
 
 abbrev pub invariant-loop-w : goal.invariant-loop-w

@@ -1,7 +1,4 @@
-use Rattle.std.proofs.Common.{◌≢◌, arith, rules}
-use Rattle.pg_game.specs.Player.{of_parity}
-use Rattle.pg_game.specs.Graph.{priority_of}
-use Rattle.pg_finders.specs.private.small.Partial.{vertex_in}
+use Rattle.pg_finders.proofs.Common.{◌≢◌, arith, rules, of_parity, priority_of, vertex_in}
 use Rattle.pg_finders.proofs.small.Walked.{bad_back, good_back}
 use Rattle.pg_finders.proofs.small.walks.Search.is_good.Goals as goal
 

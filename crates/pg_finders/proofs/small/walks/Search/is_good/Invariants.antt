@@ -1,8 +1,4 @@
-use Rattle.std.proofs.Common.{◌≢◌, ℕ, ◌<◌}
-use Rattle.pg_game.specs.Player.{of_parity}
-use Rattle.pg_game.specs.Graph.{priority_of}
-use Rattle.pg_finders.specs.private.small.Partial.{vertex_in}
-use Rattle.pg_finders.specs.private.small.Walked.{WalksBack}
+use Rattle.pg_finders.proofs.Common.{◌≢◌, ℕ, ◌<◌, of_parity, priority_of, vertex_in, WalksBack}
 use Rattle.pg_finders.proofs.small.walks.Search.is_good.Given as goal
 
 abbrev pub invariant-loop-start : goal.invariant-loop-start

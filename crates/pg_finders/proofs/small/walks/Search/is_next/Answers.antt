@@ -1,4 +1,4 @@
-use Rattle.std.proofs.Common.{inl, inr, arith, below_more}
+use Rattle.pg_finders.proofs.Common.{inl, inr, arith, below_more}
 use Rattle.pg_finders.proofs.small.walks.Search.is_next.Goals as goal
 
 pub loop-from-preserved : goal.loop-from-preserved

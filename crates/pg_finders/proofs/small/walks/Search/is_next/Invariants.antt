@@ -1,5 +1,4 @@
-use Rattle.std.proofs.Common.{ℕ, ◌<◌}
-use Rattle.pg_finders.specs.private.small.Walked.{IsFrom, RowLeadsTo}
+use Rattle.pg_finders.proofs.Common.{ℕ, ◌<◌, IsFrom, RowLeadsTo}
 use Rattle.pg_finders.proofs.small.walks.Search.is_next.Given as goal
 
 abbrev pub invariant-loop-from : goal.invariant-loop-from

@@ -1,9 +1,4 @@
-use Rattle.std.proofs.Common.{◌≡◌, sym, ◌∙◌, rules, arith}
-use Rattle.std.proofs.lemmas.Grind.{common_steps}
-use Rattle.std.specs.Prelude.{Some}
-use Rattle.pg_game.specs.Graph.{owner_of}
-use Rattle.pg_dominion.specs.Claim.{choice_in}
-use Rattle.pg_finders.specs.private.small.Partial.{vertex_in}
+use Rattle.pg_finders.proofs.Common.{◌≡◌, sym, ◌∙◌, rules, arith, common_steps, Some, owner_of, choice_in, vertex_in}
 use Rattle.pg_finders.proofs.Apart.{choice_of_place}
 use Rattle.pg_finders.proofs.small.Walked.{leads_some, leads_none}
 use Rattle.pg_finders.proofs.small.walks.Search.leads.Goals as goal

@@ -1,4 +1,4 @@
-use Rattle.std.proofs.Common.{below_more, rules}
+use Rattle.pg_finders.proofs.Common.{below_more, rules}
 use Rattle.pg_finders.proofs.small.walks.Search.next_reached.Goals as goal
 
 pub loop-to-preserved : goal.loop-to-preserved

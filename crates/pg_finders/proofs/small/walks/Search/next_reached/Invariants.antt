@@ -1,5 +1,4 @@
-use Rattle.std.proofs.Common.{ℕ, ◌<◌}
-use Rattle.pg_finders.specs.private.small.Walked.{IsReached}
+use Rattle.pg_finders.proofs.Common.{ℕ, ◌<◌, IsReached}
 use Rattle.pg_finders.proofs.small.walks.Search.next_reached.Given as goal
 
 abbrev pub invariant-loop-to : goal.invariant-loop-to

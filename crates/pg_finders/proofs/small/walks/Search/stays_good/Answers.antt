@@ -1,4 +1,4 @@
-use Rattle.std.proofs.Common.{rules}
+use Rattle.pg_finders.proofs.Common.{rules}
 use Rattle.pg_finders.proofs.small.Walked.{closes_none}
 use Rattle.pg_finders.proofs.small.walks.Search.stays_good.Goals as goal
 

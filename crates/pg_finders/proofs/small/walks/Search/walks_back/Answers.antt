@@ -1,9 +1,4 @@
-use Rattle.std.proofs.Common.{sym, ◌∙◌, subst, length-set, get_or-set_other, rules}
-use Rattle.std.specs.Prelude.{IsNone}
-use Rattle.pg_game.specs.Graph.{priority_of}
-use Rattle.pg_game.specs.Walk.{Walk}
-use Rattle.pg_finders.specs.private.small.Partial.{vertex_in}
-use Rattle.pg_finders.specs.private.small.Walked.{Under}
+use Rattle.pg_finders.proofs.Common.{sym, ◌∙◌, subst, length-set, get_or-set_other, rules, IsNone, priority_of, Walk, vertex_in, Under}
 use Rattle.pg_finders.proofs.small.Walked.{reached_way, ways_push, no_way_back, left_less}
 use Rattle.pg_finders.proofs.small.walks.Search.walks_back.Goals as goal
 

@@ -1,10 +1,4 @@
-use Rattle.std.proofs.Common.{◌≡◌, ℕ, ◌<◌, List, length, false}
-use Rattle.pg_game.specs.Graph.{priority_of}
-use Rattle.pg_game.specs.VertexSet.{In, members}
-use Rattle.pg_game.specs.Walk.{Walk}
-use Rattle.pg_finders.specs.private.recursion.Planned.{size}
-use Rattle.pg_finders.specs.private.small.Partial.{vertex_in}
-use Rattle.pg_finders.specs.private.small.Walked.{Under}
+use Rattle.pg_finders.proofs.Common.{◌≡◌, ℕ, ◌<◌, List, length, false, priority_of, In, members, Walk, size, vertex_in, Under}
 use Rattle.pg_finders.proofs.small.walks.Search.walks_back.Given as goal
 
 abbrev pub invariant-rows : goal.invariant-rows

@@ -1,6 +1,0 @@
-use Rattle.std.specs.List.{All}
-use Rattle.pg_game.specs.Specification.{AreNumbers}
-use Rattle.pg_dominion.proofs.tests.games.game_of_small.Given as goal
-
-abbrev pub invariant-rows : goal.invariant-rows
-invariant-rows l = All AreNumbers l.draft.specs.items

@@ -1,0 +1,62 @@
+-- The names that several proofs of this crate cite, passed on from one place. Declares nothing.
+pub use mathlib.Core.Path.{fun_ext}
+pub use Rattle.std.proofs.Common.{All, Bool, List, [], ap, append_assoc, arith, below_more, drop, false, get_or, get_or-set_other, get_or-set_same, inl, inr}
+pub use Rattle.std.proofs.Common.{length, length-append, length-set, ltb-true, map, not, refl, replicate, rules, set, slice_index, subst, suc, sym, take, true}
+pub use Rattle.std.proofs.Common.{vec_len, zero, ℕ, ◌&&◌, ◌*◌, ◌++◌, ◌+◌, ◌-◌, ◌<◌, ◌||◌, ◌∙◌, ◌∷◌, ◌≡◌, ◌≢◌, ◌≤◌, ◌⊎◌}
+pub use Rattle.std.proofs.Math.Bool.{and-true}
+pub use Rattle.std.proofs.Math.Nat.{mul-le-mul_left}
+pub use Rattle.std.proofs.lemmas.Bool.{and_from, and_parts, cases_Bool, cases_eq, cases_lt, eq-eqb, eqb-true, false_from_ne_true, or_cases, or_left, or_parts}
+pub use Rattle.std.proofs.lemmas.Bool.{or_right}
+pub use Rattle.std.proofs.lemmas.Grind.{common_steps}
+pub use Rattle.std.proofs.lemmas.List.{append-nil, get_or-take, get_or_append_left, get_or_default, get_or_push, length-replicate, map-append, nil_from_length}
+pub use Rattle.std.proofs.lemmas.List.{take-append-drop, take-append-le, take_all}
+pub use Rattle.std.proofs.lemmas.List.Elements.{Contains-get_or}
+pub use Rattle.std.proofs.lemmas.Result.{on_ok_weaker}
+pub use Rattle.std.specs.List.{Contains, count_by, range_with_len}
+pub use Rattle.std.specs.List.Sorted.{IsNonDecreasingBy}
+pub use Rattle.std.specs.Prelude.{IfOk, IfSome, IsNone, None, Option, Some, if◌then◌else◌, min, slice_index_or, slice_set, ◌==◌}
+pub use Rattle.pg_game.proofs.Masks.{member_below}
+pub use Rattle.pg_game.proofs.Members.{Contains-cons, Contains-head, Contains-nil, Contains-tail, some_or_none}
+pub use Rattle.pg_game.proofs.Players.{is_same, other_from_not, own_or_other, same_is}
+pub use Rattle.pg_game.proofs.Rotate.{good_from_none}
+pub use Rattle.pg_game.proofs.Walks.{ClosedWalk-weaker, or_false}
+pub use Rattle.pg_game.specs.Graph.{Graph, HasEdge, owner_of, priority_of, successors_of}
+pub use Rattle.pg_game.specs.Kept.{Choices, KeptEdge, kept, option_list}
+pub use Rattle.pg_game.specs.Least.{NoneHas}
+pub use Rattle.pg_game.specs.Player.{of_parity, opponent, same_player}
+pub use Rattle.pg_game.specs.Region.{OnlyGoodWalks}
+pub use Rattle.pg_game.specs.Subgame.{IsSubgame}
+pub use Rattle.pg_game.specs.VertexSet.{In, VertexSet, Within, members, no_vertices, union}
+pub use Rattle.pg_game.specs.Walk.{ClosedWalk, Walk, greatest_priority}
+pub use Rattle.pg_game.specs.declared.player.Player.{Player}
+pub use Rattle.pg_game.specs.declared.player.Player.TheVariants.{Even, Odd}
+pub use Rattle.pg_game.specs.private.VertexSet.{without}
+pub use Rattle.pg_dominion.proofs.Named.{choice-back, choice-front, named-append}
+pub use Rattle.pg_dominion.specs.Attraction.{IsAttractedRow}
+pub use Rattle.pg_dominion.specs.Claim.{ClaimRows, IsGoodIn, choice_in, named}
+pub use Rattle.pg_dominion.specs.KeptEdges.{IsWorst}
+pub use Rattle.pg_dominion.specs.declared.claim.Claim.{Claim}
+pub use Rattle.pg_dominion.specs.declared.kept.Kept.{Kept}
+pub use Rattle.pg_finders.specs.Claims.{AreClaims, own_choices, rows_below}
+pub use Rattle.pg_finders.specs.Finding.{AtMostInside, IsLoop, IsSolitaire, most_choices}
+pub use Rattle.pg_finders.specs.Jobs.{IsOfSmall}
+pub use Rattle.pg_finders.specs.declared.recursion.order.Ranked.{Ranked}
+pub use Rattle.pg_finders.specs.declared.recursion.plan.Plan.{Plan}
+pub use Rattle.pg_finders.specs.declared.recursion.solver.Stop.{Stop}
+pub use Rattle.pg_finders.specs.private.Solved.{IsAttracted, IsBegun, IsSolvedInside, IsSolvedTo, Winners, WinsOn, won_inside}
+pub use Rattle.pg_finders.specs.private.loops.Singles.{itself, loops}
+pub use Rattle.pg_finders.specs.private.recursion.Growing.{AttractsNoActive, Before, IsGrown, IsKnown, IsReady, IsTested, active_of, place, won_of}
+pub use Rattle.pg_finders.specs.private.recursion.Listed.{Apart, Once, listed}
+pub use Rattle.pg_finders.specs.private.recursion.Order.{AllStand, IsRanked, no_rank, priority_at, rank_of, vertex_at_place}
+pub use Rattle.pg_finders.specs.private.recursion.Planned.{HasBelow, IsGiven, SameAt, SameOutside, choices_of, size, winners_of}
+pub use Rattle.pg_finders.specs.private.recursion.Running.{AllPlaced, IsRunning, how_many_gone, steps_left, work}
+pub use Rattle.pg_finders.specs.private.recursion.Settled.{SettledLists, settled_of}
+pub use Rattle.pg_finders.specs.private.recursion.UnderWay.{AreApart, IsUnderWay, Linked, count_at, gone, level_at, part, prefix}
+pub use Rattle.pg_finders.specs.private.recursion.Waiting.{Level, Waits, steps, steps_after}
+pub use Rattle.pg_finders.specs.private.small.Partial.{AreDifferent, AreDifferentRows, Extends, ExtendsChoices, IsPartial, choice_at, no_row, vertex_in}
+pub use Rattle.pg_finders.specs.private.small.Partial.{vertices}
+pub use Rattle.pg_finders.specs.private.small.Searched.{HasNoRoom, NoneAgreesAt, StillAgreesAt}
+pub use Rattle.pg_finders.specs.private.small.Small.{LeastSoFar}
+pub use Rattle.pg_finders.specs.private.small.Walked.{IsFrom, IsReached, RowLeadsTo, Under, WalksBack}
+pub use Rattle.pg_finders.specs.private.solitaire.Leading.{Follows, IsQueue}
+pub use Rattle.pg_finders.specs.private.solitaire.Solitaire.{AreLeading, EdgeBelow, HasOneAt, IsSeen, IsSingle, choices_by, good_for, owned}
