@@ -1,7 +1,7 @@
 //! The board: a game, the journal of what was settled of it, and what is at hand of the journal.
 //! Its type keeps that the journal is lawful, so every board in hand has a lawful one.
 
-ghost use Rattle.std.specs.Prelude.{◌≡◌, ◌≤◌, ◌<◌, ℕ, ◌++◌, ◌∷◌, [], ◌+◌, length, IfOk, IfErr, OnErr, IsTrue, IsSome, IfSome, ◌↔◌, vec_capacity};
+ghost use Rattle.std.specs.Prelude.{◌≡◌, ◌≤◌, ◌<◌, ℕ, [], length, IfOk, IfErr, OnErr, IsTrue, IsSome, IfSome, ◌↔◌, vec_capacity};
 ghost use Rattle.pg_game.specs.declared.player.Player.{Player};
 ghost use Rattle.pg_game.specs.Graph.{IsGame};
 ghost use Rattle.pg_game.specs.Limits.{IsWithinLimits};
@@ -10,7 +10,7 @@ ghost use Rattle.pg_game.specs.private.VertexSet.{without};
 ghost use Rattle.pg_dominion.specs.Claim.{ClaimRows, IsGoodIn, IsSound, named};
 ghost use Rattle.pg_dominion.specs.Checked.{claim_rows, claim_of, AgreesWithGame};
 ghost use Rattle.pg_board.specs.State.{unsettled, rest_of, IsGoodOn, choices, winner_in};
-ghost use Rattle.pg_board.specs.Journal.{state_of, Answers, IsLawful, IsDominionAfter, number_settled, settled_by};
+ghost use Rattle.pg_board.specs.Journal.{state_of, IsLawful, IsDominionAfter, number_settled, settled_by};
 ghost use Rattle.pg_board.specs.Full.{IsFull, AreStateRows};
 ghost use Rattle.pg_text.specs.Solution.{IsExactSolution};
 ghost use Rattle.pg_board.specs.Refusal.{Refuses, RefusesChecked, IsOfState};

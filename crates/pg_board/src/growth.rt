@@ -1,7 +1,7 @@
 //! Attraction in place (Zielonka 1998): a vertex is settled as soon as it is attracted, and each vertex of the opponent
 //! watches its first unsettled successor. Watches only move on, over the whole life of a board.
 
-ghost use Rattle.std.specs.Prelude.{◌≡◌, ℕ, ◌<◌, ◌≤◌, ◌^◌, ◌++◌, ◌∷◌, [], length, slice_index, slice_set, Some, true, false, vec_capacity, map, nat_eq};
+ghost use Rattle.std.specs.Prelude.{◌≡◌, ℕ, ◌<◌, ◌^◌, length, slice_index, true, false, vec_capacity, map, nat_eq};
 ghost use Rattle.std.specs.List.{IsDistinct};
 ghost use Rattle.pg_game.specs.Graph.{HasEdge};
 ghost use Rattle.pg_game.specs.Subgame.{IsSubgame};

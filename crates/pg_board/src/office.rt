@@ -7,7 +7,7 @@
 //! The copies that were shared lie under the lock too: the type keeps that each is of the board as it stood after some of
 //! its entries. So those who ask for a copy of an unchanged board get one and the same, and one that nobody else holds any
 //! more is brought up to date in place of a new one.
-ghost use Rattle.std.specs.Prelude.{◌≡◌, ◌+◌, ◌-◌, ◌≤◌, ◌<◌, ℕ, ◌∷◌, [], Ok, IfOk, IfSome, OnErr, length, sum, replicate, vec_capacity, vec_len};
+ghost use Rattle.std.specs.Prelude.{◌≡◌, ◌+◌, ◌-◌, ◌≤◌, ◌<◌, ℕ, ◌∷◌, [], IfOk, IfSome, OnErr, length, sum, replicate, vec_capacity, vec_len};
 ghost use Rattle.std.specs.Arc.{arc_value};
 ghost use Rattle.pg_game.specs.Graph.{IsGame};
 ghost use Rattle.pg_game.specs.Limits.{IsWithinLimits};

@@ -1,7 +1,6 @@
 //! Whether the rest of a claim is closed: each kept edge ends in the rest or in the player's region.
 
 ghost use Rattle.std.specs.Prelude.{◌≡◌, ◌<◌, ℕ, length, MatchOption};
-ghost use Rattle.pg_game.specs.Graph.{IsGame};
 ghost use Rattle.pg_game.specs.VertexSet.{union};
 ghost use Rattle.pg_dominion.specs.Claim.{named, IsRightRow, AreRight};
 ghost use Rattle.pg_board.specs.State.{settled};

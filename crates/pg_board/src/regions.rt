@@ -1,12 +1,9 @@
 //! What a board has at hand beside its journal: of each vertex whose it is and by which choice, and which
 //! vertices are unsettled. Both are changed vertex by vertex, and never made anew.
 
-ghost use Rattle.std.specs.Prelude.{◌≡◌, ◌<◌, ℕ, length, IfOk, OnOk, slice_set, slice_get, Some, None, false, map, nat_eq};
-ghost use Rattle.std.specs.List.{IsDistinct};
-ghost use Rattle.pg_game.specs.VertexSet.{Within};
-ghost use Rattle.pg_dominion.specs.Claim.{named};
-ghost use Rattle.pg_board.specs.State.{settled, is_unsettled, unsettled};
-ghost use Rattle.pg_board.specs.private.Regions.{table_state, state_with, AreRegions};
+ghost use Rattle.std.specs.Prelude.{◌≡◌, ◌<◌, ℕ, length, IfOk, slice_set, slice_get, Some, None, false};
+ghost use Rattle.pg_board.specs.State.{settled, is_unsettled};
+ghost use Rattle.pg_board.specs.private.Regions.{table_state, AreRegions};
 
 use pg_game::{Game, Mask, Memory, Player};
 use std::alloc::Global;

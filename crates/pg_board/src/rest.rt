@@ -1,6 +1,6 @@
 //! A claim against what is settled: whether it is lost, and what of it is unsettled.
 
-ghost use Rattle.std.specs.Prelude.{◌≡◌, ◌<◌, ◌≤◌, ◌^◌, ℕ, [], length, MatchOption, All, map, vec_capacity};
+ghost use Rattle.std.specs.Prelude.{◌≡◌, ◌<◌, ◌≤◌, ◌^◌, [], length, MatchOption, All, map, vec_capacity};
 ghost use Rattle.std.specs.List.Sorted.{IsStrictlyIncreasing};
 ghost use Rattle.pg_game.specs.Least.{NoneHas, IsLeast};
 ghost use Rattle.pg_board.specs.State.{rest_of, is_unsettled};

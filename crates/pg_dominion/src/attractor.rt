@@ -3,7 +3,7 @@
 //! At an opponent's vertex a watched place in its row moves on while the successor there is outside or taken; at
 //! the end of the row the vertex is taken. So each touched row is passed once, and nothing is counted.
 
-ghost use Rattle.std.specs.Prelude.{◌≡◌, ℕ, ◌<◌, ◌≤◌, ◌^◌, length, slice_index, IfOk, false};
+ghost use Rattle.std.specs.Prelude.{◌≡◌, ℕ, ◌<◌, ◌^◌, length, slice_index, IfOk, false};
 ghost use Rattle.pg_game.specs.VertexSet.{members, union, In, Within};
 ghost use Rattle.pg_game.specs.Subgame.{IsSubgame};
 ghost use Rattle.pg_dominion.specs.Claim.{named};

@@ -4,7 +4,7 @@
 //! edge goes down, or it leaves a vertex with an even key and no vertex from its one end to the other has a greater key.
 //! A closed walk through a vertex with an odd and greatest key would leave it downward and could not come back.
 
-ghost use Rattle.std.specs.Prelude.{◌≡◌, ℕ, ◌+◌, ◌%◌, ◌<◌, ◌≤◌, ◌^◌, ◌⊎◌, length, slice_index, vec_len, IfOk, true};
+ghost use Rattle.std.specs.Prelude.{◌≡◌, ℕ, ◌%◌, ◌<◌, ◌≤◌, ◌^◌, ◌⊎◌, length, slice_index, vec_len, IfOk, true};
 ghost use Rattle.pg_dominion.specs.KeptEdges.{IsKept, Edge, IsWorst};
 ghost use Rattle.pg_dominion.specs.private.Ranking.{key_of};
 

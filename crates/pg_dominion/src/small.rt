@@ -4,7 +4,7 @@
 //! What is shown is that there is no bad closed walk. Where a walk is found, or many steps were taken, nothing is said, and
 //! the rows are laid out after all.
 
-ghost use Rattle.std.specs.Prelude.{◌≡◌, ℕ, ◌<◌, ◌++◌, IfOk, List, MatchOption, length, slice_index, true, false};
+ghost use Rattle.std.specs.Prelude.{◌≡◌, ℕ, ◌<◌, ◌++◌, IfOk, List, MatchOption, length, true, false};
 ghost use Rattle.pg_game.specs.Least.{NoneHas};
 ghost use Rattle.pg_game.specs.VertexSet.{In};
 ghost use Rattle.pg_game.specs.Region.{OnBadWalk};

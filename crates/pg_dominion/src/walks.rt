@@ -5,7 +5,7 @@
 //! From a place in the queue before the first that was reached twice each edge leads to a later place, so such a vertex
 //! lies on no closed walk, and gets a group of its own: no search from it is needed up to the level.
 
-ghost use Rattle.std.specs.Prelude.{◌≡◌, ℕ, ◌<◌, ◌≤◌, ◌+◌, ◌^◌, length, slice_index, IfOk, true, false};
+ghost use Rattle.std.specs.Prelude.{◌≡◌, ℕ, ◌<◌, ◌≤◌, ◌^◌, length, slice_index, IfOk, true, false};
 ghost use Rattle.pg_dominion.specs.KeptEdges.{IsKept};
 ghost use Rattle.pg_dominion.specs.private.KeptEdges.{Leads, Reaches, AreLabelled, Searching, IsSpread, GoesOn, AreNoted};
 

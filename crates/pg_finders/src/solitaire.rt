@@ -4,12 +4,10 @@
 //! vertex over no greater priority are his. Where there is none, all closed walks are good for the player without a
 //! choice, and all vertices are his.
 ghost use Rattle.std.specs.Prelude.{◌≡◌, ℕ, ◌<◌, ◌↔◌, length, slice_index, IfOk, IfSome, IsNone, IsTrue, MatchOption};
-ghost use Rattle.pg_game.specs.Player.{opponent};
 ghost use Rattle.pg_game.specs.VertexSet.{In, members};
 ghost use Rattle.pg_game.specs.Graph.{owner_of};
 ghost use Rattle.pg_game.specs.Subgame.{IsSubgame};
 ghost use Rattle.pg_dominion.specs.Claim.{IsGoodIn};
-ghost use Rattle.pg_dominion.specs.KeptEdges.{IsKept};
 ghost use Rattle.pg_finders.specs.Part.{IsOut};
 ghost use Rattle.pg_finders.specs.private.recursion.Planned.{HoldsSet};
 ghost use Rattle.pg_finders.specs.Claims.{own_choices, rows_below};

@@ -6,7 +6,6 @@ ghost use Rattle.std.specs.List.Sorted.{IsPermutation};
 ghost use Rattle.pg_game.specs.declared.game.Spec.{Spec};
 ghost use Rattle.pg_game.specs.Graph.{IsGame, AreSuccessors};
 ghost use Rattle.pg_game.specs.Specification.{AreNumbers, IsGameOf, first_fault, max_vertices};
-ghost use Rattle.pg_game.specs.private.Rows.{size_of};
 ghost use Rattle.pg_game.specs.Flat.{specs_from};
 ghost use Rattle.pg_game.specs.private.Flat.{AreSuccessorRows, ArePlain};
 ghost use Rattle.pg_game.specs.private.Stored.{AreParts};

@@ -6,7 +6,7 @@ ghost use Rattle.std.specs.List.{IsDistinct};
 ghost use Rattle.std.specs.List.Sorted.{IsStrictlyIncreasing, IsPermutation};
 ghost use Rattle.pg_game.specs.private.Identifiers.{ids_of};
 ghost use Rattle.pg_game.specs.Predecessors.{ArePredecessors};
-ghost use Rattle.pg_game.specs.Specification.{AreNumbers, IsGameOf, first_fault, OrMemory, edges};
+ghost use Rattle.pg_game.specs.Specification.{AreNumbers, IsGameOf, first_fault, OrMemory};
 ghost use Rattle.pg_game.specs.Limits.{IsWithinLimits};
 ghost use Rattle.pg_game.specs.Graph.{IsGame, id_of, priority_of, owner_of, successors_of, HasEdge};
 
@@ -60,7 +60,6 @@ pub enum GameFault {
 
 impl From<AllocError> for GameFault {
     ghost use Rattle.std.specs.Prelude.{◌≡◌};
-    ghost use Rattle.pg_game.specs.declared.game.GameFault.{GameFault};
     ghost use Rattle.pg_game.specs.declared.game.GameFault.TheVariants.{Memory};
 
     ghost from_gives = { λ _ fault. fault ≡ Memory };
@@ -72,7 +71,6 @@ impl From<AllocError> for GameFault {
 
 impl<T: Drop> From<AllocFailed<T>> for GameFault {
     ghost use Rattle.std.specs.Prelude.{◌≡◌};
-    ghost use Rattle.pg_game.specs.declared.game.GameFault.{GameFault};
     ghost use Rattle.pg_game.specs.declared.game.GameFault.TheVariants.{Memory};
 
     ghost from_gives = { λ _ fault. fault ≡ Memory };
@@ -334,7 +332,7 @@ fn same_owners(a: &[Player], b: &[Player]) -> bool
 }
 
 impl PartialEq for Game {
-    ghost use Rattle.std.specs.Prelude.{◌≡◌, ◌↔◌, IsTrue, nat_eq};
+    ghost use Rattle.std.specs.Prelude.{◌≡◌, ◌↔◌, IsTrue};
     ghost use Rattle.std.specs.Cmp.{and_per, on_per, partial_equiv_from_equiv, nat_eq_equiv};
     ghost use Rattle.std.specs.Cmp.Lexicographic.{lists_per};
     ghost use Rattle.pg_game.specs.Player.{digit_of};

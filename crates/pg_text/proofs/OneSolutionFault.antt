@@ -1,10 +1,10 @@
 -- A text has at most one fault as a solution of a game, and none where it is a solution's.
 use Rattle.pg_text.proofs.Common.{◌≡◌, ℕ, zero, suc, ◌<◌, ◌⊎◌, inl, inr, List, [], ◌∷◌, ◌++◌, refl, sym, ◌∙◌, ap, subst, arith, rules, Option, Some, None}
-use Rattle.pg_text.proofs.Common.{IfSome, ⊤, AllByRecursion, append-nil, Graph, SolutionTextFault, Stranger, Token, Semicolon, Placed, tokens_of, Spells}
+use Rattle.pg_text.proofs.Common.{IfSome, ⊤, AllByRecursion, append-nil, Graph, SolutionTextFault, Stranger, Token, Placed, tokens_of, Spells}
 use Rattle.pg_text.proofs.Common.{AllFit, IsPlayerFault, WrittenSolutionLine, solution_tokens, IsSolutionText, BeginsSolutionText, IsBeforeWinner}
 use Rattle.pg_text.proofs.Common.{first_stranger, first_twice, first_missing, Choice, SpellsSolution, IsSomeSolutionText}
 use Rattle.pg_text.specs.declared.fault.SolutionTextFault.TheVariants.{Lexical, Syntax, Number, Winner, Twice, Missing, Memory}
-use Rattle.pg_text.specs.private.SolutionRun.{Reading, Start, HeadWord, HeadNumber, Ready, Id, line, step, run}
+use Rattle.pg_text.specs.private.SolutionRun.{Reading, Start, HeadWord, HeadNumber, Ready, Id, step, run}
 use Rattle.pg_text.specs.Reading.{IsSolutionFaultOf}
 use Rattle.pg_text.specs.Laws.{OneSolutionFault, SolutionTextOrFault}
 use Rattle.pg_text.proofs.Spelling.{one_spelling}

@@ -9,7 +9,7 @@ use Rattle.pg_text.specs.declared.fault.SolutionTextFault.{SolutionTextFault}
 use Rattle.pg_text.specs.declared.fault.SolutionTextFault.TheVariants as solution
 use Rattle.pg_text.specs.Token.{Token, Placed, tokens_of, Spells}
 use Rattle.pg_text.specs.GameText as games
-use Rattle.pg_text.specs.GameText.{IsGameText, BeginsGameText, IsBeforeOwner, spec_of, player_of}
+use Rattle.pg_text.specs.GameText.{IsGameText, BeginsGameText, IsBeforeOwner, spec_of}
 use Rattle.pg_text.specs.SolutionText as solutions
 use Rattle.pg_text.specs.SolutionText.{IsSolutionText, BeginsSolutionText, IsBeforeWinner}
 use Rattle.pg_text.specs.Fault.{IsLexicalFault, IsSyntaxFault, IsNumberFault, IsPlayerFault, AllFit}

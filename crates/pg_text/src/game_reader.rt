@@ -6,7 +6,7 @@
 //!
 //! Where a line may begin, numbers, commas and semicolons are taken where they stand, each by the step of its token; what is
 //! none of these is left to the lexer.
-ghost use Rattle.std.specs.Prelude.{◌≡◌, ℕ, ◌≤◌, length, true, false, IfOk, IfErr, IfSome, MatchResult, ◌<◌, None, List, []};
+ghost use Rattle.std.specs.Prelude.{◌≡◌, ℕ, ◌≤◌, length, IfOk, IfErr, IfSome, MatchResult, ◌<◌, List, []};
 ghost use Rattle.pg_text.specs.Token.{Number, Word, Name, Comma, Semicolon, Placed, Spells};
 ghost use Rattle.pg_text.specs.GameText.{BeginsGameText};
 ghost use Rattle.pg_text.specs.private.Piece.{fitting};

@@ -4,7 +4,7 @@
 //! A number of any length is read in 64 bits, since its value stops growing once it is above the limit.
 ghost use Rattle.std.specs.Prelude.{◌≡◌, ◌≢◌, ℕ, ◌+◌, ◌<◌, ◌≤◌, length, drop, List, slice_index, false, MatchOption, IfSome, Some};
 ghost use Rattle.pg_text.specs.Bytes.{is_blank, is_digit, is_letter, EndsRun, value_of};
-ghost use Rattle.pg_text.specs.private.Piece.{IsNextPiece, IsPieceOf, IsRun, IsToken, fitting};
+ghost use Rattle.pg_text.specs.private.Piece.{IsNextPiece, IsRun, IsToken, fitting};
 ghost use Rattle.pg_text.specs.Token.{Number};
 ghost use Rattle.pg_text.specs.private.Reach.{SpellsRest, IsBadFrom};
 

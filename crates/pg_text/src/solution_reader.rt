@@ -6,7 +6,7 @@
 //!
 //! Behind a line, numbers and semicolons are taken where they stand, each by the step of its token; what is none of these is
 //! left to the lexer.
-ghost use Rattle.std.specs.Prelude.{◌≡◌, ℕ, ◌+◌, ◌<◌, ◌≤◌, length, true, false, map, IfOk, IfErr, IfSome, MatchResult, None, List, []};
+ghost use Rattle.std.specs.Prelude.{◌≡◌, ℕ, ◌<◌, ◌≤◌, length, map, IfOk, IfErr, IfSome, MatchResult, List, []};
 ghost use Rattle.pg_text.specs.Token.{Number, Word, Semicolon, Placed, Spells};
 ghost use Rattle.pg_text.specs.SolutionText.{BeginsSolutionText};
 ghost use Rattle.pg_text.specs.private.Piece.{fitting};

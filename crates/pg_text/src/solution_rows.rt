@@ -3,10 +3,10 @@
 //! One pass looks each identifier up once. A line of a stranger ends it; a second line of a vertex is only noted, since a
 //! stranger further on is named before it. What has no line is looked for at the end: a solution has to name each vertex,
 //! and what is known may leave some out.
-ghost use Rattle.std.specs.Prelude.{◌≡◌, ℕ, ◌<◌, ◌++◌, ◌∷◌, false, List, [], length, map, IfOk, MatchResult, Some, None, if◌then◌else◌, slice_index_or};
+ghost use Rattle.std.specs.Prelude.{◌≡◌, ◌<◌, ◌++◌, ◌∷◌, false, List, [], length, map, IfOk, MatchResult, Some, None, if◌then◌else◌, slice_index_or};
 ghost use Rattle.pg_game.specs.declared.player.Player.TheVariants.{Even};
 ghost use Rattle.pg_game.specs.VertexSet.{members};
-ghost use Rattle.pg_game.specs.Graph.{Graph, id_of};
+ghost use Rattle.pg_game.specs.Graph.{Graph};
 ghost use Rattle.pg_text.specs.Solution.{AreSolutionRows};
 ghost use Rattle.pg_text.specs.SolutionText.{WrittenSolutionLine};
 ghost use Rattle.pg_text.specs.private.SolutionKeeps.{line_of};

@@ -1,6 +1,6 @@
 //! The one written spelling of games, solutions and winners: one line for each vertex in rising identifier, behind a header
 //! with the greatest identifier. Numbers have no leading zeros (`itoa` writes them); there is no start line and no name.
-ghost use Rattle.std.specs.Prelude.{◌≡◌, ℕ, ◌<◌, ◌≤◌, ◌++◌, ◌+◌, ◌*◌, ◌^◌, ◌∷◌, [], length, drop, slice_index, codes, decimal, flat_map, map, IfOk};
+ghost use Rattle.std.specs.Prelude.{◌≡◌, ℕ, ◌<◌, ◌≤◌, ◌++◌, ◌+◌, ◌*◌, ◌^◌, ◌∷◌, [], length, drop, slice_index, codes, decimal, map, IfOk};
 ghost use Rattle.std.specs.Prelude.{OnOk, IfSome};
 ghost use Rattle.std.specs.List.{join_with_byte};
 ghost use Rattle.pg_game.specs.Graph.{id_of, priority_of, owner_of, successors_of, vertex_at};

@@ -1,6 +1,6 @@
 //! Job numbers, drawn from one atomic word. Each worker draws by a ticket of its own, which keeps the numbers that it
 //! drew. A draw is one step on the word and waits for nobody.
-ghost use Rattle.std.specs.Prelude.{◌≡◌, ◌≤◌, ◌<◌, ◌+◌, [], true, All, IfOk, IfSome, IfNone, None, length, map, replicate, vec_len};
+ghost use Rattle.std.specs.Prelude.{◌≡◌, ◌≤◌, ◌<◌, [], true, All, IfOk, IfSome, IfNone, None, length, map, replicate, vec_len};
 ghost use Rattle.pg_workers.specs.private.Drawing.{drawer};
 ghost use Rattle.pg_workers.specs.Tickets.{fresh, drew, told, AreDrawn};
 

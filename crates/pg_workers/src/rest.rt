@@ -1,7 +1,6 @@
 //! What is left of a board is solved by the recursion and posted: Even's claim and then Odd's, as worker 0.
-ghost use Rattle.std.specs.Prelude.{◌≡◌, ◌<◌, ℕ, length, OnOk};
-ghost use Rattle.pg_board.specs.State.{is_unsettled};
-ghost use Rattle.pg_board.specs.Journal.{state_of, IsDominionAfter, IsLawful};
+ghost use Rattle.std.specs.Prelude.{◌<◌, ℕ, length, OnOk};
+ghost use Rattle.pg_board.specs.Journal.{state_of, IsDominionAfter};
 ghost use Rattle.pg_board.specs.Full.{IsFull};
 ghost use Rattle.pg_workers.specs.private.Rest.{Settles, IsLater};
 

@@ -1,5 +1,5 @@
 //! Slots for the workers, threads that work on them, and what the slots hold once all threads have ended.
-ghost use Rattle.std.specs.Prelude.{◌≡◌, ◌+◌, ◌≤◌, ◌<◌, [], All, IfOk, map, replicate, vec_len};
+ghost use Rattle.std.specs.Prelude.{◌≡◌, ◌≤◌, [], All, IfOk, map, replicate, vec_len};
 ghost use Rattle.std.specs.Vec.{vec_capacity};
 ghost use Rattle.pg_workers.specs.Report.{IsDrawnRow, settled_in};
 ghost use Rattle.pg_workers.specs.Tickets.{fresh};

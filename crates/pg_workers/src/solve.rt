@@ -1,12 +1,12 @@
 //! A whole run: workers on threads of their own share out the jobs over one office, and the calling thread settles what
 //! is left.
-ghost use Rattle.std.specs.Prelude.{◌≡◌, ◌+◌, ◌≤◌, ◌<◌, ℕ, IfOk, IfErr, length, replicate, vec_len};
+ghost use Rattle.std.specs.Prelude.{◌≡◌, ◌+◌, ◌≤◌, ℕ, IfOk, IfErr, length, replicate, vec_len};
 ghost use Rattle.pg_game.specs.declared.player.Player.{Player};
 ghost use Rattle.pg_text.specs.Known.{KnownRows};
 ghost use Rattle.pg_workers.specs.Outcomes.{IsOutcome};
 ghost use Rattle.pg_board.specs.Journal.{number_settled};
 ghost use Rattle.pg_workers.specs.Known.{IsKnownRegion, IsSolveFault};
-ghost use Rattle.pg_workers.specs.private.Known.{HasKnown, HasSettled};
+ghost use Rattle.pg_workers.specs.private.Known.{HasSettled};
 ghost use Rattle.pg_workers.specs.Report.{AreNumbered, IsReport, settled_in};
 ghost use Rattle.pg_workers.specs.Tickets.{fresh};
 ghost use Rattle.pg_workers.specs.Work.{total_of};

@@ -1,5 +1,5 @@
 -- What the post of a known set is refused for names vertices of the game, and rows of the set.
-use Rattle.std.proofs.Common.{rules, ◌≡◌, ℕ, ◌<◌, ◌≤◌, inl, inr, List, [], ◌∷◌, length, subst, if◌then◌else◌}
+use Rattle.std.proofs.Common.{rules, ℕ, ◌<◌, ◌≤◌, inl, inr, List, [], ◌∷◌, length, subst, if◌then◌else◌}
 use Rattle.std.specs.List.{Contains}
 use Rattle.pg_game.specs.declared.player.Player.{Player}
 use Rattle.pg_game.specs.Player.{same_player}

@@ -1,5 +1,5 @@
 //! What is known of a game before it is solved: read from a text, or nothing; and why a known set is no region.
-ghost use Rattle.std.specs.Prelude.{◌≡◌, ◌≤◌, ◌<◌, [], length, replicate, Some, None, IfOk, IfErr, option_map, slice_get};
+ghost use Rattle.std.specs.Prelude.{◌≡◌, ◌≤◌, ◌<◌, [], length, Some, IfOk, IfErr, option_map, slice_get};
 ghost use Rattle.pg_text.specs.Known.{IsKnownTextOf, known_of};
 ghost use Rattle.pg_text.specs.Reading.{max_text};
 ghost use Rattle.pg_workers.specs.Known.{known_rows, IsSolveFault};

@@ -1,5 +1,5 @@
 //! Reading a whole text from a source, into one buffer.
-ghost use Rattle.std.specs.Prelude.{◌≡◌, ◌≤◌, ◌<◌, ◌+◌, ◌⊎◌, length, take, drop, IfOk, IfErr, OnErr, OnOk, IfSome, IsErrOf, [], vec_len};
+ghost use Rattle.std.specs.Prelude.{◌≡◌, ◌≤◌, ◌<◌, ◌+◌, ◌⊎◌, length, take, drop, IfOk, IfErr, OnOk, IfSome, IsErrOf, [], vec_len};
 ghost use Rattle.std.specs.Io.KnownBytes.{Consumes, IsAtEnd};
 ghost use Rattle.pg_text.specs.Reading.{max_text};
 ghost use Rattle.pgboard.specs.Device.{HasFailed, CountsFailure};

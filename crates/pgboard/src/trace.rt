@@ -1,10 +1,9 @@
 //! The text of a run: its journal, then a line for each job, then the sums.
 //!
 //! Each function adds one line, and each loop keeps that what is written and what the rest gives is the whole.
-ghost use Rattle.std.specs.Prelude.{◌≡◌, ◌<◌, ◌≤◌, ◌+◌, ◌^◌, ◌++◌, ◌∷◌, [], length, codes, decimal, flat_map, sum_by, IfOk, OnOk, IfSome};
+ghost use Rattle.std.specs.Prelude.{◌≡◌, ◌<◌, ◌++◌, ◌∷◌, [], length, codes, decimal, flat_map, sum_by, IfOk, OnOk, IfSome};
 ghost use Rattle.std.specs.List.{AllByRecursion};
 ghost use Rattle.pg_game.specs.Player.{digit_of};
-ghost use Rattle.pg_game.specs.Graph.{id_of};
 ghost use Rattle.pg_board.specs.Journal.{number_settled};
 ghost use Rattle.pgboard.specs.Trace.{trace_line, row_line, entry_text, entries_text, job_line, total_line, trace_text, flag_word, worker_word};
 ghost use Rattle.pgboard.specs.private.Trace.{AreVertices};

@@ -1,5 +1,5 @@
 //! A game in arrays, as a tool has it in memory: compressed sparse rows. A vertex is its place, from 0 on.
-ghost use Rattle.std.specs.Prelude.{◌≡◌, ◌+◌, ◌<◌, ◌≤◌, ℕ, length, slice_index, IfOk, IfErr, OnOk, MatchOption, IsTrue, IsFalse, All};
+ghost use Rattle.std.specs.Prelude.{◌≡◌, ◌<◌, ◌≤◌, length, slice_index, IfOk, IfErr, OnOk, MatchOption, IsTrue, IsFalse, All};
 ghost use Rattle.pg_game.specs.Specification.{AreNumbers};
 ghost use Rattle.pg_game.specs.Least.{NoneHas, IsLeast};
 ghost use Rattle.pg_text.specs.GameText.{player_of};

@@ -43,7 +43,6 @@ pub enum Fault {
 
 impl From<AllocError> for Fault {
     ghost use Rattle.std.specs.Prelude.{◌≡◌};
-    ghost use Rattle.pgboard_c.specs.declared.fault.Fault.{Fault};
     ghost use Rattle.pgboard_c.specs.declared.fault.Fault.TheVariants.{Memory};
 
     ghost from_gives = { λ _ fault. fault ≡ Memory };

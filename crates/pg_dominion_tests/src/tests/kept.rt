@@ -1,6 +1,6 @@
 //! Kept edges of a game, and the least bad vertex that they have.
 
-ghost use Rattle.std.specs.Prelude.{◌≡◌, ◌<◌, IfOk, length};
+ghost use Rattle.std.specs.Prelude.{◌≡◌, IfOk, length};
 ghost use Rattle.pg_dominion.specs.KeptEdges.{IsKept};
 
 use pg_dominion::{Kept, first_worst};

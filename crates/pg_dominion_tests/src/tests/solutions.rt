@@ -1,7 +1,5 @@
 //! Solutions: worked ones, and all over the smallest games.
 
-ghost use Rattle.std.specs.Prelude.{◌≡◌, length};
-
 use crate::tests::reference::{Won, numbered, solution_fault};
 use pg_dominion::{SolutionFault, check_solution};
 use pg_game::{Game, Player, Sequence};

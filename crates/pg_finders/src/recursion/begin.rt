@@ -2,17 +2,16 @@
 //! player is taken out (Zielonka 1998). In one step these are all of the greatest one's parity above every
 //! vertex of the other parity.
 
-ghost use Rattle.std.specs.Prelude.{◌≡◌, ◌<◌, ◌≤◌, ◌-◌, ℕ, length, [], OnOk, Some, false, ◌⊎◌, ◌||◌};
-ghost use Rattle.pg_game.specs.Graph.{priority_of};
+ghost use Rattle.std.specs.Prelude.{◌≡◌, ◌<◌, ◌≤◌, ◌-◌, ℕ, length, [], OnOk, false, ◌⊎◌};
 ghost use Rattle.pg_game.specs.Player.{of_parity};
-ghost use Rattle.pg_game.specs.VertexSet.{In, members, union};
+ghost use Rattle.pg_game.specs.VertexSet.{In, union};
 ghost use Rattle.pg_game.specs.private.VertexSet.{without};
 ghost use Rattle.pg_game.specs.Subgame.{IsSubgame};
 ghost use Rattle.pg_finders.specs.private.recursion.Listed.{listed, Once};
 ghost use Rattle.pg_finders.specs.private.recursion.Order.{IsOrder, AllStand, vertex_at_place, priority_at};
 ghost use Rattle.pg_finders.specs.private.recursion.Planned.{winners_of, choices_of, IsGiven, SameOutside};
 ghost use Rattle.pg_finders.specs.private.recursion.Growing.{active_of, HasSizes, IsReady};
-ghost use Rattle.pg_finders.specs.private.Solved.{IsTop, IsBegun};
+ghost use Rattle.pg_finders.specs.private.Solved.{IsBegun};
 
 use crate::recursion::order::Order;
 use crate::recursion::subgame::Subgame;

@@ -1,7 +1,7 @@
 //! The vertices that are settled, a list for each player, in the order in which they were settled.
 
-ghost use Rattle.std.specs.Prelude.{◌≡◌, ◌<◌, ◌≤◌, ◌++◌, ℕ, [], length, take, drop, All, IfOk, OnOk};
-ghost use Rattle.pg_game.specs.VertexSet.{In, members, union};
+ghost use Rattle.std.specs.Prelude.{◌≡◌, ◌<◌, ◌≤◌, ◌++◌, [], length, take, drop, All, OnOk};
+ghost use Rattle.pg_game.specs.VertexSet.{members, union};
 ghost use Rattle.pg_game.specs.private.VertexSet.{without};
 ghost use Rattle.pg_finders.specs.private.recursion.Listed.{listed};
 ghost use Rattle.pg_finders.specs.private.recursion.Growing.{active_of, IsReady, IsKnown, IsGrown, AttractsNoActive};

@@ -1,5 +1,5 @@
 //! Whether a small claim in the making has closed a walk that its player loses.
-ghost use Rattle.std.specs.Prelude.{◌≡◌, ℕ, ◌≤◌, ◌<◌, ◌+◌, ◌↔◌, length, IsTrue, IsFalse, IfSome, IsNone, take};
+ghost use Rattle.std.specs.Prelude.{ℕ, ◌≤◌, ◌<◌, ◌+◌, ◌↔◌, length, IsTrue, IsFalse, IfSome, IsNone, take};
 ghost use Rattle.pg_game.specs.Region.{OnlyGoodWalks};
 ghost use Rattle.pg_dominion.specs.Claim.{named, choice_in};
 ghost use Rattle.pg_finders.specs.private.small.Partial.{AreFew};

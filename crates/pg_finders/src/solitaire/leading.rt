@@ -1,7 +1,7 @@
 //! The vertices from which a walk inside leads to a goal over no greater priority than the goal's, each with the
 //! next vertex on the way. A breadth-first search against the edges.
-ghost use Rattle.std.specs.Prelude.{◌≡◌, ℕ, ◌<◌, ◌⊎◌, List, length, slice_index, IfOk, OnOk};
-ghost use Rattle.pg_game.specs.VertexSet.{In, Within, members};
+ghost use Rattle.std.specs.Prelude.{◌≡◌, ℕ, ◌<◌, ◌⊎◌, List, length, IfOk, OnOk};
+ghost use Rattle.pg_game.specs.VertexSet.{In, members};
 ghost use Rattle.pg_game.specs.Graph.{priority_of};
 ghost use Rattle.pg_game.specs.Walk.{Walk};
 ghost use Rattle.pg_finders.specs.private.solitaire.Solitaire.{EdgeBelow, AreLeading, IsSeen};

@@ -1,7 +1,5 @@
 //! `zielonka` on worked games, on each smallest game, and on hostile ones; and what is no subgame.
 
-ghost use Rattle.std.specs.Prelude.{◌≡◌, ◌<◌};
-
 use crate::tests::games::{chain, even_loops, inside_of, nothing, self_loops, single, star, whole};
 use crate::tests::reference::{Numbered, rows_of_length};
 use pg_dominion::{Claim, check_claim};

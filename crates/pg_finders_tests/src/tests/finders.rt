@@ -1,7 +1,5 @@
 //! The finders of loops, of solitaire subgames and of small dominions, on worked games; the bound and the budget.
 
-ghost use Rattle.std.specs.Prelude.{◌≡◌, ◌<◌, length};
-
 use crate::tests::games::{dense, inside_of, nothing, ring, rows_of, single, whole};
 use pg_dominion::Claim;
 use pg_finders::{Inside, Small, find_loop, find_small, find_solitaire};

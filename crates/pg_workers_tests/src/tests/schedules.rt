@@ -1,7 +1,5 @@
 //! Every lying finder under random schedules on random games: nothing is accepted or refused wrongly, and nothing is lost.
 
-ghost use Rattle.std.specs.Prelude.{◌≤◌};
-
 use crate::tests::answers::{Bounds, check_alone};
 use crate::tests::finders::{
     FirstSolution, Fixed, Misshapen, NoMemory, Overlapping, Singles, Wholes, both_regions,

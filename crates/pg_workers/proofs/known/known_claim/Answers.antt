@@ -1,4 +1,4 @@
-use Rattle.std.proofs.Common.{rules, ◌∙◌}
+use Rattle.std.proofs.Common.{rules}
 use Rattle.pg_workers.proofs.Knowing.{rows_to_last}
 use Rattle.pg_workers.proofs.known.known_claim.Goals as goal
 
