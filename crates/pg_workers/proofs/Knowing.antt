@@ -1,9 +1,8 @@
 -- Posting a known set settles it exactly where it is a region, and else is refused for a reason of the set.
 use Rattle.std.proofs.lemmas.Grind.{common_steps}
 use Rattle.std.proofs.Common.{rules, ◌≡◌, ℕ, zero, suc, ◌<◌, Bool, true, false, ◌||◌, ◌↔◌, List, [], ◌∷◌, length, refl, sym, ◌∙◌, ap, subst, arith, lt-ltb}
-use Rattle.std.proofs.Common.{ltb-true, Ok, Err, Option, nat_lt}
+use Rattle.std.proofs.Common.{◌≤◌, ltb-true, Ok, Err, Option, nat_lt}
 use mathlib.Core.Path.{fun_ext}
-use Rattle.std.proofs.Common.{◌≤◌, ◌+◌, ◌-◌, add-zero}
 use Rattle.std.proofs.Math.Bool.{or-false}
 use Rattle.std.specs.List.{Contains}
 use Rattle.std.specs.Cmp.{nat_eq_equiv}
@@ -28,7 +27,7 @@ use Rattle.pg_dominion.specs.Claim.{ClaimRows, named, choice_in}
 use Rattle.pg_finders.specs.Claims.{own_choices, rows_below}
 use Rattle.pg_finders.specs.private.Solved.{WinsOn}
 use Rattle.pg_finders.proofs.Good.{good_rows}
-use Rattle.pg_finders.proofs.Rows.{RowsOf, rows_of_below}
+use Rattle.pg_finders.proofs.Rows.{RowsOf, rows_of_below, rows_until}
 use Rattle.pg_finders.proofs.Sets.{not_same, equal_from}
 use Rattle.pg_board.specs.declared.entry.Entry.{Entry}
 use Rattle.pg_board.specs.declared.entry.Posted.{Posted}
@@ -60,20 +59,11 @@ known_below (r ∷ known) p (suc v) i = let h = known_below known p v i in omega
 pub unknown_beyond : (known : KnownRows) (p : Player) (v : ℕ) → length known ≤ v → known_of known p v ≡ false
 unknown_beyond known p v le = false_from_ne_true (known_of known p v) (λ i. let h = known_below known p v i in omega (arith, h, le))
 
-rows_to : (X : VertexSet) (s : Choices) (low d : ℕ) → ((v : ℕ) → low ≤ v → X v ≡ false) → rows_below X s (low + d) ≡ rows_below X s low
-rows_to X s low zero none = ap (rows_below X s) (add-zero low)
-rows_to X s low (suc d) none =
-    let e : low + suc d ≡ suc (low + d) = omega arith in
-    let behind : X (low + d) ≡ false = none (low + d) (omega arith) in
-    ap (rows_below X s) e ∙ rw behind (rows_to X s low d none)
-
 pub rows_to_last : (g : Graph) (known : KnownRows) (p : Player) → length known ≤ length g
     → rows_below (known_of known p) (own_choices g p (known_choice known)) (length known) ≡ known_rows g known p
 rows_to_last g known p sized =
-    let K = known_of known p in
-    let s = own_choices g p (known_choice known) in
-    let e : length known + (length g - length known) ≡ length g = omega (arith, sized) in
-    sym (rows_to K s (length known) (length g - length known) (unknown_beyond known p)) ∙ ap (rows_below K s) e
+    sym (rows_until (known_of known p) (own_choices g p (known_choice known)) (length known) (length g) sized
+    (λ v i low high. let h = known_below known p v i in omega (arith, h, low)))
 
 -- the vertices of rows as a list
 in_rows : (rows : ClaimRows) (v : ℕ) → Contains (vertices rows) v ↔ In (named rows) v
