@@ -61,6 +61,7 @@ pub use Rattle.pg_board.specs.declared.entry.Entry.{Entry}
 pub use Rattle.pg_board.specs.declared.entry.Posted.{Posted}
 pub use Rattle.pg_board.specs.declared.refusal.Refusal.{Refusal}
 pub use Rattle.pg_board.specs.declared.regions.Regions.{Regions}
+pub use Rattle.pg_board.specs.declared.vertex_state.VertexState.{VertexState}
 pub use Rattle.pg_board.specs.private.Growth.{IsGrowing, open_before}
 pub use Rattle.pg_board.specs.private.Office.{ArePastCopies, IsPastCopy, IsPresentCopy}
 pub use Rattle.pg_board.specs.private.OpenEdges.{EndsOutside, HavePlaces, IsFirstOutside, LeadsOutside}

@@ -1,6 +1,6 @@
 -- A vertex is settled in the tables: what they say then.
-use Rattle.pg_board.proofs.Common.{rules, ◌≡◌, ℕ, ◌<◌, false, [], length, set, length-set, Option, Some, and-false, Player, Graph, read_set, Regions, State}
-use Rattle.pg_board.proofs.Common.{state_with, AreRegions}
+use Rattle.pg_board.proofs.Common.{rules, ◌≡◌, ℕ, ◌<◌, ◌==◌, if◌then◌else◌, false, [], length, set, length-set, Option, Some, and-false, Player, Graph}
+use Rattle.pg_board.proofs.Common.{read_set, Regions, State, table_state, state_with, AreRegions}
 use Rattle.std.proofs.Common.{slice_index}
 
 pub state_with-none : (st : State) (p : Player) (v : ℕ) → state_with st p [] v ≡ st v
@@ -8,11 +8,12 @@ state_with-none st p v = search rules
 
 -- the row is written into the tables
 pub record Settles (r r' : Regions) (p : Player) (row : ℕ × Option ℕ) : Type 0 where
-  pub table : r'.table.items ≡ set r.table.items row.0 (Some (p, row.1))
+  pub size : length r'.table.items ≡ length r.table.items
+  pub table : (v : ℕ) → table_state r'.table.items v ≡ (if row.0 == v then Some (p, row.1) else table_state r.table.items v)
   pub mask : r'.unsettled ≡ set r.unsettled row.0 false
   pub passed : r'.passed.items ≡ r.passed.items
 
 -- the tables after one vertex is settled
 module _ (g : Graph) (r r' : Regions) (p : Player) (row : ℕ × Option ℕ) (h : Settles r r' p row) (below : row.0 < length g) (a : AreRegions g r) where
   pub AreRegions-settle : AreRegions g r'
-  AreRegions-settle = search (rules, length-set, a.size, a.mask_size, h.passed, a.passed_size, a.passes, slice_index, and-false, read_set)
+  AreRegions-settle = search (rules, length-set, h.size, h.table, a.size, a.mask_size, h.passed, a.passed_size, a.passes, slice_index, and-false, read_set)

@@ -1,4 +1,5 @@
 -- Definitions that only private functions and proofs cite: no public contract stands on them.
+pub mod VertexState
 pub mod Regions
 pub mod OpenEdges
 pub mod Growth

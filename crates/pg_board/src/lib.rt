@@ -12,6 +12,7 @@ mod open_edges;
 mod refusal;
 mod regions;
 mod rest;
+mod vertex_state;
 
 pub use board::Board;
 pub use entry::{Entry, Posted};

@@ -1,17 +1,18 @@
 //! What a board has at hand beside its journal: of each vertex whose it is and by which choice, and which
 //! vertices are unsettled. Both are changed vertex by vertex, and never made anew.
 
-ghost use Rattle.std.specs.Prelude.{◌≡◌, ◌<◌, ℕ, length, IfOk, slice_set, slice_get, Some, None, false};
+ghost use Rattle.std.specs.Prelude.{◌≡◌, ◌<◌, ◌==◌, if◌then◌else◌, ℕ, length, IfOk, slice_set, slice_get, Some, None, false};
 ghost use Rattle.pg_board.specs.State.{settled, is_unsettled};
 ghost use Rattle.pg_board.specs.private.Regions.{table_state, AreRegions};
 
+use crate::vertex_state::VertexState;
 use pg_game::{Game, Mask, Memory, Player};
 use std::alloc::Global;
 
 /// Both players' regions, and the vertices that are in neither.
 #[derive(Drop)]
 pub struct Regions {
-    pub table: Vec<Option<(Player, Option<u32>)>>,
+    pub table: Vec<VertexState>,
     pub unsettled: Mask,
     /// Of each vertex how many of its successors are known to be settled, from the first on.
     pub passed: Vec<u32>,
@@ -25,7 +26,7 @@ impl Regions {
     {
         let n = game.len();
         Ok(Regions {
-            table: vec![in alloc; None; n as usize]?,
+            table: vec![in alloc; VertexState::Unsettled; n as usize]?,
             unsettled: Mask::full(alloc, n)?,
             passed: vec![in alloc; 0u32; n as usize]?,
         })
@@ -37,7 +38,7 @@ impl Regions {
     {
         let at = v as usize;
         if at < self.table.len() {
-            self.table[at]
+            self.table[at].get()
         } else {
             None
         }
@@ -56,11 +57,13 @@ impl Regions {
     pub fn settle(&mut self, player: Player, row: (u32, Option<u32>))
         requires table { row.0 < length self.old.table.items }
         requires mask { row.0 < length self.old.unsettled }
-        ensures table { self.new.table.items ≡ slice_set self.old.table.items row.0 (Some (player, row.1)) }
+        ensures size { length self.new.table.items ≡ length self.old.table.items }
+        ensures table { (v : ℕ) → table_state self.new.table.items v
+            ≡ (if row.0 == v then Some (player, row.1) else table_state self.old.table.items v) }
         ensures mask { self.new.unsettled ≡ slice_set self.old.unsettled row.0 false }
         ensures passed { self.new.passed.items ≡ self.old.passed.items }
     {
-        self.table[row.0 as usize] = Some((player, row.1));
+        self.table[row.0 as usize] = VertexState::settled(player, row.1);
         self.unsettled.remove(row.0);
     }
 
@@ -71,8 +74,8 @@ impl Regions {
         ensures each { IfOk result (λ rows. (v : ℕ) → v < length self.now.table.items → slice_get rows.items v ≡ table_state self.now.table.items v) }
     {
         let mut rows = Vec::with_capacity(alloc, self.table.len())?;
-        'table: for settled in self.table.as_slice() {
-            if let Some(row) = *settled {
+        'table: for state in self.table.as_slice() {
+            if let Some(row) = state.get() {
                 rows.push(row)?;
             }
         }

@@ -1,17 +1,20 @@
 -- What a board has at hand beside its journal.
-use Rattle.std.specs.Prelude.{ℕ, ◌≡◌, ◌<◌, List, length, slice_index, Option, Some, None, if◌then◌else◌, slice_index_or}
+use Rattle.std.specs.Prelude.{ℕ, ◌≡◌, ◌<◌, List, length, slice_index, Some, None, if◌then◌else◌, slice_index_or}
 use Rattle.pg_game.specs.declared.player.Player.{Player}
 use Rattle.pg_game.specs.Graph.{Graph, successors_of}
 use Rattle.pg_game.specs.VertexSet.{members}
 use Rattle.pg_dominion.specs.Claim.{ClaimRows, named, choice_in}
 use Rattle.pg_dominion.specs.private.Attracting.{ArePassed}
 use Rattle.pg_board.specs.declared.regions.Regions.{Regions}
+use Rattle.pg_board.specs.declared.vertex_state.VertexState.{VertexState}
+use Rattle.pg_board.specs.declared.vertex_state.VertexState.TheVariants.{Unsettled}
+use Rattle.pg_board.specs.private.VertexState.{state_in}
 use Rattle.pg_board.specs.State.{State, is_unsettled, unsettled}
 use Rattle.pg_board.specs.Journal.{Journal, state_of, IsLawful, number_settled}
 
 -- the state that a table says: nothing past its end
-abbrev pub table_state : List (Option (Player × Option ℕ)) → State
-table_state table v = slice_index_or table v None
+abbrev pub table_state : List VertexState → State
+table_state table v = state_in (slice_index_or table v Unsettled)
 
 -- the state after a player's rows, which leave what is settled as it is
 abbrev pub state_with : State → Player → ClaimRows → State

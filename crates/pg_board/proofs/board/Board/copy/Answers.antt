@@ -1,11 +1,11 @@
-use Rattle.pg_board.proofs.Common.{◌≡◌, ◌∙◌, ℕ, length, sym, subst, ap, arith, List, Bool, Option, fun_ext, Player, Graph, VertexSet, members, IsSubgame}
-use Rattle.pg_board.proofs.Common.{ClaimRows, IsGoodIn, Play, State, unsettled, state_of, IsDominionAfter, table_state}
+use Rattle.pg_board.proofs.Common.{◌≡◌, ◌∙◌, ℕ, length, sym, subst, ap, arith, List, Bool, fun_ext, Player, Graph, VertexSet, members, IsSubgame}
+use Rattle.pg_board.proofs.Common.{ClaimRows, IsGoodIn, Play, State, unsettled, state_of, IsDominionAfter, VertexState, table_state}
 use Rattle.pg_board.proofs.Numbers.{lawful_now}
 use Rattle.pg_board.proofs.Copies.{dominion_now}
 use Rattle.pg_board.proofs.board.Board.copy.Goals as goal
 
 -- the mask has the unsettled vertices
-same_set : (g : Graph) (st : State) (table : List (Option (Player × Option ℕ))) (old new : List Bool) → new ≡ old
+same_set : (g : Graph) (st : State) (table : List VertexState) (old new : List Bool) → new ≡ old
     → ((v : ℕ) → members old v ≡ unsettled g (table_state table) v) → ((v : ℕ) → table_state table v ≡ st v) → unsettled g st ≡ members new
 same_set g st table old new e mask state = fun_ext (λ v. sym (ap (λ m. members m v) e ∙ (mask v ∙ ap (λ (s : State). unsettled g s v) (fun_ext state))))
 

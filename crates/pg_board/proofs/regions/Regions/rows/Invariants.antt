@@ -3,6 +3,6 @@ use Rattle.pg_board.proofs.regions.Regions.rows.Given as goal
 
 abbrev pub invariant-table : goal.invariant-table
 invariant-table l = record {
-  size : length l.rows.items ≡ l.settled-index;
-  each : (v : ℕ) → v < l.settled-index → slice_get l.rows.items v ≡ table_state l.settled-items v;
+  size : length l.rows.items ≡ l.state-index;
+  each : (v : ℕ) → v < l.state-index → slice_get l.rows.items v ≡ table_state l.state-items v;
 }
