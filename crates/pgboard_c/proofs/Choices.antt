@@ -1,8 +1,5 @@
 -- The choices of a solution are below each number that is no less than the number of vertices.
-use Rattle.std.proofs.Common.{rules, ℕ, ◌<◌, ◌≤◌, length, Option, IfSome}
-use Rattle.pg_game.specs.Graph.{Graph, IsGame}
-use Rattle.pg_text.specs.Solution.{SolutionRows, IsExactSolution, choice_of}
-use Rattle.pg_text.proofs.Exact.{choice_below}
+use Rattle.pgboard_c.proofs.Common.{rules, ℕ, ◌<◌, ◌≤◌, length, Option, IfSome, Graph, IsGame, SolutionRows, IsExactSolution, choice_of, choice_below}
 
 wider : (m n : ℕ) (o : Option ℕ) → m ≤ n → IfSome o (λ w. w < m) → IfSome o (λ w. w < n)
 wider m n o le h = search rules

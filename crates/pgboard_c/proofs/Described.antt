@@ -1,11 +1,8 @@
 -- What arrays say, vertex by vertex.
-use Rattle.std.proofs.Common.{rules, ◌≡◌, ℕ, zero, suc, ◌<◌, ◌≤◌, List, [], ◌∷◌, length, refl, arith, length-append, All, Some}
+use Rattle.pgboard_c.proofs.Common.{rules, ◌≡◌, ℕ, zero, suc, ◌<◌, ◌≤◌, List, [], ◌∷◌, length, refl, arith, length-append, All, Some, Spec, AreNumbers, NoneHas}
+use Rattle.pgboard_c.proofs.Common.{max_number, max_vertices, first_fault, GameArrays, IsBadPriority, specs_below, array_spec}
 use Rattle.std.proofs.lemmas.List.Elements.{All-nil, All-push}
-use Rattle.pg_game.specs.declared.game.Spec.{Spec}
 use Rattle.pg_game.specs.declared.game.GameFault.TheVariants.{TooManyVertices}
-use Rattle.pg_game.specs.Specification.{AreNumbers, max_number, max_vertices, first_fault}
-use Rattle.pg_game.specs.Least.{NoneHas}
-use Rattle.pgboard_c.specs.Arrays.{GameArrays, IsBadPriority, specs_below, array_spec}
 
 pub length_specs : (a : GameArrays) (v : ℕ) → length (specs_below a v) ≡ v
 length_specs a zero = refl

@@ -1,3 +1,4 @@
+pub mod Common
 pub mod Described
 pub mod Choices
 pub mod Solved

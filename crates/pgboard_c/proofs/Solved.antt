@@ -1,32 +1,17 @@
 -- Two claims that share a game out make its solution.
-use Rattle.std.proofs.Common.{rules, ◌≡◌, ◌≢◌, ℕ, ◌<◌, Bool, true, false, inl, inr, List, [], ◌∷◌, length, replicate, sym, ◌∙◌, ap, subst, arith, lt-ltb}
-use Rattle.std.proofs.Common.{get_or, Option, None, nat_lt, All}
-use Rattle.std.proofs.lemmas.Grind.{common_steps}
-use Rattle.std.specs.List.{AllByRecursion}
-use Rattle.std.proofs.lemmas.List.{get_or-replicate, length-replicate}
-use Rattle.pg_game.specs.declared.player.Player.{Player}
-use Rattle.pg_game.specs.declared.player.Player.TheVariants.{Even, Odd}
-use Rattle.pg_game.specs.Player.{opponent, same_player}
-use Rattle.pg_game.specs.Graph.{Graph, IsGame, HasEdge, owner_of}
-use Rattle.pg_game.specs.VertexSet.{VertexSet, In, members}
-use Rattle.pg_game.specs.Subgame.{IsSubgame}
-use Rattle.pg_game.specs.Kept.{KeptEdge}
-use Rattle.pg_game.specs.Region.{IsRegion, Wins}
+use Rattle.pgboard_c.proofs.Common.{rules, ◌≡◌, ◌≢◌, ℕ, ◌<◌, Bool, true, false, inl, inr, List, [], ◌∷◌, length, replicate, sym, ◌∙◌, ap, subst, arith, lt-ltb}
+use Rattle.pgboard_c.proofs.Common.{get_or, Option, None, nat_lt, All, common_steps, AllByRecursion, get_or-replicate, length-replicate, Player, Even, Odd, In}
+use Rattle.pgboard_c.proofs.Common.{opponent, same_player, Graph, IsGame, HasEdge, owner_of, VertexSet, members, IsSubgame, KeptEdge, IsRegion, edge_below}
+use Rattle.pgboard_c.proofs.Common.{ClosedWalk-weaker, Claim, ClaimRows, named, choice_in, IsRightRow, IsGoodIn, AreClaims, and_from, or_cases, own_or_other}
+use Rattle.pgboard_c.proofs.Common.{is_same, IsPut}
+use Rattle.pg_game.specs.Region.{Wins}
 use Rattle.pg_game.proofs.Disjoint.{wins_disjoint}
 use Rattle.pg_game.proofs.Edges.{some_edge}
-use Rattle.pg_game.proofs.Walks.{ClosedWalk-weaker}
-use Rattle.pg_text.specs.Solution.{winner_of, choice_of, won_by, IsExactSolution, SolutionRows as Solved}
-use Rattle.pg_text.proofs.Exact.{edge_below}
-use Rattle.pg_dominion.specs.declared.claim.Claim.{Claim}
-use Rattle.pg_dominion.specs.Claim.{ClaimRows, named, choice_in, IsRightRow, IsGoodIn}
 use Rattle.pg_dominion.proofs.Rows.{named_right}
-use Rattle.pg_finders.specs.Claims.{AreClaims}
 use Rattle.pg_finders.proofs.ClosedWalks.{never_empty}
 use Rattle.pg_finders.proofs.Masks.{inside_mask}
-use Rattle.std.proofs.lemmas.Bool.{and_from, or_cases}
-use Rattle.pg_game.proofs.Players.{own_or_other, is_same}
 use Rattle.pg_finders.proofs.Solving.{kept_leads, kept_same, choice_leads}
-use Rattle.pgboard_c.specs.private.Put.{IsPut}
+use Rattle.pg_text.specs.Solution.{winner_of, choice_of, won_by, IsExactSolution, SolutionRows as Solved}
 
 -- all vertices
 pub all_inside : (n v : ℕ) → In (members (replicate n true)) v → v < n
@@ -49,8 +34,15 @@ pub claims_of : (g h : Graph) (mask : List Bool) (even odd : Claim) → h ≡ g 
 claims_of g h mask even odd same all claims = search rules
 
 -- the vertices of a good claim, or of none
-pub rows_below : (g : Graph) (U : VertexSet) (p : Player) (rows : ClaimRows) → (0 < length rows → IsGoodIn g U p rows) → All (λ r. r.0 < length g) rows
+rows_below : (g : Graph) (U : VertexSet) (p : Player) (rows : ClaimRows) → (0 < length rows → IsGoodIn g U p rows) → All (λ r. r.0 < length g) rows
 rows_below g U p rows good = grind (arith, common_steps)
+
+-- the rows of two claims on all vertices are of vertices
+pub rows_fit : (g h : Graph) (mask : List Bool) (even odd : Claim) (n : ℕ) → h ≡ g → mask ≡ replicate (length g) true
+    → AreClaims h (members mask) even odd → n ≡ length g → All (λ r. r.0 < n) even.rows × All (λ r. r.0 < n) odd.rows
+rows_fit g h mask even odd n same all claims size =
+    let here = claims_of g h mask even odd same all claims in let U = members (replicate (length g) true) in
+    rw size (rows_below g U Even even.rows here.even_good, rows_below g U Odd odd.rows here.odd_good)
 
 module _ (g : Graph) (game : IsGame g) (U : VertexSet) (below : (v : ℕ) → In U v → v < length g) (whole : (v : ℕ) → v < length g → In U v) where
   -- where a kept edge of a right claim leads

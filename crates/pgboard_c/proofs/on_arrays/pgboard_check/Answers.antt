@@ -1,6 +1,4 @@
-use Rattle.std.proofs.Common.{subst}
-use Rattle.pgboard_c.specs.Arrays.{GameArrays}
-use Rattle.pgboard_c.specs.Answers.{IsCheckFault}
+use Rattle.pgboard_c.proofs.Common.{subst, GameArrays, IsCheckFault}
 use Rattle.pgboard_c.proofs.on_arrays.pgboard_check.Goals as goal
 
 pub returns-in-Err-clause-refused : goal.returns-in-Err-clause-refused

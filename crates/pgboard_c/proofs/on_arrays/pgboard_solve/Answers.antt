@@ -1,6 +1,4 @@
-use Rattle.std.proofs.Common.{length, subst}
-use Rattle.pgboard_c.specs.Arrays.{GameArrays}
-use Rattle.pgboard_c.specs.Answers.{IsArraysSolveFault}
+use Rattle.pgboard_c.proofs.Common.{length, subst, GameArrays, IsArraysSolveFault}
 use Rattle.pgboard_c.proofs.on_arrays.pgboard_solve.Goals as goal
 
 pub returns-in-Err-clause-refused : goal.returns-in-Err-clause-refused

@@ -1,5 +1,4 @@
-use Rattle.std.proofs.Common.{arith}
-use Rattle.pgboard_c.specs.Arrays.{no_choice}
+use Rattle.pgboard_c.proofs.Common.{arith, no_choice}
 use Rattle.pgboard_c.proofs.Choices.{choices_below}
 use Rattle.pgboard_c.proofs.on_arrays.solve.Goals as goal
 

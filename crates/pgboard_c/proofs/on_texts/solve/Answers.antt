@@ -1,4 +1,4 @@
-use Rattle.pg_text.proofs.Exact.{exact_rows}
+use Rattle.pgboard_c.proofs.Common.{exact_rows}
 use Rattle.pgboard_c.proofs.on_texts.solve.Goals as goal
 
 pub write_solution-requires : goal.write_solution-requires

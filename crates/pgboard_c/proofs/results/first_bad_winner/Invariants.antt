@@ -1,5 +1,4 @@
-use Rattle.std.proofs.Common.{ℕ, ◌<◌}
-use Rattle.pgboard_c.specs.Arrays.{IsBadWinner}
+use Rattle.pgboard_c.proofs.Common.{ℕ, ◌<◌, IsBadWinner}
 use Rattle.pgboard_c.proofs.results.first_bad_winner.Given as goal
 
 abbrev pub invariant-loop-v : goal.invariant-loop-v

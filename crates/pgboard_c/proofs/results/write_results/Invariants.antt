@@ -1,7 +1,4 @@
-use Rattle.std.proofs.Common.{◌≡◌, ℕ, ◌<◌, length, get_or}
-use Rattle.pg_game.specs.Player.{digit_of}
-use Rattle.pg_text.specs.Solution.{winner_of, choice_of}
-use Rattle.pgboard_c.specs.Arrays.{choice_from}
+use Rattle.pgboard_c.proofs.Common.{◌≡◌, ℕ, ◌<◌, length, get_or, digit_of, winner_of, choice_of, choice_from}
 use Rattle.pgboard_c.proofs.results.write_results.Given as goal
 
 abbrev pub invariant-loop-v : goal.invariant-loop-v

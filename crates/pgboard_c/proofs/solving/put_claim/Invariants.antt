@@ -1,5 +1,4 @@
-use Rattle.std.proofs.Common.{◌≤◌, length, drop}
-use Rattle.pgboard_c.specs.private.Put.{IsPut}
+use Rattle.pgboard_c.proofs.Common.{◌≤◌, length, drop, IsPut}
 use Rattle.pgboard_c.proofs.solving.put_claim.Given as goal
 
 abbrev pub invariant-rows : goal.invariant-rows

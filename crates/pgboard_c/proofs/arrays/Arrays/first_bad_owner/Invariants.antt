@@ -1,5 +1,4 @@
-use Rattle.std.proofs.Common.{ℕ, ◌<◌}
-use Rattle.pgboard_c.specs.Arrays.{IsBadOwner}
+use Rattle.pgboard_c.proofs.Common.{ℕ, ◌<◌, IsBadOwner}
 use Rattle.pgboard_c.proofs.arrays.Arrays.first_bad_owner.Given as goal
 
 abbrev pub invariant-loop-v : goal.invariant-loop-v

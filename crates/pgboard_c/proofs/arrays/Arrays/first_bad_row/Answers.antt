@@ -1,5 +1,4 @@
-use Rattle.std.proofs.Common.{◌≡◌, length, refl, ap, arith, below_more}
-use Rattle.pgboard_c.specs.Arrays.{GameArrays}
+use Rattle.pgboard_c.proofs.Common.{◌≡◌, length, refl, ap, arith, below_more, GameArrays}
 use Rattle.pgboard_c.proofs.arrays.Arrays.first_bad_row.Goals as goal
 
 pub loop-v-preserved : goal.loop-v-preserved

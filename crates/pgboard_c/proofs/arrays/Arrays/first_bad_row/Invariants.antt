@@ -1,5 +1,4 @@
-use Rattle.std.proofs.Common.{ℕ, ◌<◌}
-use Rattle.pgboard_c.specs.Arrays.{IsBadRow}
+use Rattle.pgboard_c.proofs.Common.{ℕ, ◌<◌, IsBadRow}
 use Rattle.pgboard_c.proofs.arrays.Arrays.first_bad_row.Given as goal
 
 abbrev pub invariant-loop-v : goal.invariant-loop-v

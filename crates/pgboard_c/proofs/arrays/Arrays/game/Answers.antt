@@ -1,5 +1,4 @@
-use Rattle.std.proofs.Common.{rules, ◌<◌, length, arith}
-use Rattle.pgboard_c.specs.Arrays.{array_specs}
+use Rattle.pgboard_c.proofs.Common.{rules, ◌<◌, length, arith, array_specs}
 use Rattle.pgboard_c.proofs.Described.{length_specs, too_many}
 use Rattle.pgboard_c.proofs.arrays.Arrays.game.Goals as goal
 

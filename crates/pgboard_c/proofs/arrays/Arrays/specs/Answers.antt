@@ -1,6 +1,4 @@
-use Rattle.std.proofs.Common.{rules, ◌≡◌, List, length, sym, subst, arith, All}
-use Rattle.pg_game.specs.declared.game.Spec.{Spec}
-use Rattle.pg_game.specs.Specification.{AreNumbers}
+use Rattle.pgboard_c.proofs.Common.{rules, ◌≡◌, List, length, sym, subst, arith, All, Spec, AreNumbers}
 use Rattle.pgboard_c.proofs.Described.{numbers_below}
 use Rattle.pgboard_c.proofs.arrays.Arrays.specs.Goals as goal
 
