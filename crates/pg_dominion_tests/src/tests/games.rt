@@ -26,6 +26,9 @@ pub enum Hostile {
     Ladder(u32, Option<u32>),
     /// Each of so many vertices leads to each, and vertex v has the priority `step * v`.
     Dense(u32, u32),
+    /// A bad vertex that leads to a cycle of so many good ones, each of which leads to the next two, and so many of them to a
+    /// third; and behind it another bad one that leads there. Nothing leads to the bad ones.
+    Chords(u32, u32),
 }
 
 impl Hostile {
@@ -40,6 +43,7 @@ impl Hostile {
                 add_levels(alloc, draft, first, levels, turned)
             }
             Hostile::Dense(n, step) => add_dense(alloc, draft, n, step),
+            Hostile::Chords(n, more) => add_chords(alloc, draft, n, more),
         }
     }
 
@@ -120,6 +124,28 @@ fn add_dense(alloc: Global, draft: &mut Draft, n: u32, step: u32) -> Result<(), 
         draft.add(alloc, v.saturating_mul(step), ODD, all.as_slice())?;
     }
     Ok(())
+}
+
+/// The vertex of a cycle of so many that stands so far from its first one.
+fn on_cycle(first: u32, n: u32, at: u32) -> u32 {
+    let place = if at < n { at } else { at.saturating_sub(n) };
+    first.saturating_add(place)
+}
+
+fn add_chords(alloc: Global, draft: &mut Draft, n: u32, more: u32) -> Result<(), Memory> {
+    let first = draft.len().saturating_add(1);
+    draft.add(alloc, 1, ODD, [first].as_slice())?;
+    for v in 0..n {
+        let next = on_cycle(first, n, v.saturating_add(1));
+        let second = on_cycle(first, n, v.saturating_add(2));
+        if v < more {
+            let third = on_cycle(first, n, v.saturating_add(3));
+            draft.add(alloc, 0, ODD, [next, second, third].as_slice())?;
+        } else {
+            draft.add(alloc, 0, ODD, [next, second].as_slice())?;
+        }
+    }
+    draft.add(alloc, 1, ODD, [first].as_slice())
 }
 
 /// One to 24 vertices with one to three random successors each.
