@@ -1,18 +1,8 @@
 -- The sum of a report's column `settled` is what its workers settled, and the calling thread's entries come after.
-use Rattle.std.proofs.Common.{rules, ◌≡◌, ℕ, ◌+◌, List, length, sum, take, sym, ap, ◌∙◌, subst, arith, length-append, vec_len}
-use Rattle.std.proofs.Math.Seq.{take-append_seam, drop-append_seam}
-use Rattle.pg_game.specs.Graph.{Graph}
-use Rattle.pg_text.specs.Solution.{IsExactSolution}
-use Rattle.pg_text.specs.Known.{KnownRows}
-use Rattle.pg_board.specs.Journal.{Journal, state_of, IsLawful, number_settled}
-use Rattle.pg_board.specs.Full.{IsFull, AreStateRows}
-use Rattle.pg_board.specs.Play.{Play}
-use Rattle.pg_workers.specs.declared.report.ReportRow.{ReportRow}
+use Rattle.pg_workers.proofs.Common.{rules, ◌≡◌, ℕ, ◌+◌, List, length, sum, take, sym, ap, ◌∙◌, subst, arith, length-append, vec_len, take-append_seam, Graph}
+use Rattle.pg_workers.proofs.Common.{drop-append_seam, IsExactSolution, KnownRows, Journal, state_of, IsLawful, number_settled, IsFull, AreStateRows, Play}
+use Rattle.pg_workers.proofs.Common.{ReportRow, AddsUp, AreNumbered, IsReport, settled_in, IsLater, HasSettled, IsOutcome}
 use Rattle.pg_workers.specs.declared.solve.Outcome.{Outcome}
-use Rattle.pg_workers.specs.Report.{AddsUp, AreNumbered, IsReport, settled_in}
-use Rattle.pg_workers.specs.private.Rest.{IsLater}
-use Rattle.pg_workers.specs.private.Known.{HasSettled}
-use Rattle.pg_workers.specs.Outcomes.{IsOutcome}
 
 pub adds_up : (old new : Play) (report : List ReportRow) (known : ℕ) → IsLater 2 old new → settled_in report + known ≡ number_settled old.journal
     → AddsUp known new.journal report

@@ -1,11 +1,7 @@
 -- Sizes of batches, as they are tried one after the other.
-use Rattle.std.proofs.Common.{rules, ◌≡◌, ◌≢◌, ◌≤◌, ◌<◌, ◌*◌, ◌/◌, ℕ, zero, suc, ◌+◌, ◌-◌, ◌^◌, true, false, ◌⊎◌, refl, sym, ◌∙◌, subst, arith, ltb-true}
-use Rattle.std.proofs.Common.{nat_lt}
-use Rattle.std.proofs.lemmas.Grind.{common_steps}
-use Rattle.std.proofs.Math.Nat.{le-div_iff_mul-le, two-pow-succ}
-use Rattle.std.proofs.lemmas.Bool.{false_from_ne_true}
-use Rattle.pg_game.specs.Specification.{max_vertices}
-use Rattle.pg_workers.specs.Work.{batch_of, batches, batches_of, doubled, most_batches, most_doublings, total_of}
+use Rattle.pg_workers.proofs.Common.{rules, ◌≡◌, ◌≢◌, ◌≤◌, ◌<◌, ◌*◌, ◌/◌, ℕ, zero, suc, ◌+◌, ◌-◌, ◌^◌, true, false, ◌⊎◌, refl, sym, ◌∙◌, subst, arith, ltb-true}
+use Rattle.pg_workers.proofs.Common.{nat_lt, common_steps, le-div_iff_mul-le, two-pow-succ, false_from_ne_true, max_vertices, batch_of, batches, batches_of}
+use Rattle.pg_workers.proofs.Common.{doubled, most_batches, most_doublings, total_of}
 
 -- this size is tried after smaller ones that gave too many batches
 pub record IsTried (n size : ℕ) : Type 0 where

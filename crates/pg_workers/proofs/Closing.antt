@@ -1,13 +1,8 @@
 -- What the tickets drew, put together.
-use Rattle.std.proofs.Common.{rules, ◌≡◌, ℕ, ◌+◌, ◌<◌, List, [], ◌∷◌, ◌++◌, All, length, get_or, map, refl, ap, ◌∙◌, subst, arith, length-append, append_assoc}
-use Rattle.std.proofs.Common.{append-nil, min, cond, count_by, sum_by, flat_map}
-use Rattle.std.proofs.lemmas.Grind.{common_steps}
-use Rattle.std.specs.List.{remove}
-use Rattle.std.proofs.lemmas.List.{map-append}
+use Rattle.pg_workers.proofs.Common.{rules, ◌≡◌, ℕ, ◌+◌, ◌<◌, List, [], ◌∷◌, ◌++◌, All, length, get_or, map, refl, ap, ◌∙◌, subst, arith, length-append, min}
+use Rattle.pg_workers.proofs.Common.{append_assoc, append-nil, cond, count_by, sum_by, flat_map, common_steps, remove, map-append, sum_by-append, sum_by-cons}
+use Rattle.pg_workers.proofs.Common.{times, once_below, HeldTicket, AreDrawn}
 use Rattle.std.proofs.lemmas.List.Concat.{flat_map-append, length-flat_map}
-use Rattle.std.proofs.lemmas.List.Sums.{sum_by-append, sum_by-cons}
-use Rattle.pg_workers.specs.Counting.{times, once_below}
-use Rattle.pg_workers.specs.Tickets.{HeldTicket, AreDrawn}
 
 module _ {X : Type 0} where
   pub remade : (xs rest : List X) (x : X) → 0 < length xs → x ≡ get_or xs 0 x → rest ≡ remove xs 0 → xs ≡ x ∷ rest

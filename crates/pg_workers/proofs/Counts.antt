@@ -1,12 +1,6 @@
 -- Sums and counts over lists, of which one element is changed or has all.
-use Rattle.std.proofs.Common.{rules, ◌≡◌, ℕ, zero, suc, ◌+◌, ◌≤◌, List, [], ◌∷◌, map, set, refl, sym, ap, arith}
-use Rattle.std.proofs.lemmas.Grind.{common_steps}
-use Rattle.std.specs.Prelude.{◌==◌, if◌then◌else◌, sum_by}
-use Rattle.std.proofs.lemmas.Bool.Decides.{nat_tests}
-use Rattle.std.proofs.lemmas.List.Sums.{sum_by-cons}
-use mathlib.Core.Option.{some, some-injective, some-ne-none}
-use lib.ListN.{get_elem?}
-use Rattle.pg_workers.specs.Counting.{once_below}
+use Rattle.pg_workers.proofs.Common.{rules, ◌≡◌, ℕ, zero, suc, ◌+◌, ◌≤◌, List, [], ◌∷◌, map, set, refl, sym, ap, arith, common_steps, ◌==◌, if◌then◌else◌, some}
+use Rattle.pg_workers.proofs.Common.{sum_by, nat_tests, sum_by-cons, some-injective, some-ne-none, get_elem?, once_below}
 
 module _ {X : Type 0} where
   -- the sum after a change of one

@@ -1,3 +1,4 @@
+pub mod Common
 pub mod AddingUp
 pub mod Rows
 pub mod Placing

@@ -1,17 +1,11 @@
 -- Each kind of step keeps the rule of the word.
-use Rattle.std.proofs.Common.{rules, ◌≡◌, ℕ, ◌+◌, ◌%◌, ◌^◌, ◌<◌, ◌≤◌, List, [], ◌∷◌, ◌++◌, Bool, length, set, refl, ap, ◌∙◌, subst, ⊎_elim, arith}
-use Rattle.std.proofs.Common.{length-append}
-use Rattle.std.proofs.lemmas.Grind.{common_steps}
-use Rattle.std.specs.Prelude.{min, nat_lt, slice_index, MatchBool, sum_by}
-use Rattle.std.proofs.Math.Nat.{mod-eq_of_lt}
-use mathlib.Core.Option.{some, some-injective, some-ne-none}
-use lib.ListN.{get_elem?}
-use Rattle.atomic_table.specs.Table.{State, Step, opening, Allows, Splits, Joins}
+use Rattle.pg_workers.proofs.Common.{rules, ◌≡◌, ℕ, ◌+◌, ◌%◌, ◌^◌, ◌<◌, ◌≤◌, List, [], ◌∷◌, ◌++◌, Bool, length, set, refl, ap, ◌∙◌, subst, ⊎_elim, arith, min}
+use Rattle.pg_workers.proofs.Common.{length-append, common_steps, nat_lt, slice_index, MatchBool, sum_by, mod-eq_of_lt, some, some-injective, some-ne-none}
+use Rattle.pg_workers.proofs.Common.{get_elem?, Step, opening, Allows, Splits, Joins, times, once_below, drawer, IsDrawer, IsDrawn, Draws, AtSeat, one_less}
+use Rattle.pg_workers.proofs.Common.{one_ticket, both_drawers, spent_drawer, sum_by-append}
+use Rattle.atomic_table.specs.Table.{State}
 use Rattle.atomic_table.proofs.Lists.{at_set, at_snoc}
 use Rattle.pg_workers.specs.declared.drawing.Drawer.{Drawer}
-use Rattle.pg_workers.specs.Counting.{times, once_below}
-use Rattle.pg_workers.specs.private.Drawing.{drawer, IsDrawer, IsDrawn, Draws, AtSeat, one_less, one_ticket, both_drawers, spent_drawer}
-use Rattle.std.proofs.lemmas.List.Sums.{sum_by-append}
 use Rattle.pg_workers.proofs.Counts.{sum_by-set_at, sum_by-at, sum_by-le_each, alone, once_more, once_none}
 
 pub begins : (total seats : ℕ) → IsDrawn total seats (opening (0 ∷ []) [] (drawer total seats 0 []))

@@ -1,19 +1,8 @@
 -- What a row notes of the answers to a worker's claims.
-use Rattle.std.proofs.Common.{rules, ◌≡◌, ℕ, zero, suc, ◌+◌, ◌^◌, ◌<◌, ◌≤◌, ◌⊎◌, inl, inr, ⊎_elim, Bool, false, List, [], ◌∷◌, ◌++◌, length, take, get_or}
-use Rattle.std.proofs.Common.{sym, ap, ◌∙◌, subst, arith, length-append}
-use Rattle.std.proofs.lemmas.Grind.{common_steps}
-use Rattle.std.specs.Prelude.{slice_get, Some, Result, Err, IfOk, OnErr}
-use Rattle.std.proofs.lemmas.List.{take_more}
-use Rattle.std.proofs.lemmas.List.Sums.{fold_push}
-use Rattle.std.proofs.lemmas.Option.{none-some, same_Some}
-use Rattle.pg_game.specs.Graph.{Graph}
-use Rattle.pg_dominion.specs.declared.claim.Claim.{Claim}
-use Rattle.pg_board.specs.declared.refusal.Refusal.{Refusal}
+use Rattle.pg_workers.proofs.Common.{rules, ◌≡◌, ℕ, zero, suc, ◌+◌, ◌^◌, ◌<◌, ◌≤◌, ◌⊎◌, inl, inr, ⊎_elim, Bool, false, List, [], ◌∷◌, ◌++◌, length, take, sym}
+use Rattle.pg_workers.proofs.Common.{get_or, ap, ◌∙◌, subst, arith, length-append, common_steps, slice_get, Some, Result, Err, IfOk, OnErr, take_more, Graph}
+use Rattle.pg_workers.proofs.Common.{fold_push, none-some, same_Some, Claim, Refusal, ReportRow, AreNoted, IsAnswerTo, AreCounts, answered, noted}
 use Rattle.pg_board.specs.declared.refusal.Refusal.TheVariants as refusal
-use Rattle.pg_workers.specs.declared.report.ReportRow.{ReportRow}
-use Rattle.pg_workers.specs.private.Answers.{AreNoted, IsAnswerTo}
-use Rattle.pg_workers.specs.Report.{AreCounts}
-use Rattle.pg_workers.specs.private.Report.{answered, noted}
 
 abbrev Added : ℕ → ℕ → Result ℕ Refusal → Type 0
 Added before after answer = IfOk answer (λ n. (1 ≤ n) × (after ≡ before + n))

@@ -1,15 +1,9 @@
 -- Rows that are put at the places of their jobs.
-use Rattle.std.proofs.Common.{rules, ◌≡◌, ◌≢◌, ℕ, zero, suc, ◌+◌, ◌<◌, ◌≤◌, inl, inr, List, [], ◌∷◌, ◌++◌, Vec, Global, length, map, take, drop, get_or, set}
-use Rattle.std.proofs.Common.{refl, sym, ap, ◌∙◌, subst, arith, length-set, sum_by, slice_get, Some}
-use Rattle.std.proofs.lemmas.Grind.{common_steps}
-use Rattle.std.proofs.lemmas.Bool.Decides.{nat_tests}
-use Rattle.std.proofs.lemmas.List.{get_or_default, take_more, take-append-drop}
-use Rattle.std.proofs.lemmas.List.Sums.{sum_by-append, sum_by-cons, sum_by-set, sum_by_more, sum_by_more_le}
-use Rattle.std.proofs.lemmas.Option.{none-some, same_Some, slice_get_within, slice_get-get_or, get_or_from_slice_get}
-use Rattle.pg_workers.specs.declared.report.ReportRow.{ReportRow}
-use Rattle.pg_workers.specs.Counting.{times, once_below}
-use Rattle.pg_workers.specs.Report.{AreNumbered, IsDrawnRow, IsReport, blank_row, settled_in}
-use Rattle.pg_workers.specs.private.Report.{AreBlank, AreOfPrefix, AreNotedRows, HasPlaces, jobs_in, rows_in, how_many_of_job}
+use Rattle.pg_workers.proofs.Common.{rules, ◌≡◌, ◌≢◌, ℕ, zero, suc, ◌+◌, ◌<◌, ◌≤◌, inl, inr, List, [], ◌∷◌, ◌++◌, Vec, Global, length, map, take, drop, get_or}
+use Rattle.pg_workers.proofs.Common.{set, refl, sym, ap, ◌∙◌, subst, arith, length-set, sum_by, slice_get, Some, common_steps, nat_tests, get_or_default, times}
+use Rattle.pg_workers.proofs.Common.{take_more, take-append-drop, sum_by-append, sum_by-cons, sum_by-set, sum_by_more, sum_by_more_le, none-some, same_Some}
+use Rattle.pg_workers.proofs.Common.{slice_get_within, slice_get-get_or, get_or_from_slice_get, ReportRow, once_below, AreNumbered, IsDrawnRow, IsReport}
+use Rattle.pg_workers.proofs.Common.{blank_row, settled_in, AreBlank, AreOfPrefix, AreNotedRows, HasPlaces, jobs_in, rows_in, how_many_of_job}
 use Rattle.pg_workers.proofs.Closing.{flat_map-push}
 use Rattle.pg_workers.proofs.Counts.{sum_by-of_map}
 use Rattle.pg_workers.proofs.Rows.{at_job, get_set_same, get_set_other, get_append, counted, found_row, rows_of-append, rows_of-rows_in}

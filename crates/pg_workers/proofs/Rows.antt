@@ -1,17 +1,9 @@
 -- Lists of rows.
-use Rattle.std.proofs.Common.{rules, ◌≡◌, ◌≢◌, ℕ, zero, suc, ◌+◌, ◌<◌, ◌⊎◌, inl, inr, Bool, true, false, List, [], ◌∷◌, ◌++◌, All, Vec, Global, length, map}
-use Rattle.std.proofs.Common.{take, drop, get_or, set, refl, sym, ap, ◌∙◌, subst, arith}
-use Rattle.std.proofs.lemmas.Grind.{common_steps}
-use Rattle.std.specs.Prelude.{◌==◌, cond, sum_by, slice_get, Some}
-use Rattle.std.proofs.Math.Seq.{take-append_seam}
-use Rattle.std.proofs.lemmas.Bool.Decides.{nat_tests}
-use Rattle.std.proofs.lemmas.List.{map-append}
-use Rattle.std.proofs.lemmas.List.Sums.{sum_by-cons, sum_by-append}
-use Rattle.std.proofs.lemmas.Option.{none-some, same_Some, slice_get_within, get_or_from_slice_get}
-use Rattle.pg_workers.specs.declared.report.ReportRow.{ReportRow}
-use Rattle.pg_workers.specs.Counting.{times}
-use Rattle.pg_workers.specs.Report.{AreNumbered, IsInOrder, IsReport, blank_row, settled_in}
-use Rattle.pg_workers.specs.private.Report.{AreBlank, AreIdle, forgotten, jobs_in, rows_in, how_many_of_job}
+use Rattle.pg_workers.proofs.Common.{rules, ◌≡◌, ◌≢◌, ℕ, zero, suc, ◌+◌, ◌<◌, ◌⊎◌, inl, inr, Bool, true, false, List, [], ◌∷◌, ◌++◌, All, Vec, Global, length}
+use Rattle.pg_workers.proofs.Common.{map, take, drop, get_or, set, refl, sym, ap, ◌∙◌, subst, arith, common_steps, ◌==◌, cond, sum_by, slice_get, Some, times}
+use Rattle.pg_workers.proofs.Common.{take-append_seam, nat_tests, map-append, sum_by-cons, sum_by-append, none-some, same_Some, slice_get_within, ReportRow}
+use Rattle.pg_workers.proofs.Common.{get_or_from_slice_get, AreNumbered, IsInOrder, IsReport, blank_row, settled_in, AreBlank, AreIdle, forgotten, jobs_in}
+use Rattle.pg_workers.proofs.Common.{rows_in, how_many_of_job}
 
 -- rows that settled nothing add up to nothing
 pub none_settled : (rows : List ReportRow) → AreIdle (length rows) rows → settled_in rows ≡ 0

@@ -1,24 +1,11 @@
 -- What the calling thread adds settles all that was left.
-use Rattle.std.proofs.lemmas.Grind.{common_steps}
-use Rattle.std.proofs.Common.{rules, ◌≡◌, ℕ, ◌<◌, false, ◌++◌, length, refl, ◌∙◌, ap, subst, arith, length-append}
-use Rattle.std.proofs.lemmas.Bool.{or_cases}
-use Rattle.std.proofs.lemmas.List.{take-append-le}
-use Rattle.pg_game.specs.declared.player.Player.{Player}
-use Rattle.pg_game.specs.Graph.{Graph}
-use Rattle.pg_game.specs.VertexSet.{VertexSet}
-use Rattle.pg_game.proofs.Attract.{target_attracted}
+use Rattle.pg_workers.proofs.Common.{common_steps, rules, ◌≡◌, ℕ, ◌<◌, false, ◌++◌, length, refl, ◌∙◌, ap, subst, arith, length-append, or_cases, Player, Graph}
+use Rattle.pg_workers.proofs.Common.{take-append-le, VertexSet, target_attracted, ClaimRows, IsGoodIn, Claim, AreClaims, Play, unsettled, is_unsettled, Journal}
+use Rattle.pg_workers.proofs.Common.{state_of, IsDominionAfter, IsFull, Settles, IsLater}
 use Rattle.pg_game.proofs.Grown.{in_second}
-use Rattle.pg_dominion.specs.Claim.{ClaimRows, IsGoodIn}
-use Rattle.pg_dominion.specs.declared.claim.Claim.{Claim}
-use Rattle.pg_finders.specs.Claims.{AreClaims}
-use Rattle.pg_board.specs.Play.{Play}
-use Rattle.pg_board.specs.State.{unsettled, is_unsettled}
-use Rattle.pg_board.specs.Journal.{Journal, state_of, IsDominionAfter}
 use Rattle.pg_board.specs.Post.{SettlesDominion}
-use Rattle.pg_board.specs.Full.{IsFull}
 use Rattle.pg_board.proofs.Push.{settled_shut}
 use Rattle.pg_board.proofs.Dominion.{state_append}
-use Rattle.pg_workers.specs.private.Rest.{Settles, IsLater}
 
 -- a claim's vertices are settled once it was posted
 pub settles_claim : (old new : Play) (p : Player) (rows : ClaimRows) → SettlesDominion old new p rows → Settles new.journal p rows

@@ -1,7 +1,4 @@
-use Rattle.std.proofs.Common.{rules, ◌≡◌, ◌∙◌, Err, sym, subst, Result, IfErr}
-use Rattle.pg_board.specs.Play.{Play}
-use Rattle.pg_workers.specs.Known.{IsSolveFault}
-use Rattle.pg_workers.specs.declared.known.SolveFault.{SolveFault}
+use Rattle.pg_workers.proofs.Common.{rules, ◌≡◌, ◌∙◌, Err, sym, subst, Result, IfErr, Play, IsSolveFault, SolveFault}
 use Rattle.pg_workers.proofs.Knowing.{odd_fault, has_known}
 use Rattle.pg_workers.proofs.known.board_with.Goals as goal
 

@@ -1,8 +1,6 @@
-use Rattle.std.proofs.Common.{rules}
+use Rattle.pg_workers.proofs.Common.{rules}
 use Rattle.pg_workers.proofs.Knowing.{rows_to_last}
 use Rattle.pg_workers.proofs.known.known_claim.Goals as goal
 
 pub returns-clause-rows : goal.returns-clause-rows
-returns-clause-rows c =
-    let to_last = rows_to_last c.args.game.now c.args.known.now.rows c.args.player c.requires in
-    search (rules, to_last)
+returns-clause-rows c = search (rules, rows_to_last c.args.game.now c.args.known.now.rows c.args.player c.requires)

@@ -1,6 +1,4 @@
-use Rattle.std.proofs.Common.{◌≡◌}
-use Rattle.pg_text.specs.Known.{known_of, known_choice}
-use Rattle.pg_finders.specs.Claims.{own_choices, rows_below}
+use Rattle.pg_workers.proofs.Common.{◌≡◌, known_of, known_choice, own_choices, rows_below}
 use Rattle.pg_workers.proofs.known.known_claim.Given as goal
 
 -- the rows of the vertices seen so far

@@ -1,9 +1,4 @@
-use Rattle.std.proofs.Common.{rules, ◌≡◌, ◌<◌, ◌∙◌, length, sym, ap, subst}
-use Rattle.pg_game.specs.Graph.{Graph}
-use Rattle.pg_dominion.specs.Claim.{ClaimRows}
-use Rattle.pg_workers.specs.Known.{known_rows}
-use Rattle.pg_workers.specs.private.Known.{IsKnownFault}
-use Rattle.pg_workers.specs.declared.known.SolveFault.{SolveFault}
+use Rattle.pg_workers.proofs.Common.{rules, ◌≡◌, ◌<◌, ◌∙◌, length, sym, ap, subst, Graph, ClaimRows, known_rows, IsKnownFault, SolveFault}
 use Rattle.pg_workers.proofs.Knowing.{settles_nothing, settles_known, refused_known}
 use Rattle.pg_workers.proofs.known.post_known.Goals as goal
 

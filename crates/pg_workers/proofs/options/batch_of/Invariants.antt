@@ -1,4 +1,4 @@
-use Rattle.std.proofs.Common.{◌-◌}
+use Rattle.pg_workers.proofs.Common.{◌-◌}
 use Rattle.pg_workers.proofs.Batches.{IsTried}
 use Rattle.pg_workers.proofs.options.batch_of.Given as goal
 

@@ -1,4 +1,4 @@
-use Rattle.std.proofs.Common.{◌+◌, ◌∙◌, ap, sym, arith}
+use Rattle.pg_workers.proofs.Common.{rules, ◌+◌, ◌∙◌, ap, sym}
 use Rattle.pg_workers.proofs.Rows.{blank_more, blank_in_order, blank_settled}
 use Rattle.pg_workers.proofs.report.blank_report.Goals as goal
 
@@ -12,11 +12,4 @@ loop-job-preserved c =
     )
 
 pub returns : goal.returns
-returns c =
-    let rows = c.loop-job.report in let i = c.loop-job.invariant in
-    let done = c.loop-job-test.false in
-    let below = c.loop-job.auto.job-end in record {
-      rows = (omega arith, (blank_in_order rows.items i.2).1);
-      blank = i.2;
-      settled = blank_settled rows.items i.2;
-    }
+returns c = search (rules, blank_in_order, blank_settled, c.loop-job.invariant, c.loop-job-test.false, c.loop-job.auto.job-end)

@@ -1,4 +1,4 @@
-use Rattle.pg_workers.specs.Report.{blank_row}
+use Rattle.pg_workers.proofs.Common.{blank_row}
 use Rattle.pg_workers.proofs.Rows.{more_forgotten}
 use Rattle.pg_workers.proofs.report.forget_posts.Goals as goal
 

@@ -1,5 +1,4 @@
-use Rattle.std.proofs.Common.{◌≡◌, ◌++◌, drop, map, take}
-use Rattle.pg_workers.specs.private.Report.{forgotten}
+use Rattle.pg_workers.proofs.Common.{◌≡◌, ◌++◌, drop, map, take, forgotten}
 use Rattle.pg_workers.proofs.report.forget_posts.Given as goal
 
 -- the rows before i have forgotten their posts, and the others are as they were

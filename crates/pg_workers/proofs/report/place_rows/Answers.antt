@@ -1,6 +1,4 @@
-use Rattle.std.proofs.Common.{◌<◌, rules, get_or, length, arith}
-use Rattle.pg_workers.specs.declared.report.ReportRow.{ReportRow}
-use Rattle.pg_workers.specs.Report.{blank_row}
+use Rattle.pg_workers.proofs.Common.{◌<◌, rules, get_or, length, arith, ReportRow, blank_row}
 use Rattle.pg_workers.proofs.Placing.{next_row, next_place, next_placed, next_settled}
 use Rattle.pg_workers.proofs.report.place_rows.Goals as goal
 

@@ -1,6 +1,4 @@
-use Rattle.std.proofs.Common.{◌≡◌, ◌+◌, take}
-use Rattle.pg_workers.specs.Report.{settled_in}
-use Rattle.pg_workers.specs.private.Report.{AreNotedRows}
+use Rattle.pg_workers.proofs.Common.{◌≡◌, ◌+◌, take, settled_in, AreNotedRows}
 use Rattle.pg_workers.proofs.report.place_rows.Given as goal
 
 abbrev pub invariant-loop-row : goal.invariant-loop-row

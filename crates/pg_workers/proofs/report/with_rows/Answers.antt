@@ -1,7 +1,5 @@
-use Rattle.std.proofs.Common.{◌≡◌, ◌+◌, List, ◌++◌, length, take, drop, sym, ap, ◌∙◌, subst, arith}
-use Rattle.pg_workers.specs.declared.report.ReportRow.{ReportRow}
-use Rattle.pg_workers.specs.Report.{settled_in}
-use Rattle.pg_workers.specs.private.Report.{AreNotedRows, HasPlaces, rows_in}
+use Rattle.pg_workers.proofs.Common.{◌≡◌, ◌+◌, List, ◌++◌, length, take, drop, sym, ap, ◌∙◌, subst, arith, ReportRow, settled_in, AreNotedRows}
+use Rattle.pg_workers.proofs.Common.{rows_in, HasPlaces}
 use Rattle.pg_workers.proofs.Placing.{has_places, more_placed, more_settled}
 use Rattle.pg_workers.proofs.Rows.{written}
 use Rattle.pg_workers.proofs.report.with_rows.Goals as goal

@@ -1,6 +1,4 @@
-use Rattle.std.proofs.Common.{◌≡◌, ◌+◌, take, vec_len}
-use Rattle.pg_workers.specs.Report.{settled_in}
-use Rattle.pg_workers.specs.private.Report.{AreNotedRows, rows_in}
+use Rattle.pg_workers.proofs.Common.{◌≡◌, ◌+◌, take, vec_len, settled_in, AreNotedRows, rows_in}
 use Rattle.pg_workers.proofs.report.with_rows.Given as goal
 
 abbrev pub invariant-loop-rows : goal.invariant-loop-rows

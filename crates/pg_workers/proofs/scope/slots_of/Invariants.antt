@@ -1,6 +1,4 @@
-use Rattle.std.proofs.Common.{◌≡◌, ◌+◌, replicate, vec_len}
-use Rattle.std.specs.Vec.{vec_capacity}
-use Rattle.pg_workers.specs.Tickets.{fresh}
+use Rattle.pg_workers.proofs.Common.{◌≡◌, ◌+◌, replicate, vec_len, vec_capacity, fresh}
 use Rattle.pg_workers.proofs.scope.slots_of.Given as goal
 
 abbrev pub invariant-loop-share : goal.invariant-loop-share

@@ -1,10 +1,6 @@
-use Rattle.std.proofs.Common.{◌≡◌, [], ◌∷◌, ◌++◌, All, Vec, Global, map, sym, ap, ◌∙◌, arith}
-use Rattle.std.proofs.lemmas.List.{map-append}
+use Rattle.pg_workers.proofs.Common.{◌≡◌, [], ◌∷◌, ◌++◌, All, Vec, Global, map, sym, ap, ◌∙◌, arith, map-append, ReportRow, HeldTicket, IsDrawnRow, settled_in}
+use Rattle.pg_workers.proofs.Common.{jobs_in}
 use Rattle.std.proofs.lemmas.List.Elements.{All-push}
-use Rattle.pg_workers.specs.declared.report.ReportRow.{ReportRow}
-use Rattle.pg_workers.specs.Tickets.{HeldTicket}
-use Rattle.pg_workers.specs.Report.{IsDrawnRow, settled_in}
-use Rattle.pg_workers.specs.private.Report.{jobs_in}
 use Rattle.pg_workers.proofs.scope.take_apart.Goals as goal
 
 pub loop-slot-preserved : goal.loop-slot-preserved

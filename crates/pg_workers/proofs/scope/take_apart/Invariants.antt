@@ -1,6 +1,4 @@
-use Rattle.std.proofs.Common.{◌≡◌, ◌+◌, ◌≤◌, All, map, vec_len}
-use Rattle.std.specs.Vec.{vec_capacity}
-use Rattle.pg_workers.specs.Report.{IsDrawnRow, settled_in}
+use Rattle.pg_workers.proofs.Common.{◌≡◌, ◌+◌, ◌≤◌, All, map, vec_len, vec_capacity, IsDrawnRow, settled_in}
 use Rattle.pg_workers.proofs.scope.take_apart.Given as goal
 
 abbrev pub invariant-loop-slot : goal.invariant-loop-slot

@@ -1,4 +1,4 @@
-use Rattle.std.proofs.Common.{arith}
+use Rattle.pg_workers.proofs.Common.{arith}
 use Rattle.pg_workers.proofs.solve.board_of.Goals as goal
 
 pub returns-then-eq-clause-settled : goal.returns-then-eq-clause-settled

@@ -1,7 +1,4 @@
-use Rattle.std.proofs.Common.{rules, ◌≡◌, length, vec_len}
-use Rattle.pg_text.specs.Solution.{IsExactSolution}
-use Rattle.pg_board.specs.Journal.{state_of}
-use Rattle.pg_board.specs.Full.{AreStateRows}
+use Rattle.pg_workers.proofs.Common.{rules, ◌≡◌, length, vec_len, IsExactSolution, state_of, AreStateRows}
 use Rattle.pg_workers.proofs.AddingUp.{is_outcome}
 use Rattle.pg_workers.proofs.solve.outcome_of.Goals as goal
 

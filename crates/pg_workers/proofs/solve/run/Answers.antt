@@ -1,9 +1,5 @@
-use Rattle.std.proofs.Common.{◌≡◌, ℕ, ◌+◌, List, Vec, Global, sum, sym, ap, ◌∙◌, subst, arith, min}
-use Rattle.std.proofs.lemmas.List.Sums.{sum-map, sum_by_push}
-use Rattle.pg_workers.specs.declared.report.ReportRow.{ReportRow}
-use Rattle.pg_workers.specs.Report.{IsDrawnRow, settled_in}
-use Rattle.pg_workers.specs.private.Report.{AreOfPrefix, AreNotedRows, rows_in}
-use Rattle.pg_workers.specs.Tickets.{HeldTicket}
+use Rattle.pg_workers.proofs.Common.{◌≡◌, ℕ, ◌+◌, List, Vec, Global, sum, sym, ap, ◌∙◌, subst, arith, min, sum-map, sum_by_push, ReportRow, IsDrawnRow, rows_in}
+use Rattle.pg_workers.proofs.Common.{settled_in, AreOfPrefix, AreNotedRows, HeldTicket}
 use Rattle.pg_workers.proofs.Placing.{is_report, of_front, placed_numbered}
 use Rattle.pg_workers.proofs.Rows.{all_rows, settled_in-rows_in}
 use Rattle.pg_workers.proofs.solve.run.Goals as goal

@@ -1,8 +1,4 @@
-use Rattle.std.proofs.Common.{◌≡◌, ◌∙◌, ℕ, length, vec_len, sym, ap, subst}
-use Rattle.pg_game.specs.Graph.{Graph}
-use Rattle.pg_workers.specs.private.Known.{HasSettled}
-use Rattle.pg_workers.specs.Outcomes.{IsOutcome}
-use Rattle.pg_workers.specs.Work.{total_of}
+use Rattle.pg_workers.proofs.Common.{◌≡◌, ◌∙◌, ℕ, length, vec_len, sym, ap, subst, Graph, HasSettled, IsOutcome, total_of}
 use Rattle.pg_workers.proofs.solve.solve_on.Goals as goal
 
 pub returns-clause-outcome : goal.returns-clause-outcome

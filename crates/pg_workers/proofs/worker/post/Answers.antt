@@ -1,25 +1,16 @@
-use Rattle.std.proofs.Common.{sym, ap, subst, arith}
-use Rattle.pg_workers.specs.declared.report.ReportRow.{ReportRow}
-use Rattle.pg_workers.specs.Report.{AreCounts}
+use Rattle.pg_workers.proofs.Common.{rules, arith}
 use Rattle.pg_workers.proofs.Noting.{fits, noted_counts, noted_settled}
 use Rattle.pg_workers.proofs.worker.post.Goals as goal
 
 pub note-requires-clause-settled : goal.note-requires-clause-settled
 note-requires-clause-settled g c =
-    let answer = c.settle_claim-answer in let small = c.amount-amount.type_inv in
-    let is = c.amount-amount.ensures in
-    fits _ _ c.args.row.now answer.result answer.ensures.added c.requires.share (omega arith)
+    search (rules, fits, c.settle_claim-answer.ensures.added, c.requires.share, c.amount-amount.type_inv, c.amount-amount.ensures)
 
 pub returns-clause-noted : goal.returns-clause-noted
 returns-clause-noted g c = (c.settle_claim-answer.result, c.settle_claim-answer.ensures.answer, c.note.ensures)
 
 pub returns-clause-counts : goal.returns-clause-counts
-returns-clause-counts g c = λ h.
-    let answer = c.settle_claim-answer in
-    subst AreCounts (sym c.note.ensures) (noted_counts _ _ c.args.row.now answer.result answer.ensures.added h)
+returns-clause-counts g c = search (rules, noted_counts, c.note.ensures, c.settle_claim-answer.ensures.added)
 
 pub returns-clause-settled : goal.returns-clause-settled
-returns-clause-settled g c =
-    let answer = c.settle_claim-answer in
-    let s = noted_settled _ _ c.args.row.now answer.result answer.ensures.added answer.ensures.unchanged in
-    let e = ap (λ (r : ReportRow). r.settled) c.note.ensures in omega arith
+returns-clause-settled g c = grind (arith, noted_settled, c.note.ensures, c.settle_claim-answer.ensures.added, c.settle_claim-answer.ensures.unchanged)

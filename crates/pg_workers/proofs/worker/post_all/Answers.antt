@@ -1,7 +1,4 @@
-use Rattle.std.proofs.Common.{◌∙◌, ◌+◌, take, sym, ap, subst, arith}
-use Rattle.pg_workers.specs.declared.report.ReportRow.{ReportRow}
-use Rattle.pg_workers.specs.private.Answers.{AreNoted}
-use Rattle.pg_workers.specs.private.Report.{answered}
+use Rattle.pg_workers.proofs.Common.{◌∙◌, ◌+◌, take, sym, ap, subst, arith, ReportRow, AreNoted, answered}
 use Rattle.pg_workers.proofs.Noting.{noted_few, noted_one, noted_same, one_noted}
 use Rattle.pg_workers.proofs.worker.post_all.Goals as goal
 

@@ -1,7 +1,4 @@
-use Rattle.std.proofs.Common.{◌≡◌, ◌+◌, ◌≤◌, false, take}
-use Rattle.pg_workers.specs.private.Answers.{AreNoted}
-use Rattle.pg_workers.specs.Report.{AreCounts}
-use Rattle.pg_workers.specs.private.Report.{answered}
+use Rattle.pg_workers.proofs.Common.{◌≡◌, ◌+◌, ◌≤◌, false, take, AreNoted, AreCounts, answered}
 use Rattle.pg_workers.proofs.worker.post_all.Given as goal
 
 abbrev pub invariant-loop-claim : goal.invariant-loop-claim

@@ -1,10 +1,6 @@
-use Rattle.std.proofs.Common.{◌≡◌, ℕ, ◌<◌, List, [], ◌∷◌, ◌++◌, All, length, sym, ap, ◌∙◌, subst, arith, length-append, append_assoc, append-nil, if◌then◌else◌}
-use Rattle.std.proofs.Common.{cond, flat_map}
-use Rattle.std.specs.Vec.Iter.{into_iter_items}
-use Rattle.std.proofs.lemmas.List.{nil_from_length}
-use Rattle.std.proofs.lemmas.List.Sums.{sum_by_push, sum_by-cons}
+use Rattle.pg_workers.proofs.Common.{◌≡◌, ℕ, ◌<◌, List, [], ◌∷◌, ◌++◌, All, length, sym, ap, ◌∙◌, subst, arith, length-append, append_assoc, append-nil, cond}
+use Rattle.pg_workers.proofs.Common.{if◌then◌else◌, flat_map, into_iter_items, nil_from_length, sum_by_push, sum_by-cons, HeldTicket, AreDrawn}
 use Rattle.pg_workers.specs.declared.jobs.Drawn.{Drawn}
-use Rattle.pg_workers.specs.Tickets.{HeldTicket, AreDrawn}
 use Rattle.pg_workers.proofs.Moves.{joins, knows_all}
 use Rattle.pg_workers.proofs.Closing.{remade, all_here, flat_map-push, listed-push, drawn_by_all}
 use Rattle.pg_workers.proofs.jobs.Jobs.close.Goals as goal

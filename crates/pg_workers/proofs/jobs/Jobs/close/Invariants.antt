@@ -1,6 +1,4 @@
-use Rattle.std.specs.Prelude.{◌≡◌, ◌+◌, [], ◌++◌, length, map, flat_map, count_by, vec_len}
-use Rattle.std.specs.Vec.{vec_capacity}
-use Rattle.std.specs.Vec.Iter.{into_iter_items, into_iter_len}
+use Rattle.pg_workers.proofs.Common.{◌≡◌, ◌+◌, [], ◌++◌, length, map, flat_map, count_by, vec_len, vec_capacity, into_iter_items, into_iter_len}
 use Rattle.pg_workers.proofs.jobs.Jobs.close.Given as goal
 
 -- the seat stands for the first ticket and those that the loop has taken, and the room has what they drew

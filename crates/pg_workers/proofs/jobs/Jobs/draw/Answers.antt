@@ -1,6 +1,4 @@
-use Rattle.std.proofs.Common.{◌+◌, ◌<◌, ◌^◌, Bool, sym, ap, ◌∙◌, arith, if◌then◌else◌}
-use mathlib.Core.Option.{none}
-use Rattle.atomic_table.specs.Table.{step}
+use Rattle.pg_workers.proofs.Common.{◌+◌, ◌<◌, ◌^◌, Bool, sym, ap, ◌∙◌, arith, if◌then◌else◌, none, step}
 use Rattle.pg_workers.proofs.Moves.{draws}
 use Rattle.pg_workers.proofs.jobs.Jobs.draw.Goals as goal
 

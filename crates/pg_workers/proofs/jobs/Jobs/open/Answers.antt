@@ -1,4 +1,4 @@
-use Rattle.std.proofs.Common.{ap, arith}
+use Rattle.pg_workers.proofs.Common.{ap, arith}
 use Rattle.pg_workers.proofs.Moves.{splits}
 use Rattle.pg_workers.proofs.jobs.Jobs.open.Goals as goal
 

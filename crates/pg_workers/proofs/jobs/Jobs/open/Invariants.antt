@@ -1,7 +1,4 @@
-use Rattle.std.specs.Prelude.{◌≡◌, ◌+◌, ◌-◌, [], replicate, vec_len}
-use Rattle.std.specs.Vec.{vec_capacity}
-use Rattle.pg_workers.specs.private.Drawing.{drawer}
-use Rattle.pg_workers.specs.Tickets.{fresh}
+use Rattle.pg_workers.proofs.Common.{◌≡◌, ◌+◌, ◌-◌, [], replicate, vec_len, vec_capacity, drawer, fresh}
 use Rattle.pg_workers.proofs.jobs.Jobs.open.Given as goal
 
 -- the seat that is split stands for the tickets that are still to be made
