@@ -27,7 +27,7 @@ LONG = {
     "pg_finders/small/walks/Search/choose_known": 109,
     "pg_finders/small/walks/Search/settle": 111,
     "pg_finders/solitaire/solve": 73,
-    "pg_workers/jobs/Jobs/close": 85,
+    "pg_workers/jobs/Jobs/close": 81,
 }
 
 
