@@ -1,7 +1,7 @@
 -- What reading and writing in pieces does to known bytes, and what a failure does to a count.
-use Rattle.std.proofs.Common.{rules, ◌≡◌, ℕ, ◌+◌, ◌-◌, List, ◌++◌, length, take, drop, Option, ◌∙◌, subst, arith, append_assoc, take-append-drop}
-use Rattle.std.proofs.lemmas.List.{take_rest, take-take, drop-take}
-use Rattle.std.specs.Io.KnownBytes.{Consumes, Appends}
+use Rattle.pgboard.proofs.Common.{rules, ◌≡◌, ℕ, ◌+◌, ◌-◌, List, ◌++◌, length, take, drop, Option, ◌∙◌, subst, arith, append_assoc, take_rest, take-take}
+use Rattle.pgboard.proofs.Common.{drop-take, Consumes, Appends}
+use Rattle.std.proofs.Common.{take-append-drop}
 
 -- two reads, one after the other
 pub read_more : (a b c : Option (List ℕ)) (xs ys : List ℕ) → Consumes a b xs → Consumes b c ys → Consumes a c (xs ++ ys)

@@ -1,12 +1,8 @@
 -- The parts of a joined text, from the place of its first `%`.
-use Rattle.std.proofs.Common.{◌≡◌, ℕ, ◌+◌, ◌==◌, List, [], length, take, drop, Some, None, ap, ◌∙◌, arith}
-use Rattle.std.proofs.Math.Seq.{take-length}
-use Rattle.std.proofs.Math.ListN.{drop_of_length-le}
-use Rattle.std.specs.List.{position_or_len}
-use Rattle.std.proofs.lemmas.Bool.{false_from_ne_true}
+use Rattle.pgboard.proofs.Common.{◌≡◌, ℕ, ◌+◌, ◌==◌, List, [], length, take, drop, Some, None, ap, ◌∙◌, arith, take-length, drop_of_length-le, position_or_len}
+use Rattle.pgboard.proofs.Common.{false_from_ne_true, game_part, solution_part}
 use Rattle.std.proofs.lemmas.List.Sums.{position_or_len_is}
 use Rattle.memchr.specs.Find.{IsFirstByte, is_byte}
-use Rattle.pgboard.specs.Joined.{game_part, solution_part}
 
 place : (text : List ℕ) (k : ℕ) → IsFirstByte (is_byte 37) text (Some k) → position_or_len (λ b. b == 37) text ≡ k
 place text k h = position_or_len_is _ text k 0 (omega (arith, h.0.high)) (λ j lt. false_from_ne_true _ (h.0.before j (omega arith) lt)) (λ _. h.1)

@@ -1,18 +1,9 @@
 -- The rows of a lawful journal name vertices alone.
-use Rattle.std.proofs.Common.{arith, ◌≡◌, ℕ, [], ◌∷◌, ◌++◌, length, take, zero, suc, refl, sym, ◌∙◌, subst, append_assoc, Option, Some, slice_get, inl, inr}
-use Rattle.std.proofs.lemmas.Grind.{common_steps}
-use Rattle.std.specs.List.{AllByRecursion}
-use Rattle.std.proofs.lemmas.List.{take-append-drop}
-use Rattle.pg_game.specs.declared.player.Player.{Player}
-use Rattle.pg_game.specs.Graph.{Graph, IsGame, owner_of}
-use Rattle.pg_game.specs.VertexSet.{VertexSet, all_vertices, union}
-use Rattle.pg_text.proofs.Exact.{edge_below, same_or_not, chosen_below, none_below}
-use Rattle.pg_dominion.specs.Claim.{ClaimRows, named, IsRightRow}
-use Rattle.pg_dominion.specs.Attraction.{IsAttractedRow, AttractInTurn}
-use Rattle.pg_board.specs.declared.entry.Entry.{Entry}
-use Rattle.pg_board.specs.State.{settled}
-use Rattle.pg_board.specs.Journal.{Journal, state_of, claimed_rows, attracted_rows, IsLawful}
-use Rattle.pgboard.specs.private.Trace.{AreVertices}
+use Rattle.pgboard.proofs.Common.{arith, ◌≡◌, ℕ, [], ◌∷◌, ◌++◌, length, take, zero, suc, refl, sym, ◌∙◌, subst, append_assoc, Option, Some, slice_get, inl, inr}
+use Rattle.pgboard.proofs.Common.{common_steps, AllByRecursion, take-append-drop, Player, Graph, IsGame, owner_of, VertexSet, all_vertices, union, edge_below}
+use Rattle.pgboard.proofs.Common.{same_or_not, chosen_below, none_below, ClaimRows, named, IsRightRow, IsAttractedRow, Entry, settled, Journal, state_of}
+use Rattle.pgboard.proofs.Common.{claimed_rows, attracted_rows, IsLawful, AreVertices}
+use Rattle.pg_dominion.specs.Attraction.{AttractInTurn}
 
 right_row : (g : Graph) → IsGame g → (p : Player) (r : ℕ × Option ℕ) → IsRightRow g p r → AreVertices (length g) r
 right_row g game p r right = record {

@@ -1,13 +1,9 @@
 -- Why a run on one joined text gives no verdict, from the parts of the text.
-use Rattle.std.proofs.Common.{rules, ◌≡◌, ◌≤◌, ◌⊎◌, ⊎_elim, ℕ, List, length, Option, IfSome, Err, IsErrOf, ap, ◌∙◌, subst}
-use Rattle.pg_game.specs.Graph.{Graph}
-use Rattle.pg_text.specs.Reading.{max_text, IsTextOf}
-use Rattle.pgboard.specs.declared.fault.RunFault.{RunFault}
-use Rattle.pgboard.specs.declared.fault.RunFault.TheVariants as fault
+use Rattle.pgboard.proofs.Common.{rules, ◌≡◌, ◌≤◌, ◌⊎◌, ⊎_elim, ℕ, List, length, Option, IfSome, Err, IsErrOf, ap, ◌∙◌, subst, Graph, max_text, IsTextOf}
+use Rattle.pgboard.proofs.Common.{RunFault, game_part, solution_part, IsJudged, JudgingFailed, IsReadGame, IsNoSolution, IsRefusedGame, IsRefusedSolution}
+use Rattle.pgboard.proofs.Common.{IsVerdictOn}
 use Rattle.pgboard.specs.declared.verdict.Verdict.{Verdict}
-use Rattle.pgboard.specs.Joined.{game_part, solution_part, IsJudged, JudgingFailed}
-use Rattle.pgboard.specs.Run.{IsReadGame, IsNoSolution}
-use Rattle.pgboard.specs.private.Run.{IsRefusedGame, IsRefusedSolution, IsVerdictOn}
+use Rattle.pgboard.specs.declared.fault.RunFault.TheVariants as fault
 
 -- what holds of the text that was read holds of the text that the source had
 pub of_known : (known : Option (List ℕ)) (text : List ℕ) (P : List ℕ → Type 0) → IfSome known (λ bytes. text ≡ bytes) → P text → IfSome known P

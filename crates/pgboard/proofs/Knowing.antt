@@ -1,19 +1,10 @@
 -- What a run tells that solves a game from what a text says that was read whole, or from nothing.
 use Rattle.pgboard.specs.declared.fault.RunFault.TheVariants as fault
-use Rattle.std.proofs.Common.{rules, ◌≡◌, ◌≤◌, ℕ, Bool, List, [], length, Result, refl, arith}
-use Rattle.std.specs.Prelude.{Option, Some, None, IfSome, OnOk, OnErr, IsErrOf, replicate}
-use Rattle.std.specs.Io.KnownBytes.{Keeps}
-use Rattle.pg_game.specs.declared.player.Player.{Player}
-use Rattle.pg_game.specs.Graph.{Graph, IsGame}
-use Rattle.pg_text.specs.Known.{KnownRows, IsKnownTextOf}
-use Rattle.pg_text.specs.Reading.{max_text}
-use Rattle.pg_workers.specs.Known.{IsKnownRegion}
-use Rattle.pgboard.specs.declared.fault.RunFault.{RunFault}
-use Rattle.pgboard.specs.private.Known.{IsRefusedText}
+use Rattle.pgboard.proofs.Common.{rules, ◌≡◌, ◌≤◌, ℕ, Bool, List, [], length, Result, refl, arith, Option, Some, None, IfSome, OnOk, OnErr, IsErrOf, replicate}
+use Rattle.pgboard.proofs.Common.{Keeps, Player, Graph, IsGame, KnownRows, IsKnownTextOf, max_text, IsKnownRegion, RunFault, IsRefusedText, IsReadGame}
+use Rattle.pgboard.proofs.Common.{IsNoGame, IsSolveText, IsSolveOutput}
 use Rattle.pgboard.specs.Refused.{IsNotKnown}
 use Rattle.pgboard.specs.private.Refused.{IsUnsolved}
-use Rattle.pgboard.specs.Run.{IsReadGame, IsNoGame}
-use Rattle.pgboard.specs.Solving.{IsSolveText, IsSolveOutput}
 use Rattle.pgboard.proofs.Judging.{of_known}
 use Rattle.pgboard.proofs.Nothing.{says_nothing}
 use Rattle.pgboard.proofs.Unknown.{never_refused, nothing_regions}

@@ -1,7 +1,5 @@
 -- Lines of words between single spaces, written word by word.
-use Rattle.std.proofs.Common.{rules, ◌≡◌, ℕ, List, [], ◌∷◌, ◌++◌, refl, sym, ◌∙◌, ap, append_assoc}
-use Rattle.std.specs.List.{join_with_byte}
-use Rattle.pgboard.specs.Trace.{trace_line}
+use Rattle.pgboard.proofs.Common.{rules, ◌≡◌, ℕ, List, [], ◌∷◌, ◌++◌, refl, sym, ◌∙◌, ap, append_assoc, join_with_byte, trace_line}
 
 -- each word behind a space, and then the end
 abbrev spaced : List (List ℕ) → List ℕ → List ℕ

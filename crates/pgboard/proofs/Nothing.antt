@@ -1,9 +1,6 @@
 -- The empty text says nothing of a game.
-use Rattle.std.proofs.Common.{rules, ◌≡◌, ℕ, zero, suc, ◌<◌, [], length, refl, arith, Some, None, slice_get, replicate}
-use Rattle.std.proofs.lemmas.List.{length-replicate}
-use Rattle.pg_game.specs.Graph.{Graph}
-use Rattle.pg_text.specs.Reading.{SpellsSolution}
-use Rattle.pg_text.specs.Known.{KnownRows, IsKnownTextOf}
+use Rattle.pgboard.proofs.Common.{rules, ◌≡◌, ℕ, zero, suc, ◌<◌, [], length, refl, arith, Some, None, slice_get, replicate, length-replicate, Graph, KnownRows}
+use Rattle.pgboard.proofs.Common.{SpellsSolution, IsKnownTextOf}
 
 nothing_spelled : SpellsSolution [] []
 nothing_spelled = record { tokens = []; spelled = tt; grammar = (None, refl); numbers = tt; winners = tt }

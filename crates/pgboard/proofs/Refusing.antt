@@ -1,27 +1,13 @@
 -- What the post of a known set is refused for names vertices of the game, and rows of the set.
-use Rattle.std.proofs.Common.{rules, ℕ, ◌<◌, ◌≤◌, inl, inr, List, [], ◌∷◌, length, subst, if◌then◌else◌}
-use Rattle.std.specs.List.{Contains}
-use Rattle.pg_game.specs.declared.player.Player.{Player}
-use Rattle.pg_game.specs.Player.{same_player}
-use Rattle.pg_game.specs.Graph.{Graph, IsGame, HasEdge, owner_of, successors_of}
-use Rattle.pg_game.specs.VertexSet.{In}
-use Rattle.pg_game.specs.Kept.{option_list, KeptEdge}
-use Rattle.pg_game.specs.Walk.{Walk}
-use Rattle.pg_game.proofs.Members.{Contains-one}
-use Rattle.pg_game.proofs.Players.{is_same, own_or_other}
-use Rattle.pg_text.specs.Known.{KnownRows}
-use Rattle.pg_text.proofs.Exact.{edge_below}
+use Rattle.pgboard.proofs.Common.{rules, ℕ, ◌<◌, ◌≤◌, inl, inr, List, [], ◌∷◌, length, subst, if◌then◌else◌, Contains, Player, same_player, Graph, IsGame}
+use Rattle.pgboard.proofs.Common.{HasEdge, owner_of, successors_of, In, option_list, KeptEdge, Walk, Contains-one, is_same, own_or_other, KnownRows, edge_below}
+use Rattle.pgboard.proofs.Common.{ClaimRows, named, choice_in, HasShape, IsFirstOnBadWalk, IsRightRow, Refusal, state_of, State, rest_of, named_right}
+use Rattle.pgboard.proofs.Common.{known_rows, IsSolveFault}
 use Rattle.pg_dominion.specs.declared.claim.ClaimFault.TheVariants.{Shape, Cycle}
-use Rattle.pg_dominion.specs.Claim.{ClaimRows, named, choice_in, HasShape, IsFirstOnBadWalk, IsRightRow}
 use Rattle.pg_finders.proofs.Sets.{not_same}
-use Rattle.pg_board.specs.declared.refusal.Refusal.{Refusal}
-use Rattle.pg_board.specs.declared.refusal.Refusal.TheVariants as refusal
-use Rattle.pg_board.specs.Journal.{state_of}
-use Rattle.pg_board.specs.State.{State, rest_of}
-use Rattle.pg_dominion.proofs.Rows.{named_right}
 use Rattle.pg_board.proofs.RestIsGood.{in_rest}
+use Rattle.pg_board.specs.declared.refusal.Refusal.TheVariants as refusal
 use Rattle.pg_workers.specs.declared.known.SolveFault.TheVariants as solving
-use Rattle.pg_workers.specs.Known.{known_rows, IsSolveFault}
 use Rattle.pgboard.proofs.Unknown.{empty_region, none_of_rows}
 
 -- a walk begins with an edge

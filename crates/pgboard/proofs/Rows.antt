@@ -1,11 +1,6 @@
 -- The rows of a set are found by counting its vertices.
-use Rattle.std.proofs.Common.{◌≡◌, ℕ, zero, suc, ◌<◌, true, false, ◌⊎◌, inl, inr, [], ◌∷◌, ◌++◌, length, refl, subst, arith}
-use Rattle.std.specs.Prelude.{Option, Some, slice_get}
-use Rattle.std.proofs.lemmas.Bool.{cases_lt, cases_Bool}
-use Rattle.pg_game.specs.VertexSet.{VertexSet}
-use Rattle.pg_game.specs.Kept.{Choices}
-use Rattle.pg_dominion.specs.Claim.{ClaimRows}
-use Rattle.pg_finders.specs.Claims.{rows_below}
+use Rattle.pgboard.proofs.Common.{◌≡◌, ℕ, zero, suc, ◌<◌, true, false, ◌⊎◌, inl, inr, [], ◌∷◌, ◌++◌, length, refl, subst, arith, Option, Some, slice_get}
+use Rattle.pgboard.proofs.Common.{cases_lt, cases_Bool, VertexSet, Choices, ClaimRows, rows_below}
 
 slice_front : (xs ys : ClaimRows) (k : ℕ) (r : ℕ × Option ℕ) → slice_get xs k ≡ Some r → slice_get (xs ++ ys) k ≡ Some r
 slice_front [] ys k r is = absurd (cc is)

@@ -1,11 +1,6 @@
 -- What is written item by item: what stood there, the items before a place, and then the rest.
-use Rattle.std.proofs.Common.{rules, ◌≡◌, ℕ, ◌<◌, ◌+◌, List, ◌++◌, length, get_or, drop, append_assoc}
-use Rattle.std.specs.Prelude.{flat_map}
-use Rattle.std.proofs.lemmas.List.{drop_more}
-use Rattle.pg_game.specs.Graph.{Graph}
-use Rattle.pg_board.specs.declared.entry.Entry.{Entry}
-use Rattle.pg_board.specs.Journal.{Journal}
-use Rattle.pgboard.specs.Trace.{entry_text, entries_text}
+use Rattle.pgboard.proofs.Common.{rules, ◌≡◌, ℕ, ◌<◌, ◌+◌, List, ◌++◌, length, get_or, drop, append_assoc, flat_map, drop_more, Graph, Entry, Journal}
+use Rattle.pgboard.proofs.Common.{entry_text, entries_text}
 
 pub one_more : {X : Type 0} (f : X → List ℕ) (xs : List X) (i : ℕ) (d : X) (out new whole : List ℕ) → i < length xs
     → new ≡ out ++ f (get_or xs i d) → out ++ flat_map f (drop i xs) ≡ whole → new ++ flat_map f (drop (i + 1) xs) ≡ whole

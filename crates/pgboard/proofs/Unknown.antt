@@ -1,22 +1,11 @@
 -- Where nothing is known, no known set is refused, and none attracts a vertex.
-use mathlib.Core.Path.{fun_ext}
-use Rattle.std.proofs.Common.{◌≡◌, ℕ, zero, suc, ◌<◌, ◌≤◌, false, true, ◌⊎◌, inl, inr, [], ◌∷◌, length, refl, sym, subst, arith}
-use Rattle.std.specs.Prelude.{Some, None, replicate, slice_get}
-use Rattle.std.proofs.lemmas.Bool.{cases_lt, cases_Bool}
-use Rattle.pg_game.specs.declared.player.Player.{Player}
-use Rattle.pg_game.specs.declared.player.Player.TheVariants.{Even, Odd}
-use Rattle.pg_game.specs.Graph.{Graph, IsGame}
-use Rattle.pg_game.specs.VertexSet.{VertexSet, all_vertices}
-use Rattle.pg_game.specs.Attractor.{Attractor}
-use Rattle.pg_game.specs.Region.{IsRegion}
-use Rattle.pg_game.proofs.Members.{Contains-head}
-use Rattle.pg_text.specs.Known.{KnownRows, known_at, known_of, known_choice}
-use Rattle.pg_finders.specs.Claims.{own_choices, rows_below}
-use Rattle.pg_board.specs.declared.refusal.Refusal.{Refusal}
+use Rattle.pgboard.proofs.Common.{fun_ext, ◌≡◌, ℕ, zero, suc, ◌<◌, ◌≤◌, false, true, ◌⊎◌, inl, inr, [], ◌∷◌, length, refl, sym, subst, arith, Some, None, Even}
+use Rattle.pgboard.proofs.Common.{replicate, slice_get, cases_lt, cases_Bool, Player, Odd, Graph, IsGame, VertexSet, all_vertices, Attractor, IsRegion, Refusal}
+use Rattle.pgboard.proofs.Common.{Contains-head, KnownRows, known_at, known_of, known_choice, own_choices, rows_below, known_rows, IsKnownRegion, HasCount}
+use Rattle.pgboard.proofs.Common.{IsAttractedToKnown, IsKnownSize, IsSolveFault}
 use Rattle.pg_board.proofs.Opening.{no_region, attracts_none}
-use Rattle.pg_workers.specs.declared.known.SolveFault.TheVariants as solving
-use Rattle.pg_workers.specs.Known.{known_rows, IsKnownRegion, HasCount, IsAttractedToKnown, IsKnownSize, IsSolveFault}
 use Rattle.pg_workers.proofs.Knowing.{unknown_beyond}
+use Rattle.pg_workers.specs.declared.known.SolveFault.TheVariants as solving
 use Rattle.pgboard.proofs.Rows.{row_of_vertex}
 
 -- a set without vertices is a region, and attracts none

@@ -1,6 +1,5 @@
-use Rattle.std.proofs.Common.{rules, arith, ◌≡◌, ◌<◌, ◌∙◌, ℕ, true, length, ap, Option, option_map, slice_get}
-use Rattle.pg_text.specs.Known.{known_of, known_choice}
-use Rattle.pg_finders.specs.Claims.{own_choices, rows_below}
+use Rattle.pgboard.proofs.Common.{rules, arith, ◌≡◌, ◌<◌, ◌∙◌, ℕ, true, length, ap, Option, option_map, slice_get, known_of, known_choice, own_choices}
+use Rattle.pgboard.proofs.Common.{rows_below}
 use Rattle.pgboard.proofs.Rows.{row_of_vertex}
 use Rattle.pgboard.proofs.known.vertex_in_row.Goals as goal
 

@@ -1,6 +1,4 @@
-use Rattle.std.proofs.Common.{◌≡◌, ◌≤◌, length}
-use Rattle.pg_text.specs.Known.{known_of, known_choice}
-use Rattle.pg_finders.specs.Claims.{own_choices, rows_below}
+use Rattle.pgboard.proofs.Common.{◌≡◌, ◌≤◌, length, known_of, known_choice, own_choices, rows_below}
 use Rattle.pgboard.proofs.known.vertex_in_row.Given as goal
 
 -- so many vertices of the set were seen, and no more than are looked for

@@ -1,5 +1,4 @@
-use Rattle.std.proofs.Common.{◌≡◌, ◌≤◌, length, take, ap, ◌∙◌, arith, rules, length-take}
-use Rattle.std.proofs.lemmas.List.{take-take, take-append-le, places}
+use Rattle.pgboard.proofs.Common.{◌≡◌, ◌≤◌, length, take, ap, ◌∙◌, arith, rules, length-take, take-take, take-append-le, places}
 use Rattle.pgboard.proofs.reading.make_room.Goals as goal
 
 pub returns-in_ok-resize-clause-prefix : goal.returns-in_ok-resize-clause-prefix

@@ -1,5 +1,4 @@
-use Rattle.std.proofs.Common.{take, ap, ◌∙◌, rules, arith}
-use Rattle.std.proofs.lemmas.List.{with_items_is, places}
+use Rattle.pgboard.proofs.Common.{take, ap, ◌∙◌, rules, arith, with_items_is, places}
 use Rattle.pgboard.proofs.Devices.{filled_more}
 use Rattle.pgboard.proofs.reading.read_into.Goals as goal
 

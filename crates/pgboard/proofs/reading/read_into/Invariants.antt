@@ -1,6 +1,4 @@
-use Rattle.std.proofs.Common.{◌≡◌, ◌≤◌, ◌-◌, take, vec_len}
-use Rattle.std.specs.Io.KnownBytes.{Consumes}
-use Rattle.pg_text.specs.Reading.{max_text}
+use Rattle.pgboard.proofs.Common.{◌≡◌, ◌≤◌, ◌-◌, take, vec_len, Consumes, max_text}
 use Rattle.pgboard.proofs.reading.read_into.Given as goal
 
 -- the filled bytes are what was read so far, and no read failed

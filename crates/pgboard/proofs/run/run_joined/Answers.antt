@@ -1,4 +1,4 @@
-use Rattle.std.proofs.lemmas.Result.{err_from_is_err_and}
+use Rattle.pgboard.proofs.Common.{err_from_is_err_and}
 use Rattle.pgboard.proofs.Judging.{err_again, joined_text, no_game, no_solution_of, no_output, judged_known, judged_within}
 use Rattle.pgboard.proofs.run.run_joined.Goals as goal
 

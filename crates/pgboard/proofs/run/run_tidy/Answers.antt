@@ -1,7 +1,4 @@
-use Rattle.std.proofs.Common.{ℕ, List, ◌∙◌, subst}
-use Rattle.std.specs.Io.KnownBytes.{Appends}
-use Rattle.std.proofs.lemmas.Result.{on_ok_weaker}
-use Rattle.pgboard.specs.Device.{AppendsPrefix}
+use Rattle.pgboard.proofs.Common.{ℕ, List, ◌∙◌, subst, Appends, on_ok_weaker, AppendsPrefix}
 use Rattle.pgboard.proofs.run.run_tidy.Goals as goal
 
 pub returns-clause-written : goal.returns-clause-written

@@ -1,6 +1,4 @@
-use Rattle.std.proofs.Common.{ℕ, List, inr, subst}
-use Rattle.std.proofs.lemmas.Result.{err_from_is_err_and}
-use Rattle.pgboard.specs.private.Run.{IsRefusedSolution, IsVerdictOn}
+use Rattle.pgboard.proofs.Common.{ℕ, List, inr, subst, err_from_is_err_and, IsRefusedSolution, IsVerdictOn}
 use Rattle.pgboard.proofs.Judging.{err_again, no_solution_from, judged_by_both}
 use Rattle.pgboard.proofs.run.run_verify.Goals as goal
 

@@ -1,10 +1,5 @@
-use Rattle.std.proofs.Common.{ℕ, List, [], inr}
-use Rattle.std.specs.Prelude.{Some}
-use Rattle.std.specs.Io.KnownBytes.{Appends}
-use Rattle.std.proofs.lemmas.Result.{err_from_is_err_and}
+use Rattle.pgboard.proofs.Common.{ℕ, List, [], inr, Some, Appends, err_from_is_err_and, AppendsPrefix, IsSolveOutput}
 use Rattle.pgboard.specs.declared.fault.RunFault.TheVariants as fault
-use Rattle.pgboard.specs.Device.{AppendsPrefix}
-use Rattle.pgboard.specs.Solving.{IsSolveOutput}
 use Rattle.pgboard.proofs.Knowing.{unsolved_alone, solved_alone, all_out, front_out}
 use Rattle.pgboard.proofs.solve.solve_alone.Goals as goal
 

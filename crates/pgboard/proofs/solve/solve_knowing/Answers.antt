@@ -1,11 +1,5 @@
-use Rattle.std.proofs.Common.{ℕ, List, inr, subst}
-use Rattle.std.specs.Io.KnownBytes.{Appends}
-use Rattle.std.proofs.lemmas.Result.{err_from_is_err_and}
-use Rattle.pg_text.specs.Known.{IsKnownTextOf}
+use Rattle.pgboard.proofs.Common.{ℕ, List, inr, subst, Appends, err_from_is_err_and, IsKnownTextOf, AppendsPrefix, IsRefusedText, IsSolveOutput}
 use Rattle.pgboard.specs.declared.fault.RunFault.TheVariants as fault
-use Rattle.pgboard.specs.Device.{AppendsPrefix}
-use Rattle.pgboard.specs.private.Known.{IsRefusedText}
-use Rattle.pgboard.specs.Solving.{IsSolveOutput}
 use Rattle.pgboard.proofs.Knowing.{not_known_text, not_solved, solved, kept, all_out, front_out}
 use Rattle.pgboard.proofs.solve.solve_knowing.Goals as goal
 

@@ -1,6 +1,4 @@
-use Rattle.std.proofs.Common.{◌≡◌, true, Bool, sym, subst}
-use Rattle.pg_text.proofs.Exact.{exact_rows}
-use Rattle.pgboard.specs.Solving.{IsSolveText}
+use Rattle.pgboard.proofs.Common.{◌≡◌, true, Bool, sym, subst, exact_rows, IsSolveText}
 use Rattle.pgboard.proofs.Solved.{winners_text}
 use Rattle.pgboard.proofs.solve.solve_text.Goals as goal
 

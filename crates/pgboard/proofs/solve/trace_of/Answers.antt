@@ -1,10 +1,4 @@
-use Rattle.std.proofs.Common.{ℕ, ◌∙◌, List, length, ap, sym, subst}
-use Rattle.std.specs.List.{AllByRecursion}
-use Rattle.pg_board.specs.Journal.{Journal}
-use Rattle.pg_workers.specs.declared.report.ReportRow.{ReportRow}
-use Rattle.pg_workers.specs.Report.{AddsUp}
-use Rattle.pgboard.specs.Trace.{trace_text}
-use Rattle.pgboard.specs.private.Trace.{AreVertices}
+use Rattle.pgboard.proofs.Common.{ℕ, ◌∙◌, List, length, ap, sym, subst, AllByRecursion, Journal, ReportRow, AddsUp, trace_text, AreVertices}
 use Rattle.pgboard.proofs.Journals.{journal_rows}
 use Rattle.pgboard.proofs.Unknown.{settles_nothing}
 use Rattle.pgboard.proofs.solve.trace_of.Goals as goal

@@ -1,5 +1,4 @@
-use Rattle.std.proofs.Common.{◌+◌, sym, ◌∙◌}
-use Rattle.std.proofs.lemmas.List.{take_rest}
+use Rattle.pgboard.proofs.Common.{◌+◌, sym, ◌∙◌, take_rest}
 use Rattle.pgboard.proofs.Joined.{game_before, solution_after, game_alone, no_solution}
 use Rattle.pgboard.proofs.texts.parts.Goals as goal
 

@@ -1,8 +1,4 @@
-use Rattle.std.proofs.Common.{length, sym, subst}
-use Rattle.std.specs.List.{AllByRecursion}
-use Rattle.pg_text.proofs.WrittenReads.{all_at}
-use Rattle.pg_board.specs.declared.entry.Entry.{Entry}
-use Rattle.pgboard.specs.private.Trace.{AreVertices}
+use Rattle.pgboard.proofs.Common.{length, sym, subst, AllByRecursion, all_at, Entry, AreVertices}
 use Rattle.pgboard.proofs.Traced.{one_entry_more}
 use Rattle.pgboard.proofs.trace.put_entries.Goals as goal
 

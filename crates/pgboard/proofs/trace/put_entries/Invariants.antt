@@ -1,5 +1,4 @@
-use Rattle.std.specs.Prelude.{◌≡◌, ◌++◌, drop}
-use Rattle.pgboard.specs.Trace.{entries_text}
+use Rattle.pgboard.proofs.Common.{◌≡◌, ◌++◌, drop, entries_text}
 use Rattle.pgboard.proofs.trace.put_entries.Given as goal
 
 abbrev pub invariant-loop-i : goal.invariant-loop-i

@@ -1,4 +1,4 @@
-use Rattle.std.proofs.Common.{ℕ, List, length, Option, ◌∷◌, ◌++◌, ◌∙◌, ap, decimal}
+use Rattle.pgboard.proofs.Common.{ℕ, List, length, Option, ◌∷◌, ◌++◌, ◌∙◌, ap, decimal}
 use Rattle.pgboard.proofs.Lines.{first, next, last}
 use Rattle.pgboard.proofs.trace.put_entry_head.Goals as goal
 

@@ -1,5 +1,4 @@
-use Rattle.std.specs.Prelude.{◌≡◌, ◌++◌, drop, flat_map}
-use Rattle.pgboard.specs.Trace.{job_line}
+use Rattle.pgboard.proofs.Common.{◌≡◌, ◌++◌, drop, flat_map, job_line}
 use Rattle.pgboard.proofs.trace.put_jobs.Given as goal
 
 abbrev pub invariant-loop-row : goal.invariant-loop-row

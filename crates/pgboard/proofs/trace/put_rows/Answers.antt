@@ -1,8 +1,4 @@
-use Rattle.std.proofs.Common.{length}
-use Rattle.std.specs.Prelude.{None}
-use Rattle.pg_text.proofs.WrittenReads.{all_at}
-use Rattle.pgboard.specs.Trace.{row_line}
-use Rattle.pgboard.specs.private.Trace.{AreVertices}
+use Rattle.pgboard.proofs.Common.{length, None, all_at, row_line, AreVertices}
 use Rattle.pgboard.proofs.Traced.{one_more}
 use Rattle.pgboard.proofs.trace.put_rows.Goals as goal
 

@@ -1,5 +1,4 @@
-use Rattle.std.specs.Prelude.{◌≡◌, ◌++◌, drop, flat_map}
-use Rattle.pgboard.specs.Trace.{row_line}
+use Rattle.pgboard.proofs.Common.{◌≡◌, ◌++◌, drop, flat_map, row_line}
 use Rattle.pgboard.proofs.trace.put_rows.Given as goal
 
 abbrev pub invariant-loop-row : goal.invariant-loop-row

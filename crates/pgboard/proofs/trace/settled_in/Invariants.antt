@@ -1,5 +1,4 @@
-use Rattle.std.specs.Prelude.{◌≡◌, ◌≤◌, ◌*◌, ◌^◌, take}
-use Rattle.pg_board.specs.Journal.{number_settled}
+use Rattle.pgboard.proofs.Common.{◌≡◌, ◌≤◌, ◌*◌, ◌^◌, take, number_settled}
 use Rattle.pgboard.proofs.trace.settled_in.Given as goal
 
 abbrev pub invariant-loop-entry : goal.invariant-loop-entry

@@ -1,4 +1,4 @@
-use Rattle.std.specs.Prelude.{◌≡◌, ◌≤◌, ◌*◌, ◌^◌, take, sum_by}
+use Rattle.pgboard.proofs.Common.{◌≡◌, ◌≤◌, ◌*◌, ◌^◌, take, sum_by}
 use Rattle.pgboard.proofs.trace.sums_of.Given as goal
 
 abbrev pub invariant-loop-row : goal.invariant-loop-row

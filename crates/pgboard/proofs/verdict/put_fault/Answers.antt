@@ -1,4 +1,4 @@
-use Rattle.std.proofs.Common.{◌≡◌, ℕ, List, ◌++◌, ap, ◌∙◌, append_assoc, decimal, codes}
+use Rattle.pgboard.proofs.Common.{◌≡◌, ℕ, List, ◌++◌, ap, ◌∙◌, append_assoc, decimal, codes}
 use Rattle.pgboard.proofs.verdict.put_fault.Goals as goal
 
 -- two additions, one after the other

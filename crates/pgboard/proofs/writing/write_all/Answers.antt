@@ -1,4 +1,4 @@
-use Rattle.std.proofs.Common.{◌∙◌}
+use Rattle.pgboard.proofs.Common.{◌∙◌}
 use Rattle.pgboard.proofs.Devices.{wrote_more}
 use Rattle.pgboard.proofs.writing.write_all.Goals as goal
 

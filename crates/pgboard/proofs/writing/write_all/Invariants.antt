@@ -1,5 +1,4 @@
-use Rattle.std.proofs.Common.{◌≡◌, ℕ, List, ◌++◌, length}
-use Rattle.std.specs.Io.KnownBytes.{Appends}
+use Rattle.pgboard.proofs.Common.{◌≡◌, ℕ, List, ◌++◌, length, Appends}
 use Rattle.pgboard.proofs.writing.write_all.Given as goal
 
 -- what was taken stands before the rest
