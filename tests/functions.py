@@ -16,7 +16,6 @@ HOLDER = re.compile(r"(?:pub(?:\(\w+\))? )?(impl|trait|mod|macro_rules!)")
 IMPL = re.compile(r"impl(?:<[^{]*?>)? (?:([\w:]+)(?:<(\w*).*>)? for )?(\w+)")
 
 
-@functools.lru_cache(maxsize=None)
 def read(path):
     with open(path, encoding="utf-8") as file:
         return file.read()
