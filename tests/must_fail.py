@@ -202,6 +202,8 @@ def try_round(crate, planted, kept):
         return [it.name for it in edits if not is_refused_alone(crate, it, kept)]
     refused = refused_by(crate, planted, kept)
     left = [edit for edit, paths in planted.edits if not is_refused(paths, refused)]
+    if left:
+        print(f"{crate.name}: to be tried again: {', '.join(it.name for it in left)}", flush=True)
     if len(left) == 1:
         return [it.name for it in left if not is_refused_alone(crate, it, kept)]
     # a caller's refusal may have gone by the name of what it calls
