@@ -57,10 +57,10 @@ class Edit:
 
 
 class Unchanged:
-    """No edit: a function that stands twice as it is."""
+    """In the place of an edit the functions that it changes, as they stand."""
 
-    def __init__(self, path):
-        self.name, self.changes, self.touched, self.functions = f"a copy of {path}", {}, {path}, {path}
+    def __init__(self, edit):
+        self.name, self.touched, self.functions, self.changes = edit.name, edit.touched, edit.functions, {}
 
 
 def changed_lines(before, after):
@@ -96,7 +96,7 @@ class Round:
 
     def takes(self, edit):
         """Adds the edit if there is a place for it, and says whether there was."""
-        if not edit.touched & self.touched and not isinstance(edit, Unchanged):
+        if not edit.touched & self.touched:
             self.touched |= edit.touched
             for file, runs in edit.changes.items():
                 self.changes.setdefault(file, []).extend(runs)
@@ -104,11 +104,14 @@ class Round:
             return True
         if len(edit.functions) != 1 or not may_stand_twice(self.crate, *edit.functions):
             return False
-        (path,) = edit.functions
-        copy = f"{path}_copy_{len(self.copies)}"
-        self.copies.append((path, copy, edit))
-        self.edits.append((edit, {copy}))
+        self.edits.append((edit, {self.copy(*edit.functions, edit.changes)}))
         return True
+
+    def copy(self, path, changes):
+        """Has a copy of the function stand below it, with what the changes say of it, and gives the copy's path."""
+        copy = f"{path}_copy_{len(self.copies)}"
+        self.copies.append((path, copy, changes))
+        return copy
 
     def paths(self):
         """The functions to be checked."""
@@ -117,19 +120,19 @@ class Round:
     def plant(self, room, kept=None):
         """Puts the edits into a copy of the crate, where kept functions are given with the proofs of all others left open."""
         changes = {file: list(runs) for file, runs in self.changes.items()}
-        for path, copy, edit in self.copies:
+        for path, copy, own in self.copies:
             it = functions_of(self.crate.folder)[path]
-            changes.setdefault(it.file, []).append((it.end, it.end, ["\n", *self.copied(it, copy, edit)]))
+            changes.setdefault(it.file, []).append((it.end, it.end, ["\n", *self.copied(it, copy, own)]))
             give_proof(self.crate, room, path, copy)
         if kept is not None:
             self.leave_open(room, kept, changes)
         for file, runs in changes.items():
             write(f"{room}/{file}", "".join(with_runs(read(f"{self.crate.folder}/{file}").splitlines(True), runs)))
 
-    def copied(self, function, copy, edit):
-        """The lines of a copy of the function, with the edit."""
+    def copied(self, function, copy, changes):
+        """The lines of a copy of the function, with the changes."""
         lines = read(f"{self.crate.folder}/{function.file}").splitlines(True)[function.begin : function.end]
-        runs = [it for it in edit.changes.get(function.file, []) if function.begin <= it[0] and it[1] <= function.end]
+        runs = [it for it in changes.get(function.file, []) if function.begin <= it[0] and it[1] <= function.end]
         lines = with_runs(lines, [(start - function.begin, end - function.begin, new) for start, end, new in runs])
         name = copy.split("::")[-1]
         return re.sub(rf"\bfn {function.name}\b", f"fn {name}", "".join(lines), count=1).splitlines(True)
@@ -165,7 +168,7 @@ def write(path, text):
 
 
 def rounds_of(crate, edits):
-    """Edits in rounds, as few as can be; an edit outside all functions stands alone."""
+    """Edits in rounds, each in the first that has a place for it; an edit outside all functions stands alone."""
     rounds = []
     # what touches several functions may have no copies
     for edit in sorted(edits, key=lambda it: (None not in it.touched, -len(it.touched))):

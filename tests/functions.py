@@ -22,15 +22,15 @@ def read(path):
 
 
 class Function:
-    """A function: its file, its path, and its lines: where it begins, attributes among them, and ends, and those of its body.
+    """A function: its file, its path, whether a trait asks for it, and its lines: where it begins, attributes among them, where
+    its body begins, and where both end.
 
     Lines are counted from 0, and an end is the line behind the last.
     """
 
-    def __init__(self, file, path, begin, body, end):
-        self.file, self.path, self.begin, self.body, self.end = file, path, begin, body, end
-        # one that a trait asks for stands in an `impl` that has room for no other
-        self.of_trait = False
+    def __init__(self, file, path, of_trait, begin, body, end):
+        self.file, self.path, self.of_trait = file, path, of_trait
+        self.begin, self.body, self.end = begin, body, end
 
     @property
     def name(self):
@@ -72,15 +72,14 @@ def body_at(lines, named, indent):
 
 
 def path_of(folder, file, name, header):
-    """The path of a function of the file: of one in an `impl`, by what this is for."""
+    """The path of a function of the file, of one in an `impl` by what this is for, and whether a trait asks for it."""
     trait, kind = "", None
     if header:
         found = IMPL.match(header)
-        trait = re.sub("^Drop$", "", (found[1] or "").split("::")[-1] + (found[2] or ""))
-        kind = found[3]
-        name = f"{kind}{trait}::{name}"
-    module = module_of(folder, file, None if trait else kind)
-    return f"{module}::{name}" if module else name
+        trait, kind = (found[1] or "").split("::")[-1] + (found[2] or ""), found[3]
+        name = f"{kind}{'' if trait == 'Drop' else trait}::{name}"
+    module = module_of(folder, file, None if trait and trait != "Drop" else kind)
+    return f"{module}::{name}" if module else name, bool(trait)
 
 
 @functools.lru_cache(maxsize=None)
@@ -98,7 +97,6 @@ def functions_of(folder):
             begin = at
             while re.match(r" *#\[", lines[begin - 1]):
                 begin -= 1
-            it = Function(file, path_of(folder, file, named[2], holder.string if named[1] else None), begin, *body)
-            it.of_trait = bool(named[1] and IMPL.match(holder.string)[1])
-            found[it.path] = it
+            path, of_trait = path_of(folder, file, named[2], holder.string if named[1] else None)
+            found[path] = Function(file, path, of_trait, begin, *body)
     return found

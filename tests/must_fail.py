@@ -14,8 +14,8 @@ or otherwise: one that calls another, and a copy of one.
 
 Needs the crates below to be built, here or in the tree that `--in` names. Where `rt ci` is at work there, whose output LOG
 holds so far, a crate's edits wait until the crates below are proved. With words, only edits whose names have one of them are
-tried. With `--unchanged` each function of which edits need a copy is copied as it is, and no such copy may be refused. The
-last line is 'N passed, M failed'.
+tried. With `--unchanged` the functions and the copies of them that edits would change stand as they are, and none may be
+refused. The last line is 'N passed, M failed'.
 """
 
 import argparse
@@ -184,8 +184,7 @@ def refused_by(crate, planted, kept):
     beside = [calling(crate, changed)]
     twice = standing(crate, [*changed, *beside])
     if twice:
-        planted.takes(Unchanged(twice))
-        beside.append(planted.edits.pop()[1].pop())
+        beside.append(planted.copy(twice, {}))
     said = check(crate, planted, kept, beside).stdout
     refused = refused_functions(crate, [*changed, *beside], said)
     for it in beside:
@@ -207,8 +206,9 @@ def try_round(crate, planted, kept):
     if len(left) == 1:
         return [it.name for it in left if not is_refused_alone(crate, it, kept)]
     # a caller's refusal may have gone by the name of what it calls
-    parts = [left] if len(left) < len(edits) else [left[: len(left) // 2], left[len(left) // 2 :]]
-    return [name for part in parts if part for it in rounds_of(crate, part) for name in try_round(crate, it, kept)]
+    half = len(left) if len(left) < len(edits) else len(left) // 2
+    smaller = rounds_of(crate, left[:half]) + rounds_of(crate, left[half:])
+    return [name for it in smaller for name in try_round(crate, it, kept)]
 
 
 def try_rounds(crate, rounds, kept):
@@ -238,23 +238,15 @@ def edits_of(crate):
     return f"{ROOT}/crates/{crate.name}/must-fail"
 
 
-def unchanged_of(crate, edits):
-    """Copies of the functions of which the edits need one, in one round."""
-    copied = {path for planted in rounds_of(crate, edits) for path, _, _ in planted.copies}
-    return [Unchanged(it) for it in sorted(copied)]
-
-
-def told_unchanged(crate, copies, kept):
-    """The names of the copies that are refused though nothing is changed in them."""
-    through = []
-    for planted in rounds_of(crate, copies):
+def refused_unchanged(crate, rounds, kept):
+    """The names of the edits whose functions are refused though nothing is changed in them."""
+    for planted in rounds:
         refused = refused_by(crate, planted, kept)
-        through += [edit.name for edit, paths in planted.edits if is_refused(paths, refused)]
-    return through
+        yield from [edit.name for edit, paths in planted.edits if is_refused(paths, refused)]
 
 
 def try_crate(crate, words, log, unchanged):
-    """How many edits there are, or copies that are tried, and how many of them are not answered as they have to be."""
+    """How many edits there are, and how many of them are not refused, or refused where nothing is changed."""
     paths = sorted(glob.glob(f"{edits_of(crate)}/*.edit"))
     paths = [it for it in paths if not words or any(word in os.path.basename(it) for word in words)]
     # (the second where an earlier run proved the same text, and what that made is taken)
@@ -268,21 +260,20 @@ def try_crate(crate, words, log, unchanged):
         except BadEdit as bad:
             through.append(str(bad))
     if unchanged:
-        edits = unchanged_of(crate, edits)
+        edits = [Unchanged(it) for it in edits]
     rounds = rounds_of(crate, edits)
     with tempfile.TemporaryDirectory(prefix="must-fail-kept-") as room:
         try:
-            tried = told_unchanged(crate, edits, f"{room}/kept") if unchanged else try_rounds(crate, rounds, f"{room}/kept") if rounds else []
-            through += tried
+            if rounds:
+                through += (refused_unchanged if unchanged else try_rounds)(crate, rounds, f"{room}/kept")
         except RefusedAsItStands as why:
             print(f"FAILED must_fail/{crate.name}: {why}", flush=True)
             return len(paths), len(paths)
-    what = "copies as they stand" if unchanged else "edits"
-    said = "refused" if unchanged else "let through"
-    print(f"{crate.name}: {len(edits)} {what} in {len(rounds)} rounds, {len(through)} {said}", flush=True)
+    what = "unchanged, and refused" if unchanged else "let through"
+    print(f"{crate.name}: {len(paths)} edits in {len(rounds)} rounds, {len(through)} {what}", flush=True)
     for name in through:
         print(f"FAILED must_fail/{crate.name} {name}", flush=True)
-    return max(len(edits), len(through)), len(through)
+    return len(paths), len(through)
 
 
 def main():
@@ -290,7 +281,7 @@ def main():
     parser.add_argument("--in", dest="tree", default=ROOT, help="the tree in which the crates below are built")
     parser.add_argument("--after", metavar="LOG", help="what `rt ci` says, which is at work in the tree")
     parser.add_argument("--lanes", metavar="FOLDER", help="where a file `front` says that others are at work beside")
-    parser.add_argument("--unchanged", action="store_true", help="tries copies that nothing changes, which have to be proved")
+    parser.add_argument("--unchanged", action="store_true", help="changes nothing, and holds the prover to refusing none of these functions")
     parser.add_argument("crate", nargs="?")
     parser.add_argument("words", nargs="*")
     given = parser.parse_args()
