@@ -5,14 +5,18 @@
 
 A case is a folder whose name says the fact that it shows. Its files:
     args              one word a line; none: no word
+    again             lines of further words, which change nothing: the case is run with each of them, too
     stdin             none: nothing
     stdout            the exact output
     stdout_one_of/    in place of stdout: files, one of which is the exact output
     stdout_contains   in place of stdout: lines, each of which has to occur in the output
+    stdout_begins     beside stdout_contains: with what the output begins
     stderr            the exact text on standard error; none: nothing
     stderr_is_some    in place of stderr: any text that is not empty
+    stderr_names      in place of stderr: a refusal of words, which begins with 'error: ', ends its line and has each of these lines somewhere
     status            none: 0
     files/            copied into the empty folder in which the program runs
+    note              why the bytes are these; not read
 The last line is 'N passed, M failed'; the status is 1 where a case failed.
 """
 
@@ -28,7 +32,8 @@ import harness
 HERE = os.path.dirname(os.path.abspath(__file__))
 CASES = os.path.join(HERE, "cli")
 SECONDS = 20
-KNOWN = {"args", "stdin", "stdout", "stdout_one_of", "stdout_contains", "stderr", "stderr_is_some", "status", "files"}
+KNOWN = {"args", "again", "stdin", "stdout", "stdout_one_of", "stdout_contains", "stdout_begins"}
+KNOWN |= {"stderr", "stderr_is_some", "stderr_names", "status", "files", "note"}
 
 
 def read(case, name, default=b""):
@@ -44,8 +49,10 @@ def has(case, name):
 
 
 def words(case):
+    """The words of each run of a case."""
     text = read(case, "args").decode()
-    return text.removesuffix("\n").split("\n") if text else []
+    first = text.removesuffix("\n").split("\n") if text else []
+    return [first, *(first + line.split() for line in read(case, "again").decode().splitlines())]
 
 
 def shown(data):
@@ -54,6 +61,8 @@ def shown(data):
 
 
 def stdout_fault(case, out):
+    if not out.startswith(read(case, "stdout_begins")):
+        return f"standard output begins with {shown(out)}, and not with {shown(read(case, 'stdout_begins'))}"
     if has(case, "stdout_contains"):
         lines = {line.strip() for line in out.split(b"\n")}
         lacking = [line for line in read(case, "stdout_contains").splitlines() if line.strip() not in lines]
@@ -70,26 +79,39 @@ def stdout_fault(case, out):
 def stderr_fault(case, err):
     if has(case, "stderr_is_some"):
         return None if err else "standard error is empty"
+    if has(case, "stderr_names"):
+        names = read(case, "stderr_names").splitlines()
+        is_right = err.startswith(b"error: ") and err.endswith(b"\n") and names and all(it in err for it in names)
+        return None if is_right else f"standard error is {shown(err)}, and no refusal with {shown(read(case, 'stderr_names'))}"
     wanted = read(case, "stderr")
     return None if err == wanted else f"standard error is {shown(err)}, and not {shown(wanted)}"
 
 
-def fault(binary, case):
-    """Runs a case and returns what is wrong with it, or None."""
-    strange = set(os.listdir(os.path.join(CASES, case))) - KNOWN
-    if strange:
-        return f"the case has files that mean nothing: {', '.join(sorted(strange))}"
+def run_fault(binary, case, words):
+    """Runs a case with these words and returns what is wrong with it, or None."""
     with tempfile.TemporaryDirectory(prefix="pgboard-cli-") as room:
         if has(case, "files"):
             shutil.copytree(os.path.join(CASES, case, "files"), room, dirs_exist_ok=True)
         try:
-            ran = subprocess.run([binary, *words(case)], input=read(case, "stdin"), cwd=room, capture_output=True, timeout=SECONDS)
+            ran = subprocess.run([binary, *words], input=read(case, "stdin"), cwd=room, capture_output=True, timeout=SECONDS)
         except subprocess.TimeoutExpired:
             return f"it had not ended after {SECONDS} seconds"
     wanted = int(read(case, "status", b"0"))
     if ran.returncode != wanted:
         return f"the status is {ran.returncode}, and not {wanted}; standard error is {shown(ran.stderr)}"
     return stdout_fault(case, ran.stdout) or stderr_fault(case, ran.stderr)
+
+
+def fault(binary, case):
+    """What is wrong with a case, or None."""
+    strange = set(os.listdir(os.path.join(CASES, case))) - KNOWN
+    if strange:
+        return f"the case has files that mean nothing: {', '.join(sorted(strange))}"
+    for line in words(case):
+        wrong = run_fault(binary, case, line)
+        if wrong:
+            return f"{' '.join(line)}: {wrong}"
+    return None
 
 
 def main():

@@ -20,14 +20,14 @@ LONG = {
     "pg_board/board/Board/settle_in": 72,
     "pg_dominion/walks/spread": 171,
     "pg_finders/recursion/begin/begin": 131,
-    "pg_finders/recursion/solver/Solver/enter": 118,
+    "pg_finders/recursion/solver/Solver/enter": 114,
     "pg_finders/recursion/solver/Solver/resume": 158,
     "pg_finders/small/find_small": 99,
-    "pg_finders/small/walks/Search/+go_on": 257,
+    "pg_finders/small/walks/Search/+go_on": 237,
     "pg_finders/small/walks/Search/choose_known": 109,
-    "pg_finders/small/walks/Search/settle": 111,
-    "pg_finders/solitaire/solve": 73,
-    "pg_workers/jobs/Jobs/close": 81,
+    "pg_finders/small/walks/Search/settle": 102,
+    "pg_finders/solitaire/solve": 71,
+    "pg_workers/jobs/Jobs/close": 80,
 }
 
 

@@ -143,20 +143,26 @@ def check(crate, planted, kept, beside=None):
             return subprocess.run([*rtlib.guarded(), *words], cwd=room, **how)
 
 
-def refused_functions(crate, changed, said):
-    """The paths of the functions that a check refused for themselves, where these are changed.
+def refused_functions(crate, said):
+    """The paths of the functions that a check refused for themselves.
 
-    Where the proof of what it calls is only open, a function that is well depends on a hole, and is not refused.
+    Where the proof of what it calls is only open, a function that is well depends on a hole, and is not refused. Nor is one
+    that calls what is not proved, unless answers of its own are refused, nor one whose text the prover doesn't cover.
     """
-    refused = set()
-    for path, why in re.findall(r"(?m)^fn \w+::(\S+): (?:no proof|not proved)(.*)", said):
+    lines = re.findall(r"(?m)^fn \w+::(\S+): (?:no proof|not proved)(.*)", said)
+    refused, unproved = set(), {path for path, _ in lines}
+    for path, why in lines:
         # a closure stands below its function
         own = re.sub(r"(?:^|(?<=::))fn::", "", path)
-        told, _, calls = why.partition("it calls ")
         # what a caller stands on may be answers of what it calls
-        standing = re.findall(rf"`Rattle\.{crate.name}\.proofs\.(\S+)`", told)
-        is_own = any(it.replace("fn.", "").startswith(f"{own.replace('::', '.')}.") for it in standing) or "expected answers" in told
-        if is_own or not standing and not set(changed) & set(re.findall(r"`\w+::(\S+?)`", calls)):
+        standing = re.findall(rf"`Rattle\.{crate.name}\.proofs\.(\S+)`", why)
+        # (what is below a closure has `fn.` in its path, and what calls itself a `+`)
+        answers = [it.replace("fn.", "").replace("+", "") for it in standing]
+        is_own = any(it.startswith(f"{own.replace('::', '.')}.") for it in answers) or "expected answers" in why
+        # functions, and blocks of them
+        named = re.findall(r"`\w+::(\S+?)`", why)
+        leans = any(is_refused([it], unproved - {path}) for it in named)
+        if is_own or not standing and not leans and "borrow checker does not cover" not in why:
             refused.add(own)
     return refused
 
@@ -186,7 +192,7 @@ def refused_by(crate, planted, kept):
     if twice:
         beside.append(planted.copy(twice, {}))
     said = check(crate, planted, kept, beside).stdout
-    refused = refused_functions(crate, [*changed, *beside], said)
+    refused = refused_functions(crate, said)
     for it in beside:
         # (what it calls may be changed, so it needn't be proved)
         if it in refused or not re.search(rf"(?m)^fn {crate.name}::{it}: (?:proved|no holes|depends on a hole|not proved|no proof)", said):

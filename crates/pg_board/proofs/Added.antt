@@ -13,7 +13,3 @@ settles_some {e = e} good answers = omega (arith, good.not_stale, ap length answ
 -- a total to which was added what was settled is the new number
 pub total_grows : {total before more was settled now : ℕ} → total ≡ before + more → before ≡ was → more ≡ settled → now ≡ was + settled → total ≡ now
 total_grows total before more now = omega arith
-
--- so does a share's amount
-pub rises : {amount was more settled : ℕ} → amount ≡ was → more ≡ settled → amount + more ≡ was + settled
-rises amount more = omega arith

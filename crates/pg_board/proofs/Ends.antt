@@ -3,14 +3,14 @@ use Rattle.pg_board.proofs.Common.{rules, ◌≡◌, ℕ, ◌<◌, ◌≤◌, tr
 use Rattle.pg_board.proofs.Common.{None, nat_eq, Contains, IsDistinct, cases_lt, eq-eqb, take-append-drop, sorted_from_strictly_increasing, below_from_sorted}
 use Rattle.pg_board.proofs.Common.{IsStrictlyIncreasing, Player, Graph, IsGame, VertexSet, own_or_other, not_own, not_same, ClaimRows, choice_in, IsRightRow}
 use Rattle.pg_board.proofs.Common.{AreRight, choice-back, EndsOutside, LeadsOutside, IsFirstOutside}
-use Rattle.std.proofs.Common.{drop-cons}
+use Rattle.std.proofs.Common.{drop-cons, eq-or-lt_of_le}
 use Rattle.std.proofs.lemmas.List.{get_or_default}
 use Rattle.std.proofs.lemmas.List.Elements.{Contains-get_or}
 use Rattle.pg_game.specs.Graph.{successors_of}
 use Rattle.pg_board.specs.private.OpenEdges.{ends_of, IsFirstEnd}
 use Rattle.pg_board.proofs.RestIsGood.{vertices}
 use Rattle.pg_board.proofs.Push.{distinct_rising}
-use Rattle.pg_board.proofs.Places.{row_at, named_at, place_at, fresh_at, rises_or}
+use Rattle.pg_board.proofs.Places.{row_at, named_at, place_at, fresh_at, rises}
 
 pub choice_at : (rows : ClaimRows) (i : ℕ) → IsDistinct nat_eq (vertices rows) → i < length rows
     → choice_in rows (row_at rows i).0 ≡ (row_at rows i).1
@@ -21,9 +21,6 @@ choice_at rows i distinct l =
     ∙ (ap (λ (xs : ClaimRows). choice_in xs v) (drop-cons rows i (0, None) l) ∙ rw (eq-eqb v v refl) refl))
 
 module _ (g : Graph) (p : Player) (S : VertexSet) (rows : ClaimRows) (right : AreRight g p rows) where
-  from_row : (i w : ℕ) → i < length rows → EndsOutside g p S (row_at rows i) w → LeadsOutside g p S rows (row_at rows i).0 w
-  from_row i w l h = search (rules, named_at, h.0, h.1, choice_at, distinct_rising, right.rising)
-
   to_row : (i w : ℕ) → i < length rows → LeadsOutside g p S rows (row_at rows i).0 w → EndsOutside g p S (row_at rows i) w
   to_row i w l h = search (rules, h.0.1, h.1, choice_at, distinct_rising, right.rising)
 
@@ -39,10 +36,10 @@ module _ (g : Graph) (p : Player) (S : VertexSet) (rows : ClaimRows) (right : Ar
   pub first_outside : (i w : ℕ) → i < length rows → NoneUpTo i → EndsOutside g p S (row_at rows i) w
       → ((x : ℕ) → EndsOutside g p S (row_at rows i) x → w ≤ x) → IsFirstOutside g p S rows (row_at rows i).0 w
   first_outside i w l none here least = record {
-    edge = from_row i w l here;
+    edge = search (rules, named_at, here.0, here.1, choice_at, distinct_rising, right.rising);
     first = λ u x h. (let q = placed u x h in elim (cases_lt q.0 i) [
       | inl less ↦ absurd (none q.0 x less q.3)
-      | inr more ↦ subst (λ (y : ℕ). (row_at rows i).0 ≤ y) q.2 (rises_or rows i q.0 right.rising more q.1)
+      | inr more ↦ subst (λ (y : ℕ). (row_at rows i).0 ≤ y) q.2 (search (rules, eq-or-lt_of_le, rises))
     ]);
     least = λ x h. least x (to_row i x l h);
   }

@@ -1,6 +1,6 @@
 -- The entry of a good rest and of what it attracts.
 use Rattle.pg_board.proofs.Common.{rules, ◌≡◌, ℕ, ◌+◌, ◌≤◌, Bool, true, false, [], ◌∷◌, ◌++◌, length, take, drop, refl, sym, ◌∙◌, subst, arith, lt-ltb}
-use Rattle.pg_board.proofs.Common.{length-append, get_or, ◌↔◌, if◌then◌else◌, fun_ext, sum_by_push, take-length, Player, Graph, IsGame, VertexSet, In, Within}
+use Rattle.pg_board.proofs.Common.{length-append, ◌↔◌, if◌then◌else◌, fun_ext, sum_by_push, take-length, Player, Graph, IsGame, VertexSet, In, Within}
 use Rattle.pg_board.proofs.Common.{all_vertices, union, members, IsSubgame, Attractor, ClaimRows, named, IsAttraction, named_right, Entry, State, settled}
 use Rattle.pg_board.proofs.Common.{unsettled, rest_of, IsGoodOn, Journal, state_of, claimed_rows, Answers, IsLawful, number_settled, Regions, table_state}
 use Rattle.pg_board.proofs.Common.{state_with, AreRegions, IsBoard, All-from_get_or, or_assoc, named-append, open_before, IsGrowing}
@@ -127,15 +127,12 @@ IsGrowing-start g r rows room regions none size = subst (λ (xs : ClaimRows). Is
   regions = regions;
   apart = λ v n. absurd (let h : false ≡ true = n in cc h);
   fits =
-      (let h = sum_by-le ones 1 r.unsettled (All-from_get_or (λ b. ones b ≤ 1) r.unsettled false (λ i l. at_most (get_or r.unsettled i false))) in let m =
+      (let h = sum_by-le ones 1 r.unsettled (All-from_get_or (λ b. ones b ≤ 1) r.unsettled false (λ i l. search rules)) in let m =
       regions.mask_size in omega (arith, h));
 })
   where
     ones : Bool → ℕ
     ones b = if b then 1 else 0
-
-    at_most : (b : Bool) → ones b ≤ 1
-    at_most b = search rules
 
 -- more room does
 pub IsGrowing-more : (g : Graph) (r : Regions) (rows : ClaimRows) (n m : ℕ) → n ≤ m → IsGrowing g r rows n → IsGrowing g r rows m

@@ -3,7 +3,8 @@ use Rattle.pg_board.proofs.Common.{rules, ◌≡◌, ℕ, ◌<◌, ◌≤◌, tr
 use Rattle.pg_board.proofs.Common.{settled, IsLost}
 use Rattle.pg_game.specs.Least.{IsLeast}
 use Rattle.pg_board.proofs.RestIsGood.{vertices}
-use Rattle.pg_board.proofs.Places.{row_at, named_at, place_at, rises_or}
+use Rattle.pg_board.proofs.Places.{row_at, named_at, place_at, rises}
+use Rattle.std.proofs.Common.{eq-or-lt_of_le}
 
 -- the first so many rows are not settled for the player
 abbrev pub NoneBefore : State → Player → ClaimRows → ℕ → Type 0
@@ -15,4 +16,4 @@ module _ (st : State) (p : Player) (rows : ClaimRows) where
 
   pub least_lost : (i : ℕ) → i < length rows → IsStrictlyIncreasing (vertices rows) → NoneBefore st (opponent p) rows i
       → settled st (opponent p) (row_at rows i).0 ≡ true → IsLeast (IsLost st p rows) (row_at rows i).0
-  least_lost i l rising before here = search (rules, named_at, place_at, cases_lt, rises_or)
+  least_lost i l rising before here = search (rules, named_at, place_at, cases_lt, eq-or-lt_of_le, rises)

@@ -1,17 +1,14 @@
 -- A claim that was a dominion after some entries is posted, or it is stale: it is refused for no other reason.
 use Rattle.pg_board.proofs.Common.{rules, ◌≡◌, ℕ, ◌+◌, ◌||◌, ◌↔◌, inl, inr, [], ◌∷◌, length, take, refl, sym, ◌∙◌, ap, subst, arith, Err, Result, drop, fun_ext}
 use Rattle.pg_board.proofs.Common.{take-append-drop, or-false, Player, opponent, Graph, IsGame, VertexSet, In, all_vertices, union, Attractor, is_same, Claim}
-use Rattle.pg_board.proofs.Common.{ClaimRows, named, choice_in, AreRight, IsClaimFault, claim_rows, Posted, Refusal, Regions, IsBoard, State, settled, rest_of}
+use Rattle.pg_board.proofs.Common.{ClaimRows, named, choice_in, AreRight, IsClaimFault, Posted, Refusal, Regions, IsBoard, settled, rest_of}
 use Rattle.pg_board.proofs.Common.{IsGoodOn, Journal, state_of, IsLawful, IsDominionAfter, Posts, Play, Adds, AnswersDominion, SettlesUnlessMemory, Refuses}
-use Rattle.pg_board.proofs.Common.{refusal_of}
 use Rattle.std.proofs.Common.{Ok, length-take, IfOk, IfErr, OnErr}
 use Rattle.pg_game.proofs.Rotate.{none_from_good}
 use Rattle.pg_dominion.specs.declared.claim.ClaimFault.{ClaimFault}
 use Rattle.pg_dominion.specs.Claim.{HasShape, IsFirstWrongRow}
-use Rattle.pg_dominion.specs.Checked.{CheckedClaim, AgreesWithGame}
 use Rattle.pg_dominion.proofs.Shape.{AreRight-front}
 use Rattle.pg_board.specs.Post.{SettlesDominion}
-use Rattle.pg_board.specs.Refusal.{IsOfState, RefusesChecked}
 use Rattle.pg_board.proofs.Push.{IsAdded, theirs}
 use Rattle.pg_board.proofs.Lawful.{lawful_push}
 use Rattle.pg_board.proofs.Dominion.{never_lost, stays_closed}
@@ -90,18 +87,9 @@ module _ (x : Play) (stands : Stands x) (claim : Claim) (k : ℕ) (d : IsDominio
   old_copy new worker (Err (refusal.Lost v)) h = search (rules, h.refused.1.has, never_lost, stands.lawful, h.refused.1.has.0, h.refused.1.has.1)
   old_copy new worker (Err (refusal.Open v w)) h = absurd (let e = h.refused.2.edge in e.1 (stays_closed g old stands.lawful k p rows d v w e.0))
 
--- what is answered where the check of a claim failed
-pub refused_check : (g : Graph) (st : State) (p : Player) (rows : ClaimRows) (fault : ClaimFault) → IsClaimFault g p rows fault
-    → Refuses g st p rows (refusal_of fault)
-refused_check g st p rows fault h = search rules
-
 -- the journal is lawful after a post
 pub lawful_after : {x new : Play} {worker : ℕ} {claim : Claim} (result : Result Posted Refusal) → Stands x → IsAnswered x new worker claim result
     → new.graph ≡ x.graph → IsLawful new.graph new.journal
 lawful_after (Ok posted) stands h graph =
     rw (graph, h.posted.1.journal) (lawful_push (added_by stands h.posted.0 h.posted.1))
 lawful_after (Err e) stands h graph = subst (λ (y : Play). IsLawful y.graph y.journal) (sym h.unchanged) stands.lawful
-
-pub checked_refusal : (g : Graph) (st : State) (c : CheckedClaim) → AgreesWithGame g c.player c.rows → (r : Result Posted Refusal) → IfErr r IsOfState
-    → IfErr r (λ e. Refuses g st c.player (claim_rows c.player c.rows) e) → IfErr r (λ e. RefusesChecked g st c e)
-checked_refusal g st c a r o r' = search rules

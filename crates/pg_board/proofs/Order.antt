@@ -1,6 +1,6 @@
 -- The order in which claims that were dominions are posted has no effect on the regions.
 use Rattle.pg_board.proofs.Common.{rules, ◌≡◌, ℕ, ◌<◌, ◌≤◌, true, false, ◌↔◌, inl, inr, List, [], ◌∷◌, ◌++◌, length, refl, sym, ◌∙◌, subst, arith}
-use Rattle.pg_board.proofs.Common.{if◌then◌else◌, take-append-le, or_cases, or_left, or_right, or-false, Player, opponent, same_player, Graph, IsGame}
+use Rattle.pg_board.proofs.Common.{if◌then◌else◌, take-append-le, or_cases, or_left, or_right, or-false, Player, same_player, Graph, IsGame}
 use Rattle.pg_board.proofs.Common.{VertexSet, In, Within, all_vertices, no_vertices, union, Attractor, target_attracted, Attractor-idempotent, own_or_other}
 use Rattle.pg_board.proofs.Common.{same_is, is_same, Claim, named, Entry, settled, is_unsettled, rest_of, IsDominion, Journal, state_of, claimed_rows, Answers}
 use Rattle.pg_board.proofs.Common.{IsLawful, IsDominionAfter, Posts}
@@ -43,10 +43,6 @@ still_dominions : (g : Graph) (old : Journal) (e : Entry) (cs : List Claim) → 
 still_dominions g old e [] h = tt
 still_dominions g old e (c ∷ cs) h = (still_dominion g old e c h.0, still_dominions g old e cs h.1)
 
--- a vertex of the claim, where the claim is the player's
-own_claim : (q : Player) (c : Claim) (v : ℕ) → In (of_claim q c) v → (c.player ≡ q) × In (named c.rows) v
-own_claim q c v i = search (rules, same_is)
-
 in_settled : (q : Player) (old : Journal) (cs : List Claim) (v : ℕ) → In (settled (state_of old) q) v → In (Target q old cs) v
 in_settled q old cs v i = or_left (settled (state_of old) q v) (claimed_by q cs v) i
 
@@ -83,7 +79,7 @@ module _ (g : Graph) (game : IsGame g) where
     where
       stale_vertex : (v : ℕ) → In (of_claim q c) v → In (settled (state_of old) q) v
       stale_vertex v b =
-          let o = own_claim q c v b in
+          let o : (c.player ≡ q) × In (named c.rows) v = search (rules, same_is) in
           elim (ours_or_open g old lawful k c.player c.rows d v o.1 (is_unsettled (state_of old v)) refl) [
             | inl r ↦ absurd (let n : false ≡ true = rw none at r in cc n)
             | inr s ↦ subst (λ x. In (settled (state_of old) x) v) o.0 s
@@ -104,33 +100,27 @@ module _ (g : Graph) (game : IsGame g) where
     added : IsAdded g old p c.rows e
     added = record { game = game; lawful = h.lawful; posted = dominion_good g old h.lawful h.was.0 p c.rows h.was.1 h.some_open; answers = h.answers }
 
-    ours : settled (state_of longer) p ≡ union (settled (state_of old) p) (named e.rows)
-    ours = ours_named added
-
-    other : settled (state_of longer) (opponent p) ≡ settled (state_of old) (opponent p)
-    other = theirs added
-
     into : (v : ℕ) → p ≡ q → In Start v → In (Target q old (c ∷ cs)) v
     into v same i = search (rules, or_cases, in_settled, in_rest, h.answers.rest, is_same, in_claims, or_left)
 
     from_settled : (v : ℕ) → In (settled (state_of longer) q) v → Attractor g q (all_vertices g) (Target q old (c ∷ cs)) v
     from_settled v a = elim (own_or_other q p) [
       | inl same ↦
-          (let b = (h.answers.exact v).0 (subst (λ X. In X v) ours (rw same at a)) in
+          (let b = (h.answers.exact v).0 (subst (λ X. In X v) (ours_named added) (rw same at a)) in
           Attractor-monotone g q (all_vertices g) Start (Target q old (c ∷ cs)) (λ x i. into x (sym same) i) v (rw same b))
       | inr same ↦
-          (let b : In (settled (state_of old) q) v = rw same (subst (λ X. In X v) other (rw same at a)) in
+          (let b : In (settled (state_of old) q) v = rw same (subst (λ X. In X v) (theirs added) (rw same at a)) in
           target_attracted g q (all_vertices g) (Target q old (c ∷ cs)) v (in_settled q old (c ∷ cs) v b))
     ]
 
     of_posted : (v : ℕ) → In (of_claim q c) v → In (settled (state_of longer) q) v
     of_posted v b =
-        let o = own_claim q c v b in
+        let o : (c.player ≡ q) × In (named c.rows) v = search (rules, same_is) in
         elim (ours_or_open g old h.lawful h.was.0 p c.rows h.was.1 v o.1 (is_unsettled (state_of old v)) refl) [
           | inl r ↦
               (let t : In Start v = or_right (settled (state_of old) p v) (named (claimed_rows e) v) (subst (λ xs. In (named xs) v) (sym h.answers.rest) r) in
               let i = (h.answers.exact v).1 (target_attracted g p (all_vertices g) Start v t) in
-              subst (λ x. In (settled (state_of longer) x) v) o.0 (subst (λ X. In X v) (sym ours) i))
+              subst (λ x. In (settled (state_of longer) x) v) o.0 (subst (λ X. In X v) (sym (ours_named added)) i))
           | inr s ↦ stays_settled old (e ∷ []) q v (subst (λ x. In (settled (state_of old) x) v) o.0 s)
         ]
 

@@ -1,8 +1,7 @@
 -- Rows by their place in the list.
-use Rattle.pg_board.proofs.Common.{rules, ◌≡◌, ℕ, zero, suc, ◌<◌, ◌≤◌, Bool, true, false, [], ◌∷◌, length, get_or, take, refl, sym, ◌∙◌, ap, arith, Option}
+use Rattle.pg_board.proofs.Common.{◌≡◌, ℕ, zero, suc, ◌<◌, Bool, true, false, [], ◌∷◌, length, get_or, take, refl, sym, ◌∙◌, ap, arith, Option}
 use Rattle.pg_board.proofs.Common.{None, ◌==◌, nat_eq, IsDistinct, IsStrictlyIncreasing, eqb-true, eq-eqb, false_from_ne_true, or_right, length-map}
 use Rattle.pg_board.proofs.Common.{sorted_from_strictly_increasing, below_from_sorted, ClaimRows, named}
-use Rattle.std.proofs.Common.{eq-or-lt_of_le}
 use Rattle.std.proofs.lemmas.List.{get_or-map, get_or-take, length-take}
 use Rattle.std.proofs.lemmas.Map.Keys.{apart_from_distinct}
 use Rattle.pg_board.proofs.RestIsGood.{vertices}
@@ -36,10 +35,6 @@ rises rows i k rising l m =
     let a = vertex_at rows i (omega arith) in
     let b = vertex_at rows k m in
     omega arith
-
-pub rises_or : (rows : ClaimRows) (i k : ℕ) → IsStrictlyIncreasing (vertices rows) → i ≤ k → k < length rows
-    → (row_at rows i).0 ≤ (row_at rows k).0
-rises_or rows i k rising l m = search (rules, eq-or-lt_of_le, rises)
 
 -- no earlier row names the vertex of a row
 pub fresh_at : (rows : ClaimRows) (i : ℕ) → IsDistinct nat_eq (vertices rows) → i < length rows → named (take i rows) (row_at rows i).0 ≡ false

@@ -15,15 +15,12 @@ abbrev pub Bounds : State → Player → ClaimRows → VertexSet
 Bounds st p rows = union (named (rest_of st rows)) (settled st p)
 
 module _ (g : Graph) (st : State) (p : Player) (rows : ClaimRows) where
-  open_edge : (v w : ℕ) → LeadsOutside g p (Bounds st p rows) (rest_of st rows) v w → IsOpenEdge g st p rows v w
-  open_edge v w h = (kept_rest g p st rows v w h.0, λ i. (let f = h.1 in cc (i, f)))
-
   leads_outside : (v w : ℕ) → IsOpenEdge g st p rows v w → LeadsOutside g p (Bounds st p rows) (rest_of st rows) v w
   leads_outside v w h = (kept_of_rest g p st rows v w h.0, false_from_ne_true (Bounds st p rows w) h.1)
 
   pub first_open : (v w : ℕ) → IsFirstOutside g p (Bounds st p rows) (rest_of st rows) v w → IsFirstOpenEdge g st p rows v w
   first_open v w h = record {
-    edge = open_edge v w h.edge;
+    edge = (kept_rest g p st rows v w h.edge.0, λ i. (let f = h.edge.1 in cc (i, f)));
     first = λ u x o. h.first u x (leads_outside u x o);
     least = λ x o. h.least x (leads_outside v x o);
   }

@@ -1,12 +1,12 @@
 -- An entry that answers a good claim leaves a lawful state.
-use Rattle.pg_board.proofs.Common.{rules, ◌≡◌, ℕ, ◌<◌, true, false, inl, inr, List, [], ◌∷◌, ◌++◌, length, refl, sym, ◌∙◌, ap, subst, arith, lt-ltb, ltb-true}
+use Rattle.pg_board.proofs.Common.{rules, ◌≡◌, ℕ, true, false, inl, inr, List, [], ◌∷◌, ◌++◌, length, refl, sym, ◌∙◌, ap, subst, arith, lt-ltb, ltb-true}
 use Rattle.pg_board.proofs.Common.{append_assoc, Contains, All, IsDistinct, eqb-true, false_from_ne_true, or_cases, or_right, take-append-drop, append-nil}
 use Rattle.pg_board.proofs.Common.{map-append, nat_eq_equiv, IsDistinct-push, sorted_from_strictly_increasing, below_from_sorted, IsStrictlyIncreasing}
 use Rattle.pg_board.proofs.Common.{and-true, and-false, or-false, Player, Even, Odd, opponent, Graph, IsGame, HasEdge, owner_of, edge_inside, some_edge}
-use Rattle.pg_board.proofs.Common.{VertexSet, In, all_vertices, union, without, Choices, kept, KeptEdge, IsSubgame, Attractor, IsRegion, ClosedWalk-weaker}
+use Rattle.pg_board.proofs.Common.{VertexSet, In, all_vertices, union, Choices, kept, KeptEdge, IsSubgame, Attractor, IsRegion, ClosedWalk-weaker}
 use Rattle.pg_board.proofs.Common.{Attractor-idempotent, grown_region, own_or_other, not_own, same_is, is_same, not_same, ClaimRows, named, choice_in}
 use Rattle.pg_board.proofs.Common.{IsRightRow, IsAttractedRow, named-append, choice-front, choice-back, place_of, named_right, kept_same, choice_leads, Entry}
-use Rattle.pg_board.proofs.Common.{is_winner, choice_in_row, State, settled, choices, is_unsettled, unsettled, rest_of, IsGoodOn, IsLawfulState, Journal}
+use Rattle.pg_board.proofs.Common.{is_winner, choice_in_row, State, settled, choices, is_unsettled, rest_of, IsGoodOn, IsLawfulState, Journal}
 use Rattle.pg_board.proofs.Common.{state_of, claimed_rows, attracted_rows, Answers, IsLawful}
 use Rattle.std.specs.Prelude.{Option, Some, None, nat_eq, if◌then◌else◌}
 use Rattle.std.proofs.lemmas.Bool.{or_parts}
@@ -130,9 +130,6 @@ module _ {g : Graph} {j : Journal} {p : Player} {rows : ClaimRows} {e : Entry} (
         f.1 w n (edge_inside g added.game v w (ltb-true v (length g) (leads v i).inside) n))
   ]
 
-  before_in : (v w : ℕ) (i : In (named A) v) → named (place_of A v i).before w ≡ true → In (named A) w × (rank A w < rank A v)
-  before_in v w i n = search (rules, place_of, named-append, rank, rank_below, rank_at)
-
   grows : Grows g p (settled st p) (named R) (named A) (choices st) (choices st') (rank A)
   grows = record {
     old = state.regions p;
@@ -144,7 +141,7 @@ module _ {g : Graph} {j : Journal} {p : Player} {rows : ClaimRows} {e : Entry} (
         or_cases (named R w) (settled st p w) (own_closed v w (kept_same g p (named R) (choice_in R) (choices st') v w (claimed_choice v i) i m));
     attracted_falls = λ v w i m. elim (or_cases (union (settled st p) (named R) w) (named (place_of A v i).before w) (falls_to v w i m)) [
       | inl h ↦ inl (or_cases (settled st p w) (named R w) h)
-      | inr n ↦ inr (before_in v w i n)
+      | inr n ↦ inr (search (rules, place_of, named-append, rank, rank_below, rank_at))
     ];
     rest_good = λ walk c. own_good.good walk (ClosedWalk-weaker (KeptEdge g p (named R) (choices st')) (KeptEdge g p (named R) (choice_in R))
         (λ v w k. kept_same g p (named R) (choice_in R) (choices st') v w (claimed_choice v k.0) k.0 k.1) walk c);
@@ -186,13 +183,10 @@ module _ {g : Graph} {j : Journal} {p : Player} {rows : ClaimRows} {e : Entry} (
   attracted : (q : Player) (v : ℕ) → Attractor g q (all_vertices g) (settled st' q) v → In (settled st' q) v
   attracted q v a = elim (own_or_other q p) [ inl h ↦ rw h (our_attractor v (rw h at a)) | inr h ↦ rw h (their_attractor v (rw h at a)) ]
 
-  rest_is : without (all_vertices g) (union (settled st' Even) (settled st' Odd)) ≡ unsettled g st'
-  rest_is = search rules
-
   pub lawful_state : IsLawfulState g st'
   lawful_state =
       let part = rest_is_subgame g (settled st' Even) (settled st' Odd) (edge_inside g added.game) (some_edge g added.game) (attracted Even) (attracted Odd) in
-      record { regions = regions; attracted = attracted; open_part = subst (IsSubgame g) rest_is part }
+      record { regions = regions; attracted = attracted; open_part = subst (IsSubgame g) (search rules) part }
 
   -- the entry added.answers its own claim
   pub own_claim_good : IsGoodOn g st e.player R

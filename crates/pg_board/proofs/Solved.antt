@@ -40,15 +40,12 @@ module _ (g : Graph) (j : Journal) (lawful : IsLawful g j) where
       split : e.rows ≡ claimed_rows e ++ attracted_rows e
       split = sym (take-append-drop e.claimed e.rows)
 
-      attracted : named (claimed_rows e) v ≡ false → named (attracted_rows e) v ≡ true
-      attracted f = search (rules, named-append, split)
-
       forced : (n : named (attracted_rows e) v ≡ true) → choice_in (attracted_rows e) v ≡ None
       forced n = (let q = place_of (attracted_rows e) v n in
           q.chosen ∙ (((lawful.answered k e at).turns q.before q.after (v, q.choice) q.split).forced other).0)
 
       go : (b : Bool) → named (claimed_rows e) v ≡ b → choice_in e.rows v ≡ None
-      go b n = search (rules, (lawful.good k e at).shape.right.each, split, choice-front, named_right, lawful.good, choice-back, forced, attracted)
+      go b n = search (rules, (lawful.good k e at).shape.right.each, split, choice-front, named_right, lawful.good, choice-back, forced, named-append)
 
   others_none : (v : ℕ) (r : Player × Option ℕ) → st v ≡ Some r → owner_of g v ≢ r.0 → r.1 ≡ None
   others_none v r e other = search (rules, settling, entry_none, settling j v r e)

@@ -80,9 +80,6 @@ module _ (g : Graph) (game : IsGame g) (st : State) (lawful : IsLawfulState g st
     pub taken_inside : Within Taken U
     taken_inside v i = (a.exact v).0 i U (record { target = inside; own = λ x w u o e h. u; forced = λ x u o h. u })
 
-    join : (v : ℕ) → In (union Own Taken) v → In (union (union Own T) (named rows)) v
-    join v i = or_assoc (settled st p v) (T v) (named rows v) ∙ i
-
     split : (v : ℕ) → In (union (union Own T) (named rows)) v → In (union Own Taken) v
     split v i = sym (or_assoc (settled st p v) (T v) (named rows v)) ∙ i
 
@@ -131,5 +128,5 @@ module _ (g : Graph) (game : IsGame g) (st : State) (lawful : IsLawfulState g st
     pub whole : IsAttraction g p (all_vertices g) (union Own T) rows
     whole = record {
       turns = λ before after r e. search (rules, LeadsTo-same, or_assoc, leads_whole, a.turns);
-      exact = λ v. (λ i. into v (split v i), λ h. join v (h (union Own Taken) attracts));
+      exact = λ v. (λ i. into v (split v i), λ h. (or_assoc (settled st p v) (T v) (named rows v) ∙ (h (union Own Taken) attracts)));
     }

@@ -32,4 +32,3 @@ mod readme;
 mod reference;
 mod sequences;
 mod settling;
-mod sharing;

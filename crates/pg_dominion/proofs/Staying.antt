@@ -2,10 +2,9 @@
 use Rattle.pg_dominion.proofs.Common.{rules, ◌≡◌, ◌≢◌, ℕ, suc, ◌<◌, ◌≤◌, ◌↔◌, true, false, inl, inr, List, [], ◌∷◌, ◌++◌, length, get_or, refl, sym, ◌∙◌, ap}
 use Rattle.pg_dominion.proofs.Common.{subst, arith, Option, None, ◌==◌, Contains, list_any, eqb-true, cases_Bool, Contains-append_left, Player, Graph}
 use Rattle.pg_dominion.proofs.Common.{priority_of, In, KeptEdge, kept, Walk, greatest_priority, OnBadWalk, NoneHas, IsLeast, is_same, ClaimRows, named}
-use Rattle.pg_dominion.proofs.Common.{choice_in, is_bad, CheckedRow, claim_row, AgreesAt, Stays, AreNamed}
+use Rattle.pg_dominion.proofs.Common.{choice_in, is_bad, CheckedRow, claim_row, AgreesAt, Stays, AreNamed, or_parts}
 use Rattle.std.specs.Prelude.{MatchOption, slice_index}
 use Rattle.std.proofs.lemmas.List.{append_assoc}
-use Rattle.pg_game.proofs.Members.{none_first}
 use Rattle.pg_dominion.proofs.Agreed.{kept_cases}
 use Rattle.pg_dominion.proofs.Searching.{place_in, push_each, starts_in}
 
@@ -74,7 +73,7 @@ module _ (g : Graph) (p : Player) (rows : ClaimRows) where
 named_good : (g : Graph) (p : Player) (rows : ClaimRows) → list_any (λ r. is_bad g p r.0) rows ≡ false → (v : ℕ) → In (named rows) v
     → is_bad g p v ≡ false
 named_good g p [] e v y = absurd (cc y)
-named_good g p (r ∷ rows) e v y = let both = none_first (is_bad g p r.0) (list_any (λ r. is_bad g p r.0) rows) e in elim (cases_Bool (r.0 == v)) [
+named_good g p (r ∷ rows) e v y = let both = or_parts (is_bad g p r.0) (list_any (λ r. is_bad g p r.0) rows) e in elim (cases_Bool (r.0 == v)) [
   | inl t ↦ subst (λ (u : ℕ). is_bad g p u ≡ false) (eqb-true r.0 v t) both.0
   | inr f ↦ named_good g p rows both.1 v (rw f at y)
 ]

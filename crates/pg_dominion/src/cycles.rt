@@ -5,9 +5,10 @@
 //! (`clustering`) tells the answer in near-linear time. A ranking is never believed: a pass over the edges checks it
 //! (`ranking`), and one search confirms the vertex that it names. Where either fails the plain body goes on.
 
-ghost use Rattle.std.specs.Prelude.{IfOk, IfSome, MatchOption};
+ghost use Rattle.std.specs.Prelude.{ℕ, ◌<◌, IfOk, IfSome, MatchOption};
 ghost use Rattle.pg_game.specs.Least.{NoneHas, IsLeast};
 ghost use Rattle.pg_dominion.specs.KeptEdges.{IsKept, IsWorst};
+ghost use Rattle.pg_dominion.specs.private.Searched.{IsSearched};
 
 use crate::kept::Kept;
 use crate::placing::find_ranking;
@@ -40,36 +41,68 @@ pub fn first_by_ranking(alloc: Global, kept: &Kept) -> Result<Option<Option<u32>
     Ok(None)
 }
 
-/// The least bad vertex that is the greatest on a closed walk through it, by a search from each. Once these took more
-/// steps than there is patience for, and about twice the edges at which they began, a ranking is tried.
-pub fn first_within(alloc: Global, kept: &Kept, patience: u64) -> Result<Option<u32>, AllocError>
-    requires { IsKept kept.now }
-    ensures { IfOk result (λ least. MatchOption least (NoneHas (IsWorst kept.now)) (IsLeast (IsWorst kept.now))) }
+/// What searches from one bad vertex after another came to.
+#[derive(Clone, Copy)]
+pub enum Searched {
+    /// The least that is the greatest on a closed walk, or that there is none.
+    All(Option<u32>),
+    /// There is none before this vertex, from which was not searched.
+    Before(u32),
+}
+
+/// Searches from each bad vertex, from `from` on. Where there is a patience, until they took more steps than that, and about
+/// twice the edges at which they began.
+fn search_from(
+    alloc: Global,
+    kept: &Kept,
+    from: u32,
+    patience: Option<u64>,
+) -> Result<Searched, AllocError>
+    requires kept { IsKept kept.now }
+    requires none { (v : ℕ) → v < from → IsWorst kept.now v → ⊥ }
+    ensures { IfOk result (IsSearched kept.now patience) }
 {
-    let n = kept.game.len();
     let mut labels = Labels::new(alloc, kept)?;
     let mut search = Search::new(alloc, kept)?;
-    let mut allowed = patience;
-    let mut is_tried = false;
-    'starts: for v in 0..n {
+    let has_patience = patience.is_some();
+    let steps = patience.unwrap_or(0);
+    let mut edges = 0u64;
+    'starts: for v in from..kept.game.len() {
         if !kept.bad.has(v) {
             continue;
         }
         if is_alone(kept, &labels, v) {
             continue;
         }
-        if search.steps >= allowed && !is_tried {
-            is_tried = true;
-            if let Some(least) = first_by_ranking(alloc, kept)? {
-                return Ok(least);
-            }
+        if has_patience && search.steps >= steps.saturating_add(edges) {
+            return Ok(Searched::Before(v));
         }
-        allowed = allowed.saturating_add(4 + 2 * kept.row(v).len() as u64);
+        edges = edges.saturating_add(4 + 2 * kept.row(v).len() as u64);
         if walks_back(kept, v, &mut labels, &mut search)? {
-            return Ok(Some(v));
+            return Ok(Searched::All(Some(v)));
         }
     }
-    Ok(None)
+    Ok(Searched::All(None))
+}
+
+/// The least bad vertex that is the greatest on a closed walk through it, by a search from each. Once these took more
+/// steps than there is patience for, and about twice the edges at which they began, a ranking is tried, with the memory of
+/// their tables.
+pub fn first_within(alloc: Global, kept: &Kept, patience: u64) -> Result<Option<u32>, AllocError>
+    requires { IsKept kept.now }
+    ensures { IfOk result (λ least. MatchOption least (NoneHas (IsWorst kept.now)) (IsLeast (IsWorst kept.now))) }
+{
+    let from = match search_from(alloc, kept, 0, Some(patience))? {
+        Searched::All(least) => return Ok(least),
+        Searched::Before(v) => v,
+    };
+    if let Some(least) = first_by_ranking(alloc, kept)? {
+        return Ok(least);
+    }
+    match search_from(alloc, kept, from, None)? {
+        Searched::All(least) => Ok(least),
+        Searched::Before(_) => unreachable!(),
+    }
 }
 
 /// The least bad vertex that is the greatest on a closed walk through it.

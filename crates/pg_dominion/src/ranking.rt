@@ -34,33 +34,21 @@ fn key_of(kept: &Kept, limit: u32, v: u32) -> u32
     }
 }
 
-fn vertex_keys(alloc: Global, kept: &Kept, limit: u32) -> Result<Vec<u32>, AllocError>
-    requires { IsKept kept.now }
-    ensures len { IfOk result (λ keys. length keys.items ≡ length kept.now.game.now) }
-    ensures keys { IfOk result (λ keys. (v : ℕ) → v < length kept.now.game.now → slice_index keys.items v ≡ key_of kept.now limit v) }
+/// The keys by place, where the places are an order.
+fn place_keys(alloc: Global, kept: &Kept, ranking: &Ranking) -> Result<Vec<u32>, AllocError>
+    requires kept { IsKept kept.now }
+    requires places { length ranking.now.places.items ≡ length kept.now.game.now }
+    ensures { IfOk result (λ keys. length keys.items ≡ length kept.now.game.now) }
 {
     let n = kept.game.len();
     let mut keys = vec![in alloc; 0u32; n as usize]?;
     'vertices: for v in 0..n {
-        keys[v as usize] = key_of(kept, limit, v);
-    }
-    Ok(keys)
-}
-
-/// The keys by place, where the places are an order.
-fn place_keys(alloc: Global, places: &[u32], keys: &[u32]) -> Result<Vec<u32>, AllocError>
-    requires { length places.now ≡ length keys.now }
-    ensures { IfOk result (λ v. length v.items ≡ length keys.now) }
-{
-    let n = keys.len();
-    let mut by_place = vec![in alloc; 0u32; n]?;
-    'vertices: for (v, place) in places.iter().enumerate() {
-        let at = *place as usize;
+        let at = ranking.places[v as usize];
         if at < n {
-            by_place[at] = keys[v];
+            keys[at as usize] = key_of(kept, ranking.limit, v);
         }
     }
-    Ok(by_place)
+    Ok(keys)
 }
 
 /// The first place after `at` whose key is greater, found by jumps over those known.
@@ -102,32 +90,26 @@ fn next_greater(alloc: Global, keys: &[u32]) -> Result<Vec<u32>, AllocError>
 }
 
 /// Whether each edge of `v` is ranked.
-fn is_ranked_row(
-    kept: &Kept,
-    vertex_keys: &[u32],
-    places: &[u32],
-    keys: &[u32],
-    ends: &[u32],
-    v: u32,
-) -> bool
+fn is_ranked_row(kept: &Kept, ranking: &Ranking, keys: &[u32], ends: &[u32], v: u32) -> bool
     requires kept { IsKept kept.now }
     requires vertex { v < length kept.now.game.now }
-    requires places { length places.now ≡ length kept.now.game.now }
-    requires vertex_keys { length vertex_keys.now ≡ length kept.now.game.now }
+    requires places { length ranking.now.places.items ≡ length kept.now.game.now }
     requires keys { length keys.now ≡ length kept.now.game.now }
     requires ends { length ends.now ≡ length kept.now.game.now }
-    ensures placed { result ≡ true → (slice_index places.now v < length kept.now.game.now)
-        × (slice_index keys.now (slice_index places.now v) ≡ slice_index vertex_keys.now v) }
+    ensures placed { result ≡ true → (slice_index ranking.now.places.items v < length kept.now.game.now)
+        × (slice_index keys.now (slice_index ranking.now.places.items v) ≡ key_of kept.now ranking.now.limit v) }
     ensures edges { result ≡ true → (w : ℕ) → Edge kept.now v w
-        → (slice_index places.now w < slice_index places.now v)
-        ⊎ ((slice_index vertex_keys.now v % 2 ≡ 0) × (slice_index places.now w < slice_index ends.now (slice_index places.now v))) }
+        → (slice_index ranking.now.places.items w < slice_index ranking.now.places.items v)
+        ⊎ ((key_of kept.now ranking.now.limit v % 2 ≡ 0)
+        × (slice_index ranking.now.places.items w < slice_index ends.now (slice_index ranking.now.places.items v))) }
 {
+    let places = ranking.places.as_slice();
     let at = places[v as usize];
     if at >= kept.game.len() {
         return false;
     }
     let key = keys[at as usize];
-    if key != vertex_keys[v as usize] {
+    if key != key_of(kept, ranking.limit, v) {
         return false;
     }
     let end = ends[at as usize];
@@ -148,15 +130,12 @@ pub fn is_ranked(alloc: Global, kept: &Kept, ranking: &Ranking) -> Result<bool, 
     ensures { IfOk result (λ b. b ≡ true → (v : ℕ) → v < ranking.now.limit → IsWorst kept.now v → ⊥) }
 {
     let n = kept.game.len();
-    let places = ranking.places.as_slice();
-    let vertex_keys = vertex_keys(alloc, kept, ranking.limit)?;
-    let vertex_keys = vertex_keys.as_slice();
-    let keys = place_keys(alloc, places, vertex_keys)?;
+    let keys = place_keys(alloc, kept, ranking)?;
     let keys = keys.as_slice();
     let ends = next_greater(alloc, keys)?;
     let ends = ends.as_slice();
     'vertices: for v in 0..n {
-        if !is_ranked_row(kept, vertex_keys, places, keys, ends, v) {
+        if !is_ranked_row(kept, ranking, keys, ends, v) {
             return Ok(false);
         }
     }

@@ -6,7 +6,6 @@ use Rattle.std.proofs.lemmas.List.{length-take-le}
 use Rattle.std.proofs.lemmas.List.Folds.{list_any_at, list_any_more}
 use Rattle.std.proofs.Math.Seq.{take-set-lt}
 use Rattle.pg_finders.specs.private.small.Few.{IsFew}
-use Rattle.pg_finders.proofs.Masks.{order}
 
 module _ (rows now : ClaimRows) (len : ℕ) (few : IsFew rows len) (view : take len rows ≡ now) where
   pub view_length : len ≡ length now
@@ -52,6 +51,3 @@ front_named rows done k m l = search (rules, named_here, length-take-le, get_or-
 
 pub front_place : (rows : ClaimRows) (done v : ℕ) → done ≤ length rows → named (take done rows) v ≡ true → (k : ℕ) × (k < done) × (vertex_in rows k ≡ v)
 front_place rows done v m i = search (rules, place_of, length-take-le, get_or-take)
-
-pub same_place : (rows : ClaimRows) (j k : ℕ) → AreDifferent rows → j < length rows → k < length rows → vertex_in rows j ≡ vertex_in rows k → j ≡ k
-same_place rows j k d a b e = search (rules, order)

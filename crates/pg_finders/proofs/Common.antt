@@ -19,7 +19,7 @@ pub use Rattle.pg_game.proofs.Masks.{member_below}
 pub use Rattle.pg_game.proofs.Members.{Contains-cons, Contains-head, Contains-nil, Contains-tail, some_or_none}
 pub use Rattle.pg_game.proofs.Players.{is_same, other_from_not, own_or_other, same_is}
 pub use Rattle.pg_game.proofs.Rotate.{good_from_none}
-pub use Rattle.pg_game.proofs.Walks.{ClosedWalk-weaker, or_false}
+pub use Rattle.pg_game.proofs.Walks.{ClosedWalk-weaker}
 pub use Rattle.pg_game.specs.Graph.{Graph, HasEdge, owner_of, priority_of, successors_of}
 pub use Rattle.pg_game.specs.Kept.{Choices, KeptEdge, kept, option_list}
 pub use Rattle.pg_game.specs.Least.{NoneHas}

@@ -114,13 +114,11 @@ module _ {g : Graph} {U R Q : VertexSet} {won : Winners} {s : Choices} (first : 
   -- a kept edge whose ends are both won by the player does not lead from the first part to the second
   never_back : (p : Player) (v w : ℕ) → Among (KeptEdge g p (X p) s) (In (X p)) v w → In (without U R) v → In (without U R) w
   never_back p v w (k, i, j) m =
-      let n = only (U v) (R v) m in
       let d : In (D p) v = and_from (without U R v) (same_player (won v) p) m (and_parts (without U Q v) (same_player (won v) p) i).1 in
       let u = (only (U w) (Q w) (and_parts (without U Q w) (same_player (won w) p) j).0).0 in
       elim (kept_leads g p s v w k.1) [
         | inl (o, c) ↦ (let h = (first.holds p).choices v d o in
-            let e = choice_leads (s v) h.0 w h.1 c in
-            (and_parts (without U R w) (same_player (won w) p) (subst (In (D p)) e h.3)).0)
+            (and_parts (without U R w) (same_player (won w) p) (subst (In (D p)) (choice_leads (s v) h.0 w h.1 c) h.3)).0)
         | inr (o, e) ↦ (and_parts (without U R w) (same_player (won w) p) ((first.holds p).closed v w d o e u)).0
       ]
 

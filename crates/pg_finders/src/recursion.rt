@@ -62,19 +62,22 @@ fn solve(alloc: Global, inside: &Inside) -> Result<Solved, Memory>
     let mask = inside.mask();
     let mut solver = Solver::new(alloc, game, mask)?;
     solver.run(game, mask)?;
+    let for_even = solver.count(Player::Even);
+    let for_odd = solver.count(Player::Odd);
     let plan = solver.into_plan();
-    let even = claim_of(alloc, game, mask, &plan, Player::Even)?;
-    let odd = claim_of(alloc, game, mask, &plan, Player::Odd)?;
+    let even = claim_of(alloc, game, mask, &plan, Player::Even, for_even)?;
+    let odd = claim_of(alloc, game, mask, &plan, Player::Odd, for_odd)?;
     Ok(Solved { even, odd })
 }
 
-/// What a plan gives a player of the mask.
+/// What a plan gives a player of the mask, in a list with room for so many rows at first.
 fn claim_of(
     alloc: Global,
     game: &Game,
     mask: &Mask,
     plan: &Plan,
     player: Player,
+    room: usize,
 ) -> Result<Claim, Memory>
     requires length { length mask.now ≡ length game.now }
     requires size { HasSize (length game.now) plan.now }
@@ -82,7 +85,7 @@ fn claim_of(
     ensures rows { IfOk result (λ claim. claim.rows ≡ rows_below (won_inside (members mask.now) (winners_of plan.now) player)
         (own_choices game.now player (choices_of plan.now)) (length game.now)) }
 {
-    let mut rows = Vec::new(alloc);
+    let mut rows = Vec::with_capacity(alloc, room)?;
     for v in 0..game.len() {
         if mask.has(v) && plan.winner(v) == player {
             let choice = if game.owner(v) == player {

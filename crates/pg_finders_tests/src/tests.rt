@@ -3,13 +3,13 @@
 //! compared with those of all strategies, and what small searches find with all sets of vertices with all choices,
 //! which checks the definitions that the clauses stand on.
 
-// As `assert_eq!` and `assert!`.
+// As `assert_eq!` and `assert!`; what stands last says where, as a value.
 macro_rules! check_eq {
     ($rt:expr; $found:expr, $want:expr $(,)?) => {
         $crate::tests::asserting::same(&$rt, $found, $want, stringify!($found))
     };
-    ($rt:expr; $found:expr, $want:expr, $($note:tt)+) => {
-        $crate::tests::asserting::same(&$rt, $found, $want, format_args!($($note)+))
+    ($rt:expr; $found:expr, $want:expr, $at:expr $(,)?) => {
+        $crate::tests::asserting::same(&$rt, $found, $want, $at)
     };
 }
 
@@ -17,8 +17,8 @@ macro_rules! check {
     ($rt:expr; $is_so:expr $(,)?) => {
         $crate::tests::asserting::holds(&$rt, $is_so, stringify!($is_so))
     };
-    ($rt:expr; $is_so:expr, $($note:tt)+) => {
-        $crate::tests::asserting::holds(&$rt, $is_so, format_args!($($note)+))
+    ($rt:expr; $is_so:expr, $at:expr $(,)?) => {
+        $crate::tests::asserting::holds(&$rt, $is_so, $at)
     };
 }
 

@@ -109,16 +109,14 @@ edges_few g (x ∷ xs) =
 pub described_sound : (g : Graph) → IsGame g → IsWithinLimits g → first_fault (specs_of g) ≡ None
 described_sound g game limits =
     let n = length-map g (λ (x : Vertex). spec_at g x) in
-    let some = game.nonempty in
     let up : IsStrictlyIncreasing (ids_of (specs_of g)) = subst (λ (xs : List ℕ). IsStrictlyIncreasing xs) (sym (ids_described g game)) game.ids in
     sound_has_none (specs_of g) record {
-      nonempty = omega (arith, n, some);
+      nonempty = omega (arith, n, game.nonempty);
       vertices = omega (arith, n, limits.vertices);
       once = none_repeated [] (ids_of (specs_of g)) up (λ m x h k. absurd (Contains-nil m h));
       successors = none_without (specs_of g) (λ s m. (
           let (v, l, e) = spec_place g game s m in
-          let h = (game.successors v l).nonempty in
-          subst (λ (t : Spec). 0 < length t.successors) e (omega (arith, h, length-map (successors_of g v) (λ w. id_of g w)))));
+          subst (λ (t : Spec). 0 < length t.successors) e (omega (arith, (game.successors v l).nonempty, length-map (successors_of g v) (λ w. id_of g w)))));
       edges_fit = omega (arith, edges_few g g, limits.edges);
       known = none_unknown (specs_of g) (specs_of g) (λ s m i k. (
           let (v, l, e) = spec_place g game s m in

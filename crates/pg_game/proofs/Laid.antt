@@ -24,11 +24,9 @@ module _ {ids : List ℕ} (up : IsStrictlyIncreasing ids) {successors places : L
       let n = length-map places name in
       let i : k < length places = omega (arith, l, n) in
       let j : k + 1 < length places = omega (arith, l, n) in
-      let e = get_or-map name places k 0 0 i in
-      let f = get_or-map name places (k + 1) 0 0 j in
       let h = rises ids up (get_or places k 0) (get_or places (k + 1) 0) (a.rising k j)
       (a.from (get_or places (k + 1) 0) (Contains-get_or places (k + 1) 0 j)).0 in
-      omega (arith, e, f, h)
+      omega (arith, get_or-map name places k 0 0 i, get_or-map name places (k + 1) 0 0 j, h)
 
   same_named : (x : ℕ) → Contains successors x ↔ Contains (map name places) x
   same_named x = (

@@ -4,7 +4,7 @@ use Rattle.pg_game.proofs.Common.{sum_by, Contains, IsStrictlyIncreasing, IsPerm
 use Rattle.pg_game.proofs.Common.{length_permutation, Contains-permutation, IsPermutation-sym, IsPermutation-map, All-permutation, sum_by-IsPermutation}
 use Rattle.pg_game.proofs.Common.{sum_by-cons, slice_get-get_or, Player, Even, Spec, AreNumbers, IsSpecified, IsGameOf, IsVertexOf, number_of, edges, different}
 use Rattle.pg_game.proofs.Common.{ids_of, priorities_of, owners_of, ArePlaces, row_at, size_of, AreRisingRows, IsWithinLimits, Graph, Vertex, IsGame}
-use Rattle.pg_game.proofs.Common.{AreSuccessors, no_vertex, vertex_at, id_of, priority_of, owner_of, successors_of, graph_of, AreParts, IsListed}
+use Rattle.pg_game.proofs.Common.{AreSuccessors, no_vertex, vertex_at, priority_of, owner_of, successors_of, graph_of, AreParts, IsListed}
 use Rattle.pg_game.proofs.Sound.{IsSound, each_has, each_known}
 use Rattle.pg_game.proofs.Rising.{number_is}
 use Rattle.pg_game.proofs.Unknown.{from_specified}
@@ -47,9 +47,6 @@ module _ {specs sorted : List Spec} {ids : List ℕ} {rows : List (List ℕ)} (l
 
   length_g : length g ≡ length ids
   length_g = part.length_is parts refl
-
-  id_at : (v : ℕ) → id_of g v ≡ get_or ids v 0
-  id_at v = part.id_is parts refl v
 
   row_is : (v : ℕ) → successors_of g v ≡ row_at rows v
   row_is v = part.successors_are parts refl v
@@ -102,9 +99,6 @@ module _ {specs sorted : List Spec} {ids : List ℕ} {rows : List (List ℕ)} (l
     successors = λ v l. rw (row_is v, length_g) (row_game v (omega (arith, l, length_g, length_ids)));
   }
 
-  sum-rows : sum_by (λ (x : Vertex). length x.successors) g ≡ size_of rows
-  sum-rows = sum-map g ∙ ap size_of (part.rows_are parts refl)
-
   numbers_at : (v : ℕ) → v < length sorted → AreNumbers (get_or sorted v no_spec)
   numbers_at v l = All-permutation AreNumbers specs sorted laid.moved laid.numbers v no_spec l
 
@@ -121,22 +115,19 @@ module _ {specs sorted : List Spec} {ids : List ℕ} {rows : List (List ℕ)} (l
   made_limits = record {
     vertices = let h = laid.sound.vertices in omega (arith, h, length_g, length_ids, length_specs);
     edges =
-        let h = laid.sound.edges_fit in
         let e = sum_by-IsPermutation (λ (s : Spec). different s.successors) specs sorted laid.moved in
-        omega (arith, h, e, sum-rows, laid.edges_are);
+        omega (arith, laid.sound.edges_fit, e, sum-map g ∙ ap size_of (part.rows_are parts refl), laid.edges_are);
     ids = λ v l. (let k : v < length sorted = omega (arith, l, length_g, length_ids) in
-        let h = (numbers_at v k).id in
-        omega (arith, h, id_at v, id_in v no_spec k));
+        omega (arith, (numbers_at v k).id, part.id_is parts refl v, id_in v no_spec k));
     numbers = λ v l. (let k : v < length sorted = omega (arith, l, length_g, length_ids) in
-        let h = (numbers_at v k).priority in
-        omega (arith, h, priority_in v no_spec k));
+        omega (arith, (numbers_at v k).priority, priority_in v no_spec k));
   }
 
   vertex_made : (v : ℕ) (s : Spec) → v < length sorted → get_or sorted v s ≡ s → IsVertexOf specs s (vertex_at g v)
   vertex_made v s l e =
       let places : ArePlaces ids s.successors (row_at rows v) = subst (λ (t : Spec). ArePlaces ids t.successors (row_at rows v)) e (laid.each v s l) in
       record {
-        id = id_at v ∙ (id_in v s l ∙ ap (λ (t : Spec). t.id) e);
+        id = part.id_is parts refl v ∙ (id_in v s l ∙ ap (λ (t : Spec). t.id) e);
         priority = priority_in v s l ∙ ap (λ (t : Spec). t.priority) e;
         owner = owner_in v s l ∙ ap (λ (t : Spec). t.owner) e;
         rising = rw (row_is v) places.rising;

@@ -1,5 +1,5 @@
 -- Membership in a list, by cases on the list; a search in a list.
-use Rattle.pg_game.proofs.Common.{◌≡◌, ℕ, zero, suc, ◌||◌, Bool, true, false, ◌⊎◌, inl, inr, List, [], ◌∷◌, refl, arith, rules, Contains}
+use Rattle.pg_game.proofs.Common.{◌≡◌, ℕ, zero, suc, Bool, true, false, ◌⊎◌, inl, inr, List, [], ◌∷◌, refl, arith, rules, Contains}
 
 pub Contains-nil : (w : ℕ) → Contains [] w → ⊥
 Contains-nil w (k, lt, e) = omega arith
@@ -28,7 +28,3 @@ some_or_none-cons test x xs false e (inr none) = inr (λ w m. elim (Contains-con
 pub some_or_none : (test : ℕ → Bool) (ws : List ℕ) → SomeOrNone test ws
 some_or_none test [] = inr (λ w m. absurd (Contains-nil w m))
 some_or_none test (x ∷ xs) = some_or_none-cons test x xs (test x) refl (some_or_none test xs)
-
-pub none_first : (a b : Bool) → (a || b) ≡ false → (a ≡ false) × (b ≡ false)
-none_first true b e = absurd (cc e)
-none_first false b e = (refl, e)

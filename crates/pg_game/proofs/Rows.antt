@@ -16,10 +16,6 @@ row_of (a ∷ []) ts k l = absurd (omega arith)
 row_of (a ∷ b ∷ os) ts zero l = refl
 row_of (a ∷ b ∷ os) ts (suc k) l = rw add-one (rw add-one at (row_of (b ∷ os) ts k (omega arith)))
 
--- a range within a list stays where the list grows
-range_stays : (ts xs : List ℕ) (a b : ℕ) → a ≤ b → b ≤ length ts → slice_range (ts ++ xs) a b ≡ slice_range ts a b
-range_stays ts xs a b l m = search (rules, drop-append-le, take-append-le, length-drop)
-
 take_all : (xs : List ℕ) (n : ℕ) → n ≡ length xs → take n xs ≡ xs
 take_all xs n e = rw e (take-length xs)
 
@@ -36,7 +32,6 @@ last_of n k l = grind arith
 pub rows_of-push : {os ts : List ℕ} (xs : List ℕ) (e : ℕ) → IsCompressed os ts → e ≡ length ts + length xs
     → rows_of (os ++ e ∷ []) (ts ++ xs) ≡ rows_of os ts ++ xs ∷ []
 rows_of-push {os} {ts} xs e c q =
-    let some = c.nonempty in
     let n = length-rows_of os ts in
     let m = length-rows_of (os ++ e ∷ []) (ts ++ xs) in
     let grown = length-append os (e ∷ []) in
@@ -47,7 +42,7 @@ rows_of-push {os} {ts} xs e c q =
     let from : get_or (os ++ e ∷ []) k 0 ≡ get_or os k 0 = get_or_append_left os (e ∷ []) 0 k lk in
     elim (last_of (length os) k lk) [
       | inl below ↦ (let to : get_or (os ++ e ∷ []) (k + 1) 0 ≡ get_or os (k + 1) 0 = get_or_append_left os (e ∷ []) 0 (k + 1) below in
-          at ∙ rw (from, to) (range_stays ts xs (get_or os k 0) (get_or os (k + 1) 0) (c.rising k below) (c.within (k + 1) below)
+          at ∙ rw (from, to) ((search (rules, drop-append-le, take-append-le, length-drop))
           ∙ sym (get_or_append_left (rows_of os ts) (xs ∷ []) [] k (omega (arith, n)) ∙ row_of os ts k below)))
       | inr end ↦ (let to : get_or (os ++ e ∷ []) (k + 1) 0 ≡ e = get_or_push os e 0 (k + 1) (sym end) in
           at ∙ rw (from, to) (range_added ts xs (get_or os k 0) e (c.last k end) q ∙ sym (get_or_push (rows_of os ts) xs [] k (omega (arith, n)))))
@@ -55,10 +50,6 @@ rows_of-push {os} {ts} xs e c q =
 
 pub length-range : (ts : List ℕ) (a b : ℕ) → a ≤ b → b ≤ length ts → length (slice_range ts a b) ≡ b - a
 length-range ts a b l m = length-take-le (b - a) (drop a ts) (omega (arith, length-drop a ts))
-
-rising_more : (a b : ℕ) (os : List ℕ) → ((k : ℕ) → k + 1 < length (a ∷ b ∷ os) → get_or (a ∷ b ∷ os) k 0 ≤ get_or (a ∷ b ∷ os) (k + 1) 0) → (k : ℕ)
-    → k + 1 < length (b ∷ os) → get_or (b ∷ os) k 0 ≤ get_or (b ∷ os) (suc k) 0
-rising_more a b os r k l = rw add-one at (r (suc k) (omega arith))
 
 -- how far the offsets rise
 size-rising : (os ts : List ℕ) (m : ℕ) → m + 1 ≡ length os → ((k : ℕ) → k + 1 < length os → get_or os k 0 ≤ get_or os (k + 1) 0)
@@ -68,7 +59,7 @@ size-rising (a ∷ []) ts zero s r w = omega arith
 size-rising (a ∷ []) ts (suc m) s r w = absurd (omega arith)
 size-rising (a ∷ b ∷ os) ts zero s r w = absurd (omega arith)
 size-rising (a ∷ b ∷ os) ts (suc m) s r w =
-    let h = size-rising (b ∷ os) ts m (omega arith) (λ k l. rw add-one (rising_more a b os r k l)) (λ k l. w (suc k) (omega arith)) in
+    let h = size-rising (b ∷ os) ts m (omega arith) (λ k l. rw add-one (rw add-one at (r (suc k) (omega arith)))) (λ k l. w (suc k) (omega arith)) in
     let q : a ≤ b = r 0 (omega arith) in
     let n : length (slice_range ts a b) ≡ b - a = length-range ts a b q (w 1 (omega arith)) in
     let e = sum_by-cons (λ (row : List ℕ). length row) (slice_range ts a b) (rows_of (b ∷ os) ts) in
@@ -76,7 +67,6 @@ size-rising (a ∷ b ∷ os) ts (suc m) s r w =
 
 pub size-rows_of : {os ts : List ℕ} → IsCompressed os ts → size_of (rows_of os ts) ≡ length ts
 size-rows_of {os} {ts} c =
-    let some = c.nonempty in
     let h = size-rising os ts (length os - 1) (omega arith) c.rising c.within in
     omega (arith, h, c.first, c.last (length os - 1) (omega arith))
 

@@ -29,9 +29,6 @@ module _ (specs : List Spec) (i : ℕ) (s : Spec) (l : i < length specs) (is : s
       a ∙ (ap (λ (xs : List Spec). map (λ (x : Spec). x.id) xs) c
       ∙ (map_push (λ (x : Spec). x.id) (take i specs) s ∙ ap (λ (xs : List ℕ). xs ++ s.id ∷ []) (sym b)))
 
-  earlier_more : earlier specs (i + 1) ≡ s.id ∷ earlier specs i
-  earlier_more = ap (λ (xs : List ℕ). reverse xs) one_more ∙ reverse-append (take i (ids_of specs)) (s.id ∷ [])
-
   -- the two tests for an earlier identifier
   same_test : list_any (λ m. m == s.id) (earlier specs i) ≡ list_any (nat_eq s.id) (take i (ids_of specs))
   same_test = sym (list_any-IsPermutation (λ m. m == s.id) (take i (ids_of specs)) (earlier specs i) (IsPermutation-reverse (take i (ids_of specs))))
@@ -42,4 +39,4 @@ module _ (specs : List Spec) (i : ℕ) (s : Spec) (l : i < length specs) (is : s
 
   pub repeated_later : list_any (nat_eq s.id) (take i (ids_of specs)) ≡ false →
       first_repeated (earlier specs i) (drop i (ids_of specs)) ≡ first_repeated (earlier specs (i + 1)) (drop (i + 1) (ids_of specs))
-  repeated_later f = rw (next_id, same_test, f, earlier_more) refl
+  repeated_later f = rw (next_id, same_test, f, ap (λ (xs : List ℕ). reverse xs) one_more ∙ reverse-append (take i (ids_of specs)) (s.id ∷ [])) refl

@@ -17,8 +17,7 @@ no_fall sorted rises i j d l m =
     let n : j < length sorted = omega (arith, m, length-map sorted (λ (s : Spec). s.id)) in
     let a = get_or-map (λ (s : Spec). s.id) sorted i no_spec d (omega (arith, l, n)) in
     let b = get_or-map (λ (s : Spec). s.id) sorted j no_spec d n in
-    let h = rises i j no_spec l n in
-    omega (arith, a, b, h)
+    omega (arith, a, b, rises i j no_spec l n)
 
 -- sorted identifiers that differ rise, and are those of the specifications that are sorted by them
 pub sorted_from : {specs sorted : List Spec} {before ids : List ℕ} → before ≡ ids_of specs → IsPermutation specs sorted → IsPermutation before ids →

@@ -5,8 +5,7 @@ use Rattle.pg_game.proofs.Common.{first_repeated, first_without, first_unknown, 
 use Rattle.std.specs.Prelude.{not, find}
 use Rattle.pg_game.proofs.Members.{Contains-head, Contains-tail, Contains-cons}
 use Rattle.pg_game.specs.declared.game.GameFault.TheVariants.{NoSuccessor, TooManyEdges, Unknown}
-use Rattle.pg_game.specs.Specification.{is_empty, paired_or, OrMemory}
-use Rattle.pg_game.specs.private.Identifiers.{twice_of}
+use Rattle.pg_game.specs.Specification.{is_empty, paired_or}
 
 pub record IsSound (specs : List Spec) : Type 0 where
   pub nonempty : 0 < length specs
@@ -55,16 +54,6 @@ module _ (specs : List Spec) (s : AreListed specs) where
   pub unknown_named : {id i : ℕ} → first_without specs ≡ None → edges specs ≤ max_edges → first_unknown specs specs ≡ Some (id, i)
       → first_fault specs ≡ Some (Unknown id i)
   unknown_named e l f = listed _ _ _ e (le-ltb max_edges (edges specs) l) f
-
-still : {P Q : Type 0} (e : GameFault) → (P → Q) → OrMemory P e → OrMemory Q e
-still x0 f p = search (rules)
-
-first_of : {A : Type 0} (f : A → GameFault) (a : Option A) (o : Option GameFault) (e : GameFault) → fault_or f a None ≡ Some e → fault_or f a o ≡ Some e
-first_of f x1 o e is = search (rules)
-
-pub twice_named : (specs : List Spec) → 0 < length specs → length specs ≤ max_vertices → (e : GameFault)
-    → OrMemory (twice_of specs ≡ Some e) e → OrMemory (first_fault specs ≡ Some e) e
-twice_named specs some few e = search (rules, still, not_empty, le-ltb, first_of)
 
 head_of : (s t : Spec) (specs : List Spec) → Contains (s ∷ specs) t → (s ≡ t) ⊎ Contains specs t
 head_of s t specs x3 = search (rules)

@@ -42,7 +42,7 @@ pub use Rattle.pg_text.specs.declared.solution_reader.SolutionLine.{SolutionLine
 pub use Rattle.pg_text.specs.private.Advance.{Advances, TakesPiece}
 pub use Rattle.pg_text.specs.private.FirstFault.{FirstLarge, first_at, placed}
 pub use Rattle.pg_text.specs.private.GameKeeps.{KeepsReader, SpellsSpecs}
-pub use Rattle.pg_text.specs.private.GameRun.{Front, Listing, Named, Priority, Reading, Successor, front, line, on_comma, on_name, run, step, with_line}
+pub use Rattle.pg_text.specs.private.GameRun.{Front, Listing, Named, Priority, Reading, Successor, front, line, run, step, with_line}
 pub use Rattle.pg_text.specs.private.Piece.{IsNoToken, IsPieceOf, IsRun, IsToken}
 pub use Rattle.pg_text.specs.private.Reach.{IsBadFrom, ReadsTo, SpellsRest}
 pub use Rattle.pg_text.specs.private.SolutionKeeps.{line_of}

@@ -9,18 +9,6 @@ use Rattle.pg_text.proofs.Spelling.{run_unique, byte_kind, kind_of, head, one_fr
 abbrev pub Wrong : ℕ → List ℕ → Type 0
 Wrong b after = (begins_token b ≡ false) ⊎ ((b ≡ 34) × AllAre is_no_quote after)
 
-wrong_digit : (b : ℕ) (after : List ℕ) → Wrong b after → is_digit b ≡ false
-wrong_digit b after x2 = search (rules, nat_tests)
-
-wrong_letter : (b : ℕ) (after : List ℕ) → Wrong b after → is_letter b ≡ false
-wrong_letter b after x2 = search (rules, nat_tests)
-
-ends_on : (test : ℕ → Bool) (b : ℕ) (re after : List ℕ) → test b ≡ false → EndsRun test re → EndsRun test (re ++ b ∷ after)
-ends_on test b x2 after f e = search (rules)
-
-whole_on : (t : Token) (b : ℕ) (re after : List ℕ) → Wrong b after → IsWhole t re → IsWhole t (re ++ b ∷ after)
-whole_on x0 b re after w h = search (rules, ends_on, wrong_digit, wrong_letter)
-
 -- a byte that begins a token is not wrong
 no_quote_in : (inner more : List ℕ) → AllAre is_no_quote (inner ++ 34 ∷ more) → ⊥
 no_quote_in [] more a = cc a.0
@@ -28,9 +16,6 @@ no_quote_in (x ∷ xs) more a = no_quote_in xs more a.1
 
 kind_begins : (b : ℕ) → byte_kind b < 5 → begins_token b ≡ true
 kind_begins b h = grind (arith, nat_tests)
-
-kind_small : (t : Token) → kind_of t < 5
-kind_small x0 = search (rules)
 
 quote_name : (t : Token) → kind_of t ≡ 2 → (inner : List ℕ) × (t ≡ Name inner)
 quote_name x0 e = search (rules)
@@ -41,7 +26,7 @@ no_token t b after body rest (inl f) s e =
     let h = head t body rest s in
     let k : b ≡ h.0 = cc (e, h.2) in
     let m : byte_kind b ≡ kind_of t = ap byte_kind k ∙ h.3 in
-    let x : begins_token b ≡ true = kind_begins b (subst (λ n. n < 5) (sym m) (kind_small t)) in
+    let x : begins_token b ≡ true = kind_begins b (subst (λ n. n < 5) (sym m) (search rules)) in
     cc (x, f)
 no_token t b after body rest (inr (q, a)) s e =
     let h = head t body rest s in
@@ -55,7 +40,7 @@ no_token t b after body rest (inr (q, a)) s e =
 
 extend : (place : ℕ) (text : List ℕ) (t : Placed) (bl bo re after : List ℕ) (b : ℕ) (before : List ℕ) → Wrong b after
     → Begins place before t bl bo re → text ≡ before ++ b ∷ after → Begins place text t bl bo (re ++ b ∷ after)
-extend place text t bl bo re after b before w h e = search (rules, h.split, append_assoc, h.blank, h.placed, h.spelled, whole_on, t.token, h.whole)
+extend place text t bl bo re after b before w h e = search (rules, h.split, append_assoc, h.blank, h.placed, h.spelled, nat_tests, t.token, h.whole)
 
 -- a text with a wrong byte behind tokens spells no tokens
 stuck : (place : ℕ) (text before after : List ℕ) (b : ℕ) (ts us : List Placed) → Spells place before ts → is_blank b ≡ false
@@ -71,8 +56,7 @@ stuck place text before after b (t ∷ ts) [] (bl, bo, re, h, r) f w e z =
     let x = extend place text t bl bo re after b before w h e in
     not_blank t.token text bl bo (re ++ b ∷ after) z x.blank x.spelled x.split
 stuck place text before after b (t ∷ ts) (u ∷ us) (bl, bo, re, h, r) f w e (cl, co, se, c, q) =
-    let x = extend place text t bl bo re after b before w h e in
-    let o = one_front place text t u bl bo (re ++ b ∷ after) cl co se x c in
+    let o = one_front place text t u bl bo (re ++ b ∷ after) cl co se (extend place text t bl bo re after b before w h e) c in
     let n : place + length cl + length co ≡ place + length bl + length bo = cc (o.1, o.2) in
     let q' : Spells (place + length bl + length bo) se us = subst (λ m. Spells m se us) n q in
     stuck (place + length bl + length bo) se re after b ts us r f w (sym o.3) q'
@@ -82,19 +66,16 @@ same_wrong : (place : ℕ) (text b1 a1 b2 a2 : List ℕ) (x y : ℕ) (ts us : Li
     → is_blank x ≡ false → is_blank y ≡ false → Wrong x a1 → Wrong y a2 → text ≡ b1 ++ x ∷ a1 → text ≡ b2 ++ y ∷ a2 → b1 ≡ b2
 same_wrong place text b1 a1 b2 a2 x y [] [] s z f g w v e d = (run_unique is_blank b1 b2 (x ∷ a1) (y ∷ a2) s z f g (sym e ∙ d)).0
 same_wrong place text b1 a1 b2 a2 x y [] (u ∷ us) s (cl, co, se, c, q) f g w v e d =
-    let c' = extend place text u cl co se a2 y b2 v c d in
     let k = head u.token co (se ++ y ∷ a2) c.spelled in
-    let r = run_unique is_blank b1 cl (x ∷ a1) (co ++ (se ++ y ∷ a2)) s c.blank f (rw k.2 k.4) (sym e ∙ c'.split) in
+    let r = run_unique is_blank b1 cl (x ∷ a1) (co ++ (se ++ y ∷ a2)) s c.blank f (rw k.2 k.4) (sym e ∙ (extend place text u cl co se a2 y b2 v c d).split) in
     absurd (no_token u.token x a1 co (se ++ y ∷ a2) w c.spelled r.1)
 same_wrong place text b1 a1 b2 a2 x y (t ∷ ts) [] (bl, bo, re, h, r) z f g w v e d =
-    let h' = extend place text t bl bo re a1 x b1 w h e in
     let k = head t.token bo (re ++ x ∷ a1) h.spelled in
-    let m = run_unique is_blank b2 bl (y ∷ a2) (bo ++ (re ++ x ∷ a1)) z h.blank g (rw k.2 k.4) (sym d ∙ h'.split) in
+    let m = run_unique is_blank b2 bl (y ∷ a2) (bo ++ (re ++ x ∷ a1)) z h.blank g (rw k.2 k.4) (sym d ∙ (extend place text t bl bo re a1 x b1 w h e).split) in
     absurd (no_token t.token y a2 bo (re ++ x ∷ a1) v h.spelled m.1)
 same_wrong place text b1 a1 b2 a2 x y (t ∷ ts) (u ∷ us) (bl, bo, re, h, r) (cl, co, se, c, q) f g w v e d =
-    let h' = extend place text t bl bo re a1 x b1 w h e in
     let c' = extend place text u cl co se a2 y b2 v c d in
-    let o = one_front place text t u bl bo (re ++ x ∷ a1) cl co (se ++ y ∷ a2) h' c' in
+    let o = one_front place text t u bl bo (re ++ x ∷ a1) cl co (se ++ y ∷ a2) (extend place text t bl bo re a1 x b1 w h e) c' in
     let n : place + length cl + length co ≡ place + length bl + length bo = cc (o.1, o.2) in
     let q' : Spells (place + length bl + length bo) se us = subst (λ m. Spells m se us) n q in
     let i : re ≡ se = same_wrong (place + length bl + length bo) (re ++ x ∷ a1) re a1 se a2 x y ts us r q' f g w v refl o.3 in
@@ -135,12 +116,6 @@ run_of : (test : ℕ → Bool) (xs : List ℕ) → Run test xs
 run_of test [] = ([], [], refl, tt, tt)
 run_of test (x ∷ xs) = run_cons test x xs (test x) refl (run_of test xs)
 
-ends_before : (test : ℕ → Bool) (b : ℕ) (re after ys : List ℕ) → ys ≡ re ++ b ∷ after → EndsRun test ys → EndsRun test re
-ends_before test b x2 after ys e n = search (rules)
-
-whole_before : (t : Token) (b : ℕ) (re after ys : List ℕ) → ys ≡ re ++ b ∷ after → IsWhole t ys → IsWhole t re
-whole_before x0 b re after ys e h = search (rules, ends_before)
-
 -- a token at the front, and what is behind it
 token_first : (place : ℕ) (text bl bo ys : List ℕ) (t : Token) → text ≡ bl ++ (bo ++ ys) → AllAre is_blank bl → IsSpelling t bo → IsWhole t ys
     → Lexed (place + length bl + length bo) ys → Lexed place text
@@ -163,7 +138,7 @@ token_first place text bl bo ys t e a s w (inr st) = inr (record {
       blank = a;
       placed = refl;
       spelled = s;
-      whole = whole_before t st.byte st.before st.after ys st.split w;
+      whole = search rules;
     },
     st.spelled,
   );
@@ -174,17 +149,11 @@ token_first place text bl bo ys t e a s w (inr st) = inr (record {
 stop_here : (place : ℕ) (text bl after : List ℕ) (b : ℕ) → text ≡ bl ++ b ∷ after → AllAre is_blank bl → is_blank b ≡ false → Wrong b after → Lexed place text
 stop_here place text bl after b e a f w = inr (record { before = bl; byte = b; after = after; tokens = []; split = e; spelled = a; solid = f; wrong = w })
 
-shorter : (n : ℕ) (text bl bo ys : List ℕ) → length text ≤ suc n → text ≡ bl ++ (bo ++ ys) → 0 < length bo → length ys ≤ n
-shorter n text bl bo ys h e p = omega (arith, ap length e, length-append bl (bo ++ ys), length-append bo ys)
-
 plain_not : (b : ℕ) → is_no_quote b ≡ false → b ≡ 34
 plain_not b h = grind (arith, nat_tests)
 
 abbrev Rec : ℕ → Type 0
 Rec n = (place : ℕ) (ys : List ℕ) → length ys ≤ n → Lexed place ys
-
-none_begins : (b : ℕ) → is_digit b ≡ false → is_letter b ≡ false → (b == 34) ≡ false → (b == 44) ≡ false → (b == 59) ≡ false → begins_token b ≡ false
-none_begins b d l q c s = grind (arith, nat_tests)
 
 eq_is : (b n : ℕ) → (b == n) ≡ true → b ≡ n
 eq_is b n h = grind (arith, nat_tests)
@@ -194,7 +163,7 @@ module _ (n place : ℕ) (text bl rest : List ℕ) (b : ℕ) (h : length text �
   with_token : (t : Token) (xs ys : List ℕ) → rest ≡ xs ++ ys → IsSpelling t (b ∷ xs) → IsWhole t ys → Lexed place text
   with_token t xs ys s k w =
       let e' : text ≡ bl ++ ((b ∷ xs) ++ ys) = e ∙ ap (λ l. bl ++ b ∷ l) s in
-      let later = rec (place + length bl + length (b ∷ xs)) ys (shorter n text bl (b ∷ xs) ys h e' (omega arith)) in
+      let later = rec (place + length bl + length (b ∷ xs)) ys (omega (arith, ap length e', length-append bl ((b ∷ xs) ++ ys), length-append (b ∷ xs) ys)) in
       token_first place text bl (b ∷ xs) ys t e' a k w later
 
   from_digits : is_digit b ≡ true → Run is_digit rest → Lexed place text
@@ -215,7 +184,7 @@ module _ (n place : ℕ) (text bl rest : List ℕ) (b : ℕ) (h : length text �
   from_byte f false false true c s ed el eq ec es = from_quote (eq_is b 34 eq) (run_of is_no_quote rest)
   from_byte f false false false true s ed el eq ec es = with_token Comma [] rest refl (ap (λ z. z ∷ []) (eq_is b 44 ec)) tt
   from_byte f false false false false true ed el eq ec es = with_token Semicolon [] rest refl (ap (λ z. z ∷ []) (eq_is b 59 es)) tt
-  from_byte f false false false false false ed el eq ec es = stop_here place text bl rest b e a f (inl (none_begins b ed el eq ec es))
+  from_byte f false false false false false ed el eq ec es = stop_here place text bl rest b e a f (inl (grind (arith, nat_tests)))
 
 from_blanks : (n place : ℕ) (text : List ℕ) → length text ≤ suc n → Rec n → Run is_blank text → Lexed place text
 from_blanks n place text h rec (xs, [], s, k, end) = inl ([], subst (AllAre is_blank) (sym (append-nil xs) ∙ sym s) k)

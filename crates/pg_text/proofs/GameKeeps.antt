@@ -1,9 +1,9 @@
 -- What a reader of game texts knows of the tokens that it has read.
 use Rattle.pg_text.proofs.Common.{◌≡◌, ℕ, ◌<◌, true, false, List, [], ◌∷◌, ◌++◌, length, refl, sym, ◌∙◌, ap, subst, arith, rules, codes, nat_lt, bytes_eq}
-use Rattle.pg_text.proofs.Common.{ltb-true, ltb-false, map-append, Player, Spec, Token, Number, Word, Name, Comma, Semicolon, Placed, tokens_of, Spells}
+use Rattle.pg_text.proofs.Common.{ltb-true, ltb-false, map-append, Player, Spec, Token, Number, Word, Semicolon, Placed, tokens_of, Spells}
 use Rattle.pg_text.proofs.Common.{WrittenGameLine, player_of, spec_of, IsBeforeOwner, IsGameText, BeginsGameText, IsSomeGameText, fits, AllFit, IsSyntaxFault}
-use Rattle.pg_text.proofs.Common.{IsNumberFault, IsPlayerFault, placed, first_at, FirstLarge, KeepsReader, SpellsSpecs, Front, front, with_line, Reading, line}
-use Rattle.pg_text.proofs.Common.{on_comma, on_name, step, run}
+use Rattle.pg_text.proofs.Common.{IsNumberFault, IsPlayerFault, placed, first_at, FirstLarge, KeepsReader, SpellsSpecs, Front, Reading, line}
+use Rattle.pg_text.proofs.Common.{step, run}
 use Rattle.std.proofs.Common.{Option, Some, None}
 use Rattle.pg_text.proofs.Once.{tokens_append}
 use Rattle.pg_text.proofs.Advance.{Reads}
@@ -13,7 +13,6 @@ use Rattle.pg_text.specs.private.GameKeeps.{Keeps, Stops}
 use Rattle.pg_text.specs.private.GameStates.{reader_state, is_complete, AreLines, HoldsRead}
 use Rattle.pg_text.proofs.FirstFaults.{all-push, IsTaken, taken_none, taken_large, first_large-fit, none_known, first_player-more, first_player-number}
 use Rattle.pg_text.proofs.FirstFaults.{syntax_end, number_fault, player_fault}
-use Rattle.pg_text.specs.private.GameRun.{on_number, on_semicolon, on_word}
 use Rattle.pg_text.proofs.GameRun.{run-append, tokens_are, spelled, finished, text_begins, text_is, lines_are, begins_none}
 use Rattle.pg_text.specs.declared.game_reader.State.TheVariants as state
 use Rattle.pg_text.specs.private.GameRun as reading
@@ -35,36 +34,13 @@ Shape state.Listing r = (f : Front) × (i p o w : ℕ) × (vs : List ℕ) × (r 
 Shape state.Successor r = (f : Front) × (i p o w : ℕ) × (vs : List ℕ) × (r ≡ reading.Successor f i p o w vs)
 Shape state.Named r = (f : Front) × (i p o w : ℕ) × (vs b : List ℕ) × (r ≡ reading.Named f i p o w vs b)
 
-shape : (r : Reading) → Shape (reader_state r) r
-shape x0 = search (rules)
-
 pub shape_in : (r : Reading) (s : State) → reader_state r ≡ s → Shape s r
-shape_in r s e = subst (λ (q : State). Shape q r) e (shape r)
+shape_in r s e = subst (λ (q : State). Shape q r) e (search rules)
 
 -- one more line
 lines_more : (specs : List Spec) (lines : List WrittenGameLine) (spec : Spec) (l : WrittenGameLine) → AreLines specs lines → spec ≡ spec_of l → l.owner < 2
     → AreLines (specs ++ spec ∷ []) (lines ++ l ∷ [])
 lines_more specs lines spec l a e h = search (rules, map-append, spec, all-push)
-
--- where a token can't stand
-no_number : (r : Reading) (s : State) (n : ℕ) → reader_state r ≡ s → (s ≡ state.Start → ⊥) → (s ≡ state.HeadWord → ⊥) → (s ≡ state.Headed → ⊥)
-    → (s ≡ state.StartWord → ⊥) → (s ≡ state.Started → ⊥) → (s ≡ state.Ready → ⊥) → (s ≡ state.Id → ⊥) → (s ≡ state.Priority → ⊥)
-    → (s ≡ state.Owner → ⊥) → (s ≡ state.Listing → ⊥) → on_number r n ≡ None
-no_number x0 s n e x4 x1 x2 x3 x8 x5 x6 x7 x12 x9 = search (rules)
-
-no_semicolon : (r : Reading) (s : State) → reader_state r ≡ s → (s ≡ state.HeadNumber → ⊥) → (s ≡ state.StartNumber → ⊥) → (s ≡ state.Successor → ⊥)
-    → (s ≡ state.Named → ⊥) → on_semicolon r ≡ None
-no_semicolon x0 s e x3 x1 x2 x6 = search (rules)
-
-no_comma : (r : Reading) (s : State) → reader_state r ≡ s → (s ≡ state.Successor → ⊥) → on_comma r ≡ None
-no_comma x0 s e x = search (rules)
-
-no_name : (r : Reading) (s : State) (bytes : List ℕ) → reader_state r ≡ s → (s ≡ state.Successor → ⊥) → on_name r bytes ≡ None
-no_name x0 s bytes e x = search (rules)
-
-no_word : (r : Reading) (s : State) (letters : List ℕ) → reader_state r ≡ s → (s ≡ state.Start → bytes_eq letters (codes "parity") ≡ false)
-    → (s ≡ state.Start → bytes_eq letters (codes "start") ≡ false) → (s ≡ state.Headed → bytes_eq letters (codes "start") ≡ false) → on_word r letters ≡ None
-no_word x0 s letters e x y z = search (rules)
 
 module _ {ts : List Placed} {s : State} {specs : List Spec} {id priority : ℕ} {owner : Player} {successors : List ℕ} {large wrong : Option ℕ}
     (k : Keeps ts s specs id priority owner successors large wrong) where
@@ -72,26 +48,12 @@ module _ {ts : List Placed} {s : State} {specs : List Spec} {id priority : ℕ} 
   abbrev more : Token → ℕ → List Placed
   more t place = ts ++ placed t place ∷ []
 
-  stops : (t : Token) → step k.read t ≡ None → Stops ts t
+  pub stops : (t : Token) → step k.read t ≡ None → Stops ts t
   stops t e = run-append (Some reading.Start) (tokens_of ts) (t ∷ []) ∙ (ap (λ q. run q (t ∷ [])) k.ran ∙ ap (λ q. run q []) e)
-
-  pub number_stops : (n : ℕ) → (s ≡ state.Start → ⊥) → (s ≡ state.HeadWord → ⊥) → (s ≡ state.Headed → ⊥) → (s ≡ state.StartWord → ⊥)
-      → (s ≡ state.Started → ⊥) → (s ≡ state.Ready → ⊥) → (s ≡ state.Id → ⊥) → (s ≡ state.Priority → ⊥) → (s ≡ state.Owner → ⊥)
-      → (s ≡ state.Listing → ⊥) → Stops ts (Number n)
-  number_stops n x0 x1 x2 x3 x4 x5 x6 x7 x8 x9 = stops (Number n) (no_number k.read s n k.state_is x0 x1 x2 x3 x4 x5 x6 x7 x8 x9)
-
-  pub semicolon_stops : (s ≡ state.HeadNumber → ⊥) → (s ≡ state.StartNumber → ⊥) → (s ≡ state.Successor → ⊥) → (s ≡ state.Named → ⊥) → Stops ts Semicolon
-  semicolon_stops x0 x1 x2 x3 = stops Semicolon (no_semicolon k.read s k.state_is x0 x1 x2 x3)
-
-  pub comma_stops : (s ≡ state.Successor → ⊥) → Stops ts Comma
-  comma_stops x = stops Comma (no_comma k.read s k.state_is x)
-
-  pub name_stops : (bytes : List ℕ) → (s ≡ state.Successor → ⊥) → Stops ts (Name bytes)
-  name_stops bytes x = stops (Name bytes) (no_name k.read s bytes k.state_is x)
 
   pub word_stops : (letters : List ℕ) → (s ≡ state.Start → bytes_eq letters (codes "parity") ≡ false)
       → (s ≡ state.Start → bytes_eq letters (codes "start") ≡ false) → (s ≡ state.Headed → bytes_eq letters (codes "start") ≡ false) → Stops ts (Word letters)
-  word_stops letters x y z = stops (Word letters) (no_word k.read s letters k.state_is x y z)
+  word_stops letters x y z = stops (Word letters) (search rules)
 
   goes : (t : Token) (place : ℕ) (r q : Reading) → k.read ≡ r → step r t ≡ Some q → run (Some reading.Start) (tokens_of (ts ++ placed t place ∷ [])) ≡ Some q
   goes t place r q e f = search (rules, tokens_append, run-append, k.ran)
@@ -99,12 +61,15 @@ module _ {ts : List Placed} {s : State} {specs : List Spec} {id priority : ℕ} 
   as_read : (r : Reading) → k.read ≡ r → large ≡ None → wrong ≡ None → HoldsRead r specs id priority owner successors
   as_read r e l w = subst (λ (q : Reading). HoldsRead q specs id priority owner successors) e (k.agrees l w)
 
+  pub read_in : (q : State) → s ≡ q → Shape q k.read
+  read_in q is = shape_in k.read q (k.state_is ∙ is)
+
   -- a token that is no number
-  other : (t : Token) (place : ℕ) (r q : Reading) {specs' : List Spec} {id' priority' : ℕ} {owner' : Player} {successors' : List ℕ}
+  pub other : (t : Token) (place : ℕ) {r q : Reading} {specs' : List Spec} {id' priority' : ℕ} {owner' : Player} {successors' : List ℕ}
       → fits t ≡ true → k.read ≡ r → step r t ≡ Some q
       → (HoldsRead r specs id priority owner successors → HoldsRead q specs' id' priority' owner' successors')
       → Keeps (more t place) (reader_state q) specs' id' priority' owner' successors' large wrong
-  other t place r q f e g a = record {
+  other t place {r} {q} f e g a = record {
     read = q;
     ran = goes t place r q e g;
     state_is = refl;
@@ -113,68 +78,40 @@ module _ {ts : List Placed} {s : State} {specs : List Spec} {id priority : ℕ} 
     agrees = λ l w. a (as_read r e l w);
   }
 
-  pub semicolon_HeadNumber : s ≡ state.HeadNumber → (place : ℕ) → Keeps (more Semicolon place) state.Headed specs id priority owner successors large wrong
-  semicolon_HeadNumber is place =
-      let (m, e) = shape_in k.read state.HeadNumber (k.state_is ∙ is) in
-      other Semicolon place (reading.HeadNumber m) (reading.Headed m) refl e refl (λ a. a)
-
-  pub semicolon_StartNumber : s ≡ state.StartNumber → (place : ℕ) → Keeps (more Semicolon place) state.Started specs id priority owner successors large wrong
-  semicolon_StartNumber is place =
-      let (h, m, e) = shape_in k.read state.StartNumber (k.state_is ∙ is) in
-      other Semicolon place (reading.StartNumber h m) (reading.Started h m) refl e refl (λ a. a)
-
   pub semicolon_Successor : s ≡ state.Successor → (place : ℕ) {left : List ℕ}
       → Keeps (more Semicolon place) state.Ready (specs ++ spec id priority owner successors ∷ []) id priority owner left large wrong
   semicolon_Successor is place =
-      let (f, i, p, o, w, vs, e) = shape_in k.read state.Successor (k.state_is ∙ is) in
-      let l = line i p o (w ∷ vs) None in
-      other Semicolon place (reading.Successor f i p o w vs) (reading.Ready (with_line f l)) refl e refl
-      (λ a. lines_more specs f.lines (spec id priority owner successors) l a.0 (cc (a.1, a.2, a.3, a.5)) a.4)
+      let (f, i, p, o, w, vs, e) = read_in state.Successor is in
+      other Semicolon place refl e refl
+      (λ a. lines_more specs f.lines (spec id priority owner successors) (line i p o (w ∷ vs) None) a.0 (cc (a.1, a.2, a.3, a.5)) a.4)
 
   pub semicolon_Named : s ≡ state.Named → (place : ℕ) {left : List ℕ}
       → Keeps (more Semicolon place) state.Ready (specs ++ spec id priority owner successors ∷ []) id priority owner left large wrong
   semicolon_Named is place =
-      let (f, i, p, o, w, vs, b, e) = shape_in k.read state.Named (k.state_is ∙ is) in
-      let l = line i p o (w ∷ vs) (Some b) in
-      other Semicolon place (reading.Named f i p o w vs b) (reading.Ready (with_line f l)) refl e refl
-      (λ a. lines_more specs f.lines (spec id priority owner successors) l a.0 (cc (a.1, a.2, a.3, a.5)) a.4)
-
-  pub comma_Successor : s ≡ state.Successor → (place : ℕ) → Keeps (more Comma place) state.Listing specs id priority owner successors large wrong
-  comma_Successor is place =
-      let (f, i, p, o, w, vs, e) = shape_in k.read state.Successor (k.state_is ∙ is) in
-      other Comma place (reading.Successor f i p o w vs) (reading.Listing f i p o w vs) refl e refl (λ a. a)
-
-  pub name_Successor : (bytes : List ℕ) → s ≡ state.Successor → (place : ℕ)
-      → Keeps (more (Name bytes) place) state.Named specs id priority owner successors large wrong
-  name_Successor bytes is place =
-      let (f, i, p, o, w, vs, e) = shape_in k.read state.Successor (k.state_is ∙ is) in
-      other (Name bytes) place (reading.Successor f i p o w vs) (reading.Named f i p o w vs bytes) refl e refl (λ a. a)
+      let (f, i, p, o, w, vs, b, e) = read_in state.Named is in
+      other Semicolon place refl e refl
+      (λ a. lines_more specs f.lines (spec id priority owner successors) (line i p o (w ∷ vs) (Some b)) a.0 (cc (a.1, a.2, a.3, a.5)) a.4)
 
   pub word_header : (letters : List ℕ) → bytes_eq letters (codes "parity") ≡ true → s ≡ state.Start → (place : ℕ)
       → Keeps (more (Word letters) place) state.HeadWord specs id priority owner successors large wrong
-  word_header letters t is place =
-      let e = shape_in k.read state.Start (k.state_is ∙ is) in
-      other (Word letters) place reading.Start reading.HeadWord refl e (rw t refl) (λ a. a)
+  word_header letters t is place = other (Word letters) place {q = reading.HeadWord} refl (read_in state.Start is) (rw t refl) (λ a. a)
 
   pub word_start : (letters : List ℕ) → bytes_eq letters (codes "parity") ≡ false → bytes_eq letters (codes "start") ≡ true → s ≡ state.Start → (place : ℕ)
       → Keeps (more (Word letters) place) state.StartWord specs id priority owner successors large wrong
-  word_start letters u t is place =
-      let e = shape_in k.read state.Start (k.state_is ∙ is) in
-      other (Word letters) place reading.Start (reading.StartWord None) refl e (rw (u, t) refl) (λ a. a)
+  word_start letters u t is place = other (Word letters) place {q = reading.StartWord None} refl (read_in state.Start is) (rw (u, t) refl) (λ a. a)
 
   pub word_headed : (letters : List ℕ) → bytes_eq letters (codes "start") ≡ true → s ≡ state.Headed → (place : ℕ)
       → Keeps (more (Word letters) place) state.StartWord specs id priority owner successors large wrong
   word_headed letters t is place =
-      let (m, e) = shape_in k.read state.Headed (k.state_is ∙ is) in
-      other (Word letters) place (reading.Headed m) (reading.StartWord (Some m)) refl e (rw t refl) (λ a. a)
+      let (m, e) = read_in state.Headed is in other (Word letters) place {q = reading.StartWord (Some m)} refl e (rw t refl) (λ a. a)
 
   -- a number
   module _ {n place small : ℕ} {later : Option ℕ} (t : IsTaken n place large later small) where
     -- that is no owner
-    number : (r q : Reading) {specs' : List Spec} {id' priority' : ℕ} {owner' : Player} {successors' : List ℕ} → k.read ≡ r → step r (Number n) ≡ Some q
+    pub number : {r q : Reading} {specs' : List Spec} {id' priority' : ℕ} {owner' : Player} {successors' : List ℕ} → k.read ≡ r → step r (Number n) ≡ Some q
         → (HoldsRead r specs id priority owner successors → small ≡ n → HoldsRead q specs' id' priority' owner' successors')
         → Keeps (more (Number n) place) (reader_state q) specs' id' priority' owner' successors' later wrong
-    number r q e g a = record {
+    number {r} {q} e g a = record {
       read = q;
       ran = goes (Number n) place r q e g;
       state_is = refl;
@@ -183,58 +120,22 @@ module _ {ts : List Placed} {s : State} {specs : List Spec} {id priority : ℕ} 
       agrees = λ l w. let h = taken_none t l in a (as_read r e h.0 w) h.1;
     }
 
-    pub number_Start : s ≡ state.Start → Keeps (more (Number n) place) state.Id specs small priority owner successors later wrong
-    number_Start is =
-        let e = shape_in k.read state.Start (k.state_is ∙ is) in
-        number reading.Start (reading.Id (front None None []) n) e refl (λ a v. ((a, tt), v))
-
-    pub number_Headed : s ≡ state.Headed → Keeps (more (Number n) place) state.Id specs small priority owner successors later wrong
-    number_Headed is =
-        let (m, e) = shape_in k.read state.Headed (k.state_is ∙ is) in
-        number (reading.Headed m) (reading.Id (front (Some m) None []) n) e refl (λ a v. ((a, tt), v))
-
-    pub number_Started : s ≡ state.Started → Keeps (more (Number n) place) state.Id specs small priority owner successors later wrong
-    number_Started is =
-        let (h, m, e) = shape_in k.read state.Started (k.state_is ∙ is) in
-        number (reading.Started h m) (reading.Id (front h (Some m) []) n) e refl (λ a v. ((a, tt), v))
-
-    pub number_Ready : s ≡ state.Ready → Keeps (more (Number n) place) state.Id specs small priority owner successors later wrong
-    number_Ready is =
-        let (f, e) = shape_in k.read state.Ready (k.state_is ∙ is) in
-        number (reading.Ready f) (reading.Id f n) e refl (λ a v. (a, v))
-
-    pub number_HeadWord : s ≡ state.HeadWord → Keeps (more (Number n) place) state.HeadNumber specs id priority owner successors later wrong
-    number_HeadWord is =
-        let e = shape_in k.read state.HeadWord (k.state_is ∙ is) in
-        number reading.HeadWord (reading.HeadNumber n) e refl (λ a v. a)
-
-    pub number_StartWord : s ≡ state.StartWord → Keeps (more (Number n) place) state.StartNumber specs id priority owner successors later wrong
-    number_StartWord is =
-        let (h, e) = shape_in k.read state.StartWord (k.state_is ∙ is) in
-        number (reading.StartWord h) (reading.StartNumber h n) e refl (λ a v. a)
-
-    pub number_Id : s ≡ state.Id → Keeps (more (Number n) place) state.Priority specs id small owner successors later wrong
-    number_Id is =
-        let (f, i, e) = shape_in k.read state.Id (k.state_is ∙ is) in
-        number (reading.Id f i) (reading.Priority f i n) e refl (λ a v. (a.0, a.1, v))
-
     pub number_Owner : s ≡ state.Owner → Keeps (more (Number n) place) state.Successor specs id priority owner (successors ++ small ∷ []) later wrong
     number_Owner is =
-        let (f, i, p, o, e) = shape_in k.read state.Owner (k.state_is ∙ is) in
-        number (reading.Owner f i p o) (reading.Successor f i p o n []) e refl
+        number (read_in state.Owner is).4 refl
         (λ a v. (a.0, a.1, a.2, a.3, a.4, ap (λ xs. xs ++ small ∷ []) a.5 ∙ ap (λ x. x ∷ []) v))
 
     pub number_Listing : s ≡ state.Listing → Keeps (more (Number n) place) state.Successor specs id priority owner (successors ++ small ∷ []) later wrong
     number_Listing is =
-        let (f, i, p, o, w, vs, e) = shape_in k.read state.Listing (k.state_is ∙ is) in
-        number (reading.Listing f i p o w vs) (reading.Successor f i p o w (vs ++ n ∷ [])) e refl
+        let (f, i, p, o, w, vs, e) = read_in state.Listing is in
+        number e refl
         (λ a v. (a.0, a.1, a.2, a.3, a.4, ap (λ xs. xs ++ small ∷ []) a.5 ∙ ap (λ x. w ∷ (vs ++ x ∷ [])) v))
 
     -- an owner
     pub number_Priority : s ≡ state.Priority
         → Keeps (more (Number n) place) state.Owner specs id priority (player_of small) [] later (first_at wrong (nat_lt 1 small) place)
     number_Priority is =
-        let (f, i, p, e) = shape_in k.read state.Priority (k.state_is ∙ is) in
+        let (f, i, p, e) = read_in state.Priority is in
         let r = reading.Priority f i p in
         record {
           read = reading.Owner f i p n;
@@ -265,10 +166,6 @@ keeps_none specs id priority owner successors e = record {
   agrees = λ l w. e;
 }
 
--- where a text may end, the lines that were read
-finished_lines : (r : Reading) → is_complete (reader_state r) ≡ true → (f : Front) × (r ≡ reading.Ready f)
-finished_lines x0 e = search (rules)
-
 finished_none : (r : Reading) → is_complete (reader_state r) ≡ false → finished r ≡ None
 finished_none x0 e = search (rules)
 
@@ -280,7 +177,7 @@ module _ (text : List ℕ) {ts : List Placed} {s : State} {specs : List Spec} {i
       (λ (ls, i). let h : None ≡ Some ls = sym (finished_none k.read (ap is_complete k.state_is ∙ e)) ∙ lines_are (tokens_of ts) k.read k.ran ls i in cc h)
 
   some_text : is_complete s ≡ true → (f : Front) × (k.read ≡ reading.Ready f) × IsGameText (tokens_of ts) f.lines
-  some_text e = search (rules, finished_lines, k.read, k.state_is, text_is, k.ran, finished)
+  some_text e = search (rules, k.read, k.state_is, text_is, k.ran, finished)
 
   all_fit : large ≡ None → AllFit (tokens_of ts)
   all_fit l = subst (λ (o : Option ℕ). FirstLarge ts o) l k.numbers

@@ -1,9 +1,8 @@
 -- Which identifiers a game has, and which vertex each of them names.
 use Rattle.pg_text.proofs.Common.{◌≡◌, ℕ, zero, suc, ◌+◌, ◌<◌, Bool, true, false, List, [], ◌∷◌, ◌++◌, length, map, get_or, refl, sym, ◌∙◌, ap, subst, arith}
 use Rattle.pg_text.proofs.Common.{rules, ◌==◌, if◌then◌else◌, nat_lt, Option, Some, None, IfSome, option_map, option_or, Contains, list_any, eqb-true, eq-eqb}
-use Rattle.pg_text.proofs.Common.{false_from_ne_true, get_or-map, length-map, list_any_at, Graph, IsGame, id_of, no_vertex, WrittenSolutionLine, is_id}
+use Rattle.pg_text.proofs.Common.{get_or-map, length-map, list_any_at, Graph, IsGame, id_of, no_vertex, WrittenSolutionLine, is_id}
 use Rattle.pg_text.proofs.Common.{number_in, first_stranger, IsNamed}
-use Rattle.std.proofs.Common.{◌≢◌}
 use Rattle.std.specs.Prelude.{count_by}
 use Rattle.std.proofs.lemmas.Bool.{true_from_ne_false}
 use Rattle.std.proofs.lemmas.Grind.{flat_map-append}
@@ -26,9 +25,6 @@ named_is g id v n = list_any_at (λ x. x.id == id) g v no_vertex n.vertex (eq-eq
 
 pub named_at : (g : Graph) (id : ℕ) → is_id g id ≡ true → (v : ℕ) × IsNamed g id v
 named_at g id t = let (v, l, e) = some_at (λ x. x.id == id) g no_vertex t in (v, record { vertex = l; id_is = eqb-true (id_of g v) id e })
-
-pub not_named : (g : Graph) (id : ℕ) → ((v : ℕ) → v < length g → id_of g v ≢ id) → is_id g id ≡ false
-not_named g id none = false_from_ne_true (is_id g id) (λ t. let n = named_at g id t in none n.0 n.1.vertex n.1.id_is)
 
 count-ids : (g : Graph) (id : ℕ) → count_by (λ n. nat_lt n id) (map (λ x. x.id) g) ≡ number_in g id
 count-ids g id = fold-map (λ a n. a + (if nat_lt n id then 1 else 0)) (λ x. x.id) 0 g
@@ -61,10 +57,6 @@ home_at g (x ∷ xs) (suc k) d e l =
 home_id : (g : Graph) (id winner : ℕ) (c : Option ℕ) → first_stranger g (record { id = id; winner = winner; choice = c } ∷ []) ≡ None → is_id g id ≡ true
 home_id g id winner c e = true_from_ne_false (is_id g id) (λ f. let k : Some id ≡ None = rw f at e in cc k)
 
-home_choice : (g : Graph) (id winner : ℕ) (c : Option ℕ) → first_stranger g (record { id = id; winner = winner; choice = c } ∷ []) ≡ None
-    → IfSome c (λ i. is_id g i ≡ true)
-home_choice g id winner x3 e = search (rules, home_id, true_from_ne_false)
-
 pub line_home : (g : Graph) (lines : List WrittenSolutionLine) (l : WrittenSolutionLine) → first_stranger g lines ≡ None → Contains lines l
     → first_stranger g (l ∷ []) ≡ None
 line_home g lines l e (k, h, is) = subst (λ (x : WrittenSolutionLine). first_stranger g (x ∷ []) ≡ None) is (home_at g lines k l e h)
@@ -75,7 +67,7 @@ line_named g lines l e m = named_at g l.id (home_id g l.id l.winner l.choice (li
 
 pub choice_below : (g : Graph) (l : WrittenSolutionLine) → IsGame g → first_stranger g (l ∷ []) ≡ None
     → IfSome (option_map (λ i. number_in g i) l.choice) (λ w. w < length g)
-choice_below g l i e = go l.choice (home_choice g l.id l.winner l.choice e)
+choice_below g l i e = go l.choice (search (rules, home_id, true_from_ne_false))
   where
     go : (c : Option ℕ) → IfSome c (λ k. is_id g k ≡ true) → IfSome (option_map (λ k. number_in g k) c) (λ w. w < length g)
     go None h = tt

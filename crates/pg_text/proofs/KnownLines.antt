@@ -1,10 +1,8 @@
 -- What the table of a game's vertices says that is known, and why it is not asked further.
 use Rattle.pg_text.proofs.Common.{◌≡◌, ℕ, ◌<◌, true, false, length, get_or, refl, sym, ◌∙◌, ap, arith, List, Bool, rules, Option, Some, None, if◌then◌else◌}
-use Rattle.pg_text.proofs.Common.{MatchResult, Result, IfOk, slice_get-get_or, Even, Graph, members, SolutionTextFault, WrittenSolutionLine, SolutionRows}
-use Rattle.pg_text.proofs.Common.{has_line, HoldsLines, IsLookUpFaultOf, AreKnownLinesOf}
+use Rattle.pg_text.proofs.Common.{MatchResult, Result, slice_get-get_or, Even, Graph, members, WrittenSolutionLine, SolutionRows}
+use Rattle.pg_text.proofs.Common.{has_line, HoldsLines, AreKnownLinesOf}
 use Rattle.std.specs.Prelude.{IsErrAnd}
-use Rattle.pg_text.specs.declared.solution.Known.{Known}
-use Rattle.pg_text.specs.private.SolutionTable.{IsRowFaultOf, IsKnownRowFaultOf}
 use Rattle.pg_text.specs.Known.{KnownRows}
 use Rattle.pg_text.proofs.SolutionTable.{has_line_at}
 
@@ -28,17 +26,6 @@ module _ {g : Graph} {lines : List WrittenSolutionLine} {rows : SolutionRows} {s
         let d : v < length known = omega arith in
         slice_get-get_or known v None d ∙ ap (λ r. Some r) (each v d ∙ rw t refl);
   }
-
--- a fault of looking up is one of rows
-pub row_fault : (g : Graph) (lines : List WrittenSolutionLine) (e : SolutionTextFault) → IsLookUpFaultOf g lines e → IsRowFaultOf g lines e
-row_fault g lines x2 h = search (rules)
-
-pub known_fault : (g : Graph) (lines : List WrittenSolutionLine) (e : SolutionTextFault) → IsLookUpFaultOf g lines e → IsKnownRowFaultOf g lines e
-known_fault g lines x2 h = search (rules)
-
-pub known_size : (g : Graph) (lines : List WrittenSolutionLine) (r : Result Known SolutionTextFault) (Q : SolutionTextFault → Type 0)
-    → MatchResult r (λ k. AreKnownLinesOf g lines k.rows) Q → IfOk r (λ k. length k.rows ≡ length g)
-known_size g lines x2 x3 a = search (rules)
 
 -- an error that is handed on
 pub passed_on : {A E : Type 0} (r : Result A E) (e : E) (P : A → Type 0) (Q : E → Type 0) → IsErrAnd r (λ x. x ≡ e) → Q e → MatchResult r P Q

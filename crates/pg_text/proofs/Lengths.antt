@@ -17,9 +17,6 @@ use Rattle.pg_text.proofs.WrittenSpells.{HasNumbers, have_numbers, last_id, all_
 short_number : (n : ℕ) → n ≤ max_number → length (decimal n) ≤ most_digits
 short_number n l = length-decimal-le_wide most_digits n (omega arith) (omega arith) (omega (arith, lit< {m = max_number} {n = 10 ^ 64} tt))
 
-short_digit : (p : Player) → length (decimal (digit_of p)) ≤ 1
-short_digit x0 = search (rules, length-decimal-le_wide)
-
 -- numbers separated by commas, and one comma more
 short_list : (g : Graph) (w : ℕ) (ws : List ℕ) → AllByRecursion (λ n. n ≤ max_number) (map (λ u. id_of g u) (w ∷ ws))
     → length (join_with_byte 44 (map (λ u. decimal (id_of g u)) (w ∷ ws))) + 1 ≤ length (w ∷ ws) * (most_digits + 1)
@@ -33,7 +30,7 @@ short_line : (g : Graph) (x : Vertex) (ws : List ℕ) → x.id ≤ max_number �
     ++ (32 ∷ decimal (digit_of x.owner) ++ (32 ∷ join_with_byte 44 (map (λ w. decimal (id_of g w)) ws) ++ codes ";\n"))))
     ≤ 25 + length ws * (most_digits + 1)
 short_line g x [] i p h a = absurd (omega arith)
-short_line g x (w ∷ ws) i p h a = search (rules, short_list, length-append, x.owner, x.priority, x.id, short_number, short_digit)
+short_line g x (w ∷ ws) i p h a = search (rules, short_list, length-append, x.owner, x.priority, x.id, short_number, length-decimal-le_wide)
 
 short_lines : (g : Graph) (xs : List Vertex) → AllByRecursion (λ x. HasNumbers (λ n. n ≤ max_number) g x) xs
     → length (flat_map (written_vertex g) xs) ≤ length xs * 25 + sum_by (λ x. length x.successors) xs * (most_digits + 1)
@@ -51,12 +48,9 @@ short_header : (word : List ℕ) (n : ℕ) (rest : List ℕ) → n ≤ max_numbe
 short_header word n rest l = search (rules, length-append, short_number)
 
 module _ (g : Graph) (i : IsGame g) (w : IsWithinLimits g) where
-  short_last : greatest_id g ≤ max_number
-  short_last = last_id (λ n. n ≤ max_number) g i w.ids
-
   pub short_game : length (written_game g) ≤ greatest_game_text
   short_game =
-      let h = short_header (codes "parity ") (greatest_id g) (flat_map (written_vertex g) g) short_last in
+      let h = short_header (codes "parity ") (greatest_id g) (flat_map (written_vertex g) g) (last_id (λ n. n ≤ max_number) g i w.ids) in
       let l = short_lines g g (have_numbers (λ n. n ≤ max_number) g i w.ids w.numbers) in
       let n = w.vertices in
       let e = w.edges in
@@ -68,16 +62,13 @@ module _ (g : Graph) (i : IsGame g) (w : IsWithinLimits g) where
       → length (written_rows g xs rows) ≤ length xs * (most_digits + 4 + long)
   short_rows long [] rows a b = omega arith
   short_rows long (x ∷ xs) [] a b = omega arith
-  short_rows long (x ∷ xs) (r ∷ rows) a b = search (rules, short_rows long xs rows a.1 b.1, length-append, x.id, short_number, short_digit)
-
-  short_choice : (c : Option ℕ) → IfSome c (λ v. v < length g) → length (written_choice g c) ≤ 1 + most_digits
-  short_choice x0 h = search (rules, short_number)
+  short_rows long (x ∷ xs) (r ∷ rows) a b = search (rules, short_rows long xs rows a.1 b.1, length-append, x.id, short_number, length-decimal-le_wide)
 
   -- a text of rows whose choices are at most so long
   short_text : (long : ℕ) (rows : SolutionRows) → AllByRecursion (λ r. length (written_choice g r.1) ≤ long) rows
       → length (written_solution g rows) ≤ greatest_header (codes "paritysol ") + max_vertices * (most_digits + 4 + long)
   short_text long rows a =
-      let h = short_header (codes "paritysol ") (greatest_id g) (written_rows g g rows) short_last in
+      let h = short_header (codes "paritysol ") (greatest_id g) (written_rows g g rows) (last_id (λ n. n ≤ max_number) g i w.ids) in
       let l = short_rows long g rows (all_from_places (λ x. x.id ≤ max_number) no_vertex g w.ids) a in
       let m = mul-le-mul_right {m = length g} {n = max_vertices} (most_digits + 4 + long) w.vertices in
       omega arith
@@ -85,7 +76,7 @@ module _ (g : Graph) (i : IsGame g) (w : IsWithinLimits g) where
   pub short_solution : (rows : SolutionRows) → AreSolutionRows g rows → length (written_solution g rows) ≤ greatest_solution_text
   short_solution rows are =
       let t = short_text (1 + most_digits) rows (all_imply (λ r. IfSome r.1 (λ v. v < length g))
-      (λ r. length (written_choice g r.1) ≤ 1 + most_digits) rows (λ r h. short_choice r.1 h) are.choices) in
+      (λ r. length (written_choice g r.1) ≤ 1 + most_digits) rows (λ r h. search (rules, short_number)) are.choices) in
       omega arith
 
   pub short_winners : (rows : SolutionRows) → length (written_winners g rows) ≤ greatest_winners_text

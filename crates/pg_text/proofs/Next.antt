@@ -1,6 +1,6 @@
 -- The token at a place, from runs of bytes.
-use Rattle.pg_text.proofs.Common.{◌≡◌, ℕ, ◌+◌, ◌-◌, ◌<◌, ◌≤◌, zero, suc, Bool, true, false, List, [], ◌∷◌, ◌++◌, length, drop, take, get_or, refl, sym, ◌∙◌, ap}
-use Rattle.pg_text.proofs.Common.{subst, arith, ◌⊎◌, append_assoc, length-append, rules, Some, None, eqb-true, false_from_ne_true, drop_more, take-append-drop}
+use Rattle.pg_text.proofs.Common.{◌≡◌, ℕ, ◌+◌, ◌-◌, ◌<◌, ◌≤◌, zero, suc, true, false, List, [], ◌∷◌, ◌++◌, length, drop, take, get_or, refl, sym, ◌∙◌, ap}
+use Rattle.pg_text.proofs.Common.{subst, arith, ◌⊎◌, append_assoc, length-append, rules, Some, eqb-true, false_from_ne_true, drop_more, take-append-drop}
 use Rattle.pg_text.proofs.Common.{Kind, Token, Number, Word, Name, Comma, Semicolon, IsSpelling, IsWhole, is_blank, is_digit, is_letter, is_no_quote}
 use Rattle.pg_text.proofs.Common.{begins_token, AllAre, EndsRun, IsRun, IsToken, IsNoToken, IsPieceOf}
 use Rattle.std.proofs.Common.{length-drop}
@@ -12,11 +12,6 @@ use Rattle.pg_text.specs.Bytes.{is_quote}
 use Rattle.pg_text.proofs.Runs.{all-append}
 use Rattle.pg_text.specs.declared.lexer.Kind.TheVariants as kind
 
--- a run whose first byte passes has a byte
-run_nonempty : (test : ℕ → Bool) (text : List ℕ) (from to : ℕ) (run : List ℕ) → IsRun test text from to run → from < length text
-    → test (get_or text from 0) ≡ true → EndsRun test (drop to text) → 0 < length run
-run_nonempty test text from to x4 r h p e = search (rules, drop_more)
-
 module _ (text : List ℕ) (from : ℕ) (inside : from < length text) where
   -- a body that begins here is a token
   from_body : (t : Token) (to : ℕ) (body : List ℕ) → drop from text ≡ body ++ drop to text → to ≡ from + length body → IsSpelling t body
@@ -25,7 +20,7 @@ module _ (text : List ℕ) (from : ℕ) (inside : from < length text) where
 
   pub word_at : (to : ℕ) (run : List ℕ) → IsRun is_letter text from to run → is_letter (get_or text from 0) ≡ true → EndsRun is_letter (drop to text)
       → IsToken text from from to (Word run)
-  word_at to run r p e = from_body (Word run) to run r.split r.end (run_nonempty is_letter text from to run r inside p e, r.passes, refl) e
+  word_at to run r p e = from_body (Word run) to run r.split r.end (search (rules, drop_more), r.passes, refl) e
 
   pub comma_at : get_or text from 0 ≡ 44 → IsToken text from from (from + 1) Comma
   comma_at e = from_body Comma (from + 1) (44 ∷ []) (drop_more text from 0 inside ∙ ap (λ b. b ∷ drop (from + 1) text) e) (omega arith) refl tt
@@ -101,14 +96,10 @@ piece_past kind.Bad text at from end to run r i = record {
   wrong = i.wrong;
 }
 
--- a token takes a byte at least
-body_nonempty : (t : Token) (body : List ℕ) → IsSpelling t body → 0 < length body
-body_nonempty x0 body s = search (rules)
-
 -- it ends behind the place, and within the text
 pub token_ahead : (text : List ℕ) (at from to : ℕ) (t : Token) → IsToken text at from to t → (at < to) × (at ≤ length text → to ≤ length text)
 token_ahead text at from to t i =
-    let n = body_nonempty t i.body i.begins.spelled in
+    let n : 0 < length i.body = search rules in
     let e = i.end in (
       omega arith,
       λ h.
@@ -133,10 +124,6 @@ name_found text hay from more h q e f =
           (quote_split text (from + 1) more l g.1 ∙ ap (λ m. take more (drop (from + 1) text) ++ 34 ∷ drop m text) (omega arith))
           (omega arith),
     )
-
-pub name_lost : (text hay : List ℕ) (from : ℕ) → from < length text → get_or text from 0 ≡ 34 → hay ≡ drop (from + 1) text
-    → IsFirstByte (is_byte 34) hay None → IsNoToken text from from
-name_lost text hay from h q e f = search (rules, nothing_at, plain_all)
 
 -- a byte that is none of those that begin a token
 pub begins_none : (b : ℕ) → is_digit b ≡ false → is_letter b ≡ false → b ≢ 34 → b ≢ 44 → b ≢ 59 → begins_token b ≡ false

@@ -29,16 +29,9 @@ Below (Id h ls i) = Won ls
 Below (state.Winner h ls i w) = Won ls × (w < 2)
 Below (Choice h ls i w c) = Won ls × (w < 2)
 
-nothing_below : (o : Option Reading) → IfSome o (λ s. Below s → ⊤)
-nothing_below x0 = search (rules)
-
--- so were those that were read before
-below_step : (r : Reading) (t : Token) → IfSome (step r t) (λ s. Below s → Below r)
-below_step r t = search (rules, all-push_parts, nothing_below)
-
 below_run : (r s : Reading) (ts : List Token) → run (Some r) ts ≡ Some s → Below s → Below r
 below_run r s [] e b = let f : r ≡ s = cc in subst Below (sym f) b
-below_run r s (t ∷ ts) e b = go (λ q f. below_run q s ts f b) (step r t) (below_step r t) e
+below_run r s (t ∷ ts) e b = go (λ q f. below_run q s ts f b) (step r t) (search (rules, all-push_parts)) e
   where
     go : ((q : Reading) → run (Some q) ts ≡ Some s → Below q) → (o : Option Reading) → IfSome o (λ q. Below q → Below r) → run o ts ≡ Some s → Below r
     go later None one f = absurd (cc f)
@@ -69,17 +62,13 @@ winner_once : (text : List ℕ) (a b : ℕ) → IsPlayerFault IsSomeSolutionText
     → IsPlayerFault IsSomeSolutionText IsBeforeWinner text b → a ≡ b
 winner_once = player_once BeginsSolutionText IsSomeSolutionText IsBeforeWinner solution_prefix solution_begins (λ xs ys m n a b c. later_winner xs ys m n a b)
 
-below_end : (h : Option ℕ) (ls : List WrittenSolutionLine) → Won ls → Below (end_of h ls)
-below_end x0 ls w = search (rules)
-
 -- a wrong winner is in no text whose winners are 0 and 1
 winner_or_lines : (text : List ℕ) (a : ℕ) (us : List Placed) (lines : List WrittenSolutionLine) → IsPlayerFault IsSomeSolutionText IsBeforeWinner text a
     → Spells 0 text us → IsSolutionText (tokens_of us) lines → Won lines → ⊥
 winner_or_lines text a us lines (ts, s, g, f, (b1, a1, t1, n1, e1, p1, y1, k1, c1)) z (h, w) o =
-    let q = one_spelling 0 text us ts z s in
-    let d : tokens_of us ≡ tokens_of b1 ++ token.Number n1 ∷ tokens_of a1 = ap tokens_of (q ∙ e1) ∙ tokens_at b1 a1 t1 n1 k1 in
+    let d : tokens_of us ≡ tokens_of b1 ++ token.Number n1 ∷ tokens_of a1 = ap tokens_of (one_spelling 0 text us ts z s ∙ e1) ∙ tokens_at b1 a1 t1 n1 k1 in
     let r : run (Some Start) (tokens_of b1 ++ token.Number n1 ∷ tokens_of a1) ≡ Some (end_of h lines) = ap (run (Some Start)) (sym d ∙ w) ∙ run-text h lines in
-    let l = inner_winner (tokens_of b1) (tokens_of a1) n1 (end_of h lines) y1 r (below_end h lines o) in
+    let l = inner_winner (tokens_of b1) (tokens_of a1) n1 (end_of h lines) y1 r (search rules) in
     omega (arith, l, c1)
 
 lines_of : (text : List ℕ) (ls ks : List WrittenSolutionLine) → SpellsSolution text ls → SpellsSolution text ks → ls ≡ ks
@@ -162,9 +151,6 @@ pub one_solution_fault : OneSolutionFault
 one_solution_fault g text =
     one_fault_of (Passed g text) (before g text) Memory stage (IsSolutionFaultOf g text) (passed g text) (stopped g text) (same g text)
 
-stage_below : (e : SolutionTextFault) → stage e < 7
-stage_below x0 = search (rules)
-
 pub solution_text_or_fault : SolutionTextOrFault
 solution_text_or_fault g text rows e t b =
-    search (rules, t.lines, t.spelled, t.says.no_stranger, t.says.once, t.says.complete, no_fault, before, passed, stopped, stage_below)
+    search (rules, t.lines, t.spelled, t.says.no_stranger, t.says.once, t.says.complete, no_fault, before, passed, stopped)

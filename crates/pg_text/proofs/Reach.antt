@@ -1,6 +1,6 @@
 -- Tokens that follow one another.
-use Rattle.pg_text.proofs.Common.{◌≡◌, ℕ, ◌+◌, Bool, List, [], ◌∷◌, ◌++◌, length, drop, refl, sym, ◌∙◌, ap, subst, arith, append_assoc, length-append, rules}
-use Rattle.pg_text.proofs.Common.{Kind, Token, IsWhole, Placed, Begins, Spells, is_blank, AllAre, EndsRun, IsLexicalFault, placed, IsToken, IsNoToken}
+use Rattle.pg_text.proofs.Common.{◌≡◌, ℕ, ◌+◌, List, [], ◌∷◌, ◌++◌, length, drop, refl, sym, ◌∙◌, ap, subst, arith, append_assoc, length-append, rules}
+use Rattle.pg_text.proofs.Common.{Kind, Token, IsWhole, Placed, Begins, Spells, is_blank, AllAre, IsLexicalFault, placed, IsToken, IsNoToken}
 use Rattle.pg_text.proofs.Common.{IsPieceOf, ReadsTo, IsBadFrom, append-nil}
 use Rattle.pg_text.specs.private.Piece.{IsNextPiece}
 use Rattle.pg_text.specs.declared.lexer.Piece.{Piece}
@@ -21,13 +21,6 @@ pub reaches_spells : (text : List ℕ) (at to : ℕ) (ts us : List Placed) → R
 reaches_spells text at to [] us r s = subst (λ m. Spells m (drop m text) us) r s
 reaches_spells text at to (t ∷ ts) us (m, i, r) s = search (rules, reaches_spells text m to ts us r s, i.blanks, i.body, i.begins, i.end)
 
--- a run that ends before more bytes ends before fewer
-ends_sooner : (test : ℕ → Bool) (xs ys : List ℕ) → EndsRun test (xs ++ ys) → EndsRun test xs
-ends_sooner test x1 ys e = search (rules)
-
-whole_sooner : (t : Token) (xs ys : List ℕ) → IsWhole t (xs ++ ys) → IsWhole t xs
-whole_sooner x0 xs ys w = search (rules, ends_sooner)
-
 -- tokens up to a place spell the text up to there, and up to the end of blanks that follow
 abbrev Cut : List ℕ → ℕ → List Placed → List ℕ → ℕ → Type 0
 Cut text at ts back end = (front : List ℕ) × (drop at text ≡ front ++ back) × Spells at front ts × (at + length front ≡ end)
@@ -41,7 +34,7 @@ reaches_cut text at stop (t ∷ ts) blanks back (m, i, r) e b =
     let split : drop at text ≡ front ++ back =
     i.begins.split ∙ (ap (λ xs. i.blanks ++ (i.body ++ xs)) rest.1
     ∙ (ap (λ xs. i.blanks ++ xs) (sym (append_assoc i.body rest.0 back)) ∙ sym (append_assoc i.blanks (i.body ++ rest.0) back))) in
-    let whole : IsWhole t.token rest.0 = whole_sooner t.token rest.0 back (subst (IsWhole t.token) rest.1 i.begins.whole) in
+    let whole : IsWhole t.token rest.0 = search rules in
     let begins : Begins at front t i.blanks i.body rest.0 =
     record { split = refl; blank = i.begins.blank; placed = i.begins.placed; spelled = i.begins.spelled; whole = whole } in (
       front,

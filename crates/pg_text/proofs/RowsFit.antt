@@ -35,7 +35,6 @@ module _ (g : Graph) (lines : List WrittenSolutionLine) (rows : SolutionRows) (i
   are_rows = record {
     size = are.says.size;
     choices = all_from_places (λ r. IfSome r.1 (λ w. w < length g)) (Even, None) rows (λ v l.
-        let s = are.says.size in
         let h : v < length g = omega arith in
         let (k, lk, e) = some_at (λ x. x.id == id_of g v) lines no_line (has_line_of v h) in
         let x : WrittenSolutionLine = get_or lines k no_line in

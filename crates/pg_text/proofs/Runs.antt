@@ -31,18 +31,13 @@ pub counts_more : (value d n : ℕ) (ds : List ℕ) → Counts value (value_of d
     → Counts (value * 10 + n) (value_of (ds ++ d ∷ []))
 counts_more value d n ds c h b e = search (rules, cases_lt, value-push)
 
--- and where it is above
-pub counts_same : (value d : ℕ) (ds : List ℕ) → Counts value (value_of ds) → 2147483647 < value → Counts value (value_of (ds ++ d ∷ []))
-counts_same value d ds c h = search (rules, cases_lt, value-push)
-
 -- digits of a number with so few of them
 pub digits_more : (value k d n : ℕ) (ds : List ℕ) → value < 10 ^ k → value ≡ value_of ds → is_digit d ≡ true → n ≡ d - 48
     → (value * 10 + n < 10 ^ (k + 1)) × (value * 10 + n ≡ value_of (ds ++ d ∷ []))
 digits_more value k d n ds b e t m =
     let low : d ≤ 57 = leb-true d 57 (and_right (nat_le 48 d) (nat_le d 57) t) in
     let p : 10 ^ (k + 1) ≡ 10 * 10 ^ k = ap (λ i. 10 ^ i) (add-one k) ∙ pow-succ' 10 k in
-    let v = value-push ds d in
-    (omega (arith, low, p, b, m), omega (arith, v, e, m))
+    (omega (arith, low, p, b, m), omega (arith, value-push ds d, e, m))
   where
     and_right : (x y : Bool) → (x && y) ≡ true → y ≡ true
     and_right true y h = h

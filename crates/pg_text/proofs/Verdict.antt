@@ -50,8 +50,7 @@ module _ (g : Graph) (rows : SolutionRows) (size : length rows ≡ length g) whe
       where
         go : (b : Bool) → same_player (winner_of rows w) p ≡ b → In (won_by rows p) w
         go true e =
-            let h = won p v k.0 in
-            let l : w < length rows = omega (arith, edges v w h.0 (kept_edge p v w k)) in
+            let l : w < length rows = omega (arith, edges v w (won p v k.0).0 (kept_edge p v w k)) in
             rw (lt-ltb w (length rows) l) e
         go false e = absurd (let h = won p v k.0 in leaves v w (as_winner p v w h.1 k, λ q. cc (e, is_same (winner_of rows w) p (q ∙ h.1))))
 

@@ -1,6 +1,6 @@
 -- The written text of a game, or of winners and choices, reads as these and as nothing else.
 use Rattle.pg_text.proofs.Common.{◌≡◌, ℕ, zero, suc, ◌+◌, ◌<◌, false, not, List, [], ◌∷◌, length, map, get_or, refl, sym, ◌∙◌, ap, subst, arith, rules, ◌==◌}
-use Rattle.pg_text.proofs.Common.{Option, Some, None, IfSome, option_map, slice_get, AllByRecursion, Contains, list_any, eqb-true, eq-eqb, false_from_ne_true}
+use Rattle.pg_text.proofs.Common.{Option, Some, None, option_map, slice_get, AllByRecursion, Contains, list_any, eqb-true, eq-eqb, false_from_ne_true}
 use Rattle.pg_text.proofs.Common.{length-map, get_or-map, list_any_at, slice_get-get_or, get_or_from_slice_get, Player, Even, Spec, digit_of, Graph, Vertex}
 use Rattle.pg_text.proofs.Common.{IsGame, id_of, vertex_at, no_vertex, first_repeated, first_fault, IsWithinLimits, Placed, tokens_of, IsGameText, spec_of}
 use Rattle.pg_text.proofs.Common.{IsSolutionText, SolutionRows, AreSolutionRows, greatest_id, written_game, written_solution, IsSolutionTextOf, AreLinesOf}
@@ -90,9 +90,6 @@ all_at P [] k d a l = absurd (omega arith)
 all_at P (x ∷ xs) zero d a l = a.0
 all_at P (x ∷ xs) (suc k) d a l = all_at P xs k d a.1 (omega arith)
 
-choice_named : (g : Graph) (c : Option ℕ) → IfSome c (λ w. w < length g) → IsChoice g (option_map (λ w. id_of g w) c) c
-choice_named g x1 h = search (rules)
-
 none_home : (g : Graph) (lines : List solutions.WrittenSolutionLine) → AllByRecursion (λ l. first_stranger g (l ∷ []) ≡ None) lines
     → first_stranger g lines ≡ None
 none_home g [] a = refl
@@ -100,7 +97,7 @@ none_home g (l ∷ lines) a = let h = a.0 in let t = none_home g lines a.1 in st
 
 module _ (g : Graph) (rows : SolutionRows) (i : IsGame g) (are : AreSolutionRows g rows) where
   choice_at : (v : ℕ) → v < length g → IsChoice g (option_map (λ w. id_of g w) (get_or rows v no_row).1) (get_or rows v no_row).1
-  choice_at v l = search (rules, choice_named, no_row, are.size, all_at, are.choices)
+  choice_at v l = search (rules, no_row, are.size, all_at, are.choices)
 
   named : (v : ℕ) → v < length g → IsNamed g (id_of g v) v
   named v l = record { vertex = l; id_is = refl }
@@ -181,8 +178,7 @@ written_solution_is_text g rows i w are = record { lines = row_lines g g rows; s
 pub written_game_back : (g h : Graph) → IsGame g → IsWithinLimits g → IsTextOf (written_game g) h → h ≡ g
 written_game_back g h i w (lines, s, of, none) =
     let r = written_game_reads g i (short_numbers g w) in
-    let e = r.one_text lines (s.tokens, s.spelled, s.grammar) in
-    r.one_game h (subst (λ ls. IsGameOf (map spec_of ls) h) e of)
+    r.one_game h (subst (λ ls. IsGameOf (map spec_of ls) h) (r.one_text lines (s.tokens, s.spelled, s.grammar)) of)
 
 -- and winners and choices that a written solution is a text of are those
 pub written_solution_back : (g : Graph) (rows others : SolutionRows) → IsGame g → IsWithinLimits g → AreSolutionRows g rows

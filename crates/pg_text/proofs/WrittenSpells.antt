@@ -59,18 +59,15 @@ spells_token {rest = rest} t body h s w = record {
 abbrev IsDecimal : ℕ → List ℕ → Type 0
 IsDecimal n ds = (0 < length ds) × AllAre is_digit ds × (n ≡ value_of ds)
 
-digit_one : (n : ℕ) → n < 10 → is_digit (48 + n) ≡ true
-digit_one n h = grind (arith, nat_tests)
-
 is_decimal : (n : ℕ) → n < 10 ^ 64 → IsDecimal n (decimal n)
 is_decimal n h = decimal_by_steps_wide IsDecimal
-    (λ m l. (omega arith, (digit_one m l, tt), omega arith))
+    (λ m l. (omega arith, (grind (arith, nat_tests), tt), omega arith))
     (λ m ds l d.
     let r : m % 10 < 10 = omega arith in
     let e = value-push ds (48 + m % 10) in
     let f = d.2 in
     let g = length-append ds ((48 + m % 10) ∷ []) in
-    (omega arith, runs.all-append is_digit ds ((48 + m % 10) ∷ []) d.1 (digit_one (m % 10) r, tt), omega arith))
+    (omega arith, runs.all-append is_digit ds ((48 + m % 10) ∷ []) d.1 (grind (arith, nat_tests), tt), omega arith))
     n h
 
 spells_number : {rest : List ℕ} {ts : List Token} (n : ℕ) → n < 10 ^ 64 → SpellsTokens rest ts → EndsRun is_digit rest
@@ -126,15 +123,9 @@ pub record HasNumbers (P : ℕ → Type 0) (g : Graph) (x : Vertex) : Type 0 whe
   pub successors : AllByRecursion P (map (λ w. id_of g w) x.successors)
   pub some : 0 < length (map (λ w. id_of g w) x.successors)
 
-digit_short : (p : Player) → digit_of p < 10 ^ 64
-digit_short x0 = search (rules)
-
 map-twice : (g : Graph) (ws : List ℕ) → map (λ w. decimal (id_of g w)) ws ≡ map decimal (map (λ w. id_of g w) ws)
 map-twice g [] = refl
 map-twice g (w ∷ ws) = ap (λ xs. decimal (id_of g w) ∷ xs) (map-twice g ws)
-
-regroup : (a b c d e rest : List ℕ) → (a ++ (32 ∷ b ++ (32 ∷ c ++ (32 ∷ d ++ e)))) ++ rest ≡ a ++ (32 ∷ (b ++ (32 ∷ (c ++ (32 ∷ (d ++ (e ++ rest)))))))
-regroup a b c d e rest = simp append_assoc
 
 spells_line : {rest : List ℕ} {ts : List Token} (g : Graph) (x : Vertex) → HasNumbers (λ n. n < 10 ^ 64) g x → SpellsTokens rest ts
     → SpellsTokens (written_vertex g x ++ rest) (games.game_line_tokens (line_of g x) ++ ts)
@@ -146,11 +137,11 @@ spells_line {rest = rest} {ts = ts} g x h s =
     ++ (32 ∷ (decimal x.priority ++ (32 ∷ (decimal owner ++ (32 ∷ (join_with_byte 44 (map decimal ids) ++ (59 ∷ 10 ∷ rest))))))) =
     ap (λ ds. (decimal x.id ++ (32 ∷ decimal x.priority ++ (32 ∷ decimal owner ++ (32 ∷ join_with_byte 44 ds ++ codes ";\n")))) ++ rest)
     (map-twice g x.successors)
-    ∙ regroup (decimal x.id) (decimal x.priority) (decimal owner) (join_with_byte 44 (map decimal ids)) (codes ";\n") rest in
+    ∙ simp append_assoc in
     let f : games.game_line_tokens (line_of g x) ++ ts ≡ numbers ++ (separated ids ++ Semicolon ∷ ts) =
     ap (λ us. numbers ++ us) (append_assoc (separated ids) (Semicolon ∷ []) ts) in
     let a = spells_blank 32 refl (spells_list ids h.some h.successors (spells_end s) refl) in
-    let b = spells_blank 32 refl (spells_number owner (digit_short x.owner) a refl) in
+    let b = spells_blank 32 refl (spells_number owner (search rules) a refl) in
     let c = spells_blank 32 refl (spells_number x.priority h.priority b refl) in
     subst (λ us. SpellsTokens (written_vertex g x ++ rest) us) (sym f)
     (subst (λ (xs : List ℕ). SpellsTokens xs (numbers ++ (separated ids ++ Semicolon ∷ ts))) (sym e) (spells_number x.id h.id c refl))
@@ -231,14 +222,11 @@ spells_choice : {rest : List ℕ} {ts : List Token} (g : Graph) (c : Option ℕ)
     → SpellsTokens (written_choice g c ++ (59 ∷ 10 ∷ rest)) ((solutions.choice_tokens (option_map (λ w. id_of g w) c) ++ Semicolon ∷ []) ++ ts)
 spells_choice g x1 h s = grind (arith, spells_end, spells_blank, spells_number)
 
-choice_ends : (g : Graph) (c : Option ℕ) (rest : List ℕ) → EndsRun is_digit (written_choice g c ++ (59 ∷ 10 ∷ rest))
-choice_ends g x1 rest = search (rules)
-
 spells_row : {rest : List ℕ} {ts : List Token} (g : Graph) (x : Vertex) (r : Player × Option ℕ) → x.id < 10 ^ 64 → HasChoice (λ n. n < 10 ^ 64) g r
     → SpellsTokens rest ts
     → SpellsTokens (decimal x.id ++ (32 ∷ decimal (digit_of r.0) ++ (written_choice g r.1 ++ (codes ";\n" ++ rest))))
     (solutions.solution_line_tokens (row_line g x r) ++ ts)
-spells_row {rest = rest} g x r i h s = search (rules, spells_number, digit_short, spells_choice, choice_ends, x.id, spells_blank)
+spells_row {rest = rest} g x r i h s = search (rules, spells_number, spells_choice, x.id, spells_blank)
 
 spells_rows : (g : Graph) (xs : List Vertex) (rows : SolutionRows) → AllByRecursion (λ x. x.id < 10 ^ 64) xs
     → AllByRecursion (HasChoice (λ n. n < 10 ^ 64) g) rows
@@ -247,16 +235,12 @@ spells_rows g [] rows a b = spells_nothing
 spells_rows g (x ∷ xs) [] a b = spells_nothing
 spells_rows g (x ∷ xs) (r ∷ rows) a b = spells_row g x r a.0 b.0 (spells_rows g xs rows a.1 b.1)
 
-have_choices : (P : ℕ → Type 0) (g : Graph) (rows : SolutionRows) → ((v : ℕ) → v < length g → P (id_of g v)) → AreSolutionRows g rows
-    → AllByRecursion (HasChoice P g) rows
-have_choices P g rows ids are = search (rules, all_imply, are.choices)
-
 -- the written text of winners and choices spells their own lines
 pub spells_solution : (g : Graph) (rows : SolutionRows) → IsGame g → HasShortNumbers g → AreSolutionRows g rows
     → (ps : List Placed) × Spells 0 (written_solution g rows) ps × (tokens_of ps ≡ solutions.solution_tokens (Some (greatest_id g)) (row_lines g g rows))
 spells_solution g rows i short are =
     let ids = all_from_places (λ x. x.id < 10 ^ 64) no_vertex g short.ids in
-    let lines = spells_rows g g rows ids (have_choices (λ n. n < 10 ^ 64) g rows short.ids are) in
+    let lines = spells_rows g g rows ids (search (rules, all_imply, are.choices)) in
     let letters : AllAre is_letter (codes "paritysol") = (refl, (refl, (refl, (refl, (refl, (refl, (refl, (refl, (refl, tt))))))))) in
     (spells_header (codes "paritysol") (greatest_id g) (omega arith) letters (last_id (λ n. n < 10 ^ 64) g i short.ids) lines).from 0
 
@@ -271,9 +255,6 @@ fits_separated [] a = tt
 fits_separated (n ∷ []) a = (fits_number n a.0, tt)
 fits_separated (n ∷ m ∷ ns) a = (fits_number n a.0, (refl, fits_separated (m ∷ ns) a.1))
 
-fits_digit : (p : Player) → fits (Number (digit_of p)) ≡ true
-fits_digit x0 = search (rules)
-
 fits_lines : (g : Graph) (xs : List Vertex) → AllByRecursion (λ x. HasNumbers (λ n. n ≤ max_number) g x) xs
     → AllFit (flat_map games.game_line_tokens (map (λ x. line_of g x) xs))
 fits_lines g [] a = tt
@@ -282,7 +263,7 @@ fits_lines g (x ∷ xs) a =
     let ids : List ℕ = map (λ w. id_of g w) x.successors in
     let rest = all-append (λ t. fits t ≡ true) (separated ids) (Semicolon ∷ []) (fits_separated ids s.successors) (refl, tt) in
     all-append (λ t. fits t ≡ true) (games.game_line_tokens (line_of g x)) (flat_map games.game_line_tokens (map (λ x. line_of g x) xs))
-    (fits_number x.id s.id, (fits_number x.priority s.priority, (fits_digit x.owner, rest))) (fits_lines g xs a.1)
+    (fits_number x.id s.id, (fits_number x.priority s.priority, (search rules, rest))) (fits_lines g xs a.1)
 
 -- the written text of a game spells a game text of its own lines
 pub written_game_spells : (g : Graph) → IsGame g → IsWithinLimits g → SpellsGame (written_game g) (written_lines g)
@@ -297,16 +278,12 @@ written_game_spells g i w =
       owners = written_owners g i;
     }
 
-fits_choice : (g : Graph) (c : Option ℕ) → IfSome c (λ w. id_of g w ≤ max_number)
-    → AllFit (solutions.choice_tokens (option_map (λ w. id_of g w) c) ++ Semicolon ∷ [])
-fits_choice g x1 h = search (rules, fits_number)
-
 fits_rows : (g : Graph) (xs : List Vertex) (rows : SolutionRows) → AllByRecursion (λ x. x.id ≤ max_number) xs
     → AllByRecursion (HasChoice (λ n. n ≤ max_number) g) rows
     → AllFit (flat_map solutions.solution_line_tokens (row_lines g xs rows))
 fits_rows g [] rows a b = tt
 fits_rows g (x ∷ xs) [] a b = tt
-fits_rows g (x ∷ xs) (r ∷ rows) a b = search (rules, fits_rows g xs rows a.1 b.1, all-append, fits_number, x.id, fits_digit, fits_choice)
+fits_rows g (x ∷ xs) (r ∷ rows) a b = search (rules, fits_rows g xs rows a.1 b.1, all-append, fits_number, x.id)
 
 pub small_winners : (g : Graph) (xs : List Vertex) (rows : SolutionRows) → AllByRecursion (λ l. l.winner < 2) (row_lines g xs rows)
 small_winners g [] rows = tt
@@ -324,6 +301,6 @@ written_solution_spells g rows i w are =
       tokens = ps;
       spelled = s;
       grammar = (Some (greatest_id g), e);
-      numbers = subst AllFit (sym e) (refl, (last, (refl, fits_rows g g rows ids (have_choices (λ n. n ≤ max_number) g rows w.ids are))));
+      numbers = subst AllFit (sym e) (refl, (last, (refl, fits_rows g g rows ids (search (rules, all_imply, are.choices)))));
       winners = small_winners g g rows;
     }

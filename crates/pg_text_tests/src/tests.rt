@@ -3,13 +3,13 @@
 ghost use Rattle.std.specs.Prelude.{IfOk};
 ghost use Rattle.pg_text.specs.Solution.{AreSolutionRows};
 
-// As `assert_eq!` and `assert!`.
+// As `assert_eq!` and `assert!`; what stands last says where, as a value.
 macro_rules! check_eq {
     ($rt:expr; $found:expr, $want:expr $(,)?) => {
         $crate::tests::asserting::same(&$rt, $found, $want, stringify!($found))
     };
-    ($rt:expr; $found:expr, $want:expr, $($note:tt)+) => {
-        $crate::tests::asserting::same(&$rt, $found, $want, format_args!($($note)+))
+    ($rt:expr; $found:expr, $want:expr, $at:expr $(,)?) => {
+        $crate::tests::asserting::same(&$rt, $found, $want, $at)
     };
 }
 
@@ -17,8 +17,8 @@ macro_rules! check {
     ($rt:expr; $is_so:expr $(,)?) => {
         $crate::tests::asserting::holds(&$rt, $is_so, stringify!($is_so))
     };
-    ($rt:expr; $is_so:expr, $($note:tt)+) => {
-        $crate::tests::asserting::holds(&$rt, $is_so, format_args!($($note)+))
+    ($rt:expr; $is_so:expr, $at:expr $(,)?) => {
+        $crate::tests::asserting::holds(&$rt, $is_so, $at)
     };
 }
 
@@ -34,6 +34,7 @@ mod solutions;
 use pg_game::Game;
 use pg_text::{Solution, SolutionTextFault, TextFault, read_game, read_solution};
 use std::alloc::Global;
+use std::process::Abort;
 
 /// Two vertices, and each player wins one.
 pub const BOTH_WIN: &str = "0 2 0 0,1; 1 1 1 1;";
@@ -67,4 +68,9 @@ pub fn solution(alloc: Global, game: &Game, text: &[u8]) -> Result<Solution, Sol
 /// Why a short text is no solution text of the game, if it is none.
 pub fn solution_fault(alloc: Global, game: &Game, text: &[u8]) -> Option<SolutionTextFault> {
     solution(alloc, game, text).err()
+}
+
+/// The game of a short text that has one.
+pub fn the_game(rt: &impl Abort, alloc: Global, text: &str) -> Game {
+    game(alloc, text.as_bytes()).expect(rt, "a game")
 }

@@ -1,7 +1,7 @@
 -- The names that several proofs of this crate cite, passed on from one place. Declares nothing.
 pub use lib.ListN.{get_elem?}
 pub use mathlib.Core.Option.{none, some, some-injective, some-ne-none}
-pub use Rattle.std.proofs.Common.{All, Bool, Err, Global, IfErr, IfOk, List, MatchBool, OnErr, Result, Some, Vec, [], ap, append-nil, append_assoc, arith, cond}
+pub use Rattle.std.proofs.Common.{All, Bool, Err, Global, IfErr, IfOk, List, MatchBool, Result, Some, Vec, [], ap, append-nil, append_assoc, arith, cond}
 pub use Rattle.std.proofs.Common.{count_by, drop, false, flat_map, get_or, if◌then◌else◌, inl, inr, length, length-append, length-set, ltb-true, map, min, refl}
 pub use Rattle.std.proofs.Common.{nat_lt, remove, replicate, rules, set, slice_get, slice_index, subst, suc, sum, sum_by, sym, take, true, vec_capacity, zero}
 pub use Rattle.std.proofs.Common.{vec_len, ℕ, ⊎_elim, ◌%◌, ◌*◌, ◌++◌, ◌+◌, ◌-◌, ◌/◌, ◌<◌, ◌==◌, ◌^◌, ◌∙◌, ◌∷◌, ◌≡◌, ◌≢◌, ◌≤◌, ◌⊎◌}

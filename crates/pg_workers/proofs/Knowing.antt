@@ -25,7 +25,6 @@ use Rattle.pg_text.specs.Known.{KnownRows, known_of, known_choice}
 use Rattle.pg_dominion.specs.declared.claim.Claim.{Claim}
 use Rattle.pg_dominion.specs.Claim.{ClaimRows, named, choice_in}
 use Rattle.pg_finders.specs.Claims.{own_choices, rows_below}
-use Rattle.pg_finders.specs.private.Solved.{WinsOn}
 use Rattle.pg_finders.proofs.Good.{good_rows}
 use Rattle.pg_finders.proofs.Rows.{RowsOf, rows_of_below, rows_until}
 use Rattle.pg_finders.proofs.Sets.{not_same, equal_from}
@@ -43,7 +42,7 @@ use Rattle.pg_dominion.proofs.Rows.{named_right}
 use Rattle.pg_board.proofs.Numbers.{in_vertices}
 use Rattle.pg_board.proofs.Opening.{none_distinct, no_region, attracts_none, lawful_none}
 use Rattle.pg_board.proofs.Push.{IsAdded, neither_open, once_rows, ours_named}
-use Rattle.pg_board.proofs.Places.{row_at, named_at}
+use Rattle.pg_board.proofs.Places.{named_at}
 use Rattle.pg_board.proofs.RestIsGood.{vertices, in_rest, named_rest}
 use Rattle.pg_workers.specs.Known.{IsKnownRegion, known_rows, IsAttractedToKnown, HasCount, HasNone, IsBefore, IsSolveFault}
 use Rattle.pg_workers.specs.private.Known.{SettlesKnown, IsKnownFault, HasKnown, fault_of}
@@ -109,14 +108,10 @@ module _ (g : Graph) (game : IsGame g) (known : KnownRows) (sized : length known
   same_kept : (v : ℕ) → In K v → kept g p (choice_in rows) v ≡ kept g p s v
   same_kept v i = search (rules, own_choice)
 
-  -- a known region is a dominion where nothing is settled
-  region_held : IsKnownRegion g known p → WinsOn g (unsettled g (state_of [])) p K s
-  region_held region = grind (arith, and_from, kept_own, s, is_same, kept_other, not_same)
-
   region_dominion : IsKnownRegion g known p → 0 < length rows → (journal : Journal) → IsDominionAfter g journal 0 p rows
   region_dominion region n journal =
       let open_inside = λ (v : ℕ) (i : In (unsettled g (state_of [])) v). ltb-true v (length g) (and_parts (nat_lt v (length g)) true i).0 in
-      let good = good_rows g (unsettled g (state_of [])) p K s (region_held region) open_inside n in
+      let good = good_rows g (unsettled g (state_of [])) p K s (grind (arith, and_from, kept_own, s, is_same, kept_other, not_same)) open_inside n in
       (omega arith, (dominion_now g game [] (lawful_none g game) p rows good).1)
 
   -- where no vertex is known, there is nothing to post
@@ -165,7 +160,6 @@ module _ (g : Graph) (game : IsGame g) (known : KnownRows) (sized : length known
     -- where nothing is settled for the player, no rows of his are stale
     never_stale : 0 < length rows → Refuses g st p rows refusal.Stale → ⊥
     never_stale n h =
-        let r = row_at rows 0 in
         let i = named_at rows 0 n in grind (arith, common_steps, open_named, false_from_ne_true, st, to_rest, rows)
 
     union_known : union (settled st p) (named rows) ≡ K
@@ -221,15 +215,11 @@ module _ (g : Graph) (game : IsGame g) (known : KnownRows) (sized : length known
         × ((k : ℕ) → IsDominionAfter g journal k claim.player claim.rows → AnswersDominion st claim.rows (Err e)
         × SettlesUnlessMemory here new claim.player claim.rows (Err e))
 
-    refused_rows : 0 < length rows → (new : Play) (e : Refusal) → Refuted new e (record { player = p; rows = rows })
-        → IsKnownFault g journal known p (fault_of p e)
-    refused_rows n new e r = grind (arith, never_stale, region_dominion)
-
     -- a refused set is no region, and not stale
     pub refused_known : (new : Play) (e : Refusal) (claim : Claim) → claim.player ≡ p → claim.rows ≡ rows → 0 < length claim.rows
         → Refuted new e claim → IsKnownFault g journal known p (fault_of p e)
     refused_known new e claim player is n refuted =
-        refused_rows (subst (λ (xs : ClaimRows). 0 < length xs) is n) new e (said_of (Refuted new e) claim p rows player is refuted)
+        (grind (arith, never_stale, region_dominion))
 
 module _ (g : Graph) (known : KnownRows) (opened mid : Play) (here : opened.graph ≡ g) (new_board : opened.journal ≡ [])
     (first : SettlesKnown opened mid known Even) where

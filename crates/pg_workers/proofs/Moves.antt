@@ -83,7 +83,6 @@ module _ (total seats id : ℕ) (v : Drawer) (s : State (Unit {0}) Drawer) (h : 
 pub draws : (total seats slots id : ℕ) (me : AtSeat) (st : Step (Unit {0})) → total + seats < 2 ^ 63 → me.0.tickets ≡ 1 → me.0.told_none ≡ 0
     → Allows (λ s. IsDrawn total seats s) slots id me 0 (λ n. (n + 1) % 2 ^ 64) (Draws st me)
 draws total seats slots id me st bound one not_told s h len at small =
-    let found : slice_index s.words 0 ≡ h.word = ap (λ (ws : List ℕ). slice_index ws 0) h.words in
     let t = tells total seats id me.0 s h at one not_told (nat_lt h.word me.0.total) refl in
     let w : Drawer = t.0 in let wb = word_bound total seats s h in
     let words : set s.words 0 ((slice_index s.words 0 + 1) % 2 ^ 64) ≡ (h.word + 1) ∷ [] =

@@ -1,20 +1,10 @@
 -- What a row notes of the answers to a worker's claims.
 use Rattle.pg_workers.proofs.Common.{rules, ◌≡◌, ℕ, zero, suc, ◌+◌, ◌^◌, ◌<◌, ◌≤◌, ◌⊎◌, inl, inr, ⊎_elim, Bool, false, List, [], ◌∷◌, ◌++◌, length, take, sym}
-use Rattle.pg_workers.proofs.Common.{get_or, ap, ◌∙◌, subst, arith, length-append, common_steps, slice_get, Some, Result, Err, IfOk, OnErr, take_more, Graph}
+use Rattle.pg_workers.proofs.Common.{get_or, ap, ◌∙◌, subst, arith, length-append, common_steps, slice_get, Some, Result, IfOk, take_more, Graph}
 use Rattle.pg_workers.proofs.Common.{fold_push, none-some, same_Some, Claim, Refusal, ReportRow, AreNoted, IsAnswerTo, AreCounts, answered, noted}
-use Rattle.pg_board.specs.declared.refusal.Refusal.TheVariants as refusal
 
 abbrev Added : ℕ → ℕ → Result ℕ Refusal → Type 0
 Added before after answer = IfOk answer (λ n. (1 ≤ n) × (after ≡ before + n))
-
--- a row after a refusal is one of three
-refused_cases : (r : ReportRow) (P : ReportRow → Type 0) → P (noted r (Err refusal.Stale)) → P (noted r (Err refusal.Memory))
-    → P (noted r (Err (refusal.Foreign 0))) → (e : Refusal) → P (noted r (Err e))
-refused_cases r P stale memory others e = search rules
-
-pub noted_settled : (before after : ℕ) (r : ReportRow) (answer : Result ℕ Refusal) → Added before after answer → OnErr answer (after ≡ before)
-    → after + r.settled ≡ before + (noted r answer).settled
-noted_settled before after r answer a u = search rules
 
 -- what a row has settled fits where the share's amount does
 pub fits : (before after : ℕ) (r : ReportRow) (answer : Result ℕ Refusal) → Added before after answer → r.settled ≤ before → after < 2 ^ 64
@@ -27,7 +17,7 @@ noted_counts before after r answer a c = grind arith
 
 -- one claim more is answered, unless memory was refused
 pub noted_few : (r : ReportRow) (answer : Result ℕ Refusal) → answered (noted r answer) ≤ answered r + 1
-noted_few r answer = grind (arith, refused_cases)
+noted_few r answer = grind (arith)
 
 pub noted_one : (r : ReportRow) (answer : Result ℕ Refusal) → (noted r answer).memory ≡ false
     → (r.memory ≡ false) × (answered (noted r answer) ≡ answered r + 1)
@@ -37,7 +27,7 @@ abbrev Same : ReportRow → ReportRow → Type 0
 Same old new = (new.job ≡ old.job) × (new.worker ≡ old.worker) × (new.gave_up ≡ old.gave_up)
 
 pub noted_same : (r : ReportRow) (answer : Result ℕ Refusal) → Same r (noted r answer)
-noted_same r answer = grind (arith, common_steps, refused_cases)
+noted_same r answer = grind (arith, common_steps)
 
 -- elements at one place of two lists that got one element more
 both_push : {X Y : Type 0} (xs : List X) (ys : List Y) (x c : X) (y a : Y) (k : ℕ) → length ys ≡ length xs → slice_get (xs ++ x ∷ []) k ≡ Some c

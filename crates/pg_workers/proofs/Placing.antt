@@ -96,15 +96,6 @@ module _ {before now rows : List ReportRow} {i : ℕ} {r : ReportRow} (n : IsNex
 below_once : (j n : ℕ) → once_below j n ≤ 1
 below_once j n = grind (arith, nat_tests)
 
-below : (j n : ℕ) → 0 < once_below j n → j < n
-below j n h = grind (arith, nat_tests)
-
-is_below : (j n : ℕ) → j < n → once_below j n ≡ 1
-is_below j n lt = grind (arith, nat_tests)
-
-not_below : (j n : ℕ) → n ≤ j → once_below j n ≡ 0
-not_below j n le = grind (arith, nat_tests)
-
 -- the rows of the next worker have free places in the report
 pub has_places : (n : ℕ) (before now : List ReportRow) (all : List (Vec ReportRow Global)) (i : ℕ) (v : Vec ReportRow Global) → AreBlank before
     → n ≤ length before → AreOfPrefix n (rows_in all) → i < length all → v ≡ get_or all i v → AreNotedRows before now (rows_in (take i all))
@@ -113,7 +104,7 @@ has_places n before now all i v blank few prefix lt is p = record {
   once = λ j. let s = share j in let f = prefix j in let o = below_once j n in omega arith;
   free = λ j some.
       let s = share j in let f = prefix j in let o = below_once j n in
-      let lt' : j < n = below j n (omega arith) in
+      let lt' : j < n = grind (arith, nat_tests) in
       let at = slice_get-get_or before j (blank_row j) (omega arith) in
       p.others j (omega arith) ∙ at ∙ ap Some (blank j (get_or before j (blank_row j)) at);
 }
@@ -166,7 +157,7 @@ pub is_report : (workers n : ℕ) (before after rows : List ReportRow) → AreBl
 is_report workers n before after rows blank p prefix done = record {
   drawn = n;
   done = λ k r e lt.
-      let f = prefix k in let o = is_below k n lt in
+      let f = prefix k in let o : once_below k n ≡ 1 = grind (arith, nat_tests) in
       let w = found_row k rows (omega arith) in search (rules, same_Some, slice_get);
-  blank = λ k r e le. blank k r (sym (p.others k (prefix k ∙ not_below k n le)) ∙ e);
+  blank = λ k r e le. blank k r (sym (p.others k (prefix k ∙ (grind (arith, nat_tests)))) ∙ e);
 }

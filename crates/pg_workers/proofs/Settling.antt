@@ -2,14 +2,14 @@
 use Rattle.pg_workers.proofs.Common.{common_steps, rules, ◌≡◌, ℕ, ◌<◌, false, ◌++◌, length, refl, ◌∙◌, ap, subst, arith, length-append, or_cases, Player, Graph}
 use Rattle.pg_workers.proofs.Common.{take-append-le, VertexSet, target_attracted, ClaimRows, IsGoodIn, Claim, AreClaims, Play, unsettled, is_unsettled, Journal}
 use Rattle.pg_workers.proofs.Common.{state_of, IsDominionAfter, IsFull, Settles, IsLater}
-use Rattle.pg_game.proofs.Grown.{in_second}
+use Rattle.std.proofs.lemmas.Bool.{or_right}
 use Rattle.pg_board.specs.Post.{SettlesDominion}
 use Rattle.pg_board.proofs.Push.{settled_shut}
 use Rattle.pg_board.proofs.Dominion.{state_append}
 
 -- a claim's vertices are settled once it was posted
 pub settles_claim : (old new : Play) (p : Player) (rows : ClaimRows) → SettlesDominion old new p rows → Settles new.journal p rows
-settles_claim old new p rows s = search (rules, target_attracted, in_second)
+settles_claim old new p rows s = search (rules, target_attracted, or_right)
 
 -- further entries change nothing of what came before
 dominion_later : (g : Graph) (journal added : Journal) (k : ℕ) (p : Player) (rows : ClaimRows) → IsDominionAfter g journal k p rows

@@ -1,6 +1,6 @@
 //! A worker: it draws a job, has a copy of the unsettled part searched, checks each claim that was found on the copy's game,
-//! with no lock held, settles what was checked, notes what became of it, and draws again until none is left. A worker that is
-//! alone has its claims checked by the board itself.
+//! with no lock held, settles what was checked, notes what became of it, and draws again until none is left. A worker whose
+//! job runs beside no other has its claims checked by the board itself.
 ghost use Rattle.std.specs.Prelude.{◌≡◌, ◌+◌, ◌^◌, ◌≤◌, ◌<◌, ℕ, All, false, IfOk, OnErr, Result, Some, length, map};
 ghost use Rattle.std.specs.Vec.{vec_capacity};
 ghost use Rattle.pg_board.specs.declared.refusal.Refusal.{Refusal};
@@ -201,6 +201,8 @@ fn do_job<L: Ledger, G: Gate, F: Finder, R: Wait>(
     let mut row = ReportRow::blank(number);
     row.worker = Some(worker);
     let job = task.options.job(task.size, number);
+    // only searches for small dominions run beside other jobs: the others wait, and are waited for
+    let is_alone = task.options.workers == 1 || !matches!(job, Job::Small { .. });
     let found = search_job(rt, alloc, office, task, share, worker, number, &job);
     match found {
         Ok((Found { claims, gave_up }, game)) => {
@@ -212,7 +214,7 @@ fn do_job<L: Ledger, G: Gate, F: Finder, R: Wait>(
                 game,
                 share,
                 worker,
-                task.options.workers == 1,
+                is_alone,
                 claims.as_slice(),
                 &mut row,
             );

@@ -1,29 +1,22 @@
 //! Runs with threads: what workers are given and what they note, tickets, and winners that are the same whatever a finder
 //! claims. Runs under random schedules and in every order are replayed by a checker of the tests' own.
 
-// As `assert_eq!` and `assert!`.
+// As `assert_eq!` and `assert!`; what stands last says where, as a value.
 macro_rules! check_eq {
     ($rt:expr; $found:expr, $want:expr $(,)?) => {
-        $crate::tests::asserting::same_as(&$rt, $found, $want, stringify!($found))
+        $crate::tests::asserting::same(&$rt, $found, $want, stringify!($found))
     };
-    ($rt:expr; $found:expr, $want:expr, $($note:tt)+) => {
-        $crate::tests::asserting::same(&$rt, $found, $want, format_args!($($note)+))
+    ($rt:expr; $found:expr, $want:expr, $at:expr $(,)?) => {
+        $crate::tests::asserting::same(&$rt, $found, $want, $at)
     };
 }
 
 macro_rules! check {
     ($rt:expr; $is_so:expr $(,)?) => {
-        $crate::tests::asserting::holds_as(&$rt, $is_so, stringify!($is_so))
+        $crate::tests::asserting::holds(&$rt, $is_so, stringify!($is_so))
     };
-    ($rt:expr; $is_so:expr, $($note:tt)+) => {
-        $crate::tests::asserting::holds(&$rt, $is_so, format_args!($($note)+))
-    };
-}
-
-// `check_eq!` of counts, whose call says no type.
-macro_rules! check_count {
-    ($rt:expr; $found:expr, $want:expr $(,)?) => {
-        $crate::tests::asserting::same_count(&$rt, $found, $want, stringify!($found))
+    ($rt:expr; $is_so:expr, $at:expr $(,)?) => {
+        $crate::tests::asserting::holds(&$rt, $is_so, $at)
     };
 }
 

@@ -9,7 +9,7 @@ use clap::ArgMatches;
 use std::alloc::Global;
 
 /// What a command line asks for.
-#[derive(Debug, Drop, PartialEq)]
+#[derive(Drop)]
 pub enum Asked {
     /// To judge a game and a solution in one text on standard input.
     Joined,
@@ -48,31 +48,10 @@ impl Asked {
         ensures command { IfOk result (λ asked. asked ≢ Asked.Joined) }
     {
         match matches.subcommand() {
-            Some(("verify", given)) => Ok(Asked::Verify {
-                game: path(alloc, given, "GAME")?,
-                solution: path(alloc, given, "SOLUTION")?,
-            }),
-            Some(("tidy", given)) => Ok(Asked::Tidy {
-                game: optional_path(alloc, given, "GAME")?,
-            }),
-            Some(("solve", given)) => {
-                let workers = number(alloc, given, "workers", 1, 64)?;
-                let bound = number(alloc, given, "bound", 0, 8)?;
-                Ok(Asked::Solve {
-                    workers,
-                    bound,
-                    winners: given.get_flag("winners"),
-                    known: optional_path(alloc, given, "known")?,
-                    game: optional_path(alloc, given, "GAME")?,
-                })
-            }
-            Some(("trace", given)) => {
-                let workers = number(alloc, given, "workers", 1, 64)?;
-                Ok(Asked::Trace {
-                    workers,
-                    game: optional_path(alloc, given, "GAME")?,
-                })
-            }
+            Some(("verify", given)) => verify(alloc, given),
+            Some(("tidy", given)) => tidy(alloc, given),
+            Some(("solve", given)) => solve(alloc, given),
+            Some(("trace", given)) => trace(alloc, given),
             _ => Err(AskedFault::words(alloc, "error: there is no such command\n")),
         }
     }
@@ -100,6 +79,50 @@ impl Asked {
             Asked::Joined | Asked::Tidy { .. } | Asked::Trace { .. } | Asked::Help(_) => None,
         }
     }
+}
+
+fn verify(alloc: Global, given: &ArgMatches<'_>) -> Result<Asked, AskedFault>
+    ensures range { IfOk result IsInRange }
+    ensures command { IfOk result (λ asked. asked ≢ Asked.Joined) }
+{
+    let game = path(alloc, given, "GAME")?;
+    let solution = path(alloc, given, "SOLUTION")?;
+    Ok(Asked::Verify { game, solution })
+}
+
+fn tidy(alloc: Global, given: &ArgMatches<'_>) -> Result<Asked, AskedFault>
+    ensures range { IfOk result IsInRange }
+    ensures command { IfOk result (λ asked. asked ≢ Asked.Joined) }
+{
+    let game = optional_path(alloc, given, "GAME")?;
+    Ok(Asked::Tidy { game })
+}
+
+fn solve(alloc: Global, given: &ArgMatches<'_>) -> Result<Asked, AskedFault>
+    ensures range { IfOk result IsInRange }
+    ensures command { IfOk result (λ asked. asked ≢ Asked.Joined) }
+{
+    let workers = number(alloc, given, "workers", 1, 64)?;
+    let bound = number(alloc, given, "bound", 0, 8)?;
+    let winners = given.get_flag("winners");
+    let known = optional_path(alloc, given, "known")?;
+    let game = optional_path(alloc, given, "GAME")?;
+    Ok(Asked::Solve {
+        workers,
+        bound,
+        winners,
+        known,
+        game,
+    })
+}
+
+fn trace(alloc: Global, given: &ArgMatches<'_>) -> Result<Asked, AskedFault>
+    ensures range { IfOk result IsInRange }
+    ensures command { IfOk result (λ asked. asked ≢ Asked.Joined) }
+{
+    let workers = number(alloc, given, "workers", 1, 64)?;
+    let game = optional_path(alloc, given, "GAME")?;
+    Ok(Asked::Trace { workers, game })
 }
 
 /// The text, where there is one.

@@ -66,17 +66,25 @@ const STATUSES: &str = "Exit status:{n}  \
 
 /// The program's command. Its words are those after the program's name.
 pub fn command<'a>(alloc: Global) -> Result<Command<'a>, AllocError> {
-    Command::new(alloc, "pgboard")
-        .bin_name("pgboard")?
+    let command = Command::new(alloc, "pgboard")
         .no_binary_name(true)
         .version(VERSION)
         .about(ABOUT)
         .long_about(LONG_ABOUT)
         .after_help(STATUSES)
-        .subcommand(solve(alloc)?)?
-        .subcommand(trace(alloc)?)?
-        .subcommand(verify(alloc)?)?
-        .subcommand(tidy(alloc)?)
+        .bin_name("pgboard")?;
+    let command = with(command, solve(alloc))?;
+    let command = with(command, trace(alloc))?;
+    let command = with(command, verify(alloc))?;
+    with(command, tidy(alloc))
+}
+
+/// The command with one more subcommand.
+fn with<'a>(
+    command: Command<'a>,
+    subcommand: Result<Command<'a>, AllocError>,
+) -> Result<Command<'a>, AllocError> {
+    command.subcommand(subcommand?)
 }
 
 /// How many workers there are.
@@ -107,61 +115,62 @@ fn known<'a>(alloc: Global) -> Arg<'a> {
         .help("A solution text of what is known already, in which vertices may be left out")
 }
 
-fn solve<'a>(alloc: Global) -> Result<Command<'a>, AllocError> {
-    let winners = Arg::new(alloc, "winners")
+/// Whether the winners alone are written.
+fn winners<'a>(alloc: Global) -> Arg<'a> {
+    Arg::new(alloc, "winners")
         .long("winners")
         .action(ArgAction::SetTrue)
-        .help("Write the winners alone, without choices");
-    Command::new(alloc, "solve")
-        .about(SOLVE)
-        .long_about(LONG_SOLVE)
-        .after_help(STATUSES)
-        .arg(workers(alloc))?
-        .arg(bound(alloc))?
-        .arg(winners)?
-        .arg(known(alloc))?
-        .arg(path(
-            alloc,
-            "GAME",
-            "The file of the game; standard input without it",
-        ))
+        .help("Write the winners alone, without choices")
 }
 
-fn trace<'a>(alloc: Global) -> Result<Command<'a>, AllocError> {
-    Command::new(alloc, "trace")
-        .about(TRACE)
-        .long_about(LONG_TRACE)
-        .after_help(STATUSES)
-        .arg(workers(alloc))?
-        .arg(path(
-            alloc,
-            "GAME",
-            "The file of the game; standard input without it",
-        ))
-}
-
-fn verify<'a>(alloc: Global) -> Result<Command<'a>, AllocError> {
-    Command::new(alloc, "verify")
-        .about(VERIFY)
-        .long_about(LONG_VERIFY)
-        .after_help(STATUSES)
-        .arg(path(alloc, "GAME", "The file of the game").required(true))?
-        .arg(path(alloc, "SOLUTION", "The file of the solution").required(true))
-}
-
-fn tidy<'a>(alloc: Global) -> Result<Command<'a>, AllocError> {
-    Command::new(alloc, "tidy")
-        .about(TIDY)
-        .long_about(LONG_TIDY)
-        .after_help(STATUSES)
-        .arg(path(
-            alloc,
-            "GAME",
-            "The file of the game; standard input without it",
-        ))
+/// The file of the game, which may be left out.
+fn game<'a>(alloc: Global) -> Arg<'a> {
+    path(
+        alloc,
+        "GAME",
+        "The file of the game; standard input without it",
+    )
 }
 
 /// A path, taken as it stands.
 fn path<'a>(alloc: Global, name: &'a str, help: &'a str) -> Arg<'a> {
     Arg::new(alloc, name).help(help)
+}
+
+/// A subcommand with its short help and its long one.
+fn subcommand<'a>(
+    alloc: Global,
+    name: &'a str,
+    about: &'a str,
+    long_about: &'a str,
+) -> Command<'a> {
+    Command::new(alloc, name)
+        .about(about)
+        .long_about(long_about)
+        .after_help(STATUSES)
+}
+
+fn solve<'a>(alloc: Global) -> Result<Command<'a>, AllocError> {
+    subcommand(alloc, "solve", SOLVE, LONG_SOLVE)
+        .arg(workers(alloc))?
+        .arg(bound(alloc))?
+        .arg(winners(alloc))?
+        .arg(known(alloc))?
+        .arg(game(alloc))
+}
+
+fn trace<'a>(alloc: Global) -> Result<Command<'a>, AllocError> {
+    subcommand(alloc, "trace", TRACE, LONG_TRACE)
+        .arg(workers(alloc))?
+        .arg(game(alloc))
+}
+
+fn verify<'a>(alloc: Global) -> Result<Command<'a>, AllocError> {
+    subcommand(alloc, "verify", VERIFY, LONG_VERIFY)
+        .arg(path(alloc, "GAME", "The file of the game").required(true))?
+        .arg(path(alloc, "SOLUTION", "The file of the solution").required(true))
+}
+
+fn tidy<'a>(alloc: Global) -> Result<Command<'a>, AllocError> {
+    subcommand(alloc, "tidy", TIDY, LONG_TIDY).arg(game(alloc))
 }

@@ -8,7 +8,7 @@ use std::alloc::{AllocError, AllocFailed, Global};
 use thiserror::Error;
 
 /// Why a run gave no answer.
-#[derive(Clone, Copy, Debug, Drop, PartialEq, Eq, Error)]
+#[derive(Clone, Copy, Debug, Drop, Error)]
 pub enum RunFault {
     /// A file couldn't be opened, or a read failed.
     #[error("read fault")]
@@ -34,7 +34,7 @@ pub enum RunFault {
 }
 
 /// Why a player's known set is no region, by identifiers: what its post was refused for.
-#[derive(Clone, Copy, Debug, Drop, PartialEq, Eq, Error)]
+#[derive(Clone, Copy, Debug, Drop, Error)]
 pub enum KnownFault {
     /// The player owns the vertex, the first such one, and there is no choice at it or one that is no successor.
     #[error("bad choice or none at {0}")]

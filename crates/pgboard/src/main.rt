@@ -64,13 +64,8 @@ fn unread(alloc: Global, error: &Error) -> AskedFault
 fn asked_by(rt: &HostRuntime) -> Result<Asked, AskedFault>
     ensures { IfOk result IsInRange }
 {
-    let alloc = rt.alloc();
-    let owned = owned_words(rt)?;
-    let mut words = Vec::new(alloc);
-    for word in &owned {
-        words.push(word.as_str())?;
-    }
-    words::asked(alloc, words.as_slice())
+    let words = owned_words(rt)?;
+    words::asked(rt.alloc(), words.as_slice())
 }
 
 /// The file of this path, or where none was given the other input.
@@ -99,17 +94,49 @@ fn run_on_files<T: Threads + Wait + Sync>(
 {
     let mut input = open(rt, asked.path(), Input::Standard(rt.stdin()))?;
     let mut second = open(rt, asked.second_path(), Input::Nothing)?;
+    run_over(rt, threads, asked, &mut input, &mut second)
+}
+
+/// Runs what was asked for on these inputs and standard output.
+fn run_over<T: Threads + Wait + Sync>(
+    rt: &HostRuntime,
+    threads: &T,
+    asked: &Asked,
+    input: &mut Std<Input>,
+    second: &mut Std<Input>,
+) -> Result<u8, RunFault>
+    requires { IsInRange asked.now }
+{
     let mut out = Std::new(rt.stdout());
     run_asked(
         threads,
         rt.alloc(),
         asked,
-        &mut input,
-        &mut second,
+        input,
+        second,
         &mut out,
         &Pass,
         &Adaptive::new(),
     )
+}
+
+/// The status of a run. Its fault is printed.
+fn ended(rt: &HostRuntime, outcome: Result<u8, RunFault>) -> u8 {
+    match outcome {
+        Ok(status) => status,
+        Err(fault) => {
+            let _ = rt.eprintln(format_args!("pgboard: {fault}"));
+            fault.status()
+        }
+    }
+}
+
+/// The status of a refused command line. Why it is refused is printed.
+fn refused(rt: &HostRuntime, refusal: &AskedFault) -> u8
+    ensures { result ≡ asked_status_of refusal.now }
+{
+    let _ = rt.eprint(refusal);
+    refusal.status()
 }
 
 /// Runs what was asked for and prints a fault. The status of the outcome, and of a refused command line its own.
@@ -122,17 +149,8 @@ fn status_of<T: Threads + Wait + Sync>(
     ensures { IfErr asked (λ refusal. result ≡ asked_status_of refusal) }
 {
     match asked {
-        Ok(asked) => match run_on_files(rt, threads, &asked) {
-            Ok(status) => status,
-            Err(fault) => {
-                let _ = rt.eprintln(format_args!("pgboard: {fault}"));
-                fault.status()
-            }
-        },
-        Err(refusal) => {
-            let _ = rt.eprint(&refusal);
-            refusal.status()
-        }
+        Ok(asked) => ended(rt, run_on_files(rt, threads, &asked)),
+        Err(refusal) => refused(rt, &refusal),
     }
 }
 

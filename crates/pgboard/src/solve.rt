@@ -34,7 +34,7 @@ const TRACE_BOUND: u32 = 4;
 
 /// How a game is to be solved: by 1 to 64 workers, with searches for dominions of at most 8 vertices (none for 0), and
 /// whether the winners alone are written.
-#[derive(Clone, Copy, Debug, Drop)]
+#[derive(Drop)]
 pub struct SolveOptions {
     pub workers: u32,
     pub bound: u32,

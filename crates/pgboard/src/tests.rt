@@ -1,4 +1,5 @@
-//! Runs over sources and sinks in memory, the lines of the command, and the texts and statuses of faults.
+//! Runs over sources and sinks in memory that fail, with finders that are wrong and gates that hold a worker, and what
+//! the lines of words ask for. What the built program shows as well stands in `tests/cli` at the top.
 
 // As `assert_eq!` and `assert!`.
 macro_rules! check_eq {
@@ -23,17 +24,11 @@ macro_rules! check {
 pub(crate) use check;
 pub(crate) use check_eq;
 
-mod answers;
 pub(crate) mod asserting;
 mod broken;
 mod calls;
+mod claimed;
 mod command_line;
 mod devices;
-mod faults;
 mod finders;
-mod games;
 mod held;
-mod knowing;
-mod runs;
-mod solving;
-mod tracing;

@@ -27,17 +27,23 @@ const JOB: usize = 124;
 /// All other lines: the first one, the one above the jobs and the sums.
 const OTHERS: usize = 263;
 
+fn put(out: &mut Vec<u8>, bytes: &[u8]) -> Result<(), AllocError>
+    ensures { OnOk result (out.new.items ≡ out.old.items ++ bytes.now) }
+{
+    out.extend_from_slice(bytes)
+}
+
 fn put_number(out: &mut Vec<u8>, n: u64) -> Result<(), AllocError>
     ensures { OnOk result (out.new.items ≡ out.old.items ++ decimal n) }
 {
-    out.extend_from_slice(Buffer::new().format(n).as_bytes())
+    put(out, Buffer::new().format(n).as_bytes())
 }
 
 /// A space and a number.
 fn put_next(out: &mut Vec<u8>, n: u64) -> Result<(), AllocError>
     ensures { OnOk result (out.new.items ≡ out.old.items ++ (32 ∷ decimal n)) }
 {
-    out.extend_from_slice(b" ")?;
+    put(out, b" ")?;
     put_number(out, n)
 }
 
@@ -45,7 +51,7 @@ fn put_next(out: &mut Vec<u8>, n: u64) -> Result<(), AllocError>
 fn put_flag(out: &mut Vec<u8>, flag: bool) -> Result<(), AllocError>
     ensures { OnOk result (out.new.items ≡ out.old.items ++ (32 ∷ flag_word flag)) }
 {
-    out.extend_from_slice(if flag { b" 1" } else { b" 0" })
+    put(out, if flag { b" 1" } else { b" 0" })
 }
 
 /// A space and the worker, or `-` where there is none.
@@ -54,7 +60,7 @@ fn put_worker(out: &mut Vec<u8>, worker: Option<u32>) -> Result<(), AllocError>
 {
     match worker {
         Some(worker) => put_next(out, worker as u64),
-        None => out.extend_from_slice(b" -"),
+        None => put(out, b" -"),
     }
 }
 
@@ -69,7 +75,7 @@ fn put_row(out: &mut Vec<u8>, game: &Game, row: &(u32, Option<u32>)) -> Result<(
     let at = end_before(line);
     let at = choice_before(line, at, game, row.1);
     let at = number_before(line, at, game.id(row.0));
-    out.extend_from_slice(&line[at..])
+    put(out, &line[at..])
 }
 
 /// The line above an entry's rows.
@@ -78,21 +84,20 @@ fn put_entry_head(out: &mut Vec<u8>, number: u64, entry: &Entry) -> Result<(), A
         ++ trace_line (codes "entry" ∷ decimal number ∷ decimal entry.now.worker ∷ decimal
         (digit_of entry.now.player) ∷ decimal entry.now.claimed ∷ decimal (length entry.now.rows) ∷ [])) }
 {
-    out.extend_from_slice(b"entry")?;
+    put(out, b"entry")?;
     put_next(out, number)?;
     put_next(out, entry.worker as u64)?;
     put_next(out, entry.player.digit() as u64)?;
     put_next(out, entry.claimed as u64)?;
     put_next(out, entry.rows.as_slice().len() as u64)?;
-    out.extend_from_slice(b"\n")?;
-    Ok(())
+    put(out, b"\n")
 }
 
 /// The line of a job.
 fn put_job(out: &mut Vec<u8>, row: &ReportRow) -> Result<(), AllocError>
     ensures { OnOk result (out.new.items ≡ out.old.items ++ job_line row.now) }
 {
-    out.extend_from_slice(b"job")?;
+    put(out, b"job")?;
     put_next(out, row.job)?;
     put_worker(out, row.worker)?;
     put_next(out, row.posted)?;
@@ -101,8 +106,7 @@ fn put_job(out: &mut Vec<u8>, row: &ReportRow) -> Result<(), AllocError>
     put_next(out, row.refused)?;
     put_flag(out, row.gave_up)?;
     put_flag(out, row.memory)?;
-    out.extend_from_slice(b"\n")?;
-    Ok(())
+    put(out, b"\n")
 }
 
 /// The lines of an entry's rows.
@@ -122,8 +126,7 @@ fn put_entry(out: &mut Vec<u8>, game: &Game, number: u64, entry: &Entry) -> Resu
     ensures { OnOk result (out.new.items ≡ out.old.items ++ entry_text game.now number entry.now) }
 {
     put_entry_head(out, number, entry)?;
-    put_rows(out, game, entry.rows.as_slice())?;
-    Ok(())
+    put_rows(out, game, entry.rows.as_slice())
 }
 
 /// All entries, numbered from 0.
@@ -181,8 +184,8 @@ fn sums_of(report: &[ReportRow]) -> Sums
 fn put_sum(out: &mut Vec<u8>, n: u128) -> Result<(), AllocError>
     ensures { OnOk result (out.new.items ≡ out.old.items ++ (32 ∷ decimal n)) }
 {
-    out.extend_from_slice(b" ")?;
-    out.extend_from_slice(Buffer::new().format(n).as_bytes())
+    put(out, b" ")?;
+    put(out, Buffer::new().format(n).as_bytes())
 }
 
 /// The last line.
@@ -190,13 +193,12 @@ fn put_total(out: &mut Vec<u8>, report: &[ReportRow]) -> Result<(), AllocError>
     ensures { OnOk result (out.new.items ≡ out.old.items ++ total_line report.now) }
 {
     let sums = sums_of(report);
-    out.extend_from_slice(b"total")?;
+    put(out, b"total")?;
     put_sum(out, sums.posted)?;
     put_sum(out, sums.settled)?;
     put_sum(out, sums.stale)?;
     put_sum(out, sums.refused)?;
-    out.extend_from_slice(b"\n")?;
-    Ok(())
+    put(out, b"\n")
 }
 
 /// How many bytes a trace has at most. Room for so many is taken once, so that nothing written is moved.
@@ -243,19 +245,17 @@ fn settled_in(entries: &[Entry]) -> u128
 fn put_journal_head(out: &mut Vec<u8>, entries: u64, settled: u128) -> Result<(), AllocError>
     ensures { OnOk result (out.new.items ≡ out.old.items ++ trace_line (codes "journal" ∷ decimal entries ∷ decimal settled ∷ [])) }
 {
-    out.extend_from_slice(b"journal")?;
+    put(out, b"journal")?;
     put_next(out, entries)?;
     put_sum(out, settled)?;
-    out.extend_from_slice(b"\n")?;
-    Ok(())
+    put(out, b"\n")
 }
 
 /// The line above the jobs.
 fn put_report_head(out: &mut Vec<u8>, jobs: u64) -> Result<(), AllocError>
     ensures { OnOk result (out.new.items ≡ out.old.items ++ trace_line (codes "report" ∷ decimal jobs ∷ [])) }
 {
-    out.extend_from_slice(b"report")?;
+    put(out, b"report")?;
     put_next(out, jobs)?;
-    out.extend_from_slice(b"\n")?;
-    Ok(())
+    put(out, b"\n")
 }

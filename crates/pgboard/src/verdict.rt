@@ -8,7 +8,7 @@ use pg_dominion::SolutionFault;
 use std::alloc::{AllocError, Global};
 
 /// What is said of winners and choices for all vertices of a game.
-#[derive(Clone, Copy, Debug, Drop, PartialEq, Eq)]
+#[derive(Clone, Copy, Drop)]
 pub enum Verdict {
     /// They are a solution.
     Holds,
@@ -46,8 +46,7 @@ impl Verdict {
 fn put_number(n: u32, line: &mut Vec<u8>) -> Result<(), AllocError>
     ensures { OnOk result (line.new.items ≡ line.old.items ++ decimal n) }
 {
-    line.extend_from_slice(Buffer::new().format(n).as_bytes())?;
-    Ok(())
+    line.extend_from_slice(Buffer::new().format(n).as_bytes())
 }
 
 /// Adds the words, and then the identifier.
@@ -55,8 +54,7 @@ fn put_named(words: &[u8], id: u32, line: &mut Vec<u8>) -> Result<(), AllocError
     ensures { OnOk result (line.new.items ≡ line.old.items ++ (words.now ++ decimal id)) }
 {
     line.extend_from_slice(words)?;
-    put_number(id, line)?;
-    Ok(())
+    put_number(id, line)
 }
 
 fn put_fault(fault: &SolutionFault, line: &mut Vec<u8>) -> Result<(), AllocError>

@@ -2,7 +2,7 @@
 pub use Rattle.std.proofs.Common.{All, Bool, IfSome, List, None, Option, Some, [], ap, arith, below_more, drop, false, get_or, inl, inr, length, length-append}
 pub use Rattle.std.proofs.Common.{lt-ltb, nat_lt, refl, replicate, rules, subst, suc, sym, true, zero, ℕ, ◌<◌, ◌∙◌, ◌∷◌, ◌≡◌, ◌≢◌, ◌≤◌}
 pub use Rattle.pg_game.proofs.Common.{AreNumbers, IsRegion, max_vertices}
-pub use Rattle.pg_text.proofs.Common.{SolutionRows, Spec, choice_of, digit_of, first_fault, max_number}
+pub use Rattle.pg_text.proofs.Common.{SolutionRows, Spec, choice_of, digit_of, first_fault}
 pub use Rattle.pg_text.proofs.Exact.{choice_below, edge_below, exact_rows}
 pub use Rattle.pg_text.specs.Solution.{IsExactSolution}
 pub use Rattle.pg_dominion.proofs.Common.{AllByRecursion, IsGame, IsRightRow, get_or-replicate, winner_of}

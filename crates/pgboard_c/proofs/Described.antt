@@ -1,6 +1,6 @@
 -- What arrays say, vertex by vertex.
 use Rattle.pgboard_c.proofs.Common.{rules, ◌≡◌, ℕ, zero, suc, ◌<◌, ◌≤◌, List, [], ◌∷◌, length, refl, arith, length-append, All, Some, Spec, AreNumbers, NoneHas}
-use Rattle.pgboard_c.proofs.Common.{max_number, max_vertices, first_fault, GameArrays, IsBadPriority, specs_below, array_spec}
+use Rattle.pgboard_c.proofs.Common.{max_vertices, first_fault, GameArrays, IsBadPriority, specs_below, array_spec}
 use Rattle.std.proofs.lemmas.List.Elements.{All-nil, All-push}
 use Rattle.pg_game.specs.declared.game.GameFault.TheVariants.{TooManyVertices}
 
@@ -8,15 +8,12 @@ pub length_specs : (a : GameArrays) (v : ℕ) → length (specs_below a v) ≡ v
 length_specs a zero = refl
 length_specs a (suc v) = let l = length_specs a v in let e = length-append (specs_below a v) (array_spec a v ∷ []) in omega (arith, l, e)
 
-number_at : (a : GameArrays) (v : ℕ) → NoneHas (IsBadPriority a) → v < length a.owners → v ≤ max_number → AreNumbers (array_spec a v)
-number_at a v good lt few = search rules
-
 -- identifiers and priorities are within the limit
 pub numbers_below : (a : GameArrays) → NoneHas (IsBadPriority a) → (v : ℕ) → v ≤ length a.owners → v ≤ 2147483648
     → All AreNumbers (specs_below a v)
 numbers_below a good zero le few = All-nil AreNumbers
 numbers_below a good (suc v) le few = All-push AreNumbers (specs_below a v) (array_spec a v)
-    (numbers_below a good v (omega (arith, le)) (omega (arith, few))) (number_at a v good (omega (arith, le)) (omega (arith, few)))
+    (numbers_below a good v (omega (arith, le)) (omega (arith, few))) (search rules)
 
 -- more specifications than there may be vertices
 pub too_many : (specs : List Spec) → max_vertices < length specs → first_fault specs ≡ Some TooManyVertices

@@ -28,21 +28,12 @@ all_subgame g game = record {
       (e.0, e.1, inside_all (length g) e.0 (edge_below g game v e.0 l e.1));
 }
 
--- claims on all vertices, whatever the mask that says so
-pub claims_of : (g h : Graph) (mask : List Bool) (even odd : Claim) → h ≡ g → mask ≡ replicate (length g) true → AreClaims h (members mask) even odd
-    → AreClaims g (members (replicate (length g) true)) even odd
-claims_of g h mask even odd same all claims = search rules
-
--- the vertices of a good claim, or of none
-rows_below : (g : Graph) (U : VertexSet) (p : Player) (rows : ClaimRows) → (0 < length rows → IsGoodIn g U p rows) → All (λ r. r.0 < length g) rows
-rows_below g U p rows good = grind (arith, common_steps)
-
 -- the rows of two claims on all vertices are of vertices
 pub rows_fit : (g h : Graph) (mask : List Bool) (even odd : Claim) (n : ℕ) → h ≡ g → mask ≡ replicate (length g) true
     → AreClaims h (members mask) even odd → n ≡ length g → All (λ r. r.0 < n) even.rows × All (λ r. r.0 < n) odd.rows
 rows_fit g h mask even odd n same all claims size =
-    let here = claims_of g h mask even odd same all claims in let U = members (replicate (length g) true) in
-    rw size (rows_below g U Even even.rows here.even_good, rows_below g U Odd odd.rows here.odd_good)
+    let here : AreClaims g (members (replicate (length g) true)) even odd = search rules in let U = members (replicate (length g) true) in
+    rw size (grind (arith, common_steps), grind (arith, common_steps))
 
 module _ (g : Graph) (game : IsGame g) (U : VertexSet) (below : (v : ℕ) → In U v → v < length g) (whole : (v : ℕ) → v < length g → In U v) where
   -- where a kept edge of a right claim leads
@@ -97,11 +88,8 @@ module _ (g : Graph) (game : IsGame g) (U : VertexSet) (below : (v : ℕ) → In
     region : (p : Player) → IsRegion g p (named (claimed p)) (choice_in (claimed p))
     region p = region_of p (claimed p) (good_in p)
 
-    won : (p : Player) → named (claimed p) ≡ won_by rows p
-    won p = search rules
-
     regions : (p : Player) → IsRegion g p (won_by rows p) (choice_of rows)
-    regions p = subst (λ (X : VertexSet). IsRegion g p X (choice_of rows)) (won p) (record {
+    regions p = subst (λ (X : VertexSet). IsRegion g p X (choice_of rows)) (search rules) (record {
       vertices = (region p).vertices;
       choices = λ v i o. (let c = (region p).choices v i o in (c.0, choice_is p v i ∙ c.1, c.2));
       closed = λ v w k. (region p).closed v w (as_claimed v w k);

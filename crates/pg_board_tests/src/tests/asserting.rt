@@ -17,3 +17,11 @@ pub fn same<T: PartialEq + Debug + Drop, D: Display + Drop>(
 pub fn holds<D: Display + Drop>(rt: &impl Abort, is_so: bool, what: D) {
     std::assert!(rt; is_so, "{what}");
 }
+
+/// What a call gives that is not to be refused, or the test's end: a way out by `?` costs each caller more.
+pub fn made<T, E: Debug + Drop>(rt: &impl Abort, answer: Result<T, E>) -> T {
+    match answer {
+        Ok(value) => value,
+        Err(error) => std::panic!(rt; "refused: {error:?}"),
+    }
+}

@@ -1,65 +1,77 @@
 //! Games and claims for the tests, by tables.
 
+use crate::tests::asserting::made;
+use pg_board::Board;
 use pg_dominion::Claim;
 use pg_game::{Game, Player, Sequence};
-use pg_test_support::{EVEN, ODD, Row, Vertex, game_of};
+use pg_test_support::{EVEN, ODD, Plain, Row, Vertex, game_of, game_of_sets};
 use std::alloc::Global;
-use std::test::Fail;
-
-/// Even's claim of so many vertices, each of which is chosen at itself.
-pub fn claim_of_loops(alloc: Global, n: u32) -> Result<Claim, Fail> {
-    let mut rows = Vec::new(alloc);
-    for v in 0..n {
-        rows.push((v, Some(v)))?;
-    }
-    claim_of(alloc, EVEN, rows.as_slice())
-}
+use std::process::Abort;
 
 /// Even's loop, and a vertex of Odd's that may stay with itself.
-pub fn waiting_game(alloc: Global) -> Result<Game, Fail> {
-    let vertices: [Vertex; 2] = [(0, EVEN, &[0]), (0, ODD, &[0, 1])];
-    Ok(game_of(alloc, &vertices)?)
-}
+pub const WAITING: &[Vertex] = &[(0, EVEN, &[0]), (0, ODD, &[0, 1])];
 
 /// Even's loop, a vertex of Odd's that has to go there, and Odd's loop.
-pub fn shared_game(alloc: Global) -> Result<Game, Fail> {
-    let vertices: [Vertex; 3] = [(0, EVEN, &[0]), (0, ODD, &[0]), (1, ODD, &[2])];
-    Ok(game_of(alloc, &vertices)?)
-}
+pub const SHARED: &[Vertex] = &[(0, EVEN, &[0]), (0, ODD, &[0]), (1, ODD, &[2])];
 
 /// Each player has a loop of his own.
-pub fn divided_game(alloc: Global) -> Result<Game, Fail> {
-    let vertices: [Vertex; 2] = [(2, EVEN, &[0, 1]), (1, ODD, &[1])];
-    Ok(game_of(alloc, &vertices)?)
-}
+pub const DIVIDED: &[Vertex] = &[(2, EVEN, &[0, 1]), (1, ODD, &[1])];
 
 /// Attraction in two layers, and an own loop that loses.
-pub fn layered_game(alloc: Global) -> Result<Game, Fail> {
-    let vertices: [Vertex; 3] = [(0, EVEN, &[0]), (3, EVEN, &[0, 1]), (3, ODD, &[1])];
-    Ok(game_of(alloc, &vertices)?)
-}
+pub const LAYERED: &[Vertex] = &[(0, EVEN, &[0]), (3, EVEN, &[0, 1]), (3, ODD, &[1])];
 
 /// Two loops of Even's and a vertex of Odd's between.
-pub fn bridge_game(alloc: Global) -> Result<Game, Fail> {
-    let vertices: [Vertex; 3] = [(0, EVEN, &[0]), (0, ODD, &[0, 1]), (0, EVEN, &[2])];
-    Ok(game_of(alloc, &vertices)?)
-}
+pub const BRIDGE: &[Vertex] = &[(0, EVEN, &[0]), (0, ODD, &[0, 1]), (0, EVEN, &[2])];
 
 /// Five vertices that Even wins, and only by the right choices.
-pub fn winding_game(alloc: Global) -> Result<Game, Fail> {
-    let vertices: [Vertex; 5] = [
-        (6, ODD, &[2, 4]),
-        (8, ODD, &[2, 3, 4]),
-        (7, EVEN, &[0, 1, 3, 4]),
-        (6, EVEN, &[2, 4]),
-        (5, ODD, &[0]),
-    ];
-    Ok(game_of(alloc, &vertices)?)
+pub const WINDING: &[Vertex] = &[
+    (6, ODD, &[2, 4]),
+    (8, ODD, &[2, 3, 4]),
+    (7, EVEN, &[0, 1, 3, 4]),
+    (6, EVEN, &[2, 4]),
+    (5, ODD, &[0]),
+];
+
+/// The game of a table, made once more where memory was refused.
+pub fn game_made(rt: &impl Abort, alloc: Global, vertices: &[Vertex]) -> Game {
+    match game_of(alloc, vertices) {
+        Ok(game) => game,
+        Err(_) => made(rt, game_of(alloc, vertices)),
+    }
 }
 
-pub fn claim_of(alloc: Global, player: Player, rows: &[Row]) -> Result<Claim, Fail> {
-    Ok(Claim {
+pub fn plain_game(rt: &impl Abort, alloc: Global, plain: &[Plain]) -> Game {
+    made(rt, game_of_sets(alloc, plain))
+}
+
+/// A board on which nothing is settled, opened once more where memory was refused.
+pub fn new_board<'g>(rt: &impl Abort, alloc: Global, game: &'g Game) -> Board<'g> {
+    match Board::open(alloc, game) {
+        Ok(board) => board,
+        Err(_) => made(rt, Board::open(alloc, game)),
+    }
+}
+
+/// A claim, made once more where memory was refused.
+pub fn claim_of(rt: &impl Abort, alloc: Global, player: Player, rows: &[Row]) -> Claim {
+    let rows = match Vec::from_slice(alloc, rows) {
+        Ok(copy) => copy,
+        Err(_) => made(rt, Vec::from_slice(alloc, rows)),
+    };
+    Claim {
         player,
-        rows: Sequence::new(Vec::from_slice(alloc, rows)?),
-    })
+        rows: Sequence::new(rows),
+    }
+}
+
+/// Even's claim of so many vertices, each of which is chosen at itself.
+pub fn claim_of_loops(rt: &impl Abort, alloc: Global, n: u32) -> Claim {
+    let mut rows = Vec::new(alloc);
+    for v in 0..n {
+        made(rt, rows.push((v, Some(v))));
+    }
+    Claim {
+        player: EVEN,
+        rows: Sequence::new(rows),
+    }
 }

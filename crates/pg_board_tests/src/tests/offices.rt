@@ -1,323 +1,440 @@
-//! Claims through the shares of an office.
+//! Claims through the shares of an office, and copies that it shares: one and the same until something is settled, and then
+//! one that is brought up to date.
 
 ghost use Rattle.std.specs.Prelude.{◌≡◌, ◌≤◌, IfOk, vec_len};
 
-use crate::tests::calls::{CALLS, Call};
-use crate::tests::games::{claim_of, claim_of_loops, divided_game, layered_game, shared_game};
+use crate::tests::asserting::made;
+use crate::tests::boards::{Case, FULL, HALF, LAYERS, NEW, compare_copy};
+use crate::tests::calls::Call;
+use crate::tests::games::{
+    DIVIDED, LAYERED, SHARED, claim_of, claim_of_loops, game_made, new_board,
+};
 use pg_board::{Board, Office, Refusal, Share};
-use pg_dominion::{Checked, Claim, check_claim};
+use pg_dominion::{Claim, ClaimFault};
 use pg_finders::Copied;
-use pg_game::{Game, Player};
-use pg_test_support::{EVEN, ODD, own_loops};
+use pg_game::{Game, Memory, Player};
+use pg_test_support::{EVEN, ODD, Row, Vertex, lacking, own_loops};
 use std::alloc::Global;
 use std::marker::Brand;
 use std::process::Abort;
-use std::sync::Wait;
 use std::sync::ledger::{Blank, Ledger};
+use std::sync::{Arc, Wait};
 use std::test::Fail;
 
-/// An office of a new board, with so many shares.
-pub fn office_of<'g, L: Ledger>(
+/// A worker's claim of one row, its answer, the share's amount then, and what a copy of the board then tells.
+type Put<'a> = (u32, Player, Row, Result<u32, Refusal>, u64, &'a Case<'a>);
+
+/// What is asked of an office through the share of a seat.
+enum Step<'a> {
+    /// A claim, by the call that is tried.
+    Put(Put<'a>),
+    /// A claim that was checked on another game, and is settled.
+    Foreign(&'a [Vertex<'a>], Put<'a>),
+    /// Even's claim of all vertices of a game of loops, each of which is settled.
+    Loops,
+    /// The amount.
+    Amount(u64),
+    /// A copy.
+    Copy(&'a Case<'a>),
+    /// A shared copy, which is dropped.
+    Share(&'a Case<'a>),
+    /// A shared copy, which is held from then on.
+    Hold(&'a Case<'a>),
+    /// A shared copy that is held since then, and by how many, the office and others that are held among them.
+    Held(usize, &'a Case<'a>, usize),
+}
+
+/// What the board tells at the closing: how many vertices are settled, whether these are all, and how many of them by the
+/// workers 0, 1 and 2.
+type Closed = (u64, bool, (u64, u64, u64));
+
+/// A game, a claim that is posted by worker 0 before an office opens round the board, what a copy then tells, the number of
+/// seats, what is asked through the share of which seat, and the board at the closing.
+pub struct Run<'a> {
+    pub game: &'a [Vertex<'a>],
+    posted: Option<(Player, Row)>,
+    first: &'a Case<'a>,
+    pub seats: u32,
+    steps: &'a [(usize, Step<'a>)],
+    closed: Closed,
+}
+
+const STALE: Result<u32, Refusal> = Err(Refusal::Stale);
+
+// The answer to a claim with a bad closed walk.
+macro_rules! bad_walk {
+    ($v:expr) => {
+        Err(Refusal::Claim(ClaimFault::Cycle($v)))
+    };
+}
+
+pub const RUNS: &[Run] = &[
+    // a copy has what was settled through the share
+    Run {
+        game: SHARED,
+        posted: None,
+        first: NEW,
+        seats: 2,
+        steps: &[
+            (0, Step::Put((1, EVEN, (0, Some(0)), Ok(2), 2, HALF))),
+            (0, Step::Copy(HALF)),
+            (1, Step::Put((2, ODD, (2, Some(2)), Ok(1), 1, FULL))),
+            (1, Step::Put((2, ODD, (2, Some(2)), STALE, 1, FULL))),
+            (0, Step::Copy(FULL)),
+        ],
+        closed: (3, true, (0, 2, 1)),
+    },
+    // what is settled through all shares adds up: each vertex alone is claimed for each player, through a share of its own
+    Run {
+        game: SHARED,
+        posted: None,
+        first: NEW,
+        seats: 3,
+        steps: &[
+            (0, Step::Put((1, EVEN, (0, Some(0)), Ok(2), 2, HALF))),
+            (0, Step::Put((1, ODD, (0, None), bad_walk!(0), 2, HALF))),
+            (1, Step::Put((1, EVEN, (1, None), STALE, 0, HALF))),
+            (
+                1,
+                Step::Put((1, ODD, (1, Some(0)), Err(Refusal::Lost(1)), 0, HALF)),
+            ),
+            (2, Step::Put((1, EVEN, (2, None), bad_walk!(2), 0, HALF))),
+            (2, Step::Put((1, ODD, (2, Some(2)), Ok(1), 1, FULL))),
+        ],
+        closed: (3, true, (0, 3, 0)),
+    },
+    // a claim that was checked on another game is foreign, and the same claim may be accepted
+    Run {
+        game: LAYERED,
+        posted: None,
+        first: NEW,
+        seats: 1,
+        steps: &[
+            (
+                0,
+                Step::Foreign(
+                    DIVIDED,
+                    (1, EVEN, (0, Some(0)), Err(Refusal::Foreign(0)), 0, NEW),
+                ),
+            ),
+            (0, Step::Put((1, EVEN, (0, Some(0)), Ok(3), 3, LAYERS))),
+        ],
+        closed: (3, true, (0, 3, 0)),
+    },
+    // a copy is shared until something is settled; then another is, and the first one, which is still held, is as it was;
+    // a claim that is stale and one that is lost leave the shared copy as it is
+    Run {
+        game: SHARED,
+        posted: None,
+        first: NEW,
+        seats: 2,
+        steps: &[
+            (0, Step::Hold(NEW)),
+            (1, Step::Hold(NEW)),
+            (0, Step::Held(0, NEW, 3)),
+            (0, Step::Put((1, EVEN, (0, Some(0)), Ok(2), 2, HALF))),
+            (1, Step::Hold(HALF)),
+            (0, Step::Held(0, NEW, 3)),
+            (1, Step::Put((2, EVEN, (0, Some(0)), STALE, 0, HALF))),
+            (
+                1,
+                Step::Put((2, ODD, (1, Some(0)), Err(Refusal::Lost(1)), 0, HALF)),
+            ),
+            (1, Step::Hold(HALF)),
+            (1, Step::Held(2, HALF, 3)),
+        ],
+        closed: (2, false, (0, 2, 0)),
+    },
+    // a copy that nobody holds is brought up to date after each of two entries
+    Run {
+        game: SHARED,
+        posted: None,
+        first: NEW,
+        seats: 1,
+        steps: &[
+            (0, Step::Share(NEW)),
+            (0, Step::Put((1, EVEN, (0, Some(0)), Ok(2), 2, HALF))),
+            (0, Step::Share(HALF)),
+            (0, Step::Put((1, ODD, (2, Some(2)), Ok(1), 3, FULL))),
+            (0, Step::Share(FULL)),
+        ],
+        closed: (3, true, (0, 3, 0)),
+    },
+    // an office opens round a board with what is settled on it
+    Run {
+        game: SHARED,
+        posted: Some((EVEN, (0, Some(0)))),
+        first: HALF,
+        seats: 2,
+        steps: &[
+            (0, Step::Amount(2)),
+            (1, Step::Amount(0)),
+            (0, Step::Copy(HALF)),
+        ],
+        closed: (2, false, (2, 0, 0)),
+    },
+];
+
+/// The largest claim of the largest game.
+const LARGEST: &Run = &Run {
+    game: &[],
+    posted: None,
+    first: NEW,
+    seats: 1,
+    steps: &[(0, Step::Loops)],
+    closed: (1_048_576, true, (0, 1_048_576, 0)),
+};
+
+#[test]
+fn the_largest_claim_of_the_largest_game_is_accepted(rt: HostRuntime) -> Result<(), Fail> {
+    let game = made(&rt, own_loops(rt.alloc(), 1_048_576));
+    for call in [Call::Post, Call::Settle] {
+        run_through::<Brand, _>(&rt, rt.alloc(), Blank::new(1), 1, call, &game, LARGEST)?;
+    }
+    Ok(())
+}
+
+/// Takes the steps in an office of a board of the game; ends the test where memory is refused to the office.
+pub fn run_through<L: Ledger, R: Wait + Abort>(
+    rt: &R,
+    alloc: Global,
+    blank: Blank,
+    seats: u32,
+    call: Call,
+    game: &Game,
+    run: &Run,
+) -> Result<(), Fail>
+    requires name { blank.name ≡ L.name }
+    requires parts { (blank.parts ≡ L.parts) × (blank.parts ≡ seats) }
+    requires seats { (1 ≤ seats) × (seats ≤ 64) }
+{
+    let Ok((office, mut shares)) = office_of::<L, R>(rt, alloc, blank, game, seats, run.posted)
+    else {
+        return Err(lacking());
+    };
+    take_all(rt, alloc, call, game, &office, shares.as_mut_slice(), run);
+    compare_closed(rt, &office.close(shares), &run.closed);
+    Ok(())
+}
+
+/// An office with so many shares: of a new board, or round one on which a claim is settled.
+fn office_of<'g, L: Ledger, R: Abort>(
+    rt: &R,
     alloc: Global,
     blank: Blank,
     game: &'g Game,
     seats: u32,
-) -> Result<(Office<'g, L>, Vec<Share<L>>), Fail>
+    posted: Option<(Player, Row)>,
+) -> Result<(Office<'g, L>, Vec<Share<L>>), Memory>
     requires name { blank.name ≡ L.name }
     requires parts { (blank.parts ≡ L.parts) × (blank.parts ≡ seats) }
     requires seats { (1 ≤ seats) × (seats ≤ 64) }
     ensures { IfOk result (λ o. vec_len o.1 ≡ seats) }
 {
-    Ok(Office::<L>::open(alloc, blank, game, seats)?)
+    match posted {
+        None => Office::<L>::open(alloc, blank, game, seats),
+        Some((player, row)) => {
+            let board = board_of_post(rt, alloc, game, player, row);
+            Office::<L>::open_with(alloc, blank, board, seats)
+        }
+    }
 }
 
-/// A copy through the share, of which a test is told nothing.
-fn copied_through<'g, L: Ledger, R: Wait>(
+/// A board on which a claim of worker 0 is settled.
+fn board_of_post<'g>(
+    rt: &impl Abort,
+    alloc: Global,
+    game: &'g Game,
+    player: Player,
+    row: Row,
+) -> Board<'g> {
+    let mut board = new_board(rt, alloc, game);
+    let claim = claim_of(rt, alloc, player, &[row]);
+    if board.post(alloc, 0, &claim).is_err() {
+        check!(rt; board.post(alloc, 0, &claim).is_ok());
+    }
+    board
+}
+
+/// Takes the steps, each after what the last claim left.
+fn take_all<'g, L: Ledger, R: Wait + Abort>(
+    rt: &R,
+    alloc: Global,
+    call: Call,
+    game: &Game,
+    office: &Office<'g, L>,
+    shares: &mut [Share<L>],
+    run: &Run,
+) {
+    let mut held = Vec::new(alloc);
+    let mut before = run.first;
+    for step in run.steps {
+        match shares.get_mut(step.0) {
+            Some(share) => take(
+                rt, alloc, call, game, office, share, &mut held, before, &step.1,
+            ),
+            None => check!(rt; false, "there is no such share"),
+        }
+        before = after(before, &step.1);
+    }
+}
+
+/// What a copy tells after a step.
+fn after<'a>(before: &'a Case<'a>, step: &Step<'a>) -> &'a Case<'a> {
+    match step {
+        Step::Put(put) => put.5,
+        Step::Foreign(_, put) => put.5,
+        _ => before,
+    }
+}
+
+fn take<'g, L: Ledger, R: Wait + Abort>(
+    rt: &R,
+    alloc: Global,
+    call: Call,
+    game: &Game,
+    office: &Office<'g, L>,
+    share: &mut Share<L>,
+    held: &mut Vec<Arc<Copied<'g>>>,
+    before: &Case,
+    step: &Step,
+) {
+    match step {
+        Step::Put(put) => put_row(rt, alloc, call, game, office, share, before, put),
+        Step::Foreign(vertices, put) => {
+            let other = game_made(rt, alloc, *vertices);
+            put_row(rt, alloc, Call::Settle, &other, office, share, before, put);
+        }
+        Step::Loops => {
+            let n = game.len();
+            let claim = claim_of_loops(rt, alloc, n);
+            put_claim(
+                rt,
+                alloc,
+                call,
+                game,
+                office,
+                share,
+                1,
+                &claim,
+                before,
+                (Ok(n), u64::from(n)),
+            );
+        }
+        Step::Amount(want) => check_eq!(rt; share.amount(), *want),
+        Step::Copy(want) => compare_copy(rt, &copied_through(rt, alloc, office, share), *want),
+        Step::Share(want) => compare_copy(rt, &shared(rt, alloc, office, share), *want),
+        Step::Hold(want) => hold(rt, shared(rt, alloc, office, share), held, *want),
+        Step::Held(at, want, holders) => compare_held(rt, held.get(*at), *want, *holders),
+    }
+}
+
+/// Puts a claim of one row, which is checked on this game.
+fn put_row<L: Ledger, R: Wait + Abort>(
+    rt: &R,
+    alloc: Global,
+    call: Call,
+    game: &Game,
+    office: &Office<L>,
+    share: &mut Share<L>,
+    before: &Case,
+    put: &Put,
+) {
+    let claim = claim_of(rt, alloc, put.1, &[put.2]);
+    put_claim(
+        rt,
+        alloc,
+        call,
+        game,
+        office,
+        share,
+        put.0,
+        &claim,
+        before,
+        (put.3, put.4),
+    );
+    compare_copy(rt, &copied_through(rt, alloc, office, share), put.5);
+}
+
+/// Compares the answer, and the share's amount then. Where memory is refused, the amount and a copy are as before, and the
+/// claim is put once more.
+fn put_claim<L: Ledger, R: Wait + Abort>(
+    rt: &R,
+    alloc: Global,
+    call: Call,
+    game: &Game,
+    office: &Office<L>,
+    share: &mut Share<L>,
+    worker: u32,
+    claim: &Claim,
+    before: &Case,
+    want: (Result<u32, Refusal>, u64),
+) {
+    let amount = share.amount();
+    let mut found = call.put_through(rt, alloc, office, share, worker, game, claim);
+    if found == Err(Refusal::Memory) {
+        check_eq!(rt; share.amount(), amount);
+        compare_copy(rt, &copied_through(rt, alloc, office, share), before);
+        found = call.put_through(rt, alloc, office, share, worker, game, claim);
+    }
+    check_eq!(rt; (found, share.amount()), want);
+}
+
+/// A copy through a share, taken once more where memory was refused.
+fn copied_through<'g, L: Ledger, R: Wait + Abort>(
     rt: &R,
     alloc: Global,
     office: &Office<'g, L>,
     share: &Share<L>,
-) -> Result<Copied<'g>, Fail> {
-    Ok(office.copy(rt, alloc, share)?)
-}
-
-#[test]
-fn a_copy_has_what_was_settled_through_the_share(rt: HostRuntime) -> Result<(), Fail> {
-    let alloc = rt.alloc();
-    let game = shared_game(alloc)?;
-    for call in CALLS {
-        settle_by_two::<Brand, _>(&rt, alloc, Blank::new(2), call, &game)?;
+) -> Copied<'g> {
+    match office.copy(rt, alloc, share) {
+        Ok(copied) => copied,
+        Err(_) => made(rt, office.copy(rt, alloc, share)),
     }
-    Ok(())
 }
 
-fn settle_by_two<L: Ledger, R: Wait + Abort>(
+/// A shared copy, taken once more where memory was refused.
+fn shared<'g, L: Ledger, R: Wait + Abort>(
     rt: &R,
     alloc: Global,
-    blank: Blank,
-    call: Call,
-    game: &Game,
-) -> Result<(), Fail>
-    requires name { blank.name ≡ L.name }
-    requires parts { (blank.parts ≡ L.parts) × (blank.parts ≡ 2) }
-{
-    let (office, mut shares) = office_of::<L>(alloc, blank, game, 2)?;
-    settle_first(rt, alloc, call, &office, &mut shares[0], game)?;
-    settle_second(rt, alloc, call, &office, &mut shares[1], game)?;
-    compare_copy(rt, &copied_through(rt, alloc, &office, &shares[0])?);
-    compare_closed(rt, &office.close(shares));
-    Ok(())
+    office: &Office<'g, L>,
+    share: &Share<L>,
+) -> Arc<Copied<'g>> {
+    match office.shared_copy(rt, alloc, share) {
+        Ok(copied) => copied,
+        Err(_) => made(rt, office.shared_copy(rt, alloc, share)),
+    }
 }
 
-/// Even's loop and what it attracts, settled by worker 1.
-fn settle_first<L: Ledger, R: Wait + Abort>(
-    rt: &R,
-    alloc: Global,
-    call: Call,
-    office: &Office<L>,
-    share: &mut Share<L>,
-    game: &Game,
-) -> Result<(), Fail> {
-    let even = claim_of(alloc, EVEN, &[(0, Some(0))])?;
-    check_eq!(rt;
-        call.put_through(rt, alloc, office, share, 1, game, &even),
-        Ok(2)
-    );
-    check_eq!(rt; share.amount(), 2);
-    check!(rt; copied_through(rt, alloc, office, share)?.settled >= 2);
-    Ok(())
-}
-
-/// Odd's loop, settled by worker 2, and claimed once more.
-fn settle_second<L: Ledger, R: Wait + Abort>(
-    rt: &R,
-    alloc: Global,
-    call: Call,
-    office: &Office<L>,
-    share: &mut Share<L>,
-    game: &Game,
-) -> Result<(), Fail> {
-    let odd = claim_of(alloc, ODD, &[(2, Some(2))])?;
-    check_eq!(rt;
-        call.put_through(rt, alloc, office, share, 2, game, &odd),
-        Ok(1)
-    );
-    let again = call.put_through(rt, alloc, office, share, 2, game, &odd);
-    check_eq!(rt; again, Err(Refusal::Stale));
-    check_eq!(rt; share.amount(), 1);
-    Ok(())
-}
-
-/// A copy of the full board of the shared game.
-fn compare_copy(rt: &impl Abort, copied: &Copied) {
-    check_eq!(rt; copied.at, 2);
-    check_eq!(rt; copied.settled, 3);
-    check_eq!(rt; copied.inside.mask().count(), 0);
-}
-
-/// The same board, with what each worker settled.
-fn compare_closed(rt: &impl Abort, board: &Board) {
-    check_eq!(rt; board.settled(), 3);
-    check_eq!(rt; board.settled_by(1), 2);
-    check_eq!(rt; board.settled_by(2), 1);
-}
-
-#[test]
-fn an_office_opens_round_a_board_with_what_is_settled_on_it(rt: HostRuntime) -> Result<(), Fail> {
-    let alloc = rt.alloc();
-    let game = shared_game(alloc)?;
-    open_round_a_board::<Brand>(&rt, alloc, Blank::new(2), &game)
-}
-
-fn open_round_a_board<L: Ledger>(
+/// Compares a copy, and holds it. (Room for it is taken first, so that it isn't lost where memory is refused.)
+fn hold<'g>(
     rt: &impl Abort,
-    alloc: Global,
-    blank: Blank,
-    game: &Game,
-) -> Result<(), Fail>
-    requires name { blank.name ≡ L.name }
-    requires parts { (blank.parts ≡ L.parts) × (blank.parts ≡ 2) }
-{
-    let board = board_of_post(rt, alloc, game)?;
-    let (office, shares) = office_round::<L>(alloc, blank, board)?;
-    let amounts = [shares[0].amount(), shares[1].amount()];
-    check_eq!(rt; amounts, [2, 0]);
-    check_eq!(rt; office.close(shares).settled(), 2);
-    Ok(())
-}
-
-/// A board on which Even's loop is settled with what it attracts.
-fn board_of_post<'g>(rt: &impl Abort, alloc: Global, game: &'g Game) -> Result<Board<'g>, Fail> {
-    let mut board = Board::open(alloc, game)?;
-    let even = claim_of(alloc, EVEN, &[(0, Some(0))])?;
-    check!(rt; board.post(alloc, 0, &even).is_ok());
-    Ok(board)
-}
-
-/// An office round the board, with two shares.
-fn office_round<'g, L: Ledger>(
-    alloc: Global,
-    blank: Blank,
-    board: Board<'g>,
-) -> Result<(Office<'g, L>, Vec<Share<L>>), Fail>
-    requires name { blank.name ≡ L.name }
-    requires parts { (blank.parts ≡ L.parts) × (blank.parts ≡ 2) }
-    ensures { IfOk result (λ o. vec_len o.1 ≡ 2) }
-{
-    Ok(Office::<L>::open_with(alloc, blank, board, 2)?)
-}
-
-#[test]
-fn what_is_settled_through_all_shares_adds_up_at_the_closing(rt: HostRuntime) -> Result<(), Fail> {
-    let alloc = rt.alloc();
-    let game = shared_game(alloc)?;
-    for call in CALLS {
-        settle_singles_by_three::<Brand, _>(&rt, alloc, Blank::new(3), call, &game)?;
+    copied: Arc<Copied<'g>>,
+    held: &mut Vec<Arc<Copied<'g>>>,
+    want: &Case,
+) {
+    compare_copy(rt, &copied, want);
+    if held.try_reserve(1).is_err() {
+        made(rt, held.try_reserve(1));
     }
-    Ok(())
+    made(rt, held.push(copied));
 }
 
-/// Claims each vertex alone for each player, through one share after another.
-fn settle_singles_by_three<L: Ledger, R: Wait + Abort>(
-    rt: &R,
-    alloc: Global,
-    blank: Blank,
-    call: Call,
-    game: &Game,
-) -> Result<(), Fail>
-    requires name { blank.name ≡ L.name }
-    requires parts { (blank.parts ≡ L.parts) × (blank.parts ≡ 3) }
-{
-    let (office, mut shares) = office_of::<L>(alloc, blank, game, 3)?;
-    settle_singles(rt, alloc, call, &office, &mut shares[0], game, 0)?;
-    settle_singles(rt, alloc, call, &office, &mut shares[1], game, 1)?;
-    settle_singles(rt, alloc, call, &office, &mut shares[2], game, 2)?;
-    let amounts = [shares[0].amount(), shares[1].amount(), shares[2].amount()];
-    check_eq!(rt; amounts, [2, 0, 1]);
-    check_eq!(rt; office.close(shares).settled(), 3);
-    Ok(())
-}
-
-/// Claims one vertex alone for each player, with its least successor where the player owns it.
-fn settle_singles<L: Ledger, R: Wait + Abort>(
-    rt: &R,
-    alloc: Global,
-    call: Call,
-    office: &Office<L>,
-    share: &mut Share<L>,
-    game: &Game,
-    v: u32,
-) -> Result<(), Fail> {
-    let even = single(alloc, game, v, EVEN)?;
-    let odd = single(alloc, game, v, ODD)?;
-    let before = share.amount();
-    let mut settled = 0u64;
-    for claim in [&even, &odd] {
-        if let Ok(more) = call.put_through(rt, alloc, office, share, 1, game, claim) {
-            settled = settled.saturating_add(u64::from(more));
+fn compare_held(rt: &impl Abort, held: Option<&Arc<Copied>>, want: &Case, holders: usize) {
+    match held {
+        Some(copied) => {
+            compare_copy(rt, copied, want);
+            check_eq!(rt; Arc::strong_count(copied), holders);
         }
-    }
-    check_eq!(rt; share.amount(), before.saturating_add(settled));
-    Ok(())
-}
-
-fn single(alloc: Global, game: &Game, v: u32, player: Player) -> Result<Claim, Fail> {
-    let mut choice = None;
-    if v < game.len() && game.owner(v) == player {
-        choice = game.successors(v).first().copied();
-    }
-    claim_of(alloc, player, &[(v, choice)])
-}
-
-#[test]
-fn a_claim_that_was_checked_on_another_game_is_foreign(rt: HostRuntime) -> Result<(), Fail> {
-    let alloc = rt.alloc();
-    let other = divided_game(alloc)?;
-    let game = layered_game(alloc)?;
-    settle_foreign::<Brand, _>(&rt, alloc, Blank::new(1), &other, &game)
-}
-
-/// Settles a claim that was checked on one game through an office of a board of another, and then posts the same claim.
-fn settle_foreign<L: Ledger, R: Wait + Abort>(
-    rt: &R,
-    alloc: Global,
-    blank: Blank,
-    other: &Game,
-    game: &Game,
-) -> Result<(), Fail>
-    requires name { blank.name ≡ L.name }
-    requires parts { (blank.parts ≡ L.parts) × (blank.parts ≡ 1) }
-{
-    let (office, mut shares) = office_of::<L>(alloc, blank, game, 1)?;
-    settle_checked(rt, alloc, &office, &mut shares[0], other, game)?;
-    check_eq!(rt; office.close(shares).settled(), 3);
-    Ok(())
-}
-
-fn settle_checked<L: Ledger, R: Wait + Abort>(
-    rt: &R,
-    alloc: Global,
-    office: &Office<L>,
-    share: &mut Share<L>,
-    other: &Game,
-    game: &Game,
-) -> Result<(), Fail> {
-    let claim = claim_of(alloc, EVEN, &[(0, Some(0))])?;
-    let checked = checked_on(alloc, other, &claim)?;
-    let found = office.settle(rt, alloc, share, 1, &checked);
-    check_eq!(rt; found, Err(Refusal::Foreign(0)));
-    check_eq!(rt; share.amount(), 0);
-    let found = Call::Post.put_through(rt, alloc, office, share, 1, game, &claim);
-    check_eq!(rt; found, Ok(3));
-    check_eq!(rt; share.amount(), 3);
-    Ok(())
-}
-
-fn checked_on<'g>(alloc: Global, game: &'g Game, claim: &Claim) -> Result<Checked<'g>, Fail> {
-    match check_claim(alloc, game, claim) {
-        Ok(checked) => Ok(checked),
-        Err(_) => Err(Fail::from("the claim is sound in the other game")),
+        None => check!(rt; false, "nothing is held"),
     }
 }
 
-#[test]
-fn the_largest_claim_of_the_largest_game_is_accepted(rt: HostRuntime) -> Result<(), Fail> {
-    let alloc = rt.alloc();
-    let game = own_loops(alloc, 1_048_576)?;
-    for call in CALLS {
-        settle_all::<Brand, _>(&rt, alloc, Blank::new(1), call, &game)?;
-    }
-    Ok(())
-}
-
-/// Claims every vertex of a game of loops at once.
-fn settle_all<L: Ledger, R: Wait + Abort>(
-    rt: &R,
-    alloc: Global,
-    blank: Blank,
-    call: Call,
-    game: &Game,
-) -> Result<(), Fail>
-    requires name { blank.name ≡ L.name }
-    requires parts { (blank.parts ≡ L.parts) × (blank.parts ≡ 1) }
-{
-    let (office, mut shares) = office_of::<L>(alloc, blank, game, 1)?;
-    settle_loops(rt, alloc, call, &office, &mut shares[0], game)?;
-    check!(rt; office.close(shares).is_full());
-    Ok(())
-}
-
-fn settle_loops<L: Ledger, R: Wait + Abort>(
-    rt: &R,
-    alloc: Global,
-    call: Call,
-    office: &Office<L>,
-    share: &mut Share<L>,
-    game: &Game,
-) -> Result<(), Fail> {
-    let claim = claim_of_loops(alloc, game.len())?;
-    let found = call.put_through(rt, alloc, office, share, 1, game, &claim);
-    check_eq!(rt; found, Ok(1_048_576));
-    check_eq!(rt; share.amount(), 1_048_576);
-    Ok(())
+fn compare_closed(rt: &impl Abort, board: &Board, want: &Closed) {
+    let by = (
+        board.settled_by(0),
+        board.settled_by(1),
+        board.settled_by(2),
+    );
+    check_eq!(rt; &(board.settled(), board.is_full(), by), want);
 }

@@ -1,11 +1,12 @@
 //! Games and claims at random, from a seed.
 
+use crate::tests::asserting::made;
 use crate::tests::calls::Call;
-use crate::tests::games::claim_of;
 use pg_dominion::Claim;
+use pg_game::Sequence;
 use pg_test_support::{EVEN, ODD, Plain, Random, bit, has, size_of};
 use std::alloc::Global;
-use std::test::Fail;
+use std::process::Abort;
 
 /// One of the two calls that settle a claim.
 pub fn random_call(random: &mut Random) -> Call {
@@ -26,15 +27,15 @@ fn random_set(random: &mut Random, n: u32) -> u32 {
 }
 
 /// A game of two to eight vertices with priorities below 4.
-pub fn random_game(alloc: Global, random: &mut Random) -> Result<Vec<Plain>, Fail> {
+pub fn random_game(rt: &impl Abort, alloc: Global, random: &mut Random) -> Vec<Plain> {
     let n = random.below(7).saturating_add(2);
     let mut vertices = Vec::new(alloc);
     for _v in 0..n {
         let owner = if random.below(2) == 0 { EVEN } else { ODD };
         let successors = random_set(random, n);
-        vertices.push((random.below(4), owner, successors))?;
+        made(rt, vertices.push((random.below(4), owner, successors)));
     }
-    Ok(vertices)
+    vertices
 }
 
 /// Mostly a member of a set of numbers below `n`.
@@ -49,22 +50,25 @@ fn random_member(random: &mut Random, set: u32, n: u32) -> u32 {
 }
 
 /// A claim of random vertices, mostly with right rows.
-pub fn random_claim(alloc: Global, random: &mut Random, game: &[Plain]) -> Result<Claim, Fail> {
+pub fn random_claim(rt: &impl Abort, alloc: Global, random: &mut Random, game: &[Plain]) -> Claim {
     let player = if random.below(2) == 0 { EVEN } else { ODD };
     let density = random.below(4);
     let mut rows = Vec::new(alloc);
     let mut v = 0u32;
-    for (_, owner, successors) in game {
+    for vertex in game {
         if random.below(4) <= density {
             let mut choice = None;
-            if *owner == player {
-                choice = Some(random_member(random, *successors, size_of(game)));
+            if vertex.1 == player {
+                choice = Some(random_member(random, vertex.2, size_of(game)));
             }
-            rows.push((v, choice))?;
+            made(rt, rows.push((v, choice)));
         }
         v = v.saturating_add(1);
     }
-    claim_of(alloc, player, rows.as_slice())
+    Claim {
+        player,
+        rows: Sequence::new(rows),
+    }
 }
 
 /// A vertex that says mostly the same in a game of `n` vertices.
@@ -88,10 +92,11 @@ fn altered(random: &mut Random, vertex: Plain, n: u32) -> Plain {
 
 /// A game much like the given one, which may lack its last vertex or have one more.
 pub fn altered_game(
+    rt: &impl Abort,
     alloc: Global,
     random: &mut Random,
     game: &[Plain],
-) -> Result<Vec<Plain>, Fail> {
+) -> Vec<Plain> {
     let size = size_of(game);
     let n = match random.below(6) {
         0 => size.saturating_sub(1).max(1),
@@ -101,7 +106,7 @@ pub fn altered_game(
     let mut vertices = Vec::new(alloc);
     for v in 0..n {
         let vertex = game.get(v as usize).copied().unwrap_or((1, EVEN, 1));
-        vertices.push(altered(random, vertex, n))?;
+        made(rt, vertices.push(altered(random, vertex, n)));
     }
-    Ok(vertices)
+    vertices
 }

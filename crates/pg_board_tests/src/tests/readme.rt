@@ -1,10 +1,10 @@
 //! The code of README.md, which `tests/readme_code.py` of the repository looks for here.
 
-use crate::tests::games::shared_game;
+use crate::tests::games::{SHARED, game_made};
 use pg_board::{Board, Refusal};
 use pg_dominion::Claim;
 use pg_game::{Game, Player, Sequence};
-use pg_test_support::{EVEN, game_of};
+use pg_test_support::{EVEN, Vertex};
 use pg_text::Solution;
 use std::alloc::Global;
 use std::process::Abort;
@@ -27,7 +27,22 @@ fn said(alloc: Global, game: &Game) -> Result<(String, Option<Solution>), Fail> 
     Ok((said, solution))
 }
 
-/// Compares what is said of the claim, and whether it solves the game.
+/// A game, what is said of the claim, and whether it solves the game.
+const CASES: &[(&[Vertex], &str, bool)] = &[
+    (SHARED, "entry 0: 2 settled", false),
+    (&[(0, EVEN, &[0])], "entry 0: 1 settled", true),
+    (&[(1, EVEN, &[0])], "Claim(Cycle(0))", false),
+];
+
+#[test]
+fn a_claim_is_posted(rt: HostRuntime) -> Result<(), Fail> {
+    for case in CASES {
+        let game = game_made(&rt, rt.alloc(), case.0);
+        compare_said(&rt, rt.alloc(), &game, case.1, case.2)?;
+    }
+    Ok(())
+}
+
 fn compare_said(
     rt: &impl Abort,
     alloc: Global,
@@ -36,18 +51,6 @@ fn compare_said(
     is_solved: bool,
 ) -> Result<(), Fail> {
     let (found, solution) = said(alloc, game)?;
-    check_eq!(rt; found.as_str(), want);
-    check_eq!(rt; solution.is_some(), is_solved);
+    check_eq!(rt; (found.as_str(), solution.is_some()), (want, is_solved));
     Ok(())
-}
-
-#[test]
-fn a_claim_is_posted(rt: HostRuntime) -> Result<(), Fail> {
-    let alloc = rt.alloc();
-    let shared = shared_game(alloc)?;
-    let one = game_of(alloc, &[(0, EVEN, &[0])])?;
-    let lost = game_of(alloc, &[(1, EVEN, &[0])])?;
-    compare_said(&rt, alloc, &shared, "entry 0: 2 settled", false)?;
-    compare_said(&rt, alloc, &one, "entry 0: 1 settled", true)?;
-    compare_said(&rt, alloc, &lost, "Claim(Cycle(0))", false)
 }

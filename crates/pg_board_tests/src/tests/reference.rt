@@ -18,22 +18,20 @@ fn row_of(rows: &[Row], v: u32) -> Option<Row> {
 }
 
 /// The player and choice of the first entry whose rows name the vertex.
-pub fn state_of(entries: &[Entry], v: u32) -> Option<(Player, Option<u32>)> {
+pub fn state_of(entries: &[Entry], v: u32) -> (Option<Player>, Option<u32>) {
     for entry in entries {
         if let Some(row) = row_of(entry.rows.as_slice(), v) {
-            return Some((entry.player, row.1));
+            return (Some(entry.player), row.1);
         }
     }
-    None
+    (None, None)
 }
 
 /// The vertices below `n` that the journal settles for a player.
 pub fn region_of(entries: &[Entry], n: u32, player: Player) -> u32 {
     let mut set = 0;
     for v in 0..n {
-        if let Some((winner, _)) = state_of(entries, v)
-            && winner == player
-        {
+        if state_of(entries, v).0 == Some(player) {
             set |= bit(v);
         }
     }

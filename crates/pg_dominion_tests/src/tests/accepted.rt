@@ -1,16 +1,16 @@
 //! That rankings are accepted: else searches from each bad vertex go on, which would take minutes in a ladder so long that
 //! each of them looks at some of 150,000 levels.
 
-ghost use Rattle.std.specs.Prelude.{◌≡◌, ◌≤◌, IfOk, length};
+ghost use Rattle.std.specs.Prelude.{◌≡◌, ◌≤◌, length};
 
+use crate::tests::asserting::made;
 use crate::tests::bodies::{HOSTILE, ROUNDS, SEED, behind, worst_by_definition};
 use crate::tests::games::{Hostile, add_plain, random_plain};
 use crate::tests::kept::{odd_vertices, worst};
-use pg_game::{Game, Mask, Memory};
+use pg_game::{Game, Mask};
 use pg_test_support::{Draft, Random};
 use std::alloc::Global;
 use std::process::Abort;
-use std::test::Fail;
 
 const LONG: Hostile = Hostile::Ladder(150_000, None);
 
@@ -19,44 +19,45 @@ type Part = (u32, u32, Option<u32>);
 
 /// Adds hostile games, and notes where they stand.
 fn add_hostile(
+    rt: &impl Abort,
     alloc: Global,
     draft: &mut Draft,
     parts: &mut Vec<Part>,
     games: &[(Hostile, Option<u32>)],
-) -> Result<(), Memory> {
-    for (hostile, answer) in games {
+) {
+    for case in games {
         let first = draft.len();
-        hostile.add(alloc, draft)?;
-        parts.push((first, draft.len(), behind(first, *answer)))?;
+        case.0.add(rt, alloc, draft);
+        made(rt, parts.push((first, draft.len(), behind(first, case.1))));
     }
-    Ok(())
 }
 
 /// Adds random games, and notes where they stand.
-fn add_random(alloc: Global, draft: &mut Draft, parts: &mut Vec<Part>) -> Result<(), Memory> {
+fn add_random(rt: &impl Abort, alloc: Global, draft: &mut Draft, parts: &mut Vec<Part>) {
     let mut random = Random::new(SEED);
     for _round in 0..ROUNDS {
-        let plain = random_plain(alloc, &mut random)?;
+        let plain = random_plain(rt, alloc, &mut random);
         let first = draft.len();
-        add_plain(alloc, draft, plain.as_slice())?;
-        let answer = worst_by_definition(alloc, plain.as_slice())?;
-        parts.push((first, draft.len(), behind(first, answer)))?;
+        add_plain(rt, alloc, draft, plain.as_slice());
+        let answer = worst_by_definition(rt, alloc, plain.as_slice());
+        made(rt, parts.push((first, draft.len(), behind(first, answer))));
     }
-    Ok(())
 }
 
 /// The vertices with odd priorities, without those of parts that have an answer, but for the part at `chosen`.
-fn bad_vertices(alloc: Global, game: &Game, parts: &[Part], chosen: usize) -> Result<Mask, Memory>
-    ensures { IfOk result (λ m. length m ≡ length game.now) }
+fn bad_vertices(rt: &impl Abort, alloc: Global, game: &Game, parts: &[Part], chosen: usize) -> Mask
+    ensures { length result ≡ length game.now }
 {
-    let mut bad = odd_vertices(alloc, game)?;
+    let mut bad = odd_vertices(rt, alloc, game);
     let n = game.len();
-    'parts: for (place, (first, end, answer)) in parts.iter().enumerate() {
-        if answer.is_some() && place != chosen {
-            clear(&mut bad, *first, (*end).min(n));
+    let mut place = 0usize;
+    'parts: for part in parts {
+        if part.2.is_some() && place != chosen {
+            clear(&mut bad, part.0, part.1.min(n));
         }
+        place = place.wrapping_add(1);
     }
-    Ok(bad)
+    bad
 }
 
 /// Removes the numbers from one on, before another.
@@ -77,33 +78,35 @@ fn compare_part(
     parts: &[Part],
     chosen: usize,
     want: Option<u32>,
-) -> Result<(), Fail> {
-    let bad = bad_vertices(alloc, game, parts, chosen)?;
-    check_eq!(rt; worst(alloc, game, bad)?, want, "part {chosen}");
-    Ok(())
+) {
+    let bad = bad_vertices(rt, alloc, game, parts, chosen);
+    check_eq!(rt; worst(rt, alloc, game, bad), want);
 }
 
-/// The ladder with all parts, and how these are placed.
-fn long_game(alloc: Global) -> Result<(Game, Vec<Part>), Fail> {
+/// The ladder with all parts, and notes where these stand.
+fn long_game(rt: &impl Abort, alloc: Global, parts: &mut Vec<Part>) -> Game {
     let mut draft = Draft::new(alloc);
-    let mut parts = Vec::new(alloc);
-    LONG.add(alloc, &mut draft)?;
-    add_hostile(alloc, &mut draft, &mut parts, HOSTILE)?;
-    add_random(alloc, &mut draft, &mut parts)?;
-    Ok((draft.game(alloc)?, parts))
+    LONG.add(rt, alloc, &mut draft);
+    add_hostile(rt, alloc, &mut draft, parts, HOSTILE);
+    add_random(rt, alloc, &mut draft, parts);
+    made(rt, draft.game(alloc))
 }
 
 /// No part has a bad closed walk, and then each hostile one that has an answer and each four-hundredth random one alone has its.
-#[test]
-fn a_ranking_is_accepted_of_each_game_behind_a_long_ladder(rt: HostRuntime) -> Result<(), Fail> {
-    let alloc = rt.alloc();
-    let (game, parts) = long_game(alloc)?;
-    let parts = parts.as_slice();
-    compare_part(&rt, alloc, &game, parts, parts.len(), None)?;
-    for (place, (_, _, answer)) in parts.iter().enumerate() {
-        if answer.is_some() && (place < HOSTILE.len() || place % 400 == 0) {
-            compare_part(&rt, alloc, &game, parts, place, *answer)?;
+fn compare_parts(rt: &impl Abort, alloc: Global, game: &Game, parts: &[Part]) {
+    compare_part(rt, alloc, game, parts, parts.len(), None);
+    let mut place = 0usize;
+    for part in parts {
+        if part.2.is_some() && (place < HOSTILE.len() || place % 400 == 0) {
+            compare_part(rt, alloc, game, parts, place, part.2);
         }
+        place = place.wrapping_add(1);
     }
-    Ok(())
+}
+
+#[test]
+fn a_ranking_is_accepted_of_each_game_behind_a_long_ladder(rt: HostRuntime) {
+    let mut parts = Vec::new(rt.alloc());
+    let game = long_game(&rt, rt.alloc(), &mut parts);
+    compare_parts(&rt, rt.alloc(), &game, parts.as_slice());
 }

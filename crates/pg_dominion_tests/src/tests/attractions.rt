@@ -1,91 +1,69 @@
 //! Attractions: worked ones, and all over the smallest games.
 
+ghost use Rattle.std.specs.Prelude.{◌≡◌, length};
+
+use crate::tests::asserting::made;
+use crate::tests::games::{game_made, mask_made, plain_game};
 use crate::tests::reference::{attractor_inside, is_arena, numbered};
 use crate::tests::subgames::{is_subgame, is_within};
 use pg_dominion::attract;
-use pg_game::{Game, Player};
-use pg_test_support::{Plain, Row, bit, game_of, game_of_sets, has, mask_of, vertex};
+use pg_game::{Game, Mask, Player};
+use pg_test_support::{EVEN, ODD, Plain, Row, Vertex, bit, has, vertex};
 use std::alloc::Global;
 use std::process::Abort;
-use std::test::Fail;
 
 /// What is attracted, or none where the masks are no subgame and target.
 fn attracted(
+    rt: &impl Abort,
     alloc: Global,
     game: &Game,
     inside: u32,
     player: Player,
     target: u32,
-) -> Result<Option<Vec<Row>>, Fail> {
-    let n = game.len();
-    let inside = mask_of(alloc, n, inside)?;
-    let target = mask_of(alloc, n, target)?;
-    if is_subgame(game, &inside) && is_within(&target, &inside, n) {
-        return Ok(Some(attract(alloc, game, &inside, player, &target)?));
-    }
-    Ok(None)
+) -> Option<Vec<Row>> {
+    let inside = mask_made(rt, alloc, game.len(), inside);
+    let target = mask_made(rt, alloc, game.len(), target);
+    attracted_in(rt, alloc, game, &inside, player, &target)
 }
 
-/// Compares what is attracted with rows.
-fn compare_rows(
+fn attracted_in(
     rt: &impl Abort,
     alloc: Global,
     game: &Game,
+    inside: &Mask,
     player: Player,
-    inside: u32,
-    target: u32,
-    want: &[Row],
-) -> Result<(), Fail> {
-    let Some(rows) = attracted(alloc, game, inside, player, target)? else {
-        return Err(Fail::from("the masks are no subgame and target"));
-    };
-    check_eq!(rt; rows.as_slice(), want, "{player:?} {inside:b} {target:b}");
-    Ok(())
+    target: &Mask,
+) -> Option<Vec<Row>>
+    requires inside_length { length inside.now ≡ length game.now }
+    requires target_length { length target.now ≡ length game.now }
+{
+    if is_subgame(game, inside) && is_within(target, inside, game.len()) {
+        return Some(made(rt, attract(alloc, game, inside, player, target)));
+    }
+    None
 }
 
-/// Compares what is attracted with the rows of a table, which has a player, the vertices inside and a target.
-fn rows_are(
-    rt: &impl Abort,
-    alloc: Global,
-    game: Game,
-    table: &[(Player, u32, u32, &[Row])],
-) -> Result<(), Fail> {
-    for (player, inside, target, want) in table {
-        compare_rows(rt, alloc, &game, *player, *inside, *target, *want)?;
-    }
-    Ok(())
-}
+/// Attraction in two layers, and an own loop.
+const LAYERED: &[Vertex] = &[(0, EVEN, &[0]), (3, EVEN, &[0, 1]), (3, ODD, &[1])];
+
+/// A player, the vertices inside, a target, and the rows that are attracted.
+const ATTRACTIONS: &[(Player, u32, u32, &[Row])] = &[
+    (EVEN, 0b111, 0b001, &[(1, Some(0)), (2, None)]),
+    (EVEN, 0b111, 0b111, &[]),
+    (ODD, 0b111, 0b010, &[(2, Some(1))]),
+    (EVEN, 0b011, 0b001, &[(1, Some(0))]),
+    (EVEN, 0b000, 0b000, &[]),
+];
 
 #[test]
-fn worked_attractions_have_their_rows(rt: HostRuntime) -> Result<(), Fail> {
-    let alloc = rt.alloc();
-    let game = game_of(
-        alloc,
-        [
-            (0, Player::Even, [0].as_slice()),
-            (3, Player::Even, [0, 1].as_slice()),
-            (3, Player::Odd, [1].as_slice()),
-        ]
-        .as_slice(),
-    )?;
-    rows_are(
-        &rt,
-        alloc,
-        game,
-        [
-            (
-                Player::Even,
-                0b111,
-                0b001,
-                [(1, Some(0)), (2, None)].as_slice(),
-            ),
-            (Player::Even, 0b111, 0b111, [].as_slice()),
-            (Player::Odd, 0b111, 0b010, [(2, Some(1))].as_slice()),
-            (Player::Even, 0b011, 0b001, [(1, Some(0))].as_slice()),
-            (Player::Even, 0b000, 0b000, [].as_slice()),
-        ]
-        .as_slice(),
-    )
+fn worked_attractions_have_their_rows(rt: HostRuntime) {
+    let game = game_made(&rt, rt.alloc(), LAYERED);
+    for case in ATTRACTIONS {
+        match attracted(&rt, rt.alloc(), &game, case.1, case.0, case.2) {
+            Some(rows) => check_eq!(rt; rows.as_slice(), case.3),
+            None => check!(rt; false, "the masks are no subgame and target"),
+        }
+    }
 }
 
 /// Whether each row leads to the target or to earlier rows, and they are the set.
@@ -113,23 +91,6 @@ fn are_right(
     taken == set
 }
 
-/// Whether a subgame, target and player have their attraction, and none where the masks are no subgame and target.
-fn is_right(
-    alloc: Global,
-    plain: &[Plain],
-    game: &Game,
-    inside: u32,
-    player: Player,
-    target: u32,
-) -> Result<Option<bool>, Fail> {
-    let Some(rows) = attracted(alloc, game, inside, player, target)? else {
-        return Ok(None);
-    };
-    let set = attractor_inside(plain, inside, player, target);
-    let rows = rows.as_slice();
-    Ok(Some(are_right(plain, inside, player, target, set, rows)))
-}
-
 /// Compares the attraction in a subgame to a target. Whether the masks are a subgame and target.
 fn is_compared(
     rt: &impl Abort,
@@ -139,38 +100,39 @@ fn is_compared(
     inside: u32,
     player: Player,
     target: u32,
-) -> Result<bool, Fail> {
-    let found = is_right(alloc, plain, game, inside, player, target)?;
-    check!(rt; found != Some(false), "{inside:b} {target:b} {player:?}");
-    Ok(found.is_some())
+) -> bool {
+    let Some(rows) = attracted(rt, alloc, game, inside, player, target) else {
+        return false;
+    };
+    let set = attractor_inside(plain, inside, player, target);
+    let rows = rows.as_slice();
+    check!(rt; are_right(plain, inside, player, target, set, rows));
+    true
 }
 
 /// Compares all subgames, targets and players of a game of three vertices. Gives how many there were.
-fn compare(rt: &impl Abort, alloc: Global, plain: &[Plain]) -> Result<u32, Fail> {
-    let game = game_of_sets(alloc, plain)?;
+fn compare(rt: &impl Abort, alloc: Global, plain: &[Plain]) -> u32 {
+    let game = plain_game(rt, alloc, plain);
     let mut count = 0u32;
-    for number in 0..64u32 {
-        let inside = number / 8;
-        let target = number % 8;
-        for player in [Player::Even, Player::Odd] {
-            if is_compared(rt, alloc, plain, &game, inside, player, target)? {
-                count = count.saturating_add(1);
-            }
+    for number in 0..128u32 {
+        let player = Player::of_parity(number);
+        let inside = number / 16;
+        let target = number / 2 % 8;
+        if is_compared(rt, alloc, plain, &game, inside, player, target) {
+            count = count.saturating_add(1);
         }
     }
-    Ok(count)
+    count
 }
 
 #[test]
-fn every_attraction_over_every_arena_of_three_vertices(rt: HostRuntime) -> Result<(), Fail> {
-    let alloc = rt.alloc();
+fn every_attraction_over_every_arena_of_three_vertices(rt: HostRuntime) {
     let mut count = 0u32;
     for number in 0..74_088 {
-        let plain = numbered(alloc, 3, number)?;
+        let plain = numbered(&rt, rt.alloc(), 3, number);
         if is_arena(plain.as_slice()) {
-            count = count.saturating_add(compare(&rt, alloc, plain.as_slice())?);
+            count = count.saturating_add(compare(&rt, rt.alloc(), plain.as_slice()));
         }
     }
     check!(rt; count > 50_000);
-    Ok(())
 }

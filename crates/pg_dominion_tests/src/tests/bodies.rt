@@ -2,65 +2,72 @@
 //! is looked at along its rows; else, and where that shows nothing, searches begin at each bad vertex; and where these
 //! have taken long, a ranking answers. Behind a ladder it does: searches of the ladder have taken long by then.
 
+use crate::tests::asserting::made;
 use crate::tests::claims::compare_fault;
-use crate::tests::games::{Hostile, add_plain, random_plain};
+use crate::tests::games::{Hostile, add_plain, plain_game, random_plain};
 use crate::tests::kept::{odd_vertices, worst};
 use crate::tests::reference::claim_fault;
 use pg_dominion::ClaimFault;
-use pg_game::{Game, GameFault, Memory};
-use pg_test_support::{Draft, EVEN, Plain, Random, Row, game_of_sets};
+use pg_game::Game;
+use pg_test_support::{Draft, EVEN, Plain, Random, Row, size_of};
 use std::alloc::Global;
 use std::process::Abort;
-use std::test::Fail;
 
 /// Its searches take 2,400 steps, so none begins behind it in a game of at most 900 vertices.
 const SHORT: Hostile = Hostile::Ladder(40, None);
 
-/// A game's claim of all vertices has this least vertex on a bad closed walk, or none.
-fn compare_claim(
-    rt: &impl Abort,
-    alloc: Global,
-    game: &Game,
-    want: Option<u32>,
-) -> Result<(), Fail> {
+/// Rows of so many vertices, without choices. Each is pushed once more where memory was refused.
+pub fn rows_of_all(rt: &impl Abort, alloc: Global, n: u32) -> Vec<Row> {
     let mut rows = Vec::new(alloc);
-    for v in 0..game.len() {
-        rows.push((v, None))?;
+    for v in 0..n {
+        if rows.push((v, None)).is_err() {
+            made(rt, rows.push((v, None)));
+        }
     }
-    let fault = want.map(ClaimFault::Cycle);
-    compare_fault(rt, alloc, game, EVEN, rows.as_slice(), fault)
+    rows
 }
 
-/// The least vertex on a bad closed walk of all edges, without a look along rows.
-fn worst_of(alloc: Global, game: &Game) -> Result<Option<u32>, Memory> {
-    let odd = odd_vertices(alloc, game)?;
-    worst(alloc, game, odd)
+/// The fault of a claim with this least vertex on a bad closed walk.
+fn cycle(worst: Option<u32>) -> Option<ClaimFault> {
+    match worst {
+        Some(v) => Some(ClaimFault::Cycle(v)),
+        None => None,
+    }
 }
 
 /// The vertex behind so many others.
 pub fn behind(first: u32, vertex: Option<u32>) -> Option<u32> {
-    vertex.map(|v| v.saturating_add(first))
+    match vertex {
+        Some(v) => Some(v.saturating_add(first)),
+        None => None,
+    }
 }
 
-fn short_and_hostile(alloc: Global, hostile: Hostile) -> Result<Game, GameFault> {
+/// The least vertex on a bad closed walk of all edges, without a look along rows.
+fn worst_of(rt: &impl Abort, alloc: Global, game: &Game) -> Option<u32> {
+    worst(rt, alloc, game, odd_vertices(rt, alloc, game))
+}
+
+/// A game has this least vertex on a bad closed walk, or none, as a claim of all vertices and by searches; and by a ranking
+/// where it stands behind the short ladder.
+fn compare(rt: &impl Abort, alloc: Global, game: &Game, ranked: &Game, want: Option<u32>) {
+    let rows = rows_of_all(rt, alloc, game.len());
+    compare_fault(rt, alloc, game, EVEN, rows.as_slice(), cycle(want));
+    check_eq!(rt; worst_of(rt, alloc, game), want);
+    check_eq!(rt; worst_of(rt, alloc, ranked), behind(121, want));
+}
+
+/// The short ladder.
+fn short(rt: &impl Abort, alloc: Global) -> Draft {
     let mut draft = Draft::new(alloc);
-    SHORT.add(alloc, &mut draft)?;
-    hostile.add(alloc, &mut draft)?;
-    draft.game(alloc)
+    SHORT.add(rt, alloc, &mut draft);
+    draft
 }
 
-/// A hostile game has this answer as a claim, by searches, and by a ranking.
-fn compare_hostile(
-    rt: &impl Abort,
-    alloc: Global,
-    (hostile, want): (Hostile, Option<u32>),
-) -> Result<(), Fail> {
-    let game = hostile.game(alloc)?;
-    compare_claim(rt, alloc, &game, want)?;
-    check_eq!(rt; worst_of(alloc, &game)?, want, "{hostile:?}");
-    let ranked = short_and_hostile(alloc, hostile)?;
-    check_eq!(rt; worst_of(alloc, &ranked)?, behind(121, want), "{hostile:?}, ranked");
-    Ok(())
+fn short_and_hostile(rt: &impl Abort, alloc: Global, hostile: Hostile) -> Game {
+    let mut draft = short(rt, alloc);
+    hostile.add(rt, alloc, &mut draft);
+    made(rt, draft.game(alloc))
 }
 
 pub const HOSTILE: &[(Hostile, Option<u32>)] = &[
@@ -79,43 +86,35 @@ pub const HOSTILE: &[(Hostile, Option<u32>)] = &[
 ];
 
 #[test]
-fn hostile_games_have_the_same_answer_in_each_body(rt: HostRuntime) -> Result<(), Fail> {
+fn hostile_games_have_the_same_answer_in_each_body(rt: HostRuntime) {
     for case in HOSTILE {
-        compare_hostile(&rt, rt.alloc(), *case)?;
+        let game = case.0.game(&rt, rt.alloc());
+        let ranked = short_and_hostile(&rt, rt.alloc(), case.0);
+        compare(&rt, rt.alloc(), &game, &ranked, case.1);
     }
-    Ok(())
 }
 
-fn short_and_plain(alloc: Global, plain: &[Plain]) -> Result<Game, GameFault> {
-    let mut draft = Draft::new(alloc);
-    SHORT.add(alloc, &mut draft)?;
-    add_plain(alloc, &mut draft, plain)?;
-    draft.game(alloc)
+fn short_and_plain(rt: &impl Abort, alloc: Global, plain: &[Plain]) -> Game {
+    let mut draft = short(rt, alloc);
+    add_plain(rt, alloc, &mut draft, plain);
+    made(rt, draft.game(alloc))
 }
 
 /// The least vertex on a bad closed walk of all edges, by the reference.
-pub fn worst_by_definition(alloc: Global, plain: &[Plain]) -> Result<Option<u32>, Memory> {
-    let mut rows: Vec<Row> = Vec::new(alloc);
-    let mut v = 0u32;
-    for _vertex in plain {
-        rows.push((v, None))?;
-        v = v.saturating_add(1);
-    }
+pub fn worst_by_definition(rt: &impl Abort, alloc: Global, plain: &[Plain]) -> Option<u32> {
+    let rows = rows_of_all(rt, alloc, size_of(plain));
     match claim_fault(plain, EVEN, rows.as_slice()) {
-        Some(ClaimFault::Cycle(v)) => Ok(Some(v)),
-        _ => Ok(None),
+        Some(ClaimFault::Cycle(v)) => Some(v),
+        _ => None,
     }
 }
 
-/// A random game has the reference's answer as a claim, by searches, and by a ranking. Whether it has no bad closed walk.
-fn is_good(rt: &impl Abort, alloc: Global, plain: &[Plain]) -> Result<bool, Fail> {
-    let want = worst_by_definition(alloc, plain)?;
-    let game = game_of_sets(alloc, plain)?;
-    compare_claim(rt, alloc, &game, want)?;
-    check_eq!(rt; worst_of(alloc, &game)?, want, "{plain:?}");
-    let ranked = short_and_plain(alloc, plain)?;
-    check_eq!(rt; worst_of(alloc, &ranked)?, behind(121, want), "{plain:?}, ranked");
-    Ok(want.is_none())
+/// A random game has the reference's answer. Whether it has no bad closed walk.
+fn is_good(rt: &impl Abort, alloc: Global, plain: &[Plain]) -> bool {
+    let want = worst_by_definition(rt, alloc, plain);
+    let game = plain_game(rt, alloc, plain);
+    compare(rt, alloc, &game, &short_and_plain(rt, alloc, plain), want);
+    want.is_none()
 }
 
 pub const SEED: u64 = 20_241_122;
@@ -123,16 +122,14 @@ pub const SEED: u64 = 20_241_122;
 pub const ROUNDS: u32 = 3_000;
 
 #[test]
-fn random_games_have_the_same_answer_in_each_body(rt: HostRuntime) -> Result<(), Fail> {
-    let alloc = rt.alloc();
+fn random_games_have_the_same_answer_in_each_body(rt: HostRuntime) {
     let mut random = Random::new(SEED);
     let mut good = 0u32;
     for _round in 0..ROUNDS {
-        let plain = random_plain(alloc, &mut random)?;
-        if is_good(&rt, alloc, plain.as_slice())? {
+        let plain = random_plain(&rt, rt.alloc(), &mut random);
+        if is_good(&rt, rt.alloc(), plain.as_slice()) {
             good = good.saturating_add(1);
         }
     }
     check!(rt; good > 300 && good < 2_700);
-    Ok(())
 }

@@ -1,188 +1,161 @@
 //! What a checked claim tells of its game, and in which other games it is told apart.
 
+use crate::tests::asserting::made;
+use crate::tests::games::{claim_of, game_made, plain_game};
 use pg_dominion::{Checked, CheckedRow, Claim, check_claim};
-use pg_game::{Game, Memory, Player, Sequence};
+use pg_game::{Game, Player};
 use pg_test_support::{
-    EVEN, ODD, Plain, Random, Row, bit, first_foreign, game_of, game_of_sets, size_of, vertex,
-    vertices_of,
+    EVEN, ODD, Plain, Random, Row, Vertex, bit, first_foreign, size_of, vertex, vertices_of,
 };
 use std::alloc::Global;
 use std::process::Abort;
-use std::test::Fail;
 
-/// A claim's check, or none where the claim is refused.
-fn checked<'g>(
-    alloc: Global,
-    game: &'g Game,
-    player: Player,
-    rows: &[Row],
-) -> Result<Option<Checked<'g>>, Fail> {
-    let claim = Claim {
-        player,
-        rows: Sequence::new(Vec::from_slice(alloc, rows)?),
-    };
-    Ok(check_claim(alloc, game, &claim).ok())
+/// A claim's check, which is accepted.
+fn checked<'g>(rt: &impl Abort, alloc: Global, game: &'g Game, claim: &Claim) -> Checked<'g> {
+    made(rt, check_claim(alloc, game, claim))
 }
 
 /// Vertex, owner, priority and kept successors of a row.
 type Told<'a> = (u32, Player, u32, &'a [u32]);
 
-fn compare_row(rt: &impl Abort, row: &CheckedRow, want: Told) {
-    let (vertex, owner, priority, kept) = want;
-    check_eq!(rt; row.vertex, vertex);
-    check_eq!(rt; row.owner, owner, "the owner of {vertex}");
-    check_eq!(rt; row.priority, priority, "the priority of {vertex}");
-    check_eq!(rt; row.kept.as_slice(), kept, "what is kept at {vertex}");
+fn compare_row(rt: &impl Abort, row: &CheckedRow, want: Option<&Told>) {
+    let found = (row.vertex, row.owner, row.priority, row.kept.as_slice());
+    check_eq!(rt; Some(&found), want);
 }
 
 /// Compares the rows of a checked claim with vertex, owner, priority and kept successors.
-fn rows_are(
+fn compare_checked(
     rt: &impl Abort,
-    alloc: Global,
-    game: &Game,
+    checked: &Checked,
     player: Player,
     rows: &[Row],
     want: &[Told],
-) -> Result<(), Fail> {
-    let Some(checked) = checked(alloc, game, player, rows)? else {
-        return Err(Fail::from("the claim was refused"));
-    };
+) {
     check_eq!(rt; checked.player(), player);
     check_eq!(rt; checked.claim().rows.as_slice(), rows);
     check_eq!(rt; checked.rows().len(), want.len());
-    for (row, told) in checked.rows().iter().zip(want.iter()) {
-        compare_row(rt, row, *told);
+    let mut at = 0usize;
+    for row in checked.rows() {
+        compare_row(rt, row, want.get(at));
+        at = at.wrapping_add(1);
     }
-    Ok(())
 }
+
+const GAME: &[Vertex] = &[
+    (7, ODD, &[3]),
+    (2, EVEN, &[1, 3]),
+    (1, ODD, &[0, 1, 3]),
+    (4, EVEN, &[0, 2]),
+];
+
+/// Claims in that game, and what is told of their rows.
+const CLAIMS: &[(Player, &[Row], &[Told])] = &[
+    (
+        EVEN,
+        &[(1, Some(3)), (2, None), (3, Some(2))],
+        &[
+            (1, EVEN, 2, &[3]),
+            (2, ODD, 1, &[0, 1, 3]),
+            (3, EVEN, 4, &[2]),
+        ],
+    ),
+    (
+        ODD,
+        &[(0, Some(3)), (3, None)],
+        &[(0, ODD, 7, &[3]), (3, EVEN, 4, &[0, 2])],
+    ),
+];
 
 #[test]
-fn a_checked_claim_has_the_rows_of_its_game(rt: HostRuntime) -> Result<(), Fail> {
-    let alloc = rt.alloc();
-    let game = game_of(
-        alloc,
-        [
-            (7, Player::Odd, [3].as_slice()),
-            (2, Player::Even, [1, 3].as_slice()),
-            (1, Player::Odd, [0, 1, 3].as_slice()),
-            (4, Player::Even, [0, 2].as_slice()),
-        ]
-        .as_slice(),
-    )?;
-    rows_are(
-        &rt,
-        alloc,
-        &game,
-        Player::Even,
-        [(1, Some(3)), (2, None), (3, Some(2))].as_slice(),
-        [
-            (1, Player::Even, 2, [3].as_slice()),
-            (2, Player::Odd, 1, [0, 1, 3].as_slice()),
-            (3, Player::Even, 4, [2].as_slice()),
-        ]
-        .as_slice(),
-    )?;
-    rows_are(
-        &rt,
-        alloc,
-        &game,
-        Player::Odd,
-        [(0, Some(3)), (3, None)].as_slice(),
-        [
-            (0, Player::Odd, 7, [3].as_slice()),
-            (3, Player::Even, 4, [0, 2].as_slice()),
-        ]
-        .as_slice(),
-    )
+fn a_checked_claim_has_the_rows_of_its_game(rt: HostRuntime) {
+    let game = game_made(&rt, rt.alloc(), GAME);
+    for case in CLAIMS {
+        let claim = claim_of(&rt, rt.alloc(), case.0, case.1);
+        let checked = checked(&rt, rt.alloc(), &game, &claim);
+        compare_checked(&rt, &checked, case.0, case.1, case.2);
+    }
 }
 
-/// Compares what is foreign in another game of the rows of a claim of Even in the first one.
+/// A game, the rows of a claim of Even there, another game, and the vertex of the first row that is foreign there.
+type Foreign<'a> = (&'a [Plain], &'a [Row], &'a [Plain], Option<u32>);
+
+const FOREIGN: &[Foreign] = &[
+    (
+        &[(0, ODD, 0b1)],
+        &[(0, None)],
+        &[(0, ODD, 0b11), (0, ODD, 0b10)],
+        Some(0),
+    ),
+    (
+        &[(0, EVEN, 0b11), (0, EVEN, 0b10)],
+        &[(0, Some(0))],
+        &[(0, EVEN, 0b1)],
+        None,
+    ),
+    (
+        &[(0, EVEN, 0b11), (0, EVEN, 0b10)],
+        &[(1, Some(1))],
+        &[(0, EVEN, 0b1)],
+        Some(1),
+    ),
+    (
+        &[(0, EVEN, 0b1)],
+        &[(0, Some(0))],
+        &[(2, EVEN, 0b1)],
+        Some(0),
+    ),
+    (
+        &[(0, EVEN, 0b1)],
+        &[(0, Some(0))],
+        &[(0, ODD, 0b1)],
+        Some(0),
+    ),
+    (
+        &[(0, EVEN, 0b1)],
+        &[(0, Some(0))],
+        &[(0, EVEN, 0b10), (0, EVEN, 0b10)],
+        Some(0),
+    ),
+    (
+        &[(0, ODD, 0b10), (0, ODD, 0b11)],
+        &[(0, None), (1, None)],
+        &[(0, ODD, 0b10), (0, ODD, 0b10)],
+        Some(1),
+    ),
+];
+
+#[test]
+fn the_first_row_that_differs_is_foreign(rt: HostRuntime) {
+    for case in FOREIGN {
+        let game = plain_game(&rt, rt.alloc(), case.0);
+        let claim = claim_of(&rt, rt.alloc(), EVEN, case.1);
+        compare_foreign(&rt, rt.alloc(), &game, &claim, case.2, case.3);
+    }
+}
+
+/// What is foreign in another game of a claim, and that nothing is in its own.
 fn compare_foreign(
     rt: &impl Abort,
     alloc: Global,
-    first: &[Plain],
-    rows: &[Row],
-    second: &[Plain],
+    game: &Game,
+    claim: &Claim,
+    other: &[Plain],
     want: Option<u32>,
-) -> Result<(), Fail> {
-    let game = game_of_sets(alloc, first)?;
-    let other = game_of_sets(alloc, second)?;
-    let Some(checked) = checked(alloc, &game, Player::Even, rows)? else {
-        return Err(Fail::from("the claim was refused"));
-    };
-    check_eq!(rt;
-        checked.first_foreign(&other),
-        want,
-        "{rows:?} {first:?} {second:?}"
-    );
-    check_eq!(rt; checked.first_foreign(&game), None);
-    Ok(())
+) {
+    let checked = checked(rt, alloc, game, claim);
+    compare_in(rt, alloc, &checked, other, want);
+    check_eq!(rt; checked.first_foreign(game), None);
 }
 
-/// Compares what is foreign with a table, which has a game, the rows of a claim of Even there, and another game.
-fn foreign_is(
+fn compare_in(
     rt: &impl Abort,
     alloc: Global,
-    table: &[(&[Plain], &[Row], &[Plain], Option<u32>)],
-) -> Result<(), Fail> {
-    for (first, rows, second, want) in table {
-        compare_foreign(rt, alloc, *first, *rows, *second, *want)?;
-    }
-    Ok(())
-}
-
-#[test]
-fn the_first_row_that_differs_is_foreign(rt: HostRuntime) -> Result<(), Fail> {
-    let alloc = rt.alloc();
-    foreign_is(
-        &rt,
-        alloc,
-        [
-            (
-                [(0, Player::Odd, 0b1)].as_slice(),
-                [(0, None)].as_slice(),
-                [(0, Player::Odd, 0b11), (0, Player::Odd, 0b10)].as_slice(),
-                Some(0),
-            ),
-            (
-                [(0, Player::Even, 0b11), (0, Player::Even, 0b10)].as_slice(),
-                [(0, Some(0))].as_slice(),
-                [(0, Player::Even, 0b1)].as_slice(),
-                None,
-            ),
-            (
-                [(0, Player::Even, 0b11), (0, Player::Even, 0b10)].as_slice(),
-                [(1, Some(1))].as_slice(),
-                [(0, Player::Even, 0b1)].as_slice(),
-                Some(1),
-            ),
-            (
-                [(0, Player::Even, 0b1)].as_slice(),
-                [(0, Some(0))].as_slice(),
-                [(2, Player::Even, 0b1)].as_slice(),
-                Some(0),
-            ),
-            (
-                [(0, Player::Even, 0b1)].as_slice(),
-                [(0, Some(0))].as_slice(),
-                [(0, Player::Odd, 0b1)].as_slice(),
-                Some(0),
-            ),
-            (
-                [(0, Player::Even, 0b1)].as_slice(),
-                [(0, Some(0))].as_slice(),
-                [(0, Player::Even, 0b10), (0, Player::Even, 0b10)].as_slice(),
-                Some(0),
-            ),
-            (
-                [(0, Player::Odd, 0b10), (0, Player::Odd, 0b11)].as_slice(),
-                [(0, None), (1, None)].as_slice(),
-                [(0, Player::Odd, 0b10), (0, Player::Odd, 0b10)].as_slice(),
-                Some(1),
-            ),
-        ]
-        .as_slice(),
-    )
+    checked: &Checked,
+    other: &[Plain],
+    want: Option<u32>,
+) {
+    let other = plain_game(rt, alloc, other);
+    check_eq!(rt; checked.first_foreign(&other), want);
 }
 
 /// The set of all vertices of a game of `n`.
@@ -216,98 +189,113 @@ fn altered(random: &mut Random, vertex: Plain, n: u32) -> Plain {
     }
 }
 
-/// A random game of `n` vertices.
-fn random_plain(alloc: Global, random: &mut Random, n: u32) -> Result<Vec<Plain>, Memory> {
-    let mut rows = Vec::new(alloc);
-    for _v in 0..n {
-        rows.push(random_row(random, n))?;
-    }
-    Ok(rows)
-}
-
-/// A random game of `n` vertices, each of which is mostly as in another game, if it is there.
-fn random_like(
+/// A random game of `n` vertices, each of which is mostly as in another game, if there is one, and if it is there.
+fn random_plain(
+    rt: &impl Abort,
     alloc: Global,
     random: &mut Random,
     n: u32,
-    like: &[Plain],
-) -> Result<Vec<Plain>, Memory> {
+    like: Option<&[Plain]>,
+) -> Vec<Plain> {
     let mut rows = Vec::new(alloc);
     for v in 0..n {
-        rows.push(altered(random, vertex(like, v), n))?;
+        let row = match like {
+            Some(like) => altered(random, vertex(like, v), n),
+            None => random_row(random, n),
+        };
+        made(rt, rows.push(row));
     }
-    Ok(rows)
+    rows
+}
+
+/// A random choice of a vertex where the player owns it.
+fn random_choice(
+    rt: &impl Abort,
+    alloc: Global,
+    random: &mut Random,
+    vertex: Plain,
+    player: Player,
+) -> Option<u32> {
+    let successors = made(rt, vertices_of(alloc, vertex.2));
+    let at = random.below(successors.len().min(32) as u32);
+    if vertex.1 == player {
+        successors.as_slice().get(at as usize).copied()
+    } else {
+        None
+    }
 }
 
 /// Random rows of a player, mostly right in the game.
 fn random_rows(
+    rt: &impl Abort,
     alloc: Global,
     random: &mut Random,
     plain: &[Plain],
     player: Player,
-) -> Result<Vec<Row>, Memory> {
+) -> Vec<Row> {
     let mut rows = Vec::new(alloc);
     for v in 0..size_of(plain) {
-        if random.below(4) == 0 {
-            continue;
+        if random.below(4) != 0 {
+            let choice = random_choice(rt, alloc, random, vertex(plain, v), player);
+            made(rt, rows.push((v, choice)));
         }
-        let (_, owner, set) = vertex(plain, v);
-        let successors = vertices_of(alloc, set)?;
-        let at = random.below(successors.len().min(32) as u32);
-        let choice = successors.as_slice().get(at as usize).copied();
-        let is_own = owner == player;
-        rows.push((v, choice.filter(|_w| is_own)))?;
     }
-    Ok(rows)
+    rows
 }
 
 /// Compares what is foreign in a random game that is mostly as the checked claim's. Whether some row is.
-fn compare_with_another(
+fn is_foreign(
     rt: &impl Abort,
     alloc: Global,
     random: &mut Random,
     plain: &[Plain],
     checked: &Checked,
     rows: &[Row],
-) -> Result<bool, Fail> {
+) -> bool {
     let n = size_of(plain);
     let size = n.saturating_add(random.below(3)).saturating_sub(1).max(1);
-    let second = random_like(alloc, random, size, plain)?;
+    let second = random_plain(rt, alloc, random, size, Some(plain));
     let want = first_foreign(plain, second.as_slice(), rows);
-    let other = game_of_sets(alloc, second.as_slice())?;
-    check_eq!(rt; checked.first_foreign(&other), want, "{rows:?}");
-    Ok(want.is_some())
+    compare_in(rt, alloc, checked, second.as_slice(), want);
+    want.is_some()
 }
 
-/// Compares what is foreign in a random pair of games. None where the random claim was refused; else whether some row was foreign.
-fn compare(rt: &impl Abort, alloc: Global, random: &mut Random) -> Result<Option<bool>, Fail> {
-    let n = random.below(6).saturating_add(1);
-    let made = random_plain(alloc, random, n)?;
-    let plain = made.as_slice();
+/// Compares what is foreign of a random claim of a game. None where it is refused; else whether some row is foreign.
+fn compare(
+    rt: &impl Abort,
+    alloc: Global,
+    random: &mut Random,
+    plain: &[Plain],
+    game: &Game,
+) -> Option<bool> {
     let player = Player::of_parity(random.below(2));
-    let rows = random_rows(alloc, random, plain, player)?;
-    let rows = rows.as_slice();
-    let game = game_of_sets(alloc, plain)?;
-    let Some(checked) = checked(alloc, &game, player, rows)? else {
-        return Ok(None);
-    };
-    let is_foreign = compare_with_another(rt, alloc, random, plain, &checked, rows)?;
-    Ok(Some(is_foreign))
+    let rows = random_rows(rt, alloc, random, plain, player);
+    let claim = claim_of(rt, alloc, player, rows.as_slice());
+    match check_claim(alloc, game, &claim) {
+        Ok(checked) => Some(is_foreign(rt, alloc, random, plain, &checked, rows.as_slice())),
+        Err(_) => None,
+    }
+}
+
+/// The same in a random game.
+fn compare_random(rt: &impl Abort, alloc: Global, random: &mut Random) -> Option<bool> {
+    let n = random.below(6).saturating_add(1);
+    let plain = random_plain(rt, alloc, random, n, None);
+    let game = plain_game(rt, alloc, plain.as_slice());
+    compare(rt, alloc, random, plain.as_slice(), &game)
 }
 
 #[test]
-fn what_is_foreign_in_a_thousand_random_pairs_of_games(rt: HostRuntime) -> Result<(), Fail> {
-    let alloc = rt.alloc();
+fn what_is_foreign_in_a_thousand_random_pairs_of_games(rt: HostRuntime) {
     let mut random = Random::new(1_993);
     let mut foreign = 0u32;
     let mut agreeing = 0u32;
     for _round in 0..6_000u32 {
-        match compare(&rt, alloc, &mut random)? {
+        match compare_random(&rt, rt.alloc(), &mut random) {
             Some(true) => foreign = foreign.saturating_add(1),
             Some(false) => agreeing = agreeing.saturating_add(1),
             None => {}
         }
     }
-    check!(rt; foreign > 1_000 && agreeing > 500, "{foreign} {agreeing}");
-    Ok(())
+    check!(rt; foreign > 1_000 && agreeing > 500);
 }

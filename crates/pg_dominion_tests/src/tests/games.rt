@@ -1,21 +1,76 @@
 //! Games that are hostile to searches, and random ones. Their vertices are Odd's, so that Even's claim of them all keeps all
 //! edges. Each stands behind what a draft has already.
 
-use pg_game::{Game, GameFault, Memory};
-use pg_test_support::{Draft, ODD, Plain, Random, bit, vertices_of};
+ghost use Rattle.std.specs.Prelude.{◌≡◌, length};
+
+use crate::tests::asserting::made;
+use pg_dominion::Claim;
+use pg_game::{Game, Mask, Player, Sequence};
+use pg_test_support::{
+    Draft, ODD, Plain, Random, Row, Vertex, bit, game_of, game_of_sets, mask_of, vertices_of,
+};
 use std::alloc::Global;
+use std::process::Abort;
+
+/// The game of a table, made once more where memory was refused.
+pub fn game_made(rt: &impl Abort, alloc: Global, vertices: &[Vertex]) -> Game {
+    match game_of(alloc, vertices) {
+        Ok(game) => game,
+        Err(_) => made(rt, game_of(alloc, vertices)),
+    }
+}
+
+pub fn plain_game(rt: &impl Abort, alloc: Global, plain: &[Plain]) -> Game {
+    made(rt, game_of_sets(alloc, plain))
+}
+
+/// A claim, made once more where memory was refused.
+pub fn claim_of(rt: &impl Abort, alloc: Global, player: Player, rows: &[Row]) -> Claim {
+    let rows = match Vec::from_slice(alloc, rows) {
+        Ok(copy) => copy,
+        Err(_) => made(rt, Vec::from_slice(alloc, rows)),
+    };
+    Claim {
+        player,
+        rows: Sequence::new(rows),
+    }
+}
+
+/// The mask of length `n` with the members of a set, made once more where memory was refused.
+pub fn mask_made(rt: &impl Abort, alloc: Global, n: u32, set: u32) -> Mask
+    ensures { length result ≡ n }
+{
+    match mask_of(alloc, n, set) {
+        Ok(mask) => mask,
+        Err(_) => mask_of(alloc, n, set).expect(rt, "no memory"),
+    }
+}
+
+/// Adds a vertex, once more where memory was refused.
+fn add(
+    rt: &impl Abort,
+    alloc: Global,
+    draft: &mut Draft,
+    priority: u32,
+    owner: Player,
+    successors: &[u32],
+) {
+    if draft.add(alloc, priority, owner, successors).is_err() {
+        made(rt, draft.add(alloc, priority, owner, successors));
+    }
+}
 
 /// The numbers from one on, before another.
-fn numbers(alloc: Global, from: u32, to: u32) -> Result<Vec<u32>, Memory> {
+fn numbers(rt: &impl Abort, alloc: Global, from: u32, to: u32) -> Vec<u32> {
     let mut numbers = Vec::new(alloc);
     for number in from..to {
-        numbers.push(number)?;
+        made(rt, numbers.push(number));
     }
-    Ok(numbers)
+    numbers
 }
 
 /// A hostile game.
-#[derive(Clone, Copy, Debug)]
+#[derive(Clone, Copy)]
 pub enum Hostile {
     /// One cycle through so many vertices, with the priority at the last of them and 1 at the others.
     Cycle(u32, u32),
@@ -33,97 +88,101 @@ pub enum Hostile {
 
 impl Hostile {
     /// Adds its vertices.
-    pub fn add(self, alloc: Global, draft: &mut Draft) -> Result<(), Memory> {
+    pub fn add(self, rt: &impl Abort, alloc: Global, draft: &mut Draft) {
         match self {
-            Hostile::Cycle(n, priority) => add_cycle(alloc, draft, n, priority),
-            Hostile::Downward(n) => add_downward(alloc, draft, n),
-            Hostile::Ladder(levels, turned) => {
-                let first = draft.len();
-                add_ring(alloc, draft, levels)?;
-                add_levels(alloc, draft, first, levels, turned)
-            }
-            Hostile::Dense(n, step) => add_dense(alloc, draft, n, step),
-            Hostile::Chords(n, more) => add_chords(alloc, draft, n, more),
+            Hostile::Cycle(n, priority) => add_cycle(rt, alloc, draft, n, priority),
+            Hostile::Downward(n) => add_downward(rt, alloc, draft, n),
+            Hostile::Ladder(levels, turned) => add_ladder(rt, alloc, draft, levels, turned),
+            Hostile::Dense(n, step) => add_dense(rt, alloc, draft, n, step),
+            Hostile::Chords(n, more) => add_chords(rt, alloc, draft, n, more),
         }
     }
 
-    pub fn game(self, alloc: Global) -> Result<Game, GameFault> {
+    fn draft(self, rt: &impl Abort, alloc: Global) -> Draft {
         let mut draft = Draft::new(alloc);
-        self.add(alloc, &mut draft)?;
-        draft.game(alloc)
+        self.add(rt, alloc, &mut draft);
+        draft
+    }
+
+    /// The game alone, made once more where memory was refused.
+    pub fn game(self, rt: &impl Abort, alloc: Global) -> Game {
+        match self.draft(rt, alloc).game(alloc) {
+            Ok(game) => game,
+            Err(_) => made(rt, self.draft(rt, alloc).game(alloc)),
+        }
     }
 }
 
-fn add_cycle(alloc: Global, draft: &mut Draft, n: u32, priority: u32) -> Result<(), Memory> {
+fn add_cycle(rt: &impl Abort, alloc: Global, draft: &mut Draft, n: u32, priority: u32) {
     let first = draft.len();
-    let last = n.saturating_sub(1);
-    for _v in 0..last {
+    for _v in 0..n.saturating_sub(1) {
         let next = draft.len().saturating_add(1);
-        draft.add(alloc, 1, ODD, [next].as_slice())?;
+        add(rt, alloc, draft, 1, ODD, &[next]);
     }
-    draft.add(alloc, priority, ODD, [first].as_slice())
+    add(rt, alloc, draft, priority, ODD, &[first]);
 }
 
-fn add_downward(alloc: Global, draft: &mut Draft, n: u32) -> Result<(), Memory> {
+fn add_downward(rt: &impl Abort, alloc: Global, draft: &mut Draft, n: u32) {
     let first = draft.len();
-    draft.add(alloc, 0, ODD, [first].as_slice())?;
+    add(rt, alloc, draft, 0, ODD, &[first]);
     for v in 1..n {
-        let below = numbers(alloc, first, draft.len())?;
+        let below = numbers(rt, alloc, first, draft.len());
         let priority = v.saturating_mul(2).saturating_sub(1);
-        draft.add(alloc, priority, ODD, below.as_slice())?;
+        add(rt, alloc, draft, priority, ODD, below.as_slice());
     }
-    Ok(())
 }
 
-/// The ring of a ladder.
-fn add_ring(alloc: Global, draft: &mut Draft, levels: u32) -> Result<(), Memory> {
+fn add_ladder(rt: &impl Abort, alloc: Global, draft: &mut Draft, levels: u32, turned: Option<u32>) {
     let first = draft.len();
-    let good = first.saturating_add(levels).saturating_add(1);
-    for v in 0..levels {
-        let next = draft.len().saturating_add(1);
-        let up = good.saturating_add(v.saturating_mul(2));
-        draft.add(alloc, 0, ODD, [next, up].as_slice())?;
-    }
-    draft.add(alloc, 0, ODD, [first].as_slice())
-}
-
-/// The good and the bad vertices of a ladder whose ring begins at `first`.
-fn add_levels(
-    alloc: Global,
-    draft: &mut Draft,
-    first: u32,
-    levels: u32,
-    turned: Option<u32>,
-) -> Result<(), Memory> {
+    add_ring(rt, alloc, draft, levels);
     let mut below = first;
     for level in 0..levels {
         let good = draft.len();
         let next = first.saturating_add(level).saturating_add(1);
         let priority = level.saturating_mul(2).saturating_add(2);
-        draft.add(
+        add(
+            rt,
             alloc,
+            draft,
             priority,
             ODD,
-            [next, good.saturating_add(1)].as_slice(),
-        )?;
+            &[next, good.saturating_add(1)],
+        );
         let bad = if turned == Some(level) {
             levels.saturating_mul(2).saturating_add(3)
         } else {
             priority.saturating_sub(1)
         };
-        draft.add(alloc, bad, ODD, [below].as_slice())?;
+        add(rt, alloc, draft, bad, ODD, &[below]);
         below = good;
     }
-    Ok(())
 }
 
-fn add_dense(alloc: Global, draft: &mut Draft, n: u32, step: u32) -> Result<(), Memory> {
+/// The ring of a ladder.
+fn add_ring(rt: &impl Abort, alloc: Global, draft: &mut Draft, levels: u32) {
     let first = draft.len();
-    let all = numbers(alloc, first, first.saturating_add(n))?;
-    for v in 0..n {
-        draft.add(alloc, v.saturating_mul(step), ODD, all.as_slice())?;
+    let good = first.saturating_add(levels).saturating_add(1);
+    for v in 0..levels {
+        let next = draft.len().saturating_add(1);
+        let up = good.saturating_add(v.saturating_mul(2));
+        add(rt, alloc, draft, 0, ODD, &[next, up]);
     }
-    Ok(())
+    add(rt, alloc, draft, 0, ODD, &[first]);
+}
+
+fn add_dense(rt: &impl Abort, alloc: Global, draft: &mut Draft, n: u32, step: u32) {
+    let first = draft.len();
+    let all = numbers(rt, alloc, first, first.saturating_add(n));
+    for v in 0..n {
+        add(
+            rt,
+            alloc,
+            draft,
+            v.saturating_mul(step),
+            ODD,
+            all.as_slice(),
+        );
+    }
 }
 
 /// The vertex of a cycle of so many that stands so far from its first one.
@@ -132,33 +191,33 @@ fn on_cycle(first: u32, n: u32, at: u32) -> u32 {
     first.saturating_add(place)
 }
 
-fn add_chords(alloc: Global, draft: &mut Draft, n: u32, more: u32) -> Result<(), Memory> {
+fn add_chords(rt: &impl Abort, alloc: Global, draft: &mut Draft, n: u32, more: u32) {
     let first = draft.len().saturating_add(1);
-    draft.add(alloc, 1, ODD, [first].as_slice())?;
+    add(rt, alloc, draft, 1, ODD, &[first]);
     for v in 0..n {
         let next = on_cycle(first, n, v.saturating_add(1));
         let second = on_cycle(first, n, v.saturating_add(2));
         if v < more {
             let third = on_cycle(first, n, v.saturating_add(3));
-            draft.add(alloc, 0, ODD, [next, second, third].as_slice())?;
+            add(rt, alloc, draft, 0, ODD, &[next, second, third]);
         } else {
-            draft.add(alloc, 0, ODD, [next, second].as_slice())?;
+            add(rt, alloc, draft, 0, ODD, &[next, second]);
         }
     }
-    draft.add(alloc, 1, ODD, [first].as_slice())
+    add(rt, alloc, draft, 1, ODD, &[first]);
 }
 
 /// One to 24 vertices with one to three random successors each.
-pub fn random_plain(alloc: Global, random: &mut Random) -> Result<Vec<Plain>, Memory> {
+pub fn random_plain(rt: &impl Abort, alloc: Global, random: &mut Random) -> Vec<Plain> {
     let n = random.below(24).saturating_add(1);
     let degree = random.below(3).saturating_add(1);
     let priorities = random.below(12).saturating_add(1);
     let mut rows = Vec::new(alloc);
     for _v in 0..n {
         let successors = random_set(random, n, degree);
-        rows.push((random.below(priorities), ODD, successors))?;
+        made(rt, rows.push((random.below(priorities), ODD, successors)));
     }
-    Ok(rows)
+    rows
 }
 
 /// So many random members below `n`, of which some may be the same.
@@ -171,20 +230,19 @@ fn random_set(random: &mut Random, n: u32, degree: u32) -> u32 {
 }
 
 /// The members of a set, each so much greater.
-fn moved(alloc: Global, set: u32, by: u32) -> Result<Vec<u32>, Memory> {
-    let mut moved = Vec::new(alloc);
-    for v in &vertices_of(alloc, set)? {
-        moved.push(v.saturating_add(by))?;
+fn moved(rt: &impl Abort, alloc: Global, set: u32, by: u32) -> Vec<u32> {
+    let mut moved = made(rt, vertices_of(alloc, set));
+    for v in moved.as_mut_slice() {
+        *v = v.saturating_add(by);
     }
-    Ok(moved)
+    moved
 }
 
 /// Adds the vertices of a table.
-pub fn add_plain(alloc: Global, draft: &mut Draft, rows: &[Plain]) -> Result<(), Memory> {
+pub fn add_plain(rt: &impl Abort, alloc: Global, draft: &mut Draft, rows: &[Plain]) {
     let first = draft.len();
-    for (priority, owner, set) in rows {
-        let successors = moved(alloc, *set, first)?;
-        draft.add(alloc, *priority, *owner, successors.as_slice())?;
+    for row in rows {
+        let successors = moved(rt, alloc, row.2, first);
+        add(rt, alloc, draft, row.0, row.1, successors.as_slice());
     }
-    Ok(())
 }

@@ -1,46 +1,88 @@
 //! Kept edges of a game, and the least bad vertex that they have.
 
-ghost use Rattle.std.specs.Prelude.{◌≡◌, IfOk, length};
+ghost use Rattle.std.specs.Prelude.{◌≡◌, length, vec_len, replicate, false};
 ghost use Rattle.pg_dominion.specs.KeptEdges.{IsKept};
 
+use crate::tests::asserting::made;
 use pg_dominion::{Kept, first_worst};
-use pg_game::{Game, Mask, Memory, Player};
+use pg_game::{Game, Mask, Player};
 use pg_test_support::ODD;
 use std::alloc::Global;
+use std::process::Abort;
 
 /// The vertices whose priorities are Odd's.
-pub fn odd_vertices(alloc: Global, game: &Game) -> Result<Mask, Memory>
-    ensures { IfOk result (λ m. length m ≡ length game.now) }
+pub fn odd_vertices(rt: &impl Abort, alloc: Global, game: &Game) -> Mask
+    ensures { length result ≡ length game.now }
 {
     let n = game.len();
-    let mut odd = Mask::empty(alloc, n)?;
+    let mut odd = no_vertices(rt, alloc, game);
     'vertices: for v in 0..n {
         if Player::of_parity(game.priority(v)) == ODD {
             odd.insert(v);
         }
     }
-    Ok(odd)
+    odd
+}
+
+/// A mask of no vertices, made once more where memory was refused.
+fn no_vertices(rt: &impl Abort, alloc: Global, game: &Game) -> Mask
+    ensures { result ≡ replicate (length game.now) false }
+{
+    match Mask::empty(alloc, game.len()) {
+        Ok(mask) => mask,
+        Err(_) => Mask::empty(alloc, game.len()).expect(rt, "no memory"),
+    }
+}
+
+/// A mask of all vertices, made once more where memory was refused.
+pub fn all_vertices(rt: &impl Abort, alloc: Global, game: &Game) -> Mask
+    ensures { length result ≡ length game.now }
+{
+    match Mask::full(alloc, game.len()) {
+        Ok(mask) => mask,
+        Err(_) => Mask::full(alloc, game.len()).expect(rt, "no memory"),
+    }
+}
+
+/// As many choices as vertices, made once more where memory was refused.
+fn no_choices(rt: &impl Abort, alloc: Global, game: &Game) -> Vec<u32>
+    ensures { vec_len result ≡ length game.now }
+{
+    let n = game.len() as usize;
+    match vec![in alloc; 0u32; n] {
+        Ok(choices) => choices,
+        Err(_) => vec![in alloc; 0u32; n].expect(rt, "no memory"),
+    }
 }
 
 /// All edges of a game, with these bad vertices.
-pub fn all_edges<'g>(alloc: Global, game: &'g Game, bad: Mask) -> Result<Kept<'g>, Memory>
+pub fn all_edges<'g>(rt: &impl Abort, alloc: Global, game: &'g Game, bad: Mask) -> Kept<'g>
     requires { length bad ≡ length game.now }
-    ensures { IfOk result (λ k. IsKept k) }
+    ensures { IsKept result }
 {
-    let n = game.len();
-    Ok(Kept {
+    Kept {
         game,
-        inside: Mask::full(alloc, n)?,
-        chosen: Mask::empty(alloc, n)?,
-        choices: vec![in alloc; 0u32; n as usize]?,
+        inside: all_vertices(rt, alloc, game),
+        chosen: no_vertices(rt, alloc, game),
+        choices: no_choices(rt, alloc, game),
         bad,
-    })
+    }
 }
 
 /// The least bad vertex that is the greatest on a closed walk, where all edges are kept.
-pub fn worst(alloc: Global, game: &Game, bad: Mask) -> Result<Option<u32>, Memory>
+pub fn worst(rt: &impl Abort, alloc: Global, game: &Game, bad: Mask) -> Option<u32>
     requires { length bad ≡ length game.now }
 {
-    let kept = all_edges(alloc, game, bad)?;
-    first_worst(alloc, &kept)
+    let kept = all_edges(rt, alloc, game, bad);
+    worst_kept(rt, alloc, &kept)
+}
+
+/// The same, asked once more where memory was refused.
+pub fn worst_kept(rt: &impl Abort, alloc: Global, kept: &Kept) -> Option<u32>
+    requires { IsKept kept.now }
+{
+    match first_worst(alloc, kept) {
+        Ok(found) => found,
+        Err(_) => made(rt, first_worst(alloc, kept)),
+    }
 }

@@ -4,13 +4,14 @@ ghost use Rattle.std.specs.Prelude.{◌≡◌, length};
 ghost use Rattle.pg_game.specs.Subgame.{IsSubgame};
 ghost use Rattle.pg_game.specs.VertexSet.{Within, members};
 
+use crate::tests::asserting::made;
+use crate::tests::games::{claim_of, game_made, mask_made};
 use crate::tests::subgames::{is_subgame, is_within};
 use pg_dominion::{Checked, Claim, ClaimFault, attract, check_claim};
 use pg_game::{Game, Mask, Player, Sequence};
-use pg_test_support::{game_of, mask_of};
+use pg_test_support::{EVEN, ODD, Vertex};
 use std::alloc::{AllocError, Global};
 use std::process::Abort;
-use std::test::Fail;
 
 /// What is said of the claim on what Even attracts.
 fn said(alloc: Global, game: &Game, inside: &Mask, target: &Mask) -> Result<String, AllocError>
@@ -40,31 +41,34 @@ fn compare_said(
     rt: &impl Abort,
     alloc: Global,
     game: &Game,
-    target: u32,
+    inside: &Mask,
+    target: &Mask,
     want: &str,
-) -> Result<(), Fail> {
-    let n = game.len();
-    let inside = mask_of(alloc, n, 0b111)?;
-    let target = mask_of(alloc, n, target)?;
-    if !is_subgame(game, &inside) || !is_within(&target, &inside, n) {
-        return Err(Fail::from("the masks are no subgame and target"));
+)
+    requires inside_length { length inside.now ≡ length game.now }
+    requires target_length { length target.now ≡ length game.now }
+{
+    if is_subgame(game, inside) && is_within(target, inside, game.len()) {
+        let found = made(rt, said(alloc, game, inside, target));
+        check_eq!(rt; found.as_str(), want);
+    } else {
+        check!(rt; false, "the masks are no subgame and target");
     }
-    let found = said(alloc, game, &inside, &target)?;
-    check_eq!(rt; found.as_str(), want);
-    Ok(())
 }
 
+const LAYERED: &[Vertex] = &[(0, EVEN, &[0]), (3, EVEN, &[0, 1]), (3, ODD, &[1])];
+
+/// A target among all vertices, and what is said of the claim.
+const TARGETS: &[(u32, &str)] = &[(0b001, "2 rows"), (0b111, "the row at index 0 is wrong")];
+
 #[test]
-fn what_is_attracted_is_claimed(rt: HostRuntime) -> Result<(), Fail> {
-    let alloc = rt.alloc();
-    let rows = [
-        (0, Player::Even, [0].as_slice()),
-        (3, Player::Even, [0, 1].as_slice()),
-        (3, Player::Odd, [1].as_slice()),
-    ];
-    let game = game_of(alloc, rows.as_slice())?;
-    compare_said(&rt, alloc, &game, 0b001, "2 rows")?;
-    compare_said(&rt, alloc, &game, 0b111, "the row at index 0 is wrong")
+fn what_is_attracted_is_claimed(rt: HostRuntime) {
+    let game = game_made(&rt, rt.alloc(), LAYERED);
+    for case in TARGETS {
+        let inside = mask_made(&rt, rt.alloc(), game.len(), 0b111);
+        let target = mask_made(&rt, rt.alloc(), game.len(), case.0);
+        compare_said(&rt, rt.alloc(), &game, &inside, &target, case.1);
+    }
 }
 
 /// What another game is, to a checked claim.
@@ -77,21 +81,22 @@ fn said_of_another(alloc: Global, checked: &Checked, other: &Game) -> Result<Str
     }
 }
 
+/// Compares what is said of the claim of a loop that was checked on the first game.
+fn compare_another(rt: &impl Abort, alloc: Global, game: &Game, other: &Game) {
+    let claim = claim_of(rt, alloc, EVEN, &[(0, Some(0))]);
+    let checked = made(rt, check_claim(alloc, game, &claim));
+    compare_held(rt, alloc, &checked, game, "the claim is sound there, too");
+    compare_held(rt, alloc, &checked, other, "vertex 0 is another one there");
+}
+
+fn compare_held(rt: &impl Abort, alloc: Global, checked: &Checked, other: &Game, want: &str) {
+    let found = made(rt, said_of_another(alloc, checked, other));
+    check_eq!(rt; found.as_str(), want);
+}
+
 #[test]
-fn a_checked_claim_is_held_against_another_game(rt: HostRuntime) -> Result<(), Fail> {
-    let alloc = rt.alloc();
-    let game = game_of(alloc, [(0, Player::Even, [0].as_slice())].as_slice())?;
-    let other = game_of(alloc, [(1, Player::Even, [0].as_slice())].as_slice())?;
-    let claim = Claim {
-        player: Player::Even,
-        rows: Sequence::new(Vec::from_slice(alloc, [(0, Some(0))].as_slice())?),
-    };
-    let Ok(checked) = check_claim(alloc, &game, &claim) else {
-        return Err(Fail::from("the claim was refused"));
-    };
-    let found = said_of_another(alloc, &checked, &game)?;
-    check_eq!(rt; found.as_str(), "the claim is sound there, too");
-    let found = said_of_another(alloc, &checked, &other)?;
-    check_eq!(rt; found.as_str(), "vertex 0 is another one there");
-    Ok(())
+fn a_checked_claim_is_held_against_another_game(rt: HostRuntime) {
+    let game = game_made(&rt, rt.alloc(), &[(0, EVEN, &[0])]);
+    let other = game_made(&rt, rt.alloc(), &[(1, EVEN, &[0])]);
+    compare_another(&rt, rt.alloc(), &game, &other);
 }

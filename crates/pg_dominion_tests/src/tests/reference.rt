@@ -1,23 +1,25 @@
 //! What of the definitions no other crate's tests ask for, as plain as it can be written, over games of at most 32 vertices.
 
+use crate::tests::asserting::made;
 use pg_dominion::{ClaimFault, SolutionFault};
-use pg_game::{Memory, Player};
+use pg_game::Player;
 use pg_test_support::{
     EVEN, ODD, Plain, Row, bit, first_bad_cycle, first_wrong_row, has, is_right_row, kept, named,
     size_of, vertex,
 };
 use std::alloc::Global;
+use std::process::Abort;
 
 /// The game of `n` vertices of a number, whose digits are the kinds of its vertices.
-pub fn numbered(alloc: Global, n: u32, number: u32) -> Result<Vec<Plain>, Memory> {
+pub fn numbered(rt: &impl Abort, alloc: Global, n: u32, number: u32) -> Vec<Plain> {
     let base = kinds(n).max(1);
     let mut rows = Vec::new(alloc);
     let mut rest = number;
     for _v in 0..n {
-        rows.push(kind(rest % base))?;
+        made(rt, rows.push(kind(rest % base)));
         rest /= base;
     }
-    Ok(rows)
+    rows
 }
 
 /// Each vertex of a game of `n` vertices is a number below this: priority 0 to 2, owner, and a nonempty set of
@@ -78,7 +80,10 @@ pub fn attractor_inside(game: &[Plain], inside: u32, player: Player, target: u32
 pub fn claim_fault(game: &[Plain], player: Player, rows: &[Row]) -> Option<ClaimFault> {
     match first_wrong_row(game, player, rows) {
         Some(place) => Some(ClaimFault::Shape(place)),
-        None => first_bad_cycle(game, player, rows).map(ClaimFault::Cycle),
+        None => match first_bad_cycle(game, player, rows) {
+            Some(v) => Some(ClaimFault::Cycle(v)),
+            None => None,
+        },
     }
 }
 
@@ -86,27 +91,32 @@ pub fn claim_fault(game: &[Plain], player: Player, rows: &[Row]) -> Option<Claim
 pub type Won = (Player, Option<u32>);
 
 /// The winner of each vertex, and its row, with the choice where the winner owns it.
-fn rows_won(alloc: Global, game: &[Plain], solution: &[Won]) -> Result<Vec<(Player, Row)>, Memory> {
+fn rows_won(
+    rt: &impl Abort,
+    alloc: Global,
+    game: &[Plain],
+    solution: &[Won],
+) -> Vec<(Player, Row)> {
     let mut rows = Vec::new(alloc);
     let mut v = 0u32;
     for (winner, choice) in solution {
         let is_own = vertex(game, v).1 == *winner;
         let choice = if is_own { *choice } else { None };
-        rows.push((*winner, (v, choice)))?;
+        made(rt, rows.push((*winner, (v, choice))));
         v = v.saturating_add(1);
     }
-    Ok(rows)
+    rows
 }
 
 /// The rows of the vertices that the player wins.
-fn rows_of(alloc: Global, all: &[(Player, Row)], player: Player) -> Result<Vec<Row>, Memory> {
+fn rows_of(rt: &impl Abort, alloc: Global, all: &[(Player, Row)], player: Player) -> Vec<Row> {
     let mut rows = Vec::new(alloc);
     for (winner, row) in all {
         if *winner == player {
-            rows.push(*row)?;
+            made(rt, rows.push(*row));
         }
     }
-    Ok(rows)
+    rows
 }
 
 /// The first vertex whose winner owns it and has no choice there.
@@ -150,25 +160,39 @@ fn least(one: Option<u32>, other: Option<u32>) -> Option<u32> {
     }
 }
 
+/// What is wrong first with choices, or with the edges that they keep; Even wins the vertices of the set.
+fn choice_fault(game: &[Plain], all: &[(Player, Row)], even: u32) -> Option<SolutionFault> {
+    if let Some(v) = first_without_choice(game, all) {
+        return Some(SolutionFault::NoChoice(v));
+    }
+    if let Some(v) = first_wrong_choice(game, all) {
+        return Some(SolutionFault::BadChoice(v));
+    }
+    first_leaving(game, all, even)
+}
+
+/// The least vertex on a bad closed walk among each player's rows.
+fn cycle_fault(game: &[Plain], even: &[Row], odd: &[Row]) -> Option<SolutionFault> {
+    let evens = first_bad_cycle(game, EVEN, even);
+    let odds = first_bad_cycle(game, ODD, odd);
+    match least(evens, odds) {
+        Some(v) => Some(SolutionFault::Cycle(v)),
+        None => None,
+    }
+}
+
 /// What is wrong first with winners and choices. Identifiers are the vertices.
 pub fn solution_fault(
+    rt: &impl Abort,
     alloc: Global,
     game: &[Plain],
     solution: &[Won],
-) -> Result<Option<SolutionFault>, Memory> {
-    let all = rows_won(alloc, game, solution)?;
-    if let Some(v) = first_without_choice(game, all.as_slice()) {
-        return Ok(Some(SolutionFault::NoChoice(v)));
+) -> Option<SolutionFault> {
+    let all = rows_won(rt, alloc, game, solution);
+    let even = rows_of(rt, alloc, all.as_slice(), EVEN);
+    let odd = rows_of(rt, alloc, all.as_slice(), ODD);
+    match choice_fault(game, all.as_slice(), named(even.as_slice())) {
+        None => cycle_fault(game, even.as_slice(), odd.as_slice()),
+        fault => fault,
     }
-    if let Some(v) = first_wrong_choice(game, all.as_slice()) {
-        return Ok(Some(SolutionFault::BadChoice(v)));
-    }
-    let even = rows_of(alloc, all.as_slice(), EVEN)?;
-    if let Some(fault) = first_leaving(game, all.as_slice(), named(even.as_slice())) {
-        return Ok(Some(fault));
-    }
-    let odd = rows_of(alloc, all.as_slice(), ODD)?;
-    let evens = first_bad_cycle(game, EVEN, even.as_slice());
-    let odds = first_bad_cycle(game, ODD, odd.as_slice());
-    Ok(least(evens, odds).map(SolutionFault::Cycle))
 }

@@ -3,11 +3,10 @@ use Rattle.pg_finders.proofs.Common.{◌≡◌, ℕ, zero, suc, ◌<◌, ◌≤�
 use Rattle.pg_finders.proofs.Common.{ap, arith, ltb-true, rules, Some, ◌==◌, Contains, eqb-true, eq-eqb, and_parts, and_from, cases_Bool, or_right, Player}
 use Rattle.pg_finders.proofs.Common.{of_parity, same_player, Graph, HasEdge, owner_of, priority_of, successors_of, VertexSet, In, members, KeptEdge, Walk}
 use Rattle.pg_finders.proofs.Common.{ClosedWalk, greatest_priority, Contains-head, Contains-tail, Contains-cons, Contains-nil, own_or_other, same_is, is_same}
-use Rattle.pg_finders.proofs.Common.{ClaimRows, named, choice_in, IsGoodIn, IsLoop, own_choices, rows_below, WinsOn, loops, itself}
+use Rattle.pg_finders.proofs.Common.{ClaimRows, named, choice_in, IsGoodIn, IsLoop, own_choices, rows_below, WinsOn, loops, itself, or_left}
 use Rattle.std.proofs.Common.{◌↔◌}
 use Rattle.std.specs.List.{list_any}
 use Rattle.std.proofs.lemmas.Bool.{not_from_false}
-use Rattle.pg_game.proofs.Grown.{in_first}
 use Rattle.pg_finders.specs.Part.{IsPart}
 use Rattle.pg_finders.specs.private.loops.Singles.{leads_away, leads_to_itself}
 use Rattle.pg_finders.proofs.Sets.{not_both, minus}
@@ -43,28 +42,19 @@ module _ (g : Graph) (U : VertexSet) (p : Player) (v : ℕ) where
     | inr z ↦ absurd (let a = some_any (λ x. U x && not (x == v)) (successors_of g v) w m (minus i z) in cc (a, n))
   ]
 
-  pub test_from_stays : ((w : ℕ) → HasEdge g v w → In U w → w ≡ v) → leads_away g U v ≡ false
-  test_from_stays h = search (rules, cases_Bool, any_some, and_parts, eq-eqb)
-
-  pub itself_from_test : leads_to_itself g v ≡ true → HasEdge g v v
-  itself_from_test y = search (rules, any_some, eqb-true)
-
-  pub test_from_itself : HasEdge g v v → leads_to_itself g v ≡ true
-  test_from_itself m = some_any (λ w. w == v) (successors_of g v) v m (eq-eqb v v refl)
-
   pub loop_from_test : loops g U p v ≡ true → IsLoop g U p v
-  loop_from_test y = search (rules, and_parts, same_is, itself_from_test, stays_from_test, or_not, cases_Bool)
+  loop_from_test y = search (rules, and_parts, same_is, any_some, eqb-true, stays_from_test, or_not, cases_Bool)
 
   pub test_from_loop : IsLoop g U p v → loops g U p v ≡ true
   test_from_loop h =
       and_from (U v && same_player (of_parity (priority_of g v)) p && leads_to_itself g v) (same_player (owner_of g v) p || not (leads_away g U v))
       (and_from (U v && same_player (of_parity (priority_of g v)) p) (leads_to_itself g v)
       (and_from (U v) (same_player (of_parity (priority_of g v)) p) h.inside (is_same (of_parity (priority_of g v)) p h.parity))
-      (test_from_itself h.itself))
+      (some_any (λ w. w == v) (successors_of g v) v h.itself (eq-eqb v v refl)))
       (elim (own_or_other (owner_of g v) p) [
-        | inl o ↦ in_first (same_player (owner_of g v) p) (not (leads_away g U v)) (is_same (owner_of g v) p o)
+        | inl o ↦ or_left (same_player (owner_of g v) p) (not (leads_away g U v)) (is_same (owner_of g v) p o)
         | inr o ↦ or_right (same_player (owner_of g v) p) (not (leads_away g U v))
-            (not_from_false (leads_away g U v) (test_from_stays (h.only (λ q. not_both (owner_of g v) p q o))))
+            (not_from_false (leads_away g U v) (search (rules, cases_Bool, any_some, and_parts, eq-eqb)))
       ])
 
 -- where each edge leads back to its beginning, a closed walk has one vertex

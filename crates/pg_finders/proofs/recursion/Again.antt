@@ -80,8 +80,7 @@ place_rest : (xs ys : List ℕ) (v : ℕ) → listed xs v ≡ false → place (x
 place_rest [] ys v n = omega arith
 place_rest (x ∷ xs) ys v n =
     let a = or_parts (x == v) (listed xs v) n in
-    let b = place_rest xs ys v a.1 in
-    rw a.0 (omega (arith, b))
+    rw a.0 (omega (arith, place_rest xs ys v a.1))
 
 before_rest : (xs ys : List ℕ) (v w : ℕ) → listed xs v ≡ false → listed xs w ≡ false → Before (xs ++ ys) v w → Before ys v w
 before_rest xs ys v w n m b = search (rules, place_rest, prefix_or_rest, no_both)

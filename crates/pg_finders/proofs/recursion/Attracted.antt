@@ -1,6 +1,6 @@
 -- The rows of an attraction, as a set with choices that lead to smaller ranks.
 use Rattle.pg_finders.proofs.Common.{◌≡◌, ℕ, zero, suc, ◌<◌, true, false, inl, inr, [], ◌∷◌, ◌++◌, length, refl, sym, ◌∙◌, ap, subst, arith, Option}
-use Rattle.pg_finders.proofs.Common.{if◌then◌else◌, Contains, cases_Bool, Player, Graph, owner_of, VertexSet, In, Within, union, Choices, or_false, ClaimRows}
+use Rattle.pg_finders.proofs.Common.{if◌then◌else◌, Contains, cases_Bool, Player, Graph, owner_of, VertexSet, In, Within, union, Choices, or_parts, ClaimRows}
 use Rattle.pg_finders.proofs.Common.{named, IsAttractedRow, named-append, IsAttracted}
 use Rattle.pg_game.proofs.Attract.{own_attracted, forced_attracted}
 use Rattle.pg_dominion.specs.Attraction.{IsAttraction}
@@ -30,7 +30,7 @@ module _ (g : Graph) (p : Player) (U T : VertexSet) (rows : ClaimRows) (within :
   leading v i = let h = row_split rows (v, s v) (written v i) in record { before = h.0; after = h.1; split = h.2; leads = a.turns h.0 h.1 (v, s v) h.2 }
 
   fresh : (v : ℕ) (l : Leading v) → (T v ≡ false) × (named l.before v ≡ false)
-  fresh v l = or_false (T v) (named l.before v) l.leads.fresh
+  fresh v l = or_parts (T v) (named l.before v) l.leads.fresh
 
   -- what the row leads to is there, with a smaller rank
   lower : (v w : ℕ) (l : Leading v) → In (union T (named l.before)) w → In (union T (named rows)) w × (rank_in T rows w < rank_in T rows v)

@@ -1,7 +1,7 @@
 -- What a subgame owes where it is begun in place.
 use Rattle.pg_finders.proofs.Common.{fun_ext, ◌≡◌, ℕ, ◌≤◌, Bool, true, false, ◌&&◌, ◌||◌, not, inl, inr, List, refl, sym, ◌∙◌, subst, or_left}
 use Rattle.pg_finders.proofs.Common.{false_from_ne_true, Player, of_parity, Graph, priority_of, VertexSet, In, union, without, IsSubgame, Plan, listed}
-use Rattle.pg_finders.proofs.Common.{winners_of, choices_of, SameAt, SameOutside, IsGiven, IsBegun, IsAttracted, place, IsGrown, AttractsNoActive}
+use Rattle.pg_finders.proofs.Common.{winners_of, choices_of, SameOutside, IsGiven, IsBegun, IsAttracted, place, IsGrown, AttractsNoActive}
 use Rattle.pg_finders.proofs.Sets.{no_both}
 use Rattle.pg_finders.proofs.Solving.{IsAttracted-subst}
 use Rattle.pg_finders.proofs.recursion.Growing.{grown_cases, grown_prefix, grown_attracted, grown_union}
@@ -35,11 +35,8 @@ pub record BeginsInPlace (g : Graph) (p : Player) (A B L : VertexSet) (before gi
 
 module _ {g : Graph} {p : Player} {A B L : VertexSet} {before given now : Plan} {target list : List ℕ}
     (h : BeginsInPlace g p A B L before given now target list) where
-  all_of_it : (w : ℕ) → union L (listed list) w ≡ A w
-  all_of_it w = grown_union h.grown w ∙ h.both w
-
   pub listed_is : (v : ℕ) → listed list v ≡ without A L v
-  listed_is v = rest_listed (L v) (listed list v) (A v) (all_of_it v) (h.apart v)
+  listed_is v = rest_listed (L v) (listed list v) (A v) (grown_union h.grown v ∙ h.both v) (h.apart v)
 
   pub begun_same_outside : SameOutside A before now
   begun_same_outside v n =
@@ -52,20 +49,17 @@ module _ {g : Graph} {p : Player} {A B L : VertexSet} {before given now : Plan} 
       IsAttracted-subst listed_is
       (subst (λ Z. IsAttracted g p Z (listed target) (listed list) (choices_of now) (place list)) (fun_ext h.both) (grown_attracted h.grown h.done))
 
-  kept : (v : ℕ) → In (listed target) v → SameAt given now v
-  kept v i = h.grown.same v (h.target_apart v i)
-
   pub in_place_begun : IsBegun g A L p (winners_of now) (choices_of now)
   in_place_begun = record {
     subgame = h.subgame;
-    within = λ v i. sym (all_of_it v) ∙ or_left (L v) (listed list v) i;
+    within = λ v i. sym (grown_union h.grown v ∙ h.both v) ∙ or_left (L v) (listed list v) i;
     target = listed target;
     rank = place list;
     above = h.above;
     attracted = attracted_here;
-    chosen = λ v i o. (let c = (h.chosen v i).1 in (c.0, (kept v i).1 ∙ c.1, c.2, c.3));
+    chosen = λ v i o. (let c = (h.chosen v i).1 in (c.0, (h.grown.same v (h.target_apart v i)).1 ∙ c.1, c.2, c.3));
     his = λ v i. elim (grown_cases h.grown v (listed_is v ∙ i)) [
-      | inl y ↦ (kept v y).0 ∙ (h.chosen v y).0
+      | inl y ↦ (h.grown.same v (h.target_apart v y)).0 ∙ (h.chosen v y).0
       | inr y ↦ h.grown.his v y
     ];
     some = (h.some.0, sym (listed_is h.some.0) ∙ grown_prefix h.grown h.some.0 h.some.1);

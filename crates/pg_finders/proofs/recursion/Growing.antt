@@ -166,13 +166,10 @@ apart_push xs v A A' apart now w i = search (rules, prefix_or_rest, and_left, an
 pub no_active : {g : Graph} {p : Player} {U D A S : VertexSet} → ((v : ℕ) → In S v → A v ≡ false) → ((v : ℕ) → union A S v ≡ U v)
     → AttractsNoFurther g p U D S → AttractsNoActive g p U D A
 no_active {g = g} {p = p} {U = U} {A = A} {S = S} apart same d = record {
-  own = λ v w i. d.own v w (within v i) (out v i);
-  other = λ v i o. d.other v (within v i) (out v i) (not_own p (owner_of g v) o);
+  own = λ v w i. d.own v w (sym (same v) ∙ or_left (A v) (S v) i) (out v i);
+  other = λ v i o. d.other v (sym (same v) ∙ or_left (A v) (S v) i) (out v i) (not_own p (owner_of g v) o);
 }
   where
-    within : (v : ℕ) → In A v → In U v
-    within v i = sym (same v) ∙ or_left (A v) (S v) i
-
     out : (v : ℕ) → In A v → S v ≡ false
     out v i = false_from_ne_true (S v) (λ y. no_both i (apart v y))
 

@@ -17,7 +17,7 @@ use Rattle.pg_finders.proofs.recursion.Growing.{grown_cases, grown_attracted, gr
 use Rattle.pg_finders.proofs.recursion.Waiting.{waits_away}
 use Rattle.pg_finders.proofs.recursion.Again.{won_parts, won_from, list_behind, grown_behind, done_behind}
 use Rattle.pg_finders.proofs.recursion.Beginning.{rest_active}
-use Rattle.pg_finders.proofs.recursion.Sharing.{players_apart, gone_settled, part_of}
+use Rattle.pg_finders.proofs.recursion.Sharing.{gone_settled, part_of}
 use Rattle.pg_finders.proofs.recursion.UnderWay.{Finishes, lists_fit, stop_fits, last_waits, last_begun, since_inside, since_left, aside_inside, inside_cases}
 use Rattle.pg_finders.proofs.recursion.UnderWay.{left_cases, left_solved, won_since, stops_kept, finish_more, under_way_finish}
 use Rattle.pg_finders.proofs.recursion.Running.{work_finish}
@@ -100,9 +100,6 @@ module _ {g : Graph} {inside : List Bool} {x : Solver} {stops : List Stop} {f : 
   cases : (v : ℕ) → In I v → ((r : Player) × In (listed (since r)) v) ⊎ In (listed B) v
   cases = inside_cases stops f run h.none
 
-  left_of : (v : ℕ) → In L v → (r : Player) × In (listed (since r)) v
-  left_of = left_cases stops f run h.none
-
   his : (r : Player) (v : ℕ) → In (listed (since r)) v → winners_of old v ≡ r
   his r v i = run.his r v (in_drop (count_at f r) (settled r) v i)
 
@@ -111,7 +108,7 @@ module _ {g : Graph} {inside : List Bool} {x : Solver} {stops : List Stop} {f : 
   not_aside r v i j = no_both (in_drop f.aside aside v j) (run.apart.aside_apart r v (in_drop (count_at f r) (settled r) v i))
 
   aside_his : (v : ℕ) → In (listed B) v → winners_of old v ≡ p
-  aside_his v i = begun.his v (minus (aside_of v i) (false_from_ne_true (L v) (λ y. (let k = left_of v y in not_aside k.0 v k.1 i))))
+  aside_his v i = begun.his v (minus (aside_of v i) (false_from_ne_true (L v) (λ y. (let k = (left_cases stops f run h.none) v y in not_aside k.0 v k.1 i))))
 
   some_aside : (v : ℕ) × In (listed B) v
   some_aside =
@@ -198,7 +195,7 @@ module _ {g : Graph} {inside : List Bool} {x : Solver} {stops : List Stop} {f : 
 
     -- what the opponent won is not active
     pub reopened_apart : (v : ℕ) → In (listed (settled q)) v → A v ≡ false
-    reopened_apart v j = search (rules, false_from_ne_true, active_cases, no_both, in_drop, f.aside, players_apart)
+    reopened_apart v j = search (rules, false_from_ne_true, active_cases, no_both, in_drop, f.aside)
 
     inside_parts : (v : ℕ) → In I v → In U v × (listed (prefix f settled q) v ≡ false)
     inside_parts v i = (let c = part_of U (prefix f settled) (take f.aside aside) v i in (c.0, c.1 q))
@@ -237,26 +234,20 @@ module _ {g : Graph} {inside : List Bool} {x : Solver} {stops : List Stop} {f : 
     reopened_rest = record {
       own = λ v w i o e. missed w (λ y. (let b = only (A v) (listed B v) i in elim (take_or_drop (count_at f q) (settled q) w y) [
         | inl x ↦ reopened_away v w b.0 o e x
-        | inr x ↦ (let k = (solved p).closed v w (mine v b) o e (since_left_of q w x) in
+        | inr x ↦ (let k = (solved p).closed v w (mine v b) o e (since_left stops f run q w x) in
             not_won w (same_is (winners_of old w) p (and_parts (L w) (same_player (winners_of old w) p) k).1) (his q w x))
       ]));
       other = λ v i o. (let b = only (A v) (listed B v) i in
           let c = (solved p).choices v (mine v b) (o ∙ twice p) in
-          let k : In A c.0 = active_own c.0 (sym (won_now p c.0) ∙ c.3) in
+          let k : In A c.0 = active_own c.0 (sym (won_since stops f run h.none p c.0) ∙ c.3) in
           (c.0, c.2, or_left (A c.0) (listed (settled q) c.0) k, missed c.0 (λ y. no_both k (reopened_apart c.0 y))));
     }
       where
         missed : (w : ℕ) → (In (listed (settled q)) w → ⊥) → listed (settled q) w ≡ false
         missed w n = false_from_ne_true (listed (settled q) w) n
 
-        won_now : (r : Player) (v : ℕ) → won_inside L (winners_of old) r v ≡ listed (since r) v
-        won_now r v = won_since stops f run h.none r v
-
         mine : (v : ℕ) → (A v ≡ true) × (listed B v ≡ false) → In (won_inside L (winners_of old) p) v
-        mine v b = won_now p v ∙ elim (active_cases v b.0) [ inl y ↦ absurd (no_both y b.1) | inr y ↦ y ]
-
-        since_left_of : (r : Player) (v : ℕ) → In (listed (since r)) v → In L v
-        since_left_of r v i = since_left stops f run r v i
+        mine v b = won_since stops f run h.none p v ∙ elim (active_cases v b.0) [ inl y ↦ absurd (no_both y b.1) | inr y ↦ y ]
 
     -- What the opponent attracts to it is settled.
     module _ {settled' : SettledLists} {C : VertexSet} {new : Plan} (t : Retakes g f A old settled settled' C new) where
@@ -288,12 +279,9 @@ module _ {g : Graph} {inside : List Bool} {x : Solver} {stops : List Stop} {f : 
       since_apart : (v : ℕ) → In (listed (since q)) v → A v ≡ false
       since_apart v i = reopened_apart v (in_drop (count_at f q) (settled q) v i)
 
-      lost_is : (v : ℕ) → won_inside L (winners_of old) q v ≡ listed (since q) v
-      lost_is v = won_since stops f run h.none q v
-
       gained : IsAttracted g q I (won_inside L (winners_of old) q) (listed lost) (choices_of new) (place lost)
       gained =
-          subst (λ Z. IsAttracted g q I Z (listed lost) (choices_of new) (place lost)) (fun_ext (λ v. sym (lost_is v)))
+          subst (λ Z. IsAttracted g q I Z (listed lost) (choices_of new) (place lost)) (fun_ext (λ v. sym (won_since stops f run h.none q v)))
           (subst (λ Z. IsAttracted g q Z (listed (since q)) (listed lost) (choices_of new) (place lost)) (fun_ext reopened) (grown_attracted grown done))
 
       rest_is : (v : ℕ) → C v ≡ without I (listed lost) v
@@ -327,11 +315,10 @@ module _ {g : Graph} {inside : List Bool} {x : Solver} {stops : List Stop} {f : 
         same = λ v n. grown.same v (false_from_ne_true (A v) (λ y. no_both (active_inside v y) n));
         solved = IsSolvedTo-subst (λ v. sym (rest_is v))
             (part_lost begun (listed lost) (winners_of new) (choices_of new) (place lost) solved gained
-            (λ v i. (grown.same v (since_apart v (sym (lost_is v) ∙ i))).1) lost_won);
+            (λ v i. (grown.same v (since_apart v (sym (won_since stops f run h.none q v) ∙ i))).1) lost_won);
       }
 
       pub resume_finished : IsFinished g inside x stops f C settled' new
       resume_finished =
-          let a = (stop_fits stops f run).0 q in
-          let l : 0 < length (since q) = omega (arith, a, t.some, length-drop (count_at f q) (settled q)) in
+          let l : 0 < length (since q) = omega (arith, (stop_fits stops f run).0 q, t.some, length-drop (count_at f q) (settled q)) in
           finished new resumes (omega (arith, l, length-append (since q) grown_cut.more))

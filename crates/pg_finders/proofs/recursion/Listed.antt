@@ -1,11 +1,10 @@
 -- Lists of vertices as sets.
 use Rattle.pg_finders.proofs.Common.{◌≡◌, ℕ, zero, suc, ◌<◌, ◌≤◌, Bool, true, false, ◌||◌, ◌⊎◌, inl, inr, List, [], ◌∷◌, ◌++◌, length, take, drop, get_or, All}
 use Rattle.pg_finders.proofs.Common.{refl, sym, ◌∙◌, subst, arith, rules, ◌==◌, slice_set, eqb-true, eq-eqb, or_cases, or_left, or_right, false_from_ne_true}
-use Rattle.pg_finders.proofs.Common.{take-append-drop, In, members, or_false, listed, Once, Apart, size}
+use Rattle.pg_finders.proofs.Common.{take-append-drop, In, members, or_parts, listed, Once, Apart, size}
 use Rattle.std.proofs.lemmas.List.{get_or-set_other}
 use Rattle.std.proofs.lemmas.List.Folds.{list_any-append}
 use Rattle.pg_finders.proofs.Sets.{no_both}
-use Rattle.pg_finders.proofs.Masks.{inside_mask}
 use Rattle.pg_finders.proofs.Sizes.{size_drop}
 
 pub listed-append : (xs ys : List ℕ) (v : ℕ) → listed (xs ++ ys) v ≡ (listed xs v || listed ys v)
@@ -49,7 +48,7 @@ once_apart [] ys h v i = absurd (cc i)
 once_apart (x ∷ xs) ys h v i = go (x == v) refl (once_apart xs ys h.1 v)
   where
     fresh : listed ys x ≡ false
-    fresh = (or_false (listed xs x) (listed ys x) (sym (listed-append xs ys x) ∙ h.0)).1
+    fresh = (or_parts (listed xs x) (listed ys x) (sym (listed-append xs ys x) ∙ h.0)).1
 
     go : (b : Bool) → (x == v) ≡ b → (In (listed xs) v → listed ys v ≡ false) → listed ys v ≡ false
     go true e f = subst (λ u. listed ys u ≡ false) (eqb-true x v e) fresh
@@ -57,7 +56,7 @@ once_apart (x ∷ xs) ys h v i = go (x == v) refl (once_apart xs ys h.1 v)
 
 pub once_left : (xs ys : List ℕ) → Once (xs ++ ys) → Once xs
 once_left [] ys h = tt
-once_left (x ∷ xs) ys h = ((or_false (listed xs x) (listed ys x) (sym (listed-append xs ys x) ∙ h.0)).0, once_left xs ys h.1)
+once_left (x ∷ xs) ys h = ((or_parts (listed xs x) (listed ys x) (sym (listed-append xs ys x) ∙ h.0)).0, once_left xs ys h.1)
 
 pub once_right : (xs ys : List ℕ) → Once (xs ++ ys) → Once ys
 once_right [] ys h = h
@@ -82,10 +81,8 @@ pub once_fits : (xs : List ℕ) (mask : List Bool) → Once xs → ((v : ℕ) �
 once_fits [] mask o f = omega arith
 once_fits (x ∷ xs) mask o f =
     let here : members mask x ≡ true = f x (rw (eq-eqb x x refl) refl) in
-    let n = inside_mask mask x here in
     let h = once_fits xs (slice_set mask x false) o.1 (λ v i. kept v i (x == v) refl (f v)) in
-    let e = size_drop mask x here in
-    omega (arith, h, e)
+    omega (arith, h, size_drop mask x here)
   where
     kept : (v : ℕ) → listed xs v ≡ true → (b : Bool) → (x == v) ≡ b → (((x == v) || listed xs v) ≡ true → members mask v ≡ true)
         → members (slice_set mask x false) v ≡ true

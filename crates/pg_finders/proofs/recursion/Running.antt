@@ -22,10 +22,9 @@ left_push n (x ∷ xs) f = let h = left_push n xs f in omega (arith, h)
 pub work_begin : (n m k : ℕ) (stops : List Stop) (f : Stop) → f.even + f.odd + f.aside ≡ m → m < k → k ≤ n
     → steps (n - k) + steps_left n (stops ++ f ∷ []) < steps (n - m) + steps_left n stops
 work_begin n m k stops f e l h =
-    let a = left_push n stops f in
     let b = steps_begin (n - m) (n - k) (omega (arith, l, h)) in
     let d : steps_after (n - (f.even + f.odd + f.aside)) ≡ steps_after (n - m) = rw e refl in
-    omega (arith, a, b, d)
+    omega (arith, left_push n stops f, b, d)
 
 -- and where the last one is finished
 pub work_finish : (n m k : ℕ) (stops : List Stop) (f : Stop) → f.even + f.odd + f.aside < k → k ≤ n

@@ -1,14 +1,10 @@
 -- Lists that are shared: what stops in a row say of them, and which levels stay the same.
-use Rattle.pg_finders.proofs.Common.{◌≡◌, ℕ, ◌+◌, ◌≤◌, false, ◌||◌, ◌⊎◌, List, [], ◌∷◌, ◌++◌, length, take, map, refl, sym, ◌∙◌, ap, arith, rules, or_cases}
+use Rattle.pg_finders.proofs.Common.{◌≡◌, ℕ, ◌≤◌, false, ◌||◌, ◌⊎◌, List, [], ◌∷◌, ◌++◌, take, map, refl, sym, ◌∙◌, ap, arith, rules, or_cases}
 use Rattle.pg_finders.proofs.Common.{or_left, or_right, false_from_ne_true, Player, Even, Odd, opponent, same_player, if◌then◌else◌, VertexSet, In, Stop}
-use Rattle.pg_finders.proofs.Common.{listed, Apart, SettledLists, gone, part, count_at, prefix, level_at, Linked, AreApart, fun_ext}
+use Rattle.pg_finders.proofs.Common.{listed, Apart, SettledLists, gone, part, count_at, prefix, level_at, Linked, fun_ext}
 use Rattle.std.proofs.Math.Bool.{or_comm}
 use Rattle.pg_finders.proofs.Sets.{no_both, minus, only}
 use Rattle.pg_finders.proofs.recursion.Listed.{apart_other}
-
--- what holds for a player and for the opponent holds for each player
-pub by_player : (P : Player → Type 0) (p : Player) → P p → P (opponent p) → (q : Player) → P q
-by_player x0 x1 a b x4 = search (rules)
 
 -- one list for the player, another for the opponent
 abbrev pub pick : Player → List ℕ → List ℕ → SettledLists
@@ -23,14 +19,6 @@ pick_apart x0 xs ys a = search (rules, apart_other)
 
 pub pick_either : (p : Player) (xs ys : List ℕ) (v : ℕ) → (listed (pick p xs ys Even) v || listed (pick p xs ys Odd) v) ≡ (listed xs v || listed ys v)
 pick_either x0 xs ys v = search (rules, or_comm)
-
-pub pick_length : (p : Player) (xs ys : List ℕ) → length (pick p xs ys Even) + length (pick p xs ys Odd) ≡ length xs + length ys
-pick_length x0 xs ys = search (rules)
-
--- nothing is settled for both players
-pub players_apart : {settled : SettledLists} {aside : List ℕ} → AreApart settled aside → (p : Player) (v : ℕ) → In (listed (settled p)) v
-    → In (listed (settled (opponent p))) v → ⊥
-players_apart {settled} a x2 v i j = search (rules, no_both)
 
 pub gone_settled : (settled : SettledLists) (aside : List ℕ) (p : Player) (v : ℕ) → In (listed (settled p)) v → In (gone settled aside) v
 gone_settled settled aside Even v i = search (rules, or_left)
@@ -88,10 +76,9 @@ levels_same U settled aside settled' aside' i n first last (x ∷ xs) l f h =
     let le = linked_le (count_at x) n x.upto xs last l.3 in
     let a : prefix x settled' ≡ prefix x settled = fun_ext (λ p. f p (count_at x p) (le.0 p)) in
     let b = h x.aside (omega (arith, l.2, le.1)) in
-    let c = h x.upto le.1 in
     let here : level_at U settled' aside' x ≡ level_at U settled aside x =
     ap (λ s. record { inside = part U s (take x.aside aside'); left = part U s (take x.upto aside'); player = x.player }) a
     ∙ (ap (λ xs. record { inside = part U (prefix x settled) xs; left = part U (prefix x settled) (take x.upto aside'); player = x.player }) b
-    ∙ ap (λ xs. record { inside = part U (prefix x settled) (take x.aside aside); left = part U (prefix x settled) xs; player = x.player }) c) in
+    ∙ ap (λ xs. record { inside = part U (prefix x settled) (take x.aside aside); left = part U (prefix x settled) xs; player = x.player }) (h x.upto le.1)) in
     ap (λ y. y ∷ map (level_at U settled' aside') xs) here
     ∙ ap (λ ys. level_at U settled aside x ∷ ys) (levels_same U settled aside settled' aside' (count_at x) n x.upto last xs l.3 f h)

@@ -12,7 +12,7 @@ use Rattle.pg_finders.proofs.recursion.Listed.{listed-append, prefix_or_rest, in
 use Rattle.pg_finders.proofs.recursion.Listed.{once_fits}
 use Rattle.pg_finders.proofs.Solving.{solved_none, solved_whole, IsSolvedTo-subst}
 use Rattle.pg_finders.proofs.recursion.Waiting.{Agree, waits_on, waits_push, waits_pop}
-use Rattle.pg_finders.proofs.recursion.Sharing.{by_player, players_apart, pick, picked, pick_apart, pick_either, pick_length, gone_settled, gone_aside}
+use Rattle.pg_finders.proofs.recursion.Sharing.{pick, picked, pick_apart, pick_either, gone_settled, gone_aside}
 use Rattle.pg_finders.proofs.recursion.Sharing.{gone_cases, gone_none, part_of, in_part, linked_more, linked_push, linked_pop, levels_same}
 
 -- the lists are one list, in which no vertex stands twice
@@ -174,7 +174,7 @@ module _ {g : Graph} {U active : VertexSet} {settled : SettledLists} {aside : Li
 
   -- what was settled or set aside since the subgame was begun is in no prefix
   settled_new : (p : Player) (v : ℕ) → In (listed (since p)) v → ((q : Player) → listed (prefix f settled q) v ≡ false)
-  settled_new p v i = search (rules, by_player, false_from_ne_true, no_both, take_apart, h.apart.settled_once, players_apart, h.apart, in_drop, in_take)
+  settled_new p v i = search (rules, false_from_ne_true, no_both, take_apart, h.apart.settled_once, h.apart, in_drop, in_take)
 
   out_of_aside : (v : ℕ) → ((p : Player) × In (listed (settled p)) v) → (k : ℕ) → listed (take k aside) v ≡ false
   out_of_aside v (p, i) k = false_from_ne_true (listed (take k aside) v) (λ y. no_both (in_take k aside v y) (h.apart.aside_apart p v i))
@@ -231,9 +231,6 @@ module _ {g : Graph} {U active : VertexSet} {settled : SettledLists} {aside : Li
     once : (p : Player) → Once (taken p)
     once = picked (λ p xs. Once xs) f.player own other t.own_once t.other_once
 
-    won_now : (p : Player) (v : ℕ) → In (listed (taken p)) v → won' v ≡ p
-    won_now = picked (λ p xs. (v : ℕ) → In (listed xs) v → won' v ≡ p) f.player own other t.own_won t.other_won
-
     abbrev A : List ℕ
     A = take f.aside aside
 
@@ -273,14 +270,11 @@ module _ {g : Graph} {U active : VertexSet} {settled : SettledLists} {aside : Li
     length_aside : length A ≡ f.aside
     length_aside = omega (arith, length-take f.aside aside, links.1, links.3)
 
-    take_of_take : (k n : ℕ) (xs : List ℕ) → k ≤ n → take k (take n xs) ≡ take k xs
-    take_of_take k n xs l = grind (arith, common_steps)
-
     pub stops_kept : map (level_at U settled' A) stops ≡ map (level_at U settled aside) stops
     stops_kept = levels_same U settled aside settled' A (λ p. 0) (count_at f) 0 f.aside stops links.0
         (λ p k l. ap (take k) (is p) ∙ (take-append-le k (prefix f settled p) (taken p) (let a = counts p in omega (arith, l, a))
-        ∙ take_of_take k (count_at f p) (settled p) l))
-        (λ k l. take_of_take k f.aside aside l)
+        ∙ (grind (arith, common_steps))))
+        (λ k l. grind (arith, common_steps))
 
     pub finish_apart : AreApart settled' A
     finish_apart = record {
@@ -317,14 +311,14 @@ module _ {g : Graph} {U active : VertexSet} {settled : SettledLists} {aside : Li
       active_is = active_finished;
       his = λ p v i. elim (parts p v i) [
         | inl x ↦ (t.same v (not_inside p v x)).0 ∙ h.his p v (in_take (count_at f p) (settled p) v x)
-        | inr x ↦ won_now p v x
+        | inr x ↦ (picked (λ p xs. (v : ℕ) → In (listed xs) v → won' v ≡ p) f.player own other t.own_won t.other_won) p v x
       ];
       waits = subst (λ levels. Waits g U levels active' won' s') (sym stops_kept)
           (waits_on g U (map (level_at U settled aside) stops) last.inside active' won won' s s' popped.0 t.same t.solved);
     }
 
     pub finish_more : 0 < length own + length other → f.even + f.odd + f.aside < how_many_gone settled' A
-    finish_more l = search (rules, f.even, f.odd, pick_length, f.player, length_aside, is, length-append, counts)
+    finish_more l = search (rules, f.even, f.odd, f.player, length_aside, is, length-append, counts)
 
 -- where nothing is active and nothing waits, all is solved
 pub under_way_done : {g : Graph} {U active : VertexSet} {settled : SettledLists} {aside : List ℕ} {stops : List Stop} {won : Winners} {s : Choices}

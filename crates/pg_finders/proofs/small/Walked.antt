@@ -1,23 +1,20 @@
 -- A search for a walk back over a few rows: its steps, and what it says in the end.
 use Rattle.pg_finders.proofs.Common.{◌≡◌, ◌≢◌, ℕ, ◌+◌, ◌<◌, ◌≤◌, Bool, false, inl, inr, List, [], ◌∷◌, ◌++◌, length, take, set, sym, ◌∙◌, ap, subst, arith}
-use Rattle.pg_finders.proofs.Common.{length-set, get_or-set_same, get_or-set_other, rules, Some, None, ◌==◌, Contains, cases_eq, eqb-true, eq-eqb, or_cases}
+use Rattle.pg_finders.proofs.Common.{get_or-set_other, rules, Some, ◌==◌, Contains, cases_eq, eqb-true, eq-eqb, or_cases}
 use Rattle.pg_finders.proofs.Common.{cases_Bool, Player, opponent, of_parity, Graph, owner_of, priority_of, successors_of, In, members, Choices, kept, KeptEdge}
 use Rattle.pg_finders.proofs.Common.{Walk, ClosedWalk, greatest_priority, OnlyGoodWalks, other_from_not, is_same, ClosedWalk-weaker, good_from_none, ClaimRows}
-use Rattle.pg_finders.proofs.Common.{named, choice_in, size, vertex_in, AreDifferent, RowLeadsTo, Under, WalksBack, IsFrom, IsReached}
+use Rattle.pg_finders.proofs.Common.{named, choice_in, vertex_in, AreDifferent, RowLeadsTo, Under, WalksBack, IsFrom, IsReached}
 use Rattle.std.specs.Prelude.{IsTrue}
 use Rattle.pg_dominion.proofs.Searching.{Walk-push}
 use Rattle.pg_finders.proofs.Sets.{not_same, not_both}
-use Rattle.pg_finders.proofs.Sizes.{size_less}
 use Rattle.pg_finders.proofs.ClosedWalks.{Among, closed_inside}
-use Rattle.pg_finders.proofs.Apart.{front_named, front_place, same_place, named_more}
+use Rattle.pg_finders.proofs.Apart.{front_named, front_place, named_more}
+use Rattle.pg_finders.proofs.Masks.{order}
 
 -- where the player chose x, the kept edge leads to x alone
 pub leads_some : (g : Graph) (p : Player) (s : Choices) (v x w : ℕ) → owner_of g v ≡ p → s v ≡ Some x
     → (IsTrue (x == w) → Contains (kept g p s v) w) × (Contains (kept g p s v) w → IsTrue (x == w))
 leads_some g p s v x w o e = search (rules, is_same, eqb-true, eq-eqb)
-
-pub leads_none : (g : Graph) (p : Player) (s : Choices) (v w : ℕ) → owner_of g v ≡ p → s v ≡ None → Contains (kept g p s v) w → ⊥
-leads_none g p s v w o e m = search (rules, is_same)
 
 pub leads_other : (g : Graph) (p : Player) (s : Choices) (v w : ℕ) → owner_of g v ≢ p → Contains (kept g p s v) w → Contains (successors_of g v) w
 leads_other g p s v w o m = search (rules, not_same, other_from_not)
@@ -72,7 +69,7 @@ module _ (g : Graph) (p : Player) (rows : ClaimRows) (done : ℕ) (within : done
 
   pub no_way_back : (start : ℕ) (left : List Bool) → AreDifferent rows → start < done → In (members left) start
       → ((to : ℕ) → IsReached g p rows done start left to → ⊥) → WalksBack g p rows done start → ⊥
-  no_way_back start left d s i none (ws, walk) = search (rules, ends, same_place)
+  no_way_back start left d s i none (ws, walk) = search (rules, ends, order)
 
   over : (top v : ℕ) (ws : List ℕ) (end : ℕ) → Walk (Under g p rows done top) v ws end
       → Walk (KeptEdge g p (named (take done rows)) (choice_in rows)) v ws end × (greatest_priority g ws ≤ top)
@@ -130,9 +127,8 @@ closes_none g p rows at l none good walk c =
     earlier v w (e, i, j) = elim (or_cases (named (take at rows) v) (vertex_in rows at == v) (sym (named_more rows at v l) ∙ i)) [
       | inl y ↦ (y, e.1)
       | inr q ↦ (let h = front_place rows (at + 1) w (omega (arith, l)) j in
-          let z = eqb-true (vertex_in rows at) v q in
           absurd (none h.0 (omega (arith, h.1)) (subst (λ x. Contains (kept g p (choice_in rows) (vertex_in rows at)) x) (sym h.2)
-          (subst (λ x. Contains (kept g p (choice_in rows) x) w) (sym z) e.1))))
+          (subst (λ x. Contains (kept g p (choice_in rows) x) w) (sym (eqb-true (vertex_in rows at) v q)) e.1))))
     ]
 
 -- nor does one whose choice is at none of them
@@ -142,6 +138,3 @@ pub fresh_closes_none : (g : Graph) (p : Player) (rows : ClaimRows) (at w : ℕ)
 fresh_closes_none g p rows at w l o c away good =
     closes_none g p rows at l (λ to m e. away to m (sym
     (eqb-true w (vertex_in rows to) ((leads_some g p (choice_in rows) (vertex_in rows at) w (vertex_in rows to) o c).1 e)))) good
-
-pub left_less : (left : List Bool) (to : ℕ) → to < length left → In (members left) to → size (set left to false) < size left
-left_less left to l i = search (rules, size_less, length-set, get_or-set_same, cases_eq, get_or-set_other)

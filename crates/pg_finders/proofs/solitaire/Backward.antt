@@ -2,7 +2,7 @@
 use Rattle.pg_finders.proofs.Common.{◌≡◌, ◌≢◌, ℕ, suc, ◌<◌, ◌≤◌, Bool, true, false, ◌⊎◌, inl, inr, List, [], ◌∷◌, ◌++◌, length, set, replicate, refl, sym, ◌∙◌}
 use Rattle.pg_finders.proofs.Common.{subst, arith, length-set, length-append, get_or-set_same, get_or-set_other, rules, ◌==◌, if◌then◌else◌, cases_eq, eq-eqb}
 use Rattle.pg_finders.proofs.Common.{get_or_append_left, get_or_push, length-replicate, Graph, VertexSet, In, members, Walk, EdgeBelow, AreLeading, IsSeen}
-use Rattle.pg_finders.proofs.Common.{IsQueue, Follows}
+use Rattle.pg_finders.proofs.Common.{IsQueue}
 use Rattle.std.specs.Prelude.{slice_index}
 use Rattle.pg_game.proofs.Masks.{members-set}
 use Rattle.pg_finders.proofs.Apart.{differ}
@@ -33,9 +33,6 @@ module _ (g : Graph) (U : VertexSet) (top goal : ℕ) where
     lt : v < length taken
     lt = omega (arith, h.size)
 
-    ln : v < length next
-    ln = omega (arith, h.next_size)
-
     abbrev ranks : ℕ → ℕ
     ranks x = if x == v then suc (h.rank to) else h.rank x
 
@@ -48,18 +45,11 @@ module _ (g : Graph) (U : VertexSet) (top goal : ℕ) where
     new_rank : ranks v ≡ suc (h.rank to)
     new_rank = rw (eq-eqb v v refl) refl
 
-    old_next : (x : ℕ) → x ≢ v → slice_index (set next v to) x ≡ slice_index next x
-    old_next x n = get_or-set_other next v x to 0 n
-
     new_next : slice_index (set next v to) v ≡ to
-    new_next = get_or-set_same next v to 0 ln
+    new_next = get_or-set_same next v to 0 (omega (arith, h.next_size))
 
     nearer_new : ((to ≡ goal) ⊎ In (members taken) to) → (to ≡ goal) ⊎ (In (members (set taken v true)) to × (ranks to < ranks v))
     nearer_new x0 = search (rules, still_set, lt, old_rank, not_new, new_rank)
-
-    nearer_old : (x y : ℕ) → x ≢ v → (y ≡ goal) ⊎ (In (members taken) y × (h.rank y < h.rank x))
-        → (y ≡ goal) ⊎ (In (members (set taken v true)) y × (ranks y < ranks x))
-    nearer_old x y n x3 = search (rules, still_set, lt, old_rank, not_new)
 
     pub leading_push : AreLeading g U top goal (set taken v true) (set next v to)
     leading_push = record {
@@ -68,15 +58,15 @@ module _ (g : Graph) (U : VertexSet) (top goal : ℕ) where
       rank = ranks;
       edge = λ x i. elim (set_cases taken v x lt i) [
         | inl q ↦ subst (λ z. EdgeBelow g U top z (slice_index (set next v to) z)) (sym q) (subst (EdgeBelow g U top v) (sym new_next) e)
-        | inr (n, j) ↦ subst (EdgeBelow g U top x) (sym (old_next x n)) (h.edge x j)
+        | inr (n, j) ↦ subst (EdgeBelow g U top x) (sym (get_or-set_other next v x to 0 n)) (h.edge x j)
       ];
       nearer = λ x i. elim (set_cases taken v x lt i) [
         | inl q ↦ subst (λ z. (slice_index (set next v to) z ≡ goal)
             ⊎ (In (members (set taken v true)) (slice_index (set next v to) z) × (ranks (slice_index (set next v to) z) < ranks z))) (sym q)
             (subst (λ y. (y ≡ goal) ⊎ (In (members (set taken v true)) y × (ranks y < ranks v))) (sym new_next) (nearer_new near))
         | inr (n, j) ↦
-            subst (λ y. (y ≡ goal) ⊎ (In (members (set taken v true)) y × (ranks y < ranks x))) (sym (old_next x n))
-            (nearer_old x (slice_index next x) n (h.nearer x j))
+            subst (λ y. (y ≡ goal) ⊎ (In (members (set taken v true)) y × (ranks y < ranks x))) (sym (get_or-set_other next v x to 0 n))
+            (search (rules, still_set, lt, old_rank, not_new))
       ];
     }
 
@@ -125,7 +115,3 @@ module _ (g : Graph) (goal : ℕ) where
   all_seen U top taken queue at l h done w (inr i) =
       let k = h.known w i in
       subst (IsSeen g U top (members taken)) k.2 (done k.0 (omega (arith, l, k.1)))
-
-pub follows_push : (a : List Bool) (b : List ℕ) (taken : List Bool) (queue : List ℕ) (v : ℕ) → v < length taken → Follows a b taken queue
-    → Follows a b (set taken v true) (queue ++ v ∷ [])
-follows_push a b taken queue v l h = search (rules, still_set, h.grows, h.longer, length-append, get_or_append_left, h.prefix)

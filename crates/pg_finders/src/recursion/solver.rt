@@ -82,6 +82,13 @@ impl Solver {
         Ok(solver)
     }
 
+    /// How many vertices are settled for the player.
+    pub fn count(&self, player: Player) -> usize
+        ensures { result ≡ length (settled_of self.now.settled player) }
+    {
+        self.settled.count(player)
+    }
+
     pub fn into_plan(self) -> Plan
         ensures { result ≡ self.subgame.plan }
     {

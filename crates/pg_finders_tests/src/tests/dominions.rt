@@ -5,7 +5,7 @@ use crate::tests::reference::Numbered;
 use pg_game::{Game, Player};
 use pg_test_support::{EVEN, ODD, Plain, Random, bit, game_of_sets, has};
 use std::alloc::Global;
-use std::test::Fail;
+use std::process::Abort;
 
 fn is_within(set: u32, all: u32) -> bool {
     set & all == set
@@ -44,16 +44,16 @@ impl Kept {
 }
 
 /// The edges, with each choice among the vertices of the set at `v`.
-fn with_choices(alloc: Global, kept: &[Kept], v: u32, set: u32) -> Result<Vec<Kept>, Fail> {
+fn with_choices(rt: &impl Abort, alloc: Global, kept: &[Kept], v: u32, set: u32) -> Vec<Kept> {
     let mut all = Vec::new(alloc);
     for edges in kept {
         for w in 0..8 {
             if has(set, w) {
-                all.push(edges.with(v, bit(w)))?;
+                all.push(edges.with(v, bit(w))).expect(rt, "memory");
             }
         }
     }
-    Ok(all)
+    all
 }
 
 /// A set of one to three of `n` vertices.
@@ -66,6 +66,13 @@ fn random_successors(random: &mut Random, n: u32) -> u32 {
         1 => first | second,
         _ => first | second | third,
     }
+}
+
+/// A vertex of a priority below 5.
+fn random_row(random: &mut Random, n: u32) -> Plain {
+    let priority = random.below(5);
+    let owner = if random.below(2) == 0 { EVEN } else { ODD };
+    (priority, owner, random_successors(random, n))
 }
 
 /// A set that has about two of three of `n` vertices.
@@ -86,20 +93,19 @@ pub struct Table {
 }
 
 impl Table {
-    pub fn numbered(alloc: Global, numbered: Numbered) -> Result<Table, Fail> {
-        let rows = numbered.rows(alloc)?;
-        Ok(Table { rows })
+    pub fn numbered(rt: &impl Abort, alloc: Global, numbered: Numbered) -> Table {
+        Table {
+            rows: numbered.rows(rt, alloc),
+        }
     }
 
     /// A game of `n` vertices with priorities below 5.
-    pub fn random(alloc: Global, random: &mut Random, n: u32) -> Result<Table, Fail> {
+    pub fn random(rt: &impl Abort, alloc: Global, random: &mut Random, n: u32) -> Table {
         let mut rows = Vec::new(alloc);
         for _v in 0..n {
-            let priority = random.below(5);
-            let owner = if random.below(2) == 0 { EVEN } else { ODD };
-            rows.push((priority, owner, random_successors(random, n)))?;
+            rows.push(random_row(random, n)).expect(rt, "memory");
         }
-        Ok(Table { rows })
+        Table { rows }
     }
 
     pub fn len(&self) -> u32 {
@@ -127,8 +133,8 @@ impl Table {
         self.row(v).1 == player
     }
 
-    pub fn game(&self, alloc: Global) -> Result<Game, Fail> {
-        Ok(game_of_sets(alloc, self.rows.as_slice())?)
+    pub fn game(&self, rt: &impl Abort, alloc: Global) -> Game {
+        game_of_sets(alloc, self.rows.as_slice()).expect(rt, "a game")
     }
 
     /// The vertices whose priority is at most that of `v`.
@@ -185,56 +191,67 @@ impl Table {
         is_within(set, inside)
     }
 
-    /// The edges that are kept in the set, by each way to choose at the player's vertices there.
-    fn all_kept(&self, alloc: Global, player: Player, set: u32) -> Result<Vec<Kept>, Fail> {
-        let mut opponents = Kept::none();
+    /// The edges that the opponent's vertices of the set keep in it.
+    fn opponents_kept(&self, player: Player, set: u32) -> Kept {
+        let mut kept = Kept::none();
         for v in 0..self.len() {
             if has(set, v) && !self.is_owned_by(player, v) {
-                opponents = opponents.with(v, self.successors(v) & set);
+                kept = kept.with(v, self.successors(v) & set);
             }
         }
-        let mut all = Vec::from_slice(alloc, [opponents].as_slice())?;
+        kept
+    }
+
+    /// The edges that are kept in the set, by each way to choose at the player's vertices there.
+    fn all_kept(&self, rt: &impl Abort, alloc: Global, player: Player, set: u32) -> Vec<Kept> {
+        let opponents = [self.opponents_kept(player, set)];
+        let mut all = Vec::from_slice(alloc, opponents.as_slice()).expect(rt, "memory");
         for v in 0..self.len() {
             if has(set, v) && self.is_owned_by(player, v) {
-                all = with_choices(alloc, all.as_slice(), v, self.successors(v) & set)?;
+                all = with_choices(rt, alloc, all.as_slice(), v, self.successors(v) & set);
             }
         }
-        Ok(all)
+        all
+    }
+
+    /// Whether some of these edges have no bad closed walk.
+    fn is_won(&self, player: Player, all: &[Kept]) -> bool {
+        for kept in all {
+            if !self.has_bad_walk(player, *kept) {
+                return true;
+            }
+        }
+        false
     }
 
     /// Whether the set is closed inside, and some choices of the player's keep no bad closed walk.
     fn is_dominion(
         &self,
+        rt: &impl Abort,
         alloc: Global,
         inside: u32,
         player: Player,
         set: u32,
-    ) -> Result<bool, Fail> {
-        if !self.is_closed(inside, player, set) {
-            return Ok(false);
-        }
-        for kept in &self.all_kept(alloc, player, set)? {
-            if !self.has_bad_walk(player, *kept) {
-                return Ok(true);
-            }
-        }
-        Ok(false)
+    ) -> bool {
+        self.is_closed(inside, player, set)
+            && self.is_won(player, self.all_kept(rt, alloc, player, set).as_slice())
     }
 
     /// The vertices that lie in dominions of the player with exactly `size` vertices.
     pub fn in_dominions(
         &self,
+        rt: &impl Abort,
         alloc: Global,
         inside: u32,
         player: Player,
         size: u32,
-    ) -> Result<u32, Fail> {
+    ) -> u32 {
         let mut held = 0;
         for set in 1..bit(self.len()) {
-            if set.count_ones() == size && self.is_dominion(alloc, inside, player, set)? {
+            if set.count_ones() == size && self.is_dominion(rt, alloc, inside, player, set) {
                 held |= set;
             }
         }
-        Ok(held)
+        held
     }
 }

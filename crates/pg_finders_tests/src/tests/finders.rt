@@ -1,311 +1,205 @@
 //! The finders of loops, of solitaire subgames and of small dominions, on worked games; the bound and the budget.
 
-use crate::tests::games::{dense, inside_of, nothing, ring, rows_of, single, whole};
+use crate::tests::games::{EIGHT, EIGHT_ROWS, NINE, dense, game, part, told_of, whole};
 use pg_dominion::Claim;
 use pg_finders::{Inside, Small, find_loop, find_small, find_solitaire};
-use pg_game::{Game, Player};
-use pg_test_support::{EVEN, ODD, Row, Vertex, game_of};
+use pg_game::Player;
+use pg_test_support::{EVEN, ODD, Row, Vertex};
 use std::alloc::Global;
 use std::process::Abort;
-use std::test::Fail;
 
-/// The loop that is found for the player.
-fn loop_in(alloc: Global, inside: &Inside, player: Player) -> Result<Option<Claim>, Fail> {
-    Ok(find_loop(alloc, inside, player)?)
+/// All vertices of a small game, as the set of its part.
+const ALL: u32 = u32::MAX;
+
+/// A search for a loop of the player, or for where one player alone has choices.
+#[derive(Clone, Copy)]
+enum Search {
+    Loop(Player),
+    Solitaire,
 }
 
-/// What is found where one player alone has choices.
-fn solitaire_in(alloc: Global, inside: &Inside) -> Result<Option<Claim>, Fail> {
-    Ok(find_solitaire(alloc, inside)?)
+/// A game, the members of its part, a search, and the player and the rows of what is found.
+type Case<'a> = (&'a [Vertex<'a>], u32, Search, Option<(Player, &'a [Row])>);
+
+fn found(rt: &impl Abort, alloc: Global, inside: &Inside, search: Search) -> Option<Claim> {
+    match search {
+        Search::Loop(player) => find_loop(alloc, inside, player).expect(rt, "memory"),
+        Search::Solitaire => find_solitaire(alloc, inside).expect(rt, "memory"),
+    }
 }
 
-fn assert_no_loop(
-    rt: &impl Abort,
-    alloc: Global,
-    inside: &Inside,
-    player: Player,
-) -> Result<(), Fail> {
-    let found = loop_in(alloc, inside, player)?;
-    check!(*rt; found.is_none());
-    Ok(())
+fn assert_found(rt: &impl Abort, alloc: Global, inside: &Inside, case: &Case) {
+    let found = found(rt, alloc, inside, case.2);
+    check_eq!(*rt; told_of(&found), case.3, case.0);
 }
 
-fn assert_no_solitaire(rt: &impl Abort, alloc: Global, inside: &Inside) -> Result<(), Fail> {
-    let found = solitaire_in(alloc, inside)?;
-    check!(*rt; found.is_none());
-    Ok(())
+fn assert_case(rt: &impl Abort, alloc: Global, case: &Case) {
+    let game = game(rt, alloc, case.0);
+    let inside = part(rt, alloc, &game, case.1);
+    assert_found(rt, alloc, &inside, case);
 }
 
-/// A claim of these rows was found.
-fn assert_claimed(rt: &impl Abort, found: Option<Claim>, rows: &[Row]) {
-    check_eq!(*rt; rows_of(&found), rows);
-}
+const THREE_LOOPS: &[Vertex] = &[(0, EVEN, &[0]), (0, ODD, &[0]), (1, ODD, &[2])];
+
+const TO_A_LOOP: &[Vertex] = &[(0, EVEN, &[0]), (0, ODD, &[0, 1])];
+
+const BOTH_CHOOSE: &[Vertex] = &[(0, EVEN, &[0, 1]), (0, ODD, &[0, 1])];
+
+const CYCLE: &[Vertex] = &[(1, EVEN, &[1]), (2, EVEN, &[0])];
+
+const ITSELF: &[Vertex] = &[(0, EVEN, &[0])];
+
+const CASES: &[Case] = &[
+    // loops are found for their player
+    (
+        THREE_LOOPS,
+        ALL,
+        Search::Loop(ODD),
+        Some((ODD, &[(2, Some(2))])),
+    ),
+    // an opponent without another way inside is a loop
+    (
+        TO_A_LOOP,
+        0b10,
+        Search::Loop(EVEN),
+        Some((EVEN, &[(1, None)])),
+    ),
+    // where both players choose nothing is solitaire
+    (BOTH_CHOOSE, ALL, Search::Solitaire, None),
+    (
+        BOTH_CHOOSE,
+        ALL,
+        Search::Loop(EVEN),
+        Some((EVEN, &[(0, Some(0))])),
+    ),
+    (BOTH_CHOOSE, ALL, Search::Loop(ODD), None),
+    // a cycle is solitaire
+    (
+        CYCLE,
+        ALL,
+        Search::Solitaire,
+        Some((EVEN, &[(0, Some(1)), (1, Some(0))])),
+    ),
+    // an empty part has nothing
+    (ITSELF, 0, Search::Loop(EVEN), None),
+    (ITSELF, 0, Search::Solitaire, None),
+];
 
 #[test]
-fn loops_are_found_for_their_player(rt: HostRuntime) -> Result<(), Fail> {
-    let alloc = rt.alloc();
-    let vertices: [Vertex; 3] = [(0, EVEN, &[0]), (0, ODD, &[0]), (1, ODD, &[2])];
-    let game = game_of(alloc, vertices.as_slice())?;
-    let inside = whole(&rt, alloc, &game)?;
-    assert_claimed(&rt, loop_in(alloc, &inside, ODD)?, &[(2, Some(2))]);
-    Ok(())
+fn loops_and_solitaire_parts_are_found_where_they_are(rt: HostRuntime) {
+    for case in CASES {
+        assert_case(&rt, rt.alloc(), case);
+    }
 }
 
-#[test]
-fn an_opponent_without_another_way_inside_is_a_loop(rt: HostRuntime) -> Result<(), Fail> {
-    let alloc = rt.alloc();
-    let vertices = [(0, EVEN, [0].as_slice()), (0, ODD, [0, 1].as_slice())];
-    let game = game_of(alloc, vertices.as_slice())?;
-    let inside = inside_of(&rt, &game, single(&rt, alloc, &game, 1)?);
-    assert_claimed(&rt, loop_in(alloc, &inside, EVEN)?, &[(1, None)]);
-    Ok(())
-}
+/// What a search for Even answers: whether it gives up, and the rows that it finds.
+type Answer<'a> = (bool, &'a [Row]);
 
-#[test]
-fn where_both_players_choose_nothing_is_solitaire(rt: HostRuntime) -> Result<(), Fail> {
-    let alloc = rt.alloc();
-    let vertices: [Vertex; 2] = [(0, EVEN, &[0, 1]), (0, ODD, &[0, 1])];
-    let game = game_of(alloc, vertices.as_slice())?;
-    let inside = whole(&rt, alloc, &game)?;
-    assert_no_solitaire(&rt, alloc, &inside)?;
-    assert_claimed(&rt, loop_in(alloc, &inside, EVEN)?, &[(0, Some(0))]);
-    assert_no_loop(&rt, alloc, &inside, ODD)
-}
+const NOTHING: Answer = (false, &[]);
 
-/// A claim of Even's of these rows was found.
-fn assert_evens(rt: &impl Abort, found: Option<Claim>, rows: &[Row]) {
-    check_eq!(*rt; rows_of(&found), rows);
-    check!(*rt; matches!(&found, Some(claim) if claim.player == EVEN));
-}
+const GIVES_UP: Answer = (true, &[]);
 
-#[test]
-fn a_cycle_is_solitaire(rt: HostRuntime) -> Result<(), Fail> {
-    let alloc = rt.alloc();
-    let vertices: [Vertex; 2] = [(1, EVEN, &[1]), (2, EVEN, &[0])];
-    let game = game_of(alloc, vertices.as_slice())?;
-    let inside = whole(&rt, alloc, &game)?;
-    assert_evens(
-        &rt,
-        solitaire_in(alloc, &inside)?,
-        &[(0, Some(1)), (1, Some(0))],
-    );
-    Ok(())
-}
+/// A game, the members of its part, whether vertex 1 is a seed beside vertex 0, the bound, the budget, and the answer.
+type SmallCase<'a> = (&'a [Vertex<'a>], u32, bool, u32, u64, Answer<'a>);
 
-/// What a search for the player from vertex 0 answers.
-fn from_first(
-    rt: &impl Abort,
-    alloc: Global,
-    inside: &Inside,
-    player: Player,
-    bound: u32,
-    budget: u64,
-) -> Result<Small, Fail> {
+fn from_first(rt: &impl Abort, alloc: Global, inside: &Inside, bound: u32, budget: u64) -> Small {
     assert!(*rt; 0 < inside.game().len());
-    assert!(*rt; 1 <= bound);
-    assert!(*rt; bound <= 8);
-    Ok(find_small(alloc, inside, player, [0].as_slice(), bound, budget)?)
+    assert!(*rt; 1 <= bound && bound <= 8);
+    find_small(alloc, inside, EVEN, [0].as_slice(), bound, budget).expect(rt, "memory")
 }
 
-/// What a search for Even from vertex 0 answers in the whole game.
-fn small_in(
-    rt: &impl Abort,
-    alloc: Global,
-    game: &Game,
-    bound: u32,
-    budget: u64,
-) -> Result<Small, Fail> {
-    let inside = whole(rt, alloc, game)?;
-    from_first(rt, alloc, &inside, EVEN, bound, budget)
+fn from_both(rt: &impl Abort, alloc: Global, inside: &Inside, bound: u32, budget: u64) -> Small {
+    assert!(*rt; 1 < inside.game().len());
+    assert!(*rt; 1 <= bound && bound <= 8);
+    find_small(alloc, inside, EVEN, [0, 1].as_slice(), bound, budget).expect(rt, "memory")
 }
 
-/// What a search for Even from vertex 0 answers in the game of these vertices.
-fn small_of(
-    rt: &impl Abort,
-    alloc: Global,
-    vertices: &[Vertex],
-    bound: u32,
-    budget: u64,
-) -> Result<Small, Fail> {
-    let game = game_of(alloc, vertices)?;
-    small_in(rt, alloc, &game, bound, budget)
-}
-
-/// A search for Even from vertex 0 finds nothing.
-fn assert_no_small(rt: &impl Abort, alloc: Global, inside: &Inside) -> Result<(), Fail> {
-    let small = from_first(rt, alloc, inside, EVEN, 4, 100)?;
-    check!(*rt; matches!(small, Small::Nothing));
-    Ok(())
-}
-
-#[test]
-fn an_empty_part_has_nothing(rt: HostRuntime) -> Result<(), Fail> {
-    let alloc = rt.alloc();
-    let game = game_of(alloc, ITSELF.as_slice())?;
-    let inside = nothing(&rt, alloc, &game)?;
-    assert_no_loop(&rt, alloc, &inside, EVEN)?;
-    assert_no_solitaire(&rt, alloc, &inside)?;
-    assert_no_small(&rt, alloc, &inside)
-}
-
-/// The rows that were found.
-fn rows_in(small: &Small) -> &[Row] {
+fn answer_of(small: &Small) -> Answer<'_> {
     match small {
-        Small::Found(claim) => claim.rows.as_slice(),
-        _ => [].as_slice(),
+        Small::Found(claim) => (false, claim.rows.as_slice()),
+        Small::Nothing => NOTHING,
+        Small::GaveUp => GIVES_UP,
     }
 }
 
-/// The search finds a claim with these rows.
-fn assert_found(
-    rt: &impl Abort,
-    alloc: Global,
-    vertices: &[Vertex],
-    bound: u32,
-    budget: u64,
-    rows: &[Row],
-) -> Result<(), Fail> {
-    let small = small_of(rt, alloc, vertices, bound, budget)?;
-    check_eq!(*rt; rows_in(&small), rows, "bound {bound}, budget {budget}");
-    Ok(())
+fn assert_answer(rt: &impl Abort, alloc: Global, inside: &Inside, case: &SmallCase) {
+    let (_, _, is_both, bound, budget, want) = *case;
+    let small = if is_both {
+        from_both(rt, alloc, inside, bound, budget)
+    } else {
+        from_first(rt, alloc, inside, bound, budget)
+    };
+    check_eq!(*rt; answer_of(&small), want, (bound, budget));
 }
 
+fn assert_small(rt: &impl Abort, alloc: Global, case: &SmallCase) {
+    let game = game(rt, alloc, case.0);
+    let inside = part(rt, alloc, &game, case.1);
+    assert_answer(rt, alloc, &inside, case);
+}
+
+const FORCED: &[Vertex] = &[(0, ODD, &[1]), (2, EVEN, &[0])];
+
+const FORCED_ROWS: Answer = (false, &[(0, None), (1, Some(0))]);
+
+const ALL_BAD: &[Vertex] = &[(1, EVEN, &[0, 1]), (1, ODD, &[0, 1])];
+
+const BOTH_CHOSEN: &[Vertex] = &[(1, EVEN, &[0, 1]), (1, EVEN, &[0, 1])];
+
+const THREE: &[Vertex] = &[(0, EVEN, &[1]), (0, EVEN, &[2]), (0, EVEN, &[0])];
+
+const THREE_ROWS: Answer = (false, &[(0, Some(1)), (1, Some(2)), (2, Some(0))]);
+
+const TWO_LOOPS: &[Vertex] = &[(0, EVEN, &[0]), (1, EVEN, &[1])];
+
+const FIRST_ROW: Answer = (false, &[(0, Some(0))]);
+
+const TO_A_BAD_CYCLE: &[Vertex] = &[(1, EVEN, &[1]), (1, EVEN, &[2]), (1, EVEN, &[1])];
+
+const SMALL_CASES: &[SmallCase] = &[
+    // an empty part has nothing
+    (ITSELF, 0, false, 4, 100, NOTHING),
+    // a forced vertex needs a bound of two and one choice
+    (FORCED, ALL, false, 2, 1_000, FORCED_ROWS),
+    (FORCED, ALL, false, 8, 2, FORCED_ROWS),
+    (FORCED, ALL, false, 8, 1, FORCED_ROWS),
+    (FORCED, ALL, false, 1, 1_000, NOTHING),
+    // a budget is used to the last choice, and one that covers all choices does not give up
+    (ITSELF, ALL, false, 1, 1, FIRST_ROW),
+    (ITSELF, ALL, false, 1, 0, GIVES_UP),
+    (ALL_BAD, ALL, false, 2, 2, NOTHING),
+    (ALL_BAD, ALL, false, 2, 1, GIVES_UP),
+    (BOTH_CHOSEN, ALL, false, 2, 6, NOTHING),
+    (BOTH_CHOSEN, ALL, false, 2, 5, NOTHING),
+    (BOTH_CHOSEN, ALL, false, 2, 4, NOTHING),
+    (BOTH_CHOSEN, ALL, false, 2, 3, GIVES_UP),
+    (THREE, ALL, false, 3, 3, THREE_ROWS),
+    (THREE, ALL, false, 3, 2, GIVES_UP),
+    (THREE, ALL, false, 2, 2, NOTHING),
+    (THREE, ALL, false, 2, 1, GIVES_UP),
+    // seeds share the budget
+    (TWO_LOOPS, ALL, true, 8, 2, FIRST_ROW),
+    (TWO_LOOPS, ALL, true, 8, 1, GIVES_UP),
+    // a seed that was searched is not searched again: two choices from vertex 1, and then one from vertex 0
+    (TO_A_BAD_CYCLE, ALL, true, 8, 3, NOTHING),
+    (TO_A_BAD_CYCLE, ALL, true, 8, 2, GIVES_UP),
+    // eight vertices are the most
+    (EIGHT, ALL, false, 8, 8, (false, EIGHT_ROWS)),
+    (NINE, ALL, false, 8, 1_000, NOTHING),
+];
+
 #[test]
-fn a_forced_vertex_needs_a_bound_of_two_and_one_choice(rt: HostRuntime) -> Result<(), Fail> {
-    let alloc = rt.alloc();
-    let vertices = [(0, ODD, [1].as_slice()), (2, EVEN, [0].as_slice())];
-    let rows = [(0, None), (1, Some(0))];
-    'found: for (bound, budget) in [(2, 1_000), (8, 2), (8, 1)] {
-        assert_found(
-            &rt,
-            alloc,
-            vertices.as_slice(),
-            bound,
-            budget,
-            rows.as_slice(),
-        )?;
+fn a_small_search_keeps_to_its_bound_and_uses_its_budget_to_the_last_choice(rt: HostRuntime) {
+    for case in SMALL_CASES {
+        assert_small(&rt, rt.alloc(), case);
     }
-    let small = small_of(&rt, alloc, vertices.as_slice(), 1, 1_000)?;
-    check!(rt; matches!(small, Small::Nothing));
-    Ok(())
-}
-
-/// A search needs exactly so many choices, and gives up with `less`.
-fn assert_needs(
-    rt: &impl Abort,
-    alloc: Global,
-    vertices: &[Vertex],
-    bound: u32,
-    choices: u64,
-    less: u64,
-) -> Result<(), Fail> {
-    let enough = small_of(rt, alloc, vertices, bound, choices)?;
-    check!(*rt; !matches!(enough, Small::GaveUp), "{choices} are enough");
-    let small = small_of(rt, alloc, vertices, bound, less)?;
-    check!(*rt; matches!(small, Small::GaveUp), "{choices} are needed");
-    Ok(())
-}
-
-const ITSELF: [Vertex<'static>; 1] = [(0, EVEN, &[0])];
-
-const ALL_BAD: [Vertex<'static>; 2] = [(1, EVEN, &[0, 1]), (1, ODD, &[0, 1])];
-
-const BOTH_CHOSEN: [Vertex<'static>; 2] = [(1, EVEN, &[0, 1]), (1, EVEN, &[0, 1])];
-
-const THREE: [Vertex<'static>; 3] = [(0, EVEN, &[1]), (0, EVEN, &[2]), (0, EVEN, &[0])];
-
-#[test]
-fn a_budget_is_used_to_the_last_choice(rt: HostRuntime) -> Result<(), Fail> {
-    let alloc = rt.alloc();
-    assert_needs(&rt, alloc, ITSELF.as_slice(), 1, 1, 0)?;
-    assert_needs(&rt, alloc, ALL_BAD.as_slice(), 2, 2, 1)?;
-    assert_needs(&rt, alloc, BOTH_CHOSEN.as_slice(), 2, 4, 3)?;
-    assert_needs(&rt, alloc, THREE.as_slice(), 3, 3, 2)?;
-    assert_needs(&rt, alloc, THREE.as_slice(), 2, 2, 1)
-}
-
-/// The search gives up, or else finds that there is nothing.
-fn assert_gives_up(
-    rt: &impl Abort,
-    alloc: Global,
-    vertices: &[Vertex],
-    budget: u64,
-    gives_up: bool,
-) -> Result<(), Fail> {
-    let small = small_of(rt, alloc, vertices, 2, budget)?;
-    check_eq!(*rt; matches!(small, Small::GaveUp), gives_up, "budget {budget}");
-    check_eq!(*rt;
-        matches!(small, Small::Nothing),
-        !gives_up,
-        "budget {budget}"
-    );
-    Ok(())
 }
 
 #[test]
-fn a_budget_that_covers_all_choices_does_not_give_up(rt: HostRuntime) -> Result<(), Fail> {
+fn a_search_among_too_many_choices_gives_up(rt: HostRuntime) {
     let alloc = rt.alloc();
-    let all_edges = [(1, EVEN, [0, 1].as_slice()), (1, EVEN, [0, 1].as_slice())];
-    'budgets: for (budget, gives_up) in [(6, false), (5, false), (4, false), (3, true)] {
-        assert_gives_up(&rt, alloc, all_edges.as_slice(), budget, gives_up)?;
-    }
-    Ok(())
-}
-
-/// What a search for Even from vertices 0 and 1 answers in the whole game.
-fn from_both(rt: &impl Abort, alloc: Global, game: &Game, budget: u64) -> Result<Small, Fail> {
-    let inside = whole(rt, alloc, game)?;
-    assert!(*rt; 1 < game.len());
-    Ok(find_small(alloc, &inside, EVEN, [0, 1].as_slice(), 8, budget)?)
-}
-
-#[test]
-fn seeds_share_the_budget(rt: HostRuntime) -> Result<(), Fail> {
-    let alloc = rt.alloc();
-    let vertices = [(0, EVEN, [0].as_slice()), (1, EVEN, [1].as_slice())];
-    let game = game_of(alloc, vertices.as_slice())?;
-    let row = [(0, Some(0))];
-    let found = from_both(&rt, alloc, &game, 2)?;
-    check_eq!(rt; rows_in(&found), row.as_slice());
-    let less = from_both(&rt, alloc, &game, 1)?;
-    check!(rt; matches!(less, Small::GaveUp));
-    Ok(())
-}
-
-#[test]
-fn a_seed_that_was_searched_is_not_searched_again(rt: HostRuntime) -> Result<(), Fail> {
-    let alloc = rt.alloc();
-    let vertices = [
-        (1, EVEN, [1].as_slice()),
-        (1, EVEN, [2].as_slice()),
-        (1, EVEN, [1].as_slice()),
-    ];
-    let game = game_of(alloc, vertices.as_slice())?;
-    // two choices from vertex 1, and then one from vertex 0
-    let nothing = from_both(&rt, alloc, &game, 3)?;
-    check!(rt; matches!(nothing, Small::Nothing));
-    let less = from_both(&rt, alloc, &game, 2)?;
-    check!(rt; matches!(less, Small::GaveUp));
-    Ok(())
-}
-
-#[test]
-fn eight_vertices_are_the_most(rt: HostRuntime) -> Result<(), Fail> {
-    let alloc = rt.alloc();
-    let eight = ring(alloc, 8)?;
-    let small = small_in(&rt, alloc, &eight, 8, 8)?;
-    check_eq!(rt; rows_in(&small).len(), 8);
-    let nine = ring(alloc, 9)?;
-    let small = small_in(&rt, alloc, &nine, 8, 1_000)?;
-    check!(rt; matches!(small, Small::Nothing));
-    Ok(())
-}
-
-#[test]
-fn a_search_among_too_many_choices_gives_up(rt: HostRuntime) -> Result<(), Fail> {
-    let alloc = rt.alloc();
-    let game = dense(alloc, 200)?;
-    let small = small_in(&rt, alloc, &game, 8, 10_000)?;
-    check!(rt; matches!(small, Small::GaveUp));
-    Ok(())
+    let game = dense(&rt, alloc);
+    let inside = whole(&rt, alloc, &game);
+    let small = from_first(&rt, alloc, &inside, 8, 10_000);
+    check_eq!(rt; answer_of(&small), GIVES_UP);
 }

@@ -1,14 +1,55 @@
-//! Games that are hostile to solvers, and parts of games.
+//! Games, some of them hostile to solvers, and parts of games.
 
-ghost use Rattle.std.specs.Prelude.{◌≡◌, IfOk, length};
+ghost use Rattle.std.specs.Prelude.{◌≡◌, length};
 
 use pg_dominion::Claim;
-use pg_finders::Inside;
-use pg_game::{Game, Mask};
-use pg_test_support::{Draft, EVEN, ODD, Row};
+use pg_finders::{Copied, Inside};
+use pg_game::{Game, Mask, Player};
+use pg_test_support::{Draft, EVEN, ODD, Row, Vertex, game_of, mask_of};
 use std::alloc::Global;
 use std::process::Abort;
-use std::test::Fail;
+
+/// A ring of eight vertices of Even's.
+pub const EIGHT: &[Vertex] = &[
+    (0, EVEN, &[1]),
+    (0, EVEN, &[2]),
+    (0, EVEN, &[3]),
+    (0, EVEN, &[4]),
+    (0, EVEN, &[5]),
+    (0, EVEN, &[6]),
+    (0, EVEN, &[7]),
+    (0, EVEN, &[0]),
+];
+
+/// Its only choices.
+pub const EIGHT_ROWS: &[Row] = &[
+    (0, Some(1)),
+    (1, Some(2)),
+    (2, Some(3)),
+    (3, Some(4)),
+    (4, Some(5)),
+    (5, Some(6)),
+    (6, Some(7)),
+    (7, Some(0)),
+];
+
+/// A ring of nine.
+pub const NINE: &[Vertex] = &[
+    (0, EVEN, &[1]),
+    (0, EVEN, &[2]),
+    (0, EVEN, &[3]),
+    (0, EVEN, &[4]),
+    (0, EVEN, &[5]),
+    (0, EVEN, &[6]),
+    (0, EVEN, &[7]),
+    (0, EVEN, &[8]),
+    (0, EVEN, &[0]),
+];
+
+/// The game of these vertices, of which nothing is said.
+pub fn game(rt: &impl Abort, alloc: Global, vertices: &[Vertex]) -> Game {
+    game_of(alloc, vertices).expect(rt, "a game")
+}
 
 /// The game's part that the mask has, which has to be a subgame.
 pub fn inside_of<'g>(rt: &impl Abort, game: &'g Game, mask: Mask) -> Inside<'g>
@@ -22,96 +63,102 @@ pub fn inside_of<'g>(rt: &impl Abort, game: &'g Game, mask: Mask) -> Inside<'g>
 }
 
 /// All of the game.
-pub fn whole<'g>(rt: &impl Abort, alloc: Global, game: &'g Game) -> Result<Inside<'g>, Fail>
-    ensures { IfOk result (λ inside. inside.graph ≡ game.now) }
+pub fn whole<'g>(rt: &impl Abort, alloc: Global, game: &'g Game) -> Inside<'g>
+    ensures { result.graph ≡ game.now }
 {
-    Ok(inside_of(rt, game, Mask::full(alloc, game.len())?))
+    let mask = Mask::full(alloc, game.len()).expect(rt, "memory");
+    inside_of(rt, game, mask)
 }
 
-/// None of the game.
-pub fn nothing<'g>(rt: &impl Abort, alloc: Global, game: &'g Game) -> Result<Inside<'g>, Fail>
-    ensures { IfOk result (λ inside. inside.graph ≡ game.now) }
+/// The mask with the members of a set.
+pub fn mask(rt: &impl Abort, alloc: Global, game: &Game, members: u32) -> Mask
+    ensures { length result ≡ length game.now }
 {
-    Ok(inside_of(rt, game, Mask::empty(alloc, game.len())?))
+    mask_of(alloc, game.len(), members).expect(rt, "memory")
 }
 
-/// The set of one vertex of the game.
-pub fn single(rt: &impl Abort, alloc: Global, game: &Game, v: u32) -> Result<Mask, Fail>
-    ensures { IfOk result (λ mask. length mask ≡ length game.now) }
+/// The game's part with the members of a set.
+pub fn part<'g>(rt: &impl Abort, alloc: Global, game: &'g Game, members: u32) -> Inside<'g>
+    ensures { result.graph ≡ game.now }
 {
-    let n = game.len();
-    assert!(*rt; v < n);
-    let mut mask = Mask::empty(alloc, n)?;
-    mask.insert(v);
-    Ok(mask)
+    inside_of(rt, game, mask(rt, alloc, game, members))
 }
 
-/// The vertices with their choices, where there is a claim.
-pub fn rows_of(claim: &Option<Claim>) -> &[Row] {
+/// A copy of all of the game for a finder, of which nothing is said.
+pub fn whole_copy<'g>(rt: &impl Abort, alloc: Global, game: &'g Game) -> Copied<'g> {
+    Copied {
+        inside: whole(rt, alloc, game),
+        at: 0,
+        settled: 0,
+    }
+}
+
+/// The player and the vertices with their choices, where there is a claim.
+pub fn told_of(claim: &Option<Claim>) -> Option<(Player, &[Row])> {
     match claim {
-        Some(claim) => claim.rows.as_slice(),
-        None => [].as_slice(),
+        Some(claim) => Some((claim.player, claim.rows.as_slice())),
+        None => None,
     }
 }
 
-/// Each vertex has itself alone as a successor, and a priority of its own.
-pub fn self_loops(alloc: Global, n: u32) -> Result<Game, Fail> {
-    let mut draft = Draft::new(alloc);
-    for v in 0..n {
-        draft.add(alloc, v, EVEN, [v].as_slice())?;
-    }
-    Ok(draft.game(alloc)?)
+/// What the vertices of a game are like, each of which has one successor.
+#[derive(Clone, Copy)]
+pub enum Form {
+    /// Each is Even's, leads to itself, and has a priority of its own.
+    Loops,
+    /// Each is Even's, leads to itself, and has an even priority of its own.
+    EvenLoops,
+    /// Each is Odd's and leads to the next, the last to itself, and priorities rise.
+    Chain,
+    /// Each is Even's and leads to the first, and priorities rise.
+    Star,
 }
 
-/// Each vertex has itself alone as a successor, and an even priority of its own.
-pub fn even_loops(alloc: Global, n: u32) -> Result<Game, Fail> {
-    let mut draft = Draft::new(alloc);
-    for v in 0..n {
-        draft.add(alloc, v.saturating_mul(2), EVEN, [v].as_slice())?;
-    }
-    Ok(draft.game(alloc)?)
-}
-
-/// Each vertex leads to the next, the last to itself, and priorities rise.
-pub fn chain(alloc: Global, n: u32) -> Result<Game, Fail> {
-    let mut draft = Draft::new(alloc);
-    for v in 0..n {
+impl Form {
+    /// The priority, the owner and the successor of a vertex of `n`.
+    fn row(self, v: u32, n: u32) -> (u32, Player, u32) {
         let next = v.saturating_add(1);
-        let to = if next < n { next } else { v };
-        draft.add(alloc, v, ODD, [to].as_slice())?;
+        match self {
+            Form::Loops => (v, EVEN, v),
+            Form::EvenLoops => (v.saturating_mul(2), EVEN, v),
+            Form::Chain if next < n => (v, ODD, next),
+            Form::Chain => (v, ODD, v),
+            Form::Star => (v, EVEN, 0),
+        }
     }
-    Ok(draft.game(alloc)?)
 }
 
-/// Each vertex is Even's and leads to the first, and priorities rise.
-pub fn star(alloc: Global, n: u32) -> Result<Game, Fail> {
+fn add(
+    rt: &impl Abort,
+    alloc: Global,
+    draft: &mut Draft,
+    (priority, owner, to): (u32, Player, u32),
+) {
+    draft
+        .add(alloc, priority, owner, [to].as_slice())
+        .expect(rt, "memory");
+}
+
+/// The game of `n` vertices of a form.
+pub fn formed(rt: &impl Abort, alloc: Global, form: Form, n: u32) -> Game {
     let mut draft = Draft::new(alloc);
     for v in 0..n {
-        draft.add(alloc, v, EVEN, [0].as_slice())?;
+        add(rt, alloc, &mut draft, form.row(v, n));
     }
-    Ok(draft.game(alloc)?)
+    draft.game(alloc).expect(rt, "a game")
 }
 
-/// Each vertex is Even's, has priority 0 and leads to the next, and the last to the first.
-pub fn ring(alloc: Global, n: u32) -> Result<Game, Fail> {
-    let mut draft = Draft::new(alloc);
-    for v in 0..n {
-        let next = v.saturating_add(1);
-        let to = if next < n { next } else { 0 };
-        draft.add(alloc, 0, EVEN, [to].as_slice())?;
-    }
-    Ok(draft.game(alloc)?)
-}
-
-/// Each vertex is Even's, has an odd priority and leads to all.
-pub fn dense(alloc: Global, n: u32) -> Result<Game, Fail> {
+/// 200 vertices, of which each is Even's, has an odd priority and leads to all.
+pub fn dense(rt: &impl Abort, alloc: Global) -> Game {
     let mut successors = Vec::new(alloc);
-    for v in 0..n {
-        successors.push(v)?;
+    for v in 0..200 {
+        successors.push(v).expect(rt, "memory");
     }
     let mut draft = Draft::new(alloc);
-    for _v in 0..n {
-        draft.add(alloc, 1, EVEN, successors.as_slice())?;
+    for _v in 0..200 {
+        draft
+            .add(alloc, 1, EVEN, successors.as_slice())
+            .expect(rt, "memory");
     }
-    Ok(draft.game(alloc)?)
+    draft.game(alloc).expect(rt, "a game")
 }

@@ -2,13 +2,12 @@
 
 ghost use Rattle.std.specs.Prelude.{◌≡◌, ◌<◌, length};
 
-use crate::tests::games::single;
+use crate::tests::games::{game, mask};
 use pg_finders::{Inside, Small, find_small, zielonka};
 use pg_game::{Game, Mask, Player};
-use pg_test_support::{EVEN, ODD, Vertex, game_of};
+use pg_test_support::{EVEN, ODD, Vertex};
 use std::alloc::{AllocError, Global};
 use std::process::Abort;
-use std::test::Fail;
 
 /// What is said of a part of a game, with a search for a dominion of Even's that holds the seed.
 fn said(alloc: Global, game: &Game, mask: Mask, seed: u32) -> Result<String, AllocError>
@@ -35,37 +34,26 @@ fn said(alloc: Global, game: &Game, mask: Mask, seed: u32) -> Result<String, All
     }
 }
 
-/// Compares what is said of a part of a game.
-fn compare_said(
-    rt: &impl Abort,
-    alloc: Global,
-    game: &Game,
-    mask: Mask,
-    want: &str,
-) -> Result<(), Fail>
-    requires { length mask ≡ length game.now }
-{
+/// Compares what is said of the part of a game that a set of its vertices is.
+fn compare_said(rt: &impl Abort, alloc: Global, game: &Game, members: u32, want: &str) {
     assert!(*rt; game.len() > 0);
-    let found = said(alloc, game, mask, 0)?;
+    let found = said(alloc, game, mask(rt, alloc, game, members), 0).expect(rt, "memory");
     check_eq!(*rt; found.as_str(), want);
-    Ok(())
 }
 
+const VERTICES: &[Vertex] = &[(2, EVEN, &[0, 1]), (1, ODD, &[1]), (0, ODD, &[0])];
+
+const SAID: &[(u32, &str)] = &[
+    (0b111, "Even wins 2; a claim has 1"),
+    (0b100, "no subgame"),
+    (0b10, "Even wins 0; no small claim has a seed"),
+];
+
 #[test]
-fn a_part_of_a_game_is_solved_and_searched(rt: HostRuntime) -> Result<(), Fail> {
+fn a_part_of_a_game_is_solved_and_searched(rt: HostRuntime) {
     let alloc = rt.alloc();
-    let vertices: [Vertex; 3] = [(2, EVEN, &[0, 1]), (1, ODD, &[1]), (0, ODD, &[0])];
-    let game = game_of(alloc, vertices.as_slice())?;
-    let all = Mask::full(alloc, game.len())?;
-    let last = single(&rt, alloc, &game, 2)?;
-    let second = single(&rt, alloc, &game, 1)?;
-    compare_said(&rt, alloc, &game, all, "Even wins 2; a claim has 1")?;
-    compare_said(&rt, alloc, &game, last, "no subgame")?;
-    compare_said(
-        &rt,
-        alloc,
-        &game,
-        second,
-        "Even wins 0; no small claim has a seed",
-    )
+    let game = game(&rt, alloc, VERTICES);
+    for (members, want) in SAID {
+        compare_said(&rt, alloc, &game, *members, *want);
+    }
 }

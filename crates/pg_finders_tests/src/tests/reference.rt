@@ -2,9 +2,9 @@
 //! at each vertex of his wins against every choice of the opponent's.
 
 use pg_game::Game;
-use pg_test_support::{EVEN, ODD, Plain, game_of_sets, has};
+use pg_test_support::{EVEN, ODD, Plain, bit, game_of_sets, has};
 use std::alloc::Global;
-use std::test::Fail;
+use std::process::Abort;
 
 /// A number for each of three vertices.
 #[derive(Clone, Copy)]
@@ -44,11 +44,21 @@ pub struct Numbered {
 }
 
 /// How many different rows a vertex of a game of so many vertices may have.
-pub fn rows_of_length(len: u32) -> u32 {
+fn rows_of_length(len: u32) -> u32 {
     match len {
         1 => 6,
         2 => 18,
         _ => 42,
+    }
+}
+
+/// How many games of so many vertices there are.
+pub fn games_of_length(len: u32) -> u32 {
+    let k = rows_of_length(len);
+    match len {
+        1 => k,
+        2 => k.saturating_mul(k),
+        _ => k.saturating_mul(k).saturating_mul(k),
     }
 }
 
@@ -79,18 +89,19 @@ impl Numbered {
     }
 
     /// The priority, the owner and the set of successors of each vertex.
-    pub fn rows(self, alloc: Global) -> Result<Vec<Plain>, Fail> {
+    pub fn rows(self, rt: &impl Abort, alloc: Global) -> Vec<Plain> {
         let mut rows = Vec::new(alloc);
         for v in 0..self.len {
             let owner = if self.is_odd(v) { ODD } else { EVEN };
-            rows.push((self.priority(v), owner, self.successors(v)))?;
+            rows.push((self.priority(v), owner, self.successors(v)))
+                .expect(rt, "memory");
         }
-        Ok(rows)
+        rows
     }
 
-    pub fn game(self, alloc: Global) -> Result<Game, Fail> {
-        let rows = self.rows(alloc)?;
-        Ok(game_of_sets(alloc, rows.as_slice())?)
+    pub fn game(self, rt: &impl Abort, alloc: Global) -> Game {
+        let rows = self.rows(rt, alloc);
+        game_of_sets(alloc, rows.as_slice()).expect(rt, "a game")
     }
 
     /// Whether each choice is an edge.
@@ -127,34 +138,38 @@ impl Numbered {
         most % 2 == 0
     }
 
-    /// The choices at all vertices, each with the set of the vertices from which they make an even play.
-    fn plays(self, alloc: Global) -> Result<Vec<(Three, u32)>, Fail> {
-        let mut plays = Vec::new(alloc);
-        'choices: for number in 0..27 {
-            let choices = Three::digits(number, 3);
-            if self.is_possible(choices) {
-                let first = if self.is_even_play(choices, 0) { 1 } else { 0 };
-                let second = if self.is_even_play(choices, 1) { 2 } else { 0 };
-                let third = if self.is_even_play(choices, 2) { 4 } else { 0 };
-                plays.push((choices, first | second | third))?;
+    /// The set of the vertices from which the choices make an even play.
+    fn even_plays(self, choices: Three) -> u32 {
+        let mut set = 0;
+        for v in 0..3 {
+            if self.is_even_play(choices, v) {
+                set |= bit(v);
             }
         }
-        Ok(plays)
+        set
+    }
+
+    /// The vertices that Even wins with these choices of hers whatever Odd chooses.
+    fn won_by(self, even: Three) -> u32 {
+        let mut always = 7;
+        for number in 0..27 {
+            let answer = Three::digits(number, 3);
+            if self.is_possible(answer) && self.is_even_the_same(even, answer) {
+                always &= self.even_plays(answer);
+            }
+        }
+        always
     }
 
     /// The set of the vertices that Even wins.
-    pub fn even_wins(self, alloc: Global) -> Result<u32, Fail> {
-        let plays = self.plays(alloc)?;
+    pub fn even_wins(self) -> u32 {
         let mut wins = 0;
-        'strategies: for (even, _) in &plays {
-            let mut always = 7;
-            'answers: for (answer, won) in &plays {
-                if self.is_even_the_same(*even, *answer) {
-                    always &= *won;
-                }
+        for number in 0..27 {
+            let even = Three::digits(number, 3);
+            if self.is_possible(even) {
+                wins |= self.won_by(even);
             }
-            wins |= always;
         }
-        Ok(wins)
+        wins
     }
 }

@@ -1,22 +1,15 @@
 //! The line that each fault is shown with.
 
-use pg_game::{GameFault, Memory};
+use pg_game::GameFault;
 use pg_text::{SolutionTextFault, TextFault};
 use std::alloc::Global;
 use std::fmt::Display;
 use std::process::Abort;
-use std::test::Fail;
 
 /// A fault is shown with this line.
-fn compare_line<E: Display + Drop>(
-    rt: &impl Abort,
-    alloc: Global,
-    fault: E,
-    line: &str,
-) -> Result<(), Memory> {
-    let text = fault.to_string(alloc)?;
-    check_eq!(rt; text.as_str(), line);
-    Ok(())
+fn compare_line<E: Display + Drop>(rt: &impl Abort, alloc: Global, fault: E, line: &str) {
+    let text = fault.to_string(alloc).expect(rt, "memory");
+    check_eq!(*rt; text.as_str(), line);
 }
 
 const LINES: &[(TextFault, &str)] = &[
@@ -46,12 +39,10 @@ const LINES: &[(TextFault, &str)] = &[
 ];
 
 #[test]
-fn each_fault_of_a_game_text_has_its_line(rt: HostRuntime) -> Result<(), Fail> {
-    let alloc = rt.alloc();
+fn each_fault_of_a_game_text_has_its_line(rt: HostRuntime) {
     for case in LINES {
-        compare_line(&rt, alloc, case.0, case.1)?;
+        compare_line(&rt, rt.alloc(), case.0, case.1);
     }
-    Ok(())
 }
 
 const SOLUTION_LINES: &[(SolutionTextFault, &str)] = &[
@@ -66,10 +57,8 @@ const SOLUTION_LINES: &[(SolutionTextFault, &str)] = &[
 ];
 
 #[test]
-fn each_fault_of_a_solution_text_has_its_line(rt: HostRuntime) -> Result<(), Fail> {
-    let alloc = rt.alloc();
+fn each_fault_of_a_solution_text_has_its_line(rt: HostRuntime) {
     for case in SOLUTION_LINES {
-        compare_line(&rt, alloc, case.0, case.1)?;
+        compare_line(&rt, rt.alloc(), case.0, case.1);
     }
-    Ok(())
 }

@@ -2,24 +2,11 @@
 
 ghost use Rattle.std.specs.Prelude.{◌≡◌, IfOk, IfErr};
 
-use super::{GAPS, game, game_fault};
+use super::{GAPS, game_fault, the_game};
 use pg_game::{Game, GameFault};
 use pg_text::{TextFault, read_game, write_game};
 use std::alloc::Global;
 use std::process::Abort;
-use std::test::Fail;
-
-/// A game's text is written so.
-fn compare_written(
-    rt: &impl Abort,
-    alloc: Global,
-    (text, want): (&str, &str),
-) -> Result<(), TextFault> {
-    let game = game(alloc, text.as_bytes())?;
-    let written = write_game(alloc, &game)?;
-    check_eq!(rt; written.as_slice(), want.as_bytes(), "at {text}");
-    Ok(())
-}
 
 const SPELLINGS: &[(&str, &str)] = &[
     ("parity 0;\n0 0 0 0;\n", "parity 0;\n0 0 0 0;\n"),
@@ -27,6 +14,10 @@ const SPELLINGS: &[(&str, &str)] = &[
     (
         "parity 4; 0 6 1 4,2 \"Africa\"; 4 5 1 0 \"Antarctica\"; 1 8 1 2,4,3 \"America\"; 3 6 0 4,2 \"Australia\"; 2 7 0 3,1,0,4 \"Asia\";",
         "parity 4;\n0 6 1 2,4;\n1 8 1 2,3,4;\n2 7 0 0,1,3,4;\n3 6 0 2,4;\n4 5 1 0;\n",
+    ),
+    (
+        "parity 9;\n3 1 0 9;\n9 2 1 3,9;\n",
+        "parity 9;\n3 1 0 9;\n9 2 1 3,9;\n",
     ),
     (GAPS, "parity 9;\n3 1 0 9;\n9 2 1 3,9;\n"),
     ("parity 5;start 77;00 07 01 0,00;", "parity 0;\n0 7 1 0;\n"),
@@ -45,15 +36,6 @@ const SPELLINGS: &[(&str, &str)] = &[
     ),
 ];
 
-#[test]
-fn a_game_is_written_in_one_spelling(rt: HostRuntime) -> Result<(), Fail> {
-    let alloc = rt.alloc();
-    for case in SPELLINGS {
-        compare_written(&rt, alloc, *case)?;
-    }
-    Ok(())
-}
-
 /// A game, written and read again. What is written is short enough to be read, so nothing looks at its length.
 fn read_back(alloc: Global, game: &Game) -> Result<Game, TextFault>
     ensures same { IfOk result (λ read. read ≡ game.now) }
@@ -65,25 +47,29 @@ fn read_back(alloc: Global, game: &Game) -> Result<Game, TextFault>
     read_game(alloc, text.as_slice())
 }
 
-/// Whether a game is the same when it is written and read again.
-fn is_read_back(alloc: Global, game: &Game) -> Result<bool, TextFault> {
-    let read = read_back(alloc, game)?;
-    Ok(read == *game)
+/// The game is written so, and is the same when that is read again.
+fn compare_written(rt: &impl Abort, alloc: Global, game: &Game, want: &str) {
+    let written = write_game(alloc, game).expect(rt, "memory");
+    check_eq!(*rt; written.as_slice(), want.as_bytes(), want);
+    let read = read_back(alloc, game).expect(rt, "memory");
+    check!(*rt; read == *game, want);
+}
+
+fn compare_spelling(rt: &impl Abort, alloc: Global, text: &str, want: &str) {
+    let game = the_game(rt, alloc, text);
+    compare_written(rt, alloc, &game, want);
 }
 
 #[test]
-fn a_written_game_is_read_back(rt: HostRuntime) -> Result<(), Fail> {
-    let alloc = rt.alloc();
-    let text = "parity 9;\n3 1 0 9;\n9 2 1 3,9;\n";
-    let game = game(alloc, text.as_bytes())?;
-    check_eq!(rt; write_game(alloc, &game)?.as_slice(), text.as_bytes());
-    check!(rt; is_read_back(alloc, &game)?);
-    Ok(())
+fn a_game_is_written_in_one_spelling_and_read_back(rt: HostRuntime) {
+    for case in SPELLINGS {
+        compare_spelling(&rt, rt.alloc(), case.0, case.1);
+    }
 }
 
 /// A game's text is refused so.
-fn refused(rt: &impl Abort, alloc: Global, (text, want): (&str, TextFault)) {
-    check_eq!(rt; game_fault(alloc, text.as_bytes()), Some(want), "at {text}");
+fn refused(rt: &impl Abort, alloc: Global, text: &str, want: TextFault) {
+    check_eq!(*rt; game_fault(alloc, text.as_bytes()), Some(want), text);
 }
 
 const FAULTS: &[(&str, TextFault)] = &[
@@ -114,17 +100,7 @@ const FAULTS: &[(&str, TextFault)] = &[
     ("0 0 2 0;", TextFault::Owner(4)),
     ("0 0 02 0;", TextFault::Owner(4)),
     ("0 0 1 7;0 0 2 0;0 0 3 0;", TextFault::Owner(12)),
-];
-
-#[test]
-fn the_grammar_is_judged_before_numbers_and_numbers_before_owners(rt: HostRuntime) {
-    let alloc = rt.alloc();
-    for case in FAULTS {
-        refused(&rt, alloc, *case);
-    }
-}
-
-const NO_GAMES: &[(&str, TextFault)] = &[
+    // specifications that make no game are named
     ("0 0 0 7;", TextFault::Game(GameFault::Unknown(0, 7))),
     ("0 0 0 0; 0 1 1 0;", TextFault::Game(GameFault::Twice(0))),
     ("1 0 0 1;1 0 0 2;", TextFault::Game(GameFault::Twice(1))),
@@ -135,9 +111,10 @@ const NO_GAMES: &[(&str, TextFault)] = &[
 ];
 
 #[test]
-fn specifications_that_make_no_game_are_named(rt: HostRuntime) {
-    let alloc = rt.alloc();
-    for case in NO_GAMES {
-        refused(&rt, alloc, *case);
+fn the_grammar_is_judged_before_numbers_numbers_before_owners_and_owners_before_the_game(
+    rt: HostRuntime,
+) {
+    for case in FAULTS {
+        refused(&rt, rt.alloc(), case.0, case.1);
     }
 }

@@ -1,11 +1,10 @@
 //! What texts say that is known of a game, and why others are refused.
 
-use super::{BOTH_WIN, GAPS, game};
+use super::{BOTH_WIN, GAPS, the_game};
 use pg_game::{Game, Player};
 use pg_text::{Known, SolutionTextFault, read_known};
 use std::alloc::Global;
 use std::process::Abort;
-use std::test::Fail;
 
 /// What a short text says that is known of the game.
 fn known(alloc: Global, game: &Game, text: &[u8]) -> Result<Known, SolutionTextFault> {
@@ -23,15 +22,14 @@ const EVEN: Player = Player::Even;
 const ODD: Player = Player::Odd;
 
 /// A text says so of a game.
-fn compare_known(
-    rt: &impl Abort,
-    alloc: Global,
-    (game_text, text, want): (&str, &str, [Saying; 2]),
-) -> Result<(), Fail> {
-    let game = game(alloc, game_text.as_bytes())?;
-    let known = known(alloc, &game, text.as_bytes())?;
-    check!(rt; known.rows.as_slice() == want.as_slice(), "at {text}");
-    Ok(())
+fn compare_known(rt: &impl Abort, alloc: Global, game: &Game, text: &str, want: &[Saying]) {
+    let known = known(alloc, game, text.as_bytes()).expect(rt, "what is known");
+    check_eq!(*rt; known.rows.as_slice(), want, text);
+}
+
+fn compare_case(rt: &impl Abort, alloc: Global, case: &(&str, &str, [Saying; 2])) {
+    let game = the_game(rt, alloc, case.0);
+    compare_known(rt, alloc, &game, case.1, case.2.as_slice());
 }
 
 const KNOWN: &[(&str, &str, [Saying; 2])] = &[
@@ -49,17 +47,15 @@ const KNOWN: &[(&str, &str, [Saying; 2])] = &[
 ];
 
 #[test]
-fn vertices_may_be_left_out(rt: HostRuntime) -> Result<(), Fail> {
-    let alloc = rt.alloc();
+fn vertices_may_be_left_out(rt: HostRuntime) {
     for case in KNOWN {
-        compare_known(&rt, alloc, *case)?;
+        compare_case(&rt, rt.alloc(), case);
     }
-    Ok(())
 }
 
 /// A text of what is known of a game is refused so.
-fn refused(rt: &impl Abort, alloc: Global, game: &Game, (text, want): (&str, SolutionTextFault)) {
-    check_eq!(rt; known(alloc, game, text.as_bytes()).err(), Some(want), "at {text}");
+fn refused(rt: &impl Abort, alloc: Global, game: &Game, text: &str, want: SolutionTextFault) {
+    check_eq!(*rt; known(alloc, game, text.as_bytes()).err(), Some(want), text);
 }
 
 const FAULTS: &[(&str, SolutionTextFault)] = &[
@@ -77,11 +73,9 @@ const FAULTS: &[(&str, SolutionTextFault)] = &[
 ];
 
 #[test]
-fn the_first_fault_of_a_known_text_is_named(rt: HostRuntime) -> Result<(), Fail> {
-    let alloc = rt.alloc();
-    let game = game(alloc, BOTH_WIN.as_bytes())?;
+fn the_first_fault_of_a_known_text_is_named(rt: HostRuntime) {
+    let game = the_game(&rt, rt.alloc(), BOTH_WIN);
     for case in FAULTS {
-        refused(&rt, alloc, &game, *case);
+        refused(&rt, rt.alloc(), &game, case.0, case.1);
     }
-    Ok(())
 }

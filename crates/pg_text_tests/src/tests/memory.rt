@@ -8,7 +8,7 @@ ghost use Rattle.std.specs.Prelude.{IfOk};
 ghost use Rattle.pg_text.specs.Solution.{AreSolutionRows};
 
 use super::{game, solution};
-use pg_game::{Game, Memory, Player};
+use pg_game::{Game, Player};
 use pg_text::{
     Known, Solution, SolutionTextFault, TextFault, read_known, write_game, write_solution,
     write_winners,
@@ -86,124 +86,150 @@ fn needed_solution(alloc: Global, game: &Game) -> Result<Solution, Fail>
     }
 }
 
+/// What is done once more where memory was refused to it.
+#[derive(Clone, Copy)]
+enum Call {
+    ReadGame,
+    ReadSolution,
+    ReadKnown,
+    WriteGame,
+    WriteSolution,
+    WriteWinners,
+}
+
+/// A call does what it has to, and leaves the game as it was.
+fn after_a_refusal(rt: &impl Abort, alloc: Global, call: Call) -> Result<(), Fail> {
+    let game = needed_game(alloc)?;
+    let solution = needed_solution(alloc, &game)?;
+    compare_call(rt, alloc, &game, &solution, call);
+    compare_game(rt, &game);
+    Ok(())
+}
+
+fn compare_call(rt: &impl Abort, alloc: Global, game: &Game, solution: &Solution, call: Call)
+    requires { AreSolutionRows game.now solution.now.rows }
+{
+    match call {
+        Call::ReadGame => compare_game(rt, &read_twice(rt, alloc)),
+        Call::ReadSolution => compare_rows(rt, &read_solution_twice(rt, alloc, game)),
+        Call::ReadKnown => compare_known(rt, &read_known_twice(rt, alloc, game)),
+        Call::WriteGame => compare_text(rt, &write_game_twice(rt, alloc, game), WRITTEN_GAME),
+        Call::WriteSolution => {
+            let text = write_solution_twice(rt, alloc, game, solution);
+            compare_text(rt, &text, WRITTEN_SOLUTION);
+        }
+        Call::WriteWinners => {
+            let text = write_winners_twice(rt, alloc, game, solution);
+            compare_text(rt, &text, WRITTEN_WINNERS);
+        }
+    }
+}
+
+fn compare_text(rt: &impl Abort, text: &Vec<u8>, want: &[u8]) {
+    check_eq!(*rt; text.as_slice(), want);
+}
+
 /// The game of a text, read once more where memory was refused.
-fn read_twice(alloc: Global) -> Result<Game, TextFault> {
+fn read_twice(rt: &impl Abort, alloc: Global) -> Game {
     match game(alloc, GAME) {
-        Err(TextFault::Memory) => game(alloc, GAME),
-        read => read,
+        Err(TextFault::Memory) => game(alloc, GAME).expect(rt, "a game"),
+        read => read.expect(rt, "a game"),
     }
 }
 
 /// A vertex of the game is this one.
-fn compare_vertex(rt: &impl Abort, game: &Game, vertex: Vertex) -> Result<(), Fail> {
-    let Some(v) = game.vertex_of(vertex.0) else {
-        return Err(Fail::from("no such vertex"));
+fn compare_vertex(rt: &impl Abort, game: &Game, (id, priority, owner, successors): Vertex) {
+    let Some(v) = game.vertex_of(id) else {
+        panic!(*rt; "no vertex {id}")
     };
-    check_eq!(rt; game.priority(v), vertex.1);
-    check_eq!(rt; game.owner(v), vertex.2);
-    check_eq!(rt; game.successors(v), vertex.3);
-    Ok(())
+    check_eq!(*rt; game.priority(v), priority, id);
+    check_eq!(*rt; game.owner(v), owner, id);
+    check_eq!(*rt; game.successors(v), successors, id);
 }
 
 /// The game is that of the text.
-fn compare_game(rt: &impl Abort, game: &Game) -> Result<(), Fail> {
-    check_eq!(rt; game.len(), 5);
+fn compare_game(rt: &impl Abort, game: &Game) {
+    check_eq!(*rt; game.len(), 5);
     for vertex in VERTICES {
-        compare_vertex(rt, game, *vertex)?;
+        compare_vertex(rt, game, *vertex);
     }
-    Ok(())
 }
 
 #[test]
 fn a_game_is_read_after_a_refusal(rt: HostRuntime) -> Result<(), Fail> {
-    let game = read_twice(rt.alloc())?;
-    compare_game(&rt, &game)
+    after_a_refusal(&rt, rt.alloc(), Call::ReadGame)
 }
 
 /// The same for a solution text.
-fn read_solution_twice(alloc: Global, game: &Game) -> Result<Solution, SolutionTextFault> {
+fn read_solution_twice(rt: &impl Abort, alloc: Global, game: &Game) -> Solution {
     match solution(alloc, game, SOLUTION) {
-        Err(SolutionTextFault::Memory) => solution(alloc, game, SOLUTION),
-        read => read,
+        Err(SolutionTextFault::Memory) => solution(alloc, game, SOLUTION).expect(rt, "rows"),
+        read => read.expect(rt, "rows"),
     }
+}
+
+fn compare_rows(rt: &impl Abort, solution: &Solution) {
+    check_eq!(*rt; solution.rows.as_slice(), ROWS);
 }
 
 #[test]
 fn a_solution_is_read_after_a_refusal(rt: HostRuntime) -> Result<(), Fail> {
-    let alloc = rt.alloc();
-    let game = needed_game(alloc)?;
-    let solution = read_solution_twice(alloc, &game)?;
-    check_eq!(rt; solution.rows.as_slice(), ROWS);
-    compare_game(&rt, &game)
+    after_a_refusal(&rt, rt.alloc(), Call::ReadSolution)
 }
 
 /// The same for what is known.
-fn read_known_twice(alloc: Global, game: &Game) -> Result<Known, SolutionTextFault> {
+fn read_known_twice(rt: &impl Abort, alloc: Global, game: &Game) -> Known {
     match read_known(alloc, game, KNOWN) {
-        Err(SolutionTextFault::Memory) => read_known(alloc, game, KNOWN),
-        read => read,
+        Err(SolutionTextFault::Memory) => read_known(alloc, game, KNOWN).expect(rt, "rows"),
+        read => read.expect(rt, "rows"),
     }
+}
+
+fn compare_known(rt: &impl Abort, known: &Known) {
+    check_eq!(*rt; known.rows.as_slice(), KNOWN_ROWS);
 }
 
 #[test]
 fn what_is_known_is_read_after_a_refusal(rt: HostRuntime) -> Result<(), Fail> {
-    let alloc = rt.alloc();
-    let game = needed_game(alloc)?;
-    let known = read_known_twice(alloc, &game)?;
-    check!(rt; known.rows.as_slice() == KNOWN_ROWS);
-    compare_game(&rt, &game)
+    after_a_refusal(&rt, rt.alloc(), Call::ReadKnown)
 }
 
-fn write_game_twice(alloc: Global, game: &Game) -> Result<Vec<u8>, Memory> {
+fn write_game_twice(rt: &impl Abort, alloc: Global, game: &Game) -> Vec<u8> {
     match write_game(alloc, game) {
-        Ok(text) => Ok(text),
-        Err(_) => write_game(alloc, game),
+        Ok(text) => text,
+        Err(_) => write_game(alloc, game).expect(rt, "memory"),
     }
 }
 
 #[test]
 fn a_game_is_written_after_a_refusal(rt: HostRuntime) -> Result<(), Fail> {
-    let alloc = rt.alloc();
-    let game = needed_game(alloc)?;
-    let text = write_game_twice(alloc, &game)?;
-    check_eq!(rt; text.as_slice(), WRITTEN_GAME);
-    compare_game(&rt, &game)
+    after_a_refusal(&rt, rt.alloc(), Call::WriteGame)
 }
 
-fn write_solution_twice(alloc: Global, game: &Game, solution: &Solution) -> Result<Vec<u8>, Memory>
+fn write_solution_twice(rt: &impl Abort, alloc: Global, game: &Game, solution: &Solution) -> Vec<u8>
     requires { AreSolutionRows game.now solution.now.rows }
 {
     match write_solution(alloc, game, solution) {
-        Ok(text) => Ok(text),
-        Err(_) => write_solution(alloc, game, solution),
+        Ok(text) => text,
+        Err(_) => write_solution(alloc, game, solution).expect(rt, "memory"),
     }
 }
 
 #[test]
 fn a_solution_is_written_after_a_refusal(rt: HostRuntime) -> Result<(), Fail> {
-    let alloc = rt.alloc();
-    let game = needed_game(alloc)?;
-    let solution = needed_solution(alloc, &game)?;
-    let text = write_solution_twice(alloc, &game, &solution)?;
-    check_eq!(rt; text.as_slice(), WRITTEN_SOLUTION);
-    compare_game(&rt, &game)
+    after_a_refusal(&rt, rt.alloc(), Call::WriteSolution)
 }
 
-fn write_winners_twice(alloc: Global, game: &Game, solution: &Solution) -> Result<Vec<u8>, Memory>
+fn write_winners_twice(rt: &impl Abort, alloc: Global, game: &Game, solution: &Solution) -> Vec<u8>
     requires { AreSolutionRows game.now solution.now.rows }
 {
     match write_winners(alloc, game, solution) {
-        Ok(text) => Ok(text),
-        Err(_) => write_winners(alloc, game, solution),
+        Ok(text) => text,
+        Err(_) => write_winners(alloc, game, solution).expect(rt, "memory"),
     }
 }
 
 #[test]
 fn winners_are_written_after_a_refusal(rt: HostRuntime) -> Result<(), Fail> {
-    let alloc = rt.alloc();
-    let game = needed_game(alloc)?;
-    let solution = needed_solution(alloc, &game)?;
-    let text = write_winners_twice(alloc, &game, &solution)?;
-    check_eq!(rt; text.as_slice(), WRITTEN_WINNERS);
-    compare_game(&rt, &game)
+    after_a_refusal(&rt, rt.alloc(), Call::WriteWinners)
 }

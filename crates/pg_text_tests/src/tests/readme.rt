@@ -5,7 +5,6 @@ ghost use Rattle.pg_text.specs.Reading.{max_text};
 
 use pg_text::{TextFault, read_game, write_game};
 use std::alloc::Global;
-use std::test::Fail;
 
 /// The one spelling of the game that a text spells.
 fn tidied(alloc: Global, text: &[u8]) -> Result<Vec<u8>, TextFault>
@@ -15,9 +14,10 @@ fn tidied(alloc: Global, text: &[u8]) -> Result<Vec<u8>, TextFault>
     Ok(write_game(alloc, &game)?)
 }
 
+const WRITTEN: &[u8] = b"parity 1;\n0 2 0 0,1;\n1 1 1 1;\n";
+
 #[test]
-fn a_text_is_tidied(rt: HostRuntime) -> Result<(), Fail> {
-    let text = tidied(rt.alloc(), b"1 1 1 1; 0 2 0 1,0;")?;
-    check_eq!(rt; text.as_slice(), b"parity 1;\n0 2 0 0,1;\n1 1 1 1;\n".as_slice());
-    Ok(())
+fn a_text_is_tidied(rt: HostRuntime) {
+    let text = tidied(rt.alloc(), b"1 1 1 1; 0 2 0 1,0;").expect(&rt, "a game");
+    check_eq!(rt; text.as_slice(), WRITTEN);
 }

@@ -3,52 +3,11 @@
 ghost use Rattle.std.specs.Prelude.{◌≡◌, IfOk, IfErr};
 ghost use Rattle.pg_text.specs.Solution.{AreSolutionRows};
 
-use super::{BOTH_WIN, GAPS, game, solution, solution_fault};
+use super::{BOTH_WIN, GAPS, solution, solution_fault, the_game};
 use pg_game::{Game, Player};
 use pg_text::{Solution, SolutionTextFault, read_solution, write_solution, write_winners};
 use std::alloc::Global;
 use std::process::Abort;
-use std::test::Fail;
-
-/// The text of a game, one of a solution, and what is written of it.
-type Spelling<'a> = (&'a str, &'a str, &'a str);
-
-/// A solution is written so.
-fn compare_written(
-    rt: &impl Abort,
-    alloc: Global,
-    (game_text, text, want): Spelling,
-) -> Result<(), Fail> {
-    let game = game(alloc, game_text.as_bytes())?;
-    let solution = solution(alloc, &game, text.as_bytes())?;
-    let written = write_solution(alloc, &game, &solution)?;
-    check_eq!(rt; written.as_slice(), want.as_bytes(), "at {text}");
-    Ok(())
-}
-
-const SPELLINGS: &[Spelling] = &[
-    (
-        BOTH_WIN,
-        "paritysol 1;\n0 0 0;\n1 1 1;\n",
-        "paritysol 1;\n0 0 0;\n1 1 1;\n",
-    ),
-    (BOTH_WIN, "01 1;00 00;", "paritysol 1;\n0 0;\n1 1;\n"),
-    (
-        BOTH_WIN,
-        "paritysol 2147483647; 1 0 00; 0 1 1;",
-        "paritysol 1;\n0 1 1;\n1 0 0;\n",
-    ),
-    (GAPS, "9 0; 3 0 9;", "paritysol 9;\n3 0 9;\n9 0;\n"),
-];
-
-#[test]
-fn winners_and_choices_are_written_in_one_spelling(rt: HostRuntime) -> Result<(), Fail> {
-    let alloc = rt.alloc();
-    for case in SPELLINGS {
-        compare_written(&rt, alloc, *case)?;
-    }
-    Ok(())
-}
 
 /// Winners and choices, written and read again. What is written is short enough to be read, so nothing looks at its length.
 fn read_back(alloc: Global, game: &Game, solution: &Solution) -> Result<Solution, SolutionTextFault>
@@ -62,75 +21,101 @@ fn read_back(alloc: Global, game: &Game, solution: &Solution) -> Result<Solution
     read_solution(alloc, game, text.as_slice())
 }
 
-/// Written winners, read again.
-fn winners_back(
-    alloc: Global,
-    game: &Game,
-    solution: &Solution,
-) -> Result<Solution, SolutionTextFault>
+/// A solution is written so, and the same when it is read again.
+fn compare_written(rt: &impl Abort, alloc: Global, game: &Game, solution: &Solution, want: &str)
     requires { AreSolutionRows game.now solution.now.rows }
 {
-    let text = write_winners(alloc, game, solution)?;
-    read_solution(alloc, game, text.as_slice())
+    let written = write_solution(alloc, game, solution).expect(rt, "memory");
+    check_eq!(*rt; written.as_slice(), want.as_bytes(), want);
+    let read = read_back(alloc, game, solution).expect(rt, "memory");
+    check_eq!(*rt; read.rows.as_slice(), solution.rows.as_slice(), want);
 }
 
-/// A solution is the same when it is written and read again.
-fn compare_back(
-    rt: &impl Abort,
-    alloc: Global,
-    game: &Game,
-    solution: &Solution,
-) -> Result<(), SolutionTextFault>
-    requires { AreSolutionRows game.now solution.now.rows }
-{
-    let read = read_back(alloc, game, solution)?;
-    check_eq!(rt; read.rows.as_slice(), solution.rows.as_slice());
-    Ok(())
-}
-
-const EVEN_WINS: &[(Player, Option<u32>)] = &[(Player::Even, None), (Player::Even, None)];
-
-#[test]
-fn written_solutions_and_winners_are_read_back(rt: HostRuntime) -> Result<(), Fail> {
-    let alloc = rt.alloc();
-    let game = game(alloc, GAPS.as_bytes())?;
-    let solution = solution(alloc, &game, "9 0; 3 0 9;".as_bytes())?;
-    compare_back(&rt, alloc, &game, &solution)?;
-    let winners = winners_back(alloc, &game, &solution)?;
-    check_eq!(rt; winners.rows.as_slice(), EVEN_WINS);
-    Ok(())
-}
-
-/// The winners of a solution are written so.
+/// A solution's winners are written so, and read again as these.
 fn compare_winners(
     rt: &impl Abort,
     alloc: Global,
-    (game_text, text, want): Spelling,
-) -> Result<(), Fail> {
-    let game = game(alloc, game_text.as_bytes())?;
-    let solution = solution(alloc, &game, text.as_bytes())?;
-    let written = write_winners(alloc, &game, &solution)?;
-    check_eq!(rt; written.as_slice(), want.as_bytes(), "at {text}");
-    Ok(())
+    game: &Game,
+    solution: &Solution,
+    want: &str,
+    winners: [Player; 2],
+)
+    requires { AreSolutionRows game.now solution.now.rows }
+{
+    let written = write_winners(alloc, game, solution).expect(rt, "memory");
+    check_eq!(*rt; written.as_slice(), want.as_bytes(), want);
+    let read = super::solution(alloc, game, written.as_slice()).expect(rt, "a solution");
+    let [first, second] = winners;
+    let rows = [(first, None), (second, None)];
+    check_eq!(*rt; read.rows.as_slice(), rows.as_slice(), want);
 }
 
-const WINNERS: &[Spelling] = &[
-    (BOTH_WIN, "0 0 0;1 1 1;", "paritysol 1;\n0 0;\n1 1;\n"),
-    (GAPS, "9 0; 3 0 9;", "paritysol 9;\n3 0;\n9 0;\n"),
+/// The text of a game, one of a solution, what is written of it, what is written of its winners, and these.
+type Spelling<'a> = (&'a str, &'a str, &'a str, &'a str, [Player; 2]);
+
+fn compare_spelling(rt: &impl Abort, alloc: Global, game: &Game, case: &Spelling) {
+    let solution = solution(alloc, game, case.1.as_bytes()).expect(rt, "a solution");
+    compare_written(rt, alloc, game, &solution, case.2);
+    compare_winners(rt, alloc, game, &solution, case.3, case.4);
+}
+
+fn compare_case(rt: &impl Abort, alloc: Global, case: &Spelling) {
+    let game = the_game(rt, alloc, case.0);
+    compare_spelling(rt, alloc, &game, case);
+}
+
+const EVEN: Player = Player::Even;
+
+const ODD: Player = Player::Odd;
+
+const SPELLINGS: &[Spelling] = &[
+    (
+        BOTH_WIN,
+        "paritysol 1;\n0 0 0;\n1 1 1;\n",
+        "paritysol 1;\n0 0 0;\n1 1 1;\n",
+        "paritysol 1;\n0 0;\n1 1;\n",
+        [EVEN, ODD],
+    ),
+    (
+        BOTH_WIN,
+        "0 0 0;1 1 1;",
+        "paritysol 1;\n0 0 0;\n1 1 1;\n",
+        "paritysol 1;\n0 0;\n1 1;\n",
+        [EVEN, ODD],
+    ),
+    (
+        BOTH_WIN,
+        "01 1;00 00;",
+        "paritysol 1;\n0 0;\n1 1;\n",
+        "paritysol 1;\n0 0;\n1 1;\n",
+        [EVEN, ODD],
+    ),
+    (
+        BOTH_WIN,
+        "paritysol 2147483647; 1 0 00; 0 1 1;",
+        "paritysol 1;\n0 1 1;\n1 0 0;\n",
+        "paritysol 1;\n0 1;\n1 0;\n",
+        [ODD, EVEN],
+    ),
+    (
+        GAPS,
+        "9 0; 3 0 9;",
+        "paritysol 9;\n3 0 9;\n9 0;\n",
+        "paritysol 9;\n3 0;\n9 0;\n",
+        [EVEN, EVEN],
+    ),
 ];
 
 #[test]
-fn winners_are_written_without_choices(rt: HostRuntime) -> Result<(), Fail> {
-    let alloc = rt.alloc();
-    for case in WINNERS {
-        compare_winners(&rt, alloc, *case)?;
+fn solutions_and_winners_are_written_in_one_spelling_and_read_back(rt: HostRuntime) {
+    for case in SPELLINGS {
+        compare_case(&rt, rt.alloc(), case);
     }
-    Ok(())
 }
 
 /// A solution text of a game is refused so.
-fn refused(rt: &impl Abort, alloc: Global, game: &Game, (text, want): (&str, SolutionTextFault)) {
-    check_eq!(rt; solution_fault(alloc, game, text.as_bytes()), Some(want), "at {text}");
+fn refused(rt: &impl Abort, alloc: Global, game: &Game, text: &str, want: SolutionTextFault) {
+    check_eq!(*rt; solution_fault(alloc, game, text.as_bytes()), Some(want), text);
 }
 
 const FAULTS: &[(&str, SolutionTextFault)] = &[
@@ -164,11 +149,9 @@ const FAULTS: &[(&str, SolutionTextFault)] = &[
 ];
 
 #[test]
-fn the_first_fault_of_a_solution_text_is_named(rt: HostRuntime) -> Result<(), Fail> {
-    let alloc = rt.alloc();
-    let game = game(alloc, BOTH_WIN.as_bytes())?;
+fn the_first_fault_of_a_solution_text_is_named(rt: HostRuntime) {
+    let game = the_game(&rt, rt.alloc(), BOTH_WIN);
     for case in FAULTS {
-        refused(&rt, alloc, &game, *case);
+        refused(&rt, rt.alloc(), &game, case.0, case.1);
     }
-    Ok(())
 }

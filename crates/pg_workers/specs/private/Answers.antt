@@ -21,7 +21,7 @@ IsCheckAnswer g claim amount (Err refusal.Memory) = Unit {0}
 IsCheckAnswer g claim amount (Err (refusal.Claim fault)) = IsClaimFault g claim.player claim.rows fault × (fault ≢ claim_fault.Memory)
 IsCheckAnswer g claim amount answer = IsSettledAnswer g claim amount answer
 
--- the answer to a claim: of a worker that is alone, that to its post
+-- the answer to a claim: where no other job runs beside, that to its post
 abbrev pub IsAnswerTo : Bool → Graph → Claim → ℕ → Result ℕ Refusal → Type 0
 IsAnswerTo true g claim amount answer = IsAnswerOfSome amount claim.player claim.rows answer
 IsAnswerTo false g claim amount answer = IsCheckAnswer g claim amount answer

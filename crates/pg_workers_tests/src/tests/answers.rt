@@ -68,7 +68,7 @@ fn answer_all(game: &[Plain], state: State, claims: &[Claim]) -> (State, Counts)
 fn compare_counts(rt: &impl Abort, row: &ReportRow, counts: Counts) {
     let found = [row.posted, row.settled, row.stale, row.refused];
     let want = [counts.posted, counts.settled, counts.stale, counts.refused];
-    check_eq!(rt; found, want, "job {}", row.job);
+    check_eq!(*rt; found, want, row.job);
 }
 
 /// Checks the report of a run with one worker, who posts the same claims in each job.
@@ -133,10 +133,8 @@ impl Bounds {
 
     /// Checks a run with several workers, who post the same claims in each job.
     pub fn check(&self, rt: &impl Abort, outcome: &Outcome) {
-        check_eq!(rt;
-            self.settled & !settled_by_workers(outcome.entries.as_slice()),
-            0
-        );
+        let left = self.settled & !settled_by_workers(outcome.entries.as_slice());
+        check_eq!(*rt; left, 0);
         for row in outcome.report.iter() {
             self.check_row(rt, row);
         }
@@ -145,9 +143,9 @@ impl Bounds {
     fn check_row(&self, rt: &impl Abort, row: &ReportRow) {
         let job = row.job;
         let answered = row.posted.wrapping_add(row.stale).wrapping_add(row.refused);
-        check_eq!(rt; answered, self.all, "job {job}");
+        check_eq!(*rt; answered, self.all, job);
         let most = self.refused.wrapping_add(self.open);
         let is_within = self.refused <= row.refused && row.refused <= most;
-        check!(rt; is_within, "job {job}");
+        check!(*rt; is_within, job);
     }
 }

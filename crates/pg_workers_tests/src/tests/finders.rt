@@ -8,7 +8,7 @@ use std::alloc::Global;
 use std::process::Abort;
 use std::sync::OnceLock;
 
-pub fn claim_of(alloc: Global, player: Player, rows: &[Row]) -> Result<Claim, Memory> {
+fn claim_of(alloc: Global, player: Player, rows: &[Row]) -> Result<Claim, Memory> {
     Ok(Claim {
         player,
         rows: Sequence::new(Vec::from_slice(alloc, rows)?),
@@ -16,7 +16,12 @@ pub fn claim_of(alloc: Global, player: Player, rows: &[Row]) -> Result<Claim, Me
 }
 
 /// Adds a claim of these rows.
-fn add(alloc: Global, claims: &mut Vec<Claim>, player: Player, rows: &[Row]) -> Result<(), Memory> {
+pub fn add(
+    alloc: Global,
+    claims: &mut Vec<Claim>,
+    player: Player,
+    rows: &[Row],
+) -> Result<(), Memory> {
     claims.push(claim_of(alloc, player, rows)?)?;
     Ok(())
 }
@@ -26,10 +31,14 @@ fn game_in<'a>(copied: &'a Copied) -> &'a Game {
     copied.inside.game()
 }
 
-fn found(claims: Vec<Claim>) -> Found {
-    Found {
-        claims,
-        gave_up: false,
+/// What a finder answers once it has added claims, or was refused memory.
+pub fn answer(claims: Vec<Claim>, added: Result<(), Memory>) -> Result<Found, Memory> {
+    match added {
+        Ok(()) => Ok(Found {
+            claims,
+            gave_up: false,
+        }),
+        Err(memory) => Err(memory),
     }
 }
 
@@ -67,8 +76,8 @@ pub struct Singles;
 impl Finder for Singles {
     fn find(&self, alloc: Global, copied: &Copied, _job: &Job) -> Result<Found, Memory> {
         let mut claims = Vec::new(alloc);
-        add_singles(alloc, &mut claims, game_in(copied))?;
-        Ok(found(claims))
+        let added = add_singles(alloc, &mut claims, game_in(copied));
+        answer(claims, added)
     }
 }
 
@@ -103,12 +112,17 @@ impl Finder for Wholes {
     fn find(&self, alloc: Global, copied: &Copied, _job: &Job) -> Result<Found, Memory> {
         let game = game_in(copied);
         let mut claims = Vec::new(alloc);
-        add_rising(alloc, &mut claims, game, game.len())?;
-        Ok(found(claims))
+        let added = add_rising(alloc, &mut claims, game, game.len());
+        answer(claims, added)
     }
 }
 
-fn add_misshapen(
+fn add_misshapen(alloc: Global, claims: &mut Vec<Claim>, game: &Game) -> Result<(), Memory> {
+    add_misshapen_for(alloc, claims, game, EVEN)?;
+    add_misshapen_for(alloc, claims, game, ODD)
+}
+
+fn add_misshapen_for(
     alloc: Global,
     claims: &mut Vec<Claim>,
     game: &Game,
@@ -127,11 +141,9 @@ pub struct Misshapen;
 
 impl Finder for Misshapen {
     fn find(&self, alloc: Global, copied: &Copied, _job: &Job) -> Result<Found, Memory> {
-        let game = game_in(copied);
         let mut claims = Vec::new(alloc);
-        add_misshapen(alloc, &mut claims, game, EVEN)?;
-        add_misshapen(alloc, &mut claims, game, ODD)?;
-        Ok(found(claims))
+        let added = add_misshapen(alloc, &mut claims, game_in(copied));
+        answer(claims, added)
     }
 }
 
@@ -141,8 +153,11 @@ pub fn both_regions(alloc: Global, copied: &Copied) -> Result<[Claim; 2], Memory
     Ok([even, odd])
 }
 
-fn add_copy(alloc: Global, claims: &mut Vec<Claim>, claim: &Claim) -> Result<(), Memory> {
-    add(alloc, claims, claim.player, claim.rows.as_slice())
+fn add_copies(alloc: Global, claims: &mut Vec<Claim>, copies: &[Claim]) -> Result<(), Memory> {
+    for claim in copies {
+        add(alloc, claims, claim.player, claim.rows.as_slice())?;
+    }
+    Ok(())
 }
 
 /// Gives the solution of the first copy that it sees for ever.
@@ -159,17 +174,29 @@ impl FirstSolution {
     }
 }
 
-impl Finder for FirstSolution {
-    fn find(&self, alloc: Global, copied: &Copied, _job: &Job) -> Result<Found, Memory> {
+impl FirstSolution {
+    /// Adds the solution of the first copy.
+    fn add_solution(
+        &self,
+        alloc: Global,
+        claims: &mut Vec<Claim>,
+        copied: &Copied,
+    ) -> Result<(), Memory> {
         if self.solution.get().is_none() {
             let _ = self.solution.try_set(both_regions(alloc, copied)?);
         }
-        let mut claims = Vec::new(alloc);
-        if let Some([even, odd]) = self.solution.get() {
-            add_copy(alloc, &mut claims, even)?;
-            add_copy(alloc, &mut claims, odd)?;
+        match self.solution.get() {
+            Some(solution) => add_copies(alloc, claims, solution.as_slice()),
+            None => Ok(()),
         }
-        Ok(found(claims))
+    }
+}
+
+impl Finder for FirstSolution {
+    fn find(&self, alloc: Global, copied: &Copied, _job: &Job) -> Result<Found, Memory> {
+        let mut claims = Vec::new(alloc);
+        let added = self.add_solution(alloc, &mut claims, copied);
+        answer(claims, added)
     }
 }
 
@@ -186,20 +213,23 @@ impl Overlapping {
             first: FirstSolution::new(),
         }
     }
+
+    fn add_claims(
+        &self,
+        alloc: Global,
+        claims: &mut Vec<Claim>,
+        copied: &Copied,
+    ) -> Result<(), Memory> {
+        add_singles(alloc, claims, game_in(copied))?;
+        self.first.add_solution(alloc, claims, copied)
+    }
 }
 
 impl Finder for Overlapping {
-    fn find(&self, alloc: Global, copied: &Copied, job: &Job) -> Result<Found, Memory> {
-        let Found {
-            claims: more,
-            gave_up: _,
-        } = self.first.find(alloc, copied, job)?;
+    fn find(&self, alloc: Global, copied: &Copied, _job: &Job) -> Result<Found, Memory> {
         let mut claims = Vec::new(alloc);
-        add_singles(alloc, &mut claims, game_in(copied))?;
-        for claim in more {
-            claims.push(claim)?;
-        }
-        Ok(found(claims))
+        let added = self.add_claims(alloc, &mut claims, copied);
+        answer(claims, added)
     }
 }
 
@@ -212,13 +242,6 @@ impl Finder for NoMemory {
     }
 }
 
-fn add_all(alloc: Global, claims: &mut Vec<Claim>, all: &[(Player, &[Row])]) -> Result<(), Memory> {
-    for (player, rows) in all {
-        add(alloc, claims, *player, *rows)?;
-    }
-    Ok(())
-}
-
 /// Gives the same claims for each job, so many times.
 #[derive(Drop)]
 pub struct Fixed<'a> {
@@ -226,13 +249,27 @@ pub struct Fixed<'a> {
     pub times: u32,
 }
 
-impl<'a> Finder for Fixed<'a> {
+impl Fixed<'_> {
+    fn add_once(&self, alloc: Global, claims: &mut Vec<Claim>) -> Result<(), Memory> {
+        for (player, rows) in self.claims {
+            add(alloc, claims, *player, *rows)?;
+        }
+        Ok(())
+    }
+
+    fn add_claims(&self, alloc: Global, claims: &mut Vec<Claim>) -> Result<(), Memory> {
+        for _time in 0..self.times {
+            self.add_once(alloc, claims)?;
+        }
+        Ok(())
+    }
+}
+
+impl Finder for Fixed<'_> {
     fn find(&self, alloc: Global, _copied: &Copied, _job: &Job) -> Result<Found, Memory> {
         let mut claims = Vec::new(alloc);
-        for _time in 0..self.times {
-            add_all(alloc, &mut claims, self.claims)?;
-        }
-        Ok(found(claims))
+        let added = self.add_claims(alloc, &mut claims);
+        answer(claims, added)
     }
 }
 
@@ -254,17 +291,28 @@ pub struct Long {
     pub count: u32,
 }
 
-impl Finder for Long {
-    fn find(&self, alloc: Global, copied: &Copied, job: &Job) -> Result<Found, Memory> {
-        let game = game_in(copied);
-        let mut claims = Vec::new(alloc);
+impl Long {
+    fn add_claims(
+        &self,
+        alloc: Global,
+        claims: &mut Vec<Claim>,
+        game: &Game,
+        job: &Job,
+    ) -> Result<(), Memory> {
         if *job == Job::Loops {
-            add_rising(alloc, &mut claims, game, self.count)?;
-            add_equal(alloc, &mut claims, game, self.count)?;
+            add_rising(alloc, claims, game, self.count)?;
+            add_equal(alloc, claims, game, self.count)?;
         }
         let last = game.len().saturating_sub(1);
-        add(alloc, &mut claims, ODD, &[(last, Some(last))])?;
-        Ok(found(claims))
+        add(alloc, claims, ODD, &[(last, Some(last))])
+    }
+}
+
+impl Finder for Long {
+    fn find(&self, alloc: Global, copied: &Copied, job: &Job) -> Result<Found, Memory> {
+        let mut claims = Vec::new(alloc);
+        let added = self.add_claims(alloc, &mut claims, game_in(copied), job);
+        answer(claims, added)
     }
 }
 
@@ -313,7 +361,7 @@ impl Finder for Recorder {
                 break;
             }
         }
-        Ok(found(Vec::new(alloc)))
+        answer(Vec::new(alloc), Ok(()))
     }
 }
 
@@ -326,7 +374,7 @@ pub struct Watcher {
 impl Watcher {
     /// What was noted is this.
     pub fn compare_settled(&self, rt: &impl Abort, want: u64) {
-        check_eq!(rt; self.settled.get().copied(), Some(want));
+        check_eq!(*rt; self.settled.get().copied(), Some(want));
     }
 }
 

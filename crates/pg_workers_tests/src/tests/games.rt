@@ -1,14 +1,14 @@
 //! Games for the tests, and runs on them.
 
-ghost use Rattle.std.specs.Prelude.{◌≡◌, ◌≤◌, IfOk, length};
+ghost use Rattle.std.specs.Prelude.{◌≡◌, ◌≤◌, length};
 
 use pg_finders::Finder;
 use pg_game::Game;
 use pg_text::{Known, read_game, read_known};
 use pg_workers::{Gate, Options, Outcome, Pass, SolveFault, solve_game};
 use std::alloc::Global;
+use std::process::Abort;
 use std::sync::Wait;
-use std::test::Fail;
 use std::thread::Threads;
 
 /// Each player wins the vertex of his own.
@@ -28,25 +28,21 @@ pub fn continents() -> &'static [u8] {
 }
 
 /// The game of a short text.
-pub fn game_of(alloc: Global, text: &[u8]) -> Result<Game, Fail> {
-    if text.len() > 1_000 {
-        return Err(Fail::from("the text is not short"));
-    }
-    Ok(read_game(alloc, text)?)
+pub fn game_of(rt: &impl Abort, alloc: Global, text: &[u8]) -> Game {
+    assert!(*rt; text.len() <= 1_000);
+    read_game(alloc, text).expect(rt, "a game")
 }
 
 /// What a short text says is known.
-fn known_of(alloc: Global, game: &Game, text: &[u8]) -> Result<Known, Fail>
-    ensures { IfOk result (λ known. length known.rows ≡ length game.now) }
+fn known_of(rt: &impl Abort, alloc: Global, game: &Game, text: &[u8]) -> Known
+    ensures { length result.rows ≡ length game.now }
 {
-    if text.len() > 1_000 {
-        return Err(Fail::from("the text is not short"));
-    }
-    Ok(read_known(alloc, game, text)?)
+    assert!(*rt; text.len() <= 1_000);
+    read_known(alloc, game, text).expect(rt, "what is known")
 }
 
-/// A run on a game of which nothing is known.
-pub fn solved<R: Threads + Wait + Sync>(
+/// A run on a game of which nothing is known, which may lack memory.
+pub fn try_solved<R: Threads + Wait + Sync>(
     rt: &R,
     alloc: Global,
     game: &Game,
@@ -57,77 +53,98 @@ pub fn solved<R: Threads + Wait + Sync>(
     requires workers { (1 ≤ options.now.workers) × (options.now.workers ≤ 64) }
     requires bound { options.now.bound ≤ 8 }
 {
-    let nothing = match read_known(alloc, game, b"") {
-        Ok(known) => known,
-        Err(_) => return Err(SolveFault::Memory),
-    };
-    solve_game(rt, alloc, game, options, &nothing, gate, finder)
+    match read_known(alloc, game, b"") {
+        Ok(nothing) => solve_game(rt, alloc, game, options, &nothing, gate, finder),
+        Err(_) => Err(SolveFault::Memory),
+    }
+}
+
+/// A run on a game of which nothing is known.
+pub fn solved<R: Threads + Wait + Abort + Sync>(
+    rt: &R,
+    alloc: Global,
+    game: &Game,
+    options: &Options,
+    gate: &impl Gate,
+    finder: &impl Finder,
+) -> Outcome
+    requires workers { (1 ≤ options.now.workers) × (options.now.workers ≤ 64) }
+    requires bound { options.now.bound ≤ 8 }
+{
+    try_solved(rt, alloc, game, options, gate, finder).expect(rt, "an outcome")
+}
+
+/// So many workers and the product's bounds.
+pub fn product(workers: u32) -> Options
+    ensures { (result.workers ≡ workers) × (result.bound ≡ 4) }
+{
+    Options {
+        workers,
+        bound: 4,
+        budget: 10_000,
+    }
 }
 
 /// A run with so many workers and the product's bounds.
-pub fn run_on<R: Threads + Wait + Sync>(
+pub fn run_on<R: Threads + Wait + Abort + Sync>(
     rt: &R,
     alloc: Global,
     game: &Game,
     workers: u32,
     gate: &impl Gate,
     finder: &impl Finder,
-) -> Result<Outcome, SolveFault>
-    requires { (1 ≤ workers) × (workers ≤ 64) }
-{
-    let options = Options {
-        workers,
-        bound: 4,
-        budget: 10_000,
-    };
-    solved(rt, alloc, game, &options, gate, finder)
+) -> Outcome {
+    assert!(*rt; 1 <= workers && workers <= 64);
+    solved(rt, alloc, game, &product(workers), gate, finder)
 }
 
 /// A run on a game's text, with a gate.
-pub fn gated_outcome<R: Threads + Wait + Sync>(
+pub fn gated_outcome<R: Threads + Wait + Abort + Sync>(
     rt: &R,
     alloc: Global,
     text: &[u8],
     workers: u32,
     gate: &impl Gate,
     finder: &impl Finder,
-) -> Result<Outcome, Fail>
-    requires { (1 ≤ workers) × (workers ≤ 64) }
-{
-    let game = game_of(alloc, text)?;
-    Ok(run_on(rt, alloc, &game, workers, gate, finder)?)
+) -> Outcome {
+    let game = game_of(rt, alloc, text);
+    run_on(rt, alloc, &game, workers, gate, finder)
 }
 
 /// A run on a game's text.
-pub fn outcome_of<R: Threads + Wait + Sync>(
+pub fn outcome_of<R: Threads + Wait + Abort + Sync>(
     rt: &R,
     alloc: Global,
     text: &[u8],
     workers: u32,
     finder: &impl Finder,
-) -> Result<Outcome, Fail>
-    requires { (1 ≤ workers) × (workers ≤ 64) }
-{
+) -> Outcome {
     gated_outcome(rt, alloc, text, workers, &Pass, finder)
 }
 
+/// A run on a game, with what a text says is known.
+fn known_on<R: Threads + Wait + Abort + Sync>(
+    rt: &R,
+    alloc: Global,
+    game: &Game,
+    known: &[u8],
+    workers: u32,
+    finder: &impl Finder,
+) -> Result<Outcome, SolveFault> {
+    assert!(*rt; 1 <= workers && workers <= 64);
+    let known = known_of(rt, alloc, game, known);
+    solve_game(rt, alloc, game, &product(workers), &known, &Pass, finder)
+}
+
 /// A run on a game's text, with what a text says is known.
-pub fn known_run<R: Threads + Wait + Sync>(
+pub fn known_run<R: Threads + Wait + Abort + Sync>(
     rt: &R,
     alloc: Global,
     text: &[u8],
     known: &[u8],
     workers: u32,
     finder: &impl Finder,
-) -> Result<Result<Outcome, SolveFault>, Fail>
-    requires { (1 ≤ workers) × (workers ≤ 64) }
-{
-    let game = game_of(alloc, text)?;
-    let known = known_of(alloc, &game, known)?;
-    let options = Options {
-        workers,
-        bound: 4,
-        budget: 10_000,
-    };
-    Ok(solve_game(rt, alloc, &game, &options, &known, &Pass, finder))
+) -> Result<Outcome, SolveFault> {
+    let game = game_of(rt, alloc, text);
+    known_on(rt, alloc, &game, known, workers, finder)
 }

@@ -1,7 +1,8 @@
 //! Gates that hold workers, and count what they are told.
 
+use pg_test_support::{Random, bit, has};
 use pg_workers::Gate;
-use std::sync::{Mutex, Wait};
+use std::sync::{Condvar, Mutex, Wait};
 
 /// How often a held worker looks whether it may go on before it gives up.
 const TURNS: u64 = 10_000_000;
@@ -135,5 +136,108 @@ impl Gate for Alternating {
             }
         }
         self.progress.lock(rt).gave_up = true;
+    }
+}
+
+/// Who is held in a call, how many workers are in none, and how many jobs are still to be told of.
+#[derive(Drop)]
+pub struct Turn {
+    random: Random,
+    workers: u32,
+    in_found: u32,
+    in_posted: u32,
+    under_way: u32,
+    jobs_left: u32,
+    /// A number for the order in which workers went on.
+    pub order: u64,
+}
+
+impl Turn {
+    /// A worker comes, and another goes on where nobody is under way.
+    fn come(&mut self, worker: u32, is_posted: bool) {
+        if is_posted {
+            self.in_posted |= bit(worker);
+        } else {
+            self.in_found |= bit(worker);
+            self.jobs_left = self.jobs_left.wrapping_sub(1);
+        }
+        if self.jobs_left == 0 {
+            // they draw no more and make no further call
+            self.in_posted = 0;
+        }
+        self.under_way = self.under_way.wrapping_sub(1);
+        if self.under_way == 0 {
+            self.go_on();
+        }
+    }
+
+    /// One of those that are held goes on.
+    fn go_on(&mut self) {
+        let worker = self.next();
+        let phase = u64::from(has(self.in_posted, worker));
+        let event = u64::from(worker).wrapping_mul(2).wrapping_add(phase);
+        self.order = self.order.wrapping_mul(1_000_003).wrapping_add(event);
+        self.in_found &= !bit(worker);
+        self.in_posted &= !bit(worker);
+        self.under_way = 1;
+    }
+
+    /// Draws one of those that are held, or tells 0.
+    fn next(&mut self) -> u32 {
+        let from = self.random.below(self.workers);
+        for step in 0..self.workers {
+            let worker = (from.wrapping_add(step) % self.workers.max(1)).wrapping_add(1);
+            if has(self.in_found | self.in_posted, worker) {
+                return worker;
+            }
+        }
+        0
+    }
+}
+
+/// Lets one worker go on at a time. Once all are held a seed draws who is next, so it alone makes the order, whatever else
+/// the machine has to do. Each worker has to start, and there have to be as many jobs.
+#[derive(Drop)]
+pub struct Turns {
+    pub turn: Mutex<Turn>,
+    change: Condvar,
+}
+
+impl Turns {
+    pub fn new(seed: u64, workers: u32, jobs: u32) -> Turns {
+        Turns {
+            turn: Mutex::new(Turn {
+                random: Random::new(seed),
+                workers,
+                in_found: 0,
+                in_posted: 0,
+                under_way: workers,
+                jobs_left: jobs,
+                order: 0,
+            }),
+            change: Condvar::new(),
+        }
+    }
+
+    /// Waits for the worker's turn.
+    fn pass<R: Wait>(&self, rt: &R, worker: u32, is_posted: bool) {
+        let mut turn = self.turn.lock(rt);
+        turn.come(worker, is_posted);
+        self.change.notify_all();
+        drop(
+            self.change.wait_while(rt, turn, |turn| {
+                has(turn.in_found | turn.in_posted, worker)
+            }),
+        );
+    }
+}
+
+impl Gate for Turns {
+    fn found<R: Wait>(&self, rt: &R, worker: u32, _job: u64) {
+        self.pass(rt, worker, false);
+    }
+
+    fn posted<R: Wait>(&self, rt: &R, worker: u32, _job: u64) {
+        self.pass(rt, worker, true);
     }
 }

@@ -1,23 +1,20 @@
 //! Winners are right whatever a finder claims, with any number of workers.
 
-ghost use Rattle.std.specs.Prelude.{◌≤◌};
-
 use crate::tests::finders::{FirstSolution, Fixed, Long, Misshapen, NoMemory, Singles, Wholes};
 use crate::tests::games::{continents, outcome_of};
 use pg_finders::{Finder, Standard};
 use pg_game::Player;
-use pg_test_support::{EVEN, ODD};
+use pg_test_support::{EVEN, ODD, Row};
 use std::alloc::Global;
 use std::process::Abort;
 use std::sync::Wait;
-use std::test::Fail;
 use std::thread::Threads;
 
 /// Even wins all five vertices.
 fn check_winner(rt: &impl Abort, rows: &[(Player, Option<u32>)], workers: u32) {
-    check_eq!(rt; rows.len(), 5, "{workers} workers");
+    check_eq!(*rt; rows.len(), 5, workers);
     for row in rows {
-        check_eq!(rt; row.0, Player::Even, "{workers} workers");
+        check_eq!(*rt; row.0, EVEN, workers);
     }
 }
 
@@ -26,113 +23,100 @@ fn even_wins_with<R: Threads + Wait + Abort + Sync>(
     alloc: Global,
     workers: u32,
     finder: &impl Finder,
-) -> Result<(), Fail>
-    requires { (1 ≤ workers) × (workers ≤ 64) }
-{
-    let outcome = outcome_of(rt, alloc, continents(), workers, finder)?;
+) {
+    let outcome = outcome_of(rt, alloc, continents(), workers, finder);
     check_winner(rt, outcome.solution.rows.as_slice(), workers);
-    Ok(())
 }
 
 /// Even wins the five continents with 1, 2 and 64 workers.
-fn even_wins<R: Threads + Wait + Abort + Sync>(
-    rt: &R,
-    alloc: Global,
-    finder: &impl Finder,
-) -> Result<(), Fail> {
-    even_wins_with(rt, alloc, 1, finder)?;
-    even_wins_with(rt, alloc, 2, finder)?;
-    even_wins_with(rt, alloc, 64, finder)?;
-    Ok(())
+fn even_wins<R: Threads + Wait + Abort + Sync>(rt: &R, alloc: Global, finder: &impl Finder) {
+    even_wins_with(rt, alloc, 1, finder);
+    even_wins_with(rt, alloc, 2, finder);
+    even_wins_with(rt, alloc, 64, finder);
 }
 
 #[test]
-fn even_wins_the_continents_with_the_products_finder(rt: HostRuntime) -> Result<(), Fail> {
-    even_wins(&rt, rt.alloc(), &Standard)
+fn even_wins_the_continents_with_the_products_finder(rt: HostRuntime) {
+    even_wins(&rt, rt.alloc(), &Standard);
 }
 
 #[test]
-fn even_wins_the_continents_whatever_is_claimed_alone(rt: HostRuntime) -> Result<(), Fail> {
-    even_wins(&rt, rt.alloc(), &Singles)
+fn even_wins_the_continents_whatever_is_claimed_alone(rt: HostRuntime) {
+    even_wins(&rt, rt.alloc(), &Singles);
 }
 
 #[test]
-fn even_wins_the_continents_where_everything_is_claimed_for_both(
-    rt: HostRuntime,
-) -> Result<(), Fail> {
-    even_wins(&rt, rt.alloc(), &Wholes)
+fn even_wins_the_continents_where_everything_is_claimed_for_both(rt: HostRuntime) {
+    even_wins(&rt, rt.alloc(), &Wholes);
 }
 
 #[test]
-fn even_wins_the_continents_where_no_claim_has_its_shape(rt: HostRuntime) -> Result<(), Fail> {
-    even_wins(&rt, rt.alloc(), &Misshapen)
+fn even_wins_the_continents_where_no_claim_has_its_shape(rt: HostRuntime) {
+    even_wins(&rt, rt.alloc(), &Misshapen);
+}
+
+const NUMBERS_OF_WORKERS: &[u32] = &[1, 2, 64];
+
+#[test]
+fn even_wins_the_continents_where_the_first_solution_is_given_for_ever(rt: HostRuntime) {
+    for workers in NUMBERS_OF_WORKERS {
+        even_wins_with(&rt, rt.alloc(), *workers, &FirstSolution::new());
+    }
 }
 
 #[test]
-fn even_wins_the_continents_where_the_first_solution_is_given_for_ever(
-    rt: HostRuntime,
-) -> Result<(), Fail> {
-    let alloc = rt.alloc();
-    even_wins_with(&rt, alloc, 1, &FirstSolution::new())?;
-    even_wins_with(&rt, alloc, 2, &FirstSolution::new())?;
-    even_wins_with(&rt, alloc, 64, &FirstSolution::new())?;
-    Ok(())
+fn even_wins_the_continents_where_finders_get_no_memory(rt: HostRuntime) {
+    even_wins(&rt, rt.alloc(), &NoMemory);
 }
 
-#[test]
-fn even_wins_the_continents_where_finders_get_no_memory(rt: HostRuntime) -> Result<(), Fail> {
-    even_wins(&rt, rt.alloc(), &NoMemory)
-}
+/// Claims, and how often each is made for each job.
+type Case<'a> = (&'a [(Player, &'a [Row])], u32);
 
-/// The solution of another game.
-#[test]
-fn even_wins_the_continents_where_another_game_is_claimed(rt: HostRuntime) -> Result<(), Fail> {
-    let finder = Fixed {
-        claims: &[
+const CLAIMS: &[Case] = &[
+    // the solution of another game
+    (
+        &[
             (EVEN, &[(0, Some(0))]),
             (ODD, &[(1, Some(1))]),
             (ODD, &[(0, None), (1, Some(0)), (2, Some(1)), (3, None)]),
         ],
-        times: 1,
-    };
-    even_wins(&rt, rt.alloc(), &finder)
-}
-
-#[test]
-fn even_wins_the_continents_where_the_greatest_numbers_are_claimed(
-    rt: HostRuntime,
-) -> Result<(), Fail> {
-    let finder = Fixed {
-        claims: &[
+        1,
+    ),
+    // the greatest numbers
+    (
+        &[
             (EVEN, &[(u32::MAX, Some(u32::MAX))]),
             (ODD, &[(u32::MAX, None)]),
             (ODD, &[(0, Some(u32::MAX))]),
             (EVEN, &[(3, Some(u32::MAX)), (u32::MAX, None)]),
         ],
-        times: 1,
-    };
-    even_wins(&rt, rt.alloc(), &finder)
-}
-
-/// A good claim and a false one, each a thousand times for each job.
-#[test]
-fn even_wins_the_continents_where_one_claim_is_made_a_thousand_times(
-    rt: HostRuntime,
-) -> Result<(), Fail> {
-    let finder = Fixed {
-        claims: &[
+        1,
+    ),
+    // a good claim and a false one, each a thousand times
+    (
+        &[
             (
                 EVEN,
                 &[(0, None), (1, None), (2, Some(1)), (3, Some(4)), (4, None)],
             ),
             (ODD, &[(0, Some(2))]),
         ],
-        times: 1_000,
-    };
-    even_wins(&rt, rt.alloc(), &finder)
+        1_000,
+    ),
+];
+
+#[test]
+fn even_wins_the_continents_whatever_claims_are_made_again_and_again(rt: HostRuntime) {
+    for (claims, times) in CLAIMS {
+        let finder = Fixed {
+            claims: *claims,
+            times: *times,
+        };
+        even_wins(&rt, rt.alloc(), &finder);
+    }
 }
 
 #[test]
-fn even_wins_the_continents_where_a_million_rows_are_claimed(rt: HostRuntime) -> Result<(), Fail> {
-    even_wins_with(&rt, rt.alloc(), 2, &Long { count: 1_000_000 })
+fn even_wins_the_continents_where_a_million_rows_are_claimed(rt: HostRuntime) {
+    even_wins_with(&rt, rt.alloc(), 2, &Long { count: 1_000_000 });
 }

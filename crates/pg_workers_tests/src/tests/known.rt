@@ -1,9 +1,7 @@
 //! What is known is posted before any worker starts, and is taken exactly where it is a region.
 
-ghost use Rattle.std.specs.Prelude.{◌≤◌};
-
 use crate::tests::finders::Singles;
-use crate::tests::games::{known_run, two_loops};
+use crate::tests::games::{TWO_LOOPS, known_run};
 use pg_board::{Entry, Refusal};
 use pg_dominion::ClaimFault;
 use pg_finders::{Finder, Standard};
@@ -13,214 +11,159 @@ use pg_workers::{Outcome, ReportRow, SolveFault};
 use std::alloc::Global;
 use std::process::Abort;
 use std::sync::Wait;
-use std::test::Fail;
 use std::thread::Threads;
 
 /// Even wins vertex 0 by itself, and attracts 1 and then 2.
 const LAYERS: &[u8] = b"0 0 0 0; 1 3 0 0,1; 2 3 1 1;";
 
-/// `LAYERS`, whose letters are no part of a test.
-fn layers() -> &'static [u8] {
-    LAYERS
+/// The winner of a vertex, and the choice there.
+type Row = (Player, Option<u32>);
+
+/// Who posted an entry, for whom, how many rows are claimed, and how many there are.
+type Told = (u32, Player, u32, usize);
+
+/// A game, what is known, how many workers, the entries, the solution, and how many vertices the jobs settled, all of them in
+/// the first.
+type Taken<'a> = (&'a [u8], &'a [u8], u32, &'a [Told], &'a [Row], u64);
+
+fn compare_entry(rt: &impl Abort, entry: &Entry, want: Told) {
+    let found = (
+        entry.worker,
+        entry.player,
+        entry.claimed,
+        entry.rows.as_slice().len(),
+    );
+    check_eq!(*rt; found, want);
 }
 
-/// The outcome of a run that takes what is known.
-fn taken<R: Threads + Wait + Abort + Sync>(
-    rt: &R,
-    alloc: Global,
-    text: &[u8],
-    known: &[u8],
-    workers: u32,
-    finder: &impl Finder,
-) -> Result<Outcome, Fail>
-    requires { (1 ≤ workers) × (workers ≤ 64) }
-{
-    match known_run(rt, alloc, text, known, workers, finder)? {
-        Ok(outcome) => Ok(outcome),
-        Err(_) => Err(Fail::from("what is known was refused")),
+fn compare_entries(rt: &impl Abort, entries: &[Entry], want: &[Told]) {
+    check_eq!(*rt; entries.len(), want.len());
+    for (entry, told) in entries.iter().zip(want) {
+        compare_entry(rt, entry, *told);
     }
 }
+
+fn compare_settled(rt: &impl Abort, report: &[ReportRow], first: u64) {
+    for row in report {
+        let want = if row.job == 0 { first } else { 0 };
+        check_eq!(*rt; row.settled, want, row.job);
+    }
+}
+
+fn compare_outcome(rt: &impl Abort, outcome: &Outcome, case: &Taken) {
+    compare_entries(rt, outcome.entries.as_slice(), case.3);
+    check_eq!(*rt; outcome.solution.rows.as_slice(), case.4);
+    compare_settled(rt, outcome.report.as_slice(), case.5);
+}
+
+fn compare_taken<R: Threads + Wait + Abort + Sync>(
+    rt: &R,
+    alloc: Global,
+    case: &Taken,
+    finder: &impl Finder,
+) {
+    match known_run(rt, alloc, case.0, case.1, case.2, finder) {
+        Ok(outcome) => compare_outcome(rt, &outcome, case),
+        Err(_) => panic!(*rt; "what is known was refused"),
+    }
+}
+
+const ATTRACTED: Taken = (
+    LAYERS,
+    b"0 0 0;",
+    2,
+    &[(0, EVEN, 1, 3)],
+    &[(EVEN, Some(0)), (EVEN, Some(0)), (EVEN, None)],
+    0,
+);
+
+#[test]
+fn a_known_region_is_the_first_entry_with_all_that_it_attracts(rt: HostRuntime) {
+    compare_taken(&rt, rt.alloc(), &ATTRACTED, &Singles);
+}
+
+const TAKEN: &[Taken] = &[
+    // both known regions are posted, Even's first
+    (
+        TWO_LOOPS,
+        b"1 1 1; 0 0 0;",
+        64,
+        &[(0, EVEN, 1, 1), (0, ODD, 1, 1)],
+        &[(EVEN, Some(0)), (ODD, Some(1))],
+        0,
+    ),
+    // the workers settle what is left beside Odd's known region
+    (
+        TWO_LOOPS,
+        b"1 1 1;",
+        1,
+        &[(0, ODD, 1, 1), (1, EVEN, 1, 1)],
+        &[(EVEN, Some(0)), (ODD, Some(1))],
+        1,
+    ),
+    // the board attracts from the known region with choices of its own; the known choice stays where it was posted
+    (
+        b"0 2 0 1,2; 1 2 0 0,2; 2 2 0 0,1;",
+        b"0 0 2; 1 0 2; 2 0 1;",
+        2,
+        &[(0, EVEN, 3, 3)],
+        &[(EVEN, Some(2)), (EVEN, Some(2)), (EVEN, Some(1))],
+        0,
+    ),
+    // a choice at a vertex of the opponent has no effect
+    (
+        b"0 2 1 0; 1 1 1 0,1;",
+        b"0 0 0;",
+        1,
+        &[(0, EVEN, 1, 1), (1, ODD, 1, 1)],
+        &[(EVEN, None), (ODD, Some(1))],
+        1,
+    ),
+];
+
+#[test]
+fn known_regions_are_posted_first_and_what_is_left_is_solved(rt: HostRuntime) {
+    for case in TAKEN {
+        compare_taken(&rt, rt.alloc(), case, &Standard);
+    }
+}
+
+/// A game, what is known, whose known set is refused, and why.
+type Refused<'a> = (&'a [u8], &'a [u8], Player, Refusal);
 
 /// Compares the fault of a run.
 fn compare_fault<R: Threads + Wait + Abort + Sync>(
     rt: &R,
     alloc: Global,
-    text: &[u8],
-    known: &[u8],
+    case: &Refused,
     workers: u32,
-    want: SolveFault,
-) -> Result<(), Fail>
-    requires { (1 ≤ workers) × (workers ≤ 64) }
-{
-    let found = known_run(rt, alloc, text, known, workers, &Standard)?.err();
-    check_eq!(rt; found, Some(want), "{workers} workers");
-    Ok(())
-}
-
-/// A run with the same answer for 1, 2 and 64 workers: the player's known set is refused.
-fn refused<R: Threads + Wait + Abort + Sync>(
-    rt: &R,
-    alloc: Global,
-    text: &[u8],
-    known: &[u8],
-    player: Player,
-    refusal: Refusal,
-) -> Result<(), Fail> {
-    let fault = SolveFault::Known(player, refusal);
-    compare_fault(rt, alloc, text, known, 1, fault)?;
-    compare_fault(rt, alloc, text, known, 2, fault)?;
-    compare_fault(rt, alloc, text, known, 64, fault)
-}
-
-/// What an entry says but for its rows, of which it says how many there are.
-fn told(entry: &Entry) -> (u32, Player, u32, usize) {
-    (
-        entry.worker,
-        entry.player,
-        entry.claimed,
-        entry.rows.as_slice().len(),
-    )
-}
-
-/// Compares what an entry says.
-fn compare_entry(
-    rt: &impl Abort,
-    outcome: &Outcome,
-    place: usize,
-    want: (u32, Player, u32, usize),
 ) {
-    match outcome.entries.get(place) {
-        Some(entry) => check_eq!(rt; told(entry), want, "entry {place}"),
-        None => panic!(*rt; "no entry {place}"),
+    let found = known_run(rt, alloc, case.0, case.1, workers, &Standard).err();
+    check_eq!(*rt; found, Some(SolveFault::Known(case.2, case.3)), workers);
+}
+
+const SHAPE: Refusal = Refusal::Claim(ClaimFault::Shape(0));
+
+const FIRST_CYCLE: Refusal = Refusal::Claim(ClaimFault::Cycle(0));
+
+const SECOND_CYCLE: Refusal = Refusal::Claim(ClaimFault::Cycle(1));
+
+const REFUSED: &[Refused] = &[
+    (LAYERS, b"1 0;", EVEN, SHAPE),
+    (LAYERS, b"1 0 1;", EVEN, SECOND_CYCLE),
+    (LAYERS, b"2 0;", EVEN, Refusal::Open(2, 1)),
+    (LAYERS, b"0 0 0; 2 1 1;", ODD, Refusal::Lost(2)),
+    (TWO_LOOPS, b"0 1; 1 1 1;", ODD, FIRST_CYCLE),
+    // where neither known set is a region, Even's is named
+    (TWO_LOOPS, b"0 1; 1 0;", EVEN, SECOND_CYCLE),
+];
+
+/// The answer is the same for 1, 2 and 64 workers.
+#[test]
+fn a_known_set_that_is_no_region_is_refused_for_the_posts_reason(rt: HostRuntime) {
+    for case in REFUSED {
+        compare_fault(&rt, rt.alloc(), case, 1);
+        compare_fault(&rt, rt.alloc(), case, 2);
+        compare_fault(&rt, rt.alloc(), case, 64);
     }
-}
-
-/// Compares the solution.
-fn compare_solution(rt: &impl Abort, outcome: &Outcome, want: &[(Player, Option<u32>)]) {
-    check_eq!(rt; outcome.solution.rows.as_slice(), want);
-}
-
-/// How many vertices were settled in the jobs.
-fn settled_by_workers(report: &[ReportRow]) -> u64 {
-    let mut settled = 0u64;
-    for row in report {
-        settled = settled.wrapping_add(row.settled);
-    }
-    settled
-}
-
-#[test]
-fn a_known_region_is_the_first_entry_with_all_that_it_attracts(
-    rt: HostRuntime,
-) -> Result<(), Fail> {
-    let outcome = taken(&rt, rt.alloc(), layers(), b"0 0 0;", 2, &Singles)?;
-    check_layers(&rt, &outcome);
-    Ok(())
-}
-
-fn check_layers(rt: &impl Abort, outcome: &Outcome) {
-    check_count!(rt; outcome.entries.len(), 1);
-    compare_entry(rt, outcome, 0, (0, EVEN, 1, 3));
-    let want = [(EVEN, Some(0)), (EVEN, Some(0)), (EVEN, None)];
-    compare_solution(rt, outcome, want.as_slice());
-    check_eq!(rt; settled_by_workers(outcome.report.as_slice()), 0);
-}
-
-#[test]
-fn both_known_regions_are_posted_evens_first(rt: HostRuntime) -> Result<(), Fail> {
-    let outcome = taken(
-        &rt,
-        rt.alloc(),
-        two_loops(),
-        b"1 1 1; 0 0 0;",
-        64,
-        &Standard,
-    )?;
-    check_both_known(&rt, &outcome);
-    Ok(())
-}
-
-fn check_both_known(rt: &impl Abort, outcome: &Outcome) {
-    check_count!(rt; outcome.entries.len(), 2);
-    compare_entry(rt, outcome, 0, (0, EVEN, 1, 1));
-    compare_entry(rt, outcome, 1, (0, ODD, 1, 1));
-}
-
-/// The workers settle what is left beside Odd's known region.
-#[test]
-fn what_is_left_beside_a_known_region_is_solved(rt: HostRuntime) -> Result<(), Fail> {
-    let outcome = taken(&rt, rt.alloc(), two_loops(), b"1 1 1;", 1, &Standard)?;
-    check_left(&rt, &outcome);
-    compare_settled(&rt, outcome.report.first(), 1);
-    Ok(())
-}
-
-fn compare_settled(rt: &impl Abort, row: Option<&ReportRow>, want: u64) {
-    match row {
-        Some(row) => check_eq!(rt; row.settled, want),
-        None => panic!(*rt; "no row"),
-    }
-}
-
-fn check_left(rt: &impl Abort, outcome: &Outcome) {
-    check_count!(rt; outcome.entries.len(), 2);
-    compare_entry(rt, outcome, 0, (0, ODD, 1, 1));
-    compare_entry(rt, outcome, 1, (1, EVEN, 1, 1));
-    compare_solution(rt, outcome, [(EVEN, Some(0)), (ODD, Some(1))].as_slice());
-}
-
-/// The board attracts from the known region with choices of its own; the known choice stays where it was posted.
-#[test]
-fn a_known_choice_stands_in_the_solution(rt: HostRuntime) -> Result<(), Fail> {
-    let text = b"0 2 0 1,2; 1 2 0 0,2; 2 2 0 0,1;";
-    let outcome = taken(&rt, rt.alloc(), text, b"0 0 2; 1 0 2; 2 0 1;", 2, &Standard)?;
-    check_choice(&rt, &outcome);
-    Ok(())
-}
-
-fn check_choice(rt: &impl Abort, outcome: &Outcome) {
-    let want = [(EVEN, Some(2)), (EVEN, Some(2)), (EVEN, Some(1))];
-    compare_solution(rt, outcome, want.as_slice());
-}
-
-#[test]
-fn a_choice_at_a_vertex_of_the_opponent_has_no_effect(rt: HostRuntime) -> Result<(), Fail> {
-    let text = b"0 2 1 0; 1 1 1 0,1;";
-    let outcome = taken(&rt, rt.alloc(), text, b"0 0 0;", 1, &Standard)?;
-    check_no_choice(&rt, &outcome);
-    Ok(())
-}
-
-fn check_no_choice(rt: &impl Abort, outcome: &Outcome) {
-    compare_entry(rt, outcome, 0, (0, EVEN, 1, 1));
-    compare_solution(rt, outcome, [(EVEN, None), (ODD, Some(1))].as_slice());
-}
-
-fn each_refused<R: Threads + Wait + Abort + Sync>(rt: &R, alloc: Global) -> Result<(), Fail> {
-    refused(rt, alloc, layers(), b"1 0;", EVEN, shape(0))?;
-    refused(rt, alloc, layers(), b"1 0 1;", EVEN, cycle(1))?;
-    refused(rt, alloc, layers(), b"2 0;", EVEN, Refusal::Open(2, 1))?;
-    refused(rt, alloc, layers(), b"0 0 0; 2 1 1;", ODD, Refusal::Lost(2))?;
-    refused(rt, alloc, two_loops(), b"0 1; 1 1 1;", ODD, cycle(0))
-}
-
-fn shape(row: u32) -> Refusal {
-    Refusal::Claim(ClaimFault::Shape(row))
-}
-
-fn cycle(vertex: u32) -> Refusal {
-    Refusal::Claim(ClaimFault::Cycle(vertex))
-}
-
-#[test]
-fn a_known_set_that_is_no_region_is_refused_for_the_posts_reason(
-    rt: HostRuntime,
-) -> Result<(), Fail> {
-    each_refused(&rt, rt.alloc())
-}
-
-/// Where neither known set is a region, Even's is named.
-#[test]
-fn evens_known_set_is_judged_before_odds(rt: HostRuntime) -> Result<(), Fail> {
-    refused(&rt, rt.alloc(), two_loops(), b"0 1; 1 0;", EVEN, cycle(1))
 }

@@ -7,11 +7,11 @@
 ghost use Rattle.std.specs.Prelude.{◌≡◌, ◌≤◌, All, IfOk};
 
 use crate::tests::draws::{draws, has_drawn};
-use crate::tests::games::{TWO_LOOPS, run_on};
+use crate::tests::games::{TWO_LOOPS, product, solved, try_solved};
 use crate::tests::replay::{State, compare_replay};
 use pg_finders::Standard;
-use pg_game::{Game, Memory};
-use pg_test_support::{EVEN, ODD, needed};
+use pg_game::{Game, Memory, Player};
+use pg_test_support::{EVEN, ODD, Plain, needed};
 use pg_text::read_game;
 use pg_workers::{Jobs, Outcome, Pass, SolveFault, Ticket};
 use std::alloc::Global;
@@ -43,14 +43,13 @@ fn draws_three(rt: &impl Abort, jobs: &Jobs, mut ticket: Ticket)
 }
 
 #[test]
-fn jobs_that_are_opened_after_a_refusal_are_all_drawn(rt: HostRuntime) -> Result<(), Fail> {
-    let (jobs, mut tickets) = opened(rt.alloc(), 3, 5)?;
-    check_count!(rt; tickets.len(), 5);
+fn jobs_that_are_opened_after_a_refusal_are_all_drawn(rt: HostRuntime) {
+    let (jobs, mut tickets) = opened(rt.alloc(), 3, 5).expect(&rt, "memory");
+    check_eq!(rt; tickets.len(), 5);
     match tickets.pop() {
         Some(ticket) => draws_three(&rt, &jobs, ticket),
-        None => return Err(Fail::from("no ticket")),
+        None => panic!(rt; "no ticket"),
     }
-    Ok(())
 }
 
 /// The game of two winners, of which nothing is said.
@@ -59,28 +58,34 @@ fn two_loops(alloc: Global) -> Result<Game, Fail> {
 }
 
 /// A run that is made once more where memory was refused to what the workers don't do.
-fn solved_again<R: Threads + Wait + Sync>(
+fn solved_again<R: Threads + Wait + Abort + Sync>(
     rt: &R,
     alloc: Global,
     game: &Game,
     workers: u32,
-) -> Result<Outcome, SolveFault>
+) -> Outcome
     requires { (1 ≤ workers) × (workers ≤ 64) }
 {
-    match run_on(rt, alloc, game, workers, &Pass, &Standard) {
-        Ok(outcome) => Ok(outcome),
-        Err(SolveFault::Memory) => run_on(rt, alloc, game, workers, &Pass, &Standard),
-        Err(fault) => Err(fault),
+    let options = product(workers);
+    match try_solved(rt, alloc, game, &options, &Pass, &Standard) {
+        Err(SolveFault::Memory) => solved(rt, alloc, game, &options, &Pass, &Standard),
+        made => made.expect(rt, "an outcome"),
     }
 }
 
+const SOLUTION: &[(Player, Option<u32>)] = &[(EVEN, Some(0)), (ODD, Some(1))];
+
+const PLAIN: &[Plain] = &[(2, EVEN, 0b11), (1, ODD, 0b10)];
+
 fn check_loops(rt: &impl Abort, outcome: &Outcome) {
-    let solution = [(EVEN, Some(0)), (ODD, Some(1))];
-    check!(rt; outcome.solution.rows.as_slice() == solution.as_slice());
-    let plain = [(2, EVEN, 0b11), (1, ODD, 0b10)];
-    let want = Ok(State { even: 1, odd: 2 });
-    compare_replay(rt, plain.as_slice(), outcome.entries.as_slice(), want);
-    check_count!(rt; outcome.report.len(), 5);
+    check_eq!(*rt; outcome.solution.rows.as_slice(), SOLUTION);
+    compare_replay(
+        rt,
+        PLAIN,
+        outcome.entries.as_slice(),
+        Ok(State { even: 1, odd: 2 }),
+    );
+    check_eq!(*rt; outcome.report.len(), 5);
 }
 
 /// A run on the game of two winners gives its solution and a right journal, whatever is refused, and a row for each job.
@@ -92,8 +97,7 @@ fn is_solved<R: Threads + Wait + Abort + Sync>(
     requires { (1 ≤ workers) × (workers ≤ 64) }
 {
     let game = two_loops(alloc)?;
-    let outcome = solved_again(rt, alloc, &game, workers)?;
-    check_loops(rt, &outcome);
+    check_loops(rt, &solved_again(rt, alloc, &game, workers));
     Ok(())
 }
 

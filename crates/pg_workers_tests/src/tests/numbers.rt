@@ -4,7 +4,7 @@ ghost use Rattle.std.specs.Prelude.{◌≤◌};
 ghost use Rattle.pg_game.specs.Specification.{max_vertices};
 
 use pg_finders::Job;
-use pg_game::Player;
+use pg_test_support::{EVEN, ODD};
 use pg_workers::Options;
 use std::process::Abort;
 
@@ -16,67 +16,77 @@ fn with_bound(bound: u32) -> Options {
     }
 }
 
-/// The job of a number, which has to be one.
-fn job_of(rt: &impl Abort, options: &Options, n: u32, number: u64) -> Job
+/// The job of a number, where there is one.
+fn job_of(options: &Options, n: u32, number: u64) -> Option<Job>
     requires { n ≤ max_vertices }
 {
-    // (by no call, since `job` requires it)
-    std::assert!(*rt; number < options.total(n));
-    options.job(n, number)
+    if number < options.total(n) {
+        Some(options.job(n, number))
+    } else {
+        None
+    }
 }
 
-fn compare_total(rt: &impl Abort, bound: u32, n: u32, want: u64)
-    requires { n ≤ max_vertices }
-{
-    check_eq!(rt; with_bound(bound).total(n), want, "{n} vertices");
+/// A bound, how many vertices there are, and how many jobs.
+const TOTALS: &[(u32, u32, u64)] = &[
+    (4, 1, 5),
+    (4, 2, 5),
+    (4, 64, 5),
+    (4, 65, 7),
+    (4, 65_536, 2_051),
+    (4, 130_944, 4_095),
+    (4, 130_945, 2_051),
+    (4, 1_048_576, 2_051),
+    (0, 1, 3),
+    (0, 65, 3),
+    (0, 1_048_576, 3),
+];
+
+fn compare_total(rt: &impl Abort, bound: u32, n: u32, want: u64) {
+    assert!(*rt; n <= 1_048_576);
+    check_eq!(*rt; with_bound(bound).total(n), want, n);
 }
 
 #[test]
 fn totals_are_those_of_the_batches(rt: HostRuntime) {
-    compare_total(&rt, 4, 1, 5);
-    compare_total(&rt, 4, 2, 5);
-    compare_total(&rt, 4, 64, 5);
-    compare_total(&rt, 4, 65, 7);
-    compare_total(&rt, 4, 65_536, 2_051);
-    compare_total(&rt, 4, 130_944, 4_095);
-    compare_total(&rt, 4, 130_945, 2_051);
-    compare_total(&rt, 4, 1_048_576, 2_051);
-    compare_total(&rt, 0, 1, 3);
-    compare_total(&rt, 0, 65, 3);
-    compare_total(&rt, 0, 1_048_576, 3);
-}
-
-fn small(player: Player, first: u32, count: u32) -> Job {
-    Job::Small {
-        player,
-        first,
-        count,
-        bound: 4,
-        budget: 10_000,
+    for (bound, n, want) in TOTALS {
+        compare_total(&rt, *bound, *n, *want);
     }
 }
 
-fn compare_job(rt: &impl Abort, bound: u32, n: u32, number: u64, want: Job)
-    requires { n ≤ max_vertices }
-{
-    let found = job_of(rt, &with_bound(bound), n, number);
-    check_eq!(rt; found, want, "job {number} of {n} vertices");
+// A search for small dominions: a constant may call no function.
+macro_rules! small {
+    ($player:expr, $first:expr, $count:expr) => {
+        Job::Small {
+            player: $player,
+            first: $first,
+            count: $count,
+            bound: 4,
+            budget: 10_000,
+        }
+    };
+}
+
+/// A bound, how many vertices there are, the number of a job, and the job.
+const JOBS: &[(u32, u32, u64, Job)] = &[
+    (4, 65, 0, Job::Loops),
+    (4, 65, 1, Job::Solitaire),
+    (4, 65, 3, small!(ODD, 0, 64)),
+    (4, 65, 4, small!(EVEN, 64, 1)),
+    (4, 65, 6, Job::Recursion),
+    (4, 130_945, 2_048, small!(EVEN, 130_944, 1)),
+    (4, 1_048_576, 2_049, small!(ODD, 1_047_552, 1_024)),
+    (0, 65, 2, Job::Recursion),
+];
+
+fn compare_job(rt: &impl Abort, bound: u32, n: u32, number: u64, want: Job) {
+    assert!(*rt; n <= 1_048_576);
+    check_eq!(*rt; job_of(&with_bound(bound), n, number), Some(want), n);
 }
 
 #[test]
 fn jobs_have_their_numbers(rt: HostRuntime) {
-    compare_job(&rt, 4, 65, 0, Job::Loops);
-    compare_job(&rt, 4, 65, 1, Job::Solitaire);
-    compare_job(&rt, 4, 65, 3, small(Player::Odd, 0, 64));
-    compare_job(&rt, 4, 65, 4, small(Player::Even, 64, 1));
-    compare_job(&rt, 4, 65, 6, Job::Recursion);
-    compare_job(&rt, 4, 130_945, 2_048, small(Player::Even, 130_944, 1));
-    compare_job(
-        &rt,
-        4,
-        1_048_576,
-        2_049,
-        small(Player::Odd, 1_047_552, 1_024),
-    );
-    compare_job(&rt, 0, 65, 2, Job::Recursion);
+    for (bound, n, number, want) in JOBS {
+        compare_job(&rt, *bound, *n, *number, *want);
+    }
 }

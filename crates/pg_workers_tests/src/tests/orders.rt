@@ -1,19 +1,16 @@
 //! Gates that yield, spin and block, in every order of two and three workers.
 
-ghost use Rattle.std.specs.Prelude.{◌≤◌};
-
 use crate::tests::finders::{Fixed, Singles};
 use crate::tests::games::run_on;
 use crate::tests::random::Both;
 use crate::tests::replay::{State, check_outcome};
 use pg_board::Entry;
 use pg_finders::Finder;
-use pg_test_support::{EVEN, ODD};
+use pg_test_support::{EVEN, ODD, Plain};
 use pg_workers::{Gate, Outcome};
 use std::alloc::Global;
 use std::process::Abort;
 use std::sync::{Condvar, Mutex, Wait};
-use std::test::Fail;
 use std::thread::Threads;
 use std::{hint, thread};
 
@@ -157,10 +154,10 @@ impl Gate for Ordered {
 }
 
 /// Everything that was posted by a worker was by the first in the order, in so many entries.
-fn check_entries(rt: &impl Abort, entries: &[Entry], plan: Plan, count: usize) {
-    check_count!(rt; entries.len(), count);
+fn check_entries(rt: &impl Abort, entries: &[Entry], first: Option<u32>, count: usize) {
+    check_eq!(*rt; entries.len(), count);
     for entry in entries {
-        check_eq!(rt; Some(entry.worker), plan.worker_at(0), "{plan:?}");
+        check_eq!(*rt; Some(entry.worker), first);
     }
 }
 
@@ -171,13 +168,11 @@ fn planned_run<R: Threads + Wait + Abort + Sync, F: Finder>(
     both: &Both,
     plan: Plan,
     finder: &F,
-) -> Result<Outcome, Fail>
-    requires { (1 ≤ plan.workers) × (plan.workers ≤ 3) }
-{
+) -> Outcome {
     let gate = Ordered::new(plan);
-    let outcome = run_on(rt, alloc, &both.game, plan.workers, &gate, finder)?;
-    check!(rt; !gate.seen.into_inner().gave_up, "{plan:?}");
-    Ok(outcome)
+    let outcome = run_on(rt, alloc, &both.game, plan.workers, &gate, finder);
+    check!(*rt; !gate.seen.into_inner().gave_up);
+    outcome
 }
 
 /// A run by a plan ends in this state, by so many entries of the first worker.
@@ -189,53 +184,46 @@ fn compare_planned<R: Threads + Wait + Abort + Sync, F: Finder>(
     finder: &F,
     want: State,
     count: usize,
-) -> Result<(), Fail>
-    requires { (1 ≤ plan.workers) × (plan.workers ≤ 3) }
-{
-    let outcome = planned_run(rt, alloc, both, plan, finder)?;
+) {
+    let outcome = planned_run(rt, alloc, both, plan, finder);
     let end = check_outcome(rt, both.plain.as_slice(), &outcome, plan.workers);
-    check_eq!(rt; end, want);
-    check_entries(rt, outcome.entries.as_slice(), plan, count);
-    Ok(())
+    check_eq!(*rt; end, want);
+    check_entries(rt, outcome.entries.as_slice(), plan.worker_at(0), count);
 }
+
+const TWO_WON: State = State { even: 1, odd: 2 };
+
+const FIVE_WON: State = State { even: 31, odd: 0 };
+
+/// The claim that settles all five continents.
+const SETTLING: Fixed<'static> = Fixed {
+    claims: &[(
+        EVEN,
+        &[(0, None), (1, None), (2, Some(1)), (3, Some(4)), (4, None)],
+    )],
+    times: 1,
+};
 
 /// The game of two winners and the five continents by a plan. What the first worker posts settles all.
-fn runs_of<R: Threads + Wait + Abort + Sync>(
-    rt: &R,
-    alloc: Global,
-    games: &[Both; 2],
-    plan: Plan,
-) -> Result<(), Fail>
-    requires { (1 ≤ plan.workers) × (plan.workers ≤ 3) }
-{
+fn runs_of<R: Threads + Wait + Abort + Sync>(rt: &R, alloc: Global, games: &[Both; 2], plan: Plan) {
     let [loops, continents] = games;
-    let won = State { even: 1, odd: 2 };
-    compare_planned(rt, alloc, loops, plan, &Singles, won, 2)?;
-    let finder = Fixed {
-        claims: &[(
-            EVEN,
-            &[(0, None), (1, None), (2, Some(1)), (3, Some(4)), (4, None)],
-        )],
-        times: 1,
-    };
-    let won = State { even: 31, odd: 0 };
-    compare_planned(rt, alloc, continents, plan, &finder, won, 1)
+    compare_planned(rt, alloc, loops, plan, &Singles, TWO_WON, 2);
+    compare_planned(rt, alloc, continents, plan, &SETTLING, FIVE_WON, 1);
 }
 
+const LOOPS: &[Plain] = &[(2, EVEN, 0b11), (1, ODD, 0b10)];
+
+const CONTINENTS: &[Plain] = &[
+    (6, ODD, 0b10100),
+    (8, ODD, 0b11100),
+    (7, EVEN, 0b11011),
+    (6, EVEN, 0b10100),
+    (5, ODD, 0b1),
+];
+
 /// The game of two winners, and the five continents.
-fn both_games(alloc: Global) -> Result<[Both; 2], Fail> {
-    let loops = [(2, EVEN, 0b11), (1, ODD, 0b10)];
-    let continents = [
-        (6, ODD, 0b10100),
-        (8, ODD, 0b11100),
-        (7, EVEN, 0b11011),
-        (6, EVEN, 0b10100),
-        (5, ODD, 0b1),
-    ];
-    Ok([
-        Both::of(alloc, loops.as_slice())?,
-        Both::of(alloc, continents.as_slice())?,
-    ])
+fn both_games(rt: &impl Abort, alloc: Global) -> [Both; 2] {
+    [Both::of(rt, alloc, LOOPS), Both::of(rt, alloc, CONTINENTS)]
 }
 
 fn numbered(number: u32) -> Manner {
@@ -246,6 +234,26 @@ fn numbered(number: u32) -> Manner {
     }
 }
 
+fn plan_of(workers: u32, order: [u32; 3], number: u32) -> Plan {
+    Plan {
+        workers,
+        order,
+        manners: [numbered(number), numbered(number / 3), numbered(number / 9)],
+    }
+}
+
+/// How many workers there are, their order, and in how many manners each of these may wait.
+const ORDERS: &[(u32, [u32; 3], u32)] = &[
+    (2, [1, 2, 3], 9),
+    (2, [2, 1, 3], 9),
+    (3, [1, 2, 3], 27),
+    (3, [1, 3, 2], 27),
+    (3, [2, 1, 3], 27),
+    (3, [2, 3, 1], 27),
+    (3, [3, 1, 2], 27),
+    (3, [3, 2, 1], 27),
+];
+
 /// All manners of so many workers in this order.
 fn run_in_all_manners<R: Threads + Wait + Abort + Sync>(
     rt: &R,
@@ -253,44 +261,17 @@ fn run_in_all_manners<R: Threads + Wait + Abort + Sync>(
     games: &[Both; 2],
     workers: u32,
     order: [u32; 3],
-) -> Result<(), Fail>
-    requires { (1 ≤ workers) × (workers ≤ 3) }
-{
-    let count = if workers == 2 { 9 } else { 27 };
+    count: u32,
+) {
     for number in 0..count {
-        let plan = Plan {
-            workers,
-            order,
-            manners: [numbered(number), numbered(number / 3), numbered(number / 9)],
-        };
-        runs_of(rt, alloc, games, plan)?;
+        runs_of(rt, alloc, games, plan_of(workers, order, number));
     }
-    Ok(())
 }
 
 #[test]
-fn two_workers_in_each_order_and_manner(rt: HostRuntime) -> Result<(), Fail> {
-    let alloc = rt.alloc();
-    let games = both_games(alloc)?;
-    for order in [[1, 2, 3], [2, 1, 3]] {
-        run_in_all_manners(&rt, alloc, &games, 2, order)?;
+fn two_and_three_workers_in_each_order_and_manner(rt: HostRuntime) {
+    let games = both_games(&rt, rt.alloc());
+    for (workers, order, count) in ORDERS {
+        run_in_all_manners(&rt, rt.alloc(), &games, *workers, *order, *count);
     }
-    Ok(())
-}
-
-#[test]
-fn three_workers_in_each_order_and_manner(rt: HostRuntime) -> Result<(), Fail> {
-    let alloc = rt.alloc();
-    let games = both_games(alloc)?;
-    for order in [
-        [1, 2, 3],
-        [1, 3, 2],
-        [2, 1, 3],
-        [2, 3, 1],
-        [3, 1, 2],
-        [3, 2, 1],
-    ] {
-        run_in_all_manners(&rt, alloc, &games, 3, order)?;
-    }
-    Ok(())
 }

@@ -3,7 +3,7 @@
 use pg_game::Game;
 use pg_test_support::{EVEN, ODD, Plain, Random, bit, game_of_sets};
 use std::alloc::Global;
-use std::test::Fail;
+use std::process::Abort;
 
 /// The vertex, or one or two behind it in the round of `n`.
 fn near(random: &mut Random, v: u32, n: u32) -> u32 {
@@ -19,17 +19,24 @@ fn random_set(random: &mut Random, v: u32, n: u32) -> u32 {
     set
 }
 
+/// A vertex of a priority below 5.
+fn random_vertex(random: &mut Random, v: u32, n: u32) -> Plain {
+    let owner = if random.below(2) == 0 { EVEN } else { ODD };
+    let successors = random_set(random, v, n);
+    (random.below(5), owner, successors)
+}
+
 /// A game of two to nine vertices with priorities below 5. Edges lead to vertices nearby, so that each player wins some
 /// in many of them.
-fn random_plain(alloc: Global, random: &mut Random) -> Result<Vec<Plain>, Fail> {
+fn random_plain(rt: &impl Abort, alloc: Global, random: &mut Random) -> Vec<Plain> {
     let n = random.below(8).saturating_add(2);
     let mut vertices = Vec::new(alloc);
     for v in 0..n {
-        let owner = if random.below(2) == 0 { EVEN } else { ODD };
-        let successors = random_set(random, v, n);
-        vertices.push((random.below(5), owner, successors))?;
+        vertices
+            .push(random_vertex(random, v, n))
+            .expect(rt, "memory");
     }
-    Ok(vertices)
+    vertices
 }
 
 /// A game in both forms.
@@ -41,15 +48,21 @@ pub struct Both {
 
 impl Both {
     /// The random game of a number.
-    pub fn numbered(alloc: Global, number: u64) -> Result<Both, Fail> {
+    pub fn numbered(rt: &impl Abort, alloc: Global, number: u64) -> Both {
         let mut random = Random::new(number);
-        let plain = random_plain(alloc, &mut random)?;
-        Both::of(alloc, plain.as_slice())
+        Both::new(rt, alloc, random_plain(rt, alloc, &mut random))
     }
 
-    pub fn of(alloc: Global, vertices: &[Plain]) -> Result<Both, Fail> {
-        let plain = Vec::from_slice(alloc, vertices)?;
-        let game = game_of_sets(alloc, vertices)?;
-        Ok(Both { plain, game })
+    fn new(rt: &impl Abort, alloc: Global, plain: Vec<Plain>) -> Both {
+        let game = game_of_sets(alloc, plain.as_slice()).expect(rt, "a game");
+        Both { plain, game }
+    }
+
+    pub fn of(rt: &impl Abort, alloc: Global, vertices: &[Plain]) -> Both {
+        Both::new(
+            rt,
+            alloc,
+            Vec::from_slice(alloc, vertices).expect(rt, "memory"),
+        )
     }
 }

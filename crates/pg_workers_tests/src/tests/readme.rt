@@ -6,8 +6,9 @@ use pg_game::{Game, Player};
 use pg_text::{read_game, read_known};
 use pg_workers::{Options, Outcome, Pass, solve_game};
 use std::alloc::Global;
-use std::process::Abort;
 use std::test::*;
+
+const ROWS: &[(Player, Option<u32>)] = &[(Player::Even, Some(0)), (Player::Odd, Some(1))];
 
 #[test]
 fn a_game_is_solved(rt: HostRuntime) -> Result<(), Fail> {
@@ -20,9 +21,8 @@ fn a_game_is_solved(rt: HostRuntime) -> Result<(), Fail> {
     };
     let known = read_known(alloc, &game, b"")?;
     let outcome = solve_game(&rt, alloc, &game, &options, &known, &Pass, &Standard)?;
-    assert_eq!(rt; outcome.entries.len(), 2);
-    assert_eq!(rt; outcome.report.len(), 5);
-    let rows = [(Player::Even, Some(0)), (Player::Odd, Some(1))];
-    assert_eq!(rt; outcome.solution.rows.as_slice(), rows.as_slice());
+    check_eq!(rt; outcome.entries.len(), 2);
+    check_eq!(rt; outcome.report.len(), 5);
+    check_eq!(rt; outcome.solution.rows.as_slice(), ROWS);
     Ok(())
 }

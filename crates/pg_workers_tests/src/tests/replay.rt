@@ -10,7 +10,6 @@ use pg_test_support::{
 use pg_workers::{Outcome, ReportRow};
 use std::alloc::Global;
 use std::process::Abort;
-use std::test::Fail;
 
 /// The vertices that are settled for each player.
 #[derive(Clone, Copy, Debug, Drop, PartialEq, Eq)]
@@ -152,7 +151,7 @@ pub fn compare_replay(
     entries: &[Entry],
     want: Result<State, Wrong>,
 ) {
-    check_eq!(rt; replay(game, entries), want);
+    check_eq!(*rt; replay(game, entries), want);
 }
 
 /// The player and the choice of the first entry that names the vertex.
@@ -170,10 +169,10 @@ fn state_of(entries: &[Entry], v: u32) -> Option<(Player, Option<u32>)> {
 /// The solution is what the journal settled, of each vertex, and of no other.
 fn check_solution(rt: &impl Abort, game: &[Plain], outcome: &Outcome) {
     let rows = outcome.solution.rows.as_slice();
-    check_eq!(rt; rows.len() as u64, u64::from(size_of(game)));
+    check_eq!(*rt; rows.len() as u64, u64::from(size_of(game)));
     for v in 0..size_of(game) {
         let settled = state_of(outcome.entries.as_slice(), v);
-        check_eq!(rt; rows.get(v as usize).copied(), settled, "vertex {v}");
+        check_eq!(*rt; rows.get(v as usize).copied(), settled, v);
     }
 }
 
@@ -209,11 +208,7 @@ fn check_report(rt: &impl Abort, outcome: &Outcome, workers: u32) {
     let mut posted = 0u64;
     for worker in 1..workers.saturating_add(1) {
         let [more, settled] = posted_by(entries, worker);
-        check_eq!(rt;
-            reported_by(report, worker),
-            [more, settled],
-            "worker {worker}"
-        );
+        check_eq!(*rt; reported_by(report, worker), [more, settled], worker);
         posted = posted.wrapping_add(more);
     }
     check_rest(rt, entries, posted);
@@ -223,26 +218,31 @@ fn check_report(rt: &impl Abort, outcome: &Outcome, workers: u32) {
 /// The entries of the calling thread are the last, at most two, and all that nobody else posted.
 fn check_rest(rt: &impl Abort, entries: &[Entry], posted: u64) {
     let [by_none, _] = posted_by(entries, 0);
-    check!(rt; by_none <= 2);
-    check_eq!(rt; entries.len() as u64, posted.wrapping_add(by_none));
+    check!(*rt; by_none <= 2);
+    check_eq!(*rt; entries.len() as u64, posted.wrapping_add(by_none));
     let mut is_rest = false;
     for entry in entries {
-        check!(rt; entry.worker == 0 || !is_rest);
+        check!(*rt; entry.worker == 0 || !is_rest);
         is_rest = entry.worker == 0;
+    }
+}
+
+/// Whether one of so many workers drew the job of a row.
+fn is_drawn(row: &ReportRow, workers: u32) -> bool {
+    match row.worker {
+        Some(worker) => 1 <= worker && worker <= workers,
+        None => false,
     }
 }
 
 fn check_jobs(rt: &impl Abort, report: &[ReportRow], workers: u32) {
     let mut number = 0u64;
     for row in report {
-        check_eq!(rt; row.job, number);
-        check!(rt;
-            row.worker
-                .is_some_and(|worker| 1 <= worker && worker <= workers)
-        );
+        check_eq!(*rt; row.job, number);
+        check!(*rt; is_drawn(row, workers), number);
         number = number.wrapping_add(1);
     }
-    check_eq!(rt; number, 5);
+    check_eq!(*rt; number, 5);
 }
 
 /// Checks what a run on a game with this number of workers gave, and tells the state at the end.
@@ -251,82 +251,69 @@ pub fn check_outcome(rt: &impl Abort, game: &[Plain], outcome: &Outcome, workers
         Ok(state) => state,
         Err(wrong) => panic!(*rt; "{wrong:?}"),
     };
-    check_eq!(rt; end.even | end.odd, bit(size_of(game)).wrapping_sub(1));
+    check_eq!(*rt; end.even | end.odd, bit(size_of(game)).wrapping_sub(1));
     check_solution(rt, game, outcome);
     check_report(rt, outcome, workers);
     end
 }
 
 /// Even's loop, a vertex of Odd's that has to go there, and Odd's loop.
-const SHARED: [Plain; 3] = [(0, EVEN, 0b1), (0, ODD, 0b1), (1, ODD, 0b100)];
+const SHARED: &[Plain] = &[(0, EVEN, 0b1), (0, ODD, 0b1), (1, ODD, 0b100)];
 
-fn entry_of(alloc: Global, player: Player, claimed: u32, rows: &[Row]) -> Result<Entry, Fail> {
-    Ok(Entry {
+/// The player of an entry, how many rows are claimed, and its rows.
+type Posted<'a> = (Player, u32, &'a [Row]);
+
+fn entry_of(rt: &impl Abort, alloc: Global, (player, claimed, rows): Posted) -> Entry {
+    let rows = Vec::from_slice(alloc, rows).expect(rt, "memory");
+    Entry {
         worker: 1,
         player,
         claimed,
-        rows: Sequence::new(Vec::from_slice(alloc, rows)?),
-    })
-}
-
-/// An entry is wrong by itself.
-fn compare_wrong(rt: &impl Abort, entry: Entry, wrong: Wrong) {
-    let entries = [entry];
-    let [Entry { rows, .. }] = &entries;
-    check_eq!(rt;
-        replay(SHARED.as_slice(), entries.as_slice()),
-        Err(wrong),
-        "{:?}",
-        rows.as_slice()
-    );
-}
-
-#[test]
-fn each_wrong_entry_is_told(rt: HostRuntime) -> Result<(), Fail> {
-    let alloc = rt.alloc();
-    for (player, claimed, rows, wrong) in [
-        (EVEN, 0, [(0, Some(0)), (1, None)].as_slice(), Wrong::Count),
-        (EVEN, 3, [(0, Some(0)), (1, None)].as_slice(), Wrong::Count),
-        (EVEN, 2, [(1, None), (0, Some(0))].as_slice(), Wrong::Order),
-        (EVEN, 1, [(0, None), (1, None)].as_slice(), Wrong::Row),
-        (EVEN, 1, [(0, Some(1)), (1, None)].as_slice(), Wrong::Row),
-        (EVEN, 1, [(0, Some(0)), (1, Some(0))].as_slice(), Wrong::Row),
-        (
-            EVEN,
-            1,
-            [(0, Some(0)), (0, Some(0))].as_slice(),
-            Wrong::Again,
-        ),
-        (ODD, 1, [(1, Some(0))].as_slice(), Wrong::Open),
-        (EVEN, 1, [(2, None)].as_slice(), Wrong::Walk),
-        (
-            EVEN,
-            1,
-            [(0, Some(0)), (2, None)].as_slice(),
-            Wrong::NotAttracted,
-        ),
-        (EVEN, 1, [(0, Some(0))].as_slice(), Wrong::Left),
-    ] {
-        compare_wrong(&rt, entry_of(alloc, player, claimed, rows)?, wrong);
+        rows: Sequence::new(rows),
     }
-    Ok(())
 }
 
-fn add_evens_loop(alloc: Global, entries: &mut Vec<Entry>) -> Result<(), Fail> {
-    entries.push(entry_of(alloc, EVEN, 1, &[(0, Some(0)), (1, None)])?)?;
-    Ok(())
+/// Compares what replaying entries gives.
+fn compare_posted(rt: &impl Abort, alloc: Global, posted: &[Posted], want: Result<State, Wrong>) {
+    let mut entries = Vec::new(alloc);
+    for entry in posted {
+        entries
+            .push(entry_of(rt, alloc, *entry))
+            .expect(rt, "memory");
+    }
+    check_eq!(*rt; replay(SHARED, entries.as_slice()), want);
 }
+
+const EVENS_LOOP: Posted = (EVEN, 1, &[(0, Some(0)), (1, None)]);
+
+const ODDS_LOOP: Posted = (ODD, 1, &[(2, Some(2))]);
+
+const REPLAYED: &[(&[Posted], Result<State, Wrong>)] = &[
+    (&[(EVEN, 0, &[(0, Some(0)), (1, None)])], Err(Wrong::Count)),
+    (&[(EVEN, 3, &[(0, Some(0)), (1, None)])], Err(Wrong::Count)),
+    (&[(EVEN, 2, &[(1, None), (0, Some(0))])], Err(Wrong::Order)),
+    (&[(EVEN, 1, &[(0, None), (1, None)])], Err(Wrong::Row)),
+    (&[(EVEN, 1, &[(0, Some(1)), (1, None)])], Err(Wrong::Row)),
+    (&[(EVEN, 1, &[(0, Some(0)), (1, Some(0))])], Err(Wrong::Row)),
+    (
+        &[(EVEN, 1, &[(0, Some(0)), (0, Some(0))])],
+        Err(Wrong::Again),
+    ),
+    (&[(ODD, 1, &[(1, Some(0))])], Err(Wrong::Open)),
+    (&[(EVEN, 1, &[(2, None)])], Err(Wrong::Walk)),
+    (
+        &[(EVEN, 1, &[(0, Some(0)), (2, None)])],
+        Err(Wrong::NotAttracted),
+    ),
+    (&[(EVEN, 1, &[(0, Some(0))])], Err(Wrong::Left)),
+    (&[EVENS_LOOP, ODDS_LOOP], Ok(State { even: 3, odd: 4 })),
+    // an entry that is posted twice
+    (&[EVENS_LOOP, ODDS_LOOP, EVENS_LOOP], Err(Wrong::Again)),
+];
 
 #[test]
-fn an_entry_that_is_posted_twice_is_told(rt: HostRuntime) -> Result<(), Fail> {
-    let alloc = rt.alloc();
-    let mut entries = Vec::new(alloc);
-    add_evens_loop(alloc, &mut entries)?;
-    entries.push(entry_of(alloc, ODD, 1, &[(2, Some(2))])?)?;
-    let end = Ok(State { even: 3, odd: 4 });
-    compare_replay(&rt, SHARED.as_slice(), entries.as_slice(), end);
-    add_evens_loop(alloc, &mut entries)?;
-    let again = Err(Wrong::Again);
-    compare_replay(&rt, SHARED.as_slice(), entries.as_slice(), again);
-    Ok(())
+fn each_wrong_entry_is_told(rt: HostRuntime) {
+    for (posted, want) in REPLAYED {
+        compare_posted(&rt, rt.alloc(), *posted, *want);
+    }
 }

@@ -5,37 +5,43 @@ use crate::tests::finders::{
     FirstSolution, Fixed, Misshapen, NoMemory, Overlapping, Singles, Wholes, both_regions,
 };
 use crate::tests::games::run_on;
+use crate::tests::gates::Turns;
 use crate::tests::random::Both;
-use crate::tests::replay::{State, check_outcome};
+use crate::tests::replay::check_outcome;
 use pg_board::Board;
 use pg_dominion::Claim;
 use pg_finders::{Copied, Finder, Job, Standard};
-use pg_game::{Game, Memory, Player};
+use pg_game::{Game, Player};
 use pg_test_support::{EVEN, ODD, Plain, Random, Row};
 use pg_workers::{Gate, Outcome, Pass};
 use std::alloc::Global;
 use std::process::Abort;
 use std::sync::{Mutex, Wait};
-use std::test::Fail;
 use std::thread;
 use std::thread::Threads;
 
 const GAMES: u64 = 50;
 
-const SCHEDULES: u64 = 200;
+/// How many runs of a game let one worker go on at a time, in an order that the seed alone makes.
+const IN_TURNS: u64 = 40;
 
-/// So many different orders there have to be in all games, of 10,000.
-const LEAST_ORDERS: usize = 1_000;
+/// How many runs of a game hold workers for a while, and let them go on side by side.
+const SIDE_BY_SIDE: u64 = 160;
+
+/// So many different orders there have to be among a game's runs in turns.
+const LEAST_ORDERS: usize = 38;
+
+/// The jobs of a game of at most 64 vertices.
+const JOBS: u32 = 5;
 
 /// How often a worker looks for the others' progress before it goes on all the same.
-const TURNS: u32 = 40;
+const LOOKS: u32 = 40;
 
-/// How far a run has come: what is drawn next, how many calls there were, and a number for the order of their workers.
+/// What is drawn next, and how many calls there were.
 #[derive(Drop)]
 struct Progress {
     random: Random,
     calls: u32,
-    order: u64,
 }
 
 /// Draws from a seed at each call how many more calls there have to be before this worker goes on, and waits for them,
@@ -51,24 +57,21 @@ impl Schedule {
             progress: Mutex::new(Progress {
                 random: Random::new(seed),
                 calls: 0,
-                order: 0,
             }),
         }
     }
 }
 
 /// Counts a call, and draws how many there have to be before its worker goes on.
-fn enter(progress: &mut Progress, worker: u32, phase: u64) -> u32 {
-    let event = u64::from(worker).wrapping_mul(2).wrapping_add(phase);
-    progress.order = progress.order.wrapping_mul(1_000_003).wrapping_add(event);
+fn enter(progress: &mut Progress) -> u32 {
     progress.calls = progress.calls.wrapping_add(1);
     progress.calls.wrapping_add(progress.random.below(4))
 }
 
 impl Schedule {
-    fn pass<R: Wait>(&self, rt: &R, worker: u32, phase: u64) {
-        let until = enter(&mut *self.progress.lock(rt), worker, phase);
-        for _ in 0..TURNS {
+    fn pass<R: Wait>(&self, rt: &R) {
+        let until = enter(&mut *self.progress.lock(rt));
+        for _ in 0..LOOKS {
             if self.progress.lock(rt).calls >= until {
                 return;
             }
@@ -78,12 +81,12 @@ impl Schedule {
 }
 
 impl Gate for Schedule {
-    fn found<R: Wait>(&self, rt: &R, worker: u32, _job: u64) {
-        self.pass(rt, worker, 0);
+    fn found<R: Wait>(&self, rt: &R, _worker: u32, _job: u64) {
+        self.pass(rt);
     }
 
-    fn posted<R: Wait>(&self, rt: &R, worker: u32, _job: u64) {
-        self.pass(rt, worker, 1);
+    fn posted<R: Wait>(&self, rt: &R, _worker: u32, _job: u64) {
+        self.pass(rt);
     }
 }
 
@@ -95,46 +98,90 @@ fn count_different(mut numbers: Vec<u64>) -> usize {
 }
 
 /// A copy of the whole game, of which nothing is said.
-fn copy_of<'g>(alloc: Global, game: &'g Game) -> Result<Copied<'g>, Memory> {
-    Board::open(alloc, game)?.copy(alloc)
+fn copy_of<'g>(rt: &impl Abort, alloc: Global, game: &'g Game) -> Copied<'g> {
+    let board = Board::open(alloc, game).expect(rt, "memory");
+    board.copy(alloc).expect(rt, "memory")
 }
 
 /// What the finder claims on a copy of the whole game, or none where it has no memory.
 fn claims_on<F: Finder>(
+    rt: &impl Abort,
     alloc: Global,
     both: &Both,
     finder: &F,
-) -> Result<Option<Vec<Claim>>, Fail> {
-    let copied = copy_of(alloc, &both.game)?;
+) -> Option<Vec<Claim>> {
+    let copied = copy_of(rt, alloc, &both.game);
     match finder.find(alloc, &copied, &Job::Loops) {
-        Ok(found) => Ok(Some(found.claims)),
-        Err(_) => Ok(None),
+        Ok(found) => Some(found.claims),
+        Err(_) => None,
     }
 }
 
 fn check_claims(rt: &impl Abort, bounds: &Option<Bounds>, outcome: &Outcome) {
     for row in outcome.report.iter() {
-        check!(rt; row.memory == bounds.is_none());
-        check!(rt; !row.gave_up);
+        check_eq!(*rt; row.memory, bounds.is_none());
+        check!(*rt; !row.gave_up);
     }
     if let Some(bounds) = bounds {
         bounds.check(rt, outcome);
     }
 }
 
-/// The run of a seed, with two to four workers.
-fn scheduled_run<R: Threads + Wait + Abort + Sync, F: Finder>(
+/// Two to four.
+fn workers_of(seed: u64) -> u32 {
+    2 + (seed % 3) as u32
+}
+
+/// The run of a seed, whose outcome is checked.
+fn checked_run<R: Threads + Wait + Abort + Sync, F: Finder>(
+    rt: &R,
+    alloc: Global,
+    both: &Both,
+    seed: u64,
+    gate: &impl Gate,
+    finder: &F,
+) -> Outcome {
+    let workers = workers_of(seed);
+    let outcome = run_on(rt, alloc, &both.game, workers, gate, finder);
+    let _end = check_outcome(rt, both.plain.as_slice(), &outcome, workers);
+    outcome
+}
+
+/// The run of a seed in turns, and a number for its order.
+fn run_in_turns<R: Threads + Wait + Abort + Sync, F: Finder>(
     rt: &R,
     alloc: Global,
     both: &Both,
     seed: u64,
     finder: &F,
-) -> Result<(Outcome, u64), Fail> {
-    let gate = Schedule::new(seed);
-    let workers = 2 + (seed % 3) as u32;
-    let outcome = run_on(rt, alloc, &both.game, workers, &gate, finder)?;
-    let _end = check_outcome(rt, both.plain.as_slice(), &outcome, workers);
-    Ok((outcome, gate.progress.into_inner().order))
+) -> (Outcome, u64) {
+    let gate = Turns::new(seed, workers_of(seed), JOBS);
+    let outcome = checked_run(rt, alloc, both, seed, &gate, finder);
+    (outcome, gate.turn.into_inner().order)
+}
+
+/// The run of a seed whose workers go on side by side.
+fn run_side_by_side<R: Threads + Wait + Abort + Sync, F: Finder>(
+    rt: &R,
+    alloc: Global,
+    both: &Both,
+    seed: u64,
+    finder: &F,
+) -> Outcome {
+    checked_run(rt, alloc, both, seed, &Schedule::new(seed), finder)
+}
+
+/// Checks the run with one worker, who posts these claims in each job, and tells the bounds for runs with several.
+fn bounds_of(
+    rt: &impl Abort,
+    plain: &[Plain],
+    outcome: &Outcome,
+    claims: &Option<Vec<Claim>>,
+) -> Option<Bounds> {
+    let end = check_outcome(rt, plain, outcome, 1);
+    let Some(claims) = claims else { return None };
+    check_alone(rt, plain, claims.as_slice(), outcome.report.as_slice());
+    Some(Bounds::new(plain, end, claims.as_slice()))
 }
 
 /// The run with one worker, and the bounds for those with several, where the finder claims something.
@@ -143,130 +190,156 @@ fn alone<R: Threads + Wait + Abort + Sync, F: Finder>(
     alloc: Global,
     both: &Both,
     finder: &F,
-) -> Result<Option<Bounds>, Fail> {
-    let claims = claims_on(alloc, both, finder)?;
-    let outcome = run_on(rt, alloc, &both.game, 1, &Pass, finder)?;
-    let plain = both.plain.as_slice();
-    let end = check_outcome(rt, plain, &outcome, 1);
-    Ok(match &claims {
-        Some(claims) => Some(bounds_of(rt, plain, end, claims.as_slice(), &outcome)),
-        None => None,
-    })
+) -> Option<Bounds> {
+    let claims = claims_on(rt, alloc, both, finder);
+    let outcome = run_on(rt, alloc, &both.game, 1, &Pass, finder);
+    bounds_of(rt, both.plain.as_slice(), &outcome, &claims)
 }
 
-/// Checks the run with one worker, who posts these claims in each job.
-fn bounds_of(
-    rt: &impl Abort,
-    plain: &[Plain],
-    end: State,
-    claims: &[Claim],
-    outcome: &Outcome,
-) -> Bounds {
-    check_alone(rt, plain, claims, outcome.report.as_slice());
-    Bounds::new(plain, end, claims)
+/// The game in turns. Tells the order.
+fn order_of<R: Threads + Wait + Abort + Sync, F: Finder>(
+    rt: &R,
+    alloc: Global,
+    both: &Both,
+    seed: u64,
+    bounds: &Option<Bounds>,
+    finder: &F,
+) -> u64 {
+    let (outcome, order) = run_in_turns(rt, alloc, both, seed, finder);
+    check_claims(rt, bounds, &outcome);
+    order
 }
 
-/// The game under all schedules. Tells the order of each.
-fn orders_of<R: Threads + Wait + Abort + Sync, F: Finder>(
+/// The game in turns, in different orders.
+fn replay_in_turns<R: Threads + Wait + Abort + Sync, F: Finder>(
     rt: &R,
     alloc: Global,
     both: &Both,
     bounds: &Option<Bounds>,
     finder: &F,
-) -> Result<Vec<u64>, Fail> {
+) {
     let mut orders = Vec::new(alloc);
-    for seed in 0..SCHEDULES {
-        let (outcome, order) = scheduled_run(rt, alloc, both, seed, finder)?;
-        check_claims(rt, bounds, &outcome);
-        orders.push(order)?;
+    for seed in 0..IN_TURNS {
+        orders
+            .push(order_of(rt, alloc, both, seed, bounds, finder))
+            .expect(rt, "memory");
     }
-    Ok(orders)
+    let different = count_different(orders);
+    check!(*rt; different >= LEAST_ORDERS, different);
 }
 
-/// The random game of a number under all schedules, and with one worker first. The finder claims the same in each job. Tells
-/// how many orders there were.
+/// The game under schedules that let workers go on side by side.
+fn replay_side_by_side<R: Threads + Wait + Abort + Sync, F: Finder>(
+    rt: &R,
+    alloc: Global,
+    both: &Both,
+    bounds: &Option<Bounds>,
+    finder: &F,
+) {
+    for seed in 0..SIDE_BY_SIDE {
+        let outcome = run_side_by_side(rt, alloc, both, seed, finder);
+        check_claims(rt, bounds, &outcome);
+    }
+}
+
+/// The game with one worker, and under all schedules. The finder claims the same in each job.
 fn replay_game<R: Threads + Wait + Abort + Sync, F: Finder>(
     rt: &R,
     alloc: Global,
-    number: u64,
+    both: &Both,
     finder: &F,
-) -> Result<usize, Fail> {
-    let both = Both::numbered(alloc, number)?;
-    let bounds = alone(rt, alloc, &both, finder)?;
-    let orders = orders_of(rt, alloc, &both, &bounds, finder)?;
-    Ok(count_different(orders))
+) {
+    let bounds = alone(rt, alloc, both, finder);
+    replay_in_turns(rt, alloc, both, &bounds, finder);
+    replay_side_by_side(rt, alloc, both, &bounds, finder);
 }
 
-/// There were orders enough.
-fn check_orders(rt: &impl Abort, orders: usize) {
-    check!(rt; orders >= LEAST_ORDERS, "{orders} orders");
+/// A finder that claims what it likes.
+#[derive(Clone, Copy)]
+enum Liar {
+    Singles,
+    Wholes,
+    Misshapen,
+    NoMemory,
+    FirstSolution,
+    Overlapping,
+    AnothersSolution,
+    GreatestNumbers,
 }
 
-/// All games under all schedules, which make different orders.
-fn replay_games<R: Threads + Wait + Abort + Sync, F: Finder>(
-    rt: &R,
-    alloc: Global,
-    finder: &F,
-) -> Result<(), Fail> {
-    let mut orders = 0usize;
-    for number in 0..GAMES {
-        let more = replay_game(rt, alloc, number, finder)?;
-        orders = orders.wrapping_add(more);
+const GREATEST: &[(Player, &[Row])] = &[
+    (EVEN, &[(u32::MAX, Some(u32::MAX))]),
+    (ODD, &[(u32::MAX, None)]),
+    (ODD, &[(0, Some(u32::MAX))]),
+    (EVEN, &[(0, None), (1, None), (u32::MAX, None)]),
+];
+
+/// The finder of the greatest numbers.
+fn greatest() -> Fixed<'static> {
+    Fixed {
+        claims: GREATEST,
+        times: 1,
     }
-    check_orders(rt, orders);
-    Ok(())
+}
+
+/// The random game of a number with this finder.
+fn replay_number<R: Threads + Wait + Abort + Sync>(rt: &R, alloc: Global, number: u64, liar: Liar) {
+    let both = Both::numbered(rt, alloc, number);
+    match liar {
+        Liar::Singles => replay_game(rt, alloc, &both, &Singles),
+        Liar::Wholes => replay_game(rt, alloc, &both, &Wholes),
+        Liar::Misshapen => replay_game(rt, alloc, &both, &Misshapen),
+        Liar::NoMemory => replay_game(rt, alloc, &both, &NoMemory),
+        Liar::FirstSolution => replay_game(rt, alloc, &both, &FirstSolution::new()),
+        Liar::Overlapping => replay_game(rt, alloc, &both, &Overlapping::new()),
+        Liar::AnothersSolution => replay_with_another(rt, alloc, &both, number),
+        Liar::GreatestNumbers => replay_game(rt, alloc, &both, &greatest()),
+    }
+}
+
+/// All games under all schedules.
+fn replay_games<R: Threads + Wait + Abort + Sync>(rt: &R, alloc: Global, liar: Liar) {
+    for number in 0..GAMES {
+        replay_number(rt, alloc, number, liar);
+    }
 }
 
 #[test]
-fn schedules_of_single_vertices(rt: HostRuntime) -> Result<(), Fail> {
-    replay_games(&rt, rt.alloc(), &Singles)
+fn schedules_of_single_vertices(rt: HostRuntime) {
+    replay_games(&rt, rt.alloc(), Liar::Singles);
 }
 
 #[test]
-fn schedules_of_whole_games(rt: HostRuntime) -> Result<(), Fail> {
-    replay_games(&rt, rt.alloc(), &Wholes)
+fn schedules_of_whole_games(rt: HostRuntime) {
+    replay_games(&rt, rt.alloc(), Liar::Wholes);
 }
 
 #[test]
-fn schedules_of_claims_without_their_shape(rt: HostRuntime) -> Result<(), Fail> {
-    replay_games(&rt, rt.alloc(), &Misshapen)
+fn schedules_of_claims_without_their_shape(rt: HostRuntime) {
+    replay_games(&rt, rt.alloc(), Liar::Misshapen);
 }
 
 #[test]
-fn schedules_without_memory(rt: HostRuntime) -> Result<(), Fail> {
-    replay_games(&rt, rt.alloc(), &NoMemory)
+fn schedules_without_memory(rt: HostRuntime) {
+    replay_games(&rt, rt.alloc(), Liar::NoMemory);
 }
 
 /// The solution of the first copy of each game, for ever.
 #[test]
-fn schedules_of_the_first_solution(rt: HostRuntime) -> Result<(), Fail> {
-    let alloc = rt.alloc();
-    let mut orders = 0usize;
-    for number in 0..GAMES {
-        let more = replay_game(&rt, alloc, number, &FirstSolution::new())?;
-        orders = orders.wrapping_add(more);
-    }
-    check_orders(&rt, orders);
-    Ok(())
+fn schedules_of_the_first_solution(rt: HostRuntime) {
+    replay_games(&rt, rt.alloc(), Liar::FirstSolution);
 }
 
 /// Single vertices, and then the solution, of which a part is settled by then.
 #[test]
-fn schedules_of_claims_that_are_settled_in_part(rt: HostRuntime) -> Result<(), Fail> {
-    let alloc = rt.alloc();
-    let mut orders = 0usize;
-    for number in 0..GAMES {
-        let more = replay_game(&rt, alloc, number, &Overlapping::new())?;
-        orders = orders.wrapping_add(more);
-    }
-    check_orders(&rt, orders);
-    Ok(())
+fn schedules_of_claims_that_are_settled_in_part(rt: HostRuntime) {
+    replay_games(&rt, rt.alloc(), Liar::Overlapping);
 }
 
 /// The solution of the random game of a number.
-fn solution_of(alloc: Global, number: u64) -> Result<[Claim; 2], Fail> {
-    let both = Both::numbered(alloc, number)?;
-    Ok(both_regions(alloc, &copy_of(alloc, &both.game)?)?)
+fn solution_of(rt: &impl Abort, alloc: Global, number: u64) -> [Claim; 2] {
+    let both = Both::numbered(rt, alloc, number);
+    both_regions(alloc, &copy_of(rt, alloc, &both.game)).expect(rt, "memory")
 }
 
 /// What a finder of fixed claims is given.
@@ -278,59 +351,51 @@ fn row_of(claim: &Claim) -> (Player, &[Row]) {
 fn replay_with_another<R: Threads + Wait + Abort + Sync>(
     rt: &R,
     alloc: Global,
+    both: &Both,
     number: u64,
-) -> Result<usize, Fail> {
-    let [even, odd] = &solution_of(alloc, number.wrapping_add(GAMES))?;
+) {
+    let [even, odd] = &solution_of(rt, alloc, number.wrapping_add(GAMES));
     let claims = [row_of(even), row_of(odd)];
     let finder = Fixed {
         claims: claims.as_slice(),
         times: 2,
     };
-    replay_game(rt, alloc, number, &finder)
+    replay_game(rt, alloc, both, &finder);
 }
 
 #[test]
-fn schedules_of_another_games_solution(rt: HostRuntime) -> Result<(), Fail> {
-    let alloc = rt.alloc();
-    let mut orders = 0usize;
-    for number in 0..GAMES {
-        let more = replay_with_another(&rt, alloc, number)?;
-        orders = orders.wrapping_add(more);
-    }
-    check_orders(&rt, orders);
-    Ok(())
+fn schedules_of_another_games_solution(rt: HostRuntime) {
+    replay_games(&rt, rt.alloc(), Liar::AnothersSolution);
 }
 
 #[test]
-fn schedules_of_the_greatest_numbers(rt: HostRuntime) -> Result<(), Fail> {
-    let finder = Fixed {
-        claims: &[
-            (EVEN, &[(u32::MAX, Some(u32::MAX))]),
-            (ODD, &[(u32::MAX, None)]),
-            (ODD, &[(0, Some(u32::MAX))]),
-            (EVEN, &[(0, None), (1, None), (u32::MAX, None)]),
-        ],
-        times: 1,
-    };
-    replay_games(&rt, rt.alloc(), &finder)
+fn schedules_of_the_greatest_numbers(rt: HostRuntime) {
+    replay_games(&rt, rt.alloc(), Liar::GreatestNumbers);
 }
 
 fn check_none_refused(rt: &impl Abort, outcome: &Outcome) {
     for row in outcome.report.iter() {
-        check!(rt; row.refused == 0 && !row.memory);
+        check_eq!(*rt; row.refused, 0);
+        check!(*rt; !row.memory);
+    }
+}
+
+fn standard_runs<R: Threads + Wait + Abort + Sync>(rt: &R, alloc: Global, number: u64) {
+    let both = Both::numbered(rt, alloc, number);
+    for seed in 0..IN_TURNS {
+        let (outcome, _) = run_in_turns(rt, alloc, &both, seed, &Standard);
+        check_none_refused(rt, &outcome);
+    }
+    for seed in 0..SIDE_BY_SIDE {
+        let outcome = run_side_by_side(rt, alloc, &both, seed, &Standard);
+        check_none_refused(rt, &outcome);
     }
 }
 
 /// The product's finder claims dominions of its copies, and no copy is too old for one of them: none is refused.
 #[test]
-fn schedules_of_the_products_finder(rt: HostRuntime) -> Result<(), Fail> {
-    let alloc = rt.alloc();
+fn schedules_of_the_products_finder(rt: HostRuntime) {
     for number in 0..GAMES {
-        let both = Both::numbered(alloc, number)?;
-        for seed in 0..SCHEDULES {
-            let (outcome, _) = scheduled_run(&rt, alloc, &both, seed, &Standard)?;
-            check_none_refused(&rt, &outcome);
-        }
+        standard_runs(&rt, rt.alloc(), number);
     }
-    Ok(())
 }

@@ -32,41 +32,28 @@ impl Write for Good {
 }
 
 #[test]
-fn each_failed_read_is_counted(rt: HostRuntime) {
+fn each_failed_read_is_counted_and_what_is_expected_is_told(rt: HostRuntime) {
     let mut source = Std::new(Good(1));
     let mut buffer = [0u8; 4];
-    check_eq!(rt; source.read(&mut buffer), Ok(0));
-    check_eq!(rt; source.failures, 0);
-    check_eq!(rt; source.read(&mut buffer), Err(Failed));
-    check_eq!(rt; source.read(&mut buffer), Err(Failed));
+    let first = (source.read(&mut buffer), source.failures);
+    check_eq!(rt; first, (Ok(0), 0));
+    let then = [source.read(&mut buffer), source.read(&mut buffer)];
+    check_eq!(rt; then, [Err(Failed), Err(Failed)]);
     check_eq!(rt; source.failures, 2);
-}
-
-#[test]
-fn the_count_stays_at_its_last_value(rt: HostRuntime) {
-    let mut source = Std {
-        inner: Good(0),
-        failures: u64::MAX,
-        expected: 0,
-    };
-    check_eq!(rt; source.read(&mut [0u8; 4]), Err(Failed));
-    check_eq!(rt; source.failures, u64::MAX);
+    source.failures = u64::MAX;
+    let last = (source.read(&mut buffer), source.failures);
+    check_eq!(rt; last, (Err(Failed), u64::MAX));
+    let expected = (source.expected(), source.expecting(7).expected());
+    check_eq!(rt; expected, (0, 7));
 }
 
 #[test]
 fn a_write_that_takes_nothing_fails(rt: HostRuntime) {
     let mut sink = Std::new(Good(3));
-    check_eq!(rt; sink.write(b"four"), Ok(2));
-    check_eq!(rt; sink.write(b""), Ok(0));
+    let good = [sink.write(b"four"), sink.write(b"")];
+    check_eq!(rt; good, [Ok(2), Ok(0)]);
     check_eq!(rt; sink.failures, 0);
-    check_eq!(rt; sink.write(b"1"), Err(Failed));
-    check_eq!(rt; sink.write(b"four"), Err(Failed));
+    let failed = [sink.write(b"1"), sink.write(b"four")];
+    check_eq!(rt; failed, [Err(Failed), Err(Failed)]);
     check_eq!(rt; sink.failures, 2);
-}
-
-#[test]
-fn what_is_expected_is_told(rt: HostRuntime) {
-    let source = Std::new(Good(1));
-    check_eq!(rt; source.expected(), 0);
-    check_eq!(rt; source.expecting(7).expected(), 7);
 }

@@ -49,16 +49,25 @@ fn read_from(alloc: Global, size: usize, expected: u64) -> Result<(usize, usize,
     Ok((text.len(), text.capacity(), source.reads))
 }
 
+/// How many bytes there are and how many are expected; how many come, the buffer's room, and the reads.
+const ROOMS: &[((usize, u64), (usize, usize, u64))] = &[
+    ((0, 0), (0, 65_536, 1)),
+    ((5, 0), (5, 65_536, 2)),
+    ((5, 5), (5, 6, 2)),
+    ((5, 9), (5, 10, 2)),
+    ((65_535, 65_535), (65_535, 65_536, 2)),
+    ((65_536, 65_536), (65_536, 65_537, 2)),
+    ((200_000, 200_000), (200_000, 200_001, 5)),
+    // no more is expected than a text may have
+    ((3, u64::MAX), (3, 268_435_457, 2)),
+];
+
 #[test]
 fn the_room_is_what_was_expected_and_a_byte(rt: HostRuntime) {
-    let alloc = rt.alloc();
-    check_eq!(rt; read_from(alloc, 0, 0), Ok((0, 65_536, 1)));
-    check_eq!(rt; read_from(alloc, 5, 0), Ok((5, 65_536, 2)));
-    check_eq!(rt; read_from(alloc, 5, 5), Ok((5, 6, 2)));
-    check_eq!(rt; read_from(alloc, 5, 9), Ok((5, 10, 2)));
-    check_eq!(rt; read_from(alloc, 65_535, 65_535), Ok((65_535, 65_536, 2)));
-    check_eq!(rt; read_from(alloc, 65_536, 65_536), Ok((65_536, 65_537, 2)));
-    check_eq!(rt; read_from(alloc, 200_000, 200_000), Ok((200_000, 200_001, 5)));
+    for ((size, expected), want) in ROOMS {
+        let read = read_from(rt.alloc(), *size, *expected).expect(&rt, "a text");
+        check_eq!(rt; read, *want);
+    }
 }
 
 /// All came, and there was room for more.
@@ -75,10 +84,4 @@ fn what_comes_beyond_what_was_expected_is_read(rt: HostRuntime) {
             assert_all(&rt, rt.alloc(), size, expected);
         }
     }
-}
-
-#[test]
-fn no_more_is_expected_than_a_text_may_have(rt: HostRuntime) {
-    let alloc = rt.alloc();
-    check_eq!(rt; read_from(alloc, 3, u64::MAX), Ok((3, 268_435_457, 2)));
 }

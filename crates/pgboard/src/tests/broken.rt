@@ -1,82 +1,146 @@
 //! Runs over sources and sinks that give and take little, or fail.
-use super::calls::{joined, tidied, verified};
+use super::calls::{answered, told};
 use super::devices::{Bounded, Pieces};
-use super::games::ONE_EACH;
-use crate::fault::RunFault;
-use crate::verdict::Verdict;
-use pg_dominion::SolutionFault;
-use pg_text::TextFault;
+use pg_finders::Standard;
+use pg_workers::Pass;
+use std::alloc::Global;
+use std::process::Abort;
+use std::sync::Wait;
+use std::thread::Threads;
 
-const JOINED: &[u8] = b"0 2 0 0,1; 1 1 1 1; % 0 0 0; 1 0;";
+/// What a source has, how many bytes it gives at a time, and after how many reads it fails.
+type Given = (&'static [u8], usize, u64);
+
+const GAME_TEXT: &[u8] = b"0 2 0 0,1; 1 1 1 1;";
+
+/// The game with what is no solution of it.
+const JOINED_TEXT: &[u8] = b"0 2 0 0,1; 1 1 1 1; % 0 0 0; 1 0;";
+
+const GAME: Given = (GAME_TEXT, usize::MAX, u64::MAX);
+
+const JOINED: Given = (JOINED_TEXT, usize::MAX, u64::MAX);
 
 const LINE: &[u8] = b"not a solution: bad cycle at 1\n";
 
-#[test]
-fn bytes_that_come_one_at_a_time_are_all_read(rt: HostRuntime) {
-    let alloc = rt.alloc();
-    let mut out = Bounded::ample(alloc);
-    let verdict = joined(alloc, &mut Pieces::new(JOINED, 1, u64::MAX), &mut out);
-    check_eq!(rt; verdict, Ok(Verdict::Fails(SolutionFault::Cycle(1))));
-    check_eq!(rt; out.taken.as_slice(), LINE);
-}
+/// Even wins all: 0 by its own loop, 1 by moving to 0, and 2 since Odd can only move from it to 1.
+const LAYERS: Given = (b"0 0 0 0; 1 3 0 0,1; 2 3 1 1;", usize::MAX, u64::MAX);
 
-#[test]
-fn a_failed_second_read_is_a_read_fault(rt: HostRuntime) {
-    let alloc = rt.alloc();
-    let mut out = Bounded::ample(alloc);
-    let result = joined(alloc, &mut Pieces::new(JOINED, 10, 1), &mut out);
-    check_eq!(rt; result, Err(RunFault::Read));
-    check!(rt; out.taken.is_empty());
-}
+const LAYERS_SOLVED: &[u8] = b"paritysol 2;\n0 0 0;\n1 0 0;\n2 0;\n";
 
-#[test]
-fn a_failed_read_after_the_last_byte_is_a_read_fault(rt: HostRuntime) {
-    let alloc = rt.alloc();
-    let mut out = Bounded::ample(alloc);
-    let result = tidied(alloc, &mut Pieces::new(ONE_EACH, usize::MAX, 1), &mut out);
-    check_eq!(rt; result, Err(RunFault::Read));
-    check!(rt; out.taken.is_empty());
-}
+/// A game that is refused.
+const CUT: Given = (b"0 0 0 1", usize::MAX, u64::MAX);
 
-#[test]
-fn a_sink_that_takes_one_byte_at_a_time_gets_all(rt: HostRuntime) {
-    let alloc = rt.alloc();
-    let mut out = Bounded::new(alloc, 1, usize::MAX);
-    let verdict = joined(alloc, &mut Pieces::whole(JOINED), &mut out);
-    check_eq!(rt; verdict, Ok(Verdict::Fails(SolutionFault::Cycle(1))));
-    check_eq!(rt; out.taken.as_slice(), LINE);
-}
+/// A source that is not to be read, since it fails.
+const UNREAD: Given = (b"0 0 0;", 2, 0);
 
-#[test]
-fn a_full_sink_is_a_write_fault_after_a_prefix(rt: HostRuntime) {
-    let alloc = rt.alloc();
-    let mut out = Bounded::new(alloc, usize::MAX, 5);
-    let result = joined(alloc, &mut Pieces::whole(JOINED), &mut out);
-    check_eq!(rt; result, Err(RunFault::Write));
-    check_eq!(rt; out.taken.as_slice(), b"not a".as_slice());
-}
+/// How many bytes a sink takes at a time, and how many before it fails.
+type Taking = (usize, usize);
 
-#[test]
-fn a_tidy_game_that_is_cut_by_a_full_sink_is_a_write_fault(rt: HostRuntime) {
-    let alloc = rt.alloc();
-    let mut out = Bounded::new(alloc, usize::MAX, 5);
-    let mut input = Pieces::whole(b"9 2 1 3,3,9; 3 1 0 9;");
-    let result = tidied(alloc, &mut input, &mut out);
-    check_eq!(rt; result, Err(RunFault::Write));
-    check_eq!(rt; out.taken.as_slice(), b"parit".as_slice());
-}
+const ALL: Taking = (usize::MAX, usize::MAX);
 
-#[test]
-fn a_refused_game_leaves_the_solution_unread(rt: HostRuntime) {
-    let alloc = rt.alloc();
-    let mut solution = Pieces::new(b"0 0 0;".as_slice(), usize::MAX, 0);
-    let mut out = Bounded::ample(alloc);
-    let result = verified(
+const FIVE: Taking = (usize::MAX, 5);
+
+/// What is asked for, both sources and the sink; the status and the fault, what the sink has then, and how many reads of the second source
+/// went well.
+type Run = (
+    &'static [&'static str],
+    Given,
+    Given,
+    Taking,
+    (u8, &'static str),
+    &'static [u8],
+    u64,
+);
+
+const READ: (u8, &str) = (4, "read fault");
+
+const WRITE: (u8, &str) = (4, "write fault");
+
+const REFUSED: (u8, &str) = (3, "game: byte 7: not expected");
+
+const VERIFY: &[&str] = &["verify", "a", "b"];
+
+const KNOWN: &[&str] = &["solve", "--known", "a"];
+
+const RUNS: &[Run] = &[
+    // all bytes come, and go, one at a time
+    (
+        &[],
+        (JOINED_TEXT, 1, u64::MAX),
+        UNREAD,
+        ALL,
+        (1, ""),
+        LINE,
+        0,
+    ),
+    (&[], JOINED, UNREAD, (1, usize::MAX), (1, ""), LINE, 0),
+    // the second read fails, or the one after the last byte
+    (&[], (JOINED_TEXT, 10, 1), UNREAD, ALL, READ, b"", 0),
+    (
+        &["tidy"],
+        (GAME_TEXT, usize::MAX, 1),
+        UNREAD,
+        ALL,
+        READ,
+        b"",
+        0,
+    ),
+    // each read of the second source fails
+    (VERIFY, GAME, (b"0 0 0;", 2, 1), ALL, READ, b"", 1),
+    (KNOWN, LAYERS, (b"0 0 0;", 2, 0), ALL, READ, b"", 0),
+    (KNOWN, LAYERS, (b"0 0 0;", 2, 1), ALL, READ, b"", 1),
+    (KNOWN, LAYERS, (b"0 0 0;", 2, 2), ALL, READ, b"", 2),
+    (KNOWN, LAYERS, (b"0 0 0;", 2, 3), ALL, READ, b"", 3),
+    (
+        KNOWN,
+        LAYERS,
+        (b"0 0 0;", 2, 4),
+        ALL,
+        (0, ""),
+        LAYERS_SOLVED,
+        4,
+    ),
+    // the sink is full after five bytes
+    (&[], JOINED, UNREAD, FIVE, WRITE, b"not a", 0),
+    (&["tidy"], GAME, UNREAD, FIVE, WRITE, b"parit", 0),
+    (&["solve"], GAME, UNREAD, FIVE, WRITE, b"parit", 0),
+    (&["trace"], GAME, UNREAD, FIVE, WRITE, b"journ", 0),
+    // a refused game leaves the second source unread
+    (&[], CUT, UNREAD, ALL, REFUSED, b"", 0),
+    (VERIFY, CUT, UNREAD, ALL, REFUSED, b"", 0),
+    (&["tidy"], CUT, UNREAD, ALL, REFUSED, b"", 0),
+    (&["solve"], CUT, UNREAD, ALL, REFUSED, b"", 0),
+    (KNOWN, CUT, UNREAD, ALL, REFUSED, b"", 0),
+    (&["trace"], CUT, UNREAD, ALL, REFUSED, b"", 0),
+];
+
+fn assert_run<R: Threads + Wait + Abort + Sync>(rt: &R, alloc: Global, run: &Run) {
+    let (words, first, then, taking, want, taken, reads) = *run;
+    let mut input = Pieces::new(first.0, first.1, first.2);
+    let mut second = Pieces::new(then.0, then.1, then.2);
+    let mut out = Bounded::new(alloc, taking.0, taking.1);
+    let (status, fault) = told(
         alloc,
-        &mut Pieces::whole(b"0 0 0 0"),
-        &mut solution,
-        &mut out,
-    );
-    check_eq!(rt; result, Err(RunFault::Game(TextFault::Syntax(7))));
-    check_eq!(rt; solution.reads, 0);
+        answered(
+            rt,
+            alloc,
+            words,
+            &mut input,
+            &mut second,
+            &mut out,
+            &Pass,
+            &Standard,
+        ),
+    )
+    .expect(rt, "memory");
+    check_eq!(rt; (status, fault.as_str()), want, "{words:?}");
+    check_eq!(rt; out.taken.as_slice(), taken, "{words:?}");
+    check_eq!(rt; second.reads, reads, "{words:?}");
+}
+
+#[test]
+fn what_little_or_failing_devices_give_and_take(rt: HostRuntime) {
+    for run in RUNS {
+        assert_run(&rt, rt.alloc(), run);
+    }
 }

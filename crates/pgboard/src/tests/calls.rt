@@ -1,129 +1,52 @@
-//! The runs on sources and sinks in memory, by functions without a contract: a test that calls these is proved without
-//! what the runs promise.
-
-ghost use Rattle.std.specs.Prelude.{◌≤◌};
-ghost use Rattle.pgboard.specs.Asking.{IsInRange};
+//! What a line of words asks for, done by a function without a contract: a test that calls it is proved without what the
+//! runs promise.
 
 use super::devices::{Bounded, Pieces};
 use crate::answer::run_asked;
-use crate::asked::Asked;
 use crate::fault::RunFault;
-use crate::run::{run_joined, run_tidy, run_verify};
-use crate::solve::{SolveOptions, run_solve, run_trace};
-use crate::verdict::Verdict;
-use pg_finders::{Finder, Standard};
-use pg_workers::{Gate, Pass};
-use std::alloc::Global;
+use crate::words::asked;
+use pg_finders::Finder;
+use pg_workers::Gate;
+use std::alloc::{AllocError, Global};
 use std::sync::Wait;
 use std::thread::Threads;
 
-pub fn joined(
+/// Does what the words ask for, and answers its status; of words that are refused, the status of their fault.
+pub fn answered<R: Threads + Wait + Sync>(
+    rt: &R,
     alloc: Global,
+    words: &[&str],
     input: &mut Pieces<'_>,
-    out: &mut Bounded,
-) -> Result<Verdict, RunFault> {
-    run_joined(alloc, input, out)
-}
-
-pub fn verified(
-    alloc: Global,
-    game: &mut Pieces<'_>,
-    solution: &mut Pieces<'_>,
-    out: &mut Bounded,
-) -> Result<Verdict, RunFault> {
-    run_verify(alloc, game, solution, out)
-}
-
-pub fn tidied(alloc: Global, input: &mut Pieces<'_>, out: &mut Bounded) -> Result<(), RunFault> {
-    run_tidy(alloc, input, out)
-}
-
-/// Solves a game of which nothing is known.
-pub fn solved<R: Threads + Wait + Sync>(
-    rt: &R,
-    alloc: Global,
-    game: &[u8],
-    out: &mut Bounded,
-    options: &SolveOptions,
-    gate: &impl Gate,
-    finder: &impl Finder,
-) -> Result<(), RunFault>
-    requires workers { (1 ≤ options.now.workers) × (options.now.workers ≤ 64) }
-    requires bound { options.now.bound ≤ 8 }
-{
-    let mut input = Pieces::whole(game);
-    let known = None::<&mut Pieces<'_>>;
-    run_solve(rt, alloc, &mut input, known, out, options, gate, finder)
-}
-
-/// Solves a game from what is known of it.
-pub fn solved_from<R: Threads + Wait + Sync>(
-    rt: &R,
-    alloc: Global,
-    game: &[u8],
-    known: &mut Pieces<'_>,
-    out: &mut Bounded,
-    options: &SolveOptions,
-) -> Result<(), RunFault>
-    requires workers { (1 ≤ options.now.workers) × (options.now.workers ≤ 64) }
-    requires bound { options.now.bound ≤ 8 }
-{
-    let mut input = Pieces::whole(game);
-    run_solve(
-        rt,
-        alloc,
-        &mut input,
-        Some(known),
-        out,
-        options,
-        &Pass,
-        &Standard,
-    )
-}
-
-pub fn traced<R: Threads + Wait + Sync>(
-    rt: &R,
-    alloc: Global,
-    game: &[u8],
-    out: &mut Bounded,
-    workers: u32,
-    gate: &impl Gate,
-    finder: &impl Finder,
-) -> Result<(), RunFault>
-    requires { (1 ≤ workers) × (workers ≤ 64) }
-{
-    let mut input = Pieces::whole(game);
-    run_trace(rt, alloc, &mut input, out, workers, gate, finder)
-}
-
-/// Does what was asked for. No gate holds a worker.
-pub fn done<R: Threads + Wait + Sync>(
-    rt: &R,
-    alloc: Global,
-    asked: &Asked,
-    input: &[u8],
     second: &mut Pieces<'_>,
     out: &mut Bounded,
-) -> Result<u8, RunFault>
-    requires { IsInRange asked.now }
-{
-    let mut input = Pieces::whole(input);
-    run_asked(rt, alloc, asked, &mut input, second, out, &Pass, &Standard)
+    gate: &impl Gate,
+    finder: &impl Finder,
+) -> Result<u8, RunFault> {
+    match asked(alloc, words) {
+        Ok(asked) => run_asked(rt, alloc, &asked, input, second, out, gate, finder),
+        Err(refusal) => Ok(refusal.status()),
+    }
 }
 
-/// Does what was asked for on a game alone.
-pub fn done_through<R: Threads + Wait + Sync>(
+/// The same on a game alone.
+pub fn answered_on<R: Threads + Wait + Sync>(
     rt: &R,
     alloc: Global,
-    asked: &Asked,
-    input: &[u8],
+    words: &[&str],
+    game: &[u8],
     out: &mut Bounded,
     gate: &impl Gate,
     finder: &impl Finder,
-) -> Result<u8, RunFault>
-    requires { IsInRange asked.now }
-{
-    let mut input = Pieces::whole(input);
+) -> Result<u8, RunFault> {
+    let mut input = Pieces::whole(game);
     let mut none = Pieces::whole(b"");
-    run_asked(rt, alloc, asked, &mut input, &mut none, out, gate, finder)
+    answered(rt, alloc, words, &mut input, &mut none, out, gate, finder)
+}
+
+/// The status of an answer, and the words of its fault or none.
+pub fn told(alloc: Global, answer: Result<u8, RunFault>) -> Result<(u8, String), AllocError> {
+    match answer {
+        Ok(status) => Ok((status, String::new(alloc))),
+        Err(fault) => Ok((fault.status(), fault.to_string(alloc)?)),
+    }
 }

@@ -1,143 +1,85 @@
-//! What lines of words ask for.
+//! What lines of words ask for that are taken. Refused ones and help are cases of the built program.
 use crate::asked::Asked;
-use crate::fault::AskedFault;
 use crate::words::asked;
-use std::alloc::{AllocError, Global};
+use std::alloc::Global;
 use std::process::Abort;
 
-/// What a line asks for, in one word for each text.
-fn shape(alloc: Global, words: &[&str]) -> Result<String, AllocError> {
-    match asked(alloc, words) {
-        Ok(Asked::Help(_)) => String::from_str(alloc, "help"),
-        Ok(other) => format!(in alloc; "{other:?}"),
-        Err(AskedFault::Words(_)) => String::from_str(alloc, "words"),
-        Err(AskedFault::Memory) => String::from_str(alloc, "memory"),
+/// The word for what is asked for, with the workers, the bound and whether the winners alone are written, where it has them.
+fn told(asked: &Asked) -> (&str, u32, u32, bool) {
+    match asked {
+        Asked::Joined => ("joined", 0, 0, false),
+        Asked::Verify { .. } => ("verify", 0, 0, false),
+        Asked::Tidy { .. } => ("tidy", 0, 0, false),
+        Asked::Solve {
+            workers,
+            bound,
+            winners,
+            ..
+        } => ("solve", *workers, *bound, *winners),
+        Asked::Trace { workers, .. } => ("trace", *workers, 0, false),
+        Asked::Help(_) => ("help", 0, 0, false),
     }
 }
 
-/// Lines, each with what it asks for.
-const LINES: [(&[&str], &str); 35] = [
-    (&[], "Joined"),
+/// The words, what is told of them, and the paths of the game and of the second file.
+type Line = (
+    &'static [&'static str],
+    (&'static str, u32, u32, bool),
+    (Option<&'static str>, Option<&'static str>),
+);
+
+const LINES: &[Line] = &[
+    (&[], ("joined", 0, 0, false), (None, None)),
     (
         &["verify", "a", "b"],
-        "Verify { game: \"a\", solution: \"b\" }",
+        ("verify", 0, 0, false),
+        (Some("a"), Some("b")),
     ),
     (
         &["verify", "-", "x y"],
-        "Verify { game: \"-\", solution: \"x y\" }",
+        ("verify", 0, 0, false),
+        (Some("-"), Some("x y")),
     ),
     (
         &["verify", "--", "-a", "--b"],
-        "Verify { game: \"-a\", solution: \"--b\" }",
+        ("verify", 0, 0, false),
+        (Some("-a"), Some("--b")),
     ),
-    (&["tidy"], "Tidy { game: None }"),
-    (&["tidy", "a"], "Tidy { game: Some(\"a\") }"),
-    (
-        &["solve"],
-        "Solve { workers: 4, bound: 4, winners: false, known: None, game: None }",
-    ),
+    (&["tidy"], ("tidy", 0, 0, false), (None, None)),
+    (&["tidy", "a"], ("tidy", 0, 0, false), (Some("a"), None)),
+    (&["solve"], ("solve", 4, 4, false), (None, None)),
     (
         &["solve", "--workers", "64", "--bound=0", "--winners", "a"],
-        "Solve { workers: 64, bound: 0, winners: true, known: None, game: Some(\"a\") }",
+        ("solve", 64, 0, true),
+        (Some("a"), None),
     ),
     (
         &["solve", "--known", "k", "a"],
-        "Solve { workers: 4, bound: 4, winners: false, known: Some(\"k\"), game: Some(\"a\") }",
+        ("solve", 4, 4, false),
+        (Some("a"), Some("k")),
     ),
     (
         &["solve", "--winners", "--known=-k"],
-        "Solve { workers: 4, bound: 4, winners: true, known: Some(\"-k\"), game: None }",
+        ("solve", 4, 4, true),
+        (None, Some("-k")),
     ),
+    (&["trace"], ("trace", 4, 0, false), (None, None)),
     (
         &["trace", "--workers", "2"],
-        "Trace { workers: 2, game: None }",
+        ("trace", 2, 0, false),
+        (None, None),
     ),
-    (&["solve", "--workers", "0"], "words"),
-    (&["solve", "--workers", "65"], "words"),
-    (&["solve", "--bound", "9"], "words"),
-    (&["solve", "--workers", "x"], "words"),
-    (&["solve", "--known"], "words"),
-    (&["solve", "--known", "k", "--known", "l"], "words"),
-    (&["trace", "--bound", "4"], "words"),
-    (&["trace", "--known", "k"], "words"),
-    (&["verify", "--known", "k", "a", "b"], "words"),
-    (&["verify", "a"], "words"),
-    (&["verify", "a", "b", "c"], "words"),
-    (&["tidy", "a", "b"], "words"),
-    (&["tidy", "--x"], "words"),
-    (&["x"], "words"),
-    (&["--x"], "words"),
-    (&["--help"], "help"),
-    (&["-h"], "help"),
-    (&["help"], "help"),
-    (&["help", "verify"], "help"),
-    (&["verify", "--help"], "help"),
-    (&["tidy", "-h"], "help"),
-    (&["--version"], "help"),
-    (&["-V"], "help"),
-    (&["help", "x"], "words"),
 ];
 
-fn assert_shape(rt: &impl Abort, alloc: Global, words: &[&str], want: &str) {
-    let line = shape(alloc, words).expect(rt, "memory");
-    check_eq!(rt; line.as_str(), want);
+fn assert_line(rt: &impl Abort, alloc: Global, line: &Line) {
+    let asked = asked(alloc, line.0).expect(rt, "what is asked for");
+    check_eq!(rt; told(&asked), line.1);
+    check_eq!(rt; (asked.path(), asked.second_path()), line.2);
 }
 
 #[test]
 fn each_line_asks_for_what_it_says(rt: HostRuntime) {
-    for (words, want) in LINES {
-        assert_shape(&rt, rt.alloc(), words, want);
+    for line in LINES {
+        assert_line(&rt, rt.alloc(), line);
     }
-}
-
-/// The text of help.
-fn help(alloc: Global, words: &[&str]) -> Result<String, AskedFault> {
-    match asked(alloc, words)? {
-        Asked::Help(text) => Ok(text),
-        _ => Ok(String::new(alloc)),
-    }
-}
-
-/// Each status has its line in the help.
-fn assert_statuses(rt: &impl Abort, alloc: Global, words: &[&str]) {
-    let text = help(alloc, words).expect(rt, "help");
-    for line in [
-        "\n  0  ", "\n  1  ", "\n  2  ", "\n  3  ", "\n  4  ", "\n  5  ",
-    ] {
-        check!(rt; text.as_str().contains(line), "{line} in {text}");
-    }
-}
-
-#[test]
-fn help_begins_with_the_version_and_has_the_statuses(rt: HostRuntime) {
-    let alloc = rt.alloc();
-    let text = help(alloc, &["--help"]).expect(&rt, "help");
-    check!(rt; text.as_str().starts_with("pgboard 0.1.0"));
-    assert_statuses(&rt, alloc, &["help"]);
-    assert_statuses(&rt, alloc, &["help", "verify"]);
-    assert_statuses(&rt, alloc, &["tidy", "--help"]);
-    let version = help(alloc, &["--version"]).expect(&rt, "a version");
-    check_eq!(rt; version.as_str(), "pgboard 0.1.0\n");
-}
-
-/// The line is refused, with this in the text.
-fn assert_refused(rt: &impl Abort, alloc: Global, words: &[&str], part: &str) {
-    match asked(alloc, words) {
-        Ok(other) => check!(rt; false, "{other:?}"),
-        Err(fault) => {
-            check_eq!(rt; fault.status(), 2);
-            let text = fault.to_string(alloc).expect(rt, "memory");
-            check!(rt; text.as_str().starts_with("error: "), "{text}");
-            check!(rt; text.as_str().contains(part), "{text}");
-            check!(rt; text.as_str().ends_with("\n"), "{text}");
-        }
-    }
-}
-
-#[test]
-fn a_refused_line_ends_with_status_2_and_says_why(rt: HostRuntime) {
-    let alloc = rt.alloc();
-    assert_refused(&rt, alloc, &["verify", "a"], "<SOLUTION>");
-    assert_refused(&rt, alloc, &["tidy", "--x"], "--x");
-    assert_refused(&rt, alloc, &["solver"], "solver");
 }

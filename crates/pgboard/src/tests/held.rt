@@ -1,8 +1,6 @@
 //! Workers run at once through the program's runs: a gate holds one of them until another has posted.
-use super::calls::{solved, traced};
+use super::calls::answered_on;
 use super::devices::Bounded;
-use super::games::ONE_EACH;
-use crate::solve::SolveOptions;
 use pg_finders::Standard;
 use pg_workers::Gate;
 use std::alloc::Global;
@@ -11,7 +9,13 @@ use std::sync::{Mutex, Wait};
 use std::thread::Threads;
 
 /// How often a held worker looks for another worker's post before it gives up.
-pub const TURNS: u64 = 10_000_000;
+const LONG: u64 = 10_000_000;
+
+/// The same where nobody else is to post.
+const SHORT: u64 = 100_000;
+
+/// Both players win a vertex: 0 wins its own loop, and 1 loses by its own.
+const ONE_EACH: &[u8] = b"0 2 0 0,1; 1 1 1 1;";
 
 /// What a gate has seen.
 #[derive(Drop)]
@@ -27,13 +31,13 @@ struct Seen {
 /// Holds one worker at its first `found` until another worker's `posted` was seen, before it or since. Worker 0 stands
 /// for whichever comes first.
 #[derive(Drop)]
-pub struct Holder {
+struct Holder {
     turns: u64,
     seen: Mutex<Seen>,
 }
 
 impl Holder {
-    pub fn new(held: u32, turns: u64) -> Holder {
+    fn new(held: u32, turns: u64) -> Holder {
         Holder {
             turns,
             seen: Mutex::new(Seen {
@@ -86,70 +90,42 @@ impl Gate for Holder {
     }
 }
 
-/// Each of the five jobs was found and posted once.
-fn assert_each_once(rt: &impl Abort, seen: &Seen) {
-    check!(rt; seen.found == [1; 5]);
-    check!(rt; seen.posted == [1; 5]);
+/// What is asked for, who is held, whether another worker works meanwhile, and with what the output begins.
+type Run = (&'static [&'static str], u32, bool, &'static [u8]);
+
+const WON: &[u8] = b"paritysol 1;\n0 0;\n1 1;\n";
+
+const RUNS: &[Run] = &[
+    (&["solve", "--winners", "--workers", "2"], 1, true, WON),
+    (&["solve", "--winners", "--workers", "2"], 0, true, WON),
+    (&["solve", "--winners", "--workers", "1"], 1, false, WON),
+    (&["trace", "--workers", "2"], 1, true, b"journal 2 2\n"),
+    (&["trace", "--workers", "2"], 0, true, b"journal 2 2\n"),
+    (&["trace", "--workers", "1"], 1, false, b"journal 2 2\n"),
+];
+
+/// Each of the five jobs was found and posted once, and another worker than the one that was held has posted while it was,
+/// or nobody has.
+fn assert_seen(rt: &impl Abort, seen: &Seen, at_once: bool) {
+    check_eq!(rt; seen.others_posted, at_once);
+    check_eq!(rt; seen.gave_up, !at_once);
+    check_eq!(rt; seen.found, [1; 5]);
+    check_eq!(rt; seen.posted, [1; 5]);
 }
 
-/// Nobody has posted while the worker was held, and yet each of the five jobs was found and posted once.
-pub fn assert_alone(rt: &impl Abort, gate: Holder) {
-    let seen = gate.seen.into_inner();
-    check!(rt; seen.gave_up);
-    check!(rt; !seen.others_posted);
-    assert_each_once(rt, &seen);
-}
-
-/// Each of the five jobs was found and posted once, and another worker than the one that was to be held has posted.
-pub fn assert_at_once(rt: &impl Abort, gate: Holder) {
-    let seen = gate.seen.into_inner();
-    check!(rt; !seen.gave_up);
-    check!(rt; seen.others_posted);
-    assert_each_once(rt, &seen);
-}
-
-fn held_solve<R: Threads + Wait + Abort + Sync>(rt: &R, alloc: Global, held: u32) {
-    let options = SolveOptions {
-        workers: 2,
-        bound: 4,
-        winners: true,
-    };
-    let gate = Holder::new(held, TURNS);
+fn assert_held<R: Threads + Wait + Abort + Sync>(rt: &R, alloc: Global, run: &Run) {
+    let (words, held, at_once, begins) = *run;
+    let gate = Holder::new(held, if at_once { LONG } else { SHORT });
     let mut out = Bounded::ample(alloc);
-    let answer = solved(rt, alloc, ONE_EACH, &mut out, &options, &gate, &Standard);
-    check_eq!(rt; answer, Ok(()));
-    check_eq!(rt;
-        out.taken.as_slice(),
-        b"paritysol 1;\n0 0;\n1 1;\n".as_slice()
-    );
-    assert_at_once(rt, gate);
-}
-
-fn held_trace<R: Threads + Wait + Abort + Sync>(rt: &R, alloc: Global, held: u32) {
-    let gate = Holder::new(held, TURNS);
-    let mut out = Bounded::ample(alloc);
-    let answer = traced(rt, alloc, ONE_EACH, &mut out, 2, &gate, &Standard);
-    check_eq!(rt; answer, Ok(()));
-    check!(rt; out.taken.starts_with(b"journal 2 2\n"));
-    assert_at_once(rt, gate);
+    let answer = answered_on(rt, alloc, words, ONE_EACH, &mut out, &gate, &Standard);
+    check_eq!(rt; answer.expect(rt, "an answer"), 0, "{words:?}");
+    check!(rt; out.taken.starts_with(begins), "{words:?}");
+    assert_seen(rt, &gate.seen.into_inner(), at_once);
 }
 
 #[test]
-fn workers_solve_at_once_while_the_first_is_held(rt: HostRuntime) {
-    held_solve(&rt, rt.alloc(), 1);
-}
-
-#[test]
-fn workers_solve_at_once_while_whoever_comes_first_is_held(rt: HostRuntime) {
-    held_solve(&rt, rt.alloc(), 0);
-}
-
-#[test]
-fn workers_trace_at_once_while_the_first_is_held(rt: HostRuntime) {
-    held_trace(&rt, rt.alloc(), 1);
-}
-
-#[test]
-fn workers_trace_at_once_while_whoever_comes_first_is_held(rt: HostRuntime) {
-    held_trace(&rt, rt.alloc(), 0);
+fn two_workers_work_at_once_and_one_is_alone(rt: HostRuntime) {
+    for run in RUNS {
+        assert_held(&rt, rt.alloc(), run);
+    }
 }

@@ -7,7 +7,6 @@ use Rattle.pg_finders.proofs.solitaire.solve.Goals as goal
 pub first_worst-requires : goal.first_worst-requires
 first_worst-requires c =
     let g = c.args.game.now in
-    let U = members c.args.mask.now in
     let q = c.args.forced in
     let s = c.in_ok-single_successors.ensures in
     record {
@@ -15,7 +14,7 @@ first_worst-requires c =
       chosen = c.in_ok-owned_by.ensures.0;
       choices = s.size;
       bad = c.in_ok-of_parity.ensures.0;
-      below = λ v i. (let b = and_parts (U v) (same_player (owner_of g v) q) (sym (c.in_ok-owned_by.ensures.1 v) ∙ i) in
+      below = λ v i. (let b = and_parts ((members c.args.mask.now) v) (same_player (owner_of g v) q) (sym (c.in_ok-owned_by.ensures.1 v) ∙ i) in
           let h = s.single v b.0 (same_is (owner_of g v) q b.1) in
           omega (arith, member_below c.args.mask.now (slice_index c.in_ok-single_successors.field-0.items v) h.inside, c.requires.size));
     }
@@ -35,14 +34,13 @@ returns-in-None c =
       choices = c.in_ok-single_successors.field-0;
       bad = c.in_ok-of_parity.field-0;
     } in
-    let next = c.in_ok-single_successors.field-0.items in
     let none : NoneHas (IsWorst k) = search rules in
     let held = all_held k U q (λ v. rw c.in_ok-copy.ensures refl) c.in_ok-owned_by.ensures.1
     (λ v. rw (← c.other.ensures) (c.in_ok-of_parity.ensures.1 v)) c.in_ok-single_successors.ensures.single none in
     let some = c.requires.some in
     ok_good g U q (rows_below (members c.args.mask.now) (own_choices g q (choices_by c.as_slice.result.now))
     (length g)) c.claim_of.result c.claim_of.ensures.player c.claim_of.ensures.rows
-    (rw c.as_slice.ensures.value (held_good g U q U next c.requires.subgame held some.0 some.1))
+    (rw c.as_slice.ensures.value (held_good g U q U c.in_ok-single_successors.field-0.items c.requires.subgame held some.0 some.1))
 
 pub returns : goal.returns
 returns c =

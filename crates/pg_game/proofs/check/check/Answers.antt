@@ -1,6 +1,6 @@
-use Rattle.pg_game.proofs.Common.{ℕ, zero, suc, ◌≡◌, ◌<◌, false, sym, subst, ◌∙◌, arith, rules, ◌==◌, lt-ltb}
+use Rattle.pg_game.proofs.Common.{ℕ, zero, suc, ◌≡◌, ◌<◌, false, sym, subst, ◌∙◌, arith, rules, ◌==◌, lt-ltb, le-ltb}
 use Rattle.std.proofs.Common.{Result, Ok, Err, IfErr, IsErrAnd}
-use Rattle.pg_game.proofs.Sound.{not_empty, twice_named, without_named, edges_named, unknown_named, sound_has_none}
+use Rattle.pg_game.proofs.Sound.{not_empty, without_named, edges_named, unknown_named, sound_has_none}
 use Rattle.pg_game.proofs.check.check.Goals as goal
 
 some_of : (n : ℕ) → false ≡ (n == 0) → 0 < n
@@ -16,7 +16,7 @@ returns-then-specs-gt-MAX_VERTICES-clause-fault c = search (rules, not_empty, lt
 
 pub returns-in_err-ids-clause-fault : goal.returns-in_err-ids-clause-fault
 returns-in_err-ids-clause-fault c =
-    search (rules, passed_on, twice_named, some_of, c.if-is_empty.ensures, c.if-specs-gt-MAX_VERTICES.false, c.in_err-ids.ensures.fault)
+    search (rules, passed_on, not_empty, le-ltb, some_of, c.if-is_empty.ensures, c.if-specs-gt-MAX_VERTICES.false, c.in_err-ids.ensures.fault)
 
 pub returns-in-Some-clause-fault : goal.returns-in-Some-clause-fault
 returns-in-Some-clause-fault c =

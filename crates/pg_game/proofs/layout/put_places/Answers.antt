@@ -12,8 +12,7 @@ wanted-preserved-in_default c =
     let i = c.wanted.id-index in
     let keys = c.args.ids.now.keys in
     let n : position (nat_eq (get_or xs i 0)) keys ≡ None = sym c.place_of.ensures ∙ c.in_default.is in
-    let e = places_more keys xs i c.wanted-test.true n in
-    ap (λ (ys : List ℕ). c.wanted.places.items ++ ys) (sym e) ∙ c.wanted.invariant
+    ap (λ (ys : List ℕ). c.wanted.places.items ++ ys) (sym (places_more keys xs i c.wanted-test.true n)) ∙ c.wanted.invariant
 
 pub wanted-preserved : goal.wanted-preserved
 wanted-preserved c =
@@ -21,10 +20,9 @@ wanted-preserved c =
     let i = c.wanted.id-index in
     let keys = c.args.ids.now.keys in
     let n : position (nat_eq (get_or xs i 0)) keys ≡ Some c.in-Some.place = sym c.place_of.ensures ∙ c.in-Some.is in
-    let e = places_more keys xs i c.wanted-test.true n in
     ap (λ (ys : List ℕ). ys ++ places_of keys (drop (i + 1) xs)) c.in_ok-push.ensures.items
     ∙ (append_assoc c.wanted.places.items (c.in-Some.place ∷ []) (places_of keys (drop (i + 1) xs))
-    ∙ (ap (λ (ys : List ℕ). c.wanted.places.items ++ ys) (sym e) ∙ c.wanted.invariant))
+    ∙ (ap (λ (ys : List ℕ). c.wanted.places.items ++ ys) (sym (places_more keys xs i c.wanted-test.true n)) ∙ c.wanted.invariant))
 
 pub returns : goal.returns
 returns c =

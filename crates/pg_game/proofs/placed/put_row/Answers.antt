@@ -24,12 +24,10 @@ row-preserved c =
 
 pub returns : goal.returns
 returns c = λ done.
-    let row = c.args.row.now in
-    let places = c.make_rising.new.numbers.items in
     record {
       some = grind (arith, done, c.is_empty.ensures);
       rising = c.make_rising.ensures.rising;
       from = λ w m. c.row.invariant.from w ((c.make_rising.ensures.same w).1 m);
       all = λ i m. (let h = c.row.invariant.all m.0 (omega (arith, m.1, c.row-test.false)) in
-          (h.0, (c.make_rising.ensures.same h.0).0 h.1, h.2 ∙ (get_or_default row m.0 0 i m.1 ∙ m.2)));
+          (h.0, (c.make_rising.ensures.same h.0).0 h.1, h.2 ∙ (get_or_default c.args.row.now m.0 0 i m.1 ∙ m.2)));
     }

@@ -1,5 +1,5 @@
-use Rattle.pg_text.proofs.Common.{arith, ◌∙◌, sym, ◌++◌, ◌∷◌, [], get_or, is_digit}
-use Rattle.pg_text.proofs.Runs.{run_more, counts_more, counts_same}
+use Rattle.pg_text.proofs.Common.{arith, ◌∙◌, sym, ◌++◌, ◌∷◌, [], get_or, is_digit, cases_lt, rules}
+use Rattle.pg_text.proofs.Runs.{run_more, counts_more, value-push}
 use Rattle.pg_text.proofs.lexer.number.Goals.{then-value-le-GREATEST, else-value-le-GREATEST}
 use Rattle.pg_text.proofs.lexer.number.Goals as goal
 
@@ -14,6 +14,6 @@ digits-preserved c = (
         rw w.value-is (counts_more c.digits.value (get_or c.args.text.now c.digits.to 0) _ c.digits.invariant.1 c.digits.invariant.3 (omega arith)
         (omega (arith, c.type_inv.text c.digits.to)) w.from.ensures)
     | else-value-le-GREATEST w ↦
-        rw w.value-is (counts_same c.digits.value (get_or c.args.text.now c.digits.to 0) c.digits.invariant.1 c.digits.invariant.3 (omega arith))
+        rw w.value-is (search (rules, cases_lt, value-push))
   ]),
 )

@@ -1,13 +1,13 @@
 use Rattle.pg_text.proofs.Common.{◌∙◌, sym, get_or, inl, rules}
 use Rattle.std.proofs.lemmas.Slice.{between_to_end}
-use Rattle.pg_text.proofs.Next.{name_found, name_lost, word_at, nothing_at, begins_none}
+use Rattle.pg_text.proofs.Next.{name_found, word_at, nothing_at, begins_none, plain_all}
 use Rattle.pg_text.proofs.lexer.word_or_name.Goals as goal
 
 pub returns-in-Some-clause-token : goal.returns-in-Some-clause-token
 returns-in-Some-clause-token c = search (rules, name_found, c.requires.inside, c.if-first-eq34.true, between_to_end, c.in-Some.ensures)
 
 pub returns-in-None-clause-token : goal.returns-in-None-clause-token
-returns-in-None-clause-token c = search (rules, name_lost, c.requires.inside, c.if-first-eq34.true, between_to_end, c.in-None.ensures)
+returns-in-None-clause-token c = search (rules, nothing_at, plain_all, c.requires.inside, c.if-first-eq34.true, between_to_end, c.in-None.ensures)
 
 pub returns-then-letter-clause-token : goal.returns-then-letter-clause-token
 returns-then-letter-clause-token c =

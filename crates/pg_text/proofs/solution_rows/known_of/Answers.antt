@@ -1,9 +1,9 @@
 use Rattle.pg_text.proofs.Common.{rules}
-use Rattle.pg_text.proofs.KnownLines.{passed_on, known_fault, known_size}
+use Rattle.pg_text.proofs.KnownLines.{passed_on}
 use Rattle.pg_text.proofs.solution_rows.known_of.Goals as goal
 
 pub returns-in_err-table_of-clause-rows : goal.returns-in_err-table_of-clause-rows
-returns-in_err-table_of-clause-rows c = search (rules, passed_on, known_fault, c.in_err-table_of.ensures)
+returns-in_err-table_of-clause-rows c = search (rules, passed_on, c.in_err-table_of.ensures)
 
 pub returns-clause-size : goal.returns-clause-size
-returns-clause-size c = let h = c.in_ok-table_of.ensures in known_size c.args.game.now _ c.known.result _ (c.known.ensures _ h)
+returns-clause-size c = let h = c.in_ok-table_of.ensures in search rules

@@ -15,7 +15,6 @@ returns-in_err-take c =
 
 pub lines-preserved : goal.lines-preserved
 lines-preserved c =
-    let g = c.args.game.now in
     let t = c.take.new.self in
-    subst (λ (lines : List WrittenSolutionLine). HoldsLines g lines t.rows.items t.said t.twice)
+    subst (λ (lines : List WrittenSolutionLine). HoldsLines c.args.game.now lines t.rows.items t.said t.twice)
     (sym (next_line c.args.lines.now c.lines.line-index _ c.lines-test.true)) (c.in_ok-take.ensures _ c.lines.invariant)

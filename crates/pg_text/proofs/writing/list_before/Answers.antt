@@ -1,6 +1,6 @@
-use Rattle.pg_text.proofs.Common.{◌≡◌, ◌∙◌, ◌-◌, ◌++◌, ◌∷◌, ap, arith, List, ℕ, decimal, drop, get_or, id_of}
+use Rattle.pg_text.proofs.Common.{◌≡◌, ◌∙◌, ◌-◌, ◌++◌, ◌∷◌, ap, arith, List, ℕ, decimal, drop, get_or, id_of, append_assoc, rules, drop_more}
 use Rattle.std.proofs.Common.{flat_map}
-use Rattle.pg_text.proofs.Written.{list_more, list_whole}
+use Rattle.pg_text.proofs.Written.{list_whole}
 use Rattle.pg_text.proofs.writing.list_before.Goals as goal
 
 pub vertices-preserved : goal.vertices-preserved
@@ -16,7 +16,7 @@ vertices-preserved c =
       c.byte_before-at.ensures.written ∙ (ap (λ xs. 44 ∷ xs)
           (c.number_before-at.ensures.written ∙ (ap (λ n. decimal n ++ drop c.vertices.at c.vertices.line) c.id.ensures
           ∙ ap (λ xs. f (get_or c.args.vertices.now (c.vertices.left - 1) 0) ++ xs) is))
-          ∙ list_more f c.args.vertices.now c.vertices.left (drop c.args.end c.args.line.now) (omega arith) high),
+          ∙ (search (rules, drop_more, append_assoc))),
     )
 
 pub returns-clause-written : goal.returns-clause-written

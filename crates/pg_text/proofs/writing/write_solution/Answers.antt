@@ -1,13 +1,9 @@
 use Rattle.pg_text.proofs.Common.{◌≡◌, ℕ, ◌+◌, ◌<◌, List, [], ◌∷◌, ◌++◌, length, drop, get_or, sym, ◌∙◌, ap, subst, arith, append_assoc, length-append, None}
-use Rattle.pg_text.proofs.Common.{IfSome, codes, drop_more, Even, Graph, Vertex, vertex_at, no_vertex, digit_of, SolutionRows, AreSolutionRows, written_choice}
+use Rattle.pg_text.proofs.Common.{IfSome, drop_more, Even, Graph, Vertex, vertex_at, no_vertex, SolutionRows, AreSolutionRows}
 use Rattle.pg_text.proofs.Common.{written_rows}
-use Rattle.std.specs.Prelude.{decimal}
 use Rattle.pg_text.proofs.WrittenReads.{all_at}
 use Rattle.pg_text.proofs.Lengths.{short_solution}
 use Rattle.pg_text.proofs.writing.write_solution.Goals as goal
-
-regroup : (a b c d rest : List ℕ) → a ++ (32 ∷ b ++ (c ++ (d ++ rest))) ≡ (a ++ (32 ∷ b ++ (c ++ d))) ++ rest
-regroup a b c d rest = simp append_assoc
 
 -- one more row
 row_more : (g : Graph) (rows : SolutionRows) (v : ℕ) → length rows ≡ length g → v < length g
@@ -15,17 +11,15 @@ row_more : (g : Graph) (rows : SolutionRows) (v : ℕ) → length rows ≡ lengt
     ++ written_rows g (drop (v + 1) g) (drop (v + 1) rows)
 row_more g rows v e l =
     let x = vertex_at g v in
-    let r = get_or rows v (Even, None) in
     let a : drop v g ≡ x ∷ drop (v + 1) g = drop_more g v no_vertex l in
-    let b : drop v rows ≡ r ∷ drop (v + 1) rows = drop_more rows v (Even, None) (omega arith) in
+    let b : drop v rows ≡ (get_or rows v (Even, None)) ∷ drop (v + 1) rows = drop_more rows v (Even, None) (omega arith) in
     ap (λ (xs : List Vertex). written_rows g xs (drop v rows)) a
     ∙ (ap (λ (rs : SolutionRows). written_rows g (x ∷ drop (v + 1) g) rs) b
-    ∙ regroup (decimal x.id) (decimal (digit_of r.0)) (written_choice g r.1) (codes ";\n") (written_rows g (drop (v + 1) g) (drop (v + 1) rows)))
+    ∙ (simp append_assoc))
 
 pub put_row-requires-clause-choice : goal.put_row-requires-clause-choice
 put_row-requires-clause-choice c =
     let g = c.args.game.now in
-    let n = c.requires.size in
     let l : c.rows.v < length c.args.solution.now.rows = omega arith in
     subst (λ (rows : SolutionRows). IfSome (get_or rows c.rows.v (Even, None)).1 (λ w. w < length g)) (sym c.as_slice-rows.ensures)
     (all_at (λ r. IfSome r.1 (λ w. w < length g)) c.args.solution.now.rows c.rows.v (Even, None) c.requires.choices l)

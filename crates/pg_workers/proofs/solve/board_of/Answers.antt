@@ -18,5 +18,4 @@ returns-clause-rows c = c.without_posts.ensures.rows
 
 pub returns-clause-settled : goal.returns-clause-settled
 returns-clause-settled c =
-    let none = c.without_posts.ensures.settled in
-    (_, c.in_ok-board_with.ensures.known.number, omega (arith, none))
+    (_, c.in_ok-board_with.ensures.known.number, omega (arith, c.without_posts.ensures.settled))

@@ -24,10 +24,9 @@ returns-clause-numbered g c = placed_numbered _ _ _ c.in_ok-report.ensures.blank
 pub returns-clause-settled : goal.returns-clause-settled
 returns-clause-settled g c =
     let rows = c.take_apart-shares.result.2.items in
-    let amounts = c.take_apart-shares.ensures.amounts in
     let together : settled_in (rows_in c.as_slice.result.now) ≡ sum c.take_apart-shares.result.0.items =
     ap (λ (all : List (Vec ReportRow Global)). settled_in (rows_in all)) c.as_slice.ensures.value ∙ settled_in-rows_in rows ∙ sym
-    (sum-map settled_by_one rows) ∙ ap sum amounts in
+    (sum-map settled_by_one rows) ∙ ap sum c.take_apart-shares.ensures.amounts in
     let all : sum c.push_reserved.new.self.items ≡ sum c.take_apart-shares.result.0.items + c.args.first =
     ap sum c.push_reserved.ensures.items ∙ sum_by_push (λ (n : ℕ). n) c.take_apart-shares.result.0.items c.args.first in
     omega (arith, together, all, c.close-board.ensures.exact, c.in_ok-report.ensures.settled, c.with_rows.ensures.settled)

@@ -1,5 +1,5 @@
 use Rattle.pg_workers.proofs.Common.{rules, arith}
-use Rattle.pg_workers.proofs.Noting.{fits, noted_counts, noted_settled}
+use Rattle.pg_workers.proofs.Noting.{fits, noted_counts}
 use Rattle.pg_workers.proofs.worker.post.Goals as goal
 
 pub note-requires-clause-settled : goal.note-requires-clause-settled
@@ -13,4 +13,4 @@ pub returns-clause-counts : goal.returns-clause-counts
 returns-clause-counts g c = search (rules, noted_counts, c.note.ensures, c.settle_claim-answer.ensures.added)
 
 pub returns-clause-settled : goal.returns-clause-settled
-returns-clause-settled g c = grind (arith, noted_settled, c.note.ensures, c.settle_claim-answer.ensures.added, c.settle_claim-answer.ensures.unchanged)
+returns-clause-settled g c = grind (arith, c.note.ensures, c.settle_claim-answer.ensures.added, c.settle_claim-answer.ensures.unchanged)

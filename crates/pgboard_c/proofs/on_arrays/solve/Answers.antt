@@ -4,5 +4,4 @@ use Rattle.pgboard_c.proofs.on_arrays.solve.Goals as goal
 
 pub write_results-requires-clause-below : goal.write_results-requires-clause-below
 write_results-requires-clause-below c =
-    let few = c.len-n.ensures.limits.vertices in
-    choices_below _ _ no_choice c.len-n.ensures.game c.in_ok-solution.ensures (omega (arith, few))
+    choices_below _ _ no_choice c.len-n.ensures.game c.in_ok-solution.ensures (omega (arith, c.len-n.ensures.limits.vertices))

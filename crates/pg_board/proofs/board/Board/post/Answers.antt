@@ -1,6 +1,6 @@
 use Rattle.pg_board.proofs.Common.{◌≡◌, Err, Result, refl, sym, subst, rules, IsClaimFault, Posted, Refusal, Play, state_of, refusal_of, AnswersDominion}
 use Rattle.pg_board.proofs.Common.{SettlesUnlessMemory}
-use Rattle.pg_board.proofs.OldCopies.{IsAnswered, stands_at, old_copy, refused_check, lawful_after}
+use Rattle.pg_board.proofs.OldCopies.{IsAnswered, stands_at, old_copy, lawful_after}
 use Rattle.pg_board.proofs.board.Board.post.Goals.{After-settle_sound}
 use Rattle.pg_board.proofs.board.Board.post.Goals as goal
 
@@ -28,7 +28,7 @@ returns-in_err-judge_claim-clause-old_copies c = λ k d.
     let stands = stands_at c.self.view_is c.len-n.ensures.game c.self.invariant.0 in
     let wrong = subst (λ (y : Play). IsClaimFault y.graph p claim.rows fault) c.self.view_is c.in_err-judge_claim.ensures.fault in
     let h : IsAnswered x x c.args.worker claim (Err (refusal_of fault)) =
-    record { posted = tt; refused = refused_check x.graph st p claim.rows fault wrong; unchanged = refl } in
+    record { posted = tt; refused = search rules; unchanged = refl } in
     let e : c.from_residual.result ≡ Err (refusal_of fault) = search rules in
     subst (λ (r : Result Posted Refusal). AnswersDominion st claim.rows r × SettlesUnlessMemory x x p claim.rows r) (sym e)
     (old_copy x stands claim k d x c.args.worker (Err (refusal_of fault)) h)

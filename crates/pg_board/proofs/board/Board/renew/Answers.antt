@@ -23,9 +23,8 @@ entries-preserved c =
 
 pub of_subgame-inside-requires-clause-subgame : goal.of_subgame-inside-requires-clause-subgame
 of_subgame-inside-requires-clause-subgame c =
-    let y = c.args.self.now in
     let lawful = subst (λ (x : Play). IsLawful x.graph x.journal) c.self.view_is c.self.invariant.0.lawful in
     let all = subst (λ (x : Play). length x.journal ≤ c.entries.k) c.self.view_is
     (omega (arith, c.entries-test.false, c.len-end.ensures, c.self.inside.entries.ok.0)) in
     subst (λ (x : Play). IsSubgame x.graph (members c.entries.mask)) (sym c.self.view_is)
-    (subgame_left y c.entries.mask c.entries.k lawful all c.entries.invariant.members)
+    (subgame_left c.args.self.now c.entries.mask c.entries.k lawful all c.entries.invariant.members)

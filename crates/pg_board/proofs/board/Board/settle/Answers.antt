@@ -2,7 +2,7 @@ use Rattle.pg_board.proofs.Common.{rules, sym, subst, Claim, IsSound, claim_rows
 use Rattle.pg_dominion.specs.Checked.{claim_of, IsForeign}
 use Rattle.pg_dominion.proofs.Agreed.{sound}
 use Rattle.pg_dominion.proofs.Recorded.{never_foreign}
-use Rattle.pg_board.proofs.OldCopies.{IsAnswered, stands_at, old_copy, lawful_after, checked_refusal}
+use Rattle.pg_board.proofs.OldCopies.{IsAnswered, stands_at, old_copy, lawful_after}
 use Rattle.pg_board.proofs.board.Board.settle.Goals.{After-settle_sound}
 use Rattle.pg_board.proofs.board.Board.settle.Goals as goal
 
@@ -35,7 +35,7 @@ returns-clause-posted c = (answered_of (goal.at.returns-clause-posted c).After-s
 pub returns-clause-refused : goal.returns-clause-refused
 returns-clause-refused c =
     let h = (answered_of (goal.at.returns-clause-refused c).After-settle_sound).refused in
-    search (rules, h, c.self.view_is, c.in_default.ensures, checked_refusal, c.settle_sound.ensures.of_state)
+    search (rules, h, c.self.view_is, c.in_default.ensures, c.settle_sound.ensures.of_state)
 
 pub returns-clause-lawful : goal.returns-clause-lawful
 returns-clause-lawful c =

@@ -1,5 +1,5 @@
-use Rattle.pg_board.proofs.Common.{rules, refl, ◌∙◌}
-use Rattle.pg_board.proofs.Added.{number_grows, total_grows, settles_some, rises}
+use Rattle.pg_board.proofs.Common.{rules, refl, ◌∙◌, arith}
+use Rattle.pg_board.proofs.Added.{number_grows, total_grows, settles_some}
 use Rattle.pg_board.proofs.Renewing.{all_stay}
 use Rattle.pg_board.proofs.office.Desk.settle.Goals as goal
 
@@ -21,4 +21,4 @@ returns-clause-answer g c = let p = c.in_ok-settled.ensures.posted in (c.in_ok-s
 pub returns-clause-added : goal.returns-clause-added
 returns-clause-added g c =
     let p = c.in_ok-settled.ensures.posted in
-    (rw p.1.settled (settles_some p.0 p.1.answers), rises c.share.view_is c.from-added.ensures)
+    (rw p.1.settled (settles_some p.0 p.1.answers), omega arith)

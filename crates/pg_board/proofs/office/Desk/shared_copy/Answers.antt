@@ -14,8 +14,7 @@ invariant_of-self-2 g c = record {
       let b = c.args.self.now.board in
       let now : arc_value c.in_ok-try_clone.field-0 ≡ c.in_ok-present_copy.field-0 = c.in_ok-try_clone.ensures ∙ c.in_ok-copied.ensures.ok in
       let last = subst (IsPastCopy b) (sym {A = Copied} now) (past_of_present c.in_ok-present_copy.ensures.present) in
-      let before = c.in_ok-present_copy.ensures.past in
-      let all = All-push (λ (x : Arc Copied Global). IsPastCopy b (arc_value x)) _ c.in_ok-try_clone.field-0 before last in
+      let all = All-push (λ (x : Arc Copied Global). IsPastCopy b (arc_value x)) _ c.in_ok-try_clone.field-0 c.in_ok-present_copy.ensures.past last in
       subst (ArePastCopies b) (sym {A = List (Arc Copied Global)} c.push_reserved.ensures.items) all;
 }
 

@@ -1,5 +1,6 @@
-use Rattle.pg_board.proofs.Shares.{gathered_parts, gathered_amounts}
 use Rattle.pg_board.proofs.office.Office.close.Goals as goal
+use Rattle.pg_board.proofs.Common.{arith}
+use Rattle.std.proofs.lemmas.Grind.{common_steps}
 
 pub loop-share-preserved : goal.loop-share-preserved
 loop-share-preserved c d =
@@ -7,6 +8,6 @@ loop-share-preserved c d =
     let popped = d.in-Some-pop.ensures in
     let last = d.share in
     let all = d.loop-share.invariant in (
-      gathered_parts _ _ _ _ _ _ merged.parts last.invariant.0 popped.cases all.0,
-      gathered_amounts _ _ _ _ _ _ _ _ merged.amount last.invariant.1 last.view_is popped.items all.1,
+      omega arith,
+      grind (arith, common_steps),
     )

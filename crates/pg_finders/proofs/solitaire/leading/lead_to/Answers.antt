@@ -24,9 +24,6 @@ queue-preserved c =
     let top = priority_of g c.args.goal in
     let h = c.in_ok-reach.ensures in
     let q = c.queue.queue.items in
-    let q' = c.reach.new.queue.items in
-    let taken = c.queue.lead.taken in
-    let taken' = c.reach.new.lead.taken in
     let l : c.queue.at < length q = omega arith in
     let e : c.index-to.result.now ≡ slice_index q c.queue.at = get_or_read q c.queue.at _ l c.index-to.ensures 0 in
     record {

@@ -1,6 +1,6 @@
-use Rattle.pg_finders.proofs.Common.{◌≡◌, ◌<◌, ◌≤◌, ◌⊎◌, inl, inr, false, length, slice_index, sym, ◌∙◌, subst, arith, below_more, get_or_default}
-use Rattle.pg_finders.proofs.Common.{Contains-get_or, priority_of, In, members, EdgeBelow}
-use Rattle.pg_finders.proofs.solitaire.Backward.{leading_push, queue_push, follows_push, still_set, now_set}
+use Rattle.pg_finders.proofs.Common.{◌≡◌, ◌<◌, ◌≤◌, ◌⊎◌, inl, inr, false, length, slice_index, sym, ◌∙◌, subst, arith, below_more, get_or_default, rules}
+use Rattle.pg_finders.proofs.Common.{Contains-get_or, priority_of, In, members, EdgeBelow, get_or_append_left, length-append}
+use Rattle.pg_finders.proofs.solitaire.Backward.{leading_push, queue_push, still_set, now_set}
 use Rattle.pg_finders.proofs.solitaire.leading.reach.Goals as goal
 
 pub edges-preserved : goal.edges-preserved
@@ -13,7 +13,6 @@ edges-preserved c =
     let k = c.edges.from-index in
     let v = slice_index us k in
     let taken = c.edges.lead.taken in
-    let next = c.edges.lead.next.items in
     let old = c.edges.invariant in
     let l : v < length g = c.predecessors-from-items.ensures.below k c.edges-test.true in
     let lt : v < length taken = omega (arith, old.state.size) in
@@ -23,9 +22,9 @@ edges-preserved c =
     let e : EdgeBelow g U (priority_of g goal_at) v to = ((c.predecessors-from-items.ensures.exact v).0 (Contains-get_or us k 0 c.edges-test.true), i, low) in
     let near : (to ≡ goal_at) ⊎ In (members taken) to = elim c.requires.to [ inl q ↦ inl q | inr j ↦ inr (old.follows.grows to j) ] in
     rw (c.insert.ensures, c.in_ok-push.ensures.items) record {
-      state = leading_push g U (priority_of g goal_at) goal_at taken next v to l new e near old.state;
+      state = leading_push g U (priority_of g goal_at) goal_at taken c.edges.lead.next.items v to l new e near old.state;
       queue = queue_push g goal_at taken c.edges.queue.items v l lt old.queue;
-      follows = follows_push _ _ taken c.edges.queue.items v lt old.follows;
+      follows = search (rules, still_set, old.follows.grows, old.follows.longer, length-append, get_or_append_left, old.follows.prefix);
       seen = below_more _ _ (λ j m a. still_set taken v (slice_index us j) lt (old.seen j m a)) (λ a. now_set taken v lt);
     }
 

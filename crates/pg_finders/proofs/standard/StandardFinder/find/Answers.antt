@@ -1,10 +1,11 @@
-use Rattle.pg_finders.proofs.Common.{ℕ, List, length, ap, subst, ◌∙◌, min, IfOk, append-nil, Even, Odd, Graph, members, Claim, IsGoodIn, IsSolitaire, IsOfSmall}
+use Rattle.pg_finders.proofs.Common.{ℕ, List, length, ap, subst, ◌∙◌, min, IfOk, append-nil, Graph, members, Claim, IsGoodIn, IsSolitaire, IsOfSmall}
+use Rattle.pg_finders.proofs.Common.{rules}
 use Rattle.std.proofs.Common.{Option}
 use Rattle.std.specs.Prelude.{◌++◌}
 use Rattle.std.specs.Option.{option_to_list}
 use Rattle.std.proofs.lemmas.Result.{IfOk-weaker}
 use Rattle.pg_finders.specs.Jobs.{seeds_of, with_rows}
-use Rattle.pg_finders.proofs.Jobs.{loops_of, both_of}
+use Rattle.pg_finders.proofs.Jobs.{both_of}
 use Rattle.pg_finders.proofs.standard.StandardFinder.find.Goals as goal
 
 pub returns-in_ok-find_loop-in-Loops-clause-loops : goal.returns-in_ok-find_loop-in-Loops-clause-loops
@@ -15,8 +16,8 @@ returns-in_ok-find_loop-in-Loops-clause-loops c =
     rw c.in-Loops.is (IfOk-weaker c.all_of.result _ _ (λ f h. record {
       even = c.in_ok-even-in-Loops.even;
       odd = c.in_ok-find_loop-in-Loops.field-0;
-      evens = loops_of i.graph (members i.mask) Even _ e.player e.none e.loops e.choices e.good;
-      odds = loops_of i.graph (members i.mask) Odd _ o.player o.none o.loops o.choices o.good;
+      evens = search rules;
+      odds = search rules;
       order = h;
     }) c.all_of.ensures.claims)
 

@@ -7,6 +7,5 @@ row-requires c = omega (arith, length_is c.self.invariant.parts c.self.view_is, 
 
 pub returns : goal.returns
 returns c =
-    let n = length_is c.self.invariant.parts c.self.view_is in
-    let are = c.self.invariant.predecessors c.args.v (omega (arith, n)) in
+    let are = c.self.invariant.predecessors c.args.v (omega (arith, length_is c.self.invariant.parts c.self.view_is)) in
     subst (λ (g : Graph). ArePredecessors g c.args.v c.row.result.now) c.self.view_is (rw c.row.ensures.row are)

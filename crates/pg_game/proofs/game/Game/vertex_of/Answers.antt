@@ -10,5 +10,4 @@ returns-in-Some-clause-found c = search (rules, c.in-Some.ensures.found, length_
 
 pub returns-in-None-clause-missing : goal.returns-in-None-clause-missing
 returns-in-None-clause-missing c = λ v l is.
-    let n = length_is c.self.invariant.parts c.self.view_is in
-    c.in-None.ensures.missing v (omega (arith, n, l)) (sym (id_is c.self.invariant.parts c.self.view_is v) ∙ is)
+    c.in-None.ensures.missing v (omega (arith, length_is c.self.invariant.parts c.self.view_is, l)) (sym (id_is c.self.invariant.parts c.self.view_is v) ∙ is)

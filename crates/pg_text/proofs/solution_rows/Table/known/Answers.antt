@@ -4,8 +4,6 @@ use Rattle.pg_text.proofs.solution_rows.Table.known.Goals as goal
 
 pub returns : goal.returns
 returns c = λ lines h.
-    let g = c.args.game.now in
-    let t = c.args.self in
-    let none : t.twice ≡ None = search rules in
+    let none : c.args.self.twice ≡ None = search rules in
     let k = say_known h none c.vertices.rows.items (omega arith) (λ u l. c.vertices.invariant.2 u (omega arith)) in
-    subst (λ rows. AreKnownLinesOf g lines rows) (sym c.new.ensures) k
+    subst (λ rows. AreKnownLinesOf c.args.game.now lines rows) (sym c.new.ensures) k

@@ -9,13 +9,12 @@ use Rattle.pg_workers.proofs.jobs.Jobs.close.Goals as goal
 pub join_seat-requires : goal.join_seat-requires
 join_seat-requires c =
     let at = c.loop-ticket in let i = at.invariant in let jobs = c.self.invariant in
-    let x = c.in-Some.ticket in
     let left = ap (λ l. at.yielded ++ l) (sym c.in-Some.ensures.steps.0) ∙ i.0 ∙ c.into_iter-ticket-iterator.ensures.into_iter_gives.0 in
     let some_ticket : 0 < length c.args.tickets.items = let l = c.requires.all in let s = ap (λ o. o.seats) c.self.view_is in omega (arith, jobs.some_seat) in
     let whole = remade c.args.tickets.items c.remove.new.self.items c.remove.result some_ticket c.remove.ensures.value c.remove.ensures.items in
     let own = λ (t : HeldTicket). t.series ≡ c.args.self.series in
     let first = all_here own [] c.remove.new.self.items c.remove.result (subst (All own) whole c.requires.own) in
-    let this = all_here own (c.remove.result ∷ at.yielded) (into_iter_items c.next.new.self) x
+    let this = all_here own (c.remove.result ∷ at.yielded) (into_iter_items c.next.new.self) c.in-Some.ticket
     (subst (All own) (whole ∙ ap (λ l. c.remove.result ∷ l) (sym left)) c.requires.own) in
     let mine = ap (λ o. o.series.table) c.self.view_is in
     let one = ap (λ m. m.0.tickets) c.ticket.invariant.seat in (

@@ -12,10 +12,8 @@ use Rattle.pg_finders.proofs.recursion.solver.Solver.enter.Goals as goal
 
 pub gone-requires : goal.gone-requires
 gone-requires c =
-    let x = c.args.self.now in
     let h = c.requires.under_way in
-    let a = lists_fit c.args.inside.now h.apart h.listed_inside in
-    omega (arith, a, size_below c.args.inside.now, c.requires.inside_length, c.len-n.ensures)
+    omega (arith, lists_fit c.args.inside.now h.apart h.listed_inside, size_below c.args.inside.now, c.requires.inside_length, c.len-n.ensures)
 
 pub returns-then-gone-self-clause-none : goal.returns-then-gone-self-clause-none
 returns-then-gone-self-clause-none c _ v =
@@ -92,16 +90,14 @@ placed c =
 
 pub returns-clause-running : goal.returns-clause-running
 returns-clause-running c =
-    let x = c.args.self.now in
-    let g = c.args.game.now in
-    let stops : c.push.new.self.items ≡ x.stops.items ++ stop c ∷ [] = c.in_ok-push.ensures.items in
+    let stops : c.push.new.self.items ≡ c.args.self.now.stops.items ++ stop c ∷ [] = c.in_ok-push.ensures.items in
     record {
       inside_length = c.requires.inside_length;
       whole = c.requires.whole;
       sizes = c.in_ok-begin.ensures.sizes;
       subgame = left_subgame (begun c);
       order = record {
-        right = subst (All (IsRanked g)) (sym (ranked_is c)) c.requires.order.right;
+        right = subst (All (IsRanked c.args.game.now)) (sym (ranked_is c)) c.requires.order.right;
         rising = subst (IsNonDecreasingBy (λ (r : Ranked). r.priority)) (sym (ranked_is c)) c.requires.order.rising;
         upto = subst (λ xs. c.begin.new.order.upto ≤ length xs) (sym (ranked_is c))
             (omega (arith, c.in_ok-begin.ensures.upto, c.in-Some.ensures.upto, c.requires.order.upto));

@@ -8,12 +8,11 @@ pub attract_from-requires-clause-done : goal.attract_from-requires-clause-done
 attract_from-requires-clause-done c =
     let h = c.in_ok-retake_all.ensures in
     let U = union (active_of c.args.self.now) (listed c.args.list.now.items) in
-    let list = c.retake_all.new.list.items in
     let from_is : c.len-from.result ≡ length c.args.list.now.items = (
     let a : c.len-from.result ≡ vec_len c.args.list.now = c.len-from.ensures in omega (arith, a, c.args.list.now.ok)) in
     no_further (done_equal (λ v. sym (grown_union h.grown v))
     (subst (λ xs. AttractsNoActive c.args.game.now c.args.player U (listed xs) (active_of c.retake_all.new.self))
-    (sym (ap (λ n. take n list) from_is ∙ prefix_taken h.grown))
+    (sym (ap (λ n. take n c.retake_all.new.list.items) from_is ∙ prefix_taken h.grown))
     (tested_done c.args.vertices.now h.grown c.requires.ready.apart c.requires.rest h.tested)))
 
 pub returns-clause-done : goal.returns-clause-done

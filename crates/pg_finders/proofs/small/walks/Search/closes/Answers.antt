@@ -1,6 +1,6 @@
-use Rattle.pg_finders.proofs.Common.{◌≡◌, sym, ◌∙◌, arith, below_more, rules, Some, eqb-true, get_or_default, owner_of, choice_in, vertex_in}
+use Rattle.pg_finders.proofs.Common.{◌≡◌, sym, ◌∙◌, arith, below_more, rules, Some, eqb-true, get_or_default, owner_of, choice_in, vertex_in, is_same}
 use Rattle.pg_finders.proofs.Apart.{choice_of_place}
-use Rattle.pg_finders.proofs.small.Walked.{leads_some, leads_none, leads_other}
+use Rattle.pg_finders.proofs.small.Walked.{leads_some, leads_other}
 use Rattle.pg_finders.proofs.small.walks.Search.closes.Goals as goal
 
 pub returns-in-Some : goal.returns-in-Some
@@ -19,7 +19,7 @@ returns-in-Some c =
     }
 
 pub returns-in-None : goal.returns-in-None
-returns-in-None c = search (rules, choice_of_place, c.requires.rows.different, c.requires.at, c.choice.ensures, c.in-None.is, leads_none)
+returns-in-None c = search (rules, choice_of_place, c.requires.rows.different, c.requires.at, c.choice.ensures, c.in-None.is, is_same)
 
 pub loop-w-preserved : goal.loop-w-preserved
 loop-w-preserved c = below_more _ _ c.loop-w.invariant (λ to l. c.stands_before-in-loop-w.ensures.none c.if-stands_before.false to (omega (arith, l)))

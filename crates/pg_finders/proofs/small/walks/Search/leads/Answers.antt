@@ -1,6 +1,6 @@
-use Rattle.pg_finders.proofs.Common.{◌≡◌, sym, ◌∙◌, rules, arith, common_steps, Some, owner_of, choice_in, vertex_in}
+use Rattle.pg_finders.proofs.Common.{◌≡◌, sym, ◌∙◌, rules, arith, common_steps, Some, owner_of, choice_in, vertex_in, is_same}
 use Rattle.pg_finders.proofs.Apart.{choice_of_place}
-use Rattle.pg_finders.proofs.small.Walked.{leads_some, leads_none}
+use Rattle.pg_finders.proofs.small.Walked.{leads_some}
 use Rattle.pg_finders.proofs.small.walks.Search.leads.Goals as goal
 
 pub returns-in-Some : goal.returns-in-Some
@@ -15,4 +15,4 @@ returns-in-Some c =
     rw c.vertex-w.ensures (leads_some g p (choice_in rows) v c.in-Some.x (vertex_in rows c.args.to) o h)
 
 pub returns-in-None : goal.returns-in-None
-returns-in-None c = grind (arith, common_steps, choice_of_place, c.requires.rows.different, c.requires.from, c.choice.ensures, c.in-None.is, leads_none)
+returns-in-None c = grind (arith, common_steps, choice_of_place, c.requires.rows.different, c.requires.from, c.choice.ensures, c.in-None.is, is_same)

@@ -1,6 +1,8 @@
-use Rattle.pg_finders.proofs.Common.{sym, ◌∙◌, subst, length-set, get_or-set_other, rules, IsNone, priority_of, Walk, vertex_in, Under}
-use Rattle.pg_finders.proofs.small.Walked.{reached_way, ways_push, no_way_back, left_less}
+use Rattle.pg_finders.proofs.Common.{sym, ◌∙◌, subst, length-set, get_or-set_other, rules, IsNone, priority_of, Walk, vertex_in, Under, cases_eq}
+use Rattle.pg_finders.proofs.Common.{get_or-set_same}
+use Rattle.pg_finders.proofs.small.Walked.{reached_way, ways_push, no_way_back}
 use Rattle.pg_finders.proofs.small.walks.Search.walks_back.Goals as goal
+use Rattle.pg_finders.proofs.Sizes.{size_less}
 
 pub returns-then-to-start-clause-back : goal.returns-then-to-start-clause-back
 returns-then-to-start-clause-back c = λ _.
@@ -15,7 +17,7 @@ returns-then-to-start-clause-back c = λ _.
     )
 
 pub rows-smaller : goal.rows-smaller
-rows-smaller c = search (rules, left_less, c.requires.done, c.requires.rows.few, c.rows.invariant.size)
+rows-smaller c = search (rules, size_less, length-set, get_or-set_same, cases_eq, get_or-set_other, c.requires.done, c.requires.rows.few, c.rows.invariant.size)
 
 pub rows-preserved : goal.rows-preserved
 rows-preserved c =

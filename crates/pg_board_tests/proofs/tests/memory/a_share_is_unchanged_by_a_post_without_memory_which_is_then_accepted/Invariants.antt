@@ -1,5 +1,0 @@
-use Rattle.pg_board_tests.proofs.tests.memory.a_share_is_unchanged_by_a_post_without_memory_which_is_then_accepted.Given as goal
-
--- the ledger of the blank that was just made
-abbrev pub ghosts-accepted_by_office : goal.ghosts-accepted_by_office
-ghosts-accepted_by_office g a = record { name = a.blank.name; parts = a.blank.parts }

@@ -1,0 +1,1 @@
+paritysol 7;
