@@ -5,8 +5,8 @@
 
 The program's help is the source. The man page and docs/CLI.md have the same commands, flags and statuses, and README.md the
 same commands and statuses, and no flag that isn't there. A status has the same words everywhere, markup apart. Each
-synopsis, also that of crates/pgboard/README.md, has a line for each command with all its flags and files. -h says what
---help says, but for the examples. The version that the program prints is the newest of CHANGELOG.md. The last line is
+synopsis, also that of crates/pgboard_program/README.md, has a line for each command with all its flags and files. -h says
+what --help says, but for the examples. The version that the program prints is the newest of CHANGELOG.md. The last line is
 'N passed, M failed'.
 """
 
@@ -20,7 +20,7 @@ import pages
 import harness
 
 PAGES = {"README.md", "docs/CLI.md", "docs/pgboard.1"}
-SYNOPSES = sorted(PAGES | {"crates/pgboard/README.md"})
+SYNOPSES = sorted(PAGES | {"crates/pgboard_program/README.md"})
 STATUS = r"(?m)^ *([0-9]) {2,}(\S.*?) *$"
 FLAG = r"(?<![\w-])--[a-z][a-z-]*"
 

@@ -13,7 +13,7 @@ import sys
 import harness
 
 ROOT = harness.ROOT
-CRATES = ["pg_game", "pg_text", "pg_dominion", "pg_finders", "pg_board", "pg_workers", "pgboard", "pgboard_c"]
+CRATES = ["pg_game", "pg_text", "pg_dominion", "pg_finders", "pg_board", "pg_workers", "pgboard", "pgboard_program", "pgboard_c"]
 
 
 def code_of(crate):

@@ -4,7 +4,7 @@
 In a table the second column has files of specs and names that they declare; the third files of src, calls of that file
 (`Board::post` is `post` of an implementation of Board) and clauses of the call before; a call with no clause there has
 one without a name. The fourth has edits, each of a crate that the row names. A public call is one that its crate's lib.rt
-hands on, one of PROGRAM, or one that C calls. Rows that are damaged on purpose have to be refused. The last line is 'N passed, M failed'.
+hands on, or one that C calls. Rows that are damaged on purpose have to be refused. The last line is 'N passed, M failed'.
 """
 
 import functools
@@ -22,8 +22,6 @@ LAW = "a statement without a body"
 EXPORT = 'pub extern "C" '
 # what it hands on is for tests alone
 SUPPORT = "pg_test_support"
-# the program hands nothing on: these files have its runs, and what they stand on
-PROGRAM = [f"pgboard/src/{it}.rt" for it in ("answer", "device", "fault", "reading", "run", "solve", "verdict", "words", "writing")]
 
 
 @functools.lru_cache(maxsize=None)
@@ -172,7 +170,7 @@ def public_calls():
         for path in sorted(glob.glob(os.path.join(CRATES, crate, "src", "**", "*.rt"), recursive=True)):
             path = os.path.relpath(path, CRATES)
             for call, (is_public, contract) in calls(path).items():
-                is_handed_on = call.split("::")[0] in names or path in open_files or path in PROGRAM or is_export(path, call)
+                is_handed_on = call.split("::")[0] in names or path in open_files or is_export(path, call)
                 # the rest of a trait's implementation has the trait's contract
                 if is_public and is_handed_on and "ensures" in contract:
                     yield path, call

@@ -6,7 +6,7 @@
 The page has the headline of README.md; under each of its parts the clauses that docs/PROVED.md names for it, as they stand
 in src; then the definitions that these clauses reach, copied from specs, each file after those that it cites; the types of
 the code that are named there; and by name the definitions that the other public contracts reach. A public contract is a
-clause of a call that a crate hands on or that C calls, of a run of the program or of a trait, or how contracts see a type.
+clause of a call that a crate hands on or that C calls, or of a trait, or how contracts see a type.
 
 What no public contract reaches stands in specs/private/, and nothing else does. `--write` makes the page. The last line is
 'N passed, M failed', by parts and definitions.
@@ -128,7 +128,7 @@ def handed_on_files():
         for path in sorted(glob.glob(os.path.join(ROOT, "crates", crate, "src", "**", "*.rt"), recursive=True)):
             path = os.path.relpath(path, os.path.join(ROOT, "crates"))
             if "/tests" not in path:
-                yield path, None if path in open_files or path in proved_names.PROGRAM else names
+                yield path, None if path in open_files else names
 
 
 def public_clauses():

@@ -3,8 +3,8 @@ use Rattle.std.specs.Prelude.{ℕ, ◌≡◌, List, [], Option, Some, None, IfSo
 use Rattle.std.specs.Io.KnownBytes.{Appends}
 use Rattle.pg_game.specs.Graph.{Graph}
 use Rattle.pg_text.specs.Written.{written_game}
-use Rattle.pgboard.specs.declared.asked.Asked.{Asked}
-use Rattle.pgboard.specs.declared.asked.Asked.TheVariants.{Joined, Verify, Tidy, Solve, Trace, Help}
+use Rattle.pgboard.specs.declared.asking.Asked.{Asked}
+use Rattle.pgboard.specs.declared.asking.Asked.TheVariants.{Joined, Verify, Tidy, Solve, Trace, Help}
 use Rattle.pgboard.specs.declared.verdict.Verdict.{Verdict}
 use Rattle.pgboard.specs.Joined.{game_part, solution_part, verdict_line, IsJudged}
 use Rattle.pgboard.specs.Run.{IsReadGame}

@@ -3,4 +3,3 @@ pub mod Run
 pub mod Known
 pub mod Refused
 pub mod Trace
-pub mod Asking

@@ -5,7 +5,7 @@ ghost use Rattle.pgboard.specs.Answer.{IsProgramAnswer, known_text};
 ghost use Rattle.pgboard.specs.Asking.{IsInRange, second_path_of};
 ghost use Rattle.pgboard.specs.Solving.{IsSolveOutput};
 
-use crate::asked::Asked;
+use crate::asking::Asked;
 use crate::device::{Sink, Source, Std};
 use crate::fault::RunFault;
 use crate::run::{run_joined, run_tidy, run_verify};

@@ -65,6 +65,21 @@ impl<T> Std<T> {
         }
     }
 
+    /// How many failures were counted.
+    pub fn failures(&self) -> u64
+        ensures { result ≡ self.now.failures }
+    {
+        let Std { failures, .. } = self;
+        *failures
+    }
+
+    /// The reader or the writer.
+    pub fn into_inner(self) -> T
+        ensures { result ≡ self.inner }
+    {
+        self.inner
+    }
+
     /// The same, of which so many bytes are expected.
     pub fn expecting(self, bytes: u64) -> Std<T>
         ensures inner { result.inner ≡ self.inner }
@@ -112,8 +127,3 @@ impl<W: Write> Sink for Std<W> {
         }
     }
 }
-
-#[cfg(test)]
-mod tests;
-#[cfg(test)]
-mod told;

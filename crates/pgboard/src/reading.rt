@@ -109,6 +109,3 @@ pub fn read_text<S: Source>(alloc: Global, source: &mut S) -> Result<Vec<u8>, Ru
     }
     read_into(source, buffer)
 }
-
-#[cfg(test)]
-mod tests;

@@ -3,7 +3,7 @@ ghost use Rattle.std.specs.Prelude.{◌≡◌, ◌≢◌, [], Ok, Err, IfOk};
 ghost use Rattle.clap.specs.Values.{kind_of};
 ghost use Rattle.pgboard.specs.Asking.{IsInRange};
 
-use crate::asked::Asked;
+use crate::asking::Asked;
 use crate::command::command;
 use crate::fault::AskedFault;
 use clap::Error;

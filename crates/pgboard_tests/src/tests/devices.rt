@@ -1,7 +1,7 @@
 //! A source and a sink over memory, which give and take little at a time, and fail where a test wants it.
 ghost use Rattle.std.specs.Prelude.{None};
 
-use crate::device::{Failed, Sink, Source};
+use pgboard::{Failed, Sink, Source};
 use std::alloc::Global;
 
 /// Gives its bytes in pieces, and fails at every read after the good ones.

@@ -1,5 +1,5 @@
-//! The program `pgboard`: it reads the command line, opens the files, runs what was asked for, and ends with the
-//! status of the outcome. Results go to standard output, and one fault line to standard error.
+//! The program `pgboard`: it reads the command line, opens the files, has the library `pgboard` run what was asked for, and
+//! ends with the status of the outcome. Results go to standard output, and one fault line to standard error.
 #![tactic(auto)]
 
 ghost use Rattle.std.specs.Prelude.{◌≡◌, IfOk, IfErr, codes};
@@ -7,32 +7,12 @@ ghost use Rattle.std.specs.IoError.{error_kind};
 ghost use Rattle.pgboard.specs.Asking.{IsInRange, Says};
 ghost use Rattle.pgboard.specs.Status.{asked_status_of};
 
-mod answer;
-mod asked;
-mod command;
-mod device;
-mod fault;
 mod input;
-mod judge;
-mod known;
-mod reading;
-mod run;
-mod solve;
-#[cfg(test)]
-mod tests;
-mod texts;
-mod trace;
-mod verdict;
-mod words;
-mod writing;
 
-use answer::run_asked;
-use asked::Asked;
-use device::Std;
-use fault::{AskedFault, RunFault};
 use input::Input;
 use pg_finders::Adaptive;
 use pg_workers::Pass;
+use pgboard::{Asked, AskedFault, RunFault, Std, asked, run_asked};
 use std::alloc::Global;
 use std::env;
 use std::fs::File;
@@ -65,7 +45,7 @@ fn asked_by(rt: &HostRuntime) -> Result<Asked, AskedFault>
     ensures { IfOk result IsInRange }
 {
     let words = owned_words(rt)?;
-    words::asked(rt.alloc(), words.as_slice())
+    asked(rt.alloc(), words.as_slice())
 }
 
 /// The file of this path, or where none was given the other input.

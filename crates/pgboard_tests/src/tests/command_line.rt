@@ -1,6 +1,5 @@
 //! What lines of words ask for that are taken. Refused ones and help are cases of the built program.
-use crate::asked::Asked;
-use crate::words::asked;
+use pgboard::{Asked, asked};
 use std::alloc::Global;
 use std::process::Abort;
 

@@ -2,11 +2,9 @@
 //! runs promise.
 
 use super::devices::{Bounded, Pieces};
-use crate::answer::run_asked;
-use crate::fault::RunFault;
-use crate::words::asked;
 use pg_finders::Finder;
 use pg_workers::Gate;
+use pgboard::{RunFault, asked, run_asked};
 use std::alloc::{AllocError, Global};
 use std::sync::Wait;
 use std::thread::Threads;

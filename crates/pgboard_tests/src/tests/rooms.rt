@@ -1,10 +1,7 @@
 //! A text is read whole, whatever its source expected.
 ghost use Rattle.std.specs.Prelude.{None};
 
-use super::read_text;
-use crate::device::{Failed, Source};
-use crate::fault::RunFault;
-use crate::tests::{check, check_eq};
+use pgboard::{Failed, RunFault, Source, read_text};
 use std::alloc::Global;
 use std::process::Abort;
 

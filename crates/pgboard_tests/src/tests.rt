@@ -1,5 +1,5 @@
-//! Runs over sources and sinks in memory that fail, with finders that are wrong and gates that hold a worker, and what
-//! the lines of words ask for. What the built program shows as well stands in `tests/cli` at the top.
+//! Runs over sources and sinks in memory, also such as fail, with finders that are wrong and gates that hold a worker, and
+//! what the lines of words ask for. What the built program shows as well stands in `tests/cli` at the top.
 
 // As `assert_eq!` and `assert!`.
 macro_rules! check_eq {
@@ -20,15 +20,14 @@ macro_rules! check {
     };
 }
 
-// for the tests of other modules
-pub(crate) use check;
-pub(crate) use check_eq;
-
-pub(crate) mod asserting;
+mod asserting;
 mod broken;
 mod calls;
 mod claimed;
 mod command_line;
+mod counted;
 mod devices;
 mod finders;
 mod held;
+mod rooms;
+mod told;

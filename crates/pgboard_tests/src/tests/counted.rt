@@ -1,14 +1,17 @@
 //! `Std` counts the failures of its reader or writer, and no other.
-use super::{Failed, Sink, Source, Std};
-use crate::tests::check_eq;
-use std::io::{Error, ErrorKind, Read, Result, Write};
+ghost use Rattle.std.specs.Prelude.{◌≡◌};
+ghost use Rattle.pgboard.specs.Device.{last_count};
+
+use pgboard::{Failed, Sink, Source, Std};
+use std::io;
+use std::io::{Error, ErrorKind, Read, Write};
 
 /// Answers its count of good calls, and then fails.
 #[derive(Drop)]
 struct Good(u8);
 
 impl Read for Good {
-    fn read(&mut self, _buf: &mut [u8]) -> Result<usize> {
+    fn read(&mut self, _buf: &mut [u8]) -> io::Result<usize> {
         if self.0 == 0 {
             return Err(Error::from(ErrorKind::Interrupted));
         }
@@ -18,7 +21,7 @@ impl Read for Good {
 }
 
 impl Write for Good {
-    fn write(&mut self, buf: &[u8]) -> Result<usize> {
+    fn write(&mut self, buf: &[u8]) -> io::Result<usize> {
         if self.0 == 0 {
             return Err(Error::from(ErrorKind::Interrupted));
         }
@@ -26,23 +29,26 @@ impl Write for Good {
         Ok(buf.len() / 2)
     }
 
-    fn flush(&mut self) -> Result<()> {
+    fn flush(&mut self) -> io::Result<()> {
         Ok(())
     }
+}
+
+/// A read, and how many failures are counted then: where there were as many as can be counted, as many still.
+fn counted_read<R: Read>(source: &mut Std<R>) -> (Result<usize, Failed>, u64)
+    ensures last { source.old.failures ≡ last_count → result.1 ≡ last_count }
+{
+    let mut buffer = [0u8; 4];
+    let read = source.read(&mut buffer);
+    (read, source.failures())
 }
 
 #[test]
 fn each_failed_read_is_counted_and_what_is_expected_is_told(rt: HostRuntime) {
     let mut source = Std::new(Good(1));
-    let mut buffer = [0u8; 4];
-    let first = (source.read(&mut buffer), source.failures);
-    check_eq!(rt; first, (Ok(0), 0));
-    let then = [source.read(&mut buffer), source.read(&mut buffer)];
-    check_eq!(rt; then, [Err(Failed), Err(Failed)]);
-    check_eq!(rt; source.failures, 2);
-    source.failures = u64::MAX;
-    let last = (source.read(&mut buffer), source.failures);
-    check_eq!(rt; last, (Err(Failed), u64::MAX));
+    check_eq!(rt; counted_read(&mut source), (Ok(0), 0));
+    check_eq!(rt; counted_read(&mut source), (Err(Failed), 1));
+    check_eq!(rt; counted_read(&mut source), (Err(Failed), 2));
     let expected = (source.expected(), source.expecting(7).expected());
     check_eq!(rt; expected, (0, 7));
 }
@@ -52,8 +58,8 @@ fn a_write_that_takes_nothing_fails(rt: HostRuntime) {
     let mut sink = Std::new(Good(3));
     let good = [sink.write(b"four"), sink.write(b"")];
     check_eq!(rt; good, [Ok(2), Ok(0)]);
-    check_eq!(rt; sink.failures, 0);
+    check_eq!(rt; sink.failures(), 0);
     let failed = [sink.write(b"1"), sink.write(b"four")];
     check_eq!(rt; failed, [Err(Failed), Err(Failed)]);
-    check_eq!(rt; sink.failures, 2);
+    check_eq!(rt; sink.failures(), 2);
 }

@@ -1,8 +1,7 @@
 //! What a command line may ask for.
 ghost use Rattle.std.specs.Prelude.{◌≡◌, ◌≢◌, ◌≤◌, Some, IfOk, is_some, option_map, string_bytes};
 ghost use Rattle.clap.specs.Matches.{found_of, first_value, matched_of};
-ghost use Rattle.pgboard.specs.Asking.{IsInRange, second_path_of};
-ghost use Rattle.pgboard.specs.private.Asking.{path_of};
+ghost use Rattle.pgboard.specs.Asking.{IsInRange, path_of, second_path_of};
 
 use crate::fault::AskedFault;
 use clap::ArgMatches;
@@ -43,7 +42,7 @@ pub enum Asked {
 
 impl Asked {
     /// What the words ask for that the command-line reader took. Without a command they are refused.
-    pub fn from_matches(alloc: Global, matches: &ArgMatches<'_>) -> Result<Asked, AskedFault>
+    pub(crate) fn from_matches(alloc: Global, matches: &ArgMatches<'_>) -> Result<Asked, AskedFault>
         ensures range { IfOk result IsInRange }
         ensures command { IfOk result (λ asked. asked ≢ Asked.Joined) }
     {

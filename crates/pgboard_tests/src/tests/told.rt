@@ -9,14 +9,9 @@ ghost use Rattle.pg_workers.specs.Known.{IsKnownRegion};
 ghost use Rattle.pgboard.specs.Joined.{IsJudged, verdict_line};
 ghost use Rattle.pgboard.specs.Solving.{IsSolveText};
 
-use super::Std;
-use crate::fault::RunFault;
-use crate::run::run_verify;
-use crate::solve::{SolveOptions, run_solve};
-use crate::tests::check_eq;
-use crate::verdict::Verdict;
 use pg_finders::Standard;
 use pg_workers::Pass;
+use pgboard::{RunFault, SolveOptions, Std, Verdict, run_solve, run_verify};
 use std::alloc::Global;
 use std::sync::Wait;
 use std::thread::Threads;
@@ -34,7 +29,7 @@ fn verdict_on(alloc: Global, game: &[u8], solution: &[u8]) -> Result<(Verdict, V
         &mut Std::new(solution),
         &mut out,
     )?;
-    Ok((verdict, out.inner))
+    Ok((verdict, out.into_inner()))
 }
 
 /// The winners of the game that a text spells.
@@ -58,7 +53,7 @@ fn winners_of<R: Threads + Wait + Sync>(
     run_solve(
         rt, alloc, &mut input, known, &mut out, &options, &Pass, &Standard,
     )?;
-    Ok(out.inner)
+    Ok(out.into_inner())
 }
 
 /// A solution of the game that a text spells, found from what another text says that is known of it.
@@ -90,7 +85,7 @@ fn solution_from<R: Threads + Wait + Sync>(
         &Pass,
         &Standard,
     )?;
-    Ok(out.inner)
+    Ok(out.into_inner())
 }
 
 #[test]
