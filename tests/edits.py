@@ -13,8 +13,14 @@ import shutil
 
 from functions import functions_of, read
 
-# a proof that is left open, in the place of a function's own
-OPEN = "use Rattle.{library}.proofs.{path}.Statement.{{statement}}\n\npub {name}_spec : {{M : Type 1}} → statement M\n{name}_spec = ?\n"
+# a proof that is left open, in the place of a function's own; its hole stands in a module of its own, `LeftOpen`, since the prover
+# prints the goal of each hole, which takes long for a function's statement
+OPEN = (
+    "use Rattle.{library}.proofs.LeftOpen.{{left_open}}\n"
+    "use Rattle.{library}.proofs.{path}.Statement.{{statement}}\n\n"
+    "pub {name}_spec : {{M : Type 1}} → statement M\n{name}_spec = left_open\n"
+)
+HOLE = "pub left_open {ℓ} : {A : Type ℓ} → A\nleft_open = ?\n"
 
 
 class BadEdit(Exception):
@@ -140,6 +146,16 @@ class Round:
     def leave_open(self, room, kept, changes):
         """Leaves the proof of each function open, and its body out, but for those that are kept, and those that call
         themselves: a caller rests on the contract of what it calls."""
+        os.makedirs(f"{room}/proofs", exist_ok=True)
+        write(f"{room}/proofs/LeftOpen.antt", HOLE)
+        root = f"{room}/proofs/Lib.antt"
+        write(root, (read(root) if os.path.isfile(root) else "") + "pub mod LeftOpen\n")
+        for path in kept:
+            # (the prover offers such a file where there is none, and works once more for it)
+            at = f"{room}/proofs/{path.replace('::', '/')}"
+            if not glob.glob(f"{at}/*.antt"):
+                os.makedirs(at, exist_ok=True)
+                write(f"{at}/Answers.antt", "")
         for path, it in functions_of(self.crate.folder).items():
             if path in kept or calls_itself(self.crate.folder, path):
                 continue

@@ -147,18 +147,26 @@ def refused_functions(crate, said):
     """The paths of the functions that a check refused for themselves.
 
     Where the proof of what it calls is only open, a function that is well depends on a hole, and is not refused. Nor is one
-    that calls what is not proved, unless answers of its own are refused, nor one whose text the prover doesn't cover.
+    that calls what is not proved, unless a goal of its own is open or answers of its own are refused, nor one whose text the
+    prover doesn't cover.
     """
-    lines = re.findall(r"(?m)^fn \w+::(\S+): (?:no proof|not proved)(.*)", said)
-    refused, unproved = set(), {path for path, _ in lines}
-    for path, why in lines:
+    lines, has_goal = [], False
+    for line in said.splitlines():
+        # (the open goals of a function stand before it)
+        has_goal = has_goal or bool(re.match(r"note: \S+:\d+:\d+: it is not proved that ", line))
+        found = re.match(r"fn \w+::(\S+): (no proof|not proved)?(.*)", line)
+        if found and found[2]:
+            lines.append((found[1], found[3], has_goal))
+        has_goal = has_goal and not found
+    refused, unproved = set(), {path for path, *_ in lines}
+    for path, why, is_open in lines:
         # a closure stands below its function
         own = re.sub(r"(?:^|(?<=::))fn::", "", path)
         # what a caller stands on may be answers of what it calls
         standing = re.findall(rf"`Rattle\.{crate.name}\.proofs\.(\S+)`", why)
         # (what is below a closure has `fn.` in its path, and what calls itself a `+`)
         answers = [it.replace("fn.", "").replace("+", "") for it in standing]
-        is_own = any(it.startswith(f"{own.replace('::', '.')}.") for it in answers) or "expected answers" in why
+        is_own = is_open or any(it.startswith(f"{own.replace('::', '.')}.") for it in answers) or "expected answers" in why
         # functions, and blocks of them
         named = re.findall(r"`\w+::(\S+?)`", why)
         leans = any(is_refused([it], unproved - {path}) for it in named)
