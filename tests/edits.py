@@ -150,12 +150,6 @@ class Round:
         write(f"{room}/proofs/LeftOpen.antt", HOLE)
         root = f"{room}/proofs/Lib.antt"
         write(root, (read(root) if os.path.isfile(root) else "") + "pub mod LeftOpen\n")
-        for path in kept:
-            # (the prover offers such a file where there is none, and works once more for it)
-            at = f"{room}/proofs/{path.replace('::', '/')}"
-            if not glob.glob(f"{at}/*.antt"):
-                os.makedirs(at, exist_ok=True)
-                write(f"{at}/Answers.antt", "")
         for path, it in functions_of(self.crate.folder).items():
             if path in kept or calls_itself(self.crate.folder, path):
                 continue
