@@ -1,7 +1,5 @@
-//! Tests of what no clause says: that the calls answer with memory at hand, on worked games and on hostile ones; that
-//! a search goes on until its budget is used; what `Standard` gives for a job. The winners of the smallest games are
-//! compared with those of all strategies, and what small searches find with all sets of vertices with all choices,
-//! which checks the definitions that the clauses stand on.
+//! Tests of `pg_game`, `pg_text`, `pg_dominion` and `pg_finders`. They stand in one crate, since what a check takes before its
+//! first proof is a fifth of what the tests of one library take.
 
 // As `assert_eq!` and `assert!`; what stands last says where, as a value.
 macro_rules! check_eq {
@@ -22,14 +20,8 @@ macro_rules! check {
     };
 }
 
-mod adaptive;
 mod asserting;
-mod claims;
-mod dominions;
+mod dominion;
 mod finders;
-mod games;
-mod memory;
-mod readme;
-mod reference;
-mod searches;
-mod standard;
+mod game;
+mod text;

@@ -1,0 +1,68 @@
+//! The code of README.md, which `tests/readme_code.py` of the repository looks for here.
+
+ghost use Rattle.std.specs.Prelude.{All};
+ghost use Rattle.pg_game.specs.Specification.{AreNumbers};
+
+use crate::tests::game::{EVEN, IN_ORDER, ODD, Told, look, specs_of};
+use pg_game::{Game, GameFault, OpenSpecs, Player, Spec, Specs};
+use std::alloc::Global;
+use std::test::Fail;
+
+/// How many vertices are their own successors.
+fn own_successors(alloc: Global, specs: Vec<Spec>) -> Result<u32, Fail>
+    requires { All AreNumbers specs.items }
+{
+    let game = Game::from_specs(alloc, specs)?;
+    let mut loops = 0u32;
+    for v in 0..game.len() {
+        for w in game.successors(v) {
+            if *w == v {
+                loops = loops.saturating_add(1);
+            }
+        }
+    }
+    Ok(loops)
+}
+
+#[test]
+fn the_edges_of_a_game_are_gone_through(rt: HostRuntime) -> Result<(), Fail> {
+    let specs = specs_of(rt.alloc(), IN_ORDER)?;
+    check_eq!(rt; own_successors(rt.alloc(), specs)?, 2);
+    Ok(())
+}
+
+/// The vertices of `IN_ORDER`.
+const TOLD_IN_ORDER: &[Told] = &[((0, 2, EVEN, &[0, 1]), &[0]), ((1, 1, ODD, &[1]), &[0, 1])];
+
+/// The game of `IN_ORDER`.
+fn pushed(alloc: Global) -> Result<Game, GameFault> {
+    let mut specs = Specs::with_capacity(alloc, 2, 3)?;
+    specs.push(0, 2, Player::Even, [0, 1].as_slice())?;
+    specs.push(1, 1, Player::Odd, [1].as_slice())?;
+    let game = Game::from_rows(alloc, specs)?;
+    Ok(game)
+}
+
+#[test]
+fn specifications_are_pushed_with_their_successors(rt: HostRuntime) -> Result<(), Fail> {
+    let game = pushed(rt.alloc())?;
+    look(&rt, &game, TOLD_IN_ORDER)
+}
+
+/// The same game.
+fn pushed_one_by_one(alloc: Global) -> Result<Game, GameFault> {
+    let mut specs = OpenSpecs::new(alloc)?;
+    specs.push(0)?;
+    specs.push(1)?;
+    specs.close(0, 2, Player::Even)?;
+    specs.push(1)?;
+    specs.close(1, 1, Player::Odd)?;
+    let game = Game::from_rows(alloc, specs.finish())?;
+    Ok(game)
+}
+
+#[test]
+fn successors_are_pushed_one_by_one(rt: HostRuntime) -> Result<(), Fail> {
+    let game = pushed_one_by_one(rt.alloc())?;
+    look(&rt, &game, TOLD_IN_ORDER)
+}

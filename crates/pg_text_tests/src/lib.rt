@@ -1,5 +1,0 @@
-//! The tests of `pg_text`, which calls it as any other crate does.
-#![tactic(auto)]
-
-#[cfg(test)]
-mod tests;
