@@ -1,5 +1,5 @@
-//! Runs with threads: what workers are given and what they note, tickets, and winners that are the same whatever a finder
-//! claims. Runs under random schedules and in every order are replayed by a checker of the tests' own.
+//! Tests of `pg_board` and `pg_workers`. They stand in one crate, since what a check takes before its first proof is a fifth of
+//! what the tests of one library take.
 
 // As `assert_eq!` and `assert!`; what stands last says where, as a value.
 macro_rules! check_eq {
@@ -20,23 +20,6 @@ macro_rules! check {
     };
 }
 
-mod answers;
 mod asserting;
-mod draws;
-mod finders;
-mod games;
-mod gates;
-mod hostile;
-mod known;
-mod largest;
-mod memory;
-mod numbers;
-mod orders;
-mod phases;
-mod random;
-mod readme;
-mod reference;
-mod replay;
-mod reports;
-mod runs;
-mod schedules;
+mod board;
+mod workers;

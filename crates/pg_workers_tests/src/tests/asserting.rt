@@ -21,3 +21,11 @@ pub fn holds<D: Debug + Copy>(rt: &impl Abort, is_so: bool, at: D) {
         panic!(*rt; "{at:?}");
     }
 }
+
+/// What a call gives that is not to be refused, or the test's end: a way out by `?` costs each caller more.
+pub fn made<T, E: Debug + Drop>(rt: &impl Abort, answer: Result<T, E>) -> T {
+    match answer {
+        Ok(value) => value,
+        Err(error) => panic!(*rt; "refused: {error:?}"),
+    }
+}

@@ -1,0 +1,109 @@
+//! Where memory is refused, nothing has changed, and the same call with memory is accepted.
+//!
+//! With ample memory these tests pass without meeting a refusal. `tests/refused_calls.py` of the repository runs each of
+//! them with one allocation after another refused. A run makes what it needs itself once more, but for an office: where
+//! that is refused, the run says so.
+
+ghost use Rattle.std.specs.Prelude.{◌≡◌};
+
+use crate::tests::board::boards::{Case, EVENS, FULL, HALF, NEW, ODDS, Put, compare_board, compare_copy};
+use crate::tests::board::calls::Call;
+use crate::tests::board::games::{SHARED, claim_of, game_made, new_board};
+use crate::tests::board::offices::{RUNS, run_through};
+use pg_board::{Board, Office, Refusal, Share};
+use pg_game::Game;
+use pg_test_support::lacking;
+use std::alloc::Global;
+use std::marker::Brand;
+use std::process::Abort;
+use std::sync::Wait;
+use std::sync::ledger::{Blank, Ledger};
+use std::test::Fail;
+
+/// A claim that is accepted. Where memory is refused, the board tells what it told before, and the claim is put again.
+fn accepted(
+    rt: &impl Abort,
+    alloc: Global,
+    call: Call,
+    board: &mut Board,
+    put: &Put,
+    before: &Case,
+) {
+    let claim = claim_of(rt, alloc, put.0, put.1);
+    let mut found = call.put(alloc, board, &claim);
+    if found == Err(Refusal::Memory) {
+        compare_board(rt, alloc, board, before);
+        found = call.put(alloc, board, &claim);
+    }
+    check_eq!(*rt; found, put.2);
+}
+
+/// Opens a board of the shared game, reads it, settles both loops, and reads it again.
+fn fill_board(rt: &impl Abort, alloc: Global, call: Call, game: &Game) {
+    let mut board = new_board(rt, alloc, game);
+    compare_board(rt, alloc, &board, NEW);
+    accepted(rt, alloc, call, &mut board, &EVENS, NEW);
+    accepted(rt, alloc, call, &mut board, &ODDS, HALF);
+    compare_board(rt, alloc, &board, FULL);
+}
+
+#[test]
+fn a_board_is_opened_filled_copied_and_read_after_a_refusal(rt: HostRuntime) {
+    let game = game_made(&rt, rt.alloc(), SHARED);
+    fill_board(&rt, rt.alloc(), Call::Post, &game);
+    fill_board(&rt, rt.alloc(), Call::Settle, &game);
+}
+
+#[test]
+fn worked_claims_through_shares_have_their_answers_also_after_a_refusal(
+    rt: HostRuntime,
+) -> Result<(), Fail> {
+    for case in RUNS {
+        let game = game_made(&rt, rt.alloc(), case.game);
+        let seats = case.seats.clamp(1, 64);
+        for call in [Call::Post, Call::Settle] {
+            let blank = Blank::new(u64::from(seats));
+            run_through::<Brand, _>(&rt, rt.alloc(), blank, seats, call, &game, case)?;
+        }
+    }
+    Ok(())
+}
+
+/// Where memory is refused to a copy, the next call makes it; what is shared again takes no memory.
+fn share_twice<L: Ledger, R: Wait + Abort>(
+    rt: &R,
+    alloc: Global,
+    blank: Blank,
+    game: &Game,
+) -> Result<(), Fail>
+    requires name { blank.name ≡ L.name }
+    requires parts { (blank.parts ≡ L.parts) × (blank.parts ≡ 1) }
+{
+    let Ok((office, shares)) = Office::<L>::open(alloc, blank, game, 1) else {
+        return Err(lacking());
+    };
+    compare_shared(rt, alloc, &office, &shares[0]);
+    Ok(())
+}
+
+fn compare_shared<L: Ledger, R: Wait + Abort>(
+    rt: &R,
+    alloc: Global,
+    office: &Office<L>,
+    share: &Share<L>,
+) {
+    if office.shared_copy(rt, alloc, share).is_err() {
+        check!(*rt; office.shared_copy(rt, alloc, share).is_ok());
+    }
+    let again = office.shared_copy(rt, alloc, share);
+    check!(*rt; again.is_ok());
+    if let Ok(copied) = again {
+        compare_copy(rt, &copied, NEW);
+    }
+}
+
+#[test]
+fn a_copy_is_shared_after_a_refusal(rt: HostRuntime) -> Result<(), Fail> {
+    let game = game_made(&rt, rt.alloc(), SHARED);
+    share_twice::<Brand, _>(&rt, rt.alloc(), Blank::new(1), &game)
+}

@@ -1,0 +1,440 @@
+//! Claims through the shares of an office, and copies that it shares: one and the same until something is settled, and then
+//! one that is brought up to date.
+
+ghost use Rattle.std.specs.Prelude.{◌≡◌, ◌≤◌, IfOk, vec_len};
+
+use crate::tests::asserting::made;
+use crate::tests::board::boards::{Case, FULL, HALF, LAYERS, NEW, compare_copy};
+use crate::tests::board::calls::Call;
+use crate::tests::board::games::{
+    DIVIDED, LAYERED, SHARED, claim_of, claim_of_loops, game_made, new_board,
+};
+use pg_board::{Board, Office, Refusal, Share};
+use pg_dominion::{Claim, ClaimFault};
+use pg_finders::Copied;
+use pg_game::{Game, Memory, Player};
+use pg_test_support::{EVEN, ODD, Row, Vertex, lacking, own_loops};
+use std::alloc::Global;
+use std::marker::Brand;
+use std::process::Abort;
+use std::sync::ledger::{Blank, Ledger};
+use std::sync::{Arc, Wait};
+use std::test::Fail;
+
+/// A worker's claim of one row, its answer, the share's amount then, and what a copy of the board then tells.
+type Put<'a> = (u32, Player, Row, Result<u32, Refusal>, u64, &'a Case<'a>);
+
+/// What is asked of an office through the share of a seat.
+enum Step<'a> {
+    /// A claim, by the call that is tried.
+    Put(Put<'a>),
+    /// A claim that was checked on another game, and is settled.
+    Foreign(&'a [Vertex<'a>], Put<'a>),
+    /// Even's claim of all vertices of a game of loops, each of which is settled.
+    Loops,
+    /// The amount.
+    Amount(u64),
+    /// A copy.
+    Copy(&'a Case<'a>),
+    /// A shared copy, which is dropped.
+    Share(&'a Case<'a>),
+    /// A shared copy, which is held from then on.
+    Hold(&'a Case<'a>),
+    /// A shared copy that is held since then, and by how many, the office and others that are held among them.
+    Held(usize, &'a Case<'a>, usize),
+}
+
+/// What the board tells at the closing: how many vertices are settled, whether these are all, and how many of them by the
+/// workers 0, 1 and 2.
+type Closed = (u64, bool, (u64, u64, u64));
+
+/// A game, a claim that is posted by worker 0 before an office opens round the board, what a copy then tells, the number of
+/// seats, what is asked through the share of which seat, and the board at the closing.
+pub struct Run<'a> {
+    pub game: &'a [Vertex<'a>],
+    posted: Option<(Player, Row)>,
+    first: &'a Case<'a>,
+    pub seats: u32,
+    steps: &'a [(usize, Step<'a>)],
+    closed: Closed,
+}
+
+const STALE: Result<u32, Refusal> = Err(Refusal::Stale);
+
+// The answer to a claim with a bad closed walk.
+macro_rules! bad_walk {
+    ($v:expr) => {
+        Err(Refusal::Claim(ClaimFault::Cycle($v)))
+    };
+}
+
+pub const RUNS: &[Run] = &[
+    // a copy has what was settled through the share
+    Run {
+        game: SHARED,
+        posted: None,
+        first: NEW,
+        seats: 2,
+        steps: &[
+            (0, Step::Put((1, EVEN, (0, Some(0)), Ok(2), 2, HALF))),
+            (0, Step::Copy(HALF)),
+            (1, Step::Put((2, ODD, (2, Some(2)), Ok(1), 1, FULL))),
+            (1, Step::Put((2, ODD, (2, Some(2)), STALE, 1, FULL))),
+            (0, Step::Copy(FULL)),
+        ],
+        closed: (3, true, (0, 2, 1)),
+    },
+    // what is settled through all shares adds up: each vertex alone is claimed for each player, through a share of its own
+    Run {
+        game: SHARED,
+        posted: None,
+        first: NEW,
+        seats: 3,
+        steps: &[
+            (0, Step::Put((1, EVEN, (0, Some(0)), Ok(2), 2, HALF))),
+            (0, Step::Put((1, ODD, (0, None), bad_walk!(0), 2, HALF))),
+            (1, Step::Put((1, EVEN, (1, None), STALE, 0, HALF))),
+            (
+                1,
+                Step::Put((1, ODD, (1, Some(0)), Err(Refusal::Lost(1)), 0, HALF)),
+            ),
+            (2, Step::Put((1, EVEN, (2, None), bad_walk!(2), 0, HALF))),
+            (2, Step::Put((1, ODD, (2, Some(2)), Ok(1), 1, FULL))),
+        ],
+        closed: (3, true, (0, 3, 0)),
+    },
+    // a claim that was checked on another game is foreign, and the same claim may be accepted
+    Run {
+        game: LAYERED,
+        posted: None,
+        first: NEW,
+        seats: 1,
+        steps: &[
+            (
+                0,
+                Step::Foreign(
+                    DIVIDED,
+                    (1, EVEN, (0, Some(0)), Err(Refusal::Foreign(0)), 0, NEW),
+                ),
+            ),
+            (0, Step::Put((1, EVEN, (0, Some(0)), Ok(3), 3, LAYERS))),
+        ],
+        closed: (3, true, (0, 3, 0)),
+    },
+    // a copy is shared until something is settled; then another is, and the first one, which is still held, is as it was;
+    // a claim that is stale and one that is lost leave the shared copy as it is
+    Run {
+        game: SHARED,
+        posted: None,
+        first: NEW,
+        seats: 2,
+        steps: &[
+            (0, Step::Hold(NEW)),
+            (1, Step::Hold(NEW)),
+            (0, Step::Held(0, NEW, 3)),
+            (0, Step::Put((1, EVEN, (0, Some(0)), Ok(2), 2, HALF))),
+            (1, Step::Hold(HALF)),
+            (0, Step::Held(0, NEW, 3)),
+            (1, Step::Put((2, EVEN, (0, Some(0)), STALE, 0, HALF))),
+            (
+                1,
+                Step::Put((2, ODD, (1, Some(0)), Err(Refusal::Lost(1)), 0, HALF)),
+            ),
+            (1, Step::Hold(HALF)),
+            (1, Step::Held(2, HALF, 3)),
+        ],
+        closed: (2, false, (0, 2, 0)),
+    },
+    // a copy that nobody holds is brought up to date after each of two entries
+    Run {
+        game: SHARED,
+        posted: None,
+        first: NEW,
+        seats: 1,
+        steps: &[
+            (0, Step::Share(NEW)),
+            (0, Step::Put((1, EVEN, (0, Some(0)), Ok(2), 2, HALF))),
+            (0, Step::Share(HALF)),
+            (0, Step::Put((1, ODD, (2, Some(2)), Ok(1), 3, FULL))),
+            (0, Step::Share(FULL)),
+        ],
+        closed: (3, true, (0, 3, 0)),
+    },
+    // an office opens round a board with what is settled on it
+    Run {
+        game: SHARED,
+        posted: Some((EVEN, (0, Some(0)))),
+        first: HALF,
+        seats: 2,
+        steps: &[
+            (0, Step::Amount(2)),
+            (1, Step::Amount(0)),
+            (0, Step::Copy(HALF)),
+        ],
+        closed: (2, false, (2, 0, 0)),
+    },
+];
+
+/// The largest claim of the largest game.
+const LARGEST: &Run = &Run {
+    game: &[],
+    posted: None,
+    first: NEW,
+    seats: 1,
+    steps: &[(0, Step::Loops)],
+    closed: (1_048_576, true, (0, 1_048_576, 0)),
+};
+
+#[test]
+fn the_largest_claim_of_the_largest_game_is_accepted(rt: HostRuntime) -> Result<(), Fail> {
+    let game = made(&rt, own_loops(rt.alloc(), 1_048_576));
+    for call in [Call::Post, Call::Settle] {
+        run_through::<Brand, _>(&rt, rt.alloc(), Blank::new(1), 1, call, &game, LARGEST)?;
+    }
+    Ok(())
+}
+
+/// Takes the steps in an office of a board of the game; ends the test where memory is refused to the office.
+pub fn run_through<L: Ledger, R: Wait + Abort>(
+    rt: &R,
+    alloc: Global,
+    blank: Blank,
+    seats: u32,
+    call: Call,
+    game: &Game,
+    run: &Run,
+) -> Result<(), Fail>
+    requires name { blank.name ≡ L.name }
+    requires parts { (blank.parts ≡ L.parts) × (blank.parts ≡ seats) }
+    requires seats { (1 ≤ seats) × (seats ≤ 64) }
+{
+    let Ok((office, mut shares)) = office_of::<L, R>(rt, alloc, blank, game, seats, run.posted)
+    else {
+        return Err(lacking());
+    };
+    take_all(rt, alloc, call, game, &office, shares.as_mut_slice(), run);
+    compare_closed(rt, &office.close(shares), &run.closed);
+    Ok(())
+}
+
+/// An office with so many shares: of a new board, or round one on which a claim is settled.
+fn office_of<'g, L: Ledger, R: Abort>(
+    rt: &R,
+    alloc: Global,
+    blank: Blank,
+    game: &'g Game,
+    seats: u32,
+    posted: Option<(Player, Row)>,
+) -> Result<(Office<'g, L>, Vec<Share<L>>), Memory>
+    requires name { blank.name ≡ L.name }
+    requires parts { (blank.parts ≡ L.parts) × (blank.parts ≡ seats) }
+    requires seats { (1 ≤ seats) × (seats ≤ 64) }
+    ensures { IfOk result (λ o. vec_len o.1 ≡ seats) }
+{
+    match posted {
+        None => Office::<L>::open(alloc, blank, game, seats),
+        Some((player, row)) => {
+            let board = board_of_post(rt, alloc, game, player, row);
+            Office::<L>::open_with(alloc, blank, board, seats)
+        }
+    }
+}
+
+/// A board on which a claim of worker 0 is settled.
+fn board_of_post<'g>(
+    rt: &impl Abort,
+    alloc: Global,
+    game: &'g Game,
+    player: Player,
+    row: Row,
+) -> Board<'g> {
+    let mut board = new_board(rt, alloc, game);
+    let claim = claim_of(rt, alloc, player, &[row]);
+    if board.post(alloc, 0, &claim).is_err() {
+        check!(*rt; board.post(alloc, 0, &claim).is_ok());
+    }
+    board
+}
+
+/// Takes the steps, each after what the last claim left.
+fn take_all<'g, L: Ledger, R: Wait + Abort>(
+    rt: &R,
+    alloc: Global,
+    call: Call,
+    game: &Game,
+    office: &Office<'g, L>,
+    shares: &mut [Share<L>],
+    run: &Run,
+) {
+    let mut held = Vec::new(alloc);
+    let mut before = run.first;
+    for step in run.steps {
+        match shares.get_mut(step.0) {
+            Some(share) => take(
+                rt, alloc, call, game, office, share, &mut held, before, &step.1,
+            ),
+            None => check!(*rt; false, "there is no such share"),
+        }
+        before = after(before, &step.1);
+    }
+}
+
+/// What a copy tells after a step.
+fn after<'a>(before: &'a Case<'a>, step: &Step<'a>) -> &'a Case<'a> {
+    match step {
+        Step::Put(put) => put.5,
+        Step::Foreign(_, put) => put.5,
+        _ => before,
+    }
+}
+
+fn take<'g, L: Ledger, R: Wait + Abort>(
+    rt: &R,
+    alloc: Global,
+    call: Call,
+    game: &Game,
+    office: &Office<'g, L>,
+    share: &mut Share<L>,
+    held: &mut Vec<Arc<Copied<'g>>>,
+    before: &Case,
+    step: &Step,
+) {
+    match step {
+        Step::Put(put) => put_row(rt, alloc, call, game, office, share, before, put),
+        Step::Foreign(vertices, put) => {
+            let other = game_made(rt, alloc, *vertices);
+            put_row(rt, alloc, Call::Settle, &other, office, share, before, put);
+        }
+        Step::Loops => {
+            let n = game.len();
+            let claim = claim_of_loops(rt, alloc, n);
+            put_claim(
+                rt,
+                alloc,
+                call,
+                game,
+                office,
+                share,
+                1,
+                &claim,
+                before,
+                (Ok(n), u64::from(n)),
+            );
+        }
+        Step::Amount(want) => check_eq!(*rt; share.amount(), *want),
+        Step::Copy(want) => compare_copy(rt, &copied_through(rt, alloc, office, share), *want),
+        Step::Share(want) => compare_copy(rt, &shared(rt, alloc, office, share), *want),
+        Step::Hold(want) => hold(rt, shared(rt, alloc, office, share), held, *want),
+        Step::Held(at, want, holders) => compare_held(rt, held.get(*at), *want, *holders),
+    }
+}
+
+/// Puts a claim of one row, which is checked on this game.
+fn put_row<L: Ledger, R: Wait + Abort>(
+    rt: &R,
+    alloc: Global,
+    call: Call,
+    game: &Game,
+    office: &Office<L>,
+    share: &mut Share<L>,
+    before: &Case,
+    put: &Put,
+) {
+    let claim = claim_of(rt, alloc, put.1, &[put.2]);
+    put_claim(
+        rt,
+        alloc,
+        call,
+        game,
+        office,
+        share,
+        put.0,
+        &claim,
+        before,
+        (put.3, put.4),
+    );
+    compare_copy(rt, &copied_through(rt, alloc, office, share), put.5);
+}
+
+/// Compares the answer, and the share's amount then. Where memory is refused, the amount and a copy are as before, and the
+/// claim is put once more.
+fn put_claim<L: Ledger, R: Wait + Abort>(
+    rt: &R,
+    alloc: Global,
+    call: Call,
+    game: &Game,
+    office: &Office<L>,
+    share: &mut Share<L>,
+    worker: u32,
+    claim: &Claim,
+    before: &Case,
+    want: (Result<u32, Refusal>, u64),
+) {
+    let amount = share.amount();
+    let mut found = call.put_through(rt, alloc, office, share, worker, game, claim);
+    if found == Err(Refusal::Memory) {
+        check_eq!(*rt; share.amount(), amount);
+        compare_copy(rt, &copied_through(rt, alloc, office, share), before);
+        found = call.put_through(rt, alloc, office, share, worker, game, claim);
+    }
+    check_eq!(*rt; (found, share.amount()), want);
+}
+
+/// A copy through a share, taken once more where memory was refused.
+fn copied_through<'g, L: Ledger, R: Wait + Abort>(
+    rt: &R,
+    alloc: Global,
+    office: &Office<'g, L>,
+    share: &Share<L>,
+) -> Copied<'g> {
+    match office.copy(rt, alloc, share) {
+        Ok(copied) => copied,
+        Err(_) => made(rt, office.copy(rt, alloc, share)),
+    }
+}
+
+/// A shared copy, taken once more where memory was refused.
+fn shared<'g, L: Ledger, R: Wait + Abort>(
+    rt: &R,
+    alloc: Global,
+    office: &Office<'g, L>,
+    share: &Share<L>,
+) -> Arc<Copied<'g>> {
+    match office.shared_copy(rt, alloc, share) {
+        Ok(copied) => copied,
+        Err(_) => made(rt, office.shared_copy(rt, alloc, share)),
+    }
+}
+
+/// Compares a copy, and holds it. (Room for it is taken first, so that it isn't lost where memory is refused.)
+fn hold<'g>(
+    rt: &impl Abort,
+    copied: Arc<Copied<'g>>,
+    held: &mut Vec<Arc<Copied<'g>>>,
+    want: &Case,
+) {
+    compare_copy(rt, &copied, want);
+    if held.try_reserve(1).is_err() {
+        made(rt, held.try_reserve(1));
+    }
+    made(rt, held.push(copied));
+}
+
+fn compare_held(rt: &impl Abort, held: Option<&Arc<Copied>>, want: &Case, holders: usize) {
+    match held {
+        Some(copied) => {
+            compare_copy(rt, copied, want);
+            check_eq!(*rt; Arc::strong_count(copied), holders);
+        }
+        None => check!(*rt; false, "nothing is held"),
+    }
+}
+
+fn compare_closed(rt: &impl Abort, board: &Board, want: &Closed) {
+    let by = (
+        board.settled_by(0),
+        board.settled_by(1),
+        board.settled_by(2),
+    );
+    check_eq!(*rt; &(board.settled(), board.is_full(), by), want);
+}
