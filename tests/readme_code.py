@@ -75,9 +75,10 @@ def stands_in(code, file):
 
 @functools.lru_cache(maxsize=None)
 def tests_of(crate):
-    """The files of a crate's unit tests: those in the crate itself, and those in a crate of their own."""
-    sources = [os.path.join(ROOT, "crates", it, "src") for it in (crate, f"{crate}_tests")]
-    paths = [path for it in sources for form in ("tests.rt", "tests/**/*.rt") for path in glob.glob(f"{it}/**/{form}", recursive=True)]
+    """The files of a crate's unit tests: those in the crate itself, and those in the folder of its name in a crate of tests."""
+    name = crate.removeprefix("pg_")
+    forms = [f"{crate}/src/**/tests.rt", f"{crate}/src/**/tests/**/*.rt", f"*_tests/src/tests/{name}.rt", f"*_tests/src/tests/{name}/**/*.rt"]
+    paths = [path for it in forms for path in glob.glob(os.path.join(ROOT, "crates", it), recursive=True)]
     return [pages.text_of(it) for it in sorted(set(paths))]
 
 

@@ -50,25 +50,23 @@ def fault(program, name):
     return None if sum(got[0] == 0 for _, got in answers[:count]) else "each refusal ends the test"
 
 
-# The first test of each row needs fewer allocations than the second and this number more. The games of a row have as many vertices.
+# The first test of each row, after its library, needs fewer allocations than the second and this number more. The games of a row have as many vertices.
 # Lists in order are the game as they stand; others are laid out flat, without a value for each of the 40 vertices; the searches of
 # a long cycle end before a ranking is made, as it is of a ladder; and of two games that differ in one edge the second makes one,
 # which takes more than three allocations.
 FEWER = {
-    "pg_game_tests_tests": [
-        ("many_lists_in_order_are_a_game_after_a_refusal", "many_lists_with_repeated_successors_are_laid_out_after_a_refusal", 0),
-        ("many_falling_lists_are_laid_out_after_a_refusal", "many_lists_in_order_are_a_game_after_a_refusal", 40),
-    ],
-    "pg_dominion_tests_tests": [
-        ("a_long_cycle_is_judged_after_a_refusal", "a_ladder_is_judged_after_a_refusal", 0),
-        ("each_edge_of_a_cycle_is_looked_at_once_after_a_refusal", "with_one_edge_more_a_ranking_is_made_after_a_refusal", -3),
+    "pg_finders_tests_tests": [
+        ("game", "many_lists_in_order_are_a_game_after_a_refusal", "many_lists_with_repeated_successors_are_laid_out_after_a_refusal", 0),
+        ("game", "many_falling_lists_are_laid_out_after_a_refusal", "many_lists_in_order_are_a_game_after_a_refusal", 40),
+        ("dominion", "a_long_cycle_is_judged_after_a_refusal", "a_ladder_is_judged_after_a_refusal", 0),
+        ("dominion", "each_edge_of_a_cycle_is_looked_at_once_after_a_refusal", "with_one_edge_more_a_ranking_is_made_after_a_refusal", -3),
     ],
 }
 
 
-def count_fault(program, fewer, more, room):
-    """Why the one test doesn't need fewer allocations than the other and this number more."""
-    counts = [program.counted([f"tests::memory::{it}"])[1][0] for it in (fewer, more)]
+def count_fault(program, library, fewer, more, room):
+    """Why the one test of a library doesn't need fewer allocations than the other and this number more."""
+    counts = [program.counted([f"tests::{library}::memory::{it}"])[1][0] for it in (fewer, more)]
     return None if 0 < counts[0] < counts[1] + room else f"{counts[0]} allocations, and {counts[1]} in {more}"
 
 
@@ -80,7 +78,7 @@ def checks():
             for name in tests_of(binary):
                 yield f"{os.path.basename(binary)} {name}", fault(program, name)
             for row in FEWER.get(os.path.basename(binary), []):
-                yield f"{os.path.basename(binary)} {row[0]}: fewer", count_fault(program, *row)
+                yield f"{os.path.basename(binary)} {row[1]}: fewer", count_fault(program, *row)
             refusals += program.refusals["REFUSE_ALLOC"]
     print(f"refused: {refusals} allocations of calls")
 

@@ -1,6 +1,6 @@
 //! Each public call on its happy path, the refusals in their order, the limits, and a plain reference on small games.
 
-ghost use Rattle.std.specs.Prelude.{◌<◌, length, All, IfOk};
+ghost use Rattle.std.specs.Prelude.{◌≡◌, ◌<◌, length, All, IfOk};
 ghost use Rattle.pg_game.specs.Specification.{AreNumbers};
 
 mod bands;
@@ -8,10 +8,10 @@ mod memory;
 mod open;
 mod readme;
 
+use crate::tests::asserting::made;
 use pg_game::{Game, GameFault, Mask, Memory, Player, Sequence, Spec, Specs};
 use std::alloc::Global;
 use std::process::Abort;
-use std::test::Fail;
 
 type Row<'a> = (u32, u32, Player, &'a [u32]);
 
@@ -107,14 +107,20 @@ fn flat_of(alloc: Global, specs: &[Spec]) -> Result<Specs, Memory>
     Ok(flat)
 }
 
+/// The numbers below `n`.
+fn numbers_below(alloc: Global, n: u32) -> Result<Vec<u32>, Memory> {
+    let mut numbers = Vec::new(alloc);
+    for number in 0..n {
+        numbers.push(number)?;
+    }
+    Ok(numbers)
+}
+
 /// As many vertices, each with the first `degree` as successors and its number as priority, but at most the last.
-fn dense(alloc: Global, n: u32, degree: u32, last: u32) -> Result<Vec<Spec>, Fail>
+fn dense(alloc: Global, n: u32, degree: u32, last: u32) -> Result<Vec<Spec>, Memory>
     ensures { IfOk result (λ specs. All AreNumbers specs.items) }
 {
-    let mut first = Vec::new(alloc);
-    for w in 0..degree {
-        first.push(w)?;
-    }
+    let first = numbers_below(alloc, degree)?;
     let mut specs = Vec::new(alloc);
     'vertices: for v in 0..n {
         add(
@@ -157,39 +163,44 @@ fn flat_game_of(alloc: Global, rows: &[Row]) -> Result<Game, GameFault> {
 }
 
 /// All that is told of a vertex.
-fn look_at(rt: &impl Abort, game: &Game, v: u32, (row, predecessors): Told) -> Result<(), Fail> {
-    if v >= game.len() {
-        return Err(Fail::from("no such vertex"));
-    }
+fn look_at(rt: &impl Abort, game: &Game, v: u32, (row, predecessors): Told) {
+    assert!(*rt; v < game.len());
     check_eq!(*rt; game.id(v), row.0, ("id", v));
     check_eq!(*rt; game.vertex_of(row.0), Some(v), ("vertex_of", v));
     check_eq!(*rt; game.priority(v), row.1, ("priority", v));
     check_eq!(*rt; game.owner(v), row.2, ("owner", v));
     check_eq!(*rt; game.successors(v), row.3, ("successors", v));
     check_eq!(*rt; game.predecessors(v), predecessors, ("predecessors", v));
-    Ok(())
 }
 
 /// How many vertices a game has, and all that is told of them.
-fn look(rt: &impl Abort, game: &Game, vertices: &[Told]) -> Result<(), Fail> {
+fn look(rt: &impl Abort, game: &Game, vertices: &[Told]) {
     check_eq!(*rt; game.len() as usize, vertices.len());
     let mut v = 0u32;
     for told in vertices {
-        look_at(rt, game, v, *told)?;
+        look_at(rt, game, v, *told);
         v = v.wrapping_add(1);
     }
-    Ok(())
+}
+
+/// The same, and that these identifiers have no vertex.
+fn look_beyond(rt: &impl Abort, game: &Game, vertices: &[Told], strangers: &[u32]) {
+    look(rt, game, vertices);
+    for id in strangers {
+        check_eq!(*rt; game.vertex_of(*id), None, *id);
+    }
 }
 
 /// The vertices of `WITH_A_GAP`.
 const TOLD_WITH_A_GAP: &[Told] = &[((3, 1, EVEN, &[1]), &[1]), ((9, 2, ODD, &[0, 1]), &[0, 1])];
 
+/// The vertices of `IN_ORDER`.
+const TOLD_IN_ORDER: &[Told] = &[((0, 2, EVEN, &[0, 1]), &[0]), ((1, 1, ODD, &[1]), &[0, 1])];
+
 #[test]
-fn a_game_with_gaps_goes_by_rising_identifier(rt: HostRuntime) -> Result<(), Fail> {
-    let game = game_of(rt.alloc(), WITH_A_GAP)?;
-    look(&rt, &game, TOLD_WITH_A_GAP)?;
-    check_eq!(rt; game.vertex_of(4), None);
-    Ok(())
+fn a_game_with_gaps_goes_by_rising_identifier(rt: HostRuntime) {
+    let game = made(&rt, game_of(rt.alloc(), WITH_A_GAP));
+    look_beyond(&rt, &game, TOLD_WITH_A_GAP, &[4]);
 }
 
 const THREE: &[Row] = &[
@@ -206,41 +217,34 @@ const TOLD_THREE: &[Told] = &[
 ];
 
 #[test]
-fn a_game_in_order_has_no_need_of_an_index(rt: HostRuntime) -> Result<(), Fail> {
-    let game = flat_game_of(rt.alloc(), THREE)?;
-    look(&rt, &game, TOLD_THREE)?;
-    check_eq!(rt; game.vertex_of(3), None);
-    check_eq!(rt; game.vertex_of(2_147_483_647), None);
-    Ok(())
+fn a_game_in_order_has_no_need_of_an_index(rt: HostRuntime) {
+    let game = made(&rt, flat_game_of(rt.alloc(), THREE));
+    look_beyond(&rt, &game, TOLD_THREE, &[3, 2_147_483_647]);
 }
 
 #[test]
-fn rows_with_gaps_go_by_rising_identifier(rt: HostRuntime) -> Result<(), Fail> {
-    let game = flat_game_of(rt.alloc(), WITH_A_GAP)?;
-    look(&rt, &game, TOLD_WITH_A_GAP)?;
-    check_eq!(rt; game.vertex_of(0), None);
-    Ok(())
-}
-
-/// Whether the game of these rows is the same both ways.
-fn is_same_both_ways(alloc: Global, rows: &[Row]) -> Result<bool, GameFault> {
-    let flat = flat_game_of(alloc, rows)?;
-    let game = game_of(alloc, rows)?;
-    Ok(are_same(&flat, &game))
+fn rows_with_gaps_go_by_rising_identifier(rt: HostRuntime) {
+    let game = made(&rt, flat_game_of(rt.alloc(), WITH_A_GAP));
+    look_beyond(&rt, &game, TOLD_WITH_A_GAP, &[0]);
 }
 
 /// Asks for the same game of these rows both ways.
-fn compare_ways(rt: &impl Abort, alloc: Global, rows: &[Row]) -> Result<(), GameFault> {
-    check!(*rt; is_same_both_ways(alloc, rows)?, rows);
-    Ok(())
+fn compare_ways(rt: &impl Abort, alloc: Global, rows: &[Row]) {
+    let flat = made(rt, flat_game_of(alloc, rows));
+    compare_with(rt, alloc, &flat, rows, true);
+}
+
+/// Asks whether the game equals that of these rows.
+fn compare_with(rt: &impl Abort, alloc: Global, game: &Game, rows: &[Row], want: bool) {
+    let other = made(rt, game_of(alloc, rows));
+    check_eq!(*rt; are_same(game, &other), want, rows);
 }
 
 const RISING: &[Row] = &[(0, 2_147_483_647, EVEN, &[0, 1]), (1, 1, ODD, &[0])];
 
 #[test]
-fn lists_in_order_are_the_game(rt: HostRuntime) -> Result<(), Fail> {
-    compare_ways(&rt, rt.alloc(), RISING)?;
-    Ok(())
+fn lists_in_order_are_the_game(rt: HostRuntime) {
+    compare_ways(&rt, rt.alloc(), RISING);
 }
 
 /// With a gap, with two lines or two successors swapped, and with a successor twice.
@@ -252,11 +256,10 @@ const OUT_OF_ORDER: &[&[Row]] = &[
 ];
 
 #[test]
-fn lists_out_of_order_make_the_same_game(rt: HostRuntime) -> Result<(), Fail> {
+fn lists_out_of_order_make_the_same_game(rt: HostRuntime) {
     for rows in OUT_OF_ORDER {
-        compare_ways(&rt, rt.alloc(), rows)?;
+        compare_ways(&rt, rt.alloc(), *rows);
     }
-    Ok(())
 }
 
 /// The next random number (W. H. Press et al., Numerical Recipes).
@@ -270,16 +273,22 @@ fn turned(v: u32, step: u32, turn: u32) -> u32 {
     step.wrapping_mul(v.wrapping_mul(turn) % 7)
 }
 
+/// One to five random successors.
+fn random_row(alloc: Global, seed: &mut u32, step: u32, turn: u32) -> Result<Vec<u32>, Memory> {
+    let mut successors = Vec::new(alloc);
+    for _successor in 0..next_random(seed) % 5 + 1 {
+        successors.push(turned(next_random(seed) % 7, step, turn))?;
+    }
+    Ok(successors)
+}
+
 /// Seven lines with random successors, unsorted and repeated.
-fn random_specs(alloc: Global, seed: &mut u32, step: u32, turn: u32) -> Result<Vec<Spec>, Fail>
+fn random_specs(alloc: Global, seed: &mut u32, step: u32, turn: u32) -> Result<Vec<Spec>, Memory>
     ensures { IfOk result (λ specs. All AreNumbers specs.items) }
 {
     let mut specs = Vec::new(alloc);
     'lines: for v in 0..7u32 {
-        let mut successors = Vec::new(alloc);
-        'row: for _successor in 0..next_random(seed) % 5 + 1 {
-            successors.push(turned(next_random(seed) % 7, step, turn))?;
-        }
+        let successors = random_row(alloc, seed, step, turn)?;
         let priority = next_random(seed) % 9;
         let id = turned(v, step, turn);
         add(&mut specs, id, priority, Player::of_parity(v), successors)?;
@@ -288,48 +297,45 @@ fn random_specs(alloc: Global, seed: &mut u32, step: u32, turn: u32) -> Result<V
 }
 
 /// Asks for the same game of random lines both ways.
-fn compare_random(
-    rt: &impl Abort,
-    alloc: Global,
-    seed: &mut u32,
-    step: u32,
-    turn: u32,
-) -> Result<(), Fail> {
-    let specs = random_specs(alloc, seed, step, turn)?;
-    let flat = flat_of(alloc, specs.as_slice())?;
-    check!(*rt; is_one_game(alloc, flat, specs)?, (step, turn));
-    Ok(())
+fn compare_random(rt: &impl Abort, alloc: Global, seed: &mut u32, step: u32, turn: u32) {
+    let specs = random_specs(alloc, seed, step, turn).expect(rt, "memory");
+    let flat = made(rt, flat_answer(rt, alloc, specs.as_slice()));
+    let game = made(rt, from_specs(alloc, specs));
+    check!(*rt; are_same(&flat, &game), (step, turn));
 }
 
-/// Whether flat lists and specifications make the same game.
-fn is_one_game(alloc: Global, flat: Specs, specs: Vec<Spec>) -> Result<bool, GameFault>
-    requires flat { All AreNumbers flat }
-    requires specs { All AreNumbers specs.items }
-{
-    let flat = from_rows(alloc, flat)?;
-    let game = from_specs(alloc, specs)?;
-    Ok(are_same(&flat, &game))
+/// What is answered for the same specifications in flat lists.
+fn flat_answer(rt: &impl Abort, alloc: Global, specs: &[Spec]) -> Result<Game, GameFault> {
+    from_rows(alloc, flat_of(alloc, specs).expect(rt, "memory"))
 }
 
 #[test]
-fn random_lists_make_the_same_game(rt: HostRuntime) -> Result<(), Fail> {
+fn random_lists_make_the_same_game(rt: HostRuntime) {
     let mut seed = 1u32;
     for round in 0..60u32 {
         let turn = round % 6 + 1;
-        compare_random(&rt, rt.alloc(), &mut seed, 1, turn)?;
-        compare_random(&rt, rt.alloc(), &mut seed, 3, turn)?;
-        compare_random(&rt, rt.alloc(), &mut seed, 300_000_000, turn)?;
+        compare_random(&rt, rt.alloc(), &mut seed, 1, turn);
+        compare_random(&rt, rt.alloc(), &mut seed, 3, turn);
+        compare_random(&rt, rt.alloc(), &mut seed, 300_000_000, turn);
     }
-    Ok(())
 }
 
 /// Asks for the fault of these rows, both ways.
-fn refused(rt: &impl Abort, alloc: Global, rows: &[Row], wanted: GameFault) -> Result<(), Fail> {
-    let specs = specs_of(alloc, rows)?;
-    let flat = flat_of(alloc, specs.as_slice())?;
-    check_eq!(*rt; from_rows(alloc, flat).err(), Some(wanted));
-    check_eq!(*rt; from_specs(alloc, specs).err(), Some(wanted));
-    Ok(())
+fn refused(rt: &impl Abort, alloc: Global, rows: &[Row], wanted: GameFault) {
+    compare_faults(
+        rt,
+        alloc,
+        specs_of(alloc, rows).expect(rt, "memory"),
+        Some(wanted),
+    );
+}
+
+/// Asks for the fault of specifications, if there is one, both ways.
+fn compare_faults(rt: &impl Abort, alloc: Global, specs: Vec<Spec>, wanted: Option<GameFault>)
+    requires { All AreNumbers specs.items }
+{
+    check_eq!(*rt; flat_answer(rt, alloc, specs.as_slice()).err(), wanted);
+    check_eq!(*rt; from_specs(alloc, specs).err(), wanted);
 }
 
 /// Rows and their first fault.
@@ -350,73 +356,62 @@ const REFUSED: &[(&[Row], GameFault)] = &[
 ];
 
 #[test]
-fn faults_come_in_their_order(rt: HostRuntime) -> Result<(), Fail> {
+fn faults_come_in_their_order(rt: HostRuntime) {
     for case in REFUSED {
-        refused(&rt, rt.alloc(), case.0, case.1)?;
+        refused(&rt, rt.alloc(), case.0, case.1);
     }
-    Ok(())
 }
+
+/// How many vertices a dense list has, how many successors each has, the greatest priority, and its fault.
+type Dense = (u32, u32, u32, Option<GameFault>);
 
 /// Asks for the answer to a dense list, both ways.
-fn answers(
-    rt: &impl Abort,
-    alloc: Global,
-    (n, degree, last): (u32, u32, u32),
-    wanted: Option<GameFault>,
-) -> Result<(), Fail> {
-    let specs = dense(alloc, n, degree, last)?;
-    let flat = flat_of(alloc, specs.as_slice())?;
-    check_eq!(*rt; from_rows(alloc, flat).err(), wanted);
-    check_eq!(*rt; from_specs(alloc, specs).err(), wanted);
-    Ok(())
+fn answers(rt: &impl Abort, alloc: Global, (n, degree, last, wanted): Dense) {
+    compare_faults(
+        rt,
+        alloc,
+        dense(alloc, n, degree, last).expect(rt, "memory"),
+        wanted,
+    );
 }
 
-#[test]
-fn vertices_are_limited_before_all_else(rt: HostRuntime) -> Result<(), Fail> {
-    let alloc = rt.alloc();
-    answers(
-        &rt,
-        alloc,
-        (1_048_577, 0, 0),
-        Some(GameFault::TooManyVertices),
-    )?;
-    answers(
-        &rt,
-        alloc,
-        (1_048_576, 0, 0),
-        Some(GameFault::NoSuccessor(0)),
-    )?;
-    answers(&rt, alloc, (1_048_576, 1, 1_048_575), None)
-}
+const MOST_VERTICES: &[Dense] = &[
+    (1_048_577, 0, 0, Some(GameFault::TooManyVertices)),
+    (1_048_576, 0, 0, Some(GameFault::NoSuccessor(0))),
+    (1_048_576, 1, 1_048_575, None),
+];
 
 #[test]
-fn edges_are_limited(rt: HostRuntime) -> Result<(), Fail> {
-    let alloc = rt.alloc();
-    answers(&rt, alloc, (4_096, 4_096, 0), None)?;
-    answers(
-        &rt,
-        alloc,
-        (4_097, 4_096, 9_999),
-        Some(GameFault::TooManyEdges),
-    )
+fn vertices_are_limited_before_all_else(rt: HostRuntime) {
+    for case in MOST_VERTICES {
+        answers(&rt, rt.alloc(), *case);
+    }
+}
+
+const MOST_EDGES: &[Dense] = &[
+    (4_096, 4_096, 0, None),
+    (4_097, 4_096, 9_999, Some(GameFault::TooManyEdges)),
+];
+
+#[test]
+fn edges_are_limited(rt: HostRuntime) {
+    for case in MOST_EDGES {
+        answers(&rt, rt.alloc(), *case);
+    }
 }
 
 const GREATEST: &[Row] = &[(2_147_483_647, 2_147_483_647, ODD, &[2_147_483_647])];
 
+/// The vertex of `GREATEST`.
+const TOLD_GREATEST: &[Told] = &[((2_147_483_647, 2_147_483_647, ODD, &[0]), &[0])];
+
 #[test]
-fn the_greatest_number_is_an_identifier(rt: HostRuntime) -> Result<(), Fail> {
-    let game = game_of(rt.alloc(), GREATEST)?;
+fn the_greatest_number_is_an_identifier(rt: HostRuntime) {
     look(
         &rt,
-        &game,
-        &[((2_147_483_647, 2_147_483_647, ODD, &[0]), &[0])],
-    )
-}
-
-/// Whether the game equals that of these rows.
-fn is_game_of(alloc: Global, game: &Game, rows: &[Row]) -> Result<bool, GameFault> {
-    let other = game_of(alloc, rows)?;
-    Ok(are_same(game, &other))
+        &made(&rt, game_of(rt.alloc(), GREATEST)),
+        TOLD_GREATEST,
+    );
 }
 
 /// Rows, and whether they make the game of `WITH_A_GAP`.
@@ -429,12 +424,11 @@ const OTHERS: &[(&[Row], bool)] = &[
 ];
 
 #[test]
-fn games_are_equal_where_their_contents_are(rt: HostRuntime) -> Result<(), Fail> {
-    let game = game_of(rt.alloc(), WITH_A_GAP)?;
+fn games_are_equal_where_their_contents_are(rt: HostRuntime) {
+    let game = made(&rt, game_of(rt.alloc(), WITH_A_GAP));
     for case in OTHERS {
-        check_eq!(rt; is_game_of(rt.alloc(), &game, case.0)?, case.1);
+        compare_with(&rt, rt.alloc(), &game, case.0, case.1);
     }
-    Ok(())
 }
 
 /// The identifier of a vertex: its number, or one that falls where the numbers rise.
@@ -447,7 +441,7 @@ fn name_of(v: u32, falls: bool) -> u32 {
 }
 
 /// The successors that the bits give a vertex, as identifiers.
-fn successors_of(alloc: Global, bits: u32, v: u32, falls: bool) -> Result<Vec<u32>, Fail>
+fn successors_of(alloc: Global, bits: u32, v: u32, falls: bool) -> Result<Vec<u32>, Memory>
     requires { v < 5 }
 {
     let mut successors = Vec::new(alloc);
@@ -460,7 +454,7 @@ fn successors_of(alloc: Global, bits: u32, v: u32, falls: bool) -> Result<Vec<u3
 }
 
 /// Five vertices, whose edges are the bits.
-fn specs_of_bits(alloc: Global, bits: u32, falls: bool) -> Result<Vec<Spec>, Fail>
+fn specs_of_bits(alloc: Global, bits: u32, falls: bool) -> Result<Vec<Spec>, Memory>
     ensures { IfOk result (λ specs. All AreNumbers specs.items) }
 {
     let mut specs = Vec::new(alloc);
@@ -503,12 +497,14 @@ fn compare_edges(rt: &impl Abort, game: &Game, bits: u32, falls: bool) {
 }
 
 /// Makes the game of the bits both ways, and looks at it.
-fn compare_games(rt: &impl Abort, alloc: Global, bits: u32, falls: bool) -> Result<(), Fail> {
-    let specs = specs_of_bits(alloc, bits, falls)?;
-    let flat = flat_of(alloc, specs.as_slice())?;
-    compare_edges(rt, &from_rows(alloc, flat)?, bits, falls);
-    compare_edges(rt, &from_specs(alloc, specs)?, bits, falls);
-    Ok(())
+fn compare_games(rt: &impl Abort, alloc: Global, bits: u32, falls: bool) {
+    let specs = specs_of_bits(alloc, bits, falls).expect(rt, "memory");
+    compare_made(rt, flat_answer(rt, alloc, specs.as_slice()), bits, falls);
+    compare_made(rt, from_specs(alloc, specs), bits, falls);
+}
+
+fn compare_made(rt: &impl Abort, answer: Result<Game, GameFault>, bits: u32, falls: bool) {
+    compare_edges(rt, &made(rt, answer), bits, falls);
 }
 
 /// A vertex is always its own successor; the other edges are given by bits.
@@ -520,44 +516,42 @@ fn is_edge(bits: u32, v: u32, w: u32) -> bool
 }
 
 #[test]
-fn edges_and_predecessors_are_those_specified(rt: HostRuntime) -> Result<(), Fail> {
+fn edges_and_predecessors_are_those_specified(rt: HostRuntime) {
     let mut bits = 1u32;
     for _round in 0..200u32 {
         bits = bits.wrapping_mul(1_664_525).wrapping_add(1_013_904_223);
-        compare_games(&rt, rt.alloc(), bits % 33_554_432, true)?;
-        compare_games(&rt, rt.alloc(), bits % 33_554_432, false)?;
+        compare_games(&rt, rt.alloc(), bits % 33_554_432, true);
+        compare_games(&rt, rt.alloc(), bits % 33_554_432, false);
     }
-    Ok(())
 }
 
 /// What is told of a mask with one number.
-fn compare_one(rt: &impl Abort, alloc: Global) -> Result<(), Memory> {
-    let mut empty = Mask::empty(alloc, 3)?;
-    check_eq!(*rt; empty.len(), 3);
-    check_eq!(*rt; empty.count(), 0);
+fn compare_one(rt: &impl Abort, alloc: Global) {
+    let mut empty = Mask::empty(alloc, 3).expect(rt, "memory");
+    check_eq!(*rt; (empty.len(), empty.count()), (3, 0));
     empty.insert(1);
-    check!(*rt; empty.has(1));
-    check!(*rt; !empty.has(2));
-    Ok(())
+    check_eq!(*rt; (empty.has(1), empty.has(2)), (true, false));
 }
 
 /// What is told of a full mask and of its copy, which loses a number.
-fn compare_full(rt: &impl Abort, alloc: Global) -> Result<(), Memory> {
-    let full = Mask::full(alloc, 3)?;
-    let mut copy = full.copy(alloc)?;
-    check_eq!(*rt; copy.len(), 3);
+fn compare_full(rt: &impl Abort, alloc: Global) {
+    let full = Mask::full(alloc, 3).expect(rt, "memory");
+    compare_copy(rt, full.copy(alloc).expect(rt, "memory"));
+    check_eq!(*rt; (full.len(), full.count()), (3, 3));
+}
+
+fn compare_copy(rt: &impl Abort, mut copy: Mask)
+    requires { length copy ≡ 3 }
+{
+    check_eq!(*rt; (copy.len(), copy.count()), (3, 3));
     copy.remove(2);
     check_eq!(*rt; copy.count(), 2);
-    check_eq!(*rt; full.len(), 3);
-    check_eq!(*rt; full.count(), 3);
-    Ok(())
 }
 
 #[test]
-fn a_mask_is_a_set(rt: HostRuntime) -> Result<(), Fail> {
-    compare_one(&rt, rt.alloc())?;
-    compare_full(&rt, rt.alloc())?;
-    Ok(())
+fn a_mask_is_a_set(rt: HostRuntime) {
+    compare_one(&rt, rt.alloc());
+    compare_full(&rt, rt.alloc());
 }
 
 /// A priority, its player, the other player, and the player's digit.
@@ -586,21 +580,14 @@ const LINES: &[(GameFault, &str)] = &[
 ];
 
 /// A fault is shown with this line.
-fn compare_line(
-    rt: &impl Abort,
-    alloc: Global,
-    fault: GameFault,
-    line: &str,
-) -> Result<(), Memory> {
-    let text = format!(in alloc; "{fault}")?;
+fn compare_line(rt: &impl Abort, alloc: Global, fault: GameFault, line: &str) {
+    let text = made(rt, format!(in alloc; "{fault}"));
     check_eq!(*rt; text.as_str(), line);
-    Ok(())
 }
 
 #[test]
-fn faults_say_what_is_wrong(rt: HostRuntime) -> Result<(), Fail> {
+fn faults_say_what_is_wrong(rt: HostRuntime) {
     for case in LINES {
-        compare_line(&rt, rt.alloc(), case.0, case.1)?;
+        compare_line(&rt, rt.alloc(), case.0, case.1);
     }
-    Ok(())
 }

@@ -33,9 +33,13 @@ fn compare_checked(
 ) {
     check_eq!(*rt; checked.player(), player);
     check_eq!(*rt; checked.claim().rows.as_slice(), rows);
-    check_eq!(*rt; checked.rows().len(), want.len());
+    compare_rows(rt, checked.rows(), want);
+}
+
+fn compare_rows(rt: &impl Abort, rows: &[CheckedRow], want: &[Told]) {
+    check_eq!(*rt; rows.len(), want.len());
     let mut at = 0usize;
-    for row in checked.rows() {
+    for row in rows {
         compare_row(rt, row, want.get(at));
         at = at.wrapping_add(1);
     }

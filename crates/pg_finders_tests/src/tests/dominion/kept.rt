@@ -56,7 +56,7 @@ fn no_choices(rt: &impl Abort, alloc: Global, game: &Game) -> Vec<u32>
 }
 
 /// All edges of a game, with these bad vertices.
-pub fn all_edges<'g>(rt: &impl Abort, alloc: Global, game: &'g Game, bad: Mask) -> Kept<'g>
+fn all_edges<'g>(rt: &impl Abort, alloc: Global, game: &'g Game, bad: Mask) -> Kept<'g>
     requires { length bad ≡ length game.now }
     ensures { IsKept result }
 {
@@ -78,7 +78,7 @@ pub fn worst(rt: &impl Abort, alloc: Global, game: &Game, bad: Mask) -> Option<u
 }
 
 /// The same, asked once more where memory was refused.
-pub fn worst_kept(rt: &impl Abort, alloc: Global, kept: &Kept) -> Option<u32>
+fn worst_kept(rt: &impl Abort, alloc: Global, kept: &Kept) -> Option<u32>
     requires { IsKept kept.now }
 {
     match first_worst(alloc, kept) {

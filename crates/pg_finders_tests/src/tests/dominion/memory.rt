@@ -10,7 +10,7 @@ ghost use Rattle.pg_game.specs.VertexSet.{Within, members};
 use crate::tests::asserting::made;
 use crate::tests::dominion::bodies::rows_of_all;
 use crate::tests::dominion::games::{Hostile, claim_of, game_made, mask_made};
-use crate::tests::dominion::kept::{all_edges, all_vertices, odd_vertices, worst_kept};
+use crate::tests::dominion::kept::{all_vertices, odd_vertices, worst};
 use crate::tests::dominion::subgames::{is_subgame, is_within};
 use pg_dominion::{
     Checked, Claim, ClaimFault, SolutionFault, attract, check_claim, check_solution, judge_claim,
@@ -190,8 +190,7 @@ fn vertices_are_attracted_after_a_refusal(rt: HostRuntime) {
 fn compare_worst(rt: &impl Abort, alloc: Global, game: &Game, bad: Mask, want: Option<u32>)
     requires { length bad ≡ length game.now }
 {
-    let kept = all_edges(rt, alloc, game, bad);
-    check_eq!(*rt; worst_kept(rt, alloc, &kept), want);
+    check_eq!(*rt; worst(rt, alloc, game, bad), want);
 }
 
 /// The vertices with odd priorities, without the greatest of them.

@@ -195,11 +195,12 @@ fn a_small_search_keeps_to_its_bound_and_uses_its_budget_to_the_last_choice(rt: 
     }
 }
 
+/// A search of all of a game that stands elsewhere.
+const AMONG_MANY: SmallCase = (&[], ALL, false, 8, 10_000, GIVES_UP);
+
 #[test]
 fn a_search_among_too_many_choices_gives_up(rt: HostRuntime) {
-    let alloc = rt.alloc();
-    let game = dense(&rt, alloc);
-    let inside = whole(&rt, alloc, &game);
-    let small = from_first(&rt, alloc, &inside, 8, 10_000);
-    check_eq!(rt; answer_of(&small), GIVES_UP);
+    let game = dense(&rt, rt.alloc());
+    let inside = whole(&rt, rt.alloc(), &game);
+    assert_answer(&rt, rt.alloc(), &inside, &AMONG_MANY);
 }

@@ -99,8 +99,10 @@ fn solved_twice(rt: &impl Abort, alloc: Global, inside: &Inside) -> Solved {
 fn compare_vertices(rt: &impl Abort, claim: &Claim, player: Player, vertices: &[u32]) {
     let rows = claim.rows.as_slice();
     check_eq!(*rt; (claim.player, rows.len()), (player, vertices.len()));
-    for (row, v) in rows.iter().zip(vertices) {
-        check_eq!(*rt; row.0, *v);
+    let mut at = 0usize;
+    for row in rows {
+        check_eq!(*rt; Some(&row.0), vertices.get(at));
+        at = at.wrapping_add(1);
     }
 }
 
@@ -215,14 +217,16 @@ const SMALL: Job = Job::Small {
     budget: 100,
 };
 
-fn compare_size(rt: &impl Abort, claim: &Claim, size: (Player, usize)) {
-    check_eq!(*rt; (claim.player, claim.rows.as_slice().len()), size);
+fn compare_size(rt: &impl Abort, claim: &Claim, size: Option<&(Player, usize)>) {
+    check_eq!(*rt; Some(&(claim.player, claim.rows.as_slice().len())), size);
 }
 
 fn compare_found(rt: &impl Abort, found: &Found, given: &Given) {
     check_eq!(*rt; (found.gave_up, found.claims.len()), (false, given.1.len()), given.0);
-    for (claim, size) in found.claims.iter().zip(given.1) {
-        compare_size(rt, claim, *size);
+    let mut at = 0usize;
+    for claim in found.claims.as_slice() {
+        compare_size(rt, claim, given.1.get(at));
+        at = at.wrapping_add(1);
     }
 }
 

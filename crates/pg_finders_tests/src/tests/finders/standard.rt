@@ -14,15 +14,17 @@ type Told<'a> = (Player, &'a [Row]);
 /// A job, whether it is given up, and the claims that are given.
 type Case<'a> = (Job, bool, &'a [Told<'a>]);
 
-fn assert_claim(rt: &impl Abort, claim: &Claim, want: Told) {
-    check_eq!(*rt; (claim.player, claim.rows.as_slice()), want);
+fn assert_claim(rt: &impl Abort, claim: &Claim, want: Option<&Told>) {
+    check_eq!(*rt; Some(&(claim.player, claim.rows.as_slice())), want);
 }
 
 fn assert_found(rt: &impl Abort, found: &Found, case: &Case) {
     let counts = (found.gave_up, found.claims.len());
     check_eq!(*rt; counts, (case.1, case.2.len()), case.0);
-    for (claim, told) in found.claims.iter().zip(case.2) {
-        assert_claim(rt, claim, *told);
+    let mut at = 0usize;
+    for claim in found.claims.as_slice() {
+        assert_claim(rt, claim, case.2.get(at));
+        at = at.wrapping_add(1);
     }
 }
 

@@ -3,7 +3,8 @@
 ghost use Rattle.std.specs.Prelude.{All};
 ghost use Rattle.pg_game.specs.Specification.{AreNumbers};
 
-use crate::tests::game::{EVEN, IN_ORDER, ODD, Told, look, specs_of};
+use crate::tests::asserting::made;
+use crate::tests::game::{IN_ORDER, TOLD_IN_ORDER, look, specs_of};
 use pg_game::{Game, GameFault, OpenSpecs, Player, Spec, Specs};
 use std::alloc::Global;
 use std::test::Fail;
@@ -26,13 +27,10 @@ fn own_successors(alloc: Global, specs: Vec<Spec>) -> Result<u32, Fail>
 
 #[test]
 fn the_edges_of_a_game_are_gone_through(rt: HostRuntime) -> Result<(), Fail> {
-    let specs = specs_of(rt.alloc(), IN_ORDER)?;
+    let specs = specs_of(rt.alloc(), IN_ORDER).expect(&rt, "memory");
     check_eq!(rt; own_successors(rt.alloc(), specs)?, 2);
     Ok(())
 }
-
-/// The vertices of `IN_ORDER`.
-const TOLD_IN_ORDER: &[Told] = &[((0, 2, EVEN, &[0, 1]), &[0]), ((1, 1, ODD, &[1]), &[0, 1])];
 
 /// The game of `IN_ORDER`.
 fn pushed(alloc: Global) -> Result<Game, GameFault> {
@@ -44,9 +42,8 @@ fn pushed(alloc: Global) -> Result<Game, GameFault> {
 }
 
 #[test]
-fn specifications_are_pushed_with_their_successors(rt: HostRuntime) -> Result<(), Fail> {
-    let game = pushed(rt.alloc())?;
-    look(&rt, &game, TOLD_IN_ORDER)
+fn specifications_are_pushed_with_their_successors(rt: HostRuntime) {
+    look(&rt, &made(&rt, pushed(rt.alloc())), TOLD_IN_ORDER);
 }
 
 /// The same game.
@@ -62,7 +59,10 @@ fn pushed_one_by_one(alloc: Global) -> Result<Game, GameFault> {
 }
 
 #[test]
-fn successors_are_pushed_one_by_one(rt: HostRuntime) -> Result<(), Fail> {
-    let game = pushed_one_by_one(rt.alloc())?;
-    look(&rt, &game, TOLD_IN_ORDER)
+fn successors_are_pushed_one_by_one(rt: HostRuntime) {
+    look(
+        &rt,
+        &made(&rt, pushed_one_by_one(rt.alloc())),
+        TOLD_IN_ORDER,
+    );
 }

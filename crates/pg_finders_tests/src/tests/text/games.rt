@@ -47,10 +47,14 @@ fn read_back(alloc: Global, game: &Game) -> Result<Game, TextFault>
     read_game(alloc, text.as_slice())
 }
 
-/// The game is written so, and is the same when that is read again.
+/// The game is written so.
 fn compare_written(rt: &impl Abort, alloc: Global, game: &Game, want: &str) {
     let written = write_game(alloc, game).expect(rt, "memory");
     check_eq!(*rt; written.as_slice(), want.as_bytes(), want);
+}
+
+/// What is written of the game is the game, when it is read again.
+fn compare_read(rt: &impl Abort, alloc: Global, game: &Game, want: &str) {
     let read = read_back(alloc, game).expect(rt, "memory");
     check!(*rt; read == *game, want);
 }
@@ -58,6 +62,7 @@ fn compare_written(rt: &impl Abort, alloc: Global, game: &Game, want: &str) {
 fn compare_spelling(rt: &impl Abort, alloc: Global, text: &str, want: &str) {
     let game = the_game(rt, alloc, text);
     compare_written(rt, alloc, &game, want);
+    compare_read(rt, alloc, &game, want);
 }
 
 #[test]

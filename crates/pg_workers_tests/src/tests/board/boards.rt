@@ -2,7 +2,9 @@
 
 use crate::tests::asserting::made;
 use crate::tests::board::calls::{Call, copied};
-use crate::tests::board::games::{BRIDGE, LAYERED, SHARED, WAITING, claim_of, game_made, new_board};
+use crate::tests::board::games::{
+    BRIDGE, LAYERED, SHARED, WAITING, claim_of, game_made, new_board,
+};
 use pg_board::{Board, Entry, Posted, Refusal};
 use pg_dominion::ClaimFault;
 use pg_finders::Copied;

@@ -6,7 +6,9 @@
 
 ghost use Rattle.std.specs.Prelude.{◌≡◌};
 
-use crate::tests::board::boards::{Case, EVENS, FULL, HALF, NEW, ODDS, Put, compare_board, compare_copy};
+use crate::tests::board::boards::{
+    Case, EVENS, FULL, HALF, NEW, ODDS, Put, compare_board, compare_copy,
+};
 use crate::tests::board::calls::Call;
 use crate::tests::board::games::{SHARED, claim_of, game_made, new_board};
 use crate::tests::board::offices::{RUNS, run_through};

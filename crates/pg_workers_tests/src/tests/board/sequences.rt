@@ -5,7 +5,9 @@ use crate::tests::asserting::made;
 use crate::tests::board::calls::Call;
 use crate::tests::board::games::{new_board, plain_game};
 use crate::tests::board::random::{random_call, random_claim, random_game};
-use crate::tests::board::reference::{answer, are_attracted, region_of, starts_with_rest, state_of};
+use crate::tests::board::reference::{
+    answer, are_attracted, region_of, starts_with_rest, state_of,
+};
 use pg_board::{Board, Entry};
 use pg_dominion::Claim;
 use pg_game::{Game, Player, Sequence};

@@ -1,6 +1,8 @@
 //! Winners are right whatever a finder claims, with any number of workers.
 
-use crate::tests::workers::finders::{FirstSolution, Fixed, Long, Misshapen, NoMemory, Singles, Wholes};
+use crate::tests::workers::finders::{
+    FirstSolution, Fixed, Long, Misshapen, NoMemory, Singles, Wholes,
+};
 use crate::tests::workers::games::{continents, outcome_of};
 use pg_finders::{Finder, Standard};
 use pg_game::Player;
