@@ -75,9 +75,9 @@ def stands_in(code, file):
 
 @functools.lru_cache(maxsize=None)
 def tests_of(crate):
-    """The files of a crate's unit tests: those in the crate itself, and those in the folder of its name in a crate of tests."""
+    """The files of a crate's unit tests: in the crate itself, in a crate of tests of its own, or in the folder of its name in another."""
     name = crate.removeprefix("pg_")
-    forms = [f"{crate}/src/**/tests.rt", f"{crate}/src/**/tests/**/*.rt", f"*_tests/src/tests/{name}.rt", f"*_tests/src/tests/{name}/**/*.rt"]
+    forms = [f"{crate}/src/**/tests.rt", f"{crate}/src/**/tests/**/*.rt", f"{crate}_tests/src/tests/*.rt", f"*_tests/src/tests/{name}.rt", f"*_tests/src/tests/{name}/**/*.rt"]
     paths = [path for it in forms for path in glob.glob(os.path.join(ROOT, "crates", it), recursive=True)]
     return [pages.text_of(it) for it in sorted(set(paths))]
 

@@ -8,7 +8,9 @@ use Rattle.pg_dominion.proofs.Common.{Layout, IsLaid, laid_with, is_bad}
 use Rattle.std.specs.Prelude.{slice_index}
 use Rattle.std.proofs.lemmas.Bool.{and_parts, and_from}
 use Rattle.std.proofs.lemmas.List.Elements.{All-from_recursion}
-use Rattle.pg_game.proofs.Masks.{members-set}
+use Rattle.pg_game.proofs.Masks.{members-set, none_mask}
+use Rattle.std.proofs.Common.{replicate}
+use Rattle.std.proofs.lemmas.List.{length-replicate}
 use Rattle.pg_dominion.specs.private.Shape.{HasPlaces, chosen_at, marked, chosen_with}
 use Rattle.pg_dominion.proofs.Shape.{next_unnamed}
 use Rattle.pg_dominion.proofs.Searching.{starts_in}
@@ -56,6 +58,16 @@ module _ (g : Graph) (p : Player) where
       | inl q ↦ rw q (marked-same g t r.0 l a.sizes b (a.bad_is r.0 ∙ ap (λ c. c && b) new) ∙ sym (ap (λ c. c && b) (named-push_same rows r)))
       | inr n ↦ marked-other t r.0 x n b ∙ (a.bad_is x ∙ ap (λ c. c && is_bad g p x) (sym (named-push_other rows r x n)))
     ];
+  }
+
+  -- no row is laid out where nothing is marked
+  pub IsLaid-none : (n : ℕ) → n ≡ length g → (t : Layout) → t.inside ≡ replicate n false → t.chosen ≡ replicate n false
+      → t.choices ≡ replicate n 0 → t.bad ≡ replicate n false → IsLaid g p [] t
+  IsLaid-none n size t i c w b = record {
+    sizes = search (rules, length-replicate, size, i, c, w, b);
+    inside_is = λ v. rw i (none_mask n v);
+    choices_is = λ v. rw c (rw (none_mask n v) refl);
+    bad_is = λ v. rw b (none_mask n v);
   }
 
   -- the next row is laid out

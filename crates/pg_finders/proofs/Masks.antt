@@ -1,9 +1,8 @@
 -- Masks that are filled by rising vertex.
-use Rattle.pg_finders.proofs.Common.{◌≡◌, ℕ, ◌<◌, ◌≤◌, Bool, true, false, ◌&&◌, not, ◌⊎◌, List, length, replicate, arith, length-set, get_or-set_same}
-use Rattle.pg_finders.proofs.Common.{get_or-set_other, rules, ◌==◌, slice_set, eqb-true, eq-eqb, cases_Bool, cases_lt, and-true, length-replicate, VertexSet}
-use Rattle.pg_finders.proofs.Common.{members, HasBelow}
+use Rattle.pg_finders.proofs.Common.{◌≡◌, ℕ, ◌<◌, ◌≤◌, Bool, true, false, ◌&&◌, not, ◌⊎◌, List, length, arith, length-set, get_or-set_same}
+use Rattle.pg_finders.proofs.Common.{get_or-set_other, rules, ◌==◌, slice_set, eqb-true, eq-eqb, cases_Bool, cases_lt, and-true, members}
 use Rattle.std.proofs.Math.Bool.{and-false}
-use Rattle.std.proofs.lemmas.List.{get_or_past, get_or-replicate}
+use Rattle.std.proofs.lemmas.List.{get_or_past}
 use Rattle.pg_finders.proofs.Sets.{no_both}
 
 pub order : (v i : ℕ) → (v < i) ⊎ (v ≡ i) ⊎ (i < v)
@@ -14,12 +13,6 @@ members_past mask v h = get_or_past mask v false h
 
 pub inside_mask : (mask : List Bool) (v : ℕ) → members mask v ≡ true → v < length mask
 inside_mask mask v i = grind (arith, members_past mask v)
-
-pub has_none : (X : VertexSet) (n : ℕ) → HasBelow X 0 (replicate n false)
-has_none X n = search (rules, cases_lt, get_or-replicate, members_past, length-replicate)
-
-pub none_mask : (n v : ℕ) → members (replicate n false) v ≡ false
-none_mask n v = (has_none (λ u. false) n).above v (omega arith)
 
 -- a vertex is taken out of a mask
 pub members-unset : (mask : List Bool) (v : ℕ) → (w : ℕ) → members (slice_set mask v false) w ≡ (members mask w && not (v == w))

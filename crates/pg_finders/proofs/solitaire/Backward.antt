@@ -6,7 +6,7 @@ use Rattle.pg_finders.proofs.Common.{IsQueue}
 use Rattle.std.specs.Prelude.{slice_index}
 use Rattle.pg_game.proofs.Masks.{members-set}
 use Rattle.pg_finders.proofs.Apart.{differ}
-use Rattle.pg_finders.proofs.Masks.{none_mask}
+use Rattle.pg_game.proofs.Masks.{none_mask}
 
 -- a member of a mask with one more vertex
 set_cases : (mask : List Bool) (v x : ℕ) → v < length mask → In (members (set mask v true)) x → (x ≡ v) ⊎ ((x ≢ v) × In (members mask) x)

@@ -1,6 +1,6 @@
 use Rattle.pg_finders.proofs.Common.{◌≡◌, ◌<◌, length, slice_index, sym, ◌∙◌, subst, arith, below_more, priority_of, members, EdgeBelow}
 use Rattle.std.proofs.lemmas.List.{get_or_read}
-use Rattle.pg_finders.proofs.Masks.{none_mask}
+use Rattle.pg_game.proofs.Masks.{none_mask}
 use Rattle.pg_finders.proofs.solitaire.Backward.{leading_none, queue_one, all_seen, walk_taken}
 use Rattle.pg_finders.proofs.solitaire.leading.lead_to.Goals.{else-queue-test, then-queue-test+then-at-len}
 use Rattle.pg_finders.proofs.solitaire.leading.lead_to.Goals as goal
