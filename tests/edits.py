@@ -13,8 +13,8 @@ import shutil
 
 from functions import functions_of, read
 
-# a proof that is left open, in the place of a function's own; its hole stands in a module of its own, `LeftOpen`, since the prover
-# prints the goal of each hole, which takes long for a function's statement
+# A proof that is left open, in the place of a function's own. Its hole stands in a module of its own, `LeftOpen`, since the
+# prover prints the goal of each hole, which takes long for a function's statement.
 OPEN = (
     "use Rattle.{library}.proofs.LeftOpen.{{left_open}}\n"
     "use Rattle.{library}.proofs.{path}.Statement.{{statement}}\n\n"
@@ -94,21 +94,46 @@ def calls_itself(folder, path):
     return os.path.isdir("/".join([folder, "proofs", *above, f"+{name}"]))
 
 
-class Round:
-    """Edits that stand in one copy of the crate, and for each the paths of the functions in which it is to be refused."""
+def called_by_changed(crate, edits):
+    """Those of the functions that these edits change which another one of them calls, as far as the text shows."""
+    found = functions_of(crate.folder)
+    changed = set().union(*[it.functions for it in edits]) - {None}
 
-    def __init__(self, crate):
-        self.crate, self.edits, self.touched, self.changes, self.copies = crate, [], set(), {}, []
+    def call_of(path, caller):
+        kind, _, name = path.rpartition("::")
+        if not found[path].is_method:
+            return rf"(?<![.:\w]){name}\("
+        own = r"|self\.|Self::" if caller.startswith(f"{kind}::") else ""
+        return rf"\b(?:{kind.split('::')[-1]}::{own}){name}\("
+
+    def body_of(path):
+        it = found[path]
+        return "\n".join(read(f"{crate.folder}/{it.file}").split("\n")[it.body : it.end])
+
+    bodies = {it: body_of(it) for it in changed}
+    return {it for it in changed if any(other != it and re.search(call_of(it, other), bodies[other]) for other in changed)}
+
+
+class Round:
+    """Edits that stand in one copy of the crate, and for each the paths of the functions in which it is to be refused.
+
+    A function that another changed one calls is changed in a copy where it may have one, and stands as it is with its proof
+    left open: a body whose loops or calls go has no proof that the prover reads, and it then checks no caller.
+    """
+
+    def __init__(self, crate, called):
+        self.crate, self.called, self.edits, self.touched, self.changes, self.copies = crate, called, [], set(), {}, []
 
     def takes(self, edit):
         """Adds the edit if there is a place for it, and says whether there was."""
-        if not edit.touched & self.touched:
+        has_copy = len(edit.functions) == 1 and may_stand_twice(self.crate, *edit.functions)
+        if not edit.touched & self.touched and not (has_copy and edit.functions & self.called):
             self.touched |= edit.touched
             for file, runs in edit.changes.items():
                 self.changes.setdefault(file, []).extend(runs)
             self.edits.append((edit, edit.functions))
             return True
-        if len(edit.functions) != 1 or not may_stand_twice(self.crate, *edit.functions):
+        if not has_copy:
             return False
         self.edits.append((edit, {self.copy(*edit.functions, edit.changes)}))
         return True
@@ -179,10 +204,10 @@ def write(path, text):
 
 def rounds_of(crate, edits):
     """Edits in rounds, each in the first that has a place for it; an edit outside all functions stands alone."""
-    rounds = []
+    rounds, called = [], called_by_changed(crate, edits)
     # what touches several functions may have no copies
     for edit in sorted(edits, key=lambda it: (None not in it.touched, -len(it.touched))):
         if None in edit.touched or not any(None not in it.touched and it.takes(edit) for it in rounds):
-            rounds.append(Round(crate))
+            rounds.append(Round(crate, called))
             rounds[-1].takes(edit)
     return rounds

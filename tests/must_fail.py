@@ -4,9 +4,10 @@
     tests/must_fail.py [--in TREE --after LOG --lanes FOLDER] [--unchanged] [CRATE [WORD..]]
 
 The edits stand in `crates/NAME/must-fail/`, in the kit's form. `rt must-fail` tries them one by one, and reads all
-libraries anew for each, which takes hours. Here a round plants edits in a copy of the crate, a second edit of a function in a
-copy of the function (`edits.py`), and checks these functions alone: the body of every other function is left out, and its
-proof open, since `rt ci` has proved it as it stands, and a caller rests on its contract. An edit is refused where a function
+libraries anew for each, which takes hours. Here a round plants edits in a copy of the crate, a second edit of a function, and
+one of a function that another changed one calls, in a copy of the function (`edits.py`), and checks these functions alone: the
+body of every other function is left out, and its proof open, since `rt ci` has proved it as it stands, and a caller rests on
+its contract. An edit is refused where a function
 that it changes is not proved for itself; one that only calls another without proof doesn't count. What a round lets through
 is tried in smaller ones. What is left alone is tried as the kit does: the whole crate has to be read by the prover and
 refused. Two functions that nothing changes are checked in each round, and must not be refused for the proofs that are open,
@@ -147,26 +148,18 @@ def refused_functions(crate, said):
     """The paths of the functions that a check refused for themselves.
 
     Where the proof of what it calls is only open, a function that is well depends on a hole, and is not refused. Nor is one
-    that calls what is not proved, unless a goal of its own is open or answers of its own are refused, nor one whose text the
-    prover doesn't cover.
+    that calls what is not proved, unless answers of its own are refused, nor one whose text the prover doesn't cover.
     """
-    lines, has_goal = [], False
-    for line in said.splitlines():
-        # (the open goals of a function stand before it)
-        has_goal = has_goal or bool(re.match(r"note: \S+:\d+:\d+: it is not proved that ", line))
-        found = re.match(r"fn \w+::(\S+): (no proof|not proved)?(.*)", line)
-        if found and found[2]:
-            lines.append((found[1], found[3], has_goal))
-        has_goal = has_goal and not found
-    refused, unproved = set(), {path for path, *_ in lines}
-    for path, why, is_open in lines:
+    lines = re.findall(r"(?m)^fn \w+::(\S+): (?:no proof|not proved)(.*)", said)
+    refused, unproved = set(), {path for path, _ in lines}
+    for path, why in lines:
         # a closure stands below its function
         own = re.sub(r"(?:^|(?<=::))fn::", "", path)
         # what a caller stands on may be answers of what it calls
         standing = re.findall(rf"`Rattle\.{crate.name}\.proofs\.(\S+)`", why)
         # (what is below a closure has `fn.` in its path, and what calls itself a `+`)
         answers = [it.replace("fn.", "").replace("+", "") for it in standing]
-        is_own = is_open or any(it.startswith(f"{own.replace('::', '.')}.") for it in answers) or "expected answers" in why
+        is_own = any(it.startswith(f"{own.replace('::', '.')}.") for it in answers) or "expected answers" in why
         # functions, and blocks of them
         named = re.findall(r"`\w+::(\S+?)`", why)
         leans = any(is_refused([it], unproved - {path}) for it in named)
