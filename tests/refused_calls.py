@@ -55,9 +55,11 @@ def fault(program, name):
 # a long cycle end before a ranking is made, as it is of a ladder; and of two games that differ in one edge the second makes one,
 # which takes more than three allocations.
 FEWER = {
-    "pg_finders_tests_tests": [
+    "pg_text_tests_tests": [
         ("game", "many_lists_in_order_are_a_game_after_a_refusal", "many_lists_with_repeated_successors_are_laid_out_after_a_refusal", 0),
         ("game", "many_falling_lists_are_laid_out_after_a_refusal", "many_lists_in_order_are_a_game_after_a_refusal", 40),
+    ],
+    "pg_finders_tests_tests": [
         ("dominion", "a_long_cycle_is_judged_after_a_refusal", "a_ladder_is_judged_after_a_refusal", 0),
         ("dominion", "each_edge_of_a_cycle_is_looked_at_once_after_a_refusal", "with_one_edge_more_a_ranking_is_made_after_a_refusal", -3),
     ],

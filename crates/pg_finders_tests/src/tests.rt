@@ -1,4 +1,4 @@
-//! Tests of `pg_game`, `pg_text`, `pg_dominion` and `pg_finders`. They stand in one crate, since what a check takes before its
+//! Tests of `pg_dominion` and `pg_finders`. They stand in one crate, since what a check takes before its
 //! first proof is a fifth of what the tests of one library take.
 
 // As `assert_eq!` and `assert!`; what stands last says where, as a value.
@@ -23,5 +23,3 @@ macro_rules! check {
 mod asserting;
 mod dominion;
 mod finders;
-mod game;
-mod text;

@@ -8,7 +8,7 @@ use Rattle.pg_text.specs.Written.{written_game}
 use Rattle.pg_text.specs.Reading.{IsTextOf, IsFaultOf}
 use Rattle.pg_text.proofs.OneFault.{text_or_fault}
 use Rattle.pg_text.proofs.WrittenReads.{written_game_is_text, written_game_back}
-use Rattle.pg_finders_tests.proofs.tests.text.games.read_back.Goals as goal
+use Rattle.pg_text_tests.proofs.tests.text.games.read_back.Goals as goal
 
 same_game : (g : Graph) (text : List ℕ) (r : Result Graph TextFault) → IsGame g → IsWithinLimits g → text ≡ written_game g
     → IfOk r (λ h. IsGame h × IsTextOf text h) → IfOk r (λ h. h ≡ g)

@@ -10,7 +10,7 @@ use Rattle.pg_text.specs.Written.{written_solution}
 use Rattle.pg_text.specs.Reading.{IsSolutionTextOf, IsSolutionFaultOf}
 use Rattle.pg_text.proofs.OneSolutionFault.{solution_text_or_fault}
 use Rattle.pg_text.proofs.WrittenReads.{written_solution_is_text, written_solution_back}
-use Rattle.pg_finders_tests.proofs.tests.text.solutions.read_back.Goals as goal
+use Rattle.pg_text_tests.proofs.tests.text.solutions.read_back.Goals as goal
 
 same_rows : (g : Graph) (rows : SolutionRows) (text : List ℕ) (r : Result Solution SolutionTextFault) → IsGame g → IsWithinLimits g
     → AreSolutionRows g rows → text ≡ written_solution g rows → IfOk r (λ s. IsSolutionTextOf g text s.rows) → IfOk r (λ s. s.rows ≡ rows)
