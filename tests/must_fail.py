@@ -141,7 +141,8 @@ def check(crate, planted, kept, beside=None):
         how = {"stdin": subprocess.DEVNULL, "stdout": subprocess.PIPE, "stderr": subprocess.STDOUT, "errors": "replace"}
         with lane(len(planted.edits)):
             words = [rtlib.RATTLE, "check", *crate.words(["--jobs", "1"], keeps=False), "--incremental", kept, *flags]
-            return subprocess.run([*rtlib.guarded(), *words], cwd=room, **how)
+            # what `rt ci` proves meanwhile goes first: each crate waits for those below
+            return subprocess.run(["nice", "-n", "10", *rtlib.guarded(), *words], cwd=room, **how)
 
 
 def refused_functions(crate, said):
