@@ -46,6 +46,11 @@ impl Phases {
         );
     }
 
+    /// Waits until loops and solitaire parts are posted.
+    pub(crate) fn wait_for_first<R: Wait>(&self, rt: &R) {
+        self.wait(rt, BEFORE_SMALL);
+    }
+
     /// A job holds nobody up any more. Nobody waits for a number of jobs between those of two phases.
     pub(crate) fn pass<R: Wait>(&self, rt: &R) {
         let mut guard = self.passed.lock(rt);

@@ -51,8 +51,68 @@ pub(crate) fn slots_of<L: Ledger, J: Naming>(
     Ok(slots)
 }
 
-/// Starts a worker for each slot on a thread of the scope. One that cannot be started is left out, and its slot is still
-/// there.
+/// Starts a worker for the slot on a thread of the scope. Whether it could be started: one that can't is left out, and its slot
+/// is still there.
+fn start<
+    's,
+    'x: 's,
+    'g,
+    E,
+    L: Ledger + Send + Sync,
+    J: Naming + Send + Sync,
+    G: Gate,
+    F: Finder,
+    R: Threads + Wait + Sync,
+>(
+    scope: &Scope<'s, E>,
+    rt: &'x R,
+    alloc: Global,
+    office: &'x Office<'g, L>,
+    jobs: &'x Jobs,
+    task: &'x Task<'x, G, F>,
+    slot: &'x mut Slot<L, J>,
+) -> bool
+    requires jobs { jobs.now.series ≡ J.series }
+    requires task { J.series.total ≡ total_of task.now.options.now.bound task.now.size }
+{
+    scope
+        .spawn(
+            move ||
+                requires jobs { jobs.now.series ≡ J.series }
+                requires task { J.series.total ≡ total_of task.now.options.now.bound task.now.size }
+            { slot.work(rt, alloc, office, jobs, task) },
+        )
+        .is_ok()
+}
+
+/// Whether nothing is unsettled. Also false where memory for a look is refused.
+fn is_all_settled<L: Ledger, R: Wait>(
+    rt: &R,
+    alloc: Global,
+    office: &Office<'_, L>,
+    share: &Share<L>,
+) -> bool {
+    office.shared_copy(rt, alloc, share).is_ok_and(|copied| copied.settled
+        == u64::from(copied.inside.game().len()))
+}
+
+/// Whether the first worker, which was started, settles all in the jobs of the first phases. Others would only wait for these
+/// with theirs. Where the gate may hold the first worker until others have gone on, that is not waited for.
+fn settles_all<L: Ledger, G: Gate, F, R: Wait>(
+    rt: &R,
+    alloc: Global,
+    office: &Office<'_, L>,
+    task: &Task<'_, G, F>,
+    share: &Share<L>,
+) -> bool {
+    if task.options.workers == 1 || task.gate.may_hold() {
+        return false;
+    }
+    task.phases.wait_for_first(rt);
+    is_all_settled(rt, alloc, office, share)
+}
+
+/// Starts a worker for each slot, but for the first one alone where it settles all in its first jobs.
 fn start_each<
     's,
     'x: 's,
@@ -70,22 +130,25 @@ fn start_each<
     office: &'x Office<'g, L>,
     jobs: &'x Jobs,
     task: &'x Task<'x, G, F>,
-    slots: IterMut<'x, Slot<L, J>>,
+    share: &Share<L>,
+    mut slots: IterMut<'x, Slot<L, J>>,
 )
     requires jobs { jobs.now.series ≡ J.series }
     requires task { J.series.total ≡ total_of task.now.options.now.bound task.now.size }
 {
+    let Some(first) = slots.next() else {
+        return;
+    };
+    let is_started = start(scope, rt, alloc, office, jobs, task, first);
+    if is_started && settles_all(rt, alloc, office, task, share) {
+        return;
+    }
     for slot in slots {
-        let _ = scope.spawn(
-            move ||
-                requires jobs { jobs.now.series ≡ J.series }
-                requires task { J.series.total ≡ total_of task.now.options.now.bound task.now.size }
-            { slot.work(rt, alloc, office, jobs, task) },
-        );
+        start(scope, rt, alloc, office, jobs, task, slot);
     }
 }
 
-/// Lends each slot to a thread of its own, and returns once all have ended.
+/// Lends slots to threads, each to one of its own, and returns once all have ended. The share is the calling thread's.
 pub(crate) fn start_all<
     'x,
     'g,
@@ -100,6 +163,7 @@ pub(crate) fn start_all<
     office: &'x Office<'g, L>,
     jobs: &'x Jobs,
     task: &'x Task<'x, G, F>,
+    share: &Share<L>,
     mut slots: Vec<Slot<L, J>>,
 ) -> Vec<Slot<L, J>>
     requires jobs { jobs.now.series ≡ J.series }
@@ -114,7 +178,7 @@ pub(crate) fn start_all<
             requires jobs { jobs.now.series ≡ J.series }
             requires task { J.series.total ≡ total_of task.now.options.now.bound task.now.size }
         {
-            start_each(scope, rt, alloc, office, jobs, task, cells);
+            start_each(scope, rt, alloc, office, jobs, task, share, cells);
         },
     );
     slots

@@ -135,7 +135,7 @@ fn run<
     let rows_back = Vec::with_capacity(alloc, seats)?;
     let report = blank_report(alloc, total)?;
     let slots = slots_of::<L, J>(alloc, total, shares, tickets)?;
-    let slots = start_all(rt, alloc, &office, &jobs, task, slots);
+    let slots = start_all(rt, alloc, &office, &jobs, task, &first, slots);
     let (mut shares, tickets, rows) = take_apart(slots, shares_back, tickets_back, rows_back);
     drop(jobs.close(tickets));
     shares.push_reserved(first);
@@ -185,6 +185,8 @@ fn solve_on<L: Ledger + Send + Sync, G: Gate, F: Finder, R: Threads + Wait + Syn
 }
 
 /// Solves a game by as many workers as can be started, of 1 to 64, each on a thread of its own, and settles what they leave.
+/// Where the gate lets every worker pass, the others are started once the first has looked for loops and solitaire parts, and
+/// not where all is settled then.
 /// What is known is posted before any worker starts, as worker 0: Even's set and then Odd's, where not empty. Of a vertex
 /// behind the last known row nothing is known. A known set that is no region is answered by the refusal of its post.
 /// For every number of workers, gate and finder the entries are a lawful journal of the game, the solution is their

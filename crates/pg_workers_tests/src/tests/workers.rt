@@ -20,3 +20,4 @@ mod replay;
 mod reports;
 mod runs;
 mod schedules;
+mod starts;

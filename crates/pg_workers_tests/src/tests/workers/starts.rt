@@ -1,0 +1,88 @@
+//! Which workers are started where the gate lets each of them pass.
+
+use crate::tests::workers::finders::answer;
+use crate::tests::workers::games::run_on;
+use pg_finders::{Copied, Finder, Found, Job, Standard};
+use pg_game::Memory;
+use pg_test_support::own_loops;
+use pg_workers::{Pass, ReportRow};
+use std::alloc::Global;
+use std::process::Abort;
+use std::sync::OnceLock;
+use std::thread;
+
+/// Enough vertices for some batches.
+const VERTICES: u32 = 1_024;
+
+/// How often a worker looks whether another has come.
+const TURNS: u32 = 10_000_000;
+
+/// Claims nothing, and keeps the first search for a small dominion from ending until another one begins. Notes whether one
+/// did.
+#[derive(Drop)]
+struct Meeting {
+    first: OnceLock<()>,
+    second: OnceLock<()>,
+    met: OnceLock<bool>,
+}
+
+impl Meeting {
+    fn new() -> Meeting {
+        Meeting {
+            first: OnceLock::new(),
+            second: OnceLock::new(),
+            met: OnceLock::new(),
+        }
+    }
+
+    /// Whether another search begins within so many turns.
+    fn waits(&self) -> bool {
+        for _ in 0..TURNS {
+            if self.second.get().is_some() {
+                return true;
+            }
+            thread::yield_now();
+        }
+        false
+    }
+
+    /// A search begins.
+    fn begin(&self) {
+        if self.first.try_set(()).is_ok() {
+            let _ = self.met.try_set(self.waits());
+        } else {
+            let _ = self.second.try_set(());
+        }
+    }
+}
+
+impl Finder for Meeting {
+    fn find(&self, alloc: Global, _copied: &Copied, job: &Job) -> Result<Found, Memory> {
+        if matches!(job, Job::Small { .. }) {
+            self.begin();
+        }
+        answer(Vec::new(alloc), Ok(()))
+    }
+}
+
+/// The first worker drew the job.
+fn check_first(rt: &impl Abort, row: &ReportRow) {
+    check_eq!(*rt; row.worker, Some(1));
+}
+
+#[test]
+fn the_first_worker_does_all_jobs_where_the_first_of_them_settle_all(rt: HostRuntime) {
+    let game = own_loops(rt.alloc(), VERTICES).expect(&rt, "a game");
+    let outcome = run_on(&rt, rt.alloc(), &game, 4, &Pass, &Standard);
+    for row in outcome.report.as_slice() {
+        check_first(&rt, row);
+    }
+}
+
+#[test]
+fn the_others_start_where_the_first_jobs_leave_something(rt: HostRuntime) {
+    let game = own_loops(rt.alloc(), VERTICES).expect(&rt, "a game");
+    let finder = Meeting::new();
+    let _outcome = run_on(&rt, rt.alloc(), &game, 2, &Pass, &finder);
+    check_eq!(rt; finder.met.get().copied(), Some(true));
+}
