@@ -27,6 +27,8 @@ ONE_EACH = b"0 2 0 0,1; 1 1 1 1;"
 LAYERS = b"0 0 0 0; 1 3 0 0,1; 2 3 1 1;"
 GAPS = b"9 2 1 3,3,9; 3 1 0 9;"
 LOOP = b"parity 5;start 77;00 07 01 0,00;"
+# neither loops nor solitaire parts settle anything of it
+TWO_SIDED = b"0 4 0 1; 1 3 1 2,3; 2 0 1 0,3; 3 3 0 1,2;"
 GAMES = {"the continents": CONTINENTS, "one each": ONE_EACH, "layers": LAYERS, "gaps": GAPS, "one loop": LOOP}
 HOLDS = b"paritysol 1;\n0 0 0;\n1 1 1;\n"
 NO_CHOICE = b"0 0; 1 1 1;"
@@ -188,8 +190,8 @@ def some_starts(program):
     """Of two or four workers each start in turn is refused, and then all from it on: the others do all jobs."""
     for workers, more in itertools.product((2, 4), ({}, {"REFUSE_FROM": 1})):
         words = ["trace", "--workers", str(workers)]
-        for n, got in program.each("REFUSE_THREAD", range(1, workers + 1), words, CONTINENTS, **more):
-            if not is_trace(CONTINENTS, workers)(got):
+        for n, got in program.each("REFUSE_THREAD", range(1, workers + 1), words, TWO_SIDED, **more):
+            if not is_trace(TWO_SIDED, workers)(got):
                 return f"{workers} workers, start {n} {more}: {got}"
             # the workers keep their numbers; the one that did not start has no job
             out = range(n, workers + 1) if more else [n]
@@ -198,6 +200,15 @@ def some_starts(program):
                 return f"{workers} workers, start {n} {more}: a worker that did not start drew a job: {got}"
             if ("-" in drawers) != (len(out) == workers):
                 return f"{workers} workers, start {n} {more}: {got}"
+    return None
+
+
+def how_many_start(program):
+    """The others start only where the first worker leaves something when it has posted loops and solitaire parts."""
+    for game, wanted in ((ONE_EACH, 1), (TWO_SIDED, 4)):
+        started = program.counted(["solve", "--workers", "4"], game)[1][1]
+        if started != wanted:
+            return f"{game}: {started} workers started, and not {wanted}"
     return None
 
 
@@ -239,6 +250,7 @@ def cases(program):
     yield "a start that the system refuses leaves the worker out", lambda: no_start(program, REFUSE_THREAD=1)
     yield "a start that memory is refused to leaves the worker out", lambda: a_start_without_memory(program)
     yield "the workers that start do all jobs", lambda: some_starts(program)
+    yield "the others start where the first leaves something", lambda: how_many_start(program)
     yield "a read that fails at each place", lambda: each_read(program)
     yield "a write that fails at each place", lambda: each_write(program)
 
