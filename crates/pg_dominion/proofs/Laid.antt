@@ -70,6 +70,12 @@ module _ (g : Graph) (p : Player) where
     bad_is = λ v. rw b (none_mask n v);
   }
 
+  -- the next row's vertex has its place in a list with one for each vertex
+  pub has_place : (rows xs : ClaimRows) (i n : ℕ) → n ≡ length g → xs ≡ rows → AreRight g p rows → i < length xs → (get_or xs i (0, None)).0 < n
+  has_place rows xs i n size same right l =
+      let l' : i < length rows = rw (← same) l in
+      rw (same, size) (All-from_recursion (IsRightRow g p) rows right.each i (0, None) l').vertex
+
   -- the next row is laid out
   pub IsLaid-next : (rows : ClaimRows) (i : ℕ) (d : ℕ × Option ℕ) (t : Layout) → AreRight g p rows → i < length rows
       → IsLaid g p (take i rows) t → IsLaid g p (take (i + 1) rows) (laid_with t (get_or rows i d) (is_bad g p (get_or rows i d).0))

@@ -6,7 +6,10 @@ use Rattle.pg_dominion.proofs.Common.{successors_of, In, members, kept, KeptEdge
 use Rattle.pg_dominion.proofs.Common.{winner_of, LacksChoice, HasBadChoice, Leaves, Kept, IsKept, Edge, IsWorst, kept_row, Layout, laid_with, is_bad, IsPlanned}
 use Rattle.pg_dominion.proofs.Common.{LeavesTo, sorted_from_strictly_increasing, below_from_sorted}
 use Rattle.std.specs.Prelude.{slice_index}
+use Rattle.std.proofs.Common.{replicate}
 use Rattle.std.proofs.lemmas.Bool.{cases_order}
+use Rattle.std.proofs.lemmas.List.{length-replicate}
+use Rattle.pg_game.proofs.Masks.{none_mask}
 use Rattle.pg_game.proofs.Members.{Contains-nil, Contains-one}
 use Rattle.pg_text.specs.Solution.{SolutionRows, choice_of, won_by}
 use Rattle.pg_text.specs.Verdict.{IsOnBadWalk}
@@ -14,6 +17,18 @@ use Rattle.pg_text.proofs.Verdict.{has_or_not, won}
 use Rattle.pg_dominion.specs.private.Plan.{own_choice, IsPlanOf}
 use Rattle.pg_dominion.proofs.Searching.{place_in, starts_in}
 use Rattle.pg_dominion.proofs.Laid.{has_places, choice_at-same, choice_at-other, chosen-other, marked-same, marked-other, layout_of, from_choice, row_cases}
+
+-- nothing is laid out where nothing is marked
+pub IsPlanned-none : (g : Graph) (rows : SolutionRows) (n : ℕ) → n ≡ length g → (t : Layout) → t.inside ≡ replicate n false → t.chosen ≡ replicate n false
+    → t.choices ≡ replicate n 0 → t.bad ≡ replicate n false → IsPlanned g rows 0 t
+IsPlanned-none g rows n size t i c w b = record {
+  sizes = search (rules, length-replicate, size, i, c, w, b);
+  inside_is = λ v l. absurd (omega (arith, l));
+  choices_is = λ v l. absurd (omega (arith, l));
+  bad_is = λ v l. absurd (omega (arith, l));
+  chosen_later = λ v _. rw c (none_mask n v);
+  bad_later = λ v _. rw b (none_mask n v);
+}
 
 pub IsPlanned-push : (g : Graph) (rows : SolutionRows) (v : ℕ) (t : Layout) (c : Option ℕ) (b : Bool) → v < length g → c ≡ own_choice g rows v
     → b ≡ is_bad g (winner_of rows v) v → IsPlanned g rows v t → IsPlanned g rows (v + 1) (laid_with t (v, c) b)

@@ -2,10 +2,11 @@
 use Rattle.pg_dominion.proofs.Common.{rules, ◌≡◌, ◌≢◌, ℕ, suc, ◌<◌, ◌≤◌, ◌↔◌, true, false, inl, inr, List, [], ◌∷◌, ◌++◌, length, get_or, refl, sym, ◌∙◌, ap}
 use Rattle.pg_dominion.proofs.Common.{subst, arith, Option, None, ◌==◌, Contains, list_any, eqb-true, cases_Bool, Contains-append_left, Player, Graph}
 use Rattle.pg_dominion.proofs.Common.{priority_of, In, KeptEdge, kept, Walk, greatest_priority, OnBadWalk, NoneHas, IsLeast, is_same, ClaimRows, named}
-use Rattle.pg_dominion.proofs.Common.{choice_in, is_bad, CheckedRow, claim_row, AgreesAt, Stays, AreNamed, or_parts}
+use Rattle.pg_dominion.proofs.Common.{choice_in, is_bad, IsRightRow, AllByRecursion, CheckedRow, claim_row, AgreesAt, Stays, AreNamed, or_parts}
 use Rattle.std.specs.Prelude.{MatchOption, slice_index}
 use Rattle.std.proofs.lemmas.List.{append_assoc}
 use Rattle.pg_dominion.proofs.Agreed.{kept_cases}
+use Rattle.pg_dominion.proofs.Rows.{named_right}
 use Rattle.pg_dominion.proofs.Searching.{place_in, push_each, starts_in}
 
 pub longer_push : (before list : List ℕ) (w : ℕ) → (more : List ℕ) × (list ≡ before ++ more)
@@ -14,6 +15,10 @@ longer_push before list w (more, e) = (more ++ w ∷ [], ap (λ (xs : List ℕ).
 
 pub AreNamed-push : (rows : ClaimRows) (list : List ℕ) (w : ℕ) → AreNamed rows list → In (named rows) w → AreNamed rows (list ++ w ∷ [])
 AreNamed-push rows list w all i = push_each (λ k x. In (named rows) x) list w all i
+
+-- what rows name that are right is a vertex
+pub named_vertex : (g : Graph) (p : Player) (rows xs : ClaimRows) (v : ℕ) → xs ≡ rows → AllByRecursion (IsRightRow g p) rows → In (named xs) v → v < length g
+named_vertex g p rows xs v same right i = (named_right g p rows v right (rw (← same) i)).vertex
 
 module _ (g : Graph) (p : Player) (rows : ClaimRows) where
   -- what a row keeps is what the claim keeps of its vertex

@@ -5,9 +5,10 @@
 //! (`clustering`) tells the answer in near-linear time. A ranking is never believed: a pass over the edges checks it
 //! (`ranking`), and one search confirms the vertex that it names. Where either fails the plain body goes on.
 
-ghost use Rattle.std.specs.Prelude.{ℕ, ◌<◌, IfOk, IfSome, MatchOption};
+ghost use Rattle.std.specs.Prelude.{◌≡◌, ℕ, ◌<◌, IfOk, IfSome, MatchOption, length, true};
 ghost use Rattle.pg_game.specs.Least.{NoneHas, IsLeast};
 ghost use Rattle.pg_dominion.specs.KeptEdges.{IsKept, IsWorst};
+ghost use Rattle.pg_dominion.specs.private.KeptEdges.{Reaches};
 ghost use Rattle.pg_dominion.specs.private.Searched.{IsSearched};
 
 use crate::kept::Kept;
@@ -15,6 +16,17 @@ use crate::placing::find_ranking;
 use crate::ranking::is_ranked;
 use crate::walks::{Labels, Search, is_alone, walks_back};
 use std::alloc::{AllocError, Global};
+
+/// Whether the vertex is the greatest on a closed walk through it, by a search with tables of its own.
+fn leads_back(alloc: Global, kept: &Kept, v: u32) -> Result<bool, AllocError>
+    requires kept { IsKept kept.now }
+    requires vertex { v < length kept.now.game.now }
+    ensures { IfOk result (λ found. found ≡ true → Reaches kept.now v v) }
+{
+    let mut labels = Labels::new(alloc, kept)?;
+    let mut search = Search::new(alloc, kept)?;
+    walks_back(kept, v, &mut labels, &mut search)
+}
 
 /// The least bad vertex that is the greatest on a closed walk through it, where a ranking shows it.
 pub fn first_by_ranking(alloc: Global, kept: &Kept) -> Result<Option<Option<u32>>, AllocError>
@@ -33,9 +45,7 @@ pub fn first_by_ranking(alloc: Global, kept: &Kept) -> Result<Option<Option<u32>
     if !kept.bad.has(limit) {
         return Ok(None);
     }
-    let mut labels = Labels::new(alloc, kept)?;
-    let mut search = Search::new(alloc, kept)?;
-    if walks_back(kept, limit, &mut labels, &mut search)? {
+    if leads_back(alloc, kept, limit)? {
         return Ok(Some(Some(limit)));
     }
     Ok(None)

@@ -7,13 +7,25 @@ use pg_game::{Game, Mask};
 
 /// The edges that are kept of a game: from a vertex with a choice the edge to it, from another vertex
 /// inside all edges, and none from a vertex outside. A vertex is bad where its priority has the wrong parity.
-#[derive(Drop)]
 pub struct Kept<'g> {
     pub game: &'g Game,
     pub inside: Mask,
     pub chosen: Mask,
     pub choices: Vec<u32>,
     pub bad: Mask,
+}
+
+/// By hand, so that letting one go is one step in the proofs of callers, and not one for each list.
+impl<'g> Drop for Kept<'g> {
+    fn drop(self) {
+        let Kept {
+            inside: _inside,
+            chosen: _chosen,
+            choices: _choices,
+            bad: _bad,
+            game: _game,
+        } = self;
+    }
 }
 
 impl<'g> Kept<'g> {

@@ -14,10 +14,19 @@ use std::alloc::{AllocError, Global};
 
 /// What searches have shown. Whoever lies with a vertex on a closed walk of priorities below its level has its group and
 /// its level. A vertex whose group is its own number and one more lies on no such walk.
-#[derive(Drop)]
 pub struct Labels {
     pub levels: Vec<u32>,
     pub groups: Vec<u32>,
+}
+
+/// By hand, so that letting one go is one step in the proofs of callers, and not one for each list.
+impl Drop for Labels {
+    fn drop(self) {
+        let Labels {
+            levels: _levels,
+            groups: _groups,
+        } = self;
+    }
 }
 
 impl Labels {
@@ -34,7 +43,6 @@ impl Labels {
 }
 
 /// The tables of one search after another.
-#[derive(Drop)]
 pub struct Search {
     /// What was reached, from the start on, and where a vertex stands in it, if it does.
     pub queue: Vec<u32>,
@@ -43,6 +51,18 @@ pub struct Search {
     pub least: usize,
     /// How many edges all searches have looked at.
     pub steps: u64,
+}
+
+/// By hand, so that letting one go is one step in the proofs of callers, and not one for each list.
+impl Drop for Search {
+    fn drop(self) {
+        let Search {
+            queue: _queue,
+            places: _places,
+            least: _least,
+            steps: _steps,
+        } = self;
+    }
 }
 
 impl Search {

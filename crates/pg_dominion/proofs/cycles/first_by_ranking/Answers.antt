@@ -7,6 +7,6 @@ returns-then-branch c =
     let k = c.args.kept.now in
     let limit = c.in_ok-ranking.ranking.limit in
     record {
-      has = (cc (c.has.ensures, c.if-not-has.false), OnTop-from_reaches k limit (c.in_ok-walks_back.ensures.back c.if-branch.true));
+      has = (cc (c.has.ensures, c.if-not-has.false), OnTop-from_reaches k limit (c.in_ok-leads_back.ensures c.if-branch.true));
       least = λ u w. not_below (IsWorst k) limit u (c.in_ok-is_ranked.ensures c.if-not-branch.false) w;
     }

@@ -3,7 +3,7 @@ use Rattle.pg_dominion.proofs.Common.{Contains-append_left, In, ClaimRows, IsRig
 use Rattle.std.proofs.lemmas.List.Elements.{Contains-append_right}
 use Rattle.pg_game.proofs.Gathered.{any_from}
 use Rattle.pg_dominion.proofs.Rows.{named_right}
-use Rattle.pg_dominion.proofs.Staying.{kept_in_row, Stays-from_row, longer_push, AreNamed-push}
+use Rattle.pg_dominion.proofs.Staying.{kept_in_row, Stays-from_row, longer_push, AreNamed-push, named_vertex}
 use Rattle.pg_dominion.proofs.small.stays.Goals.{then-priority-top-via-then-priority-top, then-priority-top-via-else-priority-top+then-contains}
 use Rattle.pg_dominion.proofs.small.stays.Goals as goal
 
@@ -29,8 +29,7 @@ returns-clause-stays c = λ _.
 
 pub ends-preserved-then-priority-top : goal.ends-preserved-then-priority-top
 ends-preserved-then-priority-top c =
-    let q = c.ends.list.items in
-    let u = slice_index c.as_slice-ends.result.now c.ends.end-index in
+    let q = c.ends.list.items in let u = slice_index c.as_slice-ends.result.now c.ends.end-index in
     record {
       within = c.ends.invariant.within;
       longer = c.ends.invariant.longer;
@@ -56,3 +55,6 @@ ends-preserved c =
       stays = below_more _ _ (λ k lk n low. let old = c.ends.invariant.stays k lk n low in (old.0, Contains-append_left q (u ∷ []) (slice_index ws k) old.1))
           (λ n low. (c.if-w-start.false, Contains-append_right q (u ∷ []) u (0, omega arith, refl)));
     }
+
+pub priority-requires : goal.priority-requires
+priority-requires c = named_vertex _ _ _ _ _ c.as_slice-rows.ensures c.requires.shape.right.each c.in-Some-choice_at.ensures.0
