@@ -69,9 +69,11 @@ impl Search {
     pub fn new(alloc: Global, kept: &Kept) -> Result<Search, AllocError>
         ensures { IfOk result (λ s. length s.places.items ≡ length kept.now.game.now) }
     {
+        // The queue has room for all vertices, so that it leaves no small blocks behind, which the allocator would keep, and what
+        // lies below them with them.
         let n = kept.game.len();
         Ok(Search {
-            queue: Vec::new(alloc),
+            queue: Vec::with_capacity(alloc, n as usize)?,
             places: vec![in alloc; 0u32; n as usize]?,
             least: usize::MAX,
             steps: 0,

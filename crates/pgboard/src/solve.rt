@@ -65,15 +65,16 @@ fn solve_text<R: Threads + Wait + Sync>(
         bound: options.bound,
         budget: BUDGET,
     };
-    let outcome = match solve_game(rt, alloc, game, &run, known, gate, finder) {
-        Ok(outcome) => outcome,
+    // the journal takes as much memory as the solution, and is given back before the text is made
+    let solution = match solve_game(rt, alloc, game, &run, known, gate, finder) {
+        Ok(outcome) => outcome.solution,
         Err(fault) => return Err(unsolved(game, known, fault)),
     };
     if options.winners {
-        let text = write_winners(alloc, game, &outcome.solution)?;
+        let text = write_winners(alloc, game, &solution)?;
         return Ok(text);
     }
-    let text = write_solution(alloc, game, &outcome.solution)?;
+    let text = write_solution(alloc, game, &solution)?;
     Ok(text)
 }
 

@@ -1,6 +1,6 @@
 //! The vertices that are settled, a list for each player, in the order in which they were settled.
 
-ghost use Rattle.std.specs.Prelude.{◌≡◌, ◌<◌, ◌≤◌, ◌++◌, [], length, take, drop, All, OnOk};
+ghost use Rattle.std.specs.Prelude.{◌≡◌, ◌<◌, ◌≤◌, ◌++◌, [], length, take, drop, All, IfOk, OnOk};
 ghost use Rattle.pg_game.specs.VertexSet.{members, union};
 ghost use Rattle.pg_game.specs.private.VertexSet.{without};
 ghost use Rattle.pg_finders.specs.private.recursion.Listed.{listed};
@@ -20,14 +20,14 @@ pub struct Settled {
 }
 
 impl Settled {
-    /// Nothing is settled.
-    pub fn new(alloc: Global) -> Settled
-        ensures { (p : Player) → settled_of result p ≡ [] }
+    /// Nothing is settled. There is room for so many vertices of each player.
+    pub fn new(alloc: Global, n: u32) -> Result<Settled, Memory>
+        ensures { IfOk result (λ settled. (p : Player) → settled_of settled p ≡ []) }
     {
-        Settled {
-            even: Vec::new(alloc),
-            odd: Vec::new(alloc),
-        }
+        Ok(Settled {
+            even: Vec::with_capacity(alloc, n as usize)?,
+            odd: Vec::with_capacity(alloc, n as usize)?,
+        })
     }
 
     /// How many vertices the player has.

@@ -68,16 +68,23 @@ impl Solver {
         requires subgame { IsSubgame game.now (members inside.now) }
         ensures { IfOk result (λ solver. IsRunning game.now inside.now solver solver.stops.items) }
     {
+        // Rooms are for all that may be listed, as far as that is known. Blocks below a KiB that lists outgrow are kept by the
+        // allocator of glibc, and what lies below them isn't given back to the system.
+        let n = inside.count();
+        let stops = Vec::with_capacity(alloc, 64)?;
         let subgame = Subgame::new(alloc, game, inside)?;
         let order = Order::new(alloc, game, inside)?;
+        let settled = Settled::new(alloc, n)?;
+        let aside = Vec::with_capacity(alloc, n as usize)?;
+        let list = Vec::with_capacity(alloc, n as usize)?;
         let solver = Solver {
             subgame,
             order,
-            settled: Settled::new(alloc),
-            aside: Vec::new(alloc),
-            stops: Vec::new(alloc),
-            list: Vec::new(alloc),
-            size: inside.count() as usize,
+            settled,
+            aside,
+            stops,
+            list,
+            size: n as usize,
         };
         Ok(solver)
     }

@@ -8,12 +8,13 @@ returns c =
     let e : c.in_ok-subgame.subgame.active ≡ c.args.inside.now = c.in_ok-subgame.ensures.active in
     record {
       inside_length = c.requires.length;
-      whole = c.count.ensures ∙ size_is c.args.inside.now;
+      whole = c.count-n.ensures ∙ size_is c.args.inside.now;
       sizes = c.in_ok-subgame.ensures.sizes;
       subgame = subst (λ m. IsSubgame c.args.game.now (members m)) (sym e) c.requires.subgame;
       order = c.in_ok-order.ensures.order;
       stand = subst (λ m. AllStand c.in_ok-order.order.ranked.items (members m) c.in_ok-order.order.upto) (sym e) c.in_ok-order.ensures.all;
       placed = subst (λ fs. AllPlaced c.in_ok-order.order.ranked.items
-          (map (level_at (members c.args.inside.now) (settled_of c.new-3.result) c.new-4.result.items) fs) fs) (sym c.new-5.ensures.items) tt;
-      under_way = under_way_start (λ v. rw e refl) c.new-3.ensures c.new-4.ensures.items c.new-5.ensures.items;
+          (map (level_at (members c.args.inside.now) (settled_of c.in_ok-settled.settled) c.in_ok-aside.aside.items) fs) fs)
+          (sym c.in_ok-stops.ensures.items) tt;
+      under_way = under_way_start (λ v. rw e refl) c.in_ok-settled.ensures c.in_ok-aside.ensures.items c.in_ok-stops.ensures.items;
     }
