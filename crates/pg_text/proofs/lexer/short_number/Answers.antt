@@ -1,3 +1,4 @@
+use Rattle.std.proofs.Common.{rules}
 use Rattle.pg_text.proofs.Common.{◌≡◌, ◌+◌, ◌++◌, ◌∷◌, [], ℕ, get_or, sym, subst, ◌∙◌, arith, true, is_digit, IsRun}
 use Rattle.pg_text.proofs.Runs.{run_more, digits_more}
 use Rattle.pg_text.proofs.lexer.short_number.Goals as goal
@@ -12,3 +13,9 @@ digits-preserved c =
     let more = run_more is_digit text c.args.from at run is_run (omega (arith, c.digits-test.true, c.requires)) t in
     let (small, same) = digits_more c.digits.value c.digits.k d c.from.result run below value t c.from.ensures in
     (small, run ++ d ∷ [], subst (λ (to : ℕ). IsRun is_digit text c.args.from to (run ++ d ∷ [])) (omega arith) more, same)
+
+pub overflow_cast-result : goal.overflow_cast-result
+overflow_cast-result c = search rules
+
+pub returns-then-not-digit-clause-run : goal.returns-then-not-digit-clause-run
+returns-then-not-digit-clause-run c = search rules

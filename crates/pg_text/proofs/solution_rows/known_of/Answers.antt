@@ -7,3 +7,6 @@ returns-in_err-table_of-clause-rows c = search (rules, passed_on, c.in_err-table
 
 pub returns-clause-size : goal.returns-clause-size
 returns-clause-size c = let h = c.in_ok-table_of.ensures in search rules
+
+pub returns-clause-rows : goal.returns-clause-rows
+returns-clause-rows c = search rules

@@ -1,3 +1,4 @@
+use Rattle.std.proofs.lemmas.Grind.{common_steps}
 use Rattle.pg_text.proofs.Common.{ap, drop, length, map, List, ℕ, arith, length-append, written_rows}
 use Rattle.std.proofs.Common.{None}
 use Rattle.pg_text.proofs.Lengths.{short_winners}
@@ -10,3 +11,6 @@ returns-clause-short c =
     let all = ap (λ (text : List ℕ). length text) c.rows.invariant in
     let parts = length-append c.rows.out.items rest in
     omega (arith, short_winners g c.len-v-end.ensures.game c.len-v-end.ensures.limits c.as_slice-rows.result.now)
+
+pub rows-preserved : goal.rows-preserved
+rows-preserved c = grind (arith, common_steps)

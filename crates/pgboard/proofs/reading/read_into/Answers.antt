@@ -14,3 +14,15 @@ reads-preserved g c =
       limit = omega arith;
       failures = read.failures ∙ before.failures;
     }
+
+pub returns-then-n-eq0-clause-limit : goal.returns-then-n-eq0-clause-limit
+returns-then-n-eq0-clause-limit g c = search rules
+
+pub returns-in_default-clause-text : goal.returns-in_default-clause-text
+returns-in_default-clause-text g c = search rules
+
+pub returns-in_default-clause-limit : goal.returns-in_default-clause-limit
+returns-in_default-clause-limit g c = search rules
+
+pub returns-in_default-clause-no_failure : goal.returns-in_default-clause-no_failure
+returns-in_default-clause-no_failure g c = search rules

@@ -28,3 +28,6 @@ of_subgame-inside-requires-clause-subgame c =
     (omega (arith, c.entries-test.false, c.len-end.ensures, c.self.inside.entries.ok.0)) in
     subst (λ (x : Play). IsSubgame x.graph (members c.entries.mask)) (sym c.self.view_is)
     (subgame_left c.args.self.now c.entries.mask c.entries.k lawful all c.entries.invariant.members)
+
+pub entries-init : goal.entries-init
+entries-init c = search rules

@@ -10,3 +10,9 @@ returns-clause-grown c p = search (rules, c.moves_watch.ensures)
 
 pub returns-clause-free : goal.returns-clause-free
 returns-clause-free c = λ v. ap (λ y. members y v) c.moves_watch.ensures.mask
+
+pub returns-clause-out : goal.returns-clause-out
+returns-clause-out c = search rules
+
+pub returns-clause-none : goal.returns-clause-none
+returns-clause-none c = search rules
