@@ -1,3 +1,4 @@
+use Rattle.std.proofs.Common.{rules}
 use Rattle.pg_game.proofs.Common.{ℕ, ◌<◌, length, slice_index, inl, inr, refl, sym, ◌∙◌, ap, subst, arith, Contains, get_or_default, Contains-get_or}
 use Rattle.pg_game.proofs.Places.{order}
 use Rattle.pg_game.proofs.placed.put_row.Goals as goal
@@ -31,3 +32,6 @@ returns c = λ done.
       all = λ i m. (let h = c.row.invariant.all m.0 (omega (arith, m.1, c.row-test.false)) in
           (h.0, (c.make_rising.ensures.same h.0).0 h.1, h.2 ∙ (get_or_default c.args.row.now m.0 0 i m.1 ∙ m.2)));
     }
+
+pub returns-in_default : goal.returns-in_default
+returns-in_default c = search rules

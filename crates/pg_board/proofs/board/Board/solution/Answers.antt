@@ -1,3 +1,4 @@
+use Rattle.std.proofs.Common.{rules}
 use Rattle.pg_board.proofs.Common.{◌≡◌, length, ◌∙◌, ap, subst, arith, slice_get, IsExactSolution, Play, state_of, AreStateRows}
 use Rattle.pg_text.specs.Solution.{SolutionRows}
 use Rattle.pg_board.proofs.Solved.{exact_solution}
@@ -13,3 +14,9 @@ returns-clause-solution c =
       each = λ v l. ap (λ (xs : SolutionRows). slice_get xs v) c.new.ensures ∙ (c.in_ok-rows.ensures.each v (omega (arith, i.regions.size)) ∙ i.state v);
     } in
     subst (λ (x : Play). IsExactSolution x.graph c.new.result) c.self.view_is (exact_solution b.game.now b.entries.items i.lawful c.new.result are)
+
+pub rows-requires : goal.rows-requires
+rows-requires c = search rules
+
+pub returns-clause-full : goal.returns-clause-full
+returns-clause-full c = search rules

@@ -1,3 +1,4 @@
+use Rattle.std.proofs.Common.{rules}
 use Rattle.pg_board.proofs.Common.{◌≡◌, true, sym, ◌∙◌, settled, table_state}
 use Rattle.pg_board.proofs.Places.{row_at}
 use Rattle.pg_board.proofs.Lost.{none_lost, least_lost}
@@ -19,3 +20,6 @@ returns c =
     let e = c.as_slice-row-items.ensures in
     none_lost (table_state c.args.self.now.table.items) c.args.claim.now.player c.args.claim.now.rows c.rows.row-index (rw e at c.rows-test.false)
     (rw (e, c.other-opponent.ensures) at c.rows.invariant)
+
+pub rows-preserved : goal.rows-preserved
+rows-preserved c = search rules
