@@ -9,7 +9,7 @@ use pg_text::{SolutionTextFault, TextFault};
 use std::alloc::AllocError;
 
 /// Why a call gave nothing, or what is wrong with winners and choices. Vertices are told by their numbers.
-#[derive(Clone, Copy, Debug, Drop, PartialEq, Eq)]
+#[derive(Clone, Copy, Drop)]
 pub enum Fault {
     /// Memory was refused.
     Memory,
@@ -285,7 +285,7 @@ impl Fault {
 
 /// What is said beside an answer. A number that an answer doesn't name is 0.
 #[repr(C)]
-#[derive(Clone, Copy, Debug)]
+#[derive(Clone, Copy)]
 pub struct Told {
     /// The vertex, the place in a text or the size that the answer is about.
     pub at: u64,
