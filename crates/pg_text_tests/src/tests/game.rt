@@ -163,14 +163,16 @@ fn flat_game_of(alloc: Global, rows: &[Row]) -> Result<Game, GameFault> {
 }
 
 /// All that is told of a vertex.
-fn look_at(rt: &impl Abort, game: &Game, v: u32, (row, predecessors): Told) {
+fn look_at(rt: &impl Abort, game: &Game, v: u32, told: Told) {
     assert!(*rt; v < game.len());
-    check_eq!(*rt; game.id(v), row.0, ("id", v));
-    check_eq!(*rt; game.vertex_of(row.0), Some(v), ("vertex_of", v));
-    check_eq!(*rt; game.priority(v), row.1, ("priority", v));
-    check_eq!(*rt; game.owner(v), row.2, ("owner", v));
-    check_eq!(*rt; game.successors(v), row.3, ("successors", v));
-    check_eq!(*rt; game.predecessors(v), predecessors, ("predecessors", v));
+    let row = (
+        game.id(v),
+        game.priority(v),
+        game.owner(v),
+        game.successors(v),
+    );
+    check_eq!(*rt; (row, game.predecessors(v)), told, v);
+    check_eq!(*rt; game.vertex_of(row.0), Some(v), v);
 }
 
 /// How many vertices a game has, and all that is told of them.
@@ -476,9 +478,12 @@ fn compare_edge(rt: &impl Abort, game: &Game, v: u32, w: u32, wanted: bool)
     requires from { v < length game.now }
     requires to { w < length game.now }
 {
-    check_eq!(*rt; game.has_edge(v, w), wanted);
-    check_eq!(*rt; game.successors(v).contains(&w), wanted);
-    check_eq!(*rt; game.predecessors(w).contains(&v), wanted);
+    let found = (
+        game.has_edge(v, w),
+        game.successors(v).contains(&w),
+        game.predecessors(w).contains(&v),
+    );
+    check_eq!(*rt; found, (wanted, wanted, wanted), (v, w));
 }
 
 /// Looks at every pair of vertices of a game of the bits.
@@ -560,9 +565,8 @@ const PLAYERS: &[(u32, Player, Player, u8)] = &[(6, EVEN, ODD, 0), (7, ODD, EVEN
 #[test]
 fn players_are_even_and_odd(rt: HostRuntime) {
     for case in PLAYERS {
-        check_eq!(rt; Player::of_parity(case.0), case.1);
-        check_eq!(rt; case.1.other(), case.2);
-        check_eq!(rt; case.1.digit(), case.3);
+        let found = (Player::of_parity(case.0), case.1.other(), case.1.digit());
+        check_eq!(rt; found, (case.1, case.2, case.3), case.0);
     }
 }
 

@@ -11,6 +11,7 @@ mod memory;
 mod readme;
 mod solutions;
 
+use crate::tests::asserting::made;
 use pg_game::Game;
 use pg_text::{Solution, SolutionTextFault, TextFault, read_game, read_solution};
 use std::alloc::Global;
@@ -52,5 +53,5 @@ pub fn solution_fault(alloc: Global, game: &Game, text: &[u8]) -> Option<Solutio
 
 /// The game of a short text that has one.
 pub fn the_game(rt: &impl Abort, alloc: Global, text: &str) -> Game {
-    game(alloc, text.as_bytes()).expect(rt, "a game")
+    made(rt, game(alloc, text.as_bytes()))
 }

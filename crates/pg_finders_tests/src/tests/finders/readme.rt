@@ -14,13 +14,20 @@ fn said(alloc: Global, game: &Game, mask: Mask, seed: u32) -> Result<String, All
     requires size { length mask ≡ length game.now }
     requires seed { seed < length game.now }
 {
-    let seeds = [seed];
     let Ok(inside) = Inside::new(game, mask) else {
         return format!(in alloc; "no subgame");
     };
     // solved.even and solved.odd are claims that share the mask out
     let solved = zielonka(alloc, &inside)?;
     let won = solved.even.rows.as_slice().len();
+    said_of_small(alloc, inside, seed, won)
+}
+
+/// What is said of a search that begins at the seed.
+fn said_of_small(alloc: Global, inside: Inside, seed: u32, won: usize) -> Result<String, AllocError>
+    requires { seed < length inside.graph }
+{
+    let seeds = [seed];
     match find_small(alloc, &inside, Player::Even, seeds.as_slice(), 4, 10_000)? {
         // a claim of at most four vertices, with a seed among them
         Small::Found(claim) => {

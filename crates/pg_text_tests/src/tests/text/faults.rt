@@ -1,5 +1,6 @@
 //! The line that each fault is shown with.
 
+use crate::tests::asserting::made;
 use pg_game::GameFault;
 use pg_text::{SolutionTextFault, TextFault};
 use std::alloc::Global;
@@ -8,7 +9,7 @@ use std::process::Abort;
 
 /// A fault is shown with this line.
 fn compare_line<E: Display + Drop>(rt: &impl Abort, alloc: Global, fault: E, line: &str) {
-    let text = fault.to_string(alloc).expect(rt, "memory");
+    let text = made(rt, fault.to_string(alloc));
     check_eq!(*rt; text.as_str(), line);
 }
 

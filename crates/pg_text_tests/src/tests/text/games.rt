@@ -3,6 +3,7 @@
 ghost use Rattle.std.specs.Prelude.{◌≡◌, IfOk, IfErr};
 
 use super::{GAPS, game_fault, the_game};
+use crate::tests::asserting::made;
 use pg_game::{Game, GameFault};
 use pg_text::{TextFault, read_game, write_game};
 use std::alloc::Global;
@@ -49,13 +50,13 @@ fn read_back(alloc: Global, game: &Game) -> Result<Game, TextFault>
 
 /// The game is written so.
 fn compare_written(rt: &impl Abort, alloc: Global, game: &Game, want: &str) {
-    let written = write_game(alloc, game).expect(rt, "memory");
+    let written = made(rt, write_game(alloc, game));
     check_eq!(*rt; written.as_slice(), want.as_bytes(), want);
 }
 
 /// What is written of the game is the game, when it is read again.
 fn compare_read(rt: &impl Abort, alloc: Global, game: &Game, want: &str) {
-    let read = read_back(alloc, game).expect(rt, "memory");
+    let read = made(rt, read_back(alloc, game));
     check!(*rt; read == *game, want);
 }
 

@@ -1,6 +1,7 @@
 //! What texts say that is known of a game, and why others are refused.
 
 use super::{BOTH_WIN, GAPS, the_game};
+use crate::tests::asserting::made;
 use pg_game::{Game, Player};
 use pg_text::{Known, SolutionTextFault, read_known};
 use std::alloc::Global;
@@ -23,7 +24,7 @@ const ODD: Player = Player::Odd;
 
 /// A text says so of a game.
 fn compare_known(rt: &impl Abort, alloc: Global, game: &Game, text: &str, want: &[Saying]) {
-    let known = known(alloc, game, text.as_bytes()).expect(rt, "what is known");
+    let known = made(rt, known(alloc, game, text.as_bytes()));
     check_eq!(*rt; known.rows.as_slice(), want, text);
 }
 

@@ -138,13 +138,13 @@ fn read_twice(rt: &impl Abort, alloc: Global) -> Game {
 }
 
 /// A vertex of the game is this one.
-fn compare_vertex(rt: &impl Abort, game: &Game, (id, priority, owner, successors): Vertex) {
+fn compare_vertex(rt: &impl Abort, game: &Game, vertex: Vertex) {
+    let id = vertex.0;
     let Some(v) = game.vertex_of(id) else {
         panic!(*rt; "no vertex {id}")
     };
-    check_eq!(*rt; game.priority(v), priority, id);
-    check_eq!(*rt; game.owner(v), owner, id);
-    check_eq!(*rt; game.successors(v), successors, id);
+    let found = (id, game.priority(v), game.owner(v), game.successors(v));
+    check_eq!(*rt; found, vertex, id);
 }
 
 /// The game is that of the text.

@@ -4,6 +4,7 @@ ghost use Rattle.std.specs.Prelude.{◌≡◌, IfOk, IfErr};
 ghost use Rattle.pg_text.specs.Solution.{AreSolutionRows};
 
 use super::{BOTH_WIN, GAPS, solution, solution_fault, the_game};
+use crate::tests::asserting::made;
 use pg_game::{Game, Player};
 use pg_text::{Solution, SolutionTextFault, read_solution, write_solution, write_winners};
 use std::alloc::Global;
@@ -25,11 +26,14 @@ fn read_back(alloc: Global, game: &Game, solution: &Solution) -> Result<Solution
 fn compare_written(rt: &impl Abort, alloc: Global, game: &Game, solution: &Solution, want: &str)
     requires { AreSolutionRows game.now solution.now.rows }
 {
-    let written = write_solution(alloc, game, solution).expect(rt, "memory");
+    let written = made(rt, write_solution(alloc, game, solution));
     check_eq!(*rt; written.as_slice(), want.as_bytes(), want);
-    let read = read_back(alloc, game, solution).expect(rt, "memory");
+    let read = made(rt, read_back(alloc, game, solution));
     check_eq!(*rt; read.rows.as_slice(), solution.rows.as_slice(), want);
 }
+
+/// The winner of a vertex, and no choice.
+type Won = (Player, Option<u32>);
 
 /// A solution's winners are written so, and read again as these.
 fn compare_winners(
@@ -38,20 +42,18 @@ fn compare_winners(
     game: &Game,
     solution: &Solution,
     want: &str,
-    winners: [Player; 2],
+    winners: &[Won],
 )
     requires { AreSolutionRows game.now solution.now.rows }
 {
-    let written = write_winners(alloc, game, solution).expect(rt, "memory");
+    let written = made(rt, write_winners(alloc, game, solution));
     check_eq!(*rt; written.as_slice(), want.as_bytes(), want);
-    let read = super::solution(alloc, game, written.as_slice()).expect(rt, "a solution");
-    let [first, second] = winners;
-    let rows = [(first, None), (second, None)];
-    check_eq!(*rt; read.rows.as_slice(), rows.as_slice(), want);
+    let read = made(rt, super::solution(alloc, game, written.as_slice()));
+    check_eq!(*rt; read.rows.as_slice(), winners, want);
 }
 
 /// The text of a game, one of a solution, what is written of it, what is written of its winners, and these.
-type Spelling<'a> = (&'a str, &'a str, &'a str, &'a str, [Player; 2]);
+type Spelling<'a> = (&'a str, &'a str, &'a str, &'a str, &'a [Won]);
 
 fn compare_spelling(rt: &impl Abort, alloc: Global, game: &Game, case: &Spelling) {
     let solution = solution(alloc, game, case.1.as_bytes()).expect(rt, "a solution");
@@ -64,9 +66,9 @@ fn compare_case(rt: &impl Abort, alloc: Global, case: &Spelling) {
     compare_spelling(rt, alloc, &game, case);
 }
 
-const EVEN: Player = Player::Even;
+const EVEN: Won = (Player::Even, None);
 
-const ODD: Player = Player::Odd;
+const ODD: Won = (Player::Odd, None);
 
 const SPELLINGS: &[Spelling] = &[
     (
@@ -74,35 +76,35 @@ const SPELLINGS: &[Spelling] = &[
         "paritysol 1;\n0 0 0;\n1 1 1;\n",
         "paritysol 1;\n0 0 0;\n1 1 1;\n",
         "paritysol 1;\n0 0;\n1 1;\n",
-        [EVEN, ODD],
+        &[EVEN, ODD],
     ),
     (
         BOTH_WIN,
         "0 0 0;1 1 1;",
         "paritysol 1;\n0 0 0;\n1 1 1;\n",
         "paritysol 1;\n0 0;\n1 1;\n",
-        [EVEN, ODD],
+        &[EVEN, ODD],
     ),
     (
         BOTH_WIN,
         "01 1;00 00;",
         "paritysol 1;\n0 0;\n1 1;\n",
         "paritysol 1;\n0 0;\n1 1;\n",
-        [EVEN, ODD],
+        &[EVEN, ODD],
     ),
     (
         BOTH_WIN,
         "paritysol 2147483647; 1 0 00; 0 1 1;",
         "paritysol 1;\n0 1 1;\n1 0 0;\n",
         "paritysol 1;\n0 1;\n1 0;\n",
-        [ODD, EVEN],
+        &[ODD, EVEN],
     ),
     (
         GAPS,
         "9 0; 3 0 9;",
         "paritysol 9;\n3 0 9;\n9 0;\n",
         "paritysol 9;\n3 0;\n9 0;\n",
-        [EVEN, EVEN],
+        &[EVEN, EVEN],
     ),
 ];
 
