@@ -1,8 +1,10 @@
 //! Runs over sources and sinks that give and take little, or fail.
+use super::asserting::made;
 use super::calls::{answered, told};
 use super::devices::{Bounded, Pieces};
 use pg_finders::Standard;
 use pg_workers::Pass;
+use pgboard::RunFault;
 use std::alloc::Global;
 use std::process::Abort;
 use std::sync::Wait;
@@ -114,28 +116,36 @@ const RUNS: &[Run] = &[
     (&["trace"], CUT, UNREAD, ALL, REFUSED, b"", 0),
 ];
 
+/// What is answered to a run, whose second source and sink are given.
+fn answer<R: Threads + Wait + Sync>(
+    rt: &R,
+    alloc: Global,
+    run: &Run,
+    second: &mut Pieces<'_>,
+    out: &mut Bounded,
+) -> Result<u8, RunFault> {
+    let (bytes, size, good) = run.1;
+    let mut input = Pieces::new(bytes, size, good);
+    answered(rt, alloc, run.0, &mut input, second, out, &Pass, &Standard)
+}
+
+/// Compares the status and the fault.
+fn compare_answer(rt: &impl Abort, alloc: Global, answer: Result<u8, RunFault>, run: &Run) {
+    let (status, fault) = made(rt, told(alloc, answer));
+    check_eq!(*rt; (status, fault.as_str()), run.4, run.0);
+}
+
 fn assert_run<R: Threads + Wait + Abort + Sync>(rt: &R, alloc: Global, run: &Run) {
-    let (words, first, then, taking, want, taken, reads) = *run;
-    let mut input = Pieces::new(first.0, first.1, first.2);
-    let mut second = Pieces::new(then.0, then.1, then.2);
-    let mut out = Bounded::new(alloc, taking.0, taking.1);
-    let (status, fault) = told(
+    let (bytes, size, good) = run.2;
+    let mut second = Pieces::new(bytes, size, good);
+    let mut out = Bounded::new(alloc, run.3.0, run.3.1);
+    compare_answer(
+        rt,
         alloc,
-        answered(
-            rt,
-            alloc,
-            words,
-            &mut input,
-            &mut second,
-            &mut out,
-            &Pass,
-            &Standard,
-        ),
-    )
-    .expect(rt, "memory");
-    check_eq!(rt; (status, fault.as_str()), want, "{words:?}");
-    check_eq!(rt; out.taken.as_slice(), taken, "{words:?}");
-    check_eq!(rt; second.reads, reads, "{words:?}");
+        answer(rt, alloc, run, &mut second, &mut out),
+        run,
+    );
+    check_eq!(*rt; (out.taken.as_slice(), second.reads), (run.5, run.6), run.0);
 }
 
 #[test]

@@ -1,4 +1,5 @@
 //! Runs with a finder that claims what is wrong, with one that has no memory, and with one that keeps what it was asked for.
+use super::asserting::made;
 use super::calls::answered_on;
 use super::devices::Bounded;
 use super::finders::{NoMemory, Recorder, Singles};
@@ -74,8 +75,8 @@ fn assert_written<R: Threads + Wait + Abort + Sync>(
     let (words, game, want) = *run;
     let mut out = Bounded::ample(alloc);
     let answer = answered_on(rt, alloc, words, game, &mut out, &Pass, finder);
-    check_eq!(rt; answer.expect(rt, "an answer"), 0, "{words:?}");
-    check_eq!(rt; out.taken.as_slice(), want.as_bytes(), "{words:?}");
+    check_eq!(*rt; made(rt, answer), 0, words);
+    check_eq!(*rt; out.taken.as_slice(), want.as_bytes(), words);
 }
 
 #[test]
@@ -105,9 +106,12 @@ fn assert_bound<R: Threads + Wait + Abort + Sync>(
     let recorder = Recorder::new();
     let mut out = Bounded::ample(alloc);
     let answer = answered_on(rt, alloc, words, ONE_EACH, &mut out, &Pass, &recorder);
-    check_eq!(rt; answer.expect(rt, "an answer"), 0, "{words:?}");
-    check_eq!(rt; recorder.bound.load(Ordering::SeqCst), bound, "{words:?}");
-    check_eq!(rt; recorder.budget.load(Ordering::SeqCst), 10_000, "{words:?}");
+    check_eq!(*rt; made(rt, answer), 0, words);
+    let found = (
+        recorder.bound.load(Ordering::SeqCst),
+        recorder.budget.load(Ordering::SeqCst),
+    );
+    check_eq!(*rt; found, (bound, 10_000), words);
 }
 
 #[test]

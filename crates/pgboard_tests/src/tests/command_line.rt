@@ -72,8 +72,8 @@ const LINES: &[Line] = &[
 
 fn assert_line(rt: &impl Abort, alloc: Global, line: &Line) {
     let asked = asked(alloc, line.0).expect(rt, "what is asked for");
-    check_eq!(rt; told(&asked), line.1);
-    check_eq!(rt; (asked.path(), asked.second_path()), line.2);
+    check_eq!(*rt; told(&asked), line.1);
+    check_eq!(*rt; (asked.path(), asked.second_path()), line.2);
 }
 
 #[test]

@@ -10,31 +10,47 @@ use std::sync::atomic::{AtomicU64, Ordering};
 #[derive(Drop)]
 pub struct Singles;
 
-fn single(alloc: Global, game: &Game, v: u32, player: Player) -> Result<Claim, Memory> {
-    let mut choice = None;
+/// The least successor of a vertex that the player owns.
+fn least_choice(game: &Game, v: u32, player: Player) -> Option<u32> {
     if v < game.len() && game.owner(v) == player {
-        choice = game.successors(v).first().copied();
+        game.successors(v).first().copied()
+    } else {
+        None
     }
-    let mut rows = Vec::new(alloc);
-    rows.push((v, choice))?;
-    Ok(Claim {
-        player,
-        rows: Sequence::new(rows),
-    })
+}
+
+/// Adds the claim of a vertex alone.
+fn add_single(
+    alloc: Global,
+    claims: &mut Vec<Claim>,
+    game: &Game,
+    v: u32,
+    player: Player,
+) -> Result<(), Memory> {
+    let row = [(v, least_choice(game, v, player))];
+    let rows = Sequence::new(Vec::from_slice(alloc, row.as_slice())?);
+    claims.push(Claim { player, rows })?;
+    Ok(())
+}
+
+fn add_singles(alloc: Global, claims: &mut Vec<Claim>, game: &Game) -> Result<(), Memory> {
+    for v in 0..game.len() {
+        add_single(alloc, claims, game, v, Player::Even)?;
+        add_single(alloc, claims, game, v, Player::Odd)?;
+    }
+    Ok(())
 }
 
 impl Finder for Singles {
     fn find(&self, alloc: Global, copied: &Copied, _job: &Job) -> Result<Found, Memory> {
-        let game = copied.inside.game();
         let mut claims = Vec::new(alloc);
-        for v in 0..game.len() {
-            claims.push(single(alloc, game, v, Player::Even)?)?;
-            claims.push(single(alloc, game, v, Player::Odd)?)?;
+        match add_singles(alloc, &mut claims, copied.inside.game()) {
+            Ok(()) => Ok(Found {
+                claims,
+                gave_up: false,
+            }),
+            Err(memory) => Err(memory),
         }
-        Ok(Found {
-            claims,
-            gave_up: false,
-        })
     }
 }
 

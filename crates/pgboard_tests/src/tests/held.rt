@@ -1,4 +1,5 @@
 //! Workers run at once through the program's runs: a gate holds one of them until another has posted.
+use super::asserting::made;
 use super::calls::answered_on;
 use super::devices::Bounded;
 use pg_finders::Standard;
@@ -107,19 +108,28 @@ const RUNS: &[Run] = &[
 /// Each of the five jobs was found and posted once, and another worker than the one that was held has posted while it was,
 /// or nobody has.
 fn assert_seen(rt: &impl Abort, seen: &Seen, at_once: bool) {
-    check_eq!(rt; seen.others_posted, at_once);
-    check_eq!(rt; seen.gave_up, !at_once);
-    check_eq!(rt; seen.found, [1; 5]);
-    check_eq!(rt; seen.posted, [1; 5]);
+    check_eq!(*rt; (seen.others_posted, seen.gave_up), (at_once, !at_once));
+    check_eq!(*rt; (seen.found, seen.posted), ([1; 5], [1; 5]));
+}
+
+/// What is answered with status 0 begins so.
+fn assert_begins<R: Threads + Wait + Abort + Sync>(
+    rt: &R,
+    alloc: Global,
+    words: &[&str],
+    gate: &Holder,
+    begins: &[u8],
+) {
+    let mut out = Bounded::ample(alloc);
+    let answer = answered_on(rt, alloc, words, ONE_EACH, &mut out, gate, &Standard);
+    check_eq!(*rt; made(rt, answer), 0, words);
+    check!(*rt; out.taken.starts_with(begins), words);
 }
 
 fn assert_held<R: Threads + Wait + Abort + Sync>(rt: &R, alloc: Global, run: &Run) {
     let (words, held, at_once, begins) = *run;
     let gate = Holder::new(held, if at_once { LONG } else { SHORT });
-    let mut out = Bounded::ample(alloc);
-    let answer = answered_on(rt, alloc, words, ONE_EACH, &mut out, &gate, &Standard);
-    check_eq!(rt; answer.expect(rt, "an answer"), 0, "{words:?}");
-    check!(rt; out.taken.starts_with(begins), "{words:?}");
+    assert_begins(rt, alloc, words, &gate, begins);
     assert_seen(rt, &gate.seen.into_inner(), at_once);
 }
 

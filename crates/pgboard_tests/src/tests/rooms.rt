@@ -1,6 +1,7 @@
 //! A text is read whole, whatever its source expected.
 ghost use Rattle.std.specs.Prelude.{None};
 
+use super::asserting::made;
 use pgboard::{Failed, RunFault, Source, read_text};
 use std::alloc::Global;
 use std::process::Abort;
@@ -31,19 +32,24 @@ impl<'a> Source for Expecting<'a> {
     }
 }
 
-/// Reads that many bytes from a source that expects so many: how many came, the buffer's room and the reads.
-fn read_from(alloc: Global, size: usize, expected: u64) -> Result<(usize, usize, u64), RunFault> {
-    let bytes = vec![in alloc; b'a'; size]?;
+/// Reads the bytes from a source that expects so many: how many came, the buffer's room and the reads.
+fn read_all(alloc: Global, bytes: &[u8], expected: u64) -> Result<(usize, usize, u64), RunFault> {
     let mut source = Expecting {
-        rest: bytes.as_slice(),
+        rest: bytes,
         expected,
         reads: 0,
     };
     let text = read_text(alloc, &mut source)?;
-    if text.as_slice() != bytes.as_slice() {
+    if text.as_slice() != bytes {
         return Err(RunFault::Read);
     }
     Ok((text.len(), text.capacity(), source.reads))
+}
+
+/// The same of that many bytes.
+fn read_from(rt: &impl Abort, alloc: Global, size: usize, expected: u64) -> (usize, usize, u64) {
+    let bytes = vec![in alloc; b'a'; size].expect(rt, "memory");
+    made(rt, read_all(alloc, bytes.as_slice(), expected))
 }
 
 /// How many bytes there are and how many are expected; how many come, the buffer's room, and the reads.
@@ -62,16 +68,15 @@ const ROOMS: &[((usize, u64), (usize, usize, u64))] = &[
 #[test]
 fn the_room_is_what_was_expected_and_a_byte(rt: HostRuntime) {
     for ((size, expected), want) in ROOMS {
-        let read = read_from(rt.alloc(), *size, *expected).expect(&rt, "a text");
-        check_eq!(rt; read, *want);
+        check_eq!(rt; read_from(&rt, rt.alloc(), *size, *expected), *want);
     }
 }
 
 /// All came, and there was room for more.
 fn assert_all(rt: &impl Abort, alloc: Global, size: usize, expected: u64) {
-    let (n, room, _) = read_from(alloc, size, expected).expect(rt, "a text");
-    check_eq!(rt; n, size);
-    check!(rt; size < room);
+    let (n, room, _) = read_from(rt, alloc, size, expected);
+    check_eq!(*rt; n, size);
+    check!(*rt; size < room);
 }
 
 #[test]

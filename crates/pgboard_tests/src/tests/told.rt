@@ -9,10 +9,12 @@ ghost use Rattle.pg_workers.specs.Known.{IsKnownRegion};
 ghost use Rattle.pgboard.specs.Joined.{IsJudged, verdict_line};
 ghost use Rattle.pgboard.specs.Solving.{IsSolveText};
 
+use super::asserting::made;
 use pg_finders::Standard;
 use pg_workers::Pass;
 use pgboard::{RunFault, SolveOptions, Std, Verdict, run_solve, run_verify};
 use std::alloc::Global;
+use std::process::Abort;
 use std::sync::Wait;
 use std::thread::Threads;
 
@@ -88,17 +90,31 @@ fn solution_from<R: Threads + Wait + Sync>(
     Ok(out.into_inner())
 }
 
+/// A loop that Even wins.
+const LOOP: &[u8] = b"0 0 0 0;";
+
+fn compare_verdict(rt: &impl Abort, alloc: Global) {
+    let (verdict, line) = made(rt, verdict_on(alloc, LOOP, b"0 0 0;"));
+    check_eq!(*rt; (verdict.status(), line.as_slice()), (0, b"ok\n".as_slice()));
+}
+
+fn compare_winners<R: Threads + Wait + Abort + Sync>(rt: &R, alloc: Global) {
+    let text = made(rt, winners_of(rt, alloc, LOOP, 2));
+    check_eq!(*rt; text.as_slice(), b"paritysol 0;\n0 0;\n".as_slice());
+}
+
+const ONE_EACH: &[u8] = b"0 2 0 0,1; 1 1 1 1;";
+
+const ONE_EACH_SOLVED: &[u8] = b"paritysol 1;\n0 0 0;\n1 1 1;\n";
+
+fn compare_solution<R: Threads + Wait + Abort + Sync>(rt: &R, alloc: Global) {
+    let text = made(rt, solution_from(rt, alloc, ONE_EACH, b"1 1 1;"));
+    check_eq!(*rt; text.as_slice(), ONE_EACH_SOLVED);
+}
+
 #[test]
 fn what_runs_promise_of_bytes_in_memory_is_told(rt: HostRuntime) {
-    let (verdict, line) = verdict_on(rt.alloc(), b"0 0 0 0;", b"0 0 0;").expect(&rt, "a verdict");
-    check_eq!(rt; verdict.status(), 0);
-    check_eq!(rt; line.as_slice(), b"ok\n".as_slice());
-    let text = winners_of(&rt, rt.alloc(), b"0 0 0 0;", 2).expect(&rt, "winners");
-    check_eq!(rt; text.as_slice(), b"paritysol 0;\n0 0;\n".as_slice());
-    let text = solution_from(&rt, rt.alloc(), b"0 2 0 0,1; 1 1 1 1;", b"1 1 1;");
-    let text = text.expect(&rt, "a solution");
-    check_eq!(rt;
-        text.as_slice(),
-        b"paritysol 1;\n0 0 0;\n1 1 1;\n".as_slice()
-    );
+    compare_verdict(&rt, rt.alloc());
+    compare_winners(&rt, rt.alloc());
+    compare_solution(&rt, rt.alloc());
 }

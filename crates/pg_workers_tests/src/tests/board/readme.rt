@@ -17,6 +17,15 @@ fn said(alloc: Global, game: &Game) -> Result<(String, Option<Solution>), Fail> 
         player: Player::Even,
         rows: Sequence::new(Vec::from_slice(alloc, [(0, Some(0))].as_slice())?),
     };
+    said_of_post(alloc, &mut board, claim)
+}
+
+/// What is said of a claim, and whether the game is solved then.
+fn said_of_post(
+    alloc: Global,
+    board: &mut Board,
+    claim: Claim,
+) -> Result<(String, Option<Solution>), Fail> {
     let said = match board.post(alloc, 1, &claim) {
         Ok(posted) => format!(in alloc; "entry {}: {} settled", posted.entry, posted.settled)?,
         Err(Refusal::Stale) => format!(in alloc; "all of it was settled before")?,

@@ -1,19 +1,27 @@
 //! The code of README.md, which `tests/readme_code.py` of the repository looks for here.
 
-use crate::tests::workers::games::TWO_LOOPS;
+use crate::tests::workers::games::{TWO_LOOPS, game_of};
 use pg_finders::Standard;
 use pg_game::{Game, Player};
-use pg_text::{read_game, read_known};
+use pg_text::read_known;
 use pg_workers::{Options, Outcome, Pass, solve_game};
 use std::alloc::Global;
+use std::process::Abort;
 use std::test::*;
 
 const ROWS: &[(Player, Option<u32>)] = &[(Player::Even, Some(0)), (Player::Odd, Some(1))];
 
+/// Compares what a run on the game of two winners gives.
+fn compare(rt: &impl Abort, outcome: &Outcome) {
+    check_eq!(*rt; outcome.entries.len(), 2);
+    check_eq!(*rt; outcome.report.len(), 5);
+    check_eq!(*rt; outcome.solution.rows.as_slice(), ROWS);
+}
+
 #[test]
 fn a_game_is_solved(rt: HostRuntime) -> Result<(), Fail> {
     let alloc = rt.alloc();
-    let game = read_game(alloc, TWO_LOOPS)?;
+    let game = game_of(&rt, alloc, TWO_LOOPS);
     let options = Options {
         workers: 4,
         bound: 4,
@@ -21,8 +29,6 @@ fn a_game_is_solved(rt: HostRuntime) -> Result<(), Fail> {
     };
     let known = read_known(alloc, &game, b"")?;
     let outcome = solve_game(&rt, alloc, &game, &options, &known, &Pass, &Standard)?;
-    check_eq!(rt; outcome.entries.len(), 2);
-    check_eq!(rt; outcome.report.len(), 5);
-    check_eq!(rt; outcome.solution.rows.as_slice(), ROWS);
+    compare(&rt, &outcome);
     Ok(())
 }
