@@ -205,14 +205,12 @@ impl Area for Subgame {
 
     fn take(
         &mut self,
-        game: &Game,
+        _game: &Game,
         player: Player,
         v: u32,
         choice: Option<u32>,
         list: &mut Vec<u32>,
     ) -> Result<(), Memory> {
-        // for the proof: the graph is a game, with so few vertices that the number of each says a choice
-        let _n = game.len();
         list.push(v)?;
         self.active.remove(v);
         self.plan.write(v, player, choice);

@@ -1,5 +1,5 @@
 -- What a plan says of each vertex.
-use Rattle.std.specs.Prelude.{ℕ, ◌≡◌, ◌<◌, ◌≤◌, ◌+◌, ◌==◌, List, [], ◌∷◌, Bool, false, length, slice_index_or, Option, Some, None, if◌then◌else◌}
+use Rattle.std.specs.Prelude.{ℕ, ◌≡◌, ◌<◌, ◌≤◌, ◌+◌, List, [], ◌∷◌, Bool, false, length, slice_index_or, Some, None, if◌then◌else◌}
 use Rattle.pg_game.specs.declared.player.Player.{Player}
 use Rattle.pg_game.specs.declared.player.Player.TheVariants.{Even}
 use Rattle.pg_game.specs.Kept.{Choices}
@@ -11,12 +11,8 @@ use Rattle.pg_finders.specs.private.Solved.{Winners}
 abbrev pub winners_of : Plan → Winners
 winners_of plan v = slice_index_or plan.winners.items v Even
 
--- the choice that a word of a plan's table says. The greatest word is no vertex, and says that there is none
-abbrev pub choice_in_word : ℕ → Option ℕ
-choice_in_word word = if word == 4294967295 then None else Some word
-
 abbrev pub choices_of : Plan → Choices
-choices_of plan v = choice_in_word (slice_index_or plan.choices.items v 4294967295)
+choices_of plan v = slice_index_or plan.choices.items v None
 
 pub record HasSize (n : ℕ) (plan : Plan) : Type 0 where
   pub winners : length plan.winners.items ≡ n

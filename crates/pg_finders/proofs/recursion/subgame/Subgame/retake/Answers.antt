@@ -2,9 +2,6 @@ use Rattle.pg_finders.proofs.Common.{on_ok_weaker}
 use Rattle.pg_finders.proofs.recursion.Growing.{grown_none}
 use Rattle.pg_finders.proofs.recursion.subgame.Subgame.retake.Goals as goal
 
-pub returns-then-not-has-clause-grown : goal.returns-then-not-has-clause-grown
-returns-then-not-has-clause-grown c = grown_none
-
 pub returns-in-Some-clause-grown : goal.returns-in-Some-clause-grown
 returns-in-Some-clause-grown c = on_ok_weaker c.take.result (λ h. h _ _ _ grown_none) c.take.ensures.grown
 
