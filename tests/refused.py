@@ -27,6 +27,8 @@ ONE_EACH = b"0 2 0 0,1; 1 1 1 1;"
 LAYERS = b"0 0 0 0; 1 3 0 0,1; 2 3 1 1;"
 GAPS = b"9 2 1 3,3,9; 3 1 0 9;"
 LOOP = b"parity 5;start 77;00 07 01 0,00;"
+# settled by its solitaire parts, and by no loop
+TWO_CYCLE = b"0 0 0 1; 1 1 1 0;"
 # a hundred parts alike, of which neither loops nor solitaire parts settle anything
 TWO_SIDED = b"".join(b"%d 4 0 %d; %d 3 1 %d,%d; %d 0 1 %d,%d; %d 3 0 %d,%d;" % tuple(v + it for it in (0, 1, 1, 2, 3, 2, 0, 3, 3, 1, 2)) for v in range(0, 400, 4))
 GAMES = {"the continents": CONTINENTS, "one each": ONE_EACH, "layers": LAYERS, "gaps": GAPS, "one loop": LOOP}
@@ -209,8 +211,8 @@ def how_many_start(program):
     def starts(game):
         return program.counted(["solve", "--workers", "4"], game)[1][1]
 
-    if starts(ONE_EACH) != 1:
-        return "others start where the first worker's loops settle all"
+    if starts(ONE_EACH) != 1 or starts(TWO_CYCLE) != 1:
+        return "others start where the first worker settles all"
     # (where the machine is busy, the first may have done all jobs before it is looked what it left)
     if all(starts(TWO_SIDED) != 4 for _ in range(100)):
         return "of 100 runs in which something is left four workers start in none"
