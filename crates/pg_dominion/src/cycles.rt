@@ -60,6 +60,20 @@ pub enum Searched {
     Before(u32),
 }
 
+/// The first bad vertex, from `from` on. Where there is none, no search needs tables.
+fn first_bad(kept: &Kept, from: u32) -> Option<u32>
+    requires kept { IsKept kept.now }
+    requires none { (v : ℕ) → v < from → IsWorst kept.now v → ⊥ }
+    ensures { MatchOption result (NoneHas (IsWorst kept.now)) (λ first. (v : ℕ) → v < first → IsWorst kept.now v → ⊥) }
+{
+    'vertices: for v in from..kept.game.len() {
+        if kept.bad.has(v) {
+            return Some(v);
+        }
+    }
+    None
+}
+
 /// Searches from each bad vertex, from `from` on. Where there is a patience, until they took more steps than that, and about
 /// twice the edges at which they began.
 fn search_from(
@@ -72,12 +86,15 @@ fn search_from(
     requires none { (v : ℕ) → v < from → IsWorst kept.now v → ⊥ }
     ensures { IfOk result (IsSearched kept.now patience) }
 {
+    let Some(first) = first_bad(kept, from) else {
+        return Ok(Searched::All(None));
+    };
     let mut labels = Labels::new(alloc, kept)?;
     let mut search = Search::new(alloc, kept)?;
     let has_patience = patience.is_some();
     let steps = patience.unwrap_or(0);
     let mut edges = 0u64;
-    'starts: for v in from..kept.game.len() {
+    'starts: for v in first..kept.game.len() {
         if !kept.bad.has(v) {
             continue;
         }

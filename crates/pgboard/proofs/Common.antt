@@ -28,7 +28,7 @@ pub use Rattle.pg_workers.specs.Known.{HasCount, IsAttractedToKnown, IsKnownRegi
 pub use Rattle.pg_workers.specs.declared.report.ReportRow.{ReportRow}
 pub use Rattle.pgboard.specs.Device.{AppendsPrefix}
 pub use Rattle.pgboard.specs.Joined.{IsJudged, JudgingFailed, game_part, solution_part}
-pub use Rattle.pgboard.specs.Run.{IsNoGame, IsNoSolution, IsReadGame}
+pub use Rattle.pgboard.specs.Run.{IsNoGame, IsReadGame}
 pub use Rattle.pgboard.specs.Solving.{IsSolveOutput, IsSolveText}
 pub use Rattle.pgboard.specs.Trace.{entries_text, entry_text, job_line, row_line, trace_line, trace_text}
 pub use Rattle.pgboard.specs.declared.fault.RunFault.{RunFault}

@@ -1,6 +1,6 @@
 -- Why a run on one joined text gives no verdict, from the parts of the text.
 use Rattle.pgboard.proofs.Common.{rules, ◌≡◌, ◌≤◌, ◌⊎◌, ⊎_elim, ℕ, List, length, Option, IfSome, Err, IsErrOf, ap, ◌∙◌, subst, Graph, max_text, IsTextOf}
-use Rattle.pgboard.proofs.Common.{RunFault, game_part, solution_part, IsJudged, JudgingFailed, IsReadGame, IsNoSolution, IsRefusedGame, IsRefusedSolution}
+use Rattle.pgboard.proofs.Common.{RunFault, game_part, solution_part, IsJudged, JudgingFailed, IsReadGame, IsRefusedGame, IsRefusedSolution}
 use Rattle.pgboard.proofs.Common.{IsVerdictOn}
 use Rattle.pgboard.specs.declared.verdict.Verdict.{Verdict}
 use Rattle.pgboard.specs.declared.fault.RunFault.TheVariants as fault
@@ -69,12 +69,8 @@ module _ {known : Option (List ℕ)} {text slice game solution : List ℕ} (t : 
         → IfSome known (λ bytes. (length bytes ≤ max_text) × IsJudged (game_part bytes) (solution_part bytes) verdict)
     judged_within verdict h = search rules
 
--- what a text that was read whole is refused for, its source gives no solution for
-pub no_solution_from : (known : Option (List ℕ)) (text : List ℕ) (g : Graph) (e : RunFault) → IfSome known (λ bytes. text ≡ bytes)
-    → length text ≤ max_text → IsRefusedSolution g text e → IsNoSolution g known e
-no_solution_from known text g e read within h = search rules
-
--- a verdict on a text that was read whole is one on what both sources had
-pub judged_by_both : (games solutions : Option (List ℕ)) (text : List ℕ) (g : Graph) (verdict : Verdict) → IsReadGame games g
-    → IfSome solutions (λ bytes. text ≡ bytes) → IsVerdictOn g text verdict → IfSome games (λ a. IfSome solutions (λ b. IsJudged a b verdict))
-judged_by_both games solutions text g verdict is read h = search rules
+-- a verdict on the texts that both sources had
+pub judged_by_both : (games solutions : Option (List ℕ)) (g : Graph) (verdict : Verdict) → IsReadGame games g
+    → IfSome solutions (λ text. (length text ≤ max_text) × IsVerdictOn g text verdict)
+    → IfSome games (λ a. IfSome solutions (λ b. IsJudged a b verdict))
+judged_by_both games solutions g verdict is h = search rules

@@ -1,45 +1,59 @@
 //! A solution of a game is judged, and the verdict's line written.
-ghost use Rattle.std.specs.Prelude.{◌≡◌, ◌≢◌, ◌≤◌, ◌⊎◌, length, IfOk, OnOk, IfErr, IsErrOf};
+ghost use Rattle.std.specs.Prelude.{◌≡◌, ◌≢◌, ◌≤◌, ◌⊎◌, length, IfOk, OnOk, IfErr, IfSome, IsErrOf};
 ghost use Rattle.std.specs.Io.KnownBytes.{Appends, Keeps};
 ghost use Rattle.pg_text.specs.Reading.{max_text};
 ghost use Rattle.pgboard.specs.Device.{HasFailed, AppendsPrefix};
-ghost use Rattle.pgboard.specs.Joined.{verdict_line};
+ghost use Rattle.pgboard.specs.Joined.{verdict_line, IsVerdict};
+ghost use Rattle.pgboard.specs.Run.{IsNoSolution};
 ghost use Rattle.pgboard.specs.private.Run.{IsRefusedSolution, IsVerdictOn};
 
-use crate::device::Sink;
+use crate::device::{Sink, Source};
 use crate::fault::RunFault;
+use crate::texts::{solution_from, solution_of};
 use crate::verdict::Verdict;
 use crate::writing::write_all;
 use pg_dominion::{SolutionFault, check_solution};
 use pg_game::Game;
-use pg_text::{SolutionTextFault, read_solution};
+use pg_text::Solution;
 use std::alloc::Global;
 
-/// What is said of the winners and choices that a text spells.
-pub fn verdict_on(alloc: Global, game: &Game, text: &[u8]) -> Result<Verdict, RunFault>
-    requires { length text.now ≤ max_text }
-    ensures verdict { IfOk result (λ verdict. IsVerdictOn game.now text.now verdict) }
-    ensures fault { IfErr result (λ e. IsRefusedSolution game.now text.now e) }
+/// What is said of winners and choices.
+fn verdict_on(alloc: Global, game: &Game, solution: &Solution) -> Result<Verdict, RunFault>
+    requires { length solution.now.rows ≡ length game.now }
+    ensures verdict { IfOk result (λ verdict. IsVerdict game.now solution.now.rows verdict) }
+    ensures fault { IfErr result (λ e. e ≡ RunFault.Memory) }
 {
-    let solution = match read_solution(alloc, game, text) {
-        Ok(solution) => solution,
-        Err(SolutionTextFault::Memory) => return Err(RunFault::Memory),
-        Err(fault) => return Err(RunFault::Solution(fault)),
-    };
-    match check_solution(alloc, game, &solution) {
+    match check_solution(alloc, game, solution) {
         Ok(()) => Ok(Verdict::Holds),
         Err(SolutionFault::Memory) => Err(RunFault::Memory),
         Err(fault) => Ok(Verdict::Fails(fault)),
     }
 }
 
-/// The same of a game that is given up. A caller's proof then has no field of the game to let go.
+/// What is said of the winners and choices that a text spells. The game is given up, so that a caller's proof has no field
+/// of it to let go.
 pub fn verdict_of(alloc: Global, game: Game, text: &[u8]) -> Result<Verdict, RunFault>
     requires { length text.now ≤ max_text }
     ensures verdict { IfOk result (λ verdict. IsVerdictOn game text.now verdict) }
     ensures fault { IfErr result (λ e. IsRefusedSolution game text.now e) }
 {
-    verdict_on(alloc, &game, text)
+    let solution = solution_of(alloc, &game, text)?;
+    verdict_on(alloc, &game, &solution)
+}
+
+/// The same of the text of a source, which is let go before the winners and choices are judged.
+pub fn verdict_from<S: Source>(
+    alloc: Global,
+    game: Game,
+    source: &mut S,
+) -> Result<Verdict, RunFault>
+    ensures verdict { IfOk result (λ verdict. IfSome (S.left source.old) (λ text. (length text ≤ max_text) × IsVerdictOn game text verdict)) }
+    ensures fault { IfErr result (λ e. IsNoSolution game (S.left source.old) e) }
+    ensures no_failure { (IsErrOf result RunFault.Read → ⊥) → S.read_failures source.new ≡ S.read_failures source.old }
+    ensures failed { IsErrOf result RunFault.Read → HasFailed (S.read_failures source.old) (S.read_failures source.new) }
+{
+    let solution = solution_from(alloc, &game, source)?;
+    verdict_on(alloc, &game, &solution)
 }
 
 /// Writes the verdict's line.

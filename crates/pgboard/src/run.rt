@@ -10,7 +10,7 @@ ghost use Rattle.pgboard.specs.Run.{IsReadGame, IsNoGame, IsNoSolution, IsGameFa
 
 use crate::device::{Sink, Source};
 use crate::fault::RunFault;
-use crate::judge::{verdict_of, write_verdict};
+use crate::judge::{verdict_from, verdict_of, write_verdict};
 use crate::reading::read_text;
 use crate::texts::{game_from, game_of, parts};
 use crate::verdict::Verdict;
@@ -70,8 +70,7 @@ pub fn run_verify<G: Source, S: Source, O: Sink>(
     ensures nothing { IfErr result (λ e. e ≢ RunFault.Write → Keeps (O.taken out.old) (O.taken out.new)) }
 {
     let game = game_from(alloc, game)?;
-    let text = read_text(alloc, solution)?;
-    let verdict = verdict_of(alloc, game, text.as_slice())?;
+    let verdict = verdict_from(alloc, game, solution)?;
     write_verdict(alloc, &verdict, out)?;
     Ok(verdict)
 }

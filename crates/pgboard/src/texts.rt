@@ -1,17 +1,17 @@
-//! The texts of a run: the two parts of a joined one, and the game that one spells.
+//! The texts of a run: the two parts of a joined one, and the game or the solution that one spells.
 ghost use Rattle.std.specs.Prelude.{◌≡◌, ◌≤◌, length, IfOk, IfErr, IsErrOf};
-ghost use Rattle.pg_text.specs.Reading.{max_text, IsTextOf};
+ghost use Rattle.pg_text.specs.Reading.{max_text, IsTextOf, IsSolutionTextOf};
 ghost use Rattle.pgboard.specs.Device.{HasFailed};
 ghost use Rattle.pgboard.specs.Joined.{game_part, solution_part};
-ghost use Rattle.pgboard.specs.Run.{IsReadGame, IsNoGame};
-ghost use Rattle.pgboard.specs.private.Run.{IsRefusedGame};
+ghost use Rattle.pgboard.specs.Run.{IsReadGame, IsNoGame, IsNoSolution};
+ghost use Rattle.pgboard.specs.private.Run.{IsRefusedGame, IsRefusedSolution, IsReadSolution};
 
 use crate::device::Source;
 use crate::fault::RunFault;
 use crate::reading::read_text;
 use memchr::memchr;
 use pg_game::Game;
-use pg_text::{TextFault, read_game};
+use pg_text::{Solution, SolutionTextFault, TextFault, read_game, read_solution};
 use std::alloc::Global;
 
 /// The parts of a joined text before and after its first `%`.
@@ -49,4 +49,34 @@ pub fn game_from<S: Source>(alloc: Global, source: &mut S) -> Result<Game, RunFa
 {
     let text = read_text(alloc, source)?;
     game_of(alloc, text.as_slice())
+}
+
+/// The winners and choices that a text spells for a game.
+pub fn solution_of(alloc: Global, game: &Game, text: &[u8]) -> Result<Solution, RunFault>
+    requires { length text.now ≤ max_text }
+    ensures fit { IfOk result (λ s. length s.rows ≡ length game.now) }
+    ensures rows { IfOk result (λ s. IsSolutionTextOf game.now text.now s.rows) }
+    ensures fault { IfErr result (λ e. IsRefusedSolution game.now text.now e) }
+{
+    match read_solution(alloc, game, text) {
+        Ok(solution) => Ok(solution),
+        Err(SolutionTextFault::Memory) => Err(RunFault::Memory),
+        Err(fault) => Err(RunFault::Solution(fault)),
+    }
+}
+
+/// The winners and choices that the text of a source spells for a game.
+pub fn solution_from<S: Source>(
+    alloc: Global,
+    game: &Game,
+    source: &mut S,
+) -> Result<Solution, RunFault>
+    ensures fit { IfOk result (λ s. length s.rows ≡ length game.now) }
+    ensures rows { IfOk result (λ s. IsReadSolution game.now (S.left source.old) s.rows) }
+    ensures fault { IfErr result (λ e. IsNoSolution game.now (S.left source.old) e) }
+    ensures no_failure { (IsErrOf result RunFault.Read → ⊥) → S.read_failures source.new ≡ S.read_failures source.old }
+    ensures failed { IsErrOf result RunFault.Read → HasFailed (S.read_failures source.old) (S.read_failures source.new) }
+{
+    let text = read_text(alloc, source)?;
+    solution_of(alloc, game, text.as_slice())
 }

@@ -1,8 +1,8 @@
 -- What a run learns of the texts that its sources have, and why it gives no answer (private).
-use Rattle.std.specs.Prelude.{ℕ, ◌≢◌, List}
+use Rattle.std.specs.Prelude.{ℕ, ◌≢◌, ◌≤◌, List, length, Option, IfSome}
 use Rattle.pg_game.specs.Graph.{Graph}
 use Rattle.pg_text.specs.Solution.{SolutionRows}
-use Rattle.pg_text.specs.Reading.{IsFaultOf, IsSolutionTextOf, IsSolutionFaultOf}
+use Rattle.pg_text.specs.Reading.{max_text, IsFaultOf, IsSolutionTextOf, IsSolutionFaultOf}
 use Rattle.pg_text.specs.declared.fault.TextFault.TheVariants as game_fault
 use Rattle.pg_text.specs.declared.fault.SolutionTextFault.TheVariants as solution_fault
 use Rattle.pgboard.specs.declared.verdict.Verdict.{Verdict}
@@ -21,6 +21,10 @@ abbrev pub IsRefusedSolution : Graph → List ℕ → RunFault → Type 0
 IsRefusedSolution g text (fault.Solution f) = IsSolutionFaultOf g text f × (f ≢ solution_fault.Memory)
 IsRefusedSolution g text fault.Memory = Unit {0}
 IsRefusedSolution g text _ = ⊥
+
+-- the text that a source had, where it could tell, is within the limit and one of these winners and choices for the game
+abbrev pub IsReadSolution : Graph → Option (List ℕ) → SolutionRows → Type 0
+IsReadSolution g known rows = IfSome known (λ text. (length text ≤ max_text) × IsSolutionTextOf g text rows)
 
 -- the verdict is true of the winners and choices that the text spells for the game
 abbrev pub IsVerdictOn : Graph → List ℕ → Verdict → Type 0

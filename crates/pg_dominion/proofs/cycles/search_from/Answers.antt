@@ -34,7 +34,7 @@ pub returns : goal.returns
 returns c = λ v w. c.starts.invariant.none v (omega (arith, member_below c.args.kept.now.bad v w.0, c.requires.kept.bad)) w
 
 pub starts-init : goal.starts-init
-starts-init c = record { labels = c.in_ok-labels.ensures; size = c.in_ok-search.ensures; none = c.requires.none }
+starts-init c = record { labels = c.in_ok-labels.ensures; size = c.in_ok-search.ensures; none = rw c.in-Some.is at c.first_bad.ensures }
 
 pub starts-preserved-then-not-has : goal.starts-preserved-then-not-has
 starts-preserved-then-not-has c =
