@@ -25,6 +25,7 @@ pub mod Identifiers
 pub mod SolutionTable
 pub mod WrittenReads
 pub mod RowsFit
+pub mod RowsRead
 pub mod KnownLines
 pub mod Lengths
 pub mod Exact

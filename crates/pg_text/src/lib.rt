@@ -20,6 +20,6 @@ mod writing;
 
 pub use fault::{SolutionTextFault, TextFault};
 pub use line::{choice_before, end_before, number_before};
-pub use reading::{MAX_TEXT, read_game, read_known, read_solution};
+pub use reading::{MAX_TEXT, read_game, read_known, read_solution, take_solution};
 pub use solution::{Known, Solution};
 pub use writing::{write_game, write_solution, write_winners};

@@ -8,7 +8,7 @@ ghost use Rattle.pg_text.specs.Known.{IsKnownTextOf, IsKnownFaultOf};
 use crate::fault::{SolutionTextFault, TextFault};
 use crate::game_reader::read_specs;
 use crate::solution::{Known, Solution};
-use crate::solution_reader::read_solution_lines;
+use crate::solution_reader::{read_solution_lines, take_solution_lines};
 use crate::solution_rows::{known_of, rows_of};
 use pg_game::{Game, GameFault};
 use std::alloc::Global;
@@ -48,6 +48,21 @@ pub fn read_solution(alloc: Global, game: &Game, text: &[u8]) -> Result<Solution
 {
     let lines = read_solution_lines(alloc, text)?;
     rows_of(alloc, game, lines.as_slice())
+}
+
+/// The same as [`read_solution`], of a text that is let go once its lines are read, so that the rows stand in its place.
+pub fn take_solution(
+    alloc: Global,
+    game: &Game,
+    text: Vec<u8>,
+) -> Result<Solution, SolutionTextFault>
+    requires { length text.items ≤ max_text }
+    ensures fit { IfOk result (λ s. AreSolutionRows game.now s.rows) }
+    ensures rows { IfOk result (λ s. IsSolutionTextOf game.now text.items s.rows) }
+    ensures fault { IfErr result (λ e. IsSolutionFaultOf game.now text.items e) }
+{
+    let taken = take_solution_lines(alloc, text)?;
+    rows_of(alloc, game, taken.as_slice())
 }
 
 /// What a text says that is known of a game: winners and choices as in a solution text, where vertices may be left out. The

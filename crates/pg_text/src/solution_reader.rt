@@ -320,3 +320,14 @@ pub fn read_solution_lines(
         }
     }
 }
+
+/// The same of a text that is let go.
+pub fn take_solution_lines(
+    alloc: Global,
+    text: Vec<u8>,
+) -> Result<Vec<SolutionLine>, SolutionTextFault>
+    requires { length text.items ≤ max_text }
+    ensures { MatchResult result (λ lines. SpellsSolution text.items (map line_of lines.items)) (λ e. IsLineFaultOf text.items e) }
+{
+    read_solution_lines(alloc, text.as_slice())
+}

@@ -1,6 +1,7 @@
 //! The texts of a run: the two parts of a joined one, and the game or the solution that one spells.
-ghost use Rattle.std.specs.Prelude.{◌≡◌, ◌≤◌, length, IfOk, IfErr, IsErrOf};
-ghost use Rattle.pg_text.specs.Reading.{max_text, IsTextOf, IsSolutionTextOf};
+ghost use Rattle.std.specs.Prelude.{◌≡◌, ◌≤◌, ℕ, List, length, IfOk, IfErr, IsErrOf};
+ghost use Rattle.pg_game.specs.Graph.{Graph};
+ghost use Rattle.pg_text.specs.Reading.{max_text, IsTextOf, IsSolutionTextOf, IsSolutionFaultOf};
 ghost use Rattle.pgboard.specs.Device.{HasFailed};
 ghost use Rattle.pgboard.specs.Joined.{game_part, solution_part};
 ghost use Rattle.pgboard.specs.Run.{IsReadGame, IsNoGame, IsNoSolution};
@@ -11,7 +12,7 @@ use crate::fault::RunFault;
 use crate::reading::read_text;
 use memchr::memchr;
 use pg_game::Game;
-use pg_text::{Solution, SolutionTextFault, TextFault, read_game, read_solution};
+use pg_text::{Solution, SolutionTextFault, TextFault, read_game, read_solution, take_solution};
 use std::alloc::Global;
 
 /// The parts of a joined text before and after its first `%`.
@@ -51,6 +52,16 @@ pub fn game_from<S: Source>(alloc: Global, source: &mut S) -> Result<Game, RunFa
     game_of(alloc, text.as_slice())
 }
 
+/// Why a run has no solution.
+fn refused_for(fault: SolutionTextFault) -> RunFault
+    ensures { (g : Graph) (text : List ℕ) → IsSolutionFaultOf g text fault → IsRefusedSolution g text result }
+{
+    match fault {
+        SolutionTextFault::Memory => RunFault::Memory,
+        fault => RunFault::Solution(fault),
+    }
+}
+
 /// The winners and choices that a text spells for a game.
 pub fn solution_of(alloc: Global, game: &Game, text: &[u8]) -> Result<Solution, RunFault>
     requires { length text.now ≤ max_text }
@@ -60,8 +71,20 @@ pub fn solution_of(alloc: Global, game: &Game, text: &[u8]) -> Result<Solution, 
 {
     match read_solution(alloc, game, text) {
         Ok(solution) => Ok(solution),
-        Err(SolutionTextFault::Memory) => Err(RunFault::Memory),
-        Err(fault) => Err(RunFault::Solution(fault)),
+        Err(fault) => Err(refused_for(fault)),
+    }
+}
+
+/// The same of a text that is let go before the rows are made.
+fn solution_taken(alloc: Global, game: &Game, text: Vec<u8>) -> Result<Solution, RunFault>
+    requires { length text.items ≤ max_text }
+    ensures fit { IfOk result (λ s. length s.rows ≡ length game.now) }
+    ensures rows { IfOk result (λ s. IsSolutionTextOf game.now text.items s.rows) }
+    ensures fault { IfErr result (λ e. IsRefusedSolution game.now text.items e) }
+{
+    match take_solution(alloc, game, text) {
+        Ok(taken) => Ok(taken),
+        Err(fault) => Err(refused_for(fault)),
     }
 }
 
@@ -78,5 +101,5 @@ pub fn solution_from<S: Source>(
     ensures failed { IsErrOf result RunFault.Read → HasFailed (S.read_failures source.old) (S.read_failures source.new) }
 {
     let text = read_text(alloc, source)?;
-    solution_of(alloc, game, text.as_slice())
+    solution_taken(alloc, game, text)
 }

@@ -1,13 +1,6 @@
-use Rattle.pg_text.proofs.Common.{ℕ, List, rules, Result, MatchResult, IfOk, Graph, SolutionTextFault, Solution, AreLinesOf, SpellsSolution, IsSolutionTextOf}
-use Rattle.std.specs.Prelude.{Ok, Err}
-use Rattle.pg_text.specs.SolutionText as solutions
+use Rattle.pg_text.proofs.Common.{rules}
+use Rattle.pg_text.proofs.RowsRead.{rows_read}
 use Rattle.pg_text.proofs.reading.read_solution.Goals as goal
-
--- lines that the text spells, and that say the rows
-rows_read : (g : Graph) (text : List ℕ) (lines : List solutions.WrittenSolutionLine) (F : SolutionTextFault → Type 0) (r : Result Solution SolutionTextFault)
-    → SpellsSolution text lines → MatchResult r (λ s. AreLinesOf g lines s.rows) F → IfOk r (λ s. IsSolutionTextOf g text s.rows)
-rows_read g text lines F (Ok s) spelled says = record { lines = lines; spelled = spelled; says = says }
-rows_read g text lines F (Err e) spelled says = tt
 
 pub returns-clause-rows : goal.returns-clause-rows
 returns-clause-rows c = search (rules, c.as_slice.ensures.value, c.in_ok-lines.ensures, rows_read, c.rows_of.ensures.rows)
