@@ -61,8 +61,6 @@ pub struct Board<'g> {
     entries: Vec<Entry>,
     regions: Regions,
     number: u32,
-    /// Of each vertex of a claim's rest its place there; whatever else stands here, as from an earlier claim, has no effect.
-    places: Vec<u32>,
     /// Room for the rows of an entry while they are found.
     room: Vec<(u32, Option<u32>)>,
 }
@@ -75,9 +73,7 @@ impl<'g> Model for Board<'g> {
 
     ghost view = { λ b. record { graph = b.game.now; journal = b.entries.items } };
 
-    ghost use Rattle.std.specs.Prelude.{◌≡◌, length};
-
-    ghost invariant = { λ b. IsBoard b.game.now b.entries.items b.regions b.number × (length b.places.items ≡ length b.game.now) };
+    ghost invariant = { λ b. IsBoard b.game.now b.entries.items b.regions b.number };
 }
 
 impl<'g> Board<'g> {
@@ -92,7 +88,6 @@ impl<'g> Board<'g> {
             entries: Vec::new(alloc),
             regions: Regions::open(alloc, game)?,
             number: 0,
-            places: vec![in alloc; 0u32; n]?,
             room: Vec::with_capacity(alloc, n)?,
         })
     }
@@ -229,7 +224,7 @@ impl<'g> Board<'g> {
         }
         rows.clear();
         rows.reserve_exact(n as usize)?;
-        self.regions.rest_of(claim, &mut self.places, rows);
+        self.regions.rest_of(claim, rows);
         if rows.is_empty() {
             return Err(Refusal::Stale);
         }
@@ -239,7 +234,6 @@ impl<'g> Board<'g> {
             regions: &self.regions,
             player: claim.player,
             rest,
-            places: self.places.as_slice(),
         };
         if let Some((v, w)) = bounds.first_edge(rest) {
             return Err(Refusal::Open(v, w));

@@ -1,6 +1,6 @@
 //! Whether the rest of a claim is closed: each kept edge ends in the rest or in the player's region.
 
-ghost use Rattle.std.specs.Prelude.{◌≡◌, ◌<◌, ℕ, length, MatchOption};
+ghost use Rattle.std.specs.Prelude.{◌≡◌, ◌<◌, ℕ, length, MatchOption, IsTrue, ◌↔◌, slice_index_or, None};
 ghost use Rattle.pg_game.specs.VertexSet.{union};
 ghost use Rattle.pg_dominion.specs.Claim.{named, IsRightRow, AreRight};
 ghost use Rattle.pg_board.specs.State.{settled};
@@ -8,6 +8,7 @@ ghost use Rattle.pg_board.specs.private.Regions.{table_state};
 ghost use Rattle.pg_board.specs.private.OpenEdges.{HavePlaces, EndsOutside, IsFirstEnd, LeadsOutside, IsFirstOutside};
 
 use crate::regions::Regions;
+use crate::vertex_state::VertexState;
 use pg_game::{Game, Player};
 
 /// Where an edge may end: at the vertices of the rest, and at those that are settled for the player.
@@ -17,32 +18,33 @@ pub struct Bounds<'a> {
     pub regions: &'a Regions,
     pub player: Player,
     pub rest: &'a [(u32, Option<u32>)],
-    pub places: &'a [u32],
 }
 
 impl<'a> Bounds<'a> {
-    /// Whether the rest names the vertex. It does only at the place that is noted there.
-    fn is_in_rest(&self, w: u32) -> bool
-        requires size { w < length self.now.places.now }
-        requires placed { HavePlaces self.now.rest.now self.now.places.now }
-        ensures { result ≡ named self.now.rest.now w }
+    /// Whether the rest has the vertex at the place.
+    fn is_at(&self, at: u32, w: u32) -> bool
+        ensures { IsTrue result ↔ ((at < length self.now.rest.now) × ((slice_index_or self.now.rest.now at (0, None)).0 ≡ w)) }
     {
-        let at = self.places[w as usize] as usize;
+        let at = at as usize;
         at < self.rest.len() && self.rest[at].0 == w
     }
 
     fn has(&self, w: u32) -> bool
-        requires size { w < length self.now.places.now }
-        requires placed { HavePlaces self.now.rest.now self.now.places.now }
+        requires size { w < length self.now.regions.now.table.items }
+        requires placed { HavePlaces self.now.rest.now self.now.regions.now.table.items }
         ensures { result ≡ union (named self.now.rest.now) (settled (table_state self.now.regions.now.table.items) self.now.player) w }
     {
-        self.is_in_rest(w) || self.regions.is_settled_for(self.player, w)
+        match self.regions.table[w as usize] {
+            VertexState::Unsettled(at) => self.is_at(at, w),
+            VertexState::Settled(player) => player == self.player,
+            VertexState::Chosen(player, _) => player == self.player,
+        }
     }
 
     /// The first kept edge of the row that ends outside, by its end.
     fn first_end(&self, row: (u32, Option<u32>)) -> Option<u32>
-        requires size { length self.now.places.now ≡ length self.now.game.now }
-        requires placed { HavePlaces self.now.rest.now self.now.places.now }
+        requires size { length self.now.regions.now.table.items ≡ length self.now.game.now }
+        requires placed { HavePlaces self.now.rest.now self.now.regions.now.table.items }
         requires right { IsRightRow self.now.game.now self.now.player row }
         ensures { MatchOption result ((w : ℕ) → EndsOutside self.now.game.now self.now.player
             (union (named self.now.rest.now) (settled (table_state self.now.regions.now.table.items) self.now.player)) row w → ⊥)
@@ -64,8 +66,8 @@ impl<'a> Bounds<'a> {
 
     /// The first kept edge of the rows that ends outside.
     pub fn first_edge(&self, rows: &[(u32, Option<u32>)]) -> Option<(u32, u32)>
-        requires size { length self.now.places.now ≡ length self.now.game.now }
-        requires placed { HavePlaces self.now.rest.now self.now.places.now }
+        requires size { length self.now.regions.now.table.items ≡ length self.now.game.now }
+        requires placed { HavePlaces self.now.rest.now self.now.regions.now.table.items }
         requires right { AreRight self.now.game.now self.now.player rows.now }
         ensures { MatchOption result ((v w : ℕ) → LeadsOutside self.now.game.now self.now.player
             (union (named self.now.rest.now) (settled (table_state self.now.regions.now.table.items) self.now.player)) rows.now v w → ⊥)

@@ -5,10 +5,11 @@ ghost use Rattle.std.specs.List.Sorted.{IsStrictlyIncreasing};
 ghost use Rattle.pg_game.specs.Least.{NoneHas, IsLeast};
 ghost use Rattle.pg_board.specs.State.{rest_of, is_unsettled};
 ghost use Rattle.pg_board.specs.Refusal.{IsLost};
-ghost use Rattle.pg_board.specs.private.Regions.{table_state};
+ghost use Rattle.pg_board.specs.private.Regions.{table_state, SaySame};
 ghost use Rattle.pg_board.specs.private.OpenEdges.{HavePlaces};
 
 use crate::regions::Regions;
+use crate::vertex_state::VertexState;
 use pg_dominion::Claim;
 
 impl Regions {
@@ -37,22 +38,22 @@ impl Regions {
     }
 
     /// Writes what of the claim is unsettled. At each of its vertices its place among these rows is noted; whatever
-    /// stood there, or stands elsewhere, has no effect.
-    pub fn rest_of(&self, claim: &Claim, places: &mut Vec<u32>, rest: &mut Vec<(u32, Option<u32>)>)
-        requires rows { All (λ r. r.0 < length places.old.items) claim.now.rows }
+    /// place stood there, or stands elsewhere, has no effect.
+    pub fn rest_of(&mut self, claim: &Claim, rest: &mut Vec<(u32, Option<u32>)>)
+        requires rows { All (λ r. r.0 < length self.old.table.items) claim.now.rows }
         requires short { length claim.now.rows < 2 ^ 32 }
         requires none { rest.old.items ≡ [] }
         requires room { length claim.now.rows ≤ vec_capacity rest.old }
-        ensures rows { rest.new.items ≡ rest_of (table_state self.now.table.items) claim.now.rows }
+        ensures rows { rest.new.items ≡ rest_of (table_state self.old.table.items) claim.now.rows }
         ensures room { vec_capacity rest.new ≡ vec_capacity rest.old }
-        ensures size { length places.new.items ≡ length places.old.items }
-        ensures placed { HavePlaces rest.new.items places.new.items }
+        ensures same { SaySame self.old self.new }
+        ensures placed { HavePlaces rest.new.items self.new.table.items }
     {
         'rows: for row in claim.rows.as_slice() {
             if !self.is_unsettled(row.0) {
                 continue;
             }
-            places[row.0 as usize] = rest.len() as u32;
+            self.table[row.0 as usize] = VertexState::Unsettled(rest.len() as u32);
             rest.push_reserved(*row);
         }
     }

@@ -10,7 +10,8 @@ use std::mem::size_of;
 /// The state of a vertex. The player stands before the choice, in one word with the tag; behind it he would take a word alone.
 #[derive(Clone, Copy)]
 pub enum VertexState {
-    Unsettled,
+    /// Unsettled, with a place in the rest of a claim. It counts only where that rest has the vertex at this place.
+    Unsettled(u32),
     /// Settled for the player, without a choice.
     Settled(Player),
     /// Settled for the player, by a choice.
@@ -34,7 +35,7 @@ impl VertexState {
         ensures { result ≡ state_in self }
     {
         match self {
-            VertexState::Unsettled => None,
+            VertexState::Unsettled(_) => None,
             VertexState::Settled(player) => Some((player, None)),
             VertexState::Chosen(player, w) => Some((player, Some(w))),
         }
