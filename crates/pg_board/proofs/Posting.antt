@@ -2,10 +2,11 @@
 use Rattle.pg_board.proofs.Common.{rules, ◌≡◌, ℕ, ◌<◌, ◌≤◌, Bool, true, false, length, refl, sym, ◌∙◌, ap, subst, arith, Option, nat_eq, fun_ext, All, list_any}
 use Rattle.pg_board.proofs.Common.{All-from_recursion, All-weaker, length-map, length-le_from_distinct_below, false_from_ne_true, Player, Graph, NoneHas}
 use Rattle.pg_board.proofs.Common.{VertexSet, In, union, KeptEdge, Claim, ClaimRows, named, choice_in, AreRight, IsSound, named_right, Posted, State, settled}
-use Rattle.pg_board.proofs.Common.{rest_of, IsGoodOn, Journal, state_of, Regions, Play, Adds, IsLost, Refuses, table_state, IsBoard, LeadsOutside}
+use Rattle.pg_board.proofs.Common.{rest_of, IsGoodOn, Journal, state_of, Regions, Play, Adds, IsLost, Refuses, table_state, IsBoard, LeadsOutside, SaySame}
 use Rattle.pg_board.proofs.Common.{IsFirstOutside}
 use Rattle.pg_board.specs.Refusal.{IsOpenEdge, IsFirstOpenEdge}
 use Rattle.pg_board.proofs.Push.{distinct_rising}
+use Rattle.pg_board.proofs.Tables.{IsBoard-same}
 use Rattle.pg_board.proofs.RestIsGood.{vertices, kept_rest, kept_of_rest, rest_twice}
 use Rattle.pg_board.proofs.Numbers.{in_vertices}
 use Rattle.pg_board.specs.declared.refusal.Refusal.TheVariants as refusal
@@ -47,9 +48,18 @@ pub record IsChecked (g : Graph) (j : Journal) (r : Regions) (number : ℕ) (p :
   pub none : NoneHas (IsLost (table_state r.table.items) p rows)
   pub rest_is : rest ≡ rest_of (table_state r.table.items) rows
 
-pub checked : {g : Graph} {j : Journal} {r : Regions} {number : ℕ} {p : Player} {rows rest : ClaimRows} → IsBoard g j r number → IsSound g p rows
-    → NoneHas (IsLost (table_state r.table.items) p rows) → rest ≡ rest_of (table_state r.table.items) rows → IsChecked g j r number p rows rest
-checked board sound none rest_is = record { board = board; sound = sound; none = none; rest_is = rest_is }
+-- it is so once the places are noted
+pub checked : {g : Graph} {j : Journal} {r r' : Regions} {number : ℕ} {p : Player} {rows rest : ClaimRows} → IsBoard g j r number → SaySame r r'
+    → IsSound g p rows → NoneHas (IsLost (table_state r.table.items) p rows) → rest ≡ rest_of (table_state r.table.items) rows
+    → IsChecked g j r' number p rows rest
+checked {r} {r'} {p = p} {rows} {rest} board same sound none rest_is =
+    let says : table_state r.table.items ≡ table_state r'.table.items = sym (fun_ext same.state) in
+    record {
+      board = IsBoard-same board same;
+      sound = sound;
+      none = subst (λ (s : State). NoneHas (IsLost s p rows)) says none;
+      rest_is = subst (λ (s : State). rest ≡ rest_of s rows) says rest_is;
+    }
 
 module _ {g : Graph} {j : Journal} {r : Regions} {number : ℕ} {p : Player} {rows rest : ClaimRows} (h : IsChecked g j r number p rows rest) where
   abbrev now : State

@@ -12,7 +12,7 @@ same_set g st table old new e mask state = fun_ext (λ v. sym (ap (λ m. members
 pub of_subgame-requires-clause-subgame : goal.of_subgame-requires-clause-subgame
 of_subgame-requires-clause-subgame c =
     let b = c.self.inside in
-    let i = c.self.invariant.0 in
+    let i = c.self.invariant in
     subst (λ (U : VertexSet). IsSubgame b.game.now U)
     (same_set b.game.now (state_of b.entries.items) b.regions.table.items b.regions.unsettled c.in_ok-mask.mask c.in_ok-mask.ensures i.regions.mask i.state)
     (lawful_now b.game.now b.entries.items i.lawful).open_part
@@ -20,7 +20,7 @@ of_subgame-requires-clause-subgame c =
 pub returns-clause-dominions : goal.returns-clause-dominions
 returns-clause-dominions c =
     let b = c.self.inside in
-    let i = c.self.invariant.0 in
+    let i = c.self.invariant in
     let same = same_set b.game.now (state_of b.entries.items) b.regions.table.items b.regions.unsettled c.of_subgame.result.mask
     (c.of_subgame.ensures.mask ∙ c.in_ok-mask.ensures) i.regions.mask i.state in
     let at : c.len.result ≡ length b.entries.items = omega (arith, c.len.ensures, b.entries.ok.0) in

@@ -14,7 +14,7 @@ entering : (c : After-len-claimed)
     → IsEntering c.self.inside.game.now c.self.inside.entries.items c.self.inside.regions c.self.inside.number c.args.player c.args.rows.now.items
 entering c = record {
   game = c.len-n.ensures.game;
-  board = c.self.invariant.0;
+  board = c.self.invariant;
   good = subst (λ (y : Play). IsGoodOn y.graph (state_of y.journal) c.args.player c.args.rows.now.items) (sym c.self.view_is) c.requires.good;
   twice = subst (λ (y : Play). rest_of (state_of y.journal) c.args.rows.now.items ≡ c.args.rows.now.items) (sym c.self.view_is) c.requires.unsettled;
 }
@@ -87,7 +87,7 @@ invariant_of-self-2 c =
     let entered = board_entered (entering at.After-len-claimed) (grown at.After-len-settled) e (has_rows at.After-push_reserved) c.len-settled.result
     (settled_is at.After-push_reserved) in
     let journal : c.push_reserved.new.self.items ≡ b.entries.items ++ e ∷ [] = search rules in
-    (subst (λ (j : Journal). IsBoard b.game.now j c.attract.new.self (b.number + c.len-settled.result)) (sym journal) entered, c.self.invariant.1)
+    subst (λ (j : Journal). IsBoard b.game.now j c.attract.new.self (b.number + c.len-settled.result)) (sym journal) entered
 
 pub returns-clause-added : goal.returns-clause-added
 returns-clause-added c =

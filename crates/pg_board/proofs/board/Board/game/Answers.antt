@@ -3,4 +3,4 @@ use Rattle.pg_board.proofs.Numbers.{number_within}
 use Rattle.pg_board.proofs.board.Board.game.Goals as goal
 
 pub returns-clause-within : goal.returns-clause-within
-returns-clause-within c = search (rules, c.self.view_is, number_within, c.self.invariant.0.lawful)
+returns-clause-within c = search (rules, c.self.view_is, number_within, c.self.invariant.lawful)

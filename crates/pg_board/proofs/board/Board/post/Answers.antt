@@ -9,13 +9,13 @@ answered c = let e = c.settle_sound.ensures in record { posted = e.posted; refus
 
 pub returns-clause-old_copies : goal.returns-clause-old_copies
 returns-clause-old_copies c = λ k d.
-    let stands = stands_at c.self.view_is c.len-n.ensures.game c.self.invariant.0 in
+    let stands = stands_at c.self.view_is c.len-n.ensures.game c.self.invariant in
     let s = c.settle_sound in
     old_copy c.args.self.now stands c.args.claim.now k d s.new.self c.args.worker s.result (answered (goal.at.returns-clause-old_copies c).After-settle_sound)
 
 pub returns-clause-lawful : goal.returns-clause-lawful
 returns-clause-lawful c =
-    let stands = stands_at c.self.view_is c.len-n.ensures.game c.self.invariant.0 in
+    let stands = stands_at c.self.view_is c.len-n.ensures.game c.self.invariant in
     lawful_after c.settle_sound.result stands (answered (goal.at.returns-clause-lawful c).After-settle_sound) c.settle_sound.ensures.game
 
 pub returns-in_err-judge_claim-clause-old_copies : goal.returns-in_err-judge_claim-clause-old_copies
@@ -25,7 +25,7 @@ returns-in_err-judge_claim-clause-old_copies c = λ k d.
     let claim = c.args.claim.now in
     let p = claim.player in
     let fault = c.in_err-judge_claim.field-0.0 in
-    let stands = stands_at c.self.view_is c.len-n.ensures.game c.self.invariant.0 in
+    let stands = stands_at c.self.view_is c.len-n.ensures.game c.self.invariant in
     let wrong = subst (λ (y : Play). IsClaimFault y.graph p claim.rows fault) c.self.view_is c.in_err-judge_claim.ensures.fault in
     let h : IsAnswered x x c.args.worker claim (Err (refusal_of fault)) =
     record { posted = tt; refused = search rules; unchanged = refl } in

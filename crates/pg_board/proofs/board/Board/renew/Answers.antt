@@ -12,7 +12,7 @@ pub remove_named-requires : goal.remove_named-requires
 remove_named-requires c = λ v is.
     let y = c.args.self.now in
     let n = next c in
-    let lawful = subst (λ (x : Play). IsLawful x.graph x.journal) c.self.view_is c.self.invariant.0.lawful in
+    let lawful = subst (λ (x : Play). IsLawful x.graph x.journal) c.self.view_is c.self.invariant.lawful in
     let named_there = subst (λ (rows : ClaimRows). In (named rows) v) c.as_slice.ensures is in
     omega (arith, named_below y.journal c.entries.k c.index.result.now n.0 n.1 y.graph lawful v named_there, c.entries.invariant.length)
 
@@ -23,7 +23,7 @@ entries-preserved c =
 
 pub of_subgame-inside-requires-clause-subgame : goal.of_subgame-inside-requires-clause-subgame
 of_subgame-inside-requires-clause-subgame c =
-    let lawful = subst (λ (x : Play). IsLawful x.graph x.journal) c.self.view_is c.self.invariant.0.lawful in
+    let lawful = subst (λ (x : Play). IsLawful x.graph x.journal) c.self.view_is c.self.invariant.lawful in
     let all = subst (λ (x : Play). length x.journal ≤ c.entries.k) c.self.view_is
     (omega (arith, c.entries-test.false, c.len-end.ensures, c.self.inside.entries.ok.0)) in
     subst (λ (x : Play). IsSubgame x.graph (members c.entries.mask)) (sym c.self.view_is)

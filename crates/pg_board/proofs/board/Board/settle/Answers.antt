@@ -39,12 +39,12 @@ returns-clause-refused c =
 
 pub returns-clause-lawful : goal.returns-clause-lawful
 returns-clause-lawful c =
-    let stands = stands_at c.self.view_is c.len-n.ensures.game c.self.invariant.0 in
+    let stands = stands_at c.self.view_is c.len-n.ensures.game c.self.invariant in
     lawful_after c.settle_sound.result stands (answered (goal.at.returns-clause-lawful c).After-settle_sound) c.settle_sound.ensures.game
 
 pub returns-clause-old_copies : goal.returns-clause-old_copies
 returns-clause-old_copies c = λ k a d.
-    let stands = stands_at c.self.view_is c.len-n.ensures.game c.self.invariant.0 in
+    let stands = stands_at c.self.view_is c.len-n.ensures.game c.self.invariant in
     let s = c.settle_sound in
     old_copy c.args.self.now stands (claim_of c.args.checked.now) k d s.new.self c.args.worker s.result
     (answered_of (goal.at.returns-clause-old_copies c).After-settle_sound)

@@ -21,13 +21,13 @@ returns-in-Some-first_edge-clause-refused c =
     let claim = c.args.claim.now in
     let v = c.in-Some-first_edge.v in
     let w = c.in-Some-first_edge.w in
-    let h = checked c.self.invariant.0 (sound_here c.self.view_is c.requires) c.in_default.ensures (c.as_slice-rest.ensures.value ∙ c.rest_of.ensures.rows) in
+    let h = checked c.self.invariant c.rest_of.ensures.same (sound_here c.self.view_is c.requires) c.in_default.ensures (c.as_slice-rest.ensures.value ∙ c.rest_of.ensures.rows) in
     subst (λ (x : Play). Refuses x.graph (state_of x.journal) claim.player claim.rows (refusal.Open v w)) c.self.view_is
     (refused_open h v w c.in-Some-first_edge.ensures)
 
 pub rest_of-requires-clause-rows : goal.rest_of-requires-clause-rows
 rest_of-requires-clause-rows c =
-    search (rules, (sound_here c.self.view_is c.requires).shape.right, all_below, sound_here, c.self.view_is, c.requires, c.self.invariant.1)
+    search (rules, (sound_here c.self.view_is c.requires).shape.right, all_below, sound_here, c.self.view_is, c.requires, c.self.invariant.regions.size)
 
 pub rest_of-requires-clause-room : goal.rest_of-requires-clause-room
 rest_of-requires-clause-room c =
@@ -42,7 +42,7 @@ enter-requires-clause-good c =
     let st = state_of c.self.inside.entries.items in
     let claim = c.args.claim.now in
     let all = c.as_slice-rest.ensures.value in
-    let h = checked c.self.invariant.0 (sound_here c.self.view_is c.requires) c.in_default.ensures (all ∙ c.rest_of.ensures.rows) in
+    let h = checked c.self.invariant c.rest_of.ensures.same (sound_here c.self.view_is c.requires) c.in_default.ensures (all ∙ c.rest_of.ensures.rows) in
     let some = nonempty c.rest_of.new.rest.items (c.rest_of.new.rest.ok.0) (sym c.is_empty.ensures ∙ c.if-is_empty.false) in
     let good = claim_good h (subst (λ (xs : ClaimRows). 0 < length xs) (sym all) some) c.in_default-first_edge.ensures in
     subst (λ (xs : ClaimRows). IsGoodOn g st claim.player xs) (sym (rest_now h) ∙ all) (rest_is_good g st claim.player claim.rows good)
@@ -51,7 +51,7 @@ pub enter-requires-clause-unsettled : goal.enter-requires-clause-unsettled
 enter-requires-clause-unsettled c =
     let st = state_of c.self.inside.entries.items in
     let all = c.as_slice-rest.ensures.value in
-    let h = checked c.self.invariant.0 (sound_here c.self.view_is c.requires) c.in_default.ensures (all ∙ c.rest_of.ensures.rows) in
+    let h = checked c.self.invariant c.rest_of.ensures.same (sound_here c.self.view_is c.requires) c.in_default.ensures (all ∙ c.rest_of.ensures.rows) in
     subst (λ (xs : ClaimRows). rest_of st xs ≡ xs) (sym (rest_now h) ∙ all) (rest_twice st c.args.claim.now.rows)
 
 pub returns-clause-posted : goal.returns-clause-posted
@@ -60,7 +60,7 @@ returns-clause-posted c =
     let rest = c.rest_of.new.rest.items in
     let p = claim.player in
     let all = c.as_slice-rest.ensures.value in
-    let h = checked c.self.invariant.0 (sound_here c.self.view_is c.requires) c.in_default.ensures (all ∙ c.rest_of.ensures.rows) in
+    let h = checked c.self.invariant c.rest_of.ensures.same (sound_here c.self.view_is c.requires) c.in_default.ensures (all ∙ c.rest_of.ensures.rows) in
     let some = nonempty rest (c.rest_of.new.rest.ok.0) (sym c.is_empty.ensures ∙ c.if-is_empty.false) in
     let good = claim_good h (subst (λ (xs : ClaimRows). 0 < length xs) (sym all) some) c.in_default-first_edge.ensures in
     let posted = c.in_ok-enter.field-0 in

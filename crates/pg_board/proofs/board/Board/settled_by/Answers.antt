@@ -13,7 +13,7 @@ overflow_add-total c =
     let at : e ≡ get_or j i e = subst (λ (xs : List Entry). e ≡ get_or xs i e) c.deref-entry-items.ensures.value c.entry-item.is in
     let l : i < length j = subst (λ (xs : List Entry). i < length xs) c.deref-entry-items.ensures.value c.entries-test.true in
     let more = more_settled_by j c.args.worker i e l at in
-    let all = number_within b.game.now j c.self.invariant.0.lawful in
+    let all = number_within b.game.now j c.self.invariant.lawful in
     let limit = c.len-n.ensures.limits.vertices in
     let size = ap length c.as_slice.ensures in
     omega (arith, size)

@@ -7,7 +7,7 @@ use Rattle.pg_board.proofs.board.Board.solution.Goals as goal
 pub returns-clause-solution : goal.returns-clause-solution
 returns-clause-solution c =
     let b = c.self.inside in
-    let i = c.self.invariant.0 in
+    let i = c.self.invariant in
     let size : length c.new.result ≡ length c.in_ok-rows.rows.items = ap (λ (xs : SolutionRows). length xs) c.new.ensures in
     let are : AreStateRows b.game.now (state_of b.entries.items) c.new.result = record {
       size = size ∙ (c.in_ok-rows.ensures.size ∙ i.regions.size);
