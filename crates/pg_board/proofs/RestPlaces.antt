@@ -1,7 +1,7 @@
 -- The places of a rest in the making.
-use Rattle.pg_board.proofs.Common.{rules, ◌≡◌, ℕ, ◌+◌, ◌<◌, true, List, [], ◌∷◌, ◌++◌, length, take, set, refl, ◌∙◌, length-append, Option, None, eqb-true}
-use Rattle.pg_board.proofs.Common.{eq-eqb, cases_Bool, or-false, ClaimRows, named-push, State, VertexState, is_unsettled, rest_of, table_state, HavePlaces}
-use Rattle.pg_board.proofs.Common.{Bool, false, sym, subst, ◌↔◌, named, get_or, Player, union, settled}
+use Rattle.pg_board.proofs.Common.{rules, ◌≡◌, ℕ, ◌+◌, ◌<◌, Bool, true, false, List, [], ◌∷◌, ◌++◌, length, take, get_or, set, refl, sym, ◌∙◌, subst, ◌↔◌}
+use Rattle.pg_board.proofs.Common.{length-append, Option, None, eqb-true, eq-eqb, cases_Bool, or-false, Player, union, ClaimRows, named, named-push, State}
+use Rattle.pg_board.proofs.Common.{VertexState, settled, is_unsettled, rest_of, table_state, HavePlaces}
 use Rattle.pg_board.specs.declared.vertex_state.VertexState.TheVariants.{Unsettled}
 use Rattle.std.proofs.Common.{get_or-set_same, get_or-set_other}
 use Rattle.std.proofs.lemmas.List.{get_or_append_left, get_or_push}

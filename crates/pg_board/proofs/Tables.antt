@@ -1,7 +1,6 @@
--- A vertex is settled in the tables: what they say then.
+-- A vertex is settled in the tables, or places are noted in them: what they say then.
 use Rattle.pg_board.proofs.Common.{rules, ◌≡◌, ℕ, ◌<◌, ◌==◌, if◌then◌else◌, false, [], length, set, length-set, Option, Some, and-false, Player, Graph}
-use Rattle.pg_board.proofs.Common.{read_set, Regions, State, table_state, state_with, AreRegions}
-use Rattle.pg_board.proofs.Common.{◌∙◌, Journal, SaySame, IsBoard}
+use Rattle.pg_board.proofs.Common.{◌∙◌, read_set, Journal, Regions, State, table_state, state_with, AreRegions, IsBoard, SaySame}
 use Rattle.std.proofs.Common.{slice_index}
 
 pub state_with-none : (st : State) (p : Player) (v : ℕ) → state_with st p [] v ≡ st v

@@ -37,8 +37,8 @@ impl Regions {
         None
     }
 
-    /// Writes what of the claim is unsettled. At each of its vertices its place among these rows is noted; whatever
-    /// place stood there, or stands elsewhere, has no effect.
+    /// Writes what of the claim is unsettled. In the state of each of its vertices its place among these rows is noted;
+    /// the place that stood there, and those that stand elsewhere, have no effect.
     pub fn rest_of(&mut self, claim: &Claim, rest: &mut Vec<(u32, Option<u32>)>)
         requires rows { All (λ r. r.0 < length self.old.table.items) claim.now.rows }
         requires short { length claim.now.rows < 2 ^ 32 }

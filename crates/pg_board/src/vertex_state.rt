@@ -1,5 +1,6 @@
 //! What a board has at hand of one vertex: whose it is, and by which choice. That takes 8 bytes, where
 //! `Option<(Player, Option<u32>)>` takes 16: one tag says both whether it is settled and whether there is a choice.
+//! What is unsettled has in the place of a choice its place in a claim's rest (`Regions::rest_of`).
 
 ghost use Rattle.std.specs.Prelude.{◌≡◌, Some};
 ghost use Rattle.pg_board.specs.private.VertexState.{state_in};

@@ -19,15 +19,15 @@ first_edge-requires-clause-right c =
 pub returns-in-Some-first_edge-clause-refused : goal.returns-in-Some-first_edge-clause-refused
 returns-in-Some-first_edge-clause-refused c =
     let claim = c.args.claim.now in
-    let v = c.in-Some-first_edge.v in
-    let w = c.in-Some-first_edge.w in
-    let h = checked c.self.invariant c.rest_of.ensures.same (sound_here c.self.view_is c.requires) c.in_default.ensures (c.as_slice-rest.ensures.value ∙ c.rest_of.ensures.rows) in
-    subst (λ (x : Play). Refuses x.graph (state_of x.journal) claim.player claim.rows (refusal.Open v w)) c.self.view_is
-    (refused_open h v w c.in-Some-first_edge.ensures)
+    let edge = c.in-Some-first_edge in
+    let all = c.as_slice-rest.ensures.value in
+    let h = checked c.self.invariant c.rest_of.ensures.same (sound_here c.self.view_is c.requires) c.in_default.ensures (all ∙ c.rest_of.ensures.rows) in
+    subst (λ (x : Play). Refuses x.graph (state_of x.journal) claim.player claim.rows (refusal.Open edge.v edge.w)) c.self.view_is
+    (refused_open h edge.v edge.w edge.ensures)
 
 pub rest_of-requires-clause-rows : goal.rest_of-requires-clause-rows
 rest_of-requires-clause-rows c =
-    search (rules, (sound_here c.self.view_is c.requires).shape.right, all_below, sound_here, c.self.view_is, c.requires, c.self.invariant.regions.size)
+    search (rules, (sound_here c.self.view_is c.requires).shape.right, all_below, c.self.invariant.regions.size)
 
 pub rest_of-requires-clause-room : goal.rest_of-requires-clause-room
 rest_of-requires-clause-room c =
