@@ -26,17 +26,31 @@ use pg_dominion::{Checked, Claim};
 use pg_finders::Copied;
 use pg_game::{Game, Memory};
 use std::alloc::Global;
-use std::marker::Model;
+use std::marker::{Brand, Model};
 use std::sync::ledger::{Blank, Book, Ledger, Share as Token};
 use std::sync::{Arc, Mutex, Wait};
+
+/// Says to the type of an office of which game its board is. Each call picks it.
+pub trait OfGame {
+    ghost use Rattle.pg_game.specs.Graph.{Graph};
+
+    ghost game: { Graph };
+}
+
+impl OfGame for Brand {
+    ghost use Rattle.std.specs.Prelude.{[]};
+
+    ghost game = { [] };
+}
 
 /// What lies under the lock: the board, the book, which is the number settled, and the copies that were shared, the newest
 /// last. There are at most as many as were held at once, and one more.
 #[derive(Drop)]
-pub(crate) struct Desk<'g, L: Ledger> {
+pub(crate) struct Desk<'g, L: Ledger + OfGame> {
     board: Board<'g>,
     book: Book<L>,
     copies: Vec<Arc<Copied<'g>>>,
+    ghost of_game: { board.graph ≡ L.game },
     ghost exact: { book.total ≡ number_settled board.journal },
     ghost past: { ArePastCopies board copies.items },
 }
@@ -65,7 +79,7 @@ impl<L: Ledger> Share<L> {
     }
 }
 
-impl<'g, L: Ledger> Desk<'g, L> {
+impl<'g, L: Ledger + OfGame> Desk<'g, L> {
     /// The board's own call. What it settles is added to the share.
     fn post(
         &mut self,
@@ -212,11 +226,11 @@ fn present_copy<'g>(
 
 /// One board under a lock.
 #[derive(Drop)]
-pub struct Office<'g, L: Ledger> {
+pub struct Office<'g, L: Ledger + OfGame> {
     desk: Mutex<Desk<'g, L>>,
 }
 
-impl<'g, L: Ledger> Office<'g, L> {
+impl<'g, L: Ledger + OfGame> Office<'g, L> {
     /// An office with a board on which nothing is settled, and one share of amount 0 for each of 1 to 64 seats. `Memory` is
     /// its one refusal.
     pub fn open(
@@ -227,6 +241,7 @@ impl<'g, L: Ledger> Office<'g, L> {
     ) -> Result<(Office<'g, L>, Vec<Share<L>>), Memory>
         requires name { blank.name ≡ L.name }
         requires parts { (blank.parts ≡ L.parts) × (blank.parts ≡ seats) }
+        requires game { game.now ≡ L.game }
         requires seats { (1 ≤ seats) × (seats ≤ 64) }
         ensures shares { IfOk result (λ o. o.1.items ≡ replicate seats 0) }
         ensures exact { IfOk result (λ o. AreExact o.1.items 0 []) }
@@ -245,6 +260,7 @@ impl<'g, L: Ledger> Office<'g, L> {
     ) -> Result<(Office<'g, L>, Vec<Share<L>>), Memory>
         requires name { blank.name ≡ L.name }
         requires parts { (blank.parts ≡ L.parts) × (blank.parts ≡ seats) }
+        requires game { board.graph ≡ L.game }
         requires seats { (1 ≤ seats) × (seats ≤ 65) }
         ensures shares { IfOk result (λ o. o.1.items ≡ number_settled board.entry.journal ∷ replicate (seats - 1) 0) }
         ensures exact { IfOk result (λ o. AreExact o.1.items (number_settled board.entry.journal) board.entry.journal) }
@@ -269,9 +285,10 @@ impl<'g, L: Ledger> Office<'g, L> {
         Ok((office, shares))
     }
 
-    /// The board, once all shares of the office are back. The number settled is the sum of their amounts.
+    /// The board, once all shares of the office are back: it is of the office's game. The number settled is the sum of their amounts.
     pub fn close(self, mut shares: Vec<Share<L>>) -> Board<'g>
         requires all { (vec_len shares ≡ L.parts) × (0 < L.parts) }
+        ensures game { result.graph ≡ L.game }
         ensures exact { number_settled result.journal ≡ sum shares.items }
         ensures lawful { IsLawful result.graph result.journal }
     {

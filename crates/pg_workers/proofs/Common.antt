@@ -30,6 +30,6 @@ pub use Rattle.pg_workers.specs.declared.report.ReportRow.{ReportRow}
 pub use Rattle.pg_workers.specs.private.Answers.{AreNoted, IsAnswerTo}
 pub use Rattle.pg_workers.specs.private.Drawing.{AtSeat, Draws, IsDrawer, IsDrawn, both_drawers, drawer, one_less, one_ticket, spent_drawer}
 pub use Rattle.pg_workers.specs.private.Known.{HasSettled, IsKnownFault}
-pub use Rattle.pg_workers.specs.private.Report.{AreBlank, AreIdle, AreNotedRows, AreOfPrefix, HasPlaces, answered, forgotten, how_many_of_job, jobs_in, noted}
+pub use Rattle.pg_workers.specs.private.Report.{AreBlank, AreIdle, AreNotedRows, AreOfPrefix, HasPlaces, answered, how_many_of_job, jobs_in, noted}
 pub use Rattle.pg_workers.specs.private.Report.{rows_in}
 pub use Rattle.pg_workers.specs.private.Rest.{IsLater, Settles}

@@ -1,8 +1,8 @@
 -- Lists of rows.
 use Rattle.pg_workers.proofs.Common.{rules, ◌≡◌, ◌≢◌, ℕ, zero, suc, ◌+◌, ◌<◌, ◌⊎◌, inl, inr, Bool, true, false, List, [], ◌∷◌, ◌++◌, All, Vec, Global, length}
-use Rattle.pg_workers.proofs.Common.{map, take, drop, get_or, set, refl, sym, ap, ◌∙◌, subst, arith, common_steps, ◌==◌, cond, sum_by, slice_get, Some, times}
+use Rattle.pg_workers.proofs.Common.{take, set, refl, sym, ap, ◌∙◌, subst, arith, common_steps, ◌==◌, cond, sum_by, slice_get, Some, times}
 use Rattle.pg_workers.proofs.Common.{take-append_seam, nat_tests, map-append, sum_by-cons, sum_by-append, none-some, same_Some, slice_get_within, ReportRow}
-use Rattle.pg_workers.proofs.Common.{get_or_from_slice_get, AreNumbered, IsInOrder, IsReport, blank_row, settled_in, AreBlank, AreIdle, forgotten, jobs_in}
+use Rattle.pg_workers.proofs.Common.{get_or_from_slice_get, IsInOrder, blank_row, settled_in, AreBlank, AreIdle, jobs_in}
 use Rattle.pg_workers.proofs.Common.{rows_in, how_many_of_job}
 
 -- rows that settled nothing add up to nothing
@@ -83,41 +83,9 @@ all_rows P (v ∷ all) h i r e =
       | inr there ↦ all_rows P all (λ k d lt. h (suc k) d (omega arith)) there.0 r there.1
     ]
 
--- a row of a report whose posts are forgotten
-was : (report : List ReportRow) (k : ℕ) (r : ReportRow) → slice_get (map forgotten report) k ≡ Some r
-    → (x : ReportRow) × (slice_get report k ≡ Some x) × (forgotten x ≡ r)
-was [] k r e = absurd (none-some r e)
-was (x ∷ report) zero r e = (x, refl, same_Some (forgotten x) r e)
-was (x ∷ report) (suc k) r e = was report k r e
-
-pub forgotten_numbered : (report : List ReportRow) → AreNumbered report → AreNumbered (map forgotten report)
-forgotten_numbered report h = λ k r e. let w = was report k r e in ap (λ (x : ReportRow). x.job) (sym w.2) ∙ h k w.0 w.1
-
-pub forgotten_settled : (report : List ReportRow) → settled_in (map forgotten report) ≡ 0
-forgotten_settled report = none_settled (map forgotten report) (λ k r e _. ap (λ (x : ReportRow). x.settled) (sym (was report k r e).2))
-
-pub forgotten_report : (n : ℕ) (report : List ReportRow) → IsReport n report → IsReport n (map forgotten report)
-forgotten_report n report h = search (rules, was, h.done, h.blank)
-
--- one row more whose posts are forgotten
-next_forgotten : (xs : List ReportRow) (i : ℕ) (d : ReportRow) → i < length xs
-    → set (map forgotten (take i xs) ++ drop i xs) i (forgotten (get_or (map forgotten (take i xs) ++ drop i xs) i d)) ≡ map forgotten
-    (take (suc i) xs) ++ drop (suc i) xs
-next_forgotten [] i d lt = absurd (omega arith)
-next_forgotten (x ∷ xs) zero d lt = refl
-next_forgotten (x ∷ xs) (suc i) d lt = ap (λ l. forgotten x ∷ l) (next_forgotten xs i d (omega arith))
-
-pub more_forgotten : (xs now : List ReportRow) (i : ℕ) (d : ReportRow) → i < length xs → now ≡ map forgotten (take i xs) ++ drop i xs
-    → set now i (forgotten (get_or now i d)) ≡ map forgotten (take (i + 1) xs) ++ drop (i + 1) xs
-more_forgotten xs now i d lt is = grind (arith, next_forgotten)
-
 -- a vector whose slice was written has what was written
 pub written : (xs rest : List ReportRow) (n : ℕ) → length xs ≡ n → take n (xs ++ rest) ≡ xs
 written xs rest n long = subst (λ (k : ℕ). take k (xs ++ rest) ≡ xs) long (take-append_seam xs rest)
-
-pub all_forgotten : (items now new rest : List ReportRow) (n : ℕ) → now ≡ items → new ≡ map forgotten now → length now ≡ n
-    → take n (new ++ rest) ≡ map forgotten items
-all_forgotten items now new rest n same is long = grind (arith, common_steps)
 
 -- a blank row more
 pushed_row : (rows : List ReportRow) (x y : ReportRow) (k : ℕ) → slice_get (rows ++ x ∷ []) k ≡ Some y

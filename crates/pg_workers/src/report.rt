@@ -1,7 +1,7 @@
 //! What became of each job of a run. Each row of a worker has its place in the report by its job's number.
-ghost use Rattle.std.specs.Prelude.{◌≡◌, ◌+◌, ◌^◌, ◌≤◌, ◌<◌, ℕ, IfOk, length, map, vec_len};
+ghost use Rattle.std.specs.Prelude.{◌≡◌, ◌+◌, ◌^◌, ◌≤◌, ◌<◌, ℕ, IfOk, length, vec_len};
 ghost use Rattle.pg_workers.specs.Report.{IsInOrder, blank_row, settled_in};
-ghost use Rattle.pg_workers.specs.private.Report.{AreBlank, AreOfPrefix, AreNotedRows, HasPlaces, answered, forgotten, noted, rows_in};
+ghost use Rattle.pg_workers.specs.private.Report.{AreBlank, AreOfPrefix, AreNotedRows, HasPlaces, answered, noted, rows_in};
 
 use pg_board::Refusal;
 use pg_game::Memory;
@@ -94,15 +94,4 @@ pub(crate) fn with_rows(mut report: Vec<ReportRow>, all: &[Vec<ReportRow>]) -> V
         place_rows(report.as_mut_slice(), rows.as_slice());
     }
     report
-}
-
-/// Sets what was posted and settled to nothing in every row: what the workers did was on another game.
-pub(crate) fn forget_posts(report: &mut [ReportRow])
-    ensures { report.new ≡ map forgotten report.old }
-{
-    for i in 0..report.len() {
-        let row = &mut report[i];
-        row.posted = 0;
-        row.settled = 0;
-    }
 }

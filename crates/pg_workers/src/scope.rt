@@ -9,7 +9,7 @@ use crate::gate::Gate;
 use crate::jobs::{Jobs, Ticket};
 use crate::report::ReportRow;
 use crate::worker::{Naming, Slot, Task};
-use pg_board::{Office, Share};
+use pg_board::{OfGame, Office, Share};
 use pg_finders::Finder;
 use pg_game::Memory;
 use std::alloc::Global;
@@ -58,7 +58,7 @@ fn start<
     'x: 's,
     'g,
     E,
-    L: Ledger + Send + Sync,
+    L: Ledger + OfGame + Send + Sync,
     J: Naming + Send + Sync,
     G: Gate,
     F: Finder,
@@ -86,7 +86,7 @@ fn start<
 }
 
 /// Whether nothing is unsettled. Also false where memory for a look is refused.
-fn is_all_settled<L: Ledger, R: Wait>(
+fn is_all_settled<L: Ledger + OfGame, R: Wait>(
     rt: &R,
     alloc: Global,
     office: &Office<'_, L>,
@@ -98,7 +98,7 @@ fn is_all_settled<L: Ledger, R: Wait>(
 
 /// Whether the first worker, which was started, settles all in the jobs of the first phases. Others would only wait for these
 /// with theirs. Where the gate may hold the first worker until others have gone on, that is not waited for.
-fn settles_all<L: Ledger, G: Gate, F, R: Wait>(
+fn settles_all<L: Ledger + OfGame, G: Gate, F, R: Wait>(
     rt: &R,
     alloc: Global,
     office: &Office<'_, L>,
@@ -112,13 +112,13 @@ fn settles_all<L: Ledger, G: Gate, F, R: Wait>(
     is_all_settled(rt, alloc, office, share)
 }
 
-/// Starts a worker for each slot, but for the first one alone where it settles all in its first jobs.
+/// Starts a worker for each slot, or for the first one alone where it settles all in its first jobs.
 fn start_each<
     's,
     'x: 's,
     'g,
     E,
-    L: Ledger + Send + Sync,
+    L: Ledger + OfGame + Send + Sync,
     J: Naming + Send + Sync,
     G: Gate,
     F: Finder,
@@ -152,7 +152,7 @@ fn start_each<
 pub(crate) fn start_all<
     'x,
     'g,
-    L: Ledger + Send + Sync,
+    L: Ledger + OfGame + Send + Sync,
     J: Naming + Send + Sync,
     G: Gate,
     F: Finder,

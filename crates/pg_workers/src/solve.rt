@@ -16,11 +16,11 @@ use crate::jobs::{Jobs, Ticket};
 use crate::known::{SolveFault, board_with};
 use crate::options::Options;
 use crate::phases::Phases;
-use crate::report::{ReportRow, blank_report, forget_posts, with_rows};
+use crate::report::{ReportRow, blank_report, with_rows};
 use crate::rest::settle_rest;
 use crate::scope::{slots_of, start_all, take_apart};
 use crate::worker::{Naming, Task};
-use pg_board::{Board, Entry, Office, Share};
+use pg_board::{Board, Entry, OfGame, Office, Share};
 use pg_finders::Finder;
 use pg_game::{Game, Memory};
 use pg_text::{Known, Solution};
@@ -36,44 +36,6 @@ pub struct Outcome {
     pub solution: Solution,
     pub entries: Vec<Entry>,
     pub report: Vec<ReportRow>,
-}
-
-/// The report of a run whose posts do not count.
-#[tactic(auto, using(crate::proofs::Rows::forgotten_report))]
-fn without_posts(mut report: Vec<ReportRow>) -> Vec<ReportRow>
-    requires { AreNumbered report.items }
-    ensures numbered { AreNumbered result.items }
-    ensures length { vec_len result ≡ vec_len report }
-    ensures rows { (n : ℕ) → IsReport n report.items → IsReport n result.items }
-    ensures settled { settled_in result.items ≡ 0 }
-{
-    forget_posts(report.as_mut_slice());
-    report
-}
-
-/// The closed board, or a new one with what is known where it is a board of another game. Then nothing that workers
-/// posted counts.
-fn board_of<'g>(
-    alloc: Global,
-    game: &'g Game,
-    known: &Known,
-    board: Board<'g>,
-    report: Vec<ReportRow>,
-) -> Result<(Board<'g>, Vec<ReportRow>), SolveFault>
-    requires known { length known.now.rows ≤ length game.now }
-    requires numbered { AreNumbered report.items }
-    requires settled { HasSettled game.now known.now.rows report.items board.journal }
-    ensures game { IfOk result (λ r. r.0.graph ≡ game.now) }
-    ensures settled { IfOk result (λ r. HasSettled game.now known.now.rows r.1.items r.0.journal) }
-    ensures numbered { IfOk result (λ r. AreNumbered r.1.items) }
-    ensures rows { (n : ℕ) → IsReport n report.items → IfOk result (λ r. IsReport n r.1.items) }
-    ensures length { IfOk result (λ r. vec_len r.1 ≡ vec_len report) }
-    ensures fault { IfErr result (λ e. IsSolveFault game.now known.now.rows e) }
-{
-    if *board.game() == *game {
-        return Ok((board, report));
-    }
-    Ok((board_with(alloc, game, known)?, without_posts(report)))
 }
 
 /// What a board tells once everything is settled.
@@ -103,7 +65,7 @@ fn outcome_of(
 /// first share is no worker's.
 fn run<
     'g,
-    L: Ledger + Send + Sync,
+    L: Ledger + OfGame + Send + Sync,
     J: Naming + Send + Sync,
     G: Gate,
     F: Finder,
@@ -124,6 +86,7 @@ fn run<
     requires jobs { (jobs.series ≡ J.series) × (jobs.seats ≡ vec_len shares) }
     requires workers { (vec_len shares ≡ J.workers) × (1 ≤ J.workers) × (J.workers ≤ 64) }
     requires tickets { tickets.items ≡ replicate (vec_len shares) (fresh J.series) }
+    ensures game { IfOk result (λ r. r.0.graph ≡ L.game) }
     ensures numbered { IfOk result (λ r. AreNumbered r.1.items) }
     ensures settled { IfOk result (λ r. settled_in r.1.items + first ≡ number_settled r.0.journal) }
     ensures rows { IfOk result (λ r. IsReport J.workers r.1.items) }
@@ -143,8 +106,8 @@ fn run<
     Ok((board, with_rows(report, rows.as_slice())))
 }
 
-/// A run over an office whose ledger is made of this blank.
-fn solve_on<L: Ledger + Send + Sync, G: Gate, F: Finder, R: Threads + Wait + Sync>(
+/// A run over an office of the game, whose ledger is made of this blank.
+fn solve_on<L: Ledger + OfGame + Send + Sync, G: Gate, F: Finder, R: Threads + Wait + Sync>(
     rt: &R,
     alloc: Global,
     blank: Blank,
@@ -156,6 +119,7 @@ fn solve_on<L: Ledger + Send + Sync, G: Gate, F: Finder, R: Threads + Wait + Syn
 ) -> Result<Outcome, SolveFault>
     requires name { blank.name ≡ L.name }
     requires parts { (blank.parts ≡ L.parts) × (blank.parts ≡ options.now.workers + 1) }
+    requires game { game.now ≡ L.game }
     requires known { length known.now.rows ≤ length game.now }
     requires workers { (1 ≤ options.now.workers) × (options.now.workers ≤ 64) }
     requires bound { options.now.bound ≤ 8 }
@@ -180,7 +144,6 @@ fn solve_on<L: Ledger + Send + Sync, G: Gate, F: Finder, R: Threads + Wait + Syn
     let (board, report) = run::<L, Brand, G, F, R>(
         rt, alloc, office, first, shares, jobs, tickets, total, &task,
     )?;
-    let (board, report) = board_of(alloc, game, known, board, report)?;
     Ok(outcome_of(alloc, board, report)?)
 }
 

@@ -15,7 +15,7 @@ use crate::jobs::{Jobs, Ticket};
 use crate::options::Options;
 use crate::phases::Phases;
 use crate::report::ReportRow;
-use pg_board::{Office, Refusal, Share};
+use pg_board::{OfGame, Office, Refusal, Share};
 use pg_dominion::{Claim, check_claim};
 use pg_finders::{Finder, Found, Job};
 use pg_game::{Game, Memory};
@@ -71,7 +71,7 @@ pub(crate) struct Task<'x, G, F> {
 
 /// Has a claim settled: it is checked on the game first, with no lock held. Where no other worker waits for the lock it is
 /// posted as it stands, since that takes no memory for what was checked.
-fn settle_claim<L: Ledger, R: Wait>(
+fn settle_claim<L: Ledger + OfGame, R: Wait>(
     rt: &R,
     alloc: Global,
     office: &Office<'_, L>,
@@ -93,7 +93,7 @@ fn settle_claim<L: Ledger, R: Wait>(
 }
 
 /// Has one claim settled, and notes the answer in the job's row.
-fn post<L: Ledger, R: Wait>(
+fn post<L: Ledger + OfGame, R: Wait>(
     rt: &R,
     alloc: Global,
     office: &Office<'_, L>,
@@ -118,7 +118,7 @@ fn post<L: Ledger, R: Wait>(
 
 /// Has all claims settled in order, and notes the answers. Every claim counts as posted, stale or refused where memory was
 /// not refused.
-fn post_all<L: Ledger, R: Wait>(
+fn post_all<L: Ledger + OfGame, R: Wait>(
     rt: &R,
     alloc: Global,
     office: &Office<'_, L>,
@@ -144,7 +144,7 @@ fn post_all<L: Ledger, R: Wait>(
 }
 
 /// What the finder gives for a job on a copy, and the copy's game.
-fn search<'g, L: Ledger, F: Finder, R: Wait>(
+fn search<'g, L: Ledger + OfGame, F: Finder, R: Wait>(
     rt: &R,
     alloc: Global,
     office: &Office<'g, L>,
@@ -158,7 +158,7 @@ fn search<'g, L: Ledger, F: Finder, R: Wait>(
 }
 
 /// Has a copy searched for the job of this number, once no job of an earlier phase is under way, and tells the gate.
-fn search_job<'g, L: Ledger, G: Gate, F: Finder, R: Wait>(
+fn search_job<'g, L: Ledger + OfGame, G: Gate, F: Finder, R: Wait>(
     rt: &R,
     alloc: Global,
     office: &Office<'g, L>,
@@ -184,7 +184,7 @@ fn search_job<'g, L: Ledger, G: Gate, F: Finder, R: Wait>(
 }
 
 /// Does one job. What it settles is added to the share and noted in the row.
-fn do_job<L: Ledger, G: Gate, F: Finder, R: Wait>(
+fn do_job<L: Ledger + OfGame, G: Gate, F: Finder, R: Wait>(
     rt: &R,
     alloc: Global,
     office: &Office<'_, L>,
@@ -226,7 +226,7 @@ fn do_job<L: Ledger, G: Gate, F: Finder, R: Wait>(
     row
 }
 
-impl<L: Ledger, J: Naming> Slot<L, J> {
+impl<L: Ledger + OfGame, J: Naming> Slot<L, J> {
     /// Draws a number and does its job, or learns that there are no more.
     fn turn<G: Gate, F: Finder, R: Wait>(
         &mut self,

@@ -42,10 +42,6 @@ pub record AreNotedRows (before after rows : List ReportRow) : Type 0 where
   pub placed : (i : ℕ) (r : ReportRow) → slice_get rows i ≡ Some r → slice_get after r.job ≡ Some r
   pub others : (j : ℕ) → how_many_of_job j rows ≡ 0 → slice_get after j ≡ slice_get before j
 
--- the row of a run whose posts do not count
-abbrev pub forgotten : ReportRow → ReportRow
-forgotten r = record r { posted = 0; settled = 0 }
-
 -- the row after one claim was answered
 abbrev pub noted : ReportRow → Result ℕ Refusal → ReportRow
 noted r (Ok n) = record r { posted = r.posted + 1; settled = r.settled + n }

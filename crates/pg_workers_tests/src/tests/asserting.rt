@@ -1,5 +1,7 @@
 //! Assertions as calls: a test that calls is proved sooner than one that branches.
 
+ghost use Rattle.std.specs.Prelude.{◌≡◌, Ok};
+
 use std::fmt::Debug;
 use std::process::Abort;
 
@@ -23,7 +25,9 @@ pub fn holds<D: Debug + Copy>(rt: &impl Abort, is_so: bool, at: D) {
 }
 
 /// What a call gives that is not to be refused, or the test's end: a way out by `?` costs each caller more.
-pub fn made<T, E: Debug + Drop>(rt: &impl Abort, answer: Result<T, E>) -> T {
+pub fn made<T, E: Debug + Drop>(rt: &impl Abort, answer: Result<T, E>) -> T
+    ensures { answer ≡ Ok result }
+{
     match answer {
         Ok(value) => value,
         Err(error) => panic!(*rt; "refused: {error:?}"),

@@ -1,5 +1,7 @@
 //! Games and claims for the tests, by tables.
 
+ghost use Rattle.std.specs.Prelude.{◌≡◌};
+
 use crate::tests::asserting::made;
 use pg_board::Board;
 use pg_dominion::Claim;
@@ -45,7 +47,9 @@ pub fn plain_game(rt: &impl Abort, alloc: Global, plain: &[Plain]) -> Game {
 }
 
 /// A board on which nothing is settled, opened once more where memory was refused.
-pub fn new_board<'g>(rt: &impl Abort, alloc: Global, game: &'g Game) -> Board<'g> {
+pub fn new_board<'g>(rt: &impl Abort, alloc: Global, game: &'g Game) -> Board<'g>
+    ensures { result.graph ≡ game.now }
+{
     match Board::open(alloc, game) {
         Ok(board) => board,
         Err(_) => made(rt, Board::open(alloc, game)),

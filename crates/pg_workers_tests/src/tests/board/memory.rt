@@ -12,7 +12,7 @@ use crate::tests::board::boards::{
 use crate::tests::board::calls::Call;
 use crate::tests::board::games::{SHARED, claim_of, game_made, new_board};
 use crate::tests::board::offices::{RUNS, run_through};
-use pg_board::{Board, Office, Refusal, Share};
+use pg_board::{Board, OfGame, Office, Refusal, Share};
 use pg_game::Game;
 use pg_test_support::lacking;
 use std::alloc::Global;
@@ -72,7 +72,7 @@ fn worked_claims_through_shares_have_their_answers_also_after_a_refusal(
 }
 
 /// Where memory is refused to a copy, the next call makes it; what is shared again takes no memory.
-fn share_twice<L: Ledger, R: Wait + Abort>(
+fn share_twice<L: Ledger + OfGame, R: Wait + Abort>(
     rt: &R,
     alloc: Global,
     blank: Blank,
@@ -80,6 +80,7 @@ fn share_twice<L: Ledger, R: Wait + Abort>(
 ) -> Result<(), Fail>
     requires name { blank.name ≡ L.name }
     requires parts { (blank.parts ≡ L.parts) × (blank.parts ≡ 1) }
+    requires game { game.now ≡ L.game }
 {
     let Ok((office, shares)) = Office::<L>::open(alloc, blank, game, 1) else {
         return Err(lacking());
@@ -88,7 +89,7 @@ fn share_twice<L: Ledger, R: Wait + Abort>(
     Ok(())
 }
 
-fn compare_shared<L: Ledger, R: Wait + Abort>(
+fn compare_shared<L: Ledger + OfGame, R: Wait + Abort>(
     rt: &R,
     alloc: Global,
     office: &Office<L>,

@@ -9,7 +9,7 @@ use crate::tests::board::calls::Call;
 use crate::tests::board::games::{
     DIVIDED, LAYERED, SHARED, claim_of, claim_of_loops, game_made, new_board,
 };
-use pg_board::{Board, Office, Refusal, Share};
+use pg_board::{Board, OfGame, Office, Refusal, Share};
 use pg_dominion::{Claim, ClaimFault};
 use pg_finders::Copied;
 use pg_game::{Game, Memory, Player};
@@ -195,7 +195,7 @@ fn the_largest_claim_of_the_largest_game_is_accepted(rt: HostRuntime) -> Result<
 }
 
 /// Takes the steps in an office of a board of the game; ends the test where memory is refused to the office.
-pub fn run_through<L: Ledger, R: Wait + Abort>(
+pub fn run_through<L: Ledger + OfGame, R: Wait + Abort>(
     rt: &R,
     alloc: Global,
     blank: Blank,
@@ -206,6 +206,7 @@ pub fn run_through<L: Ledger, R: Wait + Abort>(
 ) -> Result<(), Fail>
     requires name { blank.name ≡ L.name }
     requires parts { (blank.parts ≡ L.parts) × (blank.parts ≡ seats) }
+    requires game { game.now ≡ L.game }
     requires seats { (1 ≤ seats) × (seats ≤ 64) }
 {
     let Ok((office, mut shares)) = office_of::<L, R>(rt, alloc, blank, game, seats, run.posted)
@@ -218,7 +219,7 @@ pub fn run_through<L: Ledger, R: Wait + Abort>(
 }
 
 /// An office with so many shares: of a new board, or round one on which a claim is settled.
-fn office_of<'g, L: Ledger, R: Abort>(
+fn office_of<'g, L: Ledger + OfGame, R: Abort>(
     rt: &R,
     alloc: Global,
     blank: Blank,
@@ -228,6 +229,7 @@ fn office_of<'g, L: Ledger, R: Abort>(
 ) -> Result<(Office<'g, L>, Vec<Share<L>>), Memory>
     requires name { blank.name ≡ L.name }
     requires parts { (blank.parts ≡ L.parts) × (blank.parts ≡ seats) }
+    requires game { game.now ≡ L.game }
     requires seats { (1 ≤ seats) × (seats ≤ 64) }
     ensures { IfOk result (λ o. vec_len o.1 ≡ seats) }
 {
@@ -247,7 +249,9 @@ fn board_of_post<'g>(
     game: &'g Game,
     player: Player,
     row: Row,
-) -> Board<'g> {
+) -> Board<'g>
+    ensures { result.graph ≡ game.now }
+{
     let mut board = new_board(rt, alloc, game);
     let claim = claim_of(rt, alloc, player, &[row]);
     if board.post(alloc, 0, &claim).is_err() {
@@ -257,7 +261,7 @@ fn board_of_post<'g>(
 }
 
 /// Takes the steps, each after what the last claim left.
-fn take_all<'g, L: Ledger, R: Wait + Abort>(
+fn take_all<'g, L: Ledger + OfGame, R: Wait + Abort>(
     rt: &R,
     alloc: Global,
     call: Call,
@@ -288,7 +292,7 @@ fn after<'a>(before: &'a Case<'a>, step: &Step<'a>) -> &'a Case<'a> {
     }
 }
 
-fn take<'g, L: Ledger, R: Wait + Abort>(
+fn take<'g, L: Ledger + OfGame, R: Wait + Abort>(
     rt: &R,
     alloc: Global,
     call: Call,
@@ -330,7 +334,7 @@ fn take<'g, L: Ledger, R: Wait + Abort>(
 }
 
 /// Puts a claim of one row, which is checked on this game.
-fn put_row<L: Ledger, R: Wait + Abort>(
+fn put_row<L: Ledger + OfGame, R: Wait + Abort>(
     rt: &R,
     alloc: Global,
     call: Call,
@@ -358,7 +362,7 @@ fn put_row<L: Ledger, R: Wait + Abort>(
 
 /// Compares the answer, and the share's amount then. Where memory is refused, the amount and a copy are as before, and the
 /// claim is put once more.
-fn put_claim<L: Ledger, R: Wait + Abort>(
+fn put_claim<L: Ledger + OfGame, R: Wait + Abort>(
     rt: &R,
     alloc: Global,
     call: Call,
@@ -381,7 +385,7 @@ fn put_claim<L: Ledger, R: Wait + Abort>(
 }
 
 /// A copy through a share, taken once more where memory was refused.
-fn copied_through<'g, L: Ledger, R: Wait + Abort>(
+fn copied_through<'g, L: Ledger + OfGame, R: Wait + Abort>(
     rt: &R,
     alloc: Global,
     office: &Office<'g, L>,
@@ -394,7 +398,7 @@ fn copied_through<'g, L: Ledger, R: Wait + Abort>(
 }
 
 /// A shared copy, taken once more where memory was refused.
-fn shared<'g, L: Ledger, R: Wait + Abort>(
+fn shared<'g, L: Ledger + OfGame, R: Wait + Abort>(
     rt: &R,
     alloc: Global,
     office: &Office<'g, L>,

@@ -8,6 +8,7 @@ invariant_of-self g c = search (rules, c.in_err-posted.ensures.unchanged, c.audi
 
 pub invariant_of-self-2 : goal.invariant_of-self-2
 invariant_of-self-2 g c = record {
+  of_game = c.in_ok-posted.ensures.game ∙ c.args.self.now.of_game;
   exact = total_grows c.add.ensures.total (c.audit.ensures.total ∙ c.args.self.now.exact) c.from-more.ensures (number_grows c.in_ok-posted.ensures.posted.1);
   past = all_stay c.args.self.now.copies.items c.in_ok-posted.ensures.posted.1 c.in_ok-posted.ensures.game c.args.self.now.past;
 }

@@ -9,6 +9,7 @@ present_copy-requires g c = subst (ArePastCopies c.args.self.now.board) (sym c.i
 
 pub invariant_of-self-2 : goal.invariant_of-self-2
 invariant_of-self-2 g c = record {
+  of_game = c.args.self.now.of_game;
   exact = c.args.self.now.exact;
   past =
       let b = c.args.self.now.board in
