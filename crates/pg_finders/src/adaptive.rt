@@ -10,13 +10,14 @@ use crate::standard::Standard;
 use std::alloc::{AllocError, Global};
 use std::sync::atomic::{AtomicU64, Ordering};
 
-/// How many jobs in a row may look for a small dominion in vain.
-const MOST_IN_VAIN: u64 = 128;
+/// How many seeds may be looked at in a row for a small dominion in vain.
+const MOST_SEEDS_IN_VAIN: u64 = 6_144;
 
-/// Looks as `Standard` does, but gives up on each `Small` job once 128 of them in a row found nothing.
+/// Looks as `Standard` does, but gives up on each `Small` job once those in a row that found nothing had 6,144 seeds.
 ///
-/// The jobs in a row are those of all threads that share it, and it doesn't begin anew: whoever solves another game makes
-/// another. In jobs of 64 seeds for each player, a game of at most 4,096 vertices is searched whole before that.
+/// A job has as many seeds as its `count` says, of which those beyond the game count too. The jobs in a row are those of all
+/// threads that share it, and it doesn't begin anew: whoever solves another game makes another. In jobs of 64 seeds for each
+/// player, a game of at most 3,072 vertices is searched whole before that.
 #[derive(Drop)]
 pub struct Adaptive {
     in_vain: AtomicU64,
@@ -29,10 +30,12 @@ impl Adaptive {
         }
     }
 
-    /// Counts a job in vain, or begins to count anew where something was found.
-    fn note(&self, found: &Found) {
+    /// Counts the seeds of a job in vain, or begins to count anew where something was found.
+    ///
+    /// It adds no more once there are too many, so that the sum is far from the end of its type.
+    fn note(&self, seeds: u32, found: &Found) {
         if found.claims.is_empty() {
-            self.in_vain.fetch_add(1, Ordering::Relaxed);
+            self.in_vain.fetch_add(u64::from(seeds), Ordering::Relaxed);
         } else {
             self.in_vain.store(0, Ordering::Relaxed);
         }
@@ -52,17 +55,17 @@ impl Finder for Adaptive {
             (AreOfRecursion copied.now.inside.graph (members copied.now.inside.mask) found.claims.items)) }
         ensures gave_up { IfOk result (λ found. found.gave_up ≡ true → is_small job.now ≡ true) }
     {
-        if !matches!(*job, Job::Small { .. }) {
+        let Job::Small { count, .. } = *job else {
             return Standard.find(alloc, copied, job);
-        }
-        if self.in_vain.load(Ordering::Relaxed) >= MOST_IN_VAIN {
+        };
+        if self.in_vain.load(Ordering::Relaxed) >= MOST_SEEDS_IN_VAIN {
             return Ok(Found {
                 claims: Vec::new(alloc),
                 gave_up: true,
             });
         }
         let found = Standard.find(alloc, copied, job)?;
-        self.note(&found);
+        self.note(count, &found);
         Ok(found)
     }
 }
