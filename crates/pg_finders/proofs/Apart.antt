@@ -27,10 +27,6 @@ named_more rows at v l = list_any_more (λ (r : ℕ × Option ℕ). r.0 == v) ro
 pub differ : (x v : ℕ) → x ≢ v → (x == v) ≡ false
 differ x v n = search (rules, eqb-true)
 
-pub unnamed_more : (rows : ClaimRows) (at v : ℕ) → at < length rows → named (take at rows) v ≡ false → vertex_in rows at ≢ v
-    → named (take (at + 1) rows) v ≡ false
-unnamed_more rows at v l h n = named_more rows at v l ∙ rw (h, differ (vertex_in rows at) v n) refl
-
 -- no vertex stands at two places, so its choice is that of its place
 pub choice_of_place : (rows : ClaimRows) (k : ℕ) → AreDifferent rows → k < length rows → choice_in rows (vertex_in rows k) ≡ choice_at rows k
 choice_of_place [] k d l = absurd (omega (arith, l))

@@ -72,8 +72,8 @@ impl Chosen {
     pub fn has(&self, v: u32) -> bool
         ensures { result ≡ named self.now v }
     {
-        for at in 0..self.len() {
-            if self.vertex(at) == v {
+        for row in &self.rows[..self.len] {
+            if row.0 == v {
                 return true;
             }
         }

@@ -99,11 +99,13 @@ impl<'a> Search<'a> {
         ensures back { IsFalse result → chosen.new ≡ chosen.old }
     {
         let v = chosen.vertex(at);
-        if self.leads_to_excluded(v) {
+        let len = chosen.len();
+        // first, since most vertices fail for want of room
+        if !self.add_successors(chosen, v) {
+            chosen.truncate(len);
             return false;
         }
-        let len = chosen.len();
-        if !self.add_successors(chosen, v) {
+        if self.leads_to_excluded(v) {
             chosen.truncate(len);
             return false;
         }
