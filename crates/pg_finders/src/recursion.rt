@@ -7,6 +7,7 @@ ghost use Rattle.pg_finders.specs.private.recursion.Planned.{winners_of, choices
 ghost use Rattle.pg_finders.specs.Claims.{AreClaims, own_choices, rows_below};
 
 mod begin;
+mod counting;
 mod order;
 mod plan;
 mod settled;
