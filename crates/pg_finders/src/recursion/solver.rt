@@ -72,8 +72,9 @@ impl Solver {
         // allocator of glibc, and what lies below them isn't given back to the system.
         let n = inside.count();
         let stops = Vec::with_capacity(alloc, 64)?;
-        let subgame = Subgame::new(alloc, game, inside)?;
+        // the order first, which gives back what it took to make it
         let order = Order::new(alloc, game, inside)?;
+        let subgame = Subgame::new(alloc, game, inside)?;
         let settled = Settled::new(alloc, n)?;
         let aside = Vec::with_capacity(alloc, n as usize)?;
         let list = Vec::with_capacity(alloc, n as usize)?;

@@ -7,7 +7,8 @@ returns-clause-outcome g c =
     let bound : ℕ = c.args.options.now.bound in let closed = c.in_ok-board-2 in let run = closed.ensures in
     let o = c.in_ok-outcome_of.field-0 in let workers : ℕ = c.in_ok-jobs.jobs.seats in
     let of_game : closed.board.graph ≡ game = run.game ∙ sym c.requires.game in
-    let settled : HasSettled game known closed.report.items closed.board.journal = search (rules, run.settled, c.in_ok-board.ensures.known, c.in_ok-office.ensures.shares, c.remove-first.ensures.value) in
+    let settled : HasSettled game known closed.report.items closed.board.journal =
+    search (rules, run.settled, c.in_ok-board.ensures.known, c.in_ok-office.ensures.shares, c.remove-first.ensures.value) in
     let outcome = c.in_ok-outcome_of.ensures known workers (subst (λ (h : Graph). HasSettled h known closed.report.items closed.board.journal)
     (sym of_game) settled) run.rows in
     let long : vec_len closed.report ≡ total_of bound (length game) =
