@@ -19,7 +19,7 @@ LONG = {
     "pg_board/board/Board/enter": 108,
     "pg_board/board/Board/settle_in": 72,
     "pg_dominion/walks/spread": 171,
-    "pg_finders/recursion/begin/begin": 131,
+    "pg_finders/recursion/begin/begin": 126,
     "pg_finders/recursion/solver/Solver/enter": 114,
     "pg_finders/recursion/solver/Solver/resume": 158,
     "pg_finders/small/find_small": 99,

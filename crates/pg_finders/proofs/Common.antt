@@ -40,14 +40,13 @@ pub use Rattle.pg_dominion.specs.declared.kept.Kept.{Kept}
 pub use Rattle.pg_finders.specs.Claims.{AreClaims, own_choices, rows_below}
 pub use Rattle.pg_finders.specs.Finding.{AtMostInside, IsLoop, IsSolitaire, most_choices}
 pub use Rattle.pg_finders.specs.Jobs.{IsOfSmall}
-pub use Rattle.pg_finders.specs.declared.recursion.order.Ranked.{Ranked}
 pub use Rattle.pg_finders.specs.declared.recursion.plan.Plan.{Plan}
 pub use Rattle.pg_finders.specs.declared.recursion.solver.Stop.{Stop}
 pub use Rattle.pg_finders.specs.private.Solved.{IsAttracted, IsBegun, IsSolvedInside, IsSolvedTo, Winners, WinsOn, won_inside}
 pub use Rattle.pg_finders.specs.private.loops.Singles.{itself, loops}
 pub use Rattle.pg_finders.specs.private.recursion.Growing.{AttractsNoActive, Before, IsGrown, IsKnown, IsReady, IsTested, active_of, place, won_of}
 pub use Rattle.pg_finders.specs.private.recursion.Listed.{Apart, Once, listed}
-pub use Rattle.pg_finders.specs.private.recursion.Order.{AllStand, IsRanked, no_rank, priority_at, rank_of, vertex_at_place}
+pub use Rattle.pg_finders.specs.private.recursion.Order.{AllStand, AreVertices, priority_at, vertex_at_place}
 pub use Rattle.pg_finders.specs.private.recursion.Planned.{HasBelow, IsGiven, SameAt, SameOutside, choices_of, size, winners_of}
 pub use Rattle.pg_finders.specs.private.recursion.Running.{AllPlaced, IsRunning, how_many_gone, steps_left, work}
 pub use Rattle.pg_finders.specs.private.recursion.Settled.{SettledLists, settled_of}

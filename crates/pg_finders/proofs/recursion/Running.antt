@@ -1,18 +1,18 @@
 -- What a step of the solver owes besides the levels: the places in the order by priority, and the steps that are left.
-use Rattle.pg_finders.proofs.Common.{◌≡◌, ℕ, ◌+◌, ◌-◌, ◌<◌, ◌≤◌, List, [], ◌∷◌, ◌++◌, length, map, refl, arith, rules, Ranked, Stop, Level, steps, steps_after}
+use Rattle.pg_finders.proofs.Common.{◌≡◌, ℕ, ◌+◌, ◌-◌, ◌<◌, ◌≤◌, List, [], ◌∷◌, ◌++◌, length, map, refl, arith, rules, Stop, Level, steps, steps_after}
 use Rattle.pg_finders.proofs.Common.{AllStand, AllPlaced, steps_left}
 use Rattle.pg_finders.proofs.recursion.Waiting.{steps_begin, steps_finish}
 
-pub placed_push : (ranked : List Ranked) (level : Stop → Level) (stops : List Stop) (f : Stop) → AllPlaced ranked (map level stops) stops
-    → AllStand ranked (level f).inside f.place → f.place ≤ length ranked → AllPlaced ranked (map level (stops ++ f ∷ [])) (stops ++ f ∷ [])
-placed_push ranked level [] f h a l = (a, l, tt)
-placed_push ranked level (x ∷ xs) f h a l = (h.0, h.1, placed_push ranked level xs f h.2 a l)
+pub placed_push : (vertices : List ℕ) (level : Stop → Level) (stops : List Stop) (f : Stop) → AllPlaced vertices (map level stops) stops
+    → AllStand vertices (level f).inside f.place → f.place ≤ length vertices → AllPlaced vertices (map level (stops ++ f ∷ [])) (stops ++ f ∷ [])
+placed_push vertices level [] f h a l = (a, l, tt)
+placed_push vertices level (x ∷ xs) f h a l = (h.0, h.1, placed_push vertices level xs f h.2 a l)
 
-pub placed_pop : (ranked : List Ranked) (level : Stop → Level) (stops : List Stop) (f : Stop)
-    → AllPlaced ranked (map level (stops ++ f ∷ [])) (stops ++ f ∷ [])
-    → AllPlaced ranked (map level stops) stops × AllStand ranked (level f).inside f.place × (f.place ≤ length ranked)
-placed_pop ranked level [] f h = (tt, h.0, h.1)
-placed_pop ranked level (x ∷ xs) f h = (let k = placed_pop ranked level xs f h.2 in ((h.0, h.1, k.0), k.1, k.2))
+pub placed_pop : (vertices : List ℕ) (level : Stop → Level) (stops : List Stop) (f : Stop)
+    → AllPlaced vertices (map level (stops ++ f ∷ [])) (stops ++ f ∷ [])
+    → AllPlaced vertices (map level stops) stops × AllStand vertices (level f).inside f.place × (f.place ≤ length vertices)
+placed_pop vertices level [] f h = (tt, h.0, h.1)
+placed_pop vertices level (x ∷ xs) f h = (let k = placed_pop vertices level xs f h.2 in ((h.0, h.1, k.0), k.1, k.2))
 
 left_push : (n : ℕ) (stops : List Stop) (f : Stop) → steps_left n (stops ++ f ∷ []) ≡ steps_left n stops + steps_after (n - (f.even + f.odd + f.aside))
 left_push n [] f = omega arith

@@ -39,7 +39,7 @@ impl Subgame {
         requires sizes { HasSizes (length game.now) self.old }
         requires subgame { IsSubgame game.now (active_of self.old) }
         requires order { IsOrder game.now order.now }
-        requires end { end ≤ length order.now.ranked.items }
+        requires end { end ≤ length order.now.vertices.items }
         ensures sizes { HasSizes (length game.now) self.new }
         ensures active { self.new.active ≡ self.old.active }
         ensures given { (k : ℕ) → first ≤ k → k < end → In (active_of self.old) (vertex_at_place order.now k)
@@ -81,7 +81,7 @@ impl Subgame {
         requires ready { IsReady n self.old list.old.items }
         requires below { (k : ℕ) → k < end → vertex_at_place order.now k < n }
         requires places { first ≤ end }
-        requires end { end ≤ length order.now.ranked.items }
+        requires end { end ≤ length order.now.vertices.items }
         requires empty { list.old.items ≡ [] }
         ensures ready { OnOk result (IsReady n self.new list.new.items) }
         ensures plan { OnOk result (self.new.plan ≡ self.old.plan) }
@@ -107,9 +107,9 @@ pub fn begin(
     requires sizes { HasSizes (length game.now) subgame.old }
     requires subgame { IsSubgame game.now (active_of subgame.old) }
     requires order { IsOrder game.now order.old }
-    requires stand { AllStand order.old.ranked.items (active_of subgame.old) order.old.upto }
+    requires stand { AllStand order.old.vertices.items (active_of subgame.old) order.old.upto }
     requires some { 0 < order.old.upto }
-    requires last { priority_at order.old (order.old.upto - 1) ≡ top }
+    requires last { priority_at game.now order.old (order.old.upto - 1) ≡ top }
     requires active { In (active_of subgame.old) (vertex_at_place order.old (order.old.upto - 1)) }
     ensures sizes { OnOk result (HasSizes (length game.now) subgame.new) }
     ensures once { OnOk result (Once list.new.items) }
@@ -117,13 +117,13 @@ pub fn begin(
         (choices_of subgame.new.plan)) }
     ensures listed { OnOk result ((v : ℕ) → listed list.new.items v ≡ without (active_of subgame.old) (active_of subgame.new) v) }
     ensures same { OnOk result (SameOutside (active_of subgame.old) subgame.old.plan subgame.new.plan) }
-    ensures ranked { order.new.ranked.items ≡ order.old.ranked.items }
-    ensures stand { OnOk result (AllStand order.new.ranked.items (active_of subgame.new) order.new.upto) }
+    ensures vertices { order.new.vertices.items ≡ order.old.vertices.items }
+    ensures stand { OnOk result (AllStand order.new.vertices.items (active_of subgame.new) order.new.upto) }
     ensures upto { OnOk result (order.new.upto ≤ order.old.upto) }
 {
     let player = Player::of_parity(top);
     let end = order.upto();
-    let first = order.first_of(&subgame.active, player);
+    let first = order.first_of(game, &subgame.active, player);
     subgame.give_all(game, player, order, first, end);
     list.clear();
     subgame.leave_all_out(game.len(), order, first, end, list)?;

@@ -4,7 +4,6 @@ use Rattle.pg_game.specs.declared.player.Player.TheVariants.{Even, Odd}
 use Rattle.pg_game.specs.Graph.{Graph}
 use Rattle.pg_game.specs.VertexSet.{members}
 use Rattle.pg_game.specs.Subgame.{IsSubgame}
-use Rattle.pg_finders.specs.declared.recursion.order.Ranked.{Ranked}
 use Rattle.pg_finders.specs.declared.recursion.solver.Stop.{Stop}
 use Rattle.pg_finders.specs.declared.recursion.solver.Solver.{Solver}
 use Rattle.pg_finders.specs.private.recursion.Planned.{winners_of, choices_of, size}
@@ -15,10 +14,10 @@ use Rattle.pg_finders.specs.private.recursion.Waiting.{Level, steps, steps_after
 use Rattle.pg_finders.specs.private.recursion.UnderWay.{level_at, IsUnderWay}
 
 -- the vertices of each level stand before the place that its stop keeps
-abbrev pub AllPlaced : List Ranked → List Level → List Stop → Type 0
-AllPlaced ranked [] fs = Unit {0}
-AllPlaced ranked (l ∷ ls) [] = Unit {0}
-AllPlaced ranked (l ∷ ls) (f ∷ fs) = AllStand ranked l.inside f.place × (f.place ≤ length ranked) × AllPlaced ranked ls fs
+abbrev pub AllPlaced : List ℕ → List Level → List Stop → Type 0
+AllPlaced vertices [] fs = Unit {0}
+AllPlaced vertices (l ∷ ls) [] = Unit {0}
+AllPlaced vertices (l ∷ ls) (f ∷ fs) = AllStand vertices l.inside f.place × (f.place ≤ length vertices) × AllPlaced vertices ls fs
 
 -- the solver with these stops is under way in the mask
 pub record IsRunning (g : Graph) (inside : List Bool) (solver : Solver) (stops : List Stop) : Type 0 where
@@ -27,8 +26,8 @@ pub record IsRunning (g : Graph) (inside : List Bool) (solver : Solver) (stops :
   pub sizes : HasSizes (length g) solver.subgame
   pub subgame : IsSubgame g (active_of solver.subgame)
   pub order : IsOrder g solver.order
-  pub stand : AllStand solver.order.ranked.items (active_of solver.subgame) solver.order.upto
-  pub placed : AllPlaced solver.order.ranked.items (map (level_at (members inside) (settled_of solver.settled) solver.aside.items) stops) stops
+  pub stand : AllStand solver.order.vertices.items (active_of solver.subgame) solver.order.upto
+  pub placed : AllPlaced solver.order.vertices.items (map (level_at (members inside) (settled_of solver.settled) solver.aside.items) stops) stops
   pub under_way : IsUnderWay g (members inside) (active_of solver.subgame) (settled_of solver.settled) solver.aside.items stops
       (winners_of solver.subgame.plan) (choices_of solver.subgame.plan)
 

@@ -1,6 +1,6 @@
 use Rattle.pg_finders.proofs.Common.{◌≡◌, ℕ, ◌<◌, ◌≤◌, ◌-◌, false, inl, inr, List, sym, ◌∙◌, ap, subst, arith, slice_index_or, cases_lt, or_cases, or_left}
-use Rattle.pg_finders.proofs.Common.{or_right, Player, priority_of, of_parity, VertexSet, In, members, union, listed, vertex_at_place, priority_at, no_rank}
-use Rattle.pg_finders.proofs.Common.{winners_of, choices_of, IsGiven, SameOutside, active_of, Ranked, Plan, IsBegun}
+use Rattle.pg_finders.proofs.Common.{or_right, Player, priority_of, of_parity, VertexSet, In, members, union, listed, vertex_at_place, priority_at}
+use Rattle.pg_finders.proofs.Common.{winners_of, choices_of, IsGiven, SameOutside, active_of, Plan, IsBegun}
 use Rattle.pg_finders.proofs.Sets.{no_both}
 use Rattle.pg_finders.proofs.Solving.{IsSubgame-subst}
 use Rattle.pg_finders.proofs.recursion.Growing.{grown_active}
@@ -44,11 +44,6 @@ given c v i =
     subst (λ plan. IsGiven c.args.game.now (A c) (player c) plan v) (sym c.in_ok-leave_all_out.ensures.plan)
     (subst (λ u. In (A c) u → IsGiven c.args.game.now (A c) (player c) c.give_all.new.self.plan u) h.3 (c.give_all.ensures.given h.0 h.1 h.2) active)
 
--- the priority of the vertex at a place
-priority_there : (c : After) (k : ℕ) → k < c.args.order.now.upto
-    → priority_at c.args.order.now k ≡ priority_of c.args.game.now (vertex_at_place c.args.order.now k)
-priority_there c k l = (c.requires.order.right k no_rank (omega (arith, l, c.requires.order.upto))).1
-
 above : (c : After) (t v : ℕ) → In (target c) t → In (A c) v → priority_of c.args.game.now t ≤ priority_of c.args.game.now v
     → of_parity (priority_of c.args.game.now v) ≡ player c
 above c t v i u l =
@@ -59,17 +54,17 @@ above c t v i u l =
     let s = c.requires.stand v u in
     let kt : h.0 < order.upto = omega (arith, h.2, end_is c) in
     let active : In (A c) (vertex_at_place order h.0) = subst (λ w. In (A c) w) (sym h.3) (sym (both c t) ∙ or_right (B c t) (target c t) i) in
-    let good : of_parity (priority_at order h.0) ≡ player c = c.first_of-first.ensures.same h.0 h.1 kt active in
-    let pt : priority_at order h.0 ≡ priority_of g t = priority_there c h.0 kt ∙ ap (priority_of g) h.3 in
-    let pv : priority_at order s.0 ≡ priority_of g v = priority_there c s.0 s.1 ∙ ap (priority_of g) s.2 in
+    let good : of_parity (priority_at g order h.0) ≡ player c = c.first_of-first.ensures.same h.0 h.1 kt active in
+    let pt : priority_at g order h.0 ≡ priority_of g t = ap (priority_of g) h.3 in
+    let pv : priority_at g order s.0 ≡ priority_of g v = ap (priority_of g) s.2 in
     elim (cases_lt s.0 first) [
       | inr k ↦ ap of_parity (sym pv) ∙ c.first_of-first.ensures.same s.0 k s.1 (subst (λ w. In (A c) w) (sym s.2) u)
       | inl k ↦ (
-          let a : priority_at order s.0 ≤ priority_at order (first - 1) =
-          c.requires.order.rising s.0 (first - 1) no_rank (omega (arith, k)) (omega (arith, c.first_of-first.ensures.place, c.requires.order.upto, k)) in
-          let b : priority_at order (first - 1) ≤ priority_at order h.0 =
-          c.requires.order.rising (first - 1) h.0 no_rank (omega (arith, h.1, k)) (omega (arith, kt, c.requires.order.upto)) in
-          let e : priority_at order (first - 1) ≡ priority_at order h.0 = omega (arith, a, b, pt, pv, l) in
+          let a : priority_at g order s.0 ≤ priority_at g order (first - 1) =
+          c.requires.order.rising s.0 (first - 1) 0 (omega (arith, k)) (omega (arith, c.first_of-first.ensures.place, c.requires.order.upto, k)) in
+          let b : priority_at g order (first - 1) ≤ priority_at g order h.0 =
+          c.requires.order.rising (first - 1) h.0 0 (omega (arith, h.1, k)) (omega (arith, kt, c.requires.order.upto)) in
+          let e : priority_at g order (first - 1) ≡ priority_at g order h.0 = omega (arith, a, b, pt, pv, l) in
           absurd (c.first_of-first.ensures.blocked (omega (arith, k)) (ap of_parity e ∙ good)))
     ]
 
@@ -124,7 +119,7 @@ returns-clause-stand c v i =
       | inl l ↦ (
         h.0,
         omega (arith, l, c.go_back.ensures.upto),
-        ap (λ (xs : List Ranked). (slice_index_or xs h.0 no_rank).vertex) c.go_back.ensures.ranked ∙ h.2,
+        ap (λ (xs : List ℕ). slice_index_or xs h.0 0) c.go_back.ensures.vertices ∙ h.2,
       )
       | inr l ↦ absurd (no_both left
           (subst (λ u. B c u ≡ false) h.2 (c.in_ok-leave_all_out.ensures.gone h.0 l (omega (arith, h.1, end_is c)))))

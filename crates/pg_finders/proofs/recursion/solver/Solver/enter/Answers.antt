@@ -1,6 +1,6 @@
-use Rattle.pg_finders.proofs.Common.{◌≡◌, ◌≤◌, ◌&&◌, not, All, ◌++◌, ◌∷◌, [], length, vec_len, map, sym, ◌∙◌, ap, subst, arith, IsNonDecreasingBy, Player, Even}
-use Rattle.pg_finders.proofs.Common.{Odd, members, Stop, Ranked, settled_of, IsRanked, AllStand, winners_of, choices_of, IsBegun, active_of, level_at, count_at}
-use Rattle.pg_finders.proofs.Common.{AllPlaced}
+use Rattle.pg_finders.proofs.Common.{◌≡◌, ◌≤◌, ◌&&◌, not, ◌++◌, ◌∷◌, [], length, vec_len, map, sym, ◌∙◌, ap, subst, arith, IsNonDecreasingBy, Player, Even}
+use Rattle.pg_finders.proofs.Common.{Odd, members, Stop, priority_of, settled_of, AreVertices, AllStand, winners_of, choices_of, IsBegun, active_of}
+use Rattle.pg_finders.proofs.Common.{level_at, count_at, AllPlaced}
 use Rattle.pg_finders.proofs.Sets.{only}
 use Rattle.pg_finders.proofs.recursion.Listed.{some_length}
 use Rattle.pg_finders.proofs.Solving.{back_equal, left_subgame}
@@ -36,8 +36,8 @@ stop c = record {
 aside_is : (c : After) → c.append_all.new.list.items ≡ c.args.self.now.aside.items ++ c.begin.new.list.items
 aside_is c = c.in_ok-append_all.ensures ∙ ap (λ xs. c.args.self.now.aside.items ++ xs) c.deref.ensures.value
 
-ranked_is : (c : After) → c.begin.new.order.ranked.items ≡ c.args.self.now.order.ranked.items
-ranked_is c = c.in_ok-begin.ensures.ranked ∙ c.in-Some.ensures.ranked
+vertices_are : (c : After) → c.begin.new.order.vertices.items ≡ c.args.self.now.order.vertices.items
+vertices_are c = c.in_ok-begin.ensures.vertices ∙ c.in-Some.ensures.vertices
 
 begun : (c : After) → IsBegun c.args.game.now (active_of c.args.self.now.subgame) (active_of c.begin.new.subgame) c.of_parity.result
     (winners_of c.begin.new.subgame.plan) (choices_of c.begin.new.subgame.plan)
@@ -75,17 +75,17 @@ begins c =
       upto = upto c;
     }
 
-placed : (c : After) → AllPlaced c.begin.new.order.ranked.items
+placed : (c : After) → AllPlaced c.begin.new.order.vertices.items
     (map (level_at (members c.args.inside.now) (settled_of c.args.self.now.settled) (c.args.self.now.aside.items ++ c.begin.new.list.items))
     (c.args.self.now.stops.items ++ stop c ∷ [])) (c.args.self.now.stops.items ++ stop c ∷ [])
 placed c =
     let x = c.args.self.now in
     let level = level_at (members c.args.inside.now) (settled_of x.settled) (x.aside.items ++ c.begin.new.list.items) in
-    subst (λ ranked. AllPlaced ranked (map level (x.stops.items ++ stop c ∷ [])) (x.stops.items ++ stop c ∷ [])) (sym (ranked_is c))
-    (placed_push x.order.ranked.items level x.stops.items (stop c)
-    (subst (λ ls. AllPlaced x.order.ranked.items ls x.stops.items) (sym (stops_now (begins c))) c.requires.placed)
-    (subst (λ Z. AllStand x.order.ranked.items Z c.upto-place.result) (sym (inside_now (begins c)))
-    (subst (λ n. AllStand x.order.ranked.items (active_of x.subgame) n) (sym c.upto-place.ensures) c.requires.stand))
+    subst (λ vertices. AllPlaced vertices (map level (x.stops.items ++ stop c ∷ [])) (x.stops.items ++ stop c ∷ [])) (sym (vertices_are c))
+    (placed_push x.order.vertices.items level x.stops.items (stop c)
+    (subst (λ ls. AllPlaced x.order.vertices.items ls x.stops.items) (sym (stops_now (begins c))) c.requires.placed)
+    (subst (λ Z. AllStand x.order.vertices.items Z c.upto-place.result) (sym (inside_now (begins c)))
+    (subst (λ n. AllStand x.order.vertices.items (active_of x.subgame) n) (sym c.upto-place.ensures) c.requires.stand))
     (omega (arith, c.upto-place.ensures, c.requires.order.upto)))
 
 pub returns-clause-running : goal.returns-clause-running
@@ -97,9 +97,9 @@ returns-clause-running c =
       sizes = c.in_ok-begin.ensures.sizes;
       subgame = left_subgame (begun c);
       order = record {
-        right = subst (All (IsRanked c.args.game.now)) (sym (ranked_is c)) c.requires.order.right;
-        rising = subst (IsNonDecreasingBy (λ (r : Ranked). r.priority)) (sym (ranked_is c)) c.requires.order.rising;
-        upto = subst (λ xs. c.begin.new.order.upto ≤ length xs) (sym (ranked_is c))
+        right = subst (AreVertices c.args.game.now) (sym (vertices_are c)) c.requires.order.right;
+        rising = subst (IsNonDecreasingBy (priority_of c.args.game.now)) (sym (vertices_are c)) c.requires.order.rising;
+        upto = subst (λ xs. c.begin.new.order.upto ≤ length xs) (sym (vertices_are c))
             (omega (arith, c.in_ok-begin.ensures.upto, c.in-Some.ensures.upto, c.requires.order.upto));
       };
       stand = c.in_ok-begin.ensures.stand;

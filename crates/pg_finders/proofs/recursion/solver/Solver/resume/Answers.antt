@@ -1,6 +1,6 @@
-use Rattle.pg_finders.proofs.Common.{◌≡◌, ℕ, ◌<◌, ◌≤◌, All, length, take, sym, ◌∙◌, ap, subst, rules, IsNonDecreasingBy, Player, opponent, VertexSet, In}
-use Rattle.pg_finders.proofs.Common.{members, union, Ranked, Plan, listed, Once, SettledLists, settled_of, IsRanked, active_of, IsGrown, AttractsNoActive, gone}
-use Rattle.pg_finders.proofs.Common.{count_at, level_at, AllPlaced}
+use Rattle.pg_finders.proofs.Common.{◌≡◌, ℕ, ◌<◌, ◌≤◌, length, take, sym, ◌∙◌, ap, subst, rules, IsNonDecreasingBy, Player, opponent, VertexSet, In}
+use Rattle.pg_finders.proofs.Common.{members, union, priority_of, Plan, listed, Once, SettledLists, settled_of, AreVertices, active_of, IsGrown}
+use Rattle.pg_finders.proofs.Common.{AttractsNoActive, gone, count_at, level_at, AllPlaced}
 use Rattle.pg_finders.specs.private.recursion.Planned.{HasSize}
 use Rattle.pg_finders.proofs.Sets.{twice}
 use Rattle.pg_finders.proofs.Masks.{inside_mask}
@@ -124,8 +124,8 @@ over c = at_end c.args.self.now.stops.items c.args.stop c.requires.running c.req
 finished : (c : After) → IsFinished c.args.game.now c.args.inside.now c.args.self.now c.args.self.now.stops.items c.args.stop (C c) (now c) (retaken c)
 finished c = resume_finished (over c) (A c) c.reopen.ensures.active (retakes c)
 
-ranked_is : (c : After) → c.go_back.new.self.ranked.items ≡ c.args.self.now.order.ranked.items
-ranked_is c = c.go_back.ensures.ranked ∙ ap (λ o. o.ranked.items) c.reopen.ensures.order
+vertices_are : (c : After) → c.go_back.new.self.vertices.items ≡ c.args.self.now.order.vertices.items
+vertices_are c = c.go_back.ensures.vertices ∙ ap (λ o. o.vertices.items) c.reopen.ensures.order
 
 stops_are : (c : After) → c.reopen.new.self.stops.items ≡ c.args.self.now.stops.items
 stops_are c = ap (λ s. s.items) c.reopen.ensures.stops
@@ -138,19 +138,19 @@ returns-clause-running c =
     let x = c.args.self.now in
     let was = c.requires.running in
     let popped =
-    placed_pop x.order.ranked.items (level_at (members c.args.inside.now) (settled_of x.settled) x.aside.items) x.stops.items c.args.stop was.placed in
+    placed_pop x.order.vertices.items (level_at (members c.args.inside.now) (settled_of x.settled) x.aside.items) x.stops.items c.args.stop was.placed in
     record {
       inside_length = was.inside_length;
       whole = c.reopen.ensures.size ∙ was.whole;
       sizes = c.in_ok-attract.ensures.ready.sizes;
       subgame = resume_subgame (over c) (A c) c.reopen.ensures.active (retakes c);
       order = record {
-        right = subst (All (IsRanked c.args.game.now)) (sym (ranked_is c)) was.order.right;
-        rising = subst (IsNonDecreasingBy (λ (r : Ranked). r.priority)) (sym (ranked_is c)) was.order.rising;
-        upto = rw (c.go_back.ensures.upto, ranked_is c) popped.2;
+        right = subst (AreVertices c.args.game.now) (sym (vertices_are c)) was.order.right;
+        rising = subst (IsNonDecreasingBy (priority_of c.args.game.now)) (sym (vertices_are c)) was.order.rising;
+        upto = rw (c.go_back.ensures.upto, vertices_are c) popped.2;
       };
-      stand = rw (c.go_back.ensures.upto, ranked_is c) (λ v i. popped.1 v (resume_inside (over c) (A c) c.reopen.ensures.active (retakes c) v i));
-      placed = rw (stops_are c, set_aside c, ranked_is c) (subst (λ ls. AllPlaced x.order.ranked.items ls x.stops.items) (sym (finished c).kept) popped.0);
+      stand = rw (c.go_back.ensures.upto, vertices_are c) (λ v i. popped.1 v (resume_inside (over c) (A c) c.reopen.ensures.active (retakes c) v i));
+      placed = rw (stops_are c, set_aside c, vertices_are c) (subst (λ ls. AllPlaced x.order.vertices.items ls x.stops.items) (sym (finished c).kept) popped.0);
       under_way = rw (stops_are c, set_aside c) (finished c).under_way;
     }
 

@@ -28,8 +28,8 @@ returns-clause-running c =
       subgame = c.requires.running.subgame;
       order = c.requires.running.order;
       stand = c.requires.running.stand;
-      placed = rw c.truncate.ensures.items (subst (λ ls. AllPlaced x.order.ranked.items ls x.stops.items) (sym (finished c).kept)
-          (placed_pop x.order.ranked.items (level_at (members c.args.inside.now)
+      placed = rw c.truncate.ensures.items (subst (λ ls. AllPlaced x.order.vertices.items ls x.stops.items) (sym (finished c).kept)
+          (placed_pop x.order.vertices.items (level_at (members c.args.inside.now)
           (settled_of x.settled) x.aside.items) x.stops.items c.args.stop c.requires.running.placed).0);
       under_way = rw c.truncate.ensures.items (finished c).under_way;
     }
