@@ -140,6 +140,6 @@ pub fn first_worst(alloc: Global, kept: &Kept) -> Result<Option<u32>, AllocError
     requires { IsKept kept.now }
     ensures { IfOk result (λ least. MatchOption least (NoneHas (IsWorst kept.now)) (IsLeast (IsWorst kept.now))) }
 {
-    let patience = 2 * u64::from(kept.game.len());
+    let patience = 4 * u64::from(kept.game.len());
     first_within(alloc, kept, patience)
 }

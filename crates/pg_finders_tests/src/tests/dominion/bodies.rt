@@ -13,7 +13,7 @@ use pg_test_support::{Draft, EVEN, Plain, Random, Row, size_of};
 use std::alloc::Global;
 use std::process::Abort;
 
-/// Its searches take 2,400 steps, so none begins behind it in a game of at most 900 vertices.
+/// Its searches take 5,620 steps, so none begins behind it in a game of at most 1,300 vertices.
 const SHORT: Hostile = Hostile::Ladder(40, None);
 
 /// Rows of so many vertices, without choices. Each is pushed once more where memory was refused.

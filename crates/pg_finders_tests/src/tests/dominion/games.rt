@@ -81,8 +81,8 @@ pub enum Hostile {
     Ladder(u32, Option<u32>),
     /// Each of so many vertices leads to each, and vertex v has the priority `step * v`.
     Dense(u32, u32),
-    /// A bad vertex that leads to a cycle of so many good ones, each of which leads to the next two, and so many of them to a
-    /// third; and behind it another bad one that leads there. Nothing leads to the bad ones.
+    /// A bad vertex that leads to a cycle of so many good ones, each of which leads to the next four, and so many of them to a
+    /// fifth; and behind it another bad one that leads there. Nothing leads to the bad ones.
     Chords(u32, u32),
 }
 
@@ -191,18 +191,30 @@ fn on_cycle(first: u32, n: u32, at: u32) -> u32 {
     first.saturating_add(place)
 }
 
+/// The vertices that stand from one to so many places behind one of a cycle.
+fn next_on_cycle(
+    rt: &impl Abort,
+    alloc: Global,
+    first: u32,
+    n: u32,
+    v: u32,
+    many: u32,
+) -> Vec<u32> {
+    let mut next = made(rt, Vec::with_capacity(alloc, 5));
+    for at in 0..many {
+        let place = v.saturating_add(at).saturating_add(1);
+        made(rt, next.push(on_cycle(first, n, place)));
+    }
+    next
+}
+
 fn add_chords(rt: &impl Abort, alloc: Global, draft: &mut Draft, n: u32, more: u32) {
     let first = draft.len().saturating_add(1);
     add(rt, alloc, draft, 1, ODD, &[first]);
     for v in 0..n {
-        let next = on_cycle(first, n, v.saturating_add(1));
-        let second = on_cycle(first, n, v.saturating_add(2));
-        if v < more {
-            let third = on_cycle(first, n, v.saturating_add(3));
-            add(rt, alloc, draft, 0, ODD, &[next, second, third]);
-        } else {
-            add(rt, alloc, draft, 0, ODD, &[next, second]);
-        }
+        let many = if v < more { 5 } else { 4 };
+        let next = next_on_cycle(rt, alloc, first, n, v, many);
+        add(rt, alloc, draft, 0, ODD, next.as_slice());
     }
     add(rt, alloc, draft, 1, ODD, &[first]);
 }
