@@ -33,3 +33,4 @@ pub mod Described
 pub mod Filled
 pub mod SumsOf
 pub mod Equal
+pub mod OwnPlaces

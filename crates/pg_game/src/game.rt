@@ -165,8 +165,8 @@ impl Game {
             owners,
             rows,
         } = listed;
-        let predecessors = rows.reversed(alloc)?;
         let ids = Names::of_rising(ids);
+        let predecessors = rows.reversed(alloc)?;
         Ok(Game {
             ids,
             priorities,
@@ -221,7 +221,7 @@ impl Game {
     fn is_same(&self, other: &Game) -> bool
         ensures { IsTrue result ↔ (self.now ≡ other.now) }
     {
-        if self.ids.as_slice() != other.ids.as_slice() {
+        if !self.ids.is_same(&other.ids) {
             return false;
         }
         if self.priorities.as_slice() != other.priorities.as_slice() {
@@ -240,7 +240,7 @@ impl Game {
         ensures game { IsGame self.now }
         ensures limits { IsWithinLimits self.now }
     {
-        self.ids.as_slice().len() as u32
+        self.ids.len()
     }
 
     /// The identifier of a vertex.
@@ -249,7 +249,7 @@ impl Game {
         requires { v < length self.now }
         ensures { result ≡ id_of self.now v }
     {
-        self.ids.as_slice()[v as usize]
+        self.ids.id(v)
     }
 
     /// The vertex with this identifier, or none.

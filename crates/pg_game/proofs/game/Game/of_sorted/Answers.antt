@@ -17,7 +17,10 @@ reversed-requires c =
     made_rows (laid_from c.in_ok-successors.successors s.2 s.3 s.1 (c.requires.ids, c.requires.rising) h.size h.edges h.each)
 
 pub of_rising-requires : goal.of_rising-requires
-of_rising-requires c = rw (c.in_ok-from_slice.ensures.items, c.as_slice.ensures.keys) c.requires.rising
+of_rising-requires c =
+    let s = c.requires.specified in
+    let few = sorted_few s.3 s.1 c.requires.ids in
+    rw (c.in_ok-from_slice.ensures.items, c.as_slice.ensures.keys) (record { rising = c.requires.rising; short = omega (arith, few.0) })
 
 pub invariant_of-result : goal.invariant_of-result
 invariant_of-result c =

@@ -1,0 +1,14 @@
+use Rattle.pg_game.proofs.Common.{◌<◌, arith}
+use Rattle.pg_game.proofs.OwnPlaces.{own_length, own_at}
+use Rattle.pg_game.proofs.names.Names.place_of.Goals as goal
+
+pub returns-then-id-count-clause-found : goal.returns-then-id-count-clause-found
+returns-then-id-count-clause-found c =
+    let is = rw c.in-Own.is at c.self.view_is in
+    (omega (arith, own_length is), own_at is c.args.id c.if-id-count.true)
+
+pub returns-else-id-count-clause-missing : goal.returns-else-id-count-clause-missing
+returns-else-id-count-clause-missing c = λ v l e.
+    let is = rw c.in-Own.is at c.self.view_is in
+    let k : v < c.in-Own.count = omega (arith, own_length is, l) in
+    omega (arith, own_at is v k, e)
