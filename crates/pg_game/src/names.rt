@@ -34,13 +34,17 @@ impl Model for Names {
 
 impl Names {
     /// The list is let go where each identifier is its own place.
-    pub fn of_rising(ids: Vec<u32>) -> Names
+    pub fn of_rising(mut ids: Vec<u32>) -> Names
         requires { AreNames ids.items }
         ensures { result ≡ ids.items }
     {
         if are_own_places(ids.as_slice()) {
+            let count = ids.len() as u32;
+            // made small first, or glibc's allocator takes blocks up to this size from what it keeps from now on
+            ids.truncate(1);
+            ids.shrink_to_fit();
             return Names {
-                kind: Kind::Own(ids.len() as u32),
+                kind: Kind::Own(count),
             };
         }
         Names {
