@@ -191,7 +191,15 @@ fn on_cycle(first: u32, n: u32, at: u32) -> u32 {
     first.saturating_add(place)
 }
 
-/// The vertices that stand from one to so many places behind one of a cycle.
+/// Room for five vertices, taken once more where memory was refused.
+fn room_for_five(rt: &impl Abort, alloc: Global) -> Vec<u32> {
+    match Vec::with_capacity(alloc, 5) {
+        Ok(room) => room,
+        Err(_) => made(rt, Vec::with_capacity(alloc, 5)),
+    }
+}
+
+/// The vertices that stand from one to so many places, at most five, behind one of a cycle.
 fn next_on_cycle(
     rt: &impl Abort,
     alloc: Global,
@@ -200,7 +208,7 @@ fn next_on_cycle(
     v: u32,
     many: u32,
 ) -> Vec<u32> {
-    let mut next = made(rt, Vec::with_capacity(alloc, 5));
+    let mut next = room_for_five(rt, alloc);
     for at in 0..many {
         let place = v.saturating_add(at).saturating_add(1);
         made(rt, next.push(on_cycle(first, n, place)));
