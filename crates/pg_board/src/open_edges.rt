@@ -36,8 +36,9 @@ impl<'a> Bounds<'a> {
     {
         match self.regions.table[w as usize] {
             VertexState::Unsettled(at) => self.is_at(at, w),
-            VertexState::Settled(player) => player == self.player,
-            VertexState::Chosen(player, _) => player == self.player,
+            VertexState::Settled(_) | VertexState::Chosen(_, _) => {
+                self.regions.is_settled_for(self.player, w)
+            }
         }
     }
 

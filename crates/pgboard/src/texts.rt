@@ -75,19 +75,6 @@ pub fn solution_of(alloc: Global, game: &Game, text: &[u8]) -> Result<Solution, 
     }
 }
 
-/// The same of a text that is let go before the rows are made.
-fn solution_taken(alloc: Global, game: &Game, text: Vec<u8>) -> Result<Solution, RunFault>
-    requires { length text.items ≤ max_text }
-    ensures fit { IfOk result (λ s. length s.rows ≡ length game.now) }
-    ensures rows { IfOk result (λ s. IsSolutionTextOf game.now text.items s.rows) }
-    ensures fault { IfErr result (λ e. IsRefusedSolution game.now text.items e) }
-{
-    match take_solution(alloc, game, text) {
-        Ok(taken) => Ok(taken),
-        Err(fault) => Err(refused_for(fault)),
-    }
-}
-
 /// The winners and choices that the text of a source spells for a game.
 pub fn solution_from<S: Source>(
     alloc: Global,
@@ -101,5 +88,8 @@ pub fn solution_from<S: Source>(
     ensures failed { IsErrOf result RunFault.Read → HasFailed (S.read_failures source.old) (S.read_failures source.new) }
 {
     let text = read_text(alloc, source)?;
-    solution_taken(alloc, game, text)
+    match take_solution(alloc, game, text) {
+        Ok(taken) => Ok(taken),
+        Err(fault) => Err(refused_for(fault)),
+    }
 }
