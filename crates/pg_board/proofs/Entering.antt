@@ -3,13 +3,14 @@ use Rattle.pg_board.proofs.Common.{rules, ◌≡◌, ℕ, ◌+◌, ◌≤◌, Bo
 use Rattle.pg_board.proofs.Common.{length-append, ◌↔◌, if◌then◌else◌, fun_ext, sum_by_push, take-length, Player, Graph, IsGame, VertexSet, In, Within}
 use Rattle.pg_board.proofs.Common.{all_vertices, union, members, IsSubgame, Attractor, ClaimRows, named, IsAttraction, named_right, Entry, State, settled}
 use Rattle.pg_board.proofs.Common.{unsettled, rest_of, IsGoodOn, Journal, state_of, claimed_rows, Answers, IsLawful, number_settled, Regions, table_state}
-use Rattle.pg_board.proofs.Common.{state_with, AreRegions, IsBoard, All-from_get_or, or_assoc, named-append, open_before, IsGrowing}
+use Rattle.pg_board.proofs.Common.{state_with, AreRegions, IsBoard, All-from_get_or, or_assoc, named-append, open_before, IsGrowing, IsDistinct, nat_eq, nat_lt}
+use Rattle.pg_board.proofs.Common.{is_unsettled, ◌<◌, ap, ltb-true, eqb-true, and_parts, or_left, false_from_ne_true}
 use Rattle.std.proofs.lemmas.List.Sums.{sum_by-le}
 use Rattle.std.proofs.Math.Seq.{take-append_seam, drop-append_seam}
-use Rattle.pg_board.proofs.RestIsGood.{in_rest}
-use Rattle.pg_board.proofs.Push.{state_push}
+use Rattle.pg_board.proofs.RestIsGood.{in_rest, vertices}
+use Rattle.pg_board.proofs.Push.{state_push, distinct_rising}
 use Rattle.pg_board.proofs.Lawful.{lawful_push}
-use Rattle.pg_board.proofs.Numbers.{lawful_now, number_within}
+use Rattle.pg_board.proofs.Numbers.{lawful_now, number_within, sum_fits, all_named}
 use Rattle.std.proofs.lemmas.Bool.{and_from}
 use Rattle.pg_dominion.specs.Area.{AttractsNoFurther}
 use Rattle.pg_dominion.specs.private.Attracting.{LeadFrom}
@@ -92,11 +93,41 @@ module _ {g : Graph} {j : Journal} {r : Regions} {number : ℕ} {p : Player} {R 
   opened : members r.unsettled ≡ unsettled g (state_of j)
   opened = search (rules, q.board)
 
-  pub board_subgame : IsSubgame g (members r.unsettled)
+  board_subgame : IsSubgame g (members r.unsettled)
   board_subgame = subst (λ (U : VertexSet). IsSubgame g U) (sym opened) (lawful_now g j q.board.lawful).open_part
 
   pub rest_within : Within (named R) (members r.unsettled)
   rest_within = subst (λ (U : VertexSet). Within (named R) U) (sym opened) (rest_inside g (state_of j) p R q.good q.twice)
+
+  pub rest_distinct : IsDistinct nat_eq (vertices R)
+  rest_distinct = distinct_rising (vertices R) q.good.shape.right.rising
+
+  rest_unsettled : (v : ℕ) → named R v ≡ true → (v < length g) × (is_unsettled (state_of j v) ≡ true)
+  rest_unsettled v i = (
+    (named_right g p R v q.good.shape.right.each i).vertex,
+    (in_rest (state_of j) R v (subst (λ (xs : ClaimRows). In (named xs) v) (sym q.twice) i)).1,
+  )
+
+  pub few : number + length R ≤ length g
+  few = let h = sum_fits g j q.board.lawful R rest_distinct rest_unsettled in omega (arith, h, q.board.number_is)
+
+  -- once the rest is settled
+  module _ (r1 : Regions) (first : ClaimRows) (is : first ≡ R) (same : (v : ℕ) → open_before r1 first v ≡ members r.unsettled v) where
+    pub open_subgame : IsSubgame g (open_before r1 R)
+    open_subgame =
+        let same_here = subst (λ (xs : ClaimRows). (v : ℕ) → open_before r1 xs v ≡ members r.unsettled v) is same in
+        subst (λ (U : VertexSet). IsSubgame g U) (sym (fun_ext same_here)) board_subgame
+
+    -- where it was all that was unsettled, nothing is left
+    pub none_left : ((v : ℕ) → In (named first) v → members r1.unsettled v ≡ false) → {rows n : ℕ} → rows ≡ length R → n ≡ length g
+        → nat_eq (number + rows) n ≡ true → (v : ℕ) → members r1.unsettled v ≡ false
+    none_left apart {rows} {n} length_is size all v = false_from_ne_true (members r1.unsettled v) (λ t.
+        (let was : members r.unsettled v ≡ true = sym (same v) ∙ or_left (members r1.unsettled v) (named first v) t in
+        let is_open : unsettled g (state_of j) v ≡ true = ap (λ (U : VertexSet). U v) (sym opened) ∙ was in
+        let parts = and_parts (nat_lt v (length g)) (is_unsettled (state_of j v)) is_open in
+        let sum : number_settled j + length R ≡ length g = omega (arith, eqb-true (number + rows) n all, length_is, size, q.board.number_is) in
+        let n = all_named g j q.board.lawful R rest_distinct rest_unsettled sum v (ltb-true v (length g) parts.0) parts.1 in
+        let f = apart v (ap (λ (xs : ClaimRows). named xs v) is ∙ n) in cc (t, f)))
 
   module _ {r2 : Regions} {rows : ClaimRows} (grown : HasGrown g p r r2 R rows) where
     module _ (e : Entry) (has : HasRows e p R rows) where

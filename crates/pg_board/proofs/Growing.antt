@@ -2,11 +2,12 @@
 use Rattle.pg_board.proofs.Common.{rules, ◌≡◌, ℕ, ◌<◌, false, [], ◌∷◌, ◌++◌, length, take, refl, length-append, Option, ◌==◌, if◌then◌else◌, nat_eq}
 use Rattle.pg_board.proofs.Common.{false_from_ne_true, and_parts, or_cases, eqb-true, eq-eqb, or-false, IsDistinct, Player, Graph, In, Within, members}
 use Rattle.pg_board.proofs.Common.{member_below, ClaimRows, named, IsAttractedRow, named-push, Regions, State, table_state, state_with, AreRegions, open_before}
-use Rattle.pg_board.proofs.Common.{IsGrowing, read_set}
+use Rattle.pg_board.proofs.Common.{IsGrowing, read_set, true}
 use Rattle.std.proofs.lemmas.List.Sums.{sum_by-set}
 use Rattle.pg_dominion.proofs.Rows.{choice-push_same, choice-push_other}
 use Rattle.pg_dominion.proofs.Taking.{takes_one}
 use Rattle.pg_dominion.proofs.Extending.{extends_taken}
+use Rattle.pg_dominion.specs.Area.{AttractsNoFurther}
 use Rattle.pg_board.specs.private.Growth.{Grows}
 use Rattle.pg_board.proofs.RestIsGood.{vertices}
 use Rattle.pg_board.proofs.Places.{row_at, named_at, fresh_at}
@@ -48,6 +49,14 @@ IsGrowing-same g r r' rows room regions mask a = search (rules, a.apart, a.fits)
 pub row_open : (r old : Regions) (rows : ClaimRows) (i : ℕ) → i < length rows → ((v : ℕ) → open_before r (take i rows) v ≡ members old.unsettled v)
     → Within (named rows) (members old.unsettled) → IsDistinct nat_eq (vertices rows) → In (members r.unsettled) (row_at rows i).0
 row_open r old rows i l same within distinct = search (rules, named_at, fresh_at, or_cases)
+
+-- what has nothing unsettled left attracts no further
+pub none_further : (g : Graph) (p : Player) (r : Regions) (rows : ClaimRows) → ((v : ℕ) → members r.unsettled v ≡ false)
+    → AttractsNoFurther g p (open_before r rows) (named rows) (named rows)
+none_further g p r rows none = record { own = λ v w i n o e. absurd (nothing v i n); other = λ v i n o. absurd (nothing v i n) }
+  where
+    nothing : (v : ℕ) → In (open_before r rows) v → named rows v ≡ false → ⊥
+    nothing v i n = (let h : false ≡ true = rw (none v, n) at i in cc h)
 
 pub before_none : (r : Regions) (v : ℕ) → open_before r [] v ≡ members r.unsettled v
 before_none r v = or-false (members r.unsettled v)

@@ -13,7 +13,7 @@ pub mod Opening
 pub mod Copies
 pub mod Places
 pub mod Lost
-pub mod RestPlaces
+pub mod Masks
 pub mod Ends
 pub mod Entering
 pub mod Posting

@@ -1,16 +1,17 @@
--- How many vertices a lawful journal settles: at most all, and all exactly where it is full.
+-- How many vertices a lawful journal settles: at most all, and all exactly where it is full. The same with rows beside it.
 use Rattle.pg_board.proofs.Common.{rules, ◌≡◌, ℕ, ◌+◌, ◌<◌, ◌≤◌, true, false, not, List, [], ◌∷◌, ◌++◌, length, take, refl, sym, ◌∙◌, ap, subst, arith}
 use Rattle.pg_board.proofs.Common.{ltb-true, length-append, get_or, Option, Some, None, ◌==◌, nat_eq, list_any, nat_eq_equiv, eqb-true, eq-eqb}
 use Rattle.pg_board.proofs.Common.{false_from_ne_true, length-map, map-append, IsDistinct-push, length-le_from_distinct_below, take-length, Player, Graph}
 use Rattle.pg_board.proofs.Common.{is_same, ClaimRows, named, Entry, is_winner, is_unsettled, IsLawfulState, Journal, state_of, IsLawful, number_settled}
-use Rattle.pg_board.proofs.Common.{settled_by, IsFull}
+use Rattle.pg_board.proofs.Common.{settled_by, IsDistinct, IsFull, or_cases}
+use Rattle.std.proofs.lemmas.Bool.{true_from_ne_false}
 use Rattle.std.proofs.lemmas.List.Sums.{sum_by_more_le}
 use Rattle.std.proofs.lemmas.List.Filters.{sum_by-filter_both}
 use Rattle.std.proofs.lemmas.List.Folds.{list_any-append}
 use Rattle.std.proofs.lemmas.List.Concat.{length-flat_map}
 use Rattle.std.proofs.lemmas.Map.Steps.{le-length_from_below}
 use Rattle.pg_board.proofs.RestIsGood.{vertices}
-use Rattle.pg_board.proofs.Distinct.{AllRows}
+use Rattle.pg_board.proofs.Distinct.{AllRows, distinct-append, each_settled, each_named}
 
 pub lawful_now : (g : Graph) (j : Journal) → IsLawful g j → IsLawfulState g (state_of j)
 lawful_now g j lawful = subst (λ xs. IsLawfulState g (state_of xs)) (take-length j) (lawful.states (length j) (omega arith))
@@ -66,3 +67,34 @@ more_settled_by j worker i e l same =
     let more = sum_by_more_le (λ (x : Entry). length x.rows) j i e l in
     let at : length e.rows ≡ length (get_or j i e).rows = ap (λ (x : Entry). length x.rows) same in
     omega (arith, both, more, at)
+
+-- rows of unsettled vertices beside what is settled
+module _ (g : Graph) (j : Journal) (lawful : IsLawful g j) (R : ClaimRows) (distinct : IsDistinct nat_eq (vertices R))
+    (unsettled_at : (v : ℕ) → named R v ≡ true → (v < length g) × (is_unsettled (state_of j v) ≡ true)) where
+  abbrev Both : List ℕ
+  Both = Settled j ++ vertices R
+
+  both_distinct : IsDistinct nat_eq Both
+  both_distinct = distinct-append (λ v. is_unsettled (state_of j v)) (Settled j) (vertices R) lawful.once distinct (each_settled j)
+      (each_named (λ v. is_unsettled (state_of j v) ≡ true) R (λ v i. (unsettled_at v i).1))
+
+  both_below : (q : ℕ) → list_any (nat_eq q) Both ≡ true → q < length g
+  both_below q i = search (rules, list_any-append, or_cases, below g j lawful, in_vertices, unsettled_at)
+
+  pub sum_fits : number_settled j + length R ≤ length g
+  sum_fits =
+      let h = length-le_from_distinct_below Both (length g) both_distinct both_below in
+      omega (arith, h, number_is j, length-append (Settled j) (vertices R), length-map R (λ (r : ℕ × Option ℕ). r.0))
+
+  not_named : number_settled j + length R ≡ length g → (v : ℕ) → v < length g → is_unsettled (state_of j v) ≡ true → named R v ≡ false → ⊥
+  not_named n v l u out =
+      let fresh : list_any (nat_eq v) Both ≡ false = search (rules, list_any-append, settled_vertices j v, in_vertices R v, u, out) in
+      let more = length-le_from_distinct_below (Both ++ v ∷ []) (length g) (IsDistinct-push nat_eq_equiv Both v both_distinct fresh) one_more in
+      omega (arith, number_is j, length-append Both (v ∷ []), length-append (Settled j) (vertices R), length-map R (λ (r : ℕ × Option ℕ). r.0))
+    where
+      one_more : (q : ℕ) → list_any (nat_eq q) (Both ++ v ∷ []) ≡ true → q < length g
+      one_more q i = search (rules, list_any-append, both_below, eqb-true)
+
+  -- where they are all vertices, each unsettled one stands in the rows
+  pub all_named : number_settled j + length R ≡ length g → (v : ℕ) → v < length g → is_unsettled (state_of j v) ≡ true → named R v ≡ true
+  all_named n v l u = true_from_ne_false (named R v) (not_named n v l u)

@@ -1,13 +1,12 @@
 -- What the checks of a claim against the state say together.
-use Rattle.pg_board.proofs.Common.{rules, ◌≡◌, ℕ, ◌<◌, ◌≤◌, Bool, true, false, length, refl, sym, ◌∙◌, ap, subst, arith, Option, nat_eq, fun_ext, All, list_any}
-use Rattle.pg_board.proofs.Common.{All-from_recursion, All-weaker, length-map, length-le_from_distinct_below, false_from_ne_true, Player, Graph, NoneHas}
-use Rattle.pg_board.proofs.Common.{VertexSet, In, union, KeptEdge, Claim, ClaimRows, named, choice_in, AreRight, IsSound, named_right, Posted, State, settled}
-use Rattle.pg_board.proofs.Common.{rest_of, IsGoodOn, Journal, state_of, Regions, Play, Adds, IsLost, Refuses, table_state, IsBoard, LeadsOutside, SaySame}
-use Rattle.pg_board.proofs.Common.{IsFirstOutside}
+use Rattle.pg_board.proofs.Common.{rules, ◌≡◌, ℕ, ◌<◌, ◌≤◌, Bool, true, false, length, refl, sym, ◌∙◌, ap, subst, arith, Option, nat_eq, fun_ext, list_any}
+use Rattle.pg_board.proofs.Common.{length-map, length-le_from_distinct_below, false_from_ne_true, Player, Graph, NoneHas, VertexSet, In, union, KeptEdge, Claim}
+use Rattle.pg_board.proofs.Common.{ClaimRows, named, choice_in, AreRight, IsSound, named_right, Posted, State, settled, rest_of, IsGoodOn, Journal, state_of}
+use Rattle.pg_board.proofs.Common.{Regions, Play, Adds, IsLost, Refuses, table_state, IsBoard, LeadsOutside, IsFirstOutside, Within, members, lt-ltb, ◌==◌}
+use Rattle.std.proofs.lemmas.Bool.{eqb-false}
 use Rattle.pg_board.specs.Refusal.{IsOpenEdge, IsFirstOpenEdge}
 use Rattle.pg_board.proofs.Push.{distinct_rising}
-use Rattle.pg_board.proofs.Tables.{IsBoard-same}
-use Rattle.pg_board.proofs.RestIsGood.{vertices, kept_rest, kept_of_rest, rest_twice}
+use Rattle.pg_board.proofs.RestIsGood.{vertices, in_rest, kept_rest, kept_of_rest, rest_right, rest_twice}
 use Rattle.pg_board.proofs.Numbers.{in_vertices}
 use Rattle.pg_board.specs.declared.refusal.Refusal.TheVariants as refusal
 
@@ -48,19 +47,6 @@ pub record IsChecked (g : Graph) (j : Journal) (r : Regions) (number : ℕ) (p :
   pub none : NoneHas (IsLost (table_state r.table.items) p rows)
   pub rest_is : rest ≡ rest_of (table_state r.table.items) rows
 
--- it is so once the places are noted
-pub checked : {g : Graph} {j : Journal} {r r' : Regions} {number : ℕ} {p : Player} {rows rest : ClaimRows} → IsBoard g j r number → SaySame r r'
-    → IsSound g p rows → NoneHas (IsLost (table_state r.table.items) p rows) → rest ≡ rest_of (table_state r.table.items) rows
-    → IsChecked g j r' number p rows rest
-checked {r} {r'} {p = p} {rows} {rest} board same sound none rest_is =
-    let says : table_state r.table.items ≡ table_state r'.table.items = sym (fun_ext same.state) in
-    record {
-      board = IsBoard-same board same;
-      sound = sound;
-      none = subst (λ (s : State). NoneHas (IsLost s p rows)) says none;
-      rest_is = subst (λ (s : State). rest ≡ rest_of s rows) says rest_is;
-    }
-
 module _ {g : Graph} {j : Journal} {r : Regions} {number : ℕ} {p : Player} {rows rest : ClaimRows} (h : IsChecked g j r number p rows rest) where
   abbrev now : State
   now = table_state r.table.items
@@ -68,6 +54,15 @@ module _ {g : Graph} {j : Journal} {r : Regions} {number : ℕ} {p : Player} {ro
   -- the vertices where edges may end, as the code has them
   abbrev Inside : ClaimRows → VertexSet
   Inside xs = union (named xs) (settled now p)
+
+  -- the rest is right and unsettled
+  pub rest_right_here : AreRight g p rest
+  rest_right_here = subst (λ (xs : ClaimRows). AreRight g p xs) (sym h.rest_is) (rest_right g p now rows h.sound.shape.right)
+
+  pub rest_open : Within (named rest) (members r.unsettled)
+  rest_open v i =
+      let is = in_rest now rows v (subst (λ (xs : ClaimRows). In (named xs) v) h.rest_is i) in
+      search (rules, h.board.regions.mask v, is.1, lt-ltb, (named_right g p rows v h.sound.shape.right.each is.0).vertex)
 
   pub rest_now : rest ≡ rest_of (state_of j) rows
   rest_now = subst (λ (s : State). rest ≡ rest_of s rows) (fun_ext h.board.state) h.rest_is
@@ -81,6 +76,9 @@ module _ {g : Graph} {j : Journal} {r : Regions} {number : ℕ} {p : Player} {ro
       let closed = subst (λ (xs : ClaimRows). (v w : ℕ) → LeadsOutside g p (Inside xs) xs v w → ⊥) h.rest_is none in
       subst (λ (s : State). IsGoodOn g s p rows) (fun_ext h.board.state)
       (good_on g now p rows h.sound h.none (subst (λ (xs : ClaimRows). 0 < length xs) h.rest_is some) closed)
+
+pub nonempty : (rows : ClaimRows) {n : ℕ} → n ≡ length rows → (n == 0) ≡ false → 0 < length rows
+nonempty rows {n} e f = let h = eqb-false n 0 f in omega (arith, h)
 
 pub sound_here : {x : Play} {g : Graph} {j : Journal} {p : Player} {rows : ClaimRows} → record { graph = g; journal = j } ≡ x → IsSound x.graph p rows
     → IsSound g p rows
@@ -114,8 +112,3 @@ few_rows {g} {p} {rows} a =
     λ q m. (named_right g p rows q a.each (sym (in_vertices rows q) ∙ m)).vertex in
     let h = length-le_from_distinct_below (vertices rows) (length g) (distinct_rising (vertices rows) a.rising) below in
     omega (arith, h, length-map rows (λ (r : ℕ × Option ℕ). r.0))
-
--- right rows name vertices
-pub all_below : (g : Graph) (p : Player) (rows : ClaimRows) → AreRight g p rows → (n : ℕ) → n ≡ length g
-    → All (λ (r : ℕ × Option ℕ). r.0 < n) rows
-all_below g p rows a n e = search (rules, All-weaker, All-from_recursion, a.each)

@@ -1,17 +1,12 @@
 -- An old copy of a board, and what has to be taken out of it to bring it up to date.
 use Rattle.pg_board.proofs.Common.{rules, ◌≡◌, ℕ, ◌+◌, ◌-◌, ◌<◌, ◌≤◌, Bool, false, ◌&&◌, not, List, [], ◌∷◌, ◌++◌, length, take, get_or, sym, ◌∙◌, ap, subst}
-use Rattle.pg_board.proofs.Common.{arith, ltb-true, Global, Option, Some, None, ◌==◌, if◌then◌else◌, fun_ext, arc_value, Arc, All-get_or, All-weaker}
-use Rattle.pg_board.proofs.Common.{take-append-le, take_all, take_more, take-length, and-false, Player, Graph, VertexSet, In, members, IsSubgame, without}
-use Rattle.pg_board.proofs.Common.{ClaimRows, named, named-push, Claim, Copied, Entry, Posted, Play, is_unsettled, unsettled, Journal, state_of, IsLawful, Adds}
-use Rattle.pg_board.proofs.Common.{ArePastCopies, IsPastCopy, IsPresentCopy}
-use Rattle.std.proofs.Common.{slice_set}
+use Rattle.pg_board.proofs.Common.{arith, ltb-true, Global, Option, Some, None, if◌then◌else◌, fun_ext, arc_value, Arc, All-get_or, All-weaker, take-append-le}
+use Rattle.pg_board.proofs.Common.{take_all, take_more, take-length, and-false, Player, Graph, VertexSet, In, members, IsSubgame, without, named, Claim, Copied}
+use Rattle.pg_board.proofs.Common.{Entry, Posted, Play, is_unsettled, unsettled, Journal, state_of, IsLawful, Adds, ArePastCopies, IsPastCopy, IsPresentCopy}
 use Rattle.std.specs.List.{swap_remove}
 use Rattle.std.proofs.lemmas.List.Elements.{All-set, All-take}
 use Rattle.std.proofs.lemmas.List.{length-append}
-use Rattle.pg_finders.proofs.Masks.{members-unset}
-use Rattle.pg_finders.proofs.Sets.{minus_both}
 use Rattle.pg_board.proofs.Numbers.{lawful_now, whose}
-use Rattle.pg_board.proofs.Places.{row_at}
 use Rattle.pg_board.proofs.Push.{state_push}
 
 pub past_of_present : {board : Play} {c : Copied} → IsPresentCopy board c → IsPastCopy board c
@@ -54,14 +49,6 @@ module _ (j : Journal) (k : ℕ) (e : Entry) (l : k < length j) (at : e ≡ get_
       open_next v ∙ (ap (λ b. is_unsettled (state_of (take k j) v) && not b) is ∙ and-false (is_unsettled (state_of (take k j) v))) in
       let w = whose (state_of (take (k + 1) j) v) (ap not shut) in
       ltb-true v (length g) (((lawful.states (k + 1) (omega arith)).regions w.0).vertices v w.1)
-
--- one more row's vertex is taken out of the mask
-pub members_removed : (mask new : List Bool) (X : VertexSet) (rows : ClaimRows) (i : ℕ) → i < length rows → new ≡ slice_set mask (row_at rows i).0 false
-    → ((v : ℕ) → members mask v ≡ without X (named (take i rows)) v) → (v : ℕ) → members new v ≡ without X (named (take (i + 1) rows)) v
-members_removed mask new X rows i l e h v =
-    let r = row_at rows i in
-    ap (λ m. members m v) e ∙ (members-unset mask r.0 v ∙ (ap (λ b. b && not (r.0 == v)) (h v) ∙ (minus_both (X v) (named (take i rows) v) (r.0 == v)
-    ∙ ap (λ b. X v && not b) (sym (ap (λ xs. named xs v) (take_more rows i (0, None) l) ∙ named-push (take i rows) r v)))))
 
 -- once all entries are looked at the mask is a subgame
 pub subgame_left : (board : Play) (mask : List Bool) (k : ℕ) → IsLawful board.graph board.journal → length board.journal ≤ k

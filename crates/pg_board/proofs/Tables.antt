@@ -1,6 +1,6 @@
--- A vertex is settled in the tables, or places are noted in them: what they say then.
+-- A vertex is settled in the tables: what they say then.
 use Rattle.pg_board.proofs.Common.{rules, ◌≡◌, ℕ, ◌<◌, ◌==◌, if◌then◌else◌, false, [], length, set, length-set, Option, Some, and-false, Player, Graph}
-use Rattle.pg_board.proofs.Common.{◌∙◌, read_set, Journal, Regions, State, table_state, state_with, AreRegions, IsBoard, SaySame}
+use Rattle.pg_board.proofs.Common.{read_set, Regions, State, table_state, state_with, AreRegions}
 use Rattle.std.proofs.Common.{slice_index}
 
 pub state_with-none : (st : State) (p : Player) (v : ℕ) → state_with st p [] v ≡ st v
@@ -17,15 +17,3 @@ pub record Settles (r r' : Regions) (p : Player) (row : ℕ × Option ℕ) : Typ
 module _ (g : Graph) (r r' : Regions) (p : Player) (row : ℕ × Option ℕ) (h : Settles r r' p row) (below : row.0 < length g) (a : AreRegions g r) where
   pub AreRegions-settle : AreRegions g r'
   AreRegions-settle = search (rules, length-set, h.size, h.table, a.size, a.mask_size, h.passed, a.passed_size, a.passes, slice_index, and-false, read_set)
-
--- places that are noted change nothing
-AreRegions-same : {g : Graph} {r r' : Regions} → AreRegions g r → SaySame r r' → AreRegions g r'
-AreRegions-same {g} {r} {r'} a same = search (rules, same.size, same.state, same.mask, same.passed, a.size, a.mask_size, a.passed_size, a.mask, a.passes)
-
-pub IsBoard-same : {g : Graph} {j : Journal} {r r' : Regions} {number : ℕ} → IsBoard g j r number → SaySame r r' → IsBoard g j r' number
-IsBoard-same board same = record {
-  lawful = board.lawful;
-  regions = AreRegions-same board.regions same;
-  state = λ v. same.state v ∙ board.state v;
-  number_is = board.number_is;
-}

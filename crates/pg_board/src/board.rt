@@ -1,13 +1,12 @@
 //! The board: a game, the journal of what was settled of it, and what is at hand of the journal.
 //! Its type keeps that the journal is lawful, so every board in hand has a lawful one.
 
-ghost use Rattle.std.specs.Prelude.{◌≡◌, ◌≤◌, ◌<◌, ℕ, [], length, IfOk, IfErr, OnErr, IsTrue, IsSome, IfSome, ◌↔◌, vec_capacity};
+ghost use Rattle.std.specs.Prelude.{◌≡◌, ◌≤◌, ℕ, [], length, IfOk, IfErr, OnErr, IsTrue, IsSome, IfSome, ◌↔◌, vec_capacity};
 ghost use Rattle.pg_game.specs.declared.player.Player.{Player};
 ghost use Rattle.pg_game.specs.Graph.{IsGame};
 ghost use Rattle.pg_game.specs.Limits.{IsWithinLimits};
-ghost use Rattle.pg_game.specs.VertexSet.{In, members};
-ghost use Rattle.pg_game.specs.private.VertexSet.{without};
-ghost use Rattle.pg_dominion.specs.Claim.{ClaimRows, IsGoodIn, IsSound, named};
+ghost use Rattle.pg_game.specs.VertexSet.{members};
+ghost use Rattle.pg_dominion.specs.Claim.{ClaimRows, IsGoodIn, IsSound};
 ghost use Rattle.pg_dominion.specs.Checked.{claim_rows, claim_of, AgreesWithGame};
 ghost use Rattle.pg_board.specs.State.{unsettled, rest_of, IsGoodOn, choices, winner_in};
 ghost use Rattle.pg_board.specs.Journal.{state_of, IsLawful, IsDominionAfter, number_settled, settled_by};
@@ -18,40 +17,30 @@ ghost use Rattle.pg_board.specs.Post.{Adds, AnswersDominion, SettlesUnlessMemory
 ghost use Rattle.pg_board.specs.private.Office.{IsPastCopy, IsPresentCopy};
 
 use crate::entry::{Entry, Posted};
-use crate::open_edges::Bounds;
+use crate::named::remove_named;
 use crate::refusal::Refusal;
 use crate::regions::Regions;
 use pg_dominion::{Checked, Claim, judge_claim};
 use pg_finders::{Copied, Inside};
-use pg_game::{Game, Mask, Memory, Player, Sequence};
+use pg_game::{Game, Memory, Player, Sequence};
 use pg_text::Solution;
 use std::alloc::Global;
 use std::marker::Model;
 use std::mem;
 
-/// The items in a vector of their own: in the one that has them where they fill half of it or memory for a copy is refused,
-/// and else in a copy.
+/// The items in a vector of their own: in the one that has them, whose other room is let go, where they fill a sixteenth of
+/// it or memory for a copy is refused, and else in a copy.
 fn copy_or_take(alloc: Global, items: &mut Vec<(u32, Option<u32>)>) -> Vec<(u32, Option<u32>)>
     ensures { result.items ≡ items.old.items }
 {
-    if items.len() >= items.capacity() / 2 {
-        return mem::replace(items, Vec::new(alloc));
+    if items.len() < items.capacity() / 16 {
+        if let Ok(copy) = Vec::from_slice(alloc, items.as_slice()) {
+            return copy;
+        }
     }
-    match Vec::from_slice(alloc, items.as_slice()) {
-        Ok(copy) => copy,
-        Err(_) => mem::replace(items, Vec::new(alloc)),
-    }
-}
-
-/// Takes the rows' vertices out of the mask.
-fn remove_named(mask: &mut Mask, rows: &[(u32, Option<u32>)])
-    requires { (v : ℕ) → In (named rows.now) v → v < length mask.old }
-    ensures length { length mask.new ≡ length mask.old }
-    ensures members { (v : ℕ) → members mask.new v ≡ without (members mask.old) (named rows.now) v }
-{
-    'rows: for row in rows {
-        mask.remove(row.0);
-    }
+    let mut taken = mem::replace(items, Vec::new(alloc));
+    taken.shrink_to_fit();
+    taken
 }
 
 /// A game, and the journal of what was settled of it. Nobody's claim is believed.
@@ -228,14 +217,10 @@ impl<'g> Board<'g> {
         if rows.is_empty() {
             return Err(Refusal::Stale);
         }
-        let rest = rows.as_slice();
-        let bounds = Bounds {
-            game: self.game,
-            regions: &self.regions,
-            player: claim.player,
-            rest,
-        };
-        if let Some((v, w)) = bounds.first_edge(rest) {
+        let edge = self
+            .regions
+            .first_open(self.game, claim.player, rows.as_slice());
+        if let Some((v, w)) = edge {
             return Err(Refusal::Open(v, w));
         }
         Ok(self.enter(alloc, worker, claim.player, rows)?)
@@ -258,12 +243,13 @@ impl<'g> Board<'g> {
         ensures unchanged { OnErr result (self.new ≡ self.old) }
     {
         // for the proof: the graph is a game, and so small that the numbers of its vertices add up without overflow
-        let _n = self.game.len();
+        let n = self.game.len();
         self.entries.reserve(1)?;
         let entry = self.entries.len() as u64;
         let claimed = rows.len() as u32;
         self.regions.settle_all(self.game, player, rows.as_slice());
-        self.regions.attract(self.game, player, rows);
+        let is_full = self.number + claimed == n;
+        self.regions.attract(self.game, player, rows, is_full);
         let entered = copy_or_take(alloc, rows);
         let settled = entered.len() as u32;
         self.number += settled;

@@ -50,14 +50,25 @@ impl Regions {
         (at as usize) < successors.len()
     }
 
-    /// Settles all that the rows' vertices attract from the unsettled part, with rows that lead to earlier ones.
-    pub fn attract(&mut self, game: &Game, player: Player, rows: &mut Vec<(u32, Option<u32>)>)
+    /// Settles all that the rows' vertices attract from the unsettled part, with rows that lead to earlier ones. A board
+    /// that is full has no such part, and nothing is looked for.
+    pub fn attract(
+        &mut self,
+        game: &Game,
+        player: Player,
+        rows: &mut Vec<(u32, Option<u32>)>,
+        is_full: bool,
+    )
+        requires full { is_full ≡ true → (v : ℕ) → members self.old.unsettled v ≡ false }
         requires growing { IsGrowing game.now self.old rows.old.items (vec_capacity rows.old) }
         requires subgame { IsSubgame game.now (open_before self.old rows.old.items) }
         ensures growing { IsGrowing game.now self.new rows.new.items (vec_capacity rows.new) }
         ensures grows { Grows game.now player self.old rows.old.items self.new rows.new.items }
         ensures done { AttractsNoFurther game.now player (open_before self.old rows.old.items) (named rows.new.items) (named rows.new.items) }
     {
+        if is_full {
+            return;
+        }
         // There is room for all rows, so nothing is refused.
         match attract_from(self, game, player, rows, 0) {
             Ok(()) => (),

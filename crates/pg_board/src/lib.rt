@@ -7,6 +7,7 @@ mod board;
 mod entry;
 mod growth;
 pub mod laws;
+mod named;
 mod office;
 mod open_edges;
 mod refusal;

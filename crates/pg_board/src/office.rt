@@ -159,6 +159,7 @@ impl<'g, L: Ledger + OfGame> Desk<'g, L> {
         ensures copy { IfOk result (λ c. IsPresentCopy self.old.board (arc_value c)) }
         ensures board { self.new.board ≡ self.old.board }
         ensures some { IfOk result (λ c. IsCopyOfSome (arc_value c).inside (arc_value c).at (arc_value c).settled 0) }
+        ensures game { IfOk result (λ c. (arc_value c).inside.graph ≡ L.game) }
     {
         let Desk {
             board,
@@ -351,14 +352,15 @@ impl<'g, L: Ledger + OfGame> Office<'g, L> {
         self.desk.lock(rt).settle(alloc, share, worker, checked)
     }
 
-    /// A copy of some lawful board with at least the share's amount settled.
+    /// A copy of some lawful board of the office's game with at least the share's amount settled.
     pub fn copy<R: Wait>(
         &self,
         rt: &R,
         alloc: Global,
         share: &Share<L>,
     ) -> Result<Copied<'g>, Memory>
-        ensures { IfOk result (λ c. IsCopyOfSome c.inside c.at c.settled share.now) }
+        ensures some { IfOk result (λ c. IsCopyOfSome c.inside c.at c.settled share.now) }
+        ensures game { IfOk result (λ c. c.inside.graph ≡ L.game) }
     {
         for _ in rt.forever() {
             let desk = self.desk.lock(rt);
@@ -379,7 +381,8 @@ impl<'g, L: Ledger + OfGame> Office<'g, L> {
         alloc: Global,
         share: &Share<L>,
     ) -> Result<Arc<Copied<'g>>, Memory>
-        ensures { IfOk result (λ c. IsCopyOfSome (arc_value c).inside (arc_value c).at (arc_value c).settled share.now) }
+        ensures some { IfOk result (λ c. IsCopyOfSome (arc_value c).inside (arc_value c).at (arc_value c).settled share.now) }
+        ensures game { IfOk result (λ c. (arc_value c).inside.graph ≡ L.game) }
     {
         for _ in rt.forever() {
             let copied = self.desk.lock(rt).shared_copy(alloc)?;

@@ -26,7 +26,7 @@ impl Regions {
     {
         let n = game.len();
         Ok(Regions {
-            table: vec![in alloc; VertexState::Unsettled(0); n as usize]?,
+            table: vec![in alloc; VertexState::Unsettled; n as usize]?,
             unsettled: Mask::full(alloc, n)?,
             passed: vec![in alloc; 0u32; n as usize]?,
         })

@@ -1,6 +1,5 @@
 //! What a board has at hand of one vertex: whose it is, and by which choice. That takes 8 bytes, where
 //! `Option<(Player, Option<u32>)>` takes 16: one tag says both whether it is settled and whether there is a choice.
-//! What is unsettled has in the place of a choice its place in a claim's rest (`Regions::rest_of`).
 
 ghost use Rattle.std.specs.Prelude.{◌≡◌, Some};
 ghost use Rattle.pg_board.specs.private.VertexState.{state_in};
@@ -11,8 +10,7 @@ use std::mem::size_of;
 /// The state of a vertex. The player stands before the choice, in one word with the tag; behind it he would take a word alone.
 #[derive(Clone, Copy)]
 pub enum VertexState {
-    /// Unsettled, with a place in the rest of a claim. It counts only where that rest has the vertex at this place.
-    Unsettled(u32),
+    Unsettled,
     /// Settled for the player, without a choice.
     Settled(Player),
     /// Settled for the player, by a choice.
@@ -36,7 +34,7 @@ impl VertexState {
         ensures { result ≡ state_in self }
     {
         match self {
-            VertexState::Unsettled(_) => None,
+            VertexState::Unsettled => None,
             VertexState::Settled(player) => Some((player, None)),
             VertexState::Chosen(player, w) => Some((player, Some(w))),
         }

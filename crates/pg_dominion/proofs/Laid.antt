@@ -9,9 +9,9 @@ use Rattle.std.specs.Prelude.{slice_index}
 use Rattle.std.proofs.lemmas.Bool.{and_parts, and_from}
 use Rattle.std.proofs.lemmas.List.Elements.{All-from_recursion}
 use Rattle.pg_game.proofs.Masks.{members-set, none_mask}
-use Rattle.std.proofs.Common.{replicate}
+use Rattle.std.proofs.Common.{replicate, set}
 use Rattle.std.proofs.lemmas.List.{length-replicate}
-use Rattle.pg_dominion.specs.private.Shape.{HasPlaces, chosen_at, marked, chosen_with}
+use Rattle.pg_dominion.specs.private.Shape.{HasPlaces, chosen_at, chosen_with}
 use Rattle.pg_dominion.proofs.Shape.{next_unnamed}
 use Rattle.pg_dominion.proofs.Searching.{starts_in}
 use Rattle.pg_dominion.proofs.Rows.{named-push, named-push_same, named-push_other, choice-none, choice-push_same, choice-push_other, named_right}
@@ -20,15 +20,14 @@ use Rattle.pg_dominion.proofs.Rows.{named-push, named-push_same, named-push_othe
 pub has_places : (g : Graph) (t : Layout) (r : ℕ × Option ℕ) (b : Bool) → HasPlaces g t → HasPlaces g (laid_with t r b)
 has_places g t (v, c) b s = search (rules, length-set, t.inside, s.inside, t.chosen, s.chosen, t.choices, s.choices, t.bad, s.bad)
 
--- what it says of its vertex, where nothing was said
+-- what it says of its vertex
 module _ (g : Graph) (t : Layout) (v : ℕ) (l : v < length g) (s : HasPlaces g t) where
-  pub choice_at-same : (c : Option ℕ) (b : Bool) → chosen_at t v ≡ None → chosen_at (laid_with t (v, c) b) v ≡ c
-  choice_at-same None b f = f
-  choice_at-same (Some w) b f = search (rules, t.chosen, get_or-set_same, s.chosen, t.choices, s.choices)
+  pub choice_at-same : (c : Option ℕ) (b : Bool) → chosen_at (laid_with t (v, c) b) v ≡ c
+  choice_at-same None b = search (rules, t.chosen, get_or-set_same, s.chosen)
+  choice_at-same (Some w) b = search (rules, t.chosen, get_or-set_same, s.chosen, t.choices, s.choices)
 
-  pub marked-same : (b : Bool) → members t.bad v ≡ false → members (marked b t.bad v) v ≡ b
-  marked-same true f = get_or-set_same t.bad v true false (omega (arith, l, s.bad))
-  marked-same false f = f
+  pub bad-same : (b : Bool) → members (set t.bad v b) v ≡ b
+  bad-same b = get_or-set_same t.bad v b false (omega (arith, l, s.bad))
 
 -- and of another vertex what was said
 module _ (t : Layout) (v x : ℕ) (n : x ≢ v) where
@@ -36,12 +35,11 @@ module _ (t : Layout) (v x : ℕ) (n : x ≢ v) where
   chosen-other x0 = search (rules, get_or-set_other)
 
   pub choice_at-other : (c : Option ℕ) (b : Bool) → chosen_at (laid_with t (v, c) b) x ≡ chosen_at t x
-  choice_at-other None b = refl
+  choice_at-other None b = search (rules, t.choices, get_or-set_other, chosen-other)
   choice_at-other (Some w) b = search (rules, t.choices, get_or-set_other, chosen-other)
 
-  pub marked-other : (b : Bool) → members (marked b t.bad v) x ≡ members t.bad x
-  marked-other true = get_or-set_other t.bad v x true false n
-  marked-other false = refl
+  pub bad-other : (b : Bool) → members (set t.bad v b) x ≡ members t.bad x
+  bad-other b = get_or-set_other t.bad v x b false n
 
 module _ (g : Graph) (p : Player) where
   -- one more row is laid out
@@ -51,12 +49,12 @@ module _ (g : Graph) (p : Player) where
     sizes = has_places g t r b a.sizes;
     inside_is = λ x. members-set t.inside r.0 (omega (arith, l, a.sizes.inside)) x ∙ (ap (λ b. b || (r.0 == x)) (a.inside_is x) ∙ sym (named-push rows r x));
     choices_is = λ x. elim (cases_eq x r.0) [
-      | inl q ↦ rw q (choice_at-same g t r.0 l a.sizes r.1 b (a.choices_is r.0 ∙ choice-none rows r.0 new) ∙ sym (choice-push_same rows r new))
+      | inl q ↦ rw q (choice_at-same g t r.0 l a.sizes r.1 b ∙ sym (choice-push_same rows r new))
       | inr n ↦ choice_at-other t r.0 x n r.1 b ∙ (a.choices_is x ∙ sym (choice-push_other rows r x (ne_eqb r.0 x (λ q. n (sym q)))))
     ];
     bad_is = λ x. elim (cases_eq x r.0) [
-      | inl q ↦ rw q (marked-same g t r.0 l a.sizes b (a.bad_is r.0 ∙ ap (λ c. c && b) new) ∙ sym (ap (λ c. c && b) (named-push_same rows r)))
-      | inr n ↦ marked-other t r.0 x n b ∙ (a.bad_is x ∙ ap (λ c. c && is_bad g p x) (sym (named-push_other rows r x n)))
+      | inl q ↦ rw q (bad-same g t r.0 l a.sizes b ∙ sym (ap (λ c. c && b) (named-push_same rows r)))
+      | inr n ↦ bad-other t r.0 x n b ∙ (a.bad_is x ∙ ap (λ c. c && is_bad g p x) (sym (named-push_other rows r x n)))
     ];
   }
 

@@ -9,14 +9,13 @@ use Rattle.std.specs.Prelude.{slice_index}
 use Rattle.std.proofs.Common.{replicate}
 use Rattle.std.proofs.lemmas.Bool.{cases_order}
 use Rattle.std.proofs.lemmas.List.{length-replicate}
-use Rattle.pg_game.proofs.Masks.{none_mask}
 use Rattle.pg_game.proofs.Members.{Contains-nil, Contains-one}
 use Rattle.pg_text.specs.Solution.{SolutionRows, choice_of, won_by}
 use Rattle.pg_text.specs.Verdict.{IsOnBadWalk}
 use Rattle.pg_text.proofs.Verdict.{has_or_not, won}
 use Rattle.pg_dominion.specs.private.Plan.{own_choice, IsPlanOf}
 use Rattle.pg_dominion.proofs.Searching.{place_in, starts_in}
-use Rattle.pg_dominion.proofs.Laid.{has_places, choice_at-same, choice_at-other, chosen-other, marked-same, marked-other, layout_of, from_choice, row_cases}
+use Rattle.pg_dominion.proofs.Laid.{has_places, choice_at-same, choice_at-other, bad-same, bad-other, layout_of, from_choice, row_cases}
 
 -- nothing is laid out where nothing is marked
 pub IsPlanned-none : (g : Graph) (rows : SolutionRows) (n : ℕ) → n ≡ length g → (t : Layout) → t.inside ≡ replicate n false → t.chosen ≡ replicate n false
@@ -26,8 +25,6 @@ IsPlanned-none g rows n size t i c w b = record {
   inside_is = λ v l. absurd (omega (arith, l));
   choices_is = λ v l. absurd (omega (arith, l));
   bad_is = λ v l. absurd (omega (arith, l));
-  chosen_later = λ v _. rw c (none_mask n v);
-  bad_later = λ v _. rw b (none_mask n v);
 }
 
 pub IsPlanned-push : (g : Graph) (rows : SolutionRows) (v : ℕ) (t : Layout) (c : Option ℕ) (b : Bool) → v < length g → c ≡ own_choice g rows v
@@ -39,15 +36,13 @@ IsPlanned-push g rows v t c b l e f a = record {
     | inr n ↦ get_or-set_other t.inside v x true false n ∙ a.inside_is x (omega arith)
   ];
   choices_is = λ x lx. elim (cases_eq x v) [
-    | inl q ↦ (let none = a.chosen_later v (omega arith) in rw q (choice_at-same g t v l a.sizes c b (rw none refl) ∙ e))
+    | inl q ↦ rw q (choice_at-same g t v l a.sizes c b ∙ e)
     | inr n ↦ choice_at-other t v x n c b ∙ a.choices_is x (omega arith)
   ];
   bad_is = λ x lx. elim (cases_eq x v) [
-    | inl q ↦ rw q (marked-same g t v l a.sizes b (a.bad_later v (omega arith)) ∙ f)
-    | inr n ↦ marked-other t v x n b ∙ a.bad_is x (omega arith)
+    | inl q ↦ rw q (bad-same g t v l a.sizes b ∙ f)
+    | inr n ↦ bad-other t v x n b ∙ a.bad_is x (omega arith)
   ];
-  chosen_later = λ x lx. chosen-other t v x (omega arith) c ∙ a.chosen_later x (omega arith);
-  bad_later = λ x lx. marked-other t v x (omega arith) b ∙ a.bad_later x (omega arith);
 }
 
 module _ (k : Kept) (rows : SolutionRows) (game : IsGame k.game.now) (size : length rows ≡ length k.game.now) where

@@ -3,13 +3,13 @@
 //! The shape is checked row by row. Then the rows are laid out by vertex as kept edges, and `cycles` looks for a closed
 //! walk whose greatest priority is the opponent's.
 
-ghost use Rattle.std.specs.Prelude.{◌≡◌, ℕ, ◌↔◌, ◌<◌, IfOk, IfErr, OnOk, MatchOption, length, true, false};
+ghost use Rattle.std.specs.Prelude.{◌≡◌, ℕ, ◌↔◌, ◌<◌, IfOk, IfErr, OnOk, MatchOption, length, slice_set, true, false};
 ghost use Rattle.std.specs.List.{list_any};
 ghost use Rattle.pg_game.specs.Least.{NoneHas, IsLeast};
 ghost use Rattle.pg_game.specs.Region.{OnBadWalk};
 ghost use Rattle.pg_dominion.specs.Claim.{IsSound, IsRightRow, HasShape, IsFirstWrongRow, named, choice_in};
 ghost use Rattle.pg_dominion.specs.Fault.{IsClaimFault};
-ghost use Rattle.pg_dominion.specs.private.Shape.{is_bad, marked, chosen_with, choices_with};
+ghost use Rattle.pg_dominion.specs.private.Shape.{is_bad, chosen_with, choices_with};
 ghost use Rattle.pg_dominion.specs.KeptEdges.{IsKept, IsWorst};
 ghost use Rattle.pg_dominion.specs.Checked.{claim_of, AgreesWithGame};
 
@@ -96,27 +96,27 @@ pub fn is_bad(game: &Game, player: Player, v: u32) -> bool
     Player::of_parity(game.priority(v)) == player.other()
 }
 
-/// Adds a vertex to a mask where a test holds.
-pub fn mark_if(test: bool, mask: &mut Mask, v: u32)
+/// Notes in a mask whether a vertex passes a test. It is written in either case, since no processor foretells which.
+pub fn note_test(test: bool, mask: &mut Mask, v: u32)
     requires { v < length mask.old }
-    ensures { mask.new ≡ marked test mask.old v }
+    ensures { mask.new ≡ slice_set mask.old v test }
 {
     if test {
         mask.insert(v);
+    } else {
+        mask.remove(v);
     }
 }
 
-/// Notes the choice of a vertex, where there is one.
+/// Notes whether a vertex has a choice, and which.
 pub fn note_choice(chosen: &mut Mask, choices: &mut Vec<u32>, v: u32, choice: Option<u32>)
     requires chosen { v < length chosen.old }
     requires choices { v < length choices.old.items }
     ensures chosen { chosen.new ≡ chosen_with chosen.old v choice }
     ensures choices { choices.new.items ≡ choices_with choices.old.items v choice }
 {
-    if let Some(w) = choice {
-        chosen.insert(v);
-        choices[v as usize] = w;
-    }
+    note_test(choice.is_some(), chosen, v);
+    choices[v as usize] = choice.unwrap_or(0);
 }
 
 /// The kept edges of a claim, and its bad vertices.
@@ -133,7 +133,7 @@ pub fn kept_of<'g>(alloc: Global, game: &'g Game, claim: &Claim) -> Result<Kept<
     'rows: for row in claim.rows.as_slice() {
         let (v, choice) = *row;
         inside.insert(v);
-        mark_if(is_bad(game, claim.player, v), &mut bad, v);
+        note_test(is_bad(game, claim.player, v), &mut bad, v);
         note_choice(&mut chosen, &mut choices, v, choice);
     }
     Ok(Kept {

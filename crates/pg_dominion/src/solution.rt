@@ -11,7 +11,7 @@ ghost use Rattle.pg_dominion.specs.Verdict.{FailsBy};
 ghost use Rattle.pg_dominion.specs.KeptEdges.{IsKept, IsWorst};
 ghost use Rattle.pg_dominion.specs.private.Plan.{own_choice, IsPlanOf, LeavesTo, IsFirstTo};
 
-use crate::claim::{is_bad, mark_if, note_choice};
+use crate::claim::{is_bad, note_choice, note_test};
 use crate::cycles::first_worst;
 use crate::kept::Kept;
 use pg_game::{Game, Mask, Player};
@@ -138,7 +138,7 @@ fn plan_of<'g>(alloc: Global, game: &'g Game, solution: &Solution) -> Result<Kep
     let mut bad = Mask::empty(alloc, n)?;
     'vertices: for v in 0..n {
         inside.insert(v);
-        mark_if(is_bad(game, row_at(solution, v).0, v), &mut bad, v);
+        note_test(is_bad(game, row_at(solution, v).0, v), &mut bad, v);
         note_choice(&mut chosen, &mut choices, v, own_choice(game, solution, v));
     }
     Ok(Kept {

@@ -38,13 +38,16 @@ fn is_loop(game: &Game, mask: &Mask, player: Player, v: u32) -> bool
     requires vertex { v < length game.now }
     ensures { result ≡ loops game.now (members mask.now) player v }
 {
-    if !mask.has(v) || Player::of_parity(game.priority(v)) != player {
+    if !mask.has(v) {
         return false;
     }
-    if game.owner(v) == player {
+    // one branch for both, since no processor foretells either of a random vertex
+    let parity = Player::of_parity(game.priority(v));
+    if game.owner(v).digit() + parity.digit() == 2 * player.digit() {
         return game.has_edge(v, v);
     }
-    stays(game, mask, v)
+    // asked first, since it seldom holds
+    stays(game, mask, v) && parity == player
 }
 
 /// The vertices that are the player's dominions alone, each with itself as the choice where he owns it.

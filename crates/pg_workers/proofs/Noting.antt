@@ -1,6 +1,6 @@
 -- What a row notes of the answers to a worker's claims.
-use Rattle.pg_workers.proofs.Common.{rules, ◌≡◌, ℕ, zero, suc, ◌+◌, ◌^◌, ◌<◌, ◌≤◌, ◌⊎◌, inl, inr, ⊎_elim, Bool, false, List, [], ◌∷◌, ◌++◌, length, take, sym}
-use Rattle.pg_workers.proofs.Common.{get_or, ap, ◌∙◌, subst, arith, length-append, common_steps, slice_get, Some, Result, IfOk, take_more, Graph}
+use Rattle.pg_workers.proofs.Common.{rules, ◌≡◌, ℕ, zero, suc, ◌+◌, ◌^◌, ◌<◌, ◌≤◌, ◌⊎◌, inl, inr, ⊎_elim, Bool, false, List, [], ◌∷◌, ◌++◌, length, sym}
+use Rattle.pg_workers.proofs.Common.{ap, ◌∙◌, subst, arith, length-append, common_steps, slice_get, Some, Result, IfOk, Graph}
 use Rattle.pg_workers.proofs.Common.{fold_push, none-some, same_Some, Claim, Refusal, ReportRow, AreNoted, IsAnswerTo, AreCounts, answered, noted}
 
 abbrev Added : ℕ → ℕ → Result ℕ Refusal → Type 0
@@ -40,20 +40,16 @@ both_push (z ∷ xs) (w ∷ ys) x c y a zero l e f = inl (e, f)
 both_push (z ∷ xs) (w ∷ ys) x c y a (suc k) l e f = both_push xs ys x c y a k (omega arith) e f
 
 -- one claim more
-pub one_noted : (is_alone : Bool) (g : Graph) (claims : List Claim) (i : ℕ) (claim : Claim) (old now : ReportRow) (amount : ℕ) (answer : Result ℕ Refusal)
-    → i < length claims → claim ≡ get_or claims i claim → AreNoted is_alone g (take i claims) old now → IsAnswerTo is_alone g claim amount answer
-    → AreNoted is_alone g (take (i + 1) claims) old (noted now answer)
-one_noted is_alone g claims i claim old now amount answer lt is h mine =
-    subst (λ (cs : List Claim). AreNoted is_alone g cs old (noted now answer))
-    (sym (take_more claims i claim lt ∙ ap (λ (x : Claim). take i claims ++ x ∷ []) (sym is)))
-    record {
-      answers = h.answers ++ answer ∷ [];
-      number = let n = h.number in let a = length-append h.answers (answer ∷ []) in let b = length-append (take i claims) (claim ∷ []) in omega arith;
-      each = λ k c a e f.
-          ⊎_elim
-          (λ (was : (slice_get (take i claims) k ≡ Some c) × (slice_get h.answers k ≡ Some a)). h.each k c a was.0 was.1)
-          (λ (last : (claim ≡ c) × (answer ≡ a)).
-          (amount, subst (λ (x : Claim). IsAnswerTo is_alone g x amount a) last.0 (subst (IsAnswerTo is_alone g claim amount) last.1 mine)))
-          (both_push (take i claims) h.answers claim c answer a k h.number e f);
-      row = ap (λ (r : ReportRow). noted r answer) h.row ∙ sym (fold_push noted old h.answers answer);
-    }
+pub one_noted : (is_alone : Bool) (g : Graph) (claims : List Claim) (claim : Claim) (old now : ReportRow) (amount : ℕ) (answer : Result ℕ Refusal)
+    → AreNoted is_alone g claims old now → IsAnswerTo is_alone g claim amount answer → AreNoted is_alone g (claims ++ claim ∷ []) old (noted now answer)
+one_noted is_alone g claims claim old now amount answer h mine = record {
+  answers = h.answers ++ answer ∷ [];
+  number = let n = h.number in let a = length-append h.answers (answer ∷ []) in let b = length-append claims (claim ∷ []) in omega arith;
+  each = λ k c a e f.
+      ⊎_elim
+      (λ (was : (slice_get claims k ≡ Some c) × (slice_get h.answers k ≡ Some a)). h.each k c a was.0 was.1)
+      (λ (last : (claim ≡ c) × (answer ≡ a)).
+      (amount, subst (λ (x : Claim). IsAnswerTo is_alone g x amount a) last.0 (subst (IsAnswerTo is_alone g claim amount) last.1 mine)))
+      (both_push claims h.answers claim c answer a k h.number e f);
+  row = ap (λ (r : ReportRow). noted r answer) h.row ∙ sym (fold_push noted old h.answers answer);
+}

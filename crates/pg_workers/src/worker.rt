@@ -116,8 +116,8 @@ fn post<L: Ledger + OfGame, R: Wait>(
     row.note(answer);
 }
 
-/// Has all claims settled in order, and notes the answers. Every claim counts as posted, stale or refused where memory was
-/// not refused.
+/// Has all claims settled in order, and notes the answers; each is let go then. Every claim counts as posted, stale or refused
+/// where memory was not refused.
 fn post_all<L: Ledger + OfGame, R: Wait>(
     rt: &R,
     alloc: Global,
@@ -126,20 +126,22 @@ fn post_all<L: Ledger + OfGame, R: Wait>(
     share: &mut Share<L>,
     worker: u32,
     is_alone: bool,
-    claims: &[Claim],
+    claims: Vec<Claim>,
     row: &mut ReportRow,
 )
     requires share { row.old.settled ≤ share.old }
-    requires room { answered row.old + length claims.now < 2 ^ 64 }
-    ensures noted { AreNoted is_alone game.now claims.now row.old row.new }
-    ensures all { row.new.memory ≡ false → answered row.new ≡ answered row.old + length claims.now }
-    ensures few { answered row.new ≤ answered row.old + length claims.now }
+    requires room { answered row.old + length claims.items < 2 ^ 64 }
+    ensures noted { AreNoted is_alone game.now claims.items row.old row.new }
+    ensures all { row.new.memory ≡ false → answered row.new ≡ answered row.old + length claims.items }
+    ensures few { answered row.new ≤ answered row.old + length claims.items }
     ensures same { (row.new.job ≡ row.old.job) × (row.new.worker ≡ row.old.worker) × (row.new.gave_up ≡ row.old.gave_up) }
     ensures counts { AreCounts row.old → AreCounts row.new }
     ensures settled { share.new + row.old.settled ≡ share.old + row.new.settled }
 {
     for claim in claims {
-        post(rt, alloc, office, game, share, worker, is_alone, claim, row);
+        post(
+            rt, alloc, office, game, share, worker, is_alone, &claim, row,
+        );
     }
 }
 
@@ -208,15 +210,7 @@ fn do_job<L: Ledger + OfGame, G: Gate, F: Finder, R: Wait>(
         Ok((Found { claims, gave_up }, game)) => {
             row.gave_up = gave_up;
             post_all(
-                rt,
-                alloc,
-                office,
-                game,
-                share,
-                worker,
-                is_alone,
-                claims.as_slice(),
-                &mut row,
+                rt, alloc, office, game, share, worker, is_alone, claims, &mut row,
             );
         }
         Err(AllocError) => row.memory = true,

@@ -1,21 +1,19 @@
 -- Kept edges of the rest of a claim, row by row.
-use Rattle.std.specs.Prelude.{ℕ, ◌≡◌, ◌≤◌, ◌<◌, false, List, length, Option, None, slice_index_or, if◌then◌else◌, Contains}
+use Rattle.std.specs.Prelude.{ℕ, ◌≡◌, ◌≤◌, ◌<◌, ◌&&◌, not, true, false, List, length, Option, if◌then◌else◌, Contains}
 use Rattle.pg_game.specs.declared.player.Player.{Player}
 use Rattle.pg_game.specs.Player.{same_player}
 use Rattle.pg_game.specs.Graph.{Graph, owner_of, successors_of}
-use Rattle.pg_game.specs.VertexSet.{VertexSet, In}
+use Rattle.pg_game.specs.VertexSet.{VertexSet, In, members}
 use Rattle.pg_game.specs.Kept.{option_list, KeptEdge}
 use Rattle.pg_dominion.specs.Claim.{ClaimRows, named, choice_in}
-use Rattle.pg_board.specs.declared.vertex_state.VertexState.{VertexState}
-use Rattle.pg_board.specs.declared.vertex_state.VertexState.TheVariants.{Unsettled}
+use Rattle.pg_board.specs.declared.regions.Regions.{Regions}
+use Rattle.pg_board.specs.State.{is_unsettled}
+use Rattle.pg_board.specs.private.Regions.{table_state}
 
--- the vertex is unsettled, and has a place of its row
-abbrev pub HasPlace : ClaimRows → VertexState → ℕ → Type 0
-HasPlace rows state v = (at : ℕ) × (state ≡ Unsettled at) × (at < length rows) × ((slice_index_or rows at (0, None)).0 ≡ v)
-
--- the table has a place at each vertex of the rows; those that it has elsewhere have no effect (Briggs and Torczon 1993)
-abbrev pub HavePlaces : ClaimRows → List VertexState → Type 0
-HavePlaces rows table = (v : ℕ) → In (named rows) v → HasPlace rows (slice_index_or table v (Unsettled 0)) v
+-- the rows' vertices are unsettled, and the mask has what else is
+pub record AreTakenOut (rows : ClaimRows) (r : Regions) : Type 0 where
+  pub unsettled : (v : ℕ) → In (named rows) v → is_unsettled (table_state r.table.items v) ≡ true
+  pub left : (v : ℕ) → v < length r.table.items → members r.unsettled v ≡ (is_unsettled (table_state r.table.items v) && not (named rows v))
 
 -- where the row's kept edges end
 abbrev pub ends_of : Graph → Player → ℕ × Option ℕ → List ℕ

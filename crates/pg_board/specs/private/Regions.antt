@@ -14,7 +14,7 @@ use Rattle.pg_board.specs.Journal.{Journal, state_of, IsLawful, number_settled}
 
 -- the state that a table says: nothing past its end
 abbrev pub table_state : List VertexState → State
-table_state table v = state_in (slice_index_or table v (Unsettled 0))
+table_state table v = state_in (slice_index_or table v Unsettled)
 
 -- the state after a player's rows, which leave what is settled as it is
 abbrev pub state_with : State → Player → ClaimRows → State
@@ -27,13 +27,6 @@ pub record AreRegions (g : Graph) (r : Regions) : Type 0 where
   pub passed_size : length r.passed.items ≡ length g
   pub mask : (v : ℕ) → members r.unsettled v ≡ unsettled g (table_state r.table.items) v
   pub passes : (v : ℕ) → v < length g → ArePassed (successors_of g v) r.unsettled (slice_index r.passed.items v)
-
--- they say the same of each vertex, whatever places stand there
-pub record SaySame (r r' : Regions) : Type 0 where
-  pub size : length r'.table.items ≡ length r.table.items
-  pub state : (v : ℕ) → table_state r'.table.items v ≡ table_state r.table.items v
-  pub mask : r'.unsettled ≡ r.unsettled
-  pub passed : r'.passed.items ≡ r.passed.items
 
 -- the journal is lawful, and what is at hand says its state and its number
 pub record IsBoard (g : Graph) (journal : Journal) (r : Regions) (number : ℕ) : Type 0 where

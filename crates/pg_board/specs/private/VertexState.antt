@@ -6,6 +6,6 @@ use Rattle.pg_board.specs.declared.vertex_state.VertexState.TheVariants.{Unsettl
 
 -- the player and the choice that it says: none where it is unsettled
 abbrev pub state_in : VertexState → Option (Player × Option ℕ)
-state_in (Unsettled at) = None
+state_in Unsettled = None
 state_in (Settled p) = Some (p, None)
 state_in (Chosen p w) = Some (p, Some w)

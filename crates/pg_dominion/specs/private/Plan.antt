@@ -1,5 +1,5 @@
 -- A solution's winners and choices, as the private code of the check lays them out as kept edges.
-use Rattle.std.specs.Prelude.{ℕ, ◌≡◌, ◌≢◌, ◌≤◌, ◌<◌, true, false, Option, None, length, if◌then◌else◌}
+use Rattle.std.specs.Prelude.{ℕ, ◌≡◌, ◌≢◌, ◌≤◌, ◌<◌, true, Option, None, length, if◌then◌else◌}
 use Rattle.pg_game.specs.Player.{same_player}
 use Rattle.pg_game.specs.Graph.{Graph, owner_of}
 use Rattle.pg_game.specs.VertexSet.{members}
@@ -19,8 +19,6 @@ pub record IsPlanned (g : Graph) (rows : SolutionRows) (count : ℕ) (t : Layout
   pub inside_is : (v : ℕ) → v < count → members t.inside v ≡ true
   pub choices_is : (v : ℕ) → v < count → chosen_at t v ≡ own_choice g rows v
   pub bad_is : (v : ℕ) → v < count → members t.bad v ≡ is_bad g (winner_of rows v) v
-  pub chosen_later : (v : ℕ) → count ≤ v → members t.chosen v ≡ false
-  pub bad_later : (v : ℕ) → count ≤ v → members t.bad v ≡ false
 
 -- the kept edges are those of each vertex's winner
 abbrev pub IsPlanOf : Kept → SolutionRows → Type 0

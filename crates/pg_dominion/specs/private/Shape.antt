@@ -1,5 +1,5 @@
 -- The rows of a claim, as the private code of the check reads them one after another.
-use Rattle.std.specs.Prelude.{ℕ, ◌≡◌, ◌+◌, max, Bool, ◌&&◌, Option, Some, None, List, [], ◌∷◌, length, slice_index, slice_set, true, if◌then◌else◌}
+use Rattle.std.specs.Prelude.{ℕ, ◌≡◌, ◌+◌, max, Bool, ◌&&◌, Option, Some, None, List, [], ◌∷◌, length, slice_index, slice_set, true, false, if◌then◌else◌}
 use Rattle.pg_game.specs.declared.player.Player.{Player}
 use Rattle.pg_game.specs.Player.{same_player, opponent, of_parity}
 use Rattle.pg_game.specs.Graph.{Graph, priority_of}
@@ -26,17 +26,13 @@ chosen_at t v = if members t.chosen v then Some (slice_index t.choices v) else N
 abbrev pub is_bad : Graph → Player → ℕ → Bool
 is_bad g p v = same_player (of_parity (priority_of g v)) (opponent p)
 
--- the mask with the vertex, where the test holds
-abbrev pub marked : Bool → List Bool → ℕ → List Bool
-marked b mask v = if b then slice_set mask v true else mask
-
--- the mask and the list of choices with the choice at a vertex, where there is one
+-- the mask and the list of choices with what is chosen at a vertex: nothing, or a successor
 abbrev pub chosen_with : List Bool → ℕ → Option ℕ → List Bool
-chosen_with chosen v None = chosen
+chosen_with chosen v None = slice_set chosen v false
 chosen_with chosen v (Some w) = slice_set chosen v true
 
 abbrev pub choices_with : List ℕ → ℕ → Option ℕ → List ℕ
-choices_with choices v None = choices
+choices_with choices v None = slice_set choices v 0
 choices_with choices v (Some w) = slice_set choices v w
 
 -- a layout with one row more, and whether its vertex is bad
@@ -45,7 +41,7 @@ laid_with t r b = record {
   inside = slice_set t.inside r.0 true;
   chosen = chosen_with t.chosen r.0 r.1;
   choices = choices_with t.choices r.0 r.1;
-  bad = marked b t.bad r.0;
+  bad = slice_set t.bad r.0 b;
 }
 
 pub record HasPlaces (g : Graph) (t : Layout) : Type 0 where

@@ -1,11 +1,9 @@
-use Rattle.pg_board.proofs.Common.{fun_ext, ◌≡◌, ℕ, ◌+◌, [], ◌∷◌, ◌++◌, length, refl, sym, ap, subst, arith, rules, IsDistinct, VertexSet, members, IsSubgame}
-use Rattle.pg_board.proofs.Common.{ClaimRows, Entry, Posted, Play, IsGoodOn, rest_of, Journal, state_of, open_before, IsBoard, Adds}
+use Rattle.pg_board.proofs.Common.{◌≡◌, ◌+◌, [], ◌∷◌, ◌++◌, length, refl, sym, ap, subst, arith, rules, IsDistinct, ClaimRows, Entry, Posted, Play, IsGoodOn}
+use Rattle.pg_board.proofs.Common.{rest_of, Journal, state_of, IsBoard, Adds, ◌∙◌}
 use Rattle.std.specs.Prelude.{nat_eq}
-use Rattle.pg_board.proofs.Push.{distinct_rising}
-use Rattle.pg_board.proofs.Posting.{few_rows}
 use Rattle.pg_board.proofs.RestIsGood.{vertices}
-use Rattle.pg_board.proofs.Entering.{IsEntering, HasGrown, HasRows, board_subgame, rest_within, entry_answers, grown_fits, board_entered, has_grown}
-use Rattle.pg_board.proofs.Entering.{IsGrowing-more}
+use Rattle.pg_board.proofs.Entering.{IsEntering, HasGrown, HasRows, open_subgame, rest_distinct, rest_within, entry_answers, grown_fits, board_entered}
+use Rattle.pg_board.proofs.Entering.{has_grown, IsGrowing-more, few, none_left}
 use Rattle.pg_board.proofs.board.Board.enter.Goals.{After-len-claimed, After-len-settled, After-push_reserved}
 use Rattle.pg_board.proofs.board.Board.enter.Goals as goal
 
@@ -51,21 +49,18 @@ settle_all-requires-clause-unsettled c =
 
 pub settle_all-requires-clause-distinct : goal.settle_all-requires-clause-distinct
 settle_all-requires-clause-distinct c =
-    let q = entering (goal.at.settle_all-requires-clause-distinct c).After-len-claimed in
     subst (λ (xs : ClaimRows). IsDistinct nat_eq (vertices xs)) (sym c.as_slice.ensures.value)
-    (distinct_rising (vertices c.args.rows.now.items) q.good.shape.right.rising)
+    (rest_distinct (entering (goal.at.settle_all-requires-clause-distinct c).After-len-claimed))
 
 pub attract-requires-clause-subgame : goal.attract-requires-clause-subgame
 attract-requires-clause-subgame c =
-    let q = entering (goal.at.attract-requires-clause-subgame c).After-len-claimed in
-    let old = members c.self.inside.regions.unsettled in
-    let same = subst (λ (xs : ClaimRows). (v : ℕ) → open_before c.settle_all.new.self xs v ≡ old v) c.as_slice.ensures.value c.settle_all.ensures.same in
-    subst (λ (U : VertexSet). IsSubgame c.self.inside.game.now U) (sym (fun_ext same)) (board_subgame q)
+    open_subgame (entering (goal.at.attract-requires-clause-subgame c).After-len-claimed) c.settle_all.new.self c.as_slice.result.now
+    c.as_slice.ensures.value c.settle_all.ensures.same
 
 pub overflow_cast-claimed : goal.overflow_cast-claimed
 overflow_cast-claimed c =
-    let q = entering (goal.at.overflow_cast-claimed c).After-len-claimed in
-    omega (arith, few_rows q.good.shape.right, c.len-n.ensures.limits.vertices, c.len-claimed.ensures, c.args.rows.now.ok.0)
+    let fits = few (entering (goal.at.overflow_cast-claimed c).After-len-claimed) in
+    omega (arith, fits, c.len-n.ensures.limits.vertices, c.len-claimed.ensures, c.args.rows.now.ok.0)
 
 pub overflow_cast-settled : goal.overflow_cast-settled
 overflow_cast-settled c =
@@ -106,3 +101,14 @@ returns-clause-added c =
       claimed = refl;
       settled = settled_is at.After-push_reserved;
     })
+
+pub overflow_add-is_full : goal.overflow_add-is_full
+overflow_add-is_full c =
+    let fits = few (entering (goal.at.overflow_add-is_full c).After-len-claimed) in
+    omega (arith, fits, c.len-n.ensures.limits.vertices, c.len-claimed.ensures, c.args.rows.now.ok.0)
+
+pub attract-requires-clause-full : goal.attract-requires-clause-full
+attract-requires-clause-full c =
+    none_left (entering (goal.at.attract-requires-clause-full c).After-len-claimed) c.settle_all.new.self c.as_slice.result.now
+    c.as_slice.ensures.value c.settle_all.ensures.same c.settle_all.ensures.growing.apart (c.len-claimed.ensures ∙ c.args.rows.now.ok.0)
+    c.len-n.ensures.number

@@ -2,8 +2,8 @@ use Rattle.pg_board.proofs.Common.{◌≡◌, subst, ◌∙◌, ap, IsWithinLimi
 use Rattle.pg_board.proofs.Present.{copies_some, reached}
 use Rattle.pg_board.proofs.office.Office.copy.Goals as goal
 
-pub returns-then-settled-share : goal.returns-then-settled-share
-returns-then-settled-share c d =
+pub returns-then-settled-share-clause-some : goal.returns-then-settled-share-clause-some
+returns-then-settled-share-clause-some c d =
     let b = d.deref-then-settled-share.result.now.board in
     let here : b ≡ d.lock-desk.result.value.board = cc d.deref-then-settled-share.ensures in
     let before : d.deref.result.now.board ≡ b = cc (here, d.deref.ensures) in

@@ -13,7 +13,7 @@ rows-preserved c = λ k w l.
     let S = union (named b.rest.now) (settled (table_state b.regions.now.table.items) b.player) in
     elim (below_or_last c.rows.row-index k l) [
       | inl less ↦ c.rows.invariant k w less
-      | inr same ↦ subst (λ (i : ℕ). EndsOutside b.game.now b.player S (row_at c.args.rows.now i) w → ⊥) (sym same) (λ h. c.in_default.ensures w h)
+      | inr same ↦ subst (λ (i : ℕ). EndsOutside b.game.now b.player S (row_at b.rest.now i) w → ⊥) (sym same) (λ h. c.in_default.ensures w h)
     ]
 
 pub returns : goal.returns

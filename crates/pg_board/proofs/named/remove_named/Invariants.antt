@@ -1,5 +1,5 @@
 use Rattle.pg_board.proofs.Common.{◌≡◌, ℕ, length, take, members, without, named}
-use Rattle.pg_board.proofs.board.remove_named.Given as goal
+use Rattle.pg_board.proofs.named.remove_named.Given as goal
 
 abbrev pub invariant-rows : goal.invariant-rows
 invariant-rows l = record {

@@ -1,7 +1,7 @@
 use Rattle.pg_board.proofs.Common.{rules, ◌∙◌, ap, length, false, length-set, members}
 use Rattle.pg_board.proofs.Places.{row_at, named_at}
-use Rattle.pg_board.proofs.Renewing.{members_removed}
-use Rattle.pg_board.proofs.board.remove_named.Goals as goal
+use Rattle.pg_board.proofs.Masks.{members_removed}
+use Rattle.pg_board.proofs.named.remove_named.Goals as goal
 
 pub remove-requires : goal.remove-requires
 remove-requires c = search (rules, c.requires, named_at, c.rows-test.true, c.rows.invariant.length)
