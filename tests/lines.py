@@ -16,7 +16,7 @@ CRATES = os.path.join(harness.ROOT, "crates")
 LINE, SOURCE, ANSWERS = 160, 800, 60
 
 LONG = {
-    "pg_board/board/Board/enter": 114,
+    "pg_board/board/Board/enter": 107,
     "pg_board/board/Board/settle_in": 69,
     "pg_dominion/walks/spread": 171,
     "pg_finders/recursion/begin/begin": 126,

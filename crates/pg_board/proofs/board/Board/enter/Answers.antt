@@ -20,8 +20,7 @@ entering c = record {
 grown : (c : After-len-settled)
     → HasGrown c.self.inside.game.now c.args.player c.self.inside.regions c.attract.new.self c.args.rows.now.items c.attract.new.rows.items
 grown c =
-    let settled = c.settle_all.ensures in
-    let attracted = c.attract.ensures in
+    let settled = c.settle_all.ensures in let attracted = c.attract.ensures in
     has_grown c.self.inside.game.now c.args.player c.settle_all.new.self c.attract.new.self c.args.rows.now.items c.attract.new.rows.items attracted.grows
     c.self.inside.regions c.as_slice.result.now c.as_slice.ensures.value settled.same settled.told attracted.growing.regions attracted.done
 
@@ -64,21 +63,17 @@ overflow_cast-claimed c =
 
 pub overflow_cast-settled : goal.overflow_cast-settled
 overflow_cast-settled c =
-    let at = goal.at.overflow_cast-settled c in
-    let fits = grown_fits (entering at.After-len-claimed) (grown at.After-len-settled) in
+    let at = goal.at.overflow_cast-settled c in let fits = grown_fits (entering at.After-len-claimed) (grown at.After-len-settled) in
     omega (arith, fits, size_is at.After-len-settled, c.len-n.ensures.limits.vertices, c.len-settled.ensures, c.copy_or_take-entered.result.ok.0)
 
 pub overflow_add-self : goal.overflow_add-self
 overflow_add-self c =
-    let at = goal.at.overflow_add-self c in
-    let fits = grown_fits (entering at.After-len-claimed) (grown at.After-len-settled) in
+    let at = goal.at.overflow_add-self c in let fits = grown_fits (entering at.After-len-claimed) (grown at.After-len-settled) in
     omega (arith, fits, size_is at.After-len-settled, c.len-n.ensures.limits.vertices, c.len-settled.ensures, c.copy_or_take-entered.result.ok.0)
 
 pub invariant_of-self-2 : goal.invariant_of-self-2
 invariant_of-self-2 c =
-    let at = goal.at.invariant_of-self-2 c in
-    let b = c.self.inside in
-    let e = entry at.After-push_reserved in
+    let at = goal.at.invariant_of-self-2 c in let b = c.self.inside in let e = entry at.After-push_reserved in
     let entered = board_entered (entering at.After-len-claimed) (grown at.After-len-settled) e (has_rows at.After-push_reserved) c.len-settled.result
     (settled_is at.After-push_reserved) in
     let journal : c.push_reserved.new.self.items ≡ b.entries.items ++ e ∷ [] = search rules in
@@ -86,9 +81,7 @@ invariant_of-self-2 c =
 
 pub returns-clause-added : goal.returns-clause-added
 returns-clause-added c =
-    let at = goal.at.returns-clause-added c in
-    let b = c.self.inside in
-    let e = entry at.After-push_reserved in
+    let at = goal.at.returns-clause-added c in let b = c.self.inside in let e = entry at.After-push_reserved in
     let old : length c.reserve.new.self.items ≡ length b.entries.items = ap (λ (xs : Journal). length xs) c.reserve.ensures.items in
     let posted : Posted = record { entry = c.len-entry.result; claimed = c.len-claimed.result; settled = c.len-settled.result } in
     let now : Play = record { graph = b.game.now; journal = c.push_reserved.new.self.items } in
