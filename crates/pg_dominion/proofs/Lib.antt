@@ -14,3 +14,4 @@ pub mod Ranked
 pub mod Named
 mod Staying
 mod Labelled
+mod Starts

@@ -5,11 +5,11 @@
 //! (`clustering`) tells the answer in near-linear time. A ranking is never believed: a pass over the edges checks it
 //! (`ranking`), and one search confirms the vertex that it names. Where either fails the plain body goes on.
 
-ghost use Rattle.std.specs.Prelude.{◌≡◌, ℕ, ◌<◌, IfOk, IfSome, MatchOption, length, true};
+ghost use Rattle.std.specs.Prelude.{◌≡◌, ℕ, ◌<◌, ◌≤◌, ◌+◌, IfOk, IfSome, IsSome, MatchOption, length, true};
 ghost use Rattle.pg_game.specs.Least.{NoneHas, IsLeast};
 ghost use Rattle.pg_dominion.specs.KeptEdges.{IsKept, IsWorst};
 ghost use Rattle.pg_dominion.specs.private.KeptEdges.{Reaches};
-ghost use Rattle.pg_dominion.specs.private.Searched.{IsSearched};
+ghost use Rattle.pg_dominion.specs.private.Searched.{AreSearches, AreStarts, IsSearched};
 
 use crate::kept::Kept;
 use crate::placing::find_ranking;
@@ -74,6 +74,98 @@ fn first_bad(kept: &Kept, from: u32) -> Option<u32>
     None
 }
 
+/// How many vertices are looked through at a time for those from which searches start.
+const BLOCK: u32 = 1024;
+
+/// Lists the bad vertices of a range, rising, at the front of the list, and tells how many there are. Each vertex is written, and
+/// counts where it is bad: no branch depends on that, since no processor foretells it.
+fn list_bad(kept: &Kept, from: u32, to: u32, starts: &mut Vec<u32>) -> usize
+    requires kept { IsKept kept.now }
+    requires range { from ≤ to }
+    requires vertices { to ≤ length kept.now.game.now }
+    requires room { to ≤ from + length starts.old.items }
+    ensures room { length starts.new.items ≡ length starts.old.items }
+    ensures starts { AreStarts kept.now from to starts.new.items result }
+{
+    let mut count = 0;
+    'vertices: for v in from..to {
+        starts[count] = v;
+        count += usize::from(kept.bad.has(v));
+    }
+    count
+}
+
+/// The tables of searches from one bad vertex after another.
+#[derive(Drop)]
+struct Searches {
+    labels: Labels,
+    search: Search,
+    /// From which vertices of a block searches start.
+    starts: Vec<u32>,
+    /// About twice the edges at which searches started.
+    edges: u64,
+    patience: Option<u64>,
+}
+
+impl Searches {
+    fn new(alloc: Global, kept: &Kept, patience: Option<u64>) -> Result<Searches, AllocError>
+        ensures { IfOk result (λ s. AreSearches kept.now s × (s.patience ≡ patience)) }
+    {
+        Ok(Searches {
+            labels: Labels::new(alloc, kept)?,
+            search: Search::new(alloc, kept)?,
+            starts: vec![in alloc; 0u32; BLOCK as usize]?,
+            edges: 0,
+            patience,
+        })
+    }
+
+    /// Whether the searches took more steps than there is patience for.
+    fn is_out_of_patience(&self) -> bool
+        ensures { result ≡ true → IsSome self.now.patience }
+    {
+        match self.patience {
+            Some(steps) => self.search.steps >= steps.saturating_add(self.edges),
+            None => false,
+        }
+    }
+
+    /// Searches from each bad vertex of a block, where there is none before it that is the greatest on a closed walk. None where
+    /// there is none in it either.
+    fn search_block(
+        &mut self,
+        kept: &Kept,
+        from: u32,
+        to: u32,
+    ) -> Result<Option<Searched>, AllocError>
+        requires kept { IsKept kept.now }
+        requires searches { AreSearches kept.now self.old }
+        requires range { from ≤ to }
+        requires vertices { to ≤ length kept.now.game.now }
+        requires room { to ≤ from + 1024 }
+        requires none { (v : ℕ) → v < from → IsWorst kept.now v → ⊥ }
+        ensures searches { IfOk result (λ found. AreSearches kept.now self.new) }
+        ensures patience { IfOk result (λ found. self.new.patience ≡ self.old.patience) }
+        ensures found { IfOk result (λ found. MatchOption found ((v : ℕ) → v < to → IsWorst kept.now v → ⊥) (IsSearched kept.now self.old.patience)) }
+    {
+        let count = list_bad(kept, from, to, &mut self.starts);
+        'starts: for at in 0..count {
+            let v = self.starts[at];
+            if is_alone(kept, &self.labels, v) {
+                continue;
+            }
+            if self.is_out_of_patience() {
+                return Ok(Some(Searched::Before(v)));
+            }
+            self.edges = self.edges.saturating_add(4 + 2 * kept.row(v).len() as u64);
+            if walks_back(kept, v, &mut self.labels, &mut self.search)? {
+                return Ok(Some(Searched::All(Some(v))));
+            }
+        }
+        Ok(None)
+    }
+}
+
 /// Searches from each bad vertex, from `from` on. Where there is a patience, until they took more steps than that, and about
 /// twice the edges at which they began.
 fn search_from(
@@ -86,28 +178,18 @@ fn search_from(
     requires none { (v : ℕ) → v < from → IsWorst kept.now v → ⊥ }
     ensures { IfOk result (IsSearched kept.now patience) }
 {
+    let n = kept.game.len();
     let Some(first) = first_bad(kept, from) else {
         return Ok(Searched::All(None));
     };
-    let mut labels = Labels::new(alloc, kept)?;
-    let mut search = Search::new(alloc, kept)?;
-    let has_patience = patience.is_some();
-    let steps = patience.unwrap_or(0);
-    let mut edges = 0u64;
-    'starts: for v in first..kept.game.len() {
-        if !kept.bad.has(v) {
-            continue;
+    let mut searches = Searches::new(alloc, kept, patience)?;
+    let mut begin = first;
+    'blocks: while begin < n {
+        let end = n.min(begin + BLOCK);
+        if let Some(found) = searches.search_block(kept, begin, end)? {
+            return Ok(found);
         }
-        if is_alone(kept, &labels, v) {
-            continue;
-        }
-        if has_patience && search.steps >= steps.saturating_add(edges) {
-            return Ok(Searched::Before(v));
-        }
-        edges = edges.saturating_add(4 + 2 * kept.row(v).len() as u64);
-        if walks_back(kept, v, &mut labels, &mut search)? {
-            return Ok(Searched::All(Some(v)));
-        }
+        begin = end;
     }
     Ok(Searched::All(None))
 }

@@ -1,6 +1,7 @@
 //! Zielonka's recursion (1998): a subgame is solved whole, by two claims, one for each player.
 
-ghost use Rattle.std.specs.Prelude.{◌≡◌, [], length, IfOk};
+ghost use Rattle.std.specs.Prelude.{◌≡◌, length, IfOk};
+ghost use Rattle.pg_game.specs.declared.player.Player.TheVariants.{Even, Odd};
 ghost use Rattle.pg_game.specs.VertexSet.{members};
 ghost use Rattle.pg_finders.specs.private.Solved.{won_inside};
 ghost use Rattle.pg_finders.specs.private.recursion.Planned.{winners_of, choices_of, HasSize};
@@ -37,21 +38,21 @@ pub fn zielonka(alloc: Global, inside: &Inside) -> Result<Solved, Memory>
 {
     if is_empty(inside.game(), inside.mask()) {
         return Ok(Solved {
-            even: claim_on_nothing(alloc, Player::Even),
-            odd: claim_on_nothing(alloc, Player::Odd),
+            even: claim_of(Player::Even, Vec::new(alloc)),
+            odd: claim_of(Player::Odd, Vec::new(alloc)),
         });
     }
     solve(alloc, inside)
 }
 
-/// A player's claim without rows. It takes no memory.
-fn claim_on_nothing(alloc: Global, player: Player) -> Claim
+/// The player's claim of these rows.
+fn claim_of(player: Player, rows: Vec<(u32, Option<u32>)>) -> Claim
     ensures player { result.player ≡ player }
-    ensures rows { result.rows ≡ [] }
+    ensures rows { result.rows ≡ rows.items }
 {
     Claim {
         player,
-        rows: Sequence::new(Vec::new(alloc)),
+        rows: Sequence::new(rows),
     }
 }
 
@@ -66,39 +67,44 @@ fn solve(alloc: Global, inside: &Inside) -> Result<Solved, Memory>
     let for_even = solver.count(Player::Even);
     let for_odd = solver.count(Player::Odd);
     let plan = solver.into_plan();
-    let even = claim_of(alloc, game, mask, &plan, Player::Even, for_even)?;
-    let odd = claim_of(alloc, game, mask, &plan, Player::Odd, for_odd)?;
-    Ok(Solved { even, odd })
+    let (even, odd) = rows_of(alloc, game, mask, &plan, for_even, for_odd)?;
+    Ok(Solved {
+        even: claim_of(Player::Even, even),
+        odd: claim_of(Player::Odd, odd),
+    })
 }
 
-/// What a plan gives a player of the mask, in a list with room for so many rows at first.
-fn claim_of(
+/// What a plan gives Even of the mask, and what it gives Odd, in lists with room for so many rows at first.
+fn rows_of(
     alloc: Global,
     game: &Game,
     mask: &Mask,
     plan: &Plan,
-    player: Player,
-    room: usize,
-) -> Result<Claim, Memory>
+    for_even: usize,
+    for_odd: usize,
+) -> Result<(Vec<(u32, Option<u32>)>, Vec<(u32, Option<u32>)>), Memory>
     requires length { length mask.now ≡ length game.now }
     requires size { HasSize (length game.now) plan.now }
-    ensures player { IfOk result (λ claim. claim.player ≡ player) }
-    ensures rows { IfOk result (λ claim. claim.rows ≡ rows_below (won_inside (members mask.now) (winners_of plan.now) player)
-        (own_choices game.now player (choices_of plan.now)) (length game.now)) }
+    ensures even { IfOk result (λ rows. rows.0.items ≡ rows_below (won_inside (members mask.now) (winners_of plan.now) Even)
+        (own_choices game.now Even (choices_of plan.now)) (length game.now)) }
+    ensures odd { IfOk result (λ rows. rows.1.items ≡ rows_below (won_inside (members mask.now) (winners_of plan.now) Odd)
+        (own_choices game.now Odd (choices_of plan.now)) (length game.now)) }
 {
-    let mut rows = Vec::with_capacity(alloc, room)?;
+    let mut even = Vec::with_capacity(alloc, for_even)?;
+    let mut odd = Vec::with_capacity(alloc, for_odd)?;
     for v in 0..game.len() {
-        if mask.has(v) && plan.winner(v) == player {
-            let choice = if game.owner(v) == player {
+        if mask.has(v) {
+            let winner = plan.winner(v);
+            let choice = if game.owner(v) == winner {
                 plan.choice(v)
             } else {
                 None
             };
-            rows.push((v, choice))?;
+            match winner {
+                Player::Even => even.push((v, choice))?,
+                Player::Odd => odd.push((v, choice))?,
+            }
         }
     }
-    Ok(Claim {
-        player,
-        rows: Sequence::new(rows),
-    })
+    Ok((even, odd))
 }

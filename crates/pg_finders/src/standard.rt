@@ -7,7 +7,7 @@ ghost use Rattle.pg_finders.specs.Jobs.{seeds_of, with_rows};
 
 use crate::finder::{Finder, Found, Job};
 use crate::inside::{Copied, Inside};
-use crate::loops::find_loop;
+use crate::loops::find_loops;
 use crate::recursion::zielonka;
 use crate::small::{Small, find_small};
 use crate::solitaire::find_solitaire;
@@ -106,8 +106,8 @@ impl Finder for Standard {
         let inside = &copied.inside;
         match *job {
             Job::Loops => {
-                let even = find_loop(alloc, inside, Player::Even)?;
-                all_of(alloc, even, find_loop(alloc, inside, Player::Odd)?)
+                let (even, odd) = find_loops(alloc, inside)?;
+                all_of(alloc, even, odd)
             }
             Job::Solitaire => all_of(alloc, find_solitaire(alloc, inside)?, None),
             Job::Small {

@@ -19,6 +19,10 @@ const LARGE: usize = 8_388_608;
 
 const LARGE_ROOM: usize = 37_748_736;
 
+/// What is given back before a text is read that isn't large. The allocator of glibc then takes its next blocks of up to so
+/// many bytes from memory that was given back, in place of pages that the system clears first.
+const GIVEN_BACK: usize = 16_777_216;
+
 /// Zeros behind the bytes that were read, for the next ones: as many as the room holds, up to a piece. A text that fills its
 /// room gets more.
 fn make_room(text: &mut Vec<u8>, filled: usize) -> Result<(), AllocError>
@@ -90,6 +94,12 @@ fn room_for(expected: usize) -> usize
     }
 }
 
+/// Takes a block, which takes no memory since nothing is written there, and gives it back. Where it is refused nothing is lost.
+fn give_back(alloc: Global) {
+    let block: Result<Vec<u8>, AllocError> = Vec::with_capacity(alloc, GIVEN_BACK);
+    drop(block);
+}
+
 /// All bytes that a source has left. It is read until a read gives nothing.
 ///
 /// `Read` where a read fails, `TooLong` where more bytes come than a text may have, and `Memory`.
@@ -104,6 +114,9 @@ pub fn read_text<S: Source>(alloc: Global, source: &mut S) -> Result<Vec<u8>, Ru
     let mut buffer = Vec::new(alloc);
     let expected = source.expected().min(MAX_TEXT as u64) as usize;
     if expected > 0 {
+        if expected < LARGE {
+            give_back(alloc);
+        }
         // where that much is refused, the reads ask for what they need
         let _ = buffer.reserve_exact(room_for(expected));
     }

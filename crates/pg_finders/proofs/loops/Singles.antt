@@ -1,5 +1,5 @@
 -- The vertices that are dominions alone, as a set; together they are a good claim.
-use Rattle.pg_finders.proofs.Common.{◌≡◌, ℕ, zero, suc, ◌<◌, ◌≤◌, Bool, true, false, ◌&&◌, ◌||◌, not, inl, inr, List, [], ◌∷◌, length, refl, sym, ◌∙◌, subst}
+use Rattle.pg_finders.proofs.Common.{◌≡◌, ℕ, zero, suc, ◌<◌, Bool, true, false, ◌&&◌, ◌||◌, not, inl, inr, List, [], ◌∷◌, length, refl, sym, ◌∙◌, subst}
 use Rattle.pg_finders.proofs.Common.{ap, arith, ltb-true, rules, Some, ◌==◌, Contains, eqb-true, eq-eqb, and_parts, and_from, cases_Bool, or_right, Player}
 use Rattle.pg_finders.proofs.Common.{of_parity, same_player, Graph, HasEdge, owner_of, priority_of, successors_of, VertexSet, In, members, KeptEdge, Walk}
 use Rattle.pg_finders.proofs.Common.{ClosedWalk, greatest_priority, Contains-head, Contains-tail, Contains-cons, Contains-nil, own_or_other, same_is, is_same}
@@ -84,11 +84,6 @@ module _ (g : Graph) (U : VertexSet) (p : Player) where
   -- the player holds them, where each is its own choice
   pub loops_held : WinsOn g U p (loops g U p) itself
   loops_held = search (rules, loop_from_test, not_both, good)
-
--- the rows that are gathered over all vertices
-pub all_rows : (g h : Graph) (mask bits : List Bool) (p : Player) (rows : ClaimRows) (i n : ℕ) → h ≡ g → bits ≡ mask → n ≡ length h → n ≤ i → i ≤ n
-    → rows ≡ rows_below (loops h (members bits) p) (own_choices h p itself) i → rows ≡ rows_below (loops g (members mask) p) (own_choices g p itself) (length g)
-all_rows g h mask bits p rows i n a b c d e r = search (rules)
 
 module _ (g : Graph) (mask : List Bool) (p : Player) (part : IsPart (record { graph = g; mask = mask })) (rows : ClaimRows)
     (all : rows ≡ rows_below (loops g (members mask) p) (own_choices g p itself) (length g)) where

@@ -1,9 +1,13 @@
-use Rattle.pg_dominion.proofs.Common.{◌≡◌, ℕ, ◌<◌, length, IsWorst, AreLabelled}
+use Rattle.pg_dominion.proofs.Common.{◌≡◌, ℕ, ◌<◌, ◌-◌, length, IsWorst}
+use Rattle.pg_dominion.specs.private.Searched.{AreSearches}
 use Rattle.pg_dominion.proofs.cycles.search_from.Given as goal
 
-abbrev pub invariant-starts : goal.invariant-starts
-invariant-starts l = record {
-  labels : AreLabelled l.kept l.labels.levels.items l.labels.groups.items;
-  size : length l.search.places.items ≡ length l.kept.game.now;
-  none : (u : ℕ) → u < l.v → IsWorst l.kept u → ⊥;
+abbrev pub invariant-blocks-2 : goal.invariant-blocks-2
+invariant-blocks-2 l = record {
+  searches : AreSearches l.kept l.searches;
+  patience : l.searches.patience ≡ l.fn.patience;
+  none : (u : ℕ) → u < l.begin → IsWorst l.kept u → ⊥;
 }
+
+abbrev pub decreases-blocks-2 : goal.decreases-blocks-2
+decreases-blocks-2 l = length l.kept.game.now - l.begin

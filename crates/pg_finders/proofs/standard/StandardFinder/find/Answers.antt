@@ -1,5 +1,4 @@
 use Rattle.pg_finders.proofs.Common.{ℕ, List, length, ap, subst, ◌∙◌, min, IfOk, append-nil, Graph, members, Claim, IsGoodIn, IsSolitaire, IsOfSmall}
-use Rattle.pg_finders.proofs.Common.{rules}
 use Rattle.std.proofs.Common.{Option}
 use Rattle.std.specs.Prelude.{◌++◌}
 use Rattle.std.specs.Option.{option_to_list}
@@ -8,18 +7,11 @@ use Rattle.pg_finders.specs.Jobs.{seeds_of, with_rows}
 use Rattle.pg_finders.proofs.Jobs.{both_of}
 use Rattle.pg_finders.proofs.standard.StandardFinder.find.Goals as goal
 
-pub returns-in_ok-find_loop-in-Loops-clause-loops : goal.returns-in_ok-find_loop-in-Loops-clause-loops
-returns-in_ok-find_loop-in-Loops-clause-loops c =
-    let i = c.args.copied.now.inside in
-    let e = c.in_ok-even-in-Loops.ensures in
-    let o = c.in_ok-find_loop-in-Loops.ensures in
-    rw c.in-Loops.is (IfOk-weaker c.all_of.result _ _ (λ f h. record {
-      even = c.in_ok-even-in-Loops.even;
-      odd = c.in_ok-find_loop-in-Loops.field-0;
-      evens = search rules;
-      odds = search rules;
-      order = h;
-    }) c.all_of.ensures.claims)
+pub returns-in_ok-even-in-Loops-clause-loops : goal.returns-in_ok-even-in-Loops-clause-loops
+returns-in_ok-even-in-Loops-clause-loops c =
+    let e = c.in_ok-even-in-Loops in
+    rw c.in-Loops.is (IfOk-weaker c.all_of.result _ _
+    (λ f h. record { even = e.even; odd = e.odd; evens = e.ensures.even; odds = e.ensures.odd; order = h }) c.all_of.ensures.claims)
 
 pub returns-in_ok-find_solitaire-in-Solitaire-clause-solitaire : goal.returns-in_ok-find_solitaire-in-Solitaire-clause-solitaire
 returns-in_ok-find_solitaire-in-Solitaire-clause-solitaire c =

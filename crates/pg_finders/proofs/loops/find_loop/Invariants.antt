@@ -1,5 +1,0 @@
-use Rattle.pg_finders.proofs.Common.{◌≡◌, members, own_choices, rows_below, loops, itself}
-use Rattle.pg_finders.proofs.loops.find_loop.Given as goal
-
-abbrev pub invariant-loop-v : goal.invariant-loop-v
-invariant-loop-v l = l.rows.items ≡ rows_below (loops l.game (members l.mask) l.player) (own_choices l.game l.player itself) l.v
