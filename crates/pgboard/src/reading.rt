@@ -19,8 +19,9 @@ const LARGE: usize = 8_388_608;
 
 const LARGE_ROOM: usize = 37_748_736;
 
-/// What is given back before a text is read that isn't large. The allocator of glibc then takes its next blocks of up to so
-/// many bytes from memory that was given back, in place of pages that the system clears first.
+/// What is given back before a game is read that is to be searched. The allocator of glibc then takes its next blocks of up to
+/// so many bytes from memory that was given back, in place of pages that the system clears first. After a large text it would
+/// keep too much.
 const GIVEN_BACK: usize = 16_777_216;
 
 /// Zeros behind the bytes that were read, for the next ones: as many as the room holds, up to a piece. A text that fills its
@@ -94,10 +95,14 @@ fn room_for(expected: usize) -> usize
     }
 }
 
-/// Takes a block, which takes no memory since nothing is written there, and gives it back. Where it is refused nothing is lost.
-fn give_back(alloc: Global) {
-    let block: Result<Vec<u8>, AllocError> = Vec::with_capacity(alloc, GIVEN_BACK);
-    drop(block);
+/// Takes a block and gives it back, where a source expects bytes, and no large text. That takes no memory, since nothing is
+/// written there, and where it is refused nothing is lost.
+pub fn give_back<S: Source>(alloc: Global, source: &S) {
+    let expected = source.expected();
+    if expected > 0 && expected < LARGE as u64 {
+        let block: Result<Vec<u8>, AllocError> = Vec::with_capacity(alloc, GIVEN_BACK);
+        drop(block);
+    }
 }
 
 /// All bytes that a source has left. It is read until a read gives nothing.
@@ -114,9 +119,6 @@ pub fn read_text<S: Source>(alloc: Global, source: &mut S) -> Result<Vec<u8>, Ru
     let mut buffer = Vec::new(alloc);
     let expected = source.expected().min(MAX_TEXT as u64) as usize;
     if expected > 0 {
-        if expected < LARGE {
-            give_back(alloc);
-        }
         // where that much is refused, the reads ask for what they need
         let _ = buffer.reserve_exact(room_for(expected));
     }

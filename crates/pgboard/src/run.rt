@@ -12,7 +12,7 @@ use crate::device::{Sink, Source};
 use crate::fault::RunFault;
 use crate::judge::{verdict_from, verdict_of, write_verdict};
 use crate::reading::read_text;
-use crate::texts::{game_from, game_of, parts};
+use crate::texts::{game_from, game_of, parts, spelled_game};
 use crate::verdict::Verdict;
 use crate::writing::write_all;
 use pg_text::write_game;
@@ -91,7 +91,7 @@ pub fn run_tidy<I: Source, O: Sink>(
         × AppendsPrefix (O.taken out.old) (O.taken out.new) (written_game g) }
     ensures nothing { IfErr result (λ e. e ≢ RunFault.Write → Keeps (O.taken out.old) (O.taken out.new)) }
 {
-    let game = game_from(alloc, input)?;
+    let game = spelled_game(alloc, input)?;
     let text = write_game(alloc, &game)?;
     write_all(text.as_slice(), out)
 }
