@@ -18,7 +18,7 @@ LINE, SOURCE, ANSWERS = 160, 800, 60
 LONG = {
     "pg_board/board/Board/enter": 107,
     "pg_board/board/Board/settle_in": 69,
-    "pg_dominion/walks/spread": 171,
+    "pg_dominion/walks/spread": 148,
     "pg_finders/recursion/begin/begin": 126,
     "pg_finders/recursion/solver/Solver/enter": 114,
     "pg_finders/recursion/solver/Solver/resume": 158,

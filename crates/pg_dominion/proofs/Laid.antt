@@ -1,17 +1,18 @@
 -- Rows laid out by vertex, and the closed walks of a claim on them.
-use Rattle.pg_dominion.proofs.Common.{◌≡◌, ◌≢◌, ℕ, ◌+◌, ◌<◌, Bool, true, false, ◌&&◌, ◌||◌, ◌↔◌, inl, inr, List, [], ◌∷◌, ◌++◌, length, take, get_or, refl, sym}
+use Rattle.pg_dominion.proofs.Common.{◌≡◌, ◌≢◌, ℕ, ◌+◌, ◌<◌, ◌≤◌, Bool, true, false, ◌&&◌, ◌||◌, ◌↔◌, inl, inr, List, [], ◌∷◌}
+use Rattle.pg_dominion.proofs.Common.{◌++◌, length, take, get_or, refl, sym}
 use Rattle.pg_dominion.proofs.Common.{◌∙◌, ap, subst, arith, length-set, get_or-set_same, get_or-set_other, ltb-true, rules, Option, Some, None, ◌==◌}
-use Rattle.pg_dominion.proofs.Common.{if◌then◌else◌, Contains, AllByRecursion, ne_eqb, cases_Bool, cases_eq, take_more, Player, same_player, opponent}
+use Rattle.pg_dominion.proofs.Common.{if◌then◌else◌, Contains, AllByRecursion, ne_eqb, cases_Bool, cases_eq, take_more, take_all}
+use Rattle.pg_dominion.proofs.Common.{Player, same_player, opponent}
 use Rattle.pg_dominion.proofs.Common.{of_parity, Graph, IsGame, HasEdge, priority_of, owner_of, members, kept, KeptEdge, OnBadWalk, edge_inside, same_is}
-use Rattle.pg_dominion.proofs.Common.{is_same, ClosedWalk-weaker, Kept, ClaimRows, named, choice_in, IsRightRow, AreRight, IsKept, Edge, IsWorst, kept_row}
+use Rattle.pg_dominion.proofs.Common.{is_same, ClosedWalk-weaker, Kept, ClaimRows, named, choice_in, IsRightRow, IsKept, Edge, IsWorst, kept_row}
 use Rattle.pg_dominion.proofs.Common.{Layout, IsLaid, laid_with, is_bad}
 use Rattle.std.specs.Prelude.{slice_index}
 use Rattle.std.proofs.lemmas.Bool.{and_parts, and_from}
-use Rattle.std.proofs.lemmas.List.Elements.{All-from_recursion}
 use Rattle.pg_game.proofs.Masks.{members-set, none_mask}
 use Rattle.std.proofs.Common.{replicate, set}
 use Rattle.std.proofs.lemmas.List.{length-replicate}
-use Rattle.pg_dominion.specs.private.Shape.{HasPlaces, chosen_at, chosen_with}
+use Rattle.pg_dominion.specs.private.Shape.{AreRightBefore, HasPlaces, chosen_at, chosen_with}
 use Rattle.pg_dominion.proofs.Shape.{next_unnamed}
 use Rattle.pg_dominion.proofs.Searching.{starts_in}
 use Rattle.pg_dominion.proofs.Rows.{named-push, named-push_same, named-push_other, choice-none, choice-push_same, choice-push_other, named_right}
@@ -68,20 +69,18 @@ module _ (g : Graph) (p : Player) where
     bad_is = λ v. rw b (none_mask n v);
   }
 
-  -- the next row's vertex has its place in a list with one for each vertex
-  pub has_place : (rows xs : ClaimRows) (i n : ℕ) → n ≡ length g → xs ≡ rows → AreRight g p rows → i < length xs → (get_or xs i (0, None)).0 < n
-  has_place rows xs i n size same right l =
-      let l' : i < length rows = rw (← same) l in
-      rw (same, size) (All-from_recursion (IsRightRow g p) rows right.each i (0, None) l').vertex
-
   -- the next row is laid out
-  pub IsLaid-next : (rows : ClaimRows) (i : ℕ) (d : ℕ × Option ℕ) (t : Layout) → AreRight g p rows → i < length rows
-      → IsLaid g p (take i rows) t → IsLaid g p (take (i + 1) rows) (laid_with t (get_or rows i d) (is_bad g p (get_or rows i d).0))
-  IsLaid-next rows i d t right l a =
-      let r = get_or rows i d in
-      let ok : IsRightRow g p r = All-from_recursion (IsRightRow g p) rows right.each i d l in
-      subst (λ (xs : ClaimRows). IsLaid g p xs (laid_with t r (is_bad g p r.0))) (sym (take_more rows i d l))
-      (IsLaid-push (take i rows) t r ok.vertex (next_unnamed g p rows i d right l) a)
+  pub IsLaid-next : (rows : ClaimRows) (i least : ℕ) (t : Layout) → AreRightBefore g p rows i least → i < length rows
+      → IsRightRow g p (get_or rows i (0, None)) → least ≤ (get_or rows i (0, None)).0 → IsLaid g p (take i rows) t
+      → IsLaid g p (take (i + 1) rows) (laid_with t (get_or rows i (0, None)) (is_bad g p (get_or rows i (0, None)).0))
+  IsLaid-next rows i least t before l right up a =
+      let r = get_or rows i (0, None) in
+      subst (λ (xs : ClaimRows). IsLaid g p xs (laid_with t r (is_bad g p r.0))) (sym (take_more rows i (0, None) l))
+      (IsLaid-push (take i rows) t r right.vertex (next_unnamed g p rows i least before up) a)
+
+  -- all rows are laid out
+  pub IsLaid-all : (rows : ClaimRows) (n : ℕ) (t : Layout) → length rows ≤ n → IsLaid g p (take n rows) t → IsLaid g p rows t
+  IsLaid-all rows n t l a = subst (λ (xs : ClaimRows). IsLaid g p xs t) (take_all n rows l) a
 
 abbrev pub layout_of : Kept → Layout
 layout_of k = record { inside = k.inside; chosen = k.chosen; choices = k.choices.items; bad = k.bad }

@@ -1,9 +1,13 @@
 -- The shape of a claim, one row after another.
-use Rattle.pg_dominion.proofs.Common.{◌≡◌, ℕ, zero, suc, ◌+◌, ◌<◌, ◌≤◌, false, inl, inr, List, [], ◌∷◌, ◌++◌, length, take, drop, map, get_or, refl, sym, subst}
-use Rattle.pg_dominion.proofs.Common.{arith, length-append, rules, below_or_last, Option, AllByRecursion, IsStrictlyIncreasing, eqb-true, false_from_ne_true}
-use Rattle.pg_dominion.proofs.Common.{take-append-drop, take_more, length-map, get_or_append_left, get_or_push, sorted_from_strictly_increasing}
+use Rattle.pg_dominion.proofs.Common.{◌≡◌, ℕ, zero, suc, ◌+◌, ◌<◌, ◌≤◌, false, inl, inr, List, [], ◌∷◌, ◌++◌, length, take, map, get_or, refl, sym, subst}
+use Rattle.pg_dominion.proofs.Common.{arith, length-append, rules, below_or_last, Option, AllByRecursion}
+use Rattle.pg_dominion.proofs.Common.{IsStrictlyIncreasing, eqb-true, false_from_ne_true}
+use Rattle.pg_dominion.proofs.Common.{take_more, take_all, length-map, get_or_append_left, get_or_push, sorted_from_strictly_increasing}
 use Rattle.pg_dominion.proofs.Common.{below_from_sorted, Player, Graph, ClaimRows, named, IsRightRow, AreRight, next_after}
 use Rattle.std.specs.Prelude.{slice_index}
+use Rattle.std.proofs.Common.{None}
+use Rattle.pg_dominion.specs.Claim.{IsFirstWrongRow}
+use Rattle.pg_dominion.specs.private.Shape.{AreRightBefore}
 use Rattle.std.proofs.lemmas.List.{map_push, map-append}
 
 abbrev vertices : ClaimRows → List ℕ
@@ -77,12 +81,37 @@ all_front P (x ∷ xs) ys a = (a.0, all_front P xs ys a.1)
 pub AreRight-front : (g : Graph) (p : Player) (xs ys : ClaimRows) → AreRight g p (xs ++ ys) → AreRight g p xs
 AreRight-front g p xs ys a = search (rules, all_front, a.each, map-append, a.rising, get_or_append_left, length-append)
 
--- the next row's vertex is not named by the rows before it
-pub next_unnamed : (g : Graph) (p : Player) (rows : ClaimRows) (i : ℕ) (d : ℕ × Option ℕ) → AreRight g p rows → i < length rows
-    → named (take i rows) (get_or rows i d).0 ≡ false
-next_unnamed g p rows i d a l =
-    let r = get_or rows i d in
-    let all : AreRight g p (take (i + 1) rows ++ drop (i + 1) rows) = subst (λ (xs : ClaimRows). AreRight g p xs) (sym (take-append-drop (i + 1) rows)) a in
-    let front : AreRight g p (take i rows ++ r ∷ [])
-    = subst (λ (xs : ClaimRows). AreRight g p xs) (take_more rows i d l) (AreRight-front g p (take (i + 1) rows) (drop (i + 1) rows) all) in
-    unnamed (take i rows) r.0 (AreRight-last g p (take i rows) r front).1
+-- rows that are checked one after another
+module _ (g : Graph) (p : Player) (rows : ClaimRows) where
+  pub right_before_none : AreRightBefore g p rows 0 0
+  right_before_none = search (rules)
+
+  module _ (i least : ℕ) (before : AreRightBefore g p rows i least) where
+    abbrev next : ℕ × Option ℕ
+    next = get_or rows i (0, None)
+
+    pub right_before_next : i < length rows → IsRightRow g p next → least ≤ next.0 → AreRightBefore g p rows (i + 1) (next.0 + 1)
+    right_before_next l right up =
+        let more : take (i + 1) rows ≡ take i rows ++ next ∷ [] = take_more rows i (0, None) l in
+        let low : next_after (take i rows) ≤ next.0 = omega (arith, before.least_is, up) in
+        record {
+          right = subst (λ (xs : ClaimRows). AreRight g p xs) (sym more) (AreRight-push g p (take i rows) next before.right right low);
+          least_is = sym (rw more (next_after-push (take i rows) next low));
+          far = omega (arith, before.far, up);
+          within = omega (arith, right.vertex);
+        }
+
+    pub wrong_next : i < length rows → (IsRightRow g p next → least ≤ next.0 → ⊥) → IsFirstWrongRow g p rows i
+    wrong_next l wrong = inr (
+      l,
+      before.right,
+      λ a. (let h = AreRight-last g p (take i rows) next (subst (λ (xs : ClaimRows). AreRight g p xs) (take_more rows i (0, None) l) a) in
+          wrong h.0 (omega (arith, before.least_is, h.1))),
+    )
+
+    pub all_right : length rows ≤ i → AreRight g p rows
+    all_right l = subst (λ (xs : ClaimRows). AreRight g p xs) (take_all i rows l) before.right
+
+    -- the next vertex is not named before
+    pub next_unnamed : least ≤ next.0 → named (take i rows) next.0 ≡ false
+    next_unnamed up = unnamed (take i rows) next.0 (omega (arith, before.least_is, up))

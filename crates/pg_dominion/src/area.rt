@@ -1,11 +1,12 @@
 //! Attraction in place (Zielonka 1998): a backward worklist over predecessors. What is taken is listed behind what it leads to, and
 //! is free no more.
 
-ghost use Rattle.std.specs.Prelude.{◌≡◌, ◌<◌, ◌≤◌, ℕ, length, take, OnOk, OnErr, vec_capacity};
+ghost use Rattle.std.specs.Prelude.{◌≡◌, ◌<◌, ◌≤◌, ℕ, length, take, IfSome, IsNone, OnOk, OnErr, vec_capacity};
 ghost use Rattle.pg_game.specs.Graph.{HasEdge};
+ghost use Rattle.pg_game.specs.Predecessors.{ArePredecessors};
 ghost use Rattle.pg_game.specs.VertexSet.{In, Within, all_vertices, union};
 ghost use Rattle.pg_dominion.specs.Area.{listed_by, Takes, AttractsNoFurther};
-ghost use Rattle.pg_dominion.specs.private.Attracting.{IsTakenOrOpen};
+ghost use Rattle.pg_dominion.specs.private.Attracting.{IsTakenOrOpen, IsRowAt};
 
 use pg_game::{Game, Memory, Player};
 
@@ -115,16 +116,17 @@ fn consider<A: Area>(
     area.take(game, player, from, None, list)
 }
 
-/// Takes what is attracted by `to` at once.
+/// Takes what is attracted by `to`, whose predecessors stand in the row, at once.
 fn reach<A: Area>(
     area: &mut A,
     game: &Game,
     player: Player,
     to: u32,
+    row: &[u32],
     list: &mut Vec<A::Item>,
 ) -> Result<(), Memory>
     requires ready { A.ready game.now area.old list.old.items (vec_capacity list.old) }
-    requires vertex { to < length game.now }
+    requires row { ArePredecessors game.now to row.now }
     requires taken { In (listed_by A.vertex_of list.old.items) to }
     ensures ready { OnOk result (A.ready game.now area.new list.new.items (vec_capacity list.new)) }
     ensures grown { OnOk result (A.grown game.now player area.old list.old.items area.new list.new.items) }
@@ -134,10 +136,31 @@ fn reach<A: Area>(
         (listed_by A.vertex_of list.new.items) u) }
     ensures refuses { OnErr result A.refuses }
 {
-    for from in game.predecessors(to) {
+    for from in row {
         consider(area, game, player, *from, to, list)?;
     }
     Ok(())
+}
+
+/// The row that was read ahead, or else the predecessors of the vertex listed at a place, where there is one.
+fn row_at<'g, A: Area>(
+    game: &'g Game,
+    list: &Vec<A::Item>,
+    place: usize,
+    ahead: Option<&'g [u32]>,
+) -> Option<&'g [u32]>
+    requires below { Within (listed_by A.vertex_of list.now.items) (all_vertices game.now) }
+    requires ahead { IfSome ahead (λ row. IsRowAt A.vertex_of game.now list.now.items place row.now) }
+    ensures row { IfSome result (λ row. IsRowAt A.vertex_of game.now list.now.items place row.now) }
+    ensures none { IsNone result → length list.now.items ≤ place }
+{
+    if ahead.is_some() {
+        return ahead;
+    }
+    if place >= list.len() {
+        return None;
+    }
+    Some(game.predecessors(A::vertex(list[place])))
 }
 
 /// Takes all that the player attracts to what is listed, where what stands before the place attracts nothing. Else `Memory`.
@@ -160,12 +183,16 @@ pub fn attract_from<A: Area>(
         (listed_by A.vertex_of list.new.items) (listed_by A.vertex_of list.new.items)) }
     ensures refuses { OnErr result A.refuses }
 {
+    // Where the next row begins and ends is read before the row in front of it is gone through: a wrong branch there would have
+    // the processor wait for it.
+    let mut ahead = None;
     'list: for next in first..usize::MAX {
-        if next >= list.len() {
+        let Some(row) = row_at::<A>(game, list, next, ahead) else {
             break;
-        }
-        let item = list[next];
-        reach(area, game, player, A::vertex(item), list)?;
+        };
+        let to = A::vertex(list[next]);
+        ahead = row_at::<A>(game, list, next + 1, None);
+        reach(area, game, player, to, row, list)?;
     }
     Ok(())
 }

@@ -1,13 +1,12 @@
 //! Claims of a player, and the check of one: dominions without their closure (Jurdziński, Paterson and Zwick 2008).
 //!
-//! The shape is checked row by row. Then the rows are laid out by vertex as kept edges, and `cycles` looks for a closed
-//! walk whose greatest priority is the opponent's.
+//! The rows are checked one after another. A claim that names a vertex of the opponent's parity, and is not small, is laid out
+//! by vertex as kept edges meanwhile, and `cycles` looks for a closed walk whose greatest priority is the opponent's.
 
-ghost use Rattle.std.specs.Prelude.{◌≡◌, ℕ, ◌↔◌, ◌<◌, IfOk, IfErr, OnOk, MatchOption, length, slice_set, true, false};
+ghost use Rattle.std.specs.Prelude.{◌≡◌, ℕ, ◌↔◌, ◌<◌, IfOk, IfErr, OnOk, length, slice_set, true, false};
 ghost use Rattle.std.specs.List.{list_any};
-ghost use Rattle.pg_game.specs.Least.{NoneHas, IsLeast};
 ghost use Rattle.pg_game.specs.Region.{OnBadWalk};
-ghost use Rattle.pg_dominion.specs.Claim.{IsSound, IsRightRow, HasShape, IsFirstWrongRow, named, choice_in};
+ghost use Rattle.pg_dominion.specs.Claim.{IsSound, IsRightRow, HasShape, named, choice_in};
 ghost use Rattle.pg_dominion.specs.Fault.{IsClaimFault};
 ghost use Rattle.pg_dominion.specs.private.Shape.{is_bad, chosen_with, choices_with};
 ghost use Rattle.pg_dominion.specs.KeptEdges.{IsKept, IsWorst};
@@ -16,7 +15,7 @@ ghost use Rattle.pg_dominion.specs.Checked.{claim_of, AgreesWithGame};
 use crate::checked::Checked;
 use crate::cycles::first_worst;
 use crate::kept::Kept;
-use crate::small::is_shown_small;
+use crate::small::{MOST_ROWS, is_shown_small};
 use pg_game::{Game, Mask, Player, Sequence};
 use std::alloc::{AllocError, Global};
 
@@ -66,26 +65,33 @@ fn is_right_row(game: &Game, player: Player, row: (u32, Option<u32>)) -> bool
     }
 }
 
-/// Whether a claim has its shape. The error is the first wrong row.
-pub fn check_shape(game: &Game, claim: &Claim) -> Result<(), u32>
-    ensures right { OnOk result (HasShape game.now claim.now.player claim.now.rows) }
-    ensures wrong { IfErr result (λ i. IsFirstWrongRow game.now claim.now.player claim.now.rows i) }
+/// Checks the rows of a claim one after another: all of them or, unless it goes past bad vertices, those before the first that
+/// names one. Whether it checked all. A wrong row is the error, which says its place.
+fn check_rows(game: &Game, claim: &Claim, past_bad: bool) -> Result<bool, ClaimFault>
+    ensures shape { IfOk result (λ all. all ≡ true → HasShape game.now claim.now.player claim.now.rows) }
+    ensures past { IfOk result (λ all. past_bad ≡ true → all ≡ true) }
+    ensures none { IfOk result (λ all. all ≡ true → past_bad ≡ false → list_any (λ r. is_bad game.now claim.now.player r.0) claim.now.rows ≡ false) }
+    ensures some { IfOk result (λ all. all ≡ false → list_any (λ r. is_bad game.now claim.now.player r.0) claim.now.rows ≡ true) }
+    ensures fault { IfErr result (λ e. IsClaimFault game.now claim.now.player claim.now.rows e) }
 {
     let n = game.len();
     let rows = claim.rows.as_slice();
     if rows.is_empty() {
-        return Err(0);
+        return Err(ClaimFault::Shape(0));
     }
     let mut place = 0u32;
     let mut least = 0u32;
     'rows: for row in rows {
         if row.0 < least || !is_right_row(game, claim.player, *row) {
-            return Err(place);
+            return Err(ClaimFault::Shape(place));
+        }
+        if !past_bad && is_bad(game, claim.player, row.0) {
+            return Ok(false);
         }
         least = row.0 + 1;
         place += 1;
     }
-    Ok(())
+    Ok(true)
 }
 
 /// Whether the vertex's priority has the parity of the player's opponent.
@@ -119,22 +125,34 @@ pub fn note_choice(chosen: &mut Mask, choices: &mut Vec<u32>, v: u32, choice: Op
     choices[v as usize] = choice.unwrap_or(0);
 }
 
-/// The kept edges of a claim, and its bad vertices.
-pub fn kept_of<'g>(alloc: Global, game: &'g Game, claim: &Claim) -> Result<Kept<'g>, AllocError>
-    requires { HasShape game.now claim.now.player claim.now.rows }
+/// The kept edges of a claim, and its bad vertices, laid out while its rows are checked.
+fn kept_of<'g>(alloc: Global, game: &'g Game, claim: &Claim) -> Result<Kept<'g>, ClaimFault>
+    ensures shape { IfOk result (λ k. HasShape game.now claim.now.player claim.now.rows) }
     ensures kept { IfOk result (λ k. IsKept k) }
     ensures worst { IfOk result (λ k. (v : ℕ) → IsWorst k v ↔ OnBadWalk game.now claim.now.player (named claim.now.rows) (choice_in claim.now.rows) v) }
+    ensures fault { IfErr result (λ e. IsClaimFault game.now claim.now.player claim.now.rows e) }
 {
     let n = game.len();
+    let rows = claim.rows.as_slice();
+    if rows.is_empty() {
+        return Err(ClaimFault::Shape(0));
+    }
     let mut inside = Mask::empty(alloc, n)?;
     let mut chosen = Mask::empty(alloc, n)?;
     let mut choices = vec![in alloc; 0u32; n as usize]?;
     let mut bad = Mask::empty(alloc, n)?;
-    'rows: for row in claim.rows.as_slice() {
+    let mut place = 0u32;
+    let mut least = 0u32;
+    'rows: for row in rows {
         let (v, choice) = *row;
+        if v < least || !is_right_row(game, claim.player, *row) {
+            return Err(ClaimFault::Shape(place));
+        }
         inside.insert(v);
         note_test(is_bad(game, claim.player, v), &mut bad, v);
         note_choice(&mut chosen, &mut choices, v, choice);
+        least = v + 1;
+        place += 1;
     }
     Ok(Kept {
         game,
@@ -145,36 +163,21 @@ pub fn kept_of<'g>(alloc: Global, game: &'g Game, claim: &Claim) -> Result<Kept<
     })
 }
 
-/// Whether a row names a vertex whose priority has the parity of the player's opponent.
-fn names_bad_vertex(game: &Game, claim: &Claim) -> bool
-    requires { HasShape game.now claim.now.player claim.now.rows }
-    ensures { result ≡ list_any (λ r. is_bad game.now claim.now.player r.0) claim.now.rows }
+/// Whether a claim is seen to be sound with no table of one place a vertex: it names no bad vertex, or it is small and a
+/// search along its rows finds no bad closed walk. The refusals are those of [`judge_claim`].
+fn is_seen_sound(alloc: Global, game: &Game, claim: &Claim) -> Result<bool, ClaimFault>
+    ensures sound { IfOk result (λ seen. seen ≡ true → IsSound game.now claim.now.player claim.now.rows) }
+    ensures fault { IfErr result (λ e. IsClaimFault game.now claim.now.player claim.now.rows e) }
 {
-    'rows: for row in claim.rows.as_slice() {
-        if is_bad(game, claim.player, row.0) {
-            return true;
-        }
+    if check_rows(game, claim, false)? {
+        return Ok(true);
     }
-    false
-}
-
-/// The least vertex that is the greatest on a bad closed walk inside a claim. A claim that names no vertex of the
-/// opponent's parity has none, and that is seen from its rows alone.
-fn first_on_bad_walk(alloc: Global, game: &Game, claim: &Claim) -> Result<Option<u32>, AllocError>
-    requires { HasShape game.now claim.now.player claim.now.rows }
-    ensures { IfOk result (λ least. MatchOption least (NoneHas (OnBadWalk game.now claim.now.player (named claim.now.rows) (choice_in claim.now.rows)))
-        (IsLeast (OnBadWalk game.now claim.now.player (named claim.now.rows) (choice_in claim.now.rows)))) }
-{
-    if !names_bad_vertex(game, claim) {
-        return Ok(None);
+    if claim.rows.as_slice().len() > MOST_ROWS {
+        return Ok(false);
     }
+    let _all = check_rows(game, claim, true)?;
     let is_shown = is_shown_small(alloc, game, claim)?;
-    if is_shown {
-        return Ok(None);
-    }
-    let kept = kept_of(alloc, game, claim)?;
-    let least = first_worst(alloc, &kept)?;
-    Ok(least)
+    Ok(is_shown)
 }
 
 /// Whether a claim is sound in a game: it has its shape, and the edges that it keeps inside make only closed walks
@@ -185,13 +188,14 @@ pub fn judge_claim(alloc: Global, game: &Game, claim: &Claim) -> Result<(), Clai
     ensures sound { OnOk result (IsSound game.now claim.now.player claim.now.rows) }
     ensures fault { IfErr result (λ e. IsClaimFault game.now claim.now.player claim.now.rows e) }
 {
-    if let Err(i) = check_shape(game, claim) {
-        return Err(ClaimFault::Shape(i));
+    if is_seen_sound(alloc, game, claim)? {
+        return Ok(());
     }
-    if let Some(v) = first_on_bad_walk(alloc, game, claim)? {
-        return Err(ClaimFault::Cycle(v));
+    let kept = kept_of(alloc, game, claim)?;
+    match first_worst(alloc, &kept)? {
+        Some(v) => Err(ClaimFault::Cycle(v)),
+        None => Ok(()),
     }
-    Ok(())
 }
 
 /// As `judge_claim`, with what was found, for a use where the game is not at hand or another.

@@ -17,7 +17,7 @@ use pg_game::Game;
 use std::alloc::{AllocError, Global};
 
 /// How many rows a claim may have to be looked at so.
-const MOST_ROWS: usize = 64;
+pub const MOST_ROWS: usize = 64;
 
 /// How many rows are compared at most.
 const MOST_STEPS: usize = 16_384;
@@ -106,7 +106,7 @@ fn never_returns(
     Ok(false)
 }
 
-/// Whether a small claim was shown to have no bad closed walk.
+/// Whether a claim was shown to have no bad closed walk, which takes too long where it is not small.
 pub fn is_shown_small(alloc: Global, game: &Game, claim: &Claim) -> Result<bool, AllocError>
     requires { HasShape game.now claim.now.player claim.now.rows }
     ensures { IfOk result (λ shown. shown ≡ true → NoneHas (OnBadWalk game.now claim.now.player (named claim.now.rows) (choice_in claim.now.rows))) }
@@ -114,9 +114,6 @@ pub fn is_shown_small(alloc: Global, game: &Game, claim: &Claim) -> Result<bool,
     // for the proof: a claim with its shape names vertices of a game
     let _n = game.len();
     let rows = claim.rows.as_slice();
-    if rows.len() > MOST_ROWS {
-        return Ok(false);
-    }
     let mut list = Vec::new(alloc);
     let mut steps = 0usize;
     'rows: for row in rows {

@@ -5,7 +5,8 @@
 //! From a place in the queue before the first that was reached twice each edge leads to a later place, so such a vertex
 //! lies on no closed walk, and gets a group of its own: no search from it is needed up to the level.
 
-ghost use Rattle.std.specs.Prelude.{◌≡◌, ℕ, ◌<◌, ◌≤◌, ◌^◌, length, slice_index, IfOk, true, false};
+ghost use Rattle.std.specs.Prelude.{◌≡◌, ◌≢◌, ℕ, ◌<◌, ◌≤◌, ◌^◌, ◌⊎◌, length, slice_index, IfOk, true, false};
+ghost use Rattle.pg_game.specs.Graph.{priority_of};
 ghost use Rattle.pg_dominion.specs.KeptEdges.{IsKept};
 ghost use Rattle.pg_dominion.specs.private.KeptEdges.{Leads, Reaches, AreLabelled, Searching, IsSpread, GoesOn, AreNoted};
 
@@ -81,6 +82,23 @@ impl Search {
     }
 }
 
+/// Whether a search of this priority, from this group or from none, passes over a vertex: its own priority is greater, or its level
+/// is, and it has another group. No branch depends on what is read of it, since no processor foretells that.
+fn passes_over(kept: &Kept, labels: &Labels, top: u32, own: u32, v: u32) -> bool
+    requires kept { IsKept kept.now }
+    requires labels { AreLabelled kept.now labels.now.levels.items labels.now.groups.items }
+    requires vertex { v < length kept.now.game.now }
+    ensures over { result ≡ true → (top < priority_of kept.now.game.now v)
+        ⊎ ((top < slice_index labels.now.levels.items v) × (slice_index labels.now.groups.items v ≢ own)) }
+    ensures into { result ≡ false → (priority_of kept.now.game.now v ≤ top)
+        × (top < slice_index labels.now.levels.items v → slice_index labels.now.groups.items v ≡ own) }
+{
+    let is_greater = kept.game.priority(v) > top;
+    let is_shown = labels.levels[v as usize] > top;
+    let is_apart = labels.groups[v as usize] != own;
+    is_greater | (is_shown & is_apart)
+}
+
 /// Goes on from a place of the queue with the search for a way back to its first vertex. Whether one was found.
 fn spread(
     kept: &Kept,
@@ -110,10 +128,7 @@ fn spread(
     search.steps = search.steps.saturating_add(row.len() as u64);
     'row: for w in row {
         let to = *w;
-        if kept.game.priority(to) > top {
-            continue;
-        }
-        if labels.levels[to as usize] > top && labels.groups[to as usize] != own {
+        if passes_over(kept, labels, top, own, to) {
             continue;
         }
         let end = search.queue.len();

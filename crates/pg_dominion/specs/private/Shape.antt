@@ -1,15 +1,23 @@
 -- The rows of a claim, as the private code of the check reads them one after another.
-use Rattle.std.specs.Prelude.{ℕ, ◌≡◌, ◌+◌, max, Bool, ◌&&◌, Option, Some, None, List, [], ◌∷◌, length, slice_index, slice_set, true, false, if◌then◌else◌}
+use Rattle.std.specs.Prelude.{ℕ, ◌≡◌, ◌≤◌, ◌+◌, max, Bool, ◌&&◌, Option, Some, None, List, [], ◌∷◌, length, take, slice_index, slice_set, true, false}
+use Rattle.std.specs.Prelude.{if◌then◌else◌}
 use Rattle.pg_game.specs.declared.player.Player.{Player}
 use Rattle.pg_game.specs.Player.{same_player, opponent, of_parity}
 use Rattle.pg_game.specs.Graph.{Graph, priority_of}
 use Rattle.pg_game.specs.VertexSet.{members}
-use Rattle.pg_dominion.specs.Claim.{ClaimRows, named, choice_in}
+use Rattle.pg_dominion.specs.Claim.{ClaimRows, AreRight, named, choice_in}
 
 -- the least number above all vertices of the rows
 abbrev pub next_after : ClaimRows → ℕ
 next_after [] = 0
 next_after (r ∷ rows) = max (r.0 + 1) (next_after rows)
+
+-- the first so many rows are right, and this is the least vertex that the next one may name
+pub record AreRightBefore (g : Graph) (p : Player) (rows : ClaimRows) (place least : ℕ) : Type 0 where
+  pub right : AreRight g p (take place rows)
+  pub least_is : least ≡ next_after (take place rows)
+  pub far : place ≤ least
+  pub within : least ≤ length g
 
 -- what the rows of a claim or a solution say, with one place for each vertex
 pub record Layout : Type 0 where

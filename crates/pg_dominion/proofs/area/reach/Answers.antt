@@ -9,11 +9,11 @@ loop-from-init g c = search (rules, c.requires.ready, g.met.A.Area.grown_same, t
 
 pub consider-requires-clause-edge : goal.consider-requires-clause-edge
 consider-requires-clause-edge g c =
-    (c.predecessors-from-items.ensures.exact (slice_index c.predecessors-from-items.result.now c.loop-from.from-index)).0
-    (Contains-get_or c.predecessors-from-items.result.now c.loop-from.from-index 0 c.loop-from-test.true)
+    (c.requires.row.exact (slice_index c.args.row.now c.loop-from.from-index)).0
+    (Contains-get_or c.args.row.now c.loop-from.from-index 0 c.loop-from-test.true)
 
 pub consider-requires-clause-taken : goal.consider-requires-clause-taken
-consider-requires-clause-taken g c = search (rules, g.A.Area, takes_within, g.A.Area.vertex_of, g.A.Area.free, c.loop-from.invariant.takes, c.requires.taken)
+consider-requires-clause-taken g c = search (rules, takes_within, c.loop-from.invariant.takes, c.requires.taken)
 
 pub loop-from-preserved : goal.loop-from-preserved
 loop-from-preserved g c =
@@ -30,7 +30,7 @@ loop-from-preserved g c =
     let F1 = a.free c.loop-from.area in
     let F2 = a.free c.consider.new.area in
     let U = union F (listed_by f xs) in
-    let from = slice_index c.predecessors-from-items.result.now c.loop-from.from-index in
+    let from = slice_index c.args.row.now c.loop-from.from-index in
     let here = subst (λ (X : VertexSet). In X from → IsTakenOrOpen game p X (listed_by f ys) (listed_by f zs) from)
     (takes_set f F F1 xs ys old.takes) h.settled in
     record {
@@ -45,8 +45,8 @@ loop-from-preserved g c =
 pub returns-clause-settled : goal.returns-clause-settled
 returns-clause-settled g c = λ u i e.
     let a = g.A.Area in
-    let us = c.predecessors-from-items.result.now in
-    let m = (c.predecessors-from-items.ensures.exact u).1 e in
+    let us = c.args.row.now in
+    let m = (c.requires.row.exact u).1 e in
     let q : slice_index us m.0 ≡ u = get_or_default us m.0 0 u m.1 ∙ m.2 in
     let U = union (a.free c.args.area.now) (listed_by a.vertex_of c.args.list.now.items) in
     subst (λ (x : ℕ). IsTakenOrOpen c.args.game.now c.args.player U (listed_by a.vertex_of c.args.list.now.items)

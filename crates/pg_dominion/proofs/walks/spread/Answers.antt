@@ -2,7 +2,6 @@ use Rattle.pg_dominion.proofs.Common.{◌≡◌, ℕ, ◌<◌, ◌≤◌, inl, i
 use Rattle.pg_dominion.proofs.Common.{length-append, get_or-set_same, rules, get_or_read, get_or_push, priority_of, kept_row, EdgeUnder, Leads, IsFollowed}
 use Rattle.pg_dominion.proofs.Common.{IsQueued}
 use Rattle.pg_dominion.proofs.Searching.{Leads-edge, Searching-push, queue_short, IsFollowed-later, GoesOn-then, GoesOn-push, GoesOn-less, edge_at, place_in}
-use Rattle.pg_dominion.proofs.walks.spread.Goals.{else-index-top-via-then-index-top+else-index-own, else-index-top-via-else-index-top}
 use Rattle.pg_dominion.proofs.walks.spread.Goals.{else-place-end-via-then-place-end+else-index-to, else-place-end-via-else-place-end}
 use Rattle.pg_dominion.proofs.walks.spread.Goals as goal
 
@@ -16,31 +15,15 @@ row-init c =
       spread = λ i l _. absurd (omega (arith, l));
     }
 
-pub row-preserved-then-priority-top : goal.row-preserved-then-priority-top
-row-preserved-then-priority-top c =
+pub row-preserved-then-passes_over : goal.row-preserved-then-passes_over
+row-preserved-then-passes_over c =
     let inv = c.row.invariant in
     record {
       least = inv.least;
       state = inv.state;
       later = inv.later;
-      spread = below_more _ _ inv.spread (λ m. absurd (omega (arith, m, c.priority.ensures, c.if-priority-top.true)));
-    }
-
-pub row-preserved-then-index-own : goal.row-preserved-then-index-own
-row-preserved-then-index-own c =
-    let inv = c.row.invariant in
-    let L = c.args.labels.now.levels.items in
-    let G = c.args.labels.now.groups.items in
-    let u = slice_index c.row-row.result.now c.row.w-index in
-    let l : u < length c.args.kept.now.game.now = c.row-row.ensures.below c.row.w-index c.row-test.true in
-    let read : c.index.result.now ≡ slice_index L u = get_or_read L u _ (omega (arith, l, c.requires.labels.levels_size)) c.index.ensures 0 in
-    let r : c.index-then-index-top.result.now ≡ slice_index G u
-    = get_or_read G u _ (omega (arith, l, c.requires.labels.groups_size)) c.index-then-index-top.ensures 0 in
-    record {
-      least = inv.least;
-      state = inv.state;
-      later = inv.later;
-      spread = below_more _ _ inv.spread (λ m. inl (omega (arith, read, c.if-index-top.true), λ e. c.if-index-own.true (r ∙ e)));
+      spread = below_more _ _ inv.spread
+          (λ m. elim (c.passes_over.ensures.over c.if-passes_over.true) [ inl above ↦ absurd (omega (arith, m, above)) | inr shown ↦ inl shown ]);
     }
 
 pub row-preserved-then-index-to : goal.row-preserved-then-index-to
@@ -54,9 +37,9 @@ row-preserved-then-index-to c =
     let m' = c.min-search.result in
     let ws = c.row-row.result.now in
     let u = slice_index ws c.row.w-index in
-    let i = c.index-in-row.result.now in
+    let i = c.index.result.now in
     let l : u < length c.args.kept.now.game.now = c.row-row.ensures.below c.row.w-index c.row-test.true in
-    let place : i ≡ slice_index P u = get_or_read P u _ (omega (arith, inv.state.size, l)) c.index-in-row.ensures 0 in
+    let place : i ≡ slice_index P u = get_or_read P u _ (omega (arith, inv.state.size, l)) c.index.ensures 0 in
     let lt : i < length Q = omega (arith, c.if-place-end.true, c.len-end.ensures) in
     let r : c.index-then-place-end.result.now ≡ slice_index Q i = get_or_read Q i _ lt c.index-then-place-end.ensures 0 in
     let q : slice_index Q (slice_index P u) ≡ u = ap (λ (x : ℕ). slice_index Q x) (sym place) ∙ sym r ∙ c.if-index-to.true in
@@ -82,8 +65,8 @@ returns-then-place-eq0-clause-back c = λ _.
     let Q = c.row.search.queue.items in
     let ws = c.row-row.result.now in
     let u = slice_index ws c.row.w-index in
-    let i = c.index-in-row.result.now in
-    let low : priority_of k.game.now u ≤ top = omega (arith, c.priority.ensures, c.if-priority-top.false) in
+    let i = c.index.result.now in
+    let low : priority_of k.game.now u ≤ top = (c.passes_over.ensures.into c.if-passes_over.false).0 in
     let r : c.index-then-place-end.result.now ≡ slice_index Q i
     = get_or_read Q i _ (omega (arith, c.if-place-end.true, c.len-end.ensures)) c.index-then-place-end.ensures 0 in
     let first : u ≡ slice_index Q 0 = sym c.if-index-to.true ∙ r ∙ ap (λ (x : ℕ). slice_index Q x) c.if-place-eq0.true in
@@ -114,18 +97,12 @@ row-preserved c =
     let inv = c.row.invariant in
     let l : u < length k.game.now = c.row-row.ensures.below c.row.w-index c.row-test.true in
     let lp : u < length P = omega (arith, inv.state.size, l) in
-    let low : priority_of k.game.now u ≤ top = omega (arith, c.priority.ensures, c.if-priority-top.false) in
-    let read : c.index.result.now ≡ slice_index L u = get_or_read L u _ (omega (arith, l, c.requires.labels.levels_size)) c.index.ensures 0 in
-    let place : c.index-in-row.result.now ≡ slice_index P u = get_or_read P u _ lp c.index-in-row.ensures 0 in
-    let counts : top < slice_index L u → slice_index G u ≡ own = elim c.else-index-top.branch [
-      | else-index-top-via-then-index-top+else-index-own w ↦
-          (λ _. let r : w.index-then-index-top.result.now ≡ slice_index G u =
-          get_or_read G u _ (omega (arith, l, c.requires.labels.groups_size)) w.index-then-index-top.ensures 0 in sym r ∙ w.if-index-own.false)
-      | else-index-top-via-else-index-top w ↦ (λ b. absurd (omega (arith, b, read, w.if-index-top.false)))
-    ] in
+    let low : priority_of k.game.now u ≤ top = (c.passes_over.ensures.into c.if-passes_over.false).0 in
+    let place : c.index.result.now ≡ slice_index P u = get_or_read P u _ lp c.index.ensures 0 in
+    let counts : top < slice_index L u → slice_index G u ≡ own = (c.passes_over.ensures.into c.if-passes_over.false).1 in
     let new : IsQueued P Q u → ⊥ = elim c.else-place-end.branch [
       | else-place-end-via-then-place-end+else-index-to w ↦
-          (λ q. let r = get_or_read Q c.index-in-row.result.now _ (omega (arith, place, q.0)) w.index-then-place-end.ensures 0 in
+          (λ q. let r = get_or_read Q c.index.result.now _ (omega (arith, place, q.0)) w.index-then-place-end.ensures 0 in
           w.if-index-to.false (r ∙ ap (λ (x : ℕ). slice_index Q x) place ∙ q.1))
       | else-place-end-via-else-place-end w ↦ (λ q. absurd (omega (arith, q.0, place, w.if-place-end.false, c.len-end.ensures)))
     ] in
