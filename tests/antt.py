@@ -1,35 +1,26 @@
-"""Reads the definitions and the lemmas of the crates' `.antt` files: what each item says, and which names it means.
+"""Reads the definitions of the crates' specs: what each says, and which names it means.
 
-An item is a definition (`abbrev`, `record`, `data`) or a lemma, at the margin of a file. Its statement is what stands behind
-its name; its comment are the lines above it. Names are resolved by the file's `use` lines. Text alone is read, as the
-formatter leaves it, so nothing here needs a proof.
+A definition (`abbrev`, `record`, `data`) stands at the margin of a file; its comment are the lines above it. Names are
+resolved by the file's `use` lines. Text alone is read, as the formatter leaves it, so nothing here needs a proof.
 """
 
 import functools
-import glob
-import os
 import re
 
-ROOT = os.path.dirname(os.path.dirname(os.path.abspath(__file__)))
+import common
+
 CRATES = ["pg_game", "pg_text", "pg_dominion", "pg_finders", "pg_board", "pg_workers", "pgboard", "pgboard_c"]
 NAME = r"[^\s(){}\[\];,.:]+"
 WORD = re.compile(r"[\w'?!≢-]*\w[\w'?!≢-]*|[^\s\w]")
 BEGUN = re.compile(rf"^(?:(pub record|record|pub data|data) ({NAME})(?= )|(?:(abbrev pub|abbrev|unfoldable pub|unfoldable|pub) )?({NAME}) :)")
+read = functools.lru_cache(maxsize=None)(common.text_of)
 
 
 class Item:
-    """A definition or a lemma: where it stands, its kind and name, the comment above it, its lines and its section's parameters."""
+    """A definition: where it stands, its kind and name, the comment above it and its lines."""
 
-    def __init__(self, path, line, kind, name, comment, lines, section=""):
-        self.path, self.line, self.kind, self.name = path, line, kind, name
-        self.comment, self.lines, self.section = comment, lines, section
-        self.is_helper = False
-        self.public = "pub" in kind
-        self.is_lemma = kind in ("pub", "")
-
-    @property
-    def crate(self):
-        return self.path.split("/")[1]
+    def __init__(self, path, kind, name, comment, lines):
+        self.path, self.kind, self.name, self.comment, self.lines = path, kind, name, comment, lines
 
     @property
     def module(self):
@@ -44,43 +35,13 @@ class Item:
     def text(self):
         return "\n".join(self.lines)
 
-    @property
-    def place(self):
-        return f"{self.path}:{self.line}"
 
-    @property
-    def statement(self):
-        """What a lemma says: its type, without the name and the equations below."""
-        said = [self.lines[0].split(" : ", 1)[1]] if " : " in self.lines[0] else []
-        for line in self.lines[1:]:
-            if not line.startswith(" "):
-                break
-            said.append(line.strip())
-        return " ".join([*([self.section, "→"] if self.section else []), *said])
-
-    @property
-    def helpers(self):
-        """The lemmas that stand under its `where`."""
-        for at, line in enumerate(self.lines):
-            if line.startswith("    ") and begun(line.strip()) and " : " in line:
-                helper = Item(self.path, self.line + at, "", line.split()[0], [], [line.strip()])
-                helper.is_helper = True
-                yield helper
-
-
-@functools.lru_cache(maxsize=None)
-def read(path):
-    with open(os.path.join(ROOT, path), encoding="utf-8") as file:
-        return file.read()
-
-
-def paths(crate, part):
-    """The files of a crate's `specs` or `proofs`: those that its Lib.antt lists, in its order, and then the others."""
-    found = glob.glob(os.path.join(ROOT, "crates", crate, part, "**", "*.antt"), recursive=True)
-    listed = re.findall(r"(?m)^pub mod (\w+)", read(os.path.join("crates", crate, part, "Lib.antt")))
-    first = {f"crates/{crate}/{part}/{it}.antt": at for at, it in enumerate(listed)}
-    found = [os.path.relpath(it, ROOT) for it in found if os.path.basename(it) != "Lib.antt"]
-    return sorted(found, key=lambda it: (first.get(it, len(first)), it))
+def paths(crate):
+    """The files of a crate's specs: those that its Lib.antt lists, in its order, and then the others."""
+    folder = f"crates/{crate}/specs"
+    found = [str(it.relative_to(common.ROOT)) for it in common.ROOT.glob(f"{folder}/**/*.antt") if it.name != "Lib.antt"]
+    listed = [f"{folder}/{it}.antt" for it in re.findall(r"(?m)^pub mod (\w+)", read(f"{folder}/Lib.antt"))]
+    return sorted(found, key=lambda it: (listed.index(it) if it in listed else len(listed), it))
 
 
 def head(path):
@@ -93,32 +54,22 @@ def head(path):
     return " ".join(lines)
 
 
-def begun(line):
-    """The kind and the name of the item that a line begins, or None."""
-    found = BEGUN.match(line)
-    return (found[1] or found[3] or "", found[2] or found[4]) if found else None
-
-
 @functools.lru_cache(maxsize=None)
 def items(path):
-    """The items of a file, in order, those of sections (`module _ (x : T) where`) among them."""
-    found, comment, item, sections = [], [], None, []
-    for number, whole in enumerate(read(path).splitlines(), 1):
-        indent = len(whole) - len(whole.lstrip())
-        if whole.strip():
-            sections = [it for it in sections if it[0] < indent]
-        base = 2 * len(sections)
-        line = whole[base:]
+    """The definitions of a file, in order."""
+    found, comment, item = [], [], None
+    for line in read(path).splitlines():
+        begun = BEGUN.match(line)
         if not line.strip():
             comment, item = [], None
         elif line.startswith("--"):
-            comment, item = comment + [line], None
-        elif line.startswith("use ") or line.startswith("pub mod "):
+            comment, item = [*comment, line], None
+        elif line.startswith(("use ", "pub mod ")):
             comment = []
-        elif line.startswith("module _ "):
-            sections, comment, item = sections + [(indent, line[9:].removesuffix(" where"))], [], None
-        elif indent == base and begun(line):
-            item = Item(path, number, *begun(line), comment, [line], " ".join(it[1] for it in sections))
+        elif line.startswith("module "):
+            raise ValueError(f"{path} has a section, which is not read here")
+        elif begun:
+            item = Item(path, begun[1] or begun[3] or "", begun[2] or begun[4], comment, [line])
             found.append(item)
             comment = []
         elif item:

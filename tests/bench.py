@@ -1,37 +1,51 @@
 #!/usr/bin/env python3
-"""Shows that bench/run builds its parts, and that program and comparator agree on two of its inputs.
+"""Shows that bench/run builds its parts, that program and comparator agree on two of its inputs, and the comparator's fast
+parts with its plain ones; and that the commands of docs/BENCHMARKS.md print its tables."""
 
-    tests/bench.py BINARY
-
-The last line is 'N passed, M failed'.
-"""
-
-import os
-import subprocess
+import re
 import sys
+import unittest
 
-ROOT = os.path.dirname(os.path.dirname(os.path.abspath(__file__)))
+import common
+
 INPUTS = ["own_loops", "one_own_loop_too_many"]
 COMMANDS = ["tidy", "tidy-pipe", "verify", "verify-any", "wrong", "solve", "winners"]
+BENCH = common.ROOT / "bench"
 
 
-def main():
-    if len(sys.argv) != 2:
-        sys.exit("tests/bench.py BINARY")
-    words = [os.path.join(ROOT, "bench", "run"), os.path.abspath(sys.argv[1]), "--runs", "1", "--only", ",".join(INPUTS), "--commands", ",".join(COMMANDS)]
-    ran = subprocess.run([sys.executable, *words], stdin=subprocess.DEVNULL, stdout=subprocess.PIPE, stderr=subprocess.STDOUT, errors="replace")
-    shown = {word for line in ran.stdout.splitlines() for word in line.split()[:2]}
-    lacking = [it for it in INPUTS + COMMANDS if it not in shown]
-    if ran.returncode or lacking:
-        print(f"FAILED bench: status {ran.returncode}, no line of {lacking}; it said:\n{ran.stdout}")
-        print("0 passed, 1 failed")
-        return 1
-    ran = subprocess.run([os.path.join(ROOT, "bench", "out", "comparator"), "selftest", "20000"], stdout=subprocess.PIPE, errors="replace")
-    if ran.returncode:
-        print(f"FAILED bench: the comparator's fast parts and its plain ones differ:\n{ran.stdout}")
-    print(f"{1 + (not ran.returncode)} passed, {int(ran.returncode != 0)} failed")
-    return 1 if ran.returncode else 0
+class Bench(unittest.TestCase):
+    def test_each_input_and_command_has_a_line(self):
+        words = ["--runs", "1", "--only", ",".join(INPUTS), "--commands", ",".join(COMMANDS)]
+        status, out, err = common.run([sys.executable, BENCH / "run", common.PROGRAM, *words], timeout=1800)
+        self.assertEqual(status, 0, out + err)
+        shown = {word for line in out.decode().splitlines() for word in line.split()[:2]}
+        self.assertLessEqual({*INPUTS, *COMMANDS}, shown, out)
+
+    def test_the_commands_of_the_page_print_its_tables(self):
+        page = common.text_of("docs/BENCHMARKS.md")
+        commands = re.findall(r"(?m)^bench/run (.+)$", page)
+        heads = re.findall(r"(?m)^(\| input \|.*)$", page)
+        self.assertEqual((len(commands), len(heads)), (3, 3))
+        for words, head in zip(commands, heads):
+            with self.subTest(words):
+                before = set(BENCH.glob("out/figures-*.tsv"))
+                # (of one small input, once)
+                ran = [sys.executable, BENCH / "run", common.PROGRAM, *words.split(), "--runs", "1", "--only", "own_loops"]
+                status, out, err = common.run(ran, timeout=600)
+                self.assertEqual(status, 0, out + err)
+                shown = out.decode().splitlines()
+                self.assertEqual(shown[0], head)
+                self.assertRegex(shown[2], r"^\| own_loops( \| [0-9.]+ \([0-9.]+\))+ \|$")
+                # each run of both programs is kept
+                (made,) = set(BENCH.glob("out/figures-*.tsv")) - before
+                runs = [it for it in made.read_text().splitlines() if it.startswith("own_loops\t")]
+                self.assertEqual(len(runs), 2 * len(set(re.findall(r"(?<=\| )([\w-]+), ", head))))
+                made.unlink()
+
+    def test_the_comparators_fast_parts_are_its_plain_ones(self):
+        status, out, _ = common.run([BENCH / "out" / "comparator", "selftest", "20000"], timeout=1800)
+        self.assertEqual(status, 0, out)
 
 
 if __name__ == "__main__":
-    sys.exit(main())
+    common.main()

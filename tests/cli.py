@@ -1,128 +1,94 @@
 #!/usr/bin/env python3
-"""Runs the cases under tests/cli over a built program, and compares bytes.
+r"""Runs the cases of tests/cli over a built program, and compares bytes: tests/cli.py PROGRAM [-k WORD]
 
-    tests/cli.py BINARY [--only WORD]
-
-A case is a folder whose name says the fact that it shows. Its files:
-    args              one word a line; none: no word
-    again             lines of further words, which change nothing: the case is run with each of them, too
-    stdin             none: nothing
-    stdout            the exact output
-    stdout_one_of/    in place of stdout: files, one of which is the exact output
-    stdout_contains   in place of stdout: lines, each of which has to occur in the output
-    stdout_begins     beside stdout_contains: with what the output begins
-    stderr            the exact text on standard error; none: nothing
-    stderr_is_some    in place of stderr: any text that is not empty
-    stderr_names      in place of stderr: a refusal of words, which begins with 'error: ', ends its line and has each of these lines somewhere
-    status            none: 0
-    files/            copied into the empty folder in which the program runs
-    note              why the bytes are these; not read
-The last line is 'N passed, M failed'; the status is 1 where a case failed.
+A case is a file whose name says the fact that it shows. What stands before its first section is a note. A section begins with
+a line '-- NAME':
+    args            the words of each run, a line for each, as a shell reads them; none: one run without words
+    file PATH       a file in the folder that the program runs in
+    stdin           none: nothing
+    stdout          the exact output; where it stands more than once, one of them
+    stdout has      in place of stdout: lines, each of which has to occur in the output
+    stdout begins   beside 'stdout has': what the output begins with
+    stderr          the exact text on standard error; none: nothing
+    stderr some     in place of stderr: any text that is not empty
+    stderr names    in place of stderr: a refused command line, of words that begin with 'error: ', end their line and have each of these lines
+    status          none: 0
+Texts are ASCII with the escapes of Python's bytes: \xff is a byte, and a backslash at the end of a line leaves its line feed out.
 """
 
-import argparse
-import os
-import shutil
-import subprocess
-import sys
+import pathlib
+import re
+import shlex
 import tempfile
+import unittest
 
-import harness
+import common
 
-HERE = os.path.dirname(os.path.abspath(__file__))
-CASES = os.path.join(HERE, "cli")
-SECONDS = 20
-KNOWN = {"args", "again", "stdin", "stdout", "stdout_one_of", "stdout_contains", "stdout_begins"}
-KNOWN |= {"stderr", "stderr_is_some", "stderr_names", "status", "files", "note"}
+CASES = common.ROOT / "tests" / "cli"
+SECTION = re.compile(r"(?m)^-- (args|file \S.*|stdin|stdout(?: has| begins)?|stderr(?: some| names)?|status)\n")
 
 
-def read(case, name, default=b""):
-    path = os.path.join(CASES, case, name)
-    if not os.path.isfile(path):
-        return default
-    with open(path, "rb") as file:
-        return file.read()
+class Case:
+    """A case as its file tells it."""
+
+    def __init__(self, name):
+        note, *parts = SECTION.split((CASES / name).read_text(encoding="ascii"))
+        if any(re.search(r"(?m)^-- ", it) for it in (note, *parts[1::2])):
+            raise ValueError(f"{name} has a section of another name")
+        sections = list(zip(parts[::2], parts[1::2]))
+        self.runs = [shlex.split(line) for head, text in sections if head == "args" for line in text.splitlines()] or [[]]
+        self.texts = [(head, text.encode().decode("unicode_escape").encode("latin-1")) for head, text in sections if head != "args"]
+        self.stdin, self.status = self.one("stdin"), int(self.one("status") or 0)
+
+    def every(self, head):
+        return [text for it, text in self.texts if it == head]
+
+    def one(self, head):
+        return (self.every(head) or [b""])[0]
+
+    def put_files(self, room):
+        for head, text in self.texts:
+            if head.startswith("file "):
+                path = pathlib.Path(room, head.removeprefix("file "))
+                path.parent.mkdir(parents=True, exist_ok=True)
+                path.write_bytes(text)
 
 
-def has(case, name):
-    return os.path.exists(os.path.join(CASES, case, name))
+class Cases(unittest.TestCase):
+    """A test for each case."""
+
+    def judge(self, name):
+        case = Case(name)
+        for words in case.runs:
+            with self.subTest(words=words), tempfile.TemporaryDirectory(prefix="pgboard-cli-") as room:
+                case.put_files(room)
+                status, out, err = common.run([common.PROGRAM, *words], case.stdin, timeout=20, cwd=room)
+                self.assertEqual(status, case.status, err)
+                self.judge_output(case, out)
+                self.judge_error(case, err)
+
+    def judge_output(self, case, out):
+        self.assertTrue(out.startswith(case.one("stdout begins")), out)
+        if case.every("stdout has"):
+            lines = {line.strip() for line in out.split(b"\n")}
+            self.assertLessEqual({line.strip() for line in case.one("stdout has").splitlines()}, lines)
+        else:
+            self.assertIn(out, case.every("stdout") or [b""])
+
+    def judge_error(self, case, err):
+        if case.every("stderr names"):
+            self.assertRegex(err, rb"(?s)\Aerror: .*\n\Z")
+            self.assertTrue(case.one("stderr names"))
+            for name in case.one("stderr names").splitlines():
+                self.assertIn(name, err)
+        elif case.every("stderr some"):
+            self.assertNotEqual(err, b"")
+        else:
+            self.assertEqual(err, case.one("stderr"))
 
 
-def words(case):
-    """The words of each run of a case."""
-    text = read(case, "args").decode()
-    first = text.removesuffix("\n").split("\n") if text else []
-    return [first, *(first + line.split() for line in read(case, "again").decode().splitlines())]
-
-
-def shown(data):
-    text = ascii(data.decode("utf-8", "backslashreplace"))
-    return text if len(text) <= 300 else text[:300] + " .."
-
-
-def stdout_fault(case, out):
-    if not out.startswith(read(case, "stdout_begins")):
-        return f"standard output begins with {shown(out)}, and not with {shown(read(case, 'stdout_begins'))}"
-    if has(case, "stdout_contains"):
-        lines = {line.strip() for line in out.split(b"\n")}
-        lacking = [line for line in read(case, "stdout_contains").splitlines() if line.strip() not in lines]
-        return f"standard output has no line {shown(lacking[0])}" if lacking else None
-    if has(case, "stdout_one_of"):
-        wanted = [read(case, f"stdout_one_of/{name}") for name in sorted(os.listdir(os.path.join(CASES, case, "stdout_one_of")))]
-    else:
-        wanted = [read(case, "stdout")]
-    if out in wanted:
-        return None
-    return f"standard output is {shown(out)}, and not {' or '.join(shown(it) for it in wanted)}"
-
-
-def stderr_fault(case, err):
-    if has(case, "stderr_is_some"):
-        return None if err else "standard error is empty"
-    if has(case, "stderr_names"):
-        names = read(case, "stderr_names").splitlines()
-        is_right = err.startswith(b"error: ") and err.endswith(b"\n") and names and all(it in err for it in names)
-        return None if is_right else f"standard error is {shown(err)}, and no refusal with {shown(read(case, 'stderr_names'))}"
-    wanted = read(case, "stderr")
-    return None if err == wanted else f"standard error is {shown(err)}, and not {shown(wanted)}"
-
-
-def run_fault(binary, case, words):
-    """Runs a case with these words and returns what is wrong with it, or None."""
-    with tempfile.TemporaryDirectory(prefix="pgboard-cli-") as room:
-        if has(case, "files"):
-            shutil.copytree(os.path.join(CASES, case, "files"), room, dirs_exist_ok=True)
-        try:
-            ran = subprocess.run([binary, *words], input=read(case, "stdin"), cwd=room, capture_output=True, timeout=SECONDS)
-        except subprocess.TimeoutExpired:
-            return f"it had not ended after {SECONDS} seconds"
-    wanted = int(read(case, "status", b"0"))
-    if ran.returncode != wanted:
-        return f"the status is {ran.returncode}, and not {wanted}; standard error is {shown(ran.stderr)}"
-    return stdout_fault(case, ran.stdout) or stderr_fault(case, ran.stderr)
-
-
-def fault(binary, case):
-    """What is wrong with a case, or None."""
-    strange = set(os.listdir(os.path.join(CASES, case))) - KNOWN
-    if strange:
-        return f"the case has files that mean nothing: {', '.join(sorted(strange))}"
-    for line in words(case):
-        wrong = run_fault(binary, case, line)
-        if wrong:
-            return f"{' '.join(line)}: {wrong}"
-    return None
-
-
-def main():
-    parser = argparse.ArgumentParser(description="Runs the cases under tests/cli over a built program.")
-    parser.add_argument("binary")
-    parser.add_argument("--only", default="", help="a word that the case's name has")
-    given = parser.parse_args()
-    binary = os.path.abspath(given.binary)
-    cases = [it for it in sorted(os.listdir(CASES)) if given.only in it]
-    return harness.report("cli", ((it, fault(binary, it)) for it in cases))
-
+for each in sorted(it.name for it in CASES.iterdir()):
+    setattr(Cases, f"test_{each}", lambda self, name=each: self.judge(name))
 
 if __name__ == "__main__":
-    sys.exit(main())
+    common.main()

@@ -3,25 +3,22 @@
 games under each pair of flags, with dead ends and without, and with comments and names in the text.
 
 Nothing of it is taken from pgboard or from the script: each pair of positional strategies is played from each vertex to the
-end. The last line is 'N passed, M failed'.
+end.
 """
 
 import itertools
-import os
 import random
-import subprocess
 import sys
+import unittest
 
+import common
 import plain
 
-import harness
-
-SCRIPT = os.path.join(os.path.dirname(os.path.dirname(os.path.abspath(__file__))), "examples", "convert.py")
+SCRIPT = common.ROOT / "examples" / "convert.py"
 
 
 def ran(flags, text):
-    done = subprocess.run([sys.executable, "-B", SCRIPT, *flags], input=text.encode(), capture_output=True, timeout=60)
-    return done.returncode, done.stdout, done.stderr.decode()
+    return common.run([sys.executable, "-B", SCRIPT, *flags], text.encode())
 
 
 def plays(game, player):
@@ -70,19 +67,6 @@ def spelled(numbers, game):
     return "".join(lines)
 
 
-def random_fault(seed):
-    numbers = random.Random(seed)
-    least, odd, dead = seed % 2, seed // 2 % 2, seed // 4 % 2
-    game = drawn(numbers, dead)
-    flags = ["--min"] * least + ["--odd"] * odd + ["--dead-ends"] * dead
-    status, out, err = ran(flags, spelled(numbers, game))
-    turned = plain.game_of(out) if status == 0 else err
-    if not isinstance(turned, dict):
-        return f"{flags} of {game} ends with status {status}: {turned}"
-    want, got = even_wins(game, least, odd), even_wins(turned)
-    return None if want == got else f"{flags} of {game}: player 0 wins {sorted(want)}, and {sorted(got)} once turned"
-
-
 # name, flags, text, status, what is written
 RUNS = [
     ("the_least_becomes_the_greatest", ["--min"], "0 0 0 1; 1 3 1 0;", 0, b"parity 1;\n0 4 0 1;\n1 1 1 0;\n"),
@@ -97,17 +81,24 @@ RUNS = [
 ]
 
 
-def checks():
-    for name, flags, text, status, out in RUNS:
-        got = ran(flags, text)
-        yield name, got if got[:2] != (status, out) or bool(got[2]) != bool(status) else None
-    for seed in range(96):
-        yield f"random_{seed}", random_fault(seed)
+class Convert(unittest.TestCase):
+    def test_texts(self):
+        for name, flags, text, status, out in RUNS:
+            with self.subTest(name):
+                got = ran(flags, text)
+                self.assertEqual(got[:2], (status, out))
+                self.assertEqual(bool(got[2]), bool(status))
 
-
-def main():
-    return harness.report("convert", checks())
+    def test_random_games_keep_their_winners(self):
+        for seed in range(96):
+            with self.subTest(seed=seed):
+                numbers = random.Random(seed)
+                least, odd, dead = seed % 2, seed // 2 % 2, seed // 4 % 2
+                game = drawn(numbers, dead)
+                status, out, err = ran(["--min"] * least + ["--odd"] * odd + ["--dead-ends"] * dead, spelled(numbers, game))
+                self.assertEqual(status, 0, err)
+                self.assertEqual(even_wins(plain.game_of(out)), even_wins(game, least, odd), game)
 
 
 if __name__ == "__main__":
-    sys.exit(main())
+    common.main(of_program=False)

@@ -1,31 +1,30 @@
 #!/usr/bin/env python3
-"""Builds the static library of a tree, and looks at what C and Python see of it.
-
-    tests/embed.py TREE BINARY
+"""Builds the static library, and looks at what C and Python see of it.
 
 include/pgboard.h declares the exports of crates/pgboard_c, and has the numbers that their contracts name. tests/embed/test.c
 is compiled with warnings as errors, without and with sanitizers, and goes through each answer; on random games it gives the
-winners of the program BINARY. The C program of README.md, built by the commands there, prints what stands there. The tests of
-bindings/python pass.
-Needs rt and cc. The last line is 'N passed, M failed'.
+winners of the program. The C program of docs/INTEROP.md, built by the commands there, prints what it says there. The tests of
+bindings/python pass. Needs rt and cc.
 """
 
 import os
+import pathlib
 import random
 import re
 import shutil
-import subprocess
 import sys
-import tempfile
+import unittest
 
-sys.dont_write_bytecode = True
-sys.path.insert(0, os.path.dirname(os.path.realpath(shutil.which("rt"))))
+import common
 import pages
 import plain
-import rtlib
-import harness
 
-ROOT = pages.ROOT
+sys.path.insert(0, os.path.dirname(os.path.realpath(shutil.which("rt"))))
+import rtlib
+
+CRATE = common.ROOT / "crates" / "pgboard_c"
+KIT = pathlib.Path(common.run(["rt", "doc"])[1].decode()).parent
+ARCHIVES = [CRATE / "out" / "libpgboard_c.a", KIT / "c" / "liblibc_c.a"]
 GAMES = 300
 FLAGS = ["-std=c11", "-Wall", "-Wextra", "-Werror", "-pedantic", "-O1", "-Iinclude"]
 REFUSING = ["-Wl,--wrap=malloc,--wrap=realloc"]
@@ -38,11 +37,6 @@ NAMES = {
     ("fault", "GameTooLong"): "GAME_TOO_LONG",
     ("fault", "SolutionTooLong"): "SOLUTION_TOO_LONG",
 }
-
-
-def text_of(*parts):
-    with open(os.path.join(ROOT, *parts), encoding="utf-8") as file:
-        return file.read()
 
 
 def prototype(name, parameters):
@@ -58,43 +52,22 @@ def prototype(name, parameters):
 def prototypes():
     """The exports as C declares them, by the crate's code."""
     for path in ("on_arrays.rt", "on_texts.rt"):
-        for name, parameters in re.findall(r'pub extern "C" fn (\w+)\(\n(.*?)\n\) -> u32\n', text_of("crates", "pgboard_c", "src", path), re.DOTALL):
+        for name, parameters in re.findall(r'pub extern "C" fn (\w+)\(\n(.*?)\n\) -> u32\n', common.text_of(f"crates/pgboard_c/src/{path}"), re.DOTALL):
             yield prototype(name, parameters)
 
 
 def numbers():
-    """The numbers of the answers, by the definition that the contracts cite."""
-    for group, name, number in re.findall(r"(?m)^(?!answer_)\w+_number \(?(\w+)\.(\w+)[^=\n]*= (\d+)$|^$", text_of("crates", "pgboard_c", "specs", "Numbers.antt")):
-        if name and name != "Memory":
-            yield group, name, number
-    for name, number in re.findall(r"(?m)^answer_number \(?fault\.(\w+)[^=\n]*= (\d+)$", text_of("crates", "pgboard_c", "specs", "Numbers.antt")):
-        yield "fault", name, number
+    """The numbers of the answers, by the definition that the contracts cite: group, name and number."""
+    text = common.text_of("crates/pgboard_c/specs/Numbers.antt")
+    found = re.findall(r"(?m)^(?!answer_)\w+_number \(?(\w+)\.(\w+)[^=\n]*= (\d+)$", text)
+    yield from (it for it in found if it[1] != "Memory")
+    yield from re.findall(r"(?m)^answer_number \(?(fault)\.(\w+)[^=\n]*= (\d+)$", text)
 
 
 def header_name(group, name):
     snake = re.sub(r"(?<!^)([A-Z])", r"_\1", name).upper()
     front = {"text": "GAME_", "solution": "SOLUTION_"}.get(group, "")
     return f"PGBOARD_{NAMES.get((group, name), front + snake)}"
-
-
-def header_fault():
-    text = text_of("include", "pgboard.h")
-    declared = {re.sub(r"\s+", " ", it) for it in re.findall(r"(?ms)^uint32_t [^;]*;", text)}
-    if declared != set(prototypes()) or len(declared) != 5:
-        return f"it declares other calls than the crate exports: {sorted(declared ^ set(prototypes()))}"
-    defined = dict(re.findall(r"(?m)^#define (PGBOARD_\w+) (\d+)u", text))
-    wanted = {header_name(*it[:2]): it[2] for it in numbers()} | {"PGBOARD_OK": "0", "PGBOARD_NO_CHOICE": "4294967295"}
-    return None if defined == wanted else f"it names other numbers than the contracts: {sorted(set(defined.items()) ^ set(wanted.items()))}"
-
-
-def limits():
-    text = text_of("crates", "pg_game", "specs", "Specification.antt")
-    return [re.search(rf"(?m)^max_{it} = (\d+)$", text)[1] for it in ("vertices", "edges")]
-
-
-def run(words, given=None):
-    done = subprocess.run(words, cwd=ROOT, input=given, stdin=None if given is not None else subprocess.DEVNULL, capture_output=True, timeout=300)
-    return done.returncode, done.stdout.decode(), done.stderr.decode()
 
 
 def drawn(seed):
@@ -110,82 +83,85 @@ def spelled(game):
     return " ".join(map(str, found)) + "\n"
 
 
-def games_fault(test, binary):
-    """Whether the library gives the program's winners on random games, with choices that are a solution by the definition."""
-    games = [drawn(seed) for seed in range(GAMES)]
-    status, out, err = run([test, "games"], "".join(map(spelled, games)).encode())
-    if status != 0 or len(out.splitlines()) != GAMES:
-        return f"status {status}: {err}"
-    for game, line in zip(games, out.splitlines()):
-        if not line.startswith("0 0 "):
-            return f"{game} is answered by {line}"
-        rows = [it.split(":") for it in line.split()[2:]]
-        held = {v: (p, o, set(row)) for v, (p, o, row) in enumerate(game)}
-        solution = {v: (int(w), None if c == "-1" else int(c)) for v, (w, c) in enumerate(rows)}
-        text = plain.written_game(held).encode()
-        winners = run([binary, "solve", "--winners"], text)
-        if plain.verdict(held, solution) != "ok\n" or winners[1] != plain.written_winners(held, solution):
-            return f"{game}: {line}, and the program says {winners}"
-    return None
+def run(words, given=b""):
+    """Runs a command at the top, or a compiler."""
+    status, out, err = common.run(words, given, timeout=300, cwd=common.ROOT)
+    return status, out.decode(), err.decode()
 
 
-def readme_fault(tree, room):
-    """Whether the C program of README.md, built as it says there, prints what stands behind it."""
-    program, printed, commands = pages.c_program(text_of("README.md")) or ("", "", "")
-    with open(os.path.join(room, "embed.c"), "w", encoding="utf-8") as file:
-        file.write(program)
-    for name in ("crates", "include"):
-        os.symlink(os.path.join(tree, name), os.path.join(room, name))
-    made = run(["cc", *FLAGS, "-fsyntax-only", f"{room}/embed.c"])
-    if made[0] == 0:
-        built = subprocess.run(["bash", "-e", "-c", commands], cwd=room, stdin=subprocess.DEVNULL, capture_output=True, timeout=3000)
-        made = built.returncode, built.stdout.decode(), built.stderr.decode()
-    ran = run([f"{room}/embed"]) if made[0] == 0 else made
-    return None if printed and ran == (0, printed, "") else f"{ran}"
+def take_as_built():
+    """Has rt take the libraries that the gate has just proved, and left without a stamp, as built of their sources."""
+    for crate in rtlib.crates_below(common.ROOT):
+        library = pathlib.Path(crate.folder, "out", "rlib")
+        if (library / f"{crate.name}.rlib").is_dir() and not (library / "stamp").exists():
+            (library / "stamp").write_text(crate.stamp(), encoding="utf-8")
 
 
-def python_fault(room, archives):
-    shared = f"{room}/libpgboard.so"
-    made = run(["cc", "-shared", "-o", shared, "-Wl,--whole-archive", archives[0], "-Wl,--no-whole-archive", archives[1]])
-    if made[0] != 0:
-        return f"{made}"
-    done = subprocess.run([sys.executable, "-B", "test_pgboard.py"], cwd=os.path.join(ROOT, "bindings", "python"), capture_output=True, env={**os.environ, "PGBOARD_LIBRARY": shared}, timeout=300)
-    return None if done.returncode == 0 and b"\nRan " in done.stderr else done.stderr.decode()
+class Embed(unittest.TestCase):
+    @classmethod
+    def setUpClass(cls):
+        cls.room = common.room(cls)
+        take_as_built()
+        status, out, err = common.run(["rt", "lib", "--jobs", "1"], timeout=3000, cwd=CRATE)
+        assert status == 0 and ARCHIVES[0].exists(), (out + err).decode()[-2000:]
 
+    def built(self, words):
+        status, _, err = run(["cc", *words])
+        self.assertEqual(status, 0, err)
 
-def take_as_built(tree):
-    """Has rt take the libraries that the gate has just proved in the tree, and left without a stamp, as built of its sources."""
-    for crate in rtlib.crates_below(tree):
-        library = os.path.join(crate.folder, "out", "rlib")
-        if os.path.isdir(os.path.join(library, f"{crate.name}.rlib")) and not os.path.exists(os.path.join(library, "stamp")):
-            with open(os.path.join(library, "stamp"), "w", encoding="utf-8") as file:
-                file.write(crate.stamp())
+    def test_the_header_declares_what_the_crate_exports(self):
+        declared = {re.sub(r"\s+", " ", it) for it in re.findall(r"(?ms)^uint32_t [^;]*;", common.text_of("include/pgboard.h"))}
+        self.assertEqual(declared, set(prototypes()))
+        self.assertEqual(len(declared), 5)
 
+    def test_the_header_has_the_numbers_of_the_contracts(self):
+        defined = dict(re.findall(r"(?m)^#define (PGBOARD_\w+) (\d+)u", common.text_of("include/pgboard.h")))
+        wanted = {header_name(*it[:2]): it[2] for it in numbers()} | {"PGBOARD_OK": "0", "PGBOARD_NO_CHOICE": "4294967295"}
+        self.assertEqual(defined, wanted)
 
-def faults(tree, binary):
-    take_as_built(tree)
-    crate = os.path.join(tree, "crates", "pgboard_c")
-    built = subprocess.run(["rt", "lib", "--jobs", "1"], cwd=crate, stdin=subprocess.DEVNULL, capture_output=True, timeout=3000)
-    kit = os.path.dirname(run(["rt", "doc"])[1].strip())
-    archives = [os.path.join(crate, "out", "libpgboard_c.a"), os.path.join(kit, "c", "liblibc_c.a")]
-    yield "the header", header_fault()
-    yield "the library", None if built.returncode == 0 and os.path.exists(archives[0]) else built.stdout.decode()[-2000:]
-    with tempfile.TemporaryDirectory(prefix="pgboard-embed-") as room:
-        for name, flags in (("test.c", []), ("test.c with sanitizers", SANITIZERS)):
-            test = f"{room}/test{len(flags)}"
-            made = run(["cc", *FLAGS, *flags, *REFUSING, "tests/embed/test.c", *archives, "-o", test])
-            ran = run([test, *limits()]) if made[0] == 0 else made
-            yield name, None if ran[0] == 0 and re.search(r"(?m)^[1-9]\d* passed, 0 failed$", ran[1]) else f"{ran}"
-            yield f"random games by {name}", games_fault(test, binary) if made[0] == 0 else "not compiled"
-        yield "README.md", readme_fault(tree, room)
-        yield "bindings/python", python_fault(room, archives)
+    def test_each_answer_in_c(self):
+        limits = re.findall(r"(?m)^max_(?:vertices|edges) = (\d+)$", common.text_of("crates/pg_game/specs/Specification.antt"))
+        for name, flags in (("plain", []), ("with sanitizers", SANITIZERS)):
+            with self.subTest(name):
+                test = self.room / f"test{len(flags)}"
+                self.built([*FLAGS, *flags, *REFUSING, "tests/embed/test.c", *ARCHIVES, "-o", test])
+                status, out, err = run([test, *limits])
+                self.assertEqual(status, 0, out + err)
+                self.assertRegex(out, r"(?m)^[1-9]\d* passed, 0 failed$")
+                self.judge_games(test)
 
+    def judge_games(self, test):
+        """The library gives the program's winners on random games, with choices that are a solution by the definition."""
+        games = [drawn(seed) for seed in range(GAMES)]
+        status, out, err = run([test, "games"], "".join(map(spelled, games)).encode())
+        self.assertEqual((status, len(out.splitlines())), (0, GAMES), err)
+        for game, line in zip(games, out.splitlines()):
+            self.assertTrue(line.startswith("0 0 "), f"{game}: {line}")
+            rows = [it.split(":") for it in line.split()[2:]]
+            held = {v: (p, o, set(row)) for v, (p, o, row) in enumerate(game)}
+            solution = {v: (int(w), None if c == "-1" else int(c)) for v, (w, c) in enumerate(rows)}
+            self.assertEqual(plain.verdict(held, solution), "ok\n", game)
+            winners = run([common.PROGRAM, "solve", "--winners"], plain.written_game(held).encode())
+            self.assertEqual(winners[1], plain.written_winners(held, solution), game)
 
-def main():
-    if len(sys.argv) != 3:
-        sys.exit("tests/embed.py TREE BINARY")
-    return harness.report("embed", faults(os.path.abspath(sys.argv[1]), os.path.abspath(sys.argv[2])))
+    def test_the_c_program_of_the_pages(self):
+        program, printed, commands = pages.c_program(common.text_of(pages.C_PAGE))
+        (self.room / "embed.c").write_text(program, encoding="utf-8")
+        for name in ("crates", "include"):
+            (self.room / name).symlink_to(common.ROOT / name)
+        self.built([*FLAGS, "-fsyntax-only", f"{self.room}/embed.c"])
+        status, out, err = common.run(["bash", "-e", "-c", commands], timeout=3000, cwd=self.room)
+        self.assertEqual(status, 0, out + err)
+        self.assertEqual(run([f"{self.room}/embed"]), (0, printed, ""))
+
+    def test_bindings_python(self):
+        shared = self.room / "libpgboard.so"
+        self.built(["-shared", "-o", shared, "-Wl,--whole-archive", ARCHIVES[0], "-Wl,--no-whole-archive", ARCHIVES[1]])
+        env = {**os.environ, "PGBOARD_LIBRARY": str(shared)}
+        status, out, err = common.run([sys.executable, "-B", "test_pgboard.py"], timeout=300, cwd=common.ROOT / "bindings" / "python", env=env)
+        self.assertEqual(status, 0, out + err)
+        self.assertIn(b"\nRan ", err)
 
 
 if __name__ == "__main__":
-    sys.exit(main())
+    common.main()

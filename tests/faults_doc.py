@@ -1,26 +1,20 @@
 #!/usr/bin/env python3
 """Runs each example of docs/FAULTS.md, compares what it prints and its status, and looks that no fault line is left out.
 
-    tests/faults_doc.py BINARY
-
 The heading of a part says the status that its examples have, as (status 3). After 'Test:' the part of a line names a case,
-a folder of tests/cli or a function or entry of a script of tests, which has to expect a line of this kind and this status;
-the case itself is run where it belongs. The last line is 'N passed, M failed'.
+a file of tests/cli or a test of another script, which has to expect a line of this kind and this status; the case itself is
+run where it belongs.
 """
 
-import os
 import re
-import subprocess
-import sys
-import tempfile
+import unittest
 
+import cli
 import cli_devices
 import cli_limits
+import common
 import pages
 
-import harness
-
-PAGE = "docs/FAULTS.md"
 PLACES = ["no token", "not expected", "number too large"]
 LINES = [
     *(f"game: byte AT: {it}" for it in (*PLACES, "owner is not 0 or 1")),
@@ -51,21 +45,6 @@ def parts(text):
         yield int(status[1]) if status else None, part
 
 
-def example_fault(room, head, commands, wanted, status):
-    line = head.strip("`")
-    if line in LINES and not pattern(line).fullmatch(wanted):
-        return f"the example prints {wanted!r}, which isn't a line of this kind"
-    try:
-        out, ended = pages.ran(room, commands)
-    except subprocess.TimeoutExpired:
-        return f"{commands!r} had not ended after {pages.SECONDS} seconds"
-    if out != wanted:
-        return f"{commands!r} prints {out!r}, and not {wanted!r}"
-    if line in LINES and ended != status:
-        return f"{commands!r} ends with status {ended}, and not {status}"
-    return None
-
-
 def by_heading(text):
     """The parts under each heading, each with its status."""
     for status, part in parts(text):
@@ -73,32 +52,21 @@ def by_heading(text):
             yield under.split("\n")[0].strip("#` "), status, under
 
 
-def constants(code, module):
-    """What a function holds: its constants, and what the names that it uses stand for."""
-    for it in [*code.co_consts, *(getattr(module, name, None) for name in code.co_names)]:
-        if hasattr(it, "co_consts"):
-            yield from constants(it, module)
-        else:
-            yield from it if isinstance(it, tuple) else [it]
-
-
 def expected_of(path, name):
-    """The status and the lines that a case expects, or None where there is no such case."""
+    """The statuses and the lines that a case expects, or None where there is no such case."""
     if path == "cli_limits.py":
         wanted = cli_limits.CASES.get(name, [None])[-1]
-        return (3, [f"pgboard: {wanted}\n"]) if isinstance(wanted, str) else None
+        return ([3], [f"pgboard: {wanted}\n"]) if isinstance(wanted, str) else None
     if path == "cli_devices.py":
-        for case in cli_devices.CASES:
-            if case.__name__ == name:
-                held = list(constants(case.__code__, cli_devices))
-                status = [it for it in held if isinstance(it, int) and not isinstance(it, bool)]
-                return status, [it.decode() for it in held if isinstance(it, bytes)]
+        case = getattr(cli_devices.Devices, f"test_{name}", None)
+        # the answers that it names
+        held = [vars(cli_devices)[it] for it in (case.__code__.co_names if case else ()) if it.isupper()]
+        held = [it for it in held if isinstance(it, tuple)]
+        return [it[0] for it in held], [it[2].decode() for it in held]
+    if name or not path.startswith("cli/") or not (common.ROOT / "tests" / path).is_file():
         return None
-    folder = os.path.join(pages.ROOT, "tests", path)
-    if name or not path.startswith("cli/") or not os.path.isdir(folder):
-        return None
-    files = {it: pages.text_of(os.path.join("tests", path, it)) for it in ("stdout", "stderr", "status") if os.path.exists(os.path.join(folder, it))}
-    return int(files.get("status", "0")), [files.get("stdout", ""), files.get("stderr", "")]
+    case = cli.Case(path.removeprefix("cli/"))
+    return [case.status], [case.one("stdout").decode(), case.one("stderr").decode()]
 
 
 def case_fault(line, status, under):
@@ -107,39 +75,44 @@ def case_fault(line, status, under):
     expected = expected_of(*named[0]) if len(named) == 1 else None
     if not expected:
         return f"it names the cases {named}, and not one that there is"
-    if status != expected[0] and status not in (expected[0] if isinstance(expected[0], list) else []):
+    if status not in expected[0]:
         return f"the case {named[0]} expects status {expected[0]}, and not {status}"
     if line in LINES and not any(pattern(line).fullmatch(it) for it in expected[1]):
         return f"the case {named[0]} expects no such line"
     return None
 
 
-def checks(binary):
-    text = pages.text_of(PAGE)
-    shown = set()
-    with tempfile.TemporaryDirectory(prefix="pgboard-faults-") as room:
-        pages.furnish(room, binary)
-        for status, part in parts(text):
+class Faults(unittest.TestCase):
+    @classmethod
+    def setUpClass(cls):
+        cls.text = common.text_of("docs/FAULTS.md")
+
+    def test_each_example_prints_its_line(self):
+        for status, part in parts(self.text):
             for head, commands, wanted in pages.examples(part):
-                shown.add(head.strip("`"))
-                yield head, example_fault(room, head, commands, wanted, status)
-    for line, status, under in by_heading(text):
-        if line in LINES and line not in WITHOUT_EXAMPLE or line == REFUSED_WORDS:
-            yield f"{line}, its case", case_fault(line, status, under)
-            # a case of another kind, and one that isn't there, are refused
-            for other in ("Test: `cli/tidy_the_smallest_game`.", "Test: `cli_limits.py` `no_such_case`.", ""):
-                yield f"{line}, {other!r}", None if case_fault(line, status, CASE.sub(other, under)) else "a wrong case is taken"
-    heads = {it.strip("`") for it in re.findall(r"(?m)^### +(.*)$", text)}
-    for line in LINES:
-        yield line, None if line in heads else "it has no heading"
-        if line not in WITHOUT_EXAMPLE:
-            yield line, None if line in shown else "it has no example"
-    yield "headings", f"no such line is printed: {', '.join(sorted(heads - set(LINES)))}" if heads - set(LINES) else None
+                with self.subTest(head):
+                    out, ended = pages.ran(commands)
+                    self.assertEqual(out, wanted, commands)
+                    line = head.strip("`")
+                    if line in LINES:
+                        self.assertRegex(wanted, rf"\A{pattern(line).pattern}\Z")
+                        self.assertEqual(ended, status, commands)
 
+    def test_each_line_names_a_case_that_expects_it(self):
+        for line, status, under in by_heading(self.text):
+            if line in LINES and line not in WITHOUT_EXAMPLE or line == REFUSED_WORDS:
+                with self.subTest(line):
+                    self.assertIsNone(case_fault(line, status, under))
+                # a case of another kind, and one that isn't there, are refused
+                for other in ("Test: `cli/tidy_the_smallest_game`.", "Test: `cli_limits.py` `no_such_case`.", ""):
+                    with self.subTest(line, other=other):
+                        self.assertIsNotNone(case_fault(line, status, CASE.sub(other, under)))
 
-def main():
-    return harness.report("faults_doc", checks(harness.binary()))
+    def test_the_lines_have_headings_and_examples_and_no_others_do(self):
+        self.assertEqual({it.strip("`") for it in re.findall(r"(?m)^### +(.*)$", self.text)}, set(LINES))
+        shown = {head.strip("`") for _, part in parts(self.text) for head, _, _ in pages.examples(part)}
+        self.assertLessEqual(set(LINES) - set(WITHOUT_EXAMPLE), shown)
 
 
 if __name__ == "__main__":
-    sys.exit(main())
+    common.main()

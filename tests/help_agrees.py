@@ -1,23 +1,19 @@
 #!/usr/bin/env python3
 """Compares commands, flags and exit statuses in the program's help, on the pages and in the man page docs/pgboard.1.
 
-    tests/help_agrees.py BINARY
-
 The program's help is the source. The man page and docs/CLI.md have the same commands, flags and statuses, and README.md the
-same commands and statuses, and no flag that isn't there. A status has the same words everywhere, markup apart. Each
-synopsis, also that of crates/pgboard_program/README.md, has a line for each command with all its flags and files. -h says
-what --help says, but for the examples. The version that the program prints is the newest of CHANGELOG.md. The last line is
-'N passed, M failed'.
+same commands, and no flag that isn't there. A status has the same words everywhere, markup apart. Each
+synopsis, also that of crates/pgboard_program/README.md, has a line for each command with all its flags and files. The man page
+and docs/TRACE.md have the same lines and columns of a trace. -h says what --help says, but for the examples. The version that the program prints is the newest of CHANGELOG.md,
+and the kit's line is that of rt and of README.md.
 """
 
-import os
 import re
-import subprocess
-import sys
+import shlex
+import unittest
 
+import common
 import pages
-
-import harness
 
 PAGES = {"README.md", "docs/CLI.md", "docs/pgboard.1"}
 SYNOPSES = sorted(PAGES | {"crates/pgboard_program/README.md"})
@@ -30,9 +26,9 @@ def plain(words):
     return re.sub(r"\s+", " ", re.sub(r"[`*]", "", words)).strip().rstrip(".").lower()
 
 
-def help_of(binary, *words, flag="--help"):
-    ran = subprocess.run([binary, *words, flag], stdin=subprocess.DEVNULL, stdout=subprocess.PIPE, stderr=subprocess.STDOUT, timeout=20)
-    return ran.stdout.decode() if ran.returncode == 0 else ""
+def help_of(*words, flag="--help"):
+    status, out, err = common.run([common.PROGRAM, *words, flag])
+    return (out + err).decode() if status == 0 else ""
 
 
 def part_of(text, head):
@@ -60,14 +56,14 @@ def line_of(command, text):
 
 def synopsis_block(page):
     """The block of a page of README.md's kind that has its synopsis."""
-    text = pages.text_of(page)
+    text = common.text_of(page)
     part = part_of(text, "commands") if page == "README.md" else text
     return next((it[2] for it in pages.BLOCK.finditer(part)), "")
 
 
 def synopsis_of(page):
     """The lines of a page's synopsis, without what they say of each command."""
-    text = pages.text_of(page)
+    text = common.text_of(page)
     if page.endswith(".1"):
         part = re.search(r"(?ms)^\.SH SYNOPSIS$\n(.*?)(?=^\.SH)", text)[1].replace("\\-", "-")
         # a macro of two letters writes its words without blanks between
@@ -75,16 +71,6 @@ def synopsis_of(page):
         found = {" ".join(line.split()) for line in " ".join(words).split(".br")}
         return found - {"pgboard [COMMAND] --help"}
     return {re.split(r" {2,}", line)[0] for line in re.sub(r"\n {2,}\b", "  ", synopsis_block(page)).splitlines() if line}
-
-
-def short_help_fault(binary, name):
-    """Where -h says something else than --help, the examples and what a command does at length apart."""
-    words = [name] if name else []
-    short, whole = help_of(binary, *words, flag="-h"), help_of(binary, *words)
-    if "Example" in short or "Example" not in whole:
-        return "the examples are those of --help"
-    same = line_of(name, short) == line_of(name, whole) and statuses_of(short) == statuses_of(whole)
-    return None if same and statuses_of(short) else f"-h says {short!r}, and --help {whole!r}"
 
 
 class Told:
@@ -95,22 +81,25 @@ class Told:
         self.statuses = {number: plain(words) for number, words in statuses}
 
 
-def by_help(binary):
-    whole = help_of(binary)
+def by_help():
+    """What the help tells, and the help of the program and of each command by name."""
+    whole = help_of()
     listed = re.search(r"(?ms)^Commands:\n(.*?)(?=^\S|\Z)", whole)
     commands = set(re.findall(r"(?m)^ {2}([a-z]+)\b", listed[1] if listed else "")) - {"help"}
-    every = {name: help_of(binary, name) for name in sorted(commands)}
+    every = {name: help_of(name) for name in sorted(commands)}
     flags = set(re.findall(FLAG, whole + "".join(every.values())))
     return Told(commands, flags, statuses_of(whole)), {"": whole, **every}
 
 
 def by_page(text):
     """README.md or docs/CLI.md: commands in `pgboard WORD`, statuses in a table under a heading."""
+    # flags of a script of examples are none of the program's
+    text = re.sub(r"(?m)^.*\.py\b.*$", "", text)
     commands = re.findall(r"(?<!-)\bpgboard (?!\d)([a-z]+)\b(?= [\[A-Z<.`]|`|$)", text, re.M)
     rows = re.findall(r"(?m)^\|\s*`?([0-9])`?\s*\|\s*(.*?)\s*\|$", part_of(text, "status(?:es)?"))
-    # flags of bench/run and of the tests are none of the program's
+    # flags of bench/run, of the tests and of the script ./pgboard are none of the program's
     lines = [it for it in text.splitlines() if not re.search(r"bench/|tests/|\brt\b|\bsed\b|\bcurl\b|\bgit\b", it)]
-    return Told(commands, re.findall(FLAG, "\n".join(lines)), rows)
+    return Told(commands, {*re.findall(FLAG, "\n".join(lines))} - {"--rebuild", "--unproved"}, rows)
 
 
 def by_man(text):
@@ -120,48 +109,68 @@ def by_man(text):
     return Told(commands, re.findall(FLAG, text), re.findall(r"(?m)^\.TP\n\.B ([0-9])\n(.*)$", part("EXIT STATUS")))
 
 
-def differs(name, what, wanted, got):
-    return None if wanted == got else f"{name} has the {what} {sorted(got)}, and the help has {sorted(wanted)}"
+def trace_lines(page):
+    """The lines of a trace with their columns, as a page has them in a table or the man page under a heading."""
+    text = common.text_of(page)
+    if page.endswith(".1"):
+        part = re.search(r'(?ms)^\.SH "TRACE FORMAT"$(.*?)(?=^\.SH)', text)[1]
+        # a macro of two letters writes its words without blanks between
+        return {"".join(shlex.split(it)) for it in re.findall(r"(?m)^\.TP\n\.(?:BI|IB) (.*)$", part)}
+    return set(re.findall(r"(?m)^\| `((?:[a-z]+|ID) [A-Z][A-Z ]*;?)` \|", text))
 
 
-def checks(binary):
-    told, helps = by_help(binary)
-    yield "the help has commands", None if told.commands else "no part 'Commands:' of the help lists any"
-    yield "the help has six statuses", None if set(told.statuses) == set("012345") else f"the help has {sorted(told.statuses)}"
-    for name, text in helps.items():
-        # (a command's own words may say less)
-        found = statuses_of(text)
-        yield f"statuses in the help of {name or 'the program'}", None if found and set(dict(found)) <= set(told.statuses) else f"they are {found}"
-        yield f"the short help of {name or 'the program'}", short_help_fault(binary, name)
-    lines = {line_of(name, text) for name, text in helps.items()}
-    for page in SYNOPSES:
-        yield f"synopsis of {page}", differs(page, "synopsis", lines, synopsis_of(page))
-    for page in sorted(PAGES):
-        if not os.path.exists(os.path.join(pages.ROOT, page)):
-            yield page, "the page isn't there"
-            continue
-        text = pages.text_of(page)
-        its = by_man(text) if page.endswith(".1") else by_page(text)
-        yield f"commands in {page}", differs(page, "commands", told.commands, its.commands)
-        yield f"statuses in {page}", differs(page, "statuses", set(told.statuses.items()), set(its.statuses.items()))
-        if page == "README.md":
-            yield f"flags in {page}", f"{page} has {sorted(its.flags - told.flags)}, which the help hasn't" if its.flags - told.flags else None
-        else:
-            yield f"flags in {page}", differs(page, "flags", told.flags, its.flags)
-    yield "the version", version_fault(binary)
+class HelpAgrees(unittest.TestCase):
+    @classmethod
+    def setUpClass(cls):
+        cls.told, cls.helps = by_help()
 
+    def test_the_help_has_commands_and_six_statuses(self):
+        self.assertTrue(self.told.commands)
+        self.assertEqual(set(self.told.statuses), set("012345"))
 
-def version_fault(binary):
-    ran = subprocess.run([binary, "--version"], stdin=subprocess.DEVNULL, stdout=subprocess.PIPE, timeout=20)
-    printed = ran.stdout.decode().split()[-1:]
-    newest = re.findall(r"(?m)^## ([0-9][0-9.]*)", pages.text_of("CHANGELOG.md"))[:1]
-    man = re.findall(r'"pgboard ([0-9.]+)"', pages.text_of("docs/pgboard.1"))
-    return None if printed == newest == man else f"the program prints {printed}, CHANGELOG.md begins with {newest}, the man page has {man}"
+    def test_the_help_of_each_command_has_statuses_of_the_program(self):
+        for name, text in self.helps.items():
+            with self.subTest(name):
+                # (a command's own words may say less)
+                self.assertTrue(statuses_of(text))
+                self.assertLessEqual(set(dict(statuses_of(text))), set(self.told.statuses))
 
+    def test_the_short_help_says_the_same_without_examples(self):
+        for name, whole in self.helps.items():
+            with self.subTest(name):
+                short = help_of(*[name] if name else [], flag="-h")
+                self.assertNotIn("Example", short)
+                self.assertIn("Example", whole)
+                self.assertEqual((line_of(name, short), statuses_of(short)), (line_of(name, whole), statuses_of(whole)))
 
-def main():
-    return harness.report("help_agrees", checks(harness.binary()))
+    def test_each_synopsis(self):
+        lines = {line_of(name, text) for name, text in self.helps.items()}
+        for page in SYNOPSES:
+            with self.subTest(page):
+                self.assertEqual(synopsis_of(page), lines)
+
+    def test_commands_flags_and_statuses_of_each_page(self):
+        for page in sorted(PAGES):
+            text = common.text_of(page)
+            its = by_man(text) if page.endswith(".1") else by_page(text)
+            with self.subTest(page):
+                self.assertEqual(its.commands, self.told.commands)
+                if page == "README.md":
+                    self.assertLessEqual(its.flags, self.told.flags)
+                else:
+                    self.assertEqual((its.statuses, its.flags), (self.told.statuses, self.told.flags))
+
+    def test_the_lines_of_a_trace(self):
+        self.assertEqual(len(trace_lines("docs/TRACE.md")), 6)
+        self.assertEqual(trace_lines("docs/pgboard.1"), trace_lines("docs/TRACE.md"))
+
+    def test_the_version(self):
+        ((printed, kit),) = re.findall(r"^pgboard (\S+)\nkit: (.*)\n", common.run([common.PROGRAM, "--version"])[1].decode())
+        self.assertEqual([printed], re.findall(r"(?m)^## ([0-9][0-9.]*)", common.text_of("CHANGELOG.md"))[:1])
+        self.assertEqual([printed], re.findall(r'"pgboard ([0-9.]+)"', common.text_of("docs/pgboard.1")))
+        self.assertEqual(kit, common.run(["rt", "version"])[1].decode().strip())
+        self.assertEqual([kit], re.findall(r"the kit's line `([^`]*)`", common.text_of("README.md")))
 
 
 if __name__ == "__main__":
-    sys.exit(main())
+    common.main()

@@ -1,22 +1,23 @@
-"""Runs the commands of a page: a block `sh` that is followed by a block `text` has to print exactly that.
+#!/usr/bin/env python3
+"""Runs the commands that the pages show and compares what they print, and fails where a link between pages leads nowhere.
 
-The blocks run by bash, one after the other, in a folder that looks like the top of the repository: `pgboard` there is
-the built program, and `examples` a copy. Standard output and standard error come together, as in a terminal.
+In a page a block `sh` that is followed by a block `text` is an example; other blocks are not run. It is run by bash in a folder
+that looks like the top of the repository: `pgboard` there is the built program, and `examples` a copy. Standard output and
+standard error come together, as in a terminal. docs/FAULTS.md has a test of its own.
 """
 
-import os
+import pathlib
 import re
 import shutil
-import subprocess
+import tempfile
+import unittest
 
-ROOT = os.path.dirname(os.path.dirname(os.path.abspath(__file__)))
-SECONDS = 60
+import common
+
 BLOCK = re.compile(r"(?ms)^```(\w*)\n(.*?)^```$")
-
-
-def text_of(page):
-    with open(os.path.join(ROOT, page), encoding="utf-8") as file:
-        return file.read()
+# the page that has a whole C program
+C_PAGE = "docs/INTEROP.md"
+LINK = re.compile(r"\[[^\]]*\]\(([^)\s]+)\)")
 
 
 def examples(text):
@@ -35,14 +36,43 @@ def c_program(text):
     return found.groups() if found else None
 
 
-def furnish(room, binary):
-    """Makes the folder look like the top of the repository."""
-    os.symlink(binary, os.path.join(room, "pgboard"))
-    if os.path.isdir(os.path.join(ROOT, "examples")):
-        shutil.copytree(os.path.join(ROOT, "examples"), os.path.join(room, "examples"))
-
-
-def ran(room, commands):
+def ran(commands):
     """Runs a block and returns its output and the last status."""
-    done = subprocess.run(["bash", "-c", commands], cwd=room, stdin=subprocess.DEVNULL, stdout=subprocess.PIPE, stderr=subprocess.STDOUT, timeout=SECONDS)
-    return done.stdout.decode("utf-8", "backslashreplace"), done.returncode
+    with tempfile.TemporaryDirectory(prefix="pgboard-pages-") as room:
+        pathlib.Path(room, "pgboard").symlink_to(common.PROGRAM)
+        shutil.copytree(common.ROOT / "examples", f"{room}/examples")
+        status, out, _ = common.run(["bash", "-c", f"exec 2>&1\n{commands}"], cwd=room)
+    return out.decode("utf-8", "backslashreplace"), status
+
+
+def prose(page):
+    return BLOCK.sub("", common.text_of(page))
+
+
+def anchors(page):
+    """The headings of a page, as links name them."""
+    heads = re.findall(r"(?m)^#+ +(.*)$", prose(page))
+    return {re.sub(r"[^\w\- ]", "", it.lower()).replace(" ", "-") for it in heads}
+
+
+class Pages(unittest.TestCase):
+    def test_each_example_prints_what_stands_there(self):
+        found = [it for it in sorted(common.ROOT.glob("docs/*.md")) if it.name != "FAULTS.md"]
+        for page in ["README.md", "examples/README.md", *found]:
+            for head, commands, wanted in examples(common.text_of(page)):
+                with self.subTest(f"{page}, {head}"):
+                    self.assertEqual(ran(commands)[0], wanted, commands)
+
+    def test_each_link_leads_somewhere(self):
+        for page in sorted(it.relative_to(common.ROOT) for it in common.ROOT.glob("**/*.md")):
+            for link in [] if {".git", "out"} & set(page.parts) else LINK.findall(prose(page)):
+                path, _, anchor = link.partition("#")
+                to = page.parent / path if path else page
+                if not re.match(r"[a-z]+:", link):
+                    with self.subTest(f"{page}: {link}"):
+                        self.assertTrue((common.ROOT / to).exists())
+                        self.assertTrue(not anchor or to.suffix != ".md" or anchor in anchors(to))
+
+
+if __name__ == "__main__":
+    common.main()

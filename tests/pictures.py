@@ -1,24 +1,21 @@
 #!/usr/bin/env python3
 """Compares the pictures of docs/pictures with what examples/draw.py gives: the Graphviz text everywhere, and the SVG where
-`dot` is the one that made it.
+`dot` is the one that made it. What it refuses is told.
 
-    tests/pictures.py BINARY [--write]
+    tests/pictures.py PROGRAM [--write]
 
-With --write they are made anew. Refused texts and command lines have to be told. The last line is 'N passed, M failed'.
+With --write the pictures are made anew.
 """
 
 import os
 import re
 import shutil
-import subprocess
 import sys
-import tempfile
+import unittest
 
-import harness
+import common
 
-ROOT = harness.ROOT
-SCRIPT = os.path.join(ROOT, "examples", "draw.py")
-PICTURES = os.path.join(ROOT, "docs", "pictures")
+SCRIPT = common.ROOT / "examples" / "draw.py"
 
 # name, what is drawn; TRACE is the journal of one worker on examples/requests.pg
 DRAWN = [
@@ -28,7 +25,7 @@ DRAWN = [
 ]
 
 LARGE = "".join(f"{id} 0 0 {id};\n" for id in range(201))
-# name, words, the text of the game, a word of what is said
+# what is refused: the words, the text of the game, a word of what is said
 REFUSED = [
     ("a_game_of_201_vertices", ["GAME"], LARGE, "201 vertices are too many"),
     ("a_text_that_is_no_game", ["GAME"], "0 0 2 0;", "not understood: 0 0 2 0"),
@@ -40,70 +37,57 @@ REFUSED = [
 ]
 
 
-def ran(words, path=None):
-    done = subprocess.run([sys.executable, "-B", SCRIPT, *words], cwd=ROOT, capture_output=True, timeout=60, env={**os.environ, **({"PATH": path} if path else {})})
-    return done.returncode, done.stdout.decode(), done.stderr.decode()
-
-
-def stored(name):
-    try:
-        with open(os.path.join(PICTURES, name), encoding="utf-8") as file:
-            return file.read()
-    except OSError:
-        return None
+def drawn(words, path=None):
+    """What the script gives: status, output and standard error."""
+    status, out, err = common.run([sys.executable, "-B", SCRIPT, *words], cwd=common.ROOT, env={**os.environ, "PATH": path or os.environ["PATH"]})
+    return status, out.decode(), err.decode()
 
 
 def made_by(svg):
     """The version of Graphviz that a picture names."""
-    found = re.search(r"graphviz version ([0-9.]+)", svg or "")
-    return found and found[1]
+    return re.findall(r"graphviz version ([0-9.]+)", svg)
 
 
-def faults(name, words, write):
-    """What is wrong with a picture: its text, and its SVG where this Graphviz is the one that made it."""
-    for flags, end in (([], ".dot"), (["--svg"], ".svg")):
-        if flags and not shutil.which("dot"):
-            continue
-        status, out, err = ran([*flags, *words])
-        if write and status == 0:
-            with open(os.path.join(PICTURES, name + end), "w", encoding="utf-8") as file:
-                file.write(out)
-        kept = stored(name + end)
-        if flags and made_by(kept) != made_by(out):
-            continue
-        if status != 0 or out != kept:
-            yield f"{name}{end} is not what the script gives: {err or 'another picture'}"
+class Pictures(unittest.TestCase):
+    def setUp(self):
+        self.room = common.room(self)
 
-
-def refusals(room):
-    """What is wrong with what is said of texts that are refused, and where there is no `dot`."""
-    game = os.path.join(room, "game.pg")
-    for name, words, text, said in REFUSED:
-        with open(game, "w", encoding="utf-8") as file:
-            file.write(text)
-        status, out, err = ran([game if it == "GAME" else it for it in words])
-        yield None if (status, out) == (2, "") and said in err else f"{name}: {status}, {out!r}, {err!r}"
-    status, out, err = ran(["--svg", "examples/requests.pg"], room)
-    yield None if (status, out) == (2, "") and "dot" in err else f"without dot: {status}, {out!r}, {err!r}"
-
-
-def checks():
-    with tempfile.TemporaryDirectory(prefix="pgboard-pictures-") as room:
-        trace = os.path.join(room, "trace")
-        with open(trace, "wb") as file:
-            subprocess.run([os.path.abspath(sys.argv[1]), "trace", "--workers", "1", "examples/requests.pg"], cwd=ROOT, stdout=file, check=True, timeout=60)
+    def test_the_pictures_are_what_the_script_gives(self):
+        trace = self.room / "trace"
+        trace.write_bytes(common.run([common.PROGRAM, "trace", "--workers", "1", "examples/requests.pg"], cwd=common.ROOT)[1])
         for name, words in DRAWN:
-            whole = list(faults(name, [trace if it == "TRACE" else it for it in words], "--write" in sys.argv))
-            yield name, "; ".join(whole) or None
-        for why in refusals(room):
-            yield "refusals", why
+            for flags, end in (([], ".dot"), (["--svg"], ".svg")):
+                if not flags or shutil.which("dot"):
+                    with self.subTest(name + end):
+                        self.judge(name + end, [*flags, *(trace if it == "TRACE" else it for it in words)])
 
+    def judge(self, name, words):
+        status, out, err = drawn(words)
+        self.assertEqual(status, 0, err)
+        path = common.ROOT / "docs" / "pictures" / name
+        if WRITE:
+            path.write_text(out, encoding="utf-8")
+        kept = path.read_text(encoding="utf-8")
+        # (another version of Graphviz lays out in another way)
+        if name.endswith(".dot") or made_by(kept) == made_by(out):
+            self.assertEqual(out, kept)
 
-def main():
-    if len(sys.argv) < 2:
-        sys.exit("tests/pictures.py BINARY [--write]")
-    return harness.report("pictures", checks())
+    def test_what_is_refused(self):
+        for name, words, text, said in REFUSED:
+            game = self.room / "game.pg"
+            game.write_text(text, encoding="utf-8")
+            with self.subTest(name):
+                status, out, err = drawn([game if it == "GAME" else it for it in words])
+                self.assertEqual((status, out), (2, ""))
+                self.assertIn(said, err)
+
+    def test_where_there_is_no_dot(self):
+        status, out, err = drawn(["--svg", "examples/requests.pg"], self.room)
+        self.assertEqual((status, out), (2, ""))
+        self.assertIn("dot", err)
 
 
 if __name__ == "__main__":
-    sys.exit(main())
+    WRITE = "--write" in sys.argv
+    sys.argv = [it for it in sys.argv if it != "--write"]
+    common.main()

@@ -1,30 +1,26 @@
 #!/usr/bin/env python3
 """Compares a built program with plain definitions, and with the comparator, on small random games and texts.
 
-    tests/random_games.py BINARY [COMPARATOR] [--count N] [--seed S] [--tidy]
+    tests/random_games.py PROGRAM [--comparator PATH] [--count N] [--seed S] [--tidy]
 
-Each game goes through `tidy` and `verify` (with right and wrong solutions), its texts also with random damage; the
-answers have to be those of plain.py, byte by byte, and the comparator's. What `solve` and `trace` write is read back
-and judged by the definitions, and so is what `solve` writes from parts of a solution; parts with a fault in them have to
-be refused for the first one. Of some games each part of each player's winning region is handed in: it is taken exactly
-where it is a region. With `--tidy` games are read and written alone. The same seed gives the same games. The last line is
-'N passed, M failed'.
+The answers of `tidy` and `verify` are those of plain.py, byte by byte, and the comparator's, also for texts with random damage.
+What `solve` and `trace` write is judged by the definitions; parts of a solution, with a fault or without, are handed in as
+known. With `--tidy` games are read and written alone. The same seed gives the same games.
 """
 
 import argparse
 import concurrent.futures
 import itertools
 import os
+import pathlib
 import random
-import subprocess
 import sys
 import tempfile
+import unittest
 
+import common
 import plain
 
-import harness
-
-SECONDS = 20
 BLANKS = [b" ", b"\n", b"\t", b"\r\n", b"  ", b" \n "]
 PIECES = [b"0", b"1", b"9", b"00", b",", b";", b" ", b'"', b"-", b"parity", b"start", b"paritysol", b"x", b"2147483648", b"\xff", b"%", b"\n"]
 
@@ -95,15 +91,8 @@ def damaged(chance, text):
     """The text with a few bytes left out, put in or cut off."""
     for _ in range(chance.randint(1, 2)):
         at = chance.randint(0, len(text))
-        kind = chance.randrange(4)
-        if kind == 0:
-            text = text[:at] + text[at + chance.randint(1, 3) :]
-        elif kind == 1:
-            text = text[:at] + chance.choice(PIECES) + text[at:]
-        elif kind == 2:
-            text = text[:at] + chance.choice(PIECES) + text[at + 1 :]
-        else:
-            text = text[:at]
+        piece, count = chance.choice([(b"", chance.randint(1, 3)), (chance.choice(PIECES), chance.randint(0, 1)), (b"", len(text))])
+        text = text[:at] + piece + text[at + count :]
     return text
 
 
@@ -122,18 +111,14 @@ def random_solution(chance, game):
 
 def right_solution(game):
     """A solution by trying all sets and choices of a player in turn: the greatest region of each."""
-    solution = {}
-    for player in (0, 1):
-        region = best_region(game, player)
-        solution.update({id: (player, choice) for id, choice in region.items()})
-    return solution
+    return {id: (player, choice) for player in (0, 1) for id, choice in best_region(game, player).items()}
 
 
 def best_region(game, player):
     """The union of all regions of a player, found one choice after the other."""
     won = {}
     owned = [id for id in game if game[id][1] == player]
-    for choices in every_choice([sorted(game[id][2]) for id in owned]):
+    for choices in itertools.product(*(sorted(game[id][2]) for id in owned)):
         chosen = dict(zip(owned, choices))
         solution = {id: (player, chosen.get(id)) for id in game}
         # what can reach a bad closed walk under these choices is lost, the rest is a region
@@ -144,100 +129,62 @@ def best_region(game, player):
     return won
 
 
-def every_choice(rows):
-    if not rows:
-        yield []
-        return
-    for rest in every_choice(rows[1:]):
-        for it in rows[0]:
-            yield [it, *rest]
-
-
 class Programs:
-    def __init__(self, binary, comparator, room):
-        self.binary, self.comparator, self.room = binary, comparator, room
+    """The program and the comparator, if there is one, in a folder."""
 
-    def put(self, name, text):
-        with open(os.path.join(self.room, name), "wb") as file:
-            file.write(text)
+    def __init__(self, room):
+        self.every, self.room = [it for it in (common.PROGRAM, GIVEN.comparator) if it], pathlib.Path(room)
 
-    def run(self, program, words, given=b""):
-        ran = subprocess.run([program, *words], input=given, capture_output=True, cwd=self.room, timeout=SECONDS)
-        return ran.returncode, ran.stdout, ran.stderr
+    def run(self, words, given=b"", program=None):
+        return common.run([program or common.PROGRAM, *words], given, cwd=self.room)
 
     def differs(self, words, given, wanted):
         """Runs both programs, and returns what differs from the wanted answer."""
-        for program in filter(None, (self.binary, self.comparator)):
-            got = self.run(program, words, given)
+        for program in self.every:
+            got = self.run(words, given, program)
             if got != wanted:
                 return f"{os.path.basename(program)} {' '.join(words)}: {got}, and not {wanted}"
         return None
 
 
-def refused(text, words):
-    return 3, b"", f"pgboard: {text}: {words}\n".encode()
-
-
-def tidy_fault(programs, text):
-    game = plain.game_of(text)
-    wanted = refused("game", game) if isinstance(game, str) else (0, plain.written_game(game).encode(), b"")
-    return programs.differs(["tidy"], text, wanted)
-
-
 def verify_fault(programs, text, solution_text, joined):
-    game = plain.game_of(text)
-    solution = None if isinstance(game, str) else plain.solution_of(game, solution_text)
-    if isinstance(game, str):
-        wanted = refused("game", game)
-    elif isinstance(solution, str):
-        wanted = refused("solution", solution)
-    else:
-        line = plain.verdict(game, solution)
-        wanted = (0 if line == "ok\n" else 1, line.encode(), b"")
+    wanted = plain.verified(text, solution_text)
     if joined:
         return programs.differs([], text + b"%" + solution_text, wanted)
-    programs.put("game.pg", text)
-    programs.put("game.sol", solution_text)
+    (programs.room / "game.pg").write_bytes(text)
+    (programs.room / "game.sol").write_bytes(solution_text)
     return programs.differs(["verify", "game.pg", "game.sol"], b"", wanted)
 
 
 def solve_fault(programs, text, game, chance):
     """Judges what the program's own `solve` writes."""
-    words = ["solve", *chance.choice([[], ["--workers", "1", "--bound", "0"], ["--workers", "1"], ["--workers", "2"], ["--workers", "7"], ["--workers", "64"], ["--workers", "3", "--bound", "2"]])]
-    status, out, err = programs.run(programs.binary, words, text)
-    if (status, err) != (0, b""):
-        return f"{words}: {(status, out, err)}"
-    solution = plain.solution_of(game, out)
-    if isinstance(solution, str):
-        return f"{words} writes {out}: {solution}"
-    line = plain.verdict(game, solution)
-    if line != "ok\n":
-        return f"{words} writes {out}: {line}"
-    owned = {id: (winner, choice if game[id][1] == winner else None) for id, (winner, choice) in solution.items()}
-    if plain.written_solution(game, owned).encode() != out:
-        return f"{words} writes {out}, which is not the written form, or has a choice too many"
-    wanted = (0, plain.written_winners(game, solution).encode(), b"")
-    return programs.differs(["solve", "--winners"], text, wanted)
+    words = ["solve", *chance.choice(["", "--workers 1 --bound 0", "--workers 1", "--workers 2", "--workers 7", "--workers 64", "--workers 3 --bound 2"]).split()]
+    status, out, err = programs.run(words, text)
+    why = plain.written_fault(game, out) if (status, err) == (0, b"") else (status, err)
+    if why:
+        return f"{words} writes {out}: {why}"
+    return programs.differs(["solve", "--winners"], text, (0, plain.written_winners(game, plain.solution_of(game, out)).encode(), b""))
 
 
 def known_fault(programs, text, game, known_text, chance):
     """Judges what the program writes from a text of what is known."""
-    programs.put("part.sol", known_text)
+    (programs.room / "part.sol").write_bytes(known_text)
     words = ["solve", "--known", "part.sol", "--workers", chance.choice("1234"), "--bound", chance.choice("048")]
-    got = programs.run(programs.binary, words, text)
-    known = plain.known_of(game, known_text)
-    if isinstance(known, str):
-        wanted = refused("solution", known)
-        return None if got == wanted else f"{known_text}: {got}, and not {wanted}"
-    why = plain.known_fault(game, known)
-    if (why is None) != all(plain.is_known_region(game, known, player) for player in (0, 1)):
-        return f"the definitions differ on {known}: {why}"
-    if why:
+    got = programs.run(words, text)
+    try:
+        known = plain.known_of(game, known_text)
+        why = plain.known_fault(game, known)
+        if (why is None) != all(plain.is_region(game, known, player) for player in (0, 1)):
+            return f"the definitions differ on {known}: {why}"
         wanted = 1, b"", f"pgboard: known: {why}\n".encode()
+    except plain.Refused as refusal:
+        why, wanted = refusal, plain.refused("solution", refusal)
+    if why:
         return None if got == wanted else f"{known_text}: {got}, and not {wanted}"
-    solution = plain.solution_of(game, got[1]) if got[0] == 0 and not got[2] else str(got)
-    if isinstance(solution, str) or plain.verdict(game, solution) != "ok\n" or plain.written_solution(game, solution).encode() != got[1]:
-        return f"from {known_text}: {got}, {solution}"
+    why = plain.written_fault(game, got[1]) if got[0] == 0 and not got[2] else "it is refused"
+    if why:
+        return f"from {known_text}: {got}, {why}"
+    solution = plain.solution_of(game, got[1])
     kept = {id: (winner, choice if game[id][1] == winner else None) for id, (winner, choice) in known.items()}
     other = {id: solution[id] for id in kept if solution[id] != kept[id]}
     return f"from {known_text} it has {other}" if other else None
@@ -273,24 +220,25 @@ def each_part_fault(programs, text, game, solution, chance):
 def trace_fault(programs, text, game, chance):
     """Judges what the program's own `trace` writes."""
     workers = chance.choice([1, 2, 4, 64])
-    status, out, err = programs.run(programs.binary, ["trace", "--workers", str(workers)], text)
-    why = str((status, out, err)) if (status, err) != (0, b"") else plain.trace_fault(game, workers, out)
+    status, out, err = programs.run(["trace", "--workers", str(workers)], text)
+    why = plain.trace_fault(game, workers, out) if (status, err) == (0, b"") else (status, err)
     return f"trace --workers {workers} writes {out}: {why}" if why else None
 
 
-def faults(programs, chance, tidy_alone):
+def faults(programs, chance):
     """The checks of one random game, each a name and what is wrong or None."""
     game = random_game(chance)
     text = random_game_text(chance, game)
-    yield "tidy", tidy_fault(programs, text)
-    yield "tidy of a damaged text", tidy_fault(programs, damaged(chance, text))
-    if tidy_alone:
+    yield "tidy", programs.differs(["tidy"], text, plain.tidied(text))
+    broken = damaged(chance, text)
+    yield "tidy of a damaged text", programs.differs(["tidy"], broken, plain.tidied(broken))
+    if GIVEN.tidy:
         return
-    for solution in (right_solution(game), random_solution(chance, game)):
+    right = right_solution(game)
+    for solution in (right, random_solution(chance, game)):
         solution_text = random_solution_text(chance, solution)
         yield "verify", verify_fault(programs, text, solution_text, chance.random() < 0.5)
     yield "verify of a damaged text", verify_fault(programs, text, damaged(chance, solution_text), False)
-    right = right_solution(game)
     part = some_of(chance, right)
     yield "solve from a part", known_fault(programs, text, game, random_solution_text(chance, part), chance)
     wrong = random_solution_text(chance, faulty(chance, game, part))
@@ -299,8 +247,7 @@ def faults(programs, chance, tidy_alone):
     yield "solve from a damaged text", known_fault(programs, text, game, damaged(chance, wrong), chance)
     if chance.random() < 0.03:
         yield "solve from each part of a region", each_part_fault(programs, text, game, right, chance)
-    if plain.verdict(game, right) != "ok\n":
-        yield "the definitions", f"the solution found by trying all choices of {game} is none"
+    yield "the definitions", None if plain.verdict(game, right) == "ok\n" else f"the solution found by trying all choices of {game} is none"
     yield "solve", solve_fault(programs, text, game, chance)
     yield "trace", trace_fault(programs, text, game, chance)
     if chance.random() < 0.02:
@@ -309,31 +256,26 @@ def faults(programs, chance, tidy_alone):
         yield "trace of a larger game", trace_fault(programs, random_game_text(chance, larger), larger, chance)
 
 
-def judged(number, given):
+def judged(number):
     """The checks of the game of this number, as a list."""
-    comparator = given.comparator and os.path.abspath(given.comparator)
-    chance = random.Random(f"{given.seed} {number}")
     with tempfile.TemporaryDirectory(prefix="pgboard-random-") as room:
-        return list(faults(Programs(os.path.abspath(given.binary), comparator, room), chance, given.tidy))
+        return list(faults(Programs(room), random.Random(f"{GIVEN.seed} {number}")))
 
 
-def all_checks(given):
-    with concurrent.futures.ThreadPoolExecutor(4) as pool:
-        for number, checks in enumerate(pool.map(lambda it: judged(it, given), range(given.count))):
-            for name, why in checks:
-                yield f"{name} (seed {given.seed}, game {number})", why
-
-
-def main():
-    parser = argparse.ArgumentParser(description="Compares a built program with plain definitions on random games.")
-    parser.add_argument("binary")
-    parser.add_argument("comparator", nargs="?")
-    parser.add_argument("--count", type=int, default=800)
-    parser.add_argument("--seed", type=int, default=1)
-    parser.add_argument("--tidy", action="store_true")
-    given = parser.parse_args()
-    return harness.report("random_games", all_checks(given))
+class RandomGames(unittest.TestCase):
+    def test_each_game(self):
+        with concurrent.futures.ThreadPoolExecutor(4) as pool:
+            for number, checks in enumerate(pool.map(judged, range(GIVEN.count))):
+                for name, why in checks:
+                    with self.subTest(name, seed=GIVEN.seed, game=number):
+                        self.assertIsNone(why)
 
 
 if __name__ == "__main__":
-    sys.exit(main())
+    parser = argparse.ArgumentParser(add_help=False)
+    parser.add_argument("--comparator", type=os.path.abspath)
+    parser.add_argument("--count", type=int, default=800)
+    parser.add_argument("--seed", type=int, default=1)
+    parser.add_argument("--tidy", action="store_true")
+    GIVEN, sys.argv[1:] = parser.parse_known_args()
+    common.main()

@@ -1,26 +1,21 @@
 #!/usr/bin/env python3
 """Fails where a README.md of the repository's top or of a crate shows code that no test runs.
 
-A block `rust` stands, line by line, in a unit test of its crate, or in a function that a test there calls. Indentation and
-empty lines don't count, the test may have assertions of its own between two lines, and `use` lines may stand anywhere in the
-file. A block `c` stands in the C program of README.md, which tests/embed.py compiles and runs. A
-block `sh` is run by tests/examples.py or tests/embed.py, and a block `text` is what one of these prints, or the synopsis that
-tests/help_agrees.py reads. Any other block is refused. Blocks that are changed on purpose, by a word or in their language,
-have to be refused, too. The last line is 'N passed, M failed'.
+A block `rust` stands, line by line, in a unit test of its crate, or in a function that a test there calls; the test may have
+assertions of its own between two lines, and `use` lines may stand anywhere in the file. A block `c` stands in the C program of
+docs/INTEROP.md, which embed.py runs, and pages.py runs the blocks `sh` of README.md; a block `text` is what these print, or the
+synopsis that help_agrees.py reads. Any other block is refused, and so are blocks that are changed on purpose.
 """
 
 import functools
-import glob
 import os
 import re
-import sys
+import unittest
 
+import common
 import help_agrees
 import pages
 
-import harness
-
-ROOT = harness.ROOT
 FENCE = r"(?m)^ *(?:```|~~~)"
 ASSERTION = r"(?:check|assert)\w*!\("
 USE = r"(?:ghost )?use "
@@ -78,8 +73,7 @@ def tests_of(crate):
     """The files of a crate's unit tests: in the crate itself, in a crate of tests of its own, or in the folder of its name in another."""
     name = crate.removeprefix("pg_")
     forms = [f"{crate}/src/**/tests.rt", f"{crate}/src/**/tests/**/*.rt", f"{crate}_tests/src/tests/*.rt", f"*_tests/src/tests/{name}.rt", f"*_tests/src/tests/{name}/**/*.rt"]
-    paths = [path for it in forms for path in glob.glob(os.path.join(ROOT, "crates", it), recursive=True)]
-    return [pages.text_of(it) for it in sorted(set(paths))]
+    return [common.text_of(it) for it in sorted({path for it in forms for path in common.ROOT.glob(f"crates/{it}")})]
 
 
 def rust_fault(page, code):
@@ -91,16 +85,15 @@ def rust_fault(page, code):
 
 def c_fault(page, code):
     """Why C code of a page is not compiled and run."""
-    program = pages.c_program(pages.text_of("README.md"))
+    program = pages.c_program(common.text_of(pages.C_PAGE))
     there = [(it, False) for it in lines_of(program[0])] if program else []
     is_there = any(end_of(lines_of(code), there, at) for at in range(len(there)))
-    return None if is_there else "the C program of README.md, which tests/embed.py runs, hasn't it"
+    return None if is_there else f"the C program of {pages.C_PAGE}, which tests/embed.py runs, hasn't it"
 
 
 def shown(page, text):
     """The blocks of a page that other scripts look at, each as its language and its text."""
-    program = pages.c_program(text) if page == "README.md" else None
-    found = [("text", program[1]), ("sh", program[2])] if program else []
+    found = []
     if page == "README.md":
         for _, commands, printed in pages.examples(text):
             found += [("sh", commands), ("text", printed)]
@@ -126,29 +119,26 @@ def changed(code):
         yield word[0], code[: word.end()] + "0" + code[word.end() :]
 
 
-def let_through(page, text, language, code):
-    """A change of a block that is not refused. What is only printed or run elsewhere is changed in its language alone."""
-    for word, other in changed(code) if language in ("rust", "c") else ():
-        if not fault(page, text, language, other):
-            return f"{word!r} may be another word"
-    return None if fault(page, text, "python", code) else "it may be in any language"
+class ReadmeCode(unittest.TestCase):
+    def test_each_block(self):
+        crates = sorted(str(it.relative_to(common.ROOT)) for it in common.ROOT.glob("crates/*/README.md"))
+        for page in ["README.md", *crates]:
+            text = common.text_of(page)
+            blocks = list(pages.BLOCK.finditer(text))
+            with self.subTest(page):
+                # a fence that is indented, of another kind or left open would hide what stands behind it
+                self.assertEqual(len(re.findall(FENCE, text)), 2 * len(blocks))
+            for at, block in enumerate(blocks, 1):
+                with self.subTest(page, block=at):
+                    self.judge(page, text, block[1], block[2])
 
-
-def checks():
-    crates = sorted(os.path.relpath(it, ROOT) for it in glob.glob(os.path.join(ROOT, "crates", "*", "README.md")))
-    for page in ["README.md", *crates]:
-        text = pages.text_of(page)
-        blocks = list(pages.BLOCK.finditer(text))
-        for at, block in enumerate(blocks, 1):
-            yield f"{page}, block {at}", fault(page, text, block[1], block[2])
-            yield f"{page}, block {at} changed", let_through(page, text, block[1], block[2])
-        # a fence that is indented, of another kind or left open would hide what stands behind it
-        yield f"{page}, fences", None if len(re.findall(FENCE, text)) == 2 * len(blocks) else "some fence begins or ends no block"
-
-
-def main():
-    return harness.report("readme_code", checks())
+    def judge(self, page, text, language, code):
+        self.assertIsNone(fault(page, text, language, code))
+        # what is only printed or run elsewhere is changed in its language alone
+        self.assertIsNotNone(fault(page, text, "python", code))
+        for word, other in changed(code) if language in ("rust", "c") else ():
+            self.assertIsNotNone(fault(page, text, language, other), f"{word} may be another word")
 
 
 if __name__ == "__main__":
-    sys.exit(main())
+    common.main(of_program=False)

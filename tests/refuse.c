@@ -3,8 +3,9 @@
        REFUSE_ALLOC=N  REFUSE_THREAD=N  REFUSE_READ=N  REFUSE_WRITE=N
 
    With REFUSE_FROM=1 every later one of the same kind is refused too. With PIECE=K a read or a write takes at most K
-   bytes. Writes are those to standard output. At the end the four counts go to the file that COUNTS names. What starting
-   a thread takes inside the C library is not counted. */
+   bytes. Writes are those to standard output. With TOGETHER=K a thread waits at its start until K threads have started, or
+   something was refused; after a second it waits no longer. At the end the four counts go to the file that COUNTS names.
+   What starting a thread takes inside the C library is not counted. */
 #define _GNU_SOURCE
 #include <dlfcn.h>
 #include <errno.h>
@@ -21,8 +22,9 @@ enum kind { ALLOC, THREAD, READ, WRITE, KINDS };
 static const char *const names[KINDS] = {"REFUSE_ALLOC", "REFUSE_THREAD", "REFUSE_READ", "REFUSE_WRITE"};
 static atomic_long counts[KINDS];
 static long refused_at[KINDS];
-static long from, piece;
+static long from, piece, together;
 static int counting;
+static atomic_int was_refused;
 static __thread int starting;
 
 static long number(const char *name) {
@@ -34,6 +36,7 @@ __attribute__((constructor)) static void begin(void) {
     for (int kind = 0; kind < KINDS; kind++) refused_at[kind] = number(names[kind]);
     from = number("REFUSE_FROM");
     piece = number("PIECE");
+    together = number("TOGETHER");
     counting = 1;
 }
 
@@ -60,6 +63,7 @@ static int refused(enum kind kind, int error) {
     if (!counting || starting) return 0;
     at = ++counts[kind];
     if (!refused_at[kind] || (from ? at < refused_at[kind] : at != refused_at[kind])) return 0;
+    was_refused = 1;
     errno = error;
     return 1;
 }
@@ -122,12 +126,29 @@ ssize_t write(int file, const void *bytes, size_t count) {
     return refused(WRITE, EIO) ? -1 : next(file, bytes, cut(count));
 }
 
+/* the threads that were started, with what each is to run */
+static struct started { void *(*run)(void *); void *with; } threads[64];
+static atomic_int asked_for, arrived;
+
+static void *waits_for_others(void *own) {
+    struct started *thread = own;
+    arrived++;
+    for (int turn = 0; arrived < together && !was_refused && turn < 10000; turn++) usleep(100);
+    return thread->run(thread->with);
+}
+
 int pthread_create(pthread_t *thread, const pthread_attr_t *how, void *(*run)(void *), void *with) {
     int status;
     NEXT(pthread_create);
     if (refused(THREAD, EAGAIN)) return EAGAIN;
     starting = 1;
-    status = next(thread, how, run, with);
+    if (together && asked_for < 64) {
+        struct started *own = &threads[asked_for++];
+        *own = (struct started){run, with};
+        status = next(thread, how, waits_for_others, own);
+    } else {
+        status = next(thread, how, run, with);
+    }
     starting = 0;
     return status;
 }

@@ -1,76 +1,116 @@
 #!/usr/bin/env python3
-"""Holds docs/THEOREM.md to the sources: the headline, what each part of it says, and each definition that it stands on.
+"""Holds docs/THEOREM.md to the sources: three theorems, what says each of their sentences, and the definitions of these.
 
     tests/theorem.py [--write]
 
-The page has the headline of README.md; under each of its parts the clauses that docs/PROVED.md names for it, as they stand
-in src; then the definitions that these clauses reach, copied from specs, each file after those that it cites; the types of
-the code that are named there; and by name the definitions that the other public contracts reach. A public contract is a
-clause of a call that a crate hands on or that C calls, or of a trait, or how contracts see a type.
-
-What no public contract reaches stands in specs/private/, and nothing else does. `--write` makes the page. The last line is
-'N passed, M failed', by parts and definitions.
+`--write` makes the page from PAGE. There `{{..}}` is a piece of a source, and becomes its text: a clause of a call, a field or
+an equation of a definition, a definition, an invariant of a type, or lines of code. The appendix has each definition that the
+pieces reach, up to those that say how bytes spell a text; these are listed by name. A public contract is a clause of a call
+that a crate exports or that C calls, or of a trait, or how contracts see a type. The definitions that no public contract
+reaches are in specs/private/, and no others are.
 """
 
 import collections
-import glob
 import itertools
-import os
 import re
 import sys
 import unicodedata
+import unittest
 
-sys.dont_write_bytecode = True
 import antt
-import proved_names
-import harness
+import common
+import tables
 
-ROOT = antt.ROOT
-PAGE = os.path.join(ROOT, "docs", "THEOREM.md")
-# the parts of the headline as they stand there, in the order of docs/PROVED.md, each with what it says in other words
-PARTS = [
-    (
-        "Whenever the board's lock is free, whatever was posted and however calls interleaved",
-        "Each answer and each copy that comes through the lock is one of some lawful board of a game within the limits.",
-    ),
-    (
-        "the settled regions are disjoint",
-        "A state gives a vertex at most one winner; nor does the game have a vertex that both players win.",
-    ),
-    (
-        "each is closed against its opponent, with a strategy that stays inside and leaves only closed walks of its winner's parity",
-        "What is settled for a player is a region of his: `IsRegion` in each state.",
-    ),
-    ("neither attracts a further vertex", "What a player's settled vertices attract in the whole game is among them."),
-    (
-        "every prefix of the journal replays to such a board",
-        "After the first k entries, for each k, the state is lawful; each entry answers its claim on the state before it.",
-    ),
-    (
-        "all shares together are the number settled",
-        "At the closing the amounts of all shares add up to the number of rows in the journal.",
-    ),
-    (
-        "a full board is the game's only solution",
-        "A board has a solution exactly where it is full; there each vertex's winner is the one player who wins it, "
-        "and choices stand exactly where the winner owns the vertex.",
-    ),
+PAGE = """# The theorem
+
+Three theorems say what a user of pgboard may rely on. Each table has a sentence of the theorem beside the clause or the field that says it. The prover has checked each clause against its body. The definitions follow: first the few that matter most, then all others in the [appendix](#appendix).
+
+This page is made of the sources by `tests/theorem.py --write`, and `./test` fails where it differs from them. [PROVED.md](PROVED.md) has the premises, every other promise, and for each a wrong body that the prover refuses.
+
+In a clause `result` is what the call returns. `x.old` and `x.new` are values before and after the call, and `x.now` is one that the call only reads. In a definition `(v : ℕ) →` is 'for each v' and `(v : ℕ) ×` is 'there is a v with'. Between statements `→` is 'implies', `×` 'and', `⊎` 'or'. `⊥` never holds and `Unit {0}` always does. A record states all of its fields. `left` is the bytes that a source still has, and `taken` those that a sink has taken, where the device knows them: one over memory does, and a file does not.
+
+## Verify
+
+**`pgboard verify` prints `ok` exactly where the second file is a solution of the game in the first, and otherwise the first fault of that solution.**
+
+| Sentence | What says it |
+|---|---|
+| A verdict is about the texts of the two files | {{clause pgboard/src/run.rt run_verify judged}} |
+| They spell a game, and winners and choices for it | {{field pgboard.specs.Joined.IsJudged game_is}}, {{field pgboard.specs.Joined.IsJudged solution_is}} |
+| The verdict `Holds` is given only for a solution | {{equation pgboard.specs.Joined.IsVerdict Holds}} |
+| The verdict `Fails` names the first fault | {{equation pgboard.specs.Joined.IsVerdict Fails}} |
+| A solution has no fault, so it gets `Holds` | {{clause pg_text/src/laws.rt no_fault }}, where {{equation pg_text.specs.Laws.SolutionHasNoFault =}} |
+| The line of the verdict goes out, and nothing else | {{clause pgboard/src/run.rt run_verify written}} |
+| Input that is no such text gets its first fault and no verdict, and so do failed devices and refused memory | {{clause pgboard/src/run.rt run_verify fault}} |
+
+## Solve
+
+**What `pgboard solve` prints is a solution of the game, for every number of workers and every schedule.**
+
+| Sentence | What says it |
+|---|---|
+| What goes out is the text that the record `IsSolveOutput` describes | {{clause pgboard/src/solve.rt run_solve written}} |
+| The file spells the game | {{field pgboard.specs.Solving.IsSolveOutput game_is}} |
+| The text is that of an exact solution | {{equation pgboard.specs.Solving.IsSolveText false}} |
+| With `--winners` it has exactly the winners | {{equation pgboard.specs.Solving.IsSolveText true}} |
+| What is given by `--known` is used only where it is right | {{field pgboard.specs.Solving.IsSolveOutput regions}} |
+| For every number of workers and every schedule: the premises are of two numbers, and none is of threads, gate or finder | {{premises pgboard/src/solve.rt run_solve}} |
+
+## Board
+
+**{{headline}}**
+
+The lock holds a `LockedBoard`. The prover checks the invariant of this type, and that of the `Board` in it, wherever the lock is released. So both hold whenever the lock is free. A contract can't name the board under a lock: those of `Office::post`, `Office::settle` and `Office::copy` speak of some lawful board ([PROVED.md](PROVED.md#the-headline-part-by-part)).
+
+```text
+{{code pg_board/src/office.rt LockedBoard}}
+impl Board {{invariant pg_board/src/board.rt Board}}
+{{item pg_board.specs.private.Regions.IsBoard}}
+```
+
+| Sentence | What says it |
+|---|---|
+{{parts}}
+
+## Definitions
+
+```text
+{{items}}
+```
+
+"""
+# the parts of the headline, in the order of docs/PROVED.md, each with what says it
+PARTS = re.findall(
+    r"(?m)^(\S.*)\n    (.*)$",
+    """
+Whenever the board's lock is free, whatever was posted and however calls interleaved
+    {{field pg_board.specs.private.Regions.IsBoard lawful}}, of the board under the lock
+the settled regions are disjoint
+    {{equation pg_board.specs.State.State =}}: a vertex has one winner; {{equation pg_board.specs.Laws.WinnersAreDisjoint =}}
+each is closed against its opponent, with a strategy that stays inside and leaves only closed walks of its winner's parity
+    {{field pg_board.specs.State.IsLawfulState regions}}
+neither attracts a further vertex
+    {{field pg_board.specs.State.IsLawfulState attracted}}
+every prefix of the journal replays to such a board
+    {{field pg_board.specs.Journal.IsLawful states}}, {{field pg_board.specs.Journal.IsLawful answered}}
+all shares together are the number settled
+    `LockedBoard.exact`, where the book's total is the sum of all shares; {{clause pg_board/src/office.rt Office::close exact}}
+a full board is the game's only solution
+    {{clause pg_board/src/board.rt Board::solution full}}, {{clause pg_board/src/board.rt Board::solution solution}}
+""",
+)
+# the definitions that the page shows first
+FIRST = [
+    *("Graph.IsGame", "Kept.kept", "Kept.KeptEdge", "Walk.Walk", "Walk.ClosedWalk", "Walk.IsGoodFor"),
+    *("Region.OnlyGoodWalks", "Region.IsRegion", "Region.Wins"),
 ]
-INTRODUCTION = (
-    "Below is what this says: each part with the clauses that carry it, then the types and all definitions that these clauses "
-    "stand on. The page is made of the sources by `tests/theorem.py --write`; `./test` fails where it differs from them. "
-    "Premises, and for each part a wrong body that its clauses refuse: [PROVED.md](PROVED.md#the-headline-part-by-part)."
+FIRST = [f"pg_game.specs.{it}" for it in FIRST] + [f"pg_text.specs.Solution.{it}" for it in ("IsSolution", "IsExactSolution")]
+# modules that say how bytes spell texts, or what the tables beside a journal hold
+BY_NAME = {"pg_text.specs.Reading", "pg_text.specs.Written", "pgboard.specs.Run", "pgboard.specs.Known", "pg_board.specs.private.Regions"}
+OF_TEXTS = (
+    "The theorems reach these definitions too. They say how bytes spell a game or a solution ([FORMATS.md](FORMATS.md)), which "
+    "text is written, and what a board's tables hold beside the journal. What other promises rest on is named in [PROVED.md](PROVED.md)."
 )
-OF_CLAUSES = (
-    "In a clause `result` is what the call answers, `x.now` a value that the call only looks at, and `x.old` is one before the "
-    "call."
-)
-OF_DEFINITIONS = (
-    "A definition with `Type 0` behind it states something. There `(v : ℕ) →` is 'for each v', and between statements `→` is "
-    "'implies'; `(v : ℕ) ×` is 'there is a v such that', and between statements `×` is 'and'; `⊎` is 'or', `⊥` what never holds "
-    "and `Unit {0}` what always does. A record states all its fields."
-)
-OF_OTHERS = "These are reached by other public contracts alone; [PROVED.md](PROVED.md) says which promise stands on which."
 
 
 class Sources:
@@ -79,7 +119,7 @@ class Sources:
     def __init__(self):
         self.items, self.names, self.makers = {}, {}, {}
         for crate in antt.CRATES:
-            for path in antt.paths(crate, "specs"):
+            for path in antt.paths(crate):
                 self.add(path)
 
     def add(self, path):
@@ -90,12 +130,12 @@ class Sources:
             self.makers.update({f"{item.module}.{name}": item.key for name in constructors(item)})
             self.names[item.key] = antt.names_in(item.text, antt.imports(antt.read(path)), own - {item.name}, item.module)
 
-    def reached(self, roots):
-        """The definitions that names reach, and all other names that these definitions have."""
+    def reached(self, roots, ends=frozenset()):
+        """The definitions that names reach, but those of the modules `ends`, and all other names that these definitions have."""
         found, others, left = set(), set(), list(roots)
         while left:
             name = self.whole(left.pop())
-            if name in found or name in others:
+            if name in found or name in others or name.rpartition(".")[0] in ends:
                 continue
             if name in self.items:
                 found.add(name)
@@ -113,29 +153,21 @@ def constructors(item):
     return re.findall(r"(?m)^  (\w+) :", item.text) if "data" in item.kind else []
 
 
-def text_of(*path):
-    with open(os.path.join(ROOT, *path), encoding="utf-8") as file:
-        return file.read()
-
-
 # --- what is public ---
 
 
 def handed_on_files():
     """Each file of src that has something public, with the public names that count there; None where all do."""
     for crate in antt.CRATES:
-        names, open_files = proved_names.handed_on(crate)
-        for path in sorted(glob.glob(os.path.join(ROOT, "crates", crate, "src", "**", "*.rt"), recursive=True)):
-            path = os.path.relpath(path, os.path.join(ROOT, "crates"))
-            if "/tests" not in path:
-                yield path, None if path in open_files else names
+        names, open_files = tables.handed_on(crate)
+        yield from ((path, None if path in open_files else names) for path in tables.sources(crate))
 
 
 def public_clauses():
     """Each public clause: the file, the call and the text."""
     for path, names in handed_on_files():
-        for call, (is_public, contract) in proved_names.calls(path).items():
-            if is_public and (names is None or call.split("::")[0] in names or proved_names.is_export(path, call)):
+        for call, (is_public, contract) in tables.calls(path).items():
+            if is_public and (names is None or call.split("::")[0] in names or tables.is_export(path, call)):
                 yield path, call, contract
         for owner, line in views(path):
             if names is None or owner in names:
@@ -145,9 +177,9 @@ def public_clauses():
 def views(path):
     """How contracts see the types of a file: the type, and each `ghost` line of its implementations but the invariant."""
     owner = ""
-    for line in (proved_names.read(path) or "").splitlines():
+    for line in (tables.read(path) or "").splitlines():
         if re.match(r"(?:pub )?(?:impl|trait)\b", line):
-            owner = proved_names.owner_of(line)
+            owner = tables.owner_of(line)
         elif line == "}":
             owner = ""
         elif owner and re.match(r"    ghost (?!use |invariant)\w+", line):
@@ -158,65 +190,75 @@ def public_names():
     return {name for path, _, text in public_clauses() for name in means(path, text)}
 
 
-def headline_names():
-    """What the clauses of the headline name, and how they see the types whose calls these are."""
-    named = set()
-    for _, _, clauses in parts():
-        for path, call, _, text in clauses:
-            seen = " ".join(line for owner, line in views(path) if owner == call.split("::")[0] and " Value " in line)
-            named |= means(path, text) | means(path, seen)
-    return named
-
-
 def means(path, text):
     """The whole names that a piece of a source file means."""
-    known = antt.imports(proved_names.read(path))
+    known = antt.imports(tables.read(path))
     return antt.names_in(re.sub(r"(?:ensures|requires) \w*", "", text), known, set(), "")
 
 
-# --- the headline ---
+# --- pieces of the sources ---
 
 
 def headline():
-    found = re.search(r"(?m)^\*\*(Whenever .*)\*\*$", text_of("README.md"))
+    found = re.search(r"(?m)^\*\*(Whenever .*)\*\*$", common.text_of("README.md"))
     return found[1]
 
 
-def headline_rows():
-    """For each part the calls that docs/PROVED.md names, with their clauses."""
-    part = re.search(r"(?ms)^## The headline, part by part$(.*?)^## ", text_of("docs", "PROVED.md"))[1]
-    return [proved_names.calls_of(row.split(" | ")[2]) for row in proved_names.rows_of(part)]
+class Pieces:
+    """The pieces that the page asks for, as text; `named` has the whole names that they mean."""
+
+    def __init__(self, sources):
+        self.sources, self.named = sources, set()
+
+    def filled(self, text):
+        return re.sub(r"\{\{(\w+) ([^}]*)\}\}", lambda it: getattr(self, it[1])(*it[2].split(" ")), text)
+
+    def clause(self, path, call, name):
+        """A clause of a call with its text; what the clause and the call's type mean is named."""
+        said = re.search(rf"(?ms)^\s*(?:ensures|requires) {name} ?{{ (.*?) }};?$", tables.calls(path)[call][1])
+        said = " ".join(said[1].split())
+        self.named |= means(path, said)
+        seen = [line for owner, line in views(path) if owner == call.split("::")[0] and " Value " in line]
+        self.named |= means(path, " ".join(seen))
+        return f"{' '.join(f'`{it}`' for it in (call, name) if it)}: `{said}`"
+
+    def premises(self, path, call):
+        """All that a call requires."""
+        names = re.findall(r"(?m)^\s*requires (\w*) ?{", tables.calls(path)[call][1])
+        return ", ".join(self.clause(path, call, it) for it in names)
+
+    def field(self, key, name):
+        """A field of a record with what it states."""
+        said = re.search(rf"(?ms)^  pub {name} : (.*?)(?=^  pub |\Z)", self.item_of(key).text)
+        return f"`{key.rpartition('.')[2]}.{name}`: `{' '.join(said[1].split())}`"
+
+    def equation(self, key, case):
+        """The equation of a definition whose left side has the word; of one with a single equation the word is `=`."""
+        item = self.item_of(key)
+        said = re.search(rf"(?ms)^{item.name}\b(?=[^\n=]*(?<!\w){case}(?!\w)).*?(?=^\S|\Z)", "\n".join(item.lines[1:]))
+        return f"`{' '.join(said[0].split())}`"
+
+    def item(self, key):
+        return "\n".join([*self.sources.items[key].comment, self.sources.items[key].text])
+
+    def item_of(self, key):
+        """A definition; what its fields and equations name is named."""
+        self.named.add(key)
+        return self.sources.items[key]
+
+    def code(self, path, name):
+        return declaration(f"crates/{path}", name)
+
+    def invariant(self, path, name):
+        found = re.search(rf"(?ms)^impl\b[^\n]* for {name}\b.*?^    (ghost invariant = {{ .*? }});$", tables.read(path))
+        return f"{{ {' '.join(found[1].split())} }}"
 
 
-def clause(path, call, name):
-    """The text between the braces of a clause; the empty text where there is none."""
-    _, contract = proved_names.calls(path).get(call, (False, ""))
-    found = re.search(rf"(?ms)^\s*ensures {name} ?{{ (.*?) }};?$", contract)
-    return " ".join(found[1].split()) if found else ""
-
-
-def clauses_of(row):
-    for path, call, names in row:
-        for name in names or [""]:
-            yield path, call, name, clause(path, call, name)
-
-
-def parts():
-    """Each part of the headline: its text, its gloss, and its clauses."""
-    for (text, gloss), row in zip(PARTS, headline_rows()):
-        yield text, gloss, list(clauses_of(row))
-
-
-def headline_fault():
-    """What the headline has beside its parts, or None."""
-    left = headline()
-    for text, _ in PARTS:
-        before, found, left = left.partition(text)
-        if not found or before not in ("", ", ", "; ", "; and "):
-            return f"it does not go on with '{text}'"
-    if left != ".":
-        return f"it ends with '{left}'"
-    return None if len(headline_rows()) == len(PARTS) else "docs/PROVED.md has other parts"
+def declaration(path, name):
+    """A type of the code with its comment, without attributes; None where none is declared so."""
+    start = r"(?m)((?:^///.*\n)*)(?:^#\[.*\n)*^(pub(?:\(crate\))? (?:struct|enum) "
+    shown = re.search(rf"{start}{name}\b[^{{;]*{{\n(?:.*\n)*?}})$", common.text_of(path))
+    return re.sub(r"(?m)^ *#\[.*\n", "", shown[1] + shown[2]) if shown else None
 
 
 # --- the page ---
@@ -245,14 +287,14 @@ def meant(sources, found, these):
             yield f" Here `{item.name}` is that of `{item.path.removeprefix('crates/')}`."
 
 
-def definitions(sources, found):
-    """The definitions, file by file, each with the comment above it."""
+def definitions(sources, found, shown):
+    """The definitions but those that are shown, file by file, each with the comment above it."""
     for module in in_order(sources, found):
-        these = [item for key, item in sources.items.items() if key in found and item.module == module]
-        path = these[0].path
-        names = "".join(meant(sources, found, these))
-        yield f"### `{path.removeprefix('crates/')}`\n\n{antt.head(path)}{names} ([file](../{path}))\n"
-        yield fenced("text", "\n\n".join("\n".join([*it.comment, it.text]) for it in these))
+        these = [item for key, item in sources.items.items() if key in found - shown and item.module == module]
+        for path in sorted({it.path for it in these}):
+            names = "".join(meant(sources, found, these))
+            yield f"[{path.removeprefix('crates/').replace('/specs', '')}](../{path}): {antt.head(path)}{names}"
+            yield fenced("text", "\n".join("\n".join([*it.comment, it.text]) for it in these)).rstrip()
 
 
 def types(names):
@@ -260,9 +302,7 @@ def types(names):
     declared = re.compile(r"(\w+)\.specs\.declared\.([\w.]+?)\.(\w+)\.(?:TheVariants.*|\3)")
     found = {declared.fullmatch(it).groups() for it in names if ".specs.declared." in it}
     for crate, module, name in sorted(found, key=lambda it: (antt.CRATES.index(it[0]), it)):
-        text = text_of("crates", crate, "src", f"{module.replace('.', '/')}.rt")
-        shown = re.search(rf"(?m)((?:^///.*\n)*)(?:^#\[.*\n)*^(pub (?:struct|enum) {name}\b[^{{;]*{{\n(?:.*\n)*?}})$", text)
-        yield f"{crate}::{name}", re.sub(r"(?m)^ *#\[.*\n", "", shown[1] + shown[2]) if shown else None
+        yield f"{crate}::{name}", declaration(f"crates/{crate}/src/{module.replace('.', '/')}.rt", name)
 
 
 def library(names):
@@ -301,53 +341,34 @@ def fenced(kind, text):
     return f"```{kind}\n{text}\n```\n"
 
 
-def shown_clauses(clauses):
-    """Clauses under the calls that they are of."""
-    lines = []
-    for path, call, _, said in clauses:
-        title = f"{path.split('/')[0]}: {call if '::' in call else os.path.basename(path)[:-3] + '::' + call}"
-        lines += ([] if title in lines else [title]) + [f"    {said}"]
-    return "\n".join(lines)
+def first_part(pieces):
+    """The theorems and the definitions that matter most."""
+    parts = "\n".join(f"| {text} | {said} |" for text, said in PARTS)
+    items = "\n".join(pieces.item(pieces.item_of(it).key) for it in FIRST)
+    return pieces.filled(PAGE.replace("{{headline}}", headline()).replace("{{parts}}", parts)).replace("{{items}}", items)
 
 
 def page(sources):
-    found, others = sources.reached(headline_names())
-    every, _ = sources.reached(public_names())
-    yield "# The theorem\n"
-    yield f"**{headline()}**\n"
-    yield f"{INTRODUCTION}\n"
-    yield "## Part by part\n"
-    for number, (text, gloss, clauses) in enumerate(parts(), 1):
-        yield f"**{number}. {text}.** {gloss}\n"
-        yield fenced("text", shown_clauses(clauses))
-    yield f"{OF_CLAUSES}\n"
-    yield "## Types of the code\n"
-    yield "Numbers are natural numbers in clauses and definitions. Of these types they see:\n"
-    yield "\n".join(seen_as(found)) + "\n"
+    pieces = Pieces(sources)
+    yield first_part(pieces)
+    reached, others = sources.reached(pieces.named, BY_NAME)
+    by_name = sources.reached(pieces.named)[0] - reached
+    yield "## Appendix\n"
+    yield f"{len(reached - {*FIRST})} further definitions, each file after those that it cites. Their sources are in [TERMS.md](TERMS.md#sources).\n"
+    yield from definitions(sources, reached, {*FIRST})
+    yield "\n### Types of the code\n"
+    yield "Numbers of the code are natural numbers in clauses and definitions. Of these types contracts see:\n"
+    yield "\n".join(seen_as(reached)) + "\n"
     yield "All others are seen as they are declared:\n"
-    yield fenced("rust", "\n\n".join(text for _, text in types(others) if text))
-    yield "## Definitions\n"
-    yield f"{len(found)} definitions, each file after those that it cites; their sources are in [TERMS.md](TERMS.md#sources).\n"
-    yield f"{OF_DEFINITIONS}\n"
-    yield from definitions(sources, found)
-    yield "## Words of the library\n"
-    yield "All other words are the kit's.\n"
+    yield fenced("rust", "\n".join(text for _, text in types(others) if text))
+    yield "### Words of the library\n"
     yield "\n".join(library(others)) + "\n"
-    yield "## What other promises stand on\n"
-    yield f"{OF_OTHERS}\n"
-    yield "\n".join(table(sources, every - found)) + "\n"
+    yield "### By name\n"
+    yield f"{OF_TEXTS}\n"
+    yield "\n".join(table(sources, by_name)) + "\n"
 
 
 # --- what runs ---
-
-
-def differs(made, path):
-    """The first line in which the page is not what is made of the sources, or None."""
-    stands = text_of(path) if os.path.exists(os.path.join(ROOT, path)) else ""
-    for number, (line, wanted) in enumerate(itertools.zip_longest(stands.splitlines(), made.splitlines()), 1):
-        if line != wanted:
-            return f"line {number} is {line!r} and not {wanted!r}; tests/theorem.py --write makes the page anew"
-    return None
 
 
 def strangers(sources, item):
@@ -363,53 +384,63 @@ def strangers(sources, item):
             yield name
 
 
-def strangers_fault(sources, item):
-    lacking = list(strangers(sources, item))
-    return f"it names {', '.join(lacking)}, which is not found" if lacking else None
-
-
-def placed_fault(key, every):
-    """What is wrong with the place of a definition, where these are reached by public contracts."""
-    if ".private." in key:
-        return "it is private, and a public contract reaches it" if key in every else None
-    return None if key in every else "no public contract reaches it: it belongs in specs/private/"
-
-
 def without_accents(text):
     return unicodedata.normalize("NFKD", text).encode("ascii", "ignore").decode()
 
 
 def lacking_sources(made):
     """The sources that the page names, as `Zielonka 1998`, and docs/TERMS.md doesn't list."""
-    listed = without_accents(text_of("docs", "TERMS.md").split("## Sources")[1])
+    listed = without_accents(common.text_of("docs/TERMS.md").split("## Sources")[1])
     named = set(re.findall(r"PGSolver manual|(?:[A-Z]\w+(?:, | and |(?= \d)))+ \d{4}", without_accents(made)))
     return sorted(it for it in named if f"- {it}:" not in listed) if named else ["any"]
 
 
-def checks(sources, made):
-    yield "headline", headline_fault()
-    yield "page", differs(made, os.path.join("docs", "THEOREM.md"))
-    lacking = lacking_sources(made)
-    yield "sources", f"docs/TERMS.md does not list {', '.join(lacking)}" if lacking else None
-    for text, _, clauses in parts():
-        is_said = clauses and all(means(path, said) for path, _, _, said in clauses)
-        yield text, None if is_said else "it has a clause that is not there or cites nothing"
-    every, _ = sources.reached(headline_names() | public_names())
-    for key, item in sources.items.items():
-        yield key, placed_fault(key, every) or strangers_fault(sources, item)
-    for name, text in types(sources.reached(headline_names())[1]):
-        yield name, None if text else "no type of this name is public"
+class Theorem(unittest.TestCase):
+    @classmethod
+    def setUpClass(cls):
+        cls.sources = Sources()
+        cls.made = "\n".join(page(cls.sources))
 
+    def test_the_headline_has_its_parts_and_nothing_else(self):
+        words = [re.escape(text) for text, _ in PARTS]
+        self.assertRegex(headline(), rf"\A{'(?:, |; |; and )'.join(words)}\.\Z")
+        found = re.search(r"(?ms)^## The headline, part by part$(.*?)^## ", common.text_of("docs/PROVED.md"))[1]
+        self.assertEqual([it.split(" | ")[0].strip("| ").lower() for it in tables.rows_of(found)], [text.lower() for text, _ in PARTS])
 
-def main():
-    sources = Sources()
-    made = "\n".join(page(sources))
-    if "--write" in sys.argv[1:]:
-        with open(PAGE, "w", encoding="utf-8") as file:
-            file.write(made)
-        return 0
-    return harness.report("theorem", checks(sources, made))
+    def test_each_sentence_has_something_that_says_it(self):
+        for row in re.findall(r"(?m)^\| (.*) \|$", first_part(Pieces(self.sources))):
+            with self.subTest(row):
+                self.assertRegex(row, r"\A[^|]* \| [^|]*`[^|]*\Z|\ASentence ")
+
+    def test_the_first_part_is_short(self):
+        self.assertLessEqual(len(first_part(Pieces(self.sources)).splitlines()), 120)
+
+    def test_the_page_is_what_is_made_of_the_sources(self):
+        lines = itertools.zip_longest(common.text_of("docs/THEOREM.md").splitlines(), self.made.splitlines())
+        first = next((it for it in enumerate(lines, 1) if it[1][0] != it[1][1]), None)
+        self.assertIsNone(first, "a line with what stands there and what is made; tests/theorem.py --write makes the page anew")
+
+    def test_the_sources_that_the_page_names_are_listed(self):
+        self.assertEqual(lacking_sources(self.made), [])
+
+    def test_definitions_stand_where_they_belong_and_name_what_is_there(self):
+        every, _ = self.sources.reached(public_names())
+        for key, item in self.sources.items.items():
+            with self.subTest(key):
+                # what no public contract reaches belongs in specs/private/
+                self.assertEqual(".private." in key, key not in every)
+                self.assertEqual(list(strangers(self.sources, item)), [])
+
+    def test_each_type_that_the_page_shows_is_public(self):
+        pieces = Pieces(self.sources)
+        first_part(pieces)
+        for name, text in types(self.sources.reached(pieces.named, BY_NAME)[1]):
+            with self.subTest(name):
+                self.assertIsNotNone(text)
 
 
 if __name__ == "__main__":
-    sys.exit(main())
+    if "--write" in sys.argv[1:]:
+        (common.ROOT / "docs" / "THEOREM.md").write_text("\n".join(page(Sources())), encoding="utf-8")
+    else:
+        common.main(of_program=False)

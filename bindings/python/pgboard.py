@@ -1,7 +1,8 @@
 """Solutions of parity games, and their check, by the library of include/pgboard.h. One file, over ctypes alone.
 
-The library is the file that the environment variable PGBOARD_LIBRARY names, else crates/pgboard_c/out/libpgboard.so of the
-repository that this file stands in; bindings/python/README.md has the two commands that make it.
+The library is the file that the environment variable PGBOARD_LIBRARY names, else libpgboard.so beside this file, as the wheel
+of ./package has it, else crates/pgboard_c/out/libpgboard.so of the repository; bindings/python/README.md has the commands that
+make that.
 
     >>> winners, choices = solve(owners=[0, 1], priorities=[2, 1], successors=[[0, 1], [1]])
     >>> winners, choices
@@ -179,8 +180,9 @@ class Told(ctypes.Structure):
 def library():
     """The library; OSError where it isn't there."""
     here = os.path.dirname(os.path.abspath(__file__))
-    path = os.environ.get("PGBOARD_LIBRARY") or os.path.join(here, "..", "..", "crates", "pgboard_c", "out", "libpgboard.so")
-    found = ctypes.CDLL(path)
+    beside = os.path.join(here, "libpgboard.so")
+    built = os.path.join(here, "..", "..", "crates", "pgboard_c", "out", "libpgboard.so")
+    found = ctypes.CDLL(os.environ.get("PGBOARD_LIBRARY") or (beside if os.path.exists(beside) else built))
     for name in ("pgboard_solve", "pgboard_check", "pgboard_solve_text", "pgboard_tidy_text", "pgboard_verify_text"):
         getattr(found, name).restype = ctypes.c_uint32
     return found

@@ -63,6 +63,5 @@ pub use Rattle.pg_board.specs.declared.refusal.Refusal.{Refusal}
 pub use Rattle.pg_board.specs.declared.regions.Regions.{Regions}
 pub use Rattle.pg_board.specs.declared.vertex_state.VertexState.{VertexState}
 pub use Rattle.pg_board.specs.private.Growth.{IsGrowing, open_before}
-pub use Rattle.pg_board.specs.private.Office.{ArePastCopies, IsPastCopy, IsPresentCopy}
 pub use Rattle.pg_board.specs.private.OpenEdges.{EndsOutside, IsFirstOutside, LeadsOutside}
 pub use Rattle.pg_board.specs.private.Regions.{AreRegions, IsBoard, state_with, table_state}

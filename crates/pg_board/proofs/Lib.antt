@@ -23,4 +23,3 @@ pub mod Growing
 pub mod Added
 pub mod Present
 pub mod Shares
-pub mod Renewing

@@ -4,4 +4,3 @@ pub mod Regions
 pub mod OpenEdges
 pub mod Growth
 pub mod Growing
-pub mod Office

@@ -14,10 +14,8 @@ ghost use Rattle.pg_board.specs.Full.{IsFull, AreStateRows};
 ghost use Rattle.pg_text.specs.Solution.{IsExactSolution};
 ghost use Rattle.pg_board.specs.Refusal.{Refuses, RefusesChecked, IsOfState};
 ghost use Rattle.pg_board.specs.Post.{Adds, AnswersDominion, SettlesUnlessMemory};
-ghost use Rattle.pg_board.specs.private.Office.{IsPastCopy, IsPresentCopy};
 
 use crate::entry::{Entry, Posted};
-use crate::named::remove_named;
 use crate::refusal::Refusal;
 use crate::regions::Regions;
 use pg_dominion::{Checked, Claim, judge_claim};
@@ -98,34 +96,6 @@ impl<'g> Board<'g> {
             at: self.entries.len() as u64,
             settled: self.settled(),
         })
-    }
-
-    /// A copy that this board gave before, brought up to date: what was settled since is taken out of it. Takes no memory,
-    /// and time in what was settled since.
-    pub(crate) fn renew(&self, old: Copied<'g>) -> Copied<'g>
-        requires { IsPastCopy self.now old }
-        ensures { IsPresentCopy self.now result }
-    {
-        // for the proof: the graph is a game
-        let _n = self.game.len();
-        let Copied {
-            inside,
-            at,
-            settled: _,
-        } = old;
-        let mut mask = inside.into_mask();
-        let end = self.entries.len();
-        'entries: for k in at as usize..end {
-            remove_named(&mut mask, self.entries[k].rows.as_slice());
-        }
-        let inside = Inside::of_subgame(self.game, mask);
-        let at = end as u64;
-        let settled = self.settled();
-        Copied {
-            inside,
-            at,
-            settled,
-        }
     }
 
     /// Checks the claim on the present state. Accepted, the journal gains one entry: the claim's rest, and

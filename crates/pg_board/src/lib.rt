@@ -17,5 +17,5 @@ mod vertex_state;
 
 pub use board::Board;
 pub use entry::{Entry, Posted};
-pub use office::{OfGame, Office, Share};
+pub use office::{Office, Share};
 pub use refusal::Refusal;

@@ -1,5 +1,5 @@
 //! A claim that was checked, with what its game says of its vertices: so whether it is sound in another game can be told
-//! row by row, with no search for closed walks. What the game says is lent, so a row takes no memory of its own.
+//! row by row, with no search for closed walks. The claim and what the game says are lent, so a row takes no memory of its own.
 
 ghost use Rattle.std.specs.Prelude.{◌≡◌, ℕ, ◌<◌, length, ◌∷◌, [], IfOk, MatchOption, true, false};
 ghost use Rattle.pg_game.specs.Graph.{HasEdge};
@@ -7,7 +7,7 @@ ghost use Rattle.pg_dominion.specs.Claim.{IsRightRow, AreRight, IsSound};
 ghost use Rattle.pg_dominion.specs.Checked.{claim_row, claim_rows, claim_of, KeepsOne, AgreesAt, AgreesWithGame, IsForeign, AreChecked};
 
 use crate::claim::Claim;
-use pg_game::{Game, Player, Sequence};
+use pg_game::{Game, Player};
 use std::alloc::{AllocError, Global};
 use std::marker::Model;
 
@@ -47,7 +47,7 @@ pub struct CheckedRow<'g> {
 /// rise, that one successor is kept at each vertex of its player, and that its kept edges make only good closed walks.
 #[derive(Drop)]
 pub struct Checked<'g> {
-    claim: Claim,
+    claim: &'g Claim,
     rows: Vec<CheckedRow<'g>>,
 }
 
@@ -57,9 +57,9 @@ impl<'g> Model for Checked<'g> {
 
     ghost Value = { CheckedClaim };
 
-    ghost view = { λ c. record { player = c.claim.player; rows = c.rows.items } };
+    ghost view = { λ c. record { player = c.claim.now.player; rows = c.rows.items } };
 
-    ghost invariant = { λ c. AreChecked c.claim.player c.rows.items × (c.claim.rows ≡ claim_rows c.claim.player c.rows.items) };
+    ghost invariant = { λ c. AreChecked c.claim.now.player c.rows.items × (c.claim.now.rows ≡ claim_rows c.claim.now.player c.rows.items) };
 }
 
 /// A successor of the vertex, by itself.
@@ -139,21 +139,14 @@ impl<'g> Checked<'g> {
     pub(crate) fn of(
         alloc: Global,
         game: &'g Game,
-        claim: &Claim,
+        claim: &'g Claim,
     ) -> Result<Checked<'g>, AllocError>
         requires { IsSound game.now claim.now.player claim.now.rows }
         ensures holds { IfOk result (λ c. claim_of c ≡ claim.now) }
         ensures agrees { IfOk result (λ c. AgreesWithGame game.now c.player c.rows) }
     {
         let rows = checked_rows(alloc, game, claim)?;
-        let claimed = Vec::from_slice(alloc, claim.rows.as_slice())?;
-        Ok(Checked {
-            claim: Claim {
-                player: claim.player,
-                rows: Sequence::new(claimed),
-            },
-            rows,
-        })
+        Ok(Checked { claim, rows })
     }
 
     pub fn player(&self) -> Player
@@ -175,7 +168,7 @@ impl<'g> Checked<'g> {
         ensures claim { result.now ≡ claim_of self.now }
         ensures checked { AreChecked self.now.player self.now.rows }
     {
-        &self.claim
+        self.claim
     }
 
     /// The vertex of the first row that does not say of it what the game says; none where the claim agrees with the game.

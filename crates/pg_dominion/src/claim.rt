@@ -202,7 +202,7 @@ pub fn judge_claim(alloc: Global, game: &Game, claim: &Claim) -> Result<(), Clai
 pub fn check_claim<'g>(
     alloc: Global,
     game: &'g Game,
-    claim: &Claim,
+    claim: &'g Claim,
 ) -> Result<Checked<'g>, ClaimFault>
     ensures sound { IfOk result (λ c. IsSound game.now claim.now.player claim.now.rows) }
     ensures holds { IfOk result (λ c. claim_of c ≡ claim.now) }

@@ -5,3 +5,5 @@ pub mod Fresh
 pub mod Restored
 pub mod Counted
 pub mod Gathered
+pub mod Ends
+pub mod Bits

@@ -3,7 +3,6 @@
 //! its subgame.
 #![tactic(auto)]
 
-mod adaptive;
 mod choice;
 mod finder;
 mod inside;
@@ -14,7 +13,6 @@ mod small;
 mod solitaire;
 mod standard;
 
-pub use adaptive::Adaptive;
 pub use finder::{Finder, Found, Job};
 pub use inside::{Copied, Inside};
 pub use loops::find_loop;

@@ -1,4 +1,4 @@
-ghost use Rattle.std.specs.Prelude.{◌≡◌, ◌<◌, ℕ, length, IfSome, IsNone, true, false};
+ghost use Rattle.std.specs.Prelude.{◌≡◌, ◌<◌, length, IfSome, IsNone};
 ghost use Rattle.pg_game.specs.Graph.{HasEdge};
 ghost use Rattle.pg_game.specs.VertexSet.{In, members};
 ghost use Rattle.pg_finders.specs.Part.{IsOut};
@@ -18,18 +18,4 @@ pub fn successor_in(game: &Game, inside: &Mask, v: u32) -> Option<u32>
         }
     }
     None
-}
-
-/// Whether the mask has no vertex.
-pub fn is_empty(game: &Game, mask: &Mask) -> bool
-    requires { length mask.now ≡ length game.now }
-    ensures empty { result ≡ true → (v : ℕ) → members mask.now v ≡ false }
-    ensures not_empty { result ≡ false → (v : ℕ) × In (members mask.now) v }
-{
-    for v in 0..game.len() {
-        if mask.has(v) {
-            return false;
-        }
-    }
-    true
 }

@@ -17,7 +17,6 @@ mod subgame;
 mod watches;
 
 use crate::inside::Inside;
-use crate::parts::is_empty;
 use crate::recursion::plan::Plan;
 use crate::recursion::solver::Solver;
 use pg_dominion::Claim;
@@ -36,7 +35,7 @@ pub struct Solved {
 pub fn zielonka(alloc: Global, inside: &Inside) -> Result<Solved, Memory>
     ensures { IfOk result (λ solved. AreClaims inside.now.graph (members inside.now.mask) solved.even solved.odd) }
 {
-    if is_empty(inside.game(), inside.mask()) {
+    if inside.mask().is_empty() {
         return Ok(Solved {
             even: claim_of(Player::Even, Vec::new(alloc)),
             odd: claim_of(Player::Odd, Vec::new(alloc)),

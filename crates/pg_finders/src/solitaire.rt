@@ -18,7 +18,6 @@ mod leading;
 
 use crate::choice::own_choice;
 use crate::inside::Inside;
-use crate::parts::is_empty;
 use crate::solitaire::leading::lead_to;
 use pg_dominion::{Claim, Kept, first_worst};
 use pg_game::{Game, Mask, Player, Sequence};
@@ -189,7 +188,7 @@ pub fn find_solitaire(alloc: Global, inside: &Inside) -> Result<Option<Claim>, A
 {
     let game = inside.game();
     let mask = inside.mask();
-    if is_empty(game, mask) {
+    if mask.is_empty() {
         return Ok(None);
     }
     if has_one_successor(game, mask, Player::Even) {

@@ -1,6 +1,6 @@
 -- Equality of games, part by part.
-use Rattle.pg_game.proofs.Common.{◌≡◌, ℕ, Bool, true, false, ◌&&◌, List, sym, ◌∙◌, ap, rules, eqb-true, eq-eqb, not-false, Player, Graph, Vertex, graph_of}
-use Rattle.pg_game.proofs.Common.{AreParts}
+use Rattle.pg_game.proofs.Common.{◌≡◌, ℕ, Bool, true, false, ◌&&◌, List, refl, sym, ◌∙◌, ap, rules, eqb-true, eq-eqb, not-false}
+use Rattle.pg_game.proofs.Common.{Player, Even, Odd, Graph, Vertex, graph_of, AreParts}
 use Rattle.std.specs.Prelude.{nat_eq, not}
 use Rattle.std.specs.Bool.{Decides}
 use Rattle.std.specs.Cmp.Lexicographic.{pointwise, pointwise_decides}
@@ -12,8 +12,11 @@ use Rattle.pg_game.proofs.Parts as part
 same_digit : (p q : Player) → digit_of p ≡ digit_of q → p ≡ q
 same_digit x0 x1 e = search (rules)
 
-numbers_decide : (xs ys : List ℕ) → Decides (pointwise nat_eq xs ys) (xs ≡ ys)
-numbers_decide xs ys = pointwise_decides (λ x y. (eqb-true x y, eq-eqb x y)) xs ys
+pub number_decides : (x y : ℕ) → Decides (nat_eq x y) (x ≡ y)
+number_decides x y = (eqb-true x y, eq-eqb x y)
+
+pub numbers_decide : (xs ys : List ℕ) → Decides (pointwise nat_eq xs ys) (xs ≡ ys)
+numbers_decide xs ys = pointwise_decides number_decides xs ys
 
 module _ (x y : Vertex) where
   abbrev owners : Bool
@@ -58,8 +61,18 @@ same_parts a b is is' e = (
   sym (part.rows_are a (is ∙ e)) ∙ part.rows_are b is',
 )
 
-pub differ : (xs ys : List ℕ) (r : Bool) → r ≡ not (pointwise nat_eq xs ys) → r ≡ true → xs ≡ ys → ⊥
-differ xs ys r is t e = let q : r ≡ false = is ∙ ap not ((numbers_decide xs ys).1 e) in cc (t, q)
+pub player_decides : (t : Player → Player → Bool) → t Even Even ≡ true → t Even Odd ≡ false → t Odd Even ≡ false → t Odd Odd ≡ true
+    → (p q : Player) → Decides (t p q) (p ≡ q)
+player_decides t both unlike unlike' same Even Even = (λ _. refl, λ _. both)
+player_decides t both unlike unlike' same Even Odd = (λ h. absurd (cc (h, unlike)), λ e. absurd (cc e))
+player_decides t both unlike unlike' same Odd Even = (λ h. absurd (cc (h, unlike')), λ e. absurd (cc e))
+player_decides t both unlike unlike' same Odd Odd = (λ _. refl, λ _. same)
 
-pub agree : (xs ys : List ℕ) (r : Bool) → r ≡ not (pointwise nat_eq xs ys) → r ≡ false → xs ≡ ys
-agree xs ys r is f = (numbers_decide xs ys).0 (not-false (pointwise nat_eq xs ys) (sym is ∙ f))
+-- what `!=` of lists says, where the test of items is equality
+module _ {X : Type 0} (t : X → X → Bool) (decides : (x y : X) → Decides (t x y) (x ≡ y)) (xs ys : List X) (r : Bool)
+    (is : r ≡ not (pointwise t xs ys)) where
+  pub differ : r ≡ true → xs ≡ ys → ⊥
+  differ said e = let q : r ≡ false = is ∙ ap not ((pointwise_decides decides xs ys).1 e) in cc (said, q)
+
+  pub agree : r ≡ false → xs ≡ ys
+  agree said = (pointwise_decides decides xs ys).0 (not-false (pointwise t xs ys) (sym is ∙ said))

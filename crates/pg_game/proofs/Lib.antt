@@ -10,6 +10,7 @@ pub mod Edges
 pub mod NoMemory
 pub mod Players
 pub mod Masks
+pub mod Bits
 pub mod Gathered
 pub mod Different
 pub mod Rows

@@ -1,9 +1,9 @@
 -- Rows between offsets: how many, each one, and one more.
-use Rattle.pg_game.proofs.Common.{◌≡◌, ℕ, zero, suc, ◌+◌, ◌-◌, ◌<◌, ◌≤◌, ◌⊎◌, inl, inr, List, [], ◌∷◌, ◌++◌, length, take, drop, get_or, ◌^◌, refl, sym, ◌∙◌}
+use Rattle.pg_game.proofs.Common.{◌≡◌, ℕ, zero, suc, ◌+◌, ◌-◌, ◌<◌, ◌≤◌, ◌⊎◌, inl, inr, List, [], ◌∷◌, ◌++◌, length, take, drop, get_or, ◌^◌}
 use Rattle.pg_game.proofs.Common.{arith, length-append, add-one, rules, slice_range, ext_get_or, get_or_append_left, get_or_push, get_or_default}
-use Rattle.pg_game.proofs.Common.{length-take-le, sum_by-cons, take-length, rows_of, IsCompressed, size_of}
+use Rattle.pg_game.proofs.Common.{refl, sym, ap, subst, ◌∙◌, length-take-le, sum_by-cons, take-length, rows_of, IsCompressed, size_of}
 use Rattle.std.proofs.lemmas.List.{take-append-le, drop-append-le, length-drop}
-use Rattle.std.proofs.Math.Seq.{drop-append_seam}
+use Rattle.std.proofs.Math.Seq.{drop-append_seam, take-add}
 
 pub length-rows_of : (os ts : List ℕ) → length (rows_of os ts) ≡ length os - 1
 length-rows_of [] ts = refl
@@ -81,3 +81,46 @@ row_bounds {os} {ts} v a b c l ea eb =
     let fa : a ≡ get_or os v 0 = ea ∙ get_or_default os v a 0 (omega arith) in
     let fb : b ≡ get_or os (v + 1) 0 = eb ∙ get_or_default os (v + 1) b 0 l in
     (omega (arith, c.rising v l), omega (arith, c.within (v + 1) l), rw (fa, fb) (row_of os ts v l))
+
+up_to : (ts : List ℕ) (a b : ℕ) → a ≤ b → take b ts ≡ take a ts ++ slice_range ts a b
+up_to ts a b l = let e : b ≡ a + (b - a) = omega arith in ap (λ n. take n ts) e ∙ take-add a (b - a) ts
+
+-- where the rows are the same, so are the offsets and the targets
+module _ {os ts os' ts' : List ℕ} (c : IsCompressed os ts) (d : IsCompressed os' ts') (e : rows_of os ts ≡ rows_of os' ts') where
+  same_number : length os ≡ length os'
+  same_number =
+      omega (arith, length-rows_of os ts, length-rows_of os' ts', ap (λ (xs : List (List ℕ)). length xs) e, c.nonempty, d.nonempty)
+
+  abbrev AreSameUpTo : ℕ → Type 0
+  AreSameUpTo k = (get_or os k 0 ≡ get_or os' k 0) × (take (get_or os k 0) ts ≡ take (get_or os' k 0) ts')
+
+  one_row_more : (k : ℕ) → k + 1 < length os → AreSameUpTo k → AreSameUpTo (k + 1)
+  one_row_more k l h =
+      let m : k + 1 < length os' = omega (arith, same_number) in
+      let rises = c.rising k l in
+      let rises' = d.rising k m in
+      let row : slice_range ts (get_or os k 0) (get_or os (k + 1) 0) ≡ slice_range ts' (get_or os' k 0) (get_or os' (k + 1) 0) =
+      sym (row_of os ts k l) ∙ (ap (λ (xs : List (List ℕ)). get_or xs k []) e ∙ row_of os' ts' k m) in
+      let n = length-range ts (get_or os k 0) (get_or os (k + 1) 0) rises (c.within (k + 1) l) in
+      let n' = length-range ts' (get_or os' k 0) (get_or os' (k + 1) 0) rises' (d.within (k + 1) m) in (
+        omega (arith, n, n', ap (λ (xs : List ℕ). length xs) row, h.0, rises, rises'),
+        up_to ts (get_or os k 0) (get_or os (k + 1) 0) rises
+            ∙ ((λ i. h.1 i ++ row i) ∙ sym (up_to ts' (get_or os' k 0) (get_or os' (k + 1) 0) rises')),
+      )
+
+  same_up_to : (k : ℕ) → k < length os → AreSameUpTo k
+  same_up_to zero l = (c.first ∙ sym d.first, ap (λ n. take n ts) c.first ∙ sym (ap (λ n. take n ts') d.first))
+  same_up_to (suc k) l =
+      let more : AreSameUpTo (k + 1) = one_row_more k (omega arith) (same_up_to k (omega arith)) in
+      let s : suc k ≡ k + 1 = omega arith in
+      subst AreSameUpTo (sym s) more
+
+  pub same_offsets : os ≡ os'
+  same_offsets = ext_get_or 0 os os' same_number (λ k l. (same_up_to k l).0)
+
+  pub same_targets : ts ≡ ts'
+  same_targets =
+      let k : ℕ = length os - 1 in
+      sym (take_all ts (get_or os k 0) (c.last k (omega (arith, c.nonempty))))
+      ∙ ((same_up_to k (omega (arith, c.nonempty))).1
+      ∙ take_all ts' (get_or os' k 0) (d.last k (omega (arith, c.nonempty, same_number))))

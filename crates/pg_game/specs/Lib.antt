@@ -1,6 +1,7 @@
 pub mod Player
 pub mod Graph
 pub mod VertexSet
+pub mod Bits
 pub mod Specification
 pub mod Subgame
 pub mod Kept

@@ -1,5 +1,6 @@
 -- Definitions that only private functions and proofs cite: no public contract stands on them.
 pub mod VertexSet
+pub mod Bits
 pub mod Stored
 pub mod Gathered
 pub mod Identifiers

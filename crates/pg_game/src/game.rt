@@ -227,7 +227,7 @@ impl Game {
         if self.priorities.as_slice() != other.priorities.as_slice() {
             return false;
         }
-        if !same_owners(self.owners.as_slice(), other.owners.as_slice()) {
+        if self.owners.as_slice() != other.owners.as_slice() {
             return false;
         }
         self.successors.is_same(&other.successors)
@@ -314,21 +314,6 @@ impl Game {
     {
         self.predecessors.row(v)
     }
-}
-
-/// Whether both lists have the same owners.
-fn same_owners(a: &[Player], b: &[Player]) -> bool
-    ensures { IsTrue result ↔ (a.now ≡ b.now) }
-{
-    if a.len() != b.len() {
-        return false;
-    }
-    'owners: for v in 0..a.len() {
-        if a[v] != b[v] {
-            return false;
-        }
-    }
-    true
 }
 
 impl PartialEq for Game {

@@ -1,53 +1,61 @@
-//! Sets of vertices, one flag for each vertex.
+//! Sets of vertices, one bit for each vertex.
 
-ghost use Rattle.std.specs.Prelude.{◌≡◌, ◌<◌, length, IfOk, true, false, slice_set, replicate};
-ghost use Rattle.pg_game.specs.VertexSet.{members, how_many};
+ghost use Rattle.std.specs.Prelude.{◌≡◌, ◌<◌, ℕ, length, IfOk, true, false, slice_set, replicate};
+ghost use Rattle.pg_game.specs.VertexSet.{In, members, how_many};
 
 use crate::Memory;
 use std::alloc::Global;
 use std::marker::Model;
 
-/// A set of the numbers below its length.
+/// A set of the numbers below `len`: bit `v % 64` of word `v / 64` says whether `v` is a member. No other bit is set.
 #[derive(Drop)]
 pub struct Mask {
-    flags: Vec<bool>,
+    words: Vec<u64>,
+    len: u32,
 }
 
 impl Model for Mask {
-    ghost use Rattle.std.specs.Prelude.{List, Bool, ◌<◌, ◌^◌, length};
+    ghost use Rattle.std.specs.Prelude.{List, Bool};
+    ghost use Rattle.pg_game.specs.Bits.{bits_of};
+    ghost use Rattle.pg_game.specs.private.Bits.{AreWords};
 
     ghost Value = { List Bool };
 
-    ghost view = { λ m. m.flags.items };
+    ghost view = { λ m. bits_of m.words.items m.len };
 
-    ghost invariant = { λ m. length m.flags.items < 2 ^ 32 };
+    ghost invariant = { λ m. AreWords m.words.items m.len };
 }
 
 impl Mask {
-    /// The set of length `n` without members. `Memory` is its one refusal.
+    /// The set of length `n` without members. `Memory` is its only error.
     pub fn empty(alloc: Global, n: u32) -> Result<Mask, Memory>
         ensures { IfOk result (λ m. m ≡ replicate n false) }
     {
         Ok(Mask {
-            flags: vec![in alloc; false; n as usize]?,
+            words: vec![in alloc; 0u64; (n as usize).div_ceil(64)]?,
+            len: n,
         })
     }
 
-    /// The set of all numbers below `n`. `Memory` is its one refusal.
+    /// The set of all numbers below `n`. `Memory` is its only error.
     pub fn full(alloc: Global, n: u32) -> Result<Mask, Memory>
         ensures { IfOk result (λ m. m ≡ replicate n true) }
     {
-        Ok(Mask {
-            flags: vec![in alloc; true; n as usize]?,
-        })
+        let mut words = vec![in alloc; u64::MAX; (n as usize).div_ceil(64)]?;
+        let rest = n % 64;
+        if rest > 0 {
+            words[(n / 64) as usize] = (1u64 << rest) - 1;
+        }
+        Ok(Mask { words, len: n })
     }
 
-    /// The same set anew. `Memory` is its one refusal.
+    /// The same set anew. `Memory` is its only error.
     pub fn copy(&self, alloc: Global) -> Result<Mask, Memory>
         ensures { IfOk result (λ m. m ≡ self.now) }
     {
         Ok(Mask {
-            flags: Vec::from_slice(alloc, self.flags.as_slice())?,
+            words: Vec::from_slice(alloc, self.words.as_slice())?,
+            len: self.len,
         })
     }
 
@@ -56,7 +64,7 @@ impl Mask {
     pub fn len(&self) -> u32
         ensures { result ≡ length self.now }
     {
-        self.flags.len() as u32
+        self.len
     }
 
     /// Whether `v` is a member.
@@ -65,7 +73,7 @@ impl Mask {
         requires { v < length self.now }
         ensures { result ≡ members self.now v }
     {
-        self.flags[v as usize]
+        (self.words[(v / 64) as usize] >> (v % 64)) & 1 == 1
     }
 
     /// Adds `v`.
@@ -74,7 +82,7 @@ impl Mask {
         requires { v < length self.old }
         ensures { self.new ≡ slice_set self.old v true }
     {
-        self.flags[v as usize] = true;
+        self.words[(v / 64) as usize] |= 1u64 << (v % 64);
     }
 
     /// Takes `v` out.
@@ -83,7 +91,7 @@ impl Mask {
         requires { v < length self.old }
         ensures { self.new ≡ slice_set self.old v false }
     {
-        self.flags[v as usize] = false;
+        self.words[(v / 64) as usize] &= !(1u64 << (v % 64));
     }
 
     /// How many members there are.
@@ -91,11 +99,22 @@ impl Mask {
         ensures { result ≡ how_many self.now }
     {
         let mut count = 0;
-        'flags: for flag in self.flags.as_slice() {
-            if *flag {
-                count += 1;
-            }
+        'words: for word in self.words.as_slice() {
+            count += word.count_ones();
         }
         count
+    }
+
+    /// Whether there is no member.
+    pub fn is_empty(&self) -> bool
+        ensures empty { result ≡ true → (v : ℕ) → members self.now v ≡ false }
+        ensures not_empty { result ≡ false → (v : ℕ) × In (members self.now) v }
+    {
+        'words: for word in self.words.as_slice() {
+            if *word != 0 {
+                return false;
+            }
+        }
+        true
     }
 }

@@ -1,5 +1,5 @@
 -- The names that several proofs of this crate cite, passed on from one place. Declares nothing.
-pub use Rattle.std.proofs.Common.{Bool, List, [], ap, append_assoc, arith, decimal, drop, false, get_or, inl, inr, length, length-append, lt-ltb, map, not}
+pub use Rattle.std.proofs.Common.{Bool, List, [], ap, append_assoc, arith, drop, false, get_or, inl, inr, length, length-append, lt-ltb, map, not}
 pub use Rattle.std.proofs.Common.{refl, rules, set, subst, suc, sym, take, true, zero, ℕ, ◌*◌, ◌++◌, ◌+◌, ◌-◌, ◌<◌, ◌^◌, ◌∙◌, ◌∷◌, ◌≡◌, ◌≤◌, ◌⊎◌}
 pub use Rattle.std.proofs.lemmas.Bool.{cases_lt, eq-eqb, eqb-true, false_from_ne_true, le-leb, leb-true, ltb-false, ltb-true}
 pub use Rattle.std.proofs.lemmas.Bool.Decides.{nat_tests}
@@ -34,6 +34,7 @@ pub use Rattle.pg_text.specs.SolutionText.{BeginsSolutionText, IsBeforeWinner, I
 pub use Rattle.pg_text.specs.Token.{Begins, Comma, IsSpelling, IsWhole, Name, Number, Placed, Semicolon, Spells, Token, Word, tokens_of}
 pub use Rattle.pg_text.specs.Verdict.{HasBadChoice, IsOnBadWalk, LacksChoice, Leaves}
 pub use Rattle.pg_text.specs.Written.{greatest_id, written_choice, written_game, written_rows, written_solution, written_vertex, written_winners}
+unfoldable pub use Rattle.pg_text.specs.Written.{numeral}
 pub use Rattle.pg_text.specs.declared.fault.SolutionTextFault.{SolutionTextFault}
 pub use Rattle.pg_text.specs.declared.fault.SolutionTextFault.TheVariants.{Stranger}
 pub use Rattle.pg_text.specs.declared.lexer.Kind.{Kind}

@@ -1,9 +1,12 @@
 -- Examples, for the reader of the definitions: nothing is proved from these.
-use Rattle.pg_text.proofs.Common.{◌≡◌, ℕ, zero, suc, ◌<◌, ◌≤◌, [], ◌∷◌, ◌^◌, length, refl, sym, ap, subst, arith, decimal, rules, Some, None, codes, Contains}
+use Rattle.pg_text.proofs.Common.{◌≡◌, ℕ, zero, suc, ◌+◌, ◌<◌, ◌≤◌, List, [], ◌∷◌, ◌++◌, ◌^◌, ◌∙◌, length}
+use Rattle.pg_text.proofs.Common.{refl, sym, ap, subst, arith, numeral, rules, Some, None, codes, Contains}
 use Rattle.pg_text.proofs.Common.{Even, Graph, HasEdge, NoneHas, written_game, written_solution, SolutionRows, winner_of, IsSolution, LacksChoice, HasBadChoice}
 use Rattle.pg_text.proofs.Common.{Leaves, IsOnBadWalk}
-use Rattle.std.specs.Fmt.{digits}
-use Rattle.std.proofs.Math.ListN.{replicate}
+use Rattle.std.proofs.Common.{◌/◌, ◌%◌, ◌*◌, add-one, replicate}
+use Rattle.std.proofs.Math.Nat.{one-le-pow, pow-succ'}
+use Rattle.std.proofs.lemmas.List.{replicate_more}
+use Rattle.pg_text.proofs.Numerals.{one_digit, more_digits}
 use Rattle.pg_game.specs.declared.player.Player.TheVariants.{Odd}
 use Rattle.pg_game.specs.Least.{IsLeast}
 use Rattle.pg_game.proofs.Members.{Contains-head, Contains-one}
@@ -73,15 +76,25 @@ five_fails = record { has = (0 ∷ [], ((refl, Contains-head 0 []), (refl, Conta
 
 -- an example: the written text of the game
 pub written_five : written_game five ≡ codes "parity 4;\n0 6 1 2,4;\n1 8 1 2,3,4;\n2 7 0 0,1,3,4;\n3 6 0 2,4;\n4 5 1 0;\n"
-unfolding digits
+unfolding numeral
 written_five = refl
 
 -- an example: the written text of the solution
 pub written_two : written_solution two both_win ≡ codes "paritysol 1;\n0 0 0;\n1 1 1;\n"
-unfolding digits
+unfolding numeral
 written_two = refl
 
--- an example: a number of 65 digits is written by its last 64, so the laws on written texts speak of at most 64
-pub too_wide : decimal (10 ^ 64) ≡ replicate 64 48
-unfolding digits
-too_wide = refl
+-- one more zero
+ten_times : (n : ℕ) → 0 < n → numeral (10 * n) ≡ numeral n ++ 48 ∷ []
+ten_times n h =
+    let e : 10 * n / 10 ≡ n = omega arith in
+    let z : 10 * n % 10 ≡ 0 = omega arith in
+    more_digits (10 * n) (omega arith) ∙ ap (λ (m : ℕ). numeral m ++ (48 + 10 * n % 10) ∷ []) e
+    ∙ ap (λ (d : ℕ). numeral n ++ (48 + d) ∷ []) z
+
+-- an example: numbers of any length are written, ten to the k by 1 and k zeros
+pub written_wide : (k : ℕ) → numeral (10 ^ k) ≡ 49 ∷ replicate k 48
+written_wide zero = one_digit 1 (omega arith)
+written_wide (suc k) =
+    ap numeral (pow-succ' 10 k) ∙ ten_times (10 ^ k) (omega (arith, one-le-pow k 10 (omega arith))) ∙ ap (λ (ds : List ℕ). ds ++ 48 ∷ []) (written_wide k)
+    ∙ ap (λ (ds : List ℕ). 49 ∷ ds) (replicate_more k 48) ∙ ap (λ (n : ℕ). 49 ∷ replicate n 48) (add-one k)

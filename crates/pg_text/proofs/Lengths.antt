@@ -1,36 +1,35 @@
 -- How long written texts are, within the limits of games.
-use Rattle.pg_text.proofs.Common.{ℕ, ◌+◌, ◌*◌, ◌^◌, ◌<◌, ◌≤◌, List, [], ◌∷◌, ◌++◌, length, map, arith, length-append, decimal, rules, Option, None, IfSome}
+use Rattle.pg_text.proofs.Common.{ℕ, ◌+◌, ◌*◌, ◌<◌, ◌≤◌, List, [], ◌∷◌, ◌++◌, length, map, arith, length-append, numeral, rules, Option, None, IfSome}
 use Rattle.pg_text.proofs.Common.{codes, flat_map, AllByRecursion, join_with_byte, Player, digit_of, Graph, Vertex, IsGame, id_of, no_vertex, max_number}
 use Rattle.pg_text.proofs.Common.{IsWithinLimits, SolutionRows, AreSolutionRows, greatest_id, written_vertex, written_game, written_choice, written_rows}
 use Rattle.pg_text.proofs.Common.{written_solution, written_winners}
-use Rattle.std.proofs.Common.{lit<}
 use Rattle.std.specs.Prelude.{sum_by}
 use Rattle.std.proofs.Math.Nat.{mul-le-mul_right}
-use Rattle.std.proofs.lemmas.Fmt.{length-decimal-le_wide}
 use Rattle.std.proofs.lemmas.List.Concat.{flat_map-cons}
 use Rattle.std.proofs.lemmas.List.Sums.{sum_by-cons}
 use Rattle.pg_game.specs.Specification.{max_vertices}
 use Rattle.pg_text.specs.Lengths.{most_digits, greatest_header, greatest_game_text, greatest_winners_text, greatest_solution_text}
+use Rattle.pg_text.proofs.Numerals.{length-numeral}
 use Rattle.pg_text.proofs.WrittenSpells.{HasNumbers, have_numbers, last_id, all_from_places, all_imply}
 
 -- a number within the limit
-short_number : (n : ℕ) → n ≤ max_number → length (decimal n) ≤ most_digits
-short_number n l = length-decimal-le_wide most_digits n (omega arith) (omega arith) (omega (arith, lit< {m = max_number} {n = 10 ^ 64} tt))
+short_number : (n : ℕ) → n ≤ max_number → length (numeral n) ≤ most_digits
+short_number n l = length-numeral most_digits n (omega arith) (omega arith)
 
 -- numbers separated by commas, and one comma more
 short_list : (g : Graph) (w : ℕ) (ws : List ℕ) → AllByRecursion (λ n. n ≤ max_number) (map (λ u. id_of g u) (w ∷ ws))
-    → length (join_with_byte 44 (map (λ u. decimal (id_of g u)) (w ∷ ws))) + 1 ≤ length (w ∷ ws) * (most_digits + 1)
+    → length (join_with_byte 44 (map (λ u. numeral (id_of g u)) (w ∷ ws))) + 1 ≤ length (w ∷ ws) * (most_digits + 1)
 short_list g w [] a = omega (arith, short_number (id_of g w) a.0)
 short_list g w (u ∷ us) a = search (rules, short_list g u us a.1, length-append, short_number)
 
 -- the line of a vertex with these successors
 short_line : (g : Graph) (x : Vertex) (ws : List ℕ) → x.id ≤ max_number → x.priority ≤ max_number → 0 < length (map (λ w. id_of g w) ws)
     → AllByRecursion (λ n. n ≤ max_number) (map (λ w. id_of g w) ws)
-    → length (decimal x.id ++ (32 ∷ decimal x.priority
-    ++ (32 ∷ decimal (digit_of x.owner) ++ (32 ∷ join_with_byte 44 (map (λ w. decimal (id_of g w)) ws) ++ codes ";\n"))))
+    → length (numeral x.id ++ (32 ∷ numeral x.priority
+    ++ (32 ∷ numeral (digit_of x.owner) ++ (32 ∷ join_with_byte 44 (map (λ w. numeral (id_of g w)) ws) ++ codes ";\n"))))
     ≤ 25 + length ws * (most_digits + 1)
 short_line g x [] i p h a = absurd (omega arith)
-short_line g x (w ∷ ws) i p h a = search (rules, short_list, length-append, x.owner, x.priority, x.id, short_number, length-decimal-le_wide)
+short_line g x (w ∷ ws) i p h a = search (rules, short_list, length-append, x.owner, x.priority, x.id, short_number, length-numeral)
 
 short_lines : (g : Graph) (xs : List Vertex) → AllByRecursion (λ x. HasNumbers (λ n. n ≤ max_number) g x) xs
     → length (flat_map (written_vertex g) xs) ≤ length xs * 25 + sum_by (λ x. length x.successors) xs * (most_digits + 1)
@@ -44,7 +43,7 @@ short_lines g (x ∷ xs) a =
     rw flat_map-cons (rw l (rw s (omega arith)))
 
 short_header : (word : List ℕ) (n : ℕ) (rest : List ℕ) → n ≤ max_number
-    → length (word ++ (decimal n ++ (codes ";\n" ++ rest))) ≤ greatest_header word + length rest
+    → length (word ++ (numeral n ++ (codes ";\n" ++ rest))) ≤ greatest_header word + length rest
 short_header word n rest l = search (rules, length-append, short_number)
 
 module _ (g : Graph) (i : IsGame g) (w : IsWithinLimits g) where
@@ -62,7 +61,7 @@ module _ (g : Graph) (i : IsGame g) (w : IsWithinLimits g) where
       → length (written_rows g xs rows) ≤ length xs * (most_digits + 4 + long)
   short_rows long [] rows a b = omega arith
   short_rows long (x ∷ xs) [] a b = omega arith
-  short_rows long (x ∷ xs) (r ∷ rows) a b = search (rules, short_rows long xs rows a.1 b.1, length-append, x.id, short_number, length-decimal-le_wide)
+  short_rows long (x ∷ xs) (r ∷ rows) a b = search (rules, short_rows long xs rows a.1 b.1, length-append, x.id, short_number, length-numeral)
 
   -- a text of rows whose choices are at most so long
   short_text : (long : ℕ) (rows : SolutionRows) → AllByRecursion (λ r. length (written_choice g r.1) ≤ long) rows

@@ -16,6 +16,7 @@ pub mod SolutionRun
 pub mod FirstFaults
 pub mod SolutionKeeps
 pub mod Written
+pub mod Numerals
 pub mod GameRun
 pub mod GameKeeps
 pub mod Advance

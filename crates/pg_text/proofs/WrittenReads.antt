@@ -2,7 +2,7 @@
 use Rattle.pg_text.proofs.Common.{◌≡◌, ℕ, zero, suc, ◌+◌, ◌<◌, false, not, List, [], ◌∷◌, length, map, get_or, refl, sym, ◌∙◌, ap, subst, arith, rules, ◌==◌}
 use Rattle.pg_text.proofs.Common.{Option, Some, None, option_map, slice_get, AllByRecursion, Contains, list_any, eqb-true, eq-eqb, false_from_ne_true}
 use Rattle.pg_text.proofs.Common.{length-map, get_or-map, list_any_at, slice_get-get_or, get_or_from_slice_get, Player, Even, Spec, digit_of, Graph, Vertex}
-use Rattle.pg_text.proofs.Common.{IsGame, id_of, vertex_at, no_vertex, first_repeated, first_fault, IsWithinLimits, Placed, tokens_of, IsGameText, spec_of}
+use Rattle.pg_text.proofs.Common.{IsGame, id_of, vertex_at, no_vertex, first_repeated, first_fault, Placed, tokens_of, IsGameText, spec_of}
 use Rattle.pg_text.proofs.Common.{IsSolutionText, SolutionRows, AreSolutionRows, greatest_id, written_game, written_solution, IsSolutionTextOf, AreLinesOf}
 use Rattle.pg_text.proofs.Common.{first_stranger, first_twice, first_missing, has_line, number_in, row_of_line, IsNamed}
 use Rattle.std.specs.List.Sorted.{IsStrictlyIncreasing}
@@ -20,7 +20,7 @@ use Rattle.pg_text.proofs.SolutionRun.{one_lines}
 use Rattle.pg_text.proofs.Identifiers.{number_at, stranger-append}
 use Rattle.pg_text.proofs.SolutionTable.{IsChoice, player_back, find_none, row_is, at_home}
 use Rattle.pg_text.proofs.WrittenSpells.{line_of, row_line, row_lines, written_lines, written_grammar, written_owners, spells_game, spells_solution}
-use Rattle.pg_text.proofs.WrittenSpells.{short_numbers, all_from_places, small_winners, written_game_spells, written_solution_spells}
+use Rattle.pg_text.proofs.WrittenSpells.{all_from_places, small_winners, written_game_spells, written_solution_spells}
 use Rattle.pg_text.specs.SolutionText as solutions
 
 -- the written lines specify what describes the game
@@ -33,8 +33,8 @@ specs_back g (x ∷ xs) =
     ap (λ (s : Spec). s ∷ map spec_of (map (λ x. line_of g x) xs)) (spec_back g x) ∙ ap (λ (ss : List Spec). spec_at g x ∷ ss) (specs_back g xs)
 
 pub written_game_reads : WrittenGameReads
-written_game_reads g i short =
-    let (ps, s, e) = spells_game g i short in
+written_game_reads g i =
+    let (ps, s, e) = spells_game g i in
     let grammar = written_grammar g i (tokens_of ps) e in
     let back : map spec_of (written_lines g) ≡ specs_of g = specs_back g g in
     record {
@@ -151,8 +151,8 @@ module _ (g : Graph) (rows : SolutionRows) (i : IsGame g) (are : AreSolutionRows
   are_lines = record { no_stranger = no_strangers; once = once; complete = complete; says = says }
 
 pub written_solution_reads : WrittenSolutionReads
-written_solution_reads g rows i short are =
-    let (ps, s, e) = spells_solution g rows i short are in
+written_solution_reads g rows i are =
+    let (ps, s, e) = spells_solution g rows in
     let lines : List solutions.WrittenSolutionLine = row_lines g g rows in
     let grammar : IsSolutionText (tokens_of ps) lines = (Some (greatest_id g), e) in
     record {
@@ -175,15 +175,15 @@ pub written_solution_is_text : WrittenSolutionIsText
 written_solution_is_text g rows i w are = record { lines = row_lines g g rows; spelled = written_solution_spells g rows i w are; says = are_lines g rows i are }
 
 -- a game that the written text of a game is a text of is that game
-pub written_game_back : (g h : Graph) → IsGame g → IsWithinLimits g → IsTextOf (written_game g) h → h ≡ g
-written_game_back g h i w (lines, s, of, none) =
-    let r = written_game_reads g i (short_numbers g w) in
+pub written_game_back : (g h : Graph) → IsGame g → IsTextOf (written_game g) h → h ≡ g
+written_game_back g h i (lines, s, of, none) =
+    let r = written_game_reads g i in
     r.one_game h (subst (λ ls. IsGameOf (map spec_of ls) h) (r.one_text lines (s.tokens, s.spelled, s.grammar)) of)
 
 -- and winners and choices that a written solution is a text of are those
-pub written_solution_back : (g : Graph) (rows others : SolutionRows) → IsGame g → IsWithinLimits g → AreSolutionRows g rows
+pub written_solution_back : (g : Graph) (rows others : SolutionRows) → IsGame g → AreSolutionRows g rows
     → IsSolutionTextOf g (written_solution g rows) others → others ≡ rows
-written_solution_back g rows others i w are text =
-    let r = written_solution_reads g rows i (short_numbers g w) are in
+written_solution_back g rows others i are text =
+    let r = written_solution_reads g rows i are in
     let e = r.one_text text.lines (text.spelled.tokens, text.spelled.spelled, text.spelled.grammar) in
     r.one_solution others (subst (λ ls. AreLinesOf g ls others) e text.says)

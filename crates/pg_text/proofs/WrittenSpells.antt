@@ -1,22 +1,19 @@
 -- The written text of a game or of a solution spells one text.
-use Rattle.pg_text.proofs.Common.{◌≡◌, ℕ, ◌+◌, ◌-◌, ◌^◌, ◌<◌, ◌≤◌, suc, get_or, true, List, [], ◌∷◌, ◌++◌, length, map, refl, sym, ◌∙◌, ap, subst, arith}
-use Rattle.pg_text.proofs.Common.{append_assoc, length-append, decimal, rules, flat_map, codes, option_map, IfSome, ⊤, AllByRecursion, join_with_byte, le-leb}
-use Rattle.pg_text.proofs.Common.{nat_tests, length-map, Player, digit_of, Graph, Vertex, id_of, owner_of, IsGame, no_vertex, successors_of, Token, Number}
+use Rattle.pg_text.proofs.Common.{◌≡◌, ℕ, ◌+◌, ◌-◌, ◌<◌, ◌≤◌, suc, get_or, true, List, [], ◌∷◌, ◌++◌, length, map, refl, sym, ◌∙◌, ap, subst, arith}
+use Rattle.pg_text.proofs.Common.{append_assoc, numeral, rules, flat_map, codes, option_map, IfSome, AllByRecursion, join_with_byte, le-leb}
+use Rattle.pg_text.proofs.Common.{length-map, Player, digit_of, Graph, Vertex, id_of, owner_of, IsGame, no_vertex, successors_of, Token, Number}
 use Rattle.pg_text.proofs.Common.{Word, Comma, Semicolon, IsSpelling, IsWhole, Placed, tokens_of, Begins, Spells, is_blank, is_digit, is_letter, AllAre}
-use Rattle.pg_text.proofs.Common.{EndsRun, value_of, placed, max_number, IsWithinLimits, fits, AllFit, SpellsGame, SpellsSolution, IsGameText, separated}
+use Rattle.pg_text.proofs.Common.{EndsRun, placed, max_number, IsWithinLimits, fits, AllFit, SpellsGame, SpellsSolution, IsGameText, separated}
 use Rattle.pg_text.proofs.Common.{SolutionRows, AreSolutionRows, greatest_id, written_vertex, written_game, written_choice, written_rows, written_solution}
-use Rattle.std.proofs.Common.{◌%◌, Option, Some, None}
-use Rattle.std.proofs.lemmas.Fmt.{decimal_by_steps_wide}
+use Rattle.std.proofs.Common.{Option, Some, None}
 use Rattle.pg_text.proofs.SolutionKeeps.{owner_small}
 use Rattle.pg_text.proofs.FirstFaults.{all-append}
 use Rattle.pg_game.specs.Graph.{priority_of}
-use Rattle.pg_text.specs.Laws.{HasShortNumbers}
-use Rattle.pg_text.proofs.Runs.{value-push}
+use Rattle.pg_text.proofs.Numerals.{numeral_spells}
 use Rattle.pg_text.proofs.GameRun.{further, separated-first}
 use Rattle.pg_text.proofs.Written.{join_first}
 use Rattle.pg_text.specs.GameText as games
 use Rattle.pg_text.specs.SolutionText as solutions
-use Rattle.pg_text.proofs.Runs as runs
 
 -- from any place on, the text spells these tokens
 pub record SpellsTokens (text : List ℕ) (ts : List Token) : Type 0 where
@@ -56,57 +53,40 @@ spells_token {rest = rest} t body h s w = record {
       (placed t place ∷ ps, ([], body, rest, first, subst (λ n. Spells n rest ps) (omega arith) u), ap (λ us. t ∷ us) e);
 }
 
-abbrev IsDecimal : ℕ → List ℕ → Type 0
-IsDecimal n ds = (0 < length ds) × AllAre is_digit ds × (n ≡ value_of ds)
-
-is_decimal : (n : ℕ) → n < 10 ^ 64 → IsDecimal n (decimal n)
-is_decimal n h = decimal_by_steps_wide IsDecimal
-    (λ m l. (omega arith, (grind (arith, nat_tests), tt), omega arith))
-    (λ m ds l d.
-    let r : m % 10 < 10 = omega arith in
-    let e = value-push ds (48 + m % 10) in
-    let f = d.2 in
-    let g = length-append ds ((48 + m % 10) ∷ []) in
-    (omega arith, runs.all-append is_digit ds ((48 + m % 10) ∷ []) d.1 (grind (arith, nat_tests), tt), omega arith))
-    n h
-
-spells_number : {rest : List ℕ} {ts : List Token} (n : ℕ) → n < 10 ^ 64 → SpellsTokens rest ts → EndsRun is_digit rest
-    → SpellsTokens (decimal n ++ rest) (Number n ∷ ts)
-spells_number n h s w = spells_token (Number n) (decimal n) (is_decimal n h) s w
+spells_number : {rest : List ℕ} {ts : List Token} (n : ℕ) → SpellsTokens rest ts → EndsRun is_digit rest
+    → SpellsTokens (numeral n ++ rest) (Number n ∷ ts)
+spells_number n s w = spells_token (Number n) (numeral n) (numeral_spells n) s w
 
 -- a semicolon and the end of the line
 spells_end : {rest : List ℕ} {ts : List Token} → SpellsTokens rest ts → SpellsTokens (59 ∷ 10 ∷ rest) (Semicolon ∷ ts)
 spells_end s = spells_token Semicolon (59 ∷ []) refl (spells_blank 10 refl s) tt
 
 -- the header
-spells_header : {rest : List ℕ} {ts : List Token} (word : List ℕ) (n : ℕ) → 0 < length word → AllAre is_letter word → n < 10 ^ 64 → SpellsTokens rest ts
-    → SpellsTokens (word ++ (32 ∷ (decimal n ++ (59 ∷ 10 ∷ rest)))) (Word word ∷ Number n ∷ Semicolon ∷ ts)
-spells_header word n l a h s = spells_token (Word word) word (l, a, refl) (spells_blank 32 refl (spells_number n h (spells_end s) refl)) refl
-
-abbrev pub AreSmall : List ℕ → Type 0
-AreSmall ns = AllByRecursion (λ n. n < 10 ^ 64) ns
+spells_header : {rest : List ℕ} {ts : List Token} (word : List ℕ) (n : ℕ) → 0 < length word → AllAre is_letter word → SpellsTokens rest ts
+    → SpellsTokens (word ++ (32 ∷ (numeral n ++ (59 ∷ 10 ∷ rest)))) (Word word ∷ Number n ∷ Semicolon ∷ ts)
+spells_header word n l a s = spells_token (Word word) word (l, a, refl) (spells_blank 32 refl (spells_number n (spells_end s) refl)) refl
 
 -- numbers, each behind a comma
 abbrev behind_commas : List ℕ → List ℕ
-behind_commas ns = flat_map (λ n. 44 ∷ decimal n) ns
+behind_commas ns = flat_map (λ n. 44 ∷ numeral n) ns
 
 list_ends : (ns : List ℕ) (rest : List ℕ) → EndsRun is_digit rest → EndsRun is_digit (behind_commas ns ++ rest)
 list_ends [] rest w = w
 list_ends (n ∷ ns) rest w = refl
 
-spells_further : {rest : List ℕ} {ts : List Token} (ns : List ℕ) → AreSmall ns → SpellsTokens rest ts → EndsRun is_digit rest
+spells_further : {rest : List ℕ} {ts : List Token} (ns : List ℕ) → SpellsTokens rest ts → EndsRun is_digit rest
     → SpellsTokens (behind_commas ns ++ rest) (further ns ++ ts)
-spells_further [] a s w = s
-spells_further {rest = rest} {ts = ts} (n ∷ ns) a s w =
-    let e : behind_commas (n ∷ ns) ++ rest ≡ 44 ∷ (decimal n ++ (behind_commas ns ++ rest)) = append_assoc (44 ∷ decimal n) (behind_commas ns) rest in
-    let f = spells_number n a.0 (spells_further ns a.1 s w) (list_ends ns rest w) in
+spells_further [] s w = s
+spells_further {rest = rest} {ts = ts} (n ∷ ns) s w =
+    let e : behind_commas (n ∷ ns) ++ rest ≡ 44 ∷ (numeral n ++ (behind_commas ns ++ rest)) = append_assoc (44 ∷ numeral n) (behind_commas ns) rest in
+    let f = spells_number n (spells_further ns s w) (list_ends ns rest w) in
     subst (λ (xs : List ℕ). SpellsTokens xs (Comma ∷ Number n ∷ (further ns ++ ts))) (sym e) (spells_token Comma (44 ∷ []) refl f tt)
 
 -- numbers separated by commas
-spells_list : {rest : List ℕ} {ts : List Token} (ns : List ℕ) → 0 < length ns → AreSmall ns → SpellsTokens rest ts → EndsRun is_digit rest
-    → SpellsTokens (join_with_byte 44 (map decimal ns) ++ rest) (separated ns ++ ts)
-spells_list [] h a s w = absurd (omega arith)
-spells_list {rest = rest} {ts = ts} (n ∷ ns) h a s w =
+spells_list : {rest : List ℕ} {ts : List Token} (ns : List ℕ) → 0 < length ns → SpellsTokens rest ts → EndsRun is_digit rest
+    → SpellsTokens (join_with_byte 44 (map numeral ns) ++ rest) (separated ns ++ ts)
+spells_list [] h s w = absurd (omega arith)
+spells_list {rest = rest} {ts = ts} (n ∷ ns) h s w =
     search (rules, join_first, append_assoc, further, separated-first, spells_number, spells_further, list_ends)
 
 -- the line that the written text has for a vertex
@@ -116,37 +96,41 @@ line_of g x = record { id = x.id; priority = x.priority; owner = digit_of x.owne
 abbrev pub written_lines : Graph → List games.WrittenGameLine
 written_lines g = map (λ x. line_of g x) g
 
+-- its line names a successor
+abbrev HasSuccessors : Graph → Vertex → Type 0
+HasSuccessors g x = 0 < length (map (λ w. id_of g w) x.successors)
+
 -- the numbers of its line are such, and it has a successor
 pub record HasNumbers (P : ℕ → Type 0) (g : Graph) (x : Vertex) : Type 0 where
   pub id : P x.id
   pub priority : P x.priority
   pub successors : AllByRecursion P (map (λ w. id_of g w) x.successors)
-  pub some : 0 < length (map (λ w. id_of g w) x.successors)
+  pub some : HasSuccessors g x
 
-map-twice : (g : Graph) (ws : List ℕ) → map (λ w. decimal (id_of g w)) ws ≡ map decimal (map (λ w. id_of g w) ws)
+map-twice : (g : Graph) (ws : List ℕ) → map (λ w. numeral (id_of g w)) ws ≡ map numeral (map (λ w. id_of g w) ws)
 map-twice g [] = refl
-map-twice g (w ∷ ws) = ap (λ xs. decimal (id_of g w) ∷ xs) (map-twice g ws)
+map-twice g (w ∷ ws) = ap (λ xs. numeral (id_of g w) ∷ xs) (map-twice g ws)
 
-spells_line : {rest : List ℕ} {ts : List Token} (g : Graph) (x : Vertex) → HasNumbers (λ n. n < 10 ^ 64) g x → SpellsTokens rest ts
+spells_line : {rest : List ℕ} {ts : List Token} (g : Graph) (x : Vertex) → HasSuccessors g x → SpellsTokens rest ts
     → SpellsTokens (written_vertex g x ++ rest) (games.game_line_tokens (line_of g x) ++ ts)
 spells_line {rest = rest} {ts = ts} g x h s =
     let owner : ℕ = digit_of x.owner in
     let ids : List ℕ = map (λ w. id_of g w) x.successors in
     let numbers : List Token = Number x.id ∷ Number x.priority ∷ Number owner ∷ [] in
-    let e : written_vertex g x ++ rest ≡ decimal x.id
-    ++ (32 ∷ (decimal x.priority ++ (32 ∷ (decimal owner ++ (32 ∷ (join_with_byte 44 (map decimal ids) ++ (59 ∷ 10 ∷ rest))))))) =
-    ap (λ ds. (decimal x.id ++ (32 ∷ decimal x.priority ++ (32 ∷ decimal owner ++ (32 ∷ join_with_byte 44 ds ++ codes ";\n")))) ++ rest)
+    let e : written_vertex g x ++ rest ≡ numeral x.id
+    ++ (32 ∷ (numeral x.priority ++ (32 ∷ (numeral owner ++ (32 ∷ (join_with_byte 44 (map numeral ids) ++ (59 ∷ 10 ∷ rest))))))) =
+    ap (λ ds. (numeral x.id ++ (32 ∷ numeral x.priority ++ (32 ∷ numeral owner ++ (32 ∷ join_with_byte 44 ds ++ codes ";\n")))) ++ rest)
     (map-twice g x.successors)
     ∙ simp append_assoc in
     let f : games.game_line_tokens (line_of g x) ++ ts ≡ numbers ++ (separated ids ++ Semicolon ∷ ts) =
     ap (λ us. numbers ++ us) (append_assoc (separated ids) (Semicolon ∷ []) ts) in
-    let a = spells_blank 32 refl (spells_list ids h.some h.successors (spells_end s) refl) in
-    let b = spells_blank 32 refl (spells_number owner (search rules) a refl) in
-    let c = spells_blank 32 refl (spells_number x.priority h.priority b refl) in
+    let a = spells_blank 32 refl (spells_list ids h (spells_end s) refl) in
+    let b = spells_blank 32 refl (spells_number owner a refl) in
+    let c = spells_blank 32 refl (spells_number x.priority b refl) in
     subst (λ us. SpellsTokens (written_vertex g x ++ rest) us) (sym f)
-    (subst (λ (xs : List ℕ). SpellsTokens xs (numbers ++ (separated ids ++ Semicolon ∷ ts))) (sym e) (spells_number x.id h.id c refl))
+    (subst (λ (xs : List ℕ). SpellsTokens xs (numbers ++ (separated ids ++ Semicolon ∷ ts))) (sym e) (spells_number x.id c refl))
 
-spells_lines : (g : Graph) (xs : List Vertex) → AllByRecursion (λ x. HasNumbers (λ n. n < 10 ^ 64) g x) xs
+spells_lines : (g : Graph) (xs : List Vertex) → AllByRecursion (HasSuccessors g) xs
     → SpellsTokens (flat_map (written_vertex g) xs) (flat_map games.game_line_tokens (map (λ x. line_of g x) xs))
 spells_lines g [] a = spells_nothing
 spells_lines g (x ∷ xs) a = spells_line g x a.0 (spells_lines g xs a.1)
@@ -162,6 +146,12 @@ all_imply P Q (x ∷ xs) f a = (f x a.0, all_imply P Q xs f a.1)
 all-map : {X Y : Type 0} (f : X → Y) (P : Y → Type 0) (xs : List X) → AllByRecursion (λ x. P (f x)) xs → AllByRecursion P (map f xs)
 all-map f P [] a = tt
 all-map f P (x ∷ xs) a = (a.0, all-map f P xs a.1)
+
+have_successors : (g : Graph) → IsGame g → AllByRecursion (HasSuccessors g) g
+have_successors g i = all_from_places (HasSuccessors g) no_vertex g (λ v l.
+    let n = length-map (successors_of g v) (λ w. id_of g w) in
+    let h = (i.successors v l).nonempty in
+    omega arith)
 
 -- what holds of all identifiers and priorities
 pub have_numbers : (P : ℕ → Type 0) (g : Graph) → IsGame g → ((v : ℕ) → v < length g → P (id_of g v)) → ((v : ℕ) → v < length g → P (priority_of g v))
@@ -184,11 +174,10 @@ module _ (g : Graph) (i : IsGame g) where
   abbrev pub written_tokens : List Token
   written_tokens = games.game_tokens (Some (greatest_id g)) None (written_lines g)
 
-  pub spells_game : HasShortNumbers g → (ps : List Placed) × Spells 0 (written_game g) ps × (tokens_of ps ≡ written_tokens)
-  spells_game short =
-      let lines = spells_lines g g (have_numbers (λ n. n < 10 ^ 64) g i short.ids short.priorities) in
-      (spells_header (codes "parity") (greatest_id g) (omega arith) (refl, (refl, (refl, (refl, (refl, (refl, tt))))))
-      (last_id (λ n. n < 10 ^ 64) g i short.ids) lines).from 0
+  pub spells_game : (ps : List Placed) × Spells 0 (written_game g) ps × (tokens_of ps ≡ written_tokens)
+  spells_game =
+      let lines = spells_lines g g (have_successors g i) in
+      (spells_header (codes "parity") (greatest_id g) (omega arith) (refl, (refl, (refl, (refl, (refl, (refl, tt)))))) lines).from 0
 
   pub written_grammar : (ts : List Token) → ts ≡ written_tokens → IsGameText ts (written_lines g)
   written_grammar ts e = record {
@@ -196,9 +185,7 @@ module _ (g : Graph) (i : IsGame g) where
     start = None;
     tokens = e;
     nonempty = let h = i.nonempty in let n = length-map g (λ x. line_of g x) in omega arith;
-    successors = all-map (λ x. line_of g x) (λ l. 0 < length l.successors) g
-        (all_imply (λ x. HasNumbers (λ n. ⊤) g x) (λ x. 0 < length (map (λ w. id_of g w) x.successors)) g (λ x s. s.some)
-        (have_numbers (λ n. ⊤) g i (λ v l. tt) (λ v l. tt)));
+    successors = all-map (λ x. line_of g x) (λ l. 0 < length l.successors) g (have_successors g i);
   }
 
   pub written_owners : AllByRecursion (λ l. l.owner < 2) (written_lines g)
@@ -218,34 +205,28 @@ abbrev pub HasChoice : (ℕ → Type 0) → Graph → Player × Option ℕ → T
 HasChoice P g r = IfSome r.1 (λ w. P (id_of g w))
 
 -- behind a winner, the rest of a row
-spells_choice : {rest : List ℕ} {ts : List Token} (g : Graph) (c : Option ℕ) → IfSome c (λ w. id_of g w < 10 ^ 64) → SpellsTokens rest ts
+spells_choice : {rest : List ℕ} {ts : List Token} (g : Graph) (c : Option ℕ) → SpellsTokens rest ts
     → SpellsTokens (written_choice g c ++ (59 ∷ 10 ∷ rest)) ((solutions.choice_tokens (option_map (λ w. id_of g w) c) ++ Semicolon ∷ []) ++ ts)
-spells_choice g x1 h s = grind (arith, spells_end, spells_blank, spells_number)
+spells_choice g x1 s = grind (arith, spells_end, spells_blank, spells_number)
 
-spells_row : {rest : List ℕ} {ts : List Token} (g : Graph) (x : Vertex) (r : Player × Option ℕ) → x.id < 10 ^ 64 → HasChoice (λ n. n < 10 ^ 64) g r
-    → SpellsTokens rest ts
-    → SpellsTokens (decimal x.id ++ (32 ∷ decimal (digit_of r.0) ++ (written_choice g r.1 ++ (codes ";\n" ++ rest))))
+spells_row : {rest : List ℕ} {ts : List Token} (g : Graph) (x : Vertex) (r : Player × Option ℕ) → SpellsTokens rest ts
+    → SpellsTokens (numeral x.id ++ (32 ∷ numeral (digit_of r.0) ++ (written_choice g r.1 ++ (codes ";\n" ++ rest))))
     (solutions.solution_line_tokens (row_line g x r) ++ ts)
-spells_row {rest = rest} g x r i h s = search (rules, spells_number, spells_choice, x.id, spells_blank)
+spells_row {rest = rest} g x r s = search (rules, spells_number, spells_choice, x.id, spells_blank)
 
-spells_rows : (g : Graph) (xs : List Vertex) (rows : SolutionRows) → AllByRecursion (λ x. x.id < 10 ^ 64) xs
-    → AllByRecursion (HasChoice (λ n. n < 10 ^ 64) g) rows
+spells_rows : (g : Graph) (xs : List Vertex) (rows : SolutionRows)
     → SpellsTokens (written_rows g xs rows) (flat_map solutions.solution_line_tokens (row_lines g xs rows))
-spells_rows g [] rows a b = spells_nothing
-spells_rows g (x ∷ xs) [] a b = spells_nothing
-spells_rows g (x ∷ xs) (r ∷ rows) a b = spells_row g x r a.0 b.0 (spells_rows g xs rows a.1 b.1)
+spells_rows g [] rows = spells_nothing
+spells_rows g (x ∷ xs) [] = spells_nothing
+spells_rows g (x ∷ xs) (r ∷ rows) = spells_row g x r (spells_rows g xs rows)
 
 -- the written text of winners and choices spells their own lines
-pub spells_solution : (g : Graph) (rows : SolutionRows) → IsGame g → HasShortNumbers g → AreSolutionRows g rows
+pub spells_solution : (g : Graph) (rows : SolutionRows)
     → (ps : List Placed) × Spells 0 (written_solution g rows) ps × (tokens_of ps ≡ solutions.solution_tokens (Some (greatest_id g)) (row_lines g g rows))
-spells_solution g rows i short are =
-    let ids = all_from_places (λ x. x.id < 10 ^ 64) no_vertex g short.ids in
-    let lines = spells_rows g g rows ids (search (rules, all_imply, are.choices)) in
+spells_solution g rows =
+    let lines = spells_rows g g rows in
     let letters : AllAre is_letter (codes "paritysol") = (refl, (refl, (refl, (refl, (refl, (refl, (refl, (refl, (refl, tt))))))))) in
-    (spells_header (codes "paritysol") (greatest_id g) (omega arith) letters (last_id (λ n. n < 10 ^ 64) g i short.ids) lines).from 0
-
-pub short_numbers : (g : Graph) → IsWithinLimits g → HasShortNumbers g
-short_numbers g w = search (rules, w.ids, w.numbers)
+    (spells_header (codes "paritysol") (greatest_id g) (omega arith) letters lines).from 0
 
 fits_number : (n : ℕ) → n ≤ max_number → fits (Number n) ≡ true
 fits_number n h = le-leb n max_number h
@@ -268,7 +249,7 @@ fits_lines g (x ∷ xs) a =
 -- the written text of a game spells a game text of its own lines
 pub written_game_spells : (g : Graph) → IsGame g → IsWithinLimits g → SpellsGame (written_game g) (written_lines g)
 written_game_spells g i w =
-    let (ps, s, e) = spells_game g i (short_numbers g w) in
+    let (ps, s, e) = spells_game g i in
     let last = fits_number (greatest_id g) (last_id (λ n. n ≤ max_number) g i w.ids) in
     record {
       tokens = ps;
@@ -294,7 +275,7 @@ small_winners g (x ∷ xs) (r ∷ rows) = (owner_small r.0, small_winners g xs r
 pub written_solution_spells : (g : Graph) (rows : SolutionRows) → IsGame g → IsWithinLimits g → AreSolutionRows g rows
     → SpellsSolution (written_solution g rows) (row_lines g g rows)
 written_solution_spells g rows i w are =
-    let (ps, s, e) = spells_solution g rows i (short_numbers g w) are in
+    let (ps, s, e) = spells_solution g rows in
     let last = fits_number (greatest_id g) (last_id (λ n. n ≤ max_number) g i w.ids) in
     let ids = all_from_places (λ x. x.id ≤ max_number) no_vertex g w.ids in
     record {

@@ -1,7 +1,7 @@
 -- What is written can be read again, and as nothing else; a text has one answer; a solution has no fault.
-use Rattle.std.specs.Prelude.{ℕ, ◌≡◌, ◌<◌, ◌^◌, ◌⊎◌, List, length, map}
+use Rattle.std.specs.Prelude.{ℕ, ◌≡◌, ◌<◌, ◌⊎◌, List, map}
 use Rattle.std.specs.List.{AllByRecursion}
-use Rattle.pg_game.specs.Graph.{Graph, IsGame, id_of, priority_of}
+use Rattle.pg_game.specs.Graph.{Graph, IsGame}
 use Rattle.pg_game.specs.Limits.{IsWithinLimits}
 use Rattle.pg_game.specs.Specification.{IsGameOf}
 use Rattle.pg_text.specs.declared.fault.TextFault.{TextFault}
@@ -52,17 +52,12 @@ pub record SpellsOneSolution (text : List ℕ) (g : Graph) (rows : SolutionRows)
   pub says : AreLinesOf g lines rows
   pub one_solution : (others : SolutionRows) → AreLinesOf g lines others → others ≡ rows
 
--- identifiers and priorities have at most 64 digits, as many as a decimal of the library has
-pub record HasShortNumbers (g : Graph) : Type 0 where
-  pub ids : (v : ℕ) → v < length g → id_of g v < 10 ^ 64
-  pub priorities : (v : ℕ) → v < length g → priority_of g v < 10 ^ 64
-
 abbrev pub WrittenGameReads : Type 0
-WrittenGameReads = (g : Graph) → IsGame g → HasShortNumbers g → SpellsOneGame (written_game g) g
+WrittenGameReads = (g : Graph) → IsGame g → SpellsOneGame (written_game g) g
 
 abbrev pub WrittenSolutionReads : Type 0
 WrittenSolutionReads =
-    (g : Graph) (rows : SolutionRows) → IsGame g → HasShortNumbers g → AreSolutionRows g rows → SpellsOneSolution (written_solution g rows) g rows
+    (g : Graph) (rows : SolutionRows) → IsGame g → AreSolutionRows g rows → SpellsOneSolution (written_solution g rows) g rows
 
 -- within the limits of games the written text is a text of the game, without fault
 abbrev pub WrittenGameIsText : Type 0

@@ -6,8 +6,8 @@ ghost use Rattle.pg_text.specs.Laws.{TextOrFault, OneFault, NoGameWantsMemory, S
 
 /// What is written can be read again, and as nothing else: a text spells at most one list of tokens, the written text of a
 /// game spells one game text, whose game is that game and no other, and the same holds of winners and choices. Identifiers
-/// and priorities have at most 64 digits here, since one of 65 is written by its last 64 (`crate::proofs::Examples::too_wide`).
-/// Where the game is within the limits, its texts have no fault.
+/// and priorities may be of any size (`crate::proofs::Examples::written_wide`). Where the game is within the limits, its
+/// texts have no fault.
 pub fn written()
     ensures tokens { OneSpelling }
     ensures games { WrittenGameReads }

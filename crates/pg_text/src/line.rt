@@ -1,7 +1,7 @@
 //! A line of a text, written from its end: each part ends at a place of the line, and its writer answers where it begins.
 //! Digits are written where they stay (`itoa`).
-ghost use Rattle.std.specs.Prelude.{◌≡◌, ◌<◌, ◌≤◌, ◌++◌, ◌+◌, ◌∷◌, length, drop, codes, decimal, IfSome};
-ghost use Rattle.pg_text.specs.Written.{written_choice};
+ghost use Rattle.std.specs.Prelude.{◌≡◌, ◌<◌, ◌≤◌, ◌++◌, ◌+◌, ◌∷◌, length, drop, codes, IfSome};
+ghost use Rattle.pg_text.specs.Written.{numeral, written_choice};
 
 use itoa::write_digits;
 use pg_game::Game;
@@ -11,7 +11,7 @@ use pg_game::Game;
 pub fn number_before(line: &mut [u8], end: usize, n: u32) -> usize
     requires room { 10 ≤ end }
     requires within { end ≤ length line.old }
-    ensures written { drop result line.new ≡ decimal n ++ drop end line.old }
+    ensures written { drop result line.new ≡ numeral n ++ drop end line.old }
     ensures near { end ≤ result + 10 }
     ensures before { result ≤ end }
     ensures size { length line.new ≡ length line.old }
@@ -71,7 +71,7 @@ pub fn choice_before(line: &mut [u8], end: usize, game: &Game, choice: Option<u3
 pub(crate) fn field_before(line: &mut [u8], end: usize, n: u32) -> usize
     requires room { 11 ≤ end }
     requires within { end ≤ length line.old }
-    ensures written { drop result line.new ≡ decimal n ++ 32 ∷ drop end line.old }
+    ensures written { drop result line.new ≡ numeral n ++ 32 ∷ drop end line.old }
     ensures near { end ≤ result + 11 }
     ensures before { result ≤ end }
     ensures size { length line.new ≡ length line.old }

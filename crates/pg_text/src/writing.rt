@@ -1,11 +1,11 @@
 //! The one written spelling of games, solutions and winners: one line for each vertex in rising identifier, behind a header
 //! with the greatest identifier. Numbers have no leading zeros (`itoa` writes them); there is no start line and no name.
-ghost use Rattle.std.specs.Prelude.{◌≡◌, ℕ, ◌<◌, ◌≤◌, ◌++◌, ◌+◌, ◌*◌, ◌^◌, ◌∷◌, [], length, drop, slice_index, codes, decimal, map, IfOk};
+ghost use Rattle.std.specs.Prelude.{◌≡◌, ℕ, ◌<◌, ◌≤◌, ◌++◌, ◌+◌, ◌*◌, ◌^◌, ◌∷◌, [], length, drop, slice_index, codes, map, IfOk};
 ghost use Rattle.std.specs.Prelude.{OnOk, IfSome};
 ghost use Rattle.std.specs.List.{join_with_byte};
 ghost use Rattle.pg_game.specs.Graph.{id_of, priority_of, owner_of, successors_of, vertex_at};
 ghost use Rattle.pg_game.specs.Player.{digit_of};
-ghost use Rattle.pg_text.specs.Written.{greatest_id, written_game, written_vertex, written_solution, written_rows, written_winners};
+ghost use Rattle.pg_text.specs.Written.{greatest_id, numeral, written_game, written_vertex, written_solution, written_rows, written_winners};
 ghost use Rattle.pg_text.specs.Lengths.{greatest_game_text, greatest_solution_text, greatest_winners_text};
 ghost use Rattle.pg_text.specs.Solution.{AreSolutionRows};
 
@@ -23,7 +23,7 @@ const HEADER: usize = 22;
 
 /// A number in decimal digits.
 fn put_number(out: &mut Vec<u8>, n: u32) -> Result<(), Memory>
-    ensures { OnOk result (out.new.items ≡ out.old.items ++ decimal n) }
+    ensures { OnOk result (out.new.items ≡ out.old.items ++ numeral n) }
 {
     let mut buffer = Buffer::new();
     out.extend_from_slice(buffer.format(n).as_bytes())
@@ -31,7 +31,7 @@ fn put_number(out: &mut Vec<u8>, n: u32) -> Result<(), Memory>
 
 /// A word, a space, the greatest identifier and the end of the line.
 fn put_header(out: &mut Vec<u8>, word: &[u8], game: &Game) -> Result<(), Memory>
-    ensures { OnOk result (out.new.items ≡ out.old.items ++ (word.now ++ (decimal (greatest_id game.now) ++ codes ";\n"))) }
+    ensures { OnOk result (out.new.items ≡ out.old.items ++ (word.now ++ (numeral (greatest_id game.now) ++ codes ";\n"))) }
 {
     out.extend_from_slice(word)?;
     let last = game.len() - 1;
@@ -91,7 +91,7 @@ fn list_before(line: &mut [u8], end: usize, game: &Game, vertices: &[u32]) -> us
     requires below { (k : ℕ) → k < length vertices.now → slice_index vertices.now k < length game.now }
     requires room { 11 * length vertices.now ≤ end }
     requires within { end ≤ length line.old }
-    ensures written { drop result line.new ≡ join_with_byte 44 (map (λ w. decimal (id_of game.now w)) vertices.now) ++ drop end line.old }
+    ensures written { drop result line.new ≡ join_with_byte 44 (map (λ w. numeral (id_of game.now w)) vertices.now) ++ drop end line.old }
     ensures near { end ≤ result + 11 * length vertices.now }
     ensures before { result ≤ end }
     ensures size { length line.new ≡ length line.old }
@@ -112,8 +112,8 @@ fn fields_before(line: &mut [u8], end: usize, game: &Game, v: u32) -> usize
     requires vertex { v < length game.now }
     requires room { 33 ≤ end }
     requires within { end ≤ length line.old }
-    ensures written { drop result line.new ≡ decimal (id_of game.now v)
-        ++ (32 ∷ decimal (priority_of game.now v) ++ (32 ∷ decimal (digit_of (owner_of game.now v)) ++ (32 ∷ drop end line.old))) }
+    ensures written { drop result line.new ≡ numeral (id_of game.now v)
+        ++ (32 ∷ numeral (priority_of game.now v) ++ (32 ∷ numeral (digit_of (owner_of game.now v)) ++ (32 ∷ drop end line.old))) }
     ensures before { result ≤ end }
     ensures size { length line.new ≡ length line.old }
 {

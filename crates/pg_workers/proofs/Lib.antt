@@ -9,3 +9,4 @@ pub mod Closing
 pub mod Batches
 pub mod Settling
 pub mod Knowing
+pub mod Dropping

@@ -1,7 +1,11 @@
 -- What a row notes of the answers to a worker's claims.
-use Rattle.pg_workers.proofs.Common.{rules, ◌≡◌, ℕ, zero, suc, ◌+◌, ◌^◌, ◌<◌, ◌≤◌, ◌⊎◌, inl, inr, ⊎_elim, Bool, false, List, [], ◌∷◌, ◌++◌, length, sym}
+use Rattle.pg_workers.proofs.Common.{rules, ◌≡◌, ℕ, zero, suc, ◌+◌, ◌^◌, ◌<◌, ◌≤◌, ◌⊎◌, inl, inr, ⊎_elim, true, false, List, [], ◌∷◌, ◌++◌, length, sym}
 use Rattle.pg_workers.proofs.Common.{ap, ◌∙◌, subst, arith, length-append, common_steps, slice_get, Some, Result, IfOk, Graph}
-use Rattle.pg_workers.proofs.Common.{fold_push, none-some, same_Some, Claim, Refusal, ReportRow, AreNoted, IsAnswerTo, AreCounts, answered, noted}
+use Rattle.pg_finders.specs.declared.finder.Found.{Found}
+use Rattle.std.specs.Result.{OnErr}
+use Rattle.pg_workers.specs.private.Answers.{IsJobRow, drawn_row}
+use Rattle.std.specs.Prelude.{Ok}
+use Rattle.pg_workers.proofs.Common.{Err, fold_push, none-some, same_Some, Claim, Refusal, ReportRow, AreNoted, IsAnswerTo, AreCounts, answered, noted}
 
 abbrev Added : ℕ → ℕ → Result ℕ Refusal → Type 0
 Added before after answer = IfOk answer (λ n. (1 ≤ n) × (after ≡ before + n))
@@ -40,16 +44,23 @@ both_push (z ∷ xs) (w ∷ ys) x c y a zero l e f = inl (e, f)
 both_push (z ∷ xs) (w ∷ ys) x c y a (suc k) l e f = both_push xs ys x c y a k (omega arith) e f
 
 -- one claim more
-pub one_noted : (is_alone : Bool) (g : Graph) (claims : List Claim) (claim : Claim) (old now : ReportRow) (amount : ℕ) (answer : Result ℕ Refusal)
-    → AreNoted is_alone g claims old now → IsAnswerTo is_alone g claim amount answer → AreNoted is_alone g (claims ++ claim ∷ []) old (noted now answer)
-one_noted is_alone g claims claim old now amount answer h mine = record {
+pub one_noted : (g : Graph) (claims : List Claim) (claim : Claim) (old now : ReportRow) (amount : ℕ) (answer : Result ℕ Refusal)
+    → AreNoted g claims old now → IsAnswerTo g claim amount answer → AreNoted g (claims ++ claim ∷ []) old (noted now answer)
+one_noted g claims claim old now amount answer h mine = record {
   answers = h.answers ++ answer ∷ [];
   number = let n = h.number in let a = length-append h.answers (answer ∷ []) in let b = length-append claims (claim ∷ []) in omega arith;
   each = λ k c a e f.
       ⊎_elim
       (λ (was : (slice_get claims k ≡ Some c) × (slice_get h.answers k ≡ Some a)). h.each k c a was.0 was.1)
       (λ (last : (claim ≡ c) × (answer ≡ a)).
-      (amount, subst (λ (x : Claim). IsAnswerTo is_alone g x amount a) last.0 (subst (IsAnswerTo is_alone g claim amount) last.1 mine)))
+      (amount, subst (λ (x : Claim). IsAnswerTo g x amount a) last.0 (subst (IsAnswerTo g claim amount) last.1 mine)))
       (both_push claims h.answers claim c answer a k h.number e f);
   row = ap (λ (r : ReportRow). noted r answer) h.row ∙ sym (fold_push noted old h.answers answer);
 }
+
+-- the row of a job notes its search and the answers to its claims
+pub job_row : {A E : Type 0} (g : A → Graph) (f : A → Found) (found : Result A E) (job worker : ℕ) (row : ReportRow)
+    → IfOk found (λ x. AreNoted (g x) (f x).claims.items (drawn_row job worker (f x).gave_up false) row)
+    → OnErr found (row ≡ drawn_row job worker false true) → IsJobRow job worker row
+job_row g f (Ok x) job worker row noted memory = inr (g x, f x, noted)
+job_row g f (Err e) job worker row noted memory = inl memory

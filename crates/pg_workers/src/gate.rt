@@ -9,11 +9,6 @@ pub trait Gate: Sync {
 
     /// The worker has posted all claims of the job.
     fn posted<R: Wait>(&self, rt: &R, worker: u32, job: u64);
-
-    /// Whether the calls may hold a worker until others have gone on. Then no job waits for a worker that is in one.
-    fn may_hold(&self) -> bool {
-        true
-    }
 }
 
 /// A gate that does nothing.
@@ -23,8 +18,4 @@ impl Gate for Pass {
     fn found<R: Wait>(&self, _rt: &R, _worker: u32, _job: u64) {}
 
     fn posted<R: Wait>(&self, _rt: &R, _worker: u32, _job: u64) {}
-
-    fn may_hold(&self) -> bool {
-        false
-    }
 }

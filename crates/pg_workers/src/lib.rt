@@ -7,7 +7,6 @@ mod gate;
 mod jobs;
 mod known;
 mod options;
-mod phases;
 mod report;
 mod rest;
 mod scope;

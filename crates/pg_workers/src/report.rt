@@ -1,7 +1,7 @@
 //! What became of each job of a run. Each row of a worker has its place in the report by its job's number.
-ghost use Rattle.std.specs.Prelude.{◌≡◌, ◌+◌, ◌^◌, ◌≤◌, ◌<◌, ℕ, IfOk, length, vec_len};
+ghost use Rattle.std.specs.Prelude.{◌≡◌, ◌+◌, ◌^◌, ◌≤◌, ◌<◌, ℕ, IfOk, length, map, vec_len};
 ghost use Rattle.pg_workers.specs.Report.{IsInOrder, blank_row, settled_in};
-ghost use Rattle.pg_workers.specs.private.Report.{AreBlank, AreOfPrefix, AreNotedRows, HasPlaces, answered, noted, rows_in};
+ghost use Rattle.pg_workers.specs.private.Report.{AreBlank, AreOfPrefix, AreNotedRows, HasPlaces, answered, noted, rows_in, without_posts};
 
 use pg_board::Refusal;
 use pg_game::Memory;
@@ -92,6 +92,28 @@ pub(crate) fn with_rows(mut report: Vec<ReportRow>, all: &[Vec<ReportRow>]) -> V
 {
     for rows in all {
         place_rows(report.as_mut_slice(), rows.as_slice());
+    }
+    report
+}
+
+/// The row without what was posted and settled.
+fn without_posts(row: ReportRow) -> ReportRow
+    ensures { result ≡ without_posts row }
+{
+    ReportRow {
+        posted: 0,
+        settled: 0,
+        ..row
+    }
+}
+
+/// The report with `posted` and `settled` set to 0 in every row.
+pub(crate) fn with_no_posts(mut report: Vec<ReportRow>) -> Vec<ReportRow>
+    ensures length { vec_len result ≡ vec_len report }
+    ensures rows { result.items ≡ map without_posts report.items }
+{
+    for k in 0..report.len() {
+        report[k] = without_posts(report[k]);
     }
     report
 }

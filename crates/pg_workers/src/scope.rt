@@ -9,7 +9,7 @@ use crate::gate::Gate;
 use crate::jobs::{Jobs, Ticket};
 use crate::report::ReportRow;
 use crate::worker::{Naming, Slot, Task};
-use pg_board::{OfGame, Office, Share};
+use pg_board::{Office, Share};
 use pg_finders::Finder;
 use pg_game::Memory;
 use std::alloc::Global;
@@ -51,14 +51,13 @@ pub(crate) fn slots_of<L: Ledger, J: Naming>(
     Ok(slots)
 }
 
-/// Starts a worker for the slot on a thread of the scope. Whether it could be started: one that can't is left out, and its slot
-/// is still there.
+/// Starts a worker for the slot on a thread of the scope. One that can't be started is left out, and its slot is still there.
 fn start<
     's,
     'x: 's,
     'g,
     E,
-    L: Ledger + OfGame + Send + Sync,
+    L: Ledger + Send + Sync,
     J: Naming + Send + Sync,
     G: Gate,
     F: Finder,
@@ -71,54 +70,25 @@ fn start<
     jobs: &'x Jobs,
     task: &'x Task<'x, G, F>,
     slot: &'x mut Slot<L, J>,
-) -> bool
+)
     requires jobs { jobs.now.series ≡ J.series }
     requires task { J.series.total ≡ total_of task.now.options.now.bound task.now.size }
 {
-    scope
-        .spawn(
-            move ||
-                requires jobs { jobs.now.series ≡ J.series }
-                requires task { J.series.total ≡ total_of task.now.options.now.bound task.now.size }
-            { slot.work(rt, alloc, office, jobs, task) },
-        )
-        .is_ok()
+    let _ = scope.spawn(
+        move ||
+            requires jobs { jobs.now.series ≡ J.series }
+            requires task { J.series.total ≡ total_of task.now.options.now.bound task.now.size }
+        { slot.work(rt, alloc, office, jobs, task) },
+    );
 }
 
-/// Whether nothing is unsettled. Also false where memory for a look is refused.
-fn is_all_settled<L: Ledger + OfGame, R: Wait>(
-    rt: &R,
-    alloc: Global,
-    office: &Office<'_, L>,
-    share: &Share<L>,
-) -> bool {
-    office.shared_copy(rt, alloc, share).is_ok_and(|copied| copied.settled
-        == u64::from(copied.inside.game().len()))
-}
-
-/// Whether the first worker, which was started, settles all in the jobs of the first phases. Others would only wait for these
-/// with theirs. Where the gate may hold the first worker until others have gone on, that is not waited for.
-fn settles_all<L: Ledger + OfGame, G: Gate, F, R: Wait>(
-    rt: &R,
-    alloc: Global,
-    office: &Office<'_, L>,
-    task: &Task<'_, G, F>,
-    share: &Share<L>,
-) -> bool {
-    if task.options.workers == 1 || task.gate.may_hold() {
-        return false;
-    }
-    task.phases.wait_for_first(rt);
-    is_all_settled(rt, alloc, office, share)
-}
-
-/// Starts a worker for each slot, or for the first one alone where it settles all in its first jobs.
+/// Starts a worker for each slot.
 fn start_each<
     's,
     'x: 's,
     'g,
     E,
-    L: Ledger + OfGame + Send + Sync,
+    L: Ledger + Send + Sync,
     J: Naming + Send + Sync,
     G: Gate,
     F: Finder,
@@ -130,29 +100,21 @@ fn start_each<
     office: &'x Office<'g, L>,
     jobs: &'x Jobs,
     task: &'x Task<'x, G, F>,
-    share: &Share<L>,
-    mut slots: IterMut<'x, Slot<L, J>>,
+    slots: IterMut<'x, Slot<L, J>>,
 )
     requires jobs { jobs.now.series ≡ J.series }
     requires task { J.series.total ≡ total_of task.now.options.now.bound task.now.size }
 {
-    let Some(first) = slots.next() else {
-        return;
-    };
-    let is_started = start(scope, rt, alloc, office, jobs, task, first);
-    if is_started && settles_all(rt, alloc, office, task, share) {
-        return;
-    }
     for slot in slots {
         start(scope, rt, alloc, office, jobs, task, slot);
     }
 }
 
-/// Lends slots to threads, each to one of its own, and returns once all have ended. The share is the calling thread's.
+/// Lends slots to threads, each to one of its own, and returns once all have ended.
 pub(crate) fn start_all<
     'x,
     'g,
-    L: Ledger + OfGame + Send + Sync,
+    L: Ledger + Send + Sync,
     J: Naming + Send + Sync,
     G: Gate,
     F: Finder,
@@ -163,7 +125,6 @@ pub(crate) fn start_all<
     office: &'x Office<'g, L>,
     jobs: &'x Jobs,
     task: &'x Task<'x, G, F>,
-    share: &Share<L>,
     mut slots: Vec<Slot<L, J>>,
 ) -> Vec<Slot<L, J>>
     requires jobs { jobs.now.series ≡ J.series }
@@ -178,7 +139,7 @@ pub(crate) fn start_all<
             requires jobs { jobs.now.series ≡ J.series }
             requires task { J.series.total ≡ total_of task.now.options.now.bound task.now.size }
         {
-            start_each(scope, rt, alloc, office, jobs, task, share, cells);
+            start_each(scope, rt, alloc, office, jobs, task, cells);
         },
     );
     slots

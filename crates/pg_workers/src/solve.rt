@@ -15,12 +15,11 @@ use crate::gate::Gate;
 use crate::jobs::{Jobs, Ticket};
 use crate::known::{SolveFault, board_with};
 use crate::options::Options;
-use crate::phases::Phases;
-use crate::report::{ReportRow, blank_report, with_rows};
+use crate::report::{ReportRow, blank_report, with_no_posts, with_rows};
 use crate::rest::settle_rest;
 use crate::scope::{slots_of, start_all, take_apart};
 use crate::worker::{Naming, Task};
-use pg_board::{Board, Entry, OfGame, Office, Share};
+use pg_board::{Board, Entry, Office, Share};
 use pg_finders::Finder;
 use pg_game::{Game, Memory};
 use pg_text::{Known, Solution};
@@ -65,7 +64,7 @@ fn outcome_of(
 /// first share is no worker's.
 fn run<
     'g,
-    L: Ledger + OfGame + Send + Sync,
+    L: Ledger + Send + Sync,
     J: Naming + Send + Sync,
     G: Gate,
     F: Finder,
@@ -86,7 +85,6 @@ fn run<
     requires jobs { (jobs.series ≡ J.series) × (jobs.seats ≡ vec_len shares) }
     requires workers { (vec_len shares ≡ J.workers) × (1 ≤ J.workers) × (J.workers ≤ 64) }
     requires tickets { tickets.items ≡ replicate (vec_len shares) (fresh J.series) }
-    ensures game { IfOk result (λ r. r.0.graph ≡ L.game) }
     ensures numbered { IfOk result (λ r. AreNumbered r.1.items) }
     ensures settled { IfOk result (λ r. settled_in r.1.items + first ≡ number_settled r.0.journal) }
     ensures rows { IfOk result (λ r. IsReport J.workers r.1.items) }
@@ -98,7 +96,7 @@ fn run<
     let rows_back = Vec::with_capacity(alloc, seats)?;
     let report = blank_report(alloc, total)?;
     let slots = slots_of::<L, J>(alloc, total, shares, tickets)?;
-    let slots = start_all(rt, alloc, &office, &jobs, task, &first, slots);
+    let slots = start_all(rt, alloc, &office, &jobs, task, slots);
     let (mut shares, tickets, rows) = take_apart(slots, shares_back, tickets_back, rows_back);
     drop(jobs.close(tickets));
     shares.push_reserved(first);
@@ -106,8 +104,35 @@ fn run<
     Ok((board, with_rows(report, rows.as_slice())))
 }
 
+/// The closed board and its report where the board is of this game. Otherwise a new board with the known sets alone, and the
+/// report without posts.
+fn on_own_game<'g>(
+    alloc: Global,
+    game: &'g Game,
+    known: &Known,
+    board: Board<'g>,
+    report: Vec<ReportRow>,
+) -> Result<(Board<'g>, Vec<ReportRow>), SolveFault>
+    requires known { length known.now.rows ≤ length game.now }
+    requires settled { HasSettled game.now known.now.rows report.items board.journal }
+    requires numbered { AreNumbered report.items }
+    ensures same { board.entry.graph ≡ game.now → IfOk result (λ r. (r.0.journal ≡ board.entry.journal) × (r.1.items ≡ report.items)) }
+    ensures game { IfOk result (λ r. r.0.graph ≡ game.now) }
+    ensures settled { IfOk result (λ r. HasSettled game.now known.now.rows r.1.items r.0.journal) }
+    ensures numbered { IfOk result (λ r. AreNumbered r.1.items) }
+    ensures rows { IfOk result (λ r. (n : ℕ) → IsReport n report.items → IsReport n r.1.items) }
+    ensures length { IfOk result (λ r. vec_len r.1 ≡ vec_len report) }
+    ensures fault { IfErr result (λ e. IsSolveFault game.now known.now.rows e) }
+{
+    if *board.game() == *game {
+        return Ok((board, report));
+    }
+    let board = board_with(alloc, game, known)?;
+    Ok((board, with_no_posts(report)))
+}
+
 /// A run over an office of the game, whose ledger is made of this blank.
-fn solve_on<L: Ledger + OfGame + Send + Sync, G: Gate, F: Finder, R: Threads + Wait + Sync>(
+fn solve_on<L: Ledger + Send + Sync, G: Gate, F: Finder, R: Threads + Wait + Sync>(
     rt: &R,
     alloc: Global,
     blank: Blank,
@@ -119,7 +144,6 @@ fn solve_on<L: Ledger + OfGame + Send + Sync, G: Gate, F: Finder, R: Threads + W
 ) -> Result<Outcome, SolveFault>
     requires name { blank.name ≡ L.name }
     requires parts { (blank.parts ≡ L.parts) × (blank.parts ≡ options.now.workers + 1) }
-    requires game { game.now ≡ L.game }
     requires known { length known.now.rows ≤ length game.now }
     requires workers { (1 ≤ options.now.workers) × (options.now.workers ≤ 64) }
     requires bound { options.now.bound ≤ 8 }
@@ -129,11 +153,9 @@ fn solve_on<L: Ledger + OfGame + Send + Sync, G: Gate, F: Finder, R: Threads + W
 {
     let size = game.len();
     let total = options.total(size);
-    let phases = Phases::new(total);
     let task = Task {
         options,
         size,
-        phases: &phases,
         gate,
         finder,
     };
@@ -144,12 +166,11 @@ fn solve_on<L: Ledger + OfGame + Send + Sync, G: Gate, F: Finder, R: Threads + W
     let (board, report) = run::<L, Brand, G, F, R>(
         rt, alloc, office, first, shares, jobs, tickets, total, &task,
     )?;
+    let (board, report) = on_own_game(alloc, game, known, board, report)?;
     Ok(outcome_of(alloc, board, report)?)
 }
 
 /// Solves a game by as many workers as can be started, of 1 to 64, each on a thread of its own, and settles what they leave.
-/// Where the gate lets every worker pass, the others are started once the first has looked for loops and solitaire parts, and
-/// not where all is settled then.
 /// What is known is posted before any worker starts, as worker 0: Even's set and then Odd's, where not empty. Of a vertex
 /// behind the last known row nothing is known. A known set that is no region is answered by the refusal of its post.
 /// For every number of workers, gate and finder the entries are a lawful journal of the game, the solution is their

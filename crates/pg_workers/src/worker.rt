@@ -1,10 +1,9 @@
 //! A worker: it draws a job, has a copy of the unsettled part searched, checks each claim that was found on the copy's game,
-//! with no lock held, settles what was checked, notes what became of it, and draws again until none is left. A worker whose
-//! job runs beside no other has its claims checked by the board itself.
-ghost use Rattle.std.specs.Prelude.{◌≡◌, ◌+◌, ◌^◌, ◌≤◌, ◌<◌, ℕ, All, false, IfOk, OnErr, Result, Some, length, map};
+//! with no lock held, settles what was checked, notes what became of it, and draws again until none is left.
+ghost use Rattle.std.specs.Prelude.{◌≡◌, ◌+◌, ◌^◌, ◌≤◌, ◌<◌, ℕ, All, false, true, IfOk, OnErr, Result, Some, length, map};
 ghost use Rattle.std.specs.Vec.{vec_capacity};
 ghost use Rattle.pg_board.specs.declared.refusal.Refusal.{Refusal};
-ghost use Rattle.pg_workers.specs.private.Answers.{AreNoted, IsAnswerTo};
+ghost use Rattle.pg_workers.specs.private.Answers.{AreNoted, IsAnswerTo, IsJobRow, drawn_row};
 ghost use Rattle.pg_workers.specs.Report.{AreCounts, IsDrawnRow, settled_in};
 ghost use Rattle.pg_workers.specs.private.Report.{answered, noted};
 ghost use Rattle.pg_game.specs.Specification.{max_vertices};
@@ -13,9 +12,8 @@ ghost use Rattle.pg_workers.specs.Work.{job_of, total_of};
 use crate::gate::Gate;
 use crate::jobs::{Jobs, Ticket};
 use crate::options::Options;
-use crate::phases::Phases;
 use crate::report::ReportRow;
-use pg_board::{OfGame, Office, Refusal, Share};
+use pg_board::{Office, Refusal, Share};
 use pg_dominion::{Claim, check_claim};
 use pg_finders::{Finder, Found, Job};
 use pg_game::{Game, Memory};
@@ -63,75 +61,67 @@ pub(crate) struct Slot<L: Ledger, J: Naming> {
 pub(crate) struct Task<'x, G, F> {
     pub options: &'x Options,
     pub size: u32,
-    pub phases: &'x Phases,
     pub gate: &'x G,
     pub finder: &'x F,
     ghost small: { size ≤ max_vertices },
 }
 
-/// Has a claim settled: it is checked on the game first, with no lock held. Where no other worker waits for the lock it is
-/// posted as it stands, since that takes no memory for what was checked.
-fn settle_claim<L: Ledger + OfGame, R: Wait>(
+/// Has a claim settled: it is checked on the game first, with no lock held.
+fn settle_claim<L: Ledger, R: Wait>(
     rt: &R,
     alloc: Global,
     office: &Office<'_, L>,
     game: &Game,
     share: &mut Share<L>,
     worker: u32,
-    is_alone: bool,
     claim: &Claim,
 ) -> Result<u32, Refusal>
-    ensures answer { IsAnswerTo is_alone game.now claim.now share.old result }
+    ensures answer { IsAnswerTo game.now claim.now share.old result }
     ensures added { IfOk result (λ n. (1 ≤ n) × (share.new ≡ share.old + n)) }
     ensures unchanged { OnErr result (share.new ≡ share.old) }
 {
-    if is_alone {
-        return office.post(rt, alloc, share, worker, claim);
-    }
     let checked = check_claim(alloc, game, claim)?;
     office.settle(rt, alloc, share, worker, &checked)
 }
 
 /// Has one claim settled, and notes the answer in the job's row.
-fn post<L: Ledger + OfGame, R: Wait>(
+fn post<L: Ledger, R: Wait>(
     rt: &R,
     alloc: Global,
     office: &Office<'_, L>,
     game: &Game,
     share: &mut Share<L>,
     worker: u32,
-    is_alone: bool,
     claim: &Claim,
     row: &mut ReportRow,
 )
     requires share { row.old.settled ≤ share.old }
     requires room { answered row.old + 1 < 2 ^ 64 }
-    ensures noted { (answer : Result ℕ Refusal) × IsAnswerTo is_alone game.now claim.now share.old answer × (row.new ≡ noted row.old answer) }
+    ensures noted { (answer : Result ℕ Refusal) × IsAnswerTo game.now claim.now share.old answer × (row.new ≡ noted row.old answer) }
     ensures counts { AreCounts row.old → AreCounts row.new }
     ensures settled { share.new + row.old.settled ≡ share.old + row.new.settled }
 {
-    let answer = settle_claim(rt, alloc, office, game, share, worker, is_alone, claim);
+    let answer = settle_claim(rt, alloc, office, game, share, worker, claim);
     // for the proof: the share's amount has 64 bits, so the sum of what the row settled fits
     let _amount = share.amount();
     row.note(answer);
 }
 
-/// Has all claims settled in order, and notes the answers; each is let go then. Every claim counts as posted, stale or refused
-/// where memory was not refused.
-fn post_all<L: Ledger + OfGame, R: Wait>(
+/// Has all claims settled in order, and notes the answers. Every claim counts as posted, stale or refused where memory was
+/// not refused.
+fn post_all<L: Ledger, R: Wait>(
     rt: &R,
     alloc: Global,
     office: &Office<'_, L>,
     game: &Game,
     share: &mut Share<L>,
     worker: u32,
-    is_alone: bool,
     claims: Vec<Claim>,
     row: &mut ReportRow,
 )
     requires share { row.old.settled ≤ share.old }
     requires room { answered row.old + length claims.items < 2 ^ 64 }
-    ensures noted { AreNoted is_alone game.now claims.items row.old row.new }
+    ensures noted { AreNoted game.now claims.items row.old row.new }
     ensures all { row.new.memory ≡ false → answered row.new ≡ answered row.old + length claims.items }
     ensures few { answered row.new ≤ answered row.old + length claims.items }
     ensures same { (row.new.job ≡ row.old.job) × (row.new.worker ≡ row.old.worker) × (row.new.gave_up ≡ row.old.gave_up) }
@@ -139,14 +129,12 @@ fn post_all<L: Ledger + OfGame, R: Wait>(
     ensures settled { share.new + row.old.settled ≡ share.old + row.new.settled }
 {
     for claim in claims {
-        post(
-            rt, alloc, office, game, share, worker, is_alone, &claim, row,
-        );
+        post(rt, alloc, office, game, share, worker, &claim, row);
     }
 }
 
 /// What the finder gives for a job on a copy, and the copy's game.
-fn search<'g, L: Ledger + OfGame, F: Finder, R: Wait>(
+fn search<'g, L: Ledger, F: Finder, R: Wait>(
     rt: &R,
     alloc: Global,
     office: &Office<'g, L>,
@@ -154,13 +142,13 @@ fn search<'g, L: Ledger + OfGame, F: Finder, R: Wait>(
     share: &Share<L>,
     job: &Job,
 ) -> Result<(Found, &'g Game), Memory> {
-    let copied = office.shared_copy(rt, alloc, share)?;
+    let copied = office.copy(rt, alloc, share)?;
     let found = finder.find(alloc, &copied, job)?;
     Ok((found, copied.inside.game()))
 }
 
-/// Has a copy searched for the job of this number, once no job of an earlier phase is under way, and tells the gate.
-fn search_job<'g, L: Ledger + OfGame, G: Gate, F: Finder, R: Wait>(
+/// Has a copy searched for the job of this number and tells the gate.
+fn search_job<'g, L: Ledger, G: Gate, F: Finder, R: Wait>(
     rt: &R,
     alloc: Global,
     office: &Office<'g, L>,
@@ -172,21 +160,41 @@ fn search_job<'g, L: Ledger + OfGame, G: Gate, F: Finder, R: Wait>(
 ) -> Result<(Found, &'g Game), Memory>
     requires { job.now ≡ job_of task.now.options.now.bound task.now.options.now.budget task.now.size number }
 {
-    task.phases.wait(rt, number);
     let found = search(rt, alloc, office, task.finder, share, job);
-    let may_hold = task.gate.may_hold();
-    if may_hold {
-        task.phases.pass(rt);
-    }
     task.gate.found(rt, worker, number);
-    if may_hold {
-        task.phases.resume(rt);
-    }
     found
 }
 
-/// Does one job. What it settles is added to the share and noted in the row.
-fn do_job<L: Ledger + OfGame, G: Gate, F: Finder, R: Wait>(
+/// Has the claims that a job's search found settled, and returns the job's row. The share's amount rises by what was settled.
+fn settle_found<L: Ledger, R: Wait>(
+    rt: &R,
+    alloc: Global,
+    office: &Office<'_, L>,
+    share: &mut Share<L>,
+    worker: u32,
+    number: u64,
+    found: Result<(Found, &Game), Memory>,
+) -> ReportRow
+    ensures noted { IfOk found.entry (λ f. AreNoted f.1.now f.0.claims.items (drawn_row number worker f.0.gave_up false) result) }
+    ensures memory { OnErr found.entry (result ≡ drawn_row number worker false true) }
+    ensures job { (result.job ≡ number) × (result.worker ≡ Some worker) }
+    ensures counts { AreCounts result }
+    ensures settled { share.new ≡ share.old + result.settled }
+{
+    let mut row = ReportRow::blank(number);
+    row.worker = Some(worker);
+    match found {
+        Ok((Found { claims, gave_up }, game)) => {
+            row.gave_up = gave_up;
+            post_all(rt, alloc, office, game, share, worker, claims, &mut row);
+        }
+        Err(AllocError) => row.memory = true,
+    }
+    row
+}
+
+/// Does one job and returns its row. The share's amount rises by what was settled.
+fn do_job<L: Ledger, G: Gate, F: Finder, R: Wait>(
     rt: &R,
     alloc: Global,
     office: &Office<'_, L>,
@@ -196,31 +204,19 @@ fn do_job<L: Ledger + OfGame, G: Gate, F: Finder, R: Wait>(
     number: u64,
 ) -> ReportRow
     requires { number < total_of task.now.options.now.bound task.now.size }
+    ensures row { IsJobRow number worker result }
     ensures job { (result.job ≡ number) × (result.worker ≡ Some worker) }
     ensures counts { AreCounts result }
     ensures settled { share.new ≡ share.old + result.settled }
 {
-    let mut row = ReportRow::blank(number);
-    row.worker = Some(worker);
     let job = task.options.job(task.size, number);
-    // only searches for small dominions run beside other jobs: the others wait, and are waited for
-    let is_alone = task.options.workers == 1 || !matches!(job, Job::Small { .. });
     let found = search_job(rt, alloc, office, task, share, worker, number, &job);
-    match found {
-        Ok((Found { claims, gave_up }, game)) => {
-            row.gave_up = gave_up;
-            post_all(
-                rt, alloc, office, game, share, worker, is_alone, claims, &mut row,
-            );
-        }
-        Err(AllocError) => row.memory = true,
-    }
-    task.phases.pass(rt);
+    let row = settle_found(rt, alloc, office, share, worker, number, found);
     task.gate.posted(rt, worker, number);
     row
 }
 
-impl<L: Ledger + OfGame, J: Naming> Slot<L, J> {
+impl<L: Ledger, J: Naming> Slot<L, J> {
     /// Draws a number and does its job, or learns that there are no more.
     fn turn<G: Gate, F: Finder, R: Wait>(
         &mut self,

@@ -1,6 +1,6 @@
 -- The names that several proofs of this crate cite, passed on from one place. Declares nothing.
 pub use Rattle.std.proofs.Common.{Bool, Contains, Err, IfSome, IsErrOf, List, None, OnErr, OnOk, Option, Result, Some, [], ap, append_assoc, arith, codes, drop}
-pub use Rattle.std.proofs.Common.{decimal, false, flat_map, get_or, if◌then◌else◌, inl, inr, length, length-take, option_map, refl, replicate, rules, slice_get}
+pub use Rattle.std.proofs.Common.{false, flat_map, get_or, if◌then◌else◌, inl, inr, length, length-take, option_map, refl, replicate, rules, slice_get}
 pub use Rattle.std.proofs.Common.{subst, suc, sum_by, sym, take, true, vec_len, zero, ℕ, ⊎_elim, ◌*◌, ◌++◌, ◌+◌, ◌-◌, ◌<◌, ◌==◌, ◌^◌, ◌∙◌, ◌∷◌, ◌≡◌, ◌≤◌, ◌⊎◌}
 pub use Rattle.std.proofs.lemmas.List.{drop-take, places, take-take, take_rest, with_items_is}
 pub use Rattle.std.proofs.lemmas.Result.{err_from_is_err_and}
@@ -8,8 +8,9 @@ pub use Rattle.std.specs.Io.KnownBytes.{Appends, Consumes, Keeps}
 pub use Rattle.std.specs.List.{position_or_len}
 pub use Rattle.pg_game.proofs.Common.{drop_of_length-le}
 pub use Rattle.pg_game.proofs.Members.{Contains-one}
-pub use Rattle.pg_text.proofs.Common.{SolutionRows, SpellsSolution, drop_more, join_with_byte, written_winners}
+pub use Rattle.pg_text.proofs.Common.{SolutionRows, SpellsSolution, drop_more, join_with_byte, numeral, written_winners}
 pub use Rattle.pg_text.proofs.Exact.{chosen_below, edge_below, exact_rows, none_below, same_or_not}
+pub use Rattle.pg_text.proofs.Numerals.{decimal_is_numeral}
 pub use Rattle.pg_text.proofs.WrittenReads.{all_at}
 pub use Rattle.pg_text.specs.Known.{IsKnownTextOf, known_at}
 pub use Rattle.pg_text.specs.Reading.{IsTextOf, max_text}

@@ -1,7 +1,8 @@
 -- A game and a solution in one text, and what is said of them.
-use Rattle.std.specs.Prelude.{ℕ, ◌≢◌, ◌<◌, ◌≤◌, ◌==◌, List, [], ◌++◌, codes, decimal}
+use Rattle.std.specs.Prelude.{ℕ, ◌≢◌, ◌<◌, ◌≤◌, ◌==◌, List, [], ◌++◌, codes}
 use Rattle.std.specs.List.{before_first, after_first}
 use Rattle.pg_game.specs.Graph.{Graph}
+use Rattle.pg_text.specs.Written.{numeral}
 use Rattle.pg_text.specs.Solution.{SolutionRows, IsSolution}
 use Rattle.pg_text.specs.Reading.{max_text, IsTextOf, IsFaultOf, IsSolutionTextOf, IsSolutionFaultOf}
 use Rattle.pg_text.specs.declared.fault.TextFault.TheVariants as game_fault
@@ -26,10 +27,10 @@ IsVerdict g rows Holds = IsSolution g rows
 IsVerdict g rows (Fails fault) = FailsBy g rows fault × (fault ≢ Memory)
 
 abbrev pub fault_text : SolutionFault → List ℕ
-fault_text (NoChoice v) = codes "no choice at " ++ decimal v
-fault_text (BadChoice v) = codes "bad choice at " ++ decimal v
-fault_text (Leaves v w) = decimal v ++ codes " leaves to " ++ decimal w
-fault_text (Cycle v) = codes "bad cycle at " ++ decimal v
+fault_text (NoChoice v) = codes "no choice at " ++ numeral v
+fault_text (BadChoice v) = codes "bad choice at " ++ numeral v
+fault_text (Leaves v w) = numeral v ++ codes " leaves to " ++ numeral w
+fault_text (Cycle v) = codes "bad cycle at " ++ numeral v
 fault_text Memory = []
 
 abbrev pub verdict_line : Verdict → List ℕ
@@ -44,7 +45,7 @@ pub record IsJudged (game solution : List ℕ) (verdict : Verdict) : Type 0 wher
   pub solution_is : IsSolutionTextOf graph solution rows
   pub verdict_is : IsVerdict graph rows verdict
 
--- why a run on this text gave no verdict, where the failure counts of the source and the sink went from old to new
+-- why a run on a text of len bytes, which joins a game and a solution, gave no verdict
 abbrev pub JudgingFailed : List ℕ → List ℕ → ℕ → RunFault → Type 0
 JudgingFailed game solution len fault.Read = Unit {0}
 JudgingFailed game solution len fault.TooLong = max_text < len

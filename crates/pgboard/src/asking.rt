@@ -8,7 +8,7 @@ use clap::ArgMatches;
 use std::alloc::Global;
 
 /// What a command line asks for.
-#[derive(Drop)]
+#[derive(Debug, Drop, PartialEq, Eq)]
 pub enum Asked {
     /// To judge a game and a solution in one text on standard input.
     Joined,

@@ -2,7 +2,11 @@
 use clap::{Arg, ArgAction, Command, value_parser};
 use std::alloc::{AllocError, Global};
 
-const VERSION: &str = "0.1.0";
+/// The kit's line is what `rt version` prints. The last words hold the place of what the program can't know of itself: whether
+/// it was proved, and of what commit. Who builds it writes that over them, in a copy of the program (`tools/build`).
+const VERSION: &str = "0.1.0\n\
+kit: rattle-kit-13f logic dac8208d650f15bf\n\
+build: not recorded: whether it was proved, and of what commit";
 
 const ABOUT: &str =
     "pgboard 0.1.0: solves and verifies max-parity games in PGSolver's text formats";

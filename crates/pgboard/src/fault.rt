@@ -8,7 +8,7 @@ use std::alloc::{AllocError, AllocFailed, Global};
 use thiserror::Error;
 
 /// Why a run gave no answer.
-#[derive(Clone, Copy, Debug, Drop, Error)]
+#[derive(Clone, Copy, Debug, Drop, PartialEq, Eq, Error)]
 pub enum RunFault {
     /// A file couldn't be opened, or a read failed.
     #[error("read fault")]
@@ -34,7 +34,7 @@ pub enum RunFault {
 }
 
 /// Why a player's known set is no region, by identifiers: what its post was refused for.
-#[derive(Clone, Copy, Debug, Drop, Error)]
+#[derive(Clone, Copy, Debug, Drop, PartialEq, Eq, Error)]
 pub enum KnownFault {
     /// The player owns the vertex, the first such one, and there is no choice at it or one that is no successor.
     #[error("bad choice or none at {0}")]
@@ -51,7 +51,7 @@ pub enum KnownFault {
 }
 
 /// Why a command line asks for nothing.
-#[derive(Debug, Drop, Error)]
+#[derive(Debug, Drop, PartialEq, Eq, Error)]
 pub enum AskedFault {
     /// The words were refused. The text says why, and ends with its line.
     #[error("{0}")]

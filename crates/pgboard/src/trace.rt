@@ -1,9 +1,10 @@
 //! The text of a run: its journal, then a line for each job, then the sums.
 //!
 //! Each function adds one line, and each loop keeps that what is written and what the rest gives is the whole.
-ghost use Rattle.std.specs.Prelude.{◌≡◌, ◌<◌, ◌++◌, ◌∷◌, [], length, codes, decimal, flat_map, sum_by, IfOk, OnOk, IfSome};
+ghost use Rattle.std.specs.Prelude.{◌≡◌, ◌<◌, ◌++◌, ◌∷◌, [], length, codes, flat_map, sum_by, IfOk, OnOk, IfSome};
 ghost use Rattle.std.specs.List.{AllByRecursion};
 ghost use Rattle.pg_game.specs.Player.{digit_of};
+ghost use Rattle.pg_text.specs.Written.{numeral};
 ghost use Rattle.pg_board.specs.Journal.{number_settled};
 ghost use Rattle.pgboard.specs.Trace.{trace_line, row_line, entry_text, entries_text, job_line, total_line, trace_text, flag_word, worker_word};
 ghost use Rattle.pgboard.specs.private.Trace.{AreVertices};
@@ -34,14 +35,14 @@ fn put(out: &mut Vec<u8>, bytes: &[u8]) -> Result<(), AllocError>
 }
 
 fn put_number(out: &mut Vec<u8>, n: u64) -> Result<(), AllocError>
-    ensures { OnOk result (out.new.items ≡ out.old.items ++ decimal n) }
+    ensures { OnOk result (out.new.items ≡ out.old.items ++ numeral n) }
 {
     put(out, Buffer::new().format(n).as_bytes())
 }
 
 /// A space and a number.
 fn put_next(out: &mut Vec<u8>, n: u64) -> Result<(), AllocError>
-    ensures { OnOk result (out.new.items ≡ out.old.items ++ (32 ∷ decimal n)) }
+    ensures { OnOk result (out.new.items ≡ out.old.items ++ (32 ∷ numeral n)) }
 {
     put(out, b" ")?;
     put_number(out, n)
@@ -81,8 +82,8 @@ fn put_row(out: &mut Vec<u8>, game: &Game, row: &(u32, Option<u32>)) -> Result<(
 /// The line above an entry's rows.
 fn put_entry_head(out: &mut Vec<u8>, number: u64, entry: &Entry) -> Result<(), AllocError>
     ensures { OnOk result (out.new.items ≡ out.old.items
-        ++ trace_line (codes "entry" ∷ decimal number ∷ decimal entry.now.worker ∷ decimal
-        (digit_of entry.now.player) ∷ decimal entry.now.claimed ∷ decimal (length entry.now.rows) ∷ [])) }
+        ++ trace_line (codes "entry" ∷ numeral number ∷ numeral entry.now.worker ∷ numeral (digit_of entry.now.player)
+        ∷ numeral entry.now.claimed ∷ numeral (length entry.now.rows) ∷ [])) }
 {
     put(out, b"entry")?;
     put_next(out, number)?;
@@ -182,7 +183,7 @@ fn sums_of(report: &[ReportRow]) -> Sums
 
 /// A space and a sum.
 fn put_sum(out: &mut Vec<u8>, n: u128) -> Result<(), AllocError>
-    ensures { OnOk result (out.new.items ≡ out.old.items ++ (32 ∷ decimal n)) }
+    ensures { OnOk result (out.new.items ≡ out.old.items ++ (32 ∷ numeral n)) }
 {
     put(out, b" ")?;
     put(out, Buffer::new().format(n).as_bytes())
@@ -243,7 +244,7 @@ fn settled_in(entries: &[Entry]) -> u128
 
 /// The first line.
 fn put_journal_head(out: &mut Vec<u8>, entries: u64, settled: u128) -> Result<(), AllocError>
-    ensures { OnOk result (out.new.items ≡ out.old.items ++ trace_line (codes "journal" ∷ decimal entries ∷ decimal settled ∷ [])) }
+    ensures { OnOk result (out.new.items ≡ out.old.items ++ trace_line (codes "journal" ∷ numeral entries ∷ numeral settled ∷ [])) }
 {
     put(out, b"journal")?;
     put_next(out, entries)?;
@@ -253,7 +254,7 @@ fn put_journal_head(out: &mut Vec<u8>, entries: u64, settled: u128) -> Result<()
 
 /// The line above the jobs.
 fn put_report_head(out: &mut Vec<u8>, jobs: u64) -> Result<(), AllocError>
-    ensures { OnOk result (out.new.items ≡ out.old.items ++ trace_line (codes "report" ∷ decimal jobs ∷ [])) }
+    ensures { OnOk result (out.new.items ≡ out.old.items ++ trace_line (codes "report" ∷ numeral jobs ∷ [])) }
 {
     put(out, b"report")?;
     put_next(out, jobs)?;

@@ -1,5 +1,6 @@
 //! What is said of winners and choices, and the line that says it.
-ghost use Rattle.std.specs.Prelude.{◌≡◌, ◌++◌, decimal, IfOk, OnOk};
+ghost use Rattle.std.specs.Prelude.{◌≡◌, ◌++◌, IfOk, OnOk};
+ghost use Rattle.pg_text.specs.Written.{numeral};
 ghost use Rattle.pgboard.specs.Joined.{verdict_line, fault_text};
 ghost use Rattle.pgboard.specs.Status.{verdict_status};
 
@@ -8,7 +9,7 @@ use pg_dominion::SolutionFault;
 use std::alloc::{AllocError, Global};
 
 /// What is said of winners and choices for all vertices of a game.
-#[derive(Clone, Copy, Drop)]
+#[derive(Clone, Copy, Debug, Drop, PartialEq, Eq)]
 pub enum Verdict {
     /// They are a solution.
     Holds,
@@ -44,14 +45,14 @@ impl Verdict {
 }
 
 fn put_number(n: u32, line: &mut Vec<u8>) -> Result<(), AllocError>
-    ensures { OnOk result (line.new.items ≡ line.old.items ++ decimal n) }
+    ensures { OnOk result (line.new.items ≡ line.old.items ++ numeral n) }
 {
     line.extend_from_slice(Buffer::new().format(n).as_bytes())
 }
 
 /// Adds the words, and then the identifier.
 fn put_named(words: &[u8], id: u32, line: &mut Vec<u8>) -> Result<(), AllocError>
-    ensures { OnOk result (line.new.items ≡ line.old.items ++ (words.now ++ decimal id)) }
+    ensures { OnOk result (line.new.items ≡ line.old.items ++ (words.now ++ numeral id)) }
 {
     line.extend_from_slice(words)?;
     put_number(id, line)

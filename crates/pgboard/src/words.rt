@@ -9,12 +9,11 @@ use crate::fault::AskedFault;
 use clap::Error;
 use clap::error::ErrorKind;
 use std::alloc::Global;
-use std::convert::AsStr;
 
 /// What the words after the program's name ask for.
 ///
 /// `Words` where they are refused, with the text to print, and `Memory`. The joined run is asked for by no word alone.
-pub fn asked<S: AsStr>(alloc: Global, words: &[S]) -> Result<Asked, AskedFault>
+pub fn asked(alloc: Global, words: &[&str]) -> Result<Asked, AskedFault>
     ensures range { IfOk result IsInRange }
     ensures no_word { words.now ≡ [] → result ≡ Ok Asked.Joined }
     ensures joined { IfOk result (λ asked. asked ≡ Asked.Joined → words.now ≡ []) }

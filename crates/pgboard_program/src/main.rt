@@ -10,7 +10,7 @@ ghost use Rattle.pgboard.specs.Status.{asked_status_of};
 mod input;
 
 use input::Input;
-use pg_finders::Adaptive;
+use pg_finders::Standard;
 use pg_workers::Pass;
 use pgboard::{Asked, AskedFault, RunFault, Std, asked, run_asked};
 use std::alloc::Global;
@@ -44,7 +44,8 @@ fn unread(alloc: Global, error: &Error) -> AskedFault
 fn asked_by(rt: &HostRuntime) -> Result<Asked, AskedFault>
     ensures { IfOk result IsInRange }
 {
-    let words = owned_words(rt)?;
+    let owned = owned_words(rt)?;
+    let words: Vec<&str> = owned.iter().map(|it| it.as_str()).collect(rt.alloc())?;
     asked(rt.alloc(), words.as_slice())
 }
 
@@ -96,7 +97,7 @@ fn run_over<T: Threads + Wait + Sync>(
         second,
         &mut out,
         &Pass,
-        &Adaptive::new(),
+        &Standard,
     )
 }
 

@@ -4,4 +4,5 @@ pub mod Few
 pub mod Partial
 pub mod Walked
 pub mod Searched
+pub mod Ends
 pub mod Small

@@ -6,10 +6,14 @@ ghost use Rattle.pg_finders.specs.private.small.Partial.{no_row, vertex_in, choi
 use std::marker::Model;
 
 /// At most eight vertices, each with a choice or none.
+///
+/// Most vertices that are looked for are not there, and the numbers modulo 64 tell that without a look at the rows.
 #[derive(Drop)]
 pub struct Chosen {
     rows: [(u32, Option<u32>); 8],
     len: usize,
+    /// At each place up to `len`, the numbers modulo 64 of the vertices before it, as bits.
+    bits: [u64; 9],
 }
 
 impl Model for Chosen {
@@ -19,19 +23,21 @@ impl Model for Chosen {
 
     ghost view = { λ c. take c.len c.rows };
 
-    ghost use Rattle.pg_finders.specs.private.small.Few.{IsFew};
+    ghost use Rattle.pg_finders.specs.private.small.Few.{IsFew, HaveBits};
 
-    ghost invariant = { λ c. IsFew c.rows c.len };
+    ghost invariant = { λ c. IsFew c.rows c.len × HaveBits c.rows c.len c.bits };
 }
 
 impl Chosen {
-    /// One vertex, without a choice.
-    pub fn one(v: u32) -> Chosen
-        ensures { result ≡ (v, None) ∷ [] }
+    /// No vertices.
+    pub fn new() -> Chosen
+        ensures { result ≡ [] }
     {
-        let mut rows = [(0, None); 8];
-        rows[0] = (v, None);
-        Chosen { rows, len: 1 }
+        Chosen {
+            rows: [(0, None); 8],
+            len: 0,
+            bits: [0; 9],
+        }
     }
 
     /// How many vertices there are.
@@ -69,7 +75,19 @@ impl Chosen {
     }
 
     /// Whether the vertex is there.
+    #[inline]
     pub fn has(&self, v: u32) -> bool
+        ensures { result ≡ named self.now v }
+    {
+        let bits = self.bits[self.len];
+        if (bits >> (v % 64)) & 1 == 0 {
+            return false;
+        }
+        self.has_row(v)
+    }
+
+    /// The same, by a look at each row.
+    fn has_row(&self, v: u32) -> bool
         ensures { result ≡ named self.now v }
     {
         for row in &self.rows[..self.len] {
@@ -100,6 +118,7 @@ impl Chosen {
         ensures { self.new ≡ self.old ++ (v, None) ∷ [] }
     {
         self.rows[self.len] = (v, None);
+        self.bits[self.len + 1] = self.bits[self.len] | (1u64 << (v % 64));
         self.len += 1;
     }
 

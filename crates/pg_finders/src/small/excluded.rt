@@ -14,7 +14,8 @@ impl Excluded {
     pub fn contains(&self, v: u32) -> bool
         ensures { IsTrue result ↔ IsBetween self.now.low self.now.high v }
     {
-        self.low <= v && v < self.high
+        // without a branch, since of few vertices it can be foretold
+        (self.low <= v) & (v < self.high)
     }
 
     /// Takes the vertex too, where it stands right before or behind these; otherwise it alone.

@@ -22,6 +22,20 @@ pub enum Step {
     GaveUp,
 }
 
+/// Counts choices that were tried in vain, unless they are more than may still be tried.
+fn spend(left: &mut u64, count: u64) -> Step
+    ensures found { IfFound result ⊥ }
+    ensures nothing { IfNothing result (left.new + count ≡ left.old) }
+    ensures gave_up { IfGaveUp result (left.old < count) }
+    ensures lowered { left.new ≤ left.old }
+{
+    if *left < count {
+        return Step::GaveUp;
+    }
+    *left -= count;
+    Step::Nothing
+}
+
 impl<'a> Search<'a> {
     /// Adds a vertex, unless it is there. Whether the bound allows it.
     fn add(&self, chosen: &mut Chosen, w: u32) -> bool
@@ -227,6 +241,9 @@ impl<'a> Search<'a> {
                 chosen.truncate(len);
             }
             return step;
+        }
+        if let Some(count) = self.choices_in_vain(chosen, done) {
+            return spend(left, count);
         }
         let before = chosen.choice(done);
         'choices: for w in self.game.successors(v) {

@@ -3,7 +3,6 @@
 //! compared with those of all strategies, and what small searches find with all sets of vertices with all choices,
 //! which checks the definitions that the clauses stand on.
 
-mod adaptive;
 mod claims;
 mod dominions;
 mod finders;

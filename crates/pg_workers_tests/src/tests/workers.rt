@@ -12,7 +12,6 @@ mod largest;
 mod memory;
 mod numbers;
 mod orders;
-mod phases;
 mod random;
 mod readme;
 mod reference;

@@ -2,8 +2,8 @@
 use super::asserting::made;
 use super::calls::answered_on;
 use super::devices::Bounded;
-use super::finders::{NoMemory, Recorder, Singles};
-use pg_finders::Finder;
+use super::finders::{FirstSolution, Misshapen, NoMemory, Recorder, Singles, Wholes};
+use pg_finders::{Finder, Standard};
 use pg_workers::Pass;
 use std::alloc::Global;
 use std::process::Abort;
@@ -51,6 +51,13 @@ total 2 2 8 10\n",
     ),
 ];
 
+/// The winners of the five vertices, by one, two and 64 workers.
+const WON: &[Run] = &[
+    (BY_ONE, FIVE, FIVE_WON),
+    (BY_TWO, FIVE, FIVE_WON),
+    (BY_64, FIVE, FIVE_WON),
+];
+
 /// No job has memory.
 const OUT_OF_MEMORY: &[Run] = &[
     (BY_ONE, FIVE, FIVE_WON),
@@ -66,6 +73,46 @@ total 0 0 0 0\n",
     ),
 ];
 
+/// The product's finder. One of the first two jobs settles all of each game.
+const STANDARD: &[Run] = &[
+    (
+        TRACE,
+        b"9 2 1 3,3,9; 3 1 0 9;",
+        "journal 1 2\nentry 0 1 0 2 2\n3 9;\n9;\nreport 5\n\
+job 0 1 0 0 0 0 0 0\njob 1 1 1 2 0 0 0 0\njob 2 1 0 0 0 0 0 0\njob 3 1 0 0 0 0 0 0\njob 4 1 0 0 0 0 0 0\n\
+total 1 2 0 0\n",
+    ),
+    (
+        TRACE,
+        b"0 0 0 0; 1 3 0 0,1; 2 3 1 1;",
+        "journal 1 3\nentry 0 1 0 1 3\n0 0;\n1 0;\n2;\nreport 5\n\
+job 0 1 1 3 0 0 0 0\njob 1 1 0 0 0 0 0 0\njob 2 1 0 0 0 0 0 0\njob 3 1 0 0 0 0 0 0\njob 4 1 0 0 0 0 0 0\n\
+total 1 3 0 0\n",
+    ),
+];
+
+/// Games with one solution, which is written whoever finds it.
+const SOLVED: &[(&[u8], &str)] = &[
+    (b"parity 0;\n0 0 0 0;\n", "paritysol 0;\n0 0 0;\n"),
+    (b"0 1 1 0;", "paritysol 0;\n0 1 0;\n"),
+    (ONE_EACH, "paritysol 1;\n0 0 0;\n1 1 1;\n"),
+    (
+        b"0 0 0 0; 1 3 0 0,1; 2 3 1 1;",
+        "paritysol 2;\n0 0 0;\n1 0 0;\n2 0;\n",
+    ),
+    (b"9 2 1 3,3,9; 3 1 0 9;", "paritysol 9;\n3 0 9;\n9 0;\n"),
+    (
+        b"2147483647 2147483647 1 2147483647;",
+        "paritysol 2147483647;\n2147483647 1 2147483647;\n",
+    ),
+];
+
+const SOLVE_BY: &[&[&str]] = &[
+    &["solve", "--workers", "1"],
+    &["solve", "--workers", "2"],
+    &["solve", "--workers", "64"],
+];
+
 fn assert_written<R: Threads + Wait + Abort + Sync>(
     rt: &R,
     alloc: Global,
@@ -79,6 +126,38 @@ fn assert_written<R: Threads + Wait + Abort + Sync>(
     check_eq!(*rt; out.taken.as_slice(), want.as_bytes(), words);
 }
 
+/// The winners of the five vertices, whatever the finder claims.
+fn assert_won<R: Threads + Wait + Abort + Sync>(rt: &R, alloc: Global, finder: &impl Finder) {
+    for run in WON {
+        assert_written(rt, alloc, run, finder);
+    }
+}
+
+fn assert_solved_by<R: Threads + Wait + Abort + Sync>(
+    rt: &R,
+    alloc: Global,
+    words: &'static [&'static str],
+) {
+    for (game, want) in SOLVED {
+        assert_written(rt, alloc, &(words, *game, *want), &Standard);
+    }
+}
+
+#[test]
+fn each_number_of_workers_writes_the_one_solution(rt: HostRuntime) {
+    for words in SOLVE_BY {
+        assert_solved_by(&rt, rt.alloc(), *words);
+    }
+    assert_won(&rt, rt.alloc(), &Standard);
+}
+
+#[test]
+fn lying_finders_leave_the_winners_as_they_are(rt: HostRuntime) {
+    assert_won(&rt, rt.alloc(), &Wholes);
+    assert_won(&rt, rt.alloc(), &Misshapen);
+    assert_won(&rt, rt.alloc(), &FirstSolution::new());
+}
+
 #[test]
 fn what_is_written_whatever_is_claimed(rt: HostRuntime) {
     for run in ALONE {
@@ -86,6 +165,9 @@ fn what_is_written_whatever_is_claimed(rt: HostRuntime) {
     }
     for run in OUT_OF_MEMORY {
         assert_written(&rt, rt.alloc(), run, &NoMemory);
+    }
+    for run in STANDARD {
+        assert_written(&rt, rt.alloc(), run, &Standard);
     }
 }
 

@@ -1,84 +1,213 @@
-//! What lines of words ask for that are taken. Refused ones and help are cases of the built program.
-use pgboard::{Asked, asked};
-use std::alloc::Global;
+//! What lines of words ask for, and which are refused. The whole texts of refusals and of help are cases of the built program.
+use super::asserting::made;
+use pgboard::{Asked, AskedFault, asked};
+use std::alloc::{AllocError, Global};
 use std::process::Abort;
 
-/// The word for what is asked for, with the workers, the bound and whether the winners alone are written, where it has them.
-fn told(asked: &Asked) -> (&str, u32, u32, bool) {
-    match asked {
-        Asked::Joined => ("joined", 0, 0, false),
-        Asked::Verify { .. } => ("verify", 0, 0, false),
-        Asked::Tidy { .. } => ("tidy", 0, 0, false),
-        Asked::Solve {
-            workers,
-            bound,
-            winners,
-            ..
-        } => ("solve", *workers, *bound, *winners),
-        Asked::Trace { workers, .. } => ("trace", *workers, 0, false),
-        Asked::Help(_) => ("help", 0, 0, false),
-    }
+/// What a line asks for, with the paths that stand in it.
+enum Line {
+    Joined,
+    Verify(&'static str, &'static str),
+    Tidy(Option<&'static str>),
+    Solve {
+        workers: u32,
+        bound: u32,
+        winners: bool,
+        known: Option<&'static str>,
+        game: Option<&'static str>,
+    },
+    Trace(u32, Option<&'static str>),
+    Help(&'static str),
 }
 
-/// The words, what is told of them, and the paths of the game and of the second file.
-type Line = (
-    &'static [&'static str],
-    (&'static str, u32, u32, bool),
-    (Option<&'static str>, Option<&'static str>),
-);
+/// What `solve` asks for by itself.
+const SOLVE: Line = Line::Solve {
+    workers: 4,
+    bound: 4,
+    winners: false,
+    known: None,
+    game: None,
+};
 
-const LINES: &[Line] = &[
-    (&[], ("joined", 0, 0, false), (None, None)),
-    (
-        &["verify", "a", "b"],
-        ("verify", 0, 0, false),
-        (Some("a"), Some("b")),
-    ),
-    (
-        &["verify", "-", "x y"],
-        ("verify", 0, 0, false),
-        (Some("-"), Some("x y")),
-    ),
-    (
-        &["verify", "--", "-a", "--b"],
-        ("verify", 0, 0, false),
-        (Some("-a"), Some("--b")),
-    ),
-    (&["tidy"], ("tidy", 0, 0, false), (None, None)),
-    (&["tidy", "a"], ("tidy", 0, 0, false), (Some("a"), None)),
-    (&["solve"], ("solve", 4, 4, false), (None, None)),
+const LINES: &[(&[&str], Line)] = &[
+    (&[], Line::Joined),
+    (&["verify", "a", "b"], Line::Verify("a", "b")),
+    (&["verify", "-", "x y"], Line::Verify("-", "x y")),
+    (&["verify", "--", "-a", "--b"], Line::Verify("-a", "--b")),
+    (&["tidy"], Line::Tidy(None)),
+    (&["tidy", "a"], Line::Tidy(Some("a"))),
+    (&["solve"], SOLVE),
     (
         &["solve", "--workers", "64", "--bound=0", "--winners", "a"],
-        ("solve", 64, 0, true),
-        (Some("a"), None),
+        Line::Solve {
+            workers: 64,
+            bound: 0,
+            winners: true,
+            known: None,
+            game: Some("a"),
+        },
     ),
     (
-        &["solve", "--known", "k", "a"],
-        ("solve", 4, 4, false),
-        (Some("a"), Some("k")),
+        &[
+            "solve",
+            "--workers",
+            "1",
+            "--bound",
+            "8",
+            "--known",
+            "k",
+            "a",
+        ],
+        Line::Solve {
+            workers: 1,
+            bound: 8,
+            winners: false,
+            known: Some("k"),
+            game: Some("a"),
+        },
     ),
     (
         &["solve", "--winners", "--known=-k"],
-        ("solve", 4, 4, true),
-        (None, Some("-k")),
+        Line::Solve {
+            workers: 4,
+            bound: 4,
+            winners: true,
+            known: Some("-k"),
+            game: None,
+        },
     ),
-    (&["trace"], ("trace", 4, 0, false), (None, None)),
-    (
-        &["trace", "--workers", "2"],
-        ("trace", 2, 0, false),
-        (None, None),
-    ),
+    (&["trace"], Line::Trace(4, None)),
+    (&["trace", "--workers", "2"], Line::Trace(2, None)),
+    (&["trace", "a"], Line::Trace(4, Some("a"))),
+    (&["--version"], Line::Help(VERSION)),
 ];
 
-fn assert_line(rt: &impl Abort, alloc: Global, line: &Line) {
-    let asked = asked(alloc, line.0).expect(rt, "what is asked for");
-    check_eq!(*rt; told(&asked), line.1);
-    check_eq!(*rt; (asked.path(), asked.second_path()), line.2);
+/// What `--version` prints of a program over which no build has written what it knows.
+const VERSION: &str = "pgboard 0.1.0\n\
+kit: rattle-kit-13f logic dac8208d650f15bf\n\
+build: not recorded: whether it was proved, and of what commit\n";
+
+/// Lines that are refused.
+const REFUSED: &[&[&str]] = &[
+    &["verify"],
+    &["verify", "a"],
+    &["verify", "a", "b", "c"],
+    &["tidy", "a", "b"],
+    &["tidy", "--x"],
+    &["x"],
+    &["Tidy"],
+    &[""],
+    &["solve", "--workers", "0"],
+    &["solve", "--workers", "65"],
+    &["solve", "--workers", "-1"],
+    &["solve", "--workers"],
+    &["solve", "--bound", "9"],
+    &["solve", "--bound", "4294967296"],
+    &["trace", "--workers", "0"],
+    &["trace", "--bound", "1"],
+];
+
+/// A path of one's own, where there is one.
+fn owned(alloc: Global, path: Option<&str>) -> Result<Option<String>, AllocError> {
+    match path {
+        Some(path) => Ok(Some(String::from_str(alloc, path)?)),
+        None => Ok(None),
+    }
+}
+
+fn wanted(alloc: Global, line: &Line) -> Result<Asked, AllocError> {
+    Ok(match line {
+        Line::Joined => Asked::Joined,
+        Line::Verify(game, solution) => Asked::Verify {
+            game: String::from_str(alloc, game)?,
+            solution: String::from_str(alloc, solution)?,
+        },
+        Line::Tidy(game) => Asked::Tidy {
+            game: owned(alloc, *game)?,
+        },
+        Line::Solve {
+            workers,
+            bound,
+            winners,
+            known,
+            game,
+        } => Asked::Solve {
+            workers: *workers,
+            bound: *bound,
+            winners: *winners,
+            known: owned(alloc, *known)?,
+            game: owned(alloc, *game)?,
+        },
+        Line::Trace(workers, game) => Asked::Trace {
+            workers: *workers,
+            game: owned(alloc, *game)?,
+        },
+        Line::Help(text) => Asked::Help(String::from_str(alloc, text)?),
+    })
+}
+
+/// The path of the game and that of the second file.
+fn paths(line: &Line) -> (Option<&str>, Option<&str>) {
+    match line {
+        Line::Verify(game, solution) => (Some(game), Some(solution)),
+        Line::Tidy(game) | Line::Trace(_, game) => (*game, None),
+        Line::Solve { known, game, .. } => (*game, *known),
+        Line::Joined | Line::Help(_) => (None, None),
+    }
+}
+
+fn assert_line(rt: &impl Abort, alloc: Global, words: &[&str], line: &Line) {
+    let found = made(rt, asked(alloc, words));
+    let want = made(rt, wanted(alloc, line));
+    check_eq!(*rt; &found, &want, words);
+    check_eq!(*rt; (found.path(), found.second_path()), paths(line), words);
 }
 
 #[test]
 fn each_line_asks_for_what_it_says(rt: HostRuntime) {
-    for line in LINES {
-        assert_line(&rt, rt.alloc(), line);
+    for (words, line) in LINES {
+        assert_line(&rt, rt.alloc(), words, line);
+    }
+}
+
+/// The status with which the words are refused by an error's text, which ends with its line, and none where they are not.
+fn refused_with(alloc: Global, words: &[&str]) -> Option<u8> {
+    let Err(fault) = asked(alloc, words) else {
+        return None;
+    };
+    match &fault {
+        AskedFault::Words(text) if text.starts_with("error: ") && text.ends_with('\n') => {
+            Some(fault.status())
+        }
+        _ => None,
+    }
+}
+
+#[test]
+fn what_a_line_does_not_allow_is_refused(rt: HostRuntime) {
+    for words in REFUSED {
+        check_eq!(rt; refused_with(rt.alloc(), words), Some(2), *words);
+    }
+}
+
+/// Whether the words ask for help that says how the program is called.
+fn is_helped(alloc: Global, words: &[&str]) -> bool {
+    match asked(alloc, words) {
+        Ok(Asked::Help(text)) => text.contains("Usage: pgboard") && text.ends_with('\n'),
+        _ => false,
+    }
+}
+
+#[test]
+fn help_is_asked_for(rt: HostRuntime) {
+    const HELP: &[&[&str]] = &[
+        &["--help"],
+        &["-h"],
+        &["help"],
+        &["help", "tidy"],
+        &["solve", "--help"],
+    ];
+    for words in HELP {
+        check!(rt; is_helped(rt.alloc(), words), *words);
     }
 }

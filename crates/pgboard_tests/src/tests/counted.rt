@@ -2,7 +2,7 @@
 ghost use Rattle.std.specs.Prelude.{◌≡◌};
 ghost use Rattle.pgboard.specs.Device.{last_count};
 
-use pgboard::{Failed, Sink, Source, Std};
+use pgboard::{Failed, RunFault, Sink, Source, Std, run_tidy};
 use std::io;
 use std::io::{Error, ErrorKind, Read, Write};
 
@@ -62,4 +62,26 @@ fn a_write_that_takes_nothing_fails(rt: HostRuntime) {
     let failed = [sink.write(b"1"), sink.write(b"four")];
     check_eq!(rt; failed, [Err(Failed), Err(Failed)]);
     check_eq!(rt; sink.failures(), 2);
+}
+
+/// Takes nothing, and calls that no error.
+#[derive(Drop)]
+struct Full;
+
+impl Write for Full {
+    fn write(&mut self, _buf: &[u8]) -> io::Result<usize> {
+        Ok(0)
+    }
+
+    fn flush(&mut self) -> io::Result<()> {
+        Ok(())
+    }
+}
+
+#[test]
+fn a_run_whose_writer_takes_nothing_ends_with_a_write_fault(rt: HostRuntime) {
+    let mut game = Std::new(b"0 0 0 0;".as_slice());
+    let mut out = Std::new(Full);
+    let outcome = run_tidy(rt.alloc(), &mut game, &mut out);
+    check_eq!(rt; (outcome, out.failures()), (Err(RunFault::Write), 1));
 }

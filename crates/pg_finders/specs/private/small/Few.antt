@@ -1,7 +1,14 @@
 -- How a few rows lie in an array.
-use Rattle.std.specs.Prelude.{ℕ, ◌≡◌, ◌≤◌, List, length, Option}
+use Rattle.std.specs.Prelude.{ℕ, ◌≡◌, ◌≤◌, ◌<◌, ◌%◌, List, length, slice_index_or, Option}
+use Rattle.std.specs.Int.{bit_at}
+use Rattle.pg_finders.specs.private.small.Partial.{vertex_in}
 
 -- the first so many of eight
 pub record IsFew (rows : List (ℕ × Option ℕ)) (len : ℕ) : Type 0 where
   pub size : length rows ≡ 8
   pub within : len ≤ 8
+
+-- the word at each place has the bits of the vertices before it
+pub record HaveBits (rows : List (ℕ × Option ℕ)) (len : ℕ) (words : List ℕ) : Type 0 where
+  pub size : length words ≡ 9
+  pub each : (j k : ℕ) → j < k → k ≤ len → bit_at (slice_index_or words k 0) (vertex_in rows j % 64) ≡ 1

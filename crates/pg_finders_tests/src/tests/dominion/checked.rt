@@ -11,7 +11,7 @@ use std::alloc::Global;
 use std::process::Abort;
 
 /// A claim's check, which is accepted.
-fn checked<'g>(rt: &impl Abort, alloc: Global, game: &'g Game, claim: &Claim) -> Checked<'g> {
+fn checked<'g>(rt: &impl Abort, alloc: Global, game: &'g Game, claim: &'g Claim) -> Checked<'g> {
     made(rt, check_claim(alloc, game, claim))
 }
 

@@ -64,7 +64,12 @@ fn a_claim_is_judged_after_a_refusal(rt: HostRuntime) {
     compare_judged(&rt, rt.alloc(), &game, BAD, fault);
 }
 
-fn checked_twice<'g>(rt: &impl Abort, alloc: Global, game: &'g Game, claim: &Claim) -> Checked<'g> {
+fn checked_twice<'g>(
+    rt: &impl Abort,
+    alloc: Global,
+    game: &'g Game,
+    claim: &'g Claim,
+) -> Checked<'g> {
     match check_claim(alloc, game, claim) {
         Ok(checked) => checked,
         Err(_) => made(rt, check_claim(alloc, game, claim)),

@@ -11,8 +11,8 @@ loop-claim-preserved g c =
     let long = length-append at.yielded (x ∷ []) in
     let more = ap answered is in (
       append_assoc at.yielded (x ∷ []) _ ∙ rw (← steps) i.0,
-      subst (λ (r : ReportRow). AreNoted c.args.is_alone c.args.game.now (at.yielded ++ x ∷ []) c.args.row.now r) (sym is)
-          (one_noted c.args.is_alone c.args.game.now at.yielded x c.args.row.now at.row at.share answer i.1 p.noted.1),
+      subst (λ (r : ReportRow). AreNoted c.args.game.now (at.yielded ++ x ∷ []) c.args.row.now r) (sym is)
+          (one_noted c.args.game.now at.yielded x c.args.row.now at.row at.share answer i.1 p.noted.1),
       (λ e.
           let one = noted_one at.row answer (sym (ap (λ (r : ReportRow). r.memory) is) ∙ e) in
           let before = i.2 one.0 in omega (arith, one.1, before, more)),

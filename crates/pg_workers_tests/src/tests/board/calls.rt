@@ -1,7 +1,7 @@
 //! The two calls that settle a claim, on a board and through an office.
 
 use crate::tests::asserting::made;
-use pg_board::{Board, OfGame, Office, Posted, Refusal, Share};
+use pg_board::{Board, Office, Posted, Refusal, Share};
 use pg_dominion::{Claim, check_claim};
 use pg_finders::Copied;
 use pg_game::Game;
@@ -40,7 +40,7 @@ impl Call {
     }
 
     /// The answer of an office to a claim, which is checked on this game.
-    pub fn put_through<L: Ledger + OfGame, R: Wait>(
+    pub fn put_through<L: Ledger, R: Wait>(
         self,
         rt: &R,
         alloc: Global,

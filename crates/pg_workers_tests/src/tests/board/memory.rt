@@ -4,22 +4,18 @@
 //! them with one allocation after another refused. A run makes what it needs itself once more, but for an office: where
 //! that is refused, the run says so.
 
-ghost use Rattle.std.specs.Prelude.{◌≡◌};
-
 use crate::tests::board::boards::{
     Case, EVENS, FULL, HALF, NEW, ODDS, Put, compare_board, compare_copy,
 };
 use crate::tests::board::calls::Call;
 use crate::tests::board::games::{SHARED, claim_of, game_made, new_board};
 use crate::tests::board::offices::{RUNS, run_through};
-use pg_board::{Board, OfGame, Office, Refusal, Share};
+use pg_board::{Board, Refusal};
 use pg_game::Game;
-use pg_test_support::lacking;
 use std::alloc::Global;
 use std::marker::Brand;
 use std::process::Abort;
-use std::sync::Wait;
-use std::sync::ledger::{Blank, Ledger};
+use std::sync::ledger::Blank;
 use std::test::Fail;
 
 /// A claim that is accepted. Where memory is refused, the board tells what it told before, and the claim is put again.
@@ -69,44 +65,4 @@ fn worked_claims_through_shares_have_their_answers_also_after_a_refusal(
         }
     }
     Ok(())
-}
-
-/// Where memory is refused to a copy, the next call makes it; what is shared again takes no memory.
-fn share_twice<L: Ledger + OfGame, R: Wait + Abort>(
-    rt: &R,
-    alloc: Global,
-    blank: Blank,
-    game: &Game,
-) -> Result<(), Fail>
-    requires name { blank.name ≡ L.name }
-    requires parts { (blank.parts ≡ L.parts) × (blank.parts ≡ 1) }
-    requires game { game.now ≡ L.game }
-{
-    let Ok((office, shares)) = Office::<L>::open(alloc, blank, game, 1) else {
-        return Err(lacking());
-    };
-    compare_shared(rt, alloc, &office, &shares[0]);
-    Ok(())
-}
-
-fn compare_shared<L: Ledger + OfGame, R: Wait + Abort>(
-    rt: &R,
-    alloc: Global,
-    office: &Office<L>,
-    share: &Share<L>,
-) {
-    if office.shared_copy(rt, alloc, share).is_err() {
-        check!(*rt; office.shared_copy(rt, alloc, share).is_ok());
-    }
-    let again = office.shared_copy(rt, alloc, share);
-    check!(*rt; again.is_ok());
-    if let Ok(copied) = again {
-        compare_copy(rt, &copied, NEW);
-    }
-}
-
-#[test]
-fn a_copy_is_shared_after_a_refusal(rt: HostRuntime) -> Result<(), Fail> {
-    let game = game_made(&rt, rt.alloc(), SHARED);
-    share_twice::<Brand, _>(&rt, rt.alloc(), Blank::new(1), &game)
 }

@@ -1,5 +1,4 @@
-//! Claims through the shares of an office, and copies that it shares: one and the same until something is settled, and then
-//! one that is brought up to date.
+//! Claims and copies through the shares of an office.
 
 ghost use Rattle.std.specs.Prelude.{◌≡◌, ◌≤◌, IfOk, vec_len};
 
@@ -9,7 +8,7 @@ use crate::tests::board::calls::Call;
 use crate::tests::board::games::{
     DIVIDED, LAYERED, SHARED, claim_of, claim_of_loops, game_made, new_board,
 };
-use pg_board::{Board, OfGame, Office, Refusal, Share};
+use pg_board::{Board, Office, Refusal, Share};
 use pg_dominion::{Claim, ClaimFault};
 use pg_finders::Copied;
 use pg_game::{Game, Memory, Player};
@@ -17,8 +16,8 @@ use pg_test_support::{EVEN, ODD, Row, Vertex, lacking, own_loops};
 use std::alloc::Global;
 use std::marker::Brand;
 use std::process::Abort;
+use std::sync::Wait;
 use std::sync::ledger::{Blank, Ledger};
-use std::sync::{Arc, Wait};
 use std::test::Fail;
 
 /// A worker's claim of one row, its answer, the share's amount then, and what a copy of the board then tells.
@@ -36,12 +35,6 @@ enum Step<'a> {
     Amount(u64),
     /// A copy.
     Copy(&'a Case<'a>),
-    /// A shared copy, which is dropped.
-    Share(&'a Case<'a>),
-    /// A shared copy, which is held from then on.
-    Hold(&'a Case<'a>),
-    /// A shared copy that is held since then, and by how many, the office and others that are held among them.
-    Held(usize, &'a Case<'a>, usize),
 }
 
 /// What the board tells at the closing: how many vertices are settled, whether these are all, and how many of them by the
@@ -121,44 +114,23 @@ pub const RUNS: &[Run] = &[
         ],
         closed: (3, true, (0, 3, 0)),
     },
-    // a copy is shared until something is settled; then another is, and the first one, which is still held, is as it was;
-    // a claim that is stale and one that is lost leave the shared copy as it is
+    // claims that are stale or lost leave the board as it is
     Run {
         game: SHARED,
         posted: None,
         first: NEW,
         seats: 2,
         steps: &[
-            (0, Step::Hold(NEW)),
-            (1, Step::Hold(NEW)),
-            (0, Step::Held(0, NEW, 3)),
+            (0, Step::Copy(NEW)),
             (0, Step::Put((1, EVEN, (0, Some(0)), Ok(2), 2, HALF))),
-            (1, Step::Hold(HALF)),
-            (0, Step::Held(0, NEW, 3)),
             (1, Step::Put((2, EVEN, (0, Some(0)), STALE, 0, HALF))),
             (
                 1,
                 Step::Put((2, ODD, (1, Some(0)), Err(Refusal::Lost(1)), 0, HALF)),
             ),
-            (1, Step::Hold(HALF)),
-            (1, Step::Held(2, HALF, 3)),
+            (1, Step::Copy(HALF)),
         ],
         closed: (2, false, (0, 2, 0)),
-    },
-    // a copy that nobody holds is brought up to date after each of two entries
-    Run {
-        game: SHARED,
-        posted: None,
-        first: NEW,
-        seats: 1,
-        steps: &[
-            (0, Step::Share(NEW)),
-            (0, Step::Put((1, EVEN, (0, Some(0)), Ok(2), 2, HALF))),
-            (0, Step::Share(HALF)),
-            (0, Step::Put((1, ODD, (2, Some(2)), Ok(1), 3, FULL))),
-            (0, Step::Share(FULL)),
-        ],
-        closed: (3, true, (0, 3, 0)),
     },
     // an office opens round a board with what is settled on it
     Run {
@@ -195,7 +167,7 @@ fn the_largest_claim_of_the_largest_game_is_accepted(rt: HostRuntime) -> Result<
 }
 
 /// Takes the steps in an office of a board of the game; ends the test where memory is refused to the office.
-pub fn run_through<L: Ledger + OfGame, R: Wait + Abort>(
+pub fn run_through<L: Ledger, R: Wait + Abort>(
     rt: &R,
     alloc: Global,
     blank: Blank,
@@ -206,7 +178,6 @@ pub fn run_through<L: Ledger + OfGame, R: Wait + Abort>(
 ) -> Result<(), Fail>
     requires name { blank.name ≡ L.name }
     requires parts { (blank.parts ≡ L.parts) × (blank.parts ≡ seats) }
-    requires game { game.now ≡ L.game }
     requires seats { (1 ≤ seats) × (seats ≤ 64) }
 {
     let Ok((office, mut shares)) = office_of::<L, R>(rt, alloc, blank, game, seats, run.posted)
@@ -219,7 +190,7 @@ pub fn run_through<L: Ledger + OfGame, R: Wait + Abort>(
 }
 
 /// An office with so many shares: of a new board, or round one on which a claim is settled.
-fn office_of<'g, L: Ledger + OfGame, R: Abort>(
+fn office_of<'g, L: Ledger, R: Abort>(
     rt: &R,
     alloc: Global,
     blank: Blank,
@@ -229,7 +200,6 @@ fn office_of<'g, L: Ledger + OfGame, R: Abort>(
 ) -> Result<(Office<'g, L>, Vec<Share<L>>), Memory>
     requires name { blank.name ≡ L.name }
     requires parts { (blank.parts ≡ L.parts) × (blank.parts ≡ seats) }
-    requires game { game.now ≡ L.game }
     requires seats { (1 ≤ seats) × (seats ≤ 64) }
     ensures { IfOk result (λ o. vec_len o.1 ≡ seats) }
 {
@@ -261,7 +231,7 @@ fn board_of_post<'g>(
 }
 
 /// Takes the steps, each after what the last claim left.
-fn take_all<'g, L: Ledger + OfGame, R: Wait + Abort>(
+fn take_all<'g, L: Ledger, R: Wait + Abort>(
     rt: &R,
     alloc: Global,
     call: Call,
@@ -270,13 +240,10 @@ fn take_all<'g, L: Ledger + OfGame, R: Wait + Abort>(
     shares: &mut [Share<L>],
     run: &Run,
 ) {
-    let mut held = Vec::new(alloc);
     let mut before = run.first;
     for step in run.steps {
         match shares.get_mut(step.0) {
-            Some(share) => take(
-                rt, alloc, call, game, office, share, &mut held, before, &step.1,
-            ),
+            Some(share) => take(rt, alloc, call, game, office, share, before, &step.1),
             None => check!(*rt; false, "there is no such share"),
         }
         before = after(before, &step.1);
@@ -292,14 +259,13 @@ fn after<'a>(before: &'a Case<'a>, step: &Step<'a>) -> &'a Case<'a> {
     }
 }
 
-fn take<'g, L: Ledger + OfGame, R: Wait + Abort>(
+fn take<'g, L: Ledger, R: Wait + Abort>(
     rt: &R,
     alloc: Global,
     call: Call,
     game: &Game,
     office: &Office<'g, L>,
     share: &mut Share<L>,
-    held: &mut Vec<Arc<Copied<'g>>>,
     before: &Case,
     step: &Step,
 ) {
@@ -327,14 +293,11 @@ fn take<'g, L: Ledger + OfGame, R: Wait + Abort>(
         }
         Step::Amount(want) => check_eq!(*rt; share.amount(), *want),
         Step::Copy(want) => compare_copy(rt, &copied_through(rt, alloc, office, share), *want),
-        Step::Share(want) => compare_copy(rt, &shared(rt, alloc, office, share), *want),
-        Step::Hold(want) => hold(rt, shared(rt, alloc, office, share), held, *want),
-        Step::Held(at, want, holders) => compare_held(rt, held.get(*at), *want, *holders),
     }
 }
 
 /// Puts a claim of one row, which is checked on this game.
-fn put_row<L: Ledger + OfGame, R: Wait + Abort>(
+fn put_row<L: Ledger, R: Wait + Abort>(
     rt: &R,
     alloc: Global,
     call: Call,
@@ -362,7 +325,7 @@ fn put_row<L: Ledger + OfGame, R: Wait + Abort>(
 
 /// Compares the answer, and the share's amount then. Where memory is refused, the amount and a copy are as before, and the
 /// claim is put once more.
-fn put_claim<L: Ledger + OfGame, R: Wait + Abort>(
+fn put_claim<L: Ledger, R: Wait + Abort>(
     rt: &R,
     alloc: Global,
     call: Call,
@@ -385,7 +348,7 @@ fn put_claim<L: Ledger + OfGame, R: Wait + Abort>(
 }
 
 /// A copy through a share, taken once more where memory was refused.
-fn copied_through<'g, L: Ledger + OfGame, R: Wait + Abort>(
+fn copied_through<'g, L: Ledger, R: Wait + Abort>(
     rt: &R,
     alloc: Global,
     office: &Office<'g, L>,
@@ -394,43 +357,6 @@ fn copied_through<'g, L: Ledger + OfGame, R: Wait + Abort>(
     match office.copy(rt, alloc, share) {
         Ok(copied) => copied,
         Err(_) => made(rt, office.copy(rt, alloc, share)),
-    }
-}
-
-/// A shared copy, taken once more where memory was refused.
-fn shared<'g, L: Ledger + OfGame, R: Wait + Abort>(
-    rt: &R,
-    alloc: Global,
-    office: &Office<'g, L>,
-    share: &Share<L>,
-) -> Arc<Copied<'g>> {
-    match office.shared_copy(rt, alloc, share) {
-        Ok(copied) => copied,
-        Err(_) => made(rt, office.shared_copy(rt, alloc, share)),
-    }
-}
-
-/// Compares a copy, and holds it. (Room for it is taken first, so that it isn't lost where memory is refused.)
-fn hold<'g>(
-    rt: &impl Abort,
-    copied: Arc<Copied<'g>>,
-    held: &mut Vec<Arc<Copied<'g>>>,
-    want: &Case,
-) {
-    compare_copy(rt, &copied, want);
-    if held.try_reserve(1).is_err() {
-        made(rt, held.try_reserve(1));
-    }
-    made(rt, held.push(copied));
-}
-
-fn compare_held(rt: &impl Abort, held: Option<&Arc<Copied>>, want: &Case, holders: usize) {
-    match held {
-        Some(copied) => {
-            compare_copy(rt, copied, want);
-            check_eq!(*rt; Arc::strong_count(copied), holders);
-        }
-        None => check!(*rt; false, "nothing is held"),
     }
 }
 

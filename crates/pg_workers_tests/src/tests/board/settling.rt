@@ -13,7 +13,7 @@ use std::alloc::Global;
 use std::process::Abort;
 
 /// A claim that is sound in its game.
-fn checked_on<'g>(rt: &impl Abort, alloc: Global, game: &'g Game, claim: &Claim) -> Checked<'g> {
+fn checked_on<'g>(rt: &impl Abort, alloc: Global, game: &'g Game, claim: &'g Claim) -> Checked<'g> {
     made(rt, check_claim(alloc, game, claim))
 }
 

@@ -337,6 +337,21 @@ impl Finder for Halting {
     }
 }
 
+/// Claims, for every job, all vertices of a game of own loops for Even.
+pub struct AllLoops;
+
+impl Finder for AllLoops {
+    fn find(&self, alloc: Global, copied: &Copied, _job: &Job) -> Result<Found, Memory> {
+        let mut rows = Vec::new(alloc);
+        for v in 0..game_in(copied).len() {
+            rows.push((v, Some(v)))?;
+        }
+        let mut claims = Vec::new(alloc);
+        let added = add(alloc, &mut claims, EVEN, rows.as_slice());
+        answer(claims, added)
+    }
+}
+
 /// Notes the jobs that it is given, in order, and finds nothing.
 #[derive(Drop)]
 pub struct Recorder {

@@ -2,7 +2,8 @@
 
 use pg_test_support::{Random, bit, has};
 use pg_workers::Gate;
-use std::sync::{Condvar, Mutex, Wait};
+use std::sync::{Condvar, Mutex, OnceLock, Wait};
+use std::thread;
 
 /// How often a held worker looks whether it may go on before it gives up.
 const TURNS: u64 = 10_000_000;
@@ -136,6 +137,50 @@ impl Gate for Alternating {
             }
         }
         self.progress.lock(rt).gave_up = true;
+    }
+}
+
+/// Holds every worker but the last at `found` until the last one has posted.
+#[derive(Drop)]
+pub struct LastFirst {
+    last: u32,
+    has_posted: OnceLock<()>,
+    has_given_up: OnceLock<()>,
+}
+
+impl LastFirst {
+    pub fn new(last: u32) -> LastFirst {
+        LastFirst {
+            last,
+            has_posted: OnceLock::new(),
+            has_given_up: OnceLock::new(),
+        }
+    }
+
+    /// Whether a worker looked for the last one's post too often.
+    pub fn gave_up(&self) -> bool {
+        self.has_given_up.get().is_some()
+    }
+}
+
+impl Gate for LastFirst {
+    fn found<R: Wait>(&self, _rt: &R, worker: u32, _job: u64) {
+        if worker == self.last {
+            return;
+        }
+        for _ in 0..TURNS {
+            if self.has_posted.get().is_some() {
+                return;
+            }
+            thread::yield_now();
+        }
+        let _ = self.has_given_up.try_set(());
+    }
+
+    fn posted<R: Wait>(&self, _rt: &R, worker: u32, _job: u64) {
+        if worker == self.last {
+            let _ = self.has_posted.try_set(());
+        }
     }
 }
 

@@ -1,11 +1,11 @@
 //! Workers run at once, whatever order they come in, and are given each job.
 
-use crate::tests::workers::finders::{NoMemory, Recorder, Watcher};
-use crate::tests::workers::games::{gated_outcome, solved, two_loops};
-use crate::tests::workers::gates::{Alternating, Holder, Seen};
+use crate::tests::workers::finders::{AllLoops, NoMemory, Recorder, Watcher};
+use crate::tests::workers::games::{gated_outcome, run_on, solved, two_loops};
+use crate::tests::workers::gates::{Alternating, Holder, LastFirst, Seen};
 use pg_finders::{Finder, Job, Standard};
 use pg_test_support::{EVEN, ODD, own_loops};
-use pg_workers::{Options, Pass};
+use pg_workers::{Options, Pass, ReportRow};
 use std::alloc::Global;
 use std::process::Abort;
 use std::sync::{OnceLock, Wait};
@@ -112,4 +112,61 @@ fn a_worker_is_given_each_job_in_order(rt: HostRuntime) {
     let recorder = Recorder::with_places(rt.alloc(), 8).expect(&rt, "memory");
     record(&rt, rt.alloc(), &recorder);
     compare_jobs(&rt, &recorder);
+}
+
+/// Vertices of 49 batches, so that there are 101 jobs.
+const MANY: u32 = 3_136;
+
+/// The job of this number, of 101.
+fn job_of_many(number: u32) -> Job {
+    match number {
+        0 => Job::Loops,
+        1 => Job::Solitaire,
+        100 => Job::Recursion,
+        _ => Job::Small {
+            player: if number % 2 == 0 { EVEN } else { ODD },
+            first: (number.wrapping_sub(2) / 2).wrapping_mul(64),
+            count: 64,
+            bound: 7,
+            budget: 12,
+        },
+    }
+}
+
+/// Worker 1 drew the job of this number, and nothing was found.
+fn check_idle(rt: &impl Abort, row: &ReportRow, job: u64) {
+    let told = (row.job, row.worker, row.posted, row.memory);
+    check_eq!(*rt; told, (job, Some(1), 0, false));
+}
+
+#[test]
+fn one_worker_does_a_hundred_jobs_in_order(rt: HostRuntime) {
+    let recorder = Recorder::with_places(rt.alloc(), 101).expect(&rt, "memory");
+    let game = own_loops(rt.alloc(), MANY).expect(&rt, "a game");
+    let outcome = solved(&rt, rt.alloc(), &game, &ONE_WORKER, &Pass, &recorder);
+    check_eq!(rt; outcome.report.len(), 101);
+    for number in 0..101u32 {
+        let job = recorder
+            .jobs
+            .get(number as usize)
+            .and_then(|place| place.get());
+        check_eq!(rt; job.copied(), Some(job_of_many(number)));
+    }
+    let mut job = 0u64;
+    for row in outcome.report.as_slice() {
+        check_idle(&rt, row, job);
+        job = job.wrapping_add(1);
+    }
+}
+
+#[test]
+fn the_last_of_64_workers_posts_first_and_is_named(rt: HostRuntime) {
+    let game = own_loops(rt.alloc(), 2_048).expect(&rt, "a game");
+    let gate = LastFirst::new(64);
+    let outcome = run_on(&rt, rt.alloc(), &game, 64, &gate, &AllLoops);
+    check!(rt; !gate.gave_up());
+    check_eq!(rt; outcome.entries.len(), 1);
+    check_eq!(rt; outcome.entries.first().map(|entry| entry.worker), Some(64));
+    let named = outcome.report.iter().filter(|row| row.settled == 2_048);
+    check!(rt; named.map(|row| row.worker).eq([Some(64)]));
 }

@@ -1,11 +1,11 @@
-//! Which workers are started where the gate lets each of them pass.
+//! Workers search at once where the gate lets each of them pass.
 
 use crate::tests::workers::finders::answer;
 use crate::tests::workers::games::run_on;
-use pg_finders::{Copied, Finder, Found, Job, Standard};
+use pg_finders::{Copied, Finder, Found, Job};
 use pg_game::Memory;
 use pg_test_support::own_loops;
-use pg_workers::{Pass, ReportRow};
+use pg_workers::Pass;
 use std::alloc::Global;
 use std::process::Abort;
 use std::sync::OnceLock;
@@ -65,22 +65,8 @@ impl Finder for Meeting {
     }
 }
 
-/// The first worker drew the job.
-fn check_first(rt: &impl Abort, row: &ReportRow) {
-    check_eq!(*rt; row.worker, Some(1));
-}
-
 #[test]
-fn the_first_worker_does_all_jobs_where_the_first_of_them_settle_all(rt: HostRuntime) {
-    let game = own_loops(rt.alloc(), VERTICES).expect(&rt, "a game");
-    let outcome = run_on(&rt, rt.alloc(), &game, 4, &Pass, &Standard);
-    for row in outcome.report.as_slice() {
-        check_first(&rt, row);
-    }
-}
-
-#[test]
-fn the_others_start_where_the_first_jobs_leave_something(rt: HostRuntime) {
+fn workers_search_at_once_where_the_gate_lets_them_pass(rt: HostRuntime) {
     let game = own_loops(rt.alloc(), VERTICES).expect(&rt, "a game");
     let finder = Meeting::new();
     let _outcome = run_on(&rt, rt.alloc(), &game, 2, &Pass, &finder);

@@ -1,4 +1,4 @@
-use Rattle.pgboard.proofs.Common.{◌≡◌, ℕ, List, ◌++◌, ap, ◌∙◌, append_assoc, decimal, codes}
+use Rattle.pgboard.proofs.Common.{◌≡◌, ℕ, List, ◌++◌, ap, ◌∙◌, append_assoc, numeral, codes}
 use Rattle.pgboard.proofs.verdict.put_fault.Goals as goal
 
 -- two additions, one after the other
@@ -7,5 +7,5 @@ added a b c xs ys zs p q = q ∙ ap (λ l. l ++ (ys ++ zs)) p ∙ simp append_as
 
 pub returns-in_ok-put_named-in-Leaves : goal.returns-in_ok-put_named-in-Leaves
 returns-in_ok-put_named-in-Leaves c =
-    rw c.in-Leaves.is (added c.args.line.now.items c.put_number.new.line.items _ (decimal c.in-Leaves.v) (codes " leaves to ")
-    (decimal c.in-Leaves.w) c.in_ok-put_number-in-Leaves.ensures c.in_ok-put_named-in-Leaves.ensures)
+    rw c.in-Leaves.is (added c.args.line.now.items c.put_number.new.line.items _ (numeral c.in-Leaves.v) (codes " leaves to ")
+    (numeral c.in-Leaves.w) c.in_ok-put_number-in-Leaves.ensures c.in_ok-put_named-in-Leaves.ensures)

@@ -1,4 +1,4 @@
-use Rattle.pg_dominion.proofs.Common.{◌≡◌, sym, ◌∙◌, subst, ClaimRows, IsSound}
+use Rattle.pg_dominion.proofs.Common.{◌≡◌, sym, subst, ClaimRows, IsSound}
 use Rattle.pg_dominion.proofs.Recorded.{checked}
 use Rattle.pg_dominion.proofs.checked.Checked.of.Goals as goal
 
@@ -6,6 +6,5 @@ pub invariant_of-result : goal.invariant_of-result
 invariant_of-result c =
     let claim = c.args.claim.now in
     let same = c.in_ok-rows.ensures.rows in
-    let held : c.new.result ≡ claim.rows = c.new.ensures ∙ (c.in_ok-claimed.ensures.items ∙ c.as_slice.ensures) in
     let sound = subst (λ (xs : ClaimRows). IsSound c.args.game.now claim.player xs) (sym same) c.requires in
-    (checked c.args.game.now claim.player c.in_ok-rows.rows.items c.in_ok-rows.ensures.agree sound, held ∙ sym same)
+    (checked c.args.game.now claim.player c.in_ok-rows.rows.items c.in_ok-rows.ensures.agree sound, sym same)

@@ -1,5 +1,6 @@
-use Rattle.pg_game.proofs.Common.{rules, ◌≡◌, true, false, sym, ◌∙◌, graph_of}
-use Rattle.pg_game.proofs.Equal.{same_parts, differ, agree}
+use Rattle.pg_game.proofs.Common.{rules, ◌≡◌, true, false, refl, sym, ◌∙◌, graph_of}
+use Rattle.std.specs.Prelude.{nat_eq}
+use Rattle.pg_game.proofs.Equal.{same_parts, number_decides, player_decides, differ, agree}
 use Rattle.pg_game.proofs.game.Game.is_same.Goals as goal
 
 pub returns-then-not-is_same : goal.returns-then-not-is_same
@@ -17,17 +18,16 @@ returns-then-ne c = (
   λ t. absurd (cc t),
   λ e.
       let p = same_parts c.self.invariant.parts c.other.invariant.parts c.self.view_is c.other.view_is e in
-      absurd (differ _ _ _ c.ne.ensures c.if-ne.true (c.as_slice.ensures.value ∙ (p.1 ∙ sym c.as_slice-2.ensures.value))),
+      absurd (differ nat_eq number_decides _ _ _ c.ne.ensures c.if-ne.true (c.as_slice.ensures.value ∙ (p.1 ∙ sym c.as_slice-2.ensures.value))),
 )
 
-pub returns-then-not-same_owners : goal.returns-then-not-same_owners
-returns-then-not-same_owners c = (
+pub returns-then-ne-2 : goal.returns-then-ne-2
+returns-then-ne-2 c = (
   λ t. absurd (cc t),
   λ e.
       let p = same_parts c.self.invariant.parts c.other.invariant.parts c.self.view_is c.other.view_is e in
-      let y : c.same_owners.result ≡ true = c.same_owners.ensures.1 (c.as_slice-3.ensures.value ∙ (p.2 ∙ sym c.as_slice-4.ensures.value)) in
-      let n : c.same_owners.result ≡ false = search rules in
-      absurd (cc (y, n)),
+      absurd (differ _ (player_decides _ refl refl refl refl) _ _ _ c.ne-2.ensures c.if-ne-2.true
+      (c.as_slice-3.ensures.value ∙ (p.2 ∙ sym c.as_slice-4.ensures.value))),
 )
 
 pub returns : goal.returns
@@ -37,9 +37,10 @@ returns c =
     let same : c.is_same.result ≡ true = search rules in
     let ids : s.ids ≡ o.ids = c.is_same.ensures.0 same in
     let ps : s.priorities.items ≡ o.priorities.items =
-    sym c.as_slice.ensures.value ∙ (agree _ _ _ c.ne.ensures c.if-ne.false ∙ c.as_slice-2.ensures.value) in
-    let y : c.same_owners.result ≡ true = search rules in
-    let os : s.owners.items ≡ o.owners.items = sym c.as_slice-3.ensures.value ∙ (c.same_owners.ensures.0 y ∙ c.as_slice-4.ensures.value) in (
+    sym c.as_slice.ensures.value ∙ (agree nat_eq number_decides _ _ _ c.ne.ensures c.if-ne.false ∙ c.as_slice-2.ensures.value) in
+    let os : s.owners.items ≡ o.owners.items =
+    sym c.as_slice-3.ensures.value
+    ∙ (agree _ (player_decides _ refl refl refl refl) _ _ _ c.ne-2.ensures c.if-ne-2.false ∙ c.as_slice-4.ensures.value) in (
       λ t. let rows = c.is_same-2.ensures.0 t in sym c.self.view_is ∙ ((λ i. graph_of (ids i) (ps i) (os i) (rows i)) ∙ c.other.view_is),
       λ e. c.is_same-2.ensures.1 (same_parts c.self.invariant.parts c.other.invariant.parts c.self.view_is c.other.view_is e).3,
     )

@@ -1,6 +1,8 @@
-use Rattle.pg_game.proofs.Common.{◌≡◌, ◌+◌, drop}
+use Rattle.pg_game.proofs.Common.{◌≡◌}
+use Rattle.std.proofs.Common.{◌*◌}
+use Rattle.pg_game.specs.Bits.{bits_of}
 use Rattle.pg_game.specs.VertexSet.{how_many}
 use Rattle.pg_game.proofs.mask.Mask.count.Given as goal
 
-abbrev pub invariant-flags : goal.invariant-flags
-invariant-flags l = l.count + how_many (drop l.flag-index l.flag-items) ≡ how_many l.flag-items
+abbrev pub invariant-words : goal.invariant-words
+invariant-words l = l.count ≡ how_many (bits_of l.word-items (64 * l.word-index))

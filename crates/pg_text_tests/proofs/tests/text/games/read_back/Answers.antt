@@ -12,7 +12,7 @@ use Rattle.pg_text_tests.proofs.tests.text.games.read_back.Goals as goal
 
 same_game : (g : Graph) (text : List ℕ) (r : Result Graph TextFault) → IsGame g → IsWithinLimits g → text ≡ written_game g
     → IfOk r (λ h. IsGame h × IsTextOf text h) → IfOk r (λ h. h ≡ g)
-same_game g text (Ok h) i w e f = written_game_back g h i w (subst (λ t. IsTextOf t h) e f.1)
+same_game g text (Ok h) i w e f = written_game_back g h i (subst (λ t. IsTextOf t h) e f.1)
 same_game g text (Err x) i w e f = tt
 
 no_fault : (g : Graph) (text : List ℕ) (r : Result Graph TextFault) → IsGame g → IsWithinLimits g → text ≡ written_game g → IfErr r (λ x. IsFaultOf text x)

@@ -14,7 +14,7 @@ use Rattle.pg_text_tests.proofs.tests.text.solutions.read_back.Goals as goal
 
 same_rows : (g : Graph) (rows : SolutionRows) (text : List ℕ) (r : Result Solution SolutionTextFault) → IsGame g → IsWithinLimits g
     → AreSolutionRows g rows → text ≡ written_solution g rows → IfOk r (λ s. IsSolutionTextOf g text s.rows) → IfOk r (λ s. s.rows ≡ rows)
-same_rows g rows text (Ok s) i w are e f = written_solution_back g rows s.rows i w are (subst (λ t. IsSolutionTextOf g t s.rows) e f)
+same_rows g rows text (Ok s) i w are e f = written_solution_back g rows s.rows i are (subst (λ t. IsSolutionTextOf g t s.rows) e f)
 same_rows g rows text (Err x) i w are e f = tt
 
 no_fault : (g : Graph) (rows : SolutionRows) (text : List ℕ) (r : Result Solution SolutionTextFault) → IsGame g → IsWithinLimits g → AreSolutionRows g rows

@@ -1,0 +1,29 @@
+# Completion of pgboard for bash.
+_pgboard() {
+    local word=${COMP_WORDS[COMP_CWORD]} before=${COMP_WORDS[COMP_CWORD - 1]} command= it words
+    for it in "${COMP_WORDS[@]:1:COMP_CWORD-1}"; do
+        case $it in verify | tidy | solve | trace | help) command=$it && break ;; esac
+    done
+    case $before in
+    --workers) words=$(printf '%s ' {1..64}) ;;
+    --bound) words=$(printf '%s ' {0..8}) ;;
+    --known) words= ;;
+    *)
+        case $command in
+        '') words='verify tidy solve trace help --help --version' ;;
+        help) words='verify tidy solve trace help' ;;
+        solve) words='--workers --bound --winners --known --help' ;;
+        trace) words='--workers --help' ;;
+        *) words='--help' ;;
+        esac
+        # flags where one begins, and the other words where none does
+        case $word in
+        -*) ;;
+        *) words=$(printf '%s\n' $words | grep -v '^-') ;;
+        esac
+        ;;
+    esac
+    COMPREPLY=($(compgen -W "$words" -- "$word"))
+    # without words, files
+}
+complete -o bashdefault -o default -F _pgboard pgboard

@@ -1,0 +1,226 @@
+"""Reads a deterministic parity automaton in the HOA format (version 1), with the header `controllable-AP`.
+
+Labels stand at edges, sets of the condition at states or edges, and the condition is max or min, even or odd, in the format's
+own spelling; conditions of one set or none, as Buchi's, are such ones. Whatever is not read is refused with its place.
+"""
+
+import re
+
+import games
+from games import Refused
+
+MOST_PROPOSITIONS = 14
+MOST = 10**9
+TOKEN = re.compile(
+    r'(?P<blank>\s+|/\*.*?\*/)|"(?P<string>(?:\\.|[^"\\])*)"|(?P<header>[A-Za-z_][\w.-]*:)|(?P<name>@?[A-Za-z_][\w-]*)'
+    r"|(?P<number>[0-9]{1,9})(?![0-9])|(?P<part>--[A-Z]+--)|(?P<sign>[][{}()&|!])",
+    re.DOTALL,
+)
+
+
+class Tokens:
+    """The tokens of a text, taken one after the other; a token is named by its text or by its kind."""
+
+    def __init__(self, path):
+        self.path, self.text, self.left = path, games.text_of(path), []
+        at = 0
+        while at < len(self.text):
+            token = TOKEN.match(self.text, at)
+            if not token:
+                self.refuse("no token of the format begins here", at)
+            if token["blank"] is None:
+                self.left.append(token)
+            at = token.end()
+        self.left.reverse()
+
+    def at(self):
+        return self.left[-1].start() if self.left else len(self.text)
+
+    def refuse(self, why, at=None):
+        raise Refused(f"{games.place(self.path, self.text, self.at() if at is None else at)}: {why}")
+
+    def next_is(self, *wanted):
+        return bool(self.left) and (self.left[-1][0] in wanted or self.left[-1].lastgroup in wanted)
+
+    def take(self, *wanted):
+        if not self.next_is(*wanted):
+            self.refuse(f"{self.left[-1][0] if self.left else 'the end'} stands where {' or '.join(wanted)} has to stand")
+        return self.left.pop()
+
+    def takes(self, wanted):
+        """Takes the next token where it is the one that is wanted, and says whether."""
+        return bool(self.next_is(wanted) and self.take(wanted))
+
+    def number(self, below):
+        if not self.next_is("number") or int(self.left[-1][0]) >= below:
+            self.refuse(f"a number below {below} has to stand here")
+        return int(self.take("number")[0])
+
+
+def parity_formula(greatest, odd, count):
+    """A parity condition of so many sets as the format spells it, without blanks."""
+    formula = "t" if odd == (1 if greatest else count % 2) else "f"
+    for at, one in enumerate(range(count) if greatest else reversed(range(count))):
+        wins = one % 2 == odd
+        inner = formula if at == 1 else f"({formula})"
+        formula = f"Inf({one})" if wins else f"Fin({one})"
+        formula += ("|" if wins else "&") + inner if at else ""
+    return formula
+
+
+class Automaton:
+    """A deterministic parity automaton: of each state its edges, (letters, priority, target).
+
+    A letter is a number that has bit j where proposition j holds, and a set of letters is one that has bit l for letter l.
+    Priorities are those of a game in which the greatest decides, and in which even ones accept.
+    """
+
+    def __init__(self, path):
+        self.tokens = Tokens(path)
+        self.first = self.names = self.controllable = self.condition = None
+        self.states = MOST
+        self.aliases, self.edges, self.targets = {}, {}, {}
+        if not self.tokens.next_is("HOA:"):
+            self.tokens.refuse("HOA: has to stand here")
+        while not self.tokens.takes("--BODY--"):
+            self.header()
+        needed = {"Start:": self.first, "AP:": self.names, "controllable-AP:": self.controllable, "Acceptance:": self.condition}
+        for header, value in needed.items():
+            if value is None:
+                self.tokens.refuse(f"there is no header {header} before this")
+        while not self.tokens.takes("--END--"):
+            self.state()
+        if self.tokens.left:
+            self.tokens.refuse("only one automaton is read")
+        for state, at in {**self.targets, self.first: self.targets.get(self.first)}.items():
+            if state not in self.edges:
+                self.tokens.refuse(f"state {state} is not described", at)
+
+    def header(self):
+        tokens = self.tokens
+        at, name = tokens.at(), tokens.take("header")[0]
+        if name in ("Alias:", "controllable-AP:") and self.names is None:
+            tokens.refuse("the header AP: has to stand before this one", at)
+        known = {"HOA:": self.version, "States:": self.count, "Start:": self.start, "AP:": self.propositions}
+        known.update({"controllable-AP:": self.outputs, "Alias:": self.alias, "Acceptance:": self.acceptance})
+        if name in known:
+            known[name]()
+        elif name[0].isupper():
+            # by the format, what such a header says may not be passed over
+            tokens.refuse(f"the header {name} is not read", at)
+        else:
+            while tokens.next_is("string", "name", "number", "sign"):
+                tokens.take("string", "name", "number", "sign")
+
+    def version(self):
+        self.tokens.take("v1")
+
+    def count(self):
+        self.states = self.tokens.number(MOST)
+
+    def start(self):
+        if self.first is not None:
+            self.tokens.refuse("a second first state is not read")
+        self.first = self.tokens.number(MOST)
+
+    def propositions(self):
+        count = self.tokens.number(MOST_PROPOSITIONS + 1)
+        self.names = [self.tokens.take("string")["string"] for _ in range(count)]
+        self.all = (1 << (1 << count)) - 1
+        # the letters with bit j are 2^j in a row, after 2^j without it, and so on
+        self.holds = [self.all // ((1 << (1 << j)) + 1) << (1 << j) for j in range(count)]
+
+    def outputs(self):
+        self.controllable = []
+        while self.tokens.next_is("number"):
+            at, proposition = self.tokens.at(), self.tokens.number(len(self.names))
+            if proposition in self.controllable:
+                self.tokens.refuse(f"proposition {proposition} stands here twice", at)
+            self.controllable.append(proposition)
+
+    def alias(self):
+        name = self.tokens.take("name")[0]
+        self.aliases[name] = self.label()
+
+    def acceptance(self):
+        """Only the formula counts; the header acc-name says the same for people."""
+        at, count, formula = self.tokens.at(), self.tokens.number(MOST), ""
+        while self.tokens.next_is("name", "number", "sign"):
+            formula += self.tokens.take("name", "number", "sign")[0]
+        kinds = [(greatest, odd) for greatest in (True, False) for odd in (0, 1)]
+        found = [it for it in kinds if 6 * count <= len(formula) and formula == parity_formula(*it, count)]
+        if not found:
+            self.tokens.refuse("this is no parity condition as the format spells it: max or min, even or odd", at)
+        self.condition = *found[0], count
+
+    def priority(self, sets):
+        """The priority of what is in these sets. What is in none counts less than all sets, and so does its priority."""
+        greatest, odd, count = self.condition
+        if greatest:
+            return max(sets, default=-1) + 2 - odd
+        return count + (count + odd) % 2 - min(sets, default=count)
+
+    def sets(self):
+        found = []
+        if self.tokens.takes("{"):
+            while not self.tokens.takes("}"):
+                found.append(self.tokens.number(self.condition[2]))
+        return found
+
+    def state(self):
+        tokens = self.tokens
+        tokens.take("State:")
+        if tokens.next_is("["):
+            tokens.refuse("a label of a state is not read, only those of edges")
+        at, state = tokens.at(), tokens.number(self.states)
+        if state in self.edges:
+            tokens.refuse(f"state {state} is described twice", at)
+        tokens.takes("string")
+        here, seen, edges = self.sets(), 0, []
+        while not tokens.next_is("State:", "--END--"):
+            at = tokens.at()
+            tokens.take("[")
+            letters = self.label()
+            tokens.take("]")
+            if letters & seen:
+                tokens.refuse(f"not deterministic: an edge of state {state} before this one takes a letter of it", at)
+            seen |= letters
+            at, target = tokens.at(), tokens.number(self.states)
+            self.targets.setdefault(target, at)
+            edges.append((letters, self.priority(here + self.sets()), target))
+        self.edges[state] = [it for it in edges if it[0]]
+
+    def label(self):
+        letters = self.conjunction()
+        while self.tokens.takes("|"):
+            letters |= self.conjunction()
+        return letters
+
+    def conjunction(self):
+        letters = self.atom()
+        while self.tokens.takes("&"):
+            letters &= self.atom()
+        return letters
+
+    def atom(self):
+        tokens = self.tokens
+        if tokens.takes("!"):
+            return self.all & ~self.atom()
+        if tokens.takes("("):
+            letters = self.label()
+            tokens.take(")")
+            return letters
+        if tokens.next_is("number"):
+            return self.holds[tokens.number(len(self.names))]
+        known = {"t": self.all, "f": 0, **self.aliases}
+        if not tokens.next_is(*known):
+            tokens.refuse("a number of a proposition, t, f, an alias from above, or ! or ( has to stand here")
+        return known[tokens.take("name")[0]]
+
+    def cube(self, propositions, spelled):
+        """The letters in which these propositions are as spelled: 1, 0, or - for either."""
+        letters = self.all
+        for proposition, value in zip(propositions, spelled):
+            if value != "-":
+                letters &= self.holds[proposition] if value == "1" else self.all & ~self.holds[proposition]
+        return letters

@@ -1,1 +1,0 @@
-paritysol 9; 0 0 0;

@@ -1,1 +1,0 @@
-paritysol 7;

@@ -1,1 +1,0 @@
-paritysol 1; start 0; 0 0 0; 1 1 1;
