@@ -1,5 +1,6 @@
 //! Slots for the workers, threads that work on them, and what the slots hold once all threads have ended.
 ghost use Rattle.std.specs.Prelude.{◌≡◌, ◌≤◌, [], All, IfOk, map, replicate, vec_len};
+ghost use Rattle.std.specs.List.{range_with_len};
 ghost use Rattle.std.specs.Vec.{vec_capacity};
 ghost use Rattle.pg_workers.specs.Report.{IsDrawnRow, settled_in};
 ghost use Rattle.pg_workers.specs.Tickets.{fresh};
@@ -31,7 +32,8 @@ pub(crate) fn slots_of<L: Ledger, J: Naming>(
     requires shares { shares.items ≡ replicate (vec_len shares) 0 }
     requires workers { (vec_len shares ≡ J.workers) × (J.workers ≤ 64) }
     requires tickets { tickets.items ≡ replicate (vec_len shares) (fresh J.series) }
-    ensures { IfOk result (λ v. vec_len v ≡ vec_len shares) }
+    ensures length { IfOk result (λ v. vec_len v ≡ vec_len shares) }
+    ensures numbers { IfOk result (λ v. map (λ s. s.worker) v.items ≡ range_with_len 1 (vec_len shares)) }
 {
     let mut slots = Vec::with_capacity(alloc, shares.len())?;
     while let Some(share) = shares.pop() {

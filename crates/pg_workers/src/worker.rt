@@ -53,6 +53,7 @@ pub(crate) struct Slot<L: Ledger, J: Naming> {
     ghost settled: { share ≡ settled_in rows.items },
     ghost numbers: { map (λ r. r.job) rows.items ≡ ticket.numbers },
     ghost done: { All (IsDrawnRow J.workers) rows.items },
+    ghost own: { All (λ r. r.worker ≡ Some worker) rows.items },
     ghost room: { J.series.total ≤ vec_capacity rows },
 }
 

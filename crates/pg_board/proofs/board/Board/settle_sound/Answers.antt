@@ -2,8 +2,8 @@ use Rattle.pg_board.proofs.Common.{◌≡◌, ◌<◌, length, refl, sym, ◌∙
 use Rattle.pg_board.proofs.RestIsGood.{rest_is_good, rest_twice}
 use Rattle.pg_board.proofs.Posting.{IsChecked, rest_now, rest_right_here, rest_open, refused_open, claim_good, nonempty, sound_here, adds_claim, few_rows}
 use Rattle.pg_board.specs.declared.refusal.Refusal.TheVariants as refusal
-use Rattle.pg_board.proofs.board.Board.settle_in.Goals.{After-as_slice}
-use Rattle.pg_board.proofs.board.Board.settle_in.Goals as goal
+use Rattle.pg_board.proofs.board.Board.settle_sound.Goals.{After-as_slice}
+use Rattle.pg_board.proofs.board.Board.settle_sound.Goals as goal
 
 -- the claim and its rest
 checked : (c : After-as_slice)
@@ -18,7 +18,7 @@ checked c = record {
 
 pub rest_of-requires-clause-room : goal.rest_of-requires-clause-room
 rest_of-requires-clause-room c =
-    omega (arith, few_rows (sound_here c.self.view_is c.requires).shape.right, c.in_ok-reserve_exact.ensures.ok, c.len-n.ensures.number)
+    omega (arith, few_rows (sound_here c.self.view_is c.requires).shape.right, c.in_ok-rows.ensures.capacity, c.len-n.ensures.number)
 
 pub first_open-edge-requires-clause-right : goal.first_open-edge-requires-clause-right
 first_open-edge-requires-clause-right c = rest_right_here (checked (goal.at.first_open-edge-requires-clause-right c).After-as_slice)
