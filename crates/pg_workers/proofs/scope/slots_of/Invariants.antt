@@ -8,7 +8,7 @@ invariant-loop-share g l =
     × (l.shares.items ≡ replicate (vec_len l.shares) 0)
     × (l.tickets.items ≡ replicate (vec_len l.shares) (fresh g.J.Naming.series))
     × (vec_capacity l.slots ≡ vec_len l.initial.shares)
+    × (map (λ s. s.worker) l.slots.items ≡ range_with_len 1 (vec_len l.slots))
 
 abbrev pub decreases-loop-share : goal.decreases-loop-share
 decreases-loop-share g l = vec_len l.shares
-    × (map (λ s. s.worker) l.slots.items ≡ range_with_len 1 (vec_len l.slots))
