@@ -77,7 +77,6 @@ impl Board {{invariant pg_board/src/board.rt Board}}
 ```text
 {{items}}
 ```
-
 """
 # the parts of the headline, in the order of docs/PROVED.md, each with what says it
 PARTS = re.findall(
@@ -292,17 +291,23 @@ def definitions(sources, found, shown):
     for module in in_order(sources, found):
         these = [item for key, item in sources.items.items() if key in found - shown and item.module == module]
         for path in sorted({it.path for it in these}):
-            names = "".join(meant(sources, found, these))
-            yield f"[{path.removeprefix('crates/').replace('/specs', '')}](../{path}): {antt.head(path)}{names}"
-            yield fenced("text", "\n".join("\n".join([*it.comment, it.text]) for it in these)).rstrip()
+            yield f"---- {path.removeprefix('crates/')}: {antt.head(path)}{''.join(meant(sources, found, these))}"
+            yield from ("\n".join([*it.comment, in_one_line(it)]) for it in these)
+
+
+def in_one_line(item):
+    """A definition by one equation in one line, where it fits: its type and the equation."""
+    line = "; ".join(item.lines)
+    return line if len(item.lines) == 2 and item.kind.startswith("abbrev") and len(line) <= 160 else item.text
 
 
 def types(names):
-    """The types of the code among names, each with its text, without attributes."""
+    """The types of the code among names, each with its text in one line, without attributes and comments."""
     declared = re.compile(r"(\w+)\.specs\.declared\.([\w.]+?)\.(\w+)\.(?:TheVariants.*|\3)")
     found = {declared.fullmatch(it).groups() for it in names if ".specs.declared." in it}
     for crate, module, name in sorted(found, key=lambda it: (antt.CRATES.index(it[0]), it)):
-        yield f"{crate}::{name}", declaration(f"crates/{crate}/src/{module.replace('.', '/')}.rt", name)
+        text = declaration(f"crates/{crate}/src/{module.replace('.', '/')}.rt", name)
+        yield f"{crate}::{name}", text and " ".join(re.sub(r"(?m)^ *///.*\n", "", text).split()).replace(", }", " }")
 
 
 def library(names):
@@ -334,7 +339,7 @@ def seen_as(found):
             value = re.match(r"    ghost Value = { (.*) };", line)
             known = {it for it in means(path, value[1]) if it.split(".")[0] in antt.CRATES} if value else set()
             if value and (names is None or owner in names) and known <= found:
-                yield f"- `{owner}` ({path.split('/')[0]}): `{value[1]}`"
+                yield f"`{owner}` (of `{path.split('/')[0]}`) as `{value[1]}`"
 
 
 def fenced(kind, text):
@@ -354,12 +359,10 @@ def page(sources):
     reached, others = sources.reached(pieces.named, BY_NAME)
     by_name = sources.reached(pieces.named)[0] - reached
     yield "## Appendix\n"
-    yield f"{len(reached - {*FIRST})} further definitions, each file after those that it cites. Their sources are in [TERMS.md](TERMS.md#sources).\n"
-    yield from definitions(sources, reached, {*FIRST})
-    yield "\n### Types of the code\n"
-    yield "Numbers of the code are natural numbers in clauses and definitions. Of these types contracts see:\n"
-    yield "\n".join(seen_as(reached)) + "\n"
-    yield "All others are seen as they are declared:\n"
+    yield f"{len(reached - {*FIRST})} further definitions, each file of `crates` after those that it cites. Where one is in one line, its type is before the semicolon. Their sources are in [TERMS.md](TERMS.md#sources).\n"
+    yield fenced("text", "\n".join(definitions(sources, reached, {*FIRST})))
+    yield "### Types of the code\n"
+    yield f"Numbers of the code are natural numbers in clauses and definitions. Contracts see {', '.join(seen_as(reached))}. All others are seen as they are declared:\n"
     yield fenced("rust", "\n".join(text for _, text in types(others) if text))
     yield "### Words of the library\n"
     yield "\n".join(library(others)) + "\n"
