@@ -26,7 +26,7 @@ use std::alloc::Global;
 use std::marker::Model;
 use std::mem;
 
-/// The items in a vector of their own: in the one that has them, whose other room is let go, where they fill a sixteenth of
+/// The items in a vector of their own: in the one that has them, whose other capacity is freed, where they fill a sixteenth of
 /// it or memory for a copy is refused, and else in a copy.
 fn copy_or_take(alloc: Global, items: &mut Vec<(u32, Option<u32>)>) -> Vec<(u32, Option<u32>)>
     ensures { result.items ≡ items.old.items }
@@ -48,7 +48,7 @@ pub struct Board<'g> {
     entries: Vec<Entry>,
     regions: Regions,
     number: u32,
-    /// Room for the rows of an entry while they are found.
+    /// Capacity for the rows of an entry while they are found.
     room: Vec<(u32, Option<u32>)>,
 }
 
@@ -161,7 +161,7 @@ impl<'g> Board<'g> {
         found
     }
 
-    /// The same, with room for an entry's rows.
+    /// The same, with capacity for an entry's rows.
     fn settle_in(
         &mut self,
         alloc: Global,
@@ -197,7 +197,7 @@ impl<'g> Board<'g> {
     }
 
     /// Settles the rest and what it attracts, in one entry. All that it needs is taken before anything is settled; the
-    /// rows alone are copied afterwards, unless the entry keeps the room that has them.
+    /// rows alone are copied afterwards, unless the entry keeps the vector that has them.
     fn enter(
         &mut self,
         alloc: Global,
@@ -236,7 +236,7 @@ impl<'g> Board<'g> {
         })
     }
 
-    /// The game. Tells what the type keeps.
+    /// The game. Its contract has the invariant of the type.
     pub fn game(&self) -> &'g Game
         ensures graph { result.now ≡ self.now.graph }
         ensures game { IsGame self.now.graph }
@@ -244,7 +244,7 @@ impl<'g> Board<'g> {
         ensures lawful { IsLawful self.now.graph self.now.journal }
         ensures within { number_settled self.now.journal ≤ length self.now.graph }
     {
-        // for the proof: a look at a field tells what the type keeps, and so the journal is lawful
+        // for the proof: reading a field gives the invariant of the type, and so the journal is lawful
         let _ = &self.entries;
         // for the proof: the graph is a game, within the limits
         let _n = self.game.len();
@@ -303,7 +303,7 @@ impl<'g> Board<'g> {
         self.number == self.game.len()
     }
 
-    /// Winners and choices of all vertices, exactly where the board is full; choices stand exactly where the
+    /// Winners and choices of all vertices, exactly where the board is full; there are choices exactly where the
     /// winner owns the vertex.
     pub fn solution(&self, alloc: Global) -> Result<Option<Solution>, Memory>
         ensures full { IfOk result (λ found. IsSome found ↔ IsFull self.now.graph (state_of self.now.journal)) }

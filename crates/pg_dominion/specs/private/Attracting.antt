@@ -9,7 +9,7 @@ use Rattle.pg_dominion.specs.Claim.{ClaimRows, named}
 use Rattle.pg_dominion.specs.Attraction.{IsAttractedRow}
 use Rattle.pg_dominion.specs.Area.{HasOpen}
 
--- the row has the predecessors of the vertex that the item at a place stands for
+-- the row has the predecessors of the vertex of the item at a place
 abbrev pub IsRowAt : {A : Type 0} → (A → ℕ) → Graph → List A → ℕ → List ℕ → Type 0
 IsRowAt {A} f g xs place row = (place < length xs) × ((d : A) → ArePredecessors g (f (get_or xs place d)) row)
 
