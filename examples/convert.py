@@ -20,9 +20,9 @@ So the winners, and the choices of winners at vertices with successors, are thos
 A deterministic parity automaton in the HOA format with the header `controllable-AP`, as the synthesis competition has it,
 becomes the game that synthesise.py solves. In its first vertex the environment chooses; Even is the controller.
 
---solution   the input is a solution and not a game: a text that begins after lines for people, or a listing of each player's
-             vertices and choices, as PGSolver and Oink print it. What is written is a `paritysol` text. A vertex that is not
-             listed has no line in it, so `solve --known` takes it and `verify` does not.
+--solution   the input is a solution and not a game: a text that begins after lines for people, or a listing of vertices, and
+             of choices as `0->1`, after lines as `Player 0 wins from nodes:` (PGSolver) or `won by even:` (Oink). What is
+             written is a `paritysol` text. A vertex that is not listed has no line in it: `solve --known` completes it.
 """
 
 import argparse
@@ -42,6 +42,8 @@ status: 0 where it is done, 2 where the command line or the input was refused, o
 """
 GREATEST = 2_147_483_647
 COMMENTS = {sign: re.compile(re.escape(sign) + rb"[^\n]*") for sign in (b"#", b"//")}
+# (before a semicolon the name ends, and its last byte is a backslash)
+ESCAPED = re.compile(rb'\\"(?!\s*;)')
 NAME_OR_COMMENT = re.compile(rb'("[^"]*")|(?:#|//)[^\n]*')
 HEAD = re.compile(rb"\s*(?:(?:max-?|min-?)?parity\s+[0-9]+\s*;\s*|start\s+[0-9]+\s*;\s*)*")
 START = re.compile(rb"\bstart\s+[0-9]+\s*;")
@@ -73,9 +75,7 @@ def bytes_of(path):
 def apart(data):
     """A game's text without comments and with a quote in place of each name; and the names."""
     if b'\\"' in data:
-        plain = data.replace(b'\\"', b"'")
-        # (a name that ends in a backslash would not end then)
-        data = data if plain.count(b'"') % 2 else plain
+        data = ESCAPED.sub(b"'", data)
     pieces = data.split(b'"')
     text, names = b'"'.join(pieces[::2]), pieces[1::2]
     signs = [it for it in COMMENTS if it in text]
