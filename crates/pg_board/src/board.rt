@@ -194,7 +194,7 @@ impl<'g> Board<'g> {
         })
     }
 
-    /// The game. Tells what the type keeps.
+    /// The game. Its contract has the invariant of the type.
     pub fn game(&self) -> &'g Game
         ensures graph { result.now ≡ self.now.graph }
         ensures game { IsGame self.now.graph }
@@ -202,7 +202,7 @@ impl<'g> Board<'g> {
         ensures lawful { IsLawful self.now.graph self.now.journal }
         ensures within { number_settled self.now.journal ≤ length self.now.graph }
     {
-        // for the proof: a look at a field tells what the type keeps, and so the journal is lawful
+        // for the proof: reading a field gives the invariant of the type, and so the journal is lawful
         let _ = &self.entries;
         // for the proof: the graph is a game, within the limits
         let _n = self.game.len();
@@ -261,7 +261,7 @@ impl<'g> Board<'g> {
         self.number == self.game.len()
     }
 
-    /// Winners and choices of all vertices, exactly where the board is full; choices stand exactly where the
+    /// Winners and choices of all vertices, exactly where the board is full; there are choices exactly where the
     /// winner owns the vertex.
     pub fn solution(&self, alloc: Global) -> Result<Option<Solution>, Memory>
         ensures full { IfOk result (λ found. IsSome found ↔ IsFull self.now.graph (state_of self.now.journal)) }

@@ -1,4 +1,4 @@
-//! Attraction in place (Zielonka 1998): a backward worklist over predecessors. What is taken is listed behind what it leads to, and
+//! Attraction in place (Zielonka 1998): a backward worklist over predecessors. What is taken is listed after what it leads to, and
 //! is free no more.
 
 ghost use Rattle.std.specs.Prelude.{◌<◌, ◌≤◌, ℕ, length, take, OnOk, OnErr, vec_capacity};
@@ -27,7 +27,7 @@ pub trait Area {
 
     ghost free: { Self → VertexSet };
 
-    /// The list fits the area, with this room.
+    /// The list fits the area, with this capacity.
     ghost ready: { Graph → Self → List Self.Item → ℕ → Type 0 };
 
     /// What vertices that the player takes leave of an area and its list.
@@ -116,7 +116,7 @@ fn consider<A: Area>(
     area.take(game, player, from, None, list)
 }
 
-/// Takes what is attracted by `to`, whose predecessors stand in the row, at once.
+/// Takes what is attracted by `to`, whose predecessors are in the row, at once.
 fn reach<A: Area>(
     area: &mut A,
     game: &Game,

@@ -21,7 +21,7 @@ use std::sync::ledger::Ledger;
 use std::thread;
 use std::thread::{Scope, Threads};
 
-/// A slot for each pair of a share and a ticket, with the number of its worker and room for a row for each job.
+/// A slot for each pair of a share and a ticket, with the number of its worker and capacity for a row for each job.
 pub(crate) fn slots_of<L: Ledger, J: Naming>(
     alloc: Global,
     total: u64,
@@ -147,7 +147,7 @@ pub(crate) fn start_all<
     slots
 }
 
-/// Shares, tickets and rows of all slots, which go into room that was taken before.
+/// Shares, tickets and rows of all slots, in capacity that was allocated before.
 pub(crate) fn take_apart<L: Ledger, J: Naming>(
     mut slots: Vec<Slot<L, J>>,
     mut shares: Vec<Share<L>>,

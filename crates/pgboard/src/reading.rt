@@ -12,7 +12,7 @@ use std::alloc::{AllocError, Global};
 /// How many bytes are asked for at a time, at most.
 const PIECE: usize = 65_536;
 
-/// From how many bytes on a text is large, and the room that a large one has at least. Of the room what is not filled takes
+/// From how many bytes on a text is large, and the least capacity for a large one. Capacity that is not filled takes
 /// no memory. The allocator of glibc keeps what is given back to it for its next blocks, up to the size of the greatest
 /// block that was ever given back, unless that had more than 32 MiB: so after a large text the tables of a search would stay.
 const LARGE: usize = 8_388_608;
@@ -24,8 +24,8 @@ const LARGE_ROOM: usize = 37_748_736;
 /// keep too much.
 const GIVEN_BACK: usize = 16_777_216;
 
-/// Zeros behind the bytes that were read, for the next ones: as many as the room holds, up to a piece. A text that fills its
-/// room gets more.
+/// Adds zeros after the bytes that were read, for the next ones: up to the capacity, and at most a piece. A text that fills its
+/// capacity gets more.
 fn make_room(text: &mut Vec<u8>, filled: usize) -> Result<(), AllocError>
     requires limit { filled ≤ max_text }
     requires within { filled ≤ vec_len text.old }
@@ -42,7 +42,7 @@ fn make_room(text: &mut Vec<u8>, filled: usize) -> Result<(), AllocError>
     Ok(())
 }
 
-/// One read, to the places behind those that are filled.
+/// One read, to the places after those that are filled.
 fn read_behind<S: Source>(source: &mut S, text: &mut [u8], filled: usize) -> Result<usize, Failed>
     requires { filled < length text.old }
     ensures prefix { take filled text.new ≡ take filled text.old }
@@ -55,7 +55,7 @@ fn read_behind<S: Source>(source: &mut S, text: &mut [u8], filled: usize) -> Res
     source.read(&mut text[filled..])
 }
 
-/// All bytes that a source has left, read into a buffer that is empty and may have room.
+/// All bytes that a source has left, read into a buffer that is empty and may have capacity.
 fn read_into<S: Source>(source: &mut S, buffer: Vec<u8>) -> Result<Vec<u8>, RunFault>
     requires { buffer.items ≡ [] }
     ensures text { IfOk result (λ text. IfSome (S.left source.old) (λ bytes. text.items ≡ bytes)) }
@@ -83,7 +83,7 @@ fn read_into<S: Source>(source: &mut S, buffer: Vec<u8>) -> Result<Vec<u8>, RunF
     }
 }
 
-/// The room for a text of so many bytes, and for one more, for the read that gives nothing.
+/// The capacity for a text of so many bytes, and for one more, for the read that gives nothing.
 fn room_for(expected: usize) -> usize
     requires { expected ≤ max_text }
 {

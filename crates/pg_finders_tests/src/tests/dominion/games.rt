@@ -1,5 +1,5 @@
 //! Games that are hostile to searches, and random ones. Their vertices are Odd's, so that Even's claim of them all keeps all
-//! edges. Each stands behind what a draft has already.
+//! edges. Each comes after what a draft has already.
 
 ghost use Rattle.std.specs.Prelude.{◌≡◌, length};
 
@@ -82,7 +82,7 @@ pub enum Hostile {
     /// Each of so many vertices leads to each, and vertex v has the priority `step * v`.
     Dense(u32, u32),
     /// A bad vertex that leads to a cycle of so many good ones, each of which leads to the next four, and so many of them to a
-    /// fifth; and behind it another bad one that leads there. Nothing leads to the bad ones.
+    /// fifth; and after it another bad one that leads there. Nothing leads to the bad ones.
     Chords(u32, u32),
 }
 
@@ -185,13 +185,13 @@ fn add_dense(rt: &impl Abort, alloc: Global, draft: &mut Draft, n: u32, step: u3
     }
 }
 
-/// The vertex of a cycle of so many that stands so far from its first one.
+/// The vertex of a cycle of so many that is so far from its first one.
 fn on_cycle(first: u32, n: u32, at: u32) -> u32 {
     let place = if at < n { at } else { at.saturating_sub(n) };
     first.saturating_add(place)
 }
 
-/// Room for five vertices, taken once more where memory was refused.
+/// Capacity for five vertices, taken once more where memory was refused.
 fn room_for_five(rt: &impl Abort, alloc: Global) -> Vec<u32> {
     match Vec::with_capacity(alloc, 5) {
         Ok(room) => room,
@@ -199,7 +199,7 @@ fn room_for_five(rt: &impl Abort, alloc: Global) -> Vec<u32> {
     }
 }
 
-/// The vertices that stand from one to so many places, at most five, behind one of a cycle.
+/// The vertices from one to so many places, at most five, after one of a cycle.
 fn next_on_cycle(
     rt: &impl Abort,
     alloc: Global,
