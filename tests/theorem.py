@@ -11,13 +11,13 @@ reaches are in specs/private/, and no others are.
 """
 
 import collections
+import functools
 import itertools
 import re
 import sys
 import unicodedata
 import unittest
 
-import antt
 import common
 import tables
 
@@ -34,22 +34,131 @@ OF_TEXTS = (
 )
 
 
+# --- definitions: each stands at the margin of a file, with the comment above it; the text alone is read ---
+
+CRATES = ["pg_game", "pg_text", "pg_dominion", "pg_finders", "pg_board", "pg_workers", "pgboard", "pgboard_c"]
+NAME = r"[^\s(){}\[\];,.:]+"
+WORD = re.compile(r"[\w'?!≢-]*\w[\w'?!≢-]*|[^\s\w]")
+BEGUN = re.compile(rf"^(?:(pub record|record|pub data|data) ({NAME})(?= )|(?:(abbrev pub|abbrev|unfoldable pub|unfoldable|pub) )?({NAME}) :)")
+read = functools.lru_cache(maxsize=None)(common.text_of)
+
+
+class Item:
+    """A definition: where it stands, its kind and name, the comment above it and its lines."""
+
+    def __init__(self, path, kind, name, comment, lines):
+        self.path, self.kind, self.name, self.comment, self.lines = path, kind, name, comment, lines
+
+    @property
+    def module(self):
+        """As `pg_game.specs.Graph`."""
+        return re.sub(r"^crates/|\.antt$", "", self.path).replace("/", ".")
+
+    @property
+    def key(self):
+        return f"{self.module}.{self.name}"
+
+    @property
+    def text(self):
+        return "\n".join(self.lines)
+
+
+def paths(crate):
+    """The files of a crate's specs: those that its Lib.antt lists, in its order, and then the others."""
+    folder = f"crates/{crate}/specs"
+    found = [str(it.relative_to(common.ROOT)) for it in common.ROOT.glob(f"{folder}/**/*.antt") if it.name != "Lib.antt"]
+    listed = [f"{folder}/{it}.antt" for it in re.findall(r"(?m)^pub mod (\w+)", read(f"{folder}/Lib.antt"))]
+    return sorted(found, key=lambda it: (listed.index(it) if it in listed else len(listed), it))
+
+
+def head(path):
+    """The comment that a file begins with, as one text."""
+    lines = []
+    for line in read(path).splitlines():
+        if not line.startswith("--"):
+            break
+        lines.append(line[2:].strip())
+    return " ".join(lines)
+
+
+@functools.lru_cache(maxsize=None)
+def items(path):
+    """The definitions of a file, in order."""
+    found, comment, item = [], [], None
+    for line in read(path).splitlines():
+        begun = BEGUN.match(line)
+        if not line.strip():
+            comment, item = [], None
+        elif line.startswith("--"):
+            comment, item = [*comment, line], None
+        elif line.startswith(("use ", "pub mod ")):
+            comment = []
+        elif line.startswith("module "):
+            raise ValueError(f"{path} has a section, which is not read here")
+        elif begun:
+            item = Item(path, begun[1] or begun[3] or "", begun[2] or begun[4], comment, [line])
+            found.append(item)
+            comment = []
+        elif item:
+            item.lines.append(line)
+    return found
+
+
+@functools.lru_cache(maxsize=None)
+def imports(text):
+    """What a file's `use` lines bring in: a name, or an alias with a dot behind it, to its whole name."""
+    found = {}
+    for module, names in re.findall(r"use ([\w.+'-]+?)\.\{([^}]*)\}", text):
+        for name in names.split(","):
+            name, _, other = name.strip().partition(" as ")
+            found[other.strip() or name] = f"{module}.{name}".removeprefix("Rattle.")
+    for module, alias in re.findall(r"use ([\w.+'-]+) as (\w+)", text):
+        found[f"{alias}."] = module.removeprefix("Rattle.")
+    return {name: origin(whole) for name, whole in found.items()}
+
+
+def origin(whole):
+    """Where the item stands that a crate's proofs/Common.antt passes on by this name."""
+    crate, _, name = whole.partition(".proofs.Common.")
+    if not name or crate not in CRATES:
+        return whole
+    return imports(read(f"crates/{crate}/proofs/Common.antt"))[name]
+
+
+def names_in(text, known, own, module):
+    """The whole names that a text means: of the file's imports, and of the names that its own module declares."""
+    text = re.sub(r"--.*", "", text)
+    found = {f"{known[alias + '.']}.{name}" for alias, name in re.findall(r"(?<![\w.])(\w+)\.([\w']+)", text) if alias + "." in known}
+    # a field of a record, in its declaration, a literal or behind a value, means no definition
+    text = re.sub(r"(?m)^  pub [\w']+ :", " ", text)
+    text = re.sub(r"([{;] *)[\w']+ =", r"\1", text)
+    text = re.sub(r"(?<=[\w')\]])\.[\w']+", " ", text)
+    for word in WORD.findall(text):
+        if word in known:
+            found.add(known[word])
+        elif word in own:
+            found.add(f"{module}.{word}")
+        elif f"◌{word}◌" in known:
+            found.add(known[f"◌{word}◌"])
+    return found
+
+
 class Sources:
     """All definitions of specs by their whole names, what each names, and which one declares a constructor."""
 
     def __init__(self):
         self.items, self.names, self.makers = {}, {}, {}
-        for crate in antt.CRATES:
-            for path in antt.paths(crate):
+        for crate in CRATES:
+            for path in paths(crate):
                 self.add(path)
 
     def add(self, path):
-        found = antt.items(path)
+        found = items(path)
         own = {it.name for it in found} | {name for it in found for name in constructors(it)}
         for item in found:
             self.items[item.key] = item
             self.makers.update({f"{item.module}.{name}": item.key for name in constructors(item)})
-            self.names[item.key] = antt.names_in(item.text, antt.imports(antt.read(path)), own - {item.name}, item.module)
+            self.names[item.key] = names_in(item.text, imports(read(path)), own - {item.name}, item.module)
 
     def reached(self, roots, ends=frozenset()):
         """The definitions that names reach, but those of the modules `ends`, and all other names that these definitions have."""
@@ -79,7 +188,7 @@ def constructors(item):
 
 def handed_on_files():
     """Each file of src that has something public, with the public names that count there; None where all do."""
-    for crate in antt.CRATES:
+    for crate in CRATES:
         names, open_files = tables.handed_on(crate)
         yield from ((path, None if path in open_files else names) for path in tables.sources(crate))
 
@@ -113,8 +222,8 @@ def public_names():
 
 def means(path, text):
     """The whole names that a piece of a source file means."""
-    known = antt.imports(tables.read(path))
-    return antt.names_in(re.sub(r"(?:ensures|requires) \w*", "", text), known, set(), "")
+    known = imports(tables.read(path))
+    return names_in(re.sub(r"(?:ensures|requires) \w*", "", text), known, set(), "")
 
 
 # --- pieces of the sources ---
@@ -213,7 +322,7 @@ def definitions(sources, found, shown):
     for module in in_order(sources, found):
         these = [item for key, item in sources.items.items() if key in found - shown and item.module == module]
         for path in sorted({it.path for it in these}):
-            yield f"---- {path.removeprefix('crates/')}: {antt.head(path)}{''.join(meant(sources, found, these))}"
+            yield f"---- {path.removeprefix('crates/')}: {head(path)}{''.join(meant(sources, found, these))}"
             yield from ("\n".join([*it.comment, in_one_line(it)]) for it in these)
 
 
@@ -227,7 +336,7 @@ def types(names):
     """The types of the code among names, each with its text in one line, without attributes and comments."""
     declared = re.compile(r"(\w+)\.specs\.declared\.([\w.]+?)\.(\w+)\.(?:TheVariants.*|\3)")
     found = {declared.fullmatch(it).groups() for it in names if ".specs.declared." in it}
-    for crate, module, name in sorted(found, key=lambda it: (antt.CRATES.index(it[0]), it)):
+    for crate, module, name in sorted(found, key=lambda it: (CRATES.index(it[0]), it)):
         text = declaration(f"crates/{crate}/src/{module.replace('.', '/')}.rt", name)
         yield f"{crate}::{name}", text and " ".join(re.sub(r"(?m)^ *///.*\n", "", text).split()).replace(", }", " }")
 
@@ -237,7 +346,7 @@ def library(names):
     found = collections.defaultdict(set)
     for name in names:
         module, _, last = name.rpartition(".")
-        if module.split(".")[0] not in antt.CRATES:
+        if module.split(".")[0] not in CRATES:
             found[module].add(last.replace("◌", ""))
     for module, these in sorted(found.items()):
         yield f"- `{module}`: {', '.join(f'`{it}`' for it in sorted(these))}"
@@ -259,7 +368,7 @@ def seen_as(found):
     for path, names in handed_on_files():
         for owner, line in views(path):
             value = re.match(r"    ghost Value = { (.*) };", line)
-            known = {it for it in means(path, value[1]) if it.split(".")[0] in antt.CRATES} if value else set()
+            known = {it for it in means(path, value[1]) if it.split(".")[0] in CRATES} if value else set()
             if value and (names is None or owner in names) and known <= found:
                 yield f"`{owner}` (of `{path.split('/')[0]}`) as `{value[1]}`"
 
@@ -299,11 +408,11 @@ def strangers(sources, item):
     text = re.sub(r"--.*", "", item.text)
     bound = re.findall(r"[({]([\w' ]+) :|λ ([\w' ]+)\.|^([^=:\n]*) =(?: |$)", text, re.M)
     known = {"Type", "Unit", *" ".join(it for names in bound for it in names).split()}
-    known |= {it.rstrip(".") for it in antt.imports(antt.read(item.path))}
-    known |= {name for it in antt.items(item.path) for name in (it.name, *constructors(it))}
+    known |= {it.rstrip(".") for it in imports(read(item.path))}
+    known |= {name for it in items(item.path) for name in (it.name, *constructors(it))}
     yield from sorted(set(re.findall(r"(?<![\w.'])[A-Z][\w']*(?!\w)", text)) - known)
     for name in sorted(sources.names[item.key]):
-        if name.split(".")[0] in antt.CRATES and ".declared." not in name and sources.whole(name) not in sources.items:
+        if name.split(".")[0] in CRATES and ".declared." not in name and sources.whole(name) not in sources.items:
             yield name
 
 
