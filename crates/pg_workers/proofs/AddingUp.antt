@@ -18,7 +18,7 @@ adds_up old new report known later is =
       settled = is ∙ ap number_settled (sym (ap (take (length old.journal)) later.journal ∙ take-append_seam old.journal later.added));
       by_caller =
           subst (λ (j : Journal). AreOfCaller (Even ∷ Odd ∷ []) j) (sym (ap (drop (length old.journal)) later.journal ∙ drop-append_seam old.journal later.added))
-              later.by_caller;
+          later.by_caller;
     }
 
 -- what a run gives once nothing is left on its board

@@ -3,21 +3,22 @@ use Rattle.pg_workers.proofs.Common.{◌≡◌, ◌≤◌, ◌∷◌, ◌++◌, 
 use Rattle.pg_workers.proofs.Common.{map-append, append-nil, append_assoc, AreClaims, AreOfCaller, Claim, Graph, IsLater, Journal, Play, Player, VertexSet}
 use Rattle.std.specs.Prelude.{filter}
 use Rattle.pg_game.specs.declared.player.Player.TheVariants.{Even, Odd}
+use Rattle.pg_text.proofs.FirstFaults.{all-append}
 use Rattle.pg_board.specs.Post.{Adds}
 use Rattle.pg_board.specs.declared.entry.Entry.{Entry}
 use Rattle.pg_board.specs.declared.entry.Posted.{Posted}
 
 -- one entry for the player
 one_of_caller : (e : Entry) (p : Player) → e.worker ≡ 0 → e.player ≡ p → AreOfCaller (p ∷ []) (e ∷ [])
-one_of_caller e p worker player = record { worker = search rules; posted = λ _. true; players = ap (λ (q : Player). q ∷ []) player }
+one_of_caller e p worker player = record { worker = search rules; posted = λ _. true; order = ap (λ (q : Player). q ∷ []) player }
 
 pub none_of_caller : (p : Player) → AreOfCaller (p ∷ []) []
-none_of_caller p = record { worker = search rules; posted = λ _. false; players = refl }
+none_of_caller p = record { worker = search rules; posted = λ _. false; order = refl }
 
 pub none_of_both : AreOfCaller (Even ∷ Odd ∷ []) []
-none_of_both = record { worker = search rules; posted = λ _. false; players = refl }
+none_of_both = record { worker = search rules; posted = λ _. false; order = refl }
 
-for_each : Bool → Bool → Player → Bool
+abbrev for_each : Bool → Bool → Player → Bool
 for_each even odd Even = even
 for_each even odd Odd = odd
 
@@ -30,11 +31,11 @@ those false false = refl
 -- Even's entries and then Odd's
 pub both_of_caller : (xs ys : Journal) → AreOfCaller (Even ∷ []) xs → AreOfCaller (Odd ∷ []) ys → AreOfCaller (Even ∷ Odd ∷ []) (xs ++ ys)
 both_of_caller xs ys a b = record {
-  worker = search (rules, a.worker, b.worker);
+  worker = all-append (λ (e : Entry). e.worker ≡ 0) xs ys a.worker b.worker;
   posted = for_each (a.posted Even) (b.posted Odd);
-  players =
-      map-append (λ (e : Entry). e.player) xs ys ∙ ap (λ (l : List Player). l ++ map (λ (e : Entry). e.player) ys) a.players ∙ ap
-          (λ (l : List Player). filter a.posted (Even ∷ []) ++ l) b.players ∙ those (a.posted Even) (b.posted Odd);
+  order =
+      map-append (λ (e : Entry). e.player) xs ys ∙ ap (λ (l : List Player). l ++ map (λ (e : Entry). e.player) ys) a.order ∙ ap
+      (λ (l : List Player). filter a.posted (Even ∷ []) ++ l) b.order ∙ those (a.posted Even) (b.posted Odd);
 }
 
 pub one_later : (old new : Play) (claim : Claim) (posted : Posted) → new.graph ≡ old.graph → Adds old new 0 claim posted
@@ -74,5 +75,5 @@ both_later old mid new g U even odd claims first second = record {
   few = let l = length-append first.added second.added in let a = first.few in let b = second.few in omega arith;
   by_caller =
       both_of_caller first.added second.added (subst (λ (p : Player). AreOfCaller (p ∷ []) first.added) claims.even_player first.by_caller)
-          (subst (λ (p : Player). AreOfCaller (p ∷ []) second.added) claims.odd_player second.by_caller);
+      (subst (λ (p : Player). AreOfCaller (p ∷ []) second.added) claims.odd_player second.by_caller);
 }

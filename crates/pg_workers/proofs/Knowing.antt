@@ -248,8 +248,8 @@ module _ (g : Graph) (known : KnownRows) (opened mid : Play) (here : opened.grap
   has_known new same second = record {
     entries =
         subst (λ (j : Journal). AreOfCaller (Even ∷ Odd ∷ []) j) (sym (second.later.journal ∙ ap (λ (j : Journal). j ++ second.later.added)
-            (first.later.journal ∙ ap (λ (j : Journal). j ++ first.later.added) new_board)))
-            (both_of_caller first.later.added second.later.added first.later.by_caller second.later.by_caller);
+        (first.later.journal ∙ ap (λ (j : Journal). j ++ first.later.added) new_board)))
+        (both_of_caller first.later.added second.later.added first.later.by_caller second.later.by_caller);
     regions = regions;
     number = (
       first.more,

@@ -42,7 +42,7 @@ pub record IsReport (workers : ℕ) (report : List ReportRow) : Type 0 where
 pub record AreOfCaller (players : List Player) (entries : Journal) : Type 0 where
   pub worker : AllByRecursion (λ e. e.worker ≡ 0) entries
   pub posted : Player → Bool
-  pub players : map (λ e. e.player) entries ≡ filter posted players
+  pub order : map (λ e. e.player) entries ≡ filter posted players
 
 -- so many vertices that were known and what the workers settled are a prefix of the journal. The calling thread's entries follow it: one for
 -- Even or none, and then one for Odd or none

@@ -33,7 +33,6 @@ fn post_last(alloc: Global, board: &mut Board<'_>, claim: &Claim) -> Result<(), 
 }
 
 /// Settles all that a copy has unsettled by the two claims of the recursion, each an entry of worker 0.
-#[tactic(auto, using(crate::proofs::Calling::both_later))]
 fn solve_rest(alloc: Global, board: &mut Board<'_>) -> Result<(), Memory>
     ensures full { OnOk result (IsFull board.new.graph (state_of board.new.journal)) }
     ensures later { OnOk result (IsLater (Even ∷ Odd ∷ []) board.old board.new) }
