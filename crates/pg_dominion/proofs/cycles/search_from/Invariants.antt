@@ -1,4 +1,4 @@
-use Rattle.pg_dominion.proofs.Common.{◌≡◌, ℕ, ◌<◌, ◌-◌, length, IsWorst}
+use Rattle.pg_dominion.proofs.Common.{ℕ, ◌<◌, ◌-◌, length, IsWorst}
 use Rattle.pg_dominion.specs.private.KeptEdges.{IsBounded}
 use Rattle.pg_dominion.specs.private.Searched.{AreSearches}
 use Rattle.pg_dominion.proofs.cycles.search_from.Given as goal

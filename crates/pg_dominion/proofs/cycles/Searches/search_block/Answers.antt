@@ -1,5 +1,5 @@
 use Rattle.pg_dominion.proofs.Common.{◌≡◌, ℕ, ◌<◌, sym, ◌∙◌, subst, arith, get_or_default, In, IsWorst}
-use Rattle.std.specs.Prelude.{slice_index, IsSome}
+use Rattle.std.specs.Prelude.{slice_index}
 use Rattle.pg_game.specs.VertexSet.{members}
 use Rattle.pg_dominion.proofs.Searching.{OnTop-from_reaches, not_below}
 use Rattle.pg_dominion.proofs.Starts.{none_before, none_more}
@@ -28,7 +28,7 @@ starts-preserved-then-is_alone c =
 
 pub returns-in_default-clause-found : goal.returns-in_default-clause-found
 returns-in_default-clause-found c =
-    let most = c.in_ok-found.ensures.given_up ? in
+    let most = c.in_ok-found.ensures.given_up c.in_default.is in
     (omega (arith, most, c.starts.invariant.bounded), before (goal.at.returns-in_default-clause-found c).After-is_alone)
 
 pub returns-then-leads_back-clause-found : goal.returns-then-leads_back-clause-found

@@ -1,4 +1,4 @@
-use Rattle.pg_dominion.proofs.Common.{◌≡◌, ℕ, ◌<◌, ◌≤◌, IsWorst}
+use Rattle.pg_dominion.proofs.Common.{ℕ, ◌<◌, ◌≤◌, IsWorst}
 use Rattle.std.specs.Prelude.{slice_index}
 use Rattle.pg_dominion.specs.private.Searched.{AreSearches, AreStarts}
 use Rattle.pg_dominion.proofs.cycles.Searches.search_block.Given as goal
