@@ -158,12 +158,7 @@ impl Searches {
 
 /// Searches from each bad vertex, from `from` on, until there are more repeats than the patience and about twice the edges at
 /// which searches started. The greatest number is a patience without end.
-fn search_from(
-    alloc: Global,
-    kept: &Kept,
-    from: u32,
-    patience: u64,
-) -> Result<Searched, AllocError>
+fn search_from(alloc: Global, kept: &Kept, from: u32, patience: u64) -> Result<Searched, AllocError>
     requires kept { IsKept kept.now }
     requires none { (v : ℕ) → v < from → IsWorst kept.now v → ⊥ }
     ensures { IfOk result (IsSearched kept.now patience) }
