@@ -103,7 +103,7 @@ struct Searches {
     search: Search,
     /// From which vertices of a block searches start.
     starts: Vec<u32>,
-    /// How many repeats there may be: what there were at first, and about twice the edges at which searches started.
+    /// How many repeats there may be: the patience, and about twice the edges at which searches started.
     most: u64,
 }
 
