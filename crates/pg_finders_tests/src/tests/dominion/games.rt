@@ -82,7 +82,7 @@ pub enum Hostile {
     /// Each of so many vertices leads to each, and vertex v has the priority `step * v`.
     Dense(u32, u32),
     /// A bad vertex that leads to a cycle of so many good ones, so many of which lead to the next but one, too; and behind it a
-    /// bad one of greater priority that leads there. Nothing leads to the bad ones.
+    /// bad one of greater priority that leads to 19 of them. Nothing leads to the bad ones.
     Chords(u32, u32),
 }
 
@@ -224,7 +224,8 @@ fn add_chords(rt: &impl Abort, alloc: Global, draft: &mut Draft, n: u32, more: u
         let next = next_on_cycle(rt, alloc, first, n, v, many);
         add(rt, alloc, draft, 0, ODD, next.as_slice());
     }
-    add(rt, alloc, draft, 3, ODD, &[first]);
+    let some = numbers(rt, alloc, first, first.saturating_add(19));
+    add(rt, alloc, draft, 3, ODD, some.as_slice());
 }
 
 /// One to 24 vertices with one to three random successors each.
