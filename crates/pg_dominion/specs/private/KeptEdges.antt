@@ -1,9 +1,13 @@
 -- The edges that are kept of a game, as the private code of the checks lays them out, and its searches along them (private).
-use Rattle.std.specs.Prelude.{ℕ, ◌≡◌, ◌≢◌, ◌≤◌, ◌<◌, ◌+◌, ◌⊎◌, List, length, slice_index}
+use Rattle.std.specs.Prelude.{ℕ, ◌≡◌, ◌≢◌, ◌≤◌, ◌<◌, ◌+◌, ◌-◌, ◌^◌, ◌⊎◌, List, length, slice_index}
 use Rattle.pg_game.specs.Graph.{priority_of}
 use Rattle.pg_game.specs.Walk.{Walk}
 use Rattle.pg_dominion.specs.declared.kept.Kept.{Kept}
 use Rattle.pg_dominion.specs.KeptEdges.{Edge}
+
+-- a number of steps after which a search is given up, and not the greatest, which has no end
+abbrev pub IsBounded : ℕ → Type 0
+IsBounded most = most < 2 ^ 64 - 1
 
 -- an edge to a vertex of at most this priority
 abbrev pub EdgeUnder : Kept → ℕ → ℕ → ℕ → Type 0

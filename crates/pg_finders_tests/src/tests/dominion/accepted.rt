@@ -110,3 +110,17 @@ fn a_ranking_is_accepted_of_each_game_behind_a_long_ladder(rt: HostRuntime) {
     let game = long_game(&rt, rt.alloc(), &mut parts);
     compare_parts(&rt, rt.alloc(), &game, parts.as_slice());
 }
+
+/// The least bad vertex of a long ladder with a turned level.
+fn compare_turned(rt: &impl Abort, alloc: Global, level: u32, want: u32) {
+    let game = Hostile::Ladder(150_000, Some(level)).game(rt, alloc);
+    let bad = odd_vertices(rt, alloc, &game);
+    check_eq!(*rt; worst(rt, alloc, &game, bad), Some(want));
+}
+
+#[test]
+fn a_ranking_is_accepted_of_a_long_ladder_with_a_turned_level(rt: HostRuntime) {
+    compare_turned(&rt, rt.alloc(), 0, 150_002);
+    compare_turned(&rt, rt.alloc(), 75_000, 300_002);
+    compare_turned(&rt, rt.alloc(), 149_999, 450_000);
+}
