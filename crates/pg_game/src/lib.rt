@@ -3,19 +3,20 @@
 #![tactic(auto)]
 
 mod adjacency;
-mod check;
 mod faults;
 mod flat;
+mod forward;
 mod game;
-mod hints;
-mod layout;
 mod limits;
-mod lookup;
+mod lines;
+mod made;
 mod mask;
 mod names;
 mod open;
 mod placed;
 mod player;
+mod rising;
+mod seeded;
 mod sequence;
 
 pub use flat::Specs;
