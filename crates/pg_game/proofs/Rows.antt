@@ -70,9 +70,8 @@ size-rows_of {os} {ts} c =
     let h = size-rising os ts (length os - 1) (omega arith) c.rising c.within in
     omega (arith, h, c.first, c.last (length os - 1) (omega arith))
 
-pub IsCompressed-push : {os ts : List ℕ} (xs : List ℕ) (e : ℕ) → IsCompressed os ts → e ≡ length ts + length xs → length os < 2 ^ 32 → e < 2 ^ 32 →
-    IsCompressed (os ++ e ∷ []) (ts ++ xs)
-IsCompressed-push {os} {ts} xs e c q small few = search (rules, length-append, get_or_append_left, last_of, get_or_push, below_or_last)
+pub IsCompressed-push : {os ts : List ℕ} (xs : List ℕ) (e : ℕ) → IsCompressed os ts → e ≡ length ts + length xs → IsCompressed (os ++ e ∷ []) (ts ++ xs)
+IsCompressed-push {os} {ts} xs e c q = search (rules, length-append, get_or_append_left, last_of, get_or_push, below_or_last)
 
 -- the two offsets of a row that are read, and the row
 pub row_bounds : {os ts : List ℕ} (v a b : ℕ) → IsCompressed os ts → v + 1 < length os → a ≡ get_or os v a → b ≡ get_or os (v + 1) b →

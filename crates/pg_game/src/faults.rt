@@ -7,7 +7,7 @@ ghost use Rattle.pg_game.specs.Specification.{first_without, different, edges, m
 use crate::Memory;
 use crate::flat::Specs;
 use crate::limits::MAX_EDGES;
-use crate::rising::put_rising;
+use crate::sorting::put_rising;
 use std::alloc::Global;
 
 impl Specs {

@@ -71,7 +71,12 @@ impl Specs {
     {
         let mut specs = Specs::with_capacity(alloc, list.len(), 0)?;
         'list: for spec in list {
-            specs.push(spec.id, spec.priority, spec.owner, spec.successors.as_slice())?;
+            specs.push(
+                spec.id,
+                spec.priority,
+                spec.owner,
+                spec.successors.as_slice(),
+            )?;
         }
         Ok(specs)
     }

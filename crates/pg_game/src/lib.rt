@@ -9,15 +9,15 @@ mod forward;
 mod game;
 mod limits;
 mod lines;
-mod made;
+mod making;
 mod mask;
 mod names;
 mod open;
 mod placed;
 mod player;
-mod rising;
 mod seeded;
 mod sequence;
+mod sorting;
 
 pub use flat::Specs;
 pub use game::{Game, GameFault, Spec};

@@ -23,6 +23,17 @@ fn numbered(alloc: Global, ids: &[u32]) -> Result<Vec<(u32, u32)>, Memory>
     Ok(lines)
 }
 
+/// The identifiers of the lines. `Memory` is its only error.
+pub fn identifiers_of(alloc: Global, lines: &[(u32, u32)]) -> Result<Vec<u32>, Memory>
+    ensures { IfOk result (λ ids. ids.items ≡ map (λ line. line.0) lines.now) }
+{
+    let mut ids = Vec::with_capacity(alloc, lines.len())?;
+    'lines: for line in lines {
+        ids.push(line.0)?;
+    }
+    Ok(ids)
+}
+
 impl Specs {
     /// A pair of each identifier and its line, by rising identifier. `Memory` is its only error.
     pub(crate) fn lines(&self, alloc: Global) -> Result<Vec<(u32, u32)>, Memory>

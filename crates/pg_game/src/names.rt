@@ -3,6 +3,7 @@
 ghost use Rattle.std.specs.Prelude.{◌≡◌, ◌<◌, ◌↔◌, ℕ, [], length, slice_index, nat_eq, None, IfOk, IfErr, IfSome, IfNone, IsTrue, OnOk};
 ghost use Rattle.std.specs.List.{IsDistinct};
 ghost use Rattle.pg_game.specs.Specification.{first_repeated, OrMemory};
+ghost use Rattle.pg_game.specs.declared.game.GameFault.TheVariants.{Memory};
 ghost use Rattle.pg_game.specs.private.Identifiers.{twice_of};
 ghost use Rattle.pg_game.specs.private.Names.{AreNames, AreOwnPlaces};
 

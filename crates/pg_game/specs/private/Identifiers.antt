@@ -18,8 +18,8 @@ priorities_of specs = map (λ s. s.priority) specs
 abbrev pub owners_of : List Spec → List Player
 owners_of specs = map (λ s. s.owner) specs
 
-abbrev pub successors_of : List Spec → List (List ℕ)
-successors_of specs = map (λ s. s.successors) specs
+abbrev pub successor_lists : List Spec → List (List ℕ)
+successor_lists specs = map (λ s. s.successors) specs
 
 -- the fault of an identifier that stands twice
 abbrev pub twice_of : List ℕ → Option GameFault

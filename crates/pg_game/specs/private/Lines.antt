@@ -1,6 +1,6 @@
 -- The lines of specifications, by rising identifier.
-use Rattle.std.specs.Prelude.{ℕ, ◌≡◌, ◌<◌, List, length, map, slice_index, slice_index_or}
-use Rattle.std.specs.List.Sorted.{IsPermutation, IsNonDecreasing}
+use Rattle.std.specs.Prelude.{ℕ, ◌≡◌, ◌<◌, List, length, slice_index, slice_index_or}
+use Rattle.std.specs.List.Sorted.{IsPermutation, IsNonDecreasingBy}
 
 -- pairs of each identifier and its line, in any order
 pub record ArePaired (ids : List ℕ) (lines : List (ℕ × ℕ)) : Type 0 where
@@ -11,4 +11,4 @@ pub record ArePaired (ids : List ℕ) (lines : List (ℕ × ℕ)) : Type 0 where
 
 pub record AreLines (ids : List ℕ) (lines : List (ℕ × ℕ)) : Type 0 where
   pub paired : ArePaired ids lines
-  pub rising : IsNonDecreasing (map (λ line. line.0) lines)
+  pub rising : IsNonDecreasingBy (λ line. line.0) lines
