@@ -29,8 +29,8 @@ module _ {ids ps : List ℕ} {os : List Player} {rows : List (List ℕ)} (a : Ar
       ∙ unknown_here ss v s m (sym (taken.spec_is a is v s m)) i (sym (outside_is ss names (row_at rows v) moved) ∙ e)
 
   -- where each identifier has a place, each successor is specified
-  pub all_known : {new : List (List ℕ)} → ((v : ℕ) → v < length rows → AreNamed names (row_at rows v) (row_at new v)) → first_unknown ss ss ≡ None
-  all_known {new} each = none_unknown ss ss (λ s (v, l, e) i m.
+  pub all_known : (new : List (List ℕ)) → ((v : ℕ) → v < length rows → AreNamed names (row_at rows v) (row_at new v)) → first_unknown ss ss ≡ None
+  all_known new each = none_unknown ss ss (λ s (v, l, e) i m.
       let row : s.successors ≡ row_at rows v = sym (ap (λ (t : Spec). t.successors) e) ∙ row_of v s l in
       let k = subst (λ (xs : List ℕ). Contains xs i) row m in
       let p = (each v (omega (arith, l, n))).each k.0 k.1 in
@@ -39,14 +39,14 @@ module _ {ids ps : List ℕ} {os : List Player} {rows : List (List ℕ)} (a : Ar
       let in_names : Contains names i = (w, p.0, get_or_default names w i 0 p.0 ∙ at) in
       to_specified ss i (Contains-permutation names (ids_of ss) i (IsPermutation-sym (ids_of ss) names moved) in_names))
 
-  pub parts_placed : {new : List (List ℕ)} → length new ≡ length rows → AreParts ids ps os new
-  parts_placed e = record { priorities = a.priorities; owners = a.owners; successors = e ∙ a.successors }
+  pub parts_placed : (new : List (List ℕ)) → length new ≡ length rows → AreParts ids ps os new
+  parts_placed new e = record { priorities = a.priorities; owners = a.owners; successors = e ∙ a.successors }
 
-  pub placed_specs : {new risen : List (List ℕ)} → length risen ≡ length rows →
+  pub placed_specs : (new risen : List (List ℕ)) → length risen ≡ length rows →
       ((v : ℕ) → v < length rows → AreNamed names (row_at rows v) (row_at new v)) → ((v : ℕ) → v < length rows → IsStrictlyIncreasing (row_at risen v)) →
       ((v w : ℕ) → v < length rows → Contains (row_at new v) w ↔ Contains (row_at risen v) w) → ArePlacedSpecs names ss (specs_from ids ps os risen)
-  placed_specs {new} {risen} size each up same =
-      let b : AreParts ids ps os risen = parts_placed size in
+  placed_specs new risen size each up same =
+      let b : AreParts ids ps os risen = parts_placed risen size in
       record {
         size = taken.length_specs b ∙ sym (taken.length_is a is);
         each = λ v d l.
@@ -55,8 +55,8 @@ module _ {ids ps : List ℕ} {os : List Player} {rows : List (List ℕ)} (a : Ar
             record { id = refl; priority = refl; owner = refl; successors = all_places (each v k) (up v k) (λ w. same v w k) });
       }
 
-pub few_edges : {b : Bool} {specs : List Spec} → (IsTrue b ↔ (max_edges < edges specs)) → b ≡ false → edges specs ≤ max_edges
-few_edges {b} {specs} h f = elim (cases_lt max_edges (edges specs)) [
+pub few_edges : (b : Bool) (specs : List Spec) → (IsTrue b ↔ (max_edges < edges specs)) → b ≡ false → edges specs ≤ max_edges
+few_edges b specs h f = elim (cases_lt max_edges (edges specs)) [
   | inl l ↦ absurd (let t : b ≡ true = h.1 l in cc (t, f))
   | inr l ↦ l
 ]

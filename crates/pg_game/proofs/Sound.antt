@@ -1,5 +1,5 @@
 -- Specifications without fault, test by test.
-use Rattle.pg_game.proofs.Common.{◌≡◌, ℕ, zero, suc, ◌+◌, ◌∙◌, ap, drop, get_or, drop_more, ◌==◌, ◌<◌, ◌≤◌, Bool, true, false, ◌⊎◌, inl, inr, List, [], ◌∷◌, length, refl, sym, subst, arith, rules, Option}
+use Rattle.pg_game.proofs.Common.{◌≡◌, ℕ, zero, suc, ◌+◌, ◌∙◌, ap, drop, get_or, drop_more, ◌==◌, false_from_ne_true, eqb-true, ◌<◌, ◌≤◌, Bool, true, false, ◌⊎◌, inl, inr, List, [], ◌∷◌, length, refl, sym, subst, arith, rules, Option}
 use Rattle.pg_game.proofs.Common.{Some, None, if◌then◌else◌, nat_lt, Contains, ltb-false, le-ltb, lt-ltb, not-false, Spec, GameFault, first_fault, fault_or}
 use Rattle.pg_game.proofs.Common.{first_repeated, first_without, first_unknown, first_unspecified, IsSpecified, edges, max_vertices, max_edges, ids_of, rows_fault}
 use Rattle.std.specs.Prelude.{not, find}
@@ -131,7 +131,7 @@ module _ (specs : List Spec) (k : ℕ) (s : Spec) (l : k < length specs) (is : s
 
 pub empty_is : {X : Type 0} (xs : List X) → is_empty xs ≡ (length xs == 0)
 empty_is [] = refl
-empty_is (x ∷ xs) = refl
+empty_is (x ∷ xs) = sym (false_from_ne_true (length (x ∷ xs) == 0) (λ t. let z = eqb-true (length (x ∷ xs)) 0 t in omega (arith, z)))
 
 pub empty_fault : (specs : List Spec) → length specs ≡ 0 → first_fault specs ≡ Some NoVertex
 empty_fault [] e = refl
@@ -139,3 +139,7 @@ empty_fault (s ∷ specs) e = absurd (omega (arith, e))
 
 pub many_fault : (specs : List Spec) → max_vertices < length specs → first_fault specs ≡ Some TooManyVertices
 many_fault specs l = rw (not_empty specs (omega (arith, l)), lt-ltb max_vertices (length specs) l) refl
+
+pub some_of : (n : ℕ) → false ≡ (n == 0) → 0 < n
+some_of zero e = absurd (cc e)
+some_of (suc n) e = omega arith

@@ -4,10 +4,11 @@ use Rattle.pg_game.proofs.Ordered.{named, named_moves, named_rise}
 use Rattle.pg_game.proofs.Taken.{length_is, ids_is}
 use Rattle.pg_game.proofs.flat.Specs.names.Goals as goal
 
-pub check_once-requires : goal.check_once-requires
-check_once-requires c =
-    rw (c.as_slice.ensures.value, c.in_ok-ids.ensures)
-    record { moved = named_moves c.requires.lines.paired; sorted = named_rise c.args.lines.now c.requires.lines.rising }
+pub check_once-requires-clause-moved : goal.check_once-requires-clause-moved
+check_once-requires-clause-moved c = rw (c.as_slice.ensures.value, c.in_ok-ids.ensures) (named_moves c.requires.lines.paired)
+
+pub check_once-requires-clause-sorted : goal.check_once-requires-clause-sorted
+check_once-requires-clause-sorted c = rw (c.as_slice.ensures.value, c.in_ok-ids.ensures) (named_rise c.args.lines.now c.requires.lines.rising)
 
 pub of_rising-requires : goal.of_rising-requires
 of_rising-requires c =
