@@ -1,5 +1,5 @@
 -- Rows by places, and the game of specifications by rising identifier.
-use Rattle.pg_game.proofs.Common.{◌≡◌, ℕ, suc, ◌+◌, ◌<◌, true, false, inl, inr, List, [], ◌∷◌, length, map, get_or, refl, sym, ◌∙◌, ap, subst, arith, All, None}
+use Rattle.pg_game.proofs.Common.{◌≡◌, ℕ, suc, ◌+◌, ◌<◌, false, inl, inr, List, [], ◌∷◌, length, map, get_or, refl, sym, ◌∙◌, ap, subst, arith, All, None}
 use Rattle.pg_game.proofs.Common.{◌==◌, ◌↔◌, Contains, list_any, IsStrictlyIncreasing, IsPermutation, false_from_ne_true, length-map, get_or-map, ext_get_or}
 use Rattle.pg_game.proofs.Common.{Contains-get_or, sum_by-cons, Spec, IsGame, AreNumbers, IsGameOf, first_fault, first_repeated, edges, different, priorities_of}
 use Rattle.pg_game.proofs.Common.{owners_of, ids_of, successor_lists, ArePlaces, row_at, size_of, graph_of, IsStored, AreAllPlaces, ArePlacedSpecs}

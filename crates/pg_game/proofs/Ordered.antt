@@ -1,5 +1,5 @@
 -- Specifications, picked by their lines.
-use Rattle.pg_game.proofs.Common.{◌≡◌, ℕ, ◌<◌, List, [], length, map, get_or, refl, sym, ◌∙◌, ap, subst, arith, rules, All, All-permutation, IsPermutation, length-map}
+use Rattle.pg_game.proofs.Common.{◌≡◌, ℕ, ◌<◌, List, length, map, get_or, refl, sym, ◌∙◌, ap, subst, arith, All, All-permutation, IsPermutation, length-map}
 use Rattle.pg_game.proofs.Common.{get_or-map, ext_get_or, IsPermutation-map, Spec, ids_of, ArePaired, ArePlacedSpecs}
 use Rattle.std.specs.List.Sorted.{IsNonDecreasing, IsNonDecreasingBy}
 

@@ -1,5 +1,5 @@
 -- Rows between offsets: how many, each one, and one more.
-use Rattle.pg_game.proofs.Common.{◌≡◌, ℕ, zero, suc, ◌+◌, ◌-◌, ◌<◌, ◌≤◌, ◌⊎◌, inl, inr, List, [], ◌∷◌, ◌++◌, length, take, drop, get_or, ◌^◌}
+use Rattle.pg_game.proofs.Common.{◌≡◌, ℕ, zero, suc, ◌+◌, ◌-◌, ◌<◌, ◌≤◌, ◌⊎◌, inl, inr, List, [], ◌∷◌, ◌++◌, length, take, drop, get_or}
 use Rattle.pg_game.proofs.Common.{arith, length-append, add-one, rules, slice_range, ext_get_or, get_or_append_left, get_or_push, get_or_default}
 use Rattle.pg_game.proofs.Common.{refl, sym, ap, subst, ◌∙◌, length-take-le, sum_by-cons, take-length, rows_of, IsCompressed, size_of}
 use Rattle.std.proofs.lemmas.List.{take-append-le, drop-append-le, length-drop}

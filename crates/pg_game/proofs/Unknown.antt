@@ -1,5 +1,5 @@
 -- The first successor that is not specified, one specification after another.
-use Rattle.pg_game.proofs.Common.{◌≡◌, ℕ, zero, suc, add-one, ◌+◌, ◌<◌, ◌≤◌, true, List, [], ◌∷◌, arith, Even, IsPermutation, get_or_default, length, drop, get_or, refl, sym, ◌∙◌, ap, nat_eq, rules, Some, None, Contains}
+use Rattle.pg_game.proofs.Common.{◌≡◌, ℕ, zero, suc, add-one, ◌+◌, ◌<◌, ◌≤◌, true, List, [], ◌∷◌, arith, Even, IsPermutation, get_or_default, length, drop, get_or, refl, sym, ◌∙◌, ap, nat_eq, Some, None, Contains}
 use Rattle.pg_game.proofs.Common.{list_any, eqb-true, drop_more, Spec, IsSpecified, first_unspecified, first_unknown, ids_of, first_outside}
 use Rattle.std.specs.Cmp.{nat_eq_equiv}
 use Rattle.std.proofs.lemmas.Map.Views.{Contains-from_any, list_any-from_Contains}

@@ -1,5 +1,5 @@
 -- Specifications, one part of each; places of identifiers in a list of them.
-use Rattle.std.specs.Prelude.{ℕ, ◌<◌, ◌≤◌, ◌↔◌, List, [], ◌∷◌, length, map, find, not, nat_eq, Option, None, slice_index}
+use Rattle.std.specs.Prelude.{ℕ, ◌<◌, ◌≤◌, ◌↔◌, List, [], length, map, find, not, nat_eq, Option, None, slice_index}
 use Rattle.std.specs.Prelude.{Contains, Some, if◌then◌else◌, nat_lt}
 use Rattle.std.specs.List.{list_any}
 use Rattle.std.specs.List.Sorted.{IsStrictlyIncreasing}

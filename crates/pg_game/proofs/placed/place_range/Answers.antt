@@ -1,4 +1,4 @@
-use Rattle.pg_game.proofs.Common.{◌≡◌, ◌<◌, ◌≤◌, inr, length, get_or, sym, ◌∙◌, ap, arith, length-set, get_or_read, rules}
+use Rattle.pg_game.proofs.Common.{◌≡◌, ◌<◌, inr, length, get_or, sym, ◌∙◌, arith, length-set, get_or_read}
 use Rattle.pg_game.proofs.Places.{among, not_among}
 use Rattle.pg_game.proofs.Naming.{outside_here, outside_later, named_more}
 use Rattle.pg_game.proofs.placed.place_range.Goals as goal

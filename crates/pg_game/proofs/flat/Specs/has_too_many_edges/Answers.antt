@@ -1,4 +1,4 @@
-use Rattle.pg_game.proofs.Common.{◌≡◌, ◌+◌, ◌<◌, ◌≤◌, [], length, get_or, sym, ◌∙◌, ap, arith, rules, List, ℕ, Spec, different, edges, max_edges, drop_of_length-le, refl, size_of}
+use Rattle.pg_game.proofs.Common.{◌<◌, ◌≤◌, length, sym, ap, arith, List, ℕ, Spec, different, edges, drop_of_length-le, refl, size_of}
 use Rattle.pg_game.proofs.Different.{different_is}
 use Rattle.pg_game.proofs.Sums.{edges_more, edges_most}
 use Rattle.pg_game.proofs.Taken.{length_is, lists_is, spec_is, spec_in}

@@ -1,9 +1,9 @@
-use Rattle.pg_game.proofs.Common.{◌≡◌, ℕ, List, [], ◌^◌, ◌<◌, length, refl, sym, ◌∙◌, subst, arith, rules, None, IsStrictlyIncreasing, IsPermutation-refl, length-map}
-use Rattle.pg_game.proofs.Common.{ids_of, first_fault, first_repeated, rows_fault, IsGame, IsGameOf, graph_of, priorities_of, owners_of, successor_lists, IsStored, Spec, max_vertices, ◌≤◌}
+use Rattle.pg_game.proofs.Common.{◌≡◌, List, [], ◌<◌, length, refl, sym, ◌∙◌, arith, rules, IsStrictlyIncreasing, IsPermutation-refl, length-map}
+use Rattle.pg_game.proofs.Common.{ids_of, first_fault, rows_fault, Spec, max_vertices, ◌≤◌}
 use Rattle.pg_game.proofs.Members.{Contains-nil}
 use Rattle.pg_game.proofs.NoMemory.{passed_on, memory_fine}
 use Rattle.pg_game.proofs.Laid.{none_repeated, placed_stored, placed_game}
-use Rattle.pg_game.proofs.Sound.{AreListed, listed_fault}
+use Rattle.pg_game.proofs.Sound.{listed_fault}
 use Rattle.pg_game.proofs.Taken.{ids_is}
 use Rattle.pg_game.proofs.flat.Specs.in_order.Goals as goal
 

@@ -1,4 +1,4 @@
-use Rattle.pg_game.proofs.Common.{◌≡◌, ◌<◌, ◌≤◌, length, arith, rules, sym, ◌∙◌, subst, ℕ, List, IsStrictlyIncreasing}
+use Rattle.pg_game.proofs.Common.{arith, rules}
 use Rattle.pg_game.proofs.Sound.{empty_fault, many_fault, some_of}
 use Rattle.pg_game.proofs.Taken.{length_is, ids_is}
 use Rattle.pg_game.proofs.flat.Specs.into_game.Goals as goal
@@ -18,7 +18,6 @@ in_order-requires-clause-some c =
 
 pub in_order-requires-clause-few : goal.in_order-requires-clause-few
 in_order-requires-clause-few c = omega (arith, length_is c.self.invariant c.self.view_is, c.if-len-gt-MAX_VERTICES.false, c.len.ensures)
-
 
 pub sorted-requires-clause-some : goal.sorted-requires-clause-some
 sorted-requires-clause-some c =

@@ -1,4 +1,4 @@
-use Rattle.pg_game.proofs.Common.{◌≡◌, ℕ, length, rules, arith, ap, sym, ◌∙◌, List}
+use Rattle.pg_game.proofs.Common.{◌≡◌, ℕ, length, rules, arith, ap, List}
 use Rattle.std.proofs.lemmas.List.Sorted.{IsNonDecreasingBy-from_sort_by_key}
 use Rattle.pg_game.proofs.Taken.{length_is, ids_is}
 use Rattle.pg_game.proofs.flat.Specs.lines.Goals as goal

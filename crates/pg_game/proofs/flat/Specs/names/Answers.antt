@@ -1,7 +1,6 @@
-use Rattle.pg_game.proofs.Common.{◌≡◌, ℕ, List, [], ◌^◌, ◌<◌, length, map, ap, sym, ◌∙◌, subst, arith, rules, IsStrictlyIncreasing, length-map, length_permutation, first_repeated}
+use Rattle.pg_game.proofs.Common.{arith, rules, length-map, length_permutation}
 use Rattle.pg_game.proofs.NoMemory.{passed_on, all_memory, on_any}
-use Rattle.pg_game.proofs.Ordered.{named, named_moves, named_rise}
-use Rattle.pg_game.proofs.Taken.{length_is, ids_is}
+use Rattle.pg_game.proofs.Ordered.{named_moves, named_rise}
 use Rattle.pg_game.proofs.flat.Specs.names.Goals as goal
 
 pub check_once-requires-clause-moved : goal.check_once-requires-clause-moved

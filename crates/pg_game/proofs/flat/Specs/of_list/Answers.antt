@@ -1,4 +1,4 @@
-use Rattle.pg_game.proofs.Common.{◌≡◌, rules, take_more, take_all, get_or_default}
+use Rattle.pg_game.proofs.Common.{rules, take_more}
 use Rattle.pg_game.proofs.flat.Specs.of_list.Goals as goal
 
 pub list-preserved : goal.list-preserved

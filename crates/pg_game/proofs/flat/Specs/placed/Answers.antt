@@ -1,4 +1,4 @@
-use Rattle.pg_game.proofs.Common.{◌≡◌, ◌<◌, ◌^◌, ◌≤◌, length, sym, ◌∙◌, arith, None, get_or_read, edges, max_edges, first_without}
+use Rattle.pg_game.proofs.Common.{◌≤◌, sym, ◌∙◌, arith, get_or_read, edges, max_edges}
 use Rattle.pg_game.proofs.Sound.{without_named, edges_named, unknown_named, rows_sound}
 use Rattle.pg_game.proofs.Placing.{unknown_at, all_known, parts_placed, placed_specs, few_edges}
 use Rattle.pg_game.proofs.Taken.{length_is}

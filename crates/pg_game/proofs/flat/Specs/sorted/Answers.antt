@@ -1,10 +1,10 @@
-use Rattle.pg_game.proofs.Common.{◌≡◌, ℕ, List, ◌<◌, ◌≤◌, length, get_or, refl, sym, ◌∙◌, subst, arith, rules, None, IsStrictlyIncreasing, IsPermutation}
-use Rattle.pg_game.proofs.Common.{Spec, ids_of, first_fault, rows_fault, max_vertices, AreLines, ArePlacedSpecs, length-map}
+use Rattle.pg_game.proofs.Common.{◌≡◌, ◌∙◌, arith, rules}
+use Rattle.pg_game.proofs.Common.{Spec, first_fault, rows_fault, length-map}
 use Rattle.pg_game.proofs.NoMemory.{passed_on}
 use Rattle.pg_game.proofs.Made.{no_spec}
 use Rattle.pg_game.proofs.Laid.{placed_stored, placed_game}
-use Rattle.pg_game.proofs.Ordered.{named, named_moves, lines_fit, specs_move, picked_ids, picked_placed}
-use Rattle.pg_game.proofs.Sound.{AreListed, listed_fault}
+use Rattle.pg_game.proofs.Ordered.{named_moves, lines_fit, specs_move, picked_ids, picked_placed}
+use Rattle.pg_game.proofs.Sound.{listed_fault}
 use Rattle.pg_game.proofs.flat.Specs.sorted.Goals as goal
 
 pub names-requires-clause-lines : goal.names-requires-clause-lines

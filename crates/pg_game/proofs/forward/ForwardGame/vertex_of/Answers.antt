@@ -1,4 +1,4 @@
-use Rattle.pg_game.proofs.Common.{sym, ◌∙◌, arith, rules}
+use Rattle.pg_game.proofs.Common.{rules}
 use Rattle.pg_game.proofs.Parts.{length_is, id_is}
 use Rattle.pg_game.proofs.forward.ForwardGame.vertex_of.Goals as goal
 
