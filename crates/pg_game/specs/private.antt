@@ -7,6 +7,6 @@ pub mod Identifiers
 pub mod Rows
 pub mod Described
 pub mod Names
-pub mod Flat
+pub mod Lines
 pub mod Placed
 pub mod Opened

@@ -3,20 +3,21 @@
 #![tactic(auto)]
 
 mod adjacency;
-mod check;
 mod faults;
 mod flat;
+mod forward;
 mod game;
-mod hints;
-mod layout;
 mod limits;
-mod lookup;
+mod lines;
+mod making;
 mod mask;
 mod names;
 mod open;
 mod placed;
 mod player;
+mod seeded;
 mod sequence;
+mod sorting;
 
 pub use flat::Specs;
 pub use game::{Game, GameFault, Spec};

@@ -166,7 +166,7 @@ impl<'a> Arrays<'a> {
         ensures numbers { IfOk result (λ specs. All AreNumbers specs) }
     {
         let n = self.owners.len();
-        let mut specs = Specs::with_capacity(alloc, n as u32, self.starts[n])?;
+        let mut specs = Specs::with_capacity(alloc, n, self.starts[n] as usize)?;
         for v in 0..n {
             specs.push(v as u32, self.priorities[v], self.owner(v), self.row(v))?;
         }

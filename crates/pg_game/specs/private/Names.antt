@@ -12,7 +12,7 @@ AreOwnPlaces ids = (v : ℕ) → v < length ids → slice_index ids v ≡ v
 -- the identifiers that a game keeps
 abbrev pub names_of : Kind → List ℕ
 names_of (Own count) = range_with_len 0 count
-names_of (Listed ids) = ids.items
+names_of (Listed ids) = ids.keys
 
 -- they rise, and their number is one that a vertex may have
 pub record AreNames (ids : List ℕ) : Type 0 where
