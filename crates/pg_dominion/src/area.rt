@@ -142,7 +142,7 @@ fn reach<A: Area>(
     Ok(())
 }
 
-/// Takes all that the player attracts to what is listed, where what stands before the place attracts nothing. Else `Memory`.
+/// Takes all that the player attracts to what is listed, where what is before the place attracts nothing. Else `Memory`.
 pub fn attract_from<A: Area>(
     area: &mut A,
     game: &Game,

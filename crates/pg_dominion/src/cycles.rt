@@ -78,7 +78,7 @@ fn first_bad(kept: &Kept, from: u32) -> Option<u32>
 /// How many vertices are looked through at a time for those from which searches start.
 const BLOCK: u32 = 1024;
 
-/// Lists the bad vertices of a range, rising, at the front of the list, and tells how many there are. Each vertex is written, and
+/// Lists the bad vertices of a range, rising, at the front of the list, and returns how many there are. Each vertex is written, and
 /// counts where it is bad: no branch depends on that, since no processor foretells it.
 fn list_bad(kept: &Kept, from: u32, to: u32, starts: &mut Vec<u32>) -> usize
     requires kept { IsKept kept.now }

@@ -12,7 +12,7 @@ ghost use Rattle.pg_dominion.specs.private.Ranking.{AreEnds, IsJudged, IsRankedR
 use crate::kept::Kept;
 use std::alloc::{AllocError, Global};
 
-/// Places of vertices, a key for each place, and the least bad vertex that they may leave open. A number behind the last key
+/// Places of vertices, a key for each place, and the least bad vertex that they may leave open. A number after the last key
 /// is no place.
 #[derive(Drop)]
 pub struct Ranking {

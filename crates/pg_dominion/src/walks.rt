@@ -45,7 +45,7 @@ impl Labels {
 
 /// The tables of one search after another.
 pub struct Search {
-    /// What was reached, from the start on, and where a vertex stands in it, if it does.
+    /// What was reached, from the start on, and where a vertex is in it, if it does.
     pub queue: Vec<u32>,
     pub places: Vec<u32>,
     /// The least place that was reached twice.
@@ -70,7 +70,7 @@ impl Search {
     pub fn new(alloc: Global, kept: &Kept) -> Result<Search, AllocError>
         ensures { IfOk result (λ s. length s.places.items ≡ length kept.now.game.now) }
     {
-        // The queue has room for all vertices, so that it leaves no small blocks behind, which the allocator would keep, and what
+        // The queue has capacity for all vertices, so that it leaves no small blocks, which the allocator would keep, and what
         // lies below them with them.
         let n = kept.game.len();
         Ok(Search {

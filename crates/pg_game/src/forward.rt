@@ -9,7 +9,7 @@ use crate::names::Names;
 use crate::player::Player;
 use std::marker::Model;
 
-/// A game without its predecessors. Vertices are numbered by rising identifier, and successors stand in compressed rows.
+/// A game without its predecessors. Vertices are numbered by rising identifier, and successors are in compressed rows.
 #[derive(Drop)]
 pub struct ForwardGame {
     pub names: Names,

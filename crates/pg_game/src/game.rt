@@ -1,5 +1,5 @@
 //! Parity games (PGSolver manual): what specifies one, why a specification is refused, and the game with its look-ups.
-//! Vertices are numbered by rising identifier. Successors and predecessors stand in compressed rows.
+//! Vertices are numbered by rising identifier. Successors and predecessors are in compressed rows.
 
 ghost use Rattle.std.specs.Prelude.{◌≡◌, ◌<◌, ◌^◌, ◌↔◌, ℕ, length, slice_index, IfOk, IsTrue, IfErr, IfSome, IfNone, All, Some, None};
 ghost use Rattle.pg_game.specs.Predecessors.{ArePredecessors};
@@ -34,7 +34,7 @@ pub enum GameFault {
     /// The list has more than 1,048,576 specifications.
     #[error("too many vertices")]
     TooManyVertices,
-    /// The first identifier that stands earlier in the list.
+    /// The first identifier that is earlier in the list.
     #[error("vertex {0}: specified twice")]
     Twice(u32),
     /// The first specification without a successor.

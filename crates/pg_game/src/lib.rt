@@ -1,5 +1,5 @@
 //! Parity games and sets of their vertices, in the terms of the PGSolver manual.
-//! A game is made from specifications, and stands in compressed rows in both directions.
+//! A game is made from specifications, and is in compressed rows in both directions.
 #![tactic(auto)]
 
 mod adjacency;

@@ -68,7 +68,7 @@ impl Specs {
     }
 
     /// Whether no identifier is repeated, by the identifiers in order: then these rise. Refused by the first identifier
-    /// that stands earlier in the list, or by `Memory`.
+    /// that is earlier in the list, or by `Memory`.
     fn check_once(&self, alloc: Global, sorted: &[u32]) -> Result<(), GameFault>
         requires moved { IsPermutation (ids_of self.now) sorted.now }
         requires sorted { IsNonDecreasing sorted.now }
@@ -83,7 +83,7 @@ impl Specs {
         Ok(())
     }
 
-    /// The identifiers of the lines. Refused by the first identifier that stands earlier in the list, or by `Memory`.
+    /// The identifiers of the lines. Refused by the first identifier that is earlier in the list, or by `Memory`.
     fn names(&self, alloc: Global, lines: &[(u32, u32)]) -> Result<Names, GameFault>
         requires few { length self.now ≤ max_vertices }
         requires lines { AreLines (ids_of self.now) lines.now }

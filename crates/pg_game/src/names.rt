@@ -38,7 +38,7 @@ impl Model for Names {
     ghost invariant = { λ n. AreNames (names_of n.kind) };
 }
 
-/// Whether each identifier stands at the place that is its own number.
+/// Whether each identifier is at the place that is its own number.
 pub fn are_own_places(ids: &[u32]) -> bool
     ensures { IsTrue result → AreOwnPlaces ids.now }
 {
@@ -50,7 +50,7 @@ pub fn are_own_places(ids: &[u32]) -> bool
     true
 }
 
-/// The identifiers in their order. Refused where one stands earlier in the list, and where memory is out.
+/// The identifiers in their order. Refused where one is earlier in the list, and where memory is out.
 pub fn identifiers(alloc: Global, ids: &[u32]) -> Result<IndexSet<u32, Seeded>, GameFault>
     ensures ids { IfOk result (λ set. set.keys ≡ ids.now) }
     ensures distinct { IfOk result (λ set. IsDistinct nat_eq set.keys) }
@@ -95,7 +95,7 @@ impl Names {
         }
     }
 
-    /// The identifier that stands there.
+    /// The identifier that is there.
     #[inline]
     pub fn id(&self, v: u32) -> u32
         requires { v < length self.now }
@@ -122,7 +122,7 @@ impl Names {
         true
     }
 
-    /// Where the identifier stands, or none.
+    /// Where the identifier is, or none.
     #[inline(always)]
     pub fn place_of(&self, id: u32) -> Option<u32>
         ensures found { IfSome result (λ v. (v < length self.now) × (slice_index self.now v ≡ id)) }

@@ -1,4 +1,4 @@
-//! Specifications in the making. The successors of the one that is open stand behind those of the others, so that each is
+//! Specifications in the making. The successors of the one that is open follow those of the others, so that each is
 //! written once, and its row begins to count where it is closed.
 
 ghost use Rattle.std.specs.Prelude.{◌≡◌, ◌++◌, ◌∷◌, [], IfOk, OnOk, OnErr};
@@ -33,7 +33,7 @@ impl Model for OpenSpecs {
 }
 
 impl OpenSpecs {
-    /// None, and no successor. `Memory` is its one refusal.
+    /// None, and no successor. The only error is `Memory`.
     pub fn new(alloc: Global) -> Result<OpenSpecs, Memory>
         ensures specs { IfOk result (λ s. s.specs ≡ []) }
         ensures successors { IfOk result (λ s. s.successors ≡ []) }
@@ -50,7 +50,7 @@ impl OpenSpecs {
         })
     }
 
-    /// Adds a successor of the one that is open. `Memory` is its one refusal.
+    /// Adds a successor of the one that is open. The only error is `Memory`.
     #[inline]
     pub fn push(&mut self, successor: u32) -> Result<(), Memory>
         ensures specs { self.new.specs ≡ self.old.specs }

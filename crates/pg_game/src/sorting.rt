@@ -30,7 +30,7 @@ fn make_rising(numbers: &mut Vec<u32>)
     numbers.dedup();
 }
 
-/// Puts a number behind the list where it is not the last one. `Memory` is its only error.
+/// Puts a number after the list where it is not the last one. `Memory` is its only error.
 #[inline]
 fn push_unless_last(numbers: &mut Vec<u32>, number: u32) -> Result<(), Memory>
     ensures { OnOk result ((x : ℕ) → Contains numbers.new.items x ↔ (Contains numbers.old.items x ⊎ (x ≡ number))) }

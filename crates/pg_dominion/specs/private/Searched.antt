@@ -1,4 +1,4 @@
--- What searches from one bad vertex after another tell.
+-- What searches from one bad vertex after another find.
 use Rattle.std.specs.Prelude.{ℕ, ◌≡◌, ◌<◌, ◌≤◌, List, length, slice_index, MatchOption}
 use Rattle.pg_game.specs.Least.{NoneHas, IsLeast}
 use Rattle.pg_game.specs.VertexSet.{In, members}
@@ -23,7 +23,7 @@ pub record AreStarts (k : Kept) (from to : ℕ) (starts : List ℕ) (count : ℕ
   pub rising : (i j : ℕ) → i < j → j < count → slice_index starts i < slice_index starts j
   pub all : (v : ℕ) → from ≤ v → v < to → In (members k.bad) v → (i : ℕ) × (i < count) × (slice_index starts i ≡ v)
 
--- tables for searches from the bad vertices, with room for the starts of a block
+-- tables for searches from the bad vertices, with capacity for the starts of a block
 pub record AreSearches (k : Kept) (s : Searches) : Type 0 where
   pub labels : AreLabelled k s.labels.levels.items s.labels.groups.items
   pub places : length s.search.places.items ≡ length k.game.now

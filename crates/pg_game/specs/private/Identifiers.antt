@@ -21,7 +21,7 @@ owners_of specs = map (λ s. s.owner) specs
 abbrev pub successor_lists : List Spec → List (List ℕ)
 successor_lists specs = map (λ s. s.successors) specs
 
--- the fault of an identifier that stands twice
+-- the fault of an identifier that occurs twice
 abbrev pub twice_of : List ℕ → Option GameFault
 twice_of ids = fault_or (λ i. Twice i) (first_repeated [] ids) None
 

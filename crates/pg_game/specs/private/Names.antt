@@ -5,7 +5,7 @@ use Rattle.std.specs.List.Sorted.{IsStrictlyIncreasing}
 use Rattle.pg_game.specs.declared.names.Kind.{Kind}
 use Rattle.pg_game.specs.declared.names.Kind.TheVariants.{Own, Listed}
 
--- each number stands at the place that is its own
+-- each number is at the place that is its own
 abbrev pub AreOwnPlaces : List ℕ → Type 0
 AreOwnPlaces ids = (v : ℕ) → v < length ids → slice_index ids v ≡ v
 
