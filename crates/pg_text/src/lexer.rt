@@ -256,6 +256,13 @@ pub fn next_token(text: &[u8], at: usize) -> Piece
     ensures order { result.from ≤ result.to }
     ensures within { result.to ≤ length text.now }
 {
+    if let Some(n) = number_near(text, at) {
+        return Piece {
+            kind: Kind::Number(Some(n.value)),
+            from: n.from,
+            to: n.to,
+        };
+    }
     let from = blanks_end(text, at);
     if from >= text.len() {
         return Piece {
