@@ -60,9 +60,9 @@ pub fn take_solution(
     ensures rows { IfOk result (λ s. IsSolutionTextOf game.now text.items s.rows) }
     ensures fault { IfErr result (λ e. IsSolutionFaultOf game.now text.items e) }
 {
-    let lines = read_lines(SolutionText::new(alloc), text.as_slice())?;
+    let taken = read_lines(SolutionText::new(alloc), text.as_slice())?;
     drop(text);
-    rows_of(alloc, game, lines.as_slice())
+    rows_of(alloc, game, taken.as_slice())
 }
 
 /// What a text says that is known of a game: winners and choices as in a solution text, where vertices may be left out. The

@@ -1,6 +1,6 @@
 use Rattle.pg_text.proofs.Common.{length, ◌-◌, ℕ, ◌≤◌, List, is_digit, value_of, IsRun}
 use Rattle.pg_text.proofs.Runs.{Counts}
-use Rattle.pg_text.proofs.lexer.number.Given as goal
+use Rattle.pg_text.proofs.lexer.long_number.Given as goal
 
 abbrev pub invariant-digits : goal.invariant-digits
 invariant-digits l = (l.to ≤ length l.text) × (run : List ℕ) × IsRun is_digit l.text l.from l.to run × Counts l.value (value_of run)
