@@ -35,12 +35,12 @@ In a clause `result` is what the call returns. `x.old` and `x.new` are values be
 
 | Sentence | What says it |
 |---|---|
-| A verdict is about the texts of the two files | {{clause pgboard/src/run.rt run_verify judged}} |
+| A verdict is about the texts of the two files, and its line goes out | {{clause pgboard/src/run.rt run_verify writes}} |
 | They spell a game, and winners and choices for it | {{field pgboard.specs.Joined.IsJudged game_is}}, {{field pgboard.specs.Joined.IsJudged solution_is}} |
 | The verdict `Holds` is given only for a solution | {{equation pgboard.specs.Joined.IsVerdict Holds}} |
 | The verdict `Fails` names the first fault | {{equation pgboard.specs.Joined.IsVerdict Fails}} |
 | A solution has no fault, so it gets `Holds` | {{clause pg_text/src/laws.rt no_fault }}, where {{equation pg_text.specs.Laws.SolutionHasNoFault =}} |
-| The line of the verdict goes out, and nothing else | {{clause pgboard/src/run.rt run_verify written}} |
+| All of this output goes out, and nothing else | {{field pgboard.specs.Run.Writes written}} |
 | Input that is no such text gets its first fault and no verdict, and so do failed devices and refused memory | {{clause pgboard/src/run.rt run_verify fault}} |
 
 ## Solve
@@ -49,7 +49,7 @@ In a clause `result` is what the call returns. `x.old` and `x.new` are values be
 
 | Sentence | What says it |
 |---|---|
-| What goes out is the text that the record `IsSolveOutput` describes | {{clause pgboard/src/solve.rt run_solve written}} |
+| What goes out is the text that the record `IsSolveOutput` describes | {{clause pgboard/src/solve.rt run_solve writes}}, where {{field pgboard.specs.Run.Writes written}} |
 | The file spells the game | {{field pgboard.specs.Solving.IsSolveOutput game_is}} |
 | The text is that of an exact solution | {{equation pgboard.specs.Solving.IsSolveText false}} |
 | With `--winners` it has exactly the winners | {{equation pgboard.specs.Solving.IsSolveText true}} |
