@@ -39,13 +39,11 @@ pub use Rattle.pg_text.specs.declared.fault.SolutionTextFault.{SolutionTextFault
 pub use Rattle.pg_text.specs.declared.fault.SolutionTextFault.TheVariants.{Stranger}
 pub use Rattle.pg_text.specs.declared.lexer.Kind.{Kind}
 pub use Rattle.pg_text.specs.declared.solution.Solution.{Solution}
-pub use Rattle.pg_text.specs.declared.solution_reader.SolutionLine.{SolutionLine}
-pub use Rattle.pg_text.specs.private.Advance.{Advances, TakesPiece}
+pub use Rattle.pg_text.specs.declared.solution_grammar.SolutionLine.{SolutionLine}
 pub use Rattle.pg_text.specs.private.FirstFault.{FirstLarge, first_at, placed}
-pub use Rattle.pg_text.specs.private.GameKeeps.{KeepsReader, SpellsSpecs}
 pub use Rattle.pg_text.specs.private.GameRun.{Front, Listing, Named, Priority, Reading, Successor, front, line, run, step, with_line}
 pub use Rattle.pg_text.specs.private.Piece.{IsNoToken, IsPieceOf, IsRun, IsToken}
 pub use Rattle.pg_text.specs.private.Reach.{IsBadFrom, ReadsTo, SpellsRest}
-pub use Rattle.pg_text.specs.private.SolutionKeeps.{line_of}
+pub use Rattle.pg_text.specs.private.SolutionReads.{line_of}
 pub use Rattle.pg_text.specs.private.SolutionRun.{Choice}
 pub use Rattle.pg_text.specs.private.SolutionTable.{HoldsLines, HoldsTable, IsLookUpFaultOf, IsNamed}

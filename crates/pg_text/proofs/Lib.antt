@@ -14,12 +14,12 @@ pub mod Next
 pub mod Reach
 pub mod SolutionRun
 pub mod FirstFaults
-pub mod SolutionKeeps
+pub mod SolutionReads
 pub mod Written
 pub mod Numerals
 pub mod GameRun
-pub mod GameKeeps
-pub mod Advance
+pub mod GameReads
+pub mod Parsing
 pub mod WrittenSpells
 pub mod ReadGame
 pub mod Identifiers

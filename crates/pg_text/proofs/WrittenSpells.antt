@@ -6,7 +6,7 @@ use Rattle.pg_text.proofs.Common.{Word, Comma, Semicolon, IsSpelling, IsWhole, P
 use Rattle.pg_text.proofs.Common.{EndsRun, placed, max_number, IsWithinLimits, fits, AllFit, SpellsGame, SpellsSolution, IsGameText, separated}
 use Rattle.pg_text.proofs.Common.{SolutionRows, AreSolutionRows, greatest_id, written_vertex, written_game, written_choice, written_rows, written_solution}
 use Rattle.std.proofs.Common.{Option, Some, None}
-use Rattle.pg_text.proofs.SolutionKeeps.{owner_small}
+use Rattle.pg_text.proofs.SolutionReads.{owner_small}
 use Rattle.pg_text.proofs.FirstFaults.{all-append}
 use Rattle.pg_game.specs.Graph.{priority_of}
 use Rattle.pg_text.proofs.Numerals.{numeral_spells}

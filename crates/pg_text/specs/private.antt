@@ -3,10 +3,10 @@ pub mod Piece
 pub mod Reach
 pub mod SolutionRun
 pub mod FirstFault
-pub mod SolutionKeeps
-pub mod SolutionReading
+pub mod SolutionReads
 pub mod GameRun
-pub mod GameKeeps
+pub mod GameReads
 pub mod SolutionTable
-pub mod GameStates
-pub mod Advance
+pub mod Grammar
+pub mod Parsing
+pub mod ParseFault

@@ -4,10 +4,35 @@
 ghost use Rattle.std.specs.Prelude.{◌≡◌};
 ghost use Rattle.pg_text.specs.declared.fault.TextFault.TheVariants as game;
 ghost use Rattle.pg_text.specs.declared.fault.SolutionTextFault.TheVariants as solution;
+ghost use Rattle.pg_text.specs.declared.fault.ParseFault.TheVariants as parse;
+ghost use Rattle.pg_text.specs.private.ParseFault.{game_fault, solution_fault};
 
 use pg_game::{GameFault, Memory};
 use std::alloc::AllocFailed;
 use thiserror::Error;
+
+/// Why a text says nothing in a grammar.
+#[derive(Clone, Copy, Drop)]
+pub enum ParseFault {
+    /// The first byte that is no blank and begins no token, or the first quote that is never closed.
+    Lexical(u32),
+    /// The first token that can't stand there; the text's length where it ends too early.
+    Syntax(u32),
+    /// The first number above 2,147,483,647.
+    Number(u32),
+    /// The first player that is neither 0 nor 1, by its value.
+    Player(u32),
+    /// Memory was refused.
+    Memory,
+}
+
+impl From<Memory> for ParseFault {
+    ghost from_gives = { λ _ fault. fault ≡ parse.Memory };
+
+    fn from(_fault: Memory) -> ParseFault {
+        ParseFault::Memory
+    }
+}
 
 /// Why a text is no game.
 #[derive(Clone, Copy, Debug, Drop, PartialEq, Eq, Error)]
@@ -45,6 +70,20 @@ impl<T: Drop> From<AllocFailed<T>> for TextFault {
 
     fn from(_fault: AllocFailed<T>) -> TextFault {
         TextFault::Memory
+    }
+}
+
+impl From<ParseFault> for TextFault {
+    ghost from_gives = { λ e fault. fault ≡ game_fault e };
+
+    fn from(fault: ParseFault) -> TextFault {
+        match fault {
+            ParseFault::Lexical(at) => TextFault::Lexical(at),
+            ParseFault::Syntax(at) => TextFault::Syntax(at),
+            ParseFault::Number(at) => TextFault::Number(at),
+            ParseFault::Player(at) => TextFault::Owner(at),
+            ParseFault::Memory => TextFault::Memory,
+        }
     }
 }
 
@@ -90,5 +129,19 @@ impl<T: Drop> From<AllocFailed<T>> for SolutionTextFault {
 
     fn from(_fault: AllocFailed<T>) -> SolutionTextFault {
         SolutionTextFault::Memory
+    }
+}
+
+impl From<ParseFault> for SolutionTextFault {
+    ghost from_gives = { λ e fault. fault ≡ solution_fault e };
+
+    fn from(fault: ParseFault) -> SolutionTextFault {
+        match fault {
+            ParseFault::Lexical(at) => SolutionTextFault::Lexical(at),
+            ParseFault::Syntax(at) => SolutionTextFault::Syntax(at),
+            ParseFault::Number(at) => SolutionTextFault::Number(at),
+            ParseFault::Player(at) => SolutionTextFault::Winner(at),
+            ParseFault::Memory => SolutionTextFault::Memory,
+        }
     }
 }

@@ -4,8 +4,7 @@
 //! A number of any length is read in 64 bits, since its value stops growing once it is above the limit.
 ghost use Rattle.std.specs.Prelude.{◌≡◌, ◌≢◌, ℕ, ◌+◌, ◌<◌, ◌≤◌, length, drop, List, slice_index, false, MatchOption, IfSome, Some};
 ghost use Rattle.pg_text.specs.Bytes.{is_blank, is_digit, is_letter, EndsRun, value_of};
-ghost use Rattle.pg_text.specs.private.Piece.{IsNextPiece, IsRun, IsToken, fitting};
-ghost use Rattle.pg_text.specs.Token.{Number};
+ghost use Rattle.pg_text.specs.private.Piece.{IsNextPiece, IsRun, fitting};
 ghost use Rattle.pg_text.specs.private.Reach.{SpellsRest, IsBadFrom};
 
 use memchr::memchr;
@@ -13,8 +12,8 @@ use memchr::memchr;
 /// The greatest number that a text may hold.
 const GREATEST: u64 = 2147483647;
 
-/// How many bytes a number within the limit takes at most, with a blank before it and the byte behind it.
-const NEAR: usize = 12;
+/// How many bytes a number within the limit takes at most, with the byte behind it.
+const SHORT: usize = 11;
 
 /// What a token is. A number above the limit has no value here.
 #[derive(Clone, Copy)]
@@ -26,14 +25,6 @@ pub enum Kind {
     Semicolon,
     End,
     Bad,
-}
-
-/// A number of a text within the limit, and the places where its digits begin and end.
-#[derive(Clone, Copy)]
-pub struct Numeral {
-    pub value: u32,
-    pub from: usize,
-    pub to: usize,
 }
 
 /// A token of a text, or what stands in its place.
@@ -80,36 +71,6 @@ fn blanks_end(text: &[u8], from: usize) -> usize
     to
 }
 
-/// The place behind the blank at `from`, or `from` where none stands there. A digit is the common byte, and looked for first.
-#[inline]
-fn blank_end(text: &[u8], from: usize) -> usize
-    requires { from ≤ length text.now }
-    ensures run { (run : List ℕ) × IsRun is_blank text.now from result run }
-    ensures within { result ≤ length text.now }
-    ensures near { result ≤ from + 1 }
-{
-    if from < text.len() && !digit(text[from]) && blank(text[from]) {
-        from + 1
-    } else {
-        from
-    }
-}
-
-/// The same of a place within the text. A space is looked for first, since it stands before most numbers.
-#[inline(always)]
-fn space_end(text: &[u8], from: usize) -> usize
-    requires { from < length text.now }
-    ensures run { (run : List ℕ) × IsRun is_blank text.now from result run }
-    ensures within { result ≤ length text.now }
-    ensures near { result ≤ from + 1 }
-{
-    if text[from] == b' ' {
-        from + 1
-    } else {
-        blank_end(text, from)
-    }
-}
-
 /// The first place from `from` on without a letter.
 #[inline(never)]
 fn letters_end(text: &[u8], from: usize) -> usize
@@ -125,9 +86,32 @@ fn letters_end(text: &[u8], from: usize) -> usize
     to
 }
 
-/// The value of the digits from `from` on, and the place behind them.
-#[inline]
-fn number(text: &[u8], from: usize) -> (Option<u32>, usize)
+/// The number at a place before the last ten bytes, and the place behind it. None where there is no digit, more than ten, or a
+/// number above the limit. So few digits are read without a test of the value or for the text's end between them.
+#[inline(always)]
+fn short_number(text: &[u8], from: usize) -> Option<(u32, usize)>
+    requires { from + 11 ≤ length text.now }
+    ensures run { IfSome result (λ n. (run : List ℕ) × IsRun is_digit text.now from n.1 run × (Some n.0 ≡ fitting (value_of run))) }
+    ensures ends { IfSome result (λ n. EndsRun is_digit (drop n.1 text.now)) }
+    ensures ahead { IfSome result (λ n. (from < n.1) × (n.1 < length text.now)) }
+{
+    let mut value = 0u64;
+    'digits: for k in 0..SHORT {
+        let byte = text[from + k];
+        if !digit(byte) {
+            if k == 0 || value > GREATEST {
+                return None;
+            }
+            return Some((value as u32, from + k));
+        }
+        value = value * 10 + u64::from(byte - b'0');
+    }
+    None
+}
+
+/// The value of any number of digits from `from` on, and the place behind them.
+#[inline(never)]
+fn long_number(text: &[u8], from: usize) -> (Option<u32>, usize)
     requires { from ≤ length text.now }
     ensures run { (run : List ℕ) × IsRun is_digit text.now from result.1 run × (result.0 ≡ fitting (value_of run)) }
     ensures within { result.1 ≤ length text.now }
@@ -148,62 +132,20 @@ fn number(text: &[u8], from: usize) -> (Option<u32>, usize)
     }
 }
 
-/// The number at a place before the last ten bytes, and the place behind it. None where there is no digit, more than ten, or a
-/// number above the limit. So few digits are read without a test of the value or for the text's end between them.
+/// The value of the digits from `from` on, and the place behind them. It has no value above the limit.
 #[inline(always)]
-fn short_number(text: &[u8], from: usize) -> Option<(u32, usize)>
-    requires { from + 11 ≤ length text.now }
-    ensures run { IfSome result (λ n. (run : List ℕ) × IsRun is_digit text.now from n.1 run × (Some n.0 ≡ fitting (value_of run))) }
-    ensures ends { IfSome result (λ n. EndsRun is_digit (drop n.1 text.now)) }
-    ensures ahead { IfSome result (λ n. (from < n.1) × (n.1 < length text.now)) }
+fn number(text: &[u8], from: usize) -> (Option<u32>, usize)
+    requires { from ≤ length text.now }
+    ensures run { (run : List ℕ) × IsRun is_digit text.now from result.1 run × (result.0 ≡ fitting (value_of run)) }
+    ensures within { result.1 ≤ length text.now }
+    ensures ends { EndsRun is_digit (drop result.1 text.now) }
 {
-    let mut value = 0u64;
-    'digits: for k in 0..11usize {
-        let byte = text[from + k];
-        if !digit(byte) {
-            if k == 0 || value > GREATEST {
-                return None;
-            }
-            return Some((value as u32, from + k));
+    if text.len() - from >= SHORT {
+        if let Some((value, to)) = short_number(text, from) {
+            return (Some(value), to);
         }
-        value = value * 10 + u64::from(byte - b'0');
     }
-    None
-}
-
-/// The number at a place near the text's end, behind at most one blank, where it is within the limit.
-#[inline(never)]
-fn last_number(text: &[u8], at: usize) -> Option<Numeral>
-    requires { at ≤ length text.now }
-    ensures token { IfSome result (λ n. (m : ℕ) × (Some n.value ≡ fitting m) × IsToken text.now at n.from n.to (Number m)) }
-    ensures order { IfSome result (λ n. n.from ≤ n.to) }
-    ensures ahead { IfSome result (λ n. (at < n.to) × (n.to ≤ length text.now)) }
-{
-    let from = blank_end(text, at);
-    if from >= text.len() || !digit(text[from]) {
-        return None;
-    }
-    let (Some(value), to) = number(text, from) else {
-        return None;
-    };
-    Some(Numeral { value, from, to })
-}
-
-/// The number at a place, behind at most one blank, where it is within the limit. One of more than ten digits may be left to the
-/// token's way.
-#[inline(always)]
-pub fn number_near(text: &[u8], at: usize) -> Option<Numeral>
-    requires { at ≤ length text.now }
-    ensures token { IfSome result (λ n. (m : ℕ) × (Some n.value ≡ fitting m) × IsToken text.now at n.from n.to (Number m)) }
-    ensures order { IfSome result (λ n. n.from ≤ n.to) }
-    ensures ahead { IfSome result (λ n. (at < n.to) × (n.to ≤ length text.now)) }
-{
-    if text.len() - at < NEAR {
-        return last_number(text, at);
-    }
-    let from = space_end(text, at);
-    let (value, to) = short_number(text, from)?;
-    Some(Numeral { value, from, to })
+    long_number(text, from)
 }
 
 /// The word or the name at a place, or that there is none.

@@ -7,14 +7,16 @@
 #![tactic(auto)]
 
 mod fault;
-mod game_reader;
+mod game_grammar;
+mod grammar;
 pub mod laws;
 mod lexer;
 mod line;
 mod numbers;
+mod reader;
 mod reading;
 mod solution;
-mod solution_reader;
+mod solution_grammar;
 mod solution_rows;
 mod writing;
 

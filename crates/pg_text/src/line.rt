@@ -1,6 +1,6 @@
 //! A line of a text, written from its end: each part ends at a place of the line, and its writer answers where it begins.
 //! Digits are written where they stay (`itoa`).
-ghost use Rattle.std.specs.Prelude.{◌≡◌, ◌<◌, ◌≤◌, ◌++◌, ◌+◌, ◌∷◌, length, drop, codes, IfSome};
+ghost use Rattle.std.specs.Prelude.{◌≡◌, ◌<◌, ◌≤◌, ◌++◌, ◌+◌, ◌∷◌, length, drop, take, codes, IfSome};
 ghost use Rattle.pg_text.specs.Written.{numeral, written_choice};
 
 use itoa::write_digits;
@@ -14,6 +14,7 @@ pub fn number_before(line: &mut [u8], end: usize, n: u32) -> usize
     ensures written { drop result line.new ≡ numeral n ++ drop end line.old }
     ensures near { end ≤ result + 10 }
     ensures before { result ≤ end }
+    ensures kept { take result line.new ≡ take result line.old }
     ensures size { length line.new ≡ length line.old }
 {
     write_digits(u64::from(n), line, end)
@@ -26,6 +27,7 @@ pub(crate) fn byte_before(line: &mut [u8], end: usize, byte: u8) -> usize
     requires within { end ≤ length line.old }
     ensures written { drop result line.new ≡ byte ∷ drop end line.old }
     ensures place { result + 1 ≡ end }
+    ensures kept { take result line.new ≡ take result line.old }
     ensures size { length line.new ≡ length line.old }
 {
     line[end - 1] = byte;
@@ -38,6 +40,7 @@ pub fn end_before(line: &mut [u8]) -> usize
     requires { 2 ≤ length line.old }
     ensures written { drop result line.new ≡ codes ";\n" }
     ensures place { result + 2 ≡ length line.old }
+    ensures kept { take result line.new ≡ take result line.old }
     ensures size { length line.new ≡ length line.old }
 {
     let end = line.len();
@@ -55,6 +58,7 @@ pub fn choice_before(line: &mut [u8], end: usize, game: &Game, choice: Option<u3
     ensures written { drop result line.new ≡ written_choice game.now choice ++ drop end line.old }
     ensures near { end ≤ result + 11 }
     ensures before { result ≤ end }
+    ensures kept { take result line.new ≡ take result line.old }
     ensures size { length line.new ≡ length line.old }
 {
     match choice {
@@ -74,6 +78,7 @@ pub(crate) fn field_before(line: &mut [u8], end: usize, n: u32) -> usize
     ensures written { drop result line.new ≡ numeral n ++ 32 ∷ drop end line.old }
     ensures near { end ≤ result + 11 }
     ensures before { result ≤ end }
+    ensures kept { take result line.new ≡ take result line.old }
     ensures size { length line.new ≡ length line.old }
 {
     let at = byte_before(line, end, b' ');

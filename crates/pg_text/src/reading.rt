@@ -6,9 +6,10 @@ ghost use Rattle.pg_text.specs.Reading.{max_text, IsTextOf, IsFaultOf, IsSolutio
 ghost use Rattle.pg_text.specs.Known.{IsKnownTextOf, IsKnownFaultOf};
 
 use crate::fault::{SolutionTextFault, TextFault};
-use crate::game_reader::read_specs;
+use crate::game_grammar::GameText;
+use crate::reader::read_lines;
 use crate::solution::{Known, Solution};
-use crate::solution_reader::{read_solution_lines, take_solution_lines};
+use crate::solution_grammar::SolutionText;
 use crate::solution_rows::{known_of, rows_of};
 use pg_game::{Game, GameFault};
 use std::alloc::Global;
@@ -25,13 +26,11 @@ pub fn read_game(alloc: Global, text: &[u8]) -> Result<Game, TextFault>
     ensures game { IfOk result (λ g. IsGame g × IsTextOf text.now g) }
     ensures fault { IfErr result (λ e. IsFaultOf text.now e) }
 {
-    match read_specs(alloc, text) {
-        Ok(specs) => match Game::from_rows(alloc, specs) {
-            Ok(game) => Ok(game),
-            Err(GameFault::Memory) => Err(TextFault::Memory),
-            Err(fault) => Err(TextFault::Game(fault)),
-        },
-        Err(fault) => Err(fault),
+    let specs = read_lines(GameText::new(alloc)?, text)?;
+    match Game::from_rows(alloc, specs) {
+        Ok(game) => Ok(game),
+        Err(GameFault::Memory) => Err(TextFault::Memory),
+        Err(fault) => Err(TextFault::Game(fault)),
     }
 }
 
@@ -46,11 +45,11 @@ pub fn read_solution(alloc: Global, game: &Game, text: &[u8]) -> Result<Solution
     ensures rows { IfOk result (λ s. IsSolutionTextOf game.now text.now s.rows) }
     ensures fault { IfErr result (λ e. IsSolutionFaultOf game.now text.now e) }
 {
-    let lines = read_solution_lines(alloc, text)?;
+    let lines = read_lines(SolutionText::new(alloc), text)?;
     rows_of(alloc, game, lines.as_slice())
 }
 
-/// The same as [`read_solution`], of a text that is let go once its lines are read, so that the rows stand in its place.
+/// The same as [`read_solution`], of a text that is freed once its lines are read, before the rows are allocated.
 pub fn take_solution(
     alloc: Global,
     game: &Game,
@@ -61,7 +60,8 @@ pub fn take_solution(
     ensures rows { IfOk result (λ s. IsSolutionTextOf game.now text.items s.rows) }
     ensures fault { IfErr result (λ e. IsSolutionFaultOf game.now text.items e) }
 {
-    let taken = take_solution_lines(alloc, text)?;
+    let taken = read_lines(SolutionText::new(alloc), text.as_slice())?;
+    drop(text);
     rows_of(alloc, game, taken.as_slice())
 }
 
@@ -76,6 +76,6 @@ pub fn read_known(alloc: Global, game: &Game, text: &[u8]) -> Result<Known, Solu
     ensures rows { IfOk result (λ k. IsKnownTextOf game.now text.now k.rows) }
     ensures fault { IfErr result (λ e. IsKnownFaultOf game.now text.now e) }
 {
-    let lines = read_solution_lines(alloc, text)?;
+    let lines = read_lines(SolutionText::new(alloc), text)?;
     known_of(alloc, game, lines.as_slice())
 }

@@ -9,14 +9,14 @@ ghost use Rattle.pg_game.specs.VertexSet.{members};
 ghost use Rattle.pg_game.specs.Graph.{Graph};
 ghost use Rattle.pg_text.specs.Solution.{AreSolutionRows};
 ghost use Rattle.pg_text.specs.SolutionText.{WrittenSolutionLine};
-ghost use Rattle.pg_text.specs.private.SolutionKeeps.{line_of};
+ghost use Rattle.pg_text.specs.private.SolutionReads.{line_of};
 ghost use Rattle.pg_text.specs.SolutionLines.{is_id, row_of_line, first_stranger, AreLinesOf};
 ghost use Rattle.pg_text.specs.private.SolutionTable.{HoldsTable, IsNamed, IsStrangerOf, IsLookUpFaultOf, IsRowFaultOf, IsKnownRowFaultOf};
 ghost use Rattle.pg_text.specs.Known.{AreKnownLinesOf};
 
 use crate::fault::SolutionTextFault;
 use crate::solution::{Known, Solution};
-use crate::solution_reader::SolutionLine;
+use crate::solution_grammar::SolutionLine;
 use pg_game::{Game, Mask, Memory, Player, Sequence};
 use std::alloc::Global;
 

@@ -1,6 +1,6 @@
 //! The one written spelling of games, solutions and winners: one line for each vertex in rising identifier, behind a header
 //! with the greatest identifier. Numbers have no leading zeros (`itoa` writes them); there is no start line and no name.
-ghost use Rattle.std.specs.Prelude.{◌≡◌, ℕ, ◌<◌, ◌≤◌, ◌++◌, ◌+◌, ◌*◌, ◌^◌, ◌∷◌, [], length, drop, slice_index, codes, map, IfOk};
+ghost use Rattle.std.specs.Prelude.{◌≡◌, ℕ, ◌<◌, ◌≤◌, ◌++◌, ◌+◌, ◌*◌, ◌^◌, ◌∷◌, [], length, drop, take, slice_index, codes, map, IfOk};
 ghost use Rattle.std.specs.Prelude.{OnOk, IfSome};
 ghost use Rattle.std.specs.List.{join_with_byte};
 ghost use Rattle.pg_game.specs.Graph.{id_of, priority_of, owner_of, successors_of, vertex_at};
@@ -94,6 +94,7 @@ fn list_before(line: &mut [u8], end: usize, game: &Game, vertices: &[u32]) -> us
     ensures written { drop result line.new ≡ join_with_byte 44 (map (λ w. numeral (id_of game.now w)) vertices.now) ++ drop end line.old }
     ensures near { end ≤ result + 11 * length vertices.now }
     ensures before { result ≤ end }
+    ensures kept { take result line.new ≡ take result line.old }
     ensures size { length line.new ≡ length line.old }
 {
     let mut at = end;
@@ -115,6 +116,7 @@ fn fields_before(line: &mut [u8], end: usize, game: &Game, v: u32) -> usize
     ensures written { drop result line.new ≡ numeral (id_of game.now v)
         ++ (32 ∷ numeral (priority_of game.now v) ++ (32 ∷ numeral (digit_of (owner_of game.now v)) ++ (32 ∷ drop end line.old))) }
     ensures before { result ≤ end }
+    ensures kept { take result line.new ≡ take result line.old }
     ensures size { length line.new ≡ length line.old }
 {
     let at = field_before(line, end, u32::from(game.owner(v).digit()));

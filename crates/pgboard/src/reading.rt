@@ -12,20 +12,8 @@ use std::alloc::{AllocError, Global};
 /// How many bytes are asked for at a time, at most.
 const PIECE: usize = 65_536;
 
-/// From how many bytes on a text is large, and the least capacity for a large one. Capacity that is not filled takes
-/// no memory. The allocator of glibc keeps what is given back to it for its next blocks, up to the size of the greatest
-/// block that was ever given back, unless that had more than 32 MiB: so after a large text the tables of a search would stay.
-const LARGE: usize = 8_388_608;
-
-const LARGE_ROOM: usize = 37_748_736;
-
-/// What is given back before a game is read that is to be searched. The allocator of glibc then takes its next blocks of up to
-/// so many bytes from memory that was given back, in place of pages that the system clears first. After a large text it would
-/// keep too much.
-const GIVEN_BACK: usize = 16_777_216;
-
-/// Adds zeros after the bytes that were read, for the next ones: up to the capacity, and at most a piece. A text that fills its
-/// capacity gets more.
+/// Zeros behind the bytes that were read, for the next ones: as many as the room holds, up to a piece. A text that fills its
+/// room gets more.
 fn make_room(text: &mut Vec<u8>, filled: usize) -> Result<(), AllocError>
     requires limit { filled ≤ max_text }
     requires within { filled ≤ vec_len text.old }
@@ -83,28 +71,6 @@ fn read_into<S: Source>(source: &mut S, buffer: Vec<u8>) -> Result<Vec<u8>, RunF
     }
 }
 
-/// The capacity for a text of so many bytes, and for one more, for the read that gives nothing.
-fn room_for(expected: usize) -> usize
-    requires { expected ≤ max_text }
-{
-    let room = expected + 1;
-    if expected < LARGE {
-        room
-    } else {
-        room.max(LARGE_ROOM)
-    }
-}
-
-/// Takes a block and gives it back, where a source expects bytes, and no large text. That takes no memory, since nothing is
-/// written there, and where it is refused nothing is lost.
-pub fn give_back<S: Source>(alloc: Global, source: &S) {
-    let expected = source.expected();
-    if expected > 0 && expected < LARGE as u64 {
-        let block: Result<Vec<u8>, AllocError> = Vec::with_capacity(alloc, GIVEN_BACK);
-        drop(block);
-    }
-}
-
 /// All bytes that a source has left. It is read until a read gives nothing.
 ///
 /// `Read` where a read fails, `TooLong` where more bytes come than a text may have, and `Memory`.
@@ -119,8 +85,8 @@ pub fn read_text<S: Source>(alloc: Global, source: &mut S) -> Result<Vec<u8>, Ru
     let mut buffer = Vec::new(alloc);
     let expected = source.expected().min(MAX_TEXT as u64) as usize;
     if expected > 0 {
-        // where that much is refused, the reads ask for what they need
-        let _ = buffer.reserve_exact(room_for(expected));
+        // one byte more, for the read that gives nothing; where so many are refused, the reads ask for what they need
+        let _ = buffer.reserve_exact(expected + 1);
     }
     read_into(source, buffer)
 }

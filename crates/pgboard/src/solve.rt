@@ -1,14 +1,13 @@
 //! Solving a game, from what is known of it or from nothing, and telling how it was solved.
-ghost use Rattle.std.specs.Prelude.{◌≡◌, ◌≢◌, ◌≤◌, ◌⊎◌, ℕ, List, [], length, Some, None, IfOk, OnOk, IfErr, IsErrOf};
-ghost use Rattle.std.specs.Io.KnownBytes.{Appends, Keeps};
+ghost use Rattle.std.specs.Prelude.{◌≡◌, ◌≤◌, ◌⊎◌, [], length, Some, None, IfOk, IfErr};
 ghost use Rattle.pg_game.specs.declared.player.Player.{Player};
 ghost use Rattle.pg_game.specs.Graph.{Graph};
 ghost use Rattle.pg_workers.specs.Known.{IsKnownRegion};
-ghost use Rattle.pgboard.specs.Device.{HasFailed, AppendsPrefix};
+ghost use Rattle.pgboard.specs.Device.{HasFailed};
 ghost use Rattle.pgboard.specs.Known.{left_in, IfGiven, OnGiven};
 ghost use Rattle.pgboard.specs.Refused.{IsNotKnown};
 ghost use Rattle.pgboard.specs.private.Refused.{IsUnsolved};
-ghost use Rattle.pgboard.specs.Run.{IsReadGame, IsNoGame, IsGameFault};
+ghost use Rattle.pgboard.specs.Run.{IsReadGame, IsNoGame, Reads, ReadsInTurn, Writes};
 ghost use Rattle.pgboard.specs.Solving.{IsSolveText, IsSolveOutput, IsTraceText};
 
 use crate::device::{Sink, Source};
@@ -124,21 +123,12 @@ fn solve_knowing<I: Source, K: Source, O: Sink, R: Threads + Wait + Sync>(
 ) -> Result<(), RunFault>
     requires workers { (1 ≤ options.now.workers) × (options.now.workers ≤ 64) }
     requires bound { options.now.bound ≤ 8 }
-    ensures written { OnOk result ((text : List ℕ) × IsSolveOutput (I.left input.old) (K.left known.old) options.now.winners text
-        × Appends (O.taken out.old) (O.taken out.new) text) }
-    ensures no_read_failure { (IsErrOf result RunFault.Read → ⊥) → I.read_failures input.new ≡ I.read_failures input.old }
-    ensures no_known_failure { (IsErrOf result RunFault.Read → ⊥) → K.read_failures known.new ≡ K.read_failures known.old }
-    ensures no_write_failure { (IsErrOf result RunFault.Write → ⊥) → O.write_failures out.new ≡ O.write_failures out.old }
+    ensures reads { ReadsInTurn result (I.left input.old) (I.read_failures input.old) (I.read_failures input.new) (known.new ≡ known.old)
+        (K.read_failures known.new ≡ K.read_failures known.old) (HasFailed (K.read_failures known.old) (K.read_failures known.new)) }
+    ensures writes { Writes (λ _ text. IsSolveOutput (I.left input.old) (K.left known.old) options.now.winners text)
+        result (O.taken out.old) (O.taken out.new) (O.write_failures out.old) (O.write_failures out.new) }
     ensures fault { IfErr result (λ e. (e ≡ RunFault.Write)
         ⊎ (IsNoGame (I.left input.old) e ⊎ ((g : Graph) × IsReadGame (I.left input.old) g × IsNotKnown g (K.left known.old) e))) }
-    ensures order { (known.new ≡ known.old) ⊎ ((g : Graph) × IsReadGame (I.left input.old) g × (I.read_failures input.new ≡ I.read_failures input.old)) }
-    ensures unread { IfErr result (λ e. IsGameFault e → known.new ≡ known.old) }
-    ensures read { IsErrOf result RunFault.Read → (HasFailed (I.read_failures input.old) (I.read_failures input.new) × (known.new ≡ known.old))
-        ⊎ ((g : Graph) × IsReadGame (I.left input.old) g × HasFailed (K.read_failures known.old) (K.read_failures known.new)) }
-    ensures write { IsErrOf result RunFault.Write → HasFailed (O.write_failures out.old) (O.write_failures out.new) }
-    ensures cut { IsErrOf result RunFault.Write → (text : List ℕ) × IsSolveOutput (I.left input.old) (K.left known.old) options.now.winners text
-        × AppendsPrefix (O.taken out.old) (O.taken out.new) text }
-    ensures nothing { IfErr result (λ e. e ≢ RunFault.Write → Keeps (O.taken out.old) (O.taken out.new)) }
 {
     let game = game_from(alloc, input)?;
     let text = read_text(alloc, known)?;
@@ -159,16 +149,10 @@ fn solve_alone<I: Source, O: Sink, R: Threads + Wait + Sync>(
 ) -> Result<(), RunFault>
     requires workers { (1 ≤ options.now.workers) × (options.now.workers ≤ 64) }
     requires bound { options.now.bound ≤ 8 }
-    ensures written { OnOk result ((text : List ℕ) × IsSolveOutput (I.left input.old) (Some []) options.now.winners text
-        × Appends (O.taken out.old) (O.taken out.new) text) }
-    ensures no_read_failure { (IsErrOf result RunFault.Read → ⊥) → I.read_failures input.new ≡ I.read_failures input.old }
-    ensures no_write_failure { (IsErrOf result RunFault.Write → ⊥) → O.write_failures out.new ≡ O.write_failures out.old }
+    ensures reads { Reads result (I.read_failures input.old) (I.read_failures input.new) }
+    ensures writes { Writes (λ _ text. IsSolveOutput (I.left input.old) (Some []) options.now.winners text)
+        result (O.taken out.old) (O.taken out.new) (O.write_failures out.old) (O.write_failures out.new) }
     ensures fault { IfErr result (λ e. (e ≡ RunFault.Write) ⊎ IsNoGame (I.left input.old) e) }
-    ensures read { IsErrOf result RunFault.Read → HasFailed (I.read_failures input.old) (I.read_failures input.new) }
-    ensures write { IsErrOf result RunFault.Write → HasFailed (O.write_failures out.old) (O.write_failures out.new) }
-    ensures cut { IsErrOf result RunFault.Write → (text : List ℕ) × IsSolveOutput (I.left input.old) (Some []) options.now.winners text
-        × AppendsPrefix (O.taken out.old) (O.taken out.new) text }
-    ensures nothing { IfErr result (λ e. e ≢ RunFault.Write → Keeps (O.taken out.old) (O.taken out.new)) }
 {
     let game = game_from(alloc, input)?;
     // for the proof alone, which takes from it that the game is one
@@ -195,24 +179,15 @@ pub fn run_solve<I: Source, K: Source, O: Sink, R: Threads + Wait + Sync>(
 ) -> Result<(), RunFault>
     requires workers { (1 ≤ options.now.workers) × (options.now.workers ≤ 64) }
     requires bound { options.now.bound ≤ 8 }
-    ensures written { OnOk result ((text : List ℕ) × IsSolveOutput (I.left input.old) (left_in K.left known.entry) options.now.winners text
-        × Appends (O.taken out.old) (O.taken out.new) text) }
-    ensures no_read_failure { (IsErrOf result RunFault.Read → ⊥) → I.read_failures input.new ≡ I.read_failures input.old }
-    ensures no_known_failure { (IsErrOf result RunFault.Read → ⊥) → IfGiven (λ old new. K.read_failures new ≡ K.read_failures old) known.entry known.exit }
-    ensures no_write_failure { (IsErrOf result RunFault.Write → ⊥) → O.write_failures out.new ≡ O.write_failures out.old }
+    ensures reads { ReadsInTurn result (I.left input.old) (I.read_failures input.old) (I.read_failures input.new)
+        (IfGiven (λ old new. new ≡ old) known.entry known.exit)
+        (IfGiven (λ old new. K.read_failures new ≡ K.read_failures old) known.entry known.exit)
+        (OnGiven (λ old new. HasFailed (K.read_failures old) (K.read_failures new)) known.entry known.exit) }
+    ensures writes { Writes (λ _ text. IsSolveOutput (I.left input.old) (left_in K.left known.entry) options.now.winners text)
+        result (O.taken out.old) (O.taken out.new) (O.write_failures out.old) (O.write_failures out.new) }
     ensures fault { IfErr result (λ e. (e ≡ RunFault.Write)
         ⊎ (IsNoGame (I.left input.old) e ⊎ ((g : Graph) × IsReadGame (I.left input.old) g × IsNotKnown g (left_in K.left known.entry) e))) }
     ensures alone { IfErr result (λ e. known.entry ≡ None → (e ≡ RunFault.Write) ⊎ IsNoGame (I.left input.old) e) }
-    ensures order { IfGiven (λ old new. new ≡ old) known.entry known.exit
-        ⊎ ((g : Graph) × IsReadGame (I.left input.old) g × (I.read_failures input.new ≡ I.read_failures input.old)) }
-    ensures unread { IfErr result (λ e. IsGameFault e → IfGiven (λ old new. new ≡ old) known.entry known.exit) }
-    ensures read { IsErrOf result RunFault.Read → (HasFailed (I.read_failures input.old) (I.read_failures input.new)
-        × IfGiven (λ old new. new ≡ old) known.entry known.exit)
-        ⊎ ((g : Graph) × IsReadGame (I.left input.old) g × OnGiven (λ old new. HasFailed (K.read_failures old) (K.read_failures new)) known.entry known.exit) }
-    ensures write { IsErrOf result RunFault.Write → HasFailed (O.write_failures out.old) (O.write_failures out.new) }
-    ensures cut { IsErrOf result RunFault.Write → (text : List ℕ) × IsSolveOutput (I.left input.old) (left_in K.left known.entry) options.now.winners text
-        × AppendsPrefix (O.taken out.old) (O.taken out.new) text }
-    ensures nothing { IfErr result (λ e. e ≢ RunFault.Write → Keeps (O.taken out.old) (O.taken out.new)) }
 {
     match known {
         Some(known) => solve_knowing(rt, alloc, input, known, out, options, gate, finder),
@@ -231,16 +206,10 @@ pub fn run_trace<I: Source, O: Sink, R: Threads + Wait + Sync>(
     finder: &impl Finder,
 ) -> Result<(), RunFault>
     requires workers { (1 ≤ workers) × (workers ≤ 64) }
-    ensures written { OnOk result ((g : Graph) × (text : List ℕ) × IsReadGame (I.left input.old) g × IsTraceText workers g text
-        × Appends (O.taken out.old) (O.taken out.new) text) }
-    ensures no_read_failure { (IsErrOf result RunFault.Read → ⊥) → I.read_failures input.new ≡ I.read_failures input.old }
-    ensures no_write_failure { (IsErrOf result RunFault.Write → ⊥) → O.write_failures out.new ≡ O.write_failures out.old }
+    ensures reads { Reads result (I.read_failures input.old) (I.read_failures input.new) }
+    ensures writes { Writes (λ _ text. (g : Graph) × IsReadGame (I.left input.old) g × IsTraceText workers g text)
+        result (O.taken out.old) (O.taken out.new) (O.write_failures out.old) (O.write_failures out.new) }
     ensures fault { IfErr result (λ e. (e ≡ RunFault.Write) ⊎ IsNoGame (I.left input.old) e) }
-    ensures read { IsErrOf result RunFault.Read → HasFailed (I.read_failures input.old) (I.read_failures input.new) }
-    ensures write { IsErrOf result RunFault.Write → HasFailed (O.write_failures out.old) (O.write_failures out.new) }
-    ensures cut { IsErrOf result RunFault.Write → (g : Graph) × (text : List ℕ) × IsReadGame (I.left input.old) g × IsTraceText workers g text
-        × AppendsPrefix (O.taken out.old) (O.taken out.new) text }
-    ensures nothing { IfErr result (λ e. e ≢ RunFault.Write → Keeps (O.taken out.old) (O.taken out.new)) }
 {
     let game = game_from(alloc, input)?;
     let text = trace_of(rt, alloc, &game, workers, gate, finder)?;

@@ -9,7 +9,7 @@ ghost use Rattle.pgboard.specs.private.Run.{IsRefusedGame, IsRefusedSolution, Is
 
 use crate::device::Source;
 use crate::fault::RunFault;
-use crate::reading::{give_back, read_text};
+use crate::reading::read_text;
 use memchr::memchr;
 use pg_game::Game;
 use pg_text::{Solution, SolutionTextFault, TextFault, read_game, read_solution, take_solution};
@@ -42,7 +42,7 @@ pub fn game_of(alloc: Global, text: &[u8]) -> Result<Game, RunFault>
 }
 
 /// The game that the text of a source spells.
-pub fn spelled_game<S: Source>(alloc: Global, source: &mut S) -> Result<Game, RunFault>
+pub fn game_from<S: Source>(alloc: Global, source: &mut S) -> Result<Game, RunFault>
     ensures game { IfOk result (λ g. IsReadGame (S.left source.old) g) }
     ensures fault { IfErr result (λ e. IsNoGame (S.left source.old) e) }
     ensures no_failure { (IsErrOf result RunFault.Read → ⊥) → S.read_failures source.new ≡ S.read_failures source.old }
@@ -50,17 +50,6 @@ pub fn spelled_game<S: Source>(alloc: Global, source: &mut S) -> Result<Game, Ru
 {
     let text = read_text(alloc, source)?;
     game_of(alloc, text.as_slice())
-}
-
-/// The same, of a game that is to be searched.
-pub fn game_from<S: Source>(alloc: Global, source: &mut S) -> Result<Game, RunFault>
-    ensures game { IfOk result (λ g. IsReadGame (S.left source.old) g) }
-    ensures fault { IfErr result (λ e. IsNoGame (S.left source.old) e) }
-    ensures no_failure { (IsErrOf result RunFault.Read → ⊥) → S.read_failures source.new ≡ S.read_failures source.old }
-    ensures failed { IsErrOf result RunFault.Read → HasFailed (S.read_failures source.old) (S.read_failures source.new) }
-{
-    give_back(alloc, source);
-    spelled_game(alloc, source)
 }
 
 /// Why a run has no solution.

@@ -1,4 +1,4 @@
-use Rattle.pg_text.proofs.Common.{◌≡◌, ◌≤◌, ◌<◌, ◌+◌, ◌-◌, ◌*◌, ◌++◌, ◌∷◌, drop, numeral, length, id_of}
+use Rattle.pg_text.proofs.Common.{◌≡◌, ◌≤◌, ◌<◌, ◌+◌, ◌-◌, ◌*◌, ◌++◌, ◌∷◌, drop, take, numeral, length, id_of}
 use Rattle.std.proofs.Common.{flat_map}
 use Rattle.pg_text.proofs.writing.list_before.Given as goal
 
@@ -6,6 +6,7 @@ abbrev pub invariant-vertices : goal.invariant-vertices
 invariant-vertices l =
     (0 < l.left) × (l.left ≤ length l.vertices) × (11 * l.left ≤ l.at) × (l.end ≤ l.at + 11 * (length l.vertices - l.left)) × (l.at ≤ l.end)
     × (length l.line ≡ length l.fn.line) × (drop l.at l.line ≡ flat_map (λ w. 44 ∷ numeral (id_of l.game w)) (drop l.left l.vertices) ++ drop l.end l.fn.line)
+    × (take l.at l.line ≡ take l.at l.fn.line)
 
 abbrev pub decreases-vertices : goal.decreases-vertices
 decreases-vertices l = l.left

@@ -1,4 +1,4 @@
-use Rattle.pgboard.proofs.Common.{ℕ, List, inr, subst, Appends, err_from_is_err_and, IsKnownTextOf, AppendsPrefix, IsRefusedText, IsSolveOutput}
+use Rattle.pgboard.proofs.Common.{rules, ℕ, List, inr, subst, Appends, err_from_is_err_and, IsKnownTextOf, AppendsPrefix, IsRefusedText, IsSolveOutput}
 use Rattle.pgboard.specs.declared.fault.RunFault.TheVariants as fault
 use Rattle.pgboard.proofs.Knowing.{not_known_text, not_solved, solved, kept, all_out, front_out}
 use Rattle.pgboard.proofs.solve.solve_knowing.Goals as goal
@@ -26,25 +26,9 @@ returns-in_err-text-2-clause-fault g c =
       not_solved _ c.in_ok-text.text.items c.in_ok-text.ensures.text c.in_ok-text.ensures.limit _ _ known _ c.in_err-text-2.ensures.fault,
     )))
 
-pub returns-in_err-text-2-clause-nothing : goal.returns-in_err-text-2-clause-nothing
-returns-in_err-text-2-clause-nothing g c =
-    let p = err_from_is_err_and c.from_residual-in_err-text-2.result c.from_residual-in_err-text-2.ensures.1 in
-    rw (p.1, p.2) (λ other. kept (g.O.Sink.taken c.args.out.now))
-
-pub returns-clause-written : goal.returns-clause-written
-returns-clause-written g c =
+pub returns-clause-writes : goal.returns-clause-writes
+returns-clause-writes g c =
     let known = subst (λ (l : List ℕ). IsKnownTextOf c.in_ok-game.game l c.in_ok-known.known.rows) c.as_slice.ensures.value c.in_ok-known.ensures.known in
     let made = solved _ c.in_ok-text.text.items c.in_ok-text.ensures.text c.in_ok-text.ensures.limit _ _ known _ _ c.in_ok-text-2.text.items
     c.in_ok-game.ensures.game c.in_ok-text-2.ensures.regions c.in_ok-text-2.ensures.text in
-    all_out (λ (t : List ℕ). IsSolveOutput (g.I.Source.left c.args.input.now) (g.K.Source.left c.args.known.now) c.args.options.now.winners t)
-    (λ (t : List ℕ). Appends (g.O.Sink.taken c.args.out.now) (g.O.Sink.taken c.write_all.new.out) t)
-    c.in_ok-text-2.text.items c.as_slice-2.result.now c.as_slice-2.ensures.value made c.write_all.result c.write_all.ensures.written
-
-pub returns-clause-cut : goal.returns-clause-cut
-returns-clause-cut g c =
-    let known = subst (λ (l : List ℕ). IsKnownTextOf c.in_ok-game.game l c.in_ok-known.known.rows) c.as_slice.ensures.value c.in_ok-known.ensures.known in
-    let made = solved _ c.in_ok-text.text.items c.in_ok-text.ensures.text c.in_ok-text.ensures.limit _ _ known _ _ c.in_ok-text-2.text.items
-    c.in_ok-game.ensures.game c.in_ok-text-2.ensures.regions c.in_ok-text-2.ensures.text in
-    front_out (λ (t : List ℕ). IsSolveOutput (g.I.Source.left c.args.input.now) (g.K.Source.left c.args.known.now) c.args.options.now.winners t)
-    (λ (t : List ℕ). AppendsPrefix (g.O.Sink.taken c.args.out.now) (g.O.Sink.taken c.write_all.new.out) t)
-    c.in_ok-text-2.text.items c.as_slice-2.result.now c.as_slice-2.ensures.value made c.write_all.result fault.Write c.write_all.ensures.cut
+    search (rules, made, c.as_slice-2.ensures.value, c.write_all.ensures)

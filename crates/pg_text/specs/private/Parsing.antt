@@ -1,0 +1,61 @@
+-- How the private reader goes on over a text, where what a grammar holds of the tokens is a relation of these and its state.
+use Rattle.std.specs.Prelude.{ℕ, ◌≡◌, Bool, List, [], ◌∷◌, ◌++◌, ◌&&◌, Option, None}
+use Rattle.std.specs.Option.{is_none}
+use Rattle.pg_text.specs.declared.fault.ParseFault.{ParseFault}
+use Rattle.pg_text.specs.declared.fault.ParseFault.TheVariants as fault
+use Rattle.pg_text.specs.declared.lexer.Kind.TheVariants as kind
+use Rattle.pg_text.specs.declared.lexer.Piece.{Piece}
+use Rattle.pg_text.specs.declared.reader.Reader.{Reader}
+use Rattle.pg_text.specs.Fault.{IsLexicalFault, IsSyntaxFault, IsNumberFault, IsPlayerFault, AllFit}
+use Rattle.pg_text.specs.Token.{Token, Placed, Spells, tokens_of}
+use Rattle.pg_text.specs.private.FirstFault.{placed, FirstLarge, FirstPlayer}
+use Rattle.pg_text.specs.private.Grammar.{TakenOr, Stops}
+use Rattle.pg_text.specs.private.Piece.{IsToken, IsNextPiece}
+use Rattle.pg_text.specs.private.Reach.{ReadsTo}
+
+-- these tokens were read; their first faults are known, and without one the state of the grammar holds what they say
+pub record Keeps {R : Type 0} (Reads : Bool → List Token → R → Type 0) (IsBefore : List Token → Type 0) (ts : List Placed) (state : R)
+    (large wrong : Option ℕ) : Type 0 where
+  pub reads : Reads (is_none large && is_none wrong) (tokens_of ts) state
+  pub numbers : FirstLarge ts large
+  pub players : large ≡ None → FirstPlayer IsBefore ts wrong
+
+abbrev pub KeepsReader : {R : Type 0} → (Bool → List Token → R → Type 0) → (List Token → Type 0) → List Placed → Reader R → Type 0
+KeepsReader Reads IsBefore ts r = Keeps Reads IsBefore ts r.grammar r.large r.wrong
+
+-- the reader took the token at the place, or it can't stand there
+abbrev pub ReaderTakes : {R : Type 0} → (Bool → List Token → R → Type 0) → (List Token → Type 0) → (List Token → Type 0) → Reader R → Reader R → Bool
+    → Token → ℕ → Type 0
+ReaderTakes Reads BeginsText IsBefore old new taken t place =
+    (ts : List Placed) → KeepsReader Reads IsBefore ts old
+    → TakenOr taken (KeepsReader Reads IsBefore (ts ++ placed t place ∷ []) new) (Stops BeginsText (tokens_of ts) t)
+
+-- so did it with the piece
+abbrev pub TakesPiece : (Bool → Token → ℕ → Type 0) → List ℕ → Piece → Bool → Type 0
+TakesPiece Takes text piece taken =
+    (at : ℕ) → IsNextPiece text at piece → (piece.kind ≡ kind.End → ⊥) → (piece.kind ≡ kind.Bad → ⊥)
+    → (t : Token) × IsToken text at piece.from piece.to t × Takes taken t piece.from
+
+-- the token between the places does not go on with those before it
+pub record IsUnexpected (BeginsText : List Token → Type 0) (text : List ℕ) (from to : ℕ) : Type 0 where
+  pub before : List Placed
+  pub at : ℕ
+  pub token : Token
+  pub reached : ReadsTo text 0 before at
+  pub stands : IsToken text at from to token
+  pub ends : Stops BeginsText (tokens_of before) token
+
+-- the text spells tokens without a number above the limit, which say this
+pub record SpellsLines {L : Type 0} (Says : List Token → L → Type 0) (text : List ℕ) (lines : L) : Type 0 where
+  pub tokens : List Placed
+  pub spelled : Spells 0 text tokens
+  pub numbers : AllFit (tokens_of tokens)
+  pub says : Says (tokens_of tokens) lines
+
+-- the text's first fault of spelling; out of memory says nothing of the text
+abbrev pub IsParseFaultOf : (List Token → Type 0) → (List Token → Type 0) → (List Token → Type 0) → List ℕ → ParseFault → Type 0
+IsParseFaultOf BeginsText IsText IsBefore text (fault.Lexical at) = IsLexicalFault text at
+IsParseFaultOf BeginsText IsText IsBefore text (fault.Syntax at) = IsSyntaxFault BeginsText IsText text at
+IsParseFaultOf BeginsText IsText IsBefore text (fault.Number at) = IsNumberFault IsText text at
+IsParseFaultOf BeginsText IsText IsBefore text (fault.Player at) = IsPlayerFault IsText IsBefore text at
+IsParseFaultOf BeginsText IsText IsBefore text fault.Memory = Unit {0}
