@@ -9,4 +9,3 @@ pub mod GameReads
 pub mod SolutionTable
 pub mod Grammar
 pub mod Parsing
-pub mod ParseFault
