@@ -1,7 +1,7 @@
 /* pgboard: solutions of parity games, and their check, for programs that have games in memory.
  *
- * Each call returns a number: 0, or one of those below. Where it is 0, both fields of `told` are 0. Else `told` says where,
- * and nothing but `told` is written. No pointer may be null, also where its length is 0, and no array or struct that is
+ * Each call returns a number: 0, or one of those below. Where it is 0, both fields of `report` are 0. Else `report` says
+ * where, and nothing but `report` is written. No pointer may be null, also where its length is 0, and no array or struct that is
  * written may overlap another. The calls start no thread, wait for nothing and keep nothing; they may be made at once from
  * several threads, each with its own arrays. */
 #ifndef PGBOARD_H
@@ -27,8 +27,8 @@ uint32_t pgboard_version(void);
 #define PGBOARD_NO_CHOICE 4294967295u
 #define PGBOARD_NO_WINNER 255u
 
-/* The answers; pgboard_strerror has a text for each. In brackets: what `told` says, `at` and then `to`. What is not named
- * is 0. The first fault is told: in the order of each group, for the least vertex and then the least successor. */
+/* The answers; pgboard_strerror has a text for each. In brackets: what `report` says, `at` and then `to`. What is not named
+ * is 0. The first fault is reported: in the order of each group, for the least vertex and then the least successor. */
 #define PGBOARD_OK 0u
 #define PGBOARD_MEMORY 1u
 
@@ -92,8 +92,8 @@ uint32_t pgboard_version(void);
 #define PGBOARD_STRUCT_SOLUTION 2u
 #define PGBOARD_STRUCT_RESULTS 3u
 
-/* What is told beside an answer. */
-struct pgboard_told {
+/* What is reported beside an answer. */
+struct pgboard_report {
     uint64_t at;
     uint64_t to;
 };
@@ -133,30 +133,30 @@ struct pgboard_results {
 };
 
 /* Solves a game. */
-uint32_t pgboard_solve(const struct pgboard_game *game, struct pgboard_results *results, struct pgboard_told *told);
+uint32_t pgboard_solve(const struct pgboard_game *game, struct pgboard_results *results, struct pgboard_report *report);
 
 /* As pgboard_solve, from what is known: PGBOARD_NO_WINNER stands where the winner is not. What is known need not come from
  * here: each player's known vertices, with his choices there, have to be ones that he wins without leaving them. */
 uint32_t pgboard_solve_known(const struct pgboard_game *game, const struct pgboard_solution *known,
-                             struct pgboard_results *results, struct pgboard_told *told);
+                             struct pgboard_results *results, struct pgboard_report *report);
 
 /* Whether winners and choices are a solution of a game: PGBOARD_OK, or what is wrong first. */
 uint32_t pgboard_check(const struct pgboard_game *game, const struct pgboard_solution *solution,
-                       struct pgboard_told *told);
+                       struct pgboard_report *report);
 
 /* Solves a game in PGSolver's format: writes the solution's text to the front of `into`, and its size. There is no zero
- * byte at the end. Vertices are told by their identifiers. */
+ * byte at the end. Vertices are named by their identifiers. */
 uint32_t pgboard_solve_text(const uint8_t *game, size_t game_len, uint8_t *into, size_t into_len, size_t *size,
-                            struct pgboard_told *told);
+                            struct pgboard_report *report);
 
 /* The same with the game's one written form. */
 uint32_t pgboard_tidy_text(const uint8_t *game, size_t game_len, uint8_t *into, size_t into_len, size_t *size,
-                           struct pgboard_told *told);
+                           struct pgboard_report *report);
 
-/* Whether a text is a solution of a game's text: PGBOARD_OK, or what is wrong first. Vertices are told by their
+/* Whether a text is a solution of a game's text: PGBOARD_OK, or what is wrong first. Vertices are named by their
  * identifiers. */
 uint32_t pgboard_verify_text(const uint8_t *game, size_t game_len, const uint8_t *solution, size_t solution_len,
-                             struct pgboard_told *told);
+                             struct pgboard_report *report);
 
 /* What an answer says, in English. */
 static inline const char *pgboard_strerror(uint32_t answer)

@@ -1,4 +1,4 @@
-/* Goes through the calls of include/pgboard.h: each answer, what is told beside it, and that nothing else is written.
+/* Goes through the calls of include/pgboard.h: each answer, what is reported beside it, and that nothing else is written.
  * With the word `games`, reads games as numbers from standard input (n and m, owners, priorities, starts, targets), and
  * writes for each the winners and the choices that it got. Else the words are the limits of a game: vertices, edges,
  * priorities; the last line is 'N passed, M failed'. Linked with -Wl,--wrap=malloc,--wrap=realloc, so that memory can
@@ -76,7 +76,7 @@ static void set(size_t n, const char *owners, const uint32_t *priorities, const 
     game.results_size = sizeof(struct pgboard_results);
 }
 
-static struct pgboard_told told;
+static struct pgboard_report report;
 
 /* The structs over these arrays. */
 static struct pgboard_game arrays_of(void)
@@ -96,8 +96,8 @@ static uint32_t solve(void)
 {
     struct pgboard_game it = arrays_of();
     struct pgboard_results results = results_of(), same = results;
-    told.at = told.to = 99;
-    uint32_t answer = pgboard_solve(&it, &results, &told);
+    report.at = report.to = 99;
+    uint32_t answer = pgboard_solve(&it, &results, &report);
     return memcmp(&results, &same, sizeof same) == 0 ? answer : 99;
 }
 
@@ -106,8 +106,8 @@ static uint32_t check(void)
     struct pgboard_game it = arrays_of();
     struct pgboard_solution solution = {game.solution_size, game.winners, game.winners_len, game.choices,
                                         game.choices_len};
-    told.at = told.to = 99;
-    return pgboard_check(&it, &solution, &told);
+    report.at = report.to = 99;
+    return pgboard_check(&it, &solution, &report);
 }
 
 static uint32_t solve_known(void)
@@ -116,16 +116,16 @@ static uint32_t solve_known(void)
     struct pgboard_solution known = {game.solution_size, game.known_winners, game.known_len, game.known_choices,
                                      game.known_choices_len};
     struct pgboard_results results = results_of(), same = results;
-    told.at = told.to = 99;
-    uint32_t answer = pgboard_solve_known(&it, &known, &results, &told);
+    report.at = report.to = 99;
+    uint32_t answer = pgboard_solve_known(&it, &known, &results, &report);
     return memcmp(&results, &same, sizeof same) == 0 ? answer : 99;
 }
 
-/* Whether a call has this answer and tells this, and has changed nothing else. */
+/* Whether a call has this answer and reports this, and has changed nothing else. */
 static int refuses(uint32_t (*call)(void), uint32_t answer, uint64_t at, uint64_t to)
 {
     memcpy(&before, &game, sizeof game);
-    return call() == answer && told.at == at && told.to == to && memcmp(&before, &game, sizeof game) == 0;
+    return call() == answer && report.at == at && report.to == to && memcmp(&before, &game, sizeof game) == 0;
 }
 
 static int all_refuse(uint32_t answer, uint64_t at, uint64_t to)
@@ -144,7 +144,7 @@ static void two(void)
 static void solves(void)
 {
     two();
-    EXPECT(solve() == PGBOARD_OK && told.at == 0 && told.to == 0);
+    EXPECT(solve() == PGBOARD_OK && report.at == 0 && report.to == 0);
     EXPECT(game.winners[0] == 0 && game.winners[1] == 1 && game.winners[2] == 77);
     EXPECT(game.choices[0] == 0 && game.choices[1] == 1 && game.choices[2] == 77u * 0x01010101u);
     EXPECT(refuses(check, PGBOARD_OK, 0, 0));
@@ -215,7 +215,7 @@ static void refuses_results(void)
     EXPECT(refuses(solve_known, PGBOARD_SOLUTION, PGBOARD_ARRAY_CHOICES, 0));
 }
 
-/* What is known of the two vertices, and the answer and what is told. */
+/* What is known of the two vertices, and the answer and what is reported. */
 static int known(unsigned first, uint32_t choice, unsigned second, uint32_t other, uint32_t answer, uint64_t at,
                  uint64_t to)
 {
@@ -225,7 +225,7 @@ static int known(unsigned first, uint32_t choice, unsigned second, uint32_t othe
         return refuses(solve_known, answer, at, to);
     memset(game.winners, 77, sizeof game.winners);
     memset(game.choices, 77, sizeof game.choices);
-    int solved = solve_known() == PGBOARD_OK && told.at == 0 && told.to == 0;
+    int solved = solve_known() == PGBOARD_OK && report.at == 0 && report.to == 0;
     return solved && game.winners[0] == 0 && game.winners[1] == 1 && game.winners[2] == 77 && game.choices[0] == 0 &&
            game.choices[1] == 1 && game.choices[2] == 77u * 0x01010101u && refuses(check, PGBOARD_OK, 0, 0);
 }
@@ -293,7 +293,7 @@ static void refuses_solutions(void)
     EXPECT(refuses(check, PGBOARD_CYCLE, 1, 0));
 }
 
-typedef uint32_t writer(const uint8_t *, size_t, uint8_t *, size_t, size_t *, struct pgboard_told *);
+typedef uint32_t writer(const uint8_t *, size_t, uint8_t *, size_t, size_t *, struct pgboard_report *);
 
 static int is_untouched(const uint8_t *bytes, size_t size)
 {
@@ -308,9 +308,9 @@ static int text_refuses(writer *call, const char *text, size_t room, uint32_t an
     uint8_t into[64];
     size_t size = 99;
     memset(into, 77, sizeof into);
-    told.at = told.to = 99;
-    return call((const uint8_t *)text, strlen(text), into, room, &size, &told) == answer && told.at == at &&
-           told.to == to && size == 99 && is_untouched(into, sizeof into);
+    report.at = report.to = 99;
+    return call((const uint8_t *)text, strlen(text), into, room, &size, &report) == answer && report.at == at &&
+           report.to == to && size == 99 && is_untouched(into, sizeof into);
 }
 
 /* A text is written into a buffer of its size and into a longer one, where nothing behind it changes. */
@@ -321,9 +321,9 @@ static int writes(writer *call, const char *text, const char *wanted)
     for (size_t room = size; room <= sizeof into; room += sizeof into - size) {
         size_t written = 99;
         memset(into, 77, sizeof into);
-        told.at = told.to = 99;
-        if (call((const uint8_t *)text, strlen(text), into, room, &written, &told) != PGBOARD_OK || told.at != 0 ||
-            told.to != 0 || written != size || memcmp(into, wanted, size) != 0 ||
+        report.at = report.to = 99;
+        if (call((const uint8_t *)text, strlen(text), into, room, &written, &report) != PGBOARD_OK || report.at != 0 ||
+            report.to != 0 || written != size || memcmp(into, wanted, size) != 0 ||
             !is_untouched(into + size, sizeof into - size))
             return 0;
     }
@@ -332,13 +332,13 @@ static int writes(writer *call, const char *text, const char *wanted)
 
 static uint32_t verify(const char *text, const char *solution)
 {
-    told.at = told.to = 99;
-    return pgboard_verify_text((const uint8_t *)text, strlen(text), (const uint8_t *)solution, strlen(solution), &told);
+    report.at = report.to = 99;
+    return pgboard_verify_text((const uint8_t *)text, strlen(text), (const uint8_t *)solution, strlen(solution), &report);
 }
 
 static int not_verified(const char *text, const char *solution, uint32_t answer, uint64_t at, uint64_t to)
 {
-    return verify(text, solution) == answer && told.at == at && told.to == to;
+    return verify(text, solution) == answer && report.at == at && report.to == to;
 }
 
 static const char *const GAME = "9 1 1 9; 3 2 0 3, 9 \"a name\";";
@@ -347,7 +347,7 @@ static void takes_texts(void)
 {
     EXPECT(writes(pgboard_solve_text, GAME, "paritysol 9;\n3 0 3;\n9 1 9;\n"));
     EXPECT(writes(pgboard_tidy_text, GAME, "parity 9;\n3 2 0 3,9;\n9 1 1 9;\n"));
-    EXPECT(verify(GAME, "9 1 9; 3 0 3;") == PGBOARD_OK && told.at == 0 && told.to == 0);
+    EXPECT(verify(GAME, "9 1 9; 3 0 3;") == PGBOARD_OK && report.at == 0 && report.to == 0);
 }
 
 static void refuses_texts(void)
@@ -385,11 +385,11 @@ static void refuses_long_texts(void)
     uint8_t into[1];
     size_t written;
     EXPECT(text != NULL);
-    EXPECT(pgboard_solve_text(text, size, into, 0, &written, &told) == PGBOARD_GAME_TOO_LONG && told.at == 0 &&
-           told.to == 0);
-    EXPECT(pgboard_tidy_text(text, size, into, 0, &written, &told) == PGBOARD_GAME_TOO_LONG);
-    EXPECT(pgboard_verify_text(text, size, text, 0, &told) == PGBOARD_GAME_TOO_LONG);
-    EXPECT(pgboard_verify_text((const uint8_t *)GAME, strlen(GAME), text, size, &told) == PGBOARD_SOLUTION_TOO_LONG);
+    EXPECT(pgboard_solve_text(text, size, into, 0, &written, &report) == PGBOARD_GAME_TOO_LONG && report.at == 0 &&
+           report.to == 0);
+    EXPECT(pgboard_tidy_text(text, size, into, 0, &written, &report) == PGBOARD_GAME_TOO_LONG);
+    EXPECT(pgboard_verify_text(text, size, text, 0, &report) == PGBOARD_GAME_TOO_LONG);
+    EXPECT(pgboard_verify_text((const uint8_t *)GAME, strlen(GAME), text, size, &report) == PGBOARD_SOLUTION_TOO_LONG);
     free(text);
 }
 
@@ -439,7 +439,7 @@ static uint32_t large(size_t n, size_t degree)
     }
     struct pgboard_game it = {sizeof it, owners, n, priorities, n, starts, n + 1, targets, n * degree};
     struct pgboard_results results = {sizeof results, winners, n, choices, n};
-    uint32_t answer = pgboard_solve(&it, &results, &told);
+    uint32_t answer = pgboard_solve(&it, &results, &report);
     free(priorities), free(starts), free(targets), free(choices), free(owners), free(winners);
     return answer;
 }
@@ -450,8 +450,8 @@ static void refuses_large_games(size_t vertices, size_t edges)
     size_t n = 1;
     while (n * n <= edges)
         n++;
-    EXPECT(large(vertices + 1, 1) == PGBOARD_TOO_MANY_VERTICES && told.at == 0 && told.to == 0);
-    EXPECT(large(n, n) == PGBOARD_TOO_MANY_EDGES && told.at == 0 && told.to == 0);
+    EXPECT(large(vertices + 1, 1) == PGBOARD_TOO_MANY_VERTICES && report.at == 0 && report.to == 0);
+    EXPECT(large(n, n) == PGBOARD_TOO_MANY_EDGES && report.at == 0 && report.to == 0);
     EXPECT(large(n - 1, n - 1) == PGBOARD_OK);
     EXPECT(large(vertices, 1) == PGBOARD_OK);
 }
@@ -480,8 +480,8 @@ static int games(void)
         struct pgboard_game it = {sizeof it, owners, n, priorities, n, starts, n + 1, targets, m};
         struct pgboard_solution solution = {sizeof solution, winners, n, choices, n};
         struct pgboard_results results = {sizeof results, winners, n, choices, n};
-        uint32_t answer = pgboard_solve(&it, &results, &told);
-        uint32_t holds = pgboard_check(&it, &solution, &told);
+        uint32_t answer = pgboard_solve(&it, &results, &report);
+        uint32_t holds = pgboard_check(&it, &solution, &report);
         printf("%u %u", answer, holds);
         for (unsigned v = 0; v < n; v++)
             printf(" %u:%ld", winners[v], choices[v] == PGBOARD_NO_CHOICE ? -1L : (long)choices[v]);

@@ -13,18 +13,17 @@ do. Ctrl-C ends a call: the thread that makes it goes on unseen until it ends, s
 
 from __future__ import annotations
 
+import ctypes
 from array import array
 from typing import Any, Iterable, List, Optional, Sequence, Tuple, Type, Union
 
-import ctypes
-
-from . import faults
+from . import faults, library
 from .faults import *  # noqa: F401,F403
 from .library import NO_CHOICE, NO_WINNER, ROOM, judged, run, slices, struct_of
+from .version import __version__
 
-__version__ = "0.1.0"
 __all__ = [
-    "NO_CHOICE", "NO_WINNER", "solve", "solve_csr", "solve_graph", "solve_text", "tidy_text", "verify", "verify_csr", "verify_text",
+    "NO_CHOICE", "NO_WINNER", "__version__", "solve", "solve_csr", "solve_graph", "solve_text", "tidy_text", "verify", "verify_csr", "verify_text",
     *faults.__all__,
 ]  # fmt: skip
 
@@ -117,7 +116,7 @@ def claim_views(winners: Buffer, choices: Buffer) -> List[memoryview]:
 
 
 def answer_of_arrays(name: str, parts: List[Any], views: List[memoryview], game: List[memoryview]) -> None:
-    """Makes a call on arrays, and raises what it refuses. A successor of a signed buffer is told with its sign."""
+    """Makes a call on arrays, and raises what it refuses. A successor of a signed buffer is reported with its sign."""
     answer, at, to = run(name, parts, views)
     is_negative = to >= 2**31 and game[3].format in ("i", "l", "<i", "<l", "=i", "=l", "@i", "@l")
     judged(answer, at, to - 2**32 if is_negative else to)
@@ -186,7 +185,7 @@ def attributes(graph: Any, nodes: Sequence[Any], name: str) -> List[int]:
 
 def solve_graph(graph: Any) -> Any:
     """Solves a networkx.DiGraph, whose nodes have the attributes `owner` and `priority`. Returns a copy whose nodes have
-    `winner` too, and `choice` where the winner owns the node. A fault tells the places of nodes in their order. Raises
+    `winner` too, and `choice` where the winner owns the node. A fault names nodes by their places in their order. Raises
     MissingAttribute for a node without one of the two, and what `solve` raises."""
     nodes = list(graph)
     places = {node: v for v, node in enumerate(nodes)}

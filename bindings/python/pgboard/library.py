@@ -8,17 +8,19 @@ import threading
 from typing import Any, List, Tuple
 
 from .faults import FAULTS
+from .version import __version__
 
 ROOM = 50
 NO_CHOICE = 4294967295
 NO_WINNER = 255
-VERSION = 100
 
+# the package's version as pgboard_version says it
+VERSION = sum(int(it) * by for it, by in zip(__version__.split("."), (10000, 100, 1)))
 HERE = os.path.dirname(os.path.abspath(__file__))
 EXPORTS = ["pgboard_solve", "pgboard_solve_known", "pgboard_check", "pgboard_solve_text", "pgboard_tidy_text", "pgboard_verify_text", "pgboard_version"]
 
 
-class Told(ctypes.Structure):
+class Report(ctypes.Structure):
     _fields_ = [("at", ctypes.c_uint64), ("to", ctypes.c_uint64)]
 
 
@@ -86,16 +88,16 @@ def slices(*views: memoryview) -> List[ctypes.c_size_t]:
 
 
 def run(name: str, arguments: List[Any], views: List[memoryview]) -> Tuple[int, int, int]:
-    """Makes a call, over these views; returns the answer and what is told.
+    """Makes a call, over these views; returns the answer and what is reported.
 
     Python looks at Ctrl-C in the main thread alone, and only between its own steps. So there a thread makes the call, and an
     interrupt ends the wait for it. The thread then goes on until the call ends, and what it has written is dropped; the views
     stay until then."""
-    told = Told()
+    report = Report()
     answers: List[int] = []
 
     def call() -> None:
-        answers.append(getattr(LIBRARY, name)(*arguments, ctypes.byref(told)))
+        answers.append(getattr(LIBRARY, name)(*arguments, ctypes.byref(report)))
         views.clear()
 
     if threading.current_thread() is threading.main_thread():
@@ -104,7 +106,7 @@ def run(name: str, arguments: List[Any], views: List[memoryview]) -> Tuple[int, 
         thread.join()
     else:
         call()
-    return answers[0], told.at, told.to
+    return answers[0], report.at, report.to
 
 
 def judged(answer: int, at: int, to: int) -> None:

@@ -1,4 +1,4 @@
--- The number of each answer, and what is told beside it: a table with one line for each fault.
+-- The number of each answer, and what is reported beside it: a table with one line for each fault.
 use Rattle.std.specs.Prelude.{ℕ, ◌≡◌}
 use Rattle.pg_game.specs.declared.game.GameFault.{GameFault}
 use Rattle.pg_game.specs.declared.game.GameFault.TheVariants as game
@@ -16,8 +16,8 @@ use Rattle.pgboard_c.specs.declared.fault.KnownFault.{KnownFault}
 use Rattle.pgboard_c.specs.declared.fault.KnownFault.TheVariants as known
 use Rattle.pgboard_c.specs.declared.fault.Fault.{Fault}
 use Rattle.pgboard_c.specs.declared.fault.Fault.TheVariants as fault
+use Rattle.pgboard_c.specs.declared.fault.Answer.{Answer}
 use Rattle.pgboard_c.specs.declared.fault.Report.{Report}
-use Rattle.pgboard_c.specs.declared.fault.Told.{Told}
 
 -- version 0.1.0, as major * 10000 + minor * 100 + patch
 abbrev pub version : ℕ
@@ -41,73 +41,73 @@ structure_size structure.Game = 72
 structure_size structure.Solution = 40
 structure_size structure.Results = 40
 
-abbrev pub report : ℕ → ℕ → ℕ → Report
-report number at to = record { number = number; at = at; to = to }
+abbrev pub answer : ℕ → ℕ → ℕ → Answer
+answer number at to = record { number = number; at = at; to = to }
 
-abbrev pub game_report : GameFault → Report
-game_report game.NoVertex = report 10 0 0
-game_report game.TooManyVertices = report 11 0 0
-game_report (game.Twice id) = report 12 id 0
-game_report (game.NoSuccessor id) = report 13 id 0
-game_report game.TooManyEdges = report 14 0 0
-game_report (game.Unknown id to) = report 15 id to
-game_report game.Memory = report 1 0 0
+abbrev pub game_answer : GameFault → Answer
+game_answer game.NoVertex = answer 10 0 0
+game_answer game.TooManyVertices = answer 11 0 0
+game_answer (game.Twice id) = answer 12 id 0
+game_answer (game.NoSuccessor id) = answer 13 id 0
+game_answer game.TooManyEdges = answer 14 0 0
+game_answer (game.Unknown id to) = answer 15 id to
+game_answer game.Memory = answer 1 0 0
 
-abbrev pub verdict_report : SolutionFault → Report
-verdict_report (verdict.NoChoice id) = report 20 id 0
-verdict_report (verdict.BadChoice id) = report 21 id 0
-verdict_report (verdict.Leaves id to) = report 22 id to
-verdict_report (verdict.Cycle id) = report 23 id 0
-verdict_report verdict.Memory = report 1 0 0
+abbrev pub verdict_answer : SolutionFault → Answer
+verdict_answer (verdict.NoChoice id) = answer 20 id 0
+verdict_answer (verdict.BadChoice id) = answer 21 id 0
+verdict_answer (verdict.Leaves id to) = answer 22 id to
+verdict_answer (verdict.Cycle id) = answer 23 id 0
+verdict_answer verdict.Memory = answer 1 0 0
 
-abbrev pub known_report : KnownFault → Report
-known_report (known.Choice v) = report 60 v 0
-known_report (known.Cycle v) = report 61 v 0
-known_report (known.Lost v) = report 62 v 0
-known_report (known.Leaves v w) = report 63 v w
+abbrev pub known_answer : KnownFault → Answer
+known_answer (known.Choice v) = answer 60 v 0
+known_answer (known.Cycle v) = answer 61 v 0
+known_answer (known.Lost v) = answer 62 v 0
+known_answer (known.Leaves v w) = answer 63 v w
 
-abbrev pub text_report : TextFault → Report
-text_report (text.Lexical at) = report 31 at 0
-text_report (text.Syntax at) = report 32 at 0
-text_report (text.Number at) = report 33 at 0
-text_report (text.Owner at) = report 34 at 0
-text_report (text.Game f) = game_report f
-text_report text.Memory = report 1 0 0
+abbrev pub text_answer : TextFault → Answer
+text_answer (text.Lexical at) = answer 31 at 0
+text_answer (text.Syntax at) = answer 32 at 0
+text_answer (text.Number at) = answer 33 at 0
+text_answer (text.Owner at) = answer 34 at 0
+text_answer (text.Game f) = game_answer f
+text_answer text.Memory = answer 1 0 0
 
-abbrev pub solution_report : SolutionTextFault → Report
-solution_report (solution.Lexical at) = report 41 at 0
-solution_report (solution.Syntax at) = report 42 at 0
-solution_report (solution.Number at) = report 43 at 0
-solution_report (solution.Winner at) = report 44 at 0
-solution_report (solution.Stranger id) = report 45 id 0
-solution_report (solution.Twice id) = report 46 id 0
-solution_report (solution.Missing id) = report 47 id 0
-solution_report solution.Memory = report 1 0 0
+abbrev pub solution_answer : SolutionTextFault → Answer
+solution_answer (solution.Lexical at) = answer 41 at 0
+solution_answer (solution.Syntax at) = answer 42 at 0
+solution_answer (solution.Number at) = answer 43 at 0
+solution_answer (solution.Winner at) = answer 44 at 0
+solution_answer (solution.Stranger id) = answer 45 id 0
+solution_answer (solution.Twice id) = answer 46 id 0
+solution_answer (solution.Missing id) = answer 47 id 0
+solution_answer solution.Memory = answer 1 0 0
 
 -- the number of the answer, and what it is about: vertices, a place in a text, a size, or an array or a struct by its number
-abbrev pub report_of : Fault → Report
-report_of fault.Memory = report 1 0 0
-report_of (fault.Lengths a) = report 2 (array_number a) 0
-report_of (fault.Row v) = report 3 v 0
-report_of (fault.Owner v) = report 4 v 0
-report_of (fault.Priority v) = report 5 v 0
-report_of (fault.Results a) = report 6 (array_number a) 0
-report_of (fault.Winner v) = report 7 v 0
-report_of (fault.Solution a) = report 8 (array_number a) 0
-report_of (fault.Size s) = report 9 (structure_number s) (structure_size s)
-report_of (fault.Game f) = game_report f
-report_of (fault.Verdict f) = verdict_report f
-report_of (fault.Known f) = known_report f
-report_of fault.GameTooLong = report 30 0 0
-report_of (fault.GameText f) = text_report f
-report_of fault.SolutionTooLong = report 40 0 0
-report_of (fault.SolutionText f) = solution_report f
-report_of (fault.Room size) = report 50 size 0
+abbrev pub answer_of : Fault → Answer
+answer_of fault.Memory = answer 1 0 0
+answer_of (fault.Lengths a) = answer 2 (array_number a) 0
+answer_of (fault.Row v) = answer 3 v 0
+answer_of (fault.Owner v) = answer 4 v 0
+answer_of (fault.Priority v) = answer 5 v 0
+answer_of (fault.Results a) = answer 6 (array_number a) 0
+answer_of (fault.Winner v) = answer 7 v 0
+answer_of (fault.Solution a) = answer 8 (array_number a) 0
+answer_of (fault.Size s) = answer 9 (structure_number s) (structure_size s)
+answer_of (fault.Game f) = game_answer f
+answer_of (fault.Verdict f) = verdict_answer f
+answer_of (fault.Known f) = known_answer f
+answer_of fault.GameTooLong = answer 30 0 0
+answer_of (fault.GameText f) = text_answer f
+answer_of fault.SolutionTooLong = answer 40 0 0
+answer_of (fault.SolutionText f) = solution_answer f
+answer_of (fault.Room size) = answer 50 size 0
 
--- the answer is the fault's number, and its places are told
-abbrev pub IsReported : Fault → ℕ → Told → Type 0
-IsReported fault answer told = report_of fault ≡ report answer told.at told.to
+-- the answer is the fault's number, and its places are reported
+abbrev pub IsReported : Fault → ℕ → Report → Type 0
+IsReported fault number report = answer_of fault ≡ answer number report.at report.to
 
--- nothing is told
-abbrev pub IsBlank : Told → Type 0
-IsBlank told = (told.at ≡ 0) × (told.to ≡ 0)
+-- nothing is reported
+abbrev pub IsBlank : Report → Type 0
+IsBlank report = (report.at ≡ 0) × (report.to ≡ 0)

@@ -1,7 +1,7 @@
 //! Why a call gave nothing, or what is wrong with winners and choices, and what is reported of it.
 ghost use Rattle.std.specs.Prelude.{◌≡◌, ◌<◌};
-ghost use Rattle.pgboard_c.specs.Numbers.{report, array_number, structure_number, structure_size};
-ghost use Rattle.pgboard_c.specs.Numbers.{game_report, verdict_report, known_report, text_report, solution_report, report_of, IsReported, IsBlank};
+ghost use Rattle.pgboard_c.specs.Numbers.{answer, array_number, structure_number, structure_size};
+ghost use Rattle.pgboard_c.specs.Numbers.{game_answer, verdict_answer, known_answer, text_answer, solution_answer, answer_of, IsReported, IsBlank};
 
 use pg_dominion::SolutionFault;
 use pg_game::GameFault;
@@ -77,7 +77,7 @@ pub enum KnownFault {
     Leaves(u32, u32),
 }
 
-/// Why a call gave nothing, or what is wrong with winners and choices. Vertices are told by their numbers.
+/// Why a call gave nothing, or what is wrong with winners and choices. Vertices are named by their numbers.
 #[derive(Clone, Copy, Drop)]
 pub enum Fault {
     /// Memory was refused.
@@ -129,112 +129,112 @@ impl From<AllocError> for Fault {
 
 /// What is reported of a fault: the number of the answer, and the two places that it is about. A place that it doesn't name is 0.
 #[derive(Clone, Copy)]
-pub struct Report {
+pub struct Answer {
     pub number: u32,
     pub at: u64,
     pub to: u64,
 }
 
-impl Report {
-    fn new(number: u32, at: u64, to: u64) -> Report
-        ensures { result ≡ report number at to }
+impl Answer {
+    fn new(number: u32, at: u64, to: u64) -> Answer
+        ensures { result ≡ answer number at to }
     {
-        Report { number, at, to }
+        Answer { number, at, to }
     }
 
-    fn of_game(fault: GameFault) -> Report
-        ensures report { result ≡ game_report fault }
+    fn of_game(fault: GameFault) -> Answer
+        ensures answer { result ≡ game_answer fault }
         ensures above { 0 < result.number }
     {
         match fault {
-            GameFault::NoVertex => Report::new(10, 0, 0),
-            GameFault::TooManyVertices => Report::new(11, 0, 0),
-            GameFault::Twice(id) => Report::new(12, u64::from(id), 0),
-            GameFault::NoSuccessor(id) => Report::new(13, u64::from(id), 0),
-            GameFault::TooManyEdges => Report::new(14, 0, 0),
-            GameFault::Unknown(id, to) => Report::new(15, u64::from(id), u64::from(to)),
-            GameFault::Memory => Report::new(1, 0, 0),
+            GameFault::NoVertex => Answer::new(10, 0, 0),
+            GameFault::TooManyVertices => Answer::new(11, 0, 0),
+            GameFault::Twice(id) => Answer::new(12, u64::from(id), 0),
+            GameFault::NoSuccessor(id) => Answer::new(13, u64::from(id), 0),
+            GameFault::TooManyEdges => Answer::new(14, 0, 0),
+            GameFault::Unknown(id, to) => Answer::new(15, u64::from(id), u64::from(to)),
+            GameFault::Memory => Answer::new(1, 0, 0),
         }
     }
 
-    fn of_verdict(fault: SolutionFault) -> Report
-        ensures report { result ≡ verdict_report fault }
+    fn of_verdict(fault: SolutionFault) -> Answer
+        ensures answer { result ≡ verdict_answer fault }
         ensures above { 0 < result.number }
     {
         match fault {
-            SolutionFault::NoChoice(id) => Report::new(20, u64::from(id), 0),
-            SolutionFault::BadChoice(id) => Report::new(21, u64::from(id), 0),
-            SolutionFault::Leaves(id, to) => Report::new(22, u64::from(id), u64::from(to)),
-            SolutionFault::Cycle(id) => Report::new(23, u64::from(id), 0),
-            SolutionFault::Memory => Report::new(1, 0, 0),
+            SolutionFault::NoChoice(id) => Answer::new(20, u64::from(id), 0),
+            SolutionFault::BadChoice(id) => Answer::new(21, u64::from(id), 0),
+            SolutionFault::Leaves(id, to) => Answer::new(22, u64::from(id), u64::from(to)),
+            SolutionFault::Cycle(id) => Answer::new(23, u64::from(id), 0),
+            SolutionFault::Memory => Answer::new(1, 0, 0),
         }
     }
 
-    fn of_known(fault: KnownFault) -> Report
-        ensures report { result ≡ known_report fault }
+    fn of_known(fault: KnownFault) -> Answer
+        ensures answer { result ≡ known_answer fault }
         ensures above { 0 < result.number }
     {
         match fault {
-            KnownFault::Choice(v) => Report::new(60, u64::from(v), 0),
-            KnownFault::Cycle(v) => Report::new(61, u64::from(v), 0),
-            KnownFault::Lost(v) => Report::new(62, u64::from(v), 0),
-            KnownFault::Leaves(v, w) => Report::new(63, u64::from(v), u64::from(w)),
+            KnownFault::Choice(v) => Answer::new(60, u64::from(v), 0),
+            KnownFault::Cycle(v) => Answer::new(61, u64::from(v), 0),
+            KnownFault::Lost(v) => Answer::new(62, u64::from(v), 0),
+            KnownFault::Leaves(v, w) => Answer::new(63, u64::from(v), u64::from(w)),
         }
     }
 
-    fn of_text(fault: TextFault) -> Report
-        ensures report { result ≡ text_report fault }
+    fn of_text(fault: TextFault) -> Answer
+        ensures answer { result ≡ text_answer fault }
         ensures above { 0 < result.number }
     {
         match fault {
-            TextFault::Lexical(at) => Report::new(31, u64::from(at), 0),
-            TextFault::Syntax(at) => Report::new(32, u64::from(at), 0),
-            TextFault::Number(at) => Report::new(33, u64::from(at), 0),
-            TextFault::Owner(at) => Report::new(34, u64::from(at), 0),
-            TextFault::Game(fault) => Report::of_game(fault),
-            TextFault::Memory => Report::new(1, 0, 0),
+            TextFault::Lexical(at) => Answer::new(31, u64::from(at), 0),
+            TextFault::Syntax(at) => Answer::new(32, u64::from(at), 0),
+            TextFault::Number(at) => Answer::new(33, u64::from(at), 0),
+            TextFault::Owner(at) => Answer::new(34, u64::from(at), 0),
+            TextFault::Game(fault) => Answer::of_game(fault),
+            TextFault::Memory => Answer::new(1, 0, 0),
         }
     }
 
-    fn of_solution(fault: SolutionTextFault) -> Report
-        ensures report { result ≡ solution_report fault }
+    fn of_solution(fault: SolutionTextFault) -> Answer
+        ensures answer { result ≡ solution_answer fault }
         ensures above { 0 < result.number }
     {
         match fault {
-            SolutionTextFault::Lexical(at) => Report::new(41, u64::from(at), 0),
-            SolutionTextFault::Syntax(at) => Report::new(42, u64::from(at), 0),
-            SolutionTextFault::Number(at) => Report::new(43, u64::from(at), 0),
-            SolutionTextFault::Winner(at) => Report::new(44, u64::from(at), 0),
-            SolutionTextFault::Stranger(id) => Report::new(45, u64::from(id), 0),
-            SolutionTextFault::Twice(id) => Report::new(46, u64::from(id), 0),
-            SolutionTextFault::Missing(id) => Report::new(47, u64::from(id), 0),
-            SolutionTextFault::Memory => Report::new(1, 0, 0),
+            SolutionTextFault::Lexical(at) => Answer::new(41, u64::from(at), 0),
+            SolutionTextFault::Syntax(at) => Answer::new(42, u64::from(at), 0),
+            SolutionTextFault::Number(at) => Answer::new(43, u64::from(at), 0),
+            SolutionTextFault::Winner(at) => Answer::new(44, u64::from(at), 0),
+            SolutionTextFault::Stranger(id) => Answer::new(45, u64::from(id), 0),
+            SolutionTextFault::Twice(id) => Answer::new(46, u64::from(id), 0),
+            SolutionTextFault::Missing(id) => Answer::new(47, u64::from(id), 0),
+            SolutionTextFault::Memory => Answer::new(1, 0, 0),
         }
     }
 
     /// The report of each fault: here and in those above a fault gives its number and its places once.
-    fn of(fault: Fault) -> Report
-        ensures report { result ≡ report_of fault }
+    fn of(fault: Fault) -> Answer
+        ensures answer { result ≡ answer_of fault }
         ensures above { 0 < result.number }
     {
         match fault {
-            Fault::Memory => Report::new(1, 0, 0),
-            Fault::Lengths(array) => Report::new(2, array.number(), 0),
-            Fault::Row(v) => Report::new(3, v as u64, 0),
-            Fault::Owner(v) => Report::new(4, v as u64, 0),
-            Fault::Priority(v) => Report::new(5, v as u64, 0),
-            Fault::Results(array) => Report::new(6, array.number(), 0),
-            Fault::Winner(v) => Report::new(7, v as u64, 0),
-            Fault::Solution(array) => Report::new(8, array.number(), 0),
-            Fault::Size(it) => Report::new(9, it.number(), it.size() as u64),
-            Fault::Game(fault) => Report::of_game(fault),
-            Fault::Verdict(fault) => Report::of_verdict(fault),
-            Fault::Known(fault) => Report::of_known(fault),
-            Fault::GameTooLong => Report::new(30, 0, 0),
-            Fault::GameText(fault) => Report::of_text(fault),
-            Fault::SolutionTooLong => Report::new(40, 0, 0),
-            Fault::SolutionText(fault) => Report::of_solution(fault),
-            Fault::Room(size) => Report::new(50, size as u64, 0),
+            Fault::Memory => Answer::new(1, 0, 0),
+            Fault::Lengths(array) => Answer::new(2, array.number(), 0),
+            Fault::Row(v) => Answer::new(3, v as u64, 0),
+            Fault::Owner(v) => Answer::new(4, v as u64, 0),
+            Fault::Priority(v) => Answer::new(5, v as u64, 0),
+            Fault::Results(array) => Answer::new(6, array.number(), 0),
+            Fault::Winner(v) => Answer::new(7, v as u64, 0),
+            Fault::Solution(array) => Answer::new(8, array.number(), 0),
+            Fault::Size(it) => Answer::new(9, it.number(), it.size() as u64),
+            Fault::Game(fault) => Answer::of_game(fault),
+            Fault::Verdict(fault) => Answer::of_verdict(fault),
+            Fault::Known(fault) => Answer::of_known(fault),
+            Fault::GameTooLong => Answer::new(30, 0, 0),
+            Fault::GameText(fault) => Answer::of_text(fault),
+            Fault::SolutionTooLong => Answer::new(40, 0, 0),
+            Fault::SolutionText(fault) => Answer::of_solution(fault),
+            Fault::Room(size) => Answer::new(50, size as u64, 0),
         }
     }
 }
@@ -242,7 +242,7 @@ impl Report {
 /// What is said beside an answer.
 #[repr(C)]
 #[derive(Clone, Copy)]
-pub struct Told {
+pub struct Report {
     /// The vertex, the place in a text or the size that the answer is about.
     pub at: u64,
     /// The second vertex.
@@ -250,20 +250,20 @@ pub struct Told {
 }
 
 /// Tells the fault, and gives its number.
-pub fn tell_fault(told: &mut Told, fault: Fault) -> u32
-    ensures report { IsReported fault result told.new }
+pub fn report_fault(report: &mut Report, fault: Fault) -> u32
+    ensures report { IsReported fault result report.new }
     ensures above { 0 < result }
 {
-    let Report { number, at, to } = Report::of(fault);
-    *told = Told { at, to };
+    let Answer { number, at, to } = Answer::of(fault);
+    *report = Report { at, to };
     number
 }
 
 /// Tells that there is no fault, whose number is 0.
-pub fn tell_none(told: &mut Told) -> u32
+pub fn report_none(report: &mut Report) -> u32
     ensures answer { result ≡ 0 }
-    ensures blank { IsBlank told.new }
+    ensures blank { IsBlank report.new }
 {
-    *told = Told { at: 0, to: 0 };
+    *report = Report { at: 0, to: 0 };
     0
 }

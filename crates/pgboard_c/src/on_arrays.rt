@@ -7,7 +7,7 @@ ghost use Rattle.pgboard_c.specs.Answers.{AreSolved, IsSolveFault, AreSolution, 
 ghost use Rattle.pgboard_c.specs.Known.{AreSolvedFrom, IsSolveFromFault};
 
 use crate::arrays::Arrays;
-use crate::fault::{Fault, Told, tell_fault, tell_none};
+use crate::fault::{Fault, Report, report_fault, report_none};
 use crate::known::{first_bad_known_winner, read_known, solution_from};
 use crate::results::{Results, SolutionArrays, first_bad_winner, read_results, write_results};
 use crate::solving::solution_of;
@@ -71,23 +71,23 @@ fn check(alloc: Global, arrays: &Arrays, given: &SolutionArrays) -> Result<(), F
 }
 
 /// Solves the game that the arrays say: writes each vertex's winner, and his choice where he owns the vertex. The answer
-/// is 0, and then nothing is told, or why there is none; then only `told` is written.
+/// is 0, and then nothing is reported, or why there is none; then only `report` is written.
 #[unsafe(no_mangle)]
 pub extern "C" fn pgboard_solve(
     alloc: Global,
     game: &Arrays,
     results: &mut Results,
-    told: &mut Told,
+    report: &mut Report,
 ) -> u32
     ensures solved { result ≡ 0 → AreSolved (game_arrays game.now) (result_arrays results.new) }
-    ensures blank { result ≡ 0 → IsBlank told.new }
-    ensures refused { result ≢ 0 → (e : Fault) × IsReported e result told.new × IsSolveFault (game_arrays game.now) (result_arrays results.old) e }
+    ensures blank { result ≡ 0 → IsBlank report.new }
+    ensures refused { result ≢ 0 → (e : Fault) × IsReported e result report.new × IsSolveFault (game_arrays game.now) (result_arrays results.old) e }
     ensures kept { result ≢ 0 → result_arrays results.new ≡ result_arrays results.old }
     ensures struct_kept { IsSameStruct results.old results.new }
 {
     match solve(alloc, game, results) {
-        Ok(()) => tell_none(told),
-        Err(fault) => tell_fault(told, fault),
+        Ok(()) => report_none(report),
+        Err(fault) => report_fault(report, fault),
     }
 }
 
@@ -99,36 +99,36 @@ pub extern "C" fn pgboard_solve_known(
     game: &Arrays,
     known: &SolutionArrays,
     results: &mut Results,
-    told: &mut Told,
+    report: &mut Report,
 ) -> u32
     ensures solved { result ≡ 0 → AreSolvedFrom (game_arrays game.now) (solution_arrays known.now) (result_arrays results.new) }
-    ensures blank { result ≡ 0 → IsBlank told.new }
-    ensures refused { result ≢ 0 → (e : Fault) × IsReported e result told.new
+    ensures blank { result ≡ 0 → IsBlank report.new }
+    ensures refused { result ≢ 0 → (e : Fault) × IsReported e result report.new
         × IsSolveFromFault (game_arrays game.now) (solution_arrays known.now) (result_arrays results.old) e }
     ensures kept { result ≢ 0 → result_arrays results.new ≡ result_arrays results.old }
     ensures struct_kept { IsSameStruct results.old results.new }
 {
     match solve_known(alloc, game, known, results) {
-        Ok(()) => tell_none(told),
-        Err(fault) => tell_fault(told, fault),
+        Ok(()) => report_none(report),
+        Err(fault) => report_fault(report, fault),
     }
 }
 
-/// Whether winners and choices are a solution of the game: 0, and then nothing is told, or what is wrong with them, or
+/// Whether winners and choices are a solution of the game: 0, and then nothing is reported, or what is wrong with them, or
 /// why they say nothing.
 #[unsafe(no_mangle)]
 pub extern "C" fn pgboard_check(
     alloc: Global,
     game: &Arrays,
     solution: &SolutionArrays,
-    told: &mut Told,
+    report: &mut Report,
 ) -> u32
     ensures holds { result ≡ 0 → AreSolution (game_arrays game.now) (solution_arrays solution.now) }
-    ensures blank { result ≡ 0 → IsBlank told.new }
-    ensures refused { result ≢ 0 → (e : Fault) × IsReported e result told.new × IsCheckFault (game_arrays game.now) (solution_arrays solution.now) e }
+    ensures blank { result ≡ 0 → IsBlank report.new }
+    ensures refused { result ≢ 0 → (e : Fault) × IsReported e result report.new × IsCheckFault (game_arrays game.now) (solution_arrays solution.now) e }
 {
     match check(alloc, game, solution) {
-        Ok(()) => tell_none(told),
-        Err(fault) => tell_fault(told, fault),
+        Ok(()) => report_none(report),
+        Err(fault) => report_fault(report, fault),
     }
 }

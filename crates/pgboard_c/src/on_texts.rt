@@ -7,7 +7,7 @@ ghost use Rattle.pgboard_c.specs.declared.fault.Fault.{Fault};
 ghost use Rattle.pgboard_c.specs.Numbers.{IsReported, IsBlank};
 ghost use Rattle.pgboard_c.specs.Texts.{IsWritten, IsSolvedText, IsTidyText, IsRefusedGameText, IsTextFault, AreVerified, IsVerifyFault};
 
-use crate::fault::{Fault, Told, tell_fault, tell_none};
+use crate::fault::{Fault, Report, report_fault, report_none};
 use crate::solving::solution_of;
 use pg_dominion::{SolutionFault, check_solution};
 use pg_game::Game;
@@ -98,70 +98,70 @@ fn verify(alloc: Global, game: &[u8], solution: &[u8]) -> Result<(), Fault>
 }
 
 /// Solves the game that a text spells: writes a solution's text to the front of the buffer, and its size. The answer is 0,
-/// and then nothing is told, or why there is none; then only `told` is written.
+/// and then nothing is reported, or why there is none; then only `report` is written.
 #[unsafe(no_mangle)]
 pub extern "C" fn pgboard_solve_text(
     alloc: Global,
     game: &[u8],
     into: &mut [u8],
     size: &mut usize,
-    told: &mut Told,
+    report: &mut Report,
 ) -> u32
     ensures solved { result ≡ 0 → (answer : List ℕ) × IsSolvedText game.now answer × IsWritten into.old into.new size.new answer }
-    ensures blank { result ≡ 0 → IsBlank told.new }
-    ensures refused { result ≢ 0 → (e : Fault) × IsReported e result told.new × IsTextFault IsSolvedText game.now (length into.old) e }
+    ensures blank { result ≡ 0 → IsBlank report.new }
+    ensures refused { result ≢ 0 → (e : Fault) × IsReported e result report.new × IsTextFault IsSolvedText game.now (length into.old) e }
     ensures kept { result ≢ 0 → into.new ≡ into.old }
     ensures size_kept { result ≢ 0 → size.new ≡ size.old }
 {
     match solve(alloc, game, into) {
         Ok(written) => {
             *size = written;
-            tell_none(told)
+            report_none(report)
         }
-        Err(fault) => tell_fault(told, fault),
+        Err(fault) => report_fault(report, fault),
     }
 }
 
 /// Writes the game that a text spells in its one written form to the front of the buffer, and its size. The answer is 0,
-/// and then nothing is told, or why there is none; then only `told` is written.
+/// and then nothing is reported, or why there is none; then only `report` is written.
 #[unsafe(no_mangle)]
 pub extern "C" fn pgboard_tidy_text(
     alloc: Global,
     game: &[u8],
     into: &mut [u8],
     size: &mut usize,
-    told: &mut Told,
+    report: &mut Report,
 ) -> u32
     ensures tidied { result ≡ 0 → (answer : List ℕ) × IsTidyText game.now answer × IsWritten into.old into.new size.new answer }
-    ensures blank { result ≡ 0 → IsBlank told.new }
-    ensures refused { result ≢ 0 → (e : Fault) × IsReported e result told.new × IsTextFault IsTidyText game.now (length into.old) e }
+    ensures blank { result ≡ 0 → IsBlank report.new }
+    ensures refused { result ≢ 0 → (e : Fault) × IsReported e result report.new × IsTextFault IsTidyText game.now (length into.old) e }
     ensures kept { result ≢ 0 → into.new ≡ into.old }
     ensures size_kept { result ≢ 0 → size.new ≡ size.old }
 {
     match tidy(alloc, game, into) {
         Ok(written) => {
             *size = written;
-            tell_none(told)
+            report_none(report)
         }
-        Err(fault) => tell_fault(told, fault),
+        Err(fault) => report_fault(report, fault),
     }
 }
 
-/// Whether a text is a solution of the game that another spells: 0, and then nothing is told, or what is wrong first.
-/// Vertices are told by their identifiers.
+/// Whether a text is a solution of the game that another spells: 0, and then nothing is reported, or what is wrong first.
+/// Vertices are named by their identifiers.
 #[unsafe(no_mangle)]
 pub extern "C" fn pgboard_verify_text(
     alloc: Global,
     game: &[u8],
     solution: &[u8],
-    told: &mut Told,
+    report: &mut Report,
 ) -> u32
     ensures holds { result ≡ 0 → AreVerified game.now solution.now }
-    ensures blank { result ≡ 0 → IsBlank told.new }
-    ensures refused { result ≢ 0 → (e : Fault) × IsReported e result told.new × IsVerifyFault game.now solution.now e }
+    ensures blank { result ≡ 0 → IsBlank report.new }
+    ensures refused { result ≢ 0 → (e : Fault) × IsReported e result report.new × IsVerifyFault game.now solution.now e }
 {
     match verify(alloc, game, solution) {
-        Ok(()) => tell_none(told),
-        Err(fault) => tell_fault(told, fault),
+        Ok(()) => report_none(report),
+        Err(fault) => report_fault(report, fault),
     }
 }
