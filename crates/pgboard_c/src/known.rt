@@ -90,18 +90,13 @@ fn first_wrong_choice(game: &Game, known: &Known) -> Option<u32>
     None
 }
 
-/// Why the known set of a player is no region, where each of the choices is a successor.
-fn known_fault(game: &Game, known: &Known, fault: SolveFault) -> Fault
+/// Why the player's known set is no region, where each of the choices is a successor.
+fn known_fault(game: &Game, known: &Known, player: Player, refusal: Refusal) -> Fault
     requires size { length known.now.rows ≡ length game.now }
     requires choices { HaveRightChoices game.now known.now.rows }
-    requires fault { IsRefusedSet game.now known.now.rows fault }
+    requires fault { IsRefusedSet game.now known.now.rows (SolveFault.Known player refusal) }
     ensures { IsRefusedKnown game.now known.now.rows result }
 {
-    // for the proof alone, which takes from it that the game is one
-    let _n = game.len();
-    let SolveFault::Known(_player, refusal) = fault else {
-        return Fault::Memory;
-    };
     match refusal {
         Refusal::Claim(ClaimFault::Cycle(v)) => Fault::Known(KnownFault::Cycle(v)),
         Refusal::Lost(v) => Fault::Known(KnownFault::Lost(v)),
@@ -124,6 +119,7 @@ pub fn solution_from(alloc: Global, game: &Game, known: &Known) -> Result<Soluti
     }
     match solve_alone(alloc, game, known) {
         Ok(solution) => Ok(solution),
-        Err(fault) => Err(known_fault(game, known, fault)),
+        Err(SolveFault::Known(player, refusal)) => Err(known_fault(game, known, player, refusal)),
+        Err(SolveFault::Memory) => Err(Fault::Memory),
     }
 }
