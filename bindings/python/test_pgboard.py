@@ -251,7 +251,9 @@ class Calls(Tests):
     def test_an_interrupt_ends_a_long_call(self):
         # the library's call is replaced by one that would last for a minute
         program = (
-            "import time, pgboard\n"
+            "import signal, time, pgboard\n"
+            # (a shell has what it runs in the background ignore the interrupt)
+            "signal.signal(signal.SIGINT, signal.default_int_handler)\n"
             "class Slow:\n"
             "    def pgboard_solve(*arguments):\n"
             "        print('begun', flush=True)\n"
