@@ -174,8 +174,10 @@ class Faults(Tests):
             self.assertEqual((type(again), str(again), vars(again)), (type(it), str(it), vars(it)))
 
     def test_each_answer_of_the_header_has_one(self):
-        here = os.path.dirname(os.path.abspath(__file__))
-        with open(os.path.join(here, "..", "..", "include", "pgboard.h"), encoding="utf-8") as file:
+        path = os.path.join(os.path.dirname(os.path.abspath(__file__)), "..", "..", "include", "pgboard.h")
+        if not os.path.exists(path):
+            self.skipTest("the header is not here")
+        with open(path, encoding="utf-8") as file:
             header = file.read()
         answers = header[header.index("#define PGBOARD_OK") : header.index("#define PGBOARD_ARRAY_")]
         numbers = {int(it) for it in re.findall(r"(?m)^#define PGBOARD_\w+ (\d+)u", answers)}
