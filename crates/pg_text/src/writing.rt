@@ -1,4 +1,4 @@
-//! The one written spelling of games, solutions and winners: one line for each vertex in rising identifier, behind a header
+//! The one written spelling of games, solutions and winners: one line for each vertex in rising identifier, after a header
 //! with the greatest identifier. Numbers have no leading zeros (`itoa` writes them); there is no start line and no name.
 ghost use Rattle.std.specs.Prelude.{◌≡◌, ℕ, ◌<◌, ◌≤◌, ◌++◌, ◌+◌, ◌*◌, ◌^◌, ◌∷◌, [], length, drop, take, slice_index, codes, map, IfOk};
 ghost use Rattle.std.specs.Prelude.{OnOk, IfSome};
@@ -107,7 +107,7 @@ fn list_before(line: &mut [u8], end: usize, game: &Game, vertices: &[u32]) -> us
     number_before(line, at, game.id(vertices[0]))
 }
 
-/// Writes identifier, priority and owner of a vertex before a place of the line, each with a space behind it.
+/// Writes identifier, priority and owner of a vertex before a place of the line, each with a space after it.
 #[inline]
 fn fields_before(line: &mut [u8], end: usize, game: &Game, v: u32) -> usize
     requires vertex { v < length game.now }
@@ -124,7 +124,7 @@ fn fields_before(line: &mut [u8], end: usize, game: &Game, v: u32) -> usize
     field_before(line, at, game.id(v))
 }
 
-/// The line of one vertex in a game text, which is written from its end into a line with room for it.
+/// The line of one vertex in a game text, which is written from its end into a line with capacity for it.
 fn put_vertex(out: &mut Vec<u8>, line: &mut [u8], game: &Game, v: u32) -> Result<(), Memory>
     requires vertex { v < length game.now }
     requires room { 40 + 11 * length (successors_of game.now v) ≤ length line.old }
@@ -139,7 +139,7 @@ fn put_vertex(out: &mut Vec<u8>, line: &mut [u8], game: &Game, v: u32) -> Result
     out.extend_from_slice(&line[at..])
 }
 
-/// Room in the line for a vertex with so many successors.
+/// Capacity of the line for a vertex with so many successors.
 fn make_room(line: &mut Vec<u8>, successors: usize) -> Result<(), Memory>
     requires { successors < 2 ^ 32 }
     ensures { OnOk result (40 + 11 * successors ≤ length line.new.items) }
@@ -151,7 +151,7 @@ fn make_room(line: &mut Vec<u8>, successors: usize) -> Result<(), Memory>
     Ok(())
 }
 
-/// How many bytes the text of a game has at most. Room for so many is taken once, so that nothing written is moved.
+/// How many bytes the text of a game has at most. Capacity for so many is taken once, so that nothing written is moved.
 fn game_room(game: &Game) -> usize {
     let mut room = HEADER;
     'lines: for v in 0..game.len() {

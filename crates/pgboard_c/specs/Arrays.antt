@@ -38,7 +38,7 @@ pub record HaveLengths (a : GameArrays) : Type 0 where
   pub first : slice_index a.starts 0 ≡ 0
   pub last : slice_index a.starts (length a.owners) ≡ length a.targets
 
--- the vertex's row ends before it begins, or behind the targets
+-- the vertex's row ends before it begins, or after the targets
 abbrev pub IsBadRow : GameArrays → ℕ → Type 0
 IsBadRow a v = (v < length a.owners) × ((slice_index a.starts (v + 1) < slice_index a.starts v) ⊎ (length a.targets < slice_index a.starts (v + 1)))
 
@@ -70,7 +70,7 @@ array_specs a = specs_below a (length a.owners)
 abbrev pub IsGameOfArrays : GameArrays → Graph → Type 0
 IsGameOfArrays a g = AreWellFormed a × IsGame g × IsGameOf (array_specs a) g
 
--- the number that stands where there is no choice
+-- the number where there is no choice
 abbrev pub no_choice : ℕ
 no_choice = 4294967295
 

@@ -18,7 +18,7 @@ use Rattle.pgboard_c.specs.declared.fault.Fault.TheVariants as fault
 use Rattle.pgboard_c.specs.Arrays.{GameArrays, ResultArrays, IsGameOfArrays, AreResults, choice_from}
 use Rattle.pgboard_c.specs.Answers.{HaveSize, IsSolveFault, IsUnfitSolution}
 
--- the number that stands where the winner is not known
+-- the number where the winner is not known
 abbrev pub no_winner : ℕ
 no_winner = 255
 

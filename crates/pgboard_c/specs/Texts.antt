@@ -8,7 +8,7 @@ use Rattle.pg_dominion.specs.Verdict.{FailsBy}
 use Rattle.pgboard_c.specs.declared.fault.Fault.{Fault}
 use Rattle.pgboard_c.specs.declared.fault.Fault.TheVariants as fault
 
--- the text is at the front of the buffer, and behind it is what was there before
+-- the text is at the front of the buffer, and after it is what was there before
 abbrev pub IsWritten : List ℕ → List ℕ → ℕ → List ℕ → Type 0
 IsWritten old new size text = (size ≡ length text) × (new ≡ text ++ drop size old)
 
@@ -27,7 +27,7 @@ IsRefusedGameText text fault.GameTooLong = max_text < length text
 IsRefusedGameText text (fault.GameText f) = (length text ≤ max_text) × IsFaultOf text f
 IsRefusedGameText text other = ⊥
 
--- why a text gives no answer of the kind, where there is so much room
+-- why a text gives no answer of the kind, where the buffer has so many bytes
 abbrev pub IsTextFault : (List ℕ → List ℕ → Type 0) → List ℕ → ℕ → Fault → Type 0
 IsTextFault Is text room (fault.Room size) = (answer : List ℕ) × Is text answer × (size ≡ length answer) × (room < size)
 IsTextFault Is text room other = IsRefusedGameText text other

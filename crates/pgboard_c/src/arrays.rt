@@ -142,7 +142,7 @@ impl<'a> Arrays<'a> {
         &self.targets[from..to]
     }
 
-    /// What the arrays say of the vertices. `Memory` is its one refusal.
+    /// What the arrays say of the vertices. The only error is `Memory`.
     fn specs(&self, alloc: Global) -> Result<Specs, Memory>
         requires formed { AreWellFormed (game_arrays self.now) }
         requires few { length self.now.owners.now ≤ 2147483648 }

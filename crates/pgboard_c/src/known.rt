@@ -18,7 +18,7 @@ use pg_text::{Known, Solution};
 use pg_workers::{SolveFault, solve_alone};
 use std::alloc::Global;
 
-/// What stands where the winner is not known.
+/// The number where the winner is not known.
 const NO_WINNER: u8 = 255;
 
 /// The first vertex whose winner is neither 0 nor 1, nor left open.
@@ -44,7 +44,7 @@ fn known_from(winner: u8, choice: u32) -> Option<(Player, Option<u32>)>
     }
 }
 
-/// What the arrays say that is known. `Memory` is its one refusal.
+/// What the arrays say that is known. The only error is `Memory`.
 pub fn read_known(alloc: Global, winners: &[u8], choices: &[u32]) -> Result<Known, Memory>
     requires { length choices.now ≡ length winners.now }
     ensures { IfOk result (λ known. AreKnown winners.now choices.now known.rows) }

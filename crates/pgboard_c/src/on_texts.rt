@@ -1,4 +1,4 @@
-//! The exports on texts in PGSolver's formats, which stand in the caller's memory.
+//! The exports on texts in PGSolver's formats, which are in the caller's memory.
 ghost use Rattle.std.specs.Prelude.{◌≡◌, ◌≢◌, ◌<◌, ℕ, List, length, IfOk, OnOk, OnErr, IfErr};
 ghost use Rattle.pg_game.specs.Graph.{IsGame};
 ghost use Rattle.pg_text.specs.Solution.{SolutionRows, IsSolution};
@@ -31,7 +31,7 @@ fn game_of(alloc: Global, text: &[u8]) -> Result<Game, Fault>
     }
 }
 
-/// Copies the text to the front of the buffer, and answers its size.
+/// Copies the text to the front of the buffer, and returns its size.
 fn put(text: &[u8], into: &mut [u8]) -> Result<usize, Fault>
     ensures held { IfOk result (λ n. IsWritten into.old into.new n text.now) }
     ensures small { IfErr result (λ e. (e ≡ Fault.Room (length text.now)) × (length into.old < length text.now)) }
@@ -45,7 +45,7 @@ fn put(text: &[u8], into: &mut [u8]) -> Result<usize, Fault>
     Ok(n)
 }
 
-/// Writes a solution of the game that a text spells, and answers its size.
+/// Writes a solution of the game that a text spells, and returns its size.
 fn solve(alloc: Global, text: &[u8], into: &mut [u8]) -> Result<usize, Fault>
     ensures solved { IfOk result (λ n. (answer : List ℕ) × IsSolvedText text.now answer × IsWritten into.old into.new n answer) }
     ensures fault { IfErr result (λ e. IsTextFault IsSolvedText text.now (length into.old) e) }
@@ -57,7 +57,7 @@ fn solve(alloc: Global, text: &[u8], into: &mut [u8]) -> Result<usize, Fault>
     put(answer.as_slice(), into)
 }
 
-/// Writes the game that a text spells in its one written form, and answers its size.
+/// Writes the game that a text spells in its one written form, and returns its size.
 fn tidy(alloc: Global, text: &[u8], into: &mut [u8]) -> Result<usize, Fault>
     ensures tidied { IfOk result (λ n. (answer : List ℕ) × IsTidyText text.now answer × IsWritten into.old into.new n answer) }
     ensures fault { IfErr result (λ e. IsTextFault IsTidyText text.now (length into.old) e) }

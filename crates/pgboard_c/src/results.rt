@@ -11,7 +11,7 @@ use pg_game::{Game, Memory, Player, Sequence};
 use pg_text::Solution;
 use std::alloc::Global;
 
-/// What stands where there is no choice.
+/// The number where there is no choice.
 const NO_CHOICE: u32 = u32::MAX;
 
 /// Where results are written: a winner and a choice for each vertex.
@@ -113,7 +113,7 @@ fn player_of(digit: u8) -> Player
     }
 }
 
-/// The choice that stands there.
+/// The choice that is there.
 pub fn choice_from(number: u32) -> Option<u32>
     ensures { result ≡ choice_from number }
 {
@@ -124,7 +124,7 @@ pub fn choice_from(number: u32) -> Option<u32>
     }
 }
 
-/// The winners and choices that stand in the arrays. `Memory` is its one refusal.
+/// The winners and choices that are in the arrays. The only error is `Memory`.
 pub fn read_results(alloc: Global, winners: &[u8], choices: &[u32]) -> Result<Solution, Memory>
     requires size { length choices.now ≡ length winners.now }
     requires digits { NoneHas (IsBadWinner winners.now) }
