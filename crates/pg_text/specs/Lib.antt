@@ -13,3 +13,4 @@ pub mod Bytes
 pub mod SolutionLines
 pub mod Known
 pub mod private
+pub mod ParseFault

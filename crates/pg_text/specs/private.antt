@@ -1,5 +1,5 @@
 -- Definitions that only private functions and proofs cite: no public contract stands on them.
-pub mod Piece
+pub mod Lexeme
 pub mod Reach
 pub mod SolutionRun
 pub mod FirstFault
@@ -9,4 +9,3 @@ pub mod GameReads
 pub mod SolutionTable
 pub mod Grammar
 pub mod Parsing
-pub mod ParseFault

@@ -5,7 +5,7 @@ ghost use Rattle.std.specs.Prelude.{◌≡◌};
 ghost use Rattle.pg_text.specs.declared.fault.TextFault.TheVariants as game;
 ghost use Rattle.pg_text.specs.declared.fault.SolutionTextFault.TheVariants as solution;
 ghost use Rattle.pg_text.specs.declared.fault.ParseFault.TheVariants as parse;
-ghost use Rattle.pg_text.specs.private.ParseFault.{game_fault, solution_fault};
+ghost use Rattle.pg_text.specs.ParseFault.{game_fault, solution_fault};
 
 use pg_game::{GameFault, Memory};
 use std::alloc::AllocFailed;
