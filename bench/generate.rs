@@ -149,6 +149,50 @@ fn modal(n: u32) -> Game {
     game
 }
 
+/// A transition system of components of at most 64 states: a ring with chords, from which every second state also leads to a later
+/// component.
+fn components(states: u32, random: &mut Random) -> Vec<Vec<u32>> {
+    let mut rows = Vec::new();
+    while (rows.len() as u32) < states {
+        let first = rows.len() as u32;
+        let size = (1 + random.below(64)).min(states - first);
+        for at in 0..size {
+            let mut row = vec![first + (at + 1) % size];
+            row.extend((0..random.below(3)).map(|_| first + random.below(size)));
+            if at % 2 == 1 && first + size < states {
+                row.push(first + size + random.below((states - first - size).min(4_096)));
+            }
+            row.sort_unstable();
+            row.dedup();
+            rows.push(row);
+        }
+    }
+    rows
+}
+
+/// Whether a formula with so many fixed points that alternate holds in the states of such a system, as a game of pairs: greatest X,
+/// least Y and so on, to Z: (p or some next is in X) and (q or all next are in Z). Each of p and q holds in so many of 8 states.
+fn formula(n: u32, points: u32, of_8: u32, seed: u64) -> Game {
+    let random = &mut Random(seed);
+    let size = points + 6;
+    let mut game = Game::new();
+    for (s, next) in components(n / size, random).iter().enumerate() {
+        let at = |place: u32| size * s as u32 + place;
+        let to = |place: u32| next.iter().map(|t| size * t + place).collect::<Vec<u32>>();
+        game.extend((0..points).map(|point| Vertex(points - point, false, vec![at(point + 1)])));
+        let mut or_some = to(0);
+        or_some.push(at(points + 4));
+        or_some.sort_unstable();
+        game.push(Vertex(0, true, vec![at(points + 1), at(points + 2)]));
+        game.push(Vertex(0, false, or_some));
+        game.push(Vertex(0, false, vec![at(points + 3), at(points + 5)]));
+        game.push(Vertex(0, true, to(points - 1)));
+        game.push(Vertex(u32::from(random.below(8) >= of_8), false, vec![at(points + 4)]));
+        game.push(Vertex(u32::from(random.below(8) >= of_8), false, vec![at(points + 5)]));
+    }
+    game
+}
+
 /// Blocks of so many vertices that don't touch, each of eight phases: every edge leads into the block's next phase, so no play
 /// comes back within seven moves, and no dominion is small. One block is a protocol in rounds, many are modules.
 fn phases(n: u32, block: u32, degree: u32) -> Game {
@@ -193,6 +237,8 @@ fn sized(kind: &str, n: u32) -> Option<Game> {
         "blocks" => phases(n, 64, 3),
         "modules" => modules(n),
         "modal" => modal(n),
+        "formula_few" => formula(n, 2, 6, 22),
+        "formula_many" => formula(n, 6, 1, 23),
         "chain" => chain(n, n),
         "ladder" => ladder(n, n / 4),
         "own_loops" => own_loops(n),

@@ -1,9 +1,9 @@
 #!/usr/bin/env python3
 """Turns a parity game as other tools have it into one that pgboard reads, on standard output.
 
-    examples/convert.py [--min] [--odd] [--dead-ends] [GAME]
-
-Comments (from `#` or `//` to the line's end, outside of names) and vertices without successors may stand in the input.
+Comments (from `#` or `//` to the line's end, outside of names) and vertices without successors may be in the input, and a
+byte order mark before it. A file that was compressed by gzip is known by its first bytes. In names `\\"` becomes `'`, since
+pgboard's names have no escapes. After a header `minparity` the least priority decides, as with --min.
 
 --min        the least priority that is seen again and again decides, and not the greatest: p becomes K - p, where K is the
              least even number that is no less than any priority. This turns the order round, so the least on a closed walk
@@ -15,101 +15,214 @@ Comments (from `#` or `//` to the line's end, outside of names) and vertices wit
              where player 0 owns it, else 0. No walk leaves it, so its priority decides the one closed walk that it is on,
              which its owner loses, and no other.
 
-So the winners, and the choices of winners at vertices with successors, are those of the game that was given. Status 2: the
-command line or the game was refused.
+So the winners, and the choices of winners at vertices with successors, are those of the game that was given.
+
+A deterministic parity automaton in the HOA format with the header `controllable-AP`, as the synthesis competition has it,
+becomes the game that synthesise.py solves. In its first vertex the environment chooses; Even is the controller.
+
+--solution   the input is a solution and not a game: a text that begins after lines for people, or a listing of vertices, and
+             of choices as `0->1`, after lines as `Player 0 wins from nodes:` (PGSolver) or `won by even:` (Oink). What is
+             written is a `paritysol` text. A vertex that is not listed has no line in it: `solve --known` completes it.
 """
 
+import argparse
+import gzip
 import re
 import sys
+import zlib
 
+import games
+from games import Refused
+
+HELP = """
+example:
+  examples/convert.py --min --dead-ends game.gm.gz | ./pgboard solve
+
+status: 0 where it is done, 2 where the command line or the input was refused, or the output was not written
+"""
 GREATEST = 2_147_483_647
-TOKEN = re.compile(r'(?P<note>#.*|//.*)|(?P<name>"[^"]*")|(?P<other>[^\s;,"#/]+|[,/;])')
-LINE = re.compile(r"(\d+) (\d+) ([01])((?: \d+(?: , \d+)*)?)")
+COMMENTS = {sign: re.compile(re.escape(sign) + rb"[^\n]*") for sign in (b"#", b"//")}
+# (before a semicolon the name ends, and its last byte is a backslash)
+ESCAPED = re.compile(rb'\\"(?!\s*;)')
+NAME_OR_COMMENT = re.compile(rb'("[^"]*")|(?:#|//)[^\n]*')
+HEAD = re.compile(rb"\s*(?:(?:max-?|min-?)?parity\s+[0-9]+\s*;\s*|start\s+[0-9]+\s*;\s*)*")
+START = re.compile(rb"\bstart\s+[0-9]+\s*;")
+# A game is regular where each vertex has a line of its own with single blanks, and a name is a quote alone. These find a line
+# that is not, in a text that begins and ends with a line feed; the second takes dead ends, with nothing after the third blank.
+NOT_REGULAR = re.compile(rb'\n(?!\Z|[0-9]+ [0-9]+ [01] (?:[0-9][0-9,]*)?[0-9]"?;\n)')
+NO_LINE = re.compile(rb'\n(?!\Z|[0-9]+ [0-9]+ [01] (?:(?:[0-9][0-9,]*)?[0-9])?"?;\n)')
+SHORT = re.compile(rb'(\n[0-9]+ [0-9]+ [01])(?="?;\n)')
+VERTEX = re.compile(rb'\s*([0-9]+)\s+([0-9]+)\s+0*([01])(?:\s+([0-9]+(?:,[0-9]+)*))?\s*("?)\s*;')
+DEAD_END = re.compile(rb'(?m)^([0-9]+) [0-9]+ ([01]) ("?;)$')
+# how many bytes are looked at together: as many as stay in a processor's cache while they are
+PIECE = 1 << 16
+PLAYER = re.compile(r"(?i)^\W*(?:player|won by|winner)\W*(0|1|even|odd)\b[^:\n]*:?(.*)$")
+LISTED = re.compile(r"(?i)\s*(?:with strategy:?)?([\s\d{}\[\](),;>-]*)")
 
 
-def refuse(why):
-    sys.stderr.write(f"convert: {why}\n")
-    sys.exit(2)
+def bytes_of(path):
+    """What a file or standard input has, unpacked."""
+    with open(path, "rb") if path else sys.stdin.buffer as file:
+        data = file.read()
+    if data.startswith(b"\x1f\x8b"):
+        try:
+            data = gzip.decompress(data)
+        except (OSError, EOFError, zlib.error) as error:
+            raise Refused(f"{path or 'standard input'}: it can't be unpacked: {error}") from error
+    return data.removeprefix(b"\xef\xbb\xbf")
 
 
-def statements(text):
-    """What stands before each semicolon: its words, and the name or an empty text."""
-    words, name = [], ""
-    for token in TOKEN.finditer(text):
-        if token["note"]:
-            continue
-        if token["name"]:
-            name = token[0]
-        elif token[0] == ";":
-            yield words, name
-            words, name = [], ""
-        else:
-            words.append(token[0])
-    if words or name:
-        refuse(f"no semicolon behind {' '.join(words + [name]).strip()}")
+def apart(data):
+    """A game's text without comments and with a quote in place of each name; and the names."""
+    if b'\\"' in data:
+        data = ESCAPED.sub(b"'", data)
+    pieces = data.split(b'"')
+    text, names = b'"'.join(pieces[::2]), pieces[1::2]
+    signs = [it for it in COMMENTS if it in text]
+    for sign in signs:
+        text = COMMENTS[sign].sub(b"", text)
+    if signs and (len(pieces) % 2 == 0 or text.count(b'"') != len(names)):
+        # there are quotes in comments
+        pieces = NAME_OR_COMMENT.sub(rb"\1", data).split(b'"')
+        text, names = b'"'.join(pieces[::2]), pieces[1::2]
+    if len(pieces) % 2 == 0:
+        raise Refused("a quote is never closed")
+    return text.replace(b' "', b'"') if names else text, names
 
 
-def game_of(text):
-    """The vertices in their order: [identifier, priority, owner, successors, name]."""
-    vertices = []
-    for words, name in statements(text):
-        if not vertices and len(words) == 2 and words[0] in ("parity", "start") and words[1].isdigit():
-            continue
-        line = LINE.fullmatch(" ".join(words))
-        if not line:
-            refuse(f"not understood: {' '.join(words)}")
-        vertices.append([int(line[1]), int(line[2]), int(line[3]), [int(it) for it in line[4].split() if it != ","], name])
-    if not vertices:
-        refuse("no vertex")
-    return vertices
+def regular(text, begin):
+    """The lines of the vertices from there on, and whether they are known to have no dead end."""
+    text = text[begin - 1 :] if text[begin - 1 : begin] == b"\n" else b"\n" + text[begin:]
+    if not text.endswith(b"\n"):
+        text += b"\n"
+    if not NOT_REGULAR.search(text) and b",," not in text:
+        return text, True
+    if b"start" in text:
+        text = START.sub(b"", text)
+    rows = filter(None, map(bytes.strip, text.split(b"\n")))
+    text = SHORT.sub(rb"\1 ", b"\n%b\n" % b"\n".join(rows).replace(b", ", b","))
+    if NO_LINE.search(text) or b",," in text:
+        text = b"\n%b\n" % VERTEX.sub(rb"\n\1 \2 \3 \4\5;", re.sub(rb"\s*,\s*", b",", text)).strip()
+    bad = NO_LINE.search(text) or re.search(rb"\n(?=[^\n]*,,)", text)
+    if bad:
+        first, semicolon, _ = text[bad.end() :].lstrip().partition(b";")
+        first = " ".join(first.decode(errors="backslashreplace").split())[:70]
+        raise Refused(f"not understood: {first}" if semicolon else f"no semicolon after {first}")
+    return text, False
 
 
-def reverse(vertices):
-    """A game in which the least priority decides, as one in which the greatest does."""
-    top = max(it[1] for it in vertices)
+def pieces_of(text):
+    """A text in pieces that end with a line."""
+    at = 0
+    while at < len(text):
+        end = text.find(b"\n", at + PIECE) + 1 or len(text)
+        yield text[at:end]
+        at = end
+
+
+def with_priorities(text, least, odd):
+    """The lines with other priorities: for the least one to decide by the greatest, and for odd ones to be Even's."""
+    found = set()
+    for piece in pieces_of(text):
+        found.update(piece.split(b" ")[1::3])
+    top = max(map(int, found))
     top += top % 2
-    for vertex in vertices:
-        vertex[1] = top - vertex[1]
+    new = {it: (top - int(it) if least else int(it)) + odd for it in found}
+    if max(new.values()) > GREATEST:
+        raise Refused(f"a priority would be above {GREATEST}")
+    spelled = {it: b"%d" % priority for it, priority in new.items()}
+    for piece in pieces_of(text):
+        words = piece.split(b" ")
+        words[1::3] = map(spelled.__getitem__, words[1::3])
+        yield b" ".join(words)
 
 
-def swap(vertices):
-    """A game in which player 0 wins by odd priorities, as one in which he wins by even ones."""
-    for vertex in vertices:
-        vertex[1] += 1
+def without_dead_ends(text, closes):
+    """The lines, in which each vertex without successors has an edge to itself, on which its owner loses."""
+    dead = (b" ;" in text or b' ";' in text) and DEAD_END.search(text)
+    if dead and not closes:
+        raise Refused(f"vertex {dead[1].decode()} has no successor, and --dead-ends was not given")
+    return DEAD_END.sub(lambda it: b"%b %d %b %b%b" % (it[1], 1 - int(it[2]), it[2], it[1], it[3]), text) if dead else text
 
 
-def close(vertices):
-    """Gives each vertex without successors an edge to itself, on which its owner loses."""
-    for vertex in vertices:
-        if not vertex[3]:
-            vertex[1], vertex[3] = 1 - vertex[2], [vertex[0]]
+def with_names(text, names):
+    """The lines with their names in place of the quotes."""
+    whole = [b""] * (2 * len(names) + 1)
+    whole[::2], whole[1::2] = text.replace(b'"', b' "').split(b'"'), names
+    return b'"'.join(whole)
+
+
+def game_of(data, given):
+    """The text of a game that pgboard reads, in parts."""
+    text, names = apart(data)
+    head = HEAD.match(text)
+    lines, is_closed = regular(text, head.end())
+    if len(lines) < 2:
+        raise Refused("no vertex")
+    least = given.min or b"min" in head[0]
+    if least or given.odd:
+        lines = b"".join(with_priorities(lines, least, given.odd))
+    if not is_closed:
+        lines = without_dead_ends(lines, given.dead_ends)
+    number = re.search(rb"parity\s+([0-9]+)", head[0])
+    yield b"parity %d;" % (int(number[1]) if number else max(int(it.partition(b" ")[0]) for it in lines.split(b"\n") if it))
+    yield with_names(lines, names) if names else lines
+
+
+def game_of_automaton(path, data):
+    """The text of the game of an automaton's environment and controller."""
+    import synthesise
+    from hoa import Automaton
+
+    automaton = Automaton(path or "standard input", data.decode("utf-8", "surrogateescape"))
+    yield games.game_text(synthesise.Game(automaton).rows).encode("utf-8", "surrogateescape")
+
+
+def listed(text):
+    """Winners and choices, (winner, choice or None) of each vertex, by a listing for people."""
+    solution, player = {}, None
+    for line in text.splitlines():
+        head = PLAYER.match(line)
+        if head:
+            player, line = int(head[1].lower() in ("1", "odd")), head[2]
+        row = LISTED.fullmatch(line)
+        if not row:
+            player = None
+        elif player is not None:
+            for vertex, choice in re.findall(r"(\d+)(?:\s*->\s*(\d+))?", row[1]):
+                winner, before = solution.get(int(vertex), (player, None))
+                if winner != player:
+                    raise Refused(f"vertex {vertex} is listed for both players")
+                solution[int(vertex)] = player, int(choice) if choice else before
+    if not solution:
+        raise Refused("there is no solution in it: neither a line paritysol nor the vertices that a player wins")
+    return solution
+
+
+def solution_of(data):
+    """The `paritysol` text of a solution."""
+    begun = re.search(rb"(?m)^paritysol\b", data)
+    if begun:
+        yield data[begun.start() :]
+        return
+    solution = sorted(listed(data.decode("utf-8", "surrogateescape")).items())
+    rows = "".join(f"{vertex} {winner}{'' if choice is None else f' {choice}'};\n" for vertex, (winner, choice) in solution)
+    yield f"paritysol {solution[-1][0]};\n{rows}".encode()
 
 
 def main(words):
-    flags, paths = {it for it in words if it.startswith("--")}, [it for it in words if not it.startswith("--")]
-    if flags - {"--min", "--odd", "--dead-ends"} or len(paths) > 1:
-        sys.exit(__doc__)
-    try:
-        with open(paths[0], encoding="utf-8", errors="surrogateescape") if paths else sys.stdin as file:
-            vertices = game_of(file.read())
-    except OSError as error:
-        refuse(f"{paths[0]}: {error.strerror}")
-    if "--min" in flags:
-        reverse(vertices)
-    if "--odd" in flags:
-        swap(vertices)
-    if "--dead-ends" in flags:
-        close(vertices)
-    if max(it[1] for it in vertices) > GREATEST:
-        refuse(f"a priority would be above {GREATEST}")
-    dead = [it[0] for it in vertices if not it[3]]
-    if dead:
-        refuse(f"vertex {dead[0]} has no successor, and --dead-ends was not given")
-    sys.stdout.reconfigure(errors="surrogateescape")
-    print(f"parity {max(it[0] for it in vertices)};")
-    for id, priority, owner, successors, name in vertices:
-        print(f"{id} {priority} {owner} {','.join(map(str, successors))}{' ' * bool(name)}{name};")
+    parser = argparse.ArgumentParser(description=__doc__, epilog=HELP, formatter_class=argparse.RawDescriptionHelpFormatter)
+    parser.add_argument("input", metavar="FILE", nargs="?", help="the file of the game; standard input without it")
+    for flag in ("--min", "--odd", "--dead-ends", "--solution"):
+        parser.add_argument(flag, action="store_true")
+    given = parser.parse_args(words)
+    data = bytes_of(given.input)
+    is_automaton = not given.solution and data.lstrip().startswith(b"HOA:")
+    if (given.solution or is_automaton) and (given.min or given.odd or given.dead_ends):
+        raise Refused("--min, --odd and --dead-ends are for the text of a game")
+    made = solution_of(data) if given.solution else game_of_automaton(given.input, data) if is_automaton else game_of(data, given)
+    sys.stdout.buffer.writelines(list(made))
 
 
 if __name__ == "__main__":
-    main(sys.argv[1:])
+    games.run("convert", main)

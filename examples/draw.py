@@ -1,24 +1,32 @@
 #!/usr/bin/env python3
-"""Draws a game, and with a solution who wins it and how, as Graphviz text or, where Graphviz's `dot` is installed, as SVG.
+"""Draws a game, and with a solution who wins it and how, as Graphviz text or, where Graphviz's `dot` is installed, as a picture.
 
-    examples/draw.py [--svg] GAME [SOLUTION]
-    examples/draw.py [--svg] --trace TRACE [--entries K] GAME
-
-Even owns the diamonds and Odd the boxes; the priority stands inside, over the identifier. What Even wins is light with
-a plain border, what Odd wins is dark with a double one, and what is open is white and dashed. The winner's choice is bold.
-With --trace, what `pgboard trace` wrote of the game, the picture shows what the first K entries of the journal settle (all
-of them where no K is given). The result goes to standard output.
-
-Up to 200 vertices are drawn. Status 2: a text was refused, or there is no `dot`.
+Even owns the diamonds and Odd the boxes; in each are its priority, its name where the game has one, and its identifier.
+What Even wins is light with a plain border, what Odd wins is dark with a double one, and what is open is white and dashed.
+The winner's choice is bold. A solution may leave vertices out, but all that it names has to be in the game. With --trace,
+what `pgboard trace` wrote of the game, the picture shows what the first K entries of the journal settle (all of them where no
+K is given). The result goes to standard output. Up to 200 vertices are drawn.
 """
 
+import argparse
+import html
 import re
 import shutil
 import subprocess
 import sys
 
-MOST = 200
-LINE = re.compile(r'(\d+) (\d+) ([01]) (\d+(?: , \d+)*)(?: "[^"]*")?')
+import games
+from games import Refused
+
+HELP = """
+examples:
+  examples/draw.py --svg examples/five_continents.pg examples/five_continents.sol > picture.svg
+  ./pgboard tidy game.pg | examples/draw.py --png - game.sol > picture.png
+
+status: 0 where it is drawn, 2 where the command line or a text was refused, there is no `dot`, or the output was not written
+"""
+MOST_LETTERS = 30
+LINE = re.compile(r'(\d+) (\d+) ([01]) (\d+(?: , \d+)*)(?: "([^"]*)")?')
 TOKEN = re.compile(r'"[^"]*"|[^\s;,"]+|[,;]')
 STYLES = {
     None: 'style="filled,dashed" fillcolor="white"',
@@ -27,17 +35,10 @@ STYLES = {
 }
 
 
-def refuse(why):
-    sys.stderr.write(f"draw: {why}\n")
-    sys.exit(2)
-
-
 def text_of(path):
-    try:
-        with open(path, encoding="utf-8", errors="replace") as file:
-            return file.read()
-    except OSError as error:
-        refuse(f"{path}: {error.strerror}")
+    if path != "-":
+        return games.text_of(path)
+    return sys.stdin.buffer.read().decode("utf-8", "surrogateescape")
 
 
 def statements(text):
@@ -50,23 +51,23 @@ def statements(text):
         else:
             words.append(token)
     if words:
-        refuse(f"no semicolon behind {' '.join(words)}")
+        raise Refused(f"no semicolon after {' '.join(words)}")
 
 
 def game_of(text):
-    """A game: (priority, owner, successors) of each identifier, by rising identifier."""
+    """A game: (priority, owner, successors, name or None) of each identifier, by rising identifier."""
     game = {}
     for words in statements(text):
         line = LINE.fullmatch(words)
         if line:
-            game[int(line[1])] = int(line[2]), int(line[3]), sorted({int(it) for it in line[4].split(" , ")})
+            game[int(line[1])] = int(line[2]), int(line[3]), sorted({int(it) for it in line[4].split(" , ")}), line[5]
         elif game or not re.fullmatch(r"(parity|start) \d+", words):
-            refuse(f"not understood: {words}")
-    strangers = [it for _, _, successors in game.values() for it in successors if it not in game]
+            raise Refused(f"not understood: {words}")
+    strangers = [it for row in game.values() for it in row[2] if it not in game]
     if not game or strangers:
-        refuse(f"successor {strangers[0]} is not specified" if game else "no vertex")
-    if len(game) > MOST:
-        refuse(f"{len(game)} vertices are too many for a picture: at most {MOST} are drawn")
+        raise Refused(f"successor {strangers[0]} is not specified" if game else "no vertex")
+    if len(game) > games.MOST_DRAWN:
+        raise Refused(f"{len(game)} vertices are too many for a picture: at most {games.MOST_DRAWN} are drawn")
     return dict(sorted(game.items()))
 
 
@@ -78,7 +79,7 @@ def solution_of(text):
         if line:
             solution[int(line[1])] = int(line[2]), line[3] and int(line[3])
         elif solution or not re.fullmatch(r"paritysol \d+", words):
-            refuse(f"not understood: {words}")
+            raise Refused(f"not understood: {words}")
     return solution
 
 
@@ -96,61 +97,72 @@ def journal_of(text):
         elif line.startswith("report"):
             return entries
         elif not line.startswith("journal"):
-            refuse(f"not understood: {line}")
-    refuse("the trace has no report")
+            raise Refused(f"not understood: {line}")
+    raise Refused("the trace has no report")
+
+
+def judge(game, solution):
+    """Refuses what can't be a solution of the game, or a part of one, since it is of another."""
+    for id, (winner, choice) in solution.items():
+        for it in (id, choice):
+            if it is not None and it not in game:
+                raise Refused(f"the solution is of another game: vertex {it} is not in this one")
+        if choice is not None and winner == game[id][1] and choice not in game[id][2]:
+            raise Refused(f"the solution is of another game: {choice} is no successor of {id} in this one")
+
+
+def label(id, priority, name):
+    """What a vertex shows, as Graphviz reads it."""
+    text = games.printable(name.encode("utf-8", "surrogateescape").decode("utf-8", "replace")) if name else ""
+    text = text[:MOST_LETTERS] + "..." * (len(text) > MOST_LETTERS)
+    return f'{priority}<br/>{html.escape(text)}{"<br/>" * bool(text)}<font point-size="9">id {id}</font>'
 
 
 def picture(game, solution):
     """The Graphviz text of a game, of which the solution may leave vertices open."""
     lines = ["digraph game {", '    node [fontname="DejaVu Sans" width=0.7 height=0.5 margin=0.05];', '    edge [fontname="DejaVu Sans"];']
-    for id, (priority, owner, _) in game.items():
+    for id, (priority, owner, _, name) in game.items():
         winner, _ = solution.get(id, (None, None))
-        lines.append(f'    {id} [shape={"box" if owner else "diamond"} label=<{priority}<br/><font point-size="9">id {id}</font>> {STYLES[winner]}];')
-    for id, (_, owner, successors) in game.items():
+        lines.append(f'    {id} [shape={"box" if owner else "diamond"} label=<{label(id, priority, name)}> {STYLES[winner]}];')
+    for id, (_, owner, successors, _) in game.items():
         winner, choice = solution.get(id, (None, None))
         for to in successors:
             lines.append(f"    {id} -> {to}{' [style=bold penwidth=2.5]' if winner == owner and to == choice else ''};")
-    return "\n".join(lines + ["}", ""])
+    return "\n".join(lines + ["}", ""]).encode()
 
 
-def drawn(text):
-    """The SVG that Graphviz makes of the text."""
+def drawn(text, kind):
+    """The picture that Graphviz makes of the text."""
     if not shutil.which("dot"):
-        refuse("no SVG without Graphviz: the command dot is not on the PATH")
-    return subprocess.run(["dot", "-Tsvg"], input=text.encode(), stdout=subprocess.PIPE, check=True).stdout.decode()
-
-
-def options(words):
-    """Takes the flags out of the words: whether an SVG is wanted, the trace's path and the number of entries, or None."""
-    svg, trace, entries, paths = False, None, None, []
-    words = iter(words)
-    for word in words:
-        if word == "--svg":
-            svg = True
-        elif word == "--trace":
-            trace = next(words, "")
-        elif word == "--entries":
-            entries = next(words, "")
-        else:
-            paths.append(word)
-    known = trace is not None
-    if not 1 <= len(paths) <= 2 - known or any(it.startswith("--") for it in paths) or not re.fullmatch(r"\d*", entries or ""):
-        sys.exit(__doc__)
-    return svg, trace, int(entries) if entries else None, paths
+        raise Refused("no picture without Graphviz: the command dot is not on the PATH")
+    done = subprocess.run(["dot", f"-T{kind}"], input=text, stdout=subprocess.PIPE)
+    if done.returncode:
+        raise Refused(f"the command dot ended with status {done.returncode}")
+    return done.stdout
 
 
 def main(words):
-    svg, trace, count, paths = options(words)
-    game = game_of(text_of(paths[0]))
-    solution = {}
-    if trace is not None:
-        for rows in journal_of(text_of(trace))[:count]:
+    parser = argparse.ArgumentParser(description=__doc__, epilog=HELP, formatter_class=argparse.RawDescriptionHelpFormatter)
+    parser.add_argument("game", metavar="GAME", nargs="?", default="-", help="the file of the game; standard input without it and for -")
+    parser.add_argument("solution", metavar="SOLUTION", nargs="?", help="a solution of the game, or a part of one")
+    kinds = parser.add_mutually_exclusive_group()
+    for kind in ("svg", "png", "pdf"):
+        kinds.add_argument(f"--{kind}", dest="kind", action="store_const", const=kind, help="a picture in place of Graphviz text")
+    parser.add_argument("--trace", metavar="TRACE", help="what `pgboard trace` wrote of the game")
+    parser.add_argument("--entries", metavar="K", type=int, help="how many entries of the trace are shown")
+    given = parser.parse_args(words)
+    if given.trace and given.solution or given.entries is not None and (given.entries < 0 or not given.trace):
+        parser.error("--trace comes without a SOLUTION, and --entries with --trace")
+    game, solution = game_of(text_of(given.game)), {}
+    if given.trace:
+        for rows in journal_of(text_of(given.trace))[: given.entries]:
             solution.update(rows)
-    elif len(paths) == 2:
-        solution = solution_of(text_of(paths[1]))
+    elif given.solution:
+        solution = solution_of(text_of(given.solution))
+    judge(game, solution)
     text = picture(game, solution)
-    sys.stdout.write(drawn(text) if svg else text)
+    sys.stdout.buffer.write(drawn(text, given.kind) if given.kind else text)
 
 
 if __name__ == "__main__":
-    main(sys.argv[1:])
+    games.run("draw", main)

@@ -21,8 +21,8 @@ TOKEN = re.compile(
 class Tokens:
     """The tokens of a text, taken one after the other; a token is named by its text or by its kind."""
 
-    def __init__(self, path):
-        self.path, self.text, self.left = path, games.text_of(path), []
+    def __init__(self, path, text=None):
+        self.path, self.text, self.left = path, games.text_of(path) if text is None else text, []
         at = 0
         while at < len(self.text):
             token = TOKEN.match(self.text, at)
@@ -75,8 +75,8 @@ class Automaton:
     Priorities are those of a game in which the greatest decides, and in which even ones accept.
     """
 
-    def __init__(self, path):
-        self.tokens = Tokens(path)
+    def __init__(self, path, text=None):
+        self.tokens = Tokens(path, text)
         self.first = self.names = self.controllable = self.condition = None
         self.states = MOST
         self.aliases, self.edges, self.targets = {}, {}, {}

@@ -1,9 +1,9 @@
 /* pgboard: solutions of parity games, and their check, for programs that have games in memory.
  *
- * Each answer is a number: 0, or one of those below, and then `told` says where. Only `told` is written where an answer
- * is not 0. No pointer may be null, also where its length is 0, and no array that is written may overlap another. The
- * calls start no thread, wait for nothing and keep nothing; they may be made at once from several threads, each with
- * its own arrays. */
+ * Each call returns a number: 0, or one of those below. Where it is 0, both fields of `report` are 0. Else `report` says
+ * where, and nothing but `report` is written. No pointer may be null, also where its length is 0, and no array or struct that is
+ * written may overlap another. The calls start no thread, wait for nothing and keep nothing; they may be made at once from
+ * several threads, each with its own arrays. */
 #ifndef PGBOARD_H
 #define PGBOARD_H
 
@@ -14,91 +14,234 @@
 extern "C" {
 #endif
 
-/* What stands in `choices` where there is no choice. */
+/* The version of this header. */
+#define PGBOARD_VERSION_MAJOR 0
+#define PGBOARD_VERSION_MINOR 1
+#define PGBOARD_VERSION_PATCH 0
+#define PGBOARD_VERSION (PGBOARD_VERSION_MAJOR * 10000 + PGBOARD_VERSION_MINOR * 100 + PGBOARD_VERSION_PATCH)
+
+/* The version of the library that is linked, as PGBOARD_VERSION. */
+uint32_t pgboard_version(void);
+
+/* In `choices`: there is no choice. In `winners` of what is known: the winner is not known. */
 #define PGBOARD_NO_CHOICE 4294967295u
+#define PGBOARD_NO_WINNER 255u
 
-/* The answers. In brackets: what `told` says, `at` and then `to`; else both are 0. */
+/* The answers; pgboard_strerror has a text for each. In brackets: what `report` says, `at` and then `to`. What is not named
+ * is 0. The first fault is reported: in the order of each group, for the least vertex and then the least successor. */
 #define PGBOARD_OK 0u
-#define PGBOARD_MEMORY 1u               /* memory was refused */
+#define PGBOARD_MEMORY 1u
 
-/* the arrays of a game, in the order in which they are looked at */
-#define PGBOARD_LENGTHS 2u              /* they don't fit one another */
-#define PGBOARD_ROW 3u                  /* a row is no part of the targets (the first such vertex) */
-#define PGBOARD_OWNER 4u                /* an owner is neither 0 nor 1 (the first such vertex) */
-#define PGBOARD_PRIORITY 5u             /* a priority is above 2147483647 (the first such vertex) */
+/* a struct and its arrays */
+#define PGBOARD_SIZE 9u      /* (one of PGBOARD_STRUCT_*, the size that this library takes) */
+#define PGBOARD_LENGTHS 2u   /* (one of PGBOARD_ARRAY_*: the first that doesn't fit those before it) */
+#define PGBOARD_ROW 3u       /* (the vertex) */
+#define PGBOARD_OWNER 4u     /* (the vertex) */
+#define PGBOARD_PRIORITY 5u  /* (the vertex) */
+#define PGBOARD_RESULTS 6u   /* of struct pgboard_results (one of PGBOARD_ARRAY_*) */
+#define PGBOARD_SOLUTION 8u  /* of struct pgboard_solution (one of PGBOARD_ARRAY_*) */
+#define PGBOARD_WINNER 7u    /* (the vertex) */
 
-/* the arrays of winners and choices */
-#define PGBOARD_RESULTS 6u              /* they have not one entry for each vertex */
-#define PGBOARD_WINNER 7u               /* a winner is neither 0 nor 1 (the first such vertex) */
+/* a game */
+#define PGBOARD_NO_VERTEX 10u
+#define PGBOARD_TOO_MANY_VERTICES 11u
+#define PGBOARD_TWICE 12u /* of texts alone (the vertex) */
+#define PGBOARD_NO_SUCCESSOR 13u /* (the vertex) */
+#define PGBOARD_TOO_MANY_EDGES 14u
+#define PGBOARD_UNKNOWN 15u /* (the vertex, the successor) */
 
-/* a game, in the order in which it is looked at */
-#define PGBOARD_NO_VERTEX 10u           /* it has no vertex */
-#define PGBOARD_TOO_MANY_VERTICES 11u   /* it has more vertices than pgboard takes */
-#define PGBOARD_TWICE 12u               /* a vertex is specified twice (the vertex); never of arrays */
-#define PGBOARD_NO_SUCCESSOR 13u        /* a vertex has no successor (the first such vertex) */
-#define PGBOARD_TOO_MANY_EDGES 14u      /* it has more edges than pgboard takes */
-#define PGBOARD_UNKNOWN 15u             /* a successor is no vertex (the first such vertex, the first such successor) */
+/* winners and choices */
+#define PGBOARD_NO_CHOICE_AT 20u /* (the vertex) */
+#define PGBOARD_BAD_CHOICE 21u   /* (the vertex) */
+#define PGBOARD_LEAVES 22u       /* (from, to) */
+#define PGBOARD_CYCLE 23u        /* (the vertex with that priority) */
 
-/* winners and choices that are no solution, in the order in which they are looked at */
-#define PGBOARD_NO_CHOICE_AT 20u        /* the winner owns the vertex and has no choice (the first such vertex) */
-#define PGBOARD_BAD_CHOICE 21u          /* his choice is no successor (the first such vertex) */
-#define PGBOARD_LEAVES 22u              /* a kept edge leads to a vertex of the other winner (from, to) */
-#define PGBOARD_CYCLE 23u               /* the loser's priority is the greatest on a closed walk (its vertex) */
+/* what is known of a game */
+#define PGBOARD_KNOWN_CHOICE 60u /* (the vertex) */
+#define PGBOARD_KNOWN_CYCLE 61u  /* (the vertex with that priority) */
+#define PGBOARD_KNOWN_LOST 62u   /* (the vertex) */
+#define PGBOARD_KNOWN_LEAVES 63u /* (from, to) */
 
-/* the text of a game */
-#define PGBOARD_GAME_TOO_LONG 30u       /* it is longer than 268435456 bytes */
-#define PGBOARD_GAME_LEXICAL 31u        /* a byte that begins no token, or a quote that is never closed (the place) */
-#define PGBOARD_GAME_SYNTAX 32u         /* a token that can't stand there (the place; the length: too short) */
-#define PGBOARD_GAME_NUMBER 33u         /* a number above 2147483647 (the place) */
-#define PGBOARD_GAME_OWNER 34u          /* an owner that is neither 0 nor 1 (the place) */
+/* the text of a game; places are bytes from 0 on */
+#define PGBOARD_GAME_TOO_LONG 30u
+#define PGBOARD_GAME_LEXICAL 31u /* (the place) */
+#define PGBOARD_GAME_SYNTAX 32u  /* (the place; the length of the text where it ends too early) */
+#define PGBOARD_GAME_NUMBER 33u  /* (the place) */
+#define PGBOARD_GAME_OWNER 34u   /* (the place) */
 
 /* the text of a solution */
-#define PGBOARD_SOLUTION_TOO_LONG 40u   /* it is longer than 268435456 bytes */
-#define PGBOARD_SOLUTION_LEXICAL 41u    /* as of a game (the place) */
-#define PGBOARD_SOLUTION_SYNTAX 42u     /* as of a game (the place) */
-#define PGBOARD_SOLUTION_NUMBER 43u     /* as of a game (the place) */
-#define PGBOARD_SOLUTION_WINNER 44u     /* a winner that is neither 0 nor 1 (the place) */
-#define PGBOARD_SOLUTION_STRANGER 45u   /* an identifier that isn't in the game (the identifier) */
-#define PGBOARD_SOLUTION_TWICE 46u      /* a vertex that has two lines (its identifier) */
-#define PGBOARD_SOLUTION_MISSING 47u    /* a vertex without line (the least identifier) */
+#define PGBOARD_SOLUTION_TOO_LONG 40u
+#define PGBOARD_SOLUTION_LEXICAL 41u  /* (the place) */
+#define PGBOARD_SOLUTION_SYNTAX 42u   /* (the place) */
+#define PGBOARD_SOLUTION_NUMBER 43u   /* (the place) */
+#define PGBOARD_SOLUTION_WINNER 44u   /* (the place) */
+#define PGBOARD_SOLUTION_STRANGER 45u /* (the identifier) */
+#define PGBOARD_SOLUTION_TWICE 46u    /* (the identifier) */
+#define PGBOARD_SOLUTION_MISSING 47u  /* (the identifier) */
 
 /* a text that is written */
-#define PGBOARD_ROOM 50u                /* the buffer is too small (the size that is needed) */
+#define PGBOARD_ROOM 50u /* (the size that is needed) */
 
-/* What is said beside an answer. */
-struct pgboard_told {
+/* Which array or struct an answer means. */
+#define PGBOARD_ARRAY_PRIORITIES 1u
+#define PGBOARD_ARRAY_STARTS 2u
+#define PGBOARD_ARRAY_TARGETS 3u
+#define PGBOARD_ARRAY_WINNERS 4u
+#define PGBOARD_ARRAY_CHOICES 5u
+#define PGBOARD_STRUCT_GAME 1u
+#define PGBOARD_STRUCT_SOLUTION 2u
+#define PGBOARD_STRUCT_RESULTS 3u
+
+/* What is reported beside an answer. */
+struct pgboard_report {
     uint64_t at;
     uint64_t to;
 };
 
-/* Solves a max-parity game of n vertices, 0 to n - 1: owners (0 Even, 1 Odd) and priorities of each, and the successors
- * of v in targets[starts[v]], up to and without targets[starts[v + 1]]; so starts has n + 1 entries, from 0 to the
- * number of targets. Writes each vertex's winner, and where he owns it his choice, else PGBOARD_NO_CHOICE. */
-uint32_t pgboard_solve(const uint8_t *owners, size_t owners_len, const uint32_t *priorities, size_t priorities_len,
-                       const uint32_t *starts, size_t starts_len, const uint32_t *targets, size_t targets_len,
-                       uint8_t *winners, size_t winners_len, uint32_t *choices, size_t choices_len,
-                       struct pgboard_told *told);
+/* A max-parity game of n vertices, 0 to n - 1: owners (0 Even, 1 Odd) and priorities of each, and the successors of v in
+ * targets[starts[v]], up to and without targets[starts[v + 1]]; so starts has n + 1 entries, from 0 to the number of
+ * targets. In each struct `size` is its sizeof, so that a later version can take programs of this one. */
+struct pgboard_game {
+    size_t size;
+    const uint8_t *owners;
+    size_t owners_len;
+    const uint32_t *priorities;
+    size_t priorities_len;
+    const uint32_t *starts;
+    size_t starts_len;
+    const uint32_t *targets;
+    size_t targets_len;
+};
 
-/* Whether winners and choices are a solution of such a game: PGBOARD_OK, or what is wrong first. A choice at a vertex
- * that its winner doesn't own has no effect. */
-uint32_t pgboard_check(const uint8_t *owners, size_t owners_len, const uint32_t *priorities, size_t priorities_len,
-                       const uint32_t *starts, size_t starts_len, const uint32_t *targets, size_t targets_len,
-                       const uint8_t *winners, size_t winners_len, const uint32_t *choices, size_t choices_len,
-                       struct pgboard_told *told);
+/* Winners (0 Even, 1 Odd) and choices of all vertices, to be judged. A choice at a vertex that its winner doesn't own has
+ * no effect. */
+struct pgboard_solution {
+    size_t size;
+    const uint8_t *winners;
+    size_t winners_len;
+    const uint32_t *choices;
+    size_t choices_len;
+};
 
-/* Solves a game in PGSolver's format, and writes the solution's text to the front of `into`. Where the answer is 0, at
- * is its size; there is no zero byte at the end. Vertices are told by their identifiers. */
-uint32_t pgboard_solve_text(const uint8_t *game, size_t game_len, uint8_t *into, size_t into_len,
-                            struct pgboard_told *told);
+/* Where each vertex's winner is written, and where he owns it his choice, else PGBOARD_NO_CHOICE. */
+struct pgboard_results {
+    size_t size;
+    uint8_t *winners;
+    size_t winners_len;
+    uint32_t *choices;
+    size_t choices_len;
+};
+
+/* Solves a game. */
+uint32_t pgboard_solve(const struct pgboard_game *game, struct pgboard_results *results, struct pgboard_report *report);
+
+/* As pgboard_solve, from what is known: PGBOARD_NO_WINNER stands where the winner is not. What is known need not come from
+ * here: each player's known vertices, with his choices there, have to be ones that he wins without leaving them. */
+uint32_t pgboard_solve_known(const struct pgboard_game *game, const struct pgboard_solution *known,
+                             struct pgboard_results *results, struct pgboard_report *report);
+
+/* Whether winners and choices are a solution of a game: PGBOARD_OK, or what is wrong first. */
+uint32_t pgboard_check(const struct pgboard_game *game, const struct pgboard_solution *solution,
+                       struct pgboard_report *report);
+
+/* Solves a game in PGSolver's format: writes the solution's text to the front of `into`, and its size. There is no zero
+ * byte at the end. Vertices are named by their identifiers. */
+uint32_t pgboard_solve_text(const uint8_t *game, size_t game_len, uint8_t *into, size_t into_len, size_t *size,
+                            struct pgboard_report *report);
 
 /* The same with the game's one written form. */
-uint32_t pgboard_tidy_text(const uint8_t *game, size_t game_len, uint8_t *into, size_t into_len,
-                            struct pgboard_told *told);
+uint32_t pgboard_tidy_text(const uint8_t *game, size_t game_len, uint8_t *into, size_t into_len, size_t *size,
+                           struct pgboard_report *report);
 
-/* Whether a text is a solution of a game's text: PGBOARD_OK, or what is wrong first. Vertices are told by their
+/* Whether a text is a solution of a game's text: PGBOARD_OK, or what is wrong first. Vertices are named by their
  * identifiers. */
 uint32_t pgboard_verify_text(const uint8_t *game, size_t game_len, const uint8_t *solution, size_t solution_len,
-                             struct pgboard_told *told);
+                             struct pgboard_report *report);
+
+/* What an answer says, in English. */
+static inline const char *pgboard_strerror(uint32_t answer)
+{
+    switch (answer) {
+    case PGBOARD_OK:
+        return "no fault";
+    case PGBOARD_MEMORY:
+        return "memory was refused";
+    case PGBOARD_LENGTHS:
+        return "the arrays of the game do not fit one another";
+    case PGBOARD_ROW:
+        return "the row of a vertex is no part of the targets";
+    case PGBOARD_OWNER:
+        return "an owner is neither 0 nor 1";
+    case PGBOARD_PRIORITY:
+        return "a priority is above 2147483647";
+    case PGBOARD_RESULTS:
+        return "an array for results has not one entry for each vertex";
+    case PGBOARD_WINNER:
+        return "a winner is neither 0 nor 1";
+    case PGBOARD_SOLUTION:
+        return "an array of the solution has not one entry for each vertex";
+    case PGBOARD_SIZE:
+        return "the size of a struct is not the one that this library takes";
+    case PGBOARD_NO_VERTEX:
+        return "the game has no vertex";
+    case PGBOARD_TOO_MANY_VERTICES:
+        return "the game has too many vertices";
+    case PGBOARD_TWICE:
+        return "a vertex is specified twice";
+    case PGBOARD_NO_SUCCESSOR:
+        return "a vertex has no successor";
+    case PGBOARD_TOO_MANY_EDGES:
+        return "the game has too many edges";
+    case PGBOARD_UNKNOWN:
+        return "a successor is no vertex";
+    case PGBOARD_NO_CHOICE_AT:
+        return "the winner owns a vertex and has no choice there";
+    case PGBOARD_BAD_CHOICE:
+        return "a winner's choice is no successor";
+    case PGBOARD_LEAVES:
+        return "a kept edge leads to a vertex that its winner does not win";
+    case PGBOARD_CYCLE:
+        return "the greatest priority on a closed walk is the loser's";
+    case PGBOARD_KNOWN_CHOICE:
+        return "a vertex that its owner is known to win has no choice that is a successor";
+    case PGBOARD_KNOWN_CYCLE:
+        return "the greatest priority on a closed walk in what a player is known to win is the other's";
+    case PGBOARD_KNOWN_LOST:
+        return "Even attracts a vertex that is known for Odd to what is known for Even";
+    case PGBOARD_KNOWN_LEAVES:
+        return "a kept edge leads out of what a player is known to win";
+    case PGBOARD_GAME_TOO_LONG:
+        return "the game's text is longer than 268435456 bytes";
+    case PGBOARD_GAME_LEXICAL:
+        return "the game's text has a byte that begins no token, or a quote that is never closed";
+    case PGBOARD_GAME_SYNTAX:
+        return "the game's text has a token that can't stand there, or ends too early";
+    case PGBOARD_GAME_NUMBER:
+        return "the game's text has a number above 2147483647";
+    case PGBOARD_GAME_OWNER:
+        return "the game's text has an owner that is neither 0 nor 1";
+    case PGBOARD_SOLUTION_TOO_LONG:
+        return "the solution's text is longer than 268435456 bytes";
+    case PGBOARD_SOLUTION_LEXICAL:
+        return "the solution's text has a byte that begins no token, or a quote that is never closed";
+    case PGBOARD_SOLUTION_SYNTAX:
+        return "the solution's text has a token that can't stand there, or ends too early";
+    case PGBOARD_SOLUTION_NUMBER:
+        return "the solution's text has a number above 2147483647";
+    case PGBOARD_SOLUTION_WINNER:
+        return "the solution's text has a winner that is neither 0 nor 1";
+    case PGBOARD_SOLUTION_STRANGER:
+        return "the solution's text has a vertex that is not in the game";
+    case PGBOARD_SOLUTION_TWICE:
+        return "the solution's text has two lines for a vertex";
+    case PGBOARD_SOLUTION_MISSING:
+        return "the solution's text has no line for a vertex";
+    case PGBOARD_ROOM:
+        return "the buffer is smaller than the text";
+    default:
+        return "no answer of this library";
+    }
+}
 
 #ifdef __cplusplus
 }

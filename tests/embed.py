@@ -1,10 +1,10 @@
 #!/usr/bin/env python3
 """Builds the static library, and looks at what C and Python see of it.
 
-include/pgboard.h declares the exports of crates/pgboard_c, and has the numbers that their contracts name. tests/embed/test.c
-is compiled with warnings as errors, without and with sanitizers, and goes through each answer; on random games it gives the
-winners of the program. The C program of docs/INTEROP.md, built by the commands there, prints what it says there. The tests of
-bindings/python pass. Needs rt and cc.
+include/pgboard.h declares the exports of crates/pgboard_c and has the numbers that their contracts name, with a text for each
+answer; it is C11 and C++17, for each compiler that is here. tests/embed/test.c is compiled with warnings as errors, without and
+with sanitizers, and goes through each answer; on random games it gives the winners of the program. The C program of
+docs/INTEROP.md, built by the commands there, prints what it says there. The tests of bindings/python pass. Needs rt and cc.
 """
 
 import os
@@ -26,11 +26,20 @@ CRATE = common.ROOT / "crates" / "pgboard_c"
 KIT = pathlib.Path(common.run(["rt", "doc"])[1].decode()).parent
 ARCHIVES = [CRATE / "out" / "libpgboard_c.a", KIT / "c" / "liblibc_c.a"]
 GAMES = 300
-FLAGS = ["-std=c11", "-Wall", "-Wextra", "-Werror", "-pedantic", "-O1", "-Iinclude"]
+WARNINGS = ["-Wall", "-Wextra", "-Werror", "-pedantic", "-Iinclude"]
+FLAGS = ["-std=c11", *WARNINGS, "-O1"]
 REFUSING = ["-Wl,--wrap=malloc,--wrap=realloc"]
 SANITIZERS = ["-fsanitize=address,undefined", "-fno-sanitize-recover=all", "-g"]
 # how the types of an export are spelled in C; a slice is a pointer and its length
-TYPES = {"&[u8]": "const uint8_t *", "&[u32]": "const uint32_t *", "&mut [u8]": "uint8_t *", "&mut [u32]": "uint32_t *", "&mut Told": "struct pgboard_told *", "u32": "uint32_t "}
+TYPES = {
+    "&[u8]": "const uint8_t *",
+    "&mut [u8]": "uint8_t *",
+    "&mut usize": "size_t *",
+    "&Arrays": "const struct pgboard_game *",
+    "&SolutionArrays": "const struct pgboard_solution *",
+    "&mut Results": "struct pgboard_results *",
+    "&mut Report": "struct pgboard_report *",
+}
 # what the header calls the faults, where it isn't their own name
 NAMES = {
     ("verdict", "NoChoice"): "NO_CHOICE_AT",
@@ -46,27 +55,34 @@ def prototype(name, parameters):
         if kind != "Global":
             found.append(TYPES[kind] + parameter)
             found += [f"size_t {parameter}_len"] * kind.endswith("]")
-    return f"uint32_t {name}({', '.join(found)});"
+    return f"uint32_t {name}({', '.join(found) or 'void'});"
 
 
 def prototypes():
     """The exports as C declares them, by the crate's code."""
-    for path in ("on_arrays.rt", "on_texts.rt"):
-        for name, parameters in re.findall(r'pub extern "C" fn (\w+)\(\n(.*?)\n\) -> u32\n', common.text_of(f"crates/pgboard_c/src/{path}"), re.DOTALL):
+    for path in sorted((CRATE / "src").glob("*.rt")):
+        for name, parameters in re.findall(r'pub extern "C" fn (\w+)\((.*?)\) -> u32\n', path.read_text(encoding="utf-8"), re.DOTALL):
             yield prototype(name, parameters)
 
 
 def numbers():
-    """The numbers of the answers, by the definition that the contracts cite: group, name and number."""
+    """The numbers of the answers, by the definitions that the contracts cite: group, name and number."""
     text = common.text_of("crates/pgboard_c/specs/Numbers.antt")
-    found = re.findall(r"(?m)^(?!answer_)\w+_number \(?(\w+)\.(\w+)[^=\n]*= (\d+)$", text)
+    found = re.findall(r"(?m)^\w+_answer \(?(\w+)\.(\w+)[^=\n]*= answer (\d+) ", text)
     yield from (it for it in found if it[1] != "Memory")
-    yield from re.findall(r"(?m)^answer_number \(?(fault)\.(\w+)[^=\n]*= (\d+)$", text)
+    yield from re.findall(r"(?m)^answer_of \(?(fault)\.(\w+)[^=\n]*= answer (\d+) ", text)
+
+
+def parts():
+    """The numbers of arrays and structs, likewise."""
+    text = common.text_of("crates/pgboard_c/specs/Numbers.antt")
+    for group, name, number in re.findall(r"(?m)^(array|structure)_number \w+\.(\w+) = (\d+)$", text):
+        yield f"PGBOARD_{'ARRAY' if group == 'array' else 'STRUCT'}_{name.upper()}", number
 
 
 def header_name(group, name):
     snake = re.sub(r"(?<!^)([A-Z])", r"_\1", name).upper()
-    front = {"text": "GAME_", "solution": "SOLUTION_"}.get(group, "")
+    front = {"text": "GAME_", "solution": "SOLUTION_", "known": "KNOWN_"}.get(group, "")
     return f"PGBOARD_{NAMES.get((group, name), front + snake)}"
 
 
@@ -112,12 +128,28 @@ class Embed(unittest.TestCase):
     def test_the_header_declares_what_the_crate_exports(self):
         declared = {re.sub(r"\s+", " ", it) for it in re.findall(r"(?ms)^uint32_t [^;]*;", common.text_of("include/pgboard.h"))}
         self.assertEqual(declared, set(prototypes()))
-        self.assertEqual(len(declared), 5)
+        self.assertEqual(len(declared), 7)
 
     def test_the_header_has_the_numbers_of_the_contracts(self):
-        defined = dict(re.findall(r"(?m)^#define (PGBOARD_\w+) (\d+)u", common.text_of("include/pgboard.h")))
-        wanted = {header_name(*it[:2]): it[2] for it in numbers()} | {"PGBOARD_OK": "0", "PGBOARD_NO_CHOICE": "4294967295"}
-        self.assertEqual(defined, wanted)
+        header = common.text_of("include/pgboard.h")
+        defined = dict(re.findall(r"(?m)^#define (PGBOARD_\w+) (\d+)u", header))
+        answers = {header_name(*it[:2]): it[2] for it in numbers()} | {"PGBOARD_OK": "0"}
+        self.assertEqual(defined, {**answers, **dict(parts()), "PGBOARD_NO_CHOICE": "4294967295", "PGBOARD_NO_WINNER": "255"})
+        self.assertEqual(set(re.findall(r"case (PGBOARD_\w+):", header)), set(answers))
+
+    def test_the_versions_are_the_programs(self):
+        found = dict(re.findall(r"(?m)^#define PGBOARD_VERSION_(\w+) (\d+)$", common.text_of("include/pgboard.h")))
+        printed = run([common.PROGRAM, "--version"])[1].split()[1]
+        self.assertEqual(".".join(found[it] for it in ("MAJOR", "MINOR", "PATCH")), printed)
+        self.assertIn(f'__version__ = "{printed}"', common.text_of("bindings/python/pgboard/version.py"))
+
+    def test_the_header_in_c_and_cpp(self):
+        (self.room / "header.cpp").write_text('#include "pgboard.h"\nint main() { return pgboard_strerror(0) == nullptr; }\n', encoding="utf-8")
+        sources = {"c11": "tests/embed/test.c", "c++17": self.room / "header.cpp"}
+        for compiler, flag in (("gcc", "c11"), ("clang", "c11"), ("g++", "c++17"), ("clang++", "c++17")):
+            if shutil.which(compiler):
+                with self.subTest(compiler):
+                    self.assertEqual(run([compiler, f"-std={flag}", *WARNINGS, "-fsyntax-only", sources[flag]])[::2], (0, ""))
 
     def test_each_answer_in_c(self):
         limits = re.findall(r"(?m)^max_(?:vertices|edges) = (\d+)$", common.text_of("crates/pg_game/specs/Specification.antt"))

@@ -29,7 +29,7 @@ LINES = [
 # those that no text gives
 WITHOUT_EXAMPLE = ["game: no vertex", "game: vertex V: no successor"]
 REFUSED_WORDS = "A refused command line (status 2)"
-CASE = re.compile(r"(?m)^Test: `([\w./]+)`(?: `(\w+)`)?\.$")
+CASE = re.compile(r"(?m)(?<= )Test: `([\w./]+)`(?: `(\w+)`)?\.$")
 
 
 def pattern(line):

@@ -4,8 +4,8 @@
 The program's help is the source. The man page and docs/CLI.md have the same commands, flags and statuses, and README.md the
 same commands, and no flag that isn't there. A status has the same words everywhere, markup apart. Each
 synopsis, also that of crates/pgboard_program/README.md, has a line for each command with all its flags and files. The man page
-and docs/TRACE.md have the same lines and columns of a trace. -h says what --help says, but for the examples. The version that the program prints is the newest of CHANGELOG.md,
-and the kit's line is that of rt and of README.md.
+and docs/TRACE.md have the same lines and columns of a trace. -h says what --help says, but for the examples. The version that
+the program prints is the newest of CHANGELOG.md, and the kit's line is that of rt and of README.md.
 """
 
 import re
@@ -73,40 +73,33 @@ def synopsis_of(page):
     return {re.split(r" {2,}", line)[0] for line in re.sub(r"\n {2,}\b", "  ", synopsis_block(page)).splitlines() if line}
 
 
-class Told:
-    """What a page or the help tells: commands, flags and statuses."""
-
-    def __init__(self, commands, flags, statuses):
-        self.commands, self.flags = set(commands), set(flags)
-        self.statuses = {number: plain(words) for number, words in statuses}
+def said(commands, flags, statuses):
+    """What a page or the help says: commands, flags and statuses."""
+    return set(commands), set(flags), {number: plain(words) for number, words in statuses}
 
 
 def by_help():
-    """What the help tells, and the help of the program and of each command by name."""
+    """What the help says, and the help of the program and of each command by name."""
     whole = help_of()
     listed = re.search(r"(?ms)^Commands:\n(.*?)(?=^\S|\Z)", whole)
     commands = set(re.findall(r"(?m)^ {2}([a-z]+)\b", listed[1] if listed else "")) - {"help"}
     every = {name: help_of(name) for name in sorted(commands)}
-    flags = set(re.findall(FLAG, whole + "".join(every.values())))
-    return Told(commands, flags, statuses_of(whole)), {"": whole, **every}
+    return said(commands, re.findall(FLAG, whole + "".join(every.values())), statuses_of(whole)), {"": whole, **every}
 
 
-def by_page(text):
-    """README.md or docs/CLI.md: commands in `pgboard WORD`, statuses in a table under a heading."""
-    # flags of a script of examples are none of the program's
-    text = re.sub(r"(?m)^.*\.py\b.*$", "", text)
-    commands = re.findall(r"(?<!-)\bpgboard (?!\d)([a-z]+)\b(?= [\[A-Z<.`]|`|$)", text, re.M)
+def by_page(page):
+    """Of README.md or docs/CLI.md: commands in `pgboard WORD`, statuses in a table under a heading. Of the man page, its parts."""
+    text = common.text_of(page)
+    if page.endswith(".1"):
+        text = text.replace("\\-", "-")
+        part = lambda head: re.search(rf'(?ms)^\.SH "?{head}"?$(.*?)(?=^\.SH|\Z)', text)[1]
+        commands = re.findall(r"(?m)^\.TP\n\.\w+ ([a-z]+)", part("COMMANDS"))
+        return said(commands, re.findall(FLAG, text), re.findall(r"(?m)^\.TP\n\.B ([0-9])\n(.*)$", part("EXIT STATUS")))
+    # flags of scripts, of the tests and of ./pgboard are none of the program's
+    lines = [it for it in text.splitlines() if not re.search(r"\.py\b|bench/|tests/|\brt\b|\bsed\b|\bcurl\b|\bgit\b", it)]
+    commands = re.findall(r"(?m)(?<!-)\bpgboard (?!\d)([a-z]+)\b(?= [\[A-Z<.`]|`|$)", "\n".join(lines))
     rows = re.findall(r"(?m)^\|\s*`?([0-9])`?\s*\|\s*(.*?)\s*\|$", part_of(text, "status(?:es)?"))
-    # flags of bench/run, of the tests and of the script ./pgboard are none of the program's
-    lines = [it for it in text.splitlines() if not re.search(r"bench/|tests/|\brt\b|\bsed\b|\bcurl\b|\bgit\b", it)]
-    return Told(commands, {*re.findall(FLAG, "\n".join(lines))} - {"--rebuild", "--unproved"}, rows)
-
-
-def by_man(text):
-    text = re.sub(r'(?m)^\.\\".*$', "", text).replace("\\-", "-")
-    part = lambda head: re.search(rf'(?ms)^\.SH "?{head}"?$(.*?)(?=^\.SH|\Z)', text)[1]
-    commands = re.findall(r"(?m)^\.TP\n\.\w+ ([a-z]+)", part("COMMANDS"))
-    return Told(commands, re.findall(FLAG, text), re.findall(r"(?m)^\.TP\n\.B ([0-9])\n(.*)$", part("EXIT STATUS")))
+    return said(commands, {*re.findall(FLAG, "\n".join(lines))} - {"--rebuild", "--unproved"}, rows)
 
 
 def trace_lines(page):
@@ -122,18 +115,18 @@ def trace_lines(page):
 class HelpAgrees(unittest.TestCase):
     @classmethod
     def setUpClass(cls):
-        cls.told, cls.helps = by_help()
+        cls.said, cls.helps = by_help()
 
     def test_the_help_has_commands_and_six_statuses(self):
-        self.assertTrue(self.told.commands)
-        self.assertEqual(set(self.told.statuses), set("012345"))
+        self.assertTrue(self.said[0])
+        self.assertEqual(set(self.said[2]), set("012345"))
 
     def test_the_help_of_each_command_has_statuses_of_the_program(self):
         for name, text in self.helps.items():
             with self.subTest(name):
                 # (a command's own words may say less)
                 self.assertTrue(statuses_of(text))
-                self.assertLessEqual(set(dict(statuses_of(text))), set(self.told.statuses))
+                self.assertLessEqual(set(dict(statuses_of(text))), set(self.said[2]))
 
     def test_the_short_help_says_the_same_without_examples(self):
         for name, whole in self.helps.items():
@@ -150,15 +143,12 @@ class HelpAgrees(unittest.TestCase):
                 self.assertEqual(synopsis_of(page), lines)
 
     def test_commands_flags_and_statuses_of_each_page(self):
-        for page in sorted(PAGES):
-            text = common.text_of(page)
-            its = by_man(text) if page.endswith(".1") else by_page(text)
+        for page in sorted(PAGES - {"README.md"}):
             with self.subTest(page):
-                self.assertEqual(its.commands, self.told.commands)
-                if page == "README.md":
-                    self.assertLessEqual(its.flags, self.told.flags)
-                else:
-                    self.assertEqual((its.statuses, its.flags), (self.told.statuses, self.told.flags))
+                self.assertEqual(by_page(page), self.said)
+        commands, flags, _ = by_page("README.md")
+        self.assertEqual(commands, self.said[0])
+        self.assertLessEqual(flags, self.said[1])
 
     def test_the_lines_of_a_trace(self):
         self.assertEqual(len(trace_lines("docs/TRACE.md")), 6)

@@ -1,16 +1,17 @@
 #!/usr/bin/env python3
-"""Shows that ./package, in the tree of the program, makes what a machine without the Rattle kit can use.
+"""Shows that ./package makes what a machine without the Rattle kit can use.
 
     tests/package.py PROGRAM
 
-The tree is a checkout of one commit of its own here, so that changes that stand in it don't count. What is made is unpacked, and used
-with what it brings alone: the program in an empty root, a C program by pkg-config, the wheel without an index, the Debian package.
-Refused are a tree with changes, and one of which rt keeps no proof. The completions offer what the help has.
+The tree is a checkout of one commit of its own here, so that changes that are not committed don't count. `rt ci` has proved it
+before, so nothing is proved a second time. What is made is unpacked, and used with what it brings alone: the program in an empty
+root, a C program by pkg-config, the wheel without an index, the Debian package. In a copy, a tree with changes is refused, and
+one that the prover refuses. The completions offer what the help has.
 """
 
 import os
-import pathlib
 import re
+import resource
 import shutil
 import subprocess
 import sys
@@ -19,19 +20,15 @@ import unittest
 import common
 import pages
 
-sys.path.insert(0, os.path.dirname(os.path.realpath(shutil.which("rt") or "")))
-import rtlib
-
 JOINED = b"parity 1;\n0 2 0 0,1;\n1 1 1 1;\n%paritysol 1;\n0 0 0;\n1 1 1;\n"
 GAME, SOLUTION = JOINED.split(b"%")
-EXPORTS = {"pgboard_check", "pgboard_solve", "pgboard_solve_text", "pgboard_tidy_text", "pgboard_verify_text"}
+EXPORTS = set(re.findall(r"(?m)^(?!static)\w[^;{}()#]*\b(pgboard_\w+)\([^;{]*\);", common.text_of("include/pgboard.h")))
 WHO = ["-c", "user.name=tests", "-c", "user.email=tests@localhost"]
+# what the prover refuses of the crate that stands on all others
+CRATE = "crates/pgboard_program"
+EDIT = "a_file_that_can_not_be_opened_is_a_write_fault.edit"
 COMPLETIONS = common.ROOT / "completions"
 COMMANDS = ["verify", "tidy", "solve", "trace"]
-
-
-def tree():
-    return pathlib.Path(common.PROGRAM).parents[3]
 
 
 def done(*words, **how):
@@ -42,19 +39,24 @@ def done(*words, **how):
     return ran.stdout
 
 
-def take_as_built():
-    """Has rt take the program that `rt ci` has just proved, and left without a stamp, as built of its sources."""
-    (program,) = (it for it in rtlib.crates_below(str(tree() / "crates")) if it.is_program)
-    stamp = pathlib.Path(f"{common.PROGRAM}.stamp")
-    if not stamp.exists():
-        stamp.write_text(program.stamp() + rtlib.sum_of(common.PROGRAM), encoding="ascii")
+class Checkout:
+    """A tree, of which git keeps its commits in another folder."""
 
+    def __init__(self, top, git):
+        self.top, self.env = top, {**os.environ, "GIT_DIR": str(git), "GIT_WORK_TREE": str(top)}
+        self.git("init", "--quiet")
 
-def package(folder):
-    """The status of ./package, and what it says."""
-    words = [tree() / "package", folder]
-    ran = subprocess.run(words, stdin=subprocess.DEVNULL, stdout=subprocess.PIPE, stderr=subprocess.STDOUT, text=True, timeout=3000)
-    return ran.returncode, ran.stdout
+    def git(self, *words):
+        return done("git", *WHO, *words, cwd=self.top, env=self.env)
+
+    def commit(self):
+        self.git("add", "--all")
+        self.git("commit", "--quiet", "--message", "the tree as it is")
+
+    def package(self, folder):
+        """The status of ./package, and what it says."""
+        status, out, err = common.run([self.top / "package", folder], timeout=7200, env=self.env)
+        return status, (out + err).decode()
 
 
 def names_in(file, *flags):
@@ -67,16 +69,11 @@ class Packaged(unittest.TestCase):
     @classmethod
     def setUpClass(cls):
         cls.room = common.room(cls)
-        # git, here and in ./package, has its folder in the room
-        for name, value in {"GIT_DIR": cls.room / "git", "GIT_WORK_TREE": tree()}.items():
-            os.environ[name] = str(value)
-            cls.addClassCleanup(os.environ.pop, name)
-        for words in (["init", "--quiet"], ["add", "--all"], ["commit", "--quiet", "--message", "the tree as it stands"]):
-            done("git", *WHO, *words, cwd=tree())
-        cls.commit = done("git", "rev-parse", "HEAD").strip()
-        take_as_built()
+        cls.tree = Checkout(common.ROOT, cls.room / "git")
+        cls.tree.commit()
+        cls.commit = cls.tree.git("rev-parse", "HEAD").strip()
         cls.dist = cls.room / "dist"
-        status, said = package(cls.dist)
+        status, said = cls.tree.package(cls.dist)
         if status:
             raise AssertionError(said)
         (archive,) = cls.dist.glob("*.tar.gz")
@@ -97,26 +94,29 @@ class Packaged(unittest.TestCase):
         self.assertEqual(sorted(re.findall(r"(?m)^crate (\w+): proved, sum [0-9a-f]{64}$", said)), sorted(product))
 
     def test_the_same_again_gives_the_same_bytes(self):
-        self.assertEqual(package(self.room / "again")[0], 0)
+        self.assertEqual(self.tree.package(self.room / "again")[0], 0)
         done("sha256sum", "--check", "--strict", self.dist / "SHA256SUMS", cwd=self.room / "again")
 
-    def test_a_tree_with_changes_is_refused(self):
-        added = tree() / "new.txt"
-        added.touch()
-        self.addCleanup(added.unlink)
-        self.assertEqual(package(self.room / "none"), (1, "package: the tree has changes that are not committed\n"))
-
-    def test_an_unproved_tree_is_refused(self):
-        stamp = pathlib.Path(f"{common.PROGRAM}.stamp")
-        text = stamp.read_text(encoding="ascii")
-        self.addCleanup(stamp.write_text, text, encoding="ascii")
-        for name, other in (("of other sources", text[::-1]), ("of none", "")):
-            with self.subTest(name):
-                stamp.write_text(other, encoding="ascii")
-                self.assertEqual(package(self.room / "none"), (1, "package: the tree is not proved as it stands: run ./pgboard --rebuild\n"))
+    def test_a_tree_with_changes_and_one_that_the_prover_refuses_are_refused(self):
+        copy = self.room / "copy"
+        copy.mkdir()
+        self.tree.git("archive", "--output", self.room / "copy.tar", "HEAD")
+        done("tar", "-xf", self.room / "copy.tar", "-C", copy)
+        tree = Checkout(copy, self.room / "git_of_copy")
+        tree.commit()
+        _, old, new = (it.partition(": ")[2] for it in common.text_of(CRATE, "must-fail", EDIT).splitlines()[:3])
+        main = copy / CRATE / "src" / "main.rt"
+        text = main.read_text(encoding="utf-8")
+        self.assertEqual(text.count(old), 1)
+        main.write_text(text.replace(old, new), encoding="utf-8")
+        self.assertEqual(tree.package(self.room / "none"), (1, "package: the tree has changes that are not committed\n"))
+        tree.commit()
+        status, said = tree.package(self.room / "none")
+        self.assertEqual((status, (self.room / "none").exists()), (1, False), said)
+        self.assertRegex(said, r"(?m)\Apackage: rt ci: status 1$(?s:.*)^rt: FAILED: pgboard_program$")
 
     def test_a_folder_that_is_there_is_left(self):
-        self.assertEqual(package(self.dist), (1, f"package: {self.dist} is there already\n"))
+        self.assertEqual(self.tree.package(self.dist), (1, f"package: {self.dist} is there already\n"))
 
     def test_the_program_runs_in_an_empty_root(self):
         root = self.room / "root"
@@ -126,6 +126,13 @@ class Packaged(unittest.TestCase):
         self.assertEqual(common.run([*words, "/pgboard"], JOINED), (0, b"ok\n", b""))
         self.assertEqual(common.run([*words, "/pgboard", "solve", "--workers", "4"], GAME), (0, SOLUTION, b""))
         self.assertEqual(common.run([*words, "/pgboard", "tidy", "no_such_file"]), (4, b"", b"pgboard: read fault\n"))
+
+    def test_a_limit_on_a_files_size_is_a_write_fault(self):
+        game = b"".join(b"%d 0 0 %d;\n" % (v, v) for v in range(1000))
+        with open(self.room / "limited", "wb") as out:
+            limited = lambda: resource.setrlimit(resource.RLIMIT_FSIZE, (1000, 1000))
+            ran = subprocess.run([self.program, "tidy"], input=game, stdout=out, stderr=subprocess.PIPE, preexec_fn=limited, timeout=60)
+        self.assertEqual((ran.returncode, ran.stderr, (self.room / "limited").stat().st_size), (4, b"pgboard: write fault\n", 1000))
 
     def test_the_program_does_what_the_proved_one_does(self):
         for path in sorted((common.ROOT / "examples").glob("*.pg")):

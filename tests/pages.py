@@ -1,9 +1,9 @@
 #!/usr/bin/env python3
 """Runs the commands that the pages show and compares what they print, and fails where a link between pages leads nowhere.
 
-In a page a block `sh` that is followed by a block `text` is an example; other blocks are not run. It is run by bash in a folder
-that looks like the top of the repository: `pgboard` there is the built program, and `examples` a copy. Standard output and
-standard error come together, as in a terminal. docs/FAULTS.md has a test of its own.
+In a block `sh` of a page, commands are an example where lines that begin with `# ` follow, which are what they print, or where a
+block `text` does; no others are run. They are run by bash in a folder that looks like the top of the repository: `pgboard` there is
+the built program, and `examples` a copy. Standard output and standard error come together, as in a terminal. docs/FAULTS.md has a test of its own.
 """
 
 import pathlib
@@ -21,13 +21,16 @@ LINK = re.compile(r"\[[^\]]*\]\(([^)\s]+)\)")
 
 
 def examples(text):
-    """The pairs of a command block and the text that it has to print, each with the heading above."""
+    """The pairs of commands and what they have to print, each with the heading above."""
     blocks = list(BLOCK.finditer(text))
-    for block, after in zip(blocks, blocks[1:]):
-        between = text[block.end() : after.start()]
-        if block[1] == "sh" and after[1] == "text" and not re.search(r"(?m)^#", between):
-            heads = re.findall(r"(?m)^#+ +(.*)$", BLOCK.sub("", text[: block.start()]))
-            yield heads[-1] if heads else "", block[2], after[2]
+    for block, after in zip(blocks, [*blocks[1:], None]):
+        heads = re.findall(r"(?m)^#+ +(.*)$", BLOCK.sub("", text[: block.start()]))
+        head = heads[-1] if heads else ""
+        pairs = re.findall(r"((?:^(?!# ).*\n)+)((?:^# .*\n)+)", block[2], re.M)
+        if block[1] == "sh" and pairs:
+            yield from ((head, commands, re.sub(r"(?m)^# ", "", printed)) for commands, printed in pairs)
+        elif block[1] == "sh" and after and after[1] == "text" and not re.search(r"(?m)^#", text[block.end() : after.start()]):
+            yield head, block[2], after[2]
 
 
 def c_program(text):

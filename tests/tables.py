@@ -206,15 +206,6 @@ class Proved(unittest.TestCase):
     def test_damaged_rows_are_refused(self):
         self.assertEqual([it for row in self.rows for it in damaged(row) if row_fault(it) is None], [])
 
-    def test_the_list_by_crate_names_what_crates_hand_on(self):
-        part = re.search(r"(?ms)^## By crate$(.*?)^## ", common.text_of("docs/PROVED.md"))[1]
-        every = {call for _, call in public_calls()} | {f"laws::{call}" for path, call in public_calls() if path.endswith("laws.rt")}
-        every |= {it.split("::")[-1] for it in every} | {"=="}
-        every = every.union(*(handed_on(crate)[0] for crate in os.listdir(CRATES)))
-        named = set(re.findall(r"`([^`]+)`", part)) - set(os.listdir(CRATES))
-        self.assertTrue(named)
-        self.assertLessEqual(named, every)
-
 
 def layer_fault(crate, cell):
     """What of the crates below a crate takes, and its row has not, or the other way round; or None."""

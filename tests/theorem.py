@@ -3,7 +3,7 @@
 
     tests/theorem.py [--write]
 
-`--write` makes the page from PAGE. There `{{..}}` is a piece of a source, and becomes its text: a clause of a call, a field or
+`--write` makes the page from theorem.txt. There `{{..}}` is a piece of a source, and becomes its text: a clause of a call, a field or
 an equation of a definition, a definition, an invariant of a type, or lines of code. The appendix has each definition that the
 pieces reach, up to those that say how bytes spell a text; these are listed by name. A public contract is a clause of a call
 that a crate exports or that C calls, or of a trait, or how contracts see a type. The definitions that no public contract
@@ -11,100 +11,21 @@ reaches are in specs/private/, and no others are.
 """
 
 import collections
+import functools
 import itertools
 import re
 import sys
 import unicodedata
 import unittest
 
-import antt
 import common
 import tables
 
-PAGE = """# The theorem
-
-Three theorems say what a user of pgboard may rely on. Each table has a sentence of the theorem beside the clause or the field that says it. The prover has checked each clause against its body. The definitions follow: first the few that matter most, then all others in the [appendix](#appendix).
-
-This page is made of the sources by `tests/theorem.py --write`, and `./test` fails where it differs from them. [PROVED.md](PROVED.md) has the premises, every other promise, and for each a wrong body that the prover refuses.
-
-In a clause `result` is what the call returns. `x.old` and `x.new` are values before and after the call, and `x.now` is one that the call only reads. In a definition `(v : ℕ) →` is 'for each v' and `(v : ℕ) ×` is 'there is a v with'. Between statements `→` is 'implies', `×` 'and', `⊎` 'or'. `⊥` never holds and `Unit {0}` always does. A record states all of its fields. `left` is the bytes that a source still has, and `taken` those that a sink has taken, where the device knows them: one over memory does, and a file does not.
-
-## Verify
-
-**`pgboard verify` prints `ok` exactly where the second file is a solution of the game in the first, and otherwise the first fault of that solution.**
-
-| Sentence | What says it |
-|---|---|
-| A verdict is about the texts of the two files, and its line goes out | {{clause pgboard/src/run.rt run_verify writes}} |
-| They spell a game, and winners and choices for it | {{field pgboard.specs.Joined.IsJudged game_is}}, {{field pgboard.specs.Joined.IsJudged solution_is}} |
-| The verdict `Holds` is given only for a solution | {{equation pgboard.specs.Joined.IsVerdict Holds}} |
-| The verdict `Fails` names the first fault | {{equation pgboard.specs.Joined.IsVerdict Fails}} |
-| A solution has no fault, so it gets `Holds` | {{clause pg_text/src/laws.rt no_fault }}, where {{equation pg_text.specs.Laws.SolutionHasNoFault =}} |
-| All of this output goes out, and nothing else | {{field pgboard.specs.Run.Writes written}} |
-| Input that is no such text gets its first fault and no verdict, and so do failed devices and refused memory | {{clause pgboard/src/run.rt run_verify fault}} |
-
-## Solve
-
-**What `pgboard solve` prints is a solution of the game, for every number of workers and every schedule.**
-
-| Sentence | What says it |
-|---|---|
-| What goes out is the text that the record `IsSolveOutput` describes | {{clause pgboard/src/solve.rt run_solve writes}}, where {{field pgboard.specs.Run.Writes written}} |
-| The file spells the game | {{field pgboard.specs.Solving.IsSolveOutput game_is}} |
-| The text is that of an exact solution | {{equation pgboard.specs.Solving.IsSolveText false}} |
-| With `--winners` it has exactly the winners | {{equation pgboard.specs.Solving.IsSolveText true}} |
-| What is given by `--known` is used only where it is right | {{field pgboard.specs.Solving.IsSolveOutput regions}} |
-| For every number of workers and every schedule: the premises are of two numbers, and none is of threads, gate or finder | {{premises pgboard/src/solve.rt run_solve}} |
-
-## Board
-
-**{{headline}}**
-
-The lock holds a `LockedBoard`. The prover checks the invariant of this type, and that of the `Board` in it, wherever the lock is released. So both hold whenever the lock is free. A contract can't name the board under a lock: those of `Office::post`, `Office::settle` and `Office::copy` speak of some lawful board ([PROVED.md](PROVED.md#the-headline-part-by-part)).
-
-```text
-{{code pg_board/src/office.rt LockedBoard}}
-impl Board {{invariant pg_board/src/board.rt Board}}
-{{item pg_board.specs.private.Regions.IsBoard}}
-```
-
-| Sentence | What says it |
-|---|---|
-{{parts}}
-
-## Definitions
-
-```text
-{{items}}
-```
-
-"""
-# the parts of the headline, in the order of docs/PROVED.md, each with what says it
-PARTS = re.findall(
-    r"(?m)^(\S.*)\n    (.*)$",
-    """
-Whenever the board's lock is free, whatever was posted and however calls interleaved
-    {{field pg_board.specs.private.Regions.IsBoard lawful}}, of the board under the lock
-the settled regions are disjoint
-    {{equation pg_board.specs.State.State =}}: a vertex has one winner; {{equation pg_board.specs.Laws.WinnersAreDisjoint =}}
-each is closed against its opponent, with a strategy that stays inside and leaves only closed walks of its winner's parity
-    {{field pg_board.specs.State.IsLawfulState regions}}
-neither attracts a further vertex
-    {{field pg_board.specs.State.IsLawfulState attracted}}
-every prefix of the journal replays to such a board
-    {{field pg_board.specs.Journal.IsLawful states}}, {{field pg_board.specs.Journal.IsLawful answered}}
-all shares together are the number settled
-    `LockedBoard.exact`, where the book's total is the sum of all shares; {{clause pg_board/src/office.rt Office::close exact}}
-a full board is the game's only solution
-    {{clause pg_board/src/board.rt Board::solution full}}, {{clause pg_board/src/board.rt Board::solution solution}}
-""",
-)
+PAGE = common.text_of("tests/theorem.txt")
+# the parts of the headline, in the order of docs/PROVED.md
+PARTS = re.findall(r"(?m)^\| (\S[^|]*) \| ", PAGE.split("\n## Board\n")[1].split("|---|---|")[1])
 # the definitions that the page shows first
-FIRST = [
-    *("Graph.IsGame", "Kept.kept", "Kept.KeptEdge", "Walk.Walk", "Walk.ClosedWalk", "Walk.IsGoodFor"),
-    *("Region.OnlyGoodWalks", "Region.IsRegion", "Region.Wins"),
-]
-FIRST = [f"pg_game.specs.{it}" for it in FIRST] + [f"pg_text.specs.Solution.{it}" for it in ("IsSolution", "IsExactSolution")]
+FIRST = set(re.findall(r"{{item (\S+)}}", PAGE))
 # modules that say how bytes spell texts, or what the tables beside a journal hold
 BY_NAME = {"pg_text.specs.Reading", "pg_text.specs.Written", "pgboard.specs.Run", "pgboard.specs.Known", "pg_board.specs.private.Regions"}
 OF_TEXTS = (
@@ -113,22 +34,131 @@ OF_TEXTS = (
 )
 
 
+# --- definitions: each stands at the margin of a file, with the comment above it; the text alone is read ---
+
+CRATES = ["pg_game", "pg_text", "pg_dominion", "pg_finders", "pg_board", "pg_workers", "pgboard", "pgboard_c"]
+NAME = r"[^\s(){}\[\];,.:]+"
+WORD = re.compile(r"[\w'?!≢-]*\w[\w'?!≢-]*|[^\s\w]")
+BEGUN = re.compile(rf"^(?:(pub record|record|pub data|data) ({NAME})(?= )|(?:(abbrev pub|abbrev|unfoldable pub|unfoldable|pub) )?({NAME}) :)")
+read = functools.lru_cache(maxsize=None)(common.text_of)
+
+
+class Item:
+    """A definition: where it stands, its kind and name, the comment above it and its lines."""
+
+    def __init__(self, path, kind, name, comment, lines):
+        self.path, self.kind, self.name, self.comment, self.lines = path, kind, name, comment, lines
+
+    @property
+    def module(self):
+        """As `pg_game.specs.Graph`."""
+        return re.sub(r"^crates/|\.antt$", "", self.path).replace("/", ".")
+
+    @property
+    def key(self):
+        return f"{self.module}.{self.name}"
+
+    @property
+    def text(self):
+        return "\n".join(self.lines)
+
+
+def paths(crate):
+    """The files of a crate's specs: those that its Lib.antt lists, in its order, and then the others."""
+    folder = f"crates/{crate}/specs"
+    found = [str(it.relative_to(common.ROOT)) for it in common.ROOT.glob(f"{folder}/**/*.antt") if it.name != "Lib.antt"]
+    listed = [f"{folder}/{it}.antt" for it in re.findall(r"(?m)^pub mod (\w+)", read(f"{folder}/Lib.antt"))]
+    return sorted(found, key=lambda it: (listed.index(it) if it in listed else len(listed), it))
+
+
+def head(path):
+    """The comment that a file begins with, as one text."""
+    lines = []
+    for line in read(path).splitlines():
+        if not line.startswith("--"):
+            break
+        lines.append(line[2:].strip())
+    return " ".join(lines)
+
+
+@functools.lru_cache(maxsize=None)
+def items(path):
+    """The definitions of a file, in order."""
+    found, comment, item = [], [], None
+    for line in read(path).splitlines():
+        begun = BEGUN.match(line)
+        if not line.strip():
+            comment, item = [], None
+        elif line.startswith("--"):
+            comment, item = [*comment, line], None
+        elif line.startswith(("use ", "pub mod ")):
+            comment = []
+        elif line.startswith("module "):
+            raise ValueError(f"{path} has a section, which is not read here")
+        elif begun:
+            item = Item(path, begun[1] or begun[3] or "", begun[2] or begun[4], comment, [line])
+            found.append(item)
+            comment = []
+        elif item:
+            item.lines.append(line)
+    return found
+
+
+@functools.lru_cache(maxsize=None)
+def imports(text):
+    """What a file's `use` lines bring in: a name, or an alias with a dot behind it, to its whole name."""
+    found = {}
+    for module, names in re.findall(r"use ([\w.+'-]+?)\.\{([^}]*)\}", text):
+        for name in names.split(","):
+            name, _, other = name.strip().partition(" as ")
+            found[other.strip() or name] = f"{module}.{name}".removeprefix("Rattle.")
+    for module, alias in re.findall(r"use ([\w.+'-]+) as (\w+)", text):
+        found[f"{alias}."] = module.removeprefix("Rattle.")
+    return {name: origin(whole) for name, whole in found.items()}
+
+
+def origin(whole):
+    """Where the item stands that a crate's proofs/Common.antt passes on by this name."""
+    crate, _, name = whole.partition(".proofs.Common.")
+    if not name or crate not in CRATES:
+        return whole
+    return imports(read(f"crates/{crate}/proofs/Common.antt"))[name]
+
+
+def names_in(text, known, own, module):
+    """The whole names that a text means: of the file's imports, and of the names that its own module declares."""
+    text = re.sub(r"--.*", "", text)
+    found = {f"{known[alias + '.']}.{name}" for alias, name in re.findall(r"(?<![\w.])(\w+)\.([\w']+)", text) if alias + "." in known}
+    # a field of a record, in its declaration, a literal or behind a value, means no definition
+    text = re.sub(r"(?m)^  pub [\w']+ :", " ", text)
+    text = re.sub(r"([{;] *)[\w']+ =", r"\1", text)
+    text = re.sub(r"(?<=[\w')\]])\.[\w']+", " ", text)
+    for word in WORD.findall(text):
+        if word in known:
+            found.add(known[word])
+        elif word in own:
+            found.add(f"{module}.{word}")
+        elif f"◌{word}◌" in known:
+            found.add(known[f"◌{word}◌"])
+    return found
+
+
 class Sources:
     """All definitions of specs by their whole names, what each names, and which one declares a constructor."""
 
     def __init__(self):
         self.items, self.names, self.makers = {}, {}, {}
-        for crate in antt.CRATES:
-            for path in antt.paths(crate):
+        for crate in CRATES:
+            for path in paths(crate):
                 self.add(path)
 
     def add(self, path):
-        found = antt.items(path)
+        found = items(path)
         own = {it.name for it in found} | {name for it in found for name in constructors(it)}
         for item in found:
             self.items[item.key] = item
             self.makers.update({f"{item.module}.{name}": item.key for name in constructors(item)})
-            self.names[item.key] = antt.names_in(item.text, antt.imports(antt.read(path)), own - {item.name}, item.module)
+            self.names[item.key] = names_in(item.text, imports(read(path)), own - {item.name}, item.module)
 
     def reached(self, roots, ends=frozenset()):
         """The definitions that names reach, but those of the modules `ends`, and all other names that these definitions have."""
@@ -158,7 +188,7 @@ def constructors(item):
 
 def handed_on_files():
     """Each file of src that has something public, with the public names that count there; None where all do."""
-    for crate in antt.CRATES:
+    for crate in CRATES:
         names, open_files = tables.handed_on(crate)
         yield from ((path, None if path in open_files else names) for path in tables.sources(crate))
 
@@ -192,8 +222,8 @@ def public_names():
 
 def means(path, text):
     """The whole names that a piece of a source file means."""
-    known = antt.imports(tables.read(path))
-    return antt.names_in(re.sub(r"(?:ensures|requires) \w*", "", text), known, set(), "")
+    known = imports(tables.read(path))
+    return names_in(re.sub(r"(?:ensures|requires) \w*", "", text), known, set(), "")
 
 
 # --- pieces of the sources ---
@@ -239,7 +269,7 @@ class Pieces:
         return f"`{' '.join(said[0].split())}`"
 
     def item(self, key):
-        return "\n".join([*self.sources.items[key].comment, self.sources.items[key].text])
+        return "\n".join([*self.item_of(key).comment, self.item_of(key).text])
 
     def item_of(self, key):
         """A definition; what its fields and equations name is named."""
@@ -292,17 +322,23 @@ def definitions(sources, found, shown):
     for module in in_order(sources, found):
         these = [item for key, item in sources.items.items() if key in found - shown and item.module == module]
         for path in sorted({it.path for it in these}):
-            names = "".join(meant(sources, found, these))
-            yield f"[{path.removeprefix('crates/').replace('/specs', '')}](../{path}): {antt.head(path)}{names}"
-            yield fenced("text", "\n".join("\n".join([*it.comment, it.text]) for it in these)).rstrip()
+            yield f"---- {path.removeprefix('crates/')}: {head(path)}{''.join(meant(sources, found, these))}"
+            yield from ("\n".join([*it.comment, in_one_line(it)]) for it in these)
+
+
+def in_one_line(item):
+    """A definition by one equation in one line, where it fits: its type and the equation."""
+    line = "; ".join(item.lines)
+    return line if len(item.lines) == 2 and item.kind.startswith("abbrev") and len(line) <= 160 else item.text
 
 
 def types(names):
-    """The types of the code among names, each with its text, without attributes."""
+    """The types of the code among names, each with its text in one line, without attributes and comments."""
     declared = re.compile(r"(\w+)\.specs\.declared\.([\w.]+?)\.(\w+)\.(?:TheVariants.*|\3)")
     found = {declared.fullmatch(it).groups() for it in names if ".specs.declared." in it}
-    for crate, module, name in sorted(found, key=lambda it: (antt.CRATES.index(it[0]), it)):
-        yield f"{crate}::{name}", declaration(f"crates/{crate}/src/{module.replace('.', '/')}.rt", name)
+    for crate, module, name in sorted(found, key=lambda it: (CRATES.index(it[0]), it)):
+        text = declaration(f"crates/{crate}/src/{module.replace('.', '/')}.rt", name)
+        yield f"{crate}::{name}", text and " ".join(re.sub(r"(?m)^ *///.*\n", "", text).split()).replace(", }", " }")
 
 
 def library(names):
@@ -310,7 +346,7 @@ def library(names):
     found = collections.defaultdict(set)
     for name in names:
         module, _, last = name.rpartition(".")
-        if module.split(".")[0] not in antt.CRATES:
+        if module.split(".")[0] not in CRATES:
             found[module].add(last.replace("◌", ""))
     for module, these in sorted(found.items()):
         yield f"- `{module}`: {', '.join(f'`{it}`' for it in sorted(these))}"
@@ -332,9 +368,9 @@ def seen_as(found):
     for path, names in handed_on_files():
         for owner, line in views(path):
             value = re.match(r"    ghost Value = { (.*) };", line)
-            known = {it for it in means(path, value[1]) if it.split(".")[0] in antt.CRATES} if value else set()
+            known = {it for it in means(path, value[1]) if it.split(".")[0] in CRATES} if value else set()
             if value and (names is None or owner in names) and known <= found:
-                yield f"- `{owner}` ({path.split('/')[0]}): `{value[1]}`"
+                yield f"`{owner}` (of `{path.split('/')[0]}`) as `{value[1]}`"
 
 
 def fenced(kind, text):
@@ -343,9 +379,7 @@ def fenced(kind, text):
 
 def first_part(pieces):
     """The theorems and the definitions that matter most."""
-    parts = "\n".join(f"| {text} | {said} |" for text, said in PARTS)
-    items = "\n".join(pieces.item(pieces.item_of(it).key) for it in FIRST)
-    return pieces.filled(PAGE.replace("{{headline}}", headline()).replace("{{parts}}", parts)).replace("{{items}}", items)
+    return pieces.filled(PAGE.replace("{{headline}}", headline()))
 
 
 def page(sources):
@@ -354,12 +388,10 @@ def page(sources):
     reached, others = sources.reached(pieces.named, BY_NAME)
     by_name = sources.reached(pieces.named)[0] - reached
     yield "## Appendix\n"
-    yield f"{len(reached - {*FIRST})} further definitions, each file after those that it cites. Their sources are in [TERMS.md](TERMS.md#sources).\n"
-    yield from definitions(sources, reached, {*FIRST})
-    yield "\n### Types of the code\n"
-    yield "Numbers of the code are natural numbers in clauses and definitions. Of these types contracts see:\n"
-    yield "\n".join(seen_as(reached)) + "\n"
-    yield "All others are seen as they are declared:\n"
+    yield f"{len(reached - FIRST)} further definitions, each file of `crates` after those that it cites. Where one is in one line, its type is before the semicolon. Their sources are in [TERMS.md](TERMS.md#sources).\n"
+    yield fenced("text", "\n".join(definitions(sources, reached, FIRST)))
+    yield "### Types of the code\n"
+    yield f"Numbers of the code are natural numbers in clauses and definitions. Contracts see {', '.join(seen_as(reached))}. All others are seen as they are declared:\n"
     yield fenced("rust", "\n".join(text for _, text in types(others) if text))
     yield "### Words of the library\n"
     yield "\n".join(library(others)) + "\n"
@@ -376,11 +408,11 @@ def strangers(sources, item):
     text = re.sub(r"--.*", "", item.text)
     bound = re.findall(r"[({]([\w' ]+) :|λ ([\w' ]+)\.|^([^=:\n]*) =(?: |$)", text, re.M)
     known = {"Type", "Unit", *" ".join(it for names in bound for it in names).split()}
-    known |= {it.rstrip(".") for it in antt.imports(antt.read(item.path))}
-    known |= {name for it in antt.items(item.path) for name in (it.name, *constructors(it))}
+    known |= {it.rstrip(".") for it in imports(read(item.path))}
+    known |= {name for it in items(item.path) for name in (it.name, *constructors(it))}
     yield from sorted(set(re.findall(r"(?<![\w.'])[A-Z][\w']*(?!\w)", text)) - known)
     for name in sorted(sources.names[item.key]):
-        if name.split(".")[0] in antt.CRATES and ".declared." not in name and sources.whole(name) not in sources.items:
+        if name.split(".")[0] in CRATES and ".declared." not in name and sources.whole(name) not in sources.items:
             yield name
 
 
@@ -402,10 +434,10 @@ class Theorem(unittest.TestCase):
         cls.made = "\n".join(page(cls.sources))
 
     def test_the_headline_has_its_parts_and_nothing_else(self):
-        words = [re.escape(text) for text, _ in PARTS]
+        words = [re.escape(text) for text in PARTS]
         self.assertRegex(headline(), rf"\A{'(?:, |; |; and )'.join(words)}\.\Z")
         found = re.search(r"(?ms)^## The headline, part by part$(.*?)^## ", common.text_of("docs/PROVED.md"))[1]
-        self.assertEqual([it.split(" | ")[0].strip("| ").lower() for it in tables.rows_of(found)], [text.lower() for text, _ in PARTS])
+        self.assertEqual([it.split(" | ")[0].strip("| ").lower() for it in tables.rows_of(found)], [text.lower() for text in PARTS])
 
     def test_each_sentence_has_something_that_says_it(self):
         for row in re.findall(r"(?m)^\| (.*) \|$", first_part(Pieces(self.sources))):

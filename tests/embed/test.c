@@ -1,4 +1,4 @@
-/* Goes through the calls of include/pgboard.h: each answer, what is told beside it, and that nothing else is written.
+/* Goes through the calls of include/pgboard.h: each answer, what is reported beside it, and that nothing else is written.
  * With the word `games`, reads games as numbers from standard input (n and m, owners, priorities, starts, targets), and
  * writes for each the winners and the choices that it got. Else the words are the limits of a game: vertices, edges,
  * priorities; the last line is 'N passed, M failed'. Linked with -Wl,--wrap=malloc,--wrap=realloc, so that memory can
@@ -44,11 +44,12 @@ static void expect(int holds, const char *what, unsigned line)
 
 #define MOST 70000
 
-/* The arrays that the calls get, each with a length of its own. */
+/* The arrays that the calls get, each with a length of its own, and the sizes that the structs say. */
 struct arrays {
-    uint8_t owners[MOST], winners[MOST];
-    uint32_t priorities[MOST], starts[MOST + 1], targets[MOST], choices[MOST];
-    size_t owners_len, priorities_len, starts_len, targets_len, winners_len, choices_len;
+    uint8_t owners[MOST], winners[MOST], known_winners[MOST];
+    uint32_t priorities[MOST], starts[MOST + 1], targets[MOST], choices[MOST], known_choices[MOST];
+    size_t owners_len, priorities_len, starts_len, targets_len, winners_len, choices_len, known_len, known_choices_len;
+    size_t game_size, solution_size, results_size;
 };
 static struct arrays game, before;
 
@@ -64,39 +65,72 @@ static void set(size_t n, const char *owners, const uint32_t *priorities, const 
     memcpy(game.targets, targets, starts[n] * sizeof *targets);
     memset(game.winners, 77, sizeof game.winners);
     memset(game.choices, 77, sizeof game.choices);
+    memset(game.known_winners, PGBOARD_NO_WINNER, sizeof game.known_winners);
+    memset(game.known_choices, 77, sizeof game.known_choices);
     game.owners_len = game.priorities_len = game.winners_len = game.choices_len = n;
+    game.known_len = game.known_choices_len = n;
     game.starts_len = n + 1;
     game.targets_len = starts[n];
+    game.game_size = sizeof(struct pgboard_game);
+    game.solution_size = sizeof(struct pgboard_solution);
+    game.results_size = sizeof(struct pgboard_results);
 }
 
-static struct pgboard_told told;
+static struct pgboard_report report;
+
+/* The structs over these arrays. */
+static struct pgboard_game arrays_of(void)
+{
+    struct pgboard_game it = {game.game_size, game.owners,     game.owners_len, game.priorities, game.priorities_len,
+                              game.starts,    game.starts_len, game.targets,    game.targets_len};
+    return it;
+}
+
+static struct pgboard_results results_of(void)
+{
+    struct pgboard_results it = {game.results_size, game.winners, game.winners_len, game.choices, game.choices_len};
+    return it;
+}
 
 static uint32_t solve(void)
 {
-    told.at = told.to = 99;
-    return pgboard_solve(game.owners, game.owners_len, game.priorities, game.priorities_len, game.starts,
-                         game.starts_len, game.targets, game.targets_len, game.winners, game.winners_len, game.choices,
-                         game.choices_len, &told);
+    struct pgboard_game it = arrays_of();
+    struct pgboard_results results = results_of(), same = results;
+    report.at = report.to = 99;
+    uint32_t answer = pgboard_solve(&it, &results, &report);
+    return memcmp(&results, &same, sizeof same) == 0 ? answer : 99;
 }
 
 static uint32_t check(void)
 {
-    told.at = told.to = 99;
-    return pgboard_check(game.owners, game.owners_len, game.priorities, game.priorities_len, game.starts,
-                         game.starts_len, game.targets, game.targets_len, game.winners, game.winners_len, game.choices,
-                         game.choices_len, &told);
+    struct pgboard_game it = arrays_of();
+    struct pgboard_solution solution = {game.solution_size, game.winners, game.winners_len, game.choices,
+                                        game.choices_len};
+    report.at = report.to = 99;
+    return pgboard_check(&it, &solution, &report);
 }
 
-/* Whether a call has this answer and tells this, and has changed nothing else. */
+static uint32_t solve_known(void)
+{
+    struct pgboard_game it = arrays_of();
+    struct pgboard_solution known = {game.solution_size, game.known_winners, game.known_len, game.known_choices,
+                                     game.known_choices_len};
+    struct pgboard_results results = results_of(), same = results;
+    report.at = report.to = 99;
+    uint32_t answer = pgboard_solve_known(&it, &known, &results, &report);
+    return memcmp(&results, &same, sizeof same) == 0 ? answer : 99;
+}
+
+/* Whether a call has this answer and reports this, and has changed nothing else. */
 static int refuses(uint32_t (*call)(void), uint32_t answer, uint64_t at, uint64_t to)
 {
     memcpy(&before, &game, sizeof game);
-    return call() == answer && told.at == at && told.to == to && memcmp(&before, &game, sizeof game) == 0;
+    return call() == answer && report.at == at && report.to == to && memcmp(&before, &game, sizeof game) == 0;
 }
 
-static int both_refuse(uint32_t answer, uint64_t at, uint64_t to)
+static int all_refuse(uint32_t answer, uint64_t at, uint64_t to)
 {
-    return refuses(solve, answer, at, to) && refuses(check, answer, at, to);
+    return refuses(solve, answer, at, to) && refuses(check, answer, at, to) && refuses(solve_known, answer, at, to);
 }
 
 /* Even owns 0 and may stay there or go to 1; Odd owns 1 and stays. Even wins 0, Odd wins 1. */
@@ -110,51 +144,114 @@ static void two(void)
 static void solves(void)
 {
     two();
-    EXPECT(solve() == PGBOARD_OK && told.at == 99 && told.to == 99);
+    EXPECT(solve() == PGBOARD_OK && report.at == 0 && report.to == 0);
     EXPECT(game.winners[0] == 0 && game.winners[1] == 1 && game.winners[2] == 77);
     EXPECT(game.choices[0] == 0 && game.choices[1] == 1 && game.choices[2] == 77u * 0x01010101u);
-    EXPECT(refuses(check, PGBOARD_OK, 99, 99));
+    EXPECT(refuses(check, PGBOARD_OK, 0, 0));
     /* a choice where the winner isn't the owner has no effect, and is not written */
     game.owners[1] = 0;
     EXPECT(solve() == PGBOARD_OK && game.winners[1] == 1 && game.choices[1] == PGBOARD_NO_CHOICE);
+    EXPECT(solve_known() == PGBOARD_OK && game.winners[1] == 1 && game.choices[1] == PGBOARD_NO_CHOICE);
     game.choices[1] = 4;
-    EXPECT(refuses(check, PGBOARD_OK, 99, 99));
+    EXPECT(refuses(check, PGBOARD_OK, 0, 0));
 }
 
 static void refuses_arrays(void)
 {
     two();
-    game.priorities_len = 1;
-    EXPECT(both_refuse(PGBOARD_LENGTHS, 0, 0));
-    two();
+    game.game_size--;
+    game.priorities_len = 1; /* is looked at later */
+    EXPECT(all_refuse(PGBOARD_SIZE, PGBOARD_STRUCT_GAME, sizeof(struct pgboard_game)));
+    game.game_size++;
     game.starts_len = 2;
-    EXPECT(both_refuse(PGBOARD_LENGTHS, 0, 0));
-    two();
-    game.starts[0] = 1;
-    EXPECT(both_refuse(PGBOARD_LENGTHS, 0, 0));
-    two();
+    EXPECT(all_refuse(PGBOARD_LENGTHS, PGBOARD_ARRAY_PRIORITIES, 0));
+    game.priorities_len = 2;
     game.targets_len = 2;
-    EXPECT(both_refuse(PGBOARD_LENGTHS, 0, 0));
+    EXPECT(all_refuse(PGBOARD_LENGTHS, PGBOARD_ARRAY_STARTS, 0));
+    game.starts_len = 3;
+    game.starts[0] = 1;
+    EXPECT(all_refuse(PGBOARD_LENGTHS, PGBOARD_ARRAY_STARTS, 0));
+    game.starts[0] = 0;
+    EXPECT(all_refuse(PGBOARD_LENGTHS, PGBOARD_ARRAY_TARGETS, 0));
     two();
     game.starts[1] = 4;
-    game.owners[0] = 2; /* is looked at later */
-    EXPECT(both_refuse(PGBOARD_ROW, 0, 0));
+    game.owners[0] = 2;
+    EXPECT(all_refuse(PGBOARD_ROW, 0, 0));
     game.starts[1] = 2;
-    EXPECT(both_refuse(PGBOARD_OWNER, 0, 0));
+    EXPECT(all_refuse(PGBOARD_OWNER, 0, 0));
     two();
     game.owners[1] = 255;
     game.priorities[0] = 2147483648u;
-    EXPECT(both_refuse(PGBOARD_OWNER, 1, 0));
+    EXPECT(all_refuse(PGBOARD_OWNER, 1, 0));
     game.owners[1] = 1;
-    EXPECT(both_refuse(PGBOARD_PRIORITY, 0, 0));
+    EXPECT(all_refuse(PGBOARD_PRIORITY, 0, 0));
     game.priorities[0] = 2147483647u;
     EXPECT(solve() == PGBOARD_OK && game.winners[0] == 1);
+}
+
+/* The structs of results and of a solution, once the game is known. */
+static void refuses_results(void)
+{
     two();
-    game.winners_len = 1;
-    EXPECT(both_refuse(PGBOARD_RESULTS, 0, 0));
-    two();
+    game.results_size = game.solution_size = 8;
+    game.winners_len = game.known_len = 1;
+    EXPECT(refuses(solve, PGBOARD_SIZE, PGBOARD_STRUCT_RESULTS, sizeof(struct pgboard_results)));
+    EXPECT(refuses(check, PGBOARD_SIZE, PGBOARD_STRUCT_SOLUTION, sizeof(struct pgboard_solution)));
+    EXPECT(refuses(solve_known, PGBOARD_SIZE, PGBOARD_STRUCT_SOLUTION, sizeof(struct pgboard_solution)));
+    game.solution_size = sizeof(struct pgboard_solution);
+    EXPECT(refuses(check, PGBOARD_SOLUTION, PGBOARD_ARRAY_WINNERS, 0));
+    EXPECT(refuses(solve_known, PGBOARD_SOLUTION, PGBOARD_ARRAY_WINNERS, 0));
+    game.known_len = 2;
+    EXPECT(refuses(solve_known, PGBOARD_SIZE, PGBOARD_STRUCT_RESULTS, sizeof(struct pgboard_results)));
+    game.results_size = sizeof(struct pgboard_results);
+    EXPECT(refuses(solve, PGBOARD_RESULTS, PGBOARD_ARRAY_WINNERS, 0));
+    EXPECT(refuses(solve_known, PGBOARD_RESULTS, PGBOARD_ARRAY_WINNERS, 0));
+    game.winners_len = 2;
     game.choices_len = 3;
-    EXPECT(both_refuse(PGBOARD_RESULTS, 0, 0));
+    EXPECT(refuses(solve, PGBOARD_RESULTS, PGBOARD_ARRAY_CHOICES, 0));
+    EXPECT(refuses(check, PGBOARD_SOLUTION, PGBOARD_ARRAY_CHOICES, 0));
+    EXPECT(refuses(solve_known, PGBOARD_RESULTS, PGBOARD_ARRAY_CHOICES, 0));
+    game.known_choices_len = 1;
+    EXPECT(refuses(solve_known, PGBOARD_SOLUTION, PGBOARD_ARRAY_CHOICES, 0));
+}
+
+/* What is known of the two vertices, and the answer and what is reported. */
+static int known(unsigned first, uint32_t choice, unsigned second, uint32_t other, uint32_t answer, uint64_t at,
+                 uint64_t to)
+{
+    game.known_winners[0] = (uint8_t)first, game.known_choices[0] = choice;
+    game.known_winners[1] = (uint8_t)second, game.known_choices[1] = other;
+    if (answer != PGBOARD_OK)
+        return refuses(solve_known, answer, at, to);
+    memset(game.winners, 77, sizeof game.winners);
+    memset(game.choices, 77, sizeof game.choices);
+    int solved = solve_known() == PGBOARD_OK && report.at == 0 && report.to == 0;
+    return solved && game.winners[0] == 0 && game.winners[1] == 1 && game.winners[2] == 77 && game.choices[0] == 0 &&
+           game.choices[1] == 1 && game.choices[2] == 77u * 0x01010101u && refuses(check, PGBOARD_OK, 0, 0);
+}
+
+static void takes_what_is_known(void)
+{
+    const uint32_t none = PGBOARD_NO_CHOICE, open = PGBOARD_NO_WINNER;
+    two();
+    EXPECT(known(open, none, open, none, PGBOARD_OK, 0, 0));
+    EXPECT(known(open, 7, open, 7, PGBOARD_OK, 0, 0)); /* a choice without a winner has no effect */
+    EXPECT(known(0, 0, open, none, PGBOARD_OK, 0, 0));
+    EXPECT(known(open, none, 1, 1, PGBOARD_OK, 0, 0));
+    EXPECT(known(0, 0, 1, 1, PGBOARD_OK, 0, 0));
+    EXPECT(known(open, none, 2, 1, PGBOARD_WINNER, 1, 0));
+    EXPECT(known(254, none, 2, 1, PGBOARD_WINNER, 0, 0));
+    EXPECT(known(0, none, 1, none, PGBOARD_KNOWN_CHOICE, 0, 0));
+    EXPECT(known(0, 2, 1, none, PGBOARD_KNOWN_CHOICE, 0, 0));
+    EXPECT(known(0, 0, 1, 0, PGBOARD_KNOWN_CHOICE, 1, 0));
+    EXPECT(known(0, 1, open, none, PGBOARD_KNOWN_LEAVES, 0, 1));
+    EXPECT(known(1, 7, open, none, PGBOARD_KNOWN_CYCLE, 0, 0)); /* Odd doesn't own it, so its choice has no effect */
+    EXPECT(known(open, none, 0, none, PGBOARD_KNOWN_CYCLE, 1, 0));
+    /* Odd's vertex 1 may leave to vertex 0, which Even wins: Even attracts it where it has no other way */
+    static const uint32_t priorities[] = {2, 1}, starts[] = {0, 1, 2}, targets[] = {0, 0};
+    set(2, "01", priorities, starts, targets);
+    EXPECT(known(0, 0, 1, 0, PGBOARD_KNOWN_LOST, 1, 0));
+    EXPECT(known(open, none, 1, 0, PGBOARD_KNOWN_LEAVES, 1, 0));
 }
 
 static void refuses_games(void)
@@ -162,16 +259,16 @@ static void refuses_games(void)
     two();
     game.owners_len = game.priorities_len = game.targets_len = 0;
     game.starts_len = 1;
-    EXPECT(both_refuse(PGBOARD_NO_VERTEX, 0, 0));
+    EXPECT(all_refuse(PGBOARD_NO_VERTEX, 0, 0));
     two();
     game.starts[1] = 0;
-    EXPECT(both_refuse(PGBOARD_NO_SUCCESSOR, 0, 0));
+    EXPECT(all_refuse(PGBOARD_NO_SUCCESSOR, 0, 0));
     two();
     game.targets[1] = 2;
     game.targets[2] = 9;
-    EXPECT(both_refuse(PGBOARD_UNKNOWN, 0, 2));
+    EXPECT(all_refuse(PGBOARD_UNKNOWN, 0, 2));
     game.targets[1] = 1;
-    EXPECT(both_refuse(PGBOARD_UNKNOWN, 1, 9));
+    EXPECT(all_refuse(PGBOARD_UNKNOWN, 1, 9));
     /* a successor that stands twice, in any order, is one */
     two();
     game.targets[0] = 1;
@@ -196,40 +293,52 @@ static void refuses_solutions(void)
     EXPECT(refuses(check, PGBOARD_CYCLE, 1, 0));
 }
 
-static int text_refuses(uint32_t (*call)(const uint8_t *, size_t, uint8_t *, size_t, struct pgboard_told *),
-                        const char *text, size_t room, uint32_t answer, uint64_t at, uint64_t to)
+typedef uint32_t writer(const uint8_t *, size_t, uint8_t *, size_t, size_t *, struct pgboard_report *);
+
+static int is_untouched(const uint8_t *bytes, size_t size)
 {
-    uint8_t into[64];
-    memset(into, 77, sizeof into);
-    told.at = told.to = 99;
-    int right =
-        call((const uint8_t *)text, strlen(text), into, room, &told) == answer && told.at == at && told.to == to;
-    for (size_t k = 0; k < sizeof into; k++)
-        right = right && into[k] == 77;
-    return right;
+    for (size_t k = 0; k < size; k++)
+        if (bytes[k] != 77)
+            return 0;
+    return 1;
 }
 
-static int writes(uint32_t (*call)(const uint8_t *, size_t, uint8_t *, size_t, struct pgboard_told *), const char *text,
-                  const char *wanted)
+static int text_refuses(writer *call, const char *text, size_t room, uint32_t answer, uint64_t at, uint64_t to)
+{
+    uint8_t into[64];
+    size_t size = 99;
+    memset(into, 77, sizeof into);
+    report.at = report.to = 99;
+    return call((const uint8_t *)text, strlen(text), into, room, &size, &report) == answer && report.at == at &&
+           report.to == to && size == 99 && is_untouched(into, sizeof into);
+}
+
+/* A text is written into a buffer of its size and into a longer one, where nothing behind it changes. */
+static int writes(writer *call, const char *text, const char *wanted)
 {
     uint8_t into[64];
     size_t size = strlen(wanted);
-    memset(into, 77, sizeof into);
-    int right =
-        call((const uint8_t *)text, strlen(text), into, size, &told) == PGBOARD_OK && told.at == size && told.to == 0;
-    return right && memcmp(into, wanted, size) == 0 && into[size] == 77 &&
-           text_refuses(call, text, size - 1, PGBOARD_ROOM, size, 0);
+    for (size_t room = size; room <= sizeof into; room += sizeof into - size) {
+        size_t written = 99;
+        memset(into, 77, sizeof into);
+        report.at = report.to = 99;
+        if (call((const uint8_t *)text, strlen(text), into, room, &written, &report) != PGBOARD_OK || report.at != 0 ||
+            report.to != 0 || written != size || memcmp(into, wanted, size) != 0 ||
+            !is_untouched(into + size, sizeof into - size))
+            return 0;
+    }
+    return text_refuses(call, text, size - 1, PGBOARD_ROOM, size, 0);
 }
 
 static uint32_t verify(const char *text, const char *solution)
 {
-    told.at = told.to = 99;
-    return pgboard_verify_text((const uint8_t *)text, strlen(text), (const uint8_t *)solution, strlen(solution), &told);
+    report.at = report.to = 99;
+    return pgboard_verify_text((const uint8_t *)text, strlen(text), (const uint8_t *)solution, strlen(solution), &report);
 }
 
 static int not_verified(const char *text, const char *solution, uint32_t answer, uint64_t at, uint64_t to)
 {
-    return verify(text, solution) == answer && told.at == at && told.to == to;
+    return verify(text, solution) == answer && report.at == at && report.to == to;
 }
 
 static const char *const GAME = "9 1 1 9; 3 2 0 3, 9 \"a name\";";
@@ -238,7 +347,7 @@ static void takes_texts(void)
 {
     EXPECT(writes(pgboard_solve_text, GAME, "paritysol 9;\n3 0 3;\n9 1 9;\n"));
     EXPECT(writes(pgboard_tidy_text, GAME, "parity 9;\n3 2 0 3,9;\n9 1 1 9;\n"));
-    EXPECT(verify(GAME, "9 1 9; 3 0 3;") == PGBOARD_OK && told.at == 99 && told.to == 99);
+    EXPECT(verify(GAME, "9 1 9; 3 0 3;") == PGBOARD_OK && report.at == 0 && report.to == 0);
 }
 
 static void refuses_texts(void)
@@ -274,11 +383,13 @@ static void refuses_long_texts(void)
     size_t size = 268435457;
     uint8_t *text = calloc(size, 1);
     uint8_t into[1];
+    size_t written;
     EXPECT(text != NULL);
-    EXPECT(pgboard_solve_text(text, size, into, 0, &told) == PGBOARD_GAME_TOO_LONG && told.at == 0 && told.to == 0);
-    EXPECT(pgboard_tidy_text(text, size, into, 0, &told) == PGBOARD_GAME_TOO_LONG);
-    EXPECT(pgboard_verify_text(text, size, text, 0, &told) == PGBOARD_GAME_TOO_LONG);
-    EXPECT(pgboard_verify_text((const uint8_t *)GAME, strlen(GAME), text, size, &told) == PGBOARD_SOLUTION_TOO_LONG);
+    EXPECT(pgboard_solve_text(text, size, into, 0, &written, &report) == PGBOARD_GAME_TOO_LONG && report.at == 0 &&
+           report.to == 0);
+    EXPECT(pgboard_tidy_text(text, size, into, 0, &written, &report) == PGBOARD_GAME_TOO_LONG);
+    EXPECT(pgboard_verify_text(text, size, text, 0, &report) == PGBOARD_GAME_TOO_LONG);
+    EXPECT(pgboard_verify_text((const uint8_t *)GAME, strlen(GAME), text, size, &report) == PGBOARD_SOLUTION_TOO_LONG);
     free(text);
 }
 
@@ -286,14 +397,14 @@ static void refuses_long_texts(void)
 static void refuses_memory(void)
 {
     uint8_t into[64];
-    long refused[4] = {0};
+    long refused[6] = {0};
     for (long n = 1; n < 200; n++) {
         two();
         allowed = n;
         int ended = refuses(solve, PGBOARD_MEMORY, 0, 0);
         refused[0] += ended;
         allowed = -1;
-        EXPECT(ended || (solve() == PGBOARD_OK && refuses(check, PGBOARD_OK, 99, 99)));
+        EXPECT(ended || (solve() == PGBOARD_OK && refuses(check, PGBOARD_OK, 0, 0)));
         EXPECT(solve() == PGBOARD_OK);
         allowed = n;
         refused[1] += refuses(check, PGBOARD_MEMORY, 0, 0);
@@ -301,9 +412,14 @@ static void refuses_memory(void)
         refused[2] += text_refuses(pgboard_solve_text, GAME, sizeof into, PGBOARD_MEMORY, 0, 0);
         allowed = n;
         refused[3] += not_verified(GAME, "9 1 9; 3 0 3;", PGBOARD_MEMORY, 0, 0);
+        allowed = n;
+        refused[4] += text_refuses(pgboard_tidy_text, GAME, sizeof into, PGBOARD_MEMORY, 0, 0);
+        game.known_winners[0] = 0, game.known_choices[0] = 0;
+        allowed = n;
+        refused[5] += refuses(solve_known, PGBOARD_MEMORY, 0, 0);
         allowed = -1;
     }
-    for (int k = 0; k < 4; k++)
+    for (int k = 0; k < 6; k++)
         EXPECT(1 < refused[k] && refused[k] < 190);
 }
 
@@ -321,8 +437,9 @@ static uint32_t large(size_t n, size_t degree)
         for (size_t k = 0; k < degree; k++)
             targets[v * degree + k] = (uint32_t)k;
     }
-    uint32_t answer =
-        pgboard_solve(owners, n, priorities, n, starts, n + 1, targets, n * degree, winners, n, choices, n, &told);
+    struct pgboard_game it = {sizeof it, owners, n, priorities, n, starts, n + 1, targets, n * degree};
+    struct pgboard_results results = {sizeof results, winners, n, choices, n};
+    uint32_t answer = pgboard_solve(&it, &results, &report);
     free(priorities), free(starts), free(targets), free(choices), free(owners), free(winners);
     return answer;
 }
@@ -333,8 +450,8 @@ static void refuses_large_games(size_t vertices, size_t edges)
     size_t n = 1;
     while (n * n <= edges)
         n++;
-    EXPECT(large(vertices + 1, 1) == PGBOARD_TOO_MANY_VERTICES && told.at == 0 && told.to == 0);
-    EXPECT(large(n, n) == PGBOARD_TOO_MANY_EDGES && told.at == 0 && told.to == 0);
+    EXPECT(large(vertices + 1, 1) == PGBOARD_TOO_MANY_VERTICES && report.at == 0 && report.to == 0);
+    EXPECT(large(n, n) == PGBOARD_TOO_MANY_EDGES && report.at == 0 && report.to == 0);
     EXPECT(large(n - 1, n - 1) == PGBOARD_OK);
     EXPECT(large(vertices, 1) == PGBOARD_OK);
 }
@@ -360,10 +477,11 @@ static int games(void)
             return 2;
         for (unsigned v = 0; v < n; v++)
             owners[v] = (uint8_t)wide[v];
-        uint32_t answer =
-            pgboard_solve(owners, n, priorities, n, starts, n + 1, targets, m, winners, n, choices, n, &told);
-        uint32_t holds =
-            pgboard_check(owners, n, priorities, n, starts, n + 1, targets, m, winners, n, choices, n, &told);
+        struct pgboard_game it = {sizeof it, owners, n, priorities, n, starts, n + 1, targets, m};
+        struct pgboard_solution solution = {sizeof solution, winners, n, choices, n};
+        struct pgboard_results results = {sizeof results, winners, n, choices, n};
+        uint32_t answer = pgboard_solve(&it, &results, &report);
+        uint32_t holds = pgboard_check(&it, &solution, &report);
         printf("%u %u", answer, holds);
         for (unsigned v = 0; v < n; v++)
             printf(" %u:%ld", winners[v], choices[v] == PGBOARD_NO_CHOICE ? -1L : (long)choices[v]);
@@ -371,6 +489,17 @@ static int games(void)
         free(wide), free(priorities), free(starts), free(targets), free(choices), free(owners), free(winners);
     }
     return 0;
+}
+
+/* The version is the header's, and each answer has a text of its own. */
+static void tells_versions_and_texts(void)
+{
+    EXPECT(pgboard_version() == PGBOARD_VERSION);
+    const char *other = pgboard_strerror(99);
+    for (uint32_t answer = 0; answer < 99; answer++)
+        for (uint32_t before = 0; before < answer; before++)
+            EXPECT(pgboard_strerror(answer) == other ||
+                   strcmp(pgboard_strerror(answer), pgboard_strerror(before)) != 0);
 }
 
 int main(int argc, char **argv)
@@ -381,8 +510,11 @@ int main(int argc, char **argv)
         return 2;
     solves();
     refuses_arrays();
+    refuses_results();
     refuses_games();
     refuses_solutions();
+    takes_what_is_known();
+    tells_versions_and_texts();
     takes_texts();
     refuses_texts();
     refuses_long_texts();

@@ -34,7 +34,7 @@ pub record Answers (g : Graph) (st : State) (p : Player) (rows : ClaimRows) (e :
   pub exact : (v : ℕ) → In (union (settled st p) (named e.rows)) v ↔ Attractor g p (all_vertices g) (union (settled st p) (named (claimed_rows e))) v
   pub turns : AttractInTurn g p (all_vertices g) (union (settled st p) (named (claimed_rows e))) (attracted_rows e)
 
--- no vertex stands in two rows; each entry answers its own claim, which is good on the state before it; each prefix leaves a lawful state
+-- no vertex is in two rows; each entry answers its own claim, which is good on the state before it; each prefix leaves a lawful state
 pub record IsLawful (g : Graph) (journal : Journal) : Type 0 where
   pub once : IsDistinct nat_eq (map (λ r. r.0) (flat_map (λ e. e.rows) journal))
   pub good : (k : ℕ) (e : Entry) → slice_get journal k ≡ Some e → IsGoodOn g (state_of (take k journal)) e.player (claimed_rows e)

@@ -24,22 +24,6 @@ use pg_game::{Game, Memory, Player, Sequence};
 use pg_text::Solution;
 use std::alloc::Global;
 use std::marker::Model;
-use std::mem;
-
-/// The items in a vector of their own: in the one that has them, whose other room is let go, where they fill a sixteenth of
-/// it or memory for a copy is refused, and else in a copy.
-fn copy_or_take(alloc: Global, items: &mut Vec<(u32, Option<u32>)>) -> Vec<(u32, Option<u32>)>
-    ensures { result.items ≡ items.old.items }
-{
-    if items.len() < items.capacity() / 16 {
-        if let Ok(copy) = Vec::from_slice(alloc, items.as_slice()) {
-            return copy;
-        }
-    }
-    let mut taken = mem::replace(items, Vec::new(alloc));
-    taken.shrink_to_fit();
-    taken
-}
 
 /// A game, and the journal of what was settled of it. Nobody's claim is believed.
 #[derive(Drop)]
@@ -48,8 +32,6 @@ pub struct Board<'g> {
     entries: Vec<Entry>,
     regions: Regions,
     number: u32,
-    /// Room for the rows of an entry while they are found.
-    room: Vec<(u32, Option<u32>)>,
 }
 
 impl<'g> Model for Board<'g> {
@@ -69,13 +51,13 @@ impl<'g> Board<'g> {
         ensures graph { IfOk result (λ b. b.graph ≡ game.now) }
         ensures journal { IfOk result (λ b. b.journal ≡ []) }
     {
-        let n = game.len() as usize;
+        // for the proof: the graph is a game
+        let _n = game.len();
         Ok(Board {
             game,
             entries: Vec::new(alloc),
             regions: Regions::open(alloc, game)?,
             number: 0,
-            room: Vec::with_capacity(alloc, n)?,
         })
     }
 
@@ -155,35 +137,12 @@ impl<'g> Board<'g> {
         ensures of_state { IfErr result IsOfState }
         ensures unchanged { OnErr result (self.new ≡ self.old) }
     {
-        let mut rows = mem::replace(&mut self.room, Vec::new(alloc));
-        let found = self.settle_in(alloc, worker, claim, &mut rows);
-        self.room = rows;
-        found
-    }
-
-    /// The same, with room for an entry's rows.
-    fn settle_in(
-        &mut self,
-        alloc: Global,
-        worker: u32,
-        claim: &Claim,
-        rows: &mut Vec<(u32, Option<u32>)>,
-    ) -> Result<Posted, Refusal>
-        requires { IsSound self.old.graph claim.now.player claim.now.rows }
-        ensures game { self.new.graph ≡ self.old.graph }
-        ensures posted { IfOk result (λ posted. IsGoodOn self.old.graph (state_of self.old.journal) claim.now.player claim.now.rows
-            × Adds self.old self.new worker claim.now posted) }
-        ensures refused { IfErr result (λ e. Refuses self.old.graph (state_of self.old.journal) claim.now.player claim.now.rows e) }
-        ensures of_state { IfErr result IsOfState }
-        ensures unchanged { OnErr result (self.new ≡ self.old) }
-    {
         let n = self.game.len();
         if let Some(v) = self.regions.first_lost(claim) {
             return Err(Refusal::Lost(v));
         }
-        rows.clear();
-        rows.reserve_exact(n as usize)?;
-        self.regions.rest_of(claim, rows);
+        let mut rows = Vec::with_capacity(alloc, n as usize)?;
+        self.regions.rest_of(claim, &mut rows);
         if rows.is_empty() {
             return Err(Refusal::Stale);
         }
@@ -193,23 +152,22 @@ impl<'g> Board<'g> {
         if let Some((v, w)) = edge {
             return Err(Refusal::Open(v, w));
         }
-        Ok(self.enter(alloc, worker, claim.player, rows)?)
+        Ok(self.enter(worker, claim.player, rows)?)
     }
 
-    /// Settles the rest and what it attracts, in one entry. All that it needs is taken before anything is settled; the
-    /// rows alone are copied afterwards, unless the entry keeps the room that has them.
+    /// Settles the rest and what it attracts, in one entry. The rows have capacity for every vertex, so all memory is
+    /// there before anything is settled.
     fn enter(
         &mut self,
-        alloc: Global,
         worker: u32,
         player: Player,
-        rows: &mut Vec<(u32, Option<u32>)>,
+        mut rows: Vec<(u32, Option<u32>)>,
     ) -> Result<Posted, Memory>
-        requires good { IsGoodOn self.old.graph (state_of self.old.journal) player rows.old.items }
-        requires unsettled { rest_of (state_of self.old.journal) rows.old.items ≡ rows.old.items }
-        requires room { length self.old.graph ≤ vec_capacity rows.old }
+        requires good { IsGoodOn self.old.graph (state_of self.old.journal) player rows.items }
+        requires unsettled { rest_of (state_of self.old.journal) rows.items ≡ rows.items }
+        requires room { length self.old.graph ≤ vec_capacity rows }
         ensures game { self.new.graph ≡ self.old.graph }
-        ensures added { IfOk result (Adds self.old self.new worker (record { player = player; rows = rows.old.items })) }
+        ensures added { IfOk result (Adds self.old self.new worker (record { player = player; rows = rows.items })) }
         ensures unchanged { OnErr result (self.new ≡ self.old) }
     {
         // for the proof: the graph is a game, and so small that the numbers of its vertices add up without overflow
@@ -219,15 +177,15 @@ impl<'g> Board<'g> {
         let claimed = rows.len() as u32;
         self.regions.settle_all(self.game, player, rows.as_slice());
         let is_full = self.number + claimed == n;
-        self.regions.attract(self.game, player, rows, is_full);
-        let entered = copy_or_take(alloc, rows);
-        let settled = entered.len() as u32;
+        self.regions.attract(self.game, player, &mut rows, is_full);
+        rows.shrink_to_fit();
+        let settled = rows.len() as u32;
         self.number += settled;
         self.entries.push_reserved(Entry {
             worker,
             player,
             claimed,
-            rows: Sequence::new(entered),
+            rows: Sequence::new(rows),
         });
         Ok(Posted {
             entry,
@@ -236,7 +194,7 @@ impl<'g> Board<'g> {
         })
     }
 
-    /// The game. Tells what the type keeps.
+    /// The game. Its contract has the invariant of the type.
     pub fn game(&self) -> &'g Game
         ensures graph { result.now ≡ self.now.graph }
         ensures game { IsGame self.now.graph }
@@ -244,7 +202,7 @@ impl<'g> Board<'g> {
         ensures lawful { IsLawful self.now.graph self.now.journal }
         ensures within { number_settled self.now.journal ≤ length self.now.graph }
     {
-        // for the proof: a look at a field tells what the type keeps, and so the journal is lawful
+        // for the proof: reading a field gives the invariant of the type, and so the journal is lawful
         let _ = &self.entries;
         // for the proof: the graph is a game, within the limits
         let _n = self.game.len();
@@ -303,7 +261,7 @@ impl<'g> Board<'g> {
         self.number == self.game.len()
     }
 
-    /// Winners and choices of all vertices, exactly where the board is full; choices stand exactly where the
+    /// Winners and choices of all vertices, exactly where the board is full; there are choices exactly where the
     /// winner owns the vertex.
     pub fn solution(&self, alloc: Global) -> Result<Option<Solution>, Memory>
         ensures full { IfOk result (λ found. IsSome found ↔ IsFull self.now.graph (state_of self.now.journal)) }

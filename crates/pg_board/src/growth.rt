@@ -69,7 +69,7 @@ impl Regions {
         if is_full {
             return;
         }
-        // There is room for all rows, so nothing is refused.
+        // There is capacity for all rows, so nothing is refused.
         match attract_from(self, game, player, rows, 0) {
             Ok(()) => (),
             Err(_) => (),

@@ -1,6 +1,6 @@
 //! The board of one owner: it checks each claim against what is settled, closes both regions under
 //! attraction, and keeps a journal of which every prefix is lawful.
-//! Stands on pg_finders (copies), pg_dominion (claims, attractors) and pg_game.
+//! Uses pg_finders (copies), pg_dominion (claims, attractors) and pg_game.
 #![tactic(auto)]
 
 mod board;

@@ -3,7 +3,7 @@
 use pg_dominion::ClaimFault;
 use pg_game::Memory;
 
-/// Why a claim is refused, in the order in which the reasons are looked for; `Memory` may stand in place of any.
+/// Why a claim is refused, in the order in which the reasons are looked for; `Memory` may come in place of any.
 #[derive(Clone, Copy, Debug, Drop, PartialEq, Eq)]
 pub enum Refusal {
     /// The claim has not its shape, or a bad closed walk inside; never `ClaimFault::Memory`.

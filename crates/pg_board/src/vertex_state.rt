@@ -7,7 +7,7 @@ ghost use Rattle.pg_board.specs.private.VertexState.{state_in};
 use pg_game::Player;
 use std::mem::size_of;
 
-/// The state of a vertex. The player stands before the choice, in one word with the tag; behind it he would take a word alone.
+/// The state of a vertex. The player is before the choice, in one word with the tag; after it he would take a word alone.
 #[derive(Clone, Copy)]
 pub enum VertexState {
     Unsettled,

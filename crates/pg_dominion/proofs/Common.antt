@@ -40,6 +40,5 @@ pub use Rattle.pg_dominion.specs.declared.kept.Kept.{Kept}
 pub use Rattle.pg_dominion.specs.private.Attracting.{IsTakenOrOpen, LeadFrom}
 pub use Rattle.pg_dominion.specs.private.KeptEdges.{AreLabelled, AreNoted, EdgeUnder, GoesOn, IsFollowed, IsQueued, IsSpread, Leads, Reaches, Searching}
 pub use Rattle.pg_dominion.specs.private.Plan.{IsPlanned, LeavesTo}
-pub use Rattle.pg_dominion.specs.private.Ranking.{key_of}
 pub use Rattle.pg_dominion.specs.private.Shape.{IsLaid, Layout, is_bad, laid_with, next_after}
 pub use Rattle.pg_dominion.specs.private.Staying.{AreNamed, Stays}

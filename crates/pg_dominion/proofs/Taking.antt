@@ -3,11 +3,9 @@ use Rattle.pg_dominion.proofs.Common.{◌≡◌, ℕ, ◌+◌, ◌<◌, ◌≤�
 use Rattle.pg_dominion.proofs.Common.{sym, ◌∙◌, ap, subst, arith, ltb-true}
 use Rattle.pg_dominion.proofs.Common.{length-append, rules, fun_ext, or-false, ◌==◌, if◌then◌else◌, eqb-true, eq-eqb, or_left}
 use Rattle.pg_dominion.proofs.Common.{or_right, or_cases, append-nil}
-use Rattle.pg_dominion.proofs.Common.{take_more, take_all, take-append-le, take-append-drop, list_any-append, get_or_append_left, Player, Graph, HasEdge}
+use Rattle.pg_dominion.proofs.Common.{take_more, take_all, take-append-le, take-append-drop, list_any-append, Player, Graph, HasEdge}
 use Rattle.pg_dominion.proofs.Common.{VertexSet, In, Within}
 use Rattle.pg_game.specs.VertexSet.{all_vertices}
-use Rattle.pg_game.specs.Predecessors.{ArePredecessors}
-use Rattle.pg_dominion.specs.private.Attracting.{IsRowAt}
 use Rattle.pg_dominion.proofs.Common.{union, listed_by, Takes, AttractsNoFurther, IsTakenOrOpen}
 use Rattle.std.proofs.Common.{append_assoc}
 use Rattle.std.specs.Prelude.{OnOk, Result}
@@ -47,13 +45,6 @@ module _ {A : Type 0} (f : A → ℕ) where
     pub takes_below : (X : VertexSet) → Within (union F (listed_by f xs)) X → Within (listed_by f xs') X
     takes_below X w v i = w v (sym (t.same v) ∙ or_right (F' v) (listed_by f xs' v) i)
 
-    -- what is listed stays at its place, and so the row there is that of the same vertex
-    pub takes_row : (g : Graph) (n : ℕ) (row : List ℕ) → IsRowAt f g xs n row → IsRowAt f g xs' n row
-    takes_row g n row (l, h) = (
-      (let more = takes_longer in omega (arith, l, more)),
-      λ d. subst (λ (x : A). ArePredecessors g (f x) row) (sym (ap (λ (ys : List A). get_or ys n d) t.list_is ∙ get_or_append_left xs t.more d n l)) (h d),
-    )
-
     pub takes_set : union F' (listed_by f xs') ≡ union F (listed_by f xs)
     takes_set = fun_ext t.same
 
@@ -71,9 +62,6 @@ module _ {A : Type 0} (f : A → ℕ) where
 
     pub next_below : (g : Graph) → Within (listed_by f xs) (all_vertices g) → f x < length g
     next_below g w = ltb-true (f x) (length g) (w (f x) next_listed)
-
-    pub next_row : (g : Graph) (row : List ℕ) → IsRowAt f g xs n row → ArePredecessors g (f x) row
-    next_row g row h = subst (λ (y : A). ArePredecessors g (f y) row) (sym e) (h.1 d)
 
     -- the next item's vertex is reached
     pub next_reached : (g : Graph) (p : Player) (U F F' : VertexSet) (xs' : List A) → Takes f F xs F' xs' → (v : ℕ) → v ≡ f x

@@ -5,7 +5,7 @@ use Rattle.pg_game.specs.declared.player.Player.{Player}
 use Rattle.pg_game.specs.Graph.{Graph, HasEdge, owner_of}
 use Rattle.pg_game.specs.VertexSet.{VertexSet, In, union}
 
--- the vertices that the items stand for
+-- the vertices of the items
 abbrev pub listed_by : {A : Type 0} → (A → ℕ) → List A → VertexSet
 listed_by f xs v = list_any (λ x. f x == v) xs
 

@@ -1,12 +1,12 @@
-//! Attraction in place (Zielonka 1998): a backward worklist over predecessors. What is taken is listed behind what it leads to, and
+//! Attraction in place (Zielonka 1998): a backward worklist over predecessors. What is taken is listed after what it leads to, and
 //! is free no more.
 
-ghost use Rattle.std.specs.Prelude.{◌≡◌, ◌<◌, ◌≤◌, ℕ, length, take, IfSome, IsNone, OnOk, OnErr, vec_capacity};
+ghost use Rattle.std.specs.Prelude.{◌<◌, ◌≤◌, ℕ, length, take, OnOk, OnErr, vec_capacity};
 ghost use Rattle.pg_game.specs.Graph.{HasEdge};
 ghost use Rattle.pg_game.specs.Predecessors.{ArePredecessors};
 ghost use Rattle.pg_game.specs.VertexSet.{In, Within, all_vertices, union};
 ghost use Rattle.pg_dominion.specs.Area.{listed_by, Takes, AttractsNoFurther};
-ghost use Rattle.pg_dominion.specs.private.Attracting.{IsTakenOrOpen, IsRowAt};
+ghost use Rattle.pg_dominion.specs.private.Attracting.{IsTakenOrOpen};
 
 use pg_game::{Game, Memory, Player};
 
@@ -27,7 +27,7 @@ pub trait Area {
 
     ghost free: { Self → VertexSet };
 
-    /// The list fits the area, with this room.
+    /// The list fits the area, with this capacity.
     ghost ready: { Graph → Self → List Self.Item → ℕ → Type 0 };
 
     /// What vertices that the player takes leave of an area and its list.
@@ -116,7 +116,7 @@ fn consider<A: Area>(
     area.take(game, player, from, None, list)
 }
 
-/// Takes what is attracted by `to`, whose predecessors stand in the row, at once.
+/// Takes what is attracted by `to`, whose predecessors are in the row, at once.
 fn reach<A: Area>(
     area: &mut A,
     game: &Game,
@@ -142,28 +142,7 @@ fn reach<A: Area>(
     Ok(())
 }
 
-/// The row that was read ahead, or else the predecessors of the vertex listed at a place, where there is one.
-fn row_at<'g, A: Area>(
-    game: &'g Game,
-    list: &Vec<A::Item>,
-    place: usize,
-    ahead: Option<&'g [u32]>,
-) -> Option<&'g [u32]>
-    requires below { Within (listed_by A.vertex_of list.now.items) (all_vertices game.now) }
-    requires ahead { IfSome ahead (λ row. IsRowAt A.vertex_of game.now list.now.items place row.now) }
-    ensures row { IfSome result (λ row. IsRowAt A.vertex_of game.now list.now.items place row.now) }
-    ensures none { IsNone result → length list.now.items ≤ place }
-{
-    if ahead.is_some() {
-        return ahead;
-    }
-    if place >= list.len() {
-        return None;
-    }
-    Some(game.predecessors(A::vertex(list[place])))
-}
-
-/// Takes all that the player attracts to what is listed, where what stands before the place attracts nothing. Else `Memory`.
+/// Takes all that the player attracts to what is listed, where what is before the place attracts nothing. Else `Memory`.
 pub fn attract_from<A: Area>(
     area: &mut A,
     game: &Game,
@@ -183,15 +162,12 @@ pub fn attract_from<A: Area>(
         (listed_by A.vertex_of list.new.items) (listed_by A.vertex_of list.new.items)) }
     ensures refuses { OnErr result A.refuses }
 {
-    // Where the next row begins and ends is read before the row in front of it is gone through: a wrong branch there would have
-    // the processor wait for it.
-    let mut ahead = None;
     'list: for next in first..usize::MAX {
-        let Some(row) = row_at::<A>(game, list, next, ahead) else {
+        if next >= list.len() {
             break;
-        };
+        }
         let to = A::vertex(list[next]);
-        ahead = row_at::<A>(game, list, next + 1, None);
+        let row = game.predecessors(to);
         reach(area, game, player, to, row, list)?;
     }
     Ok(())

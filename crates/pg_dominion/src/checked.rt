@@ -1,4 +1,4 @@
-//! A claim that was checked, with what its game says of its vertices: so whether it is sound in another game can be told
+//! A claim that was checked, with what its game says of its vertices: so whether it is sound in another game can be judged
 //! row by row, with no search for closed walks. The claim and what the game says are lent, so a row takes no memory of its own.
 
 ghost use Rattle.std.specs.Prelude.{◌≡◌, ℕ, ◌<◌, length, ◌∷◌, [], IfOk, MatchOption, true, false};
@@ -11,7 +11,7 @@ use pg_game::{Game, Player};
 use std::alloc::{AllocError, Global};
 use std::marker::Model;
 
-/// Successors of a vertex that stand together in its game.
+/// Successors of a vertex that are together in its game.
 #[derive(Drop)]
 pub struct KeptSuccessors<'g> {
     vertices: &'g [u32],
@@ -155,7 +155,7 @@ impl<'g> Checked<'g> {
         self.claim.player
     }
 
-    /// The rows, by rising vertex. Tells what the type keeps.
+    /// The rows, by rising vertex. Its contract has the invariant of the type.
     pub fn rows(&self) -> &[CheckedRow<'g>]
         ensures rows { result.now ≡ self.now.rows }
         ensures checked { AreChecked self.now.player self.now.rows }

@@ -26,7 +26,7 @@ pub struct Claim {
     pub rows: Sequence<(u32, Option<u32>)>,
 }
 
-/// Why a claim is not accepted. The first that applies is told, but `Memory` may stand in place of any.
+/// Why a claim is not accepted. The first that applies is returned, but `Memory` may come in place of any.
 #[derive(Clone, Copy, Debug, Drop, PartialEq, Eq)]
 pub enum ClaimFault {
     /// The first wrong row, from 0: its vertex is not in the game or not greater than the one before it, or its choice

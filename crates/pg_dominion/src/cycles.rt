@@ -2,17 +2,17 @@
 //!
 //! The plain body searches from each bad vertex for a way back below its priority, and passes over what earlier searches
 //! have shown (`walks`). In most games the searches end soon; where they take long, a ranking of the vertices
-//! (`clustering`) tells the answer in near-linear time. A ranking is never believed: a pass over the edges checks it
+//! (`peeling`) gives the answer in near-linear time. A ranking is never believed: a pass over the edges checks it
 //! (`ranking`), and one search confirms the vertex that it names. Where either fails the plain body goes on.
 
-ghost use Rattle.std.specs.Prelude.{◌≡◌, ℕ, ◌<◌, ◌≤◌, ◌+◌, IfOk, IfSome, IsSome, MatchOption, length, true};
+ghost use Rattle.std.specs.Prelude.{◌≡◌, ℕ, ◌<◌, ◌≤◌, ◌+◌, IfOk, IfSome, MatchOption, length, true};
 ghost use Rattle.pg_game.specs.Least.{NoneHas, IsLeast};
 ghost use Rattle.pg_dominion.specs.KeptEdges.{IsKept, IsWorst};
-ghost use Rattle.pg_dominion.specs.private.KeptEdges.{Reaches};
+ghost use Rattle.pg_dominion.specs.private.KeptEdges.{Reaches, IsBounded};
 ghost use Rattle.pg_dominion.specs.private.Searched.{AreSearches, AreStarts, IsSearched};
 
 use crate::kept::Kept;
-use crate::placing::find_ranking;
+use crate::peeling::find_ranking;
 use crate::ranking::is_ranked;
 use crate::walks::{Labels, Search, is_alone, walks_back};
 use std::alloc::{AllocError, Global};
@@ -25,11 +25,12 @@ fn leads_back(alloc: Global, kept: &Kept, v: u32) -> Result<bool, AllocError>
 {
     let mut labels = Labels::new(alloc, kept)?;
     let mut search = Search::new(alloc, kept)?;
-    walks_back(kept, v, &mut labels, &mut search)
+    let found = walks_back(kept, v, u64::MAX, &mut labels, &mut search)?;
+    Ok(found == Some(true))
 }
 
 /// The least bad vertex that is the greatest on a closed walk through it, where a ranking shows it.
-pub fn first_by_ranking(alloc: Global, kept: &Kept) -> Result<Option<Option<u32>>, AllocError>
+fn first_by_ranking(alloc: Global, kept: &Kept) -> Result<Option<Option<u32>>, AllocError>
     requires { IsKept kept.now }
     ensures { IfOk result (λ shown. IfSome shown (λ least. MatchOption least (NoneHas (IsWorst kept.now)) (IsLeast (IsWorst kept.now)))) }
 {
@@ -53,7 +54,7 @@ pub fn first_by_ranking(alloc: Global, kept: &Kept) -> Result<Option<Option<u32>
 
 /// What searches from one bad vertex after another came to.
 #[derive(Clone, Copy)]
-pub enum Searched {
+enum Searched {
     /// The least that is the greatest on a closed walk, or that there is none.
     All(Option<u32>),
     /// There is none before this vertex, from which was not searched.
@@ -77,7 +78,7 @@ fn first_bad(kept: &Kept, from: u32) -> Option<u32>
 /// How many vertices are looked through at a time for those from which searches start.
 const BLOCK: u32 = 1024;
 
-/// Lists the bad vertices of a range, rising, at the front of the list, and tells how many there are. Each vertex is written, and
+/// Lists the bad vertices of a range, rising, at the front of the list, and returns how many there are. Each vertex is written, and
 /// counts where it is bad: no branch depends on that, since no processor foretells it.
 fn list_bad(kept: &Kept, from: u32, to: u32, starts: &mut Vec<u32>) -> usize
     requires kept { IsKept kept.now }
@@ -102,32 +103,20 @@ struct Searches {
     search: Search,
     /// From which vertices of a block searches start.
     starts: Vec<u32>,
-    /// About twice the edges at which searches started.
-    edges: u64,
-    patience: Option<u64>,
+    /// How many repeats there may be: the patience, and about twice the edges at which searches started.
+    most: u64,
 }
 
 impl Searches {
-    fn new(alloc: Global, kept: &Kept, patience: Option<u64>) -> Result<Searches, AllocError>
-        ensures { IfOk result (λ s. AreSearches kept.now s × (s.patience ≡ patience)) }
+    fn new(alloc: Global, kept: &Kept, most: u64) -> Result<Searches, AllocError>
+        ensures { IfOk result (λ s. AreSearches kept.now s × (s.most ≡ most)) }
     {
         Ok(Searches {
             labels: Labels::new(alloc, kept)?,
             search: Search::new(alloc, kept)?,
             starts: vec![in alloc; 0u32; BLOCK as usize]?,
-            edges: 0,
-            patience,
+            most,
         })
-    }
-
-    /// Whether the searches took more steps than there is patience for.
-    fn is_out_of_patience(&self) -> bool
-        ensures { result ≡ true → IsSome self.now.patience }
-    {
-        match self.patience {
-            Some(steps) => self.search.steps >= steps.saturating_add(self.edges),
-            None => false,
-        }
     }
 
     /// Searches from each bad vertex of a block, where there is none before it that is the greatest on a closed walk. None where
@@ -145,8 +134,8 @@ impl Searches {
         requires room { to ≤ from + 1024 }
         requires none { (v : ℕ) → v < from → IsWorst kept.now v → ⊥ }
         ensures searches { IfOk result (λ found. AreSearches kept.now self.new) }
-        ensures patience { IfOk result (λ found. self.new.patience ≡ self.old.patience) }
-        ensures found { IfOk result (λ found. MatchOption found ((v : ℕ) → v < to → IsWorst kept.now v → ⊥) (IsSearched kept.now self.old.patience)) }
+        ensures bounded { IfOk result (λ found. IsBounded self.new.most → IsBounded self.old.most) }
+        ensures found { IfOk result (λ found. MatchOption found ((v : ℕ) → v < to → IsWorst kept.now v → ⊥) (IsSearched kept.now self.old.most)) }
     {
         let count = list_bad(kept, from, to, &mut self.starts);
         'starts: for at in 0..count {
@@ -154,11 +143,12 @@ impl Searches {
             if is_alone(kept, &self.labels, v) {
                 continue;
             }
-            if self.is_out_of_patience() {
+            self.most = self.most.saturating_add(4 + 2 * kept.row(v).len() as u64);
+            let found = walks_back(kept, v, self.most, &mut self.labels, &mut self.search)?;
+            let Some(leads_back) = found else {
                 return Ok(Some(Searched::Before(v)));
-            }
-            self.edges = self.edges.saturating_add(4 + 2 * kept.row(v).len() as u64);
-            if walks_back(kept, v, &mut self.labels, &mut self.search)? {
+            };
+            if leads_back {
                 return Ok(Some(Searched::All(Some(v))));
             }
         }
@@ -166,14 +156,9 @@ impl Searches {
     }
 }
 
-/// Searches from each bad vertex, from `from` on. Where there is a patience, until they took more steps than that, and about
-/// twice the edges at which they began.
-fn search_from(
-    alloc: Global,
-    kept: &Kept,
-    from: u32,
-    patience: Option<u64>,
-) -> Result<Searched, AllocError>
+/// Searches from each bad vertex, from `from` on, until there are more repeats than the patience and about twice the edges at
+/// which searches started. The greatest number is a patience without end.
+fn search_from(alloc: Global, kept: &Kept, from: u32, patience: u64) -> Result<Searched, AllocError>
     requires kept { IsKept kept.now }
     requires none { (v : ℕ) → v < from → IsWorst kept.now v → ⊥ }
     ensures { IfOk result (IsSearched kept.now patience) }
@@ -194,34 +179,24 @@ fn search_from(
     Ok(Searched::All(None))
 }
 
-/// The least bad vertex that is the greatest on a closed walk through it, by a search from each. Once these took more
-/// steps than there is patience for, and about twice the edges at which they began, a ranking is tried, with the memory of
-/// their tables.
-pub fn first_within(alloc: Global, kept: &Kept, patience: u64) -> Result<Option<u32>, AllocError>
+/// The least bad vertex that is the greatest on a closed walk through it.
+///
+/// In most games a search from each bad vertex ends soon. Where they look again and again at what was reached, a ranking
+/// answers in near-linear time, with the memory of their tables.
+pub fn first_worst(alloc: Global, kept: &Kept) -> Result<Option<u32>, AllocError>
     requires { IsKept kept.now }
     ensures { IfOk result (λ least. MatchOption least (NoneHas (IsWorst kept.now)) (IsLeast (IsWorst kept.now))) }
 {
-    let from = match search_from(alloc, kept, 0, Some(patience))? {
+    let patience = u64::from(kept.game.len()) / 2;
+    let from = match search_from(alloc, kept, 0, patience)? {
         Searched::All(least) => return Ok(least),
         Searched::Before(v) => v,
     };
     if let Some(least) = first_by_ranking(alloc, kept)? {
         return Ok(least);
     }
-    match search_from(alloc, kept, from, None)? {
+    match search_from(alloc, kept, from, u64::MAX)? {
         Searched::All(least) => Ok(least),
         Searched::Before(_) => unreachable!(),
     }
-}
-
-/// The least bad vertex that is the greatest on a closed walk through it.
-///
-/// In most games a search from each bad vertex ends at once. Where the searches take long on the average, a ranking
-/// answers in near-linear time.
-pub fn first_worst(alloc: Global, kept: &Kept) -> Result<Option<u32>, AllocError>
-    requires { IsKept kept.now }
-    ensures { IfOk result (λ least. MatchOption least (NoneHas (IsWorst kept.now)) (IsLeast (IsWorst kept.now))) }
-{
-    let patience = 4 * u64::from(kept.game.len());
-    first_within(alloc, kept, patience)
 }

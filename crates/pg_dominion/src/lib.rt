@@ -8,17 +8,13 @@ mod attractor;
 mod checked;
 mod claim;
 mod clustering;
-mod components;
 mod cycles;
 mod depth_first;
 mod kept;
-mod kept_components;
-mod pieces;
-mod placing;
+mod peeling;
 mod ranking;
 mod small;
 mod solution;
-mod tables;
 mod walks;
 
 pub use area::{Area, attract_from};

@@ -1,54 +1,24 @@
-//! Rankings: an order of the vertices that shows that no bad vertex is the greatest on a closed walk.
+//! Rankings: an order of vertices that shows that no bad vertex below a limit is the greatest on a closed walk.
 //!
-//! The key of a vertex is twice its priority, and one more where it is bad and below the limit. In a ranking each kept
-//! edge goes down, or it leaves a vertex with an even key and no vertex from its one end to the other has a greater key.
-//! A closed walk through a vertex with an odd and greatest key would leave it downward and could not come back.
+//! Vertices have places, which they may share, and places have keys. Each such bad vertex has a place whose key is greater than
+//! twice its priority, and its edges go down. Any other edge from a place goes down too, or up over keys of at most twice the
+//! priority of the vertex that it leaves. So a closed walk that such a bad vertex leaves downward, and on which it is the
+//! greatest, could not come back over its place.
 
-ghost use Rattle.std.specs.Prelude.{◌≡◌, ℕ, ◌%◌, ◌<◌, ◌≤◌, ◌^◌, ◌⊎◌, length, slice_index, vec_len, IfOk, true};
-ghost use Rattle.pg_dominion.specs.KeptEdges.{IsKept, Edge, IsWorst};
-ghost use Rattle.pg_dominion.specs.private.Ranking.{key_of};
+ghost use Rattle.std.specs.Prelude.{◌≡◌, ℕ, ◌<◌, ◌≤◌, ◌^◌, length, slice_index, vec_len, IfOk, true, false};
+ghost use Rattle.pg_dominion.specs.KeptEdges.{IsKept, IsWorst};
+ghost use Rattle.pg_dominion.specs.private.Ranking.{AreEnds, IsJudged, IsRankedRow};
 
 use crate::kept::Kept;
 use std::alloc::{AllocError, Global};
 
-/// Places of the vertices, and the least bad vertex that they may leave open.
+/// Places of vertices, a key for each place, and the least bad vertex that they may leave open. A number after the last key
+/// is no place.
 #[derive(Drop)]
 pub struct Ranking {
     pub places: Vec<u32>,
+    pub keys: Vec<u32>,
     pub limit: u32,
-}
-
-/// Twice the priority, and one more at a bad vertex below the limit.
-fn key_of(kept: &Kept, limit: u32, v: u32) -> u32
-    requires kept { IsKept kept.now }
-    requires vertex { v < length kept.now.game.now }
-    ensures { result ≡ key_of kept.now limit v }
-{
-    // for the proof: priorities are so small that twice one, and one more, fits
-    let _n = kept.game.len();
-    let twice = kept.game.priority(v) * 2;
-    if v < limit && kept.bad.has(v) {
-        twice + 1
-    } else {
-        twice
-    }
-}
-
-/// The keys by place, where the places are an order.
-fn place_keys(alloc: Global, kept: &Kept, ranking: &Ranking) -> Result<Vec<u32>, AllocError>
-    requires kept { IsKept kept.now }
-    requires places { length ranking.now.places.items ≡ length kept.now.game.now }
-    ensures { IfOk result (λ keys. length keys.items ≡ length kept.now.game.now) }
-{
-    let n = kept.game.len();
-    let mut keys = vec![in alloc; 0u32; n as usize]?;
-    'vertices: for v in 0..n {
-        let at = ranking.places[v as usize];
-        if at < n {
-            keys[at as usize] = key_of(kept, ranking.limit, v);
-        }
-    }
-    Ok(keys)
 }
 
 /// The first place after `at` whose key is greater, found by jumps over those known.
@@ -56,7 +26,7 @@ fn end_of(keys: &[u32], ends: &[u32], at: u32) -> u32
     requires short { length keys.now < 2 ^ 31 }
     requires place { at < length keys.now }
     requires size { length ends.now ≡ length keys.now }
-    requires covered { (p q : ℕ) → p ≤ q → q < slice_index ends.now p → slice_index keys.now q ≤ slice_index keys.now p }
+    requires covered { AreEnds keys.now ends.now }
     ensures within { result ≤ length keys.now }
     ensures covered { (q : ℕ) → at ≤ q → q < result → slice_index keys.now q ≤ slice_index keys.now at }
 {
@@ -77,7 +47,7 @@ fn end_of(keys: &[u32], ends: &[u32], at: u32) -> u32
 fn next_greater(alloc: Global, keys: &[u32]) -> Result<Vec<u32>, AllocError>
     requires { length keys.now < 2 ^ 31 }
     ensures len { IfOk result (λ e. vec_len e ≡ length keys.now) }
-    ensures covered { IfOk result (λ e. (p q : ℕ) → p ≤ q → q < slice_index e.items p → slice_index keys.now q ≤ slice_index keys.now p) }
+    ensures covered { IfOk result (λ e. AreEnds keys.now e.items) }
 {
     let len = keys.len() as u32;
     let mut ends = vec![in alloc; 0u32; len as usize]?;
@@ -89,53 +59,59 @@ fn next_greater(alloc: Global, keys: &[u32]) -> Result<Vec<u32>, AllocError>
     Ok(ends)
 }
 
-/// Whether each edge of `v` is ranked.
-fn is_ranked_row(kept: &Kept, ranking: &Ranking, keys: &[u32], ends: &[u32], v: u32) -> bool
+/// Whether a vertex is bad, and below the limit.
+fn is_judged(kept: &Kept, limit: u32, v: u32) -> bool
+    requires kept { IsKept kept.now }
+    requires vertex { v < length kept.now.game.now }
+    ensures yes { result ≡ true → IsJudged kept.now limit v }
+    ensures no { result ≡ false → IsJudged kept.now limit v → ⊥ }
+{
+    v < limit && kept.bad.has(v)
+}
+
+/// Whether a vertex is ranked with its edges.
+fn is_ranked_row(kept: &Kept, ranking: &Ranking, ends: &[u32], v: u32) -> bool
     requires kept { IsKept kept.now }
     requires vertex { v < length kept.now.game.now }
     requires places { length ranking.now.places.items ≡ length kept.now.game.now }
-    requires keys { length keys.now ≡ length kept.now.game.now }
-    requires ends { length ends.now ≡ length kept.now.game.now }
-    ensures placed { result ≡ true → (slice_index ranking.now.places.items v < length kept.now.game.now)
-        × (slice_index keys.now (slice_index ranking.now.places.items v) ≡ key_of kept.now ranking.now.limit v) }
-    ensures edges { result ≡ true → (w : ℕ) → Edge kept.now v w
-        → (slice_index ranking.now.places.items w < slice_index ranking.now.places.items v)
-        ⊎ ((key_of kept.now ranking.now.limit v % 2 ≡ 0)
-        × (slice_index ranking.now.places.items w < slice_index ends.now (slice_index ranking.now.places.items v))) }
+    requires size { length ends.now ≡ length ranking.now.keys.items }
+    requires covered { AreEnds ranking.now.keys.items ends.now }
+    ensures { result ≡ true → IsRankedRow kept.now ranking.now.limit ranking.now.places.items ranking.now.keys.items v }
 {
+    // for the proof: priorities are so small that twice one fits
+    let _n = kept.game.len();
     let places = ranking.places.as_slice();
-    let at = places[v as usize];
-    if at >= kept.game.len() {
-        return false;
+    let keys = ranking.keys.as_slice();
+    let at = places[v as usize] as usize;
+    let is_judged = is_judged(kept, ranking.limit, v);
+    if at >= keys.len() {
+        return !is_judged;
     }
-    let key = keys[at as usize];
-    if key != key_of(kept, ranking.limit, v) {
-        return false;
-    }
-    let end = ends[at as usize];
-    let good = key % 2 == 0;
+    let mut end = 0usize;
     'edges: for w in kept.row(v) {
-        let place = places[*w as usize];
-        if place >= at && !(good && place < end) {
-            return false;
-        }
+        end = end.max(places[*w as usize] as usize + 1);
     }
-    true
+    let goes_down = end <= at;
+    let twice = kept.game.priority(v) * 2;
+    if is_judged {
+        return goes_down && keys[at] > twice;
+    }
+    goes_down || (end <= ends[at] as usize && keys[at] <= twice)
 }
 
 /// Whether the places show that no bad vertex below the limit is the greatest on a closed walk.
 pub fn is_ranked(alloc: Global, kept: &Kept, ranking: &Ranking) -> Result<bool, AllocError>
-    requires kept { IsKept kept.now }
-    requires places { length ranking.now.places.items ≡ length kept.now.game.now }
+    requires { IsKept kept.now }
     ensures { IfOk result (λ b. b ≡ true → (v : ℕ) → v < ranking.now.limit → IsWorst kept.now v → ⊥) }
 {
     let n = kept.game.len();
-    let keys = place_keys(alloc, kept, ranking)?;
-    let keys = keys.as_slice();
-    let ends = next_greater(alloc, keys)?;
+    if ranking.places.len() != n as usize || ranking.keys.len() > n as usize {
+        return Ok(false);
+    }
+    let ends = next_greater(alloc, ranking.keys.as_slice())?;
     let ends = ends.as_slice();
     'vertices: for v in 0..n {
-        if !is_ranked_row(kept, ranking, keys, ends, v) {
+        if !is_ranked_row(kept, ranking, ends, v) {
             return Ok(false);
         }
     }

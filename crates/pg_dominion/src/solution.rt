@@ -18,8 +18,8 @@ use pg_game::{Game, Mask, Player};
 use pg_text::Solution;
 use std::alloc::{AllocError, Global};
 
-/// Why winners and choices are no solution, by identifiers. The first that applies is told, for the least vertex and
-/// then the least successor, but `Memory` may stand in place of any.
+/// Why winners and choices are no solution, by identifiers. The first that applies is returned, for the least vertex and
+/// then the least successor, but `Memory` may come in place of any.
 #[derive(Clone, Copy, Debug, Drop, PartialEq, Eq)]
 pub enum SolutionFault {
     /// Its winner owns the vertex, and it has no choice.

@@ -5,10 +5,10 @@
 //! From a place in the queue before the first that was reached twice each edge leads to a later place, so such a vertex
 //! lies on no closed walk, and gets a group of its own: no search from it is needed up to the level.
 
-ghost use Rattle.std.specs.Prelude.{◌≡◌, ◌≢◌, ℕ, ◌<◌, ◌≤◌, ◌^◌, ◌⊎◌, length, slice_index, IfOk, true, false};
+ghost use Rattle.std.specs.Prelude.{◌≡◌, ◌≢◌, ℕ, ◌<◌, ◌≤◌, ◌^◌, ◌⊎◌, length, slice_index, IfOk, Some, None, true, false};
 ghost use Rattle.pg_game.specs.Graph.{priority_of};
 ghost use Rattle.pg_dominion.specs.KeptEdges.{IsKept};
-ghost use Rattle.pg_dominion.specs.private.KeptEdges.{Leads, Reaches, AreLabelled, Searching, IsSpread, GoesOn, AreNoted};
+ghost use Rattle.pg_dominion.specs.private.KeptEdges.{Leads, Reaches, AreLabelled, Searching, IsSpread, GoesOn, AreNoted, IsBounded};
 
 use crate::kept::Kept;
 use std::alloc::{AllocError, Global};
@@ -45,13 +45,13 @@ impl Labels {
 
 /// The tables of one search after another.
 pub struct Search {
-    /// What was reached, from the start on, and where a vertex stands in it, if it does.
+    /// What was reached, from the start on, and where a vertex is in it, if it does.
     pub queue: Vec<u32>,
     pub places: Vec<u32>,
     /// The least place that was reached twice.
     pub least: usize,
-    /// How many edges all searches have looked at.
-    pub steps: u64,
+    /// How many edges searches have looked at from what earlier ones had reached.
+    pub repeats: u64,
 }
 
 /// By hand, so that letting one go is one step in the proofs of callers, and not one for each list.
@@ -61,7 +61,7 @@ impl Drop for Search {
             queue: _queue,
             places: _places,
             least: _least,
-            steps: _steps,
+            repeats: _repeats,
         } = self;
     }
 }
@@ -70,14 +70,14 @@ impl Search {
     pub fn new(alloc: Global, kept: &Kept) -> Result<Search, AllocError>
         ensures { IfOk result (λ s. length s.places.items ≡ length kept.now.game.now) }
     {
-        // The queue has room for all vertices, so that it leaves no small blocks behind, which the allocator would keep, and what
+        // The queue has capacity for all vertices, so that it leaves no small blocks, which the allocator would keep, and what
         // lies below them with them.
         let n = kept.game.len();
         Ok(Search {
             queue: Vec::with_capacity(alloc, n as usize)?,
             places: vec![in alloc; 0u32; n as usize]?,
             least: usize::MAX,
-            steps: 0,
+            repeats: 0,
         })
     }
 }
@@ -97,6 +97,17 @@ fn passes_over(kept: &Kept, labels: &Labels, top: u32, own: u32, v: u32) -> bool
     let is_shown = labels.levels[v as usize] > top;
     let is_apart = labels.groups[v as usize] != own;
     is_greater | (is_shown & is_apart)
+}
+
+/// Adds so many edges to the repeats, if an earlier search has reached the vertex from which they lead.
+fn count_repeats(labels: &Labels, v: u32, edges: usize, repeats: u64) -> u64
+    requires { v < length labels.now.levels.items }
+{
+    if labels.levels[v as usize] > 0 {
+        repeats.saturating_add(edges as u64)
+    } else {
+        repeats
+    }
 }
 
 /// Goes on from a place of the queue with the search for a way back to its first vertex. Whether one was found.
@@ -125,7 +136,7 @@ fn spread(
     let _n = kept.game.len();
     let v = search.queue[at];
     let row = kept.row(v);
-    search.steps = search.steps.saturating_add(row.len() as u64);
+    search.repeats = count_repeats(labels, v, row.len(), search.repeats);
     'row: for w in row {
         let to = *w;
         if passes_over(kept, labels, top, own, to) {
@@ -146,14 +157,15 @@ fn spread(
     Ok(false)
 }
 
-/// Searches for a way back to the first vertex of the queue. Whether one was found.
+/// Searches for a way back to the first vertex of the queue. Whether one was found; none where there are more repeats than at most.
 fn finds_back(
     kept: &Kept,
     labels: &Labels,
     top: u32,
     own: u32,
+    most: u64,
     search: &mut Search,
-) -> Result<bool, AllocError>
+) -> Result<Option<bool>, AllocError>
     requires kept { IsKept kept.now }
     requires labels { AreLabelled kept.now labels.now.levels.items labels.now.groups.items }
     requires least { 0 < search.old.least }
@@ -162,19 +174,23 @@ fn finds_back(
     ensures state { IfOk result (λ found. Searching kept.now labels.now.levels.items labels.now.groups.items top own search.new.places.items
         search.new.queue.items) }
     ensures first { IfOk result (λ found. slice_index search.new.queue.items 0 ≡ slice_index search.old.queue.items 0) }
-    ensures back { IfOk result (λ found. found ≡ true → Leads kept.now top (slice_index search.old.queue.items 0) (slice_index search.old.queue.items 0)) }
-    ensures spread { IfOk result (λ found. found ≡ false → (i : ℕ) → i < length search.new.queue.items
+    ensures back { IfOk result (λ found. found ≡ Some true → Leads kept.now top (slice_index search.old.queue.items 0) (slice_index search.old.queue.items 0)) }
+    ensures spread { IfOk result (λ found. found ≡ Some false → (i : ℕ) → i < length search.new.queue.items
         → IsSpread kept.now labels.now.levels.items labels.now.groups.items top own search.new.least search.new.places.items search.new.queue.items i) }
+    ensures given_up { IfOk result (λ found. found ≡ None → IsBounded most) }
 {
     'queue: for next in 0..usize::MAX {
         if next >= search.queue.len() {
             break;
         }
         if spread(kept, labels, top, own, next, search)? {
-            return Ok(true);
+            return Ok(Some(true));
+        }
+        if search.repeats > most {
+            return Ok(None);
         }
     }
-    Ok(false)
+    Ok(Some(false))
 }
 
 /// Gives what a search has reached the level, and groups: to each before the least place its own, and one to the others.
@@ -221,21 +237,24 @@ fn group_above(kept: &Kept, labels: &Labels, v: u32, top: u32) -> u32
     }
 }
 
-/// Whether a vertex is the greatest on a closed walk through it. Adds the edges that were looked at to the steps.
+/// Whether a vertex is the greatest on a closed walk through it. None where there are more repeats than at most, which is no bound
+/// where it is the greatest number.
 pub fn walks_back(
     kept: &Kept,
     start: u32,
+    most: u64,
     labels: &mut Labels,
     search: &mut Search,
-) -> Result<bool, AllocError>
+) -> Result<Option<bool>, AllocError>
     requires kept { IsKept kept.now }
     requires start { start < length kept.now.game.now }
     requires labels { AreLabelled kept.now labels.old.levels.items labels.old.groups.items }
     requires size { length search.old.places.items ≡ length kept.now.game.now }
     ensures labels { IfOk result (λ found. AreLabelled kept.now labels.new.levels.items labels.new.groups.items) }
     ensures size { IfOk result (λ found. length search.new.places.items ≡ length kept.now.game.now) }
-    ensures back { IfOk result (λ found. found ≡ true → Reaches kept.now start start) }
-    ensures none { IfOk result (λ found. found ≡ false → Reaches kept.now start start → ⊥) }
+    ensures back { IfOk result (λ found. found ≡ Some true → Reaches kept.now start start) }
+    ensures none { IfOk result (λ found. found ≡ Some false → Reaches kept.now start start → ⊥) }
+    ensures given_up { IfOk result (λ found. found ≡ None → IsBounded most) }
 {
     // for the proof: priorities are so small that one more fits, and so are vertices
     let _n = kept.game.len();
@@ -245,11 +264,15 @@ pub fn walks_back(
     search.queue.push(start)?;
     search.places[start as usize] = 0;
     search.least = usize::MAX;
-    if finds_back(kept, labels, top, own, search)? {
-        return Ok(true);
+    let found = finds_back(kept, labels, top, own, most, search)?;
+    let Some(leads_back) = found else {
+        return Ok(None);
+    };
+    if leads_back {
+        return Ok(Some(true));
     }
     if own == 0 {
         note(labels, search, top + 1, start);
     }
-    Ok(false)
+    Ok(Some(false))
 }

@@ -34,6 +34,6 @@ pub struct Found {
 
 /// Looks for dominions in a copy. Nothing is promised of what it finds.
 pub trait Finder: Sync {
-    /// Claims for a job on a copy. `Memory` is its one refusal.
+    /// Claims for a job on a copy. The only error is `Memory`.
     fn find(&self, alloc: Global, copied: &Copied, job: &Job) -> Result<Found, AllocError>;
 }

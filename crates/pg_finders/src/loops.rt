@@ -99,7 +99,7 @@ fn claim_of_loops(inside: &Inside, player: Player, rows: Vec<(u32, Option<u32>)>
 }
 
 /// The vertices that are the player's dominions alone, each with itself as the choice where he owns it.
-/// None where there is no such vertex. Out of memory is its one refusal.
+/// None where there is no such vertex. The only error is `Memory`.
 pub fn find_loop(
     alloc: Global,
     inside: &Inside,

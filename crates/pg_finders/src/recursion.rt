@@ -30,8 +30,8 @@ pub struct Solved {
     pub odd: Claim,
 }
 
-/// A claim for each player, which together have all vertices inside (Zielonka 1998); one may have no rows. `Memory` is
-/// its one refusal.
+/// A claim for each player, which together have all vertices inside (Zielonka 1998); one may have no rows. The only error
+/// is `Memory`.
 pub fn zielonka(alloc: Global, inside: &Inside) -> Result<Solved, Memory>
     ensures { IfOk result (λ solved. AreClaims inside.now.graph (members inside.now.mask) solved.even solved.odd) }
 {
@@ -73,7 +73,7 @@ fn solve(alloc: Global, inside: &Inside) -> Result<Solved, Memory>
     })
 }
 
-/// What a plan gives Even of the mask, and what it gives Odd, in lists with room for so many rows at first.
+/// What a plan gives Even of the mask, and what it gives Odd, in lists with capacity for so many rows at first.
 fn rows_of(
     alloc: Global,
     game: &Game,

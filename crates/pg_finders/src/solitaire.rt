@@ -180,7 +180,7 @@ fn solve(alloc: Global, game: &Game, mask: &Mask, forced: Player) -> Result<Clai
 
 /// A claim of either player that is good in the subgame, where that has a vertex and one player has a single successor
 /// inside at each of his vertices inside; a player without vertices inside has. None elsewhere. It need not name all
-/// vertices inside. Out of memory is its one refusal.
+/// vertices inside. The only error is `Memory`.
 pub fn find_solitaire(alloc: Global, inside: &Inside) -> Result<Option<Claim>, AllocError>
     ensures none { IfOk result (λ found. MatchOption found (IsSolitaire inside.now.graph (members inside.now.mask) → ⊥)
         (λ claim. IsSolitaire inside.now.graph (members inside.now.mask))) }

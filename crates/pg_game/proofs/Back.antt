@@ -1,7 +1,6 @@
 -- Predecessors are the sources of rows.
 use Rattle.pg_game.proofs.Common.{◌≡◌, ℕ, ◌<◌, List, length, get_or, refl, ◌∙◌, sym, subst, arith, rules, Contains-get_or, Player, IsGame, AreSuccessors}
-use Rattle.pg_game.proofs.Common.{ArePredecessors, row_at, AreRisingRows, AreSources, graph_of, AreParts, IsListed}
-use Rattle.pg_game.specs.private.Stored.{IsStored}
+use Rattle.pg_game.proofs.Common.{ArePredecessors, row_at, AreRisingRows, AreSources, graph_of, AreParts, IsStored, HasPredecessors}
 use Rattle.pg_game.proofs.Gathered.{begins}
 use Rattle.pg_game.proofs.Parts.{length_is, successors_are}
 
@@ -23,7 +22,10 @@ module _ {ids ps : List ℕ} {os : List Player} {rows : List (List ℕ)} (a : Ar
   pub game_rows : IsGame (graph_of ids ps os rows) → AreRisingRows rows
   game_rows game = search (rules, row_of)
 
--- with its predecessors
-pub stored_from : {ids ps : List ℕ} {os : List Player} {rows back : List (List ℕ)} → IsListed ids ps os rows →
-    length back ≡ length rows → ((w : ℕ) → w < length rows → AreSources rows w (row_at back w)) → IsStored ids ps os rows back
-stored_from listed size sources = search (rules, listed.parts, listed.game, listed.limits, listed.parts.successors, back_of)
+-- sources of rows are the predecessors of the game that the rows are stored in
+pub has_back : {ids ps : List ℕ} {os : List Player} {rows back : List (List ℕ)} → IsStored ids ps os rows →
+    length back ≡ length rows → ((w : ℕ) → w < length rows → AreSources rows w (row_at back w)) → HasPredecessors (graph_of ids ps os rows) back
+has_back stored size sources = record {
+  size = omega (arith, size, stored.parts.successors, length_is stored.parts refl);
+  each = λ v l. back_of stored.parts (sources v (omega (arith, l, length_is stored.parts refl, stored.parts.successors)));
+}

@@ -1,5 +1,5 @@
 -- How many different numbers a list has, and which vertex an identifier names: by rising lists.
-use Rattle.pg_game.proofs.Common.{◌≡◌, ◌≢◌, ℕ, zero, suc, ◌+◌, ◌<◌, ◌≤◌, Bool, true, false, inl, inr, List, [], ◌∷◌, length, get_or, refl, sym, ◌∙◌, ap, subst}
+use Rattle.pg_game.proofs.Common.{◌≡◌, ◌≢◌, ℕ, zero, suc, add-one, ◌+◌, ◌<◌, ◌≤◌, Bool, true, false, inl, inr, List, [], ◌∷◌, length, get_or, refl, sym, ◌∙◌, ap, subst}
 use Rattle.pg_game.proofs.Common.{arith, rules, ◌==◌, nat_lt, count_by, Contains, list_any, IsStrictlyIncreasing, eqb-true, eq-eqb, false_from_ne_true, le-ltb}
 use Rattle.pg_game.proofs.Common.{cases_Bool, get_or_default, sorted_from_strictly_increasing, below_from_sorted, different}
 use Rattle.std.proofs.Common.{not, ◌↔◌, lt-ltb}
@@ -100,3 +100,19 @@ smaller_before xs i up l = sym (length-filter (λ x. nat_lt x (get_or xs i 0)) x
 pub different_most : (xs : List ℕ) → different xs ≤ length xs
 different_most [] = omega arith
 different_most (n ∷ ns) = search (rules, different_most ns, cases_Bool)
+
+-- a number of a rising list is no less than its place
+at_least : (xs : List ℕ) → IsStrictlyIncreasing xs → (k : ℕ) → k < length xs → k ≤ get_or xs k 0
+at_least xs up zero l = omega arith
+at_least xs up (suc k) l =
+    let h = at_least xs up k (omega arith) in
+    let r = up k (omega arith) in
+    omega (arith, h, r, ap (λ (j : ℕ). get_or xs j 0) (add-one k))
+
+-- so a rising list of numbers below a bound is no longer than that
+pub rising_most : (xs : List ℕ) (n : ℕ) → IsStrictlyIncreasing xs → ((k : ℕ) → k < length xs → get_or xs k 0 < n) → length xs ≤ n
+rising_most [] n up below = omega arith
+rising_most (x ∷ xs) n up below =
+    let h = at_least (x ∷ xs) up (length xs) (omega arith) in
+    let b = below (length xs) (omega arith) in
+    omega (arith, h, b)

@@ -1,19 +1,14 @@
 -- Rows by places, and the game of specifications by rising identifier.
-use Rattle.pg_game.proofs.Common.{◌≡◌, ℕ, suc, ◌+◌, ◌<◌, true, false, inl, inr, List, [], ◌∷◌, length, map, get_or, refl, sym, ◌∙◌, ap, subst, arith, All, None}
-use Rattle.pg_game.proofs.Common.{◌==◌, Contains, list_any, IsStrictlyIncreasing, false_from_ne_true, length-map, get_or-map, get_or_default, Contains-get_or}
-use Rattle.pg_game.proofs.Common.{IsPermutation-refl, sum_by-cons, Player, Spec, Graph, IsGame, AreNumbers, IsGameOf, IsSpecified, first_fault, first_repeated}
-use Rattle.pg_game.proofs.Common.{edges, different, priorities_of, owners_of, ArePlaces, row_at, size_of, graph_of, AreParts, specs_from, IsListed}
-use Rattle.pg_game.proofs.Common.{AreAllPlaces, ArePlaced}
-use Rattle.std.proofs.Common.{◌↔◌}
-use Rattle.pg_game.specs.private.Flat.{ArePlain}
-use Rattle.pg_game.proofs.Members.{Contains-nil, Contains-head, Contains-tail, Contains-cons}
+use Rattle.pg_game.proofs.Common.{◌≡◌, ℕ, suc, ◌+◌, ◌<◌, false, inl, inr, List, [], ◌∷◌, length, map, get_or, refl, sym, ◌∙◌, ap, subst, arith, All, None}
+use Rattle.pg_game.proofs.Common.{◌==◌, ◌↔◌, Contains, list_any, IsStrictlyIncreasing, IsPermutation, false_from_ne_true, length-map, get_or-map, ext_get_or}
+use Rattle.pg_game.proofs.Common.{Contains-get_or, sum_by-cons, Spec, IsGame, AreNumbers, IsGameOf, first_fault, first_repeated, edges, different, priorities_of}
+use Rattle.pg_game.proofs.Common.{owners_of, ids_of, successor_lists, ArePlaces, row_at, size_of, graph_of, IsStored, AreAllPlaces, ArePlacedSpecs}
+use Rattle.pg_game.proofs.Members.{Contains-head, Contains-tail, Contains-cons}
 use Rattle.pg_game.proofs.Gathered.{any_from}
 use Rattle.pg_game.proofs.Different.{rising_tail, below_first, different_is}
 use Rattle.pg_game.proofs.Places.{rises, same_place}
-use Rattle.pg_game.proofs.Unknown.{to_specified}
-use Rattle.pg_game.proofs.Sound.{IsSound, sound_has_none, none_without, none_unknown}
-use Rattle.pg_game.proofs.Made.{IsLaid, made_game, made_of, made_listed}
-use Rattle.pg_game.proofs.Taken as taken
+use Rattle.pg_game.proofs.Sound.{sound_is}
+use Rattle.pg_game.proofs.Made.{no_spec, IsLaid, made_game, made_of, made_stored}
 
 module _ {ids : List ℕ} (up : IsStrictlyIncreasing ids) {successors places : List ℕ} (a : AreAllPlaces ids successors places) where
   abbrev name : ℕ → ℕ
@@ -74,95 +69,47 @@ edges-placed (s ∷ specs) (r ∷ placed) e same =
     let d = edges-placed specs placed (omega arith) (λ v d l. same (suc v) d (omega arith)) in
     omega (arith, a, b, c, d)
 
-module _ {ids ps : List ℕ} {os : List Player} {rows placed : List (List ℕ)} (a : AreParts ids ps os rows) (p : ArePlaced ids rows placed) where
-  abbrev made : Graph
-  made = graph_of ids ps os placed
+-- specifications by rising identifier, and the same with places for successors
+module _ {specs sorted placed : List Spec} {ids : List ℕ} (sound : first_fault specs ≡ None) (numbers : All AreNumbers specs)
+    (moved : IsPermutation specs sorted) (are : ids_of sorted ≡ ids) (up : IsStrictlyIncreasing ids) (p : ArePlacedSpecs ids sorted placed) where
+  row_is : (v : ℕ) (d : Spec) → v < length sorted → row_at (successor_lists placed) v ≡ (get_or placed v d).successors
+  row_is v d l = get_or-map (λ (s : Spec). s.successors) placed v d [] (omega (arith, l, p.size))
 
-  abbrev specs : List Spec
-  specs = specs_from ids ps os rows
+  places_at : (v : ℕ) (d : Spec) → v < length sorted → AreAllPlaces ids (get_or sorted v d).successors (row_at (successor_lists placed) v)
+  places_at v d l = rw (row_is v d l) (p.each v d l).successors
 
-  n : length specs ≡ length ids
-  n = taken.length_specs a
+  size : length (successor_lists placed) ≡ length sorted
+  size = length-map placed (λ (s : Spec). s.successors) ∙ p.size
 
-  places_at : (v : ℕ) (d : Spec) → v < length specs → AreAllPlaces ids (get_or specs v d).successors (row_at placed v)
-  places_at v d l = rw (taken.spec_at a v d (omega (arith, l, n))) (p.laid.each v (omega (arith, l, n, a.successors)))
-
-  -- the places of a specification's successors
-  places_of : (s : Spec) → Contains specs s → (ws : List ℕ) × AreAllPlaces ids s.successors ws
-  places_of s (v, l, e) = (row_at placed v, subst (λ (t : Spec). AreAllPlaces ids t.successors (row_at placed v)) e (places_at v s l))
-
-  has_row : (ws us : List ℕ) → AreAllPlaces ids ws us → 0 < length ws
-  has_row ws us h = let k = (h.from (get_or us 0 0) (Contains-get_or us 0 0 h.some)).1 in let l = k.1 in omega arith
-
-  is_specified : (ws us : List ℕ) → AreAllPlaces ids ws us → (i : ℕ) → Contains ws i → IsSpecified specs i ≡ true
-  is_specified ws us h i m =
-      let (w, c, e) = h.all i m in
-      let k = (h.from w c).0 in
-      to_specified specs i (rw (taken.ids_are a) (w, k, get_or_default ids w i 0 k ∙ e))
-
-  size : length placed ≡ length specs
-  size = p.laid.size ∙ (a.successors ∙ sym n)
-
-  edges_are : edges specs ≡ size_of placed
-  edges_are = edges-placed specs placed size (λ v d l. different_placed p.rising (places_at v d l))
-
-  sound : IsSound specs
-  sound = record {
-    nonempty = let h = p.some in omega (arith, h, n);
-    vertices = let h = p.few in omega (arith, h, n);
-    once = rw (taken.ids_are a) (none_repeated [] ids p.rising (λ e x m k. absurd (Contains-nil e m)));
-    successors = none_without specs (λ s m. let h = places_of s m in has_row s.successors h.0 h.1);
-    edges_fit = let h = p.laid.edges_fit in omega (arith, h, edges_are);
-    known = none_unknown specs specs (λ s m. let h = places_of s m in is_specified s.successors h.0 h.1);
+  laid : IsLaid specs sorted ids (successor_lists placed)
+  laid = record {
+    sound = sound_is specs sound;
+    numbers = numbers;
+    moved = moved;
+    ids_are = are;
+    rising = up;
+    size = size;
+    edges_are =
+        let e = edges-placed sorted (successor_lists placed) size (λ v d l. different_placed up (places_at v d l)) in
+        omega (arith, e);
+    each = λ v d l. are_placed up (places_at v d l);
   }
 
-  pub placed_none : first_fault specs ≡ None
-  placed_none = sound_has_none specs sound
+  part_same : {X : Type 0} (f : Spec → X) (d : Spec) → ((v : ℕ) → v < length sorted → f (get_or placed v d) ≡ f (get_or sorted v d)) → map f sorted ≡ map f placed
+  part_same f d each =
+      ext_get_or (f d) (map f sorted) (map f placed) (length-map sorted f ∙ (sym p.size ∙ sym (length-map placed f))) (λ v l.
+      let k : v < length sorted = omega (arith, l, length-map sorted f) in
+      get_or-map f sorted v d (f d) k ∙ (sym (each v k) ∙ sym (get_or-map f placed v d (f d) (omega (arith, k, p.size)))))
 
-  module _ (numbers : All AreNumbers (specs_from ids ps os rows)) where
-    laid : IsLaid specs specs ids placed
-    laid = record {
-      sound = sound;
-      numbers = numbers;
-      moved = IsPermutation-refl specs;
-      ids_are = taken.ids_are a;
-      rising = p.rising;
-      size = size;
-      edges_are = let e = edges_are in omega (arith, e);
-      each = λ v d l. are_placed p.rising (places_at v d l);
-    }
+  priorities_same : priorities_of sorted ≡ priorities_of placed
+  priorities_same = part_same (λ s. s.priority) no_spec (λ v l. (p.each v no_spec l).priority)
 
-    same : graph_of ids (priorities_of specs) (owners_of specs) placed ≡ made
-    same = λ i. graph_of ids (taken.priorities_are a i) (taken.owners_are a i) placed
+  owners_same : owners_of sorted ≡ owners_of placed
+  owners_same = part_same (λ s. s.owner) no_spec (λ v l. (p.each v no_spec l).owner)
 
-    pub placed_game : IsGame made
-    placed_game = subst (λ (g : Graph). IsGame g) same (made_game laid)
+  pub placed_stored : IsStored ids (priorities_of placed) (owners_of placed) (successor_lists placed)
+  placed_stored = rw (← priorities_same, ← owners_same) (made_stored laid)
 
-    pub placed_of : IsGameOf specs made
-    placed_of = subst (λ (g : Graph). IsGameOf specs g) same (made_of laid)
-
-    pub placed_listed : IsListed ids ps os placed
-    placed_listed = subst (λ (qs : List ℕ). IsListed ids qs os placed) (taken.priorities_are a)
-        (subst (λ (qs : List Player). IsListed ids (priorities_of specs) qs placed) (taken.owners_are a) (made_listed laid))
-
--- where identifiers are their own places, successors are the places of themselves
-pub plain_placed : {ids ps : List ℕ} {os : List Player} {rows : List (List ℕ)} → AreParts ids ps os rows → ArePlain ids rows → ArePlaced ids rows rows
-plain_placed {ids} {ps} {os} {rows} a p = record {
-  some = p.some;
-  few = p.few;
-  rising = λ k l. (let h = p.own k (omega arith) in let j = p.own (k + 1) l in omega (arith, h, j));
-  laid = record {
-    size = refl;
-    edges_fit = p.edges_fit;
-    each = λ v l. (let row = row_at rows v in
-        let r = p.successors v l in
-        let below : (w : ℕ) → Contains row w → w < length ids = λ w (k, m, e).
-        subst (λ (n : ℕ). w < n) a.successors (subst (λ (j : ℕ). j < length rows) (get_or_default row k 0 w m ∙ e) (r.below k m)) in
-        record {
-          some = r.nonempty;
-          rising = r.rising;
-          from = λ w m. (below w m, subst (λ (j : ℕ). Contains row j) (sym (p.own w (below w m))) m);
-          all = λ i m. (i, m, p.own i (below i m));
-        });
-  };
-}
+  pub placed_game : IsGame (graph_of ids (priorities_of placed) (owners_of placed) (successor_lists placed))
+      × IsGameOf specs (graph_of ids (priorities_of placed) (owners_of placed) (successor_lists placed))
+  placed_game = rw (← priorities_same, ← owners_same) (made_game laid, made_of laid)

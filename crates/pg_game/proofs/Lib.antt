@@ -23,13 +23,14 @@ pub mod Sound
 pub mod Rising
 pub mod Back
 pub mod Made
+pub mod Naming
+pub mod Placing
 pub mod Laid
-pub mod Moved
+pub mod Once
 pub mod Ordered
 pub mod Pushed
 pub mod Opened
 pub mod Taken
-pub mod Sorting
 pub mod Described
 pub mod Filled
 pub mod SumsOf

@@ -3,8 +3,8 @@ use Rattle.pg_game.proofs.Common.{◌≡◌, ℕ, ◌<◌, ◌≤◌, true, List
 use Rattle.pg_game.proofs.Common.{sum_by, Contains, IsStrictlyIncreasing, IsPermutation, length-map, get_or-map, get_or_default, Contains-get_or}
 use Rattle.pg_game.proofs.Common.{length_permutation, Contains-permutation, IsPermutation-sym, IsPermutation-map, All-permutation, sum_by-IsPermutation}
 use Rattle.pg_game.proofs.Common.{sum_by-cons, slice_get-get_or, Player, Even, Spec, AreNumbers, IsSpecified, IsGameOf, IsVertexOf, number_of, edges, different}
-use Rattle.pg_game.proofs.Common.{ids_of, priorities_of, owners_of, ArePlaces, row_at, size_of, AreRisingRows, IsWithinLimits, Graph, Vertex, IsGame}
-use Rattle.pg_game.proofs.Common.{AreSuccessors, no_vertex, vertex_at, priority_of, owner_of, successors_of, graph_of, AreParts, IsListed}
+use Rattle.pg_game.proofs.Common.{ids_of, priorities_of, owners_of, ArePlaces, row_at, size_of, IsWithinLimits, Graph, Vertex, IsGame}
+use Rattle.pg_game.proofs.Common.{AreSuccessors, no_vertex, vertex_at, priority_of, owner_of, successors_of, graph_of, AreParts, IsStored}
 use Rattle.pg_game.proofs.Sound.{IsSound, each_has, each_known}
 use Rattle.pg_game.proofs.Rising.{number_is}
 use Rattle.pg_game.proofs.Unknown.{from_specified}
@@ -89,9 +89,6 @@ module _ {specs sorted : List Spec} {ids : List ℕ} {rows : List (List ℕ)} (l
         rising = places.rising;
       }
 
-  pub made_rows : AreRisingRows rows
-  made_rows = search (rules, row_game, laid.size, length_ids)
-
   pub made_game : IsGame g
   made_game = record {
     nonempty = let h = laid.sound.nonempty in omega (arith, h, length_g, length_ids, length_specs);
@@ -148,5 +145,5 @@ module _ {specs sorted : List Spec} {ids : List ℕ} {rows : List (List ℕ)} (l
         (vertex_at g n.0, subst (λ k. slice_get g k ≡ Some (vertex_at g n.0)) (sym at) get, vertex_made n.0 s n.1 n.2));
   }
 
-  pub made_listed : IsListed ids ps os rows
-  made_listed = record { parts = parts; game = made_game; limits = made_limits }
+  pub made_stored : IsStored ids ps os rows
+  made_stored = record { parts = parts; game = made_game; limits = made_limits }

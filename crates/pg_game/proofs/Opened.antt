@@ -1,5 +1,5 @@
 -- Closing the row that is open makes it the last of the whole ones.
-use Rattle.pg_game.proofs.Common.{◌≡◌, ℕ, ◌+◌, ◌<◌, ◌^◌, List, [], ◌∷◌, ◌++◌, length, take, drop, sym, ◌∙◌, ap, length-append, take-length, rows_of}
+use Rattle.pg_game.proofs.Common.{◌≡◌, ℕ, ◌+◌, List, [], ◌∷◌, ◌++◌, length, take, drop, sym, ◌∙◌, ap, length-append, take-length, rows_of}
 use Rattle.pg_game.proofs.Common.{IsCompressed}
 use Rattle.std.proofs.lemmas.List.{take-append-drop}
 use Rattle.pg_game.specs.Opened.{whole_rows}
@@ -18,5 +18,5 @@ module _ (offsets targets : List ℕ) (closed : ℕ) (c : IsCompressed offsets (
       ap (λ (xs : List ℕ). rows_of (offsets ++ length targets ∷ []) xs) (all_are targets closed)
       ∙ rows_of-push (drop closed targets) (length targets) c (size_is targets closed)
 
-  pub compressed_closed : length offsets < 2 ^ 32 → length targets < 2 ^ 32 → IsCompressed (offsets ++ length targets ∷ []) (take (length targets) targets)
-  compressed_closed short few = rw (all_are targets closed) (IsCompressed-push (drop closed targets) (length targets) c (size_is targets closed) short few)
+  pub compressed_closed : IsCompressed (offsets ++ length targets ∷ []) (take (length targets) targets)
+  compressed_closed = rw (all_are targets closed) (IsCompressed-push (drop closed targets) (length targets) c (size_is targets closed))

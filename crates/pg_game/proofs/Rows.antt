@@ -1,5 +1,5 @@
 -- Rows between offsets: how many, each one, and one more.
-use Rattle.pg_game.proofs.Common.{◌≡◌, ℕ, zero, suc, ◌+◌, ◌-◌, ◌<◌, ◌≤◌, ◌⊎◌, inl, inr, List, [], ◌∷◌, ◌++◌, length, take, drop, get_or, ◌^◌}
+use Rattle.pg_game.proofs.Common.{◌≡◌, ℕ, zero, suc, ◌+◌, ◌-◌, ◌<◌, ◌≤◌, ◌⊎◌, inl, inr, List, [], ◌∷◌, ◌++◌, length, take, drop, get_or}
 use Rattle.pg_game.proofs.Common.{arith, length-append, add-one, rules, slice_range, ext_get_or, get_or_append_left, get_or_push, get_or_default}
 use Rattle.pg_game.proofs.Common.{refl, sym, ap, subst, ◌∙◌, length-take-le, sum_by-cons, take-length, rows_of, IsCompressed, size_of}
 use Rattle.std.proofs.lemmas.List.{take-append-le, drop-append-le, length-drop}
@@ -70,9 +70,8 @@ size-rows_of {os} {ts} c =
     let h = size-rising os ts (length os - 1) (omega arith) c.rising c.within in
     omega (arith, h, c.first, c.last (length os - 1) (omega arith))
 
-pub IsCompressed-push : {os ts : List ℕ} (xs : List ℕ) (e : ℕ) → IsCompressed os ts → e ≡ length ts + length xs → length os < 2 ^ 32 → e < 2 ^ 32 →
-    IsCompressed (os ++ e ∷ []) (ts ++ xs)
-IsCompressed-push {os} {ts} xs e c q small few = search (rules, length-append, get_or_append_left, last_of, get_or_push, below_or_last)
+pub IsCompressed-push : {os ts : List ℕ} (xs : List ℕ) (e : ℕ) → IsCompressed os ts → e ≡ length ts + length xs → IsCompressed (os ++ e ∷ []) (ts ++ xs)
+IsCompressed-push {os} {ts} xs e c q = search (rules, length-append, get_or_append_left, last_of, get_or_push, below_or_last)
 
 -- the two offsets of a row that are read, and the row
 pub row_bounds : {os ts : List ℕ} (v a b : ℕ) → IsCompressed os ts → v + 1 < length os → a ≡ get_or os v a → b ≡ get_or os (v + 1) b →
@@ -124,3 +123,17 @@ module _ {os ts os' ts' : List ℕ} (c : IsCompressed os ts) (d : IsCompressed o
       sym (take_all ts (get_or os k 0) (c.last k (omega (arith, c.nonempty))))
       ∙ ((same_up_to k (omega (arith, c.nonempty))).1
       ∙ take_all ts' (get_or os' k 0) (d.last k (omega (arith, c.nonempty, same_number))))
+
+-- a row's end is an offset
+pub row_end : (os ts : List ℕ) (v : ℕ) {rows : List (List ℕ)} → rows_of os ts ≡ rows → v < length rows → v + 1 < length os
+row_end os ts v is l = let n = length-rows_of os ts in let e = ap (λ (xs : List (List ℕ)). length xs) is in omega (arith, n, e, l)
+
+-- the same offsets over as many targets
+pub compressed_same : {os ts new : List ℕ} → IsCompressed os ts → length new ≡ length ts → IsCompressed os new
+compressed_same c e = record {
+  nonempty = c.nonempty;
+  first = c.first;
+  rising = c.rising;
+  within = λ k l. (let h = c.within k l in omega (arith, h, e));
+  last = λ k l. (let h = c.last k l in omega (arith, h, e));
+}

@@ -1,10 +1,10 @@
 -- Specifications without fault, test by test.
-use Rattle.pg_game.proofs.Common.{◌≡◌, ℕ, zero, suc, ◌<◌, ◌≤◌, Bool, true, false, ◌⊎◌, inl, inr, List, [], ◌∷◌, length, refl, sym, subst, arith, rules, Option}
+use Rattle.pg_game.proofs.Common.{◌≡◌, ℕ, zero, suc, ◌+◌, ◌∙◌, ap, drop, get_or, drop_more, ◌==◌, false_from_ne_true, eqb-true, ◌<◌, ◌≤◌, Bool, true, false, ◌⊎◌, inl, inr, List, [], ◌∷◌, length, refl, sym, subst, arith, rules, Option}
 use Rattle.pg_game.proofs.Common.{Some, None, if◌then◌else◌, nat_lt, Contains, ltb-false, le-ltb, lt-ltb, not-false, Spec, GameFault, first_fault, fault_or}
-use Rattle.pg_game.proofs.Common.{first_repeated, first_without, first_unknown, first_unspecified, IsSpecified, edges, max_vertices, max_edges, ids_of}
+use Rattle.pg_game.proofs.Common.{first_repeated, first_without, first_unknown, first_unspecified, IsSpecified, edges, max_vertices, max_edges, ids_of, rows_fault}
 use Rattle.std.specs.Prelude.{not, find}
 use Rattle.pg_game.proofs.Members.{Contains-head, Contains-tail, Contains-cons}
-use Rattle.pg_game.specs.declared.game.GameFault.TheVariants.{NoSuccessor, TooManyEdges, Unknown}
+use Rattle.pg_game.specs.declared.game.GameFault.TheVariants.{NoVertex, TooManyVertices, NoSuccessor, TooManyEdges, Unknown}
 use Rattle.pg_game.specs.Specification.{is_empty, paired_or}
 
 pub record IsSound (specs : List Spec) : Type 0 where
@@ -40,20 +40,27 @@ pub record AreListed (specs : List Spec) : Type 0 where
   pub vertices : length specs ≤ max_vertices
   pub once : first_repeated [] (ids_of specs) ≡ None
 
-module _ (specs : List Spec) (s : AreListed specs) where
-  listed : (b : Bool) (n : Option ℕ) (u : Option (ℕ × ℕ)) → first_without specs ≡ n → nat_lt max_edges (edges specs) ≡ b → first_unknown specs specs ≡ u
-      → first_fault specs ≡ fault_or (λ i. NoSuccessor i) n (if b then Some TooManyEdges else fault_or (λ (id, i). Unknown id i) u None)
-  listed b n u e f g = rw (not_empty specs s.nonempty, le-ltb max_vertices (length specs) s.vertices, s.once, e, f, g) refl
+-- then the first fault is that of the rows
+pub listed_fault : (specs : List Spec) → AreListed specs → first_fault specs ≡ rows_fault specs
+listed_fault specs s = rw (not_empty specs s.nonempty, le-ltb max_vertices (length specs) s.vertices, s.once) refl
 
-  pub without_named : {id : ℕ} → first_without specs ≡ Some id → first_fault specs ≡ Some (NoSuccessor id)
-  without_named e = listed _ _ _ e refl refl
+module _ (specs : List Spec) where
+  rows_are : (b : Bool) (n : Option ℕ) (u : Option (ℕ × ℕ)) → first_without specs ≡ n → nat_lt max_edges (edges specs) ≡ b → first_unknown specs specs ≡ u
+      → rows_fault specs ≡ fault_or (λ i. NoSuccessor i) n (if b then Some TooManyEdges else fault_or (λ (id, i). Unknown id i) u None)
+  rows_are b n u e f g = rw (e, f, g) refl
 
-  pub edges_named : first_without specs ≡ None → max_edges < edges specs → first_fault specs ≡ Some TooManyEdges
-  edges_named e l = listed _ _ _ e (lt-ltb max_edges (edges specs) l) refl
+  pub without_named : {id : ℕ} → first_without specs ≡ Some id → rows_fault specs ≡ Some (NoSuccessor id)
+  without_named e = rows_are _ _ _ e refl refl
+
+  pub edges_named : first_without specs ≡ None → max_edges < edges specs → rows_fault specs ≡ Some TooManyEdges
+  edges_named e l = rows_are _ _ _ e (lt-ltb max_edges (edges specs) l) refl
 
   pub unknown_named : {id i : ℕ} → first_without specs ≡ None → edges specs ≤ max_edges → first_unknown specs specs ≡ Some (id, i)
-      → first_fault specs ≡ Some (Unknown id i)
-  unknown_named e l f = listed _ _ _ e (le-ltb max_edges (edges specs) l) f
+      → rows_fault specs ≡ Some (Unknown id i)
+  unknown_named e l f = rows_are _ _ _ e (le-ltb max_edges (edges specs) l) f
+
+  pub rows_sound : first_without specs ≡ None → edges specs ≤ max_edges → first_unknown specs specs ≡ None → rows_fault specs ≡ None
+  rows_sound e l f = rows_are _ _ _ e (le-ltb max_edges (edges specs) l) f
 
 head_of : (s t : Spec) (specs : List Spec) → Contains (s ∷ specs) t → (s ≡ t) ⊎ Contains specs t
 head_of s t specs x3 = search (rules)
@@ -111,3 +118,28 @@ pub none_unknown : (all specs : List Spec) →
 none_unknown all [] h = refl
 none_unknown all (s ∷ specs) h =
     rw (all_specified all s.successors (h s (zero, omega arith, refl))) (none_unknown all specs (λ t (k, l, e). h t (suc k, omega arith, e)))
+
+module _ (specs : List Spec) (k : ℕ) (s : Spec) (l : k < length specs) (is : s ≡ get_or specs k s) where
+  next : drop k specs ≡ s ∷ drop (k + 1) specs
+  next = drop_more specs k s l ∙ ap (λ (x : Spec). x ∷ drop (k + 1) specs) (sym is)
+
+  pub without_here : is_empty s.successors ≡ true → first_without (drop k specs) ≡ Some s.id
+  without_here e = rw (next, e) refl
+
+  pub without_later : is_empty s.successors ≡ false → first_without (drop k specs) ≡ first_without (drop (k + 1) specs)
+  without_later e = rw (next, e) refl
+
+pub empty_is : {X : Type 0} (xs : List X) → is_empty xs ≡ (length xs == 0)
+empty_is [] = refl
+empty_is (x ∷ xs) = sym (false_from_ne_true (length (x ∷ xs) == 0) (λ t. let z = eqb-true (length (x ∷ xs)) 0 t in omega (arith, z)))
+
+pub empty_fault : (specs : List Spec) → length specs ≡ 0 → first_fault specs ≡ Some NoVertex
+empty_fault [] e = refl
+empty_fault (s ∷ specs) e = absurd (omega (arith, e))
+
+pub many_fault : (specs : List Spec) → max_vertices < length specs → first_fault specs ≡ Some TooManyVertices
+many_fault specs l = rw (not_empty specs (omega (arith, l)), lt-ltb max_vertices (length specs) l) refl
+
+pub some_of : (n : ℕ) → false ≡ (n == 0) → 0 < n
+some_of zero e = absurd (cc e)
+some_of (suc n) e = omega arith

@@ -1,6 +1,6 @@
 -- Specifications in lists of their parts, one by one.
 use Rattle.pg_game.proofs.Common.{◌≡◌, ℕ, ◌+◌, ◌<◌, List, [], ◌∷◌, ◌++◌, length, map, take, get_or, refl, sym, ◌∙◌, ap, arith, take_more, length-map}
-use Rattle.pg_game.proofs.Common.{get_or-map, ext_get_or, Player, Even, Spec, no_vertex, graph_of, ids_of, priorities_of, owners_of, AreParts, spec_from}
+use Rattle.pg_game.proofs.Common.{get_or-map, ext_get_or, Player, Even, Spec, no_vertex, graph_of, ids_of, priorities_of, owners_of, successor_lists, AreParts, spec_from}
 use Rattle.pg_game.proofs.Common.{specs_from}
 use Rattle.pg_game.proofs.Parts as part
 
@@ -44,3 +44,26 @@ module _ {ids ps : List ℕ} {os : List Player} {rows : List (List ℕ)} (a : Ar
 
   pub specs_taken : (v : ℕ) → v < length ids → take (v + 1) (specs_from ids ps os rows) ≡ take v (specs_from ids ps os rows) ++ spec_in v ∷ []
   specs_taken v l = take_more specs v (spec_in v) (omega (arith, l, length_specs)) ∙ ap (λ (s : Spec). take v specs ++ s ∷ []) (spec_at v (spec_in v) l)
+
+  pub lists_are : successor_lists (specs_from ids ps os rows) ≡ rows
+  lists_are = part_of (λ s. s.successors) rows [] a.successors (λ v. refl)
+
+  -- the same of their value
+  module _ {ss : List Spec} (is : specs_from ids ps os rows ≡ ss) where
+    pub length_is : length ss ≡ length ids
+    length_is = sym (ap (λ (xs : List Spec). length xs) is) ∙ length_specs
+
+    pub ids_is : ids_of ss ≡ ids
+    ids_is = sym (ap (λ (xs : List Spec). ids_of xs) is) ∙ ids_are
+
+    pub priorities_is : priorities_of ss ≡ ps
+    priorities_is = sym (ap (λ (xs : List Spec). priorities_of xs) is) ∙ priorities_are
+
+    pub owners_is : owners_of ss ≡ os
+    owners_is = sym (ap (λ (xs : List Spec). owners_of xs) is) ∙ owners_are
+
+    pub lists_is : successor_lists ss ≡ rows
+    lists_is = sym (ap (λ (xs : List Spec). successor_lists xs) is) ∙ lists_are
+
+    pub spec_is : (v : ℕ) (d : Spec) → v < length ss → get_or ss v d ≡ spec_in v
+    spec_is v d l = sym (ap (λ (xs : List Spec). get_or xs v d) is) ∙ spec_at v d (place_within is v l)

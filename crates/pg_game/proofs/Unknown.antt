@@ -1,8 +1,9 @@
 -- The first successor that is not specified, one specification after another.
-use Rattle.pg_game.proofs.Common.{◌≡◌, ℕ, ◌+◌, ◌<◌, true, List, [], ◌∷◌, length, drop, get_or, refl, sym, ◌∙◌, ap, nat_eq, rules, Some, None, Contains}
+use Rattle.pg_game.proofs.Common.{◌≡◌, ℕ, zero, suc, add-one, ◌+◌, ◌<◌, ◌≤◌, true, List, [], ◌∷◌, arith, Even, IsPermutation, get_or_default, length, drop, get_or, refl, sym, ◌∙◌, ap, nat_eq, Some, None, Contains}
 use Rattle.pg_game.proofs.Common.{list_any, eqb-true, drop_more, Spec, IsSpecified, first_unspecified, first_unknown, ids_of, first_outside}
 use Rattle.std.specs.Cmp.{nat_eq_equiv}
 use Rattle.std.proofs.lemmas.Map.Views.{Contains-from_any, list_any-from_Contains}
+use Rattle.std.proofs.lemmas.List.Sorted.{list_any-IsPermutation}
 use Rattle.pg_game.proofs.Seen.{eqb_flip}
 
 specified_is : (specs : List Spec) (i : ℕ) → list_any (nat_eq i) (ids_of specs) ≡ IsSpecified specs i
@@ -16,9 +17,11 @@ from_specified specs i t = Contains-from_any (λ x y. eqb-true x y) i (ids_of sp
 pub to_specified : (specs : List Spec) (i : ℕ) → Contains (ids_of specs) i → IsSpecified specs i ≡ true
 to_specified specs i m = sym (specified_is specs i) ∙ list_any-from_Contains nat_eq_equiv i (ids_of specs) m
 
-pub outside_is : (specs : List Spec) (keys xs : List ℕ) → keys ≡ ids_of specs → first_outside keys xs ≡ first_unspecified specs xs
-outside_is specs keys [] e = refl
-outside_is specs keys (x ∷ xs) e = search (rules, outside_is specs keys xs e, nat_eq, specified_is)
+pub outside_is : (specs : List Spec) (names xs : List ℕ) → IsPermutation (ids_of specs) names → first_outside names xs ≡ first_unspecified specs xs
+outside_is specs names [] moved = refl
+outside_is specs names (x ∷ xs) moved =
+    let e : list_any (nat_eq x) names ≡ IsSpecified specs x = sym (list_any-IsPermutation (nat_eq x) (ids_of specs) names moved) ∙ specified_is specs x in
+    rw (e, outside_is specs names xs moved) refl
 
 module _ (specs : List Spec) (k : ℕ) (s : Spec) (l : k < length specs) (is : s ≡ get_or specs k s) where
   next : drop k specs ≡ s ∷ drop (k + 1) specs
@@ -29,3 +32,14 @@ module _ (specs : List Spec) (k : ℕ) (s : Spec) (l : k < length specs) (is : s
 
   pub unknown_later : first_unspecified specs s.successors ≡ None → first_unknown specs (drop k specs) ≡ first_unknown specs (drop (k + 1) specs)
   unknown_later e = rw (next, e) refl
+
+-- where no successor of the first specifications is unknown, the next are left
+pub unknown_before : (specs : List Spec) (v : ℕ) → v ≤ length specs →
+    ((u : ℕ) (d : Spec) → u < v → first_unspecified specs (get_or specs u d).successors ≡ None) → first_unknown specs specs ≡ first_unknown specs (drop v specs)
+unknown_before specs zero l none = refl
+unknown_before specs (suc v) l none =
+    let d : Spec = record { id = 0; priority = 0; owner = Even; successors = [] } in
+    let s = get_or specs v d in
+    let e : s ≡ get_or specs v s = sym (get_or_default specs v s d (omega arith)) in
+    unknown_before specs v (omega arith) (λ u d m. none u d (omega arith))
+    ∙ (unknown_later specs v s (omega arith) e (none v d (omega arith)) ∙ ap (λ (k : ℕ). first_unknown specs (drop k specs)) (add-one v))

@@ -1,4 +1,4 @@
--- Specifications in lists of their parts, and those that are a game as they stand.
+-- Specifications in lists of their parts, and those that are a game as they are.
 use Rattle.std.specs.Prelude.{ℕ, List, map}
 use Rattle.pg_game.specs.declared.player.Player.{Player}
 use Rattle.pg_game.specs.declared.game.Spec.{Spec}
@@ -9,6 +9,6 @@ use Rattle.pg_game.specs.View.{graph_of}
 abbrev pub spec_from : Vertex → Spec
 spec_from x = record { id = x.id; priority = x.priority; owner = x.owner; successors = x.successors }
 
--- the specifications whose parts stand at the same place of each list
+-- the specifications whose parts are at the same place of each list
 abbrev pub specs_from : List ℕ → List ℕ → List Player → List (List ℕ) → List Spec
 specs_from ids ps os rows = map spec_from (graph_of ids ps os rows)

@@ -3,7 +3,7 @@ use Rattle.std.specs.Prelude.{ℕ, List, [], ◌∷◌}
 use Rattle.pg_game.specs.declared.player.Player.{Player}
 use Rattle.pg_game.specs.Graph.{Graph}
 
--- the vertices whose parts stand at the same place of each list
+-- the vertices whose parts are at the same place of each list
 abbrev pub graph_of : List ℕ → List ℕ → List Player → List (List ℕ) → Graph
 graph_of [] ps os rows = []
 graph_of (i ∷ ids) [] os rows = []

@@ -1,4 +1,4 @@
--- Definitions that only private functions and proofs cite: no public contract stands on them.
+-- Definitions that only private functions and proofs cite: no public contract uses them.
 pub mod VertexSet
 pub mod Bits
 pub mod Stored
@@ -7,6 +7,6 @@ pub mod Identifiers
 pub mod Rows
 pub mod Described
 pub mod Names
-pub mod Flat
+pub mod Lines
 pub mod Placed
 pub mod Opened

@@ -1,22 +1,23 @@
 //! Parity games and sets of their vertices, in the terms of the PGSolver manual.
-//! A game is made from specifications, and stands in compressed rows in both directions.
+//! A game is made from specifications, and is in compressed rows in both directions.
 #![tactic(auto)]
 
 mod adjacency;
-mod check;
 mod faults;
 mod flat;
+mod forward;
 mod game;
-mod hints;
-mod layout;
 mod limits;
-mod lookup;
+mod lines;
+mod making;
 mod mask;
 mod names;
 mod open;
 mod placed;
 mod player;
+mod seeded;
 mod sequence;
+mod sorting;
 
 pub use flat::Specs;
 pub use game::{Game, GameFault, Spec};

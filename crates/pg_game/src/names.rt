@@ -1,10 +1,16 @@
-//! The identifiers of a game, which rise with the vertex. They are found without an index, and those that are 0, 1 and so
-//! on are not kept.
+//! The identifiers of a game, which rise with the vertex. Those that are 0, 1 and so on are not kept.
 
-ghost use Rattle.std.specs.Prelude.{◌≡◌, ◌<◌, ◌↔◌, ℕ, length, slice_index, IfSome, IfNone, IsTrue};
-ghost use Rattle.pg_game.specs.private.Names.{AreNames};
+ghost use Rattle.std.specs.Prelude.{◌≡◌, ◌<◌, ◌↔◌, ℕ, [], length, slice_index, nat_eq, None, IfOk, IfErr, IfSome, IfNone, IsTrue, OnOk};
+ghost use Rattle.std.specs.List.{IsDistinct};
+ghost use Rattle.pg_game.specs.Specification.{first_repeated, OrMemory};
+ghost use Rattle.pg_game.specs.declared.game.GameFault.TheVariants.{Memory};
+ghost use Rattle.pg_game.specs.private.Identifiers.{twice_of};
+ghost use Rattle.pg_game.specs.private.Names.{AreNames, AreOwnPlaces};
 
-use crate::lookup::{are_own_places, find};
+use crate::game::GameFault;
+use crate::seeded::Seeded;
+use indexmap::IndexSet;
+use std::alloc::Global;
 use std::marker::Model;
 
 /// Rising identifiers.
@@ -17,8 +23,8 @@ pub struct Names {
 enum Kind {
     /// 0, 1 and so on, as many as this number.
     Own(u32),
-    /// Any others.
-    Listed(Vec<u32>),
+    /// Any others, sorted.
+    Listed(IndexSet<u32, Seeded>),
 }
 
 impl Model for Names {
@@ -32,24 +38,50 @@ impl Model for Names {
     ghost invariant = { λ n. AreNames (names_of n.kind) };
 }
 
+/// Whether each identifier is at the place that is its own number.
+pub fn are_own_places(ids: &[u32]) -> bool
+    ensures { IsTrue result → AreOwnPlaces ids.now }
+{
+    'ids: for v in 0..ids.len() {
+        if ids[v] as usize != v {
+            return false;
+        }
+    }
+    true
+}
+
+/// The identifiers in their order. Refused where one is earlier in the list, and where memory is out.
+pub fn identifiers(alloc: Global, ids: &[u32]) -> Result<IndexSet<u32, Seeded>, GameFault>
+    ensures ids { IfOk result (λ set. set.keys ≡ ids.now) }
+    ensures distinct { IfOk result (λ set. IsDistinct nat_eq set.keys) }
+    ensures once { OnOk result (first_repeated [] ids.now ≡ None) }
+    ensures fault { IfErr result (λ e. OrMemory (twice_of ids.now ≡ Some e) e) }
+{
+    let mut set = IndexSet::with_capacity_and_hasher(alloc, ids.len(), Seeded::by(ids))?;
+    'ids: for id in ids {
+        if !set.insert(*id)? {
+            return Err(GameFault::Twice(*id));
+        }
+    }
+    Ok(set)
+}
+
 impl Names {
-    /// The list is let go where each identifier is its own place.
-    pub fn of_rising(mut ids: Vec<u32>) -> Names
-        requires { AreNames ids.items }
-        ensures { result ≡ ids.items }
+    /// Those of a rising list. `Memory` is its only error.
+    pub fn of_rising(alloc: Global, ids: &[u32]) -> Result<Names, GameFault>
+        requires { AreNames ids.now }
+        ensures names { IfOk result (λ n. n ≡ ids.now) }
+        ensures memory { IfErr result (λ e. e ≡ Memory) }
     {
-        if are_own_places(ids.as_slice()) {
-            let count = ids.len() as u32;
-            // made small first, or glibc's allocator takes blocks up to this size from what it keeps from now on
-            ids.truncate(1);
-            ids.shrink_to_fit();
-            return Names {
-                kind: Kind::Own(count),
-            };
+        if are_own_places(ids) {
+            return Ok(Names {
+                kind: Kind::Own(ids.len() as u32),
+            });
         }
-        Names {
-            kind: Kind::Listed(ids),
-        }
+        let set = identifiers(alloc, ids)?;
+        Ok(Names {
+            kind: Kind::Listed(set),
+        })
     }
 
     /// How many there are.
@@ -63,7 +95,7 @@ impl Names {
         }
     }
 
-    /// The identifier that stands there.
+    /// The identifier that is there.
     #[inline]
     pub fn id(&self, v: u32) -> u32
         requires { v < length self.now }
@@ -71,7 +103,7 @@ impl Names {
     {
         match &self.kind {
             Kind::Own(_) => v,
-            Kind::Listed(ids) => ids[v as usize],
+            Kind::Listed(ids) => ids.as_slice()[v as usize],
         }
     }
 
@@ -90,15 +122,18 @@ impl Names {
         true
     }
 
-    /// Where the identifier stands, or none.
-    #[inline]
-    pub fn place_of(&self, id: u32) -> Option<usize>
+    /// Where the identifier is, or none.
+    #[inline(always)]
+    pub fn place_of(&self, id: u32) -> Option<u32>
         ensures found { IfSome result (λ v. (v < length self.now) × (slice_index self.now v ≡ id)) }
         ensures missing { IfNone result ((v : ℕ) → v < length self.now → slice_index self.now v ≡ id → ⊥) }
     {
         match &self.kind {
-            Kind::Own(count) => { if id < *count { Some(id as usize) } else { None } }
-            Kind::Listed(ids) => find(ids.as_slice(), id),
+            Kind::Own(count) => { if id < *count { Some(id) } else { None } }
+            Kind::Listed(ids) => match ids.get_index_of(&id) {
+                Some(v) => Some(v as u32),
+                None => None,
+            },
         }
     }
 }

@@ -1,4 +1,4 @@
-//! Specifications in the making. The successors of the one that is open stand behind those of the others, so that each is
+//! Specifications in the making. The successors of the one that is open follow those of the others, so that each is
 //! written once, and its row begins to count where it is closed.
 
 ghost use Rattle.std.specs.Prelude.{◌≡◌, ◌++◌, ◌∷◌, [], IfOk, OnOk, OnErr};
@@ -7,7 +7,7 @@ use crate::Memory;
 use crate::adjacency::Adjacency;
 use crate::flat::Specs;
 use crate::player::Player;
-use std::alloc::{AllocError, Global};
+use std::alloc::Global;
 use std::marker::Model;
 
 /// Specifications in their order, and successors of one more.
@@ -16,8 +16,8 @@ pub struct OpenSpecs {
     ids: Vec<u32>,
     priorities: Vec<u32>,
     owners: Vec<Player>,
-    offsets: Vec<u32>,
-    closed: u32,
+    offsets: Vec<usize>,
+    closed: usize,
     targets: Vec<u32>,
 }
 
@@ -33,7 +33,7 @@ impl Model for OpenSpecs {
 }
 
 impl OpenSpecs {
-    /// None, and no successor. `Memory` is its one refusal.
+    /// None, and no successor. The only error is `Memory`.
     pub fn new(alloc: Global) -> Result<OpenSpecs, Memory>
         ensures specs { IfOk result (λ s. s.specs ≡ []) }
         ensures successors { IfOk result (λ s. s.successors ≡ []) }
@@ -50,7 +50,7 @@ impl OpenSpecs {
         })
     }
 
-    /// Adds a successor of the one that is open. `Memory` is its one refusal.
+    /// Adds a successor of the one that is open. The only error is `Memory`.
     #[inline]
     pub fn push(&mut self, successor: u32) -> Result<(), Memory>
         ensures specs { self.new.specs ≡ self.old.specs }
@@ -67,11 +67,10 @@ impl OpenSpecs {
         ensures specs { self.new.specs ≡ self.old.specs }
         ensures successors { self.new.successors ≡ [] }
     {
-        self.targets.truncate(self.closed as usize);
+        self.targets.truncate(self.closed);
     }
 
-    /// Closes the one that is open, with these parts and its successors. `Memory` is its one refusal, and comes also where
-    /// 4,294,967,295 specifications or successors would be passed.
+    /// Closes the one that is open, with these parts and its successors. `Memory` is its only error.
     #[inline]
     pub fn close(&mut self, id: u32, priority: u32, owner: Player) -> Result<(), Memory>
         ensures specs { OnOk result (self.new.specs ≡ self.old.specs
@@ -80,9 +79,6 @@ impl OpenSpecs {
         ensures kept { OnErr result (self.new ≡ self.old) }
     {
         let end = self.targets.len();
-        if end > u32::MAX as usize || self.offsets.len() > u32::MAX as usize {
-            return Err(AllocError);
-        }
         self.ids.reserve(1)?;
         self.priorities.reserve(1)?;
         self.owners.reserve(1)?;
@@ -90,8 +86,8 @@ impl OpenSpecs {
         self.ids.push_reserved(id);
         self.priorities.push_reserved(priority);
         self.owners.push_reserved(owner);
-        self.offsets.push_reserved(end as u32);
-        self.closed = end as u32;
+        self.offsets.push_reserved(end);
+        self.closed = end;
         Ok(())
     }
 
@@ -107,7 +103,7 @@ impl OpenSpecs {
             closed,
             mut targets,
         } = self;
-        targets.truncate(closed as usize);
+        targets.truncate(closed);
         Specs::of_parts(
             ids,
             priorities,

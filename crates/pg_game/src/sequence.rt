@@ -26,7 +26,7 @@ impl<T> Sequence<T> {
         Sequence { items }
     }
 
-    /// Adds an item at the end. `Memory` is its one refusal.
+    /// Adds an item at the end. The only error is `Memory`.
     pub fn push(&mut self, item: T) -> Result<(), Memory>
     where
         T: Drop,

@@ -32,6 +32,6 @@ abbrev pub EndsRun : (ℕ → Bool) → List ℕ → Type 0
 EndsRun test [] = ⊤
 EndsRun test (b ∷ bytes) = test b ≡ false
 
--- the number that digits stand for, the first of them the highest
+-- the number that digits spell, the first of them the highest
 abbrev pub value_of : List ℕ → ℕ
 value_of digits = fold (λ n d. 10 * n + (d - 48)) 0 digits

@@ -43,7 +43,7 @@ IsNumberFault IsText text place =
     (ts : List Placed) × Spells 0 text ts × IsText (tokens_of ts)
     × ((before after : List Placed) × (t : Placed) × (ts ≡ before ++ t ∷ after) × (place ≡ t.place) × AllFit (tokens_of before) × (fits t.token ≡ false))
 
--- the text is of the grammar and its numbers fit, and at the place, behind tokens of the kind, is a number above 1
+-- the text is of the grammar and its numbers fit, and at the place, after tokens of the kind, is a number above 1
 abbrev pub IsPlayerFault : (List Token → Type 0) → (List Token → Type 0) → List ℕ → ℕ → Type 0
 IsPlayerFault IsText IsBefore text place =
     (ts : List Placed) × Spells 0 text ts × IsText (tokens_of ts) × AllFit (tokens_of ts)

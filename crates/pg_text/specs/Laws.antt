@@ -80,7 +80,7 @@ TextOrFault = (text : List ℕ) (g : Graph) (fault : TextFault) → IsTextOf tex
 abbrev pub OneFault : Type 0
 OneFault = (text : List ℕ) (e f : TextFault) → IsFaultOf text e → IsFaultOf text f → (e ≡ Memory) ⊎ ((f ≡ Memory) ⊎ (e ≡ f))
 
--- out of memory is never told as a fault of the game
+-- out of memory is never returned as a fault of the game
 abbrev pub NoGameWantsMemory : Type 0
 NoGameWantsMemory = (text : List ℕ) → IsFaultOf text (Game GameFault.Memory) → ⊥
 

@@ -12,5 +12,5 @@ pub mod Winners
 pub mod Bytes
 pub mod SolutionLines
 pub mod Known
-pub mod private
 pub mod ParseFault
+pub mod private

@@ -1,6 +1,6 @@
 //! Why a text was refused. Places count bytes from 0.
 //!
-//! The members stand in the order in which faults are looked for: the first that applies is answered, over the whole text.
+//! The members are in the order in which faults are looked for: the first that applies is returned, over the whole text.
 ghost use Rattle.std.specs.Prelude.{◌≡◌};
 ghost use Rattle.pg_text.specs.declared.fault.TextFault.TheVariants as game;
 ghost use Rattle.pg_text.specs.declared.fault.SolutionTextFault.TheVariants as solution;
@@ -16,7 +16,7 @@ use thiserror::Error;
 pub enum ParseFault {
     /// The first byte that is no blank and begins no token, or the first quote that is never closed.
     Lexical(u32),
-    /// The first token that can't stand there; the text's length where it ends too early.
+    /// The first token that is not allowed there; the text's length where it ends too early.
     Syntax(u32),
     /// The first number above 2,147,483,647.
     Number(u32),
@@ -40,7 +40,7 @@ pub enum TextFault {
     /// The first byte that is no blank and begins no token, or the first quote that is never closed.
     #[error("byte {0}: no token")]
     Lexical(u32),
-    /// The first token that can't stand there; the text's length where it ends too early.
+    /// The first token that is not allowed there; the text's length where it ends too early.
     #[error("byte {0}: not expected")]
     Syntax(u32),
     /// The first number above 2,147,483,647.
@@ -93,7 +93,7 @@ pub enum SolutionTextFault {
     /// The first byte that is no blank and begins no token, or the first quote that is never closed.
     #[error("byte {0}: no token")]
     Lexical(u32),
-    /// The first token that can't stand there; the text's length where it ends too early.
+    /// The first token that is not allowed there; the text's length where it ends too early.
     #[error("byte {0}: not expected")]
     Syntax(u32),
     /// The first number above 2,147,483,647.

@@ -5,10 +5,10 @@ ghost use Rattle.pg_text.specs.private.Grammar.{TakesNumber, TakesToken, IsCompl
 
 use pg_game::Memory;
 
-/// What a number is where it stands.
+/// What a number is where it is.
 #[derive(Clone, Copy, PartialEq, Eq)]
 pub enum Step {
-    /// No number can stand there.
+    /// No number can be there.
     Refused,
     /// A number with no range of its own.
     Taken,
@@ -44,19 +44,19 @@ pub trait Grammar {
     fn number(&mut self, value: u32) -> Result<Step, Memory>
         ensures { IfOk result (λ step. TakesNumber Reads BeginsText IsBeforePlayer self.old self.new value step) };
 
-    /// Takes a word; false where it can't stand.
+    /// Takes a word; false where it is not allowed.
     fn word(&mut self, letters: &[u8]) -> bool
         ensures { TakesToken Reads BeginsText self.old self.new result (Word letters.now) };
 
-    /// Takes a name; false where none can stand.
+    /// Takes a name; false where none is allowed.
     fn name(&mut self) -> bool
         ensures { (bytes : List ℕ) → TakesToken Reads BeginsText self.old self.new result (Name bytes) };
 
-    /// Takes a comma; false where none can stand.
+    /// Takes a comma; false where none is allowed.
     fn comma(&mut self) -> bool
         ensures { TakesToken Reads BeginsText self.old self.new result Comma };
 
-    /// Takes a semicolon; false where none can stand.
+    /// Takes a semicolon; false where none is allowed.
     fn semicolon(&mut self) -> Result<bool, Memory>
         ensures { IfOk result (λ taken. TakesToken Reads BeginsText self.old self.new taken Semicolon) };
 

@@ -12,7 +12,7 @@ use memchr::memchr;
 /// The greatest number that a text may hold.
 const GREATEST: u64 = 2147483647;
 
-/// How many bytes a number within the limit takes at most, with the byte behind it.
+/// How many bytes a number within the limit takes at most, with the byte after it.
 const SHORT: usize = 11;
 
 /// What a token is. A number above the limit has no value here.
@@ -27,7 +27,7 @@ pub enum Kind {
     Invalid,
 }
 
-/// A token of a text, or what stands in its place.
+/// A token of a text, or what is in its place.
 #[derive(Clone, Copy)]
 pub struct Lexeme {
     pub kind: Kind,
@@ -86,7 +86,7 @@ fn letters_end(text: &[u8], from: usize) -> usize
     to
 }
 
-/// The number at a place before the last ten bytes, and the place behind it. None where there is no digit, more than ten, or a
+/// The number at a place before the last ten bytes, and the place after it. None where there is no digit, more than ten, or a
 /// number above the limit. So few digits are read without a test of the value or for the text's end between them.
 #[inline(always)]
 fn short_number(text: &[u8], from: usize) -> Option<(u32, usize)>
@@ -109,7 +109,7 @@ fn short_number(text: &[u8], from: usize) -> Option<(u32, usize)>
     None
 }
 
-/// The value of any number of digits from `from` on, and the place behind them.
+/// The value of any number of digits from `from` on, and the place after them.
 #[inline(never)]
 fn long_number(text: &[u8], from: usize) -> (Option<u32>, usize)
     requires { from ≤ length text.now }
@@ -132,7 +132,7 @@ fn long_number(text: &[u8], from: usize) -> (Option<u32>, usize)
     }
 }
 
-/// The value of the digits from `from` on, and the place behind them. It has no value above the limit.
+/// The value of the digits from `from` on, and the place after them. It has no value above the limit.
 #[inline(always)]
 fn number(text: &[u8], from: usize) -> (Option<u32>, usize)
     requires { from ≤ length text.now }

@@ -6,7 +6,7 @@ ghost use Rattle.pg_text.specs.Written.{numeral, written_choice};
 use itoa::write_digits;
 use pg_game::Game;
 
-/// Writes a number whose digits end at a place of the line, with ten bytes at least before it, and answers where they begin.
+/// Writes a number whose digits end at a place of the line, with ten bytes at least before it, and returns where they begin.
 #[inline]
 pub fn number_before(line: &mut [u8], end: usize, n: u32) -> usize
     requires room { 10 ≤ end }
@@ -20,7 +20,7 @@ pub fn number_before(line: &mut [u8], end: usize, n: u32) -> usize
     write_digits(u64::from(n), line, end)
 }
 
-/// Writes a byte before a place of the line, and answers where it stands.
+/// Writes a byte before a place of the line, and returns where it is.
 #[inline]
 pub(crate) fn byte_before(line: &mut [u8], end: usize, byte: u8) -> usize
     requires room { 1 ≤ end }
@@ -34,7 +34,7 @@ pub(crate) fn byte_before(line: &mut [u8], end: usize, byte: u8) -> usize
     end - 1
 }
 
-/// Writes the end of a line, and answers where it begins.
+/// Writes the end of a line, and returns where it begins.
 #[inline]
 pub fn end_before(line: &mut [u8]) -> usize
     requires { 2 ≤ length line.old }
@@ -70,7 +70,7 @@ pub fn choice_before(line: &mut [u8], end: usize, game: &Game, choice: Option<u3
     }
 }
 
-/// Writes a number and a space before a place of the line, and answers where they begin.
+/// Writes a number and a space before a place of the line, and returns where they begin.
 #[inline]
 pub(crate) fn field_before(line: &mut [u8], end: usize, n: u32) -> usize
     requires room { 11 ≤ end }

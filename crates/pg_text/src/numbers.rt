@@ -1,4 +1,4 @@
-//! What the numbers of a text say: the player that one stands for, and the place of the first that is at fault.
+//! What the numbers of a text say: the player that one means, and the place of the first that is at fault.
 
 ghost use Rattle.std.specs.Prelude.{◌≡◌};
 ghost use Rattle.pg_text.specs.GameText.{player_of};

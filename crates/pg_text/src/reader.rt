@@ -1,6 +1,6 @@
 //! One reader for the texts of all grammars, in one pass over the tokens (PGSolver's manual).
 //!
-//! A number above the limit or a player above 1 is only noted, since the grammar is judged first. A token that can't stand
+//! A number above the limit or a player above 1 is only noted, since the grammar is judged first. A token that can't be
 //! where it does ends the pass, and the rest is searched once for a byte that begins no token.
 ghost use Rattle.std.specs.Prelude.{◌≡◌, ℕ, ◌≤◌, true, length, IfOk, MatchResult, List, []};
 ghost use Rattle.pg_text.specs.Token.{Number, Placed, Spells};
@@ -23,7 +23,7 @@ struct Reader<G> {
 }
 
 impl<G: Grammar + Drop> Reader<G> {
-    /// Takes a number, which has no value where it is above the limit; false where none can stand.
+    /// Takes a number, which has no value where it is above the limit; false where none is allowed.
     #[inline(always)]
     fn number(&mut self, value: Option<u32>, place: u32) -> Result<bool, Memory>
         ensures { IfOk result (λ taken. (n : ℕ) → value ≡ fitting n → ReaderTakes G.Reads G.BeginsText G.IsBeforePlayer self.old self.new taken (Number n) place) }
@@ -41,7 +41,7 @@ impl<G: Grammar + Drop> Reader<G> {
         }
     }
 
-    /// Takes the token between the places; false where it can't stand there.
+    /// Takes the token between the places; false where it is not allowed there.
     #[inline(always)]
     fn take(&mut self, text: &[u8], lexeme: Lexeme) -> Result<bool, Memory>
         requires size { length text.now ≤ max_text }
@@ -78,7 +78,7 @@ impl<G: Grammar + Drop> Reader<G> {
     }
 }
 
-/// The fault of a text whose token between the places can't stand there.
+/// The fault of a text whose token between the places can't be there.
 #[inline(never)]
 fn unexpected<G: Grammar>(text: &[u8], from: usize, to: usize) -> ParseFault
     requires size { length text.now ≤ max_text }

@@ -17,7 +17,7 @@ use std::alloc::Global;
 /// The greatest number of bytes in a text.
 pub const MAX_TEXT: usize = 268_435_456;
 
-/// The game that a text spells. The text is at most `MAX_TEXT` bytes long; any bytes may stand in it.
+/// The game that a text spells. The text is at most `MAX_TEXT` bytes long; any bytes may be in it.
 ///
 /// Refused with the first fault, by kind and then by place: `Lexical`, `Syntax`, `Number`, `Owner`, `Game` (never of
 /// `GameFault::Memory`); or with `Memory`.
@@ -35,7 +35,7 @@ pub fn read_game(alloc: Global, text: &[u8]) -> Result<Game, TextFault>
 }
 
 /// The winners and choices that a text spells for a game, every choice of the text kept. The text is at most `MAX_TEXT`
-/// bytes long; any bytes may stand in it.
+/// bytes long; any bytes may be in it.
 ///
 /// Refused with the first fault, by kind and then by place: `Lexical`, `Syntax`, `Number`, `Winner`, `Stranger`, `Twice`,
 /// `Missing`; or with `Memory`.
@@ -66,7 +66,7 @@ pub fn take_solution(
 }
 
 /// What a text says that is known of a game: winners and choices as in a solution text, where vertices may be left out. The
-/// text is at most `MAX_TEXT` bytes long; any bytes may stand in it.
+/// text is at most `MAX_TEXT` bytes long; any bytes may be in it.
 ///
 /// Refused with the first fault, by kind and then by place: `Lexical`, `Syntax`, `Number`, `Winner`, `Stranger`, `Twice`; or
 /// with `Memory`. Never with `Missing`.

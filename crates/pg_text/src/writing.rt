@@ -1,4 +1,4 @@
-//! The one written spelling of games, solutions and winners: one line for each vertex in rising identifier, behind a header
+//! The one written spelling of games, solutions and winners: one line for each vertex in rising identifier, after a header
 //! with the greatest identifier. Numbers have no leading zeros (`itoa` writes them); there is no start line and no name.
 ghost use Rattle.std.specs.Prelude.{◌≡◌, ℕ, ◌<◌, ◌≤◌, ◌++◌, ◌+◌, ◌*◌, ◌^◌, ◌∷◌, [], length, drop, take, slice_index, codes, map, max, IfOk};
 ghost use Rattle.std.specs.Prelude.{OnOk, IfSome};
@@ -107,7 +107,7 @@ fn list_before(line: &mut [u8], end: usize, game: &Game, vertices: &[u32]) -> us
     number_before(line, at, game.id(vertices[0]))
 }
 
-/// Writes identifier, priority and owner of a vertex before a place of the line, each with a space behind it.
+/// Writes identifier, priority and owner of a vertex before a place of the line, each with a space after it.
 #[inline]
 fn fields_before(line: &mut [u8], end: usize, game: &Game, v: u32) -> usize
     requires vertex { v < length game.now }

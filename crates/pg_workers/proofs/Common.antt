@@ -22,7 +22,7 @@ pub use Rattle.pg_board.specs.declared.refusal.Refusal.{Refusal}
 pub use Rattle.pg_workers.specs.Counting.{once_below, times}
 pub use Rattle.pg_workers.specs.Known.{IsSolveFault, known_rows}
 pub use Rattle.pg_workers.specs.Outcomes.{IsOutcome}
-pub use Rattle.pg_workers.specs.Report.{AddsUp, AreCounts, AreNumbered, IsDrawnRow, IsInOrder, IsReport, blank_row, settled_in}
+pub use Rattle.pg_workers.specs.Report.{AddsUp, AreCounts, AreOfCaller, AreNumbered, IsDrawnRow, IsInOrder, IsReport, blank_row, settled_in}
 pub use Rattle.pg_workers.specs.Tickets.{AreDrawn, HeldTicket, fresh}
 unfoldable pub use Rattle.pg_workers.specs.Work.{batch_of, batches, batches_of, doubled, most_batches, most_doublings, total_of}
 pub use Rattle.pg_workers.specs.declared.known.SolveFault.{SolveFault}

@@ -1,4 +1,8 @@
 -- Sums and counts over lists, of which one element is changed or has all.
+use Rattle.std.specs.List.{range_with_len}
+use Rattle.std.proofs.lemmas.List.{map-id}
+use Rattle.std.proofs.lemmas.List.FromFn.{map-range_with_len_more}
+use Rattle.pg_workers.proofs.Common.{◌++◌, ◌∙◌, map-append}
 use Rattle.pg_workers.proofs.Common.{rules, ◌≡◌, ℕ, zero, suc, ◌+◌, ◌≤◌, List, [], ◌∷◌, map, set, refl, sym, ap, arith, common_steps, ◌==◌, if◌then◌else◌, some}
 use Rattle.pg_workers.proofs.Common.{sum_by, nat_tests, sum_by-cons, some-injective, some-ne-none, get_elem?, once_below}
 
@@ -51,3 +55,12 @@ once_more x n = grind (arith, nat_tests)
 
 pub once_none : (x : ℕ) → once_below x 0 ≡ 0
 once_none x = grind (arith, nat_tests)
+
+-- one number more is the next
+pub numbers_more : {X : Type 0} (f : X → ℕ) (xs ys : List X) (x : X) (n m : ℕ) → map f xs ≡ range_with_len 1 n → ys ≡ xs ++ x ∷ [] → f x ≡ n + 1
+    → m ≡ n + 1 → map f ys ≡ range_with_len 1 m
+numbers_more f xs ys x n m is more e long =
+    let step : range_with_len 1 (n + 1) ≡ range_with_len 1 n ++ (1 + n) ∷ [] =
+    sym (map-id (range_with_len 1 (n + 1))) ∙ map-range_with_len_more (λ (k : ℕ). k) 1 n (1 + n) refl ∙ ap (λ (l : List ℕ). l ++ (1 + n) ∷ []) (map-id (range_with_len 1 n)) in
+    let last : f x ≡ 1 + n = omega (arith, e) in
+    ap (map f) more ∙ map-append f xs (x ∷ []) ∙ ap (λ (l : List ℕ). l ++ f x ∷ []) is ∙ ap (λ (k : ℕ). range_with_len 1 n ++ k ∷ []) last ∙ sym step ∙ ap (range_with_len 1) (sym long)

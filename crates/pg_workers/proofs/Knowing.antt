@@ -1,7 +1,7 @@
 -- Posting a known set settles it exactly where it is a region, and else is refused for a reason of the set.
 use Rattle.std.proofs.lemmas.Grind.{common_steps}
 use Rattle.std.proofs.Common.{rules, ◌≡◌, ℕ, zero, suc, ◌<◌, Bool, true, false, ◌||◌, ◌↔◌, List, [], ◌∷◌, length, refl, sym, ◌∙◌, ap, subst, arith, lt-ltb}
-use Rattle.std.proofs.Common.{◌≤◌, ltb-true, Ok, Err, Option, nat_lt}
+use Rattle.std.proofs.Common.{◌++◌, ◌≤◌, ltb-true, Ok, Err, Option, nat_lt}
 use mathlib.Core.Path.{fun_ext}
 use Rattle.std.proofs.Math.Bool.{or-false}
 use Rattle.std.specs.List.{Contains}
@@ -46,7 +46,10 @@ use Rattle.pg_board.proofs.Places.{named_at}
 use Rattle.pg_board.proofs.RestIsGood.{vertices, in_rest, named_rest}
 use Rattle.pg_workers.specs.Known.{IsKnownRegion, known_rows, IsAttractedToKnown, HasCount, HasNone, IsBefore, IsSolveFault}
 use Rattle.pg_workers.specs.private.Known.{SettlesKnown, IsKnownFault, HasKnown, fault_of}
+use Rattle.pg_workers.specs.Report.{AreOfCaller}
+use Rattle.pg_workers.specs.private.Rest.{IsLater}
 use Rattle.pg_workers.specs.declared.known.SolveFault.{SolveFault}
+use Rattle.pg_workers.proofs.Calling.{both_of_caller, none_later, one_later}
 
 -- what is known is known of vertices
 known_below : (known : KnownRows) (p : Player) (v : ℕ) → known_of known p v ≡ true → v < length known
@@ -128,7 +131,9 @@ module _ (g : Graph) (game : IsGame g) (known : KnownRows) (sized : length known
 
     pub settles_nothing : (journal : Journal) → HasNone journal p
         → SettlesKnown (record { graph = g; journal = journal }) (record { graph = g; journal = journal }) known p
-    settles_nothing journal none = grind (arith, empty_region, none_attracted, none_distinct)
+    settles_nothing journal none =
+        let later = none_later (record { graph = g; journal = journal }) (record { graph = g; journal = journal }) p refl in
+        grind (arith, empty_region, none_attracted, none_distinct, later)
 
   module _ (journal : Journal) (none : HasNone journal p) where
     abbrev st : State
@@ -173,10 +178,11 @@ module _ (g : Graph) (game : IsGame g) (known : KnownRows) (sized : length known
         × ((k : ℕ) → IsDominionAfter g journal k claim.player claim.rows → AnswersDominion st claim.rows (Ok posted)
         × SettlesUnlessMemory here new claim.player claim.rows (Ok posted))
 
-    settles_rows : IsLawful g journal → (new : Play) (posted : Posted) → Takes new posted (record { player = p; rows = rows })
+    settles_rows : IsLawful g journal → (new : Play) → new.graph ≡ g → (posted : Posted) → Takes new posted (record { player = p; rows = rows })
         → SettlesKnown here new known p
-    settles_rows lawful new posted (good, adds, old) = record {
+    settles_rows lawful new same posted (good, adds, old) = record {
       region = good_region good;
+      later = later;
       own = own;
       other = settles.other;
       more = length adds.entry.rows;
@@ -186,6 +192,9 @@ module _ (g : Graph) (game : IsGame g) (known : KnownRows) (sized : length known
       where
         added : IsAdded g journal p rows adds.entry
         added = record { game = game; lawful = lawful; posted = good; answers = adds.answers }
+
+        later : IsLater (p ∷ []) here new
+        later = one_later here new (record { player = p; rows = rows }) posted same adds
 
         settles : SettlesDominion here new p rows
         settles = (old 0 (region_dominion (good_region good) good.shape.nonempty journal)).1
@@ -204,9 +213,9 @@ module _ (g : Graph) (game : IsGame g) (known : KnownRows) (sized : length known
           λ a. (in_rows adds.entry.rows v).1 (sym (ours v) ∙ (own v).1 a),
         )
 
-    pub settles_known : IsLawful g journal → (new : Play) (posted : Posted) (claim : Claim) → claim.player ≡ p → claim.rows ≡ rows
+    pub settles_known : IsLawful g journal → (new : Play) → new.graph ≡ g → (posted : Posted) (claim : Claim) → claim.player ≡ p → claim.rows ≡ rows
         → Takes new posted claim → SettlesKnown here new known p
-    settles_known lawful new posted claim player is takes = settles_rows lawful new posted (said_of (Takes new posted) claim p rows player is takes)
+    settles_known lawful new same posted claim player is takes = settles_rows lawful new same posted (said_of (Takes new posted) claim p rows player is takes)
 
     -- what a board that refused the claim says of it
     abbrev Refuted : Play → Refusal → Claim → Type 0
@@ -237,6 +246,10 @@ module _ (g : Graph) (known : KnownRows) (opened mid : Play) (here : opened.grap
 
   pub has_known : (new : Play) → mid.graph ≡ g → SettlesKnown mid new known Odd → HasKnown g known new.journal
   has_known new same second = record {
+    entries =
+        subst (λ (j : Journal). AreOfCaller (Even ∷ Odd ∷ []) j) (sym (second.later.journal ∙ ap (λ (j : Journal). j ++ second.later.added)
+        (first.later.journal ∙ ap (λ (j : Journal). j ++ first.later.added) new_board)))
+        (both_of_caller first.later.added second.later.added first.later.by_caller second.later.by_caller);
     regions = regions;
     number = (
       first.more,

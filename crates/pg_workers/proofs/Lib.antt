@@ -1,4 +1,5 @@
 pub mod Common
+pub mod Calling
 pub mod AddingUp
 pub mod Rows
 pub mod Placing

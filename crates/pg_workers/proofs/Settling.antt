@@ -1,5 +1,5 @@
 -- What the calling thread adds settles all that was left.
-use Rattle.pg_workers.proofs.Common.{common_steps, rules, ◌≡◌, ℕ, ◌<◌, false, ◌++◌, length, refl, ◌∙◌, ap, subst, arith, length-append, or_cases, Player, Graph}
+use Rattle.pg_workers.proofs.Common.{common_steps, rules, ◌≡◌, ℕ, List, ◌<◌, false, ◌++◌, length, refl, ◌∙◌, ap, subst, arith, length-append, or_cases, Player, Graph}
 use Rattle.pg_workers.proofs.Common.{take-append-le, VertexSet, target_attracted, ClaimRows, IsGoodIn, Claim, AreClaims, Play, unsettled, is_unsettled, Journal}
 use Rattle.pg_workers.proofs.Common.{state_of, IsDominionAfter, IsFull, Settles, IsLater}
 use Rattle.std.proofs.lemmas.Bool.{or_right}
@@ -26,16 +26,16 @@ full_after : (g : Graph) (journal first second : Journal) (U : VertexSet) (even 
 full_after g journal first second U even odd is claims a b = grind (arith, stays_shut, or_cases, settled_shut)
 
 -- a claim of the subgame that was left is still a dominion after further entries
-pub still_dominion : (old new : Play) (most : ℕ) (h : Graph) (U : VertexSet) (even odd : Claim) (at : ℕ) → IsLater most old new → h ≡ old.graph
+pub still_dominion : (old new : Play) (ps : List Player) (h : Graph) (U : VertexSet) (even odd : Claim) (at : ℕ) → IsLater ps old new → h ≡ old.graph
     → AreClaims h U even odd → ((p : Player) (rows : ClaimRows) → IsGoodIn old.graph U p rows → IsDominionAfter old.graph old.journal at p rows)
     → 0 < length odd.rows → IsDominionAfter new.graph new.journal at odd.player odd.rows
-still_dominion old new most h U even odd at later is claims dominions some = grind (arith, common_steps, dominion_later)
+still_dominion old new ps h U even odd at later is claims dominions some = grind (arith, common_steps, dominion_later)
 
 -- where both claims were posted, nothing is left
-pub all_settled : (old mid new : Play) (most more : ℕ) (h : Graph) (U : VertexSet) (even odd : Claim) → IsLater most old mid → IsLater more mid new
+pub all_settled : (old mid new : Play) (ps qs : List Player) (h : Graph) (U : VertexSet) (even odd : Claim) → IsLater ps old mid → IsLater qs mid new
     → h ≡ old.graph → ((v : ℕ) → U v ≡ unsettled old.graph (state_of old.journal) v) → AreClaims h U even odd
     → Settles mid.journal even.player even.rows → Settles new.journal odd.player odd.rows → IsFull new.graph (state_of new.journal)
-all_settled old mid new most more h U even odd first second is mask claims a b =
+all_settled old mid new ps qs h U even odd first second is mask claims a b =
     let j : new.journal ≡ old.journal ++ first.added ++ second.added = second.journal ∙ ap (λ (x : Journal). x ++ second.added) first.journal in
     let here : AreClaims old.graph U even odd = subst (λ (g : Graph). AreClaims g U even odd) is claims in
     let full = full_after old.graph old.journal first.added second.added U even odd mask here

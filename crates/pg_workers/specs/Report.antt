@@ -1,6 +1,8 @@
 -- The report of a run: one row for each piece of work.
-use Rattle.std.specs.Prelude.{ℕ, ◌≡◌, ◌≤◌, ◌<◌, ◌+◌, false, List, length, sum_by, take, drop, slice_get, Some, None, ◌≢◌}
+use Rattle.std.specs.Prelude.{ℕ, ◌≡◌, ◌≤◌, ◌<◌, ◌+◌, Bool, false, List, [], ◌∷◌, length, map, filter, sum_by, take, drop, slice_get, Some, None, ◌≢◌}
 use Rattle.std.specs.List.{AllByRecursion}
+use Rattle.pg_game.specs.declared.player.Player.{Player}
+use Rattle.pg_game.specs.declared.player.Player.TheVariants.{Even, Odd}
 use Rattle.pg_workers.specs.declared.report.ReportRow.{ReportRow}
 use Rattle.pg_board.specs.Journal.{Journal, number_settled}
 
@@ -36,10 +38,17 @@ pub record IsReport (workers : ℕ) (report : List ReportRow) : Type 0 where
   pub done : (k : ℕ) (r : ReportRow) → slice_get report k ≡ Some r → k < drawn → IsDrawnRow workers r
   pub blank : (k : ℕ) (r : ReportRow) → slice_get report k ≡ Some r → drawn ≤ k → r ≡ blank_row k
 
--- so many vertices that were known and what the workers settled are a prefix of the journal, and at most two entries follow it, of worker 0
+-- entries of worker 0, at most one for each of the players, in their order
+pub record AreOfCaller (players : List Player) (entries : Journal) : Type 0 where
+  pub worker : AllByRecursion (λ e. e.worker ≡ 0) entries
+  pub posted : Player → Bool
+  pub order : map (λ e. e.player) entries ≡ filter posted players
+
+-- so many vertices that were known and what the workers settled are a prefix of the journal. The calling thread's entries follow it: one for
+-- Even or none, and then one for Odd or none
 pub record AddsUp (known : ℕ) (journal : Journal) (report : List ReportRow) : Type 0 where
   pub by_workers : ℕ
   pub within : by_workers ≤ length journal
   pub last : length journal ≤ by_workers + 2
   pub settled : settled_in report + known ≡ number_settled (take by_workers journal)
-  pub by_caller : AllByRecursion (λ e. e.worker ≡ 0) (drop by_workers journal)
+  pub by_caller : AreOfCaller (Even ∷ Odd ∷ []) (drop by_workers journal)

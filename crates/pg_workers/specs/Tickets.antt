@@ -13,7 +13,7 @@ pub record JobNumbers : Type 0 where
   pub series : Series
   pub seats : ℕ
 
--- of which jobs, the numbers drawn, and whether the ticket was told that none is left
+-- of which jobs, the numbers drawn, and whether a draw returned that none is left
 pub record HeldTicket : Type 0 where
   pub series : Series
   pub numbers : List ℕ
@@ -30,8 +30,8 @@ drew t j = record { series = t.series; numbers = t.numbers ++ j ∷ []; told_non
 abbrev pub told : HeldTicket → HeldTicket
 told t = record { series = t.series; numbers = t.numbers; told_none = true }
 
--- The tickets' lists are fair for the closing word, which counts the numbers drawn and the tickets told that none is left. Where
--- one was told so, the lists are together the numbers below the total, each once
+-- The tickets' lists are fair for the closing word, which counts the numbers drawn and the tickets to which none was returned. Where
+-- there is such a ticket, the lists are together the numbers below the total, each once
 pub record AreDrawn (total : ℕ) (tickets : List HeldTicket) : Type 0 where
   pub word : ℕ
   pub fair : AreFair total word (λ t. t.numbers) tickets

@@ -38,7 +38,7 @@ impl Play<(), Drawer> for Draw {
     ghost then = { Draws };
 }
 
-/// One ticket leaves a seat that stands for several, or comes back.
+/// One ticket leaves a seat that several share, or comes back.
 pub(crate) struct OneTicket;
 
 impl Split<Drawer> for OneTicket {

@@ -1,8 +1,8 @@
-//! What is told of a worker's progress. A test holds workers there; the product lets them pass.
+//! Calls that report a worker's progress. A test holds workers there; the product does not.
 
 use std::sync::Wait;
 
-/// Is told of each job before its claims are posted, and after. Nothing is promised of it.
+/// Is called for each job before its claims are posted, and after. Nothing is promised of it.
 pub trait Gate: Sync {
     /// The worker's search has ended, also where memory was refused; it posts next what was found.
     fn found<R: Wait>(&self, rt: &R, worker: u32, job: u64);

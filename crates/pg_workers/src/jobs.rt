@@ -17,7 +17,7 @@ pub struct Drawn {
     pub told_none: bool,
 }
 
-/// Draws numbers of jobs, and keeps them. Contracts see of which jobs it is, the numbers drawn, and whether it was told
+/// Draws numbers of jobs, and keeps them. Contracts see of which jobs it is, the numbers drawn, and whether a draw returned
 /// that none is left.
 #[derive(Drop)]
 pub struct Ticket {
@@ -40,7 +40,7 @@ impl Model for Ticket {
 }
 
 impl Ticket {
-    /// A ticket at a seat of its own, with room for all numbers.
+    /// A ticket at a seat of its own, with capacity for all numbers.
     fn new(alloc: Global, total: u64, seat: Seat<(), Drawer>) -> Result<Ticket, Memory>
         requires { (seat.me ≡ (drawer total 1 0 [], [])) × (total ≤ 4096) }
         ensures { IfOk result (λ t. t ≡ fresh (record { table = seat.table_id; total = total })) }
@@ -58,7 +58,7 @@ impl Ticket {
         ensures numbers { result.now ≡ self.now.numbers }
         ensures below { All (λ j. j < self.now.series.total) result.now }
     {
-        // for the proof: a look at a field tells what the type keeps, and so the numbers are below the total
+        // for the proof: reading a field gives the invariant of the type, and so the numbers are below the total
         let _told_none = self.told_none;
         self.numbers.as_slice()
     }
@@ -88,7 +88,7 @@ impl Model for Jobs {
 }
 
 impl Jobs {
-    /// Jobs numbered from 0, and a ticket for each seat, with room for all numbers from the start.
+    /// Jobs numbered from 0, and a ticket for each seat, with capacity for all numbers from the start.
     #[tactic(auto, using(crate::proofs::Moves::begins))]
     pub fn open(alloc: Global, total: u64, seats: u32) -> Result<(Jobs, Vec<Ticket>), Memory>
         requires total { total ≤ 4096 }
@@ -140,7 +140,7 @@ impl Jobs {
     }
 
     /// What each ticket has drawn, in the order of the tickets. Takes no memory. No number was drawn twice, and where a
-    /// ticket was told that none is left, each was drawn.
+    /// draw returned that none is left, each was drawn.
     pub fn close(self, mut tickets: Vec<Ticket>) -> Vec<Drawn>
         requires all { vec_len tickets ≡ self.seats }
         requires own { All (λ t. t.series ≡ self.series) tickets.items }

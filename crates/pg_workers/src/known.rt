@@ -52,7 +52,7 @@ fn own_choice(game: &Game, player: Player, v: u32, choice: Option<u32>) -> Optio
     }
 }
 
-/// The player's known set, as a claim: choices stand at his own vertices alone.
+/// The player's known set, as a claim: only his own vertices have choices.
 fn known_claim(alloc: Global, game: &Game, known: &Known, player: Player) -> Result<Claim, Memory>
     requires { length known.now.rows ≤ length game.now }
     ensures player { IfOk result (λ claim. claim.player ≡ player) }
@@ -111,7 +111,7 @@ pub(crate) fn board_with<'g>(
     ensures fault { IfErr result (λ e. IsSolveFault game.now known.now.rows e) }
 {
     let mut board = Board::open(alloc, game)?;
-    // for the proof, here and below: a look at the board tells that its journal is lawful
+    // for the proof, here and below: reading the board gives that its journal is lawful
     let _opened = board.game();
     post_known(alloc, &mut board, known, Player::Even)?;
     let _posted = board.game();

@@ -2,6 +2,7 @@
 //! part, and posts what it finds. The board trusts none of them; the calling thread settles what is left.
 #![tactic(auto)]
 
+mod alone;
 mod drawing;
 mod gate;
 mod jobs;
@@ -13,6 +14,7 @@ mod scope;
 mod solve;
 mod worker;
 
+pub use alone::solve_alone;
 pub use gate::{Gate, Pass};
 pub use jobs::{Drawn, Jobs, Ticket};
 pub use known::SolveFault;

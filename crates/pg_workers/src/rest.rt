@@ -1,5 +1,6 @@
 //! What is left of a board is solved by the recursion and posted: Even's claim and then Odd's, as worker 0.
-ghost use Rattle.std.specs.Prelude.{◌<◌, ℕ, length, OnOk};
+ghost use Rattle.std.specs.Prelude.{◌<◌, ◌∷◌, ℕ, [], length, OnOk};
+ghost use Rattle.pg_game.specs.declared.player.Player.TheVariants.{Even, Odd};
 ghost use Rattle.pg_board.specs.Journal.{state_of, IsDominionAfter};
 ghost use Rattle.pg_board.specs.Full.{IsFull};
 ghost use Rattle.pg_workers.specs.private.Rest.{Settles, IsLater};
@@ -11,10 +12,11 @@ use pg_game::Memory;
 use std::alloc::{AllocError, Global};
 
 /// Posts a claim that was a dominion at some time as worker 0, where it has a row.
+#[tactic(auto, using(crate::proofs::Calling::one_later, crate::proofs::Calling::none_later))]
 fn post_last(alloc: Global, board: &mut Board<'_>, claim: &Claim) -> Result<(), Memory>
     requires { 0 < length claim.now.rows → (k : ℕ) × IsDominionAfter board.old.graph board.old.journal k claim.now.player claim.now.rows }
     ensures settles { OnOk result (Settles board.new.journal claim.now.player claim.now.rows) }
-    ensures later { OnOk result (IsLater 1 board.old board.new) }
+    ensures later { OnOk result (IsLater (claim.now.player ∷ []) board.old board.new) }
 {
     if claim.rows.as_slice().is_empty() {
         return Ok(());
@@ -33,7 +35,7 @@ fn post_last(alloc: Global, board: &mut Board<'_>, claim: &Claim) -> Result<(), 
 /// Settles all that a copy has unsettled by the two claims of the recursion, each an entry of worker 0.
 fn solve_rest(alloc: Global, board: &mut Board<'_>) -> Result<(), Memory>
     ensures full { OnOk result (IsFull board.new.graph (state_of board.new.journal)) }
-    ensures later { OnOk result (IsLater 2 board.old board.new) }
+    ensures later { OnOk result (IsLater (Even ∷ Odd ∷ []) board.old board.new) }
 {
     let copied = board.copy(alloc)?;
     let Solved { even, odd } = zielonka(alloc, &copied.inside)?;
@@ -43,9 +45,10 @@ fn solve_rest(alloc: Global, board: &mut Board<'_>) -> Result<(), Memory>
 }
 
 /// Settles all that is unsettled, by at most two entries of worker 0. A full board is left as it is.
+#[tactic(auto, using(crate::proofs::Calling::none_later_of_two))]
 pub(crate) fn settle_rest(alloc: Global, board: &mut Board<'_>) -> Result<(), Memory>
     ensures full { OnOk result (IsFull board.new.graph (state_of board.new.journal)) }
-    ensures later { OnOk result (IsLater 2 board.old board.new) }
+    ensures later { OnOk result (IsLater (Even ∷ Odd ∷ []) board.old board.new) }
 {
     if board.is_full() {
         return Ok(());

@@ -1,5 +1,6 @@
 //! Slots for the workers, threads that work on them, and what the slots hold once all threads have ended.
 ghost use Rattle.std.specs.Prelude.{◌≡◌, ◌≤◌, [], All, IfOk, map, replicate, vec_len};
+ghost use Rattle.std.specs.List.{range_with_len};
 ghost use Rattle.std.specs.Vec.{vec_capacity};
 ghost use Rattle.pg_workers.specs.Report.{IsDrawnRow, settled_in};
 ghost use Rattle.pg_workers.specs.Tickets.{fresh};
@@ -20,7 +21,7 @@ use std::sync::ledger::Ledger;
 use std::thread;
 use std::thread::{Scope, Threads};
 
-/// A slot for each pair of a share and a ticket, with the number of its worker and room for a row for each job.
+/// A slot for each pair of a share and a ticket, with the number of its worker and capacity for a row for each job.
 pub(crate) fn slots_of<L: Ledger, J: Naming>(
     alloc: Global,
     total: u64,
@@ -31,7 +32,8 @@ pub(crate) fn slots_of<L: Ledger, J: Naming>(
     requires shares { shares.items ≡ replicate (vec_len shares) 0 }
     requires workers { (vec_len shares ≡ J.workers) × (J.workers ≤ 64) }
     requires tickets { tickets.items ≡ replicate (vec_len shares) (fresh J.series) }
-    ensures { IfOk result (λ v. vec_len v ≡ vec_len shares) }
+    ensures length { IfOk result (λ v. vec_len v ≡ vec_len shares) }
+    ensures numbers { IfOk result (λ v. map (λ s. s.worker) v.items ≡ range_with_len 1 (vec_len shares)) }
 {
     let mut slots = Vec::with_capacity(alloc, shares.len())?;
     while let Some(share) = shares.pop() {
@@ -145,7 +147,7 @@ pub(crate) fn start_all<
     slots
 }
 
-/// Shares, tickets and rows of all slots, which go into room that was taken before.
+/// Shares, tickets and rows of all slots, in capacity that was allocated before.
 pub(crate) fn take_apart<L: Ledger, J: Naming>(
     mut slots: Vec<Slot<L, J>>,
     mut shares: Vec<Share<L>>,

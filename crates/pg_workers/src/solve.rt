@@ -37,7 +37,7 @@ pub struct Outcome {
     pub report: Vec<ReportRow>,
 }
 
-/// What a board tells once everything is settled.
+/// What a board has once everything is settled.
 fn outcome_of(
     alloc: Global,
     mut board: Board<'_>,
@@ -51,7 +51,7 @@ fn outcome_of(
     let Some(solution) = board.solution(alloc)? else {
         unreachable!()
     };
-    // for the proof: a look at the board tells that its journal is lawful
+    // for the proof: reading the board gives that its journal is lawful
     let _game = board.game();
     Ok(Outcome {
         solution,
@@ -172,7 +172,7 @@ fn solve_on<L: Ledger + Send + Sync, G: Gate, F: Finder, R: Threads + Wait + Syn
 
 /// Solves a game by as many workers as can be started, of 1 to 64, each on a thread of its own, and settles what they leave.
 /// What is known is posted before any worker starts, as worker 0: Even's set and then Odd's, where not empty. Of a vertex
-/// behind the last known row nothing is known. A known set that is no region is answered by the refusal of its post.
+/// after the last known row nothing is known. A known set that is no region is answered by the refusal of its post.
 /// For every number of workers, gate and finder the entries are a lawful journal of the game, the solution is their
 /// state, and the report has a row for each job, in order.
 pub fn solve_game<R: Threads + Wait + Sync>(

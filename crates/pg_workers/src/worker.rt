@@ -53,10 +53,11 @@ pub(crate) struct Slot<L: Ledger, J: Naming> {
     ghost settled: { share ≡ settled_in rows.items },
     ghost numbers: { map (λ r. r.job) rows.items ≡ ticket.numbers },
     ghost done: { All (IsDrawnRow J.workers) rows.items },
+    ghost own: { All (λ r. r.worker ≡ Some worker) rows.items },
     ghost room: { J.series.total ≤ vec_capacity rows },
 }
 
-/// What all workers of a run are told.
+/// What all workers of a run share.
 #[derive(Drop)]
 pub(crate) struct Task<'x, G, F> {
     pub options: &'x Options,
@@ -107,7 +108,7 @@ fn post<L: Ledger, R: Wait>(
     row.note(answer);
 }
 
-/// Has all claims settled in order, and notes the answers. Every claim counts as posted, stale or refused where memory was
+/// Has all claims settled in order, and notes the results. Every claim counts as posted, stale or refused where memory was
 /// not refused.
 fn post_all<L: Ledger, R: Wait>(
     rt: &R,
@@ -147,7 +148,7 @@ fn search<'g, L: Ledger, F: Finder, R: Wait>(
     Ok((found, copied.inside.game()))
 }
 
-/// Has a copy searched for the job of this number and tells the gate.
+/// Has a copy searched for the job of this number and calls the gate.
 fn search_job<'g, L: Ledger, G: Gate, F: Finder, R: Wait>(
     rt: &R,
     alloc: Global,

@@ -1,7 +1,7 @@
-//! Tests of `pg_board` and `pg_workers`. They stand in one crate, since what a check takes before its first proof is a fifth of
+//! Tests of `pg_board` and `pg_workers`. They are in one crate, since what a check takes before its first proof is a fifth of
 //! what the tests of one library take.
 
-// As `assert_eq!` and `assert!`; what stands last says where, as a value.
+// As `assert_eq!` and `assert!`; the last argument says where, as a value.
 macro_rules! check_eq {
     ($rt:expr; $found:expr, $want:expr $(,)?) => {
         $crate::tests::asserting::same(&$rt, $found, $want, stringify!($found))

@@ -10,7 +10,7 @@ last_count = 2 ^ 64 - 1
 abbrev pub CountsFailure : {A E : Type 0} → ℕ → ℕ → Result A E → Type 0
 CountsFailure old new r = MatchResult r (λ _. new ≡ old) (λ _. new ≡ min (old + 1) last_count)
 
--- there was a failure, or the count stood at its last value
+-- there was a failure, or the count was at its last value
 abbrev pub HasFailed : ℕ → ℕ → Type 0
 HasFailed old new = (old < new) ⊎ (last_count ≤ old)
 

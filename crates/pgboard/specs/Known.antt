@@ -6,7 +6,7 @@ use Rattle.pg_game.specs.Graph.{Graph}
 use Rattle.pg_text.specs.Known.{KnownRows, IsKnownTextOf}
 use Rattle.pg_text.specs.Reading.{max_text}
 
--- the bytes that a source has left, where it can tell; where no source is given there are none
+-- the bytes that a source has left, where they are known; where no source is given there are none
 abbrev pub left_in : {S : Type 0} → (S → Option (List ℕ)) → Option (MutBor S) → Option (List ℕ)
 left_in left None = Some []
 left_in left (Some source) = left source.now

@@ -9,7 +9,7 @@ use Rattle.pgboard.specs.Device.{HasFailed, AppendsPrefix}
 use Rattle.pgboard.specs.declared.fault.RunFault.{RunFault}
 use Rattle.pgboard.specs.declared.fault.RunFault.TheVariants as fault
 
--- the text that a source had, where it could tell, is within the limit and one of the game
+-- the text that a source had, where it is known, is within the limit and one of the game
 abbrev pub IsReadGame : Option (List ℕ) → Graph → Type 0
 IsReadGame known g = IfSome known (λ text. (length text ≤ max_text) × IsTextOf text g)
 

@@ -45,7 +45,7 @@ fn solve_from<I: Source, S: Source, O: Sink, R: Threads + Wait + Sync>(
     }
 }
 
-/// Runs what was asked for, and answers the status. The second source has the solution where one is verified and what
+/// Runs what was asked for, and returns the status. The second source has the solution where one is verified and what
 /// is known where it was given, and is not read otherwise.
 pub fn run_asked<I: Source, S: Source, O: Sink, R: Threads + Wait + Sync>(
     rt: &R,

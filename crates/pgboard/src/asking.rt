@@ -31,7 +31,7 @@ pub enum Asked {
         known: Option<String>,
         game: Option<String>,
     },
-    /// To tell how a game is solved by 1 to 64 workers. Without a path, that of standard input.
+    /// To show how a game is solved by 1 to 64 workers. Without a path, that of standard input.
     Trace {
         workers: u32,
         game: Option<String>,

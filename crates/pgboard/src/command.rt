@@ -136,7 +136,7 @@ fn game<'a>(alloc: Global) -> Arg<'a> {
     )
 }
 
-/// A path, taken as it stands.
+/// A path, taken literally.
 fn path<'a>(alloc: Global, name: &'a str, help: &'a str) -> Arg<'a> {
     Arg::new(alloc, name).help(help)
 }

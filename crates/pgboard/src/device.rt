@@ -12,7 +12,7 @@ pub struct Failed;
 
 /// Where bytes come from.
 pub trait Source {
-    /// The bytes that are left, where it can tell.
+    /// The bytes that are left, where they are known.
     ghost left: { Self → Option (List ℕ) };
 
     /// How often it failed. The count stays at its last value.
@@ -31,7 +31,7 @@ pub trait Source {
 
 /// Where bytes go.
 pub trait Sink {
-    /// The bytes that were taken, where it can tell.
+    /// The bytes that were taken, where they are known.
     ghost taken: { Self → Option (List ℕ) };
 
     /// How often it failed. The count stays at its last value.

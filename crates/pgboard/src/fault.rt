@@ -82,7 +82,7 @@ impl AskedFault {
     {
         match String::from_str(alloc, text) {
             Ok(text) => AskedFault::Words(text),
-            Err(_) => AskedFault::Memory,
+            Err(error) => AskedFault::from(error),
         }
     }
 

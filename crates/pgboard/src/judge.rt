@@ -31,7 +31,7 @@ fn verdict_on(alloc: Global, game: &Game, solution: &Solution) -> Result<Verdict
 }
 
 /// What is said of the winners and choices that a text spells. The game is given up, so that a caller's proof has no field
-/// of it to let go.
+/// of it to drop.
 pub fn verdict_of(alloc: Global, game: Game, text: &[u8]) -> Result<Verdict, RunFault>
     requires { length text.now ≤ max_text }
     ensures verdict { IfOk result (λ verdict. IsVerdictOn game text.now verdict) }
@@ -41,7 +41,7 @@ pub fn verdict_of(alloc: Global, game: Game, text: &[u8]) -> Result<Verdict, Run
     verdict_on(alloc, &game, &solution)
 }
 
-/// The same of the text of a source, which is let go before the winners and choices are judged.
+/// The same of the text of a source, which is freed before the winners and choices are judged.
 pub fn verdict_from<S: Source>(
     alloc: Global,
     game: Game,

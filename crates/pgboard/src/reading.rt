@@ -30,7 +30,7 @@ fn make_room(text: &mut Vec<u8>, filled: usize) -> Result<(), AllocError>
     Ok(())
 }
 
-/// One read, to the places behind those that are filled.
+/// One read, to the places after those that are filled.
 fn read_behind<S: Source>(source: &mut S, text: &mut [u8], filled: usize) -> Result<usize, Failed>
     requires { filled < length text.old }
     ensures prefix { take filled text.new ≡ take filled text.old }
@@ -43,7 +43,7 @@ fn read_behind<S: Source>(source: &mut S, text: &mut [u8], filled: usize) -> Res
     source.read(&mut text[filled..])
 }
 
-/// All bytes that a source has left, read into a buffer that is empty and may have room.
+/// All bytes that a source has left, read into a buffer that is empty and may have capacity.
 fn read_into<S: Source>(source: &mut S, buffer: Vec<u8>) -> Result<Vec<u8>, RunFault>
     requires { buffer.items ≡ [] }
     ensures text { IfOk result (λ text. IfSome (S.left source.old) (λ bytes. text.items ≡ bytes)) }

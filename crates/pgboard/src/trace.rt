@@ -202,7 +202,7 @@ fn put_total(out: &mut Vec<u8>, report: &[ReportRow]) -> Result<(), AllocError>
     put(out, b"\n")
 }
 
-/// How many bytes a trace has at most. Room for so many is taken once, so that nothing written is moved.
+/// How many bytes a trace has at most. Capacity for so many is allocated once, so that nothing written is moved.
 fn trace_room(entries: &[Entry], report: &[ReportRow]) -> usize {
     let mut room = OTHERS.saturating_add(JOB.saturating_mul(report.len()));
     for entry in entries {

@@ -1,46 +1,83 @@
 -- What the calls on arrays answer, and why they refuse: the first reason that applies, for the least vertex.
-use Rattle.std.specs.Prelude.{ℕ, ◌≡◌, List, length, Some}
+use Rattle.std.specs.Prelude.{◌≡◌, ◌≢◌, ◌+◌, length, slice_index, Some}
 use Rattle.pg_game.specs.Graph.{Graph}
 use Rattle.pg_game.specs.Specification.{first_fault}
 use Rattle.pg_game.specs.Least.{NoneHas, IsLeast}
 use Rattle.pg_text.specs.Solution.{SolutionRows, IsSolution, IsExactSolution}
 use Rattle.pg_dominion.specs.Verdict.{FailsBy}
+use Rattle.pgboard_c.specs.declared.fault.ArrayName.{ArrayName}
+use Rattle.pgboard_c.specs.declared.fault.ArrayName.TheVariants as array_name
+use Rattle.pgboard_c.specs.declared.fault.Structure.TheVariants as structure
 use Rattle.pgboard_c.specs.declared.fault.Fault.{Fault}
 use Rattle.pgboard_c.specs.declared.fault.Fault.TheVariants as fault
-use Rattle.pgboard_c.specs.Arrays.{GameArrays, HaveLengths, IsBadRow, IsBadOwner, IsBadPriority, AreWellFormed, array_specs, IsGameOfArrays, AreResults}
-use Rattle.pgboard_c.specs.Arrays.{IsBadWinner}
+use Rattle.pgboard_c.specs.Numbers.{structure_size}
+use Rattle.pgboard_c.specs.Arrays.{GameArrays, HaveLengths, IsBadRow, IsBadOwner, IsBadPriority, AreWellFormed, array_specs, IsGameOfArrays}
+use Rattle.pgboard_c.specs.Arrays.{ResultArrays, AreResults, IsBadWinner}
+
+-- a start for each vertex and one more, from 0 on
+abbrev pub HaveStarts : GameArrays → Type 0
+HaveStarts a = (length a.starts ≡ length a.owners + 1) × (slice_index a.starts 0 ≡ 0)
+
+-- the first array that doesn't fit those before it
+abbrev pub IsMisfit : GameArrays → ArrayName → Type 0
+IsMisfit a array_name.Priorities = length a.priorities ≢ length a.owners
+IsMisfit a array_name.Starts = (length a.priorities ≡ length a.owners) × (HaveStarts a → ⊥)
+IsMisfit a array_name.Targets =
+    (length a.priorities ≡ length a.owners) × HaveStarts a × (slice_index a.starts (length a.owners) ≢ length a.targets)
+IsMisfit a array_name.Winners = ⊥
+IsMisfit a array_name.Choices = ⊥
 
 -- why arrays say no game; out of memory says nothing of them
 abbrev pub IsArraysFault : GameArrays → Fault → Type 0
 IsArraysFault a fault.Memory = Unit {0}
-IsArraysFault a fault.Lengths = HaveLengths a → ⊥
+IsArraysFault a (fault.Size structure.Game) = a.size ≢ structure_size structure.Game
+IsArraysFault a (fault.Lengths name) = (a.size ≡ structure_size structure.Game) × IsMisfit a name
 IsArraysFault a (fault.Row v) = HaveLengths a × IsLeast (IsBadRow a) v
 IsArraysFault a (fault.Owner v) = HaveLengths a × NoneHas (IsBadRow a) × IsLeast (IsBadOwner a) v
 IsArraysFault a (fault.Priority v) = HaveLengths a × NoneHas (IsBadRow a) × NoneHas (IsBadOwner a) × IsLeast (IsBadPriority a) v
 IsArraysFault a (fault.Game f) = AreWellFormed a × (first_fault (array_specs a) ≡ Some f)
 IsArraysFault a other = ⊥
 
--- one entry for each vertex
-abbrev pub HaveSize : Graph → ℕ → ℕ → Type 0
-HaveSize g winners choices = (winners ≡ length g) × (choices ≡ length g)
+-- the struct has its size, and one entry for each vertex in each array
+abbrev pub HaveSize : Graph → ResultArrays → Type 0
+HaveSize g r = (r.size ≡ structure_size structure.Results) × (length r.winners ≡ length g) × (length r.choices ≡ length g)
+
+-- the first of the two arrays that has another length
+abbrev pub IsResultMisfit : Graph → ResultArrays → ArrayName → Type 0
+IsResultMisfit g r array_name.Winners = length r.winners ≢ length g
+IsResultMisfit g r array_name.Choices = (length r.winners ≡ length g) × (length r.choices ≢ length g)
+IsResultMisfit g r other = ⊥
 
 -- the arrays have the one solution's winners, and with its choices they are a solution
-abbrev pub AreSolved : GameArrays → List ℕ → List ℕ → Type 0
-AreSolved a winners choices = (g : Graph) × (rows : SolutionRows) × IsGameOfArrays a g × AreResults winners choices rows × IsExactSolution g rows
+abbrev pub AreSolved : GameArrays → ResultArrays → Type 0
+AreSolved a r = (g : Graph) × (rows : SolutionRows) × IsGameOfArrays a g × AreResults r.winners r.choices rows × IsExactSolution g rows
 
--- why solving gave nothing, where there is room for so many winners and choices
-abbrev pub IsArraysSolveFault : GameArrays → ℕ → ℕ → Fault → Type 0
-IsArraysSolveFault a winners choices fault.Results = (g : Graph) × IsGameOfArrays a g × (HaveSize g winners choices → ⊥)
-IsArraysSolveFault a winners choices other = IsArraysFault a other
+-- why the struct for results has no place for the game's vertices
+abbrev pub AreUnfitResults : Graph → ResultArrays → Fault → Type 0
+AreUnfitResults g r (fault.Size structure.Results) = r.size ≢ structure_size structure.Results
+AreUnfitResults g r (fault.Results name) = (r.size ≡ structure_size structure.Results) × IsResultMisfit g r name
+AreUnfitResults g r other = ⊥
+
+-- why solving gave nothing, where these were the results before
+abbrev pub IsSolveFault : GameArrays → ResultArrays → Fault → Type 0
+IsSolveFault a r (fault.Size structure.Results) = (g : Graph) × IsGameOfArrays a g × AreUnfitResults g r (fault.Size structure.Results)
+IsSolveFault a r (fault.Results name) = (g : Graph) × IsGameOfArrays a g × AreUnfitResults g r (fault.Results name)
+IsSolveFault a r other = IsArraysFault a other
+
+-- why a solution's struct has not winners and choices of the game's vertices
+abbrev pub IsUnfitSolution : Graph → ResultArrays → Fault → Type 0
+IsUnfitSolution g s (fault.Size structure.Solution) = s.size ≢ structure_size structure.Solution
+IsUnfitSolution g s (fault.Solution name) = (s.size ≡ structure_size structure.Solution) × IsResultMisfit g s name
+IsUnfitSolution g s other = ⊥
 
 -- the arrays are a solution
-abbrev pub AreSolution : GameArrays → List ℕ → List ℕ → Type 0
-AreSolution a winners choices = (g : Graph) × (rows : SolutionRows) × IsGameOfArrays a g × AreResults winners choices rows × IsSolution g rows
+abbrev pub AreSolution : GameArrays → ResultArrays → Type 0
+AreSolution a s = (g : Graph) × (rows : SolutionRows) × IsGameOfArrays a g × AreResults s.winners s.choices rows × IsSolution g rows
 
 -- why they are none, or say none
-abbrev pub IsCheckFault : GameArrays → List ℕ → List ℕ → Fault → Type 0
-IsCheckFault a winners choices fault.Results = (g : Graph) × IsGameOfArrays a g × (HaveSize g (length winners) (length choices) → ⊥)
-IsCheckFault a winners choices (fault.Winner v) =
-    (g : Graph) × IsGameOfArrays a g × HaveSize g (length winners) (length choices) × IsLeast (IsBadWinner winners) v
-IsCheckFault a winners choices (fault.Verdict f) = (g : Graph) × (rows : SolutionRows) × IsGameOfArrays a g × AreResults winners choices rows × FailsBy g rows f
-IsCheckFault a winners choices other = IsArraysFault a other
+abbrev pub IsCheckFault : GameArrays → ResultArrays → Fault → Type 0
+IsCheckFault a s (fault.Size structure.Solution) = (g : Graph) × IsGameOfArrays a g × IsUnfitSolution g s (fault.Size structure.Solution)
+IsCheckFault a s (fault.Solution name) = (g : Graph) × IsGameOfArrays a g × IsUnfitSolution g s (fault.Solution name)
+IsCheckFault a s (fault.Winner v) = (g : Graph) × IsGameOfArrays a g × HaveSize g s × IsLeast (IsBadWinner s.winners) v
+IsCheckFault a s (fault.Verdict f) = (g : Graph) × (rows : SolutionRows) × IsGameOfArrays a g × AreResults s.winners s.choices rows × FailsBy g rows f
+IsCheckFault a s other = IsArraysFault a other

@@ -9,25 +9,36 @@ use Rattle.pg_game.specs.Specification.{IsGameOf, max_number}
 use Rattle.pg_game.specs.Least.{NoneHas}
 use Rattle.pg_text.specs.GameText.{player_of}
 use Rattle.pg_text.specs.Solution.{SolutionRows, winner_of, choice_of}
+use Rattle.pgboard_c.specs.declared.arrays.Arrays.{Arrays}
+use Rattle.pgboard_c.specs.declared.results.Results.{Results}
+use Rattle.pgboard_c.specs.declared.results.SolutionArrays.{SolutionArrays}
+use Rattle.pgboard_c.specs.declared.fault.Structure.TheVariants as structure
+use Rattle.pgboard_c.specs.Numbers.{structure_size}
 
--- vertex v has the targets from starts[v] on, before starts[v + 1]
+-- vertex v has the targets from starts[v] on, before starts[v + 1]; the size is the one that the struct says
 pub record GameArrays : Type 0 where
+  pub size : ℕ
   pub owners : List ℕ
   pub priorities : List ℕ
   pub starts : List ℕ
   pub targets : List ℕ
 
+abbrev pub game_arrays : Arrays → GameArrays
+game_arrays a = record { size = a.size; owners = a.owners.now; priorities = a.priorities.now; starts = a.starts.now; targets = a.targets.now }
+
 abbrev pub targets_of : GameArrays → ℕ → List ℕ
 targets_of a v = slice_range a.targets (slice_index a.starts v) (slice_index a.starts (v + 1))
 
--- the arrays fit one another: an owner, a priority and a start for each vertex, and one start more; from 0 to the number of targets
+-- the struct has its size, and the arrays fit one another: an owner, a priority and a start for each vertex, and one start more; from 0
+-- to the number of targets
 pub record HaveLengths (a : GameArrays) : Type 0 where
+  pub size : a.size ≡ structure_size structure.Game
   pub priorities : length a.priorities ≡ length a.owners
   pub starts : length a.starts ≡ length a.owners + 1
   pub first : slice_index a.starts 0 ≡ 0
   pub last : slice_index a.starts (length a.owners) ≡ length a.targets
 
--- the vertex's row ends before it begins, or behind the targets
+-- the vertex's row ends before it begins, or after the targets
 abbrev pub IsBadRow : GameArrays → ℕ → Type 0
 IsBadRow a v = (v < length a.owners) × ((slice_index a.starts (v + 1) < slice_index a.starts v) ⊎ (length a.targets < slice_index a.starts (v + 1)))
 
@@ -59,12 +70,28 @@ array_specs a = specs_below a (length a.owners)
 abbrev pub IsGameOfArrays : GameArrays → Graph → Type 0
 IsGameOfArrays a g = AreWellFormed a × IsGame g × IsGameOf (array_specs a) g
 
--- the number that stands where there is no choice
+-- the number where there is no choice
 abbrev pub no_choice : ℕ
 no_choice = 4294967295
 
 abbrev pub choice_from : ℕ → Option ℕ
 choice_from n = if n == no_choice then None else Some n
+
+-- winners and choices; the size is the one that the struct says
+pub record ResultArrays : Type 0 where
+  pub size : ℕ
+  pub winners : List ℕ
+  pub choices : List ℕ
+
+abbrev pub solution_arrays : SolutionArrays → ResultArrays
+solution_arrays s = record { size = s.size; winners = s.winners.now; choices = s.choices.now }
+
+abbrev pub result_arrays : Results → ResultArrays
+result_arrays r = record { size = r.size; winners = r.winners.now; choices = r.choices.now }
+
+-- the struct says the same size and has the same two slices; what these have may differ
+abbrev pub IsSameStruct : Results → Results → Type 0
+IsSameStruct old new = (new.size ≡ old.size) × (new.winners.ghost_name ≡ old.winners.ghost_name) × (new.choices.ghost_name ≡ old.choices.ghost_name)
 
 -- winners as digits, and choices, of all vertices
 pub record AreResults (winners choices : List ℕ) (rows : SolutionRows) : Type 0 where

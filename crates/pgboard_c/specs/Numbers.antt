@@ -1,5 +1,5 @@
--- The number of each answer, and what is said beside it.
-use Rattle.std.specs.Prelude.{ℕ}
+-- The number of each answer, and what is reported beside it: a table with one line for each fault.
+use Rattle.std.specs.Prelude.{ℕ, ◌≡◌}
 use Rattle.pg_game.specs.declared.game.GameFault.{GameFault}
 use Rattle.pg_game.specs.declared.game.GameFault.TheVariants as game
 use Rattle.pg_dominion.specs.declared.solution.SolutionFault.{SolutionFault}
@@ -8,119 +8,106 @@ use Rattle.pg_text.specs.declared.fault.TextFault.{TextFault}
 use Rattle.pg_text.specs.declared.fault.TextFault.TheVariants as text
 use Rattle.pg_text.specs.declared.fault.SolutionTextFault.{SolutionTextFault}
 use Rattle.pg_text.specs.declared.fault.SolutionTextFault.TheVariants as solution
+use Rattle.pgboard_c.specs.declared.fault.ArrayName.{ArrayName}
+use Rattle.pgboard_c.specs.declared.fault.ArrayName.TheVariants as array_name
+use Rattle.pgboard_c.specs.declared.fault.Structure.{Structure}
+use Rattle.pgboard_c.specs.declared.fault.Structure.TheVariants as structure
+use Rattle.pgboard_c.specs.declared.fault.KnownFault.{KnownFault}
+use Rattle.pgboard_c.specs.declared.fault.KnownFault.TheVariants as known
 use Rattle.pgboard_c.specs.declared.fault.Fault.{Fault}
 use Rattle.pgboard_c.specs.declared.fault.Fault.TheVariants as fault
+use Rattle.pgboard_c.specs.declared.fault.Answer.{Answer}
+use Rattle.pgboard_c.specs.declared.fault.Report.{Report}
 
-abbrev pub game_number : GameFault → ℕ
-game_number game.NoVertex = 10
-game_number game.TooManyVertices = 11
-game_number (game.Twice id) = 12
-game_number (game.NoSuccessor id) = 13
-game_number game.TooManyEdges = 14
-game_number (game.Unknown id to) = 15
-game_number game.Memory = 1
+-- version 0.1.0, as major * 10000 + minor * 100 + patch
+abbrev pub version : ℕ
+version = 100
 
-abbrev pub verdict_number : SolutionFault → ℕ
-verdict_number (verdict.NoChoice id) = 20
-verdict_number (verdict.BadChoice id) = 21
-verdict_number (verdict.Leaves id to) = 22
-verdict_number (verdict.Cycle id) = 23
-verdict_number verdict.Memory = 1
+abbrev pub array_number : ArrayName → ℕ
+array_number array_name.Priorities = 1
+array_number array_name.Starts = 2
+array_number array_name.Targets = 3
+array_number array_name.Winners = 4
+array_number array_name.Choices = 5
 
-abbrev pub text_number : TextFault → ℕ
-text_number (text.Lexical at) = 31
-text_number (text.Syntax at) = 32
-text_number (text.Number at) = 33
-text_number (text.Owner at) = 34
-text_number (text.Game f) = game_number f
-text_number text.Memory = 1
+abbrev pub structure_number : Structure → ℕ
+structure_number structure.Game = 1
+structure_number structure.Solution = 2
+structure_number structure.Results = 3
 
-abbrev pub solution_number : SolutionTextFault → ℕ
-solution_number (solution.Lexical at) = 41
-solution_number (solution.Syntax at) = 42
-solution_number (solution.Number at) = 43
-solution_number (solution.Winner at) = 44
-solution_number (solution.Stranger id) = 45
-solution_number (solution.Twice id) = 46
-solution_number (solution.Missing id) = 47
-solution_number solution.Memory = 1
+-- the bytes of a struct
+abbrev pub structure_size : Structure → ℕ
+structure_size structure.Game = 72
+structure_size structure.Solution = 40
+structure_size structure.Results = 40
 
--- the answer
-abbrev pub answer_number : Fault → ℕ
-answer_number fault.Memory = 1
-answer_number fault.Lengths = 2
-answer_number (fault.Row v) = 3
-answer_number (fault.Owner v) = 4
-answer_number (fault.Priority v) = 5
-answer_number fault.Results = 6
-answer_number (fault.Winner v) = 7
-answer_number (fault.Game f) = game_number f
-answer_number (fault.Verdict f) = verdict_number f
-answer_number fault.GameTooLong = 30
-answer_number (fault.GameText f) = text_number f
-answer_number fault.SolutionTooLong = 40
-answer_number (fault.SolutionText f) = solution_number f
-answer_number (fault.Room size) = 50
+abbrev pub answer : ℕ → ℕ → ℕ → Answer
+answer number at to = record { number = number; at = at; to = to }
 
-abbrev pub game_at : GameFault → ℕ
-game_at (game.Twice id) = id
-game_at (game.NoSuccessor id) = id
-game_at (game.Unknown id to) = id
-game_at other = 0
+abbrev pub game_answer : GameFault → Answer
+game_answer game.NoVertex = answer 10 0 0
+game_answer game.TooManyVertices = answer 11 0 0
+game_answer (game.Twice id) = answer 12 id 0
+game_answer (game.NoSuccessor id) = answer 13 id 0
+game_answer game.TooManyEdges = answer 14 0 0
+game_answer (game.Unknown id to) = answer 15 id to
+game_answer game.Memory = answer 1 0 0
 
-abbrev pub verdict_at : SolutionFault → ℕ
-verdict_at (verdict.NoChoice id) = id
-verdict_at (verdict.BadChoice id) = id
-verdict_at (verdict.Leaves id to) = id
-verdict_at (verdict.Cycle id) = id
-verdict_at other = 0
+abbrev pub verdict_answer : SolutionFault → Answer
+verdict_answer (verdict.NoChoice id) = answer 20 id 0
+verdict_answer (verdict.BadChoice id) = answer 21 id 0
+verdict_answer (verdict.Leaves id to) = answer 22 id to
+verdict_answer (verdict.Cycle id) = answer 23 id 0
+verdict_answer verdict.Memory = answer 1 0 0
 
-abbrev pub text_at : TextFault → ℕ
-text_at (text.Lexical at) = at
-text_at (text.Syntax at) = at
-text_at (text.Number at) = at
-text_at (text.Owner at) = at
-text_at (text.Game f) = game_at f
-text_at other = 0
+abbrev pub known_answer : KnownFault → Answer
+known_answer (known.Choice v) = answer 60 v 0
+known_answer (known.Cycle v) = answer 61 v 0
+known_answer (known.Lost v) = answer 62 v 0
+known_answer (known.Leaves v w) = answer 63 v w
 
-abbrev pub solution_at : SolutionTextFault → ℕ
-solution_at (solution.Lexical at) = at
-solution_at (solution.Syntax at) = at
-solution_at (solution.Number at) = at
-solution_at (solution.Winner at) = at
-solution_at (solution.Stranger id) = id
-solution_at (solution.Twice id) = id
-solution_at (solution.Missing id) = id
-solution_at other = 0
+abbrev pub text_answer : TextFault → Answer
+text_answer (text.Lexical at) = answer 31 at 0
+text_answer (text.Syntax at) = answer 32 at 0
+text_answer (text.Number at) = answer 33 at 0
+text_answer (text.Owner at) = answer 34 at 0
+text_answer (text.Game f) = game_answer f
+text_answer text.Memory = answer 1 0 0
 
--- the vertex, the place in a text or the size that the answer is about
-abbrev pub at_of : Fault → ℕ
-at_of (fault.Row v) = v
-at_of (fault.Owner v) = v
-at_of (fault.Priority v) = v
-at_of (fault.Winner v) = v
-at_of (fault.Game f) = game_at f
-at_of (fault.Verdict f) = verdict_at f
-at_of (fault.GameText f) = text_at f
-at_of (fault.SolutionText f) = solution_at f
-at_of (fault.Room size) = size
-at_of other = 0
+abbrev pub solution_answer : SolutionTextFault → Answer
+solution_answer (solution.Lexical at) = answer 41 at 0
+solution_answer (solution.Syntax at) = answer 42 at 0
+solution_answer (solution.Number at) = answer 43 at 0
+solution_answer (solution.Winner at) = answer 44 at 0
+solution_answer (solution.Stranger id) = answer 45 id 0
+solution_answer (solution.Twice id) = answer 46 id 0
+solution_answer (solution.Missing id) = answer 47 id 0
+solution_answer solution.Memory = answer 1 0 0
 
-abbrev pub game_to : GameFault → ℕ
-game_to (game.Unknown id to) = to
-game_to other = 0
+-- the number of the answer, and what it is about: vertices, a place in a text, a size, or an array or a struct by its number
+abbrev pub answer_of : Fault → Answer
+answer_of fault.Memory = answer 1 0 0
+answer_of (fault.Lengths a) = answer 2 (array_number a) 0
+answer_of (fault.Row v) = answer 3 v 0
+answer_of (fault.Owner v) = answer 4 v 0
+answer_of (fault.Priority v) = answer 5 v 0
+answer_of (fault.Results a) = answer 6 (array_number a) 0
+answer_of (fault.Winner v) = answer 7 v 0
+answer_of (fault.Solution a) = answer 8 (array_number a) 0
+answer_of (fault.Size s) = answer 9 (structure_number s) (structure_size s)
+answer_of (fault.Game f) = game_answer f
+answer_of (fault.Verdict f) = verdict_answer f
+answer_of (fault.Known f) = known_answer f
+answer_of fault.GameTooLong = answer 30 0 0
+answer_of (fault.GameText f) = text_answer f
+answer_of fault.SolutionTooLong = answer 40 0 0
+answer_of (fault.SolutionText f) = solution_answer f
+answer_of (fault.Room size) = answer 50 size 0
 
-abbrev pub verdict_to : SolutionFault → ℕ
-verdict_to (verdict.Leaves id to) = to
-verdict_to other = 0
+-- the answer is the fault's number, and its places are reported
+abbrev pub IsReported : Fault → ℕ → Report → Type 0
+IsReported fault number report = answer_of fault ≡ answer number report.at report.to
 
-abbrev pub text_to : TextFault → ℕ
-text_to (text.Game f) = game_to f
-text_to other = 0
-
--- the second vertex that the answer is about
-abbrev pub to_of : Fault → ℕ
-to_of (fault.Game f) = game_to f
-to_of (fault.Verdict f) = verdict_to f
-to_of (fault.GameText f) = text_to f
-to_of other = 0
+-- nothing is reported
+abbrev pub IsBlank : Report → Type 0
+IsBlank report = (report.at ≡ 0) × (report.to ≡ 0)

@@ -1,5 +1,5 @@
 -- What the calls on texts answer, and why they refuse.
-use Rattle.std.specs.Prelude.{ℕ, ◌≡◌, ◌<◌, ◌≤◌, List, length, take}
+use Rattle.std.specs.Prelude.{ℕ, ◌≡◌, ◌<◌, ◌≤◌, ◌++◌, List, length, drop}
 use Rattle.pg_game.specs.Graph.{Graph}
 use Rattle.pg_text.specs.Solution.{SolutionRows, IsSolution, IsExactSolution}
 use Rattle.pg_text.specs.Reading.{max_text, IsTextOf, IsFaultOf, IsSolutionTextOf, IsSolutionFaultOf}
@@ -8,9 +8,9 @@ use Rattle.pg_dominion.specs.Verdict.{FailsBy}
 use Rattle.pgboard_c.specs.declared.fault.Fault.{Fault}
 use Rattle.pgboard_c.specs.declared.fault.Fault.TheVariants as fault
 
--- the first bytes of the buffer are the text
-abbrev pub BeginsWith : List ℕ → ℕ → List ℕ → Type 0
-BeginsWith buffer size text = (size ≡ length text) × (take size buffer ≡ text)
+-- the text is at the front of the buffer, and after it is what was there before
+abbrev pub IsWritten : List ℕ → List ℕ → ℕ → List ℕ → Type 0
+IsWritten old new size text = (size ≡ length text) × (new ≡ text ++ drop size old)
 
 -- a solution of the game that a text spells, with a choice exactly where the winner owns the vertex
 abbrev pub IsSolvedText : List ℕ → List ℕ → Type 0
@@ -27,7 +27,7 @@ IsRefusedGameText text fault.GameTooLong = max_text < length text
 IsRefusedGameText text (fault.GameText f) = (length text ≤ max_text) × IsFaultOf text f
 IsRefusedGameText text other = ⊥
 
--- why a text gives no answer of the kind, where there is so much room
+-- why a text gives no answer of the kind, where the buffer has so many bytes
 abbrev pub IsTextFault : (List ℕ → List ℕ → Type 0) → List ℕ → ℕ → Fault → Type 0
 IsTextFault Is text room (fault.Room size) = (answer : List ℕ) × Is text answer × (size ≡ length answer) × (room < size)
 IsTextFault Is text room other = IsRefusedGameText text other

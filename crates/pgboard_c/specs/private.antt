@@ -1,2 +1,2 @@
--- Definitions that only private functions and proofs cite: no public contract stands on them.
+-- Definitions that only private functions and proofs cite: no public contract uses them.
 pub mod Put

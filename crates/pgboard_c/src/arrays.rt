@@ -3,13 +3,13 @@ ghost use Rattle.std.specs.Prelude.{◌≡◌, ◌<◌, ◌≤◌, length, slice
 ghost use Rattle.pg_game.specs.Specification.{AreNumbers};
 ghost use Rattle.pg_game.specs.Least.{NoneHas, IsLeast};
 ghost use Rattle.pg_text.specs.GameText.{player_of};
-ghost use Rattle.pgboard_c.specs.Arrays.{HaveLengths, IsBadRow, IsBadOwner, IsBadPriority, AreWellFormed, targets_of, array_specs, IsGameOfArrays};
+ghost use Rattle.pgboard_c.specs.Arrays.{game_arrays, HaveLengths, IsBadRow, IsBadOwner, IsBadPriority, AreWellFormed, targets_of, array_specs};
+ghost use Rattle.pgboard_c.specs.Arrays.{IsGameOfArrays};
 ghost use Rattle.pgboard_c.specs.Answers.{IsArraysFault};
 
-use crate::fault::Fault;
+use crate::fault::{ArrayName, Fault, Structure};
 use pg_game::{Game, GameFault, Memory, Player, Specs};
 use std::alloc::Global;
-use std::marker::Model;
 
 /// The greatest priority.
 const MAX_NUMBER: u32 = 2_147_483_647;
@@ -18,57 +18,43 @@ const MAX_NUMBER: u32 = 2_147_483_647;
 const MAX_IDS: usize = 2_147_483_648;
 
 /// Owners, priorities, and the targets of all edges in rows: vertex `v` has those from `starts[v]` on, before
-/// `starts[v + 1]`.
-#[derive(Drop)]
+/// `starts[v + 1]`. The size is that of this struct, by which a later version knows what is in it.
+#[repr(C)]
 pub struct Arrays<'a> {
-    owners: &'a [u8],
-    priorities: &'a [u32],
-    starts: &'a [u32],
-    targets: &'a [u32],
-}
-
-impl<'a> Model for Arrays<'a> {
-    ghost use Rattle.pgboard_c.specs.Arrays.{GameArrays};
-
-    ghost Value = { GameArrays };
-
-    ghost view = { λ a. record { owners = a.owners.now; priorities = a.priorities.now; starts = a.starts.now; targets = a.targets.now } };
+    pub size: usize,
+    pub owners: &'a [u8],
+    pub priorities: &'a [u32],
+    pub starts: &'a [u32],
+    pub targets: &'a [u32],
 }
 
 impl<'a> Arrays<'a> {
-    pub fn new(
-        owners: &'a [u8],
-        priorities: &'a [u32],
-        starts: &'a [u32],
-        targets: &'a [u32],
-    ) -> Arrays<'a>
-        ensures { result ≡ record { owners = owners.now; priorities = priorities.now; starts = starts.now; targets = targets.now } }
+    /// Whether the struct has its size, and the arrays fit one another.
+    fn check_lengths(&self) -> Result<(), Fault>
+        ensures fit { OnOk result (HaveLengths (game_arrays self.now)) }
+        ensures fault { IfErr result (λ e. IsArraysFault (game_arrays self.now) e) }
     {
-        Arrays {
-            owners,
-            priorities,
-            starts,
-            targets,
+        if self.size != Structure::Game.size() {
+            return Err(Fault::Size(Structure::Game));
         }
-    }
-
-    /// Whether the arrays fit one another.
-    fn have_lengths(&self) -> bool
-        ensures fit { IsTrue result → HaveLengths self.now }
-        ensures unfit { IsFalse result → HaveLengths self.now → ⊥ }
-    {
         let n = self.owners.len();
-        if self.priorities.len() != n || self.starts.is_empty() || self.starts.len() - 1 != n {
-            return false;
+        if self.priorities.len() != n {
+            return Err(Fault::Lengths(ArrayName::Priorities));
         }
-        self.starts[0] == 0 && self.starts[n] as usize == self.targets.len()
+        if self.starts.is_empty() || self.starts.len() - 1 != n || self.starts[0] != 0 {
+            return Err(Fault::Lengths(ArrayName::Starts));
+        }
+        if self.starts[n] as usize != self.targets.len() {
+            return Err(Fault::Lengths(ArrayName::Targets));
+        }
+        Ok(())
     }
 
     fn is_bad_row(&self, v: usize) -> bool
-        requires lengths { HaveLengths self.now }
-        requires vertex { v < length self.now.owners }
-        ensures bad { IsTrue result → IsBadRow self.now v }
-        ensures good { IsFalse result → IsBadRow self.now v → ⊥ }
+        requires lengths { HaveLengths (game_arrays self.now) }
+        requires vertex { v < length self.now.owners.now }
+        ensures bad { IsTrue result → IsBadRow (game_arrays self.now) v }
+        ensures good { IsFalse result → IsBadRow (game_arrays self.now) v → ⊥ }
     {
         // read for the proof alone: a slice's length bounds its places
         let _n = self.starts.len();
@@ -79,8 +65,8 @@ impl<'a> Arrays<'a> {
 
     /// The first vertex whose row is no part of the targets.
     fn first_bad_row(&self) -> Option<usize>
-        requires { HaveLengths self.now }
-        ensures { MatchOption result (NoneHas (IsBadRow self.now)) (IsLeast (IsBadRow self.now)) }
+        requires { HaveLengths (game_arrays self.now) }
+        ensures { MatchOption result (NoneHas (IsBadRow (game_arrays self.now))) (IsLeast (IsBadRow (game_arrays self.now))) }
     {
         for v in 0..self.owners.len() {
             if self.is_bad_row(v) {
@@ -92,7 +78,7 @@ impl<'a> Arrays<'a> {
 
     /// The first vertex whose owner is neither 0 nor 1.
     fn first_bad_owner(&self) -> Option<usize>
-        ensures { MatchOption result (NoneHas (IsBadOwner self.now)) (IsLeast (IsBadOwner self.now)) }
+        ensures { MatchOption result (NoneHas (IsBadOwner (game_arrays self.now))) (IsLeast (IsBadOwner (game_arrays self.now))) }
     {
         for v in 0..self.owners.len() {
             if self.owners[v] > 1 {
@@ -104,8 +90,8 @@ impl<'a> Arrays<'a> {
 
     /// The first vertex whose priority is too large.
     fn first_bad_priority(&self) -> Option<usize>
-        requires { HaveLengths self.now }
-        ensures { MatchOption result (NoneHas (IsBadPriority self.now)) (IsLeast (IsBadPriority self.now)) }
+        requires { HaveLengths (game_arrays self.now) }
+        ensures { MatchOption result (NoneHas (IsBadPriority (game_arrays self.now))) (IsLeast (IsBadPriority (game_arrays self.now))) }
     {
         for v in 0..self.owners.len() {
             if self.priorities[v] > MAX_NUMBER {
@@ -117,12 +103,10 @@ impl<'a> Arrays<'a> {
 
     /// Refused where the arrays can be no game's, whatever the edges.
     fn check(&self) -> Result<(), Fault>
-        ensures formed { OnOk result (AreWellFormed self.now) }
-        ensures fault { IfErr result (λ e. IsArraysFault self.now e) }
+        ensures formed { OnOk result (AreWellFormed (game_arrays self.now)) }
+        ensures fault { IfErr result (λ e. IsArraysFault (game_arrays self.now) e) }
     {
-        if !self.have_lengths() {
-            return Err(Fault::Lengths);
-        }
+        self.check_lengths()?;
         if let Some(v) = self.first_bad_row() {
             return Err(Fault::Row(v));
         }
@@ -136,8 +120,8 @@ impl<'a> Arrays<'a> {
     }
 
     fn owner(&self, v: usize) -> Player
-        requires { v < length self.now.owners }
-        ensures { result ≡ player_of (slice_index self.now.owners v) }
+        requires { v < length self.now.owners.now }
+        ensures { result ≡ player_of (slice_index self.now.owners.now v) }
     {
         if self.owners[v] == 0 {
             Player::Even
@@ -147,9 +131,9 @@ impl<'a> Arrays<'a> {
     }
 
     fn row(&self, v: usize) -> &[u32]
-        requires formed { AreWellFormed self.now }
-        requires vertex { v < length self.now.owners }
-        ensures { result.now ≡ targets_of self.now v }
+        requires formed { AreWellFormed (game_arrays self.now) }
+        requires vertex { v < length self.now.owners.now }
+        ensures { result.now ≡ targets_of (game_arrays self.now) v }
     {
         // read for the proof alone, as above
         let _n = self.starts.len();
@@ -158,15 +142,15 @@ impl<'a> Arrays<'a> {
         &self.targets[from..to]
     }
 
-    /// What the arrays say of the vertices. `Memory` is its one refusal.
+    /// What the arrays say of the vertices. The only error is `Memory`.
     fn specs(&self, alloc: Global) -> Result<Specs, Memory>
-        requires formed { AreWellFormed self.now }
-        requires few { length self.now.owners ≤ 2147483648 }
-        ensures specs { IfOk result (λ specs. specs ≡ array_specs self.now) }
+        requires formed { AreWellFormed (game_arrays self.now) }
+        requires few { length self.now.owners.now ≤ 2147483648 }
+        ensures specs { IfOk result (λ specs. specs ≡ array_specs (game_arrays self.now)) }
         ensures numbers { IfOk result (λ specs. All AreNumbers specs) }
     {
         let n = self.owners.len();
-        let mut specs = Specs::with_capacity(alloc, n as u32, self.starts[n])?;
+        let mut specs = Specs::with_capacity(alloc, n, self.starts[n] as usize)?;
         for v in 0..n {
             specs.push(v as u32, self.priorities[v], self.owner(v), self.row(v))?;
         }
@@ -175,8 +159,8 @@ impl<'a> Arrays<'a> {
 
     /// The game that the arrays say.
     pub fn game(&self, alloc: Global) -> Result<Game, Fault>
-        ensures game { IfOk result (λ g. IsGameOfArrays self.now g) }
-        ensures fault { IfErr result (λ e. IsArraysFault self.now e) }
+        ensures game { IfOk result (λ g. IsGameOfArrays (game_arrays self.now) g) }
+        ensures fault { IfErr result (λ e. IsArraysFault (game_arrays self.now) e) }
     {
         self.check()?;
         if self.owners.len() > MAX_IDS {

@@ -1,34 +1,109 @@
-//! Why a call gave nothing, or what is wrong with winners and choices, and the numbers that say so.
+//! Why a call gave nothing, or what is wrong with winners and choices, and what is reported of it.
 ghost use Rattle.std.specs.Prelude.{◌≡◌, ◌<◌};
-ghost use Rattle.pgboard_c.specs.Numbers.{game_number, verdict_number, text_number, solution_number, answer_number};
-ghost use Rattle.pgboard_c.specs.Numbers.{game_at, verdict_at, text_at, solution_at, at_of, game_to, verdict_to, text_to, to_of};
+ghost use Rattle.pgboard_c.specs.Numbers.{answer, array_number, structure_number, structure_size};
+ghost use Rattle.pgboard_c.specs.Numbers.{game_answer, verdict_answer, known_answer, text_answer, solution_answer, answer_of, IsReported, IsBlank};
 
 use pg_dominion::SolutionFault;
 use pg_game::GameFault;
 use pg_text::{SolutionTextFault, TextFault};
 use std::alloc::AllocError;
 
-/// Why a call gave nothing, or what is wrong with winners and choices. Vertices are told by their numbers.
+/// An array that has not the length that the others ask for.
+#[derive(Clone, Copy, Drop)]
+pub enum ArrayName {
+    Priorities,
+    Starts,
+    Targets,
+    Winners,
+    Choices,
+}
+
+impl ArrayName {
+    /// The number by which the array is reported.
+    fn number(self) -> u64
+        ensures { result ≡ array_number self }
+    {
+        match self {
+            ArrayName::Priorities => 1,
+            ArrayName::Starts => 2,
+            ArrayName::Targets => 3,
+            ArrayName::Winners => 4,
+            ArrayName::Choices => 5,
+        }
+    }
+}
+
+/// A struct of the C face that says its own size.
+#[derive(Clone, Copy, Drop)]
+pub enum Structure {
+    Game,
+    Solution,
+    Results,
+}
+
+impl Structure {
+    /// The number by which the struct is reported.
+    fn number(self) -> u64
+        ensures { result ≡ structure_number self }
+    {
+        match self {
+            Structure::Game => 1,
+            Structure::Solution => 2,
+            Structure::Results => 3,
+        }
+    }
+
+    /// The size of the struct in bytes: a size and some slices, each a pointer and a length.
+    pub fn size(self) -> usize
+        ensures { result ≡ structure_size self }
+    {
+        match self {
+            Structure::Game => 72,
+            Structure::Solution | Structure::Results => 40,
+        }
+    }
+}
+
+/// Why what is known of a player's vertices is no region of his.
+#[derive(Clone, Copy, Drop)]
+pub enum KnownFault {
+    /// The first vertex that its owner is known to win, without a choice that is a successor.
+    Choice(u32),
+    /// The vertex has the opponent's parity and is the greatest on a closed walk of kept edges.
+    Cycle(u32),
+    /// Even attracts the vertex to what is known for him, and it is known for Odd.
+    Lost(u32),
+    /// A kept edge leads out of the known set.
+    Leaves(u32, u32),
+}
+
+/// Why a call gave nothing, or what is wrong with winners and choices. Vertices are named by their numbers.
 #[derive(Clone, Copy, Drop)]
 pub enum Fault {
     /// Memory was refused.
     Memory,
-    /// The arrays of a game don't fit one another.
-    Lengths,
+    /// The struct says another size than the one that is known here.
+    Size(Structure),
+    /// The array of a game doesn't fit those before it.
+    Lengths(ArrayName),
     /// The first vertex whose row isn't a part of the targets.
     Row(usize),
     /// The first vertex whose owner is neither 0 nor 1.
     Owner(usize),
     /// The first vertex whose priority is above 2,147,483,647.
     Priority(usize),
-    /// The arrays of winners and choices have not one entry for each vertex.
-    Results,
+    /// The array for results has not one entry for each vertex.
+    Results(ArrayName),
+    /// The array of a solution has not one entry for each vertex.
+    Solution(ArrayName),
     /// The first vertex whose winner is neither 0 nor 1.
     Winner(usize),
     /// The arrays or the text make no game. Never `GameFault::Memory`.
     Game(GameFault),
     /// The winners and choices are no solution. Never `SolutionFault::Memory`.
     Verdict(SolutionFault),
+    /// What is known doesn't hold.
+    Known(KnownFault),
     /// The game's text is longer than 268,435,456 bytes.
     GameTooLong,
     /// The text is no game's. Never `TextFault::Memory`.
@@ -37,7 +112,7 @@ pub enum Fault {
     SolutionTooLong,
     /// The text is no solution text of the game. Never `SolutionTextFault::Memory`.
     SolutionText(SolutionTextFault),
-    /// There is less room than the text takes, whose size this is.
+    /// The buffer is smaller than the text, whose size this is.
     Room(usize),
 }
 
@@ -52,255 +127,143 @@ impl From<AllocError> for Fault {
     }
 }
 
-/// The answer for a game's fault.
-fn game_number(fault: GameFault) -> u32
-    ensures number { result ≡ game_number fault }
-    ensures above { 0 < result }
-{
-    match fault {
-        GameFault::NoVertex => 10,
-        GameFault::TooManyVertices => 11,
-        GameFault::Twice(_) => 12,
-        GameFault::NoSuccessor(_) => 13,
-        GameFault::TooManyEdges => 14,
-        GameFault::Unknown(..) => 15,
-        GameFault::Memory => 1,
-    }
+/// What is reported of a fault: the number of the answer, and the two places that it is about. A place that it doesn't name is 0.
+#[derive(Clone, Copy)]
+pub struct Answer {
+    pub number: u32,
+    pub at: u64,
+    pub to: u64,
 }
 
-/// The vertex that a game's fault names, or 0.
-fn game_at(fault: GameFault) -> u64
-    ensures { result ≡ game_at fault }
-{
-    match fault {
-        GameFault::Twice(id) => u64::from(id),
-        GameFault::NoSuccessor(id) => u64::from(id),
-        GameFault::Unknown(id, _) => u64::from(id),
-        GameFault::NoVertex => 0,
-        GameFault::TooManyVertices => 0,
-        GameFault::TooManyEdges => 0,
-        GameFault::Memory => 0,
-    }
-}
-
-/// The successor that a game's fault names, or 0.
-fn game_to(fault: GameFault) -> u64
-    ensures { result ≡ game_to fault }
-{
-    match fault {
-        GameFault::Unknown(_, id) => u64::from(id),
-        GameFault::Twice(_) => 0,
-        GameFault::NoSuccessor(_) => 0,
-        GameFault::NoVertex => 0,
-        GameFault::TooManyVertices => 0,
-        GameFault::TooManyEdges => 0,
-        GameFault::Memory => 0,
-    }
-}
-
-/// The answer for what is wrong with winners and choices.
-fn verdict_number(fault: SolutionFault) -> u32
-    ensures number { result ≡ verdict_number fault }
-    ensures above { 0 < result }
-{
-    match fault {
-        SolutionFault::NoChoice(_) => 20,
-        SolutionFault::BadChoice(_) => 21,
-        SolutionFault::Leaves(..) => 22,
-        SolutionFault::Cycle(_) => 23,
-        SolutionFault::Memory => 1,
-    }
-}
-
-/// The vertex that is wrong, or 0.
-fn verdict_at(fault: SolutionFault) -> u64
-    ensures { result ≡ verdict_at fault }
-{
-    match fault {
-        SolutionFault::NoChoice(id) => u64::from(id),
-        SolutionFault::BadChoice(id) => u64::from(id),
-        SolutionFault::Leaves(id, _) => u64::from(id),
-        SolutionFault::Cycle(id) => u64::from(id),
-        SolutionFault::Memory => 0,
-    }
-}
-
-/// The vertex to which it leaves, or 0.
-fn verdict_to(fault: SolutionFault) -> u64
-    ensures { result ≡ verdict_to fault }
-{
-    match fault {
-        SolutionFault::Leaves(_, id) => u64::from(id),
-        SolutionFault::NoChoice(_) => 0,
-        SolutionFault::BadChoice(_) => 0,
-        SolutionFault::Cycle(_) => 0,
-        SolutionFault::Memory => 0,
-    }
-}
-
-/// The answer for a fault of a game's text.
-fn text_number(fault: TextFault) -> u32
-    ensures number { result ≡ text_number fault }
-    ensures above { 0 < result }
-{
-    match fault {
-        TextFault::Lexical(_) => 31,
-        TextFault::Syntax(_) => 32,
-        TextFault::Number(_) => 33,
-        TextFault::Owner(_) => 34,
-        TextFault::Game(fault) => game_number(fault),
-        TextFault::Memory => 1,
-    }
-}
-
-/// The place in the text or the vertex that the fault names, or 0.
-fn text_at(fault: TextFault) -> u64
-    ensures { result ≡ text_at fault }
-{
-    match fault {
-        TextFault::Lexical(at) => u64::from(at),
-        TextFault::Syntax(at) => u64::from(at),
-        TextFault::Number(at) => u64::from(at),
-        TextFault::Owner(at) => u64::from(at),
-        TextFault::Game(fault) => game_at(fault),
-        TextFault::Memory => 0,
-    }
-}
-
-/// The successor that the fault names, or 0.
-fn text_to(fault: TextFault) -> u64
-    ensures { result ≡ text_to fault }
-{
-    match fault {
-        TextFault::Game(fault) => game_to(fault),
-        TextFault::Lexical(_) => 0,
-        TextFault::Syntax(_) => 0,
-        TextFault::Number(_) => 0,
-        TextFault::Owner(_) => 0,
-        TextFault::Memory => 0,
-    }
-}
-
-/// The answer for a fault of a solution's text.
-fn solution_number(fault: SolutionTextFault) -> u32
-    ensures number { result ≡ solution_number fault }
-    ensures above { 0 < result }
-{
-    match fault {
-        SolutionTextFault::Lexical(_) => 41,
-        SolutionTextFault::Syntax(_) => 42,
-        SolutionTextFault::Number(_) => 43,
-        SolutionTextFault::Winner(_) => 44,
-        SolutionTextFault::Stranger(_) => 45,
-        SolutionTextFault::Twice(_) => 46,
-        SolutionTextFault::Missing(_) => 47,
-        SolutionTextFault::Memory => 1,
-    }
-}
-
-/// The place in the text or the vertex that the fault names, or 0.
-fn solution_at(fault: SolutionTextFault) -> u64
-    ensures { result ≡ solution_at fault }
-{
-    match fault {
-        SolutionTextFault::Lexical(at) => u64::from(at),
-        SolutionTextFault::Syntax(at) => u64::from(at),
-        SolutionTextFault::Number(at) => u64::from(at),
-        SolutionTextFault::Winner(at) => u64::from(at),
-        SolutionTextFault::Stranger(id) => u64::from(id),
-        SolutionTextFault::Twice(id) => u64::from(id),
-        SolutionTextFault::Missing(id) => u64::from(id),
-        SolutionTextFault::Memory => 0,
-    }
-}
-
-impl Fault {
-    /// The answer of a call.
-    fn number(self) -> u32
-        ensures number { result ≡ answer_number self }
-        ensures above { 0 < result }
+impl Answer {
+    fn new(number: u32, at: u64, to: u64) -> Answer
+        ensures { result ≡ answer number at to }
     {
-        match self {
-            Fault::Memory => 1,
-            Fault::Lengths => 2,
-            Fault::Row(_) => 3,
-            Fault::Owner(_) => 4,
-            Fault::Priority(_) => 5,
-            Fault::Results => 6,
-            Fault::Winner(_) => 7,
-            Fault::Game(fault) => game_number(fault),
-            Fault::Verdict(fault) => verdict_number(fault),
-            Fault::GameTooLong => 30,
-            Fault::GameText(fault) => text_number(fault),
-            Fault::SolutionTooLong => 40,
-            Fault::SolutionText(fault) => solution_number(fault),
-            Fault::Room(_) => 50,
+        Answer { number, at, to }
+    }
+
+    fn of_game(fault: GameFault) -> Answer
+        ensures answer { result ≡ game_answer fault }
+        ensures above { 0 < result.number }
+    {
+        match fault {
+            GameFault::NoVertex => Answer::new(10, 0, 0),
+            GameFault::TooManyVertices => Answer::new(11, 0, 0),
+            GameFault::Twice(id) => Answer::new(12, u64::from(id), 0),
+            GameFault::NoSuccessor(id) => Answer::new(13, u64::from(id), 0),
+            GameFault::TooManyEdges => Answer::new(14, 0, 0),
+            GameFault::Unknown(id, to) => Answer::new(15, u64::from(id), u64::from(to)),
+            GameFault::Memory => Answer::new(1, 0, 0),
         }
     }
 
-    /// The vertex, place or size that the answer is about, or 0.
-    fn at(self) -> u64
-        ensures { result ≡ at_of self }
+    fn of_verdict(fault: SolutionFault) -> Answer
+        ensures answer { result ≡ verdict_answer fault }
+        ensures above { 0 < result.number }
     {
-        match self {
-            Fault::Memory => 0,
-            Fault::Lengths => 0,
-            Fault::Row(v) => v as u64,
-            Fault::Owner(v) => v as u64,
-            Fault::Priority(v) => v as u64,
-            Fault::Results => 0,
-            Fault::Winner(v) => v as u64,
-            Fault::Game(fault) => game_at(fault),
-            Fault::Verdict(fault) => verdict_at(fault),
-            Fault::GameTooLong => 0,
-            Fault::GameText(fault) => text_at(fault),
-            Fault::SolutionTooLong => 0,
-            Fault::SolutionText(fault) => solution_at(fault),
-            Fault::Room(size) => size as u64,
+        match fault {
+            SolutionFault::NoChoice(id) => Answer::new(20, u64::from(id), 0),
+            SolutionFault::BadChoice(id) => Answer::new(21, u64::from(id), 0),
+            SolutionFault::Leaves(id, to) => Answer::new(22, u64::from(id), u64::from(to)),
+            SolutionFault::Cycle(id) => Answer::new(23, u64::from(id), 0),
+            SolutionFault::Memory => Answer::new(1, 0, 0),
         }
     }
 
-    /// The second vertex that the answer is about, or 0.
-    fn to(self) -> u64
-        ensures { result ≡ to_of self }
+    fn of_known(fault: KnownFault) -> Answer
+        ensures answer { result ≡ known_answer fault }
+        ensures above { 0 < result.number }
     {
-        match self {
-            Fault::Memory => 0,
-            Fault::Lengths => 0,
-            Fault::Row(_) => 0,
-            Fault::Owner(_) => 0,
-            Fault::Priority(_) => 0,
-            Fault::Results => 0,
-            Fault::Winner(_) => 0,
-            Fault::Game(fault) => game_to(fault),
-            Fault::Verdict(fault) => verdict_to(fault),
-            Fault::GameTooLong => 0,
-            Fault::GameText(fault) => text_to(fault),
-            Fault::SolutionTooLong => 0,
-            Fault::SolutionText(_) => 0,
-            Fault::Room(_) => 0,
+        match fault {
+            KnownFault::Choice(v) => Answer::new(60, u64::from(v), 0),
+            KnownFault::Cycle(v) => Answer::new(61, u64::from(v), 0),
+            KnownFault::Lost(v) => Answer::new(62, u64::from(v), 0),
+            KnownFault::Leaves(v, w) => Answer::new(63, u64::from(v), u64::from(w)),
+        }
+    }
+
+    fn of_text(fault: TextFault) -> Answer
+        ensures answer { result ≡ text_answer fault }
+        ensures above { 0 < result.number }
+    {
+        match fault {
+            TextFault::Lexical(at) => Answer::new(31, u64::from(at), 0),
+            TextFault::Syntax(at) => Answer::new(32, u64::from(at), 0),
+            TextFault::Number(at) => Answer::new(33, u64::from(at), 0),
+            TextFault::Owner(at) => Answer::new(34, u64::from(at), 0),
+            TextFault::Game(fault) => Answer::of_game(fault),
+            TextFault::Memory => Answer::new(1, 0, 0),
+        }
+    }
+
+    fn of_solution(fault: SolutionTextFault) -> Answer
+        ensures answer { result ≡ solution_answer fault }
+        ensures above { 0 < result.number }
+    {
+        match fault {
+            SolutionTextFault::Lexical(at) => Answer::new(41, u64::from(at), 0),
+            SolutionTextFault::Syntax(at) => Answer::new(42, u64::from(at), 0),
+            SolutionTextFault::Number(at) => Answer::new(43, u64::from(at), 0),
+            SolutionTextFault::Winner(at) => Answer::new(44, u64::from(at), 0),
+            SolutionTextFault::Stranger(id) => Answer::new(45, u64::from(id), 0),
+            SolutionTextFault::Twice(id) => Answer::new(46, u64::from(id), 0),
+            SolutionTextFault::Missing(id) => Answer::new(47, u64::from(id), 0),
+            SolutionTextFault::Memory => Answer::new(1, 0, 0),
+        }
+    }
+
+    /// The report of each fault: here and in those above a fault gives its number and its places once.
+    fn of(fault: Fault) -> Answer
+        ensures answer { result ≡ answer_of fault }
+        ensures above { 0 < result.number }
+    {
+        match fault {
+            Fault::Memory => Answer::new(1, 0, 0),
+            Fault::Lengths(array) => Answer::new(2, array.number(), 0),
+            Fault::Row(v) => Answer::new(3, v as u64, 0),
+            Fault::Owner(v) => Answer::new(4, v as u64, 0),
+            Fault::Priority(v) => Answer::new(5, v as u64, 0),
+            Fault::Results(array) => Answer::new(6, array.number(), 0),
+            Fault::Winner(v) => Answer::new(7, v as u64, 0),
+            Fault::Solution(array) => Answer::new(8, array.number(), 0),
+            Fault::Size(it) => Answer::new(9, it.number(), it.size() as u64),
+            Fault::Game(fault) => Answer::of_game(fault),
+            Fault::Verdict(fault) => Answer::of_verdict(fault),
+            Fault::Known(fault) => Answer::of_known(fault),
+            Fault::GameTooLong => Answer::new(30, 0, 0),
+            Fault::GameText(fault) => Answer::of_text(fault),
+            Fault::SolutionTooLong => Answer::new(40, 0, 0),
+            Fault::SolutionText(fault) => Answer::of_solution(fault),
+            Fault::Room(size) => Answer::new(50, size as u64, 0),
         }
     }
 }
 
-/// What is said beside an answer. A number that an answer doesn't name is 0.
+/// What is said beside an answer.
 #[repr(C)]
 #[derive(Clone, Copy)]
-pub struct Told {
+pub struct Report {
     /// The vertex, the place in a text or the size that the answer is about.
     pub at: u64,
     /// The second vertex.
     pub to: u64,
 }
 
-/// Says the fault, and gives its number.
-pub fn tell(told: &mut Told, fault: Fault) -> u32
-    ensures number { result ≡ answer_number fault }
+/// Tells the fault, and gives its number.
+pub fn report_fault(report: &mut Report, fault: Fault) -> u32
+    ensures report { IsReported fault result report.new }
     ensures above { 0 < result }
-    ensures at { told.new.at ≡ at_of fault }
-    ensures to { told.new.to ≡ to_of fault }
 {
-    told.at = fault.at();
-    told.to = fault.to();
-    fault.number()
+    let Answer { number, at, to } = Answer::of(fault);
+    *report = Report { at, to };
+    number
+}
+
+/// Tells that there is no fault, whose number is 0.
+pub fn report_none(report: &mut Report) -> u32
+    ensures answer { result ≡ 0 }
+    ensures blank { IsBlank report.new }
+{
+    *report = Report { at: 0, to: 0 };
+    0
 }

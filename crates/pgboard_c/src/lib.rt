@@ -5,7 +5,9 @@
 
 mod arrays;
 mod fault;
+mod known;
 mod on_arrays;
 mod on_texts;
 mod results;
 mod solving;
+mod version;

@@ -1,13 +1,13 @@
-//! The exports on texts in PGSolver's formats, which stand in the caller's memory.
+//! The exports on texts in PGSolver's formats, which are in the caller's memory.
 ghost use Rattle.std.specs.Prelude.{◌≡◌, ◌≢◌, ◌<◌, ℕ, List, length, IfOk, OnOk, OnErr, IfErr};
 ghost use Rattle.pg_game.specs.Graph.{IsGame};
 ghost use Rattle.pg_text.specs.Solution.{SolutionRows, IsSolution};
 ghost use Rattle.pg_text.specs.Reading.{IsTextOf, IsSolutionTextOf};
 ghost use Rattle.pgboard_c.specs.declared.fault.Fault.{Fault};
-ghost use Rattle.pgboard_c.specs.Numbers.{answer_number, at_of, to_of};
-ghost use Rattle.pgboard_c.specs.Texts.{BeginsWith, IsSolvedText, IsTidyText, IsRefusedGameText, IsTextFault, AreVerified, IsVerifyFault};
+ghost use Rattle.pgboard_c.specs.Numbers.{IsReported, IsBlank};
+ghost use Rattle.pgboard_c.specs.Texts.{IsWritten, IsSolvedText, IsTidyText, IsRefusedGameText, IsTextFault, AreVerified, IsVerifyFault};
 
-use crate::fault::{Fault, Told, tell};
+use crate::fault::{Fault, Report, report_fault, report_none};
 use crate::solving::solution_of;
 use pg_dominion::{SolutionFault, check_solution};
 use pg_game::Game;
@@ -31,9 +31,9 @@ fn game_of(alloc: Global, text: &[u8]) -> Result<Game, Fault>
     }
 }
 
-/// Copies the text to the front of the buffer, and answers its size.
+/// Copies the text to the front of the buffer, and returns its size.
 fn put(text: &[u8], into: &mut [u8]) -> Result<usize, Fault>
-    ensures held { IfOk result (λ n. BeginsWith into.new n text.now) }
+    ensures held { IfOk result (λ n. IsWritten into.old into.new n text.now) }
     ensures small { IfErr result (λ e. (e ≡ Fault.Room (length text.now)) × (length into.old < length text.now)) }
     ensures kept { OnErr result (into.new ≡ into.old) }
 {
@@ -45,9 +45,9 @@ fn put(text: &[u8], into: &mut [u8]) -> Result<usize, Fault>
     Ok(n)
 }
 
-/// Writes a solution of the game that a text spells, and answers its size.
+/// Writes a solution of the game that a text spells, and returns its size.
 fn solve(alloc: Global, text: &[u8], into: &mut [u8]) -> Result<usize, Fault>
-    ensures solved { IfOk result (λ n. (answer : List ℕ) × IsSolvedText text.now answer × BeginsWith into.new n answer) }
+    ensures solved { IfOk result (λ n. (answer : List ℕ) × IsSolvedText text.now answer × IsWritten into.old into.new n answer) }
     ensures fault { IfErr result (λ e. IsTextFault IsSolvedText text.now (length into.old) e) }
     ensures kept { OnErr result (into.new ≡ into.old) }
 {
@@ -57,9 +57,9 @@ fn solve(alloc: Global, text: &[u8], into: &mut [u8]) -> Result<usize, Fault>
     put(answer.as_slice(), into)
 }
 
-/// Writes the game that a text spells in its one written form, and answers its size.
+/// Writes the game that a text spells in its one written form, and returns its size.
 fn tidy(alloc: Global, text: &[u8], into: &mut [u8]) -> Result<usize, Fault>
-    ensures tidied { IfOk result (λ n. (answer : List ℕ) × IsTidyText text.now answer × BeginsWith into.new n answer) }
+    ensures tidied { IfOk result (λ n. (answer : List ℕ) × IsTidyText text.now answer × IsWritten into.old into.new n answer) }
     ensures fault { IfErr result (λ e. IsTextFault IsTidyText text.now (length into.old) e) }
     ensures kept { OnErr result (into.new ≡ into.old) }
 {
@@ -97,70 +97,71 @@ fn verify(alloc: Global, game: &[u8], solution: &[u8]) -> Result<(), Fault>
     verify_on(alloc, &game, solution)
 }
 
-/// Solves the game that a text spells: writes a solution's text to the front of the buffer, and tells its size. The
-/// answer is 0, or why there is none; then only `told` is written.
+/// Solves the game that a text spells: writes a solution's text to the front of the buffer, and its size. The answer is 0,
+/// and then nothing is reported, or why there is none; then only `report` is written.
 #[unsafe(no_mangle)]
 pub extern "C" fn pgboard_solve_text(
     alloc: Global,
     game: &[u8],
     into: &mut [u8],
-    told: &mut Told,
+    size: &mut usize,
+    report: &mut Report,
 ) -> u32
-    ensures solved { result ≡ 0 → (answer : List ℕ) × IsSolvedText game.now answer × BeginsWith into.new told.new.at answer }
-    ensures refused { result ≢ 0 → (e : Fault) × (result ≡ answer_number e) × (told.new.at ≡ at_of e) × (told.new.to ≡ to_of e)
-        × IsTextFault IsSolvedText game.now (length into.old) e }
+    ensures solved { result ≡ 0 → (answer : List ℕ) × IsSolvedText game.now answer × IsWritten into.old into.new size.new answer }
+    ensures blank { result ≡ 0 → IsBlank report.new }
+    ensures refused { result ≢ 0 → (e : Fault) × IsReported e result report.new × IsTextFault IsSolvedText game.now (length into.old) e }
     ensures kept { result ≢ 0 → into.new ≡ into.old }
+    ensures size_kept { result ≢ 0 → size.new ≡ size.old }
 {
     match solve(alloc, game, into) {
-        Ok(size) => {
-            told.at = size as u64;
-            told.to = 0;
-            0
+        Ok(written) => {
+            *size = written;
+            report_none(report)
         }
-        Err(fault) => tell(told, fault),
+        Err(fault) => report_fault(report, fault),
     }
 }
 
-/// Writes the game that a text spells in its one written form to the front of the buffer, and tells its size. The
-/// answer is 0, or why there is none; then only `told` is written.
+/// Writes the game that a text spells in its one written form to the front of the buffer, and its size. The answer is 0,
+/// and then nothing is reported, or why there is none; then only `report` is written.
 #[unsafe(no_mangle)]
 pub extern "C" fn pgboard_tidy_text(
     alloc: Global,
     game: &[u8],
     into: &mut [u8],
-    told: &mut Told,
+    size: &mut usize,
+    report: &mut Report,
 ) -> u32
-    ensures tidied { result ≡ 0 → (answer : List ℕ) × IsTidyText game.now answer × BeginsWith into.new told.new.at answer }
-    ensures refused { result ≢ 0 → (e : Fault) × (result ≡ answer_number e) × (told.new.at ≡ at_of e) × (told.new.to ≡ to_of e)
-        × IsTextFault IsTidyText game.now (length into.old) e }
+    ensures tidied { result ≡ 0 → (answer : List ℕ) × IsTidyText game.now answer × IsWritten into.old into.new size.new answer }
+    ensures blank { result ≡ 0 → IsBlank report.new }
+    ensures refused { result ≢ 0 → (e : Fault) × IsReported e result report.new × IsTextFault IsTidyText game.now (length into.old) e }
     ensures kept { result ≢ 0 → into.new ≡ into.old }
+    ensures size_kept { result ≢ 0 → size.new ≡ size.old }
 {
     match tidy(alloc, game, into) {
-        Ok(size) => {
-            told.at = size as u64;
-            told.to = 0;
-            0
+        Ok(written) => {
+            *size = written;
+            report_none(report)
         }
-        Err(fault) => tell(told, fault),
+        Err(fault) => report_fault(report, fault),
     }
 }
 
-/// Whether a text is a solution of the game that another spells: 0, or what is wrong first. Vertices are told by their
-/// identifiers.
+/// Whether a text is a solution of the game that another spells: 0, and then nothing is reported, or what is wrong first.
+/// Vertices are named by their identifiers.
 #[unsafe(no_mangle)]
 pub extern "C" fn pgboard_verify_text(
     alloc: Global,
     game: &[u8],
     solution: &[u8],
-    told: &mut Told,
+    report: &mut Report,
 ) -> u32
     ensures holds { result ≡ 0 → AreVerified game.now solution.now }
-    ensures untold { result ≡ 0 → told.new ≡ told.old }
-    ensures refused { result ≢ 0 → (e : Fault) × (result ≡ answer_number e) × (told.new.at ≡ at_of e) × (told.new.to ≡ to_of e)
-        × IsVerifyFault game.now solution.now e }
+    ensures blank { result ≡ 0 → IsBlank report.new }
+    ensures refused { result ≢ 0 → (e : Fault) × IsReported e result report.new × IsVerifyFault game.now solution.now e }
 {
     match verify(alloc, game, solution) {
-        Ok(()) => 0,
-        Err(fault) => tell(told, fault),
+        Ok(()) => report_none(report),
+        Err(fault) => report_fault(report, fault),
     }
 }

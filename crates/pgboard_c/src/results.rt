@@ -1,16 +1,75 @@
 //! Winners and choices in arrays.
-ghost use Rattle.std.specs.Prelude.{◌≡◌, ◌<◌, ◌≤◌, ℕ, length, IfOk, IfSome, MatchOption};
+ghost use Rattle.std.specs.Prelude.{◌≡◌, ◌<◌, ◌≤◌, ℕ, length, IfOk, IfErr, OnOk, IfSome, MatchOption};
 ghost use Rattle.pg_game.specs.Least.{NoneHas, IsLeast};
 ghost use Rattle.pg_game.specs.Player.{digit_of};
 ghost use Rattle.pg_text.specs.Solution.{choice_of};
-ghost use Rattle.pgboard_c.specs.Arrays.{no_choice, choice_from, AreResults, IsBadWinner};
+ghost use Rattle.pgboard_c.specs.Arrays.{no_choice, choice_from, AreResults, IsBadWinner, result_arrays, solution_arrays};
+ghost use Rattle.pgboard_c.specs.Answers.{HaveSize, AreUnfitResults, IsUnfitSolution};
 
-use pg_game::{Memory, Player, Sequence};
+use crate::fault::{ArrayName, Fault, Structure};
+use pg_game::{Game, Memory, Player, Sequence};
 use pg_text::Solution;
 use std::alloc::Global;
 
-/// What stands where there is no choice.
+/// The number where there is no choice.
 const NO_CHOICE: u32 = u32::MAX;
+
+/// Where results are written: a winner and a choice for each vertex.
+#[repr(C)]
+pub struct Results<'a> {
+    pub size: usize,
+    pub winners: &'a mut [u8],
+    pub choices: &'a mut [u32],
+}
+
+/// Winners and choices of all vertices, to be judged.
+#[repr(C)]
+pub struct SolutionArrays<'a> {
+    pub size: usize,
+    pub winners: &'a [u8],
+    pub choices: &'a [u32],
+}
+
+impl<'a> Results<'a> {
+    /// Whether the struct has its size, and the arrays an entry for each vertex of the game.
+    pub fn check_lengths(&self, game: &Game) -> Result<(), Fault>
+        ensures fit { OnOk result (HaveSize game.now (result_arrays self.now)) }
+        ensures few { OnOk result (length game.now ≤ no_choice) }
+        ensures fault { IfErr result (λ e. AreUnfitResults game.now (result_arrays self.now) e) }
+    {
+        let n = game.len() as usize;
+        if self.size != Structure::Results.size() {
+            return Err(Fault::Size(Structure::Results));
+        }
+        if self.winners.len() != n {
+            return Err(Fault::Results(ArrayName::Winners));
+        }
+        if self.choices.len() != n {
+            return Err(Fault::Results(ArrayName::Choices));
+        }
+        Ok(())
+    }
+}
+
+impl<'a> SolutionArrays<'a> {
+    /// Whether the struct has its size, and the arrays an entry for each vertex of the game.
+    pub fn check_lengths(&self, game: &Game) -> Result<(), Fault>
+        ensures fit { OnOk result (HaveSize game.now (solution_arrays self.now)) }
+        ensures fault { IfErr result (λ e. IsUnfitSolution game.now (solution_arrays self.now) e) }
+    {
+        let n = game.len() as usize;
+        if self.size != Structure::Solution.size() {
+            return Err(Fault::Size(Structure::Solution));
+        }
+        if self.winners.len() != n {
+            return Err(Fault::Solution(ArrayName::Winners));
+        }
+        if self.choices.len() != n {
+            return Err(Fault::Solution(ArrayName::Choices));
+        }
+        Ok(())
+    }
+}
 
 /// Writes the winner and the choice of each vertex.
 pub fn write_results(solution: &Solution, winners: &mut [u8], choices: &mut [u32])
@@ -54,8 +113,8 @@ fn player_of(digit: u8) -> Player
     }
 }
 
-/// The choice that stands there.
-fn choice_from(number: u32) -> Option<u32>
+/// The choice that is there.
+pub fn choice_from(number: u32) -> Option<u32>
     ensures { result ≡ choice_from number }
 {
     if number == NO_CHOICE {
@@ -65,7 +124,7 @@ fn choice_from(number: u32) -> Option<u32>
     }
 }
 
-/// The winners and choices that stand in the arrays. `Memory` is its one refusal.
+/// The winners and choices that are in the arrays. The only error is `Memory`.
 pub fn read_results(alloc: Global, winners: &[u8], choices: &[u32]) -> Result<Solution, Memory>
     requires size { length choices.now ≡ length winners.now }
     requires digits { NoneHas (IsBadWinner winners.now) }

@@ -23,7 +23,7 @@ fn put_claim(claim: &Claim, rows: &mut Vec<(Player, Option<u32>)>)
     }
 }
 
-/// The game's solution, with a choice exactly where the winner owns the vertex. `Memory` is its one refusal.
+/// The game's solution, with a choice exactly where the winner owns the vertex. The only error is `Memory`.
 pub fn solution_of(alloc: Global, game: &Game) -> Result<Solution, Memory>
     ensures { IfOk result (λ s. IsExactSolution game.now s.rows) }
 {

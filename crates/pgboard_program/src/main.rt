@@ -34,10 +34,10 @@ fn unread(alloc: Global, error: &Error) -> AskedFault
     ensures memory { error_kind error.now ≡ ErrorKind.OutOfMemory → result ≡ AskedFault.Memory }
     ensures text { Says (codes "error: an argument is not text\n") result }
 {
-    if error.kind() == ErrorKind::OutOfMemory {
-        return AskedFault::Memory;
+    match error.kind() {
+        ErrorKind::OutOfMemory => AskedFault::Memory,
+        _ => AskedFault::words(alloc, "error: an argument is not text\n"),
     }
-    AskedFault::words(alloc, "error: an argument is not text\n")
 }
 
 /// What the command line asks for.

@@ -1,7 +1,7 @@
 //! Runs over sources and sinks in memory, also such as fail, with finders that are wrong and gates that hold a worker, and
-//! what the lines of words ask for. What the built program shows as well stands in `tests/cli` at the top.
+//! what the lines of words ask for. What the built program shows as well is in `tests/cli` at the top.
 
-// As `assert_eq!` and `assert!`; what stands last says where, as a value.
+// As `assert_eq!` and `assert!`; the last argument says where, as a value.
 macro_rules! check_eq {
     ($rt:expr; $found:expr, $want:expr $(,)?) => {
         $crate::tests::asserting::same(&$rt, $found, $want, stringify!($found))

@@ -17,7 +17,7 @@ open_before r rows = union (members r.unsettled) (named rows)
 abbrev pub members_left : List Bool → ℕ
 members_left mask = sum_by (λ b. if b then 1 else 0) mask
 
--- what the rows name is settled, and there is room for rows of all that is not
+-- what the rows name is settled, and there is capacity for rows of all that is not
 pub record IsGrowing (g : Graph) (r : Regions) (rows : ClaimRows) (room : ℕ) : Type 0 where
   pub regions : AreRegions g r
   pub apart : (v : ℕ) → In (named rows) v → members r.unsettled v ≡ false

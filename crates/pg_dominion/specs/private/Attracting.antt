@@ -1,17 +1,12 @@
 -- An attraction in the making: the vertices that may still be taken, the rows so far, and at each vertex how many successors
 -- are known to be of no use.
-use Rattle.std.specs.Prelude.{ℕ, ◌≡◌, ◌≢◌, ◌≤◌, ◌<◌, ◌∷◌, ◌++◌, Bool, false, ◌⊎◌, List, length, take, get_or, slice_index, Option}
+use Rattle.std.specs.Prelude.{ℕ, ◌≡◌, ◌≢◌, ◌≤◌, ◌<◌, ◌∷◌, ◌++◌, Bool, false, ◌⊎◌, List, length, take, slice_index, Option}
 use Rattle.pg_game.specs.declared.player.Player.{Player}
 use Rattle.pg_game.specs.Graph.{Graph, owner_of, successors_of}
-use Rattle.pg_game.specs.Predecessors.{ArePredecessors}
 use Rattle.pg_game.specs.VertexSet.{VertexSet, In, members, union}
 use Rattle.pg_dominion.specs.Claim.{ClaimRows, named}
 use Rattle.pg_dominion.specs.Attraction.{IsAttractedRow}
 use Rattle.pg_dominion.specs.Area.{HasOpen}
-
--- the row has the predecessors of the vertex that the item at a place stands for
-abbrev pub IsRowAt : {A : Type 0} → (A → ℕ) → Graph → List A → ℕ → List ℕ → Type 0
-IsRowAt {A} f g xs place row = (place < length xs) × ((d : A) → ArePredecessors g (f (get_or xs place d)) row)
 
 -- the newer list begins with the older
 pub record Continues (old new : ClaimRows) : Type 0 where

@@ -1,9 +1,13 @@
 -- The edges that are kept of a game, as the private code of the checks lays them out, and its searches along them (private).
-use Rattle.std.specs.Prelude.{ℕ, ◌≡◌, ◌≢◌, ◌≤◌, ◌<◌, ◌+◌, ◌⊎◌, List, length, slice_index}
+use Rattle.std.specs.Prelude.{ℕ, ◌≡◌, ◌≢◌, ◌≤◌, ◌<◌, ◌+◌, ◌-◌, ◌^◌, ◌⊎◌, List, length, slice_index}
 use Rattle.pg_game.specs.Graph.{priority_of}
 use Rattle.pg_game.specs.Walk.{Walk}
 use Rattle.pg_dominion.specs.declared.kept.Kept.{Kept}
 use Rattle.pg_dominion.specs.KeptEdges.{Edge}
+
+-- a number of steps after which a search is given up, and not the greatest, which has no end
+abbrev pub IsBounded : ℕ → Type 0
+IsBounded most = most < 2 ^ 64 - 1
 
 -- an edge to a vertex of at most this priority
 abbrev pub EdgeUnder : Kept → ℕ → ℕ → ℕ → Type 0
@@ -34,7 +38,7 @@ pub record AreLabelled (k : Kept) (levels groups : List ℕ) : Type 0 where
 abbrev pub IsPassed : (levels groups : List ℕ) → ℕ → ℕ → ℕ → Type 0
 IsPassed levels groups top own w = (top < slice_index levels w) × (slice_index groups w ≢ own)
 
--- w stands in the queue, at its place below n
+-- w is in the queue, at its place below n
 abbrev pub IsBefore : (places queue : List ℕ) → ℕ → ℕ → Type 0
 IsBefore places queue n w = (slice_index places w < n) × (slice_index queue (slice_index places w) ≡ w)
 
@@ -50,7 +54,7 @@ pub record Searching (k : Kept) (levels groups : List ℕ) (top own : ℕ) (plac
   pub counts : (i : ℕ) → i < length queue → top < slice_index levels (slice_index queue i) → slice_index groups (slice_index queue i) ≡ own
   pub reached : (i : ℕ) → i < length queue → (slice_index queue i ≡ slice_index queue 0) ⊎ Leads k top (slice_index queue 0) (slice_index queue i)
 
--- the end of an edge from place i is passed over, or stands at a later place, or at one from the least on
+-- the end of an edge from place i is passed over, or is at a later place, or at one from the least on
 abbrev pub IsFollowed : (levels groups : List ℕ) → ℕ → ℕ → ℕ → (places queue : List ℕ) → ℕ → ℕ → Type 0
 IsFollowed levels groups top own least places queue i w =
     IsPassed levels groups top own w ⊎ (IsQueued places queue w × ((i < slice_index places w) ⊎ (least ≤ slice_index places w)))

@@ -20,7 +20,7 @@ pub struct Settled {
 }
 
 impl Settled {
-    /// Nothing is settled. There is room for so many vertices of each player.
+    /// Nothing is settled. There is capacity for so many vertices of each player.
     pub fn new(alloc: Global, n: u32) -> Result<Settled, Memory>
         ensures { IfOk result (λ settled. (p : Player) → settled_of settled p ≡ []) }
     {
@@ -118,7 +118,7 @@ impl Settled {
     }
 }
 
-/// Puts the vertices behind the list.
+/// Appends the vertices to the list.
 pub fn append_all(list: &mut Vec<u32>, vertices: &[u32]) -> Result<(), Memory>
     ensures { OnOk result (list.new.items ≡ list.old.items ++ vertices.now) }
 {

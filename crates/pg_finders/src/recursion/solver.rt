@@ -26,7 +26,7 @@ use std::alloc::Global;
 pub struct Stop {
     /// Whose attractor it is.
     player: Player,
-    /// The subgame's vertices stand before this place in the order by priority.
+    /// The subgame's vertices are before this place in the order by priority.
     place: usize,
     /// How many were settled for each player when the subgame was begun.
     even: usize,
@@ -68,7 +68,7 @@ impl Solver {
         requires subgame { IsSubgame game.now (members inside.now) }
         ensures { IfOk result (λ solver. IsRunning game.now inside.now solver solver.stops.items) }
     {
-        // Rooms are for all that may be listed, as far as that is known. Blocks below a KiB that lists outgrow are kept by the
+        // Capacities are for all that may be listed, as far as that is known. Blocks below a KiB that lists outgrow are kept by the
         // allocator of glibc, and what lies below them isn't given back to the system.
         let n = inside.count();
         let stops = Vec::with_capacity(alloc, 64)?;

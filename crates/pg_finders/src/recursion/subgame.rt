@@ -1,5 +1,5 @@
 //! A subgame in hand: its active vertices, and the plan that is being made for them. A player attracts in
-//! place: what he takes is no longer active and is listed behind what it leads to (Zielonka 1998).
+//! place: what he takes is no longer active and is listed after what it leads to (Zielonka 1998).
 
 ghost use Rattle.std.specs.Prelude.{◌≡◌, ◌<◌, ℕ, length, All, IfOk, IfSome, IsNone, OnOk};
 ghost use Rattle.pg_game.specs.Graph.{HasEdge};

@@ -7,7 +7,7 @@ use std::marker::Model;
 
 /// At most eight vertices, each with a choice or none.
 ///
-/// Most vertices that are looked for are not there, and the numbers modulo 64 tell that without a look at the rows.
+/// Most vertices that are looked for are not there, and the numbers modulo 64 show that without a look at the rows.
 #[derive(Drop)]
 pub struct Chosen {
     rows: [(u32, Option<u32>); 8],
@@ -98,7 +98,7 @@ impl Chosen {
         false
     }
 
-    /// Whether the vertex stands before the place.
+    /// Whether the vertex is before the place.
     pub fn stands_before(&self, end: usize, v: u32) -> bool
         requires { end ≤ length self.now }
         ensures found { IsTrue result → (k : ℕ) × (k < end) × (vertex_in self.now k ≡ v) }

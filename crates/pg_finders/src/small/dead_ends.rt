@@ -45,7 +45,7 @@ impl<'a> Search<'a> {
         true
     }
 
-    /// How many choices a search would try at a vertex, the last that has room, where no claim can have it: an earlier search
+    /// How many choices a search would try at a vertex, the last within the bound, where no claim can have it: an earlier search
     /// has shown that, or the vertex is a dead end.
     fn choices_at_the_end(&self, chosen: &Chosen, v: u32) -> Option<u64>
         requires size { length self.now.mask.now ≡ length self.now.game.now }
@@ -89,7 +89,7 @@ impl<'a> Search<'a> {
     }
 
     /// How many choices a search would try from the player's vertex at a place, where it is seen at once that none leads on:
-    /// no more vertex has room, or one, and this is the last that is not settled.
+    /// the bound allows no further vertex, or one, and this is the last that is not settled.
     pub fn choices_in_vain(&self, chosen: &Chosen, done: usize) -> Option<u64>
         requires bound { self.now.bound ≤ 8 }
         requires excluded { NoneHasBetween self.now.game.now

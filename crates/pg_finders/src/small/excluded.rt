@@ -18,7 +18,7 @@ impl Excluded {
         (self.low <= v) & (v < self.high)
     }
 
-    /// Takes the vertex too, where it stands right before or behind these; otherwise it alone.
+    /// Takes the vertex too, where it is the one before or after these; otherwise it alone.
     pub fn add(&mut self, v: u32)
         requires { self.old.low ≤ self.old.high }
         ensures order { self.new.low ≤ self.new.high }

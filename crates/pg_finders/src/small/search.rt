@@ -114,7 +114,7 @@ impl<'a> Search<'a> {
     {
         let v = chosen.vertex(at);
         let len = chosen.len();
-        // first, since most vertices fail for want of room
+        // first, since most vertices fail by the bound
         if !self.add_successors(chosen, v) {
             chosen.truncate(len);
             return false;

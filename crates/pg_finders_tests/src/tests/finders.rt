@@ -1,7 +1,7 @@
 //! Tests of what no clause says: that the calls answer with memory at hand, on worked games and on hostile ones; that
 //! a search goes on until its budget is used; what `Standard` gives for a job. The winners of the smallest games are
 //! compared with those of all strategies, and what small searches find with all sets of vertices with all choices,
-//! which checks the definitions that the clauses stand on.
+//! which checks the definitions that the clauses use.
 
 mod claims;
 mod dominions;

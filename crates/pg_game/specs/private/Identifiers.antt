@@ -1,13 +1,13 @@
 -- Specifications, one part of each; places of identifiers in a list of them.
-use Rattle.std.specs.Prelude.{ℕ, ◌<◌, ◌≤◌, ◌↔◌, List, [], ◌∷◌, ◌++◌, length, map, find, position, not, nat_eq, Option, None, slice_index}
-use Rattle.std.specs.Prelude.{option_to_list, Contains}
+use Rattle.std.specs.Prelude.{ℕ, ◌<◌, ◌≤◌, ◌↔◌, List, [], length, map, find, not, nat_eq, Option, None, slice_index}
+use Rattle.std.specs.Prelude.{Contains, Some, if◌then◌else◌, nat_lt}
 use Rattle.std.specs.List.{list_any}
 use Rattle.std.specs.List.Sorted.{IsStrictlyIncreasing}
 use Rattle.pg_game.specs.declared.player.Player.{Player}
 use Rattle.pg_game.specs.declared.game.Spec.{Spec}
 use Rattle.pg_game.specs.declared.game.GameFault.{GameFault}
-use Rattle.pg_game.specs.declared.game.GameFault.TheVariants.{Twice}
-use Rattle.pg_game.specs.Specification.{fault_or, first_repeated, different}
+use Rattle.pg_game.specs.declared.game.GameFault.TheVariants.{Twice, NoSuccessor, TooManyEdges, Unknown}
+use Rattle.pg_game.specs.Specification.{fault_or, first_repeated, first_without, first_unknown, edges, max_edges, different}
 
 abbrev pub ids_of : List Spec → List ℕ
 ids_of specs = map (λ s. s.id) specs
@@ -18,18 +18,22 @@ priorities_of specs = map (λ s. s.priority) specs
 abbrev pub owners_of : List Spec → List Player
 owners_of specs = map (λ s. s.owner) specs
 
--- the fault of an identifier that stands twice
-abbrev pub twice_of : List Spec → Option GameFault
-twice_of specs = fault_or (λ i. Twice i) (first_repeated [] (ids_of specs)) None
+abbrev pub successor_lists : List Spec → List (List ℕ)
+successor_lists specs = map (λ s. s.successors) specs
+
+-- the fault of an identifier that occurs twice
+abbrev pub twice_of : List ℕ → Option GameFault
+twice_of ids = fault_or (λ i. Twice i) (first_repeated [] ids) None
+
+-- the first fault of a row
+abbrev pub rows_fault : List Spec → Option GameFault
+rows_fault specs =
+    fault_or (λ i. NoSuccessor i) (first_without specs)
+    (if nat_lt max_edges (edges specs) then Some TooManyEdges else fault_or (λ (id, i). Unknown id i) (first_unknown specs specs) None)
 
 -- the first that is not among the identifiers
 abbrev pub first_outside : List ℕ → List ℕ → Option ℕ
 first_outside ids successors = find (λ i. not (list_any (nat_eq i) ids)) successors
-
--- the places of those that are among the identifiers
-abbrev pub places_of : List ℕ → List ℕ → List ℕ
-places_of ids [] = []
-places_of ids (i ∷ is) = option_to_list (position (nat_eq i) ids) ++ places_of ids is
 
 -- rising, no more than there are different successors, and exactly the places of their identifiers
 pub record ArePlaces (ids successors places : List ℕ) : Type 0 where

@@ -5,14 +5,14 @@ use Rattle.std.specs.List.Sorted.{IsStrictlyIncreasing}
 use Rattle.pg_game.specs.declared.names.Kind.{Kind}
 use Rattle.pg_game.specs.declared.names.Kind.TheVariants.{Own, Listed}
 
--- each number stands at the place that is its own
+-- each number is at the place that is its own
 abbrev pub AreOwnPlaces : List ℕ → Type 0
 AreOwnPlaces ids = (v : ℕ) → v < length ids → slice_index ids v ≡ v
 
 -- the identifiers that a game keeps
 abbrev pub names_of : Kind → List ℕ
 names_of (Own count) = range_with_len 0 count
-names_of (Listed ids) = ids.items
+names_of (Listed ids) = ids.keys
 
 -- they rise, and their number is one that a vertex may have
 pub record AreNames (ids : List ℕ) : Type 0 where

@@ -1,24 +1,31 @@
--- Rows of identifiers as rows of their places in a rising list.
-use Rattle.std.specs.Prelude.{ℕ, ◌≡◌, ◌<◌, ◌≤◌, List, length, slice_index, Contains}
+-- Identifiers, and their places in a list.
+use Rattle.std.specs.Prelude.{ℕ, ◌≡◌, ◌<◌, ◌≤◌, ◌⊎◌, List, length, slice_index, slice_index_or, Contains}
 use Rattle.std.specs.List.Sorted.{IsStrictlyIncreasing}
-use Rattle.pg_game.specs.Specification.{max_vertices, max_edges}
-use Rattle.pg_game.specs.private.Rows.{row_at, size_of}
+use Rattle.pg_game.specs.declared.game.Spec.{Spec}
 
--- rising, one or more, and the places of all successors and of nothing else
+-- each number is the place of the identifier
+pub record AreNamed (ids row places : List ℕ) : Type 0 where
+  pub size : length places ≡ length row
+  pub each : (k : ℕ) → k < length row → (slice_index places k < length ids) × (slice_index ids (slice_index places k) ≡ slice_index row k)
+
+-- the same between two indices, and the others are what they were
+pub record AreNamedFrom (ids old new : List ℕ) (from to : ℕ) : Type 0 where
+  pub each : (k : ℕ) → from ≤ k → k < to → (slice_index new k < length ids) × (slice_index ids (slice_index new k) ≡ slice_index old k)
+  pub others : (k : ℕ) → (k < from) ⊎ (to ≤ k) → slice_index new k ≡ slice_index old k
+
+-- rising, and the places of all successors and of nothing else
 pub record AreAllPlaces (ids successors places : List ℕ) : Type 0 where
-  pub some : 0 < length places
   pub rising : IsStrictlyIncreasing places
   pub from : (w : ℕ) → Contains places w → (w < length ids) × Contains successors (slice_index ids w)
   pub all : (i : ℕ) → Contains successors i → (w : ℕ) × Contains places w × (slice_index ids w ≡ i)
 
-pub record ArePlacedRows (ids : List ℕ) (rows placed : List (List ℕ)) : Type 0 where
-  pub size : length placed ≡ length rows
-  pub edges_fit : size_of placed ≤ max_edges
-  pub each : (v : ℕ) → v < length rows → AreAllPlaces ids (row_at rows v) (row_at placed v)
+-- the same specification with places for successors
+pub record IsPlacedSpec (ids : List ℕ) (s t : Spec) : Type 0 where
+  pub id : t.id ≡ s.id
+  pub priority : t.priority ≡ s.priority
+  pub owner : t.owner ≡ s.owner
+  pub successors : AreAllPlaces ids s.successors t.successors
 
--- identifiers rise, rows are placed, and no limit is passed
-pub record ArePlaced (ids : List ℕ) (rows placed : List (List ℕ)) : Type 0 where
-  pub some : 0 < length ids
-  pub few : length ids ≤ max_vertices
-  pub rising : IsStrictlyIncreasing ids
-  pub laid : ArePlacedRows ids rows placed
+pub record ArePlacedSpecs (ids : List ℕ) (specs placed : List Spec) : Type 0 where
+  pub size : length placed ≡ length specs
+  pub each : (v : ℕ) (d : Spec) → v < length specs → IsPlacedSpec ids (slice_index_or specs v d) (slice_index_or placed v d)

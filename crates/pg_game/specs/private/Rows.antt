@@ -1,12 +1,10 @@
 -- Lists of numbers in compressed sparse rows (private).
-use Rattle.std.specs.Prelude.{ℕ, ◌≡◌, ◌+◌, ◌<◌, ◌≤◌, ◌^◌, ◌↔◌, List, [], length, sum_by, slice_index, slice_index_or, Contains}
+use Rattle.std.specs.Prelude.{ℕ, ◌≡◌, ◌+◌, ◌<◌, ◌≤◌, ◌↔◌, List, [], length, sum_by, slice_index, slice_index_or, Contains}
 use Rattle.std.specs.List.Sorted.{IsStrictlyIncreasing}
 
 -- offsets rise from 0 to the number of targets
 pub record IsCompressed (offsets targets : List ℕ) : Type 0 where
   pub nonempty : 0 < length offsets
-  pub short : length offsets ≤ 2 ^ 32
-  pub few : length targets < 2 ^ 32
   pub first : slice_index offsets 0 ≡ 0
   pub rising : (k : ℕ) → k + 1 < length offsets → slice_index offsets k ≤ slice_index offsets (k + 1)
   pub within : (k : ℕ) → k < length offsets → slice_index offsets k ≤ length targets

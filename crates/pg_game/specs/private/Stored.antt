@@ -1,7 +1,7 @@
 -- How a game lies in memory.
 use Rattle.std.specs.Prelude.{ℕ, ◌≡◌, ◌<◌, List, length}
 use Rattle.pg_game.specs.declared.player.Player.{Player}
-use Rattle.pg_game.specs.Graph.{IsGame}
+use Rattle.pg_game.specs.Graph.{Graph, IsGame}
 use Rattle.pg_game.specs.Limits.{IsWithinLimits}
 use Rattle.pg_game.specs.Predecessors.{ArePredecessors}
 use Rattle.pg_game.specs.private.Rows.{row_at}
@@ -13,9 +13,13 @@ pub record AreParts (ids ps : List ℕ) (os : List Player) (rows : List (List �
   pub owners : length os ≡ length ids
   pub successors : length rows ≡ length ids
 
-pub record IsStored (ids ps : List ℕ) (os : List Player) (rows back : List (List ℕ)) : Type 0 where
+-- a game that is stored without its predecessors
+pub record IsStored (ids ps : List ℕ) (os : List Player) (rows : List (List ℕ)) : Type 0 where
   pub parts : AreParts ids ps os rows
   pub game : IsGame (graph_of ids ps os rows)
   pub limits : IsWithinLimits (graph_of ids ps os rows)
-  pub size : length back ≡ length ids
-  pub predecessors : (v : ℕ) → v < length ids → ArePredecessors (graph_of ids ps os rows) v (row_at back v)
+
+-- each vertex has its predecessors
+pub record HasPredecessors (g : Graph) (back : List (List ℕ)) : Type 0 where
+  pub size : length back ≡ length g
+  pub each : (v : ℕ) → v < length g → ArePredecessors g v (row_at back v)

@@ -65,7 +65,7 @@ abbrev pub on_name : Reading → List ℕ → Option Reading
 on_name (Successor f i p o w vs) bytes = Some (Named f i p o w vs bytes)
 on_name r bytes = None
 
--- the start line's word, behind a header or none
+-- the start line's word, after a header or none
 abbrev pub on_start : Option ℕ → List ℕ → Option Reading
 on_start h letters = cond (bytes_eq letters (codes "start")) (Some (StartWord h)) None
 

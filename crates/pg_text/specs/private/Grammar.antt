@@ -13,7 +13,7 @@ pub record Stops (BeginsText : List Token → Type 0) (ts : List Token) (t : Tok
   pub begins : BeginsText ts
   pub stops : BeginsText (ts ++ t ∷ []) → ⊥
 
--- the token was read, or it can't stand there
+-- the token was read, or it can't be there
 abbrev pub TakesToken : {R : Type 0} → (Bool → List Token → R → Type 0) → (List Token → Type 0) → R → R → Bool → Token → Type 0
 TakesToken Reads BeginsText old new taken t =
     (sound : Bool) (ts : List Token) → Reads sound ts old → TakenOr taken (Reads sound (ts ++ t ∷ []) new) (Stops BeginsText ts t)

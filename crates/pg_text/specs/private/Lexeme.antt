@@ -1,4 +1,4 @@
--- What the private lexer tells of the next token of a text: its kind, and the places where it begins and ends.
+-- What the private lexer returns of the next token of a text: its kind, and the places where it begins and ends.
 use Rattle.std.specs.Prelude.{ℕ, ◌≡◌, ◌+◌, Bool, false, nat_le, if◌then◌else◌, List, ◌∷◌, ◌++◌, length, drop, Option, Some, None, ◌⊎◌}
 use Rattle.pg_game.specs.Specification.{max_number}
 use Rattle.pg_text.specs.declared.lexer.Kind.{Kind}
@@ -11,14 +11,14 @@ use Rattle.pg_text.specs.Bytes.{AllAre, is_blank, is_no_quote, begins_token}
 abbrev pub fitting : ℕ → Option ℕ
 fitting n = if nat_le n max_number then Some n else None
 
--- behind the place `at` of the text, past blanks, stands this token, and it is whole
+-- after the place `at` of the text, past blanks, is this token, and it is whole
 pub record IsToken (text : List ℕ) (at from to : ℕ) (t : Token) : Type 0 where
   pub blanks : List ℕ
   pub body : List ℕ
   pub begins : Begins at (drop at text) (record { token = t; place = from }) blanks body (drop to text)
   pub end : to ≡ at + length blanks + length body
 
--- behind the place `at` of the text, past blanks, stands a byte that begins no token, or a quote with no later quote
+-- after the place `at` of the text, past blanks, is a byte that begins no token, or a quote with no later quote
 pub record IsNoToken (text : List ℕ) (at from : ℕ) : Type 0 where
   pub blanks : List ℕ
   pub byte : ℕ
@@ -38,7 +38,7 @@ IsLexemeOf kind.Semicolon text at from to = IsToken text at from to Semicolon
 IsLexemeOf kind.End text at from to = AllAre is_blank (drop at text)
 IsLexemeOf kind.Invalid text at from to = IsNoToken text at from
 
--- the next token of the text behind the place
+-- the next token of the text after the place
 abbrev pub IsNextLexeme : List ℕ → ℕ → Lexeme → Type 0
 IsNextLexeme text at lexeme = IsLexemeOf lexeme.kind text at lexeme.from lexeme.to
 

@@ -23,7 +23,7 @@ pub record Keeps {R : Type 0} (Reads : Bool → List Token → R → Type 0) (Is
 abbrev pub KeepsReader : {R : Type 0} → (Bool → List Token → R → Type 0) → (List Token → Type 0) → List Placed → Reader R → Type 0
 KeepsReader Reads IsBefore ts r = Keeps Reads IsBefore ts r.grammar r.large r.wrong
 
--- the reader took the token at the place, or it can't stand there
+-- the reader took the token at the place, or it can't be there
 abbrev pub ReaderTakes : {R : Type 0} → (Bool → List Token → R → Type 0) → (List Token → Type 0) → (List Token → Type 0) → Reader R → Reader R → Bool
     → Token → ℕ → Type 0
 ReaderTakes Reads BeginsText IsBefore old new taken t place =

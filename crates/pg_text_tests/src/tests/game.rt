@@ -19,13 +19,13 @@ const EVEN: Player = Player::Even;
 
 const ODD: Player = Player::Odd;
 
-/// In order, so that flat lists are the game as they stand.
+/// In order, so that flat lists are the game as they are.
 const IN_ORDER: &[Row] = &[(0, 2, EVEN, &[0, 1]), (1, 1, ODD, &[1])];
 
 /// With a gap and a repeated successor.
 const WITH_A_GAP: &[Row] = &[(9, 2, ODD, &[3, 3, 9]), (3, 1, EVEN, &[9])];
 
-/// What is told of a vertex: its row, which names its successors as vertices, and its predecessors.
+/// What is returned of a vertex: its row, which names its successors as vertices, and its predecessors.
 type Told<'a> = (Row<'a>, &'a [u32]);
 
 /// Adds a specification, with numbers cut down to the greatest.
@@ -84,7 +84,7 @@ fn add_flat(flat: &mut Specs, row: Row) -> Result<(), Memory>
     flat.push(id, priority, row.2, row.3)
 }
 
-/// The specifications of these rows in flat lists, without room for them before.
+/// The specifications of these rows in flat lists, without capacity for them before.
 fn flat_of_rows(alloc: Global, rows: &[Row]) -> Result<Specs, Memory>
     ensures { IfOk result (λ flat. All AreNumbers flat) }
 {
@@ -162,7 +162,7 @@ fn flat_game_of(alloc: Global, rows: &[Row]) -> Result<Game, GameFault> {
     from_rows(alloc, flat_of_rows(alloc, rows)?)
 }
 
-/// All that is told of a vertex.
+/// All that is returned of a vertex.
 fn look_at(rt: &impl Abort, game: &Game, v: u32, told: Told) {
     assert!(*rt; v < game.len());
     let row = (
@@ -175,7 +175,7 @@ fn look_at(rt: &impl Abort, game: &Game, v: u32, told: Told) {
     check_eq!(*rt; game.vertex_of(row.0), Some(v), v);
 }
 
-/// How many vertices a game has, and all that is told of them.
+/// How many vertices a game has, and all that is returned of them.
 fn look(rt: &impl Abort, game: &Game, vertices: &[Told]) {
     check_eq!(*rt; game.len() as usize, vertices.len());
     let mut v = 0u32;
@@ -530,7 +530,7 @@ fn edges_and_predecessors_are_those_specified(rt: HostRuntime) {
     }
 }
 
-/// What is told of a mask with one number.
+/// What is returned of a mask with one number.
 fn compare_one(rt: &impl Abort, alloc: Global) {
     let mut empty = Mask::empty(alloc, 3).expect(rt, "memory");
     check_eq!(*rt; (empty.len(), empty.count()), (3, 0));
@@ -538,7 +538,7 @@ fn compare_one(rt: &impl Abort, alloc: Global) {
     check_eq!(*rt; (empty.has(1), empty.has(2)), (true, false));
 }
 
-/// What is told of a full mask and of its copy, which loses a number.
+/// What is returned of a full mask and of its copy, which loses a number.
 fn compare_full(rt: &impl Abort, alloc: Global) {
     let full = Mask::full(alloc, 3).expect(rt, "memory");
     compare_copy(rt, full.copy(alloc).expect(rt, "memory"));

@@ -1,4 +1,4 @@
--- The rule of the word that numbers are drawn from, and what the steps on it tell.
+-- The rule of the word that numbers are drawn from, and what the steps on it return.
 use Rattle.std.specs.Prelude.{◌≡◌, ℕ, ◌+◌, ◌-◌, ◌<◌, ◌≤◌, List, [], ◌∷◌, ◌++◌, length, min, nat_lt, sum_by, MatchBool}
 use mathlib.Core.Option.{some}
 use lib.ListN.{get_elem?}
@@ -6,16 +6,16 @@ use Rattle.atomic_table.specs.Table.{State, Me, Step}
 use Rattle.pg_workers.specs.declared.drawing.Drawer.{Drawer}
 use Rattle.pg_workers.specs.Counting.{AreFair}
 
--- what one seat knows: how many numbers there are, how many tickets it stands for, how many of these were told that none is left,
+-- what one seat knows: how many numbers there are, how many tickets are at it, to how many of these a draw returned none,
 -- and the numbers that they drew
 abbrev pub drawer : ℕ → ℕ → ℕ → List ℕ → Drawer
 drawer total tickets told_none drawn = record { total = total; tickets = tickets; told_none = told_none; drawn = drawn }
 
--- no more tickets were told than it stands for, and one that stands for none has drawn nothing
+-- none was returned to no more tickets than are at it, and a seat without tickets has drawn nothing
 abbrev pub IsDrawer : ℕ → Drawer → Type 0
 IsDrawer total v = (v.told_none ≤ v.tickets) × (0 < v.tickets → v.total ≡ total) × (v.tickets ≡ 0 → v.drawn ≡ [])
 
--- The lists are fair. The word counts each number drawn and each ticket told none, and no ticket is lost
+-- The lists are fair. The word counts each number drawn and each ticket to which none was returned, and no ticket is lost
 pub record IsDrawn (total seats : ℕ) (s : State (Unit {0}) Drawer) : Type 0 where
   pub word : ℕ
   pub words : s.words ≡ word ∷ []
@@ -28,7 +28,7 @@ pub record IsDrawn (total seats : ℕ) (s : State (Unit {0}) Drawer) : Type 0 wh
 abbrev pub AtSeat : Type 0
 AtSeat = Me (Unit {0}) Drawer
 
--- a draw adds the number that was found, or one more ticket was told that none is left
+-- a draw adds the number that was found, or none is returned to one more ticket
 abbrev pub Draws : Step (Unit {0}) → AtSeat → ℕ → AtSeat → Type 0
 Draws st m found n =
     (n.1 ≡ m.1)

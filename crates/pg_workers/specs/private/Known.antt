@@ -1,6 +1,7 @@
 -- What is known of a game before it is solved: as regions, as rows of claims, and what is answered where it is posted (private).
-use Rattle.std.specs.Prelude.{ℕ, ◌≡◌, ◌+◌, ◌↔◌, List}
+use Rattle.std.specs.Prelude.{ℕ, ◌≡◌, ◌+◌, ◌↔◌, List, [], ◌∷◌}
 use Rattle.pg_game.specs.declared.player.Player.{Player}
+use Rattle.pg_game.specs.declared.player.Player.TheVariants.{Even, Odd}
 use Rattle.pg_game.specs.Player.{opponent}
 use Rattle.pg_game.specs.Graph.{Graph}
 use Rattle.pg_game.specs.VertexSet.{In}
@@ -11,7 +12,8 @@ use Rattle.pg_board.specs.Play.{Play}
 use Rattle.pg_board.specs.State.{settled}
 use Rattle.pg_board.specs.Journal.{Journal, state_of, number_settled}
 use Rattle.pg_workers.specs.declared.report.ReportRow.{ReportRow}
-use Rattle.pg_workers.specs.Report.{settled_in}
+use Rattle.pg_workers.specs.Report.{AreOfCaller, settled_in}
+use Rattle.pg_workers.specs.private.Rest.{IsLater}
 use Rattle.pg_workers.specs.declared.known.SolveFault.{SolveFault}
 use Rattle.pg_workers.specs.declared.known.SolveFault.TheVariants as fault
 use Rattle.pg_workers.specs.Known.{IsKnownRegion, IsAttractedToKnown, HasCount, IsKnownSize, IsRefusedKnown}
@@ -19,6 +21,7 @@ use Rattle.pg_workers.specs.Known.{IsKnownRegion, IsAttractedToKnown, HasCount, 
 -- the known set is a region, the player has what he attracts to it, and the opponent what he had
 pub record SettlesKnown (old new : Play) (known : KnownRows) (p : Player) : Type 0 where
   pub region : IsKnownRegion old.graph known p
+  pub later : IsLater (p ∷ []) old new
   pub own : (v : ℕ) → In (settled (state_of new.journal) p) v ↔ IsAttractedToKnown old.graph known p v
   pub other : (v : ℕ) → settled (state_of new.journal) (opponent p) v ≡ settled (state_of old.journal) (opponent p) v
   pub more : ℕ
@@ -39,8 +42,9 @@ fault_of p (refusal.Lost v) = fault.Known p (refusal.Lost v)
 fault_of p refusal.Stale = fault.Known p refusal.Stale
 fault_of p (refusal.Open v w) = fault.Known p (refusal.Open v w)
 
--- both known sets are regions, and what they attract is all that is settled
+-- both known sets are regions, and what they attract is all that is settled: by an entry of worker 0 for Even's, and then one for Odd's
 pub record HasKnown (g : Graph) (known : KnownRows) (journal : Journal) : Type 0 where
+  pub entries : AreOfCaller (Even ∷ Odd ∷ []) journal
   pub regions : (p : Player) → IsKnownRegion g known p
   pub number : IsKnownSize g known (number_settled journal)
 

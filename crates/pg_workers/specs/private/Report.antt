@@ -36,7 +36,7 @@ pub record HasPlaces (report rows : List ReportRow) : Type 0 where
   pub once : (j : ℕ) → how_many_of_job j rows ≤ 1
   pub free : (j : ℕ) → 0 < how_many_of_job j rows → slice_get report j ≡ Some (blank_row j)
 
--- each row stands at the place of its job, and every other place is as it was
+-- each row is at the place of its job, and every other place is as it was
 pub record AreNotedRows (before after rows : List ReportRow) : Type 0 where
   pub size : length after ≡ length before
   pub placed : (i : ℕ) (r : ReportRow) → slice_get rows i ≡ Some r → slice_get after r.job ≡ Some r

@@ -22,7 +22,7 @@ IsRefusedSolution g text (fault.Solution f) = IsSolutionFaultOf g text f × (f �
 IsRefusedSolution g text fault.Memory = Unit {0}
 IsRefusedSolution g text _ = ⊥
 
--- the text that a source had, where it could tell, is within the limit and one of these winners and choices for the game
+-- the text that a source had, where it is known, is within the limit and one of these winners and choices for the game
 abbrev pub IsReadSolution : Graph → Option (List ℕ) → SolutionRows → Type 0
 IsReadSolution g known rows = IfSome known (λ text. (length text ≤ max_text) × IsSolutionTextOf g text rows)
 

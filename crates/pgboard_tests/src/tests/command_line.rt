@@ -4,7 +4,7 @@ use pgboard::{Asked, AskedFault, asked};
 use std::alloc::{AllocError, Global};
 use std::process::Abort;
 
-/// What a line asks for, with the paths that stand in it.
+/// What a line asks for, with its paths.
 enum Line {
     Joined,
     Verify(&'static str, &'static str),

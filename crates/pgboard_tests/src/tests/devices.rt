@@ -49,7 +49,7 @@ impl<'a> Source for Pieces<'a> {
     }
 }
 
-/// Takes bytes in pieces, and fails where it has no room left.
+/// Takes bytes in pieces, and fails where it has no space left.
 #[derive(Drop)]
 pub struct Bounded {
     pub taken: Vec<u8>,

@@ -29,8 +29,8 @@ struct Seen {
     posted: [u32; 5],
 }
 
-/// Holds one worker at its first `found` until another worker's `posted` was seen, before it or since. Worker 0 stands
-/// for whichever comes first.
+/// Holds one worker at its first `found` until another worker's `posted` was seen, before it or since. Worker 0 means
+/// whichever comes first.
 #[derive(Drop)]
 struct Holder {
     turns: u64,

@@ -32,7 +32,7 @@ impl<'a> Source for Expecting<'a> {
     }
 }
 
-/// Reads the bytes from a source that expects so many: how many came, the buffer's room and the reads.
+/// Reads the bytes from a source that expects so many: how many came, the buffer's capacity and the reads.
 fn read_all(alloc: Global, bytes: &[u8], expected: u64) -> Result<(usize, usize, u64), RunFault> {
     let mut source = Expecting {
         rest: bytes,
@@ -52,7 +52,7 @@ fn read_from(rt: &impl Abort, alloc: Global, size: usize, expected: u64) -> (usi
     made(rt, read_all(alloc, bytes.as_slice(), expected))
 }
 
-/// How many bytes there are and how many are expected; how many come, the buffer's room, and the reads.
+/// How many bytes there are and how many are expected; how many come, the buffer's capacity, and the reads.
 const ROOMS: &[((usize, u64), (usize, usize, u64))] = &[
     ((0, 0), (0, 65_536, 1)),
     ((5, 0), (5, 65_536, 2)),
@@ -72,7 +72,7 @@ fn the_room_is_what_was_expected_and_a_byte(rt: HostRuntime) {
     }
 }
 
-/// All came, and there was room for more.
+/// All came, and there was capacity for more.
 fn assert_all(rt: &impl Abort, alloc: Global, size: usize, expected: u64) {
     let (n, room, _) = read_from(rt, alloc, size, expected);
     check_eq!(*rt; n, size);

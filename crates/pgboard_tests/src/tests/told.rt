@@ -1,4 +1,4 @@
-//! Runs over bytes in memory, whose devices tell them all: what the runs promise, said of the bytes themselves.
+//! Runs over bytes in memory, whose devices know them all: what the runs promise, said of the bytes themselves.
 ghost use Rattle.std.specs.Prelude.{◌≡◌, ◌≤◌, false, IfOk, length};
 ghost use Rattle.pg_game.specs.declared.player.Player.{Player};
 ghost use Rattle.pg_game.specs.Graph.{Graph};

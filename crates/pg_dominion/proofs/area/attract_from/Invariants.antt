@@ -1,6 +1,4 @@
 use Rattle.pg_dominion.proofs.Common.{◌≤◌, length, take, vec_capacity, union, listed_by, Takes, AttractsNoFurther}
-use Rattle.std.specs.Prelude.{IfSome}
-use Rattle.pg_dominion.specs.private.Attracting.{IsRowAt}
 use Rattle.pg_dominion.proofs.area.attract_from.Given as goal
 
 abbrev pub invariant-list : goal.invariant-list
@@ -10,6 +8,5 @@ invariant-list g l = record {
   takes : Takes g.A.Area.vertex_of (g.A.Area.free l.fn.area) l.fn.list.items (g.A.Area.free l.area) l.list.items;
   done : AttractsNoFurther l.game l.player (union (g.A.Area.free l.fn.area) (listed_by g.A.Area.vertex_of l.fn.list.items))
       (listed_by g.A.Area.vertex_of (take l.next l.list.items)) (listed_by g.A.Area.vertex_of l.list.items);
-  ahead : IfSome l.ahead (λ row. IsRowAt g.A.Area.vertex_of l.game l.list.items l.next row.now);
   within : l.next ≤ length l.list.items;
 }

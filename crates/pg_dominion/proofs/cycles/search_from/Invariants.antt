@@ -1,11 +1,12 @@
-use Rattle.pg_dominion.proofs.Common.{◌≡◌, ℕ, ◌<◌, ◌-◌, length, IsWorst}
+use Rattle.pg_dominion.proofs.Common.{ℕ, ◌<◌, ◌-◌, length, IsWorst}
+use Rattle.pg_dominion.specs.private.KeptEdges.{IsBounded}
 use Rattle.pg_dominion.specs.private.Searched.{AreSearches}
 use Rattle.pg_dominion.proofs.cycles.search_from.Given as goal
 
 abbrev pub invariant-blocks-2 : goal.invariant-blocks-2
 invariant-blocks-2 l = record {
   searches : AreSearches l.kept l.searches;
-  patience : l.searches.patience ≡ l.fn.patience;
+  bounded : IsBounded l.searches.most → IsBounded l.fn.patience;
   none : (u : ℕ) → u < l.begin → IsWorst l.kept u → ⊥;
 }
 

@@ -34,7 +34,7 @@ place (u ∷ us) v = if u == v then 0 else suc (place us v)
 abbrev pub Before : List ℕ → ℕ → ℕ → Type 0
 Before list v w = In (listed list) w × (place list w < place list v)
 
--- The player took active vertices: those of `more`, behind the prefix. Each of his has a choice that is listed earlier, and each edge
+-- The player took active vertices: those of `more`, after the prefix. Each of his has a choice that is listed earlier, and each edge
 -- of the opponent's to a vertex that was active or listed leads to one listed earlier.
 pub record IsGrown (g : Graph) (p : Player) (before : VertexSet) (old : Plan) (prefix : List ℕ) (after : VertexSet) (new : Plan) (list : List ℕ) : Type 0 where
   pub more : List ℕ

@@ -6,7 +6,7 @@ use Rattle.pg_game.specs.VertexSet.{VertexSet, In}
 abbrev pub listed : List ℕ → VertexSet
 listed vs v = list_any (λ u. u == v) vs
 
--- no number stands twice
+-- no number occurs twice
 abbrev pub Once : List ℕ → Type 0
 Once [] = Unit {0}
 Once (v ∷ vs) = (listed vs v ≡ false) × Once vs

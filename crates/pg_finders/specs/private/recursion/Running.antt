@@ -13,7 +13,7 @@ use Rattle.pg_finders.specs.private.recursion.Growing.{active_of, HasSizes}
 use Rattle.pg_finders.specs.private.recursion.Waiting.{Level, steps, steps_after}
 use Rattle.pg_finders.specs.private.recursion.UnderWay.{level_at, IsUnderWay}
 
--- the vertices of each level stand before the place that its stop keeps
+-- the vertices of each level are before the place that its stop keeps
 abbrev pub AllPlaced : List ℕ → List Level → List Stop → Type 0
 AllPlaced vertices [] fs = Unit {0}
 AllPlaced vertices (l ∷ ls) [] = Unit {0}

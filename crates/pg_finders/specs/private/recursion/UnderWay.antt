@@ -35,7 +35,7 @@ level_at U settled aside f = record {
   player = f.player;
 }
 
--- the attractors stand one after another from the first place to the last, and the numbers settled do not fall, from i to n
+-- the attractors follow one another from the first place to the last, and the numbers settled do not fall, from i to n
 abbrev pub Linked : (Player → ℕ) → (Player → ℕ) → ℕ → List Stop → ℕ → Type 0
 Linked i n first [] last = ((p : Player) → i p ≤ n p) × (first ≡ last)
 Linked i n first (f ∷ fs) last = ((p : Player) → i p ≤ count_at f p) × (f.aside ≡ first) × (f.aside ≤ f.upto) × Linked (count_at f) n f.upto fs last

@@ -6,7 +6,7 @@ use Rattle.pg_game.specs.VertexSet.{VertexSet, In, Within}
 use Rattle.pg_game.specs.Region.{OnlyGoodWalks}
 use Rattle.pg_dominion.specs.Claim.{ClaimRows, named, choice_in, IsGoodIn}
 
--- what stands for a row that is none
+-- the row at a place that has none
 abbrev pub no_row : ℕ × Option ℕ
 no_row = (0, None)
 
@@ -19,7 +19,7 @@ choice_at rows at = (slice_index_or rows at no_row).1
 abbrev pub vertices : ClaimRows → List ℕ
 vertices rows = map (λ r. r.0) rows
 
--- no vertex stands at two places
+-- no vertex is at two places
 abbrev pub AreDifferent : ClaimRows → Type 0
 AreDifferent rows = (j k : ℕ) → j < k → k < length rows → vertex_in rows j ≢ vertex_in rows k
 

@@ -50,6 +50,6 @@ NoneAgreesAt g U p bound rows at v w =
 abbrev pub HasNoRoom : ClaimRows → ℕ → ℕ → Type 0
 HasNoRoom rows bound w = (length rows ≡ bound) × (named rows w ≡ false)
 
--- a successor of v in the set found no room
+-- a successor of v in the set is beyond the bound
 abbrev pub LacksRoom : Graph → VertexSet → ClaimRows → ℕ → ℕ → Type 0
 LacksRoom g U rows bound v = (w : ℕ) × HasEdge g v w × In U w × HasNoRoom rows bound w

@@ -1,4 +1,4 @@
--- What a small search answers (private).
+-- What a search for small dominions returns (private).
 use Rattle.std.specs.Prelude.{ℕ, ◌≤◌, ◌<◌, length, Option, Some, None}
 use Rattle.pg_game.specs.VertexSet.{In}
 use Rattle.pg_dominion.specs.Claim.{ClaimRows, named}

@@ -14,10 +14,10 @@ use std::process::Abort;
 
 const LONG: Hostile = Hostile::Ladder(150_000, None);
 
-/// A part of a game behind the ladder: its first vertex, the one behind it, and the answer, if there is one.
+/// A part of a game after the ladder: its first vertex, the one after it, and the answer, if there is one.
 type Part = (u32, u32, Option<u32>);
 
-/// Adds hostile games, and notes where they stand.
+/// Adds hostile games, and notes where they are.
 fn add_hostile(
     rt: &impl Abort,
     alloc: Global,
@@ -32,7 +32,7 @@ fn add_hostile(
     }
 }
 
-/// Adds random games, and notes where they stand.
+/// Adds random games, and notes where they are.
 fn add_random(rt: &impl Abort, alloc: Global, draft: &mut Draft, parts: &mut Vec<Part>) {
     let mut random = Random::new(SEED);
     for _round in 0..ROUNDS {
@@ -83,7 +83,7 @@ fn compare_part(
     check_eq!(*rt; worst(rt, alloc, game, bad), want);
 }
 
-/// The ladder with all parts, and notes where these stand.
+/// The ladder with all parts, and notes where these are.
 fn long_game(rt: &impl Abort, alloc: Global, parts: &mut Vec<Part>) -> Game {
     let mut draft = Draft::new(alloc);
     LONG.add(rt, alloc, &mut draft);
@@ -109,4 +109,18 @@ fn a_ranking_is_accepted_of_each_game_behind_a_long_ladder(rt: HostRuntime) {
     let mut parts = Vec::new(rt.alloc());
     let game = long_game(&rt, rt.alloc(), &mut parts);
     compare_parts(&rt, rt.alloc(), &game, parts.as_slice());
+}
+
+/// The least bad vertex of a long ladder with a turned level.
+fn compare_turned(rt: &impl Abort, alloc: Global, level: u32, want: u32) {
+    let game = Hostile::Ladder(150_000, Some(level)).game(rt, alloc);
+    let bad = odd_vertices(rt, alloc, &game);
+    check_eq!(*rt; worst(rt, alloc, &game, bad), Some(want));
+}
+
+#[test]
+fn a_ranking_is_accepted_of_a_long_ladder_with_a_turned_level(rt: HostRuntime) {
+    compare_turned(&rt, rt.alloc(), 0, 150_002);
+    compare_turned(&rt, rt.alloc(), 75_000, 300_002);
+    compare_turned(&rt, rt.alloc(), 149_999, 450_000);
 }

@@ -1,6 +1,6 @@
 //! Games through each body of the search for bad closed walks, and the answers that they have. A claim of at most 64 rows
 //! is looked at along its rows; else, and where that shows nothing, searches begin at each bad vertex; and where these
-//! have taken long, a ranking answers. Behind a ladder it does: searches of the ladder have taken long by then.
+//! have taken long, a ranking answers. After a ladder it does: searches of the ladder have taken long by then.
 
 use crate::tests::asserting::made;
 use crate::tests::dominion::claims::compare_fault;
@@ -13,7 +13,7 @@ use pg_test_support::{Draft, EVEN, Plain, Random, Row, size_of};
 use std::alloc::Global;
 use std::process::Abort;
 
-/// Its searches take 5,620 steps, so none begins behind it in a game of at most 1,300 vertices.
+/// Its searches take 5,620 steps, so none begins after it in a game of at most 1,300 vertices.
 const SHORT: Hostile = Hostile::Ladder(40, None);
 
 /// Rows of so many vertices, without choices. Each is pushed once more where memory was refused.
@@ -35,7 +35,7 @@ fn cycle(worst: Option<u32>) -> Option<ClaimFault> {
     }
 }
 
-/// The vertex behind so many others.
+/// The vertex after so many others.
 pub fn behind(first: u32, vertex: Option<u32>) -> Option<u32> {
     match vertex {
         Some(v) => Some(v.saturating_add(first)),
@@ -49,7 +49,7 @@ fn worst_of(rt: &impl Abort, alloc: Global, game: &Game) -> Option<u32> {
 }
 
 /// A game has this least vertex on a bad closed walk, or none, as a claim of all vertices and by searches; and by a ranking
-/// where it stands behind the short ladder.
+/// where it is after the short ladder.
 fn compare(rt: &impl Abort, alloc: Global, game: &Game, ranked: &Game, want: Option<u32>) {
     let rows = rows_of_all(rt, alloc, game.len());
     compare_fault(rt, alloc, game, EVEN, rows.as_slice(), cycle(want));

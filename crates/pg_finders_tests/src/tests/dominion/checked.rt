@@ -1,4 +1,4 @@
-//! What a checked claim tells of its game, and in which other games it is told apart.
+//! What a checked claim says of its game, and in which other games it is refused.
 
 use crate::tests::asserting::made;
 use crate::tests::dominion::games::{claim_of, game_made, plain_game};
@@ -52,7 +52,7 @@ const GAME: &[Vertex] = &[
     (4, EVEN, &[0, 2]),
 ];
 
-/// Claims in that game, and what is told of their rows.
+/// Claims in that game, and what is returned of their rows.
 const CLAIMS: &[(Player, &[Row], &[Told])] = &[
     (
         EVEN,

@@ -81,8 +81,8 @@ pub enum Hostile {
     Ladder(u32, Option<u32>),
     /// Each of so many vertices leads to each, and vertex v has the priority `step * v`.
     Dense(u32, u32),
-    /// A bad vertex that leads to a cycle of so many good ones, each of which leads to the next four, and so many of them to a
-    /// fifth; and behind it another bad one that leads there. Nothing leads to the bad ones.
+    /// A bad vertex that leads to a cycle of so many good ones, so many of which lead to the next but one, too; and after it a
+    /// bad one of greater priority that leads to 19 of them. Nothing leads to the bad ones.
     Chords(u32, u32),
 }
 
@@ -191,15 +191,15 @@ fn on_cycle(first: u32, n: u32, at: u32) -> u32 {
     first.saturating_add(place)
 }
 
-/// Room for five vertices, taken once more where memory was refused.
-fn room_for_five(rt: &impl Abort, alloc: Global) -> Vec<u32> {
-    match Vec::with_capacity(alloc, 5) {
+/// Capacity for two vertices, taken once more where memory was refused.
+fn room_for_two(rt: &impl Abort, alloc: Global) -> Vec<u32> {
+    match Vec::with_capacity(alloc, 2) {
         Ok(room) => room,
-        Err(_) => made(rt, Vec::with_capacity(alloc, 5)),
+        Err(_) => made(rt, Vec::with_capacity(alloc, 2)),
     }
 }
 
-/// The vertices that stand from one to so many places, at most five, behind one of a cycle.
+/// The vertices from one to so many places, at most two, after one of a cycle.
 fn next_on_cycle(
     rt: &impl Abort,
     alloc: Global,
@@ -208,7 +208,7 @@ fn next_on_cycle(
     v: u32,
     many: u32,
 ) -> Vec<u32> {
-    let mut next = room_for_five(rt, alloc);
+    let mut next = room_for_two(rt, alloc);
     for at in 0..many {
         let place = v.saturating_add(at).saturating_add(1);
         made(rt, next.push(on_cycle(first, n, place)));
@@ -220,11 +220,12 @@ fn add_chords(rt: &impl Abort, alloc: Global, draft: &mut Draft, n: u32, more: u
     let first = draft.len().saturating_add(1);
     add(rt, alloc, draft, 1, ODD, &[first]);
     for v in 0..n {
-        let many = if v < more { 5 } else { 4 };
+        let many = if v < more { 2 } else { 1 };
         let next = next_on_cycle(rt, alloc, first, n, v, many);
         add(rt, alloc, draft, 0, ODD, next.as_slice());
     }
-    add(rt, alloc, draft, 1, ODD, &[first]);
+    let some = numbers(rt, alloc, first, first.saturating_add(19));
+    add(rt, alloc, draft, 3, ODD, some.as_slice());
 }
 
 /// One to 24 vertices with one to three random successors each.

@@ -239,18 +239,18 @@ fn a_ladder_is_judged_after_a_refusal(rt: HostRuntime) {
     compare_hostile(&rt, rt.alloc(), Hostile::Ladder(33, None));
 }
 
-// In the next two games a search from vertex 0 looks at one edge and at those of the cycle, four for each of its vertices and 12
-// or 13 more. When the search from the last vertex would begin, a ranking is made where these are as many as 406: four times the
-// 100 vertices, and 6 for the search from vertex 0, which has one edge.
+// In the next two games a search from vertex 0 reaches the cycle of 98 vertices, and one from the last vertex looks at its edges
+// again. A ranking is made where these are more than 98: half as many as the 100 vertices, 6 for the search from vertex 0, which
+// has one edge, and 42 for the one from the last, which has 19.
 
-/// 405 edges: were one looked at twice, a ranking would be made.
+/// 98 edges: were one looked at twice, a ranking would be made.
 #[test]
 fn each_edge_of_a_cycle_is_looked_at_once_after_a_refusal(rt: HostRuntime) {
-    compare_hostile(&rt, rt.alloc(), Hostile::Chords(98, 12));
+    compare_hostile(&rt, rt.alloc(), Hostile::Chords(98, 0));
 }
 
-/// 406 edges: were one not looked at, none would be made.
+/// 99 edges: were one not looked at, none would be made.
 #[test]
 fn with_one_edge_more_a_ranking_is_made_after_a_refusal(rt: HostRuntime) {
-    compare_hostile(&rt, rt.alloc(), Hostile::Chords(98, 13));
+    compare_hostile(&rt, rt.alloc(), Hostile::Chords(98, 1));
 }

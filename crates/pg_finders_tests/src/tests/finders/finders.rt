@@ -195,7 +195,7 @@ fn a_small_search_keeps_to_its_bound_and_uses_its_budget_to_the_last_choice(rt: 
     }
 }
 
-/// A search of all of a game that stands elsewhere.
+/// A search of all of a game that is elsewhere.
 const AMONG_MANY: SmallCase = (&[], ALL, false, 8, 10_000, GIVES_UP);
 
 #[test]

@@ -20,7 +20,7 @@ returns-in-Ok-clause-settles c =
     subst (λ (g : Graph). claim.rows ≡ known_rows g known c.args.player) c.game-game.ensures.graph c.in_ok-claim.ensures.rows in
     let post = c.in-Ok.ensures in
     settles_known old.graph c.game-game.ensures.game known c.requires.size c.args.player old.journal c.requires.none c.game-game.ensures.lawful c.post.new.self
-    c.in-Ok.field-0 claim c.in_ok-claim.ensures.player is (post.posted.0, post.posted.1, post.old_copies)
+    post.game c.in-Ok.field-0 claim c.in_ok-claim.ensures.player is (post.posted.0, post.posted.1, post.old_copies)
 
 pub returns-clause-fault : goal.returns-clause-fault
 returns-clause-fault c =

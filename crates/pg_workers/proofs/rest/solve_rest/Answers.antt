@@ -1,4 +1,5 @@
 use Rattle.pg_workers.proofs.Settling.{still_dominion, all_settled}
+use Rattle.pg_workers.proofs.Calling.{both_later}
 use Rattle.pg_workers.proofs.rest.solve_rest.Goals as goal
 
 -- Odd's claim is still a dominion after the entry that Even's claim added
@@ -12,3 +13,6 @@ returns-clause-full c =
     let copied = c.in_ok-copied.ensures in let first = c.in_ok-post_last.ensures in
     let second = c.in_ok-post_last-2.ensures in
     all_settled _ _ _ _ _ _ _ _ _ first.later second.later copied.graph copied.mask c.in_ok-even.ensures first.settles second.settles
+
+pub returns-clause-later : goal.returns-clause-later
+returns-clause-later c = both_later _ _ _ _ _ _ _ c.in_ok-even.ensures c.in_ok-post_last.ensures.later c.in_ok-post_last-2.ensures.later

@@ -23,7 +23,7 @@ pub type Told<'a> = (Player, u32, &'a [Row]);
 /// Who won a vertex, and by which choice.
 type Won = (Option<Player>, Option<u32>);
 
-/// A game, claims that are put to a new board of it, and what the board then tells: its entries, and each vertex.
+/// A game, claims that are put to a new board of it, and what the board then has: its entries, and each vertex.
 pub struct Case<'a> {
     game: &'a [Vertex<'a>],
     claims: &'a [Put<'a>],
@@ -138,7 +138,7 @@ const CASES: &[&Case] = &[
     NEW,
     HALF,
     FULL,
-    // an edge out of the rest is told before it is settled
+    // an edge out of the rest is named before it is settled
     &Case {
         game: &[(0, ODD, &[0, 1]), (1, ODD, &[1])],
         claims: &[
@@ -148,7 +148,7 @@ const CASES: &[&Case] = &[
         entries: &[],
         vertices: &[OPEN, OPEN],
     },
-    // a bad cycle of a claim is told
+    // a bad cycle of a claim is named
     &Case {
         game: &[(0, ODD, &[1]), (1, ODD, &[0])],
         claims: &[
@@ -212,7 +212,7 @@ fn worked_claims_have_their_answers(rt: HostRuntime) {
     }
 }
 
-/// The answers to the claims, and what the board tells then.
+/// The answers to the claims, and what the board then has.
 fn compare_case(rt: &impl Abort, alloc: Global, call: Call, case: &Case) {
     let game = game_made(rt, alloc, case.game);
     let mut board = new_board(rt, alloc, &game);
@@ -269,7 +269,7 @@ fn settled_of(vertices: &[Won]) -> u64 {
     settled
 }
 
-/// What is told of each vertex, and how many are settled, all by worker 7.
+/// What is returned of each vertex, and how many are settled, all by worker 7.
 fn compare_vertices(rt: &impl Abort, board: &Board, vertices: &[Won], settled: u64) {
     let mut v = 0u32;
     for won in vertices {

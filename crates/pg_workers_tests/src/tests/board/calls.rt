@@ -10,7 +10,7 @@ use std::process::Abort;
 use std::sync::Wait;
 use std::sync::ledger::Ledger;
 
-/// A copy of the board, of which a test is told nothing, taken once more where memory was refused.
+/// A copy of the board, which a test does not look at, taken once more where memory was refused.
 pub fn copied<'g>(rt: &impl Abort, alloc: Global, board: &Board<'g>) -> Copied<'g> {
     match board.copy(alloc) {
         Ok(copied) => copied,
@@ -21,7 +21,7 @@ pub fn copied<'g>(rt: &impl Abort, alloc: Global, board: &Board<'g>) -> Copied<'
 /// How a claim is put to a board.
 #[derive(Clone, Copy)]
 pub enum Call {
-    /// As it stands, for the board to check.
+    /// As it is, for the board to check.
     Post,
     /// Checked on the board's game before.
     Settle,

@@ -18,7 +18,7 @@ use std::process::Abort;
 use std::sync::ledger::Blank;
 use std::test::Fail;
 
-/// A claim that is accepted. Where memory is refused, the board tells what it told before, and the claim is put again.
+/// A claim that is accepted. Where memory is refused, the board is as it was, and the claim is put again.
 fn accepted(
     rt: &impl Abort,
     alloc: Global,

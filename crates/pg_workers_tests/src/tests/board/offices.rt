@@ -20,7 +20,7 @@ use std::sync::Wait;
 use std::sync::ledger::{Blank, Ledger};
 use std::test::Fail;
 
-/// A worker's claim of one row, its answer, the share's amount then, and what a copy of the board then tells.
+/// A worker's claim of one row, its answer, the share's amount then, and what a copy of the board then has.
 type Put<'a> = (u32, Player, Row, Result<u32, Refusal>, u64, &'a Case<'a>);
 
 /// What is asked of an office through the share of a seat.
@@ -37,11 +37,11 @@ enum Step<'a> {
     Copy(&'a Case<'a>),
 }
 
-/// What the board tells at the closing: how many vertices are settled, whether these are all, and how many of them by the
+/// What the board has at the closing: how many vertices are settled, whether these are all, and how many of them by the
 /// workers 0, 1 and 2.
 type Closed = (u64, bool, (u64, u64, u64));
 
-/// A game, a claim that is posted by worker 0 before an office opens round the board, what a copy then tells, the number of
+/// A game, a claim that is posted by worker 0 before an office opens round the board, what a copy then has, the number of
 /// seats, what is asked through the share of which seat, and the board at the closing.
 pub struct Run<'a> {
     pub game: &'a [Vertex<'a>],
@@ -250,7 +250,7 @@ fn take_all<'g, L: Ledger, R: Wait + Abort>(
     }
 }
 
-/// What a copy tells after a step.
+/// What a copy has after a step.
 fn after<'a>(before: &'a Case<'a>, step: &Step<'a>) -> &'a Case<'a> {
     match step {
         Step::Put(put) => put.5,

@@ -44,7 +44,7 @@ fn compare_entry(rt: &impl Abort, game: &[Plain], own: u32, entries: &[Entry], c
     check!(*rt; are_attracted(game, own, claim, rows));
 }
 
-/// Puts a claim to the board, and compares the answer and the board with the reference. Tells how many vertices were settled.
+/// Puts a claim to the board, and compares the answer and the board with the reference. Returns how many vertices were settled.
 fn compare_answer(
     rt: &impl Abort,
     alloc: Global,
@@ -73,7 +73,7 @@ fn compare_answer(
     }
 }
 
-/// Compares a claim on a new board that has got the earlier ones. Tells how many vertices it settled.
+/// Compares a claim on a new board that has got the earlier ones. Returns how many vertices it settled.
 fn compare_one(
     rt: &impl Abort,
     alloc: Global,
@@ -90,7 +90,7 @@ fn compare_one(
     compare_answer(rt, alloc, random_call(random), plain, &mut board, claim)
 }
 
-/// Compares each claim alone on a new board that has got the earlier ones. Tells how many vertices they settled.
+/// Compares each claim alone on a new board that has got the earlier ones. Returns how many vertices they settled.
 fn compare_after(
     rt: &impl Abort,
     alloc: Global,
@@ -150,7 +150,7 @@ fn claims_of_numbers(
     claims
 }
 
-/// All sequences of up to two claims of numbers on a game. Tells how many vertices the last ones settled.
+/// All sequences of up to two claims of numbers on a game. Returns how many vertices the last ones settled.
 fn compare_pairs(
     rt: &impl Abort,
     alloc: Global,
@@ -167,7 +167,7 @@ fn compare_pairs(
     settled
 }
 
-/// All sequences of three claims on a game. Tells how many vertices the last ones settled.
+/// All sequences of three claims on a game. Returns how many vertices the last ones settled.
 fn compare_triples(
     rt: &impl Abort,
     alloc: Global,
@@ -192,7 +192,7 @@ fn vertex_of_number(number: u32) -> Plain {
     (number % 3, owner, number / 6 % 3 + 1)
 }
 
-/// Sequences of three claims with right rows, or of up to two claims, on the game of a number. Tells how many vertices the
+/// Sequences of three claims with right rows, or of up to two claims, on the game of a number. Returns how many vertices the
 /// last ones settled.
 fn compare_number(
     rt: &impl Abort,
@@ -211,7 +211,7 @@ fn compare_number(
     }
 }
 
-/// All games of two vertices with priorities below 3. Tells how many vertices the last claims settled.
+/// All games of two vertices with priorities below 3. Returns how many vertices the last claims settled.
 fn compare_numbers(rt: &impl Abort, alloc: Global, three: bool) -> u32 {
     let mut random = Random::new(324);
     let mut settled = 0u32;
@@ -234,7 +234,7 @@ fn every_three_claims_with_right_rows_over_every_game_of_two_vertices_with_prior
     check!(rt; compare_numbers(&rt, rt.alloc(), true) > 30_000);
 }
 
-/// Puts random claims to a new board, by both calls. Tells how many vertices were settled.
+/// Puts random claims to a new board, by both calls. Returns how many vertices were settled.
 fn compare_random(rt: &impl Abort, alloc: Global, random: &mut Random, plain: &[Plain]) -> u32 {
     let game = plain_game(rt, alloc, plain);
     let mut board = new_board(rt, alloc, &game);

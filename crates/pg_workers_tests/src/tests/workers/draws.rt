@@ -16,7 +16,7 @@ fn yield_often(times: u64) {
     }
 }
 
-/// Jobs and their tickets, of which a test is told no more than it needs.
+/// Jobs and their tickets, of which a test looks at no more than it needs.
 fn opened(rt: &impl Abort, alloc: Global, total: u64, seats: u32) -> (Jobs, Vec<Ticket>)
     ensures seats { vec_len result.1 ≡ result.0.seats }
     ensures own { All (λ t. t.series ≡ result.0.series) result.1.items }
@@ -37,7 +37,7 @@ fn one_ticket(rt: &impl Abort, alloc: Global, total: u64) -> (Jobs, Ticket)
     }
 }
 
-/// The next number, of which a test is told nothing.
+/// The next number, which a test does not look at.
 fn next(jobs: &Jobs, ticket: &mut Ticket) -> Option<u64>
     requires { ticket.old.series ≡ jobs.now.series }
     ensures { ticket.new.series ≡ ticket.old.series }
@@ -69,7 +69,7 @@ fn draw_all(jobs: &Jobs, mut ticket: Ticket, stride: u64) -> Ticket
     ticket
 }
 
-/// Asks once more, where the ticket was told that none is left. Says whether a number was drawn.
+/// Asks once more, where a draw returned that none is left. Says whether a number was drawn.
 fn draws_again(jobs: &Jobs, ticket: &mut Ticket) -> bool
     requires series { ticket.old.series ≡ jobs.now.series }
     requires told { ticket.old.told_none ≡ true }
@@ -118,7 +118,7 @@ fn drawn_by_many<R: Threads + Abort + Sync>(
     jobs.close(tickets)
 }
 
-/// How often each number below 4096 was drawn. Each ticket was told that none is left.
+/// How often each number below 4096 was drawn. A draw on each ticket returned that none is left.
 fn counts_of(rt: &impl Abort, alloc: Global, all: &[Drawn]) -> Vec<u8> {
     let mut counts = vec![in alloc; 0u8; 4096].expect(rt, "memory");
     for drawn in all {
@@ -205,7 +205,7 @@ fn a_ticket_that_was_told_none_is_told_none_a_thousand_times_more(rt: HostRuntim
     draws_no_more(&rt, &jobs, draw_all(&jobs, ticket, 0));
 }
 
-/// How many numbers were drawn. Each ticket was told that none is left.
+/// How many numbers were drawn. A draw on each ticket returned that none is left.
 fn drawn_in_all(rt: &impl Abort, all: &[Drawn]) -> usize {
     let mut count = 0usize;
     for drawn in all {
@@ -225,7 +225,7 @@ fn draw_beyond(jobs: &Jobs, ticket: Ticket) -> Ticket
     ticket
 }
 
-/// Each ticket on a thread of its own is told that none is left, and asks a thousand times more.
+/// Each ticket on a thread of its own is drawn on until none is left, and asks a thousand times more.
 #[test]
 fn a_ticket_that_was_told_none_on_a_thread_of_its_own_is_told_none_again(rt: HostRuntime) {
     let (jobs, tickets) = opened(&rt, rt.alloc(), 3, 2);

@@ -359,7 +359,7 @@ pub struct Recorder {
 }
 
 impl Recorder {
-    /// Room for so many jobs.
+    /// Capacity for so many jobs.
     pub fn with_places(alloc: Global, count: u32) -> Result<Recorder, Memory> {
         let mut jobs = Vec::new(alloc);
         for _job in 0..count {

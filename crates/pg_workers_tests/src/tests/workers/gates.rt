@@ -1,4 +1,4 @@
-//! Gates that hold workers, and count what they are told.
+//! Gates that hold workers, and count their calls.
 
 use pg_test_support::{Random, bit, has};
 use pg_workers::Gate;
@@ -19,7 +19,7 @@ pub struct Seen {
     pub posted: [u32; 5],
 }
 
-/// Holds one of two workers at its first `found` until the other's `posted` was seen, before or since. Worker 0 stands for
+/// Holds one of two workers at its first `found` until the other's `posted` was seen, before or since. Worker 0 means
 /// whichever comes first.
 #[derive(Drop)]
 pub struct Holder {
@@ -92,7 +92,7 @@ pub struct Progress {
     pub gave_up: bool,
 }
 
-/// Holds the worker that is told of the first job's posts until the other has had two more copies searched, and the
+/// Holds the worker that reports the first job's posts until the other has had two more copies searched, and the
 /// other before its first post until then.
 #[derive(Drop)]
 pub struct Alternating {
@@ -184,7 +184,7 @@ impl Gate for LastFirst {
     }
 }
 
-/// Who is held in a call, how many workers are in none, and how many jobs are still to be told of.
+/// Who is held in a call, how many workers are in none, and how many jobs are still to be reported.
 #[derive(Drop)]
 pub struct Turn {
     random: Random,
@@ -227,7 +227,7 @@ impl Turn {
         self.under_way = 1;
     }
 
-    /// Draws one of those that are held, or tells 0.
+    /// Draws one of those that are held, or returns 0.
     fn next(&mut self) -> u32 {
         let from = self.random.below(self.workers);
         for step in 0..self.workers {
@@ -240,7 +240,7 @@ impl Turn {
     }
 }
 
-/// Lets one worker go on at a time. Once all are held a seed draws who is next, so it alone makes the order, whatever else
+/// One worker goes on at a time. Once all are held a seed draws who is next, so it alone makes the order, whatever else
 /// the machine has to do. Each worker has to start, and there have to be as many jobs.
 #[derive(Drop)]
 pub struct Turns {

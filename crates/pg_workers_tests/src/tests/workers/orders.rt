@@ -58,7 +58,7 @@ struct Seen {
     gave_up: bool,
 }
 
-/// Holds each worker at its first call until all have come, and then lets them post one after another. So all have
+/// Holds each worker at its first call until all have come; they then post one after another. So all have
 /// searched the whole game, and the first in the order posts first.
 #[derive(Drop)]
 struct Ordered {
@@ -99,7 +99,7 @@ impl Ordered {
         seen.found == self.plan.workers && self.plan.worker_at(seen.posted) == Some(worker)
     }
 
-    /// Looks again and again. Says whether it was let on.
+    /// Looks again and again. Says whether it may go on.
     fn polls<R: Wait>(&self, rt: &R, worker: u32, manner: Manner) -> bool {
         for _ in 0..TURNS {
             if self.may_post(&*self.seen.lock(rt), worker) {
@@ -114,7 +114,7 @@ impl Ordered {
         false
     }
 
-    /// Sleeps until there is a change, and looks again. Says whether it was let on.
+    /// Sleeps until there is a change, and looks again. Says whether it may go on.
     fn sleeps<R: Wait>(&self, rt: &R, worker: u32) -> bool {
         let mut guard = self.seen.lock(rt);
         for _ in 0..TURNS {

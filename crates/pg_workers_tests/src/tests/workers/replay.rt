@@ -245,7 +245,7 @@ fn check_jobs(rt: &impl Abort, report: &[ReportRow], workers: u32) {
     check_eq!(*rt; number, 5);
 }
 
-/// Checks what a run on a game with this number of workers gave, and tells the state at the end.
+/// Checks what a run on a game with this number of workers gave, and returns the state at the end.
 pub fn check_outcome(rt: &impl Abort, game: &[Plain], outcome: &Outcome, workers: u32) -> State {
     let end = match replay(game, outcome.entries.as_slice()) {
         Ok(state) => state,

@@ -136,7 +136,7 @@ fn a_worker_goes_on_after_stale_and_refused_claims(rt: HostRuntime) {
 
 const ONE_STALE: Told = ([0, 0, 1, 0], false, false);
 
-/// Three claims of a million rows each are refused, and the good one behind them is posted.
+/// Three claims of a million rows each are refused, and the good one after them is posted.
 const LONG: [Told; 5] = [
     ([1, 1, 0, 3], false, false),
     ONE_STALE,

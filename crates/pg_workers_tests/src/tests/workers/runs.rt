@@ -13,14 +13,14 @@ use std::thread::Threads;
 
 const ONCE: &[u32] = &[1; 5];
 
-/// Nobody gave up, and each job was told of once before and once after its posts.
+/// Nobody gave up, and each job was reported once before and once after its posts.
 fn check_seen(rt: &impl Abort, seen: &Seen) {
     check!(*rt; !seen.gave_up);
     check_eq!(*rt; seen.found.as_slice(), ONCE);
     check_eq!(*rt; seen.posted.as_slice(), ONCE);
 }
 
-/// Two workers on the game of two winners, one of which is held. Each job is told of once before and once after its posts.
+/// Two workers on the game of two winners, one of which is held. Each job is reported once before and once after its posts.
 fn held_run<R: Threads + Wait + Abort + Sync>(
     rt: &R,
     alloc: Global,

@@ -171,7 +171,7 @@ fn run_side_by_side<R: Threads + Wait + Abort + Sync, F: Finder>(
     checked_run(rt, alloc, both, seed, &Schedule::new(seed), finder)
 }
 
-/// Checks the run with one worker, who posts these claims in each job, and tells the bounds for runs with several.
+/// Checks the run with one worker, who posts these claims in each job, and returns the bounds for runs with several.
 fn bounds_of(
     rt: &impl Abort,
     plain: &[Plain],
@@ -196,7 +196,7 @@ fn alone<R: Threads + Wait + Abort + Sync, F: Finder>(
     bounds_of(rt, both.plain.as_slice(), &outcome, &claims)
 }
 
-/// The game in turns. Tells the order.
+/// The game in turns. Returns the order.
 fn order_of<R: Threads + Wait + Abort + Sync, F: Finder>(
     rt: &R,
     alloc: Global,

@@ -1,4 +1,4 @@
-//! Workers search at once where the gate lets each of them pass.
+//! Workers search at once where the gate holds none of them.
 
 use crate::tests::workers::finders::answer;
 use crate::tests::workers::games::run_on;

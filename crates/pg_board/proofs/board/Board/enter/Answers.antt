@@ -9,35 +9,35 @@ use Rattle.pg_board.proofs.board.Board.enter.Goals as goal
 
 -- what is required, said of the fields
 entering : (c : After-len-claimed)
-    → IsEntering c.self.inside.game.now c.self.inside.entries.items c.self.inside.regions c.self.inside.number c.args.player c.args.rows.now.items
+    → IsEntering c.self.inside.game.now c.self.inside.entries.items c.self.inside.regions c.self.inside.number c.args.player c.args.rows.items
 entering c = record {
   game = c.len-n.ensures.game;
   board = c.self.invariant;
-  good = subst (λ (y : Play). IsGoodOn y.graph (state_of y.journal) c.args.player c.args.rows.now.items) (sym c.self.view_is) c.requires.good;
-  twice = subst (λ (y : Play). rest_of (state_of y.journal) c.args.rows.now.items ≡ c.args.rows.now.items) (sym c.self.view_is) c.requires.unsettled;
+  good = subst (λ (y : Play). IsGoodOn y.graph (state_of y.journal) c.args.player c.args.rows.items) (sym c.self.view_is) c.requires.good;
+  twice = subst (λ (y : Play). rest_of (state_of y.journal) c.args.rows.items ≡ c.args.rows.items) (sym c.self.view_is) c.requires.unsettled;
 }
 
 grown : (c : After-len-settled)
-    → HasGrown c.self.inside.game.now c.args.player c.self.inside.regions c.attract.new.self c.args.rows.now.items c.attract.new.rows.items
+    → HasGrown c.self.inside.game.now c.args.player c.self.inside.regions c.attract.new.self c.args.rows.items c.attract.new.rows.items
 grown c =
     let settled = c.settle_all.ensures in let attracted = c.attract.ensures in
-    has_grown c.self.inside.game.now c.args.player c.settle_all.new.self c.attract.new.self c.args.rows.now.items c.attract.new.rows.items attracted.grows
+    has_grown c.self.inside.game.now c.args.player c.settle_all.new.self c.attract.new.self c.args.rows.items c.attract.new.rows.items attracted.grows
     c.self.inside.regions c.as_slice.result.now c.as_slice.ensures.value settled.same settled.told attracted.growing.regions attracted.done
 
 -- the number of the rows
-size_is : (c : After-len-settled) → length c.copy_or_take-entered.result.items ≡ length c.attract.new.rows.items
-size_is c = ap (λ (xs : ClaimRows). length xs) c.copy_or_take-entered.ensures
+size_is : (c : After-len-settled) → length c.shrink_to_fit.new.self.items ≡ length c.attract.new.rows.items
+size_is c = ap (λ (xs : ClaimRows). length xs) c.shrink_to_fit.ensures.items
 
 abbrev entry : After-push_reserved → Entry
 entry c = record { worker = c.args.worker; player = c.args.player; claimed = c.len-claimed.result; rows = c.new.result }
 
-has_rows : (c : After-push_reserved) → HasRows (entry c) c.args.player c.args.rows.now.items c.attract.new.rows.items
-has_rows c = search (rules, c.len-claimed.ensures, c.args.rows.now.ok.0, c.new.ensures, c.copy_or_take-entered.ensures)
+has_rows : (c : After-push_reserved) → HasRows (entry c) c.args.player c.args.rows.items c.attract.new.rows.items
+has_rows c = search (rules, c.len-claimed.ensures, c.args.rows.ok.0, c.new.ensures, c.shrink_to_fit.ensures.items)
 
 settled_is : (c : After-push_reserved) → c.len-settled.result ≡ length c.new.result
 settled_is c =
-    let copied : length c.new.result ≡ length c.copy_or_take-entered.result.items = ap (λ (xs : ClaimRows). length xs) c.new.ensures in
-    omega (arith, copied, c.len-settled.ensures, c.copy_or_take-entered.result.ok.0)
+    let copied : length c.new.result ≡ length c.shrink_to_fit.new.self.items = ap (λ (xs : ClaimRows). length xs) c.new.ensures in
+    omega (arith, copied, c.len-settled.ensures, c.shrink_to_fit.new.self.ok.0)
 
 pub attract-requires-clause-growing : goal.attract-requires-clause-growing
 attract-requires-clause-growing c = search (rules, c.self.view_is, c.requires.room, c.as_slice.ensures.value, IsGrowing-more, c.settle_all.ensures.growing)
@@ -59,17 +59,17 @@ attract-requires-clause-subgame c =
 pub overflow_cast-claimed : goal.overflow_cast-claimed
 overflow_cast-claimed c =
     let fits = few (entering (goal.at.overflow_cast-claimed c).After-len-claimed) in
-    omega (arith, fits, c.len-n.ensures.limits.vertices, c.len-claimed.ensures, c.args.rows.now.ok.0)
+    omega (arith, fits, c.len-n.ensures.limits.vertices, c.len-claimed.ensures, c.args.rows.ok.0)
 
 pub overflow_cast-settled : goal.overflow_cast-settled
 overflow_cast-settled c =
     let at = goal.at.overflow_cast-settled c in let fits = grown_fits (entering at.After-len-claimed) (grown at.After-len-settled) in
-    omega (arith, fits, size_is at.After-len-settled, c.len-n.ensures.limits.vertices, c.len-settled.ensures, c.copy_or_take-entered.result.ok.0)
+    omega (arith, fits, size_is at.After-len-settled, c.len-n.ensures.limits.vertices, c.len-settled.ensures, c.shrink_to_fit.new.self.ok.0)
 
 pub overflow_add-self : goal.overflow_add-self
 overflow_add-self c =
     let at = goal.at.overflow_add-self c in let fits = grown_fits (entering at.After-len-claimed) (grown at.After-len-settled) in
-    omega (arith, fits, size_is at.After-len-settled, c.len-n.ensures.limits.vertices, c.len-settled.ensures, c.copy_or_take-entered.result.ok.0)
+    omega (arith, fits, size_is at.After-len-settled, c.len-n.ensures.limits.vertices, c.len-settled.ensures, c.shrink_to_fit.new.self.ok.0)
 
 pub invariant_of-self-2 : goal.invariant_of-self-2
 invariant_of-self-2 c =
@@ -85,7 +85,7 @@ returns-clause-added c =
     let old : length c.reserve.new.self.items ≡ length b.entries.items = ap (λ (xs : Journal). length xs) c.reserve.ensures.items in
     let posted : Posted = record { entry = c.len-entry.result; claimed = c.len-claimed.result; settled = c.len-settled.result } in
     let now : Play = record { graph = b.game.now; journal = c.push_reserved.new.self.items } in
-    subst (λ (x : Play). Adds x now c.args.worker (record { player = c.args.player; rows = c.args.rows.now.items }) posted) c.self.view_is (record {
+    subst (λ (x : Play). Adds x now c.args.worker (record { player = c.args.player; rows = c.args.rows.items }) posted) c.self.view_is (record {
       entry = e;
       journal = search rules;
       answers = entry_answers (entering at.After-len-claimed) (grown at.After-len-settled) e (has_rows at.After-push_reserved);
@@ -98,10 +98,10 @@ returns-clause-added c =
 pub overflow_add-is_full : goal.overflow_add-is_full
 overflow_add-is_full c =
     let fits = few (entering (goal.at.overflow_add-is_full c).After-len-claimed) in
-    omega (arith, fits, c.len-n.ensures.limits.vertices, c.len-claimed.ensures, c.args.rows.now.ok.0)
+    omega (arith, fits, c.len-n.ensures.limits.vertices, c.len-claimed.ensures, c.args.rows.ok.0)
 
 pub attract-requires-clause-full : goal.attract-requires-clause-full
 attract-requires-clause-full c =
     none_left (entering (goal.at.attract-requires-clause-full c).After-len-claimed) c.settle_all.new.self c.as_slice.result.now
-    c.as_slice.ensures.value c.settle_all.ensures.same c.settle_all.ensures.growing.apart (c.len-claimed.ensures ∙ c.args.rows.now.ok.0)
+    c.as_slice.ensures.value c.settle_all.ensures.same c.settle_all.ensures.growing.apart (c.len-claimed.ensures ∙ c.args.rows.ok.0)
     c.len-n.ensures.number

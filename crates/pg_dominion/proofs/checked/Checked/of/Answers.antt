@@ -1,4 +1,4 @@
-use Rattle.pg_dominion.proofs.Common.{◌≡◌, sym, subst, ClaimRows, IsSound}
+use Rattle.pg_dominion.proofs.Common.{sym, subst, ClaimRows, IsSound}
 use Rattle.pg_dominion.proofs.Recorded.{checked}
 use Rattle.pg_dominion.proofs.checked.Checked.of.Goals as goal
 

@@ -1,5 +1,5 @@
 use Rattle.pg_dominion.proofs.Common.{◌≡◌, ℕ, ◌<◌, sym, ◌∙◌, subst, arith, get_or_default, In, IsWorst}
-use Rattle.std.specs.Prelude.{slice_index, IsSome}
+use Rattle.std.specs.Prelude.{slice_index}
 use Rattle.pg_game.specs.VertexSet.{members}
 use Rattle.pg_dominion.proofs.Searching.{OnTop-from_reaches, not_below}
 use Rattle.pg_dominion.proofs.Starts.{none_before, none_more}
@@ -20,27 +20,25 @@ starts-preserved-then-is_alone c =
     let inv = c.starts.invariant in
     record {
       searches = inv.searches;
-      patience = inv.patience;
+      bounded = inv.bounded;
       listed = inv.listed;
       none = none_more c.args.kept.now c.starts.self.starts.items c.starts.at c.index-v.result.now
           (listed (goal.at.starts-preserved-then-is_alone c).After-is_alone) inv.none (c.is_alone.ensures c.if-is_alone.true);
     }
 
-pub returns-then-is_out_of_patience-clause-found : goal.returns-then-is_out_of_patience-clause-found
-returns-then-is_out_of_patience-clause-found c = (
-  subst IsSome c.starts.invariant.patience (c.is_out_of_patience.ensures
-      c.if-is_out_of_patience.true),
-  before (goal.at.returns-then-is_out_of_patience-clause-found c).After-is_alone,
-)
+pub returns-in_default-clause-found : goal.returns-in_default-clause-found
+returns-in_default-clause-found c =
+    let most = c.in_ok-found.ensures.given_up c.in_default.is in
+    (omega (arith, most, c.starts.invariant.bounded), before (goal.at.returns-in_default-clause-found c).After-is_alone)
 
-pub returns-then-branch-clause-found : goal.returns-then-branch-clause-found
-returns-then-branch-clause-found c =
+pub returns-then-leads_back-clause-found : goal.returns-then-leads_back-clause-found
+returns-then-leads_back-clause-found c =
     let k = c.args.kept.now in
-    let b = (goal.at.returns-then-branch-clause-found c).After-is_alone in
+    let b = (goal.at.returns-then-leads_back-clause-found c).After-is_alone in
     record {
       has = (
         subst (λ (x : ℕ). In (members k.bad) x) (sym (listed b)) (c.starts.invariant.listed.bad c.starts.at c.starts-test.true),
-        OnTop-from_reaches k c.index-v.result.now (c.in_ok-walks_back.ensures.back c.if-branch.true),
+        OnTop-from_reaches k c.index-v.result.now (c.in_ok-found.ensures.back (cc (c.in-Some.is, c.if-leads_back.true))),
       );
       least = λ u w. not_below (IsWorst k) c.index-v.result.now u (before b) w;
     }
@@ -48,11 +46,11 @@ returns-then-branch-clause-found c =
 pub starts-preserved : goal.starts-preserved
 starts-preserved c =
     let inv = c.starts.invariant in
-    let h = c.in_ok-walks_back.ensures in
+    let h = c.in_ok-found.ensures in
     record {
       searches = record { labels = h.labels; places = h.size; starts = inv.searches.starts };
-      patience = inv.patience;
+      bounded = omega (arith, inv.bounded);
       listed = inv.listed;
       none = none_more c.args.kept.now c.starts.self.starts.items c.starts.at c.index-v.result.now
-          (listed (goal.at.starts-preserved c).After-is_alone) inv.none (h.none c.if-branch.false);
+          (listed (goal.at.starts-preserved c).After-is_alone) inv.none (h.none (cc (c.in-Some.is, c.if-leads_back.false)));
     }

@@ -1,39 +1,40 @@
-use Rattle.pg_game.proofs.Common.{◌≡◌, List, ℕ, refl, subst, sym, arith, ap, length, ◌∙◌, All, None, Spec, AreNumbers, IsGameOf, first_fault, specs_from}
-use Rattle.pg_game.proofs.Common.{graph_of, ArePlaced}
-use Rattle.pg_game.proofs.Laid.{placed_none, placed_game, placed_of, placed_listed}
+use Rattle.pg_game.proofs.Common.{◌≤◌, sym, ◌∙◌, arith, get_or_read, edges, max_edges}
+use Rattle.pg_game.proofs.Sound.{without_named, edges_named, unknown_named, rows_sound}
+use Rattle.pg_game.proofs.Placing.{unknown_at, all_known, parts_placed, placed_specs, few_edges}
+use Rattle.pg_game.proofs.Taken.{length_is}
 use Rattle.pg_game.proofs.flat.Specs.placed.Goals as goal
 
-placed_at : (c : goal.In_ok-from_slice-3) → ArePlaced c.self.inside.ids.items c.self.inside.rows c.in-Some.rows
-placed_at c =
-    let n : length c.as_slice-ids.result.now ≡ length c.self.inside.ids.items = ap (λ (xs : List ℕ). length xs) c.as_slice-ids.ensures.value in
-    record {
-      some = grind (arith, c.if-is_empty.false, c.is_empty.ensures, n);
-      few = omega (arith, n, c.if-ids-gt-MAX_VERTICES.false);
-      rising = rw c.as_slice-ids.ensures.value at (c.if-not-is_rising.ensures refl);
-      laid = rw (c.in-Some.is, c.as_slice-ids.ensures.value) at c.in_ok-rows.ensures;
-    }
+pub returns-in-Some-clause-fault : goal.returns-in-Some-clause-fault
+returns-in-Some-clause-fault c = without_named c.args.self (sym c.first_without.ensures ∙ c.in-Some.is)
 
-numbers_at : (c : goal.In_ok-from_slice-3) → All AreNumbers
-    (specs_from c.self.inside.ids.items c.self.inside.priorities.items c.self.inside.owners.items c.self.inside.rows)
-numbers_at c = subst (λ (xs : List Spec). All AreNumbers xs) (sym c.self.view_is) c.requires
+pub returns-then-branch-clause-fault : goal.returns-then-branch-clause-fault
+returns-then-branch-clause-fault c = edges_named c.args.self (sym c.in_default.ensures) (c.in_ok-has_too_many_edges.ensures.0 c.if-branch.true)
 
-pub invariant_of-result : goal.invariant_of-result
-invariant_of-result c =
-    let s = c.self.inside in
-    let ids : c.in_ok-from_slice.field-0.items ≡ s.ids.items = c.in_ok-from_slice.ensures.items ∙ c.as_slice-ids.ensures.value in
-    let ps : c.in_ok-from_slice-2.field-0.items ≡ s.priorities.items = c.in_ok-from_slice-2.ensures.items ∙ c.as_slice.ensures.value in
-    let os : c.in_ok-from_slice-3.field-0.items ≡ s.owners.items = c.in_ok-from_slice-3.ensures.items ∙ c.as_slice-2.ensures.value in
-    rw (ids, ps, os) (placed_listed c.self.invariant (placed_at c) (numbers_at c))
+pub place-requires : goal.place-requires
+place-requires c = omega (arith, length_is c.self.invariant c.self.view_is, c.self.invariant.successors, c.requires.few)
 
-pub returns : goal.returns
-returns c =
-    let s = c.self.inside in
-    let ids : c.in_ok-from_slice.field-0.items ≡ s.ids.items = c.in_ok-from_slice.ensures.items ∙ c.as_slice-ids.ensures.value in
-    let ps : c.in_ok-from_slice-2.field-0.items ≡ s.priorities.items = c.in_ok-from_slice-2.ensures.items ∙ c.as_slice.ensures.value in
-    let os : c.in_ok-from_slice-3.field-0.items ≡ s.owners.items = c.in_ok-from_slice-3.ensures.items ∙ c.as_slice-2.ensures.value in
-    let g = graph_of s.ids.items s.priorities.items s.owners.items c.in-Some.rows in
-    rw (ids, ps, os) (
-      placed_game c.self.invariant (placed_at c) (numbers_at c),
-      subst (λ (xs : List Spec). IsGameOf xs g) c.self.view_is (placed_of c.self.invariant (placed_at c) (numbers_at c)),
-      subst (λ (xs : List Spec). first_fault xs ≡ None) c.self.view_is (placed_none c.self.invariant (placed_at c)),
-    )
+pub returns-in-Some-place-clause-fault : goal.returns-in-Some-place-clause-fault
+returns-in-Some-place-clause-fault c =
+    let m = c.in-Some-place.ensures.missing in
+    let v = c.in-Some-place.v in
+    let le : edges c.args.self ≤ max_edges = few_edges _ c.args.self c.in_ok-has_too_many_edges.ensures c.if-branch.false in
+    let e = unknown_at c.self.invariant c.self.view_is c.requires.names v c.in-Some-place.successor m.0 m.1 m.2 in
+    let id = get_or_read c.self.inside.ids.items v _ (omega (arith, m.0, c.self.invariant.successors)) c.index.ensures 0 in
+    rw id (unknown_named c.args.self (sym c.in_default.ensures) le e)
+
+pub risen-requires : goal.risen-requires
+risen-requires c = omega (arith, c.place.ensures.size, length_is c.self.invariant c.self.view_is, c.self.invariant.successors, c.requires.few)
+
+pub of_parts-requires : goal.of_parts-requires
+of_parts-requires c = parts_placed c.self.invariant c.self.view_is c.requires.names c.in_ok-rows.rows (c.in_ok-rows.ensures.size ∙ c.place.ensures.size)
+
+pub returns-clause-placed : goal.returns-clause-placed
+returns-clause-placed c =
+    let n = c.place.ensures.size in
+    rw c.of_parts.ensures (placed_specs c.self.invariant c.self.view_is c.requires.names c.place.new.self c.in_ok-rows.rows (c.in_ok-rows.ensures.size ∙ n) c.in_default-place.ensures.placed
+    (λ v l. c.in_ok-rows.ensures.rising v (omega (arith, l, n))) (λ v w l. c.in_ok-rows.ensures.same v w (omega (arith, l, n))))
+
+pub returns-clause-sound : goal.returns-clause-sound
+returns-clause-sound c =
+    let le : edges c.args.self ≤ max_edges = few_edges _ c.args.self c.in_ok-has_too_many_edges.ensures c.if-branch.false in
+    rows_sound c.args.self (sym c.in_default.ensures) le (all_known c.self.invariant c.self.view_is c.requires.names c.place.new.self c.in_default-place.ensures.placed)

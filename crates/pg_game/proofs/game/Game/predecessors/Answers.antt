@@ -1,11 +1,10 @@
-use Rattle.pg_game.proofs.Common.{subst, arith, Graph, ArePredecessors}
-use Rattle.pg_game.proofs.Parts.{length_is}
+use Rattle.pg_game.proofs.Common.{arith, ap, length, Graph}
 use Rattle.pg_game.proofs.game.Game.predecessors.Goals as goal
 
 pub row-requires : goal.row-requires
-row-requires c = omega (arith, length_is c.self.invariant.parts c.self.view_is, c.self.invariant.size)
+row-requires c = let n = ap (λ (g : Graph). length g) c.self.view_is in omega (arith, n, c.self.invariant.size, c.requires)
 
 pub returns : goal.returns
 returns c =
-    let are = c.self.invariant.predecessors c.args.v (omega (arith, length_is c.self.invariant.parts c.self.view_is)) in
-    subst (λ (g : Graph). ArePredecessors g c.args.v c.row.result.now) c.self.view_is (rw c.row.ensures.row are)
+    let n = ap (λ (g : Graph). length g) c.self.view_is in
+    rw (c.row.ensures.row, ← c.self.view_is) (c.self.invariant.each c.args.v (omega (arith, n, c.requires)))

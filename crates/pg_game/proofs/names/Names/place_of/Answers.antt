@@ -1,4 +1,5 @@
-use Rattle.pg_game.proofs.Common.{◌<◌, arith}
+use Rattle.pg_game.proofs.Common.{◌<◌, sym, arith}
+use Rattle.pg_game.proofs.Places.{stood}
 use Rattle.pg_game.proofs.OwnPlaces.{own_length, own_at}
 use Rattle.pg_game.proofs.names.Names.place_of.Goals as goal
 
@@ -12,3 +13,9 @@ returns-else-id-count-clause-missing c = λ v l e.
     let is = rw c.in-Own.is at c.self.view_is in
     let k : v < c.in-Own.count = omega (arith, own_length is, l) in
     omega (arith, own_at is v k, e)
+
+pub returns-in-Some-clause-found : goal.returns-in-Some-clause-found
+returns-in-Some-clause-found c =
+    let is = rw c.in-Listed.is at c.self.view_is in
+    let s = stood c.in-Listed.ids.keys c.args.id c.in-Some.v (sym c.in-Some.ensures.index) in
+    rw (← is) s

@@ -10,7 +10,7 @@ invariant_of-self-2 c =
     let end : c.len-end.result ≡ length ts = omega arith in
     rw (c.push_reserved.ensures.items, c.push_reserved-2.ensures.items, c.push_reserved-3.ensures.items, c.push_reserved-4.ensures.items)
     (rw (c.in_ok-reserve.ensures.items, c.in_ok-reserve-2.ensures.items, c.in_ok-reserve-3.ensures.items, c.in_ok-reserve-4.ensures.items, end) record {
-      compressed = compressed_closed _ ts c.self.inside.closed c.self.invariant.compressed (omega (arith, c.if-len.false)) (omega (arith, end, c.if-end.false));
+      compressed = compressed_closed _ ts c.self.inside.closed c.self.invariant.compressed;
       within = omega arith;
       parts = rw (rows_closed _ ts c.self.inside.closed c.self.invariant.compressed)
           (parts_more c.self.invariant.parts c.args.id c.args.priority c.args.owner row);

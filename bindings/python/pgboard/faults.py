@@ -1,0 +1,214 @@
+"""The faults that calls raise: a class for each, with its text."""
+
+from __future__ import annotations
+
+from typing import Dict, Type
+
+__all__ = [
+    "Fault", "Refused", "NotASolution", "NotKnown", "BadText", "OutOfMemory",
+    "BadLengths", "BadRow", "BadOwner", "BadPriority", "BadResults", "BadWinner", "MissingAttribute",
+    "NoVertex", "TooManyVertices", "SpecifiedTwice", "NoSuccessor", "TooManyEdges", "UnknownSuccessor",
+    "NoChoice", "BadChoice", "Leaves", "BadCycle", "KnownChoice", "KnownCycle", "KnownLost", "KnownLeaves",
+    "TextTooLong", "NoToken", "NotExpected", "NumberTooLarge", "NoPlayer", "Stranger", "WrittenTwice", "NotWritten",
+]  # fmt: skip
+
+# the arrays by the numbers of include/pgboard.h
+ARRAYS = {1: "priorities", 2: "starts of rows", 3: "successors", 4: "winners", 5: "choices"}
+
+
+class Fault(ValueError):
+    """Why there is no answer: `at` and `to` are the vertices, the place in a text or the number of the array that it is about."""
+
+    words = "{at}"
+
+    def __init__(self, at: int = 0, to: int = 0) -> None:
+        super().__init__(at, to)
+        self.at, self.to = at, to
+
+    def __str__(self) -> str:
+        return self.words.format(at=self.at, to=self.to, array=ARRAYS.get(self.at, "arrays"))
+
+
+class Refused(Fault):
+    """A game, or winners and choices, or a text, that can't be taken as one."""
+
+
+class NotASolution(Fault):
+    """Winners and choices that are no solution."""
+
+
+class NotKnown(Fault):
+    """What is given as known of a game doesn't hold."""
+
+
+class OutOfMemory(Fault, MemoryError):
+    words = "memory was refused"
+
+
+class BadLengths(Refused):
+    words = "the {array} do not fit the owners: there is one owner, one priority and one row of successors for each vertex"
+
+
+class BadRow(Refused):
+    words = "vertex {at}: its row is no part of the successors"
+
+
+class BadOwner(Refused):
+    words = "vertex {at}: the owner is neither 0 nor 1"
+
+
+class BadPriority(Refused):
+    words = "vertex {at}: the priority is not from 0 to 2147483647"
+
+
+class BadResults(Refused):
+    words = "the {array} have not one entry for each vertex"
+
+
+class BadWinner(Refused):
+    words = "vertex {at}: the winner is neither 0 nor 1"
+
+
+class MissingAttribute(Refused):
+    """A node of a graph that has not the attribute `owner` or `priority`; `at` is its place in the order of nodes."""
+
+    def __init__(self, at: int, node: object, attribute: str) -> None:
+        super().__init__(at)
+        self.args = (at, node, attribute)
+        self.node, self.attribute = node, attribute
+
+    def __str__(self) -> str:
+        return f"node {self.node!r} has no attribute {self.attribute!r}"
+
+
+class NoVertex(Refused):
+    words = "there is no vertex"
+
+
+class TooManyVertices(Refused):
+    words = "there are too many vertices"
+
+
+class SpecifiedTwice(Refused):
+    words = "vertex {at} is specified twice"
+
+
+class NoSuccessor(Refused):
+    words = "vertex {at} has no successor"
+
+
+class TooManyEdges(Refused):
+    words = "there are too many edges"
+
+
+class UnknownSuccessor(Refused):
+    words = "vertex {at}: the successor {to} is no vertex"
+
+
+class NoChoice(NotASolution):
+    words = "vertex {at}: its winner owns it and has no choice"
+
+
+class BadChoice(NotASolution):
+    words = "vertex {at}: the choice is no successor"
+
+
+class Leaves(NotASolution):
+    words = "vertex {at}: a kept edge leads to {to}, which the other player wins"
+
+
+class BadCycle(NotASolution):
+    words = "vertex {at}: its priority is the loser's, and the greatest on a closed walk"
+
+
+class KnownChoice(NotKnown):
+    words = "vertex {at}: its owner is known to win it, and has no choice that is a successor"
+
+
+class KnownCycle(NotKnown):
+    words = "vertex {at}: its priority is the other player's, and the greatest on a closed walk in what is known"
+
+
+class KnownLost(NotKnown):
+    words = "vertex {at} is known for player 1, and player 0 attracts it to what is known for him"
+
+
+class KnownLeaves(NotKnown):
+    words = "vertex {at}: a kept edge leads to {to}, which is not known for the same player"
+
+
+class BadText(Refused):
+    """A text that is not of its format: `at` is the place, in bytes from 0."""
+
+
+class TextTooLong(BadText):
+    words = "the text is longer than 268435456 bytes"
+
+
+class NoToken(BadText):
+    words = "byte {at}: no token"
+
+
+class NotExpected(BadText):
+    words = "byte {at}: not expected"
+
+
+class NumberTooLarge(BadText):
+    words = "byte {at}: number too large"
+
+
+class NoPlayer(BadText):
+    words = "byte {at}: neither 0 nor 1"
+
+
+class Stranger(Refused):
+    words = "vertex {at} is not in the game"
+
+
+class WrittenTwice(Refused):
+    words = "vertex {at} is written twice"
+
+
+class NotWritten(Refused):
+    words = "vertex {at} is not written"
+
+
+# the exception of each answer of include/pgboard.h, but for the two that are never handed on: the size of a struct (9), which is made
+# here, and a buffer that is too small (50), which is asked for again
+FAULTS: Dict[int, Type[Fault]] = {
+    1: OutOfMemory,
+    2: BadLengths,
+    3: BadRow,
+    4: BadOwner,
+    5: BadPriority,
+    6: BadResults,
+    7: BadWinner,
+    8: BadResults,
+    10: NoVertex,
+    11: TooManyVertices,
+    12: SpecifiedTwice,
+    13: NoSuccessor,
+    14: TooManyEdges,
+    15: UnknownSuccessor,
+    20: NoChoice,
+    21: BadChoice,
+    22: Leaves,
+    23: BadCycle,
+    30: TextTooLong,
+    31: NoToken,
+    32: NotExpected,
+    33: NumberTooLarge,
+    34: NoPlayer,
+    40: TextTooLong,
+    41: NoToken,
+    42: NotExpected,
+    43: NumberTooLarge,
+    44: NoPlayer,
+    45: Stranger,
+    46: WrittenTwice,
+    47: NotWritten,
+    60: KnownChoice,
+    61: KnownCycle,
+    62: KnownLost,
+    63: KnownLeaves,
+}

@@ -1,0 +1,69 @@
+use Rattle.pg_board.proofs.Common.{◌≡◌, ◌<◌, length, refl, sym, ◌∙◌, subst, arith, Claim, ClaimRows, Play, rest_of, IsGoodOn, state_of, Refuses, Adds}
+use Rattle.pg_board.proofs.RestIsGood.{rest_is_good, rest_twice}
+use Rattle.pg_board.proofs.Posting.{IsChecked, rest_now, rest_right_here, rest_open, refused_open, claim_good, nonempty, sound_here, adds_claim, few_rows}
+use Rattle.pg_board.specs.declared.refusal.Refusal.TheVariants as refusal
+use Rattle.pg_board.proofs.board.Board.settle_sound.Goals.{After-as_slice}
+use Rattle.pg_board.proofs.board.Board.settle_sound.Goals as goal
+
+-- the claim and its rest
+checked : (c : After-as_slice)
+    → IsChecked c.self.inside.game.now c.self.inside.entries.items c.self.inside.regions c.self.inside.number c.args.claim.now.player
+    c.args.claim.now.rows c.as_slice.result.now
+checked c = record {
+  board = c.self.invariant;
+  sound = sound_here c.self.view_is c.requires;
+  none = c.in_default.ensures;
+  rest_is = c.as_slice.ensures.value ∙ c.rest_of.ensures.rows;
+}
+
+pub rest_of-requires-clause-room : goal.rest_of-requires-clause-room
+rest_of-requires-clause-room c =
+    omega (arith, few_rows (sound_here c.self.view_is c.requires).shape.right, c.in_ok-rows.ensures.capacity, c.len-n.ensures.number)
+
+pub first_open-edge-requires-clause-right : goal.first_open-edge-requires-clause-right
+first_open-edge-requires-clause-right c = rest_right_here (checked (goal.at.first_open-edge-requires-clause-right c).After-as_slice)
+
+pub first_open-edge-requires-clause-unsettled : goal.first_open-edge-requires-clause-unsettled
+first_open-edge-requires-clause-unsettled c = rest_open (checked (goal.at.first_open-edge-requires-clause-unsettled c).After-as_slice)
+
+pub returns-in-Some-edge-clause-refused : goal.returns-in-Some-edge-clause-refused
+returns-in-Some-edge-clause-refused c =
+    let claim = c.args.claim.now in
+    let edge = c.in-Some-edge in
+    let h = checked (goal.at.returns-in-Some-edge-clause-refused c).After-as_slice in
+    subst (λ (x : Play). Refuses x.graph (state_of x.journal) claim.player claim.rows (refusal.Open edge.v edge.w)) c.self.view_is
+    (refused_open h edge.v edge.w edge.ensures.edge)
+
+pub enter-requires-clause-good : goal.enter-requires-clause-good
+enter-requires-clause-good c =
+    let g = c.self.inside.game.now in
+    let st = state_of c.self.inside.entries.items in
+    let claim = c.args.claim.now in
+    let all = c.as_slice.ensures.value in
+    let h = checked (goal.at.enter-requires-clause-good c).After-as_slice in
+    let some = nonempty c.rest_of.new.rest.items (c.rest_of.new.rest.ok.0) (sym c.is_empty.ensures ∙ c.if-is_empty.false) in
+    let good = claim_good h (subst (λ (xs : ClaimRows). 0 < length xs) (sym all) some) c.in_default-edge.ensures.edge in
+    subst (λ (xs : ClaimRows). IsGoodOn g st claim.player xs) (sym (rest_now h) ∙ all) (rest_is_good g st claim.player claim.rows good)
+
+pub enter-requires-clause-unsettled : goal.enter-requires-clause-unsettled
+enter-requires-clause-unsettled c =
+    let st = state_of c.self.inside.entries.items in
+    let h = checked (goal.at.enter-requires-clause-unsettled c).After-as_slice in
+    subst (λ (xs : ClaimRows). rest_of st xs ≡ xs) (sym (rest_now h) ∙ c.as_slice.ensures.value) (rest_twice st c.args.claim.now.rows)
+
+pub returns-clause-posted : goal.returns-clause-posted
+returns-clause-posted c =
+    let claim = c.args.claim.now in
+    let rest = c.rest_of.new.rest.items in
+    let p = claim.player in
+    let all = c.as_slice.ensures.value in
+    let h = checked (goal.at.returns-clause-posted c).After-as_slice in
+    let some = nonempty rest (c.rest_of.new.rest.ok.0) (sym c.is_empty.ensures ∙ c.if-is_empty.false) in
+    let good = claim_good h (subst (λ (xs : ClaimRows). 0 < length xs) (sym all) some) c.in_default-edge.ensures.edge in
+    let posted = c.in_ok-enter.field-0 in
+    let here = subst (λ (x : Play). rest ≡ rest_of (state_of x.journal) claim.rows) c.self.view_is (sym all ∙ rest_now h) in
+    let rest_claim : Claim = record { player = p; rows = rest } in
+    let added = subst (λ (x : Play). Adds x c.enter.new.self c.args.worker rest_claim posted) c.self.view_is c.in_ok-enter.ensures.added in (
+      subst (λ (x : Play). IsGoodOn x.graph (state_of x.journal) p claim.rows) c.self.view_is good,
+      adds_claim c.args.self.now c.enter.new.self c.args.worker p rest claim posted refl here added,
+    )
