@@ -42,7 +42,7 @@ pub use Rattle.pg_text.specs.declared.solution.Solution.{Solution}
 pub use Rattle.pg_text.specs.declared.solution_grammar.SolutionLine.{SolutionLine}
 pub use Rattle.pg_text.specs.private.FirstFault.{FirstLarge, first_at, placed}
 pub use Rattle.pg_text.specs.private.GameRun.{Front, Listing, Named, Priority, Reading, Successor, front, line, run, step, with_line}
-pub use Rattle.pg_text.specs.private.Piece.{IsNoToken, IsPieceOf, IsRun, IsToken}
+pub use Rattle.pg_text.specs.private.Lexeme.{IsNoToken, IsLexemeOf, IsRun, IsToken}
 pub use Rattle.pg_text.specs.private.Reach.{IsBadFrom, ReadsTo, SpellsRest}
 pub use Rattle.pg_text.specs.private.SolutionReads.{line_of}
 pub use Rattle.pg_text.specs.private.SolutionRun.{Choice}

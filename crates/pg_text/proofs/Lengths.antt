@@ -2,14 +2,14 @@
 use Rattle.pg_text.proofs.Common.{ℕ, ◌+◌, ◌*◌, ◌<◌, ◌≤◌, List, [], ◌∷◌, ◌++◌, length, map, arith, length-append, numeral, rules, Option, None, IfSome}
 use Rattle.pg_text.proofs.Common.{codes, flat_map, AllByRecursion, join_with_byte, Player, digit_of, Graph, Vertex, IsGame, id_of, no_vertex, max_number}
 use Rattle.pg_text.proofs.Common.{IsWithinLimits, SolutionRows, AreSolutionRows, greatest_id, written_vertex, written_game, written_choice, written_rows}
-use Rattle.pg_text.proofs.Common.{written_solution, written_winners}
+use Rattle.pg_text.proofs.Common.{written_solution, written_winners, ◌≡◌, drop, drop_more, successors_of, vertex_at}
 use Rattle.std.specs.Prelude.{sum_by}
 use Rattle.std.proofs.Math.Nat.{mul-le-mul_right}
 use Rattle.std.proofs.lemmas.List.Concat.{flat_map-cons}
 use Rattle.std.proofs.lemmas.List.Sums.{sum_by-cons}
 use Rattle.pg_game.specs.Specification.{max_vertices}
 use Rattle.pg_text.specs.Lengths.{most_digits, greatest_header, greatest_game_text, greatest_winners_text, greatest_solution_text}
-use Rattle.pg_text.proofs.Numerals.{length-numeral}
+use Rattle.pg_text.proofs.Numerals.{length-numeral, numeral_spells}
 use Rattle.pg_text.proofs.WrittenSpells.{HasNumbers, have_numbers, last_id, all_from_places, all_imply}
 
 -- a number within the limit
@@ -87,3 +87,41 @@ module _ (g : Graph) (i : IsGame g) (w : IsWithinLimits g) where
           (map (λ (r : Player × Option ℕ). (r.0, None)) rows)
       no_choices [] = tt
       no_choices (r ∷ rows) = (omega arith, no_choices rows)
+
+some_digits : (n : ℕ) → 0 < length (numeral n)
+some_digits n = (numeral_spells n).0
+
+long_list : (g : Graph) (w : ℕ) (ws : List ℕ)
+    → 2 * length (w ∷ ws) ≤ length (join_with_byte 44 (map (λ u. numeral (id_of g u)) (w ∷ ws))) + 1
+long_list g w [] = omega (arith, some_digits (id_of g w))
+long_list g w (u ∷ us) = search (rules, long_list g u us, length-append, some_digits)
+
+-- the line of a vertex with these successors has at least so many bytes
+long_parts : (g : Graph) (x : Vertex) (ws : List ℕ) → 0 < length ws
+    → 7 + 2 * length ws
+    ≤ length (numeral x.id ++ (32 ∷ numeral x.priority
+    ++ (32 ∷ numeral (digit_of x.owner) ++ (32 ∷ join_with_byte 44 (map (λ w. numeral (id_of g w)) ws) ++ codes ";\n"))))
+long_parts g x [] h = absurd (omega arith)
+long_parts g x (w ∷ ws) h = search (rules, long_list, length-append, x.owner, x.priority, x.id, some_digits)
+
+pub long_line : (g : Graph) (x : Vertex) → 0 < length x.successors → 7 + 2 * length x.successors ≤ length (written_vertex g x)
+long_line g x h = long_parts g x x.successors h
+
+-- one line more of a game
+pub long_lines : (g : Graph) (v : ℕ) → v < length g → 0 < length (successors_of g v)
+    → 7 + 2 * length (successors_of g v) + length (flat_map (written_vertex g) (drop (v + 1) g)) ≤ length (flat_map (written_vertex g) (drop v g))
+long_lines g v l h =
+    let one = long_line g (vertex_at g v) h in
+    let both = length-append (written_vertex g (vertex_at g v)) (flat_map (written_vertex g) (drop (v + 1) g)) in
+    rw (drop_more g v no_vertex l) (rw flat_map-cons (rw both (omega (arith, one))))
+
+pub long_game : (g : Graph) → 10 + length (flat_map (written_vertex g) g) ≤ length (written_game g)
+long_game g = search (rules, length-append, some_digits)
+
+long_rows : (g : Graph) (xs : List Vertex) (rows : SolutionRows) → length rows ≡ length xs → 5 * length xs ≤ length (written_rows g xs rows)
+long_rows g [] rows e = omega arith
+long_rows g (x ∷ xs) [] e = absurd (omega arith)
+long_rows g (x ∷ xs) (r ∷ rows) e = search (rules, long_rows g xs rows (omega arith), length-append, some_digits)
+
+pub long_solution : (g : Graph) (rows : SolutionRows) → length rows ≡ length g → 13 + 5 * length g ≤ length (written_solution g rows)
+long_solution g rows e = search (rules, length-append, some_digits, long_rows)

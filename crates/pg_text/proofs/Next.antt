@@ -2,7 +2,7 @@
 use Rattle.pg_text.proofs.Common.{◌≡◌, ℕ, ◌+◌, ◌-◌, ◌<◌, ◌≤◌, zero, suc, true, false, List, [], ◌∷◌, ◌++◌, length, drop, take, get_or, refl, sym, ◌∙◌, ap}
 use Rattle.pg_text.proofs.Common.{subst, arith, ◌⊎◌, append_assoc, length-append, rules, Some, eqb-true, false_from_ne_true, drop_more, take-append-drop}
 use Rattle.pg_text.proofs.Common.{Kind, Token, Number, Word, Name, Comma, Semicolon, IsSpelling, IsWhole, is_blank, is_digit, is_letter, is_no_quote}
-use Rattle.pg_text.proofs.Common.{begins_token, AllAre, EndsRun, IsRun, IsToken, IsNoToken, IsPieceOf}
+use Rattle.pg_text.proofs.Common.{begins_token, AllAre, EndsRun, IsRun, IsToken, IsNoToken, IsLexemeOf}
 use Rattle.std.proofs.Common.{length-drop}
 use Rattle.memchr.specs.Find.{IsFirstByte, is_byte}
 use Rattle.std.specs.Prelude.{not, ◌≢◌}
@@ -77,15 +77,15 @@ token_past text at from end to run t r i = record {
   end = let f = length-append run i.blanks in let p = i.end in let q = r.end in omega arith;
 }
 
-pub piece_past : (k : Kind) (text : List ℕ) (at from end to : ℕ) (run : List ℕ) → IsRun is_blank text at from run → IsPieceOf k text from end to
-    → IsPieceOf k text at end to
-piece_past (kind.Number value) text at from end to run r (n, e, i) = (n, e, token_past text at from end to run (Number n) r i)
-piece_past kind.Word text at from end to run r (n, i) = (n, token_past text at from end to run (Word n) r i)
-piece_past kind.Name text at from end to run r (n, i) = (n, token_past text at from end to run (Name n) r i)
-piece_past kind.Comma text at from end to run r i = token_past text at from end to run Comma r i
-piece_past kind.Semicolon text at from end to run r i = token_past text at from end to run Semicolon r i
-piece_past kind.End text at from end to run r i = subst (AllAre is_blank) (sym r.split) (all-append is_blank run (drop from text) r.passes i)
-piece_past kind.Bad text at from end to run r i = record {
+pub lexeme_past : (k : Kind) (text : List ℕ) (at from end to : ℕ) (run : List ℕ) → IsRun is_blank text at from run → IsLexemeOf k text from end to
+    → IsLexemeOf k text at end to
+lexeme_past (kind.Number value) text at from end to run r (n, e, i) = (n, e, token_past text at from end to run (Number n) r i)
+lexeme_past kind.Word text at from end to run r (n, i) = (n, token_past text at from end to run (Word n) r i)
+lexeme_past kind.Name text at from end to run r (n, i) = (n, token_past text at from end to run (Name n) r i)
+lexeme_past kind.Comma text at from end to run r i = token_past text at from end to run Comma r i
+lexeme_past kind.Semicolon text at from end to run r i = token_past text at from end to run Semicolon r i
+lexeme_past kind.End text at from end to run r i = subst (AllAre is_blank) (sym r.split) (all-append is_blank run (drop from text) r.passes i)
+lexeme_past kind.Invalid text at from end to run r i = record {
   blanks = run ++ i.blanks;
   byte = i.byte;
   after = i.after;

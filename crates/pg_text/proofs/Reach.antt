@@ -1,9 +1,9 @@
 -- Tokens that follow one another.
 use Rattle.pg_text.proofs.Common.{◌≡◌, ℕ, ◌+◌, List, [], ◌∷◌, ◌++◌, length, drop, refl, sym, ◌∙◌, ap, subst, arith, append_assoc, length-append, rules}
 use Rattle.pg_text.proofs.Common.{Kind, Token, IsWhole, Placed, Begins, Spells, is_blank, AllAre, IsLexicalFault, placed, IsToken, IsNoToken}
-use Rattle.pg_text.proofs.Common.{IsPieceOf, ReadsTo, IsBadFrom, append-nil}
-use Rattle.pg_text.specs.private.Piece.{IsNextPiece}
-use Rattle.pg_text.specs.declared.lexer.Piece.{Piece}
+use Rattle.pg_text.proofs.Common.{IsLexemeOf, ReadsTo, IsBadFrom, append-nil}
+use Rattle.pg_text.specs.private.Lexeme.{IsNextLexeme}
+use Rattle.pg_text.specs.declared.lexer.Lexeme.{Lexeme}
 use Rattle.pg_text.specs.declared.lexer.Kind.TheVariants as kind
 
 pub reaches_more : (text : List ℕ) (at mid from to : ℕ) (ts : List Placed) (t : Token) → ReadsTo text at ts mid → IsToken text mid from to t
@@ -49,15 +49,15 @@ lexical_fault text ts stop bad r n = search (rules, reaches_cut, n.blanks, n.byt
 pub later_fault : (text : List ℕ) (ts : List Placed) (at bad : ℕ) → ReadsTo text 0 ts at → IsBadFrom text at bad → IsLexicalFault text bad
 later_fault text ts at bad r (us, stop, s, n) = lexical_fault text (ts ++ us) stop bad (reaches_all text 0 at stop ts us r s) n
 
--- a piece that is neither the end nor a fault is a token
-pub piece_token : (k : Kind) (text : List ℕ) (at from to : ℕ) → IsPieceOf k text at from to → (k ≡ kind.Bad → ⊥) → (k ≡ kind.End → ⊥)
+-- a lexeme that is neither the end nor a fault is a token
+pub lexeme_token : (k : Kind) (text : List ℕ) (at from to : ℕ) → IsLexemeOf k text at from to → (k ≡ kind.Invalid → ⊥) → (k ≡ kind.End → ⊥)
     → (t : Token) × IsToken text at from to t
-piece_token x0 text at from to i b d = search (rules)
+lexeme_token x0 text at from to i b d = search (rules)
 
 -- where only blanks follow
 pub reaches_end : (text : List ℕ) (at to : ℕ) (ts : List Placed) → ReadsTo text at ts to → AllAre is_blank (drop to text) → Spells at (drop at text) ts
 reaches_end text at to ts r b = subst (λ us. Spells at (drop at text) us) (append-nil ts) (reaches_spells text at to ts [] r b)
 
--- what a piece of this kind says
-pub of_kind : (k : Kind) (text : List ℕ) (at : ℕ) (p : Piece) → p.kind ≡ k → IsNextPiece text at p → IsPieceOf k text at p.from p.to
-of_kind k text at p e n = subst (λ (j : Kind). IsPieceOf j text at p.from p.to) e n
+-- what a lexeme of this kind says
+pub of_kind : (k : Kind) (text : List ℕ) (at : ℕ) (p : Lexeme) → p.kind ≡ k → IsNextLexeme text at p → IsLexemeOf k text at p.from p.to
+of_kind k text at p e n = subst (λ (j : Kind). IsLexemeOf j text at p.from p.to) e n

@@ -1,5 +1,5 @@
 -- Definitions that only private functions and proofs cite: no public contract uses them.
-pub mod Piece
+pub mod Lexeme
 pub mod Reach
 pub mod SolutionRun
 pub mod FirstFault

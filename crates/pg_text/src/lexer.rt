@@ -4,7 +4,7 @@
 //! A number of any length is read in 64 bits, since its value stops growing once it is above the limit.
 ghost use Rattle.std.specs.Prelude.{◌≡◌, ◌≢◌, ℕ, ◌+◌, ◌<◌, ◌≤◌, length, drop, List, slice_index, false, MatchOption, IfSome, Some};
 ghost use Rattle.pg_text.specs.Bytes.{is_blank, is_digit, is_letter, EndsRun, value_of};
-ghost use Rattle.pg_text.specs.private.Piece.{IsNextPiece, IsRun, fitting};
+ghost use Rattle.pg_text.specs.private.Lexeme.{IsNextLexeme, IsRun, fitting};
 ghost use Rattle.pg_text.specs.private.Reach.{SpellsRest, IsBadFrom};
 
 use memchr::memchr;
@@ -24,12 +24,12 @@ pub enum Kind {
     Comma,
     Semicolon,
     End,
-    Bad,
+    Invalid,
 }
 
 /// A token of a text, or what is in its place.
 #[derive(Clone, Copy)]
-pub struct Piece {
+pub struct Lexeme {
     pub kind: Kind,
     pub from: usize,
     pub to: usize,
@@ -150,13 +150,13 @@ fn number(text: &[u8], from: usize) -> (Option<u32>, usize)
 
 /// The word or the name at a place, or that there is none.
 #[inline(never)]
-fn word_or_name(text: &[u8], from: usize) -> Piece
+fn word_or_name(text: &[u8], from: usize) -> Lexeme
     requires inside { from < length text.now }
     requires solid { is_blank (slice_index text.now from) ≡ false }
     requires no_digit { is_digit (slice_index text.now from) ≡ false }
     requires no_comma { slice_index text.now from ≢ 44 }
     requires no_semicolon { slice_index text.now from ≢ 59 }
-    ensures token { IsNextPiece text.now from result }
+    ensures token { IsNextLexeme text.now from result }
     ensures order { result.from ≤ result.to }
     ensures within { result.to ≤ length text.now }
 {
@@ -164,27 +164,27 @@ fn word_or_name(text: &[u8], from: usize) -> Piece
     if first == b'"' {
         let later = &text[from + 1..];
         return match memchr(b'"', later) {
-            Some(more) => Piece {
+            Some(more) => Lexeme {
                 kind: Kind::Name,
                 from,
                 to: from + more + 2,
             },
-            None => Piece {
-                kind: Kind::Bad,
+            None => Lexeme {
+                kind: Kind::Invalid,
                 from,
                 to: from,
             },
         };
     }
     if letter(first) {
-        return Piece {
+        return Lexeme {
             kind: Kind::Word,
             from,
             to: letters_end(text, from),
         };
     }
-    Piece {
-        kind: Kind::Bad,
+    Lexeme {
+        kind: Kind::Invalid,
         from,
         to: from,
     }
@@ -192,15 +192,15 @@ fn word_or_name(text: &[u8], from: usize) -> Piece
 
 /// The next token of the text, from a place on.
 #[inline]
-pub fn next_token(text: &[u8], at: usize) -> Piece
+pub fn next_token(text: &[u8], at: usize) -> Lexeme
     requires { at ≤ length text.now }
-    ensures token { IsNextPiece text.now at result }
+    ensures token { IsNextLexeme text.now at result }
     ensures order { result.from ≤ result.to }
     ensures within { result.to ≤ length text.now }
 {
     let from = blanks_end(text, at);
     if from >= text.len() {
-        return Piece {
+        return Lexeme {
             kind: Kind::End,
             from,
             to: from,
@@ -209,21 +209,21 @@ pub fn next_token(text: &[u8], at: usize) -> Piece
     let first = text[from];
     if digit(first) {
         let (value, to) = number(text, from);
-        return Piece {
+        return Lexeme {
             kind: Kind::Number(value),
             from,
             to,
         };
     }
     if first == b',' {
-        return Piece {
+        return Lexeme {
             kind: Kind::Comma,
             from,
             to: from + 1,
         };
     }
     if first == b';' {
-        return Piece {
+        return Lexeme {
             kind: Kind::Semicolon,
             from,
             to: from + 1,
@@ -234,18 +234,18 @@ pub fn next_token(text: &[u8], at: usize) -> Piece
 
 /// The first place from `at` on that begins no token.
 #[inline(never)]
-pub fn first_bad(text: &[u8], at: usize) -> Option<usize>
+pub fn first_invalid(text: &[u8], at: usize) -> Option<usize>
     requires { at ≤ length text.now }
     ensures place { MatchOption result (SpellsRest text.now at) (λ bad. IsBadFrom text.now at bad) }
     ensures within { IfSome result (λ bad. bad ≤ length text.now) }
 {
     let mut next = at;
     'tokens: loop {
-        let piece = next_token(text, next);
-        match piece.kind {
-            Kind::Bad => return Some(piece.from),
+        let lexeme = next_token(text, next);
+        match lexeme.kind {
+            Kind::Invalid => return Some(lexeme.from),
             Kind::End => return None,
-            _ => next = piece.to,
+            _ => next = lexeme.to,
         }
     }
 }

@@ -5,12 +5,12 @@
 ghost use Rattle.std.specs.Prelude.{◌≡◌, ℕ, ◌≤◌, true, length, IfOk, MatchResult, List, []};
 ghost use Rattle.pg_text.specs.Token.{Number, Placed, Spells};
 ghost use Rattle.pg_text.specs.Reading.{max_text};
-ghost use Rattle.pg_text.specs.private.Piece.{fitting};
-ghost use Rattle.pg_text.specs.private.Parsing.{KeepsReader, ReaderTakes, TakesPiece, IsUnexpected, SpellsLines, IsParseFaultOf};
+ghost use Rattle.pg_text.specs.private.Lexeme.{fitting};
+ghost use Rattle.pg_text.specs.private.Parsing.{KeepsReader, ReaderTakes, TakesLexeme, IsUnexpected, SpellsLines, IsParseFaultOf};
 
 use crate::fault::ParseFault;
 use crate::grammar::{Grammar, Step};
-use crate::lexer::{Kind, Piece, first_bad, next_token};
+use crate::lexer::{Kind, Lexeme, first_invalid, next_token};
 use crate::numbers::first_of;
 use pg_game::Memory;
 
@@ -43,20 +43,20 @@ impl<G: Grammar + Drop> Reader<G> {
 
     /// Takes the token between the places; false where it is not allowed there.
     #[inline(always)]
-    fn take(&mut self, text: &[u8], piece: Piece) -> Result<bool, Memory>
+    fn take(&mut self, text: &[u8], lexeme: Lexeme) -> Result<bool, Memory>
         requires size { length text.now ≤ max_text }
-        requires order { piece.from ≤ piece.to }
-        requires within { piece.to ≤ length text.now }
-        ensures { IfOk result (λ taken. TakesPiece (ReaderTakes G.Reads G.BeginsText G.IsBeforePlayer self.old self.new) text.now piece taken) }
+        requires order { lexeme.from ≤ lexeme.to }
+        requires within { lexeme.to ≤ length text.now }
+        ensures { IfOk result (λ taken. TakesLexeme (ReaderTakes G.Reads G.BeginsText G.IsBeforePlayer self.old self.new) text.now lexeme taken) }
     {
-        match piece.kind {
-            Kind::Number(value) => self.number(value, piece.from as u32),
-            Kind::Word => Ok(self.grammar.word(&text[piece.from..piece.to])),
+        match lexeme.kind {
+            Kind::Number(value) => self.number(value, lexeme.from as u32),
+            Kind::Word => Ok(self.grammar.word(&text[lexeme.from..lexeme.to])),
             Kind::Name => Ok(self.grammar.name()),
             Kind::Comma => Ok(self.grammar.comma()),
             Kind::Semicolon => self.grammar.semicolon(),
             Kind::End => Ok(false),
-            Kind::Bad => Ok(false),
+            Kind::Invalid => Ok(false),
         }
     }
 
@@ -86,7 +86,7 @@ fn unexpected<G: Grammar>(text: &[u8], from: usize, to: usize) -> ParseFault
     requires within { to ≤ length text.now }
     ensures { IsUnexpected G.BeginsText text.now from to → IsParseFaultOf G.BeginsText G.IsText G.IsBeforePlayer text.now result }
 {
-    match first_bad(text, to) {
+    match first_invalid(text, to) {
         Some(bad) => ParseFault::Lexical(bad as u32),
         None => ParseFault::Syntax(from as u32),
     }
@@ -106,15 +106,15 @@ pub fn read_lines<G: Grammar + Drop>(grammar: G, text: &[u8]) -> Result<G::Lines
     };
     let mut at = 0;
     'tokens: loop {
-        let piece = next_token(text, at);
-        match piece.kind {
+        let lexeme = next_token(text, at);
+        match lexeme.kind {
             Kind::End => return reader.finish(text.len() as u32),
-            Kind::Bad => return Err(ParseFault::Lexical(piece.from as u32)),
+            Kind::Invalid => return Err(ParseFault::Lexical(lexeme.from as u32)),
             _ => {}
         }
-        if !reader.take(text, piece)? {
-            return Err(unexpected::<G>(text, piece.from, piece.to));
+        if !reader.take(text, lexeme)? {
+            return Err(unexpected::<G>(text, lexeme.from, lexeme.to));
         }
-        at = piece.to;
+        at = lexeme.to;
     }
 }

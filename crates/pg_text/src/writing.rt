@@ -1,13 +1,13 @@
 //! The one written spelling of games, solutions and winners: one line for each vertex in rising identifier, after a header
 //! with the greatest identifier. Numbers have no leading zeros (`itoa` writes them); there is no start line and no name.
-ghost use Rattle.std.specs.Prelude.{◌≡◌, ℕ, ◌<◌, ◌≤◌, ◌++◌, ◌+◌, ◌*◌, ◌^◌, ◌∷◌, [], length, drop, take, slice_index, codes, map, IfOk};
+ghost use Rattle.std.specs.Prelude.{◌≡◌, ℕ, ◌<◌, ◌≤◌, ◌++◌, ◌+◌, ◌*◌, ◌^◌, ◌∷◌, [], length, drop, take, slice_index, codes, map, max, IfOk};
 ghost use Rattle.std.specs.Prelude.{OnOk, IfSome};
 ghost use Rattle.std.specs.List.{join_with_byte};
 ghost use Rattle.pg_game.specs.Graph.{id_of, priority_of, owner_of, successors_of, vertex_at};
 ghost use Rattle.pg_game.specs.Player.{digit_of};
 ghost use Rattle.pg_text.specs.Written.{greatest_id, numeral, written_game, written_vertex, written_solution, written_rows, written_winners};
 ghost use Rattle.pg_text.specs.Lengths.{greatest_game_text, greatest_solution_text, greatest_winners_text};
-ghost use Rattle.pg_text.specs.Solution.{AreSolutionRows};
+ghost use Rattle.pg_text.specs.Solution.{AreSolutionRows, SolutionRows};
 
 use crate::line::{byte_before, choice_before, end_before, field_before, number_before};
 use crate::solution::Solution;
@@ -61,7 +61,7 @@ pub fn write_solution(alloc: Global, game: &Game, solution: &Solution) -> Result
     ensures text { IfOk result (λ text. text.items ≡ written_solution game.now solution.now.rows) }
     ensures short { IfOk result (λ text. length text.items ≤ greatest_solution_text) }
 {
-    let mut out = Vec::with_capacity(alloc, HEADER + ROW * game.len() as usize)?;
+    let mut out = Vec::with_capacity(alloc, solution_capacity(game))?;
     put_header(&mut out, b"paritysol ", game)?;
     let rows = solution.rows.as_slice();
     'rows: for v in 0..game.len() {
@@ -76,7 +76,7 @@ pub fn write_winners(alloc: Global, game: &Game, solution: &Solution) -> Result<
     ensures text { IfOk result (λ text. text.items ≡ written_winners game.now solution.now.rows) }
     ensures short { IfOk result (λ text. length text.items ≤ greatest_winners_text) }
 {
-    let mut out = Vec::with_capacity(alloc, HEADER + ROW * game.len() as usize)?;
+    let mut out = Vec::with_capacity(alloc, solution_capacity(game))?;
     put_header(&mut out, b"paritysol ", game)?;
     let rows = solution.rows.as_slice();
     'rows: for v in 0..game.len() {
@@ -124,7 +124,7 @@ fn fields_before(line: &mut [u8], end: usize, game: &Game, v: u32) -> usize
     field_before(line, at, game.id(v))
 }
 
-/// The line of one vertex in a game text, which is written from its end into a line with capacity for it.
+/// The line of one vertex in a game text, which is written from its end into a line that is long enough.
 fn put_vertex(out: &mut Vec<u8>, line: &mut [u8], game: &Game, v: u32) -> Result<(), Memory>
     requires vertex { v < length game.now }
     requires room { 40 + 11 * length (successors_of game.now v) ≤ length line.old }
@@ -139,25 +139,36 @@ fn put_vertex(out: &mut Vec<u8>, line: &mut [u8], game: &Game, v: u32) -> Result
     out.extend_from_slice(&line[at..])
 }
 
-/// Capacity of the line for a vertex with so many successors.
-fn make_room(line: &mut Vec<u8>, successors: usize) -> Result<(), Memory>
+/// Makes the line long enough for a vertex with so many successors.
+fn extend_line(line: &mut Vec<u8>, successors: usize) -> Result<(), Memory>
     requires { successors < 2 ^ 32 }
-    ensures { OnOk result (40 + 11 * successors ≤ length line.new.items) }
+    ensures enough { OnOk result (40 + 11 * successors ≤ length line.new.items) }
+    ensures bound { OnOk result (length line.new.items ≤ max (length line.old.items) (40 + 11 * successors)) }
 {
-    let room = 40 + 11 * successors;
-    if line.len() < room {
-        line.resize(room, 0)?;
+    let size = 40 + 11 * successors;
+    if line.len() < size {
+        line.resize(size, 0)?;
     }
     Ok(())
 }
 
-/// How many bytes the text of a game has at most. Capacity for so many is taken once, so that nothing written is moved.
-fn game_room(game: &Game) -> usize {
-    let mut room = HEADER;
+/// The capacity for the text of a game, at most six times its length. So many bytes are allocated once, and nothing written is
+/// moved.
+fn game_capacity(game: &Game) -> usize
+    ensures { result ≤ 6 * length (written_game game.now) }
+{
+    let mut capacity = HEADER;
     'lines: for v in 0..game.len() {
-        room = room.saturating_add(40 + 11 * game.successors(v).len());
+        capacity = capacity.saturating_add(40 + 11 * game.successors(v).len());
     }
-    room
+    capacity
+}
+
+/// The same for the text of a solution or of winners, at most seven times its length.
+fn solution_capacity(game: &Game) -> usize
+    ensures { (rows : SolutionRows) → length rows ≡ length game.now → result ≤ 7 * length (written_solution game.now rows) }
+{
+    HEADER + ROW * game.len() as usize
 }
 
 /// The one written spelling of a game: at most 210,763,795 bytes. Refused with `Memory` alone.
@@ -165,11 +176,11 @@ pub fn write_game(alloc: Global, game: &Game) -> Result<Vec<u8>, Memory>
     ensures text { IfOk result (λ text. text.items ≡ written_game game.now) }
     ensures short { IfOk result (λ text. length text.items ≤ greatest_game_text) }
 {
-    let mut out = Vec::with_capacity(alloc, game_room(game))?;
+    let mut out = Vec::with_capacity(alloc, game_capacity(game))?;
     let mut line = Vec::new(alloc);
     put_header(&mut out, b"parity ", game)?;
     'vertices: for v in 0..game.len() {
-        make_room(&mut line, game.successors(v).len())?;
+        extend_line(&mut line, game.successors(v).len())?;
         put_vertex(&mut out, line.as_mut_slice(), game, v)?;
     }
     Ok(out)

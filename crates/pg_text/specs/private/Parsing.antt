@@ -4,13 +4,13 @@ use Rattle.std.specs.Option.{is_none}
 use Rattle.pg_text.specs.declared.fault.ParseFault.{ParseFault}
 use Rattle.pg_text.specs.declared.fault.ParseFault.TheVariants as fault
 use Rattle.pg_text.specs.declared.lexer.Kind.TheVariants as kind
-use Rattle.pg_text.specs.declared.lexer.Piece.{Piece}
+use Rattle.pg_text.specs.declared.lexer.Lexeme.{Lexeme}
 use Rattle.pg_text.specs.declared.reader.Reader.{Reader}
 use Rattle.pg_text.specs.Fault.{IsLexicalFault, IsSyntaxFault, IsNumberFault, IsPlayerFault, AllFit}
 use Rattle.pg_text.specs.Token.{Token, Placed, Spells, tokens_of}
 use Rattle.pg_text.specs.private.FirstFault.{placed, FirstLarge, FirstPlayer}
 use Rattle.pg_text.specs.private.Grammar.{TakenOr, Stops}
-use Rattle.pg_text.specs.private.Piece.{IsToken, IsNextPiece}
+use Rattle.pg_text.specs.private.Lexeme.{IsToken, IsNextLexeme}
 use Rattle.pg_text.specs.private.Reach.{ReadsTo}
 
 -- these tokens were read; their first faults are known, and without one the state of the grammar holds what they say
@@ -30,11 +30,11 @@ ReaderTakes Reads BeginsText IsBefore old new taken t place =
     (ts : List Placed) → KeepsReader Reads IsBefore ts old
     → TakenOr taken (KeepsReader Reads IsBefore (ts ++ placed t place ∷ []) new) (Stops BeginsText (tokens_of ts) t)
 
--- so did it with the piece
-abbrev pub TakesPiece : (Bool → Token → ℕ → Type 0) → List ℕ → Piece → Bool → Type 0
-TakesPiece Takes text piece taken =
-    (at : ℕ) → IsNextPiece text at piece → (piece.kind ≡ kind.End → ⊥) → (piece.kind ≡ kind.Bad → ⊥)
-    → (t : Token) × IsToken text at piece.from piece.to t × Takes taken t piece.from
+-- so did it with the lexeme
+abbrev pub TakesLexeme : (Bool → Token → ℕ → Type 0) → List ℕ → Lexeme → Bool → Type 0
+TakesLexeme Takes text lexeme taken =
+    (at : ℕ) → IsNextLexeme text at lexeme → (lexeme.kind ≡ kind.End → ⊥) → (lexeme.kind ≡ kind.Invalid → ⊥)
+    → (t : Token) × IsToken text at lexeme.from lexeme.to t × Takes taken t lexeme.from
 
 -- the token between the places does not go on with those before it
 pub record IsUnexpected (BeginsText : List Token → Type 0) (text : List ℕ) (from to : ℕ) : Type 0 where

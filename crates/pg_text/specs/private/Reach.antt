@@ -1,7 +1,7 @@
 -- The tokens of a text up to a place, as the private lexer and readers know them.
 use Rattle.std.specs.Prelude.{ℕ, ◌≡◌, List, [], ◌∷◌, drop}
 use Rattle.pg_text.specs.Token.{Placed, Spells}
-use Rattle.pg_text.specs.private.Piece.{IsToken, IsNoToken}
+use Rattle.pg_text.specs.private.Lexeme.{IsToken, IsNoToken}
 
 -- these tokens are in the text one after another, from one place to another
 abbrev pub ReadsTo : List ℕ → ℕ → List Placed → ℕ → Type 0

@@ -8,30 +8,30 @@ use Rattle.pg_text.proofs.reader.Reader.take.Goals as goal
 
 pub returns-in-Word : goal.returns-in-Word
 returns-in-Word g c at i e b =
-    let (letters, t) = of_kind kind.Word c.args.text.now at c.args.piece c.in-Word.is i in
-    let e = word_bytes c.args.text.now at c.args.piece.from c.args.piece.to letters t in (
+    let (letters, t) = of_kind kind.Word c.args.text.now at c.args.lexeme c.in-Word.is i in
+    let e = word_bytes c.args.text.now at c.args.lexeme.from c.args.lexeme.to letters t in (
       Word letters,
       t,
       λ ts k.
-          token_kept k g.G.Grammar.BeginsText _ _ (Word letters) c.args.piece.from refl
+          token_kept k g.G.Grammar.BeginsText _ _ (Word letters) c.args.lexeme.from refl
           (subst (λ (xs : List ℕ). TakesToken g.G.Grammar.Reads g.G.Grammar.BeginsText c.args.self.now.grammar c.word.new.self c.word.result (Word xs)) e
           c.word.ensures),
     )
 
 pub returns-in-Name : goal.returns-in-Name
 returns-in-Name g c at i e b =
-    let (bytes, t) = of_kind kind.Name c.args.text.now at c.args.piece c.in-Name.is i in
-    (Name bytes, t, λ ts k. token_kept k g.G.Grammar.BeginsText _ _ (Name bytes) c.args.piece.from refl (c.name.ensures bytes))
+    let (bytes, t) = of_kind kind.Name c.args.text.now at c.args.lexeme c.in-Name.is i in
+    (Name bytes, t, λ ts k. token_kept k g.G.Grammar.BeginsText _ _ (Name bytes) c.args.lexeme.from refl (c.name.ensures bytes))
 
 pub returns-in-Comma : goal.returns-in-Comma
 returns-in-Comma g c at i e b =
-    (Comma, of_kind kind.Comma c.args.text.now at c.args.piece c.in-Comma.is i, λ ts k. token_kept k g.G.Grammar.BeginsText _ _ Comma c.args.piece.from refl c.comma.ensures)
+    (Comma, of_kind kind.Comma c.args.text.now at c.args.lexeme c.in-Comma.is i, λ ts k. token_kept k g.G.Grammar.BeginsText _ _ Comma c.args.lexeme.from refl c.comma.ensures)
 
 pub returns-in-Semicolon : goal.returns-in-Semicolon
 returns-in-Semicolon g c =
     if_ok c.semicolon.result
     (λ taken takes at i e b. (
       Semicolon,
-      of_kind kind.Semicolon c.args.text.now at c.args.piece c.in-Semicolon.is i,
-      λ ts k. token_kept k g.G.Grammar.BeginsText _ _ Semicolon c.args.piece.from refl takes,
+      of_kind kind.Semicolon c.args.text.now at c.args.lexeme c.in-Semicolon.is i,
+      λ ts k. token_kept k g.G.Grammar.BeginsText _ _ Semicolon c.args.lexeme.from refl takes,
     )) c.semicolon.ensures

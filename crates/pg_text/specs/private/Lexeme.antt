@@ -3,7 +3,7 @@ use Rattle.std.specs.Prelude.{ℕ, ◌≡◌, ◌+◌, Bool, false, nat_le, if�
 use Rattle.pg_game.specs.Specification.{max_number}
 use Rattle.pg_text.specs.declared.lexer.Kind.{Kind}
 use Rattle.pg_text.specs.declared.lexer.Kind.TheVariants as kind
-use Rattle.pg_text.specs.declared.lexer.Piece.{Piece}
+use Rattle.pg_text.specs.declared.lexer.Lexeme.{Lexeme}
 use Rattle.pg_text.specs.Token.{Token, Number, Word, Name, Comma, Semicolon, Begins}
 use Rattle.pg_text.specs.Bytes.{AllAre, is_blank, is_no_quote, begins_token}
 
@@ -29,18 +29,18 @@ pub record IsNoToken (text : List ℕ) (at from : ℕ) : Type 0 where
   pub solid : is_blank byte ≡ false
   pub wrong : (begins_token byte ≡ false) ⊎ ((byte ≡ 34) × AllAre is_no_quote after)
 
-abbrev pub IsPieceOf : Kind → List ℕ → ℕ → ℕ → ℕ → Type 0
-IsPieceOf (kind.Number value) text at from to = (n : ℕ) × (value ≡ fitting n) × IsToken text at from to (Number n)
-IsPieceOf kind.Word text at from to = (letters : List ℕ) × IsToken text at from to (Word letters)
-IsPieceOf kind.Name text at from to = (bytes : List ℕ) × IsToken text at from to (Name bytes)
-IsPieceOf kind.Comma text at from to = IsToken text at from to Comma
-IsPieceOf kind.Semicolon text at from to = IsToken text at from to Semicolon
-IsPieceOf kind.End text at from to = AllAre is_blank (drop at text)
-IsPieceOf kind.Bad text at from to = IsNoToken text at from
+abbrev pub IsLexemeOf : Kind → List ℕ → ℕ → ℕ → ℕ → Type 0
+IsLexemeOf (kind.Number value) text at from to = (n : ℕ) × (value ≡ fitting n) × IsToken text at from to (Number n)
+IsLexemeOf kind.Word text at from to = (letters : List ℕ) × IsToken text at from to (Word letters)
+IsLexemeOf kind.Name text at from to = (bytes : List ℕ) × IsToken text at from to (Name bytes)
+IsLexemeOf kind.Comma text at from to = IsToken text at from to Comma
+IsLexemeOf kind.Semicolon text at from to = IsToken text at from to Semicolon
+IsLexemeOf kind.End text at from to = AllAre is_blank (drop at text)
+IsLexemeOf kind.Invalid text at from to = IsNoToken text at from
 
 -- the next token of the text after the place
-abbrev pub IsNextPiece : List ℕ → ℕ → Piece → Type 0
-IsNextPiece text at piece = IsPieceOf piece.kind text at piece.from piece.to
+abbrev pub IsNextLexeme : List ℕ → ℕ → Lexeme → Type 0
+IsNextLexeme text at lexeme = IsLexemeOf lexeme.kind text at lexeme.from lexeme.to
 
 -- the bytes of the text between the places are a run that passes the test, which ends there
 pub record IsRun (test : ℕ → Bool) (text : List ℕ) (from to : ℕ) (run : List ℕ) : Type 0 where
