@@ -8,6 +8,7 @@ priorities as may be and every number of ten digits, so that its text and its so
 import unittest
 
 import common
+import plain
 
 VERTICES, EDGES = 1_048_576, 16_777_216
 # each vertex with so many successors is as many edges as may be
@@ -62,6 +63,17 @@ def ladder(levels):
     return b"".join(ring)
 
 
+def blocks(count):
+    """Blocks of four vertices, with choices of both players, that Even and Odd win in turn: a small dominion each."""
+    rows = []
+    for first in range(0, count, 4):
+        player = first // 4 % 2
+        for k, (owner, offsets) in enumerate([(0, (1, 2)), (1, (0, 3)), (1, (0,)), (0, (0, 2))]):
+            priority = 2 + player if k == 0 else 0
+            rows.append(b"%d %d %d %s;\n" % (first + k, priority, (owner + player) % 2, b",".join(b"%d" % (first + it) for it in offsets)))
+    return b"".join(rows)
+
+
 def greatest_game():
     """Even owns each vertex, which leads to itself and to those after it, in a ring: he wins by the even priorities."""
     ids = [b"%d" % (FIRST + v) for v in range(VERTICES)]
@@ -102,6 +114,11 @@ CASES = {
     "solve_as_many_vertices_as_may_be": (["solve", "--winners"], lambda: own_loops(VERTICES), lambda: all_to_even(VERTICES)),
     "solve_as_many_edges_as_may_be": (["solve", "--winners"], lambda: rows_of_all(WIDTH, WIDTH), lambda: all_to_even(WIDTH)),
     "solve_own_loops_of_even_priorities": (["solve", "--workers", "1", "--bound", "0"], lambda: own_loops(5_000, lambda v: 2 * v), lambda: all_to_even(5_000, own=True)),
+    "a_name_of_300_bytes": (["tidy"], lambda: b'0 0 0 0 "' + b"n" * 300 + b'";', b"parity 0;\n0 0 0 0;\n"),
+    "a_name_of_a_megabyte": (["tidy"], lambda: b'0 0 0 0 "' + b"n" * 1_000_000 + b'";', b"parity 0;\n0 0 0 0;\n"),
+    "a_vertex_with_70000_successors": (["tidy"], lambda: rows_of([0], range(70_000)) + own_loops(70_000)[9:], lambda: written(rows_of([0], range(70_000)) + own_loops(70_000)[9:], 69_999)),
+    "solve_a_vertex_with_70000_successors": (["solve", "--winners"], lambda: rows_of([0], range(70_000)) + own_loops(70_000)[9:], lambda: all_to_even(70_000)),
+    "a_solution_of_30_megabytes_of_blanks": ([], lambda: own_loops(1) + b"%paritysol 0;\n0 0" + b" " * 30_000_000 + b" 0;\n", b"ok\n"),
     "tidy_the_greatest_game": (["tidy"], greatest_game, greatest_game),
     "verify_the_greatest_solution": ([], lambda: greatest_game() + b"%" + greatest_solution(), b"ok\n"),
 }
@@ -126,6 +143,15 @@ class Limits(unittest.TestCase):
         status, out, err = common.run([common.PROGRAM, "solve"], greatest_game(), timeout=300)
         self.assertEqual((status, len(out), err), (0, LONGEST_SOLUTION, b""))
         self.same([], greatest_game() + b"%" + out, 0, b"ok\n", b"")
+
+
+    def test_trace_of_4000_vertices(self):
+        """Most small searches find a dominion, so the journal is long."""
+        text = blocks(4_000)
+        status, out, err = common.run([common.PROGRAM, "trace", "--workers", "3"], text)
+        self.assertEqual((status, err), (0, b""))
+        self.assertIsNone(plain.trace_fault(plain.game_of(text), 3, out))
+        self.assertGreater(out.count(b"entry "), 100)
 
 
 for each, run in CASES.items():
