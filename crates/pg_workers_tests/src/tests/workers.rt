@@ -20,3 +20,4 @@ mod reports;
 mod runs;
 mod schedules;
 mod starts;
+mod threads;
