@@ -191,12 +191,21 @@ fn on_cycle(first: u32, n: u32, at: u32) -> u32 {
     first.saturating_add(place)
 }
 
-/// Capacity for two vertices, taken once more where memory was refused.
-fn room_for_two(rt: &impl Abort, alloc: Global) -> Vec<u32> {
-    match Vec::with_capacity(alloc, 2) {
+/// Capacity for a few vertices, taken once more where memory was refused.
+fn room_for(rt: &impl Abort, alloc: Global, few: u8) -> Vec<u32> {
+    match Vec::with_capacity(alloc, usize::from(few)) {
         Ok(room) => room,
-        Err(_) => made(rt, Vec::with_capacity(alloc, 2)),
+        Err(_) => made(rt, Vec::with_capacity(alloc, usize::from(few))),
     }
+}
+
+/// A few numbers from one on.
+fn numbers_from(rt: &impl Abort, alloc: Global, first: u32, few: u8) -> Vec<u32> {
+    let mut numbers = room_for(rt, alloc, few);
+    for number in first..first.saturating_add(u32::from(few)) {
+        made(rt, numbers.push(number));
+    }
+    numbers
 }
 
 /// The vertices from one to so many places, at most two, after one of a cycle.
@@ -208,7 +217,7 @@ fn next_on_cycle(
     v: u32,
     many: u32,
 ) -> Vec<u32> {
-    let mut next = room_for_two(rt, alloc);
+    let mut next = room_for(rt, alloc, 2);
     for at in 0..many {
         let place = v.saturating_add(at).saturating_add(1);
         made(rt, next.push(on_cycle(first, n, place)));
@@ -224,7 +233,7 @@ fn add_chords(rt: &impl Abort, alloc: Global, draft: &mut Draft, n: u32, more: u
         let next = next_on_cycle(rt, alloc, first, n, v, many);
         add(rt, alloc, draft, 0, ODD, next.as_slice());
     }
-    let some = numbers(rt, alloc, first, first.saturating_add(19));
+    let some = numbers_from(rt, alloc, first, 19);
     add(rt, alloc, draft, 3, ODD, some.as_slice());
 }
 
