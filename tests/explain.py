@@ -9,7 +9,6 @@ import collections
 import os
 import random
 import re
-import tempfile
 import unittest
 
 import common
@@ -72,11 +71,10 @@ class Wrong:
 
 
 class Explain(uses.Checks, unittest.TestCase):
+    name = "explain"
+
     def setUp(self):
-        self.script = uses.load("explain")
-        folder = tempfile.TemporaryDirectory(prefix="pgboard-explain-")
-        self.addCleanup(folder.cleanup)
-        self.folder = folder.name
+        super().setUp()
         self.game, self.solution = os.path.join(self.folder, "game.pg"), os.path.join(self.folder, "game.sol")
 
     def check_cycle(self, wrong, id, lines):

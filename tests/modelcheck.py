@@ -8,7 +8,6 @@ The evaluation takes trees that it makes itself, and nothing of the script.
 import os
 import random
 import re
-import tempfile
 import unittest
 import unittest.mock
 
@@ -203,11 +202,10 @@ TEXTS = [
 
 
 class ModelCheck(uses.Checks, unittest.TestCase):
+    name = "modelcheck"
+
     def setUp(self):
-        self.script = uses.load("modelcheck")
-        folder = tempfile.TemporaryDirectory(prefix="pgboard-modelcheck-")
-        self.addCleanup(folder.cleanup)
-        self.folder = folder.name
+        super().setUp()
         self.model, self.evidence = os.path.join(self.folder, "model.aut"), os.path.join(self.folder, "evidence.aut")
 
     def check_evidence(self, states, transitions, first, holds_there, expected):

@@ -58,7 +58,14 @@ def damaged(chance, text):
 
 
 class Checks:
-    """What the tests of each script check of its pictures and refusals."""
+    """What the tests of each script have, and what they check of its pictures and refusals."""
+
+    # the name of the script of examples/
+    name = None
+
+    def setUp(self):
+        self.script = load(self.name)
+        self.folder = str(common.room(self))
 
     def check_refusal(self, name, words, place, why):
         """That a script says in one line where and why it refuses its words."""
