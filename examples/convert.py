@@ -47,8 +47,10 @@ ESCAPED = re.compile(rb'\\"(?!\s*;)')
 NAME_OR_COMMENT = re.compile(rb'("[^"]*")|(?:#|//)[^\n]*')
 HEAD = re.compile(rb"\s*(?:(?:max-?|min-?)?parity\s+[0-9]+\s*;\s*|start\s+[0-9]+\s*;\s*)*")
 START = re.compile(rb"\bstart\s+[0-9]+\s*;")
-# A game is regular where each vertex has a line of its own with single blanks, and a name is a quote alone. These find a line
-# that is not, in a text that begins and ends with a line feed; the second takes dead ends, with nothing after the third blank.
+# A game is regular where each vertex has a line of its own with single blanks. These find a line that is not, in a text that begins
+# and ends with a line feed: of a text as it is given; where a name is a quote alone; and the same with dead ends, which have nothing
+# after the third blank.
+NOT_AS_IT_IS = re.compile(rb'\n(?!\Z|[0-9]+ [0-9]+ [01] (?:[0-9][0-9,]*)?[0-9](?: "[^"]*")?;\n)')
 NOT_REGULAR = re.compile(rb'\n(?!\Z|[0-9]+ [0-9]+ [01] (?:[0-9][0-9,]*)?[0-9]"?;\n)')
 NO_LINE = re.compile(rb'\n(?!\Z|[0-9]+ [0-9]+ [01] (?:(?:[0-9][0-9,]*)?[0-9])?"?;\n)')
 SHORT = re.compile(rb'(\n[0-9]+ [0-9]+ [01])(?="?;\n)')
@@ -57,7 +59,7 @@ DEAD_END = re.compile(rb'(?m)^([0-9]+) [0-9]+ ([01]) ("?;)$')
 # how many bytes are looked at together: as many as stay in a processor's cache while they are
 PIECE = 1 << 16
 PLAYER = re.compile(r"(?i)^\W*(?:player|won by|winner)\W*(0|1|even|odd)\b[^:\n]*:?(.*)$")
-LISTED = re.compile(r"(?i)\s*(?:with strategy:?)?([\s\d{}\[\](),;>-]*)")
+LISTED = re.compile(r"(?i)\s*(?:with strategy:?)?([\s0-9{}\[\](),;>-]*)")
 
 
 def bytes_of(path):
@@ -90,11 +92,14 @@ def apart(data):
     return text.replace(b' "', b'"') if names else text, names
 
 
-def regular(text, begin):
-    """The lines of the vertices from there on, and whether they are known to have no dead end."""
+def lines_from(text, begin):
+    """The text from there on, with a line feed before it and at its end."""
     text = text[begin - 1 :] if text[begin - 1 : begin] == b"\n" else b"\n" + text[begin:]
-    if not text.endswith(b"\n"):
-        text += b"\n"
+    return text if text.endswith(b"\n") else text + b"\n"
+
+
+def regular(text):
+    """The lines of the vertices, and whether they are known to have no dead end."""
     if not NOT_REGULAR.search(text) and b",," not in text:
         return text, True
     if b"start" in text:
@@ -125,6 +130,8 @@ def with_priorities(text, least, odd):
     found = set()
     for piece in pieces_of(text):
         found.update(piece.split(b" ")[1::3])
+    if max(map(len, found)) > 4000:
+        raise Refused("a priority has more than 4000 digits")
     top = max(map(int, found))
     top += top % 2
     new = {it: (top - int(it) if least else int(it)) + odd for it in found}
@@ -147,26 +154,39 @@ def without_dead_ends(text, closes):
 
 def with_names(text, names):
     """The lines with their names in place of the quotes."""
+    if not names:
+        return text
     whole = [b""] * (2 * len(names) + 1)
     whole[::2], whole[1::2] = text.replace(b'"', b' "').split(b'"'), names
     return b'"'.join(whole)
 
 
-def game_of(data, given):
-    """The text of a game that pgboard reads, in parts."""
-    text, names = apart(data)
-    head = HEAD.match(text)
-    lines, is_closed = regular(text, head.end())
+def header_of(head, lines):
+    number = re.search(rb"parity\s+([0-9]+)", head[0])
+    return b"parity %b;" % (number[1] if number else max(re.findall(rb"\n0*([0-9]+)", lines), key=lambda it: (len(it), it)))
+
+
+def other_lines(head, text, given):
+    """The lines of a game that pgboard does not read as it is, whose names are quotes alone."""
+    lines, is_closed = regular(text)
     if len(lines) < 2:
         raise Refused("no vertex")
     least = given.min or b"min" in head[0]
     if least or given.odd:
         lines = b"".join(with_priorities(lines, least, given.odd))
-    if not is_closed:
-        lines = without_dead_ends(lines, given.dead_ends)
-    number = re.search(rb"parity\s+([0-9]+)", head[0])
-    yield b"parity %d;" % (int(number[1]) if number else max(int(it.partition(b" ")[0]) for it in lines.split(b"\n") if it))
-    yield with_names(lines, names) if names else lines
+    return lines if is_closed else without_dead_ends(lines, given.dead_ends)
+
+
+def game_of(data, given):
+    """The text of a game that pgboard reads, in parts."""
+    head = HEAD.match(data)
+    lines, names = lines_from(data, head.end()), []
+    if given.min or given.odd or b"min" in head[0] or len(lines) < 2 or b",," in lines or NOT_AS_IT_IS.search(lines):
+        text, names = apart(data)
+        head = HEAD.match(text)
+        lines = other_lines(head, lines_from(text, head.end()), given)
+    yield header_of(head, lines)
+    yield with_names(lines, names)
 
 
 def game_of_automaton(path, data):
@@ -189,7 +209,9 @@ def listed(text):
         if not row:
             player = None
         elif player is not None:
-            for vertex, choice in re.findall(r"(\d+)(?:\s*->\s*(\d+))?", row[1]):
+            for vertex, choice in re.findall(r"([0-9]+)(?:\s*->\s*([0-9]+))?", row[1]):
+                if max(len(vertex), len(choice)) > 10:
+                    raise Refused(f"this is no vertex: {max(vertex, choice, key=len)}")
                 winner, before = solution.get(int(vertex), (player, None))
                 if winner != player:
                     raise Refused(f"vertex {vertex} is listed for both players")

@@ -26,7 +26,7 @@ examples:
 status: 0 where it is drawn, 2 where the command line or a text was refused, there is no `dot`, or the output was not written
 """
 MOST_LETTERS = 30
-LINE = re.compile(r'(\d+) (\d+) ([01]) (\d+(?: , \d+)*)(?: "([^"]*)")?')
+LINE = re.compile(r'([0-9]{1,10}) ([0-9]{1,10}) ([01]) ([0-9]{1,10}(?: , [0-9]{1,10})*)(?: "([^"]*)")?')
 TOKEN = re.compile(r'"[^"]*"|[^\s;,"]+|[,;]')
 STYLES = {
     None: 'style="filled,dashed" fillcolor="white"',
@@ -75,7 +75,7 @@ def solution_of(text):
     """Winners and choices: (winner, choice or None) of each identifier."""
     solution = {}
     for words in statements(text):
-        line = re.fullmatch(r"(\d+) ([01])(?: (\d+))?", words)
+        line = re.fullmatch(r"([0-9]{1,10}) ([01])(?: ([0-9]{1,10}))?", words)
         if line:
             solution[int(line[1])] = int(line[2]), line[3] and int(line[3])
         elif solution or not re.fullmatch(r"paritysol \d+", words):
@@ -88,7 +88,7 @@ def journal_of(text):
     entries = []
     for line in text.splitlines():
         head = re.fullmatch(r"entry \d+ \d+ ([01]) \d+ \d+", line)
-        row = re.fullmatch(r"(\d+)(?: (\d+))?;", line)
+        row = re.fullmatch(r"([0-9]{1,10})(?: ([0-9]{1,10}))?;", line)
         if head:
             winner, rows = int(head[1]), {}
             entries.append(rows)

@@ -25,15 +25,18 @@ def printable(text):
 
 
 class Refused(Exception):
-    """What can't be taken, as one line that says where and what."""
+    """What can't be taken, as one line that says where and what, which is cut where it is long."""
 
     def __init__(self, line):
-        super().__init__(printable(line))
+        super().__init__(printable(line[:500]))
 
 
 def run(name, main):
     """Runs a script's `main` and ends with its status; whatever is refused is one line on standard error, and status 2."""
     try:
+        for stream, spelled in ((sys.stdin, "standard input"), (sys.stdout, "standard output")):
+            if stream is None:
+                raise Refused(f"{spelled} is closed")
         sys.stdout.reconfigure(errors="surrogateescape")
         sys.setrecursionlimit(10_000)
         status = main(sys.argv[1:])

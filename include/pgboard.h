@@ -1,9 +1,9 @@
-/* pgboard: solutions of parity games, and their check, for programs that have games in memory.
+/* pgboard solves max-parity games and checks solutions, for programs with games in memory.
  *
- * Each call returns a number: 0, or one of those below. Where it is 0, both fields of `report` are 0. Else `report` says
- * where, and nothing but `report` is written. No pointer may be null, also where its length is 0, and no array or struct that is
- * written may overlap another. The calls start no thread, wait for nothing and keep nothing; they may be made at once from
- * several threads, each with its own arrays. */
+ * Each call returns a number: 0, or one of those below. If it is 0, both fields of `report` are 0. Else `report` says
+ * where the fault is, and the call writes nothing but `report`. No pointer may be null, even with length 0. No array or struct
+ * that a call writes may overlap another. The calls start no thread, wait for nothing and keep nothing. Several threads may
+ * make calls at once, each with its own arrays. */
 #ifndef PGBOARD_H
 #define PGBOARD_H
 
@@ -20,21 +20,22 @@ extern "C" {
 #define PGBOARD_VERSION_PATCH 0
 #define PGBOARD_VERSION (PGBOARD_VERSION_MAJOR * 10000 + PGBOARD_VERSION_MINOR * 100 + PGBOARD_VERSION_PATCH)
 
-/* The version of the library that is linked, as PGBOARD_VERSION. */
+/* The version of the linked library, in the form of PGBOARD_VERSION. */
 uint32_t pgboard_version(void);
 
-/* In `choices`: there is no choice. In `winners` of what is known: the winner is not known. */
+/* In `choices`: no choice. In `winners` of what is known: an unknown winner. */
 #define PGBOARD_NO_CHOICE 4294967295u
 #define PGBOARD_NO_WINNER 255u
 
-/* The answers; pgboard_strerror has a text for each. In brackets: what `report` says, `at` and then `to`. What is not named
- * is 0. The first fault is reported: in the order of each group, for the least vertex and then the least successor. */
+/* The answers; pgboard_strerror has a text for each. In brackets are the fields of `report`, `at` and then `to`. A field
+ * without a name there is 0. A call reports the first fault: in the order of each group, for the least vertex and then the
+ * least successor. */
 #define PGBOARD_OK 0u
 #define PGBOARD_MEMORY 1u
 
 /* a struct and its arrays */
 #define PGBOARD_SIZE 9u      /* (one of PGBOARD_STRUCT_*, the size that this library takes) */
-#define PGBOARD_LENGTHS 2u   /* (one of PGBOARD_ARRAY_*: the first that doesn't fit those before it) */
+#define PGBOARD_LENGTHS 2u   /* (one of PGBOARD_ARRAY_*: the first that does not fit those before it) */
 #define PGBOARD_ROW 3u       /* (the vertex) */
 #define PGBOARD_OWNER 4u     /* (the vertex) */
 #define PGBOARD_PRIORITY 5u  /* (the vertex) */
@@ -65,7 +66,7 @@ uint32_t pgboard_version(void);
 /* the text of a game; places are bytes from 0 on */
 #define PGBOARD_GAME_TOO_LONG 30u
 #define PGBOARD_GAME_LEXICAL 31u /* (the place) */
-#define PGBOARD_GAME_SYNTAX 32u  /* (the place; the length of the text where it ends too early) */
+#define PGBOARD_GAME_SYNTAX 32u  /* (the place; the length of the text if it ends too early) */
 #define PGBOARD_GAME_NUMBER 33u  /* (the place) */
 #define PGBOARD_GAME_OWNER 34u   /* (the place) */
 
@@ -79,10 +80,10 @@ uint32_t pgboard_version(void);
 #define PGBOARD_SOLUTION_TWICE 46u    /* (the identifier) */
 #define PGBOARD_SOLUTION_MISSING 47u  /* (the identifier) */
 
-/* a text that is written */
-#define PGBOARD_ROOM 50u /* (the size that is needed) */
+/* the text that a call writes */
+#define PGBOARD_CAPACITY 50u /* (the size of the text) */
 
-/* Which array or struct an answer means. */
+/* The array or struct of an answer. */
 #define PGBOARD_ARRAY_PRIORITIES 1u
 #define PGBOARD_ARRAY_STARTS 2u
 #define PGBOARD_ARRAY_TARGETS 3u
@@ -92,7 +93,7 @@ uint32_t pgboard_version(void);
 #define PGBOARD_STRUCT_SOLUTION 2u
 #define PGBOARD_STRUCT_RESULTS 3u
 
-/* What is reported beside an answer. */
+/* The report of a call, beside its answer. */
 struct pgboard_report {
     uint64_t at;
     uint64_t to;
@@ -113,7 +114,7 @@ struct pgboard_game {
     size_t targets_len;
 };
 
-/* Winners (0 Even, 1 Odd) and choices of all vertices, to be judged. A choice at a vertex that its winner doesn't own has
+/* Winners (0 Even, 1 Odd) and choices of all vertices, for a check. A choice at a vertex that its winner does not own has
  * no effect. */
 struct pgboard_solution {
     size_t size;
@@ -123,7 +124,7 @@ struct pgboard_solution {
     size_t choices_len;
 };
 
-/* Where each vertex's winner is written, and where he owns it his choice, else PGBOARD_NO_CHOICE. */
+/* The arrays for results: each vertex's winner, and his choice if he owns it, else PGBOARD_NO_CHOICE. */
 struct pgboard_results {
     size_t size;
     uint8_t *winners;
@@ -135,17 +136,17 @@ struct pgboard_results {
 /* Solves a game. */
 uint32_t pgboard_solve(const struct pgboard_game *game, struct pgboard_results *results, struct pgboard_report *report);
 
-/* As pgboard_solve, from what is known: PGBOARD_NO_WINNER stands where the winner is not. What is known need not come from
- * here: each player's known vertices, with his choices there, have to be ones that he wins without leaving them. */
+/* The same as pgboard_solve, from what is known; PGBOARD_NO_WINNER is an unknown winner. What is known may come from any
+ * source. Each player's known vertices have to be a set that he wins by his choices there, without leaving it. */
 uint32_t pgboard_solve_known(const struct pgboard_game *game, const struct pgboard_solution *known,
                              struct pgboard_results *results, struct pgboard_report *report);
 
-/* Whether winners and choices are a solution of a game: PGBOARD_OK, or what is wrong first. */
+/* Whether winners and choices are a solution of a game: PGBOARD_OK, or the first fault. */
 uint32_t pgboard_check(const struct pgboard_game *game, const struct pgboard_solution *solution,
                        struct pgboard_report *report);
 
 /* Solves a game in PGSolver's format: writes the solution's text to the front of `into`, and its size. There is no zero
- * byte at the end. Vertices are named by their identifiers. */
+ * byte at the end. Reports have the identifiers of vertices. */
 uint32_t pgboard_solve_text(const uint8_t *game, size_t game_len, uint8_t *into, size_t into_len, size_t *size,
                             struct pgboard_report *report);
 
@@ -153,12 +154,12 @@ uint32_t pgboard_solve_text(const uint8_t *game, size_t game_len, uint8_t *into,
 uint32_t pgboard_tidy_text(const uint8_t *game, size_t game_len, uint8_t *into, size_t into_len, size_t *size,
                            struct pgboard_report *report);
 
-/* Whether a text is a solution of a game's text: PGBOARD_OK, or what is wrong first. Vertices are named by their
- * identifiers. */
+/* Whether a text is a solution of a game's text: PGBOARD_OK, or the first fault. Reports have the identifiers of
+ * vertices. */
 uint32_t pgboard_verify_text(const uint8_t *game, size_t game_len, const uint8_t *solution, size_t solution_len,
                              struct pgboard_report *report);
 
-/* What an answer says, in English. */
+/* The text of an answer, in English. */
 static inline const char *pgboard_strerror(uint32_t answer)
 {
     switch (answer) {
@@ -175,11 +176,11 @@ static inline const char *pgboard_strerror(uint32_t answer)
     case PGBOARD_PRIORITY:
         return "a priority is above 2147483647";
     case PGBOARD_RESULTS:
-        return "an array for results has not one entry for each vertex";
+        return "an array for results does not have one entry for each vertex";
     case PGBOARD_WINNER:
         return "a winner is neither 0 nor 1";
     case PGBOARD_SOLUTION:
-        return "an array of the solution has not one entry for each vertex";
+        return "an array of the solution does not have one entry for each vertex";
     case PGBOARD_SIZE:
         return "the size of a struct is not the one that this library takes";
     case PGBOARD_NO_VERTEX:
@@ -215,7 +216,7 @@ static inline const char *pgboard_strerror(uint32_t answer)
     case PGBOARD_GAME_LEXICAL:
         return "the game's text has a byte that begins no token, or a quote that is never closed";
     case PGBOARD_GAME_SYNTAX:
-        return "the game's text has a token that can't stand there, or ends too early";
+        return "the game's text has a token that is not expected, or ends too early";
     case PGBOARD_GAME_NUMBER:
         return "the game's text has a number above 2147483647";
     case PGBOARD_GAME_OWNER:
@@ -225,7 +226,7 @@ static inline const char *pgboard_strerror(uint32_t answer)
     case PGBOARD_SOLUTION_LEXICAL:
         return "the solution's text has a byte that begins no token, or a quote that is never closed";
     case PGBOARD_SOLUTION_SYNTAX:
-        return "the solution's text has a token that can't stand there, or ends too early";
+        return "the solution's text has a token that is not expected, or ends too early";
     case PGBOARD_SOLUTION_NUMBER:
         return "the solution's text has a number above 2147483647";
     case PGBOARD_SOLUTION_WINNER:
@@ -236,7 +237,7 @@ static inline const char *pgboard_strerror(uint32_t answer)
         return "the solution's text has two lines for a vertex";
     case PGBOARD_SOLUTION_MISSING:
         return "the solution's text has no line for a vertex";
-    case PGBOARD_ROOM:
+    case PGBOARD_CAPACITY:
         return "the buffer is smaller than the text";
     default:
         return "no answer of this library";

@@ -1,6 +1,9 @@
 #!/usr/bin/env python3
-"""Shows that bench/run builds its parts, that program and comparator agree on two of its inputs, and the comparator's fast
-parts with its plain ones; and that the commands of docs/BENCHMARKS.md print its tables."""
+"""Tests of bench/run: tests/bench.py [PROGRAM] [-k WORD]
+
+It builds its parts, program and comparator agree on two of its inputs, and the comparator's fast parts agree with its plain
+ones. The commands of docs/BENCHMARKS.md print its tables.
+"""
 
 import re
 import sys
@@ -13,6 +16,7 @@ COMMANDS = ["tidy", "tidy-pipe", "verify", "verify-any", "wrong", "solve", "winn
 BENCH = common.ROOT / "bench"
 
 
+@common.needs("rustc")
 class Bench(unittest.TestCase):
     def test_each_input_and_command_has_a_line(self):
         words = ["--runs", "1", "--only", ",".join(INPUTS), "--commands", ",".join(COMMANDS)]

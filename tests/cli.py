@@ -1,8 +1,8 @@
 #!/usr/bin/env python3
-r"""Runs the cases of tests/cli over a built program, and compares bytes: tests/cli.py PROGRAM [-k WORD]
+r"""Compares what a built program prints, byte by byte, and its status: tests/cli.py [PROGRAM] [-k WORD]
 
-A case is a file whose name says the fact that it shows. What stands before its first section is a note. A section begins with
-a line '-- NAME':
+A case is a file of tests/cli whose name says the fact that it shows. The text before its first section is a note. A section
+begins with a line '-- NAME':
     args            the words of each run, a line for each, as a shell reads them; none: one run without words
     file PATH       a file in the folder that the program runs in
     stdin           none: nothing
@@ -11,18 +11,26 @@ a line '-- NAME':
     stdout begins   beside 'stdout has': what the output begins with
     stderr          the exact text on standard error; none: nothing
     stderr some     in place of stderr: any text that is not empty
-    stderr names    in place of stderr: a refused command line, of words that begin with 'error: ', end their line and have each of these lines
+    stderr names    in place of stderr: a refused command line, of words that begin with 'error: ', end their line and have
+                    each of these lines
     status          none: 0
 Texts are ASCII with the escapes of Python's bytes: \xff is a byte, and a backslash at the end of a line leaves its line feed out.
+
+The other tests are what no file of a case can hold: devices that fail, wait or give much; games at the limits and past them;
+and each byte at places of games and solutions, compared with the definitions of plain.py.
 """
 
+import concurrent.futures
+import os
 import pathlib
 import re
 import shlex
-import tempfile
+import subprocess
+import time
 import unittest
 
 import common
+import plain
 
 CASES = common.ROOT / "tests" / "cli"
 SECTION = re.compile(r"(?m)^-- (args|file \S.*|stdin|stdout(?: has| begins)?|stderr(?: some| names)?|status)\n")
@@ -46,23 +54,24 @@ class Case:
     def one(self, head):
         return (self.every(head) or [b""])[0]
 
-    def put_files(self, room):
+    def put_files(self, folder):
         for head, text in self.texts:
             if head.startswith("file "):
-                path = pathlib.Path(room, head.removeprefix("file "))
+                path = pathlib.Path(folder, head.removeprefix("file "))
                 path.parent.mkdir(parents=True, exist_ok=True)
                 path.write_bytes(text)
 
 
 class Cases(unittest.TestCase):
-    """A test for each case."""
+    """A test for each file of tests/cli."""
 
     def judge(self, name):
         case = Case(name)
         for words in case.runs:
-            with self.subTest(words=words), tempfile.TemporaryDirectory(prefix="pgboard-cli-") as room:
-                case.put_files(room)
-                status, out, err = common.run([common.PROGRAM, *words], case.stdin, timeout=20, cwd=room)
+            with self.subTest(words=words):
+                folder = common.make_folder(self)
+                case.put_files(folder)
+                status, out, err = common.program(*words, given=case.stdin, timeout=20, cwd=folder)
                 self.assertEqual(status, case.status, err)
                 self.judge_output(case, out)
                 self.judge_error(case, err)
@@ -87,8 +96,382 @@ class Cases(unittest.TestCase):
             self.assertEqual(err, case.one("stderr"))
 
 
-for each in sorted(it.name for it in CASES.iterdir()):
-    setattr(Cases, f"test_{each}", lambda self, name=each: self.judge(name))
+common.load_tests_of_table(Cases, {it.name: it.name for it in sorted(CASES.iterdir())}, Cases.judge)
+
+# --- devices ---
+
+LONGEST = 268_435_456
+GAME = b"0 2 0 0,1; 1 1 1 1;"
+HOLDS = b"0 0 0; 1 1 1;"
+JOINED = GAME + b"%" + HOLDS
+TIDY = b"parity 1;\n0 2 0 0,1;\n1 1 1 1;\n"
+LARGE = b"".join(b"%d %d %d %d,%d;\n" % (v, v % 4000, v % 2, *sorted((v, (v + 1) % 60_000))) for v in range(60_000))
+LARGE_TIDY = b"parity 59999;\n" + LARGE
+OK = (0, b"ok\n", b"")
+# None is any output
+WRITE_FAULT = (4, None, b"pgboard: write fault\n")
+READ_FAULT = (4, b"", b"pgboard: read fault\n")
+NO_MEMORY = (5, b"", b"pgboard: no memory\n")
+
+
+def refused(why):
+    return 3, b"", f"pgboard: {why}\n".encode()
+
+
+BAD_OWNER, TOO_LONG = refused("game: byte 4: owner is not 0 or 1"), refused("text too long")
+# what bash runs in a folder with game.pg and game.sol, where "$@" is the program with its words; the words, the input and the answer
+DEVICES = {
+    "a_reader_that_stops_early_is_a_write_fault": ('"$@" | head -c 5 >/dev/null; exit ${PIPESTATUS[0]}', ["tidy"], LARGE, WRITE_FAULT),
+    "a_slow_reader_gets_the_whole_output": ('"$@" | (sleep 0.2; dd bs=777 status=none)', ["tidy"], LARGE, (0, LARGE_TIDY, b"")),
+    "a_game_that_comes_slowly_is_read_whole": ('(head -c 9; sleep 0.1; head -c 9; sleep 0.1; cat) | "$@"', [], JOINED, OK),
+    "a_pipe_is_read_as_a_file_is": ('cat | "$@"', ["verify", "game.pg", "/dev/stdin"], HOLDS, OK),
+    "a_named_pipe_is_read_as_a_file_is": ('mkfifo pipe; cat <&0 >pipe & "$@"', ["tidy", "pipe"], LARGE, (0, LARGE_TIDY, b"")),
+    "a_file_that_was_read_in_part_is_read_from_there": ('(head -c 2 >/dev/null; exec "$@") <odd.pg', ["tidy"], b"", (0, TIDY, b"")),
+    "a_folder_as_standard_input_is_a_read_fault": ('exec "$@" <.', ["tidy"], b"", READ_FAULT),
+    "a_folder_as_both_texts_is_a_read_fault": ('exec "$@" <.', [], b"", READ_FAULT),
+    # (its first bytes belong to no memory)
+    "a_file_whose_reading_fails_is_a_read_fault": ('exec "$@"', ["tidy", "/proc/self/mem"], b"", READ_FAULT),
+    "a_closed_standard_error_leaves_the_status": ('exec "$@" 2>&-', ["tidy"], b"0 0 2 0;", (3, b"", b"")),
+    "a_full_standard_error_leaves_the_status": ('exec "$@" 2>/dev/full', ["tidy"], b"0 0 2 0;", (3, b"", b"")),
+    "no_environment_is_needed": ('exec env -i "$@"', ["tidy"], GAME, (0, TIDY, b"")),
+    # the kernel tells no length of what it makes when it is read
+    "a_file_that_says_it_is_empty_is_read_to_its_end": (
+        """exec env -i "$(printf '%70001s' x)=" "$@" """,
+        ["tidy", "/proc/self/environ"],
+        b"",
+        refused("game: byte 70001: no token"),
+    ),
+    # (the pipe has a writer that writes nothing: a program that read it first would never end)
+    "a_bad_game_is_named_before_a_solution_that_waits": (
+        'mkfifo pipe; exec "$@" <>pipe',
+        ["verify", "bad.pg", "/dev/stdin"],
+        b"",
+        BAD_OWNER,
+    ),
+    "refused_memory_is_status_5_and_nothing_is_written": ('ulimit -v 60000; exec "$@" <long', ["tidy"], b"", NO_MEMORY),
+    "a_text_of_the_greatest_length_is_read_to_its_end": (
+        f"""head -c {LONGEST} /dev/zero | tr '\\0' ' ' | "$@" """,
+        ["tidy"],
+        b"",
+        refused(f"game: byte {LONGEST}: not expected"),
+    ),
+    "a_text_with_one_byte_more_is_too_long": (f"""head -c {LONGEST + 1} /dev/zero | tr '\\0' ' ' | "$@" """, [], b"", TOO_LONG),
+    # (files of zeros, which take no memory)
+    "a_file_of_the_greatest_length_is_read": ('exec "$@"', ["tidy", "longest"], b"", refused("game: byte 0: no token")),
+    "a_file_with_one_byte_more_is_too_long": ('exec "$@"', ["tidy", "longer"], b"", TOO_LONG),
+    "a_file_of_a_terabyte_is_too_long": ('exec "$@"', ["tidy", "terabyte"], b"", TOO_LONG),
+}
+SIZES = {"long": 100_000_000, "longest": LONGEST, "longer": LONGEST + 1, "terabyte": 1 << 40}
+# runs whose output is refused
+WRITING = [
+    ([], JOINED),
+    ([], GAME + b"%0 0; 1 1 1;"),
+    (["verify", "game.pg", "game.sol"], b""),
+    (["tidy"], GAME),
+    (["tidy", "game.pg"], b""),
+    (["solve"], GAME),
+    (["solve", "--winners"], GAME),
+    (["trace", "--workers", "1"], GAME),
+    (["--help"], b""),
+    (["tidy", "--help"], b""),
+    (["--version"], b""),
+]
+
+
+class Answers(unittest.TestCase):
+    """What the tests of devices and of limits share."""
+
+    def check(self, got, wanted):
+        """Compares answers whose outputs may be too long to be shown."""
+        self.assertEqual((got[0], got[2][:200]), (wanted[0], wanted[2]))
+        self.assertTrue(wanted[1] in (None, got[1]), f"{len(got[1])} bytes, {got[1][:200]}, that are not those wanted")
+
+
+class Devices(Answers):
+    def setUp(self):
+        self.folder = common.make_folder(self)
+        files = {"game.pg": GAME, "game.sol": HOLDS, "odd.pg": b"?!" + GAME, "bad.pg": b"0 0 2 0;"}
+        for name, text in files.items():
+            (self.folder / name).write_bytes(text)
+        for name, size in SIZES.items():
+            (self.folder / name).touch()
+            os.truncate(self.folder / name, size)
+
+    def bash(self, script, words, given, **how):
+        return common.run(["bash", "-c", script, "", common.PROGRAM, *words], given, cwd=self.folder, **how)
+
+    def judge(self, row):
+        script, words, given, wanted = row
+        self.check(self.bash(script, words, given, timeout=300), wanted)
+
+    def test_a_device_that_takes_nothing_is_a_write_fault_and_no_death_by_signal(self):
+        reader, writer = os.pipe()
+        os.close(reader)
+        with open(writer, "wb"):
+            for device in ("/dev/full", "&-", f"&{writer}"):
+                for words, given in WRITING:
+                    with self.subTest(words=words, device=device):
+                        self.check(self.bash(f'exec "$@" >{device}', words, given, pass_fds=[writer]), WRITE_FAULT)
+
+    def test_a_file_that_grows_or_shrinks_before_it_is_read_is_read_to_its_end(self):
+        # both files are opened before the game is read, which is a pipe
+        pipe, solution = self.folder / "pipe", self.folder / "game.sol"
+        os.mkfifo(pipe)
+        long = HOLDS + b" " * 100_000
+        for before, then in ((b"", long), (HOLDS, long), (long, HOLDS)):
+            solution.write_bytes(before)
+            words = [common.PROGRAM, "verify", "pipe", "game.sol"]
+            with self.subTest(before=len(before)), subprocess.Popen(words, cwd=self.folder, stdout=subprocess.PIPE) as ran:
+                with open(pipe, "wb", buffering=0) as file:
+                    # (opening it has waited for the program)
+                    time.sleep(0.2)
+                    self.assertIn(str(solution), [os.path.realpath(it) for it in pathlib.Path(f"/proc/{ran.pid}/fd").iterdir()])
+                    solution.write_bytes(then)
+                    file.write(GAME)
+                self.assertEqual((ran.communicate(timeout=60)[0], ran.returncode), (b"ok\n", 0))
+
+    def test_an_argument_that_is_no_text_is_a_refused_command_line(self):
+        status, out, err = common.program(b"tidy", b"\xff\xfe")
+        self.assertEqual((status, out), (2, b""))
+        self.assertTrue(err)
+
+
+common.load_tests_of_table(Devices, DEVICES, Devices.judge)
+
+# --- limits ---
+
+VERTICES, EDGES = 1_048_576, 16_777_216
+# each vertex with so many successors is as many edges as may be
+WIDTH = 4_096
+DEGREE = EDGES // VERTICES
+# of a ladder of as many vertices as fit
+LEVELS = (VERTICES - 1) // 3
+# the first identifier and the first priority of the greatest game, whose every number has ten digits
+FIRST, LEAST = 1_100_000_000, 1_000_000_000
+LONGEST_GAME, LONGEST_SOLUTION = 210_763_795, 26_214_422
+
+
+def own_loops(count, priority=lambda v: 0):
+    return b"".join(b"%d %d 0 %d;\n" % (v, priority(v), v) for v in range(count))
+
+
+def rows_of(numbers, successors):
+    """Each of the vertices with the same successors."""
+    row = b",".join(b"%d" % w for w in successors)
+    return b"".join(b"%d 0 0 %s;\n" % (v, row) for v in numbers)
+
+
+def wide_vertex(count):
+    """A vertex that leads to all, and others with loops of their own."""
+    return rows_of([0], range(count)) + own_loops(count).partition(b"\n")[2]
+
+
+def all_to_even(count, own=False):
+    """A solution in which Even wins everywhere, by own loops if he has a choice."""
+    return b"paritysol %d;\n" % (count - 1) + b"".join(b"%d 0 %d;\n" % (v, v) if own else b"%d 0;\n" % v for v in range(count))
+
+
+def long_cycle(count):
+    """One cycle, owned by player 1, that player 0 wins by its last vertex: each search for a bad walk from another goes far."""
+    return b"".join(b"%d 1 1 %d;\n" % (v, v + 1) for v in range(count - 1)) + b"%d 2 1 0;\n" % (count - 1)
+
+
+def ladder(levels):
+    """A ring whose vertices, of player 1, have a vertex of each level to go by, which player 0 wins, with a lower bad one after it.
+
+    From the bad vertex of a level a search goes through all levels below, and no closed walk is bad.
+    """
+    ring = [b"%d 0 1 %d,%d;\n" % (v, v + 1, levels + 1 + 2 * v) for v in range(levels)] + [b"%d 0 1 0;\n" % levels]
+    for level in range(levels):
+        good = levels + 1 + 2 * level
+        ring.append(b"%d %d 1 %d,%d;\n" % (good, 2 * level + 2, level + 1, good + 1))
+        ring.append(b"%d %d 1 %d;\n" % (good + 1, 2 * level + 1, good - 2 if level else 0))
+    return b"".join(ring)
+
+
+def greatest_game():
+    """Even owns each vertex, which leads to itself and to those after it, in a ring: he wins by the even priorities."""
+    ids = [b"%d" % (FIRST + v) for v in range(VERTICES)]
+    ring = ids + ids[: DEGREE - 1]
+    rows = (b"%s %d 0 %s;\n" % (ids[v], LEAST + v, b",".join(sorted(ring[v : v + DEGREE]))) for v in range(VERTICES))
+    return b"parity %d;\n" % (FIRST + VERTICES - 1) + b"".join(rows)
+
+
+def greatest_solution():
+    """Each vertex of even priority stays, and each other leads to the next, or the last to the first."""
+    nexts = [v if v % 2 == 0 else (v + 1) % VERTICES for v in range(VERTICES)]
+    return b"paritysol %d;\n" % (FIRST + VERTICES - 1) + b"".join(b"%d 0 %d;\n" % (FIRST + v, FIRST + w) for v, w in enumerate(nexts))
+
+
+TOO_MANY_VERTICES, TOO_MANY_EDGES = refused("game: too many vertices"), refused("game: too many edges")
+WINNERS = ["solve", "--winners"]
+# the words, what makes the text, and the answer; in place of its output the greatest identifier of a game that is written
+# as it is read, or what makes a solution
+LIMITS = {
+    "as_many_vertices_as_may_be": (["tidy"], lambda: own_loops(VERTICES), VERTICES - 1),
+    "one_vertex_too_many": (["tidy"], lambda: own_loops(VERTICES + 1), TOO_MANY_VERTICES),
+    "too_many_vertices_come_before_one_specified_twice": (["tidy"], lambda: b"0 0 0 1;" * (VERTICES + 1), TOO_MANY_VERTICES),
+    "as_many_edges_as_may_be": (["tidy"], lambda: rows_of(range(WIDTH), range(WIDTH)), WIDTH - 1),
+    "one_row_of_edges_too_many": (["tidy"], lambda: rows_of(range(WIDTH + 1), range(WIDTH)), TOO_MANY_EDGES),
+    "one_edge_too_many": (["tidy"], lambda: rows_of(range(WIDTH), range(WIDTH)) + b"%d 0 0 0;\n" % WIDTH, TOO_MANY_EDGES),
+    "repeated_successors_are_one_edge": (["tidy"], lambda: b"0 0 0 0" + b",0" * (EDGES + 1) + b";", (0, b"parity 0;\n0 0 0 0;\n", b"")),
+    "edges_to_unspecified_vertices_count": (["tidy"], lambda: rows_of(range(5_000), range(70_000, 73_500)), TOO_MANY_EDGES),
+    "a_vertex_specified_twice_comes_before_edges": (
+        ["tidy"],
+        lambda: rows_of([0] * (WIDTH + 1), range(WIDTH)),
+        refused("game: vertex 0: specified twice"),
+    ),
+    "each_vertex_may_have_a_priority_of_its_own": (["tidy"], lambda: own_loops(VERTICES, lambda v: v), VERTICES - 1),
+    "a_name_of_a_megabyte": (["tidy"], lambda: b'0 0 0 0 "' + b"n" * 1_000_000 + b'";', (0, b"parity 0;\n0 0 0 0;\n", b"")),
+    "a_vertex_with_70000_successors": (["tidy"], lambda: wide_vertex(70_000), 69_999),
+    "tidy_the_greatest_game": (["tidy"], lambda: greatest_game().partition(b"\n")[2], FIRST + VERTICES - 1),
+    "a_solution_of_as_many_vertices_as_may_be": ([], lambda: own_loops(VERTICES) + b"%" + all_to_even(VERTICES, own=True), OK),
+    "a_cycle_of_as_many_vertices_as_may_be": ([], lambda: long_cycle(VERTICES) + b"%" + all_to_even(VERTICES), OK),
+    "a_ladder_of_a_million_vertices": ([], lambda: ladder(LEVELS) + b"%" + all_to_even(3 * LEVELS + 1), OK),
+    "a_solution_of_30_megabytes_of_blanks": ([], lambda: own_loops(1) + b"%paritysol 0;\n0 0" + b" " * 30_000_000 + b" 0;\n", OK),
+    "verify_the_greatest_solution": ([], lambda: greatest_game() + b"%" + greatest_solution(), OK),
+    "solve_as_many_vertices_as_may_be": (WINNERS, lambda: own_loops(VERTICES), lambda: all_to_even(VERTICES)),
+    "solve_as_many_edges_as_may_be": (WINNERS, lambda: rows_of(range(WIDTH), range(WIDTH)), lambda: all_to_even(WIDTH)),
+    "solve_a_vertex_with_70000_successors": (WINNERS, lambda: wide_vertex(70_000), lambda: all_to_even(70_000)),
+    "solve_own_loops_of_even_priorities": (
+        ["solve", "--workers", "1", "--bound", "0"],
+        lambda: own_loops(5_000, lambda v: 2 * v),
+        lambda: all_to_even(5_000, own=True),
+    ),
+}
+
+
+class Limits(Answers):
+    def judge(self, row):
+        words, make, wanted = row
+        text = make()
+        if callable(wanted):
+            wanted = 0, wanted(), b""
+        elif isinstance(wanted, int):
+            wanted = 0, b"parity %d;\n" % wanted + text, b""
+        self.check(common.program(*words, given=text, timeout=300), wanted)
+
+    def test_solve_the_greatest_game(self):
+        """Game and solution are as long as any, and the solution holds."""
+        game = greatest_game()
+        status, out, err = common.program("solve", given=game, timeout=300)
+        self.assertEqual((status, err, len(game), len(out)), (0, b"", LONGEST_GAME, LONGEST_SOLUTION))
+        self.check(common.program(given=game + b"%" + out, timeout=300), OK)
+
+
+common.load_tests_of_table(Limits, LIMITS, Limits.judge)
+
+# --- refusals above 65,536 lines ---
+
+MANY = 70_000
+# a line after a game of so many own loops, and after its solution; what is wrong, and at which byte of the line
+OF_GAMES = [
+    (b"?", "byte %d: no token", 0),
+    (b",", "byte %d: not expected", 0),
+    (b"2147483648 0 0 0;", "byte %d: number too large", 0),
+    (b"70000 0 2 0;", "byte %d: owner is not 0 or 1", 8),
+    (b"69999 0 0 0;", "vertex 69999: specified twice", None),
+    (b"70000 0 0 70001;", "vertex 70000: successor 70001 is not specified", None),
+]
+OF_SOLUTIONS = [
+    (b"?", "byte %d: no token", 0),
+    (b",", "byte %d: not expected", 0),
+    (b"2147483648 0;", "byte %d: number too large", 0),
+    (b"70000 2;", "byte %d: winner is not 0 or 1", 6),
+    (b"70000 0;", "vertex 70000: not in the game", None),
+    (b"69999 0;", "vertex 69999: written twice", None),
+]
+# the last vertex, its line in a solution, and what `verify` says of it; and the same of what is known
+VERDICTS = [
+    (b"69999 0 0 69999;", b"69999 0;", "no choice at 69999"),
+    (b"69999 0 0 69999;", b"69999 0 0;", "bad choice at 69999"),
+    (b"69999 1 1 0;", b"69999 1 0;", "69999 leaves to 0"),
+    (b"69999 1 0 69999;", b"69999 0 69999;", "bad cycle at 69999"),
+]
+OF_KNOWN = [
+    (b"69999 0 0 69999;", b"69999 0;", "bad choice or none at 69999"),
+    (b"69999 1 0 69999;", b"69999 0 69999;", "bad cycle at 69999"),
+    (b"69999 1 1 0;", b"69999 1 0;", "69999 is lost"),
+    (b"69999 0 0 70000; 70000 0 0 70000;", b"69999 0 70000;", "69999 leaves to 70000"),
+]
+
+
+class ManyLines(Answers):
+    def setUp(self):
+        self.folder = common.make_folder(self)
+
+    def refused(self, commands, game, solution, wanted):
+        """Each of these commands answers so, of a game and a solution."""
+        (self.folder / "game.pg").write_bytes(game)
+        (self.folder / "game.sol").write_bytes(solution)
+        words = {"verify": ["game.pg", "game.sol"], "known": ["--known", "game.sol", "game.pg"]}
+        for name in commands.split():
+            with self.subTest(name, wanted=wanted):
+                command = [] if name == "joined" else ["solve" if name == "known" else name, *words.get(name, ["game.pg"])]
+                given = game + b"%" + solution if name == "joined" else b""
+                self.check(common.program(*command, given=given, timeout=300, cwd=self.folder), wanted)
+
+    def test_texts(self):
+        game, solution = own_loops(MANY), all_to_even(MANY, own=True)
+        for line, what, at in OF_GAMES:
+            fault = what if at is None else what % (len(game) + at)
+            self.refused("joined verify known tidy solve trace", game + line, solution, (3, b"", f"pgboard: game: {fault}\n".encode()))
+        for line, what, at in OF_SOLUTIONS:
+            fault = what if at is None else what % (len(solution) + at)
+            self.refused("joined verify known", game, solution + line, (3, b"", f"pgboard: solution: {fault}\n".encode()))
+
+    def test_verdicts_and_what_is_known(self):
+        game, solution = own_loops(MANY - 1), all_to_even(MANY - 1, own=True)
+        missing = (3, b"", b"pgboard: solution: vertex 69999: not written\n")
+        self.refused("joined verify", game + b"69999 0 0 69999;", solution, missing)
+        self.refused("known", game + b"69999 0 0 69999;", solution, (0, all_to_even(MANY, own=True), b""))
+        for last, line, what in VERDICTS:
+            self.refused("joined verify", game + last, solution + line, (1, f"not a solution: {what}\n".encode(), b""))
+        for last, line, what in OF_KNOWN:
+            self.refused("known", game + last, solution + line, (1, b"", f"pgboard: known: {what}\n".encode()))
+
+    def test_a_long_word_is_named(self):
+        word = "--" + "x" * 100_000
+        status, out, err = common.program("tidy", word)
+        self.assertEqual((status, out, word.encode() in err), (2, b"", True))
+
+
+# --- each byte ---
+
+NAMED = b'parity 12; start 1;\n12 05 1 7,12 "a name";\n7 2 0 12;\n'
+NAMED_SOLUTION = b"paritysol 12;\n7 1;\n12 1 12;\n"
+
+
+def cuts(text):
+    return (text[:length] for length in range(len(text) + 1))
+
+
+class EveryByte(unittest.TestCase):
+    def judge(self, texts):
+        """Judges games by `tidy`, and games with solutions, as pairs, by the run without a command."""
+        texts = sorted(set(texts), key=str)
+        self.assertTrue(texts)
+        runs = [(["tidy"], it, plain.tidied(it)) if isinstance(it, bytes) else ([], b"%".join(it), plain.verified(*it)) for it in texts]
+        with concurrent.futures.ThreadPoolExecutor(4) as pool:
+            answers = pool.map(lambda it: common.program(*it[0], given=it[1]), runs)
+            for (words, text, wanted), got in zip(runs, answers):
+                with self.subTest(words, text=text):
+                    self.assertEqual(got, wanted)
+
+    def test_each_byte_at_several_places(self):
+        places = ((b"", b"0 0 0 0;"), (b"0 12", b"3 0 0;"), (b'0 0 0 0 "a', b'b";'), (b"0 0 0 0;", b""))
+        self.judge(before + bytes([byte]) + after for before, after in places for byte in range(256))
+        self.judge((b"0 0 0 0;", b"0" + bytes([byte]) + b"0 0;") for byte in range(256))
+
+    def test_texts_cut_at_every_length(self):
+        self.judge([*cuts(NAMED), *((NAMED, it) for it in cuts(NAMED_SOLUTION))])
+        examples = sorted((common.ROOT / "examples").glob("*.pg"))
+        self.assertGreater(len(examples), 1)
+        for path in examples:
+            game = path.read_bytes()
+            solutions = [it.read_bytes() for it in (path.with_suffix(".sol"), path.with_suffix(".wrong")) if it.exists()]
+            self.judge([*cuts(game), *((game, part) for it in solutions for part in cuts(it))])
+
 
 if __name__ == "__main__":
     common.main()

@@ -2,6 +2,8 @@
 
 import os
 import pathlib
+import re
+import shutil
 import subprocess
 import sys
 import tempfile
@@ -9,8 +11,10 @@ import unittest
 
 sys.dont_write_bytecode = True
 ROOT = pathlib.Path(__file__).resolve().parent.parent
-# the path of the built program, once main() has read it
-PROGRAM = None
+# the program that the gate has built; the first word of a script may be the path of another one
+PROGRAM = ROOT / "crates" / "pgboard_program" / "out" / "pgboard_program"
+if sys.argv[1:] and not sys.argv[1].startswith("-"):
+    PROGRAM = pathlib.Path(os.path.abspath(sys.argv.pop(1)))
 
 
 def text_of(*path):
@@ -18,8 +22,8 @@ def text_of(*path):
     return ROOT.joinpath(*path).read_text(encoding="utf-8")
 
 
-def room(case):
-    """A folder that goes with a test, or with a class of tests."""
+def make_folder(case):
+    """A folder that is removed after a test, or after a class of tests."""
     folder = tempfile.TemporaryDirectory(prefix="pgboard-test-")
     (case.addClassCleanup if isinstance(case, type) else case.addCleanup)(folder.cleanup)
     return pathlib.Path(folder.name)
@@ -29,6 +33,28 @@ def run(words, given=b"", timeout=60, **how):
     """Runs a command and returns its status, standard output and standard error."""
     ran = subprocess.run(words, input=given, capture_output=True, timeout=timeout, **how)
     return ran.returncode, ran.stdout, ran.stderr
+
+
+def program(*words, given=b"", **how):
+    """Runs the program under test likewise."""
+    return run([PROGRAM, *words], given, **how)
+
+
+def needs(*tools):
+    """Leaves out a test, or a class of tests, where a tool is not installed."""
+    lacking = [it for it in tools if not shutil.which(it)]
+    return unittest.skipIf(lacking, f"not installed: {' '.join(lacking)}")
+
+
+def kit():
+    """The kit that is installed, without the letter of its release: kits of one number and one logic prove the same."""
+    return re.sub(r"^(rattle-kit-\d+)[a-z]* ", r"\1 ", run(["rt", "version"])[1].decode().strip())
+
+
+def load_tests_of_table(case, rows, judge):
+    """Gives a class a test for each row of a table, by its name."""
+    for name, row in rows.items():
+        setattr(case, f"test_{name}", lambda self, row=row: judge(self, row))
 
 
 class Result(unittest.TextTestResult):
@@ -50,16 +76,13 @@ class Result(unittest.TextTestResult):
         self.passed += not self.rows
 
 
-def main(of_program=True):
-    """Runs the tests of the script, with flags of unittest as -k WORD; the last line is 'N passed, M failed', and none at all is a failure."""
-    global PROGRAM
-    script, *words = sys.argv
-    if of_program and not words:
-        sys.exit(f"{script} PROGRAM [-k WORD]")
-    if of_program:
-        PROGRAM = os.path.abspath(words.pop(0))
+def main():
+    """Runs the tests of the script, with flags of unittest as -k WORD; the last line is 'N passed, M failed'.
+
+    A script of which no test ran has failed, unless tools are missing for all of them.
+    """
     runner = unittest.TextTestRunner(resultclass=Result)
-    result = unittest.main(argv=[script, *words], testRunner=runner, exit=False).result
-    failed = len(result.failures) + len(result.errors) or int(not result.passed)
+    result = unittest.main(testRunner=runner, exit=False).result
+    failed = len(result.failures) + len(result.errors) or int(not result.passed and not result.skipped)
     print(f"{result.passed} passed, {failed} failed", flush=True)
     sys.exit(1 if failed else 0)

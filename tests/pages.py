@@ -1,17 +1,16 @@
 #!/usr/bin/env python3
-"""Runs the commands that the pages show and compares what they print, and fails where a link between pages leads nowhere.
+"""Compares the pages with the program and the sources: tests/pages.py [PROGRAM] [-k WORD]
 
-In a block `sh` of a page, commands are an example where lines that begin with `# ` follow, which are what they print, or where a
-block `text` does; no others are run. They are run by bash in a folder that looks like the top of the repository: `pgboard` there is
-the built program, and `examples` a copy. Standard output and standard error come together, as in a terminal. docs/FAULTS.md has a test of its own.
+Commands on the pages print what the pages show, links lead somewhere, each fault line is in docs/FAULTS.md, the synopses and the
+man page say what the program's help says, code on the pages is in a test, and sentences are short.
 """
 
-import pathlib
 import re
+import shlex
 import shutil
-import tempfile
 import unittest
 
+import cli
 import common
 
 BLOCK = re.compile(r"(?ms)^```(\w*)\n(.*?)^```$")
@@ -20,12 +19,28 @@ C_PAGE = "docs/INTEROP.md"
 LINK = re.compile(r"\[[^\]]*\]\(([^)\s]+)\)")
 
 
+def pages(*patterns):
+    """The pages of these patterns, as paths from the repository's top."""
+    every = {it.relative_to(common.ROOT) for pattern in patterns for it in common.ROOT.glob(pattern)}
+    return [str(it) for it in sorted(every) if not {".git", "out"} & set(it.parts)]
+
+
+def prose(page):
+    """A page without its blocks of code."""
+    return BLOCK.sub("", common.text_of(page))
+
+
+# --- examples and links ---
+
+
 def examples(text):
-    """The pairs of commands and what they have to print, each with the heading above."""
+    """The commands that a page shows with what they print, each with the heading above.
+
+    In a block `sh` these are lines of commands before lines that begin with `# `, or the whole block before a block `text`.
+    """
     blocks = list(BLOCK.finditer(text))
     for block, after in zip(blocks, [*blocks[1:], None]):
-        heads = re.findall(r"(?m)^#+ +(.*)$", BLOCK.sub("", text[: block.start()]))
-        head = heads[-1] if heads else ""
+        head = (["", *re.findall(r"(?m)^#+ +(.*)$", BLOCK.sub("", text[: block.start()]))])[-1]
         pairs = re.findall(r"((?:^(?!# ).*\n)+)((?:^# .*\n)+)", block[2], re.M)
         if block[1] == "sh" and pairs:
             yield from ((head, commands, re.sub(r"(?m)^# ", "", printed)) for commands, printed in pairs)
@@ -34,22 +49,8 @@ def examples(text):
 
 
 def c_program(text):
-    """The C program of a page, what it prints, and the commands that build it where it stands in `embed.c`; None where it has none."""
-    found = re.search(r"(?ms)^```c\n(.*?)^```$.*?^```text\n(.*?)^```$.*?^```sh\n(.*?)^```$", text)
-    return found.groups() if found else None
-
-
-def ran(commands):
-    """Runs a block and returns its output and the last status."""
-    with tempfile.TemporaryDirectory(prefix="pgboard-pages-") as room:
-        pathlib.Path(room, "pgboard").symlink_to(common.PROGRAM)
-        shutil.copytree(common.ROOT / "examples", f"{room}/examples")
-        status, out, _ = common.run(["bash", "-c", f"exec 2>&1\n{commands}"], cwd=room)
-    return out.decode("utf-8", "backslashreplace"), status
-
-
-def prose(page):
-    return BLOCK.sub("", common.text_of(page))
+    """The C program of a page, what it prints, and the commands that build it of `embed.c`."""
+    return re.search(r"(?ms)^```c\n(.*?)^```$.*?^```text\n(.*?)^```$.*?^```sh\n(.*?)^```$", text).groups()
 
 
 def anchors(page):
@@ -58,23 +59,337 @@ def anchors(page):
     return {re.sub(r"[^\w\- ]", "", it.lower()).replace(" ", "-") for it in heads}
 
 
-class Pages(unittest.TestCase):
-    def test_each_example_prints_what_stands_there(self):
-        found = [it for it in sorted(common.ROOT.glob("docs/*.md")) if it.name != "FAULTS.md"]
-        for page in ["README.md", "examples/README.md", *found]:
+def ran(case, commands):
+    """Runs commands by bash in a folder like the top: the output and error, as in a terminal, and the last status."""
+    folder = common.make_folder(case)
+    (folder / "pgboard").symlink_to(common.PROGRAM)
+    shutil.copytree(common.ROOT / "examples", folder / "examples")
+    status, out, _ = common.run(["bash", "-c", f"exec 2>&1\n{commands}"], timeout=300, cwd=folder)
+    return out.decode("utf-8", "backslashreplace"), status
+
+
+class Examples(unittest.TestCase):
+    def test_each_example_prints_what_the_page_shows(self):
+        for page in pages("README.md", "examples/README.md", "docs/*.md"):
             for head, commands, wanted in examples(common.text_of(page)):
-                with self.subTest(f"{page}, {head}"):
-                    self.assertEqual(ran(commands)[0], wanted, commands)
+                with self.subTest(page, head=head):
+                    self.assertEqual(ran(self, commands)[0], wanted, commands)
 
     def test_each_link_leads_somewhere(self):
-        for page in sorted(it.relative_to(common.ROOT) for it in common.ROOT.glob("**/*.md")):
-            for link in [] if {".git", "out"} & set(page.parts) else LINK.findall(prose(page)):
+        for page in pages("**/*.md"):
+            for link in LINK.findall(prose(page)):
                 path, _, anchor = link.partition("#")
-                to = page.parent / path if path else page
+                to = (common.ROOT / page).parent / path if path else common.ROOT / page
                 if not re.match(r"[a-z]+:", link):
-                    with self.subTest(f"{page}: {link}"):
-                        self.assertTrue((common.ROOT / to).exists())
+                    with self.subTest(page, link=link):
+                        self.assertTrue(to.exists())
                         self.assertTrue(not anchor or to.suffix != ".md" or anchor in anchors(to))
+
+
+# --- faults ---
+
+PLACES = ["no token", "not expected", "number too large"]
+FAULTS = [
+    *(f"game: byte AT: {it}" for it in (*PLACES, "owner is not 0 or 1")),
+    *(f"game: {it}" for it in ("no vertex", "too many vertices", "too many edges")),
+    *(f"game: vertex V: {it}" for it in ("specified twice", "no successor", "successor W is not specified")),
+    *(f"solution: byte AT: {it}" for it in (*PLACES, "winner is not 0 or 1")),
+    *(f"solution: vertex V: {it}" for it in ("not in the game", "written twice", "not written")),
+    *(f"known: {it}" for it in ("bad choice or none at V", "bad cycle at V", "V is lost", "V leaves to W")),
+    *("text too long", "read fault", "write fault", "no memory"),
+    *(f"not a solution: {it}" for it in ("no choice at V", "bad choice at V", "V leaves to W", "bad cycle at V")),
+]
+# those that no text gives
+WITHOUT_EXAMPLE = ["game: no vertex", "game: vertex V: no successor"]
+REFUSED_WORDS = "A refused command line (status 2)"
+
+
+def expected_of(path, name):
+    """The status that a test expects, and its lines: a file of tests/cli, or a row of a table of cli.py."""
+    if path == "cli.py":
+        status, out, err = {**cli.DEVICES, **cli.LIMITS}[name][-1]
+        return status, (out or b"").decode() + err.decode()
+    case = cli.Case(path.removeprefix("cli/"))
+    return case.status, (case.one("stdout") + case.one("stderr")).decode()
+
+
+class Faults(unittest.TestCase):
+    """The heading of a part of docs/FAULTS.md says the status that its examples have, as (status 3).
+
+    After 'Test:' the part of a line names a test that has to expect a line of this kind and this status.
+    """
+
+    def test_each_fault_has_an_example_and_a_test(self):
+        found = []
+        for part in re.split(r"(?m)^(?=## )", common.text_of("docs/FAULTS.md")):
+            status = re.search(r"\(status ([0-9])\)", part.split("\n")[0])
+            for under in re.split(r"(?m)^(?=##+ )", part):
+                head = under.split("\n")[0].strip("#` ")
+                if under.startswith("### "):
+                    found.append(head)
+                if head in FAULTS and head not in WITHOUT_EXAMPLE or head == REFUSED_WORDS:
+                    with self.subTest(head):
+                        self.judge(head, under, int(status[1]))
+        self.assertEqual(sorted(found), sorted(FAULTS))
+
+    def judge(self, head, under, status):
+        line = re.escape(head if head.startswith("not a solution") else f"pgboard: {head}")
+        line = re.compile(re.sub(r"\b(AT|V|W)\b", "[0-9]+", line) + r"\n")
+        runs = [ran(self, commands) for _, commands, _ in examples(under)]
+        self.assertTrue(runs)
+        ((path, name),) = re.findall(r"(?m)(?<= )Test: `([\w./]+)`(?: `(\w+)`)?\.$", under)
+        tested, said = expected_of(path, name)
+        self.assertEqual(tested, status)
+        if head in FAULTS:
+            self.assertEqual([ended for out, ended in runs if line.fullmatch(out)], [status] * len(runs))
+            self.assertRegex(said, line)
+
+
+# --- help ---
+
+PAGES = ["docs/CLI.md", "docs/pgboard.1", "README.md"]
+COMPLETIONS = common.ROOT / "completions"
+FLAG = r"(?<![\w-])--[a-z][a-z-]*"
+
+
+def help_of(*words):
+    return common.program(*words)[1].decode()
+
+
+def flags_of(text):
+    """The flags that a help lists, in order, each with the name of its value or nothing."""
+    listed = re.findall(r"(?m)^ +(?:-\w, )?--([a-z][a-z-]*)(?: <(\w+)>)?", text)
+    return [f"--{flag} {value}".strip() for flag, value in listed if flag not in ("help", "version")]
+
+
+def statuses_of(text):
+    return re.findall(r"(?m)^ *([0-9]) {2,}(\S.*?) *$", text[text.find("Exit status") :])
+
+
+def line_of(command, text):
+    """The line of a synopsis, by the help of a command or of the program."""
+    files = re.findall(r"<[A-Z]+>|\[[A-Z]+\]", re.search(r"(?m)^Usage: pgboard(.*)$", text)[1])
+    files = [it.strip("<>") for it in files if it not in ("[OPTIONS]", "[COMMAND]")]
+    return " ".join(filter(None, ["pgboard", command, *(f"[{it}]" for it in flags_of(text)), *files]))
+
+
+def synopsis_block(page):
+    """The block of a page that has its synopsis."""
+    text = common.text_of(page)
+    return BLOCK.search(text, text.find("\n## Commands\n") if page == "README.md" else 0)[2]
+
+
+def man_page():
+    """The parts of the man page as plain text, by heading; a line `.TP` or `.br` stays."""
+    lines = []
+    for line in common.text_of("docs/pgboard.1").replace("\\-", "-").splitlines():
+        macro, _, words = line.partition(" ")
+        if re.fullmatch(r"\.[RBI]{2}", macro):
+            # a macro of two letters writes its words without blanks between
+            line = "".join(shlex.split(words))
+        elif macro in (".B", ".I"):
+            line = words
+        lines.append(line)
+    parts = re.split(r'(?m)^\.SH "?([A-Z ]+)"?$', "\n".join(lines))
+    return dict(zip(parts[1::2], parts[2::2]))
+
+
+def synopsis_of(page):
+    """The lines of a page's synopsis, without what they say of each command."""
+    if page.endswith(".1"):
+        lines = " ".join(man_page()["SYNOPSIS"].split()).split(" .br ")
+        return set(lines) - {"pgboard [COMMAND] --help"}
+    return {re.split(r" {2,}", line)[0] for line in re.sub(r"\n {2,}\b", "  ", synopsis_block(page)).splitlines()}
+
+
+def said_by(page):
+    """The commands, flags and statuses that a page names."""
+    if page.endswith(".1"):
+        parts = man_page()
+        commands = re.findall(r"(?m)^\.TP\n([a-z]+)", re.sub(r"(?m)^\.BI ", "", parts["COMMANDS"]))
+        statuses = re.findall(r"(?m)^\.TP\n([0-9])\n(.*)$", parts["EXIT STATUS"])
+        return set(commands), set(re.findall(FLAG, "\n".join(parts.values()))), statuses
+    # flags of scripts, of the tests and of ./pgboard are none of the program's
+    others = r"\.py\b|bench/|tests/|\brt\b|\bsed\b|\bcurl\b|\bgit\b"
+    text = "\n".join(it for it in common.text_of(page).splitlines() if not re.search(others, it))
+    commands = re.findall(r"(?m)(?<!-)\bpgboard (?!\d)([a-z]+)\b(?= [\[A-Z<.`]|`|$)", text)
+    statuses = re.findall(r"(?m)^\| ([0-9]) \| (.*) \|$", text)
+    return set(commands), set(re.findall(FLAG, text)) - {"--rebuild", "--unproved", "--install"}, statuses
+
+
+class HelpAgrees(unittest.TestCase):
+    """The program's help is the source; the pages have the same commands, flags, files and statuses."""
+
+    @classmethod
+    def setUpClass(cls):
+        listed = re.search(r"(?ms)^Commands:\n(.*?)\n\n", help_of("--help"))[1]
+        cls.commands = set(re.findall(r"(?m)^ {2}([a-z]+)\b", listed)) - {"help"}
+        cls.helps = {name: help_of(*filter(None, [name]), "--help") for name in ["", *sorted(cls.commands)]}
+        cls.flags = set(re.findall(FLAG, "".join(cls.helps.values())))
+        cls.statuses = statuses_of(cls.helps[""])
+
+    def test_each_help(self):
+        self.assertEqual("".join(number for number, _ in self.statuses), "012345")
+        for name, whole in self.helps.items():
+            with self.subTest(name):
+                short = help_of(*filter(None, [name]), "-h")
+                self.assertNotIn("Example", short)
+                self.assertIn("Example", whole)
+                self.assertEqual((line_of(name, short), statuses_of(short)), (line_of(name, whole), statuses_of(whole)))
+                # (a command's own words may say less)
+                self.assertTrue(statuses_of(whole))
+                self.assertLessEqual({number for number, _ in statuses_of(whole)}, set("012345"))
+
+    def test_each_synopsis(self):
+        for page in [*PAGES, "crates/pgboard_program/README.md"]:
+            with self.subTest(page):
+                self.assertEqual(synopsis_of(page), {line_of(name, text) for name, text in self.helps.items()})
+
+    def test_commands_flags_and_statuses_of_each_page(self):
+        for page in PAGES[:2]:
+            with self.subTest(page):
+                self.assertEqual(said_by(page), (self.commands, self.flags, self.statuses))
+        commands, flags, _ = said_by("README.md")
+        self.assertEqual(commands, self.commands)
+        self.assertLessEqual(flags, self.flags)
+
+    def test_the_lines_of_a_trace(self):
+        table = re.findall(r"(?m)^\| `((?:[a-z]+|ID) [A-Z][A-Z ]*;?)` \|", common.text_of("docs/TRACE.md"))
+        self.assertEqual(len(table), 6)
+        self.assertEqual(set(re.findall(r"(?m)^\.TP\n(.*)$", man_page()["TRACE FORMAT"])), set(table))
+
+    def test_the_version(self):
+        ((printed, kit),) = re.findall(r"^pgboard (\S+)\nkit: (.*)\n", help_of("--version"))
+        self.assertEqual([printed], re.findall(r"(?m)^## ([0-9][0-9.]*)", common.text_of("CHANGELOG.md"))[:1])
+        self.assertEqual([printed], re.findall(r'"pgboard ([0-9.]+)"', common.text_of("docs/pgboard.1")))
+        self.assertEqual(kit, common.kit())
+        self.assertEqual([kit], re.findall(r"the kit's line `([^`]*)`", common.text_of("README.md")))
+
+    def offered(self, *words):
+        """What bash offers where the last of these words stands."""
+        script = 'source "$0"; COMP_WORDS=(pgboard "$@"); COMP_CWORD=$#; _pgboard; printf "%s\\n" "${COMPREPLY[@]}"'
+        return set(common.run(["bash", "-c", script, COMPLETIONS / "pgboard.bash", *words])[1].decode().split())
+
+    def test_the_completions_of_bash(self):
+        self.assertEqual(self.offered(""), {*self.commands, "help"})
+        for command, text in self.helps.items():
+            with self.subTest(command):
+                listed = set(re.findall(r"(?m)^ +(?:-\w, )?(--[a-z]+)", text))
+                self.assertEqual(self.offered(*filter(None, [command]), "--"), listed)
+        self.assertEqual(self.offered("solve", "--bound", ""), set("012345678"))
+        self.assertEqual(self.offered("trace", "--workers", "6"), {"6", "60", "61", "62", "63", "64"})
+        self.assertEqual(self.offered("solve", "--known", ""), set())
+
+    def test_the_completions_of_zsh_and_fish(self):
+        zsh, fish = ((COMPLETIONS / it).read_text(encoding="utf-8") for it in ("_pgboard", "pgboard.fish"))
+        self.assertEqual(set(re.findall(r"--[a-z]+", zsh)), self.flags)
+        self.assertEqual({f"--{it}" for it in re.findall(r"(?m)^complete .* -l ([a-z]+)", fish)}, self.flags)
+        self.assertEqual(set(re.findall(r"(?m)^    '([a-z]+):", zsh)), {*self.commands, "help"})
+        self.assertEqual(set(re.findall(r" -f -a ([a-z]+) ", fish)), {*self.commands, "help"})
+
+
+# --- code on the pages of crates ---
+
+
+def lines_of(text):
+    """The lines of code, without indentation and without empty lines."""
+    return [it.strip() for it in text.splitlines() if it.strip()]
+
+
+def is_in(code, file):
+    """Whether the lines of code are in a file, one after another but for assertions between them; `use` lines may be anywhere."""
+    lines, there = lines_of(code), "\n".join(["", *lines_of(file), ""])
+    uses = [it for it in lines if re.match(r"(?:ghost )?use ", it)]
+    wanted = [re.escape(it) for it in lines if it not in uses]
+    between = r"\n(?:(?:check|assert)\w*!\((?:.*\n)*?.*;\n)*"
+    return all(f"\n{it}\n" in there for it in uses) and bool(wanted and re.search(r"\n" + between.join(wanted) + r"\n", there))
+
+
+def tests_of(crate):
+    """The unit tests of a crate: in the crate itself, in a crate of tests of its own, or in the folder of its name in another."""
+    name = crate.removeprefix("pg_")
+    forms = [f"{crate}/src/**/tests*.rt", f"{crate}/src/**/tests/**/*.rt", f"{crate}_tests/src/tests/*.rt"]
+    forms += [f"*_tests/src/tests/{name}.rt", f"*_tests/src/tests/{name}/**/*.rt"]
+    return [common.text_of(it) for it in sorted({path for it in forms for path in common.ROOT.glob(f"crates/{it}")})]
+
+
+def is_tested(page, block):
+    """Whether a test has a block's code, or another test of this script looks at it."""
+    language, code = block.groups()
+    if language == "rust":
+        return any(is_in(code, it) for it in tests_of((common.ROOT / page).parent.name))
+    if language == "c":
+        return is_in(code, c_program(common.text_of(C_PAGE))[0])
+    if language == "console":
+        # (launcher.py runs these)
+        return page == "README.md"
+    shown = examples(common.text_of(page)) if page == "README.md" else []
+    is_run = any(code in (commands, printed) for _, commands, printed in shown)
+    return language in ("sh", "text") and (is_run or code == synopsis_block(page))
+
+
+class Code(unittest.TestCase):
+    def test_each_block_is_tested(self):
+        for page in pages("README.md", "crates/*/README.md"):
+            text = common.text_of(page)
+            blocks = list(BLOCK.finditer(text))
+            with self.subTest(page):
+                # a fence that is indented, of another kind or left open would hide what comes after it
+                self.assertEqual(len(re.findall(r"(?m)^ *(?:```|~~~)", text)), 2 * len(blocks))
+            for at, block in enumerate(blocks, 1):
+                with self.subTest(page, block=at):
+                    self.assertTrue(is_tested(page, block))
+
+
+# --- words ---
+
+PROSE = ["*.md", "docs/*.md", "bench/*.md", "examples/*.md", "tests/README.md", "crates/*/README.md", "bindings/*/README.md"]
+MOST_WORDS = 20
+# what a page may not say, and what it says in its place
+WORDS = {
+    r"rooms?": "capacity, memory, buffer",
+    r"told": "returned, printed, known",
+    r"stands? for": "is, means",
+    r"lets? (?:\w+ )?go": "frees, drops",
+    r"by the clock": "wall time",
+    r"its (?:one|only) refusal": "its only error",
+    r"behind (?:it|them)": "after",
+}
+
+
+def plain_text(page):
+    """A page's text, in which each code in backquotes is one word; without blocks, and without what is made of sources."""
+    text = re.sub(r"(?ms)^ *```.*?^ *```$", "", common.text_of(page))
+    if page == "docs/THEOREM.md":
+        text = text.split("\n## Definitions")[0]
+    # a link is its words
+    return re.sub(r"\[([^\]]*)\]\([^)]*\)", r"\1", re.sub(r"`[^`\n]+`", "CODE", text))
+
+
+def sentences(text):
+    """The words of each sentence of a text's paragraphs and list items; tables and headings have none."""
+    kept = "\n".join("" if re.match(r"\s*[#|]", it) else it.strip() for it in text.splitlines())
+    for block in re.split(r"\n\s*\n|\n(?=(?:[-*]|\d+\.) )", kept):
+        block = re.sub(r"^(?:[-*]|\d+\.) +", "", block.strip()).replace("**", "")
+        for sentence in re.split(r"(?<=[.?!])[\"')]*\s+", block.replace("\n", " ")):
+            words = re.findall(r"[^\W_][\w'’/.^-]*", sentence)
+            if words:
+                yield words
+
+
+class Prose(unittest.TestCase):
+    def test_each_page_has_short_sentences(self):
+        self.assertGreater(len(pages(*PROSE)), 10)
+        for page in pages(*PROSE):
+            with self.subTest(page):
+                counts = [len(it) for it in sentences(plain_text(page))]
+                self.assertLessEqual(round(sum(counts) / max(len(counts), 1), 1), MOST_WORDS)
+
+    def test_no_page_has_words_of_our_own(self):
+        for page in pages(*PROSE):
+            for word, better in WORDS.items():
+                with self.subTest(page, better=better):
+                    self.assertNotRegex(plain_text(page), rf"(?i)(?<![\w-]){word}(?![\w-])")
 
 
 if __name__ == "__main__":

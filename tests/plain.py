@@ -14,7 +14,8 @@ GAME = re.compile(r"(pns)?(tns)?(nnnn(cn)*q?s)+")
 SOLUTION = re.compile(r"(yns)?(nnn?s)*")
 WORDS = {b"parity": "p", b"start": "t", b"paritysol": "y"}
 # a text that was begun well ends well after at most a header's rest and one shortest line
-ENDINGS = ["", *(a + b + c for a in ("", "s", "ns", "pns", "tns", "yns") for b in ("", "s", "qs", "ns", "nns", "nnns", "nnnns") for c in ("", "nnnns"))]
+HEADERS, SHORTEST = ("", "s", "ns", "pns", "tns", "yns"), ("", "s", "qs", "ns", "nns", "nnns", "nnnns")
+ENDINGS = ["", *(a + b + c for a in HEADERS for b in SHORTEST for c in ("", "nnnns"))]
 
 
 class Refused(Exception):
@@ -124,65 +125,39 @@ def is_greatest_on_a_closed_walk(game, solution, id):
     return id in reached
 
 
-def verdict(game, solution):
-    """Returns the line that says whether it is a solution, or its first fault: by kind, then by identifier."""
+def faults(game, solution):
+    """The faults of a solution in order: by kind, then by identifier."""
     ids = sorted(game)
     chosen = [id for id in ids if game[id][1] == solution[id][0]]
-    for id in chosen:
-        if solution[id][1] is None:
-            return f"not a solution: no choice at {id}\n"
-    for id in chosen:
-        if solution[id][1] not in game[id][2]:
-            return f"not a solution: bad choice at {id}\n"
-    for id in ids:
-        for to in sorted(kept(game, solution, id)):
-            if solution[to][0] != solution[id][0]:
-                return f"not a solution: {id} leaves to {to}\n"
-    for id in ids:
-        if game[id][0] % 2 != solution[id][0] and is_greatest_on_a_closed_walk(game, solution, id):
-            return f"not a solution: bad cycle at {id}\n"
-    return "ok\n"
+    yield from (f"no choice at {id}" for id in chosen if solution[id][1] is None)
+    yield from (f"bad choice at {id}" for id in chosen if solution[id][1] not in game[id][2])
+    edges = ((id, to) for id in ids for to in sorted(kept(game, solution, id)))
+    yield from (f"{id} leaves to {to}" for id, to in edges if solution[to][0] != solution[id][0])
+    bad = (id for id in ids if game[id][0] % 2 != solution[id][0])
+    yield from (f"bad cycle at {id}" for id in bad if is_greatest_on_a_closed_walk(game, solution, id))
 
 
-def known_fault(game, known):
-    """What is wrong first with what is known, or None: Even's set and then Odd's, each by kind, then by identifier."""
-    won = set()
-    for player in (0, 1):
-        part = {id: known[id] for id in sorted(known) if known[id][0] == player}
-        why = known_set_fault(game, part, player, won)
-        if why:
-            return why
-        won = attracted(game, set(part), player)
-    return None
+def verdict(game, solution):
+    """The line that says whether it is a solution."""
+    fault = next(faults(game, solution), None)
+    return f"not a solution: {fault}\n" if fault else "ok\n"
 
 
-def known_set_fault(game, part, player, lost):
-    """What is wrong first with a player's known set, of which the lost vertices are the opponent's, or None."""
-    for id in part:
-        if game[id][1] == player and part[id][1] not in game[id][2]:
-            return f"bad choice or none at {id}"
-    for id in part:
-        if game[id][0] % 2 != player and is_greatest_on_a_closed_walk(game, part, id):
-            return f"bad cycle at {id}"
-    for id in part:
-        if id in lost:
-            return f"{id} is lost"
-    for id in part:
-        for to in sorted(kept(game, part, id)):
-            if to not in part:
-                return f"{id} leaves to {to}"
-    return None
+def region_faults(game, rows, player, lost=frozenset()):
+    """What is wrong with the rows of a player as his region, in order; the lost vertices are the opponent's."""
+    part = {id: rows[id] for id in sorted(rows) if rows[id][0] == player}
+    owned = (id for id in part if game[id][1] == player)
+    yield from (f"bad choice or none at {id}" for id in owned if part[id][1] not in game[id][2])
+    bad = (id for id in part if game[id][0] % 2 != player)
+    yield from (f"bad cycle at {id}" for id in bad if is_greatest_on_a_closed_walk(game, part, id))
+    yield from (f"{id} is lost" for id in part if id in lost)
+    yield from (f"{id} leaves to {to}" for id in part for to in sorted(kept(game, part, id)) if to not in part)
 
 
-def is_region(game, rows, player):
-    """Whether the vertices that rows give a player are a region of his, by the definition: the choices are successors, no
-    kept edge leaves the set, and each closed walk of kept edges is his."""
-    part = {id: row for id, row in rows.items() if row[0] == player}
-    return (
-        all(part[id][1] in game[id][2] for id in part if game[id][1] == player)
-        and all(kept(game, part, id) <= set(part) for id in part)
-        and not any(game[id][0] % 2 != player and is_greatest_on_a_closed_walk(game, part, id) for id in part)
-    )
+def known_faults(game, known):
+    """What is wrong with what is known, in order: Even's set and then Odd's."""
+    yield from region_faults(game, known, 0)
+    yield from region_faults(game, known, 1, attracted(game, {id for id in known if known[id][0] == 0}, 0))
 
 
 def attracted(game, target, player):
@@ -194,19 +169,23 @@ def attracted(game, target, player):
         target = target | more
 
 
+def lines_of_rows(head, rows):
+    return "".join(f"{it};\n" for it in [head, *(" ".join(map(str, row)) for row in rows)])
+
+
 def written_game(game):
-    rows = [f"{id} {game[id][0]} {game[id][1]} {','.join(map(str, sorted(game[id][2])))};\n" for id in sorted(game)]
-    return f"parity {max(game)};\n{''.join(rows)}"
+    rows = ((id, *game[id][:2], ",".join(map(str, sorted(game[id][2])))) for id in sorted(game))
+    return lines_of_rows(f"parity {max(game)}", rows)
 
 
 def written_winners(game, solution):
-    return f"paritysol {max(game)};\n{''.join(f'{id} {solution[id][0]};' + chr(10) for id in sorted(game))}"
+    return lines_of_rows(f"paritysol {max(game)}", ((id, solution[id][0]) for id in sorted(game)))
 
 
 def written_solution(game, solution):
     """With a choice exactly where it is needed."""
-    rows = [(id, *solution[id][: 1 + (game[id][1] == solution[id][0])]) for id in sorted(game)]
-    return f"paritysol {max(game)};\n{''.join(' '.join(map(str, row)) + ';' + chr(10) for row in rows)}"
+    rows = ((id, *solution[id][: 1 + (game[id][1] == solution[id][0])]) for id in sorted(game))
+    return lines_of_rows(f"paritysol {max(game)}", rows)
 
 
 def refused(text, why):
@@ -246,102 +225,57 @@ def written_fault(game, text):
     return line if line != "ok\n" else None if is_written else "it is not the written form, or has a choice too many"
 
 
-class Lines:
-    """The lines of a text, each taken by the numbers that it has to hold."""
+ENTRY, JOB = r"entry N N [01] N N\n(?:N(?: N)?;\n)+", r"job N (?:-|N) N N N N [01] [01]\n"
+TRACE = re.compile(rf"journal N N\n(?:{ENTRY})*report N\n(?:{JOB})+total N N N N\n".replace("N", "(?:0|[1-9][0-9]*)"))
 
-    def __init__(self, text):
-        *self.left, last = text.decode().split("\n")
-        demand(not last, "the last line has no line feed")
-        self.left.reverse()
 
-    def take(self, pattern):
-        """The numbers of the next line, which has to look so. N stands for a number."""
-        line = self.left.pop() if self.left else ""
-        found = re.fullmatch(pattern.replace("N", "(0|[1-9][0-9]*)"), line)
-        demand(found, f"{line!r} is no line {pattern!r}")
-        return [int(it) if it and it.isdigit() else it for it in found.groups()]
+def numbers(line):
+    return [int(it) for it in re.findall("[0-9]+", line)]
 
 
 def trace_fault(game, workers, text):
     """What is wrong with a trace of the game by so many workers, or None.
 
-    The entries have to lead from nothing to a full board, each by a claim that is good on the state before it and by all
-    that it attracts; the report has to have a row for each job, and its columns have to agree with the journal.
+    The entries have to give each vertex once, and together a solution. The report has to have a row for each job, and its columns
+    have to agree with the entries.
     """
     try:
-        rows = Lines(text)
-        entries = read_journal(game, workers, rows)
-        read_report(game, workers, entries, rows)
-        demand(not rows.left, "a line too many")
+        demand(TRACE.fullmatch(text.decode()), "it does not have the form of a trace")
+        journal, report = text.decode().split("report ")
+        judge_report(game, read_journal(game, workers, journal), report)
     except Refused as why:
         return str(why)
     return None
 
 
-def read_journal(game, workers, rows):
-    """The entries of a right journal, as pairs of a worker and how many rows there are."""
-    count, told = rows.take("journal N N")
-    state, entries = {}, []
-    for number in range(count):
-        at, worker, player, claimed, size = rows.take("entry N N ([01]) N N")
-        lines = [rows.take(r"N(?: N)?;") for _ in range(size)]
-        demand(at == number and worker <= workers, f"entry {number} is of another number, or of no worker")
-        demand(0 < claimed <= size, f"entry {number}: nothing is claimed, or too much")
-        enter(game, state, player, lines[:claimed], lines[claimed:])
-        entries.append((worker, size))
-    demand(told == len(state) == len(game), "not all is settled, or another number is told")
-    return entries
+def read_journal(game, workers, text):
+    """Of each worker the sizes of its entries."""
+    head, *parts = text.split("entry ")
+    entries = [[numbers(line) for line in part.splitlines()] for part in parts]
+    solution, sizes = {}, {worker: [] for worker in range(workers + 1)}
+    for at, ((number, worker, player, claimed, size), *rows) in enumerate(entries):
+        demand(number == at and worker <= workers, f"entry {at} is of another number, or of no worker")
+        demand(0 < claimed <= size == len(rows), f"entry {at} claims nothing, or has another number of rows")
+        sizes[worker].append(size)
+        solution.update({id: (player, choice[0] if choice else None) for id, *choice in rows})
+    demand(numbers(head) == [len(entries), len(game)], "the first line has other numbers")
+    demand(solution.keys() == game.keys() and sum(map(sum, sizes.values())) == len(game), "the entries don't give each vertex once")
+    demand(verdict(game, solution) == "ok\n", "the entries give no solution")
+    return sizes
 
 
-def settle(game, state, player, row, reached):
-    """Adds a row of an entry to the state; its kept edges may end in the reached."""
-    id, choice = row
-    demand(id in game and id not in state, f"{id} is no vertex, or is settled twice")
-    is_right = choice in game[id][2] if game[id][1] == player else choice is None
-    demand(is_right, f"{id} has a choice, or none, against its owner, or one that is no successor")
-    state[id] = player, choice
-    demand(kept(game, state, id) <= reached, f"an edge leaves at {id}")
-
-
-def enter(game, state, player, claim, more):
-    """Adds an entry of claimed rows and more to the state."""
-    own = {id for id, row in state.items() if row[0] == player}
-    claimed = [id for id, _ in claim]
-    demand(claimed == sorted(set(claimed)) and set(claimed) <= set(game), "the claimed vertices don't rise, or are none")
-    inside = own | set(claimed)
-    wanted = attracted(game, inside, player)
-    for row in claim:
-        settle(game, state, player, row, inside)
-    for row in more:
-        settle(game, state, player, row, inside)
-        inside = inside | {row[0]}
-    demand(inside == wanted, "it leaves out what it attracts, or has more")
-    for each in (0, 1):
-        part = {id for id, row in state.items() if row[0] == each}
-        demand(is_region(game, state, each), f"afterwards the vertices of {each} are no region")
-        demand(attracted(game, part, each) == part, f"afterwards the vertices of {each} attract more")
-
-
-def read_report(game, workers, entries, rows):
-    """Refuses a report that a run with these entries can't have."""
+def judge_report(game, sizes, text):
+    count, *jobs, total = text.splitlines()
     batch = 64
     while -(-len(game) // batch) > 2_046:
         batch *= 2
-    jobs = 3 + 2 * -(-len(game) // batch)
-    demand(rows.take("report N") == [jobs], "another number of jobs is told")
-    sums, by_worker = [0, 0, 0, 0], {}
-    for number in range(jobs):
-        job, worker, *columns = rows.take("job N (-|[1-9][0-9]*) N N N N ([01]) ([01])")
-        demand(job == number and (worker == "-" or worker <= workers), f"job {number} is of another number, or of no worker")
-        demand(worker != "-" or not any(columns), f"job {number} was done by nobody")
-        posted, settled = by_worker.get(worker, (0, 0))
-        by_worker[worker] = posted + columns[0], settled + columns[1]
-        sums = [a + b for a, b in zip(sums, columns)]
-    demand(rows.take("total N N N N") == sums, "the last line has other sums")
-    for worker, told in by_worker.items():
-        counts = [count for by, count in entries if by == worker]
-        demand(told == (len(counts), sum(counts)), f"worker {worker} has {counts} in the journal, and {told} in the report")
-    front = [count for by, count in entries if by != 0]
-    last = [by for by, _ in entries[len(front) :]]
-    demand(not any(last) and len(last) <= 2, "worker 0 has more than two entries, or one before the others' last")
-    demand(sums[:2] == [len(front), sum(front)], "the report doesn't add up to the workers' entries")
+    rows = [line.split()[1:] for line in jobs]
+    demand([int(it[0]) for it in rows] == list(range(int(count))), "the jobs have other numbers")
+    demand(int(count) == 3 + 2 * -(-len(game) // batch), "there is another number of jobs")
+    sums = lambda some: [sum(int(it[column]) for it in some) for column in range(2, 6)]
+    demand(numbers(total) == sums(rows), "the last line has other sums")
+    demand(not any(sums([it for it in rows if it[1] == "-"])), "a job of no worker has done something")
+    demand({it[1] for it in rows} <= {"-", *(str(it) for it in sizes if it)}, "a job is of no worker")
+    for worker in range(1, len(sizes)):
+        reported = sums([it for it in rows if it[1] == str(worker)])[:2]
+        demand(reported == [len(sizes[worker]), sum(sizes[worker])], f"worker {worker} posted {sizes[worker]}, and {reported} is reported")

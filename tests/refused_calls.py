@@ -1,71 +1,245 @@
 #!/usr/bin/env python3
-"""Refuses each allocation in turn to the unit tests that stand in a module `memory`, as `rt ci` has built them.
+"""Refuses each allocation in turn, each start of a thread, each read and each write: tests/refused_calls.py [PROGRAM] [-k WORD]
 
-Such a test makes its calls, looks after a refusal that nothing has changed, and makes the call again. So each run passes, or
-ends because memory was refused to what the test needs itself; a failed assertion ends it by a signal. Some tests differ in
-one thing, and the first of them needs fewer allocations: so it is seen which way a call goes.
+refuse.c, which is loaded before a program, does the refusing; it needs cc. A run of the built program that is refused memory
+ends in status 5 with nothing written, or as one with all memory may. A start that is refused leaves its worker out. Texts are
+read, and outputs written, byte by byte up to a failure at each place.
+
+The unit tests in a module `memory`, as `rt ci` has built them, make their calls, look after a refusal that nothing has changed,
+and make the call again. So each run passes, or ends because memory was refused to what the test needs itself.
 """
 
+import concurrent.futures
+import itertools
 import re
 import unittest
 
 import common
-import refused
+import plain
 
-# what a test says where memory was refused to what it needs itself; a call's own refusal ends no test
-NO_MEMORY = b'error: "no memory for the test itself"\nthe test failed: its result gives status 1\n'
-# The first test of each row, after its library, needs fewer allocations than the second and this number more. The games of a row have as many vertices.
-# Lists in order are the game as they stand; others are laid out flat, without a value for each of the 40 vertices; the searches of
-# a long cycle end before a ranking is made, as it is of a ladder; and of two games that differ in one edge the second makes one,
-# which takes more than three allocations.
-FEWER = {
-    "pg_text_tests_tests": [
-        ("game", "many_lists_in_order_are_a_game_after_a_refusal", "many_lists_with_repeated_successors_are_laid_out_after_a_refusal", 0),
-        ("game", "many_falling_lists_are_laid_out_after_a_refusal", "many_lists_in_order_are_a_game_after_a_refusal", 40),
-    ],
-    "pg_finders_tests_tests": [
-        ("dominion", "a_long_cycle_is_judged_after_a_refusal", "a_ladder_is_judged_after_a_refusal", 0),
-        ("dominion", "each_edge_of_a_cycle_is_looked_at_once_after_a_refusal", "with_one_edge_more_a_ranking_is_made_after_a_refusal", -3),
-    ],
+CONTINENTS = b'parity 4; 0 6 1 4,2 "Africa"; 4 5 1 0 "Antarctica"; 1 8 1 2,4,3 "America"; 3 6 0 4,2 "Australia"; 2 7 0 3,1,0,4 "Asia";'
+ONE_EACH = b"0 2 0 0,1; 1 1 1 1;"
+LAYERS = b"0 0 0 0; 1 3 0 0,1; 2 3 1 1;"
+GAPS = b"9 2 1 3,3,9; 3 1 0 9;"
+# settled by its solitaire parts, and by no loop
+TWO_CYCLE = b"0 0 0 1; 1 1 1 0;"
+# a hundred parts alike, of which neither loops nor solitaire parts settle anything
+PART = b"%d 4 0 %d; %d 3 1 %d,%d; %d 0 1 %d,%d; %d 3 0 %d,%d;"
+TWO_SIDED = b"".join(PART % tuple(v + it for it in (0, 1, 1, 2, 3, 2, 0, 3, 3, 1, 2)) for v in range(0, 400, 4))
+GAMES = [CONTINENTS, ONE_EACH, LAYERS, GAPS, b"parity 5;start 77;00 07 01 0,00;"]
+HOLDS = b"paritysol 1;\n0 0 0;\n1 1 1;\n"
+NO_MEMORY = (5, b"", b"pgboard: no memory\n")
+READ_FAULT = (4, b"", b"pgboard: read fault\n")
+# no worker could be started: the calling thread settles all
+REPORT = b"".join(b"job %d - 0 0 0 0 0 0\n" % job for job in range(5)) + b"total 0 0 0 0\n"
+NOBODY = b"journal 2 2\nentry 0 0 0 1 1\n0 0;\nentry 1 0 1 1 1\n1 1;\nreport 5\n" + REPORT
+FILES = {
+    "game.pg": ONE_EACH,
+    "owner.pg": b"0 0 2 0;",
+    "continents.pg": CONTINENTS,
+    "cycle.sol": b"0 0; 1 0; 2 0 0; 3 0 4; 4 0;",
+    "game.sol": HOLDS,
+    "wrong.sol": b"0 0; 1 1 1;",
+    "stranger.sol": b"0 0 0; 7 0;",
+    "part.sol": b"0 0 0;",
+    "odd.sol": b"1 1 1;",
+    "open.sol": b"2 0;",
+    "choice.sol": b"1 0;",
 }
+# the words, the input, and the status of a run with all memory, whose whole output is tested elsewhere
+RUNS = [
+    ("", ONE_EACH + b"%" + HOLDS, 0),
+    ("", ONE_EACH + b"%0 0; 1 1 1;", 1),
+    ("verify game.pg game.sol", b"", 0),
+    ("verify game.pg wrong.sol", b"", 1),
+    ("verify continents.pg cycle.sol", b"", 1),
+    ("verify owner.pg game.sol", b"", 3),
+    ("verify game.pg stranger.sol", b"", 3),
+    ("verify game.pg none.sol", b"", 4),
+    *(("tidy", game, 0) for game in GAMES),
+    ("tidy game.pg", b"", 0),
+    ("tidy", b"0 0 0 7;", 3),
+    *((f"{command} --workers {n}", game, 0) for command in ("solve", "trace") for game in GAMES for n in (1, 2)),
+    ("solve --workers 1 --known part.sol", LAYERS, 0),
+    ("solve --workers 2 --known odd.sol", ONE_EACH, 0),
+    ("solve --known open.sol", LAYERS, 1),
+    ("solve --known choice.sol", LAYERS, 1),
+    ("solve --known stranger.sol game.pg", b"", 3),
+    ("solve --known none.sol game.pg", b"", 4),
+    ("solve --winners", CONTINENTS, 0),
+    ("solve --bound 0 --workers 1", CONTINENTS, 0),
+    *((words, b"", 0) for words in ("--version", "--help", "-h", "solve --help", "help verify")),
+    *((words, b"", 2) for words in ("x", "tidy --x", "tidy a b", "verify a", "solve --workers 0", "solve --bound 9", "trace --workers x")),
+]
 
 
-def tests_of(binary):
-    """The tests of a test program that stand in a module `memory`."""
-    _, out, err = common.run([binary, "--list"])
-    return sorted(set(re.findall(r"\b(?:\w+::)*memory::\w+", (out + err).decode())))
+class Refusing(unittest.TestCase):
+    """Runs programs that are refused what they ask for, in a folder."""
 
-
-class RefusedCalls(unittest.TestCase):
     @classmethod
     def setUpClass(cls):
-        room = common.room(cls)
-        cls.programs = {it.name: refused.Program(it, room) for it in sorted(common.ROOT.glob("crates/*/out/*_tests"))}
+        cls.folder, cls.numbers = common.make_folder(cls), itertools.count()
+        for name, text in FILES.items():
+            (cls.folder / name).write_bytes(text)
+        built = common.run(["cc", "-O1", "-shared", "-fPIC", "-o", cls.folder / "refuse.so", common.ROOT / "tests" / "refuse.c", "-ldl"])
+        assert built[0] == 0, built
+
+    def counted(self, words, given=b"", path=None, **refused):
+        """Status, standard output and standard error, and how many allocations, starts, reads and writes there were."""
+        counts = self.folder / f"counts {next(self.numbers)}"
+        env = {"LD_PRELOAD": self.folder / "refuse.so", "COUNTS": counts, **{name: str(n) for name, n in refused.items()}}
+        ran = common.run([path or common.PROGRAM, *words], given, cwd=self.folder, env=env)
+        # (a program that a signal ends leaves no counts)
+        return ran, [int(it) for it in counts.read_text(encoding="ascii").split()] if counts.exists() else [0, 0, 0, 0]
+
+    def each(self, kind, numbers, words, given=b"", path=None, **more):
+        """The number and the answer of each refusal, in order. What a run asked for less often wasn't refused."""
+        with concurrent.futures.ThreadPoolExecutor(4) as pool:
+            yield from zip(numbers, pool.map(lambda n: self.counted(words, given, path, **{kind: n}, **more)[0], numbers))
+
+
+@common.needs("cc")
+class Program(Refusing):
+    def is_right(self, words, given, whole, got):
+        """Whether an answer is the one with all memory, or another solution or history of the game."""
+        if got[2] or got[0] or words[:1] not in (["solve"], ["trace"]) or "--winners" in words:
+            return got == whole
+        game = plain.game_of(given)
+        if words[0] == "solve":
+            return plain.written_fault(game, got[1]) is None
+        return plain.trace_fault(game, int(words[2]), got[1]) is None
+
+    def judge_allocations(self, words, given, status, more, **started):
+        whole, (count, *_) = self.counted(words, given, **started)
+        self.assertEqual(whole[0], status, whole)
+        # (some more numbers, since two workers share out their allocations anew in each run)
+        answers = list(self.each("REFUSE_ALLOC", range(1, count + 10), words, given, **more, **started))
+        for n, got in answers:
+            self.assertTrue(got == NO_MEMORY or self.is_right(words, given, whole, got), f"allocation {n}: {got}")
+        self.assertIn(NO_MEMORY, [got for _, got in answers])
 
     def test_each_allocation(self):
-        self.assertTrue(self.programs)
-        for name, program in self.programs.items():
-            for test in tests_of(program.binary):
-                with self.subTest(f"{name} {test}"):
-                    self.judge(program, test)
+        for (words, given, status), more in itertools.product(RUNS, ({}, {"REFUSE_FROM": 1})):
+            with self.subTest(words, given=given, **more):
+                self.judge_allocations(words.split(), given, status, more)
 
-    def judge(self, program, test):
-        whole, (count, *_) = program.counted([test])
+    def test_each_allocation_while_two_workers_run(self):
+        """Neither worker begins before both have started."""
+        words = ["solve", "--workers", "2"]
+        for game, more in itertools.product(GAMES, ({}, {"REFUSE_FROM": 1})):
+            with self.subTest(game, **more):
+                self.assertEqual(self.counted(words, game, TOGETHER=2)[1][1], 2)
+                self.judge_allocations(words, game, 0, more, TOGETHER=2)
+
+    def test_a_start_that_is_refused_leaves_the_worker_out(self):
+        """The report has five rows without a worker. A start is refused by the system, or by one of the allocations."""
+        for command, out in (("trace", NOBODY), ("solve", HOLDS)):
+            words = [command, "--workers", "1"]
+            self.assertEqual(self.counted(words, ONE_EACH, REFUSE_THREAD=1)[0], (0, out, b""))
+        count = self.counted(["trace", "--workers", "1"], ONE_EACH)[1][0]
+        answers = self.each("REFUSE_ALLOC", range(1, count + 1), ["trace", "--workers", "1"], ONE_EACH)
+        self.assertIn((0, NOBODY, b""), [got for _, got in answers])
+
+    def test_the_workers_that_start_do_all_jobs(self):
+        """Of two or four workers each start in turn is refused, and then all from it on."""
+        game = plain.game_of(TWO_SIDED)
+        for workers, more in itertools.product((2, 4), ({}, {"REFUSE_FROM": 1})):
+            for n, got in self.each("REFUSE_THREAD", range(1, workers + 1), ["trace", "--workers", str(workers)], TWO_SIDED, **more):
+                with self.subTest(workers=workers, start=n, **more):
+                    self.assertEqual((got[0], got[2], plain.trace_fault(game, workers, got[1])), (0, b"", None))
+                    # the workers keep their numbers; the one that did not start has no job
+                    out = range(n, workers + 1) if more else [n]
+                    drawers = {line.split()[2] for line in got[1].decode().splitlines() if line.startswith("job ")}
+                    self.assertFalse(drawers & {str(it) for it in out}, got)
+                    self.assertEqual("-" in drawers, len(out) == workers, got)
+
+    def test_each_worker_is_started_whatever_the_game(self):
+        for game, workers in itertools.product((*GAMES, TWO_CYCLE, TWO_SIDED), (1, 2, 64)):
+            with self.subTest(workers=workers, game=game):
+                self.assertEqual(self.counted(["solve", "--workers", str(workers)], game)[1][1], workers)
+
+    def test_a_read_that_fails_at_each_place_of_a_text_and_at_its_end(self):
+        both = len(ONE_EACH + HOLDS) + 2
+        for words, text, count in [
+            ("", ONE_EACH + b"%" + HOLDS, both),
+            ("tidy", GAPS, len(GAPS) + 1),
+            ("solve", ONE_EACH, len(ONE_EACH) + 1),
+            ("trace", LAYERS, len(LAYERS) + 1),
+            ("verify game.pg game.sol", b"", both),
+            ("solve --known game.sol game.pg", b"", both),
+        ]:
+            with self.subTest(words):
+                for n, got in self.each("REFUSE_READ", range(1, count + 1), words.split(), text, PIECE=1):
+                    self.assertEqual(got, READ_FAULT, f"read {n}")
+                self.assertEqual(self.counted(words.split(), text, PIECE=1)[0][0], 0)
+
+    def test_a_write_that_fails_at_each_place(self):
+        """Bytes go out one by one up to the failure, and with pieces of 5 the first failure leaves 5."""
+        for words, given in [
+            ("", ONE_EACH + b"%" + HOLDS),
+            ("tidy", GAPS),
+            ("solve --winners", CONTINENTS),
+            ("trace --workers 1", ONE_EACH),
+            ("--version", b""),
+        ]:
+            with self.subTest(words):
+                out = self.counted(words.split(), given)[0][1]
+                for n, got in self.each("REFUSE_WRITE", range(1, len(out) + 1), words.split(), given, PIECE=1):
+                    self.assertEqual(got, (4, out[: n - 1], b"pgboard: write fault\n"), f"write {n}")
+                if len(out) > 5:
+                    got = self.counted(words.split(), given, PIECE=5, REFUSE_WRITE=2)[0]
+                    self.assertEqual(got, (4, out[:5], b"pgboard: write fault\n"))
+
+
+# what a unit test says where memory was refused to what it needs itself
+TEST_ENDED = b'error: "no memory for the test itself"\nthe test failed: its result gives status 1\n'
+# The first test of each row needs fewer allocations than the second and this number more; the games of a row have as many
+# vertices. Lists in order are the game as they are; others are laid out flat, without a value for each of the 40 vertices; the
+# searches of a long cycle end before a ranking is made, as it is of a ladder; and of two games that differ in one edge the
+# second makes one, which takes more than three allocations.
+GAME_TESTS, DOMINION_TESTS = "pg_text_tests_tests tests::game::memory", "pg_finders_tests_tests tests::dominion::memory"
+IN_ORDER = "many_lists_in_order_are_a_game_after_a_refusal"
+FEWER = [
+    (GAME_TESTS, IN_ORDER, "many_lists_with_repeated_successors_are_laid_out_after_a_refusal", 0),
+    (GAME_TESTS, "many_falling_lists_are_laid_out_after_a_refusal", IN_ORDER, 40),
+    (DOMINION_TESTS, "a_long_cycle_is_judged_after_a_refusal", "a_ladder_is_judged_after_a_refusal", 0),
+    (
+        DOMINION_TESTS,
+        "each_edge_of_a_cycle_is_looked_at_once_after_a_refusal",
+        "with_one_edge_more_a_ranking_is_made_after_a_refusal",
+        -3,
+    ),
+]
+
+
+@common.needs("cc")
+class UnitTests(Refusing):
+    def test_each_allocation(self):
+        programs = sorted(common.ROOT.glob("crates/*/out/*_tests"))
+        self.assertTrue(programs)
+        for path in programs:
+            _, out, err = common.run([path, "--list"])
+            for test in sorted(set(re.findall(r"\b(?:\w+::)*memory::\w+", (out + err).decode()))):
+                with self.subTest(f"{path.name} {test}"):
+                    self.judge(path, test)
+
+    def judge(self, path, test):
+        whole, (count, *_) = self.counted([test], path=path)
         self.assertEqual(whole[0], 0, whole)
-        statuses = []
-        for n, (status, out, err) in program.each("REFUSE_ALLOC", range(1, count + 5), [test]):
-            self.assertTrue(status == 0 or (status, err) == (101, NO_MEMORY), f"allocation {n}: {status}, {out}, {err}")
-            statuses.append(status)
+        answers = list(self.each("REFUSE_ALLOC", range(1, count + 5), [test], path=path))
+        for n, (status, out, err) in answers:
+            self.assertTrue(status == 0 or (status, err) == (101, TEST_ENDED), f"allocation {n}: {status}, {out}, {err}")
         # the calls are met by refusals, and not the test alone
-        self.assertIn(0, statuses[:count])
+        self.assertIn(0, [status for _, (status, _, _) in answers[:count]])
 
     def test_some_tests_need_fewer_allocations(self):
-        for name, rows in FEWER.items():
-            for library, fewer, more, allowed in rows:
-                with self.subTest(fewer):
-                    counts = [self.programs[name].counted([f"tests::{library}::memory::{it}"])[1][0] for it in (fewer, more)]
-                    self.assertTrue(0 < counts[0] < counts[1] + allowed, counts)
+        for module, *tests, allowed in FEWER:
+            with self.subTest(tests[0]):
+                name, module = module.split()
+                (path,) = common.ROOT.glob(f"crates/*/out/{name}")
+                fewer, more = (self.counted([f"{module}::{it}"], path=path)[1][0] for it in tests)
+                self.assertTrue(0 < fewer < more + allowed, (fewer, more))
 
 
 if __name__ == "__main__":
-    common.main(of_program=False)
+    common.main()

@@ -1,50 +1,121 @@
-"""What the tests of the worked uses share: the scripts of examples/, called here or run as a user runs them."""
+#!/usr/bin/env python3
+"""Tests of examples/convert.py, draw.py and explain.py, and what all tests of examples/ share: tests/uses.py [PROGRAM]
 
+Games that convert.py has turned are won as before, by the definition of who wins: each pair of positional strategies is played
+from each vertex to the end. The pictures of docs/pictures are what draw.py gives; with --write they are made anew. What
+explain.py prints of wrong solutions is about the vertex that `verify` names: a closed walk of kept edges that the other player
+wins, an edge that leaves, or a choice. What edges a solution keeps is worked out here.
+"""
+
+import collections
 import contextlib
 import importlib.util
 import io
+import itertools
 import os
+import pathlib
 import random
-import shutil
+import re
+import shlex
 import sys
+import unittest
 
 import common
+import plain
+import random_games
 
-EXAMPLES = os.path.join(common.ROOT, "examples")
+EXAMPLES = common.ROOT / "examples"
 # after this folder, which has scripts of the same names
-sys.path.append(EXAMPLES)
+sys.path.append(str(EXAMPLES))
+WRITE = "--write" in sys.argv
+# a small model for modelcheck.py, and the parts of a specification for synthesise.py
+MODEL = 'des (0, 2, 2)\n(0, "a", 1)\n(1, "a", 0)\n'
+HEAD = r'HOA: v1\nStart: 0\nAP: 2 "a" "b"\ncontrollable-AP: 1\nAcceptance: 1 Inf(0)\n'
+BODY = r"--BODY--\nState: 0\n[t] 0\n--END--\n"
 
 
-def load(name):
-    """A script of examples/ as a module."""
-    spec = importlib.util.spec_from_file_location(f"examples_{name}", os.path.join(EXAMPLES, f"{name}.py"))
-    module = importlib.util.module_from_spec(spec)
-    spec.loader.exec_module(module)
-    return module
+def rows_of(name):
+    """The rows of a file of tests/uses, whose columns ` | ` separates; a line that begins with # is a comment."""
+    lines = common.text_of("tests", "uses", name).splitlines()
+    return [[it.strip(" ") for it in re.split(r" \|(?= |$)", line, maxsplit=4)] for line in lines if not line.startswith("#")]
 
 
-def called(script, *words):
-    """The status and the output of a script's main, in this process: many calls take no time to start."""
-    os.environ["PGBOARD"] = common.PROGRAM
-    out = io.StringIO()
-    with contextlib.redirect_stdout(out):
-        status = script.main(words)
-    return status, out.getvalue()
+class Use(unittest.TestCase):
+    """What the tests of each script of examples/ have."""
 
+    # the script
+    name = None
 
-def ran(name, *words, given=b"", **more):
-    """The status, the output and the errors of a script that runs by itself."""
-    environment = {**os.environ, "PGBOARD": common.PROGRAM, **more}
-    status, out, err = common.run([sys.executable, "-B", os.path.join(EXAMPLES, f"{name}.py"), *words], given, timeout=600, cwd=common.ROOT, env=environment)
-    return status, out.decode(), err.decode()
+    def setUp(self):
+        if self.name is None:
+            self.skipTest("it is what the tests of scripts share")
+        spec = importlib.util.spec_from_file_location(f"examples_{self.name}", EXAMPLES / f"{self.name}.py")
+        self.script = importlib.util.module_from_spec(spec)
+        spec.loader.exec_module(self.script)
+        self.folder = common.make_folder(self)
 
+    def file(self, name, text):
+        """The path of a file of the test's folder that has this text."""
+        path = self.folder / name
+        path.write_bytes(text if isinstance(text, bytes) else text.encode())
+        return str(path)
 
-def written(folder, name, text):
-    """The path of a file that has this text."""
-    path = os.path.join(folder, name)
-    with open(path, "wb") as file:
-        file.write(text if isinstance(text, bytes) else text.encode())
-    return path
+    def call(self, *words):
+        """The status and the output of the script's main, in this process: many calls take no time to start."""
+        os.environ["PGBOARD"] = str(common.PROGRAM)
+        out = io.StringIO()
+        with contextlib.redirect_stdout(out):
+            status = self.script.main([str(it) for it in words])
+        return status, out.getvalue()
+
+    def run_script(self, *words, given=b"", **env):
+        """The status, the output and the errors of the script as a process, at the top of the repository."""
+        command = [sys.executable, "-B", EXAMPLES / f"{self.name}.py", *words]
+        env = {**os.environ, "PGBOARD": str(common.PROGRAM), **env}
+        status, out, err = common.run(command, given, timeout=600, cwd=common.ROOT, env=env)
+        return status, out.decode(errors="replace"), err.decode()
+
+    def check_picture(self, words, *lines):
+        """That the script draws these lines, that Graphviz takes them, and that it says so where there is no Graphviz."""
+        path = self.folder / "picture.dot"
+        self.run_script(*words, "--picture", path)
+        for line in lines:
+            self.assertIn(f"    {line};\n", path.read_text(encoding="utf-8"))
+        path = self.folder / "picture.svg"
+        self.run_script(*words, "--picture", path)
+        self.assertIn("</svg>", path.read_text(encoding="utf-8"))
+        status, _, err = self.run_script(*words, "--picture", path, PATH=str(self.folder))
+        self.assertEqual(status, 2)
+        self.assertIn("the command dot is not on the PATH", err)
+
+    def check_damaged(self, call, text):
+        """That the script answers or refuses what a damaged text has, and fails in no other way."""
+        for seed in range(200):
+            given = damaged(random.Random(seed), text)
+            with self.subTest(seed=seed, given=given):
+                try:
+                    self.assertIn(call(given)[0], (0, 1))
+                except self.script.Refused as refused:
+                    self.assertTrue(str(refused).isprintable())
+                except SystemExit as ended:
+                    self.assertEqual(ended.code, 3)
+
+    def check_benchmark(self, size):
+        """That bench/ gets a game of about so many vertices, in which each player wins some."""
+        name = f"{self.name}_{size}"
+        got = common.run([sys.executable, "-B", common.ROOT / "bench" / "uses.py", self.folder, name], timeout=600)
+        self.assertEqual((got[0], got[2]), (0, b""))
+        status, winners, _ = common.program("solve", "--winners", self.folder / f"{name}.pg", timeout=600)
+        lines = winners.decode().splitlines()[1:]
+        self.assertEqual(status, 0)
+        self.assertAlmostEqual(len(lines) / size, 1, delta=0.25)
+        self.assertEqual({line.split()[1] for line in lines}, {"0;", "1;"})
+
+    def test_help(self):
+        """The help text shows an example, whose commands run."""
+        status, out, err = self.run_script("--help")
+        self.assertEqual((status, err), (0, ""))
+        self.assertIn(f"\n  examples/{self.name}.py ", out)
 
 
 def damaged(chance, text):
@@ -57,66 +128,335 @@ def damaged(chance, text):
     return text
 
 
-class Checks:
-    """What the tests of each script have, and what they check of its pictures and refusals."""
+def check_kept(case, name, made):
+    """That a picture is the one of docs/pictures; another version of Graphviz lays out in another way."""
+    path = common.ROOT / "docs" / "pictures" / name
+    if WRITE:
+        path.write_text(made, encoding="utf-8")
+    kept = path.read_text(encoding="utf-8")
+    version = re.search("graphviz version [0-9.]+", made)
+    if not version or version[0] in kept:
+        case.assertEqual(made, kept)
 
-    # the name of the script of examples/
-    name = None
+
+# --- convert.py ---
+
+
+def plays(game, player):
+    """The positional strategies of a player: a successor, or None at a dead end, for each vertex of his."""
+    own = sorted(id for id in game if game[id][1] == player)
+    for choices in itertools.product(*(sorted(game[id][2]) or [None] for id in own)):
+        yield dict(zip(own, choices))
+
+
+def winner(game, moves, id, least, odd):
+    """Who wins the play of these moves: the owner of a dead end loses, else the priority that decides on the cycle says."""
+    seen = []
+    while id not in seen:
+        seen.append(id)
+        if moves[id] is None:
+            return 1 - game[id][1]
+        id = moves[id]
+    cycle = [game[it][0] for it in seen[seen.index(id) :]]
+    return ((min if least else max)(cycle) + odd) % 2
+
+
+def even_wins(game, least=False, odd=False):
+    """The vertices from which some strategy of player 0 wins against all of player 1."""
+    won = set()
+    for mine in plays(game, 0):
+        left = set(game) - won
+        for other in plays(game, 1):
+            left = {id for id in left if winner(game, {**mine, **other}, id, least, odd) == 0}
+        won |= left
+    return won
+
+
+def spelled_game(chance, game, least):
+    """A text of the game with what other tools write: comments, names, dead ends, other blanks, a header of the least priority."""
+    one = chance.random() < 0.5
+    blank = lambda: " " if one else chance.choice([" ", "\t", "  ", "\r\n"])
+    comma = "," if one else chance.choice([",", ", ", " ,"])
+    header = chance.choice(["minparity", "min-parity"] if least else ["parity", "max-parity"])
+    lines = [chance.choice(["", "# made by hand; 0 0 0 0;\n", '// a "game\n']), f"{header} {max(game)};\n"]
+    for id, (priority, owner, successors) in game.items():
+        start = chance.choice(["start 1;\n"] + [""] * 9)
+        name = chance.choice(["", ' "a"', '"# // ;"', ' "\\"b\\""'])
+        note = chance.choice(["", "", " # a note", " // 1 2 3;", '# "a"'])
+        numbers = f"{id}{blank()}{priority}{blank()}{owner}{blank()}{comma.join(map(str, sorted(successors)))}"
+        lines.append(f"{start}{numbers}{name};{note}\n")
+    return chance.choice(["", "\ufeff"]) + "".join(lines)
+
+
+AUTOMATON = common.text_of("examples/synthesise/arbiter_2_at_once.hoa")
+ARENA = """parity 4;
+0 0 1 1,2 "0, the environment";
+1 0 0 3 "0, the controller";
+2 0 0 4 "0, the controller";
+3 0 0 0 "to 0";
+4 1 0 4 "no edge";
+"""
+# as PGSolver and Oink print a solution
+LISTED = """Chosen solver `recursive' .................... 0.00 sec
+
+Player 0 wins from nodes:
+  {0, 12}
+with strategy
+  [0->12]
+
+Player 1 wins from nodes:
+  {3}
+with strategy
+  [3->3]
+Overall time: 12
+"""
+BY_OINK = "[ 0.01] solved in 12 iterations\nwon by even: 0->12 0 12\nwon by odd: 3->3\n[ 0.02] done 7\n"
+SOLUTION = "paritysol 12;\n0 0 12;\n3 1 3;\n12 0;\n"
+# the fact, flags, the text, and what is written
+CONVERTED = [
+    ("names stay as they are", [], 'start 0; 0 8 0 0 "# not // a note";', 'parity 0;\n0 8 0 0 "# not // a note";\n'),
+    ("a byte order mark", [], "\ufeffparity 0;\n0 8 0 0;\n", "parity 0;\n0 8 0 0;\n"),
+    ("odd priorities for player 0", ["--odd"], "0 0 0 1;\n1 3 1 0;\n", "parity 1;\n0 1 0 1;\n1 4 1 0;\n"),
+    ("a header of the least priority", [], "minparity 1;\n0 0 0 1;\n1 3 1 0;\n", "parity 1;\n0 4 0 1;\n1 1 1 0;\n"),
+    ("quotes in a name", [], r'0 8 0 0 "a \"b\"";', "parity 0;\n0 8 0 0 \"a 'b'\";\n"),
+    ("a name that ends in a backslash", [], '0 8 0 0 "C:\\";', 'parity 0;\n0 8 0 0 "C:\\";\n'),
+    ("quotes in comments", [], '# 5" and 6"\n0 8 0 0 "a"; # "\n', 'parity 0;\n0 8 0 0 "a";\n'),
+    ("a line after a name", [], '0 8 0 0 "a";\n1 8 0 1; # "b";\n', 'parity 1;\n0 8 0 0 "a";\n1 8 0 1;\n'),
+    ("a name of two lines", [], '0 8 0 0 "a;\n1 8 0 1";\n', 'parity 0;\n0 8 0 0 "a;\n1 8 0 1";\n'),
+    ("an automaton", [], AUTOMATON, ARENA),
+    ("a listing of PGSolver", ["--solution"], LISTED, SOLUTION),
+    ("a listing of Oink", ["--solution"], BY_OINK, SOLUTION),
+    ("a solution after a log", ["--solution"], "solved in 3 s\nparitysol 0;\n0 0 0;\n", "paritysol 0;\n0 0 0;\n"),
+]
+
+
+class Convert(Use):
+    name = "convert"
+
+    def converted(self, flags, text):
+        return self.run_script(*flags, given=text if isinstance(text, bytes) else text.encode())
+
+    def test_texts(self):
+        for name, flags, text, wanted in CONVERTED:
+            with self.subTest(name):
+                self.assertEqual(self.converted(flags, text), (0, wanted, ""))
+
+    def test_random_games_keep_their_winners(self):
+        for seed, (least, odd, dead, by_header) in enumerate(itertools.product((0, 1), repeat=4)):
+            for chance in map(random.Random, range(seed, 96, 16)):
+                game = random_games.random_game(chance, 5)
+                for id in chance.sample(list(game), dead):
+                    game[id] = *game[id][:2], set()
+                with self.subTest(least=least, odd=odd, dead=dead, by_header=by_header, game=game):
+                    words = ["--min"] * (least and not by_header) + ["--odd"] * odd + ["--dead-ends"] * dead
+                    status, out, err = self.converted(words, spelled_game(chance, game, least and by_header))
+                    self.assertEqual(status, 0, err)
+                    self.assertEqual(even_wins(plain.game_of(out.encode())), even_wins(game, least, odd))
+
+    def test_a_pipe_that_nobody_reads(self):
+        script = '(sleep 1; cat) | "$@" | true; exit ${PIPESTATUS[1]}'
+        got = common.run(["bash", "-c", script, "", sys.executable, "-B", EXAMPLES / "convert.py"], b"0 8 0 0;")
+        self.assertEqual(got, (2, b"", b"convert: standard output: Broken pipe\n"))
+        for sign, name in (("<", b"input"), (">", b"output")):
+            got = common.run(["sh", "-c", f'exec "$@" {sign}&-', "", sys.executable, "-B", EXAMPLES / "convert.py"], b"0 8 0 0;")
+            self.assertEqual(got, (2, b"", b"convert: standard %b is closed\n" % name))
+
+    def test_a_large_game_takes_little_time(self):
+        size = 200_000
+        for flags, end in (([], ";\n"), (["--min"], ";\n"), ([], ' "a state of it";\n')):
+            with self.subTest(flags, end=end):
+                game = "".join(f"{v} {v % 9} {v % 2} {v * v % size},{v}{end}" for v in range(size))
+                status, out, err = self.converted(flags, game)
+                self.assertEqual((status, out.count("\n"), err), (0, size + 1, ""))
+
+    def test_numbers_of_too_many_digits(self):
+        for flags, text in ((["--min"], "0 " + "9" * 5000 + " 0 0;"), (["--solution"], "won by even: " + "9" * 5000)):
+            status, out, err = self.converted(flags, text)
+            self.assertEqual((status, out, err.count("\n")), (2, "", 1))
+
+
+# --- draw.py ---
+
+# the pictures; TRACE is the journal of one worker on examples/requests.pg
+PICTURES = {
+    "five_continents": ["examples/five_continents.pg", "examples/five_continents.sol"],
+    "requests": ["examples/requests.pg", "examples/requests.sol"],
+    **{f"requests_after_{count}": ["--trace", "TRACE", "--entries", str(count), "examples/requests.pg"] for count in range(3)},
+}
+
+
+class Draw(Use):
+    name = "draw"
 
     def setUp(self):
-        self.script = load(self.name)
-        self.folder = str(common.room(self))
+        super().setUp()
+        self.trace = self.file("trace", common.program("trace", "--workers", "1", EXAMPLES / "requests.pg")[1])
 
-    def check_refusal(self, name, words, place, why):
-        """That a script says in one line where and why it refuses its words."""
-        status, out, err = ran(name, *words)
-        self.assertEqual((status, out, err.count("\n")), (2, "", 1), err)
-        self.assertTrue(err.startswith(f"{name}: {place}"), err)
-        self.assertIn(why, err)
+    def test_the_pictures_of_the_pages(self):
+        for name, words in PICTURES.items():
+            for flags, end in (([], "dot"), (["--svg"], "svg")):
+                with self.subTest(f"{name}.{end}"):
+                    status, out, err = self.run_script(*flags, *(self.trace if it == "TRACE" else it for it in words))
+                    self.assertEqual(status, 0, err)
+                    check_kept(self, f"{name}.{end}", out)
 
-    def check_picture(self, name, words, folder, lines):
-        """That a script draws these lines, and that Graphviz takes them."""
-        path = os.path.join(folder, "picture.dot")
-        ran(name, *words, "--picture", path)
-        drawn = common.text_of(path)
-        for line in lines:
-            self.assertIn(f"    {line};\n", drawn)
-        self.assertTrue(shutil.which("dot"), "the command dot of Graphviz is missing here, and makes the pictures")
-        path = os.path.join(folder, "picture.svg")
-        ran(name, *words, "--picture", path)
-        self.assertIn("</svg>", common.text_of(path))
+    def test_a_game_of_standard_input_with_names(self):
+        game = '0 1 0 0,1 "<a> & b"; 1 2 1 1 "' + "long" * 9 + '\t";'
+        for words in ([], ["-"], ["-", self.file("part.sol", "1 0;")]):
+            with self.subTest(words):
+                status, out, err = self.run_script(*words, given=game.encode())
+                self.assertEqual((status, err), (0, ""))
+                self.assertIn('label=<1<br/>&lt;a&gt; &amp; b<br/><font point-size="9">id 0</font>>', out)
+                self.assertIn(f'label=<2<br/>{("long" * 9)[:30]}...<br/><font point-size="9">id 1</font>>', out)
+                self.assertEqual(out.count("#fde68a"), len(words) // 2)
 
-    def check_damaged(self, script, call, text):
-        """That a script answers or refuses what a damaged text has, and fails in no other way."""
-        for seed in range(200):
-            chance = random.Random(seed)
-            given = damaged(chance, text)
-            with self.subTest(seed=seed, given=given):
-                try:
-                    self.assertIn(call(given)[0], (0, 1))
-                except script.Refused as refused:
-                    self.assertTrue(str(refused).isprintable())
-                except SystemExit as ended:
-                    self.assertEqual(ended.code, 3)
+    def test_other_kinds_of_pictures(self):
+        for flag, begins in (("--png", "PNG"), ("--pdf", "%PDF-")):
+            with self.subTest(flag):
+                status, out, err = self.run_script(flag, "examples/both_win.pg")
+                self.assertEqual((status, err, begins in out[:8]), (0, "", True))
 
-    def check_benchmark(self, name, folder):
-        """That bench/ gets a game of about as many vertices as its name says, in which each player wins some."""
-        status, _, err = common.run([sys.executable, "-B", os.path.join(common.ROOT, "bench", "uses.py"), folder, name], timeout=600)
-        self.assertEqual((status, err), (0, b""))
-        status, winners, _ = common.run([common.PROGRAM, "solve", "--winners", os.path.join(folder, f"{name}.pg")], timeout=600)
-        lines = winners.decode().splitlines()[1:]
-        self.assertEqual(status, 0)
-        self.assertAlmostEqual(len(lines) / int(name.rpartition("_")[2]), 1, delta=0.25)
-        self.assertEqual({line.split()[1] for line in lines}, {"0;", "1;"})
+    def test_where_there_is_no_dot(self):
+        status, out, err = self.run_script("--svg", "examples/requests.pg", PATH=str(self.folder))
+        self.assertEqual((status, out), (2, ""))
+        self.assertIn("dot", err)
 
-    def check_no_dot(self, name, words, folder):
-        """That a script says so where there is no `dot`."""
-        status, _, err = ran(name, *words, "--picture", os.path.join(folder, "picture.svg"), PATH=folder)
-        self.assertEqual(status, 2)
-        self.assertIn("the command dot is not on the PATH", err)
 
-    def check_help(self, name):
-        """That the help text shows an example, whose commands run."""
-        status, out, err = ran(name, "--help")
-        self.assertEqual((status, err), (0, ""))
-        self.assertIn(f"\n  examples/{name}.py ", out)
+# --- explain.py ---
+
+PLAYERS = ("Even", "Odd")
+
+
+class Explain(Use):
+    name = "explain"
+
+    def check_cycle(self, game, solution, lines, id):
+        winner = solution[id][0]
+        self.assertTrue(lines[0].startswith(f"{PLAYERS[winner]} is said to win these"))
+        walk = [int(it.split(":")[0]) for it in lines[1:]]
+        self.assertEqual((walk[0], len(set(walk))), (id, len(walk)), "a shortest walk sees no vertex twice")
+        for at, line, to in zip(walk, lines[1:], [*walk[1:], walk[0]]):
+            self.assertEqual(solution[at][0], winner)
+            self.assertIn(to, plain.kept(game, solution, at))
+            verb = "chooses" if game[at][1] == winner else "may move to"
+            said = f"  {at}: priority {game[at][0]}, {PLAYERS[game[at][1]]} {verb} {to}"
+            self.assertEqual(line, said + f"   <- the greatest, and {PLAYERS[1 - winner]}'s" * (at == id))
+        self.assertEqual(game[id][0], max(game[it][0] for it in walk))
+        self.assertEqual(game[id][0] % 2, 1 - winner)
+
+    def check_leaving(self, game, solution, lines, id, to):
+        self.assertIn(to, plain.kept(game, solution, id))
+        (winner, _), owner, places = solution[id], game[id][1], [1 + list(solution).index(it) for it in (id, to)]
+        self.assertNotEqual(winner, solution[to][0])
+        said = f"{PLAYERS[winner]} is said to win {id} (line {places[0]} of the solution), and "
+        self.assertEqual(lines[0], said + f"{PLAYERS[1 - winner]} {to} (line {places[1]}).")
+        verb = "chooses" if owner == winner else "may move to"
+        self.assertEqual(lines[1], f"  {id} -> {to}: {PLAYERS[owner]} owns {id}, and {verb} {to}")
+        inside = [it for it in sorted(game[id][2]) if solution[it][0] == winner]
+        self.assertTrue(lines[2].startswith(f"Successors of {id} that {PLAYERS[winner]} is said to win: {inside[0] if inside else 'none'}"))
+
+    def check_choosing(self, game, solution, lines, id):
+        winner, choice = solution[id]
+        self.assertEqual(winner, game[id][1])
+        self.assertNotIn(choice, game[id][2])
+        names = "names no choice" if choice is None else f"names {choice}, which is no successor"
+        place = 1 + list(solution).index(id)
+        said = f"Line {place} of the solution says that {PLAYERS[winner]} wins {id}, which {PLAYERS[winner]} owns, and {names}."
+        self.assertEqual(lines[0], said)
+        successors = ", ".join(f"{it} (said to be {PLAYERS[solution[it][0]]}'s)" for it in sorted(game[id][2]))
+        self.assertEqual(lines[1], f"Successors of {id}: {successors}")
+
+    def test_wrong_solutions(self):
+        checks = {"cycle": self.check_cycle, "leaves": self.check_leaving, "choice": self.check_choosing}
+        kinds = collections.Counter()
+        for chance in map(random.Random, range(1500)):
+            game = random_games.random_game(chance)
+            solution = random_games.random_solution(chance, game)
+            rows = (" ".join(str(it) for it in (id, *solution[id]) if it is not None) for id in solution)
+            files = self.file("game.pg", plain.written_game(game)), self.file("game.sol", "".join(f"{row};\n" for row in rows))
+            with self.subTest(game=game, solution=solution):
+                status, out = self.call(*files)
+                first, *lines = out.rstrip("\n").split("\n")
+                self.assertEqual((status, first + "\n"), (int(first != "ok"), plain.verdict(game, solution)))
+                for kind, check in checks.items():
+                    if kind in first:
+                        check(game, solution, lines, *map(int, re.findall(r"\d+", first)))
+                kinds[re.sub(r"[ \d]", "", first)] += 1
+        self.assertEqual(len(kinds), 5, kinds)
+        self.assertGreater(min(kinds.values()), 30, kinds)
+
+    def test_a_solution_of_a_pipe(self):
+        status, out, _ = self.run_script(EXAMPLES / "both_win.pg", "/dev/stdin", given=(EXAMPLES / "both_win.wrong").read_bytes())
+        self.assertEqual((status, out.split("\n")[0]), (1, "not a solution: 0 leaves to 1"))
+
+    def test_a_cycle_of_100000_vertices(self):
+        count = 100_000
+        game = "".join(f"{id} {2 * (id % 9) + (id == 7) * 99} 1 {(id + 1) % count};\n" for id in range(count))
+        solution = "".join(f"{id} 0;\n" for id in range(count))
+        status, out, err = self.run_script(self.file("game.pg", game), self.file("game.sol", solution))
+        self.assertEqual((status, err, len(out.splitlines())), (1, "", count + 2))
+        self.assertIn("\n  7: priority 113, Odd may move to 8   <- the greatest, and Odd's\n", out)
+
+    def test_the_shortest_walk(self):
+        """The long way round from 0 has 0's priority as its greatest as well, and the shortest leads through a greater one."""
+        game = self.file("game.pg", "0 3 1 1,2,4; 1 0 1 2; 2 0 1 3; 3 1 1 0; 4 4 1 0; 5 0 0 5;")
+        out = self.run_script(game, self.file("game.sol", "0 0; 1 0; 2 0; 3 0; 4 0; 5 0 5;"))[1]
+        self.assertEqual(re.findall(r"(?m)^  (\d+): ", out), ["0", "2", "3"])
+
+    def test_texts_that_the_program_refuses(self):
+        both = EXAMPLES / "both_win.pg"
+        for game, solution, said in [
+            ("0 0 0 7;", "", "game: vertex 0: "),
+            (both.read_bytes(), "0 0 0; 1 1 7;", "solution: vertex 7: "),
+            (both.read_bytes(), "\u00e9", "solution: byte 0: "),
+        ]:
+            with self.subTest(said):
+                status, out, err = self.run_script(self.file("game.pg", game), self.file("game.sol", solution))
+                self.assertEqual((status, out, err.count("\n")), (3, "", 1))
+                self.assertTrue(err.startswith(f"pgboard: {said}"), err)
+        got = self.run_script(both, EXAMPLES / "both_win.sol", PGBOARD="no program")
+        self.assertEqual(got, (2, "", "explain: no program: No such file or directory\n"))
+
+    def test_damaged_texts(self):
+        game, solution = (common.text_of("examples", it) for it in ("five_continents.pg", "five_continents.wrong"))
+        files = lambda *texts: itertools.starmap(self.file, zip(("game.pg", "game.sol"), texts))
+        self.check_damaged(lambda it: self.call(*files(it, solution)), game)
+        self.check_damaged(lambda it: self.call(*files(game, it)), solution)
+
+    @common.needs("dot")
+    def test_picture(self):
+        words = [EXAMPLES / "five_continents.pg", EXAMPLES / "five_continents.wrong"]
+        red, dotted = "color=red penwidth=3", "style=dotted"
+        self.check_picture(words, f"2 -> 0 [{red}]", f"0 -> 2 [{red}]", f"2 -> 1 [{dotted}]", "1 -> 4 []")
+        self.check_picture([EXAMPLES / "both_win.pg", EXAMPLES / "both_win.wrong"], f"0 -> 1 [{red}]", f"0 -> 0 [{dotted}]")
+
+
+# --- all ---
+
+
+class Refused(unittest.TestCase):
+    """Each script says in one line, or after its usage, where and why it refuses its words or a text."""
+
+    def test_each_row(self):
+        folder = common.make_folder(self)
+        (folder / "model.aut").write_text(MODEL, encoding="ascii")
+        (folder / "trace").write_bytes(common.program("trace", "--workers", "1", EXAMPLES / "requests.pg")[1])
+        file = str(folder / "file")
+        for script, words, place, said, text in rows_of("refused.txt"):
+            with self.subTest(script, words=words, text=text):
+                text = text.replace("THE_HEAD", HEAD).replace("THE_BODY", BODY).encode().decode("unicode_escape")
+                pathlib.Path(file).write_bytes(text.encode("latin-1"))
+                named = {"FILE": file, "MODEL": folder / "model.aut", "TRACE": folder / "trace", "TEXT": text}
+                command = [sys.executable, "-B", EXAMPLES / f"{script}.py", *(named.get(it, it) for it in shlex.split(words))]
+                env = {**os.environ, "PGBOARD": str(common.PROGRAM)}
+                status, out, err = common.run(command, text.encode("latin-1"), cwd=common.ROOT, env=env)
+                *usage, line = err.decode().splitlines()
+                self.assertEqual((status, out), (2, b""))
+                self.assertTrue(not usage or usage[0].startswith("usage: "), err)
+                self.assertRegex(line, rf"^{script}(\.py)?: {re.escape(place.replace('FILE', file))}")
+                self.assertIn(said, line)
+
+
+if __name__ == "__main__":
+    sys.argv = [it for it in sys.argv if it != "--write"]
+    common.main()

@@ -19,8 +19,8 @@ fn number(out: &mut Vec<u8>, value: u32) {
     out.extend_from_slice(&digits[at..]);
 }
 
-fn header(word: &str, game: &Game, room: usize) -> Vec<u8> {
-    let mut out = Vec::with_capacity(room);
+fn header(word: &str, game: &Game, capacity: usize) -> Vec<u8> {
+    let mut out = Vec::with_capacity(capacity);
     out.extend_from_slice(word.as_bytes());
     out.push(b' ');
     number(&mut out, game.ids.last().copied().unwrap_or(0));

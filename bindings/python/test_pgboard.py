@@ -7,6 +7,7 @@ import os
 import pickle
 import random
 import re
+import shutil
 import signal
 import subprocess
 import sys
@@ -190,8 +191,8 @@ class Texts(Tests):
         self.assertEqual(pgboard.tidy_text(GAME.encode()), "parity 9;\n3 2 0 3,9;\n9 1 1 9;\n")
         pgboard.verify_text(GAME, b"9 1 9; 3 0 3;")
 
-    def test_asks_for_room(self):
-        self.assertEqual(pgboard.written("pgboard_tidy_text", GAME, room=0), pgboard.tidy_text(GAME))
+    def test_asks_for_capacity(self):
+        self.assertEqual(pgboard.written("pgboard_tidy_text", GAME, capacity=0), pgboard.tidy_text(GAME))
 
     def test_names_are_any_bytes(self):
         self.assertEqual(pgboard.tidy_text(b'0 0 0 0 "\xff";'), "parity 0;\n0 0 0 0;\n")
@@ -210,6 +211,8 @@ class Texts(Tests):
             ("0 0 2 0;", "", pgboard.NoPlayer, 4),
             ("7 0 0 7; 7 1 1 7;", "", pgboard.SpecifiedTwice, 7),
             (GAME, "3 0 ?", pgboard.NoToken, 4),
+            (GAME, "3 0 3", pgboard.NotExpected, 5),
+            (GAME, "4294967296 0;", pgboard.NumberTooLarge, 0),
             (GAME, "3 2;", pgboard.NoPlayer, 2),
             (GAME, "4 0;", pgboard.Stranger, 4),
             (GAME, "3 0 3; 3 0 3;", pgboard.WrittenTwice, 3),
@@ -236,8 +239,18 @@ class Package(Tests):
             self.assertEqual(run.returncode, 1)
             self.assertRegex(err, r"ImportError: pgboard: .*install the wheel that ./package makes, or set PGBOARD_LIBRARY")
 
+    def test_a_library_of_another_version_is_refused(self):
+        old = "class Old:\n    def __getattr__(self, name):\n        return lambda: 7\n"
+        err = python(f"import ctypes\n{old}ctypes.CDLL = lambda path: Old()\nimport pgboard", PGBOARD_LIBRARY="old.so").communicate(timeout=60)[1]
+        self.assertIn(f"ImportError: pgboard: old.so is of version 7, and this package of {pgboard.library.VERSION}: install", err)
+
     def test_examples(self):
         self.assertEqual(doctest.testmod(pgboard).failed, 0)
+
+    @unittest.skipUnless(shutil.which("mypy"), "mypy is not installed")
+    def test_types(self):
+        run = subprocess.run(["mypy", "--strict", "--cache-dir", os.devnull, os.path.dirname(pgboard.__file__)], capture_output=True, text=True)
+        self.assertEqual(run.returncode, 0, run.stdout + run.stderr)
 
 
 class Calls(Tests):
@@ -291,6 +304,10 @@ class Graphs(Tests):
         del self.graph.nodes["lose"]["priority"]
         with self.assertRaisesRegex(pgboard.MissingAttribute, "^node 'lose' has no attribute 'priority'$"):
             pgboard.solve_graph(self.graph)
+
+    def test_another_graph_is_refused(self):
+        with self.assertRaisesRegex(TypeError, "^a graph is a networkx.DiGraph, not Graph$"):
+            pgboard.solve_graph(networkx.Graph(self.graph))
 
 
 if __name__ == "__main__":

@@ -303,13 +303,13 @@ static int is_untouched(const uint8_t *bytes, size_t size)
     return 1;
 }
 
-static int text_refuses(writer *call, const char *text, size_t room, uint32_t answer, uint64_t at, uint64_t to)
+static int text_refuses(writer *call, const char *text, size_t capacity, uint32_t answer, uint64_t at, uint64_t to)
 {
     uint8_t into[64];
     size_t size = 99;
     memset(into, 77, sizeof into);
     report.at = report.to = 99;
-    return call((const uint8_t *)text, strlen(text), into, room, &size, &report) == answer && report.at == at &&
+    return call((const uint8_t *)text, strlen(text), into, capacity, &size, &report) == answer && report.at == at &&
            report.to == to && size == 99 && is_untouched(into, sizeof into);
 }
 
@@ -318,16 +318,16 @@ static int writes(writer *call, const char *text, const char *wanted)
 {
     uint8_t into[64];
     size_t size = strlen(wanted);
-    for (size_t room = size; room <= sizeof into; room += sizeof into - size) {
+    for (size_t capacity = size; capacity <= sizeof into; capacity += sizeof into - size) {
         size_t written = 99;
         memset(into, 77, sizeof into);
         report.at = report.to = 99;
-        if (call((const uint8_t *)text, strlen(text), into, room, &written, &report) != PGBOARD_OK || report.at != 0 ||
+        if (call((const uint8_t *)text, strlen(text), into, capacity, &written, &report) != PGBOARD_OK || report.at != 0 ||
             report.to != 0 || written != size || memcmp(into, wanted, size) != 0 ||
             !is_untouched(into + size, sizeof into - size))
             return 0;
     }
-    return text_refuses(call, text, size - 1, PGBOARD_ROOM, size, 0);
+    return text_refuses(call, text, size - 1, PGBOARD_CAPACITY, size, 0);
 }
 
 static uint32_t verify(const char *text, const char *solution)

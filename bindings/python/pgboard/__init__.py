@@ -19,7 +19,7 @@ from typing import Any, Iterable, List, Optional, Sequence, Tuple, Type, Union
 
 from . import faults, library
 from .faults import *  # noqa: F401,F403
-from .library import NO_CHOICE, NO_WINNER, ROOM, judged, run, slices, struct_of
+from .library import NO_CHOICE, NO_WINNER, CAPACITY, judged, run, slices, struct_of
 from .version import __version__
 
 __all__ = [
@@ -69,16 +69,16 @@ def rows_of(successors: Iterable[Numbers]) -> Tuple[array[int], array[int]]:
     return starts, targets
 
 
-def game_of(owners: Numbers, priorities: Numbers, successors: Iterable[Numbers]) -> List[array[int]]:
+def game_of(owners: Numbers, priorities: Numbers, successors: Iterable[Numbers]) -> Tuple[array[int], array[int], array[int], array[int]]:
     """The arrays of a game."""
-    return [numbers("B", owners, faults.BadOwner), numbers("I", priorities, faults.BadPriority), *rows_of(successors)]
+    return (numbers("B", owners, faults.BadOwner), numbers("I", priorities, faults.BadPriority), *rows_of(successors))
 
 
-def claims_of(winners: MaybeNumbers, choices: MaybeNumbers) -> List[array[int]]:
+def claims_of(winners: MaybeNumbers, choices: MaybeNumbers) -> Tuple[array[int], array[int]]:
     """The arrays of winners and choices. None is no winner, which is taken of what is known alone, or no choice."""
     # what is no vertex is no choice that C could misread
     moves = (NO_CHOICE if it is None else it if 0 <= it < NO_CHOICE else NO_CHOICE - 1 for it in choices)
-    return [numbers("B", [NO_WINNER if it is None else it for it in winners], faults.BadWinner), array("I", moves)]
+    return numbers("B", [NO_WINNER if it is None else it for it in winners], faults.BadWinner), array("I", moves)
 
 
 def solve_csr(
@@ -129,7 +129,7 @@ def solve(
 
     Returns the winner of each vertex, and for each vertex that its winner owns the successor that he moves to, else None. `known` has
     winners and choices of this form, with None for a winner that isn't known. Raises Refused, NotKnown or OutOfMemory."""
-    winners, choices = solve_csr(*game_of(owners, priorities, successors), None if known is None else tuple(claims_of(*known)))
+    winners, choices = solve_csr(*game_of(owners, priorities, successors), None if known is None else claims_of(*known))
     return list(winners), [None if it == NO_CHOICE else it for it in choices]
 
 
@@ -147,12 +147,12 @@ def text_view(text: Text) -> memoryview:
     raise TypeError(f"a text is bytes or str, not {type(text).__name__}")
 
 
-def written(name: str, text: Text, room: Optional[int] = None) -> str:
-    """The text that a call writes. There is room for any answer that is about as long as what is given; else the call says
+def written(name: str, text: Text, capacity: Optional[int] = None) -> str:
+    """The text that a call writes. The first buffer has twice the length of what is given. If that is too small, the call says
     how much it needs."""
     given = text_view(text)
-    answer, needed = ROOM, 2 * len(given) + 64 if room is None else room
-    while answer == ROOM:
+    answer, needed = CAPACITY, 2 * len(given) + 64 if capacity is None else capacity
+    while answer == CAPACITY:
         into, size = memoryview(bytearray(needed)), ctypes.c_size_t()
         answer, needed, to = run(name, [*slices(given, into), ctypes.byref(size)], [given, into])
     judged(answer, needed, to)
@@ -186,7 +186,9 @@ def attributes(graph: Any, nodes: Sequence[Any], name: str) -> List[int]:
 def solve_graph(graph: Any) -> Any:
     """Solves a networkx.DiGraph, whose nodes have the attributes `owner` and `priority`. Returns a copy whose nodes have
     `winner` too, and `choice` where the winner owns the node. A fault names nodes by their places in their order. Raises
-    MissingAttribute for a node without one of the two, and what `solve` raises."""
+    MissingAttribute for a node without one of the two, TypeError for what is no directed graph, and what `solve` raises."""
+    if not hasattr(graph, "successors"):
+        raise TypeError(f"a graph is a networkx.DiGraph, not {type(graph).__name__}")
     nodes = list(graph)
     places = {node: v for v, node in enumerate(nodes)}
     owners, priorities = attributes(graph, nodes, "owner"), attributes(graph, nodes, "priority")

@@ -10,7 +10,7 @@ from typing import Any, List, Tuple
 from .faults import FAULTS
 from .version import __version__
 
-ROOM = 50
+CAPACITY = 50
 NO_CHOICE = 4294967295
 NO_WINNER = 255
 

@@ -152,9 +152,9 @@ module _ {g : Graph} {j : Journal} {r : Regions} {number : ℕ} {p : Player} {R 
     grown_fits = entry_fits (record { worker = 0; player = p; claimed = length R; rows = rows }) (record { player = refl; claimed = refl; rows_are = refl })
 
 -- at the start of a growth there is room for a row of each vertex
-pub IsGrowing-start : (g : Graph) (r : Regions) (rows : ClaimRows) (room : ℕ) → AreRegions g r → rows ≡ [] → length g ≤ room
-    → IsGrowing g r rows room
-IsGrowing-start g r rows room regions none size = subst (λ (xs : ClaimRows). IsGrowing g r xs room) (sym none) (record {
+pub IsGrowing-start : (g : Graph) (r : Regions) (rows : ClaimRows) (spare : ℕ) → AreRegions g r → rows ≡ [] → length g ≤ spare
+    → IsGrowing g r rows spare
+IsGrowing-start g r rows spare regions none size = subst (λ (xs : ClaimRows). IsGrowing g r xs spare) (sym none) (record {
   regions = regions;
   apart = λ v n. absurd (let h : false ≡ true = n in cc h);
   fits =

@@ -14,16 +14,16 @@ use Rattle.pg_board.proofs.Places.{row_at, named_at, fresh_at}
 use Rattle.pg_board.proofs.Tables.{AreRegions-settle, Settles}
 
 -- a vertex is settled, with its row
-pub record Takes (g : Graph) (p : Player) (r r' : Regions) (rows : ClaimRows) (row : ℕ × Option ℕ) (room : ℕ) : Type 0 where
+pub record Takes (g : Graph) (p : Player) (r r' : Regions) (rows : ClaimRows) (row : ℕ × Option ℕ) (spare : ℕ) : Type 0 where
   pub settles : Settles r r' p row
   pub unsettled : In (members r.unsettled) row.0
-  pub growing : IsGrowing g r rows room
+  pub growing : IsGrowing g r rows spare
 
-module _ {g : Graph} {p : Player} {r r' : Regions} {rows : ClaimRows} {row : ℕ × Option ℕ} {room : ℕ} (h : Takes g p r r' rows row room) where
+module _ {g : Graph} {p : Player} {r r' : Regions} {rows : ClaimRows} {row : ℕ × Option ℕ} {spare : ℕ} (h : Takes g p r r' rows row spare) where
   mask_now : (v : ℕ) → members r'.unsettled v ≡ (if row.0 == v then false else members r.unsettled v)
   mask_now = search (rules, h.settles, h.growing.regions, read_set, member_below, h.growing.regions.mask_size)
 
-  pub IsGrowing-take : IsGrowing g r' (rows ++ row ∷ []) room
+  pub IsGrowing-take : IsGrowing g r' (rows ++ row ∷ []) spare
   IsGrowing-take =
       search (rules, AreRegions-settle, h.settles, h.growing.regions, mask_now, named-push, length-append, or_cases, h.growing.apart, sum_by-set, member_below)
 
@@ -41,9 +41,9 @@ module _ {g : Graph} {p : Player} {r r' : Regions} {rows : ClaimRows} {row : ℕ
   Grows-take leads = record { extends = extends_taken g p (members r.unsettled) (members r'.unsettled) rows row mask_now h.unsettled leads; tells = told-take }
 
 -- a mask that didn't change is as much apart
-pub IsGrowing-same : (g : Graph) (r r' : Regions) (rows : ClaimRows) (room : ℕ) → AreRegions g r' → r'.unsettled ≡ r.unsettled
-    → IsGrowing g r rows room → IsGrowing g r' rows room
-IsGrowing-same g r r' rows room regions mask a = search (rules, a.apart, a.fits)
+pub IsGrowing-same : (g : Graph) (r r' : Regions) (rows : ClaimRows) (spare : ℕ) → AreRegions g r' → r'.unsettled ≡ r.unsettled
+    → IsGrowing g r rows spare → IsGrowing g r' rows spare
+IsGrowing-same g r r' rows spare regions mask a = search (rules, a.apart, a.fits)
 
 -- the row at the place is unsettled, where those before it are settled
 pub row_open : (r old : Regions) (rows : ClaimRows) (i : ℕ) → i < length rows → ((v : ℕ) → open_before r (take i rows) v ≡ members old.unsettled v)

@@ -1,4 +1,4 @@
--- A board's journal: what was posted, the oldest first.
+-- A board's journal: its entries, the oldest first.
 use Rattle.std.specs.Prelude.{ℕ, ◌≡◌, ◌≤◌, ◌==◌, ◌↔◌, if◌then◌else◌, List, [], ◌∷◌, length, take, drop, map, flat_map}
 use Rattle.std.specs.Prelude.{sum_by, filter, slice_get, nat_eq, Some, None}
 use Rattle.std.specs.List.{IsDistinct}
@@ -19,14 +19,14 @@ abbrev pub state_of : Journal → State
 state_of [] v = None
 state_of (e ∷ es) v = if named e.rows v then Some (e.player, choice_in e.rows v) else state_of es v
 
--- the rows that the entry took from its claim, and those that it attracted
+-- the rows of the entry's claim, and those that it attracted
 abbrev pub claimed_rows : Entry → ClaimRows
 claimed_rows e = take e.claimed e.rows
 
 abbrev pub attracted_rows : Entry → ClaimRows
 attracted_rows e = drop e.claimed e.rows
 
--- the entry is one that posting the claim may give in the state
+-- a post of the claim may add this entry in the state
 pub record Answers (g : Graph) (st : State) (p : Player) (rows : ClaimRows) (e : Entry) : Type 0 where
   pub player : e.player ≡ p
   pub claimed : e.claimed ≤ length e.rows
@@ -41,7 +41,7 @@ pub record IsLawful (g : Graph) (journal : Journal) : Type 0 where
   pub answered : (k : ℕ) (e : Entry) → slice_get journal k ≡ Some e → Answers g (state_of (take k journal)) e.player (claimed_rows e) e
   pub states : (k : ℕ) → k ≤ length journal → IsLawfulState g (state_of (take k journal))
 
--- how many vertices are settled, and by one worker
+-- the number of settled vertices, of all and of one worker
 abbrev pub number_settled : Journal → ℕ
 number_settled journal = sum_by (λ e. length e.rows) journal
 

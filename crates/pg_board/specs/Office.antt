@@ -1,4 +1,4 @@
--- What a call through a lock may answer: it speaks of some lawful board of a game within the limits, with at least the
+-- The results of a call through a lock: those of some lawful board of a game within the limits, with at least the
 -- share's amount settled.
 use Rattle.std.specs.Prelude.{ℕ, ◌≡◌, ◌≤◌, length, Result, Ok, Err}
 use Rattle.pg_game.specs.declared.player.Player.{Player}
@@ -25,7 +25,7 @@ abbrev pub IsCopyOfSome : Part → ℕ → ℕ → ℕ → Type 0
 IsCopyOfSome part at settled amount =
     (journal : Journal) × IsWithinLimits part.graph × IsLawful part.graph journal × IsCopyOf journal part at settled × (amount ≤ settled)
 
--- what a board may answer to the claim, of a posted entry its rows alone
+-- what a board may answer to the claim; of a posted entry only the number of rows
 abbrev pub IsPostAnswer : Graph → Journal → Player → ClaimRows → Result ℕ Refusal → Type 0
 IsPostAnswer g journal p rows (Ok n) = IsGoodOn g (state_of journal) p rows × ((e : Entry) × Answers g (state_of journal) p rows e × (n ≡ length e.rows))
 IsPostAnswer g journal p rows (Err fault) = Refuses g (state_of journal) p rows fault

@@ -14,7 +14,7 @@ use Rattle.pg_board.specs.declared.entry.Posted.{Posted}
 use Rattle.pg_board.specs.Play.{Play}
 use Rattle.pg_board.specs.Journal.{state_of, Answers}
 
--- one entry, of the worker, that answers the claim, and its numbers
+-- one entry, with the worker's number, that answers the claim, and its numbers
 pub record Adds (old new : Play) (worker : ℕ) (claim : Claim) (posted : Posted) : Type 0 where
   pub entry : Entry
   pub journal : new.journal ≡ old.journal ++ entry ∷ []
@@ -24,7 +24,7 @@ pub record Adds (old new : Play) (worker : ℕ) (claim : Claim) (posted : Posted
   pub claimed : posted.claimed ≡ entry.claimed
   pub settled : posted.settled ≡ length entry.rows
 
--- posting a claim that was a dominion settles its rest, or answers that it is stale
+-- a post of a claim that was a dominion settles its rest, or the claim is stale
 abbrev pub AnswersDominion : State → ClaimRows → Result Posted Refusal → Type 0
 AnswersDominion st rows (Ok posted) = posted.claimed ≡ length (rest_of st rows)
 AnswersDominion st rows (Err refusal.Stale) = rest_of st rows ≡ []
@@ -34,7 +34,7 @@ AnswersDominion st rows (Err (refusal.Foreign v)) = ⊥
 AnswersDominion st rows (Err (refusal.Lost v)) = ⊥
 AnswersDominion st rows (Err (refusal.Open v w)) = ⊥
 
--- the player then has what his old vertices and the claim's attract, and the opponent what he had
+-- the player then has what his old vertices and the claim's attract, and the opponent the same as before
 pub record SettlesDominion (old new : Play) (p : Player) (rows : ClaimRows) : Type 0 where
   pub own : (v : ℕ) → In (settled (state_of new.journal) p) v ↔ Attractor old.graph p (all_vertices old.graph)
       (union (settled (state_of old.journal) p) (named rows)) v

@@ -15,7 +15,7 @@ use Rattle.pg_board.specs.declared.refusal.Refusal.{Refusal}
 use Rattle.pg_board.specs.declared.refusal.Refusal.TheVariants as refusal
 use Rattle.pg_board.specs.State.{State, settled, rest_of}
 
--- the claim names the vertex, and it is settled for the opponent
+-- the claim has the vertex, and it is settled for the opponent
 abbrev pub IsLost : State → Player → ClaimRows → ℕ → Type 0
 IsLost st p rows v = In (named rows) v × In (settled st (opponent p)) v
 
@@ -36,12 +36,12 @@ Refuses g st p rows refusal.Stale = IsSound g p rows × NoneHas (IsLost st p row
 Refuses g st p rows (refusal.Open v w) = IsSound g p rows × NoneHas (IsLost st p rows) × IsFirstOpenEdge g st p rows v w
 Refuses g st p rows refusal.Memory = Unit {0}
 
--- what is answered where a claim's check failed
+-- the refusal where a claim's check failed
 abbrev pub refusal_of : ClaimFault → Refusal
 refusal_of claim_fault.Memory = refusal.Memory
 refusal_of fault = refusal.Claim fault
 
--- the reason lies in what is settled, or memory was refused
+-- the reason is the state, or memory was refused
 abbrev pub IsOfState : Refusal → Type 0
 IsOfState (refusal.Claim fault) = ⊥
 IsOfState (refusal.Foreign v) = ⊥
@@ -50,7 +50,7 @@ IsOfState refusal.Stale = Unit {0}
 IsOfState (refusal.Open v w) = Unit {0}
 IsOfState refusal.Memory = Unit {0}
 
--- why a board refuses a checked claim: it does not agree with the game, or it does and the claim is refused on the state
+-- why a board refuses a checked claim: it does not agree with the game, or it does and the state is the reason
 abbrev pub RefusesChecked : Graph → State → CheckedClaim → Refusal → Type 0
 RefusesChecked g st c (refusal.Foreign v) = IsForeign g c.player c.rows v
 RefusesChecked g st c refusal.Memory = Unit {0}

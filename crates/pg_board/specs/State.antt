@@ -1,4 +1,4 @@
--- What a board has settled.
+-- The settled vertices of a board.
 use Rattle.std.specs.Prelude.{ℕ, ◌≡◌, ◌<◌, ◌&&◌, Bool, true, false, nat_lt, length, Option, Some, None, filter}
 use Rattle.pg_game.specs.declared.player.Player.{Player}
 use Rattle.pg_game.specs.Player.{opponent}
@@ -52,7 +52,7 @@ pub record IsGoodOn (g : Graph) (st : State) (p : Player) (rows : ClaimRows) : T
   pub not_stale : 0 < length (rest_of st rows)
   pub closed : (v w : ℕ) → KeptEdge g p (named (rest_of st rows)) (choice_in rows) v w → In (union (named (rest_of st rows)) (settled st p)) w
 
--- a claim of a set that is the player's whatever else was settled meanwhile (Jurdzinski, Paterson, Zwick 2008, relative to what is settled)
+-- a claim of a set that the player wins, whatever else is settled later (Jurdzinski, Paterson, Zwick 2008, relative to the settled part)
 pub record IsDominion (g : Graph) (st : State) (p : Player) (rows : ClaimRows) : Type 0 where
   pub shape : HasShape g p rows
   pub vertices : Within (named rows) (unsettled g st)

@@ -1,5 +1,5 @@
-//! The board: a game, the journal of what was settled of it, and what is at hand of the journal.
-//! Its type keeps that the journal is lawful, so every board in hand has a lawful one.
+//! The board: a game, the journal of its settled vertices, and tables of the journal's state.
+//! The invariant of its type is that the journal is lawful, so every board has a lawful one.
 
 ghost use Rattle.std.specs.Prelude.{◌≡◌, ◌≤◌, ℕ, [], length, IfOk, IfErr, OnErr, IsTrue, IsSome, IfSome, ◌↔◌, vec_capacity};
 ghost use Rattle.pg_game.specs.declared.player.Player.{Player};
@@ -25,7 +25,7 @@ use pg_text::Solution;
 use std::alloc::Global;
 use std::marker::Model;
 
-/// A game, and the journal of what was settled of it. Nobody's claim is believed.
+/// A game, and the journal of its settled vertices. The board checks every claim.
 #[derive(Drop)]
 pub struct Board<'g> {
     game: &'g Game,
@@ -46,7 +46,7 @@ impl<'g> Model for Board<'g> {
 }
 
 impl<'g> Board<'g> {
-    /// A board on which nothing is settled.
+    /// A board on which nothing is settled. The only error is `Memory`.
     pub fn open(alloc: Global, game: &'g Game) -> Result<Board<'g>, Memory>
         ensures graph { IfOk result (λ b. b.graph ≡ game.now) }
         ensures journal { IfOk result (λ b. b.journal ≡ []) }
@@ -61,7 +61,7 @@ impl<'g> Board<'g> {
         })
     }
 
-    /// What is unsettled, the number of entries and the number settled. Looks at no edge.
+    /// The unsettled part, the number of entries and the number settled. Looks at no edge. The only error is `Memory`.
     pub fn copy(&self, alloc: Global) -> Result<Copied<'g>, Memory>
         ensures graph { IfOk result (λ c. c.inside.graph ≡ self.now.graph) }
         ensures mask { IfOk result (λ c. (v : ℕ) → members c.inside.mask v ≡ unsettled self.now.graph (state_of self.now.journal) v) }
@@ -80,9 +80,9 @@ impl<'g> Board<'g> {
         })
     }
 
-    /// Checks the claim on the present state. Accepted, the journal gains one entry: the claim's rest, and
-    /// then all that it attracts for the claim's player from the unsettled part.
-    /// Refused for the first reason that applies, in the order of `Refusal`, or with `Memory`; then nothing has changed.
+    /// Checks the claim on the present state. If it is good, the journal gains one entry: the claim's rest, and then all that
+    /// it attracts for the claim's player from the unsettled part (Zielonka 1998). Else the error is the first reason that
+    /// applies, in the order of `Refusal`, or `Memory`. After an error nothing has changed.
     pub fn post(&mut self, alloc: Global, worker: u32, claim: &Claim) -> Result<Posted, Refusal>
         ensures lawful { IsLawful self.new.graph self.new.journal }
         ensures game { self.new.graph ≡ self.old.graph }
@@ -99,8 +99,8 @@ impl<'g> Board<'g> {
         self.settle_sound(alloc, worker, claim)
     }
 
-    /// As `post`, for a claim that was checked, on whatever game: it is refused where it does not agree with the board's.
-    /// Makes no search for closed walks, and takes time in the claim's rows and edges and in those of what it settles.
+    /// The same as `post` for a checked claim, of whatever game. The error is `Foreign` if it does not agree with the board's
+    /// game. Makes no search for closed walks: its time is linear in the rows and edges of the claim and of what it settles.
     pub fn settle(
         &mut self,
         alloc: Global,
@@ -127,7 +127,7 @@ impl<'g> Board<'g> {
         self.settle_sound(alloc, worker, checked.claim())
     }
 
-    /// As `post`, for a claim that is known to be sound.
+    /// The same as `post` for a claim that is known to be sound.
     fn settle_sound(&mut self, alloc: Global, worker: u32, claim: &Claim) -> Result<Posted, Refusal>
         requires { IsSound self.old.graph claim.now.player claim.now.rows }
         ensures game { self.new.graph ≡ self.old.graph }
@@ -156,7 +156,7 @@ impl<'g> Board<'g> {
     }
 
     /// Settles the rest and what it attracts, in one entry. The rows have capacity for every vertex, so all memory is
-    /// there before anything is settled.
+    /// allocated before the board changes.
     fn enter(
         &mut self,
         worker: u32,
@@ -165,7 +165,7 @@ impl<'g> Board<'g> {
     ) -> Result<Posted, Memory>
         requires good { IsGoodOn self.old.graph (state_of self.old.journal) player rows.items }
         requires unsettled { rest_of (state_of self.old.journal) rows.items ≡ rows.items }
-        requires room { length self.old.graph ≤ vec_capacity rows }
+        requires spare { length self.old.graph ≤ vec_capacity rows }
         ensures game { self.new.graph ≡ self.old.graph }
         ensures added { IfOk result (Adds self.old self.new worker (record { player = player; rows = rows.items })) }
         ensures unchanged { OnErr result (self.new ≡ self.old) }
@@ -194,7 +194,7 @@ impl<'g> Board<'g> {
         })
     }
 
-    /// The game. Its contract has the invariant of the type.
+    /// The game. The contract of this call states the invariant of the type.
     pub fn game(&self) -> &'g Game
         ensures graph { result.now ≡ self.now.graph }
         ensures game { IsGame self.now.graph }
@@ -209,7 +209,7 @@ impl<'g> Board<'g> {
         self.game
     }
 
-    /// The player for whom the vertex is settled; none where it is unsettled or no vertex.
+    /// The player for whom the vertex is settled; none if it is unsettled or no vertex.
     pub fn winner(&self, v: u32) -> Option<Player>
         ensures { result ≡ winner_in (state_of self.now.journal v) }
     {
@@ -217,7 +217,7 @@ impl<'g> Board<'g> {
         Some(winner)
     }
 
-    /// The choice with which the vertex was settled; none where there is none.
+    /// The choice with which the vertex was settled; none if it has none.
     pub fn choice(&self, v: u32) -> Option<u32>
         ensures { result ≡ choices (state_of self.now.journal) v }
     {
@@ -225,14 +225,14 @@ impl<'g> Board<'g> {
         choice
     }
 
-    /// How many vertices are settled.
+    /// The number of settled vertices.
     pub fn settled(&self) -> u64
         ensures { result ≡ number_settled self.now.journal }
     {
         u64::from(self.number)
     }
 
-    /// How many vertices the entries of one worker settled.
+    /// The number of vertices that the entries of one worker settled.
     pub fn settled_by(&self, worker: u32) -> u64
         ensures { result ≡ settled_by self.now.journal worker }
     {
@@ -261,8 +261,8 @@ impl<'g> Board<'g> {
         self.number == self.game.len()
     }
 
-    /// Winners and choices of all vertices, exactly where the board is full; there are choices exactly where the
-    /// winner owns the vertex.
+    /// Winners and choices of all vertices, exactly where the board is full. A vertex has a choice exactly where its winner
+    /// owns it. The only error is `Memory`.
     pub fn solution(&self, alloc: Global) -> Result<Option<Solution>, Memory>
         ensures full { IfOk result (λ found. IsSome found ↔ IsFull self.now.graph (state_of self.now.journal)) }
         ensures solution { IfOk result (λ found. IfSome found (λ s. IsExactSolution self.now.graph s.rows)) }
@@ -277,7 +277,7 @@ impl<'g> Board<'g> {
         }))
     }
 
-    /// The journal, for itself.
+    /// The journal; the board is given up.
     pub fn into_entries(self) -> Vec<Entry>
         ensures { result.items ≡ self.entry.journal }
     {

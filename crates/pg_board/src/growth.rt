@@ -1,5 +1,5 @@
-//! Attraction in place (Zielonka 1998): a vertex is settled as soon as it is attracted, and each vertex of the opponent
-//! watches its first unsettled successor. Watches only move on, over the whole life of a board.
+//! Attraction in place (Zielonka 1998): an attracted vertex is settled at once, and each vertex of the opponent watches
+//! its first unsettled successor. Watches only move forward, as long as the board exists.
 
 ghost use Rattle.std.specs.Prelude.{◌≡◌, ℕ, ◌<◌, ◌^◌, length, slice_index, true, false, vec_capacity, map, nat_eq};
 ghost use Rattle.std.specs.List.{IsDistinct};
@@ -34,7 +34,7 @@ fn first_unsettled(successors: &[u32], unsettled: &Mask, at: u32) -> u32
 }
 
 impl Regions {
-    /// Moves the vertex's watch on. Whether it has an unsettled successor.
+    /// Moves the vertex's watch forward. Returns whether it has an unsettled successor.
     fn moves_watch(&mut self, game: &Game, v: u32) -> bool
         requires regions { AreRegions game.now self.old }
         requires vertex { v < length game.now }
@@ -50,8 +50,8 @@ impl Regions {
         (at as usize) < successors.len()
     }
 
-    /// Settles all that the rows' vertices attract from the unsettled part, with rows that lead to earlier ones. A board
-    /// that is full has no such part, and nothing is looked for.
+    /// Settles all that the rows' vertices attract from the unsettled part, with rows that lead to earlier ones. A full
+    /// board has no such part, and no search.
     pub fn attract(
         &mut self,
         game: &Game,
@@ -69,14 +69,14 @@ impl Regions {
         if is_full {
             return;
         }
-        // There is capacity for all rows, so nothing is refused.
+        // There is capacity for all rows, so no memory is refused.
         match attract_from(self, game, player, rows, 0) {
             Ok(()) => (),
             Err(_) => (),
         }
     }
 
-    /// Settles rows that are written already, and known to be unsettled.
+    /// Settles the vertices of given rows, which are known to be unsettled.
     pub fn settle_all(&mut self, game: &Game, player: Player, rows: &[(u32, Option<u32>)])
         requires regions { AreRegions game.now self.old }
         requires unsettled { Within (named rows.now) (members self.old.unsettled) }
@@ -105,7 +105,7 @@ impl Area for Regions {
 
     ghost free = { λ s. members s.unsettled };
 
-    ghost ready = { λ g s rows room. IsGrowing g s rows room };
+    ghost ready = { λ g s rows spare. IsGrowing g s rows spare };
 
     ghost grown = { λ g p s rows s' rows'. Grows g p s rows s' rows' };
 
@@ -136,9 +136,9 @@ impl Area for Regions {
         Ok(())
     }
 
-    ghost sized = { λ g s rows room a. a.regions.mask_size };
+    ghost sized = { λ g s rows spare a. a.regions.mask_size };
 
-    ghost apart = { λ g s rows room v a. a.apart v };
+    ghost apart = { λ g s rows spare v a. a.apart v };
 
     ghost grown_same = { λ g p s rows. Grows-same g p s s rows refl refl };
 

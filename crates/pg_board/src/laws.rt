@@ -7,7 +7,7 @@ pub fn disjoint()
     ensures { WinnersAreDisjoint }
 {}
 
-/// In whatever order claims are posted that were dominions at some time, the regions are the same.
+/// If claims were dominions at some time, the order of their posts has no effect on the regions.
 pub fn order()
     ensures { OrderHasNoEffect }
 {}

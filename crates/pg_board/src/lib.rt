@@ -1,5 +1,5 @@
-//! The board of one owner: it checks each claim against what is settled, closes both regions under
-//! attraction, and keeps a journal of which every prefix is lawful.
+//! The board: it checks each claim against its state, closes both regions under attraction, and keeps a journal of which
+//! every prefix is lawful. The office: one board under a lock.
 //! Uses pg_finders (copies), pg_dominion (claims, attractors) and pg_game.
 #![tactic(auto)]
 

@@ -7,7 +7,7 @@ ghost use Rattle.pg_dominion.specs.Claim.{named};
 
 use pg_game::Mask;
 
-/// Takes the rows' vertices out of the mask.
+/// Removes the rows' vertices from the mask.
 pub fn remove_named(mask: &mut Mask, rows: &[(u32, Option<u32>)])
     requires { (v : ℕ) → In (named rows.now) v → v < length mask.old }
     ensures length { length mask.new ≡ length mask.old }
@@ -18,7 +18,7 @@ pub fn remove_named(mask: &mut Mask, rows: &[(u32, Option<u32>)])
     }
 }
 
-/// Puts the rows' vertices into the mask.
+/// Adds the rows' vertices to the mask.
 pub fn insert_named(mask: &mut Mask, rows: &[(u32, Option<u32>)])
     requires { (v : ℕ) → In (named rows.now) v → v < length mask.old }
     ensures length { length mask.new ≡ length mask.old }

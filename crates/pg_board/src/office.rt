@@ -1,7 +1,7 @@
-//! One board and the book of its ledger under a lock, and the shares of those who post to it.
+//! One board and the book of its ledger under a lock, and the shares of its users.
 //!
 //! Each share is a part of the ledger, and its amount is the number of vertices that were settled through it. The ledger
-//! keeps that the book is the sum of all amounts. The type under the lock keeps that the book is the number settled. So no
+//! keeps the book equal to the sum of all amounts. The type under the lock keeps the book equal to the number settled. So no
 //! share's amount exceeds the number settled, whatever others have posted.
 ghost use Rattle.std.specs.Prelude.{◌≡◌, ◌+◌, ◌-◌, ◌≤◌, ◌<◌, ℕ, ◌∷◌, [], IfOk, IfSome, OnErr, length, sum, replicate, vec_capacity, vec_len};
 ghost use Rattle.pg_game.specs.Graph.{IsGame};
@@ -48,7 +48,7 @@ impl<L: Ledger> Model for Share<L> {
 }
 
 impl<L: Ledger> Share<L> {
-    /// How many vertices were settled through this share.
+    /// The number of vertices that were settled through this share.
     pub fn amount(&self) -> u64
         ensures { result ≡ self.now }
     {
@@ -57,7 +57,7 @@ impl<L: Ledger> Share<L> {
 }
 
 impl<'g, L: Ledger> LockedBoard<'g, L> {
-    /// The board's own call. What it settles is added to the share.
+    /// The board's own call. The share rises by the number that it settles.
     fn post(
         &mut self,
         alloc: Global,
@@ -79,7 +79,7 @@ impl<'g, L: Ledger> LockedBoard<'g, L> {
         let LockedBoard { board, book } = self;
         let Share { token, amount } = share;
         book.audit(token);
-        // for the proof: what the board keeps before the post
+        // for the proof: the invariant of the board before the post
         let _game = board.game();
         let posted = board.post(alloc, worker, claim)?;
         let more = u64::from(posted.settled);
@@ -90,7 +90,7 @@ impl<'g, L: Ledger> LockedBoard<'g, L> {
         Ok(posted.settled)
     }
 
-    /// As `post`, for a claim that was checked.
+    /// The same as `post` for a checked claim.
     fn settle(
         &mut self,
         alloc: Global,
@@ -112,7 +112,7 @@ impl<'g, L: Ledger> LockedBoard<'g, L> {
         let LockedBoard { board, book } = self;
         let Share { token, amount } = share;
         book.audit(token);
-        // for the proof: what the board keeps before the claim is settled
+        // for the proof: the invariant of the board before the claim is settled
         let _game = board.game();
         let settled = board.settle(alloc, worker, checked)?.settled;
         let added = u64::from(settled);
@@ -131,8 +131,8 @@ pub struct Office<'g, L: Ledger> {
 }
 
 impl<'g, L: Ledger> Office<'g, L> {
-    /// Opens an office on a board with nothing settled, with one share of amount 0 for each of 1 to 64 seats. `Memory` is
-    /// the only error.
+    /// Opens an office on a board with nothing settled, with one share of amount 0 for each of 1 to 64 seats. The only
+    /// error is `Memory`.
     pub fn open(
         alloc: Global,
         blank: Blank,
@@ -150,7 +150,7 @@ impl<'g, L: Ledger> Office<'g, L> {
     }
 
     /// Opens an office on a board, with one share for each of 1 to 65 seats. The first share's amount is the number settled,
-    /// the others are 0. `Memory` is the only error.
+    /// the others are 0. The only error is `Memory`.
     pub fn open_with(
         alloc: Global,
         blank: Blank,
@@ -204,9 +204,9 @@ impl<'g, L: Ledger> Office<'g, L> {
         board
     }
 
-    /// Waits for the lock and posts the claim on the board. Returns how many vertices were settled, and the share's amount
-    /// rises by as many. After an error the share is unchanged. The result is one that `Board::post` returns on some lawful
-    /// board with at least the share's amount settled.
+    /// Waits for the lock and posts the claim on the board. Returns the number of vertices that it settled, and the share's
+    /// amount rises by it. After an error the share is unchanged. The result is one of `Board::post` on some lawful board
+    /// with at least the share's amount settled.
     pub fn post<R: Wait>(
         &self,
         rt: &R,
@@ -223,7 +223,7 @@ impl<'g, L: Ledger> Office<'g, L> {
         self.locked.lock(rt).post(alloc, share, worker, claim)
     }
 
-    /// As `post`, for a claim that was checked before: no closed walk is looked for under the lock.
+    /// The same as `post` for a checked claim: it searches for no closed walk under the lock.
     pub fn settle<R: Wait>(
         &self,
         rt: &R,
@@ -240,8 +240,8 @@ impl<'g, L: Ledger> Office<'g, L> {
         self.locked.lock(rt).settle(alloc, share, worker, checked)
     }
 
-    /// Waits for the lock and copies the unsettled part of the board, which has at least the share's amount settled. `Memory`
-    /// is the only error.
+    /// Waits for the lock and copies the unsettled part of the board, which has at least the share's amount settled. The
+    /// only error is `Memory`.
     pub fn copy<R: Wait>(
         &self,
         rt: &R,
@@ -252,9 +252,9 @@ impl<'g, L: Ledger> Office<'g, L> {
     {
         for _ in rt.forever() {
             let locked = self.locked.lock(rt);
-            // for the proof: what the type of the board keeps
+            // for the proof: the invariant of the board
             let _game = locked.board.game();
-            // a share that is only lent is not compared by the ledger
+            // the ledger does not compare a share that is only lent
             if locked.board.settled() >= share.amount {
                 return locked.board.copy(alloc);
             }

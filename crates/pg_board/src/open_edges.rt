@@ -11,7 +11,7 @@ use crate::named::{insert_named, remove_named};
 use crate::regions::Regions;
 use pg_game::{Game, Player};
 
-/// Where an edge may end: at the vertices of the rest, which are taken out of the mask of what is unsettled, and at those
+/// Where an edge may end: at the vertices of the rest, which are not in the mask of unsettled ones meanwhile, and at those
 /// that are settled for the player.
 #[derive(Clone, Copy)]
 struct Bounds<'a> {
@@ -76,8 +76,8 @@ impl<'a> Bounds<'a> {
 }
 
 impl Regions {
-    /// The first kept edge of a claim's rest that ends neither in it nor at the player's vertices. While it is looked for
-    /// the rest is not in the mask.
+    /// The first kept edge of a claim's rest that ends neither in it nor at the player's vertices. During the search the
+    /// rest is not in the mask.
     pub fn first_open(
         &mut self,
         game: &Game,

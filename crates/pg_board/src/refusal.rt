@@ -3,12 +3,12 @@
 use pg_dominion::ClaimFault;
 use pg_game::Memory;
 
-/// Why a claim is refused, in the order in which the reasons are looked for; `Memory` may come in place of any.
+/// Why a board refuses a claim: the first of these reasons that applies. `Memory` may come in place of any.
 #[derive(Clone, Copy, Debug, Drop, PartialEq, Eq)]
 pub enum Refusal {
-    /// The claim has not its shape, or a bad closed walk inside; never `ClaimFault::Memory`.
+    /// The claim does not have its shape, or has a bad closed walk inside; never `ClaimFault::Memory`.
     Claim(ClaimFault),
-    /// A checked claim does not agree with the board's game: the vertex of its first row that doesn't.
+    /// A checked claim does not agree with the board's game: the vertex of its first row that differs.
     Foreign(u32),
     /// The least vertex of the claim that is settled for the opponent.
     Lost(u32),
@@ -16,7 +16,7 @@ pub enum Refusal {
     Stale,
     /// The first kept edge of the rest, from and to, that ends neither in the rest nor at the player's vertices.
     Open(u32, u32),
-    /// Out of memory.
+    /// Memory was refused.
     Memory,
 }
 

@@ -1,5 +1,5 @@
-//! What a board has at hand beside its journal: of each vertex whose it is and by which choice, and which
-//! vertices are unsettled. Both are changed vertex by vertex, and never made anew.
+//! The tables of a board beside its journal: for each vertex its winner and choice, and which vertices are unsettled.
+//! The board changes both vertex by vertex, and never makes them anew.
 
 ghost use Rattle.std.specs.Prelude.{◌≡◌, ◌<◌, ◌==◌, if◌then◌else◌, ℕ, length, IfOk, slice_set, slice_get, Some, None, false};
 ghost use Rattle.pg_board.specs.State.{settled, is_unsettled};
@@ -14,12 +14,12 @@ use std::alloc::Global;
 pub struct Regions {
     pub table: Vec<VertexState>,
     pub unsettled: Mask,
-    /// Of each vertex how many of its successors are known to be settled, from the first on.
+    /// For each vertex how many of its successors are known to be settled, from the first on.
     pub passed: Vec<u32>,
 }
 
 impl Regions {
-    /// Nothing is settled.
+    /// No vertex is settled.
     pub fn open(alloc: Global, game: &Game) -> Result<Regions, Memory>
         ensures regions { IfOk result (λ r. AreRegions game.now r) }
         ensures nothing { IfOk result (λ r. (v : ℕ) → table_state r.table.items v ≡ None) }
@@ -32,7 +32,7 @@ impl Regions {
         })
     }
 
-    /// Whose the vertex is, and by which choice; none where it is unsettled or no vertex.
+    /// The winner of the vertex, and the choice; none if it is unsettled or no vertex.
     pub fn at(&self, v: u32) -> Option<(Player, Option<u32>)>
         ensures { result ≡ table_state self.now.table.items v }
     {

@@ -1,4 +1,4 @@
-//! A claim against what is settled: whether it is lost, and what of it is unsettled.
+//! A claim against the state of a board: its lost vertices, and its unsettled rows.
 
 ghost use Rattle.std.specs.Prelude.{◌≡◌, ◌≤◌, [], length, MatchOption, map, vec_capacity};
 ghost use Rattle.std.specs.List.Sorted.{IsStrictlyIncreasing};
@@ -35,12 +35,12 @@ impl Regions {
         None
     }
 
-    /// Writes what of the claim is unsettled.
+    /// Writes the unsettled rows of the claim.
     pub fn rest_of(&self, claim: &Claim, rest: &mut Vec<(u32, Option<u32>)>)
         requires none { rest.old.items ≡ [] }
-        requires room { length claim.now.rows ≤ vec_capacity rest.old }
+        requires spare { length claim.now.rows ≤ vec_capacity rest.old }
         ensures rows { rest.new.items ≡ rest_of (table_state self.now.table.items) claim.now.rows }
-        ensures room { vec_capacity rest.new ≡ vec_capacity rest.old }
+        ensures spare { vec_capacity rest.new ≡ vec_capacity rest.old }
     {
         'rows: for row in claim.rows.as_slice() {
             if self.is_unsettled(row.0) {

@@ -1,4 +1,4 @@
-//! What a board has at hand of one vertex: whose it is, and by which choice. That takes 8 bytes, where
+//! What a board stores for one vertex: its winner and choice. This takes 8 bytes, and
 //! `Option<(Player, Option<u32>)>` takes 16: one tag says both whether it is settled and whether there is a choice.
 
 ghost use Rattle.std.specs.Prelude.{◌≡◌, Some};
@@ -7,7 +7,7 @@ ghost use Rattle.pg_board.specs.private.VertexState.{state_in};
 use pg_game::Player;
 use std::mem::size_of;
 
-/// The state of a vertex. The player is before the choice, in one word with the tag; after it he would take a word alone.
+/// The state of a vertex. The player is before the choice, in one word with the tag; after it he would need his own word.
 #[derive(Clone, Copy)]
 pub enum VertexState {
     Unsettled,
@@ -29,7 +29,7 @@ impl VertexState {
         }
     }
 
-    /// Whose the vertex is, and by which choice; none where it is unsettled.
+    /// The winner of the vertex, and the choice; none if it is unsettled.
     pub fn get(self) -> Option<(Player, Option<u32>)>
         ensures { result ≡ state_in self }
     {

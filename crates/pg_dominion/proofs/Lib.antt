@@ -14,4 +14,3 @@ pub mod Ranked
 pub mod Named
 mod Staying
 mod Labelled
-mod Starts

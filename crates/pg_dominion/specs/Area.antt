@@ -1,4 +1,4 @@
--- What a player attracts in place: items are listed one after another, each for a vertex that is no longer free.
+-- What a player attracts in place: a list of items, each for a vertex that is no longer free.
 use Rattle.std.specs.Prelude.{ℕ, ◌≡◌, ◌≢◌, ◌==◌, ◌++◌, false, List}
 use Rattle.std.specs.List.{list_any}
 use Rattle.pg_game.specs.declared.player.Player.{Player}
@@ -9,7 +9,7 @@ use Rattle.pg_game.specs.VertexSet.{VertexSet, In, union}
 abbrev pub listed_by : {A : Type 0} → (A → ℕ) → List A → VertexSet
 listed_by f xs v = list_any (λ x. f x == v) xs
 
--- vertices were taken: more items are listed, and what is free or listed stays the same
+-- the player has taken vertices: there are more items, and the vertices that are free or have an item are the same
 pub record Takes {A : Type 0} (f : A → ℕ) (free : VertexSet) (xs : List A) (free' : VertexSet) (xs' : List A) : Type 0 where
   pub more : List A
   pub list_is : xs' ≡ xs ++ more

@@ -6,7 +6,7 @@ use Rattle.pg_game.specs.VertexSet.{VertexSet, In, union}
 use Rattle.pg_game.specs.Attractor.{Attractor}
 use Rattle.pg_dominion.specs.Claim.{ClaimRows, named}
 
--- the row names a vertex of U that is not in S yet: the player's with a choice in S, or the opponent's whose successors in U are in S
+-- the row has a vertex of U outside S: the player's with a choice in S, or the opponent's with all its successors in U in S
 pub record IsAttractedRow (g : Graph) (p : Player) (U S : VertexSet) (r : ℕ × Option ℕ) : Type 0 where
   pub inside : In U r.0
   pub fresh : S r.0 ≡ false
@@ -17,7 +17,7 @@ pub record IsAttractedRow (g : Graph) (p : Player) (U S : VertexSet) (r : ℕ ×
 abbrev pub AttractInTurn : Graph → Player → VertexSet → VertexSet → ClaimRows → Type 0
 AttractInTurn g p U S rows = (before after : ClaimRows) (r : ℕ × Option ℕ) → rows ≡ before ++ r ∷ after → IsAttractedRow g p U (union S (named before)) r
 
--- the rows are the attractor without the target, each vertex once, in an order in which they attract
+-- the rows are the attractor without the target, each vertex once and after the rows that attract it
 pub record IsAttraction (g : Graph) (p : Player) (U T : VertexSet) (rows : ClaimRows) : Type 0 where
   pub turns : AttractInTurn g p U T rows
   pub exact : (v : ℕ) → In (union T (named rows)) v ↔ Attractor g p U T v

@@ -1,4 +1,4 @@
--- The edges that are kept of a game, as the private code of the checks lays them out, and its searches along them.
+-- The kept edges of a game, in the tables of the checks, and searches along them.
 use Rattle.std.specs.Prelude.{ℕ, ◌≡◌, ◌<◌, List, [], ◌∷◌, length, slice_index, Contains, if◌then◌else◌}
 use Rattle.pg_game.specs.Graph.{priority_of, successors_of}
 use Rattle.pg_game.specs.VertexSet.{In, members}

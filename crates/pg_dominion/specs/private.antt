@@ -5,5 +5,5 @@ pub mod KeptEdges
 pub mod Shape
 pub mod Plan
 pub mod Ranking
-pub mod Searched
+pub mod SearchProgress
 pub mod Staying

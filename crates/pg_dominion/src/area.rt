@@ -1,5 +1,5 @@
-//! Attraction in place (Zielonka 1998): a backward worklist over predecessors. What is taken is listed after what it leads to, and
-//! is free no more.
+//! Attraction in place (Zielonka 1998): a backward worklist over predecessors. A taken vertex is listed after those that it leads
+//! to, and is no longer free.
 
 ghost use Rattle.std.specs.Prelude.{◌<◌, ◌≤◌, ℕ, length, take, OnOk, OnErr, vec_capacity};
 ghost use Rattle.pg_game.specs.Graph.{HasEdge};
@@ -30,22 +30,22 @@ pub trait Area {
     /// The list fits the area, with this capacity.
     ghost ready: { Graph → Self → List Self.Item → ℕ → Type 0 };
 
-    /// What vertices that the player takes leave of an area and its list.
+    /// An area and its list after the player has taken vertices.
     ghost grown: { Graph → Player → Self → List Self.Item → Self → List Self.Item → Type 0 };
 
-    /// When memory may be refused.
+    /// Whether memory may be refused.
     ghost refuses: { Type 0 };
 
-    /// The vertex of what is listed.
+    /// The vertex of an item of the list.
     fn vertex(item: Self::Item) -> u32
         ensures { result ≡ vertex_of item };
 
-    /// Whether the vertex may still be taken.
+    /// Whether the vertex is free.
     fn is_free(&self, v: u32) -> bool
         requires { v < size self.now }
         ensures { result ≡ free self.now v };
 
-    /// Whether a successor of the vertex may still be taken.
+    /// Whether a successor of the vertex is free.
     fn has_way_out(&mut self, game: &Game, list: &Vec<Self::Item>, v: u32) -> bool
         requires ready { ready game.now self.old list.now.items (vec_capacity list.now) }
         requires vertex { v < length game.now }
@@ -83,7 +83,7 @@ pub trait Area {
     ghost grown_then: { (g : Graph) (p : Player) (a b c : Self) (xs ys zs : List Self.Item) → grown g p a xs b ys → grown g p b ys c zs → grown g p a xs c zs };
 }
 
-/// Takes `from` for the player where it is his, or where the opponent has no way out.
+/// Takes `from` for the player if it is his, or if the opponent has no way out.
 fn consider<A: Area>(
     area: &mut A,
     game: &Game,
@@ -116,7 +116,7 @@ fn consider<A: Area>(
     area.take(game, player, from, None, list)
 }
 
-/// Takes what is attracted by `to`, whose predecessors are in the row, at once.
+/// Takes the vertices of the row that `to` attracts at once; the row is the predecessors of `to`.
 fn reach<A: Area>(
     area: &mut A,
     game: &Game,
@@ -142,7 +142,8 @@ fn reach<A: Area>(
     Ok(())
 }
 
-/// Takes all that the player attracts to what is listed, where what is before the place attracts nothing. Else `Memory`.
+/// Takes all that the player attracts to the list (Zielonka 1998). What is before the place has to attract nothing more. The only
+/// error is `Memory`, and only where the area may refuse it.
 pub fn attract_from<A: Area>(
     area: &mut A,
     game: &Game,

@@ -1,7 +1,7 @@
 //! Attractors (Zielonka 1998), by attraction in place in a copy of the subgame.
 //!
-//! At an opponent's vertex a watched place in its row moves on while the successor there is outside or taken; at
-//! the end of the row the vertex is taken. So each touched row is passed once, and nothing is counted.
+//! At an opponent's vertex a watched place in its row moves on while the successor there is outside or taken. At the
+//! end of the row the player takes the vertex. So the search passes each touched row once, and counts nothing.
 
 ghost use Rattle.std.specs.Prelude.{◌≡◌, ℕ, ◌<◌, ◌^◌, length, slice_index, IfOk, false};
 ghost use Rattle.pg_game.specs.VertexSet.{members, union, In, Within};
@@ -14,9 +14,9 @@ use crate::area::{Area, attract_from};
 use pg_game::{Game, Mask, Memory, Player};
 use std::alloc::Global;
 
-/// The vertices that are not taken, and for each vertex how many of its successors are known to be outside or taken.
+/// The free vertices, and for each vertex how many of its successors are known to be outside or taken.
 #[derive(Drop)]
-struct Copied {
+struct FreeVertices {
     free: Mask,
     passed: Vec<u32>,
 }
@@ -38,7 +38,7 @@ fn first_free(successors: &[u32], free: &Mask, at: u32) -> u32
     end
 }
 
-impl Area for Copied {
+impl Area for FreeVertices {
     ghost use Rattle.pg_game.specs.VertexSet.{members};
     ghost use Rattle.pg_dominion.specs.private.Attracting.{IsFree, Extends};
     ghost use Rattle.pg_dominion.specs.private.Extending.{extends_same, extends_then};
@@ -51,7 +51,7 @@ impl Area for Copied {
 
     ghost free = { λ s. members s.free };
 
-    ghost ready = { λ g s rows room. IsFree g s.free s.passed.items rows };
+    ghost ready = { λ g s rows capacity. IsFree g s.free s.passed.items rows };
 
     ghost grown = { λ g p s rows s' rows'. Extends g p (members s.free) rows (members s'.free) rows' };
 
@@ -85,16 +85,16 @@ impl Area for Copied {
         Ok(())
     }
 
-    ghost sized = { λ g s rows room a. a.size };
+    ghost sized = { λ g s rows capacity a. a.size };
 
-    ghost apart = { λ g s rows room v a. a.apart v };
+    ghost apart = { λ g s rows capacity v a. a.apart v };
 
     ghost grown_same = { λ g p s rows. extends_same g p (members s.free) rows };
 
     ghost grown_then = { λ g p a b c xs ys zs. extends_then g p (members a.free) (members b.free) (members c.free) xs ys zs };
 }
 
-/// The vertices inside that are not in the target, and a row for each of the target's.
+/// The vertices inside that are not in the target, and a row for each vertex of the target.
 fn begin(
     alloc: Global,
     inside: &Mask,
@@ -122,7 +122,7 @@ fn begin(
 /// The vertices outside the target that the player attracts to it inside a subgame, each once (Zielonka 1998).
 ///
 /// A row of the player's vertex has a choice, which is in the target or an earlier row. A row of the opponent's vertex
-/// has none, and all its successors inside are in the target or earlier rows. `Memory` is the one refusal.
+/// has none, and all its successors inside are in the target or earlier rows. The only error is `Memory`.
 pub fn attract(
     alloc: Global,
     game: &Game,
@@ -137,7 +137,7 @@ pub fn attract(
     ensures { IfOk result (λ rows. IsAttraction game.now player (members inside.now) (members target.now) rows.items) }
 {
     let (free, mut rows) = begin(alloc, inside, target)?;
-    let mut area = Copied {
+    let mut area = FreeVertices {
         free,
         passed: vec![in alloc; 0u32; game.len() as usize]?,
     };

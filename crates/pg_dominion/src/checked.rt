@@ -7,7 +7,7 @@ ghost use Rattle.pg_dominion.specs.Claim.{IsRightRow, AreRight, IsSound};
 ghost use Rattle.pg_dominion.specs.Checked.{claim_row, claim_rows, claim_of, KeepsOne, AgreesAt, AgreesWithGame, IsForeign, AreChecked};
 
 use crate::claim::Claim;
-use pg_game::{Game, Player};
+use pg_game::{ForwardGame, Game, Player};
 use std::alloc::{AllocError, Global};
 use std::marker::Model;
 
@@ -63,7 +63,7 @@ impl<'g> Model for Checked<'g> {
 }
 
 /// A successor of the vertex, by itself.
-fn single<'g>(game: &'g Game, v: u32, w: u32) -> &'g [u32]
+fn single<'g>(game: &'g ForwardGame, v: u32, w: u32) -> &'g [u32]
     requires vertex { v < length game.now }
     requires edge { HasEdge game.now v w }
     ensures { result.now ≡ w ∷ [] }
@@ -79,7 +79,11 @@ fn single<'g>(game: &'g Game, v: u32, w: u32) -> &'g [u32]
 
 impl<'g> CheckedRow<'g> {
     /// The row of a claim that is right in a game, with what the game says of its vertex.
-    pub(crate) fn of(game: &'g Game, player: Player, row: (u32, Option<u32>)) -> CheckedRow<'g>
+    pub(crate) fn of(
+        game: &'g ForwardGame,
+        player: Player,
+        row: (u32, Option<u32>),
+    ) -> CheckedRow<'g>
         requires { IsRightRow game.now player row }
         ensures agrees { AgreesAt game.now player result }
         ensures row { claim_row player result ≡ row }
@@ -119,7 +123,7 @@ impl<'g> CheckedRow<'g> {
 /// What the game says of the rows of a claim that are right in it.
 fn checked_rows<'g>(
     alloc: Global,
-    game: &'g Game,
+    game: &'g ForwardGame,
     claim: &Claim,
 ) -> Result<Vec<CheckedRow<'g>>, AllocError>
     requires { AreRight game.now claim.now.player claim.now.rows }
@@ -138,7 +142,7 @@ impl<'g> Checked<'g> {
     /// A claim that is known to be sound, with what its game says of its vertices.
     pub(crate) fn of(
         alloc: Global,
-        game: &'g Game,
+        game: &'g ForwardGame,
         claim: &'g Claim,
     ) -> Result<Checked<'g>, AllocError>
         requires { IsSound game.now claim.now.player claim.now.rows }

@@ -13,10 +13,10 @@ ghost use Rattle.pg_dominion.specs.KeptEdges.{IsKept, IsWorst};
 ghost use Rattle.pg_dominion.specs.Checked.{claim_of, AgreesWithGame};
 
 use crate::checked::Checked;
-use crate::cycles::first_worst;
+use crate::cycles::least_bad_vertex;
 use crate::kept::Kept;
 use crate::small::{MOST_ROWS, is_shown_small};
-use pg_game::{Game, Mask, Player, Sequence};
+use pg_game::{ForwardGame, Game, Mask, Player, Sequence};
 use std::alloc::{AllocError, Global};
 
 /// Vertices that a player claims to win, rising, with his choice at each that he owns.
@@ -50,7 +50,7 @@ impl From<AllocError> for ClaimFault {
 }
 
 /// Whether the row names a vertex, with a choice that is a successor exactly where the player owns it.
-fn is_right_row(game: &Game, player: Player, row: (u32, Option<u32>)) -> bool
+fn is_right_row(game: &ForwardGame, player: Player, row: (u32, Option<u32>)) -> bool
     ensures right { result ≡ true → IsRightRow game.now player row }
     ensures wrong { result ≡ false → IsRightRow game.now player row → ⊥ }
 {
@@ -67,7 +67,7 @@ fn is_right_row(game: &Game, player: Player, row: (u32, Option<u32>)) -> bool
 
 /// Checks the rows of a claim one after another: all of them or, unless it goes past bad vertices, those before the first that
 /// names one. Whether it checked all. A wrong row is the error, which says its place.
-fn check_rows(game: &Game, claim: &Claim, past_bad: bool) -> Result<bool, ClaimFault>
+fn check_rows(game: &ForwardGame, claim: &Claim, past_bad: bool) -> Result<bool, ClaimFault>
     ensures shape { IfOk result (λ all. all ≡ true → HasShape game.now claim.now.player claim.now.rows) }
     ensures past { IfOk result (λ all. past_bad ≡ true → all ≡ true) }
     ensures none { IfOk result (λ all. all ≡ true → past_bad ≡ false → list_any (λ r. is_bad game.now claim.now.player r.0) claim.now.rows ≡ false) }
@@ -95,7 +95,7 @@ fn check_rows(game: &Game, claim: &Claim, past_bad: bool) -> Result<bool, ClaimF
 }
 
 /// Whether the vertex's priority has the parity of the player's opponent.
-pub fn is_bad(game: &Game, player: Player, v: u32) -> bool
+pub fn is_bad(game: &ForwardGame, player: Player, v: u32) -> bool
     requires { v < length game.now }
     ensures { result ≡ is_bad game.now player v }
 {
@@ -126,7 +126,7 @@ pub fn note_choice(chosen: &mut Mask, choices: &mut Vec<u32>, v: u32, choice: Op
 }
 
 /// The kept edges of a claim, and its bad vertices, laid out while its rows are checked.
-fn kept_of<'g>(alloc: Global, game: &'g Game, claim: &Claim) -> Result<Kept<'g>, ClaimFault>
+fn kept_of<'g>(alloc: Global, game: &'g ForwardGame, claim: &Claim) -> Result<Kept<'g>, ClaimFault>
     ensures shape { IfOk result (λ k. HasShape game.now claim.now.player claim.now.rows) }
     ensures kept { IfOk result (λ k. IsKept k) }
     ensures worst { IfOk result (λ k. (v : ℕ) → IsWorst k v ↔ OnBadWalk game.now claim.now.player (named claim.now.rows) (choice_in claim.now.rows) v) }
@@ -165,7 +165,7 @@ fn kept_of<'g>(alloc: Global, game: &'g Game, claim: &Claim) -> Result<Kept<'g>,
 
 /// Whether a claim is seen to be sound with no table of one place a vertex: it names no bad vertex, or it is small and a
 /// search along its rows finds no bad closed walk. The refusals are those of [`judge_claim`].
-fn is_seen_sound(alloc: Global, game: &Game, claim: &Claim) -> Result<bool, ClaimFault>
+fn is_seen_sound(alloc: Global, game: &ForwardGame, claim: &Claim) -> Result<bool, ClaimFault>
     ensures sound { IfOk result (λ seen. seen ≡ true → IsSound game.now claim.now.player claim.now.rows) }
     ensures fault { IfErr result (λ e. IsClaimFault game.now claim.now.player claim.now.rows e) }
 {
@@ -188,11 +188,12 @@ pub fn judge_claim(alloc: Global, game: &Game, claim: &Claim) -> Result<(), Clai
     ensures sound { OnOk result (IsSound game.now claim.now.player claim.now.rows) }
     ensures fault { IfErr result (λ e. IsClaimFault game.now claim.now.player claim.now.rows e) }
 {
+    let game = game.forward();
     if is_seen_sound(alloc, game, claim)? {
         return Ok(());
     }
     let kept = kept_of(alloc, game, claim)?;
-    match first_worst(alloc, &kept)? {
+    match least_bad_vertex(alloc, &kept)? {
         Some(v) => Err(ClaimFault::Cycle(v)),
         None => Ok(()),
     }
@@ -210,5 +211,5 @@ pub fn check_claim<'g>(
     ensures fault { IfErr result (λ e. IsClaimFault game.now claim.now.player claim.now.rows e) }
 {
     judge_claim(alloc, game, claim)?;
-    Ok(Checked::of(alloc, game, claim)?)
+    Ok(Checked::of(alloc, game.forward(), claim)?)
 }

@@ -3,12 +3,12 @@
 ghost use Rattle.std.specs.Prelude.{◌≡◌, ℕ, ◌<◌, ◌^◌, length, slice_index};
 ghost use Rattle.pg_dominion.specs.KeptEdges.{IsKept, kept_row};
 
-use pg_game::{Game, Mask};
+use pg_game::{ForwardGame, Mask};
 
 /// The edges that are kept of a game: from a vertex with a choice the edge to it, from another vertex
 /// inside all edges, and none from a vertex outside. A vertex is bad where its priority has the wrong parity.
 pub struct Kept<'g> {
-    pub game: &'g Game,
+    pub game: &'g ForwardGame,
     pub inside: Mask,
     pub chosen: Mask,
     pub choices: Vec<u32>,

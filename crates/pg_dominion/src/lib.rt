@@ -1,13 +1,13 @@
 //! Attractors, claims, and the checks of claims and solutions of a parity game.
 //!
-//! `attract` gives the least set; `check_claim` and `check_solution` answer exactly, in near-linear time.
+//! `attract` gives the least set; `check_claim` and `check_solution` are exact.
 #![tactic(auto)]
 
 mod area;
 mod attractor;
 mod checked;
 mod claim;
-mod clustering;
+mod components;
 mod cycles;
 mod depth_first;
 mod kept;
@@ -21,6 +21,6 @@ pub use area::{Area, attract_from};
 pub use attractor::attract;
 pub use checked::{Checked, CheckedRow, KeptSuccessors};
 pub use claim::{Claim, ClaimFault, check_claim, judge_claim};
-pub use cycles::first_worst;
+pub use cycles::least_bad_vertex;
 pub use kept::Kept;
-pub use solution::{SolutionFault, check_solution};
+pub use solution::{SolutionFault, check_solution, judge_solution};

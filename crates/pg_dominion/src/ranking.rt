@@ -2,8 +2,8 @@
 //!
 //! Vertices have places, which they may share, and places have keys. Each such bad vertex has a place whose key is greater than
 //! twice its priority, and its edges go down. Any other edge from a place goes down too, or up over keys of at most twice the
-//! priority of the vertex that it leaves. So a closed walk that such a bad vertex leaves downward, and on which it is the
-//! greatest, could not come back over its place.
+//! priority of its source. If such a bad vertex is the greatest on a closed walk, the walk goes down from it and cannot come
+//! back over its place.
 
 ghost use Rattle.std.specs.Prelude.{◌≡◌, ℕ, ◌<◌, ◌≤◌, ◌^◌, length, slice_index, vec_len, IfOk, true, false};
 ghost use Rattle.pg_dominion.specs.KeptEdges.{IsKept, IsWorst};
@@ -12,8 +12,8 @@ ghost use Rattle.pg_dominion.specs.private.Ranking.{AreEnds, IsJudged, IsRankedR
 use crate::kept::Kept;
 use std::alloc::{AllocError, Global};
 
-/// Places of vertices, a key for each place, and the least bad vertex that they may leave open. A number after the last key
-/// is no place.
+/// Places of vertices, a key for each place, and a limit: the least bad vertex of which they show nothing. A number after the
+/// last key is no place.
 #[derive(Drop)]
 pub struct Ranking {
     pub places: Vec<u32>,
@@ -21,7 +21,7 @@ pub struct Ranking {
     pub limit: u32,
 }
 
-/// The first place after `at` whose key is greater, found by jumps over those known.
+/// The first place after `at` with a greater key, by jumps over the known ends.
 fn end_of(keys: &[u32], ends: &[u32], at: u32) -> u32
     requires short { length keys.now < 2 ^ 31 }
     requires place { at < length keys.now }
@@ -69,7 +69,7 @@ fn is_judged(kept: &Kept, limit: u32, v: u32) -> bool
     v < limit && kept.bad.has(v)
 }
 
-/// Whether a vertex is ranked with its edges.
+/// Whether a vertex and its edges meet the conditions of a ranking.
 fn is_ranked_row(kept: &Kept, ranking: &Ranking, ends: &[u32], v: u32) -> bool
     requires kept { IsKept kept.now }
     requires vertex { v < length kept.now.game.now }

@@ -1,8 +1,8 @@
-//! Closed walks in a small claim, looked for along its rows: nothing is laid out that has one place for each vertex of the
+//! A search for closed walks in a small claim, along its rows: without a table that has one place for each vertex of the
 //! game.
 //!
-//! What is shown is that there is no bad closed walk. Where a walk is found, or many steps were taken, nothing is said, and
-//! the rows are laid out after all.
+//! It can show that there is no bad closed walk. If it finds a walk, or takes many steps, it shows nothing, and the caller lays
+//! out the rows in tables.
 
 ghost use Rattle.std.specs.Prelude.{◌≡◌, ℕ, ◌<◌, ◌++◌, IfOk, List, MatchOption, length, true, false};
 ghost use Rattle.pg_game.specs.Least.{NoneHas};
@@ -13,16 +13,16 @@ ghost use Rattle.pg_dominion.specs.private.Staying.{Stays, AreNamed};
 
 use crate::checked::CheckedRow;
 use crate::claim::{Claim, is_bad};
-use pg_game::Game;
+use pg_game::ForwardGame;
 use std::alloc::{AllocError, Global};
 
-/// How many rows a claim may have to be looked at so.
+/// The greatest number of rows of a small claim.
 pub const MOST_ROWS: usize = 64;
 
-/// How many rows are compared at most.
+/// The greatest number of comparisons of rows.
 const MOST_STEPS: usize = 16_384;
 
-/// The choice in the row that names the vertex; none where no row does.
+/// The choice in the row of the vertex; none without such a row.
 fn choice_at(rows: &[(u32, Option<u32>)], v: u32) -> Option<Option<u32>>
     ensures { MatchOption result (named rows.now v ≡ false) (λ c. (named rows.now v ≡ true) × (choice_in rows.now v ≡ c)) }
 {
@@ -34,9 +34,9 @@ fn choice_at(rows: &[(u32, Option<u32>)], v: u32) -> Option<Option<u32>>
     None
 }
 
-/// Adds to the list what the vertex leads to in the claim, of at most the start's priority. Whether the start is not there.
+/// Adds the vertex's kept successors in the claim of at most the start's priority. Returns whether the start is not among them.
 fn stays(
-    game: &Game,
+    game: &ForwardGame,
     claim: &Claim,
     start: u32,
     v: u32,
@@ -77,9 +77,9 @@ fn stays(
     Ok(true)
 }
 
-/// Whether no closed walk of the claim's kept edges was found on which the vertex is the greatest.
+/// Whether the search showed that the vertex is not the greatest on a closed walk of the claim's kept edges.
 fn never_returns(
-    game: &Game,
+    game: &ForwardGame,
     claim: &Claim,
     start: u32,
     list: &mut Vec<u32>,
@@ -106,8 +106,8 @@ fn never_returns(
     Ok(false)
 }
 
-/// Whether a claim was shown to have no bad closed walk, which takes too long where it is not small.
-pub fn is_shown_small(alloc: Global, game: &Game, claim: &Claim) -> Result<bool, AllocError>
+/// Whether the search showed that a claim has no bad closed walk. It is for small claims, since it compares rows one by one.
+pub fn is_shown_small(alloc: Global, game: &ForwardGame, claim: &Claim) -> Result<bool, AllocError>
     requires { HasShape game.now claim.now.player claim.now.rows }
     ensures { IfOk result (λ shown. shown ≡ true → NoneHas (OnBadWalk game.now claim.now.player (named claim.now.rows) (choice_in claim.now.rows))) }
 {

@@ -12,9 +12,9 @@ ghost use Rattle.pg_dominion.specs.KeptEdges.{IsKept, IsWorst};
 ghost use Rattle.pg_dominion.specs.private.Plan.{own_choice, IsPlanOf, LeavesTo, IsFirstTo};
 
 use crate::claim::{is_bad, note_choice, note_test};
-use crate::cycles::first_worst;
+use crate::cycles::least_bad_vertex;
 use crate::kept::Kept;
-use pg_game::{Game, Mask, Player};
+use pg_game::{ForwardGame, Game, Mask, Player};
 use pg_text::Solution;
 use std::alloc::{AllocError, Global};
 
@@ -55,7 +55,7 @@ fn row_at(solution: &Solution, v: u32) -> (Player, Option<u32>)
 }
 
 /// Whether the vertex's winner owns it and it has no choice.
-fn lacks_choice(game: &Game, solution: &Solution, v: u32) -> bool
+fn lacks_choice(game: &ForwardGame, solution: &Solution, v: u32) -> bool
     requires size { length solution.now.rows ≡ length game.now }
     requires vertex { v < length game.now }
     ensures lacks { result ≡ true → LacksChoice game.now solution.now.rows v }
@@ -66,7 +66,7 @@ fn lacks_choice(game: &Game, solution: &Solution, v: u32) -> bool
 }
 
 /// Whether the vertex's winner owns it and its choice is no successor.
-fn has_bad_choice(game: &Game, solution: &Solution, v: u32) -> bool
+fn has_bad_choice(game: &ForwardGame, solution: &Solution, v: u32) -> bool
     requires size { length solution.now.rows ≡ length game.now }
     requires vertex { v < length game.now }
     ensures bad { result ≡ true → HasBadChoice game.now solution.now.rows v }
@@ -82,7 +82,7 @@ fn has_bad_choice(game: &Game, solution: &Solution, v: u32) -> bool
     }
 }
 
-fn first_without_choice(game: &Game, solution: &Solution) -> Option<u32>
+fn first_without_choice(game: &ForwardGame, solution: &Solution) -> Option<u32>
     requires { length solution.now.rows ≡ length game.now }
     ensures { MatchOption result (NoneHas (LacksChoice game.now solution.now.rows)) (IsLeast (LacksChoice game.now solution.now.rows)) }
 {
@@ -94,7 +94,7 @@ fn first_without_choice(game: &Game, solution: &Solution) -> Option<u32>
     None
 }
 
-fn first_bad_choice(game: &Game, solution: &Solution) -> Option<u32>
+fn first_bad_choice(game: &ForwardGame, solution: &Solution) -> Option<u32>
     requires { length solution.now.rows ≡ length game.now }
     ensures { MatchOption result (NoneHas (HasBadChoice game.now solution.now.rows)) (IsLeast (HasBadChoice game.now solution.now.rows)) }
 {
@@ -107,7 +107,7 @@ fn first_bad_choice(game: &Game, solution: &Solution) -> Option<u32>
 }
 
 /// The choice at a vertex that its winner owns.
-fn own_choice(game: &Game, solution: &Solution, v: u32) -> Option<u32>
+fn own_choice(game: &ForwardGame, solution: &Solution, v: u32) -> Option<u32>
     requires size { length solution.now.rows ≡ length game.now }
     requires vertex { v < length game.now }
     ensures { result ≡ own_choice game.now solution.now.rows v }
@@ -121,7 +121,11 @@ fn own_choice(game: &Game, solution: &Solution, v: u32) -> Option<u32>
 }
 
 /// The kept edges of all winners, where each has his choices.
-fn plan_of<'g>(alloc: Global, game: &'g Game, solution: &Solution) -> Result<Kept<'g>, AllocError>
+fn plan_of<'g>(
+    alloc: Global,
+    game: &'g ForwardGame,
+    solution: &Solution,
+) -> Result<Kept<'g>, AllocError>
     requires size { length solution.now.rows ≡ length game.now }
     requires choices { NoneHas (LacksChoice game.now solution.now.rows) }
     requires right { NoneHas (HasBadChoice game.now solution.now.rows) }
@@ -194,6 +198,19 @@ pub fn check_solution(alloc: Global, game: &Game, solution: &Solution) -> Result
     ensures holds { OnOk result (IsSolution game.now solution.now.rows) }
     ensures fails { IfErr result (λ e. FailsBy game.now solution.now.rows e) }
 {
+    judge_solution(alloc, game.forward(), solution)
+}
+
+/// The same as [`check_solution`], for a game without predecessors.
+pub fn judge_solution(
+    alloc: Global,
+    game: &ForwardGame,
+    solution: &Solution,
+) -> Result<(), SolutionFault>
+    requires { length solution.now.rows ≡ length game.now }
+    ensures holds { OnOk result (IsSolution game.now solution.now.rows) }
+    ensures fails { IfErr result (λ e. FailsBy game.now solution.now.rows e) }
+{
     // for the proof: the graph is a game, so no edge leaves it
     let _n = game.len();
     if let Some(v) = first_without_choice(game, solution) {
@@ -206,7 +223,7 @@ pub fn check_solution(alloc: Global, game: &Game, solution: &Solution) -> Result
     if let Some((v, w)) = first_leaving(&kept, solution) {
         return Err(SolutionFault::Leaves(game.id(v), game.id(w)));
     }
-    if let Some(v) = first_worst(alloc, &kept)? {
+    if let Some(v) = least_bad_vertex(alloc, &kept)? {
         return Err(SolutionFault::Cycle(game.id(v)));
     }
     Ok(())

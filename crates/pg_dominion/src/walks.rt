@@ -1,9 +1,9 @@
-//! Searches for a way back to a vertex below its priority, each of which leaves what it has shown to the next.
+//! Searches for a way back to a vertex below its priority. Each passes what it has shown to the next.
 //!
-//! A search that found none has reached a set, and a closed walk under its priority that meets the set stays in it. So
-//! its vertices get a level and a group: a later search of a lesser priority from outside the group passes over them.
-//! From a place in the queue before the first that was reached twice each edge leads to a later place, so such a vertex
-//! lies on no closed walk, and gets a group of its own: no search from it is needed up to the level.
+//! A search without a way back has reached a set. A closed walk under its priority that meets this set stays in it. So its
+//! vertices get a level and a group: a later search of a lesser priority from outside the group passes over them. From a
+//! place in the queue before the first that was reached twice, each edge leads to a later place. Such a vertex is on no such
+//! closed walk, and gets a group of its own: it needs no search up to the level.
 
 ghost use Rattle.std.specs.Prelude.{◌≡◌, ◌≢◌, ℕ, ◌<◌, ◌≤◌, ◌^◌, ◌⊎◌, length, slice_index, IfOk, Some, None, true, false};
 ghost use Rattle.pg_game.specs.Graph.{priority_of};
@@ -13,14 +13,14 @@ ghost use Rattle.pg_dominion.specs.private.KeptEdges.{Leads, Reaches, AreLabelle
 use crate::kept::Kept;
 use std::alloc::{AllocError, Global};
 
-/// What searches have shown. Whoever lies with a vertex on a closed walk of priorities below its level has its group and
-/// its level. A vertex whose group is its own number and one more lies on no such walk.
+/// What searches have shown. All vertices on a closed walk with a vertex, of priorities below its level, have its group and
+/// its level. If the group is the vertex's own number and one more, there is no such walk.
 pub struct Labels {
     pub levels: Vec<u32>,
     pub groups: Vec<u32>,
 }
 
-/// By hand, so that letting one go is one step in the proofs of callers, and not one for each list.
+/// Written by hand, so that dropping a value is one step in the proofs of callers, and not one for each list.
 impl Drop for Labels {
     fn drop(self) {
         let Labels {
@@ -31,7 +31,7 @@ impl Drop for Labels {
 }
 
 impl Labels {
-    /// Nothing was shown yet.
+    /// No search has shown anything yet.
     pub fn new(alloc: Global, kept: &Kept) -> Result<Labels, AllocError>
         ensures { IfOk result (λ l. AreLabelled kept.now l.levels.items l.groups.items) }
     {
@@ -44,20 +44,20 @@ impl Labels {
 }
 
 /// The tables of one search after another.
-pub struct Search {
-    /// What was reached, from the start on, and where a vertex is in it, if it does.
+pub struct WalkSearch {
+    /// The reached vertices, from the start on, and the place of each vertex there, if it has one.
     pub queue: Vec<u32>,
     pub places: Vec<u32>,
     /// The least place that was reached twice.
     pub least: usize,
-    /// How many edges searches have looked at from what earlier ones had reached.
+    /// The number of edges from vertices of earlier searches that searches have looked at again.
     pub repeats: u64,
 }
 
-/// By hand, so that letting one go is one step in the proofs of callers, and not one for each list.
-impl Drop for Search {
+/// Written by hand, so that dropping a value is one step in the proofs of callers, and not one for each list.
+impl Drop for WalkSearch {
     fn drop(self) {
-        let Search {
+        let WalkSearch {
             queue: _queue,
             places: _places,
             least: _least,
@@ -66,14 +66,14 @@ impl Drop for Search {
     }
 }
 
-impl Search {
-    pub fn new(alloc: Global, kept: &Kept) -> Result<Search, AllocError>
+impl WalkSearch {
+    pub fn new(alloc: Global, kept: &Kept) -> Result<WalkSearch, AllocError>
         ensures { IfOk result (λ s. length s.places.items ≡ length kept.now.game.now) }
     {
-        // The queue has capacity for all vertices, so that it leaves no small blocks, which the allocator would keep, and what
-        // lies below them with them.
+        // The queue has capacity for all vertices, so that it frees no small blocks. The allocator would keep those, and the
+        // memory below them.
         let n = kept.game.len();
-        Ok(Search {
+        Ok(WalkSearch {
             queue: Vec::with_capacity(alloc, n as usize)?,
             places: vec![in alloc; 0u32; n as usize]?,
             least: usize::MAX,
@@ -83,7 +83,7 @@ impl Search {
 }
 
 /// Whether a search of this priority, from this group or from none, passes over a vertex: its own priority is greater, or its level
-/// is, and it has another group. No branch depends on what is read of it, since no processor foretells that.
+/// is, and it has another group. The test has no branch, which a processor could not predict.
 fn passes_over(kept: &Kept, labels: &Labels, top: u32, own: u32, v: u32) -> bool
     requires kept { IsKept kept.now }
     requires labels { AreLabelled kept.now labels.now.levels.items labels.now.groups.items }
@@ -99,7 +99,7 @@ fn passes_over(kept: &Kept, labels: &Labels, top: u32, own: u32, v: u32) -> bool
     is_greater | (is_shown & is_apart)
 }
 
-/// Adds so many edges to the repeats, if an earlier search has reached the vertex from which they lead.
+/// Adds this many edges to the repeats, if an earlier search has reached their source.
 fn count_repeats(labels: &Labels, v: u32, edges: usize, repeats: u64) -> u64
     requires { v < length labels.now.levels.items }
 {
@@ -110,14 +110,14 @@ fn count_repeats(labels: &Labels, v: u32, edges: usize, repeats: u64) -> u64
     }
 }
 
-/// Goes on from a place of the queue with the search for a way back to its first vertex. Whether one was found.
+/// Continues the search for a way back to the queue's first vertex from a place of the queue. Returns whether there is one.
 fn spread(
     kept: &Kept,
     labels: &Labels,
     top: u32,
     own: u32,
     at: usize,
-    search: &mut Search,
+    search: &mut WalkSearch,
 ) -> Result<bool, AllocError>
     requires kept { IsKept kept.now }
     requires labels { AreLabelled kept.now labels.now.levels.items labels.now.groups.items }
@@ -157,14 +157,14 @@ fn spread(
     Ok(false)
 }
 
-/// Searches for a way back to the first vertex of the queue. Whether one was found; none where there are more repeats than at most.
+/// Searches for a way back to the first vertex of the queue. Returns whether there is one; none if there are too many repeats.
 fn finds_back(
     kept: &Kept,
     labels: &Labels,
     top: u32,
     own: u32,
     most: u64,
-    search: &mut Search,
+    search: &mut WalkSearch,
 ) -> Result<Option<bool>, AllocError>
     requires kept { IsKept kept.now }
     requires labels { AreLabelled kept.now labels.now.levels.items labels.now.groups.items }
@@ -193,8 +193,8 @@ fn finds_back(
     Ok(Some(false))
 }
 
-/// Gives what a search has reached the level, and groups: to each before the least place its own, and one to the others.
-fn note(labels: &mut Labels, search: &Search, level: u32, start: u32)
+/// Gives the reached vertices the level, and groups: each before the least place its own, and the others one group.
+fn note(labels: &mut Labels, search: &WalkSearch, level: u32, start: u32)
     requires levels { length labels.old.levels.items ≡ length search.now.places.items }
     requires groups { length labels.old.groups.items ≡ length search.now.places.items }
     requires start { start < length search.now.places.items }
@@ -212,7 +212,7 @@ fn note(labels: &mut Labels, search: &Search, level: u32, start: u32)
     }
 }
 
-/// Whether it was shown that the vertex isn't the greatest on a closed walk through it.
+/// Whether searches have shown that the vertex is not the greatest on a closed walk through it.
 pub fn is_alone(kept: &Kept, labels: &Labels, v: u32) -> bool
     requires labels { AreLabelled kept.now labels.now.levels.items labels.now.groups.items }
     requires vertex { v < length kept.now.game.now }
@@ -223,7 +223,7 @@ pub fn is_alone(kept: &Kept, labels: &Labels, v: u32) -> bool
     labels.levels[v as usize] > kept.game.priority(v) && labels.groups[v as usize] == v + 1
 }
 
-/// The group of a vertex whose level is above the priority, and else 0.
+/// The group of a vertex if its level is above the priority, else 0.
 fn group_above(kept: &Kept, labels: &Labels, v: u32, top: u32) -> u32
     requires labels { AreLabelled kept.now labels.now.levels.items labels.now.groups.items }
     requires vertex { v < length kept.now.game.now }
@@ -237,14 +237,14 @@ fn group_above(kept: &Kept, labels: &Labels, v: u32, top: u32) -> u32
     }
 }
 
-/// Whether a vertex is the greatest on a closed walk through it. None where there are more repeats than at most, which is no bound
-/// where it is the greatest number.
+/// Whether a vertex is the greatest on a closed walk through it. None if there are more than `most` repeats; the greatest number is
+/// no limit.
 pub fn walks_back(
     kept: &Kept,
     start: u32,
     most: u64,
     labels: &mut Labels,
-    search: &mut Search,
+    search: &mut WalkSearch,
 ) -> Result<Option<bool>, AllocError>
     requires kept { IsKept kept.now }
     requires start { start < length kept.now.game.now }

@@ -41,7 +41,7 @@ pub use Rattle.pg_finders.specs.Claims.{AreClaims, own_choices, rows_below}
 pub use Rattle.pg_finders.specs.Finding.{AtMostInside, IsLoop, IsSolitaire, most_choices}
 pub use Rattle.pg_finders.specs.Jobs.{IsOfSmall}
 pub use Rattle.pg_finders.specs.declared.recursion.plan.Plan.{Plan}
-pub use Rattle.pg_finders.specs.declared.recursion.solver.Stop.{Stop}
+pub use Rattle.pg_finders.specs.declared.recursion.solver.Frame.{Frame}
 pub use Rattle.pg_finders.specs.private.Solved.{IsAttracted, IsBegun, IsSolvedInside, IsSolvedTo, Winners, WinsOn, won_inside}
 pub use Rattle.pg_finders.specs.private.loops.Singles.{itself, loops}
 pub use Rattle.pg_finders.specs.private.recursion.Growing.{AttractsNoActive, Before, IsGrown, IsKnown, IsReady, IsTested, active_of, place, won_of}
@@ -54,7 +54,7 @@ pub use Rattle.pg_finders.specs.private.recursion.UnderWay.{AreApart, IsUnderWay
 pub use Rattle.pg_finders.specs.private.recursion.Waiting.{Level, Waits, steps, steps_after}
 pub use Rattle.pg_finders.specs.private.small.Partial.{AreDifferent, AreDifferentRows, Extends, ExtendsChoices, IsPartial, choice_at, no_row, vertex_in}
 pub use Rattle.pg_finders.specs.private.small.Partial.{vertices}
-pub use Rattle.pg_finders.specs.private.small.Searched.{HasNoRoom, NoneAgreesAt, StillAgreesAt}
+pub use Rattle.pg_finders.specs.private.small.SearchSteps.{HasNoCapacity, NoneAgreesAt, StillAgreesAt}
 pub use Rattle.pg_finders.specs.private.small.Small.{LeastSoFar}
 pub use Rattle.pg_finders.specs.private.small.Walked.{IsFrom, IsReached, RowLeadsTo, Under, WalksBack}
 pub use Rattle.pg_finders.specs.private.solitaire.Leading.{Follows, IsQueue}

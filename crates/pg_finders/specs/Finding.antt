@@ -24,7 +24,7 @@ IsSolitaire g U = ((v : ℕ) × In U v) × ((p : Player) × HasOneSuccessor g U 
 abbrev pub IsSmall : Graph → VertexSet → Player → List ℕ → ℕ → ClaimRows → Type 0
 IsSmall g U p seeds bound rows = IsGoodIn g U p rows × (length rows ≤ bound) × ((v : ℕ) × Contains seeds v × In (named rows) v)
 
--- the choices that a search of this depth tries at most, with so many successors at each vertex
+-- the greatest number of choices that a search of this depth tries, with this many successors at each vertex
 abbrev pub most_choices : ℕ → ℕ → ℕ
 most_choices degree zero = 0
 most_choices degree (suc k) = degree * (1 + most_choices degree k)
@@ -32,6 +32,6 @@ most_choices degree (suc k) = degree * (1 + most_choices degree k)
 abbrev pub inner_degree : Graph → VertexSet → ℕ → ℕ
 inner_degree g U v = count_by U (successors_of g v)
 
--- no vertex of the set has more successors in it
+-- no vertex of the set has more than this number of successors in it
 abbrev pub AtMostInside : Graph → VertexSet → ℕ → Type 0
 AtMostInside g U degree = (v : ℕ) → In U v → inner_degree g U v ≤ degree

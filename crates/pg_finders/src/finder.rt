@@ -1,19 +1,19 @@
-//! Jobs for workers, and what looks for dominions.
+//! Jobs for workers, and finders, which search for dominions.
 
 use crate::inside::Copied;
 use pg_dominion::Claim;
 use pg_game::Player;
 use std::alloc::{AllocError, Global};
 
-/// A piece of work for a worker.
+/// A job for a worker.
 #[derive(Clone, Copy, Debug, Drop, PartialEq, Eq)]
 pub enum Job {
     /// The dominions of one vertex, for both players.
     Loops,
-    /// The whole part, where one player has nothing to choose.
+    /// The whole part, if one player has nothing to choose.
     Solitaire,
-    /// A dominion of the player with at most `bound` vertices that holds one of the `count` vertices from `first` on; at
-    /// most `budget` choices are tried.
+    /// A dominion of the player with at most `bound` vertices, one of them among the `count` vertices from `first` on; the
+    /// search tries at most `budget` choices.
     Small {
         player: Player,
         first: u32,
@@ -25,14 +25,14 @@ pub enum Job {
     Recursion,
 }
 
-/// What a finder hands out: claims, and whether it gave up where there might have been another.
+/// The result of a finder: claims, and whether it gave up although there may be another.
 #[derive(Drop)]
 pub struct Found {
     pub claims: Vec<Claim>,
     pub gave_up: bool,
 }
 
-/// Looks for dominions in a copy. Nothing is promised of what it finds.
+/// Searches for dominions in a copy. No contract promises anything of its claims.
 pub trait Finder: Sync {
     /// Claims for a job on a copy. The only error is `Memory`.
     fn find(&self, alloc: Global, copied: &Copied, job: &Job) -> Result<Found, AllocError>;

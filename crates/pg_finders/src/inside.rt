@@ -42,8 +42,8 @@ fn has_successor_in(game: &Game, mask: &Mask, v: u32) -> bool
 }
 
 impl<'g> Inside<'g> {
-    /// The part of the game that the mask has. The refusal hands the mask back, with the least vertex
-    /// that has no successor in it.
+    /// The part of the game in the mask. If the mask is no subgame, the error returns it, with the least vertex of it
+    /// without a successor in it.
     pub fn new(game: &'g Game, mask: Mask) -> Result<Inside<'g>, (Mask, u32)>
         requires { length mask ≡ length game.now }
         ensures part { IfOk result (λ part. (part.graph ≡ game.now) × (part.mask ≡ mask) × IsPart part) }
@@ -57,7 +57,7 @@ impl<'g> Inside<'g> {
         Ok(Inside { game, mask })
     }
 
-    /// The part of the game that the mask has, where that is known to be a subgame. Looks at no edge.
+    /// The part of the game in a mask that is known to be a subgame. Looks at no edge.
     pub fn of_subgame(game: &'g Game, mask: Mask) -> Inside<'g>
         requires size { length mask ≡ length game.now }
         requires subgame { IsSubgame game.now (members mask) }
@@ -67,6 +67,7 @@ impl<'g> Inside<'g> {
         Inside { game, mask }
     }
 
+    /// The game.
     pub fn game(&self) -> &'g Game
         ensures graph { result.now ≡ self.now.graph }
         ensures part { IsPart self.now }
@@ -74,13 +75,14 @@ impl<'g> Inside<'g> {
         self.game
     }
 
+    /// The mask, which is a subgame of the game.
     pub fn mask(&self) -> &Mask
         ensures { result.now ≡ self.now.mask }
     {
         &self.mask
     }
 
-    /// The mask, for itself.
+    /// The mask; the part is given up.
     pub fn into_mask(self) -> Mask
         ensures { result ≡ self.entry.mask }
     {
@@ -88,7 +90,7 @@ impl<'g> Inside<'g> {
     }
 }
 
-/// A copy of what a board leaves unsettled, with how many entries its journal had and how many vertices were settled.
+/// A copy of the unsettled part of a board, with the number of its entries and the number of settled vertices.
 #[derive(Drop)]
 pub struct Copied<'g> {
     pub inside: Inside<'g>,

@@ -1,6 +1,6 @@
 //! Subgames and the finders of dominions in them: single vertices, solitaire subgames, small dominions by a search from
-//! seeds, and Zielonka's recursion (1998), which solves a subgame whole. Each claim that a finder hands out is good in
-//! its subgame.
+//! seeds, and Zielonka's recursion (1998), which solves a whole subgame. Each claim of these finders is good in its
+//! subgame.
 #![tactic(auto)]
 
 mod choice;

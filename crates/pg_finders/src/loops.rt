@@ -1,7 +1,7 @@
 //! Dominions of a single vertex.
 //!
-//! A vertex alone is a player's dominion in a subgame where its priority has his parity and the play can stay there:
-//! by his own loop, or because the opponent has no other way inside. All of them together are one claim.
+//! A vertex alone is a player's dominion in a subgame if its priority has his parity and the play can stay there: by
+//! his own loop, or because the opponent has no other successor inside. All of them together are one claim.
 ghost use Rattle.std.specs.Prelude.{◌≡◌, ℕ, ◌<◌, ◌↔◌, ◌&&◌, length, IfOk, IsTrue, MatchOption, Some};
 ghost use Rattle.pg_game.specs.declared.player.Player.{Player};
 ghost use Rattle.pg_game.specs.declared.player.Player.TheVariants.{Even, Odd};
@@ -36,58 +36,50 @@ fn stays(game: &Game, mask: &Mask, v: u32) -> bool
     true
 }
 
-/// Whether a vertex alone is a dominion, which it can be of the player of its parity only.
-fn is_loop(game: &Game, mask: &Mask, parity: Player, v: u32) -> bool
+/// Whether a vertex alone is the player's dominion.
+fn is_loop(game: &Game, mask: &Mask, player: Player, v: u32) -> bool
     requires size { length mask.now ≡ length game.now }
     requires subgame { IsSubgame game.now (members mask.now) }
     requires vertex { v < length game.now }
-    requires parity { parity ≡ of_parity (priority_of game.now v) }
-    ensures { (p : Player) → loops game.now (members mask.now) p v ≡ (result && same_player parity p) }
+    ensures { result ≡ loops game.now (members mask.now) player v }
 {
-    if !mask.has(v) {
+    if !mask.has(v) || Player::of_parity(game.priority(v)) != player {
         return false;
     }
-    if game.owner(v) == parity {
+    if game.owner(v) == player {
         game.has_edge(v, v)
     } else {
         stays(game, mask, v)
     }
 }
 
-/// The rows of the vertices that are dominions alone, Even's and Odd's, each with itself as the choice where its winner owns it.
+/// The rows of the vertices that are the player's dominions alone, each with itself as the choice where he owns it.
 fn rows_of_loops(
     alloc: Global,
     inside: &Inside,
-) -> Result<(Vec<(u32, Option<u32>)>, Vec<(u32, Option<u32>)>), AllocError>
-    ensures even { IfOk result (λ rows. rows.0.items ≡ rows_below (loops inside.now.graph (members inside.now.mask) Even)
-        (own_choices inside.now.graph Even itself) (length inside.now.graph)) }
-    ensures odd { IfOk result (λ rows. rows.1.items ≡ rows_below (loops inside.now.graph (members inside.now.mask) Odd)
-        (own_choices inside.now.graph Odd itself) (length inside.now.graph)) }
+    player: Player,
+) -> Result<Vec<(u32, Option<u32>)>, AllocError>
+    ensures { IfOk result (λ rows. rows.items ≡ rows_below (loops inside.now.graph (members inside.now.mask) player)
+        (own_choices inside.now.graph player itself) (length inside.now.graph)) }
 {
     let game = inside.game();
     let mask = inside.mask();
-    let mut even = Vec::new(alloc);
-    let mut odd = Vec::new(alloc);
+    let mut rows = Vec::new(alloc);
     for v in 0..game.len() {
-        let player = Player::of_parity(game.priority(v));
         if is_loop(game, mask, player, v) {
-            let row = (v, own_choice(game, player, v, v));
-            match player {
-                Player::Even => even.push(row)?,
-                Player::Odd => odd.push(row)?,
-            }
+            rows.push((v, own_choice(game, player, v, v)))?;
         }
     }
-    Ok((even, odd))
+    Ok(rows)
 }
 
-/// The claim of a player's rows of loops; none where there are none.
+/// The claim of a player's rows of loops; none if there are none.
 fn claim_of_loops(inside: &Inside, player: Player, rows: Vec<(u32, Option<u32>)>) -> Option<Claim>
     requires { rows.items ≡ rows_below (loops inside.now.graph (members inside.now.mask) player) (own_choices inside.now.graph player itself)
         (length inside.now.graph) }
     ensures { AreLoopsOf inside.now.graph (members inside.now.mask) player result }
 {
-    // for the proof: what is inside is a subgame
+    // for the proof: the part is a subgame
     let _game = inside.game();
     if rows.is_empty() {
         return None;
@@ -98,8 +90,8 @@ fn claim_of_loops(inside: &Inside, player: Player, rows: Vec<(u32, Option<u32>)>
     })
 }
 
-/// The vertices that are the player's dominions alone, each with itself as the choice where he owns it.
-/// None where there is no such vertex. The only error is `Memory`.
+/// The vertices that alone are the player's dominions, each with itself as the choice if he owns it.
+/// None if there is no such vertex. The only error is `Memory`.
 pub fn find_loop(
     alloc: Global,
     inside: &Inside,
@@ -113,25 +105,6 @@ pub fn find_loop(
         (λ claim. (v : ℕ) → In (named claim.rows) v → owner_of inside.now.graph v ≡ player → choice_in claim.rows v ≡ Some v)) }
     ensures good { IfOk result (λ found. MatchOption found (Unit {0}) (λ claim. IsGoodIn inside.now.graph (members inside.now.mask) player claim.rows)) }
 {
-    let (even, odd) = rows_of_loops(alloc, inside)?;
-    let rows = match player {
-        Player::Even => even,
-        Player::Odd => odd,
-    };
+    let rows = rows_of_loops(alloc, inside, player)?;
     Ok(claim_of_loops(inside, player, rows))
-}
-
-/// The loops of Even and of Odd, found in one pass.
-pub fn find_loops(
-    alloc: Global,
-    inside: &Inside,
-) -> Result<(Option<Claim>, Option<Claim>), AllocError>
-    ensures even { IfOk result (λ found. AreLoopsOf inside.now.graph (members inside.now.mask) Even found.0) }
-    ensures odd { IfOk result (λ found. AreLoopsOf inside.now.graph (members inside.now.mask) Odd found.1) }
-{
-    let (even, odd) = rows_of_loops(alloc, inside)?;
-    Ok((
-        claim_of_loops(inside, Player::Even, even),
-        claim_of_loops(inside, Player::Odd, odd),
-    ))
 }

@@ -1,4 +1,4 @@
-//! Zielonka's recursion (1998): a subgame is solved whole, by two claims, one for each player.
+//! Zielonka's recursion (1998) solves a whole subgame by two claims, one for each player.
 
 ghost use Rattle.std.specs.Prelude.{◌≡◌, length, IfOk};
 ghost use Rattle.pg_game.specs.declared.player.Player.TheVariants.{Even, Odd};
@@ -9,12 +9,12 @@ ghost use Rattle.pg_finders.specs.Claims.{AreClaims, own_choices, rows_below};
 
 mod begin;
 mod counting;
+mod cursors;
 mod order;
 mod plan;
 mod settled;
 mod solver;
 mod subgame;
-mod watches;
 
 use crate::inside::Inside;
 use crate::recursion::plan::Plan;
@@ -73,7 +73,7 @@ fn solve(alloc: Global, inside: &Inside) -> Result<Solved, Memory>
     })
 }
 
-/// What a plan gives Even of the mask, and what it gives Odd, in lists with capacity for so many rows at first.
+/// The rows of the mask that a plan gives Even, and those that it gives Odd, in lists with these capacities at first.
 fn rows_of(
     alloc: Global,
     game: &Game,

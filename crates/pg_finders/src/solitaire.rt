@@ -1,8 +1,8 @@
 //! Subgames in which one player has a single successor at each of his vertices.
 //!
-//! The other player then plays alone. Where some closed walk is good for him, the vertices that lead to its greatest
-//! vertex over no greater priority are his. Where there is none, all closed walks are good for the player without a
-//! choice, and all vertices are his.
+//! The other player then plays alone (Berwanger and Grädel 2004). If some closed walk is good for him, he wins the
+//! vertices that lead to its greatest vertex over no greater priority. Without such a walk all closed walks are good
+//! for the player without a choice, who wins all vertices.
 ghost use Rattle.std.specs.Prelude.{◌≡◌, ℕ, ◌<◌, ◌↔◌, length, slice_index, IfOk, IfSome, IsNone, IsTrue, MatchOption};
 ghost use Rattle.pg_game.specs.VertexSet.{In, members};
 ghost use Rattle.pg_game.specs.Graph.{owner_of};
@@ -19,11 +19,11 @@ mod leading;
 use crate::choice::own_choice;
 use crate::inside::Inside;
 use crate::solitaire::leading::lead_to;
-use pg_dominion::{Claim, Kept, first_worst};
+use pg_dominion::{Claim, Kept, least_bad_vertex};
 use pg_game::{Game, Mask, Player, Sequence};
 use std::alloc::{AllocError, Global};
 
-/// The single successor of a vertex in the mask. None where there are two, or none.
+/// The single successor of a vertex in the mask. None if there are two, or none.
 fn single_successor(game: &Game, mask: &Mask, v: u32) -> Option<u32>
     requires size { length mask.now ≡ length game.now }
     requires vertex { v < length game.now }
@@ -157,13 +157,13 @@ fn solve(alloc: Global, game: &Game, mask: &Mask, forced: Player) -> Result<Clai
     ensures { IfOk result (λ claim. IsGoodIn game.now (members mask.now) claim.player claim.rows) }
 {
     let kept = Kept {
-        game,
+        game: game.forward(),
         inside: mask.copy(alloc)?,
         chosen: owned_by(alloc, game, mask, forced)?,
         choices: single_successors(alloc, game, mask, forced)?,
         bad: of_parity(alloc, game, mask, forced.other())?,
     };
-    match first_worst(alloc, &kept)? {
+    match least_bad_vertex(alloc, &kept)? {
         None => claim_of(alloc, game, forced, mask, kept.choices.as_slice()),
         Some(goal) => {
             let lead = lead_to(alloc, game, mask, goal)?;
@@ -178,9 +178,9 @@ fn solve(alloc: Global, game: &Game, mask: &Mask, forced: Player) -> Result<Clai
     }
 }
 
-/// A claim of either player that is good in the subgame, where that has a vertex and one player has a single successor
-/// inside at each of his vertices inside; a player without vertices inside has. None elsewhere. It need not name all
-/// vertices inside. The only error is `Memory`.
+/// A claim of either player that is good in the subgame, if that has a vertex and one player has a single successor
+/// inside at each of his vertices inside, or has no vertex inside; else none. It need not have all vertices inside. The
+/// only error is `Memory`.
 pub fn find_solitaire(alloc: Global, inside: &Inside) -> Result<Option<Claim>, AllocError>
     ensures none { IfOk result (λ found. MatchOption found (IsSolitaire inside.now.graph (members inside.now.mask) → ⊥)
         (λ claim. IsSolitaire inside.now.graph (members inside.now.mask))) }

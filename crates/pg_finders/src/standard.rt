@@ -1,4 +1,4 @@
-//! The product's own finder: for each kind of job the finder of that name.
+//! The standard finder: for each kind of job the search of that name.
 ghost use Rattle.std.specs.Prelude.{◌≡◌, ℕ, ◌<◌, ◌++◌, min, false, true, length, slice_index, IfOk};
 ghost use Rattle.std.specs.Option.{option_to_list};
 ghost use Rattle.pg_game.specs.VertexSet.{members};
@@ -7,7 +7,7 @@ ghost use Rattle.pg_finders.specs.Jobs.{seeds_of, with_rows};
 
 use crate::finder::{Finder, Found, Job};
 use crate::inside::{Copied, Inside};
-use crate::loops::find_loops;
+use crate::loops::find_loop;
 use crate::recursion::zielonka;
 use crate::small::{Small, find_small};
 use crate::solitaire::find_solitaire;
@@ -15,15 +15,15 @@ use pg_dominion::Claim;
 use pg_game::Player;
 use std::alloc::{AllocError, Global};
 
-/// Looks by the finders of this crate. It is safe for any job on any copy.
+/// Searches by the finders of this crate. It is safe for any job on any copy.
 ///
-/// For `Loops` and `Recursion` it gives Even's claim and then Odd's, where there is one; for `Solitaire` and `Small`
-/// the one claim or none. In a `Small` job it leaves out seeds that aren't vertices of the copy's game, finds nothing
+/// For `Loops` and `Recursion` it returns Even's claim and then Odd's, each if there is one; for `Solitaire` and `Small`
+/// the one claim or none. In a `Small` job it leaves out seeds that are no vertices of the copy's game, finds nothing
 /// for bound 0 and takes a bound above 8 as 8.
 #[derive(Clone, Copy, Debug, Drop)]
 pub struct Standard;
 
-/// The claims that are there, in order, and nothing given up.
+/// The claims, in order, without giving up.
 fn all_of(alloc: Global, first: Option<Claim>, second: Option<Claim>) -> Result<Found, AllocError>
     ensures claims { IfOk result (λ found. found.claims.items ≡ option_to_list first ++ option_to_list second) }
     ensures gave_up { IfOk result (λ found. found.gave_up ≡ false) }
@@ -41,7 +41,7 @@ fn all_of(alloc: Global, first: Option<Claim>, second: Option<Claim>) -> Result<
     })
 }
 
-/// The claim, where it has rows.
+/// The claim, if it has rows.
 fn if_some(claim: Claim) -> Option<Claim>
     ensures { result ≡ with_rows claim }
 {
@@ -106,7 +106,8 @@ impl Finder for Standard {
         let inside = &copied.inside;
         match *job {
             Job::Loops => {
-                let (even, odd) = find_loops(alloc, inside)?;
+                let even = find_loop(alloc, inside, Player::Even)?;
+                let odd = find_loop(alloc, inside, Player::Odd)?;
                 all_of(alloc, even, odd)
             }
             Job::Solitaire => all_of(alloc, find_solitaire(alloc, inside)?, None),

@@ -37,7 +37,7 @@ pub use Rattle.pg_game.specs.declared.game.GameFault.{GameFault}
 pub use Rattle.pg_game.specs.declared.game.Spec.{Spec}
 pub use Rattle.pg_game.specs.declared.player.Player.{Player}
 pub use Rattle.pg_game.specs.declared.player.Player.TheVariants.{Even, Odd}
-pub use Rattle.pg_game.specs.private.Gathered.{AreSums, HasRoom, IsFilled, banded, is_in, once_in, partly, sources_below}
+pub use Rattle.pg_game.specs.private.Gathered.{AreSums, HasCapacity, IsFilled, banded, is_in, once_in, partly, sources_below}
 pub use Rattle.pg_game.specs.private.Identifiers.{ArePlaces, first_outside, ids_of, owners_of, priorities_of, rows_fault, successor_lists}
 pub use Rattle.pg_game.specs.private.Lines.{AreLines, ArePaired}
 pub use Rattle.pg_game.specs.private.Placed.{AreAllPlaces, AreNamed, AreNamedFrom, ArePlacedSpecs, IsPlacedSpec}

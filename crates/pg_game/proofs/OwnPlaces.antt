@@ -2,7 +2,7 @@
 use Rattle.pg_game.proofs.Common.{◌≡◌, ℕ, ◌<◌, List, length, get_or, sym, ◌∙◌, ap, arith, ext_get_or}
 use Rattle.std.specs.List.{range_with_len}
 use Rattle.std.proofs.lemmas.List.FromFn.{length-range_with_len, get_or-range_with_len}
-use Rattle.pg_game.specs.private.Names.{AreOwnPlaces}
+use Rattle.pg_game.specs.private.IdentifierList.{AreOwnPlaces}
 
 own_place : (n v : ℕ) → v < n → get_or (range_with_len 0 n) v 0 ≡ v
 own_place n v l = let e = get_or-range_with_len 0 n v 0 l in omega (arith, e)

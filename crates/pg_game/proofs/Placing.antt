@@ -10,7 +10,7 @@ use Rattle.pg_game.proofs.Naming.{all_places}
 use Rattle.pg_game.proofs.Taken as taken
 
 module _ {ids ps : List ℕ} {os : List Player} {rows : List (List ℕ)} (a : AreParts ids ps os rows) {ss : List Spec} (is : specs_from ids ps os rows ≡ ss)
-    {names : List ℕ} (moved : IsPermutation (ids_of ss) names) where
+    {identifiers : List ℕ} (moved : IsPermutation (ids_of ss) identifiers) where
   n : length ss ≡ length rows
   n = taken.length_is a is ∙ sym a.successors
 
@@ -18,33 +18,33 @@ module _ {ids ps : List ℕ} {os : List Player} {rows : List (List ℕ)} (a : Ar
   row_of v d l = ap (λ (s : Spec). s.successors) (taken.spec_is a is v d l)
 
   -- the first row with an identifier that has no place names the first successor that is not specified
-  pub unknown_at : (v i : ℕ) → v < length rows → first_outside names (row_at rows v) ≡ Some i →
-      ((u : ℕ) → u < v → first_outside names (row_at rows u) ≡ None) → first_unknown ss ss ≡ Some (get_or ids v 0, i)
+  pub unknown_at : (v i : ℕ) → v < length rows → first_outside identifiers (row_at rows v) ≡ Some i →
+      ((u : ℕ) → u < v → first_outside identifiers (row_at rows u) ≡ None) → first_unknown ss ss ≡ Some (get_or ids v 0, i)
   unknown_at v i l e before =
       let m : v < length ss = omega (arith, l, n) in
       let s = taken.spec_in a v in
       unknown_before ss v (omega (arith, m)) (λ u d k.
       let o : u < length ss = omega (arith, k, m) in
-      ap (λ (xs : List ℕ). first_unspecified ss xs) (row_of u d o) ∙ (sym (outside_is ss names (row_at rows u) moved) ∙ before u k))
-      ∙ unknown_here ss v s m (sym (taken.spec_is a is v s m)) i (sym (outside_is ss names (row_at rows v) moved) ∙ e)
+      ap (λ (xs : List ℕ). first_unspecified ss xs) (row_of u d o) ∙ (sym (outside_is ss identifiers (row_at rows u) moved) ∙ before u k))
+      ∙ unknown_here ss v s m (sym (taken.spec_is a is v s m)) i (sym (outside_is ss identifiers (row_at rows v) moved) ∙ e)
 
   -- where each identifier has a place, each successor is specified
-  pub all_known : (new : List (List ℕ)) → ((v : ℕ) → v < length rows → AreNamed names (row_at rows v) (row_at new v)) → first_unknown ss ss ≡ None
+  pub all_known : (new : List (List ℕ)) → ((v : ℕ) → v < length rows → AreNamed identifiers (row_at rows v) (row_at new v)) → first_unknown ss ss ≡ None
   all_known new each = none_unknown ss ss (λ s (v, l, e) i m.
       let row : s.successors ≡ row_at rows v = sym (ap (λ (t : Spec). t.successors) e) ∙ row_of v s l in
       let k = subst (λ (xs : List ℕ). Contains xs i) row m in
       let p = (each v (omega (arith, l, n))).each k.0 k.1 in
       let at = p.1 ∙ (get_or_default (row_at rows v) k.0 0 i k.1 ∙ k.2) in
       let w = get_or (row_at new v) k.0 0 in
-      let in_names : Contains names i = (w, p.0, get_or_default names w i 0 p.0 ∙ at) in
-      to_specified ss i (Contains-permutation names (ids_of ss) i (IsPermutation-sym (ids_of ss) names moved) in_names))
+      let in_names : Contains identifiers i = (w, p.0, get_or_default identifiers w i 0 p.0 ∙ at) in
+      to_specified ss i (Contains-permutation identifiers (ids_of ss) i (IsPermutation-sym (ids_of ss) identifiers moved) in_names))
 
   pub parts_placed : (new : List (List ℕ)) → length new ≡ length rows → AreParts ids ps os new
   parts_placed new e = record { priorities = a.priorities; owners = a.owners; successors = e ∙ a.successors }
 
   pub placed_specs : (new risen : List (List ℕ)) → length risen ≡ length rows →
-      ((v : ℕ) → v < length rows → AreNamed names (row_at rows v) (row_at new v)) → ((v : ℕ) → v < length rows → IsStrictlyIncreasing (row_at risen v)) →
-      ((v w : ℕ) → v < length rows → Contains (row_at new v) w ↔ Contains (row_at risen v) w) → ArePlacedSpecs names ss (specs_from ids ps os risen)
+      ((v : ℕ) → v < length rows → AreNamed identifiers (row_at rows v) (row_at new v)) → ((v : ℕ) → v < length rows → IsStrictlyIncreasing (row_at risen v)) →
+      ((v w : ℕ) → v < length rows → Contains (row_at new v) w ↔ Contains (row_at risen v) w) → ArePlacedSpecs identifiers ss (specs_from ids ps os risen)
   placed_specs new risen size each up same =
       let b : AreParts ids ps os risen = parts_placed risen size in
       record {

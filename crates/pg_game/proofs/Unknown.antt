@@ -17,11 +17,11 @@ from_specified specs i t = Contains-from_any (λ x y. eqb-true x y) i (ids_of sp
 pub to_specified : (specs : List Spec) (i : ℕ) → Contains (ids_of specs) i → IsSpecified specs i ≡ true
 to_specified specs i m = sym (specified_is specs i) ∙ list_any-from_Contains nat_eq_equiv i (ids_of specs) m
 
-pub outside_is : (specs : List Spec) (names xs : List ℕ) → IsPermutation (ids_of specs) names → first_outside names xs ≡ first_unspecified specs xs
-outside_is specs names [] moved = refl
-outside_is specs names (x ∷ xs) moved =
-    let e : list_any (nat_eq x) names ≡ IsSpecified specs x = sym (list_any-IsPermutation (nat_eq x) (ids_of specs) names moved) ∙ specified_is specs x in
-    rw (e, outside_is specs names xs moved) refl
+pub outside_is : (specs : List Spec) (identifiers xs : List ℕ) → IsPermutation (ids_of specs) identifiers → first_outside identifiers xs ≡ first_unspecified specs xs
+outside_is specs identifiers [] moved = refl
+outside_is specs identifiers (x ∷ xs) moved =
+    let e : list_any (nat_eq x) identifiers ≡ IsSpecified specs x = sym (list_any-IsPermutation (nat_eq x) (ids_of specs) identifiers moved) ∙ specified_is specs x in
+    rw (e, outside_is specs identifiers xs moved) refl
 
 module _ (specs : List Spec) (k : ℕ) (s : Spec) (l : k < length specs) (is : s ≡ get_or specs k s) where
   next : drop k specs ≡ s ∷ drop (k + 1) specs

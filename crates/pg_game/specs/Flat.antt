@@ -1,4 +1,4 @@
--- Specifications in lists of their parts, and those that are a game as they are.
+-- Specifications in lists of their parts, and those that are a game unchanged.
 use Rattle.std.specs.Prelude.{ℕ, List, map}
 use Rattle.pg_game.specs.declared.player.Player.{Player}
 use Rattle.pg_game.specs.declared.game.Spec.{Spec}

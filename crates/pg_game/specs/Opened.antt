@@ -1,4 +1,4 @@
--- Specifications, and the successors of one more that is not whole yet.
+-- Specifications, and the successors of one more that is not complete yet.
 use Rattle.std.specs.Prelude.{ℕ, List, take, drop}
 use Rattle.pg_game.specs.declared.player.Player.{Player}
 use Rattle.pg_game.specs.declared.game.Spec.{Spec}

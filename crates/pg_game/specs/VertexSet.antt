@@ -18,11 +18,11 @@ no_vertices v = false
 abbrev pub union : VertexSet → VertexSet → VertexSet
 union X Y v = X v || Y v
 
--- the set that a mask has: the places of its true entries
+-- the set of a mask: the places of its true entries
 abbrev pub members : List Bool → VertexSet
 members mask v = slice_index_or mask v false
 
--- how many members a mask's set has
+-- the number of members of a mask's set
 abbrev pub how_many : List Bool → ℕ
 how_many mask = count_by (λ b. b) mask
 

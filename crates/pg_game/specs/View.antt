@@ -1,4 +1,4 @@
--- What a game holds, as its vertices.
+-- The parts of a game, as its vertices.
 use Rattle.std.specs.Prelude.{ℕ, List, [], ◌∷◌}
 use Rattle.pg_game.specs.declared.player.Player.{Player}
 use Rattle.pg_game.specs.Graph.{Graph}

@@ -6,7 +6,7 @@ pub mod Gathered
 pub mod Identifiers
 pub mod Rows
 pub mod Described
-pub mod Names
+pub mod IdentifierList
 pub mod Lines
 pub mod Placed
 pub mod Opened

@@ -1,4 +1,4 @@
-//! What can be wrong with specifications, fault by fault.
+//! The faults of specifications.
 
 ghost use Rattle.std.specs.Prelude.{◌≡◌, ◌<◌, ◌≤◌, ◌↔◌, ℕ, length, IfOk, IsTrue, Contains};
 ghost use Rattle.std.specs.List.Sorted.{IsStrictlyIncreasing};
@@ -11,7 +11,7 @@ use crate::sorting::put_rising;
 use std::alloc::Global;
 
 impl Specs {
-    /// The first specification with no successor.
+    /// The first specification without a successor.
     pub(crate) fn first_without(&self) -> Option<u32>
         requires { length self.now ≤ max_vertices }
         ensures { result ≡ first_without self.now }
@@ -24,7 +24,7 @@ impl Specs {
         None
     }
 
-    /// Whether distinct successors, summed over the specifications, are more than the limit. `Memory` is its only error.
+    /// Whether the sum of distinct successors over the specifications is above the limit. The only error is `Memory`.
     pub(crate) fn has_too_many_edges(&self, alloc: Global) -> Result<bool, Memory>
         requires { length self.now ≤ max_vertices }
         ensures { IfOk result (λ many. IsTrue many ↔ (max_edges < edges self.now)) }

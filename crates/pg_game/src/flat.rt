@@ -35,7 +35,7 @@ impl Model for Specs {
 }
 
 impl Specs {
-    /// None, with capacity for `n` of them and `edges` successors in all. `Memory` is its only error.
+    /// No specification, with capacity for `n` of them and `edges` successors in all. The only error is `Memory`.
     pub fn with_capacity(alloc: Global, n: usize, edges: usize) -> Result<Specs, Memory>
         ensures { IfOk result (λ s. s ≡ []) }
     {
@@ -47,7 +47,7 @@ impl Specs {
         })
     }
 
-    /// Those of these parts.
+    /// The specifications with these parts.
     pub(crate) fn of_parts(
         ids: Vec<u32>,
         priorities: Vec<u32>,
@@ -65,7 +65,7 @@ impl Specs {
         }
     }
 
-    /// Those of a list. `Memory` is its only error.
+    /// The specifications of a list. The only error is `Memory`.
     pub(crate) fn of_list(alloc: Global, list: &[Spec]) -> Result<Specs, Memory>
         ensures { IfOk result (λ s. s ≡ list.now) }
     {
@@ -81,7 +81,7 @@ impl Specs {
         Ok(specs)
     }
 
-    /// Adds one at the end. `Memory` is its only error.
+    /// Adds a specification at the end. The only error is `Memory`, and then nothing has changed.
     pub fn push(
         &mut self,
         id: u32,

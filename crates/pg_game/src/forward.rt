@@ -2,20 +2,19 @@
 
 ghost use Rattle.std.specs.Prelude.{◌≡◌, ◌<◌, ◌^◌, ◌↔◌, ℕ, length, slice_index, IsTrue, IfSome, IfNone};
 ghost use Rattle.pg_game.specs.Limits.{IsWithinLimits};
-ghost use Rattle.pg_game.specs.Graph.{IsGame, id_of, priority_of, owner_of, successors_of};
+ghost use Rattle.pg_game.specs.Graph.{IsGame, id_of, priority_of, owner_of, successors_of, HasEdge};
 
 use crate::adjacency::Adjacency;
-use crate::names::Names;
+use crate::identifiers::Identifiers;
 use crate::player::Player;
 use std::marker::Model;
 
-/// A game without its predecessors. Vertices are numbered by rising identifier, and successors are in compressed rows.
-#[derive(Drop)]
+/// A parity game without predecessors: what reading, writing and judging need. `Game::of_forward` adds them.
 pub struct ForwardGame {
-    pub names: Names,
-    pub priorities: Vec<u32>,
-    pub owners: Vec<Player>,
-    pub successors: Adjacency,
+    pub(crate) identifiers: Identifiers,
+    pub(crate) priorities: Vec<u32>,
+    pub(crate) owners: Vec<Player>,
+    pub(crate) successors: Adjacency,
 }
 
 impl Model for ForwardGame {
@@ -26,20 +25,32 @@ impl Model for ForwardGame {
     ghost use Rattle.pg_game.specs.View.{graph_of};
     ghost use Rattle.pg_game.specs.private.Stored.{IsStored};
 
-    ghost view = { λ g. graph_of g.names g.priorities.items g.owners.items g.successors };
+    ghost view = { λ g. graph_of g.identifiers g.priorities.items g.owners.items g.successors };
 
-    ghost invariant = { λ g. IsStored g.names g.priorities.items g.owners.items g.successors };
+    ghost invariant = { λ g. IsStored g.identifiers g.priorities.items g.owners.items g.successors };
+}
+
+/// By hand, so that freeing one is one step in the proofs of callers, and not one for each part of each field.
+impl Drop for ForwardGame {
+    fn drop(self) {
+        let ForwardGame {
+            identifiers: _identifiers,
+            priorities: _priorities,
+            owners: _owners,
+            successors: _successors,
+        } = self;
+    }
 }
 
 impl ForwardGame {
-    /// How many vertices there are.
+    /// How many vertices there are: from 1 to 1,048,576.
     #[inline]
     pub fn len(&self) -> u32
         ensures number { result ≡ length self.now }
         ensures game { IsGame self.now }
         ensures limits { IsWithinLimits self.now }
     {
-        self.names.len()
+        self.identifiers.len()
     }
 
     /// The identifier of a vertex.
@@ -48,7 +59,7 @@ impl ForwardGame {
         requires { v < length self.now }
         ensures { result ≡ id_of self.now v }
     {
-        self.names.id(v)
+        self.identifiers.id(v)
     }
 
     /// The vertex with this identifier, or none.
@@ -57,7 +68,7 @@ impl ForwardGame {
         ensures found { IfSome result (λ v. (v < length self.now) × (id_of self.now v ≡ id)) }
         ensures missing { IfNone result ((v : ℕ) → v < length self.now → id_of self.now v ≡ id → ⊥) }
     {
-        self.names.place_of(id)
+        self.identifiers.place_of(id)
     }
 
     /// The priority of a vertex.
@@ -89,11 +100,24 @@ impl ForwardGame {
         self.successors.row(v)
     }
 
+    /// Whether there is an edge from `v` to `w`.
+    pub fn has_edge(&self, v: u32, w: u32) -> bool
+        requires { v < length self.now }
+        ensures { IsTrue result ↔ HasEdge self.now v w }
+    {
+        for x in self.successors(v) {
+            if *x == w {
+                return true;
+            }
+        }
+        false
+    }
+
     /// Whether both games have the same vertices.
-    pub fn is_same(&self, other: &ForwardGame) -> bool
+    pub(crate) fn is_same(&self, other: &ForwardGame) -> bool
         ensures { IsTrue result ↔ (self.now ≡ other.now) }
     {
-        if !self.names.is_same(&other.names) {
+        if !self.identifiers.is_same(&other.identifiers) {
             return false;
         }
         if self.priorities.as_slice() != other.priorities.as_slice() {

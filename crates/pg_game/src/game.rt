@@ -7,6 +7,7 @@ ghost use Rattle.pg_game.specs.Specification.{AreNumbers, IsGameOf, first_fault,
 ghost use Rattle.pg_game.specs.Limits.{IsWithinLimits};
 ghost use Rattle.pg_game.specs.Graph.{IsGame, id_of, priority_of, owner_of, successors_of, HasEdge};
 
+use crate::Memory;
 use crate::adjacency::Adjacency;
 use crate::flat::Specs;
 use crate::forward::ForwardGame;
@@ -91,7 +92,7 @@ impl Model for Game {
     ghost invariant = { λ g. HasPredecessors g.forward g.predecessors };
 }
 
-/// By hand, so that letting a game go is one step in the proofs of callers, and not one for each part of each field.
+/// By hand, so that freeing a game is one step in the proofs of callers, and not one for each part of each field.
 impl Drop for Game {
     fn drop(self) {
         let Game {
@@ -110,21 +111,26 @@ impl Game {
     {
         let flat = Specs::of_list(alloc, specs.as_slice())?;
         drop(specs);
-        Game::from_rows(alloc, flat)
+        let forward = ForwardGame::from_rows(alloc, flat)?;
+        Ok(Game::of_forward(alloc, forward)?)
     }
 
-    /// The game of these specifications, as `from_specs` makes it. Where their identifiers are 0, 1 and so on and their
-    /// successors rise, their lists are the game's.
-    pub fn from_rows(alloc: Global, specs: Specs) -> Result<Game, GameFault>
-        requires { All AreNumbers specs }
-        ensures game { IfOk result (λ g. IsGame g × IsGameOf specs g × (first_fault specs ≡ None)) }
-        ensures fault { IfErr result (λ e. OrMemory (first_fault specs ≡ Some e) e) }
+    /// The same game with predecessors. `Memory` is its only error.
+    pub fn of_forward(alloc: Global, forward: ForwardGame) -> Result<Game, Memory>
+        ensures { IfOk result (λ g. g ≡ forward) }
     {
-        let forward = specs.into_game(alloc)?;
         Ok(Game {
             predecessors: forward.successors.reversed(alloc)?,
             forward,
         })
+    }
+
+    /// The same game without predecessors.
+    #[inline]
+    pub fn forward(&self) -> &ForwardGame
+        ensures { result.now ≡ self.now }
+    {
+        &self.forward
     }
 
     /// How many vertices there are: from 1 to 1,048,576.
@@ -189,12 +195,7 @@ impl Game {
         requires { v < length self.now }
         ensures { IsTrue result ↔ HasEdge self.now v w }
     {
-        for x in self.successors(v) {
-            if *x == w {
-                return true;
-            }
-        }
-        false
+        self.forward.has_edge(v, w)
     }
 
     /// The predecessors of a vertex: rising, each once.

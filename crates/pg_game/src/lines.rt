@@ -10,7 +10,7 @@ use crate::Memory;
 use crate::flat::Specs;
 use std::alloc::Global;
 
-/// A pair of each identifier and its line, in order. `Memory` is its only error.
+/// A pair of each identifier and its line, in order. The only error is `Memory`.
 fn numbered(alloc: Global, ids: &[u32]) -> Result<Vec<(u32, u32)>, Memory>
     requires { length ids.now < 2 ^ 32 }
     ensures size { IfOk result (λ lines. length lines.items ≡ length ids.now) }
@@ -23,7 +23,7 @@ fn numbered(alloc: Global, ids: &[u32]) -> Result<Vec<(u32, u32)>, Memory>
     Ok(lines)
 }
 
-/// The identifiers of the lines. `Memory` is its only error.
+/// The identifiers of the lines. The only error is `Memory`.
 pub fn identifiers_of(alloc: Global, lines: &[(u32, u32)]) -> Result<Vec<u32>, Memory>
     ensures { IfOk result (λ ids. ids.items ≡ map (λ line. line.0) lines.now) }
 {
@@ -35,7 +35,7 @@ pub fn identifiers_of(alloc: Global, lines: &[(u32, u32)]) -> Result<Vec<u32>, M
 }
 
 impl Specs {
-    /// A pair of each identifier and its line, by rising identifier. `Memory` is its only error.
+    /// A pair of each identifier and its line, by rising identifier. The only error is `Memory`.
     pub(crate) fn lines(&self, alloc: Global) -> Result<Vec<(u32, u32)>, Memory>
         requires { length self.now ≤ max_vertices }
         ensures { IfOk result (λ lines. AreLines (ids_of self.now) lines.items) }
@@ -45,7 +45,7 @@ impl Specs {
         Ok(lines)
     }
 
-    /// The specifications of these lines. `Memory` is its only error.
+    /// The specifications of these lines. The only error is `Memory`.
     pub(crate) fn picked(&self, alloc: Global, lines: &[(u32, u32)]) -> Result<Specs, Memory>
         requires { All (λ line. line.1 < length self.now) lines.now }
         ensures { IfOk result (λ specs. (d : Spec) → specs ≡ map (λ line. slice_index_or self.now line.1 d) lines.now) }

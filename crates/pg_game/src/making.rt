@@ -13,32 +13,35 @@ ghost use Rattle.pg_game.specs.private.Stored.{IsStored};
 use crate::flat::Specs;
 use crate::forward::ForwardGame;
 use crate::game::GameFault;
+use crate::identifiers::{Identifiers, index_set};
 use crate::limits::MAX_VERTICES;
 use crate::lines::identifiers_of;
-use crate::names::{Names, identifiers};
 use crate::sorting::is_rising;
 use std::alloc::Global;
 
-impl Specs {
-    /// The game of these specifications, or the first fault, or `Memory`.
-    pub(crate) fn into_game(self, alloc: Global) -> Result<ForwardGame, GameFault>
-        requires { All AreNumbers self }
-        ensures game { IfOk result (λ g. IsGame g × IsGameOf self g × (first_fault self ≡ None)) }
-        ensures fault { IfErr result (λ e. OrMemory (first_fault self ≡ Some e) e) }
+impl ForwardGame {
+    /// The game of these specifications, whose vertices go by rising identifier. Where the identifiers are 0, 1 and so on and
+    /// successors rise, the lists are the game's. Refused by the first fault, or by `Memory`.
+    pub fn from_rows(alloc: Global, specs: Specs) -> Result<ForwardGame, GameFault>
+        requires { All AreNumbers specs }
+        ensures game { IfOk result (λ g. IsGame g × IsGameOf specs g × (first_fault specs ≡ None)) }
+        ensures fault { IfErr result (λ e. OrMemory (first_fault specs ≡ Some e) e) }
     {
-        if self.ids.is_empty() {
+        if specs.ids.is_empty() {
             return Err(GameFault::NoVertex);
         }
-        if self.ids.len() > MAX_VERTICES {
+        if specs.ids.len() > MAX_VERTICES {
             return Err(GameFault::TooManyVertices);
         }
-        if is_rising(self.ids.as_slice()) {
-            return self.in_order(alloc);
+        if is_rising(specs.ids.as_slice()) {
+            return specs.in_order(alloc);
         }
-        self.sorted(alloc)
+        specs.sorted(alloc)
     }
+}
 
-    /// The same where identifiers rise. Where they are 0, 1 and so on and each row rises, the lists are used unchanged.
+impl Specs {
+    /// The game where identifiers rise. Where they are 0, 1 and so on and each row rises, the lists are used unchanged.
     fn in_order(self, alloc: Global) -> Result<ForwardGame, GameFault>
         requires numbers { All AreNumbers self }
         requires some { 0 < length self }
@@ -47,9 +50,9 @@ impl Specs {
         ensures game { IfOk result (λ g. IsGame g × IsGameOf self g × (first_fault self ≡ None)) }
         ensures fault { IfErr result (λ e. OrMemory (first_fault self ≡ Some e) e) }
     {
-        let names = Names::of_rising(alloc, self.ids.as_slice())?;
-        let placed = self.placed(alloc, &names)?;
-        Ok(placed.named(names))
+        let identifiers = Identifiers::of_rising(alloc, self.ids.as_slice())?;
+        let placed = self.placed(alloc, &identifiers)?;
+        Ok(placed.named(identifiers))
     }
 
     /// The same for any other order of identifiers.
@@ -61,10 +64,10 @@ impl Specs {
         ensures fault { IfErr result (λ e. OrMemory (first_fault self ≡ Some e) e) }
     {
         let lines = self.lines(alloc)?;
-        let names = self.names(alloc, lines.as_slice())?;
-        let placed = self.placed(alloc, &names)?;
+        let identifiers = self.identifiers(alloc, lines.as_slice())?;
+        let placed = self.placed(alloc, &identifiers)?;
         let sorted = placed.picked(alloc, lines.as_slice())?;
-        Ok(sorted.named(names))
+        Ok(sorted.named(identifiers))
     }
 
     /// Whether no identifier is repeated, by the identifiers in order: then these rise. Refused by the first identifier
@@ -79,30 +82,30 @@ impl Specs {
         if is_rising(sorted) {
             return Ok(());
         }
-        identifiers(alloc, self.ids.as_slice())?;
+        index_set(alloc, self.ids.as_slice())?;
         Ok(())
     }
 
     /// The identifiers of the lines. Refused by the first identifier that is earlier in the list, or by `Memory`.
-    fn names(&self, alloc: Global, lines: &[(u32, u32)]) -> Result<Names, GameFault>
+    fn identifiers(&self, alloc: Global, lines: &[(u32, u32)]) -> Result<Identifiers, GameFault>
         requires few { length self.now ≤ max_vertices }
         requires lines { AreLines (ids_of self.now) lines.now }
-        ensures names { IfOk result (λ names. names ≡ map (λ line. line.0) lines.now) }
+        ensures identifiers { IfOk result (λ identifiers. identifiers ≡ map (λ line. line.0) lines.now) }
         ensures rising { OnOk result (IsStrictlyIncreasing (map (λ line. line.0) lines.now)) }
         ensures once { OnOk result (first_repeated [] (ids_of self.now) ≡ None) }
         ensures fault { IfErr result (λ e. OrMemory (twice_of (ids_of self.now) ≡ Some e) e) }
     {
         let ids = identifiers_of(alloc, lines)?;
         self.check_once(alloc, ids.as_slice())?;
-        Names::of_rising(alloc, ids.as_slice())
+        Identifiers::of_rising(alloc, ids.as_slice())
     }
 
-    /// The specifications with the places of their successors among the names, each once, rising. Refused by the first
+    /// The specifications with the places of their successors among the identifiers, each once, rising. Refused by the first
     /// fault of a row, or by `Memory`.
-    fn placed(self, alloc: Global, names: &Names) -> Result<Specs, GameFault>
+    fn placed(self, alloc: Global, identifiers: &Identifiers) -> Result<Specs, GameFault>
         requires few { length self ≤ max_vertices }
-        requires names { IsPermutation (ids_of self) names.now }
-        ensures placed { IfOk result (λ placed. ArePlacedSpecs names.now self placed) }
+        requires identifiers { IsPermutation (ids_of self) identifiers.now }
+        ensures placed { IfOk result (λ placed. ArePlacedSpecs identifiers.now self placed) }
         ensures sound { OnOk result (rows_fault self ≡ None) }
         ensures fault { IfErr result (λ e. OrMemory (rows_fault self ≡ Some e) e) }
     {
@@ -118,17 +121,17 @@ impl Specs {
             owners,
             mut rows,
         } = self;
-        if let Some((v, successor)) = rows.place(names) {
+        if let Some((v, successor)) = rows.place(identifiers) {
             return Err(GameFault::Unknown(ids[v as usize], successor));
         }
         let rows = rows.risen(alloc)?;
         Ok(Specs::of_parts(ids, priorities, owners, rows))
     }
 
-    /// The game whose vertices have these names, and the specifications' successors as vertices.
-    fn named(self, names: Names) -> ForwardGame
-        requires { IsStored names (priorities_of self) (owners_of self) (successor_lists self) }
-        ensures { result ≡ graph_of names (priorities_of self) (owners_of self) (successor_lists self) }
+    /// The game whose vertices have these identifiers, and the specifications' successors as vertices.
+    fn named(self, identifiers: Identifiers) -> ForwardGame
+        requires { IsStored identifiers (priorities_of self) (owners_of self) (successor_lists self) }
+        ensures { result ≡ graph_of identifiers (priorities_of self) (owners_of self) (successor_lists self) }
     {
         let Specs {
             ids: _ids,
@@ -137,7 +140,7 @@ impl Specs {
             rows,
         } = self;
         ForwardGame {
-            names,
+            identifiers,
             priorities,
             owners,
             successors: rows,

@@ -27,7 +27,7 @@ impl Model for Mask {
 }
 
 impl Mask {
-    /// The set of length `n` without members. `Memory` is its only error.
+    /// The set of length `n` without members. The only error is `Memory`.
     pub fn empty(alloc: Global, n: u32) -> Result<Mask, Memory>
         ensures { IfOk result (λ m. m ≡ replicate n false) }
     {
@@ -37,7 +37,7 @@ impl Mask {
         })
     }
 
-    /// The set of all numbers below `n`. `Memory` is its only error.
+    /// The set of all numbers below `n`. The only error is `Memory`.
     pub fn full(alloc: Global, n: u32) -> Result<Mask, Memory>
         ensures { IfOk result (λ m. m ≡ replicate n true) }
     {
@@ -49,7 +49,7 @@ impl Mask {
         Ok(Mask { words, len: n })
     }
 
-    /// The same set anew. `Memory` is its only error.
+    /// A copy of the set. The only error is `Memory`.
     pub fn copy(&self, alloc: Global) -> Result<Mask, Memory>
         ensures { IfOk result (λ m. m ≡ self.now) }
     {
@@ -59,7 +59,7 @@ impl Mask {
         })
     }
 
-    /// The number above all that may be members.
+    /// The length: only numbers below it may be members.
     #[inline]
     pub fn len(&self) -> u32
         ensures { result ≡ length self.now }
@@ -85,7 +85,7 @@ impl Mask {
         self.words[(v / 64) as usize] |= 1u64 << (v % 64);
     }
 
-    /// Takes `v` out.
+    /// Removes `v`.
     #[inline]
     pub fn remove(&mut self, v: u32)
         requires { v < length self.old }
@@ -94,7 +94,7 @@ impl Mask {
         self.words[(v / 64) as usize] &= !(1u64 << (v % 64));
     }
 
-    /// How many members there are.
+    /// The number of members.
     pub fn count(&self) -> u32
         ensures { result ≡ how_many self.now }
     {

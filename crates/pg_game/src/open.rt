@@ -1,5 +1,5 @@
-//! Specifications in the making. The successors of the one that is open follow those of the others, so that each is
-//! written once, and its row begins to count where it is closed.
+//! Specifications, and one that is still open. Its successors follow those of the others, so that each is written once.
+//! They become a row when the specification is closed.
 
 ghost use Rattle.std.specs.Prelude.{◌≡◌, ◌++◌, ◌∷◌, [], IfOk, OnOk, OnErr};
 
@@ -10,7 +10,7 @@ use crate::player::Player;
 use std::alloc::Global;
 use std::marker::Model;
 
-/// Specifications in their order, and successors of one more.
+/// Specifications in their order, and the successors of an open one.
 #[derive(Drop)]
 pub struct OpenSpecs {
     ids: Vec<u32>,
@@ -33,7 +33,7 @@ impl Model for OpenSpecs {
 }
 
 impl OpenSpecs {
-    /// None, and no successor. The only error is `Memory`.
+    /// No specification, and no successor. The only error is `Memory`.
     pub fn new(alloc: Global) -> Result<OpenSpecs, Memory>
         ensures specs { IfOk result (λ s. s.specs ≡ []) }
         ensures successors { IfOk result (λ s. s.successors ≡ []) }
@@ -50,7 +50,7 @@ impl OpenSpecs {
         })
     }
 
-    /// Adds a successor of the one that is open. The only error is `Memory`.
+    /// Adds a successor of the open specification. The only error is `Memory`, and then nothing has changed.
     #[inline]
     pub fn push(&mut self, successor: u32) -> Result<(), Memory>
         ensures specs { self.new.specs ≡ self.old.specs }
@@ -61,7 +61,7 @@ impl OpenSpecs {
         Ok(())
     }
 
-    /// Drops the successors of the one that is open.
+    /// Removes the successors of the open specification.
     #[inline]
     pub fn clear(&mut self)
         ensures specs { self.new.specs ≡ self.old.specs }
@@ -70,7 +70,7 @@ impl OpenSpecs {
         self.targets.truncate(self.closed);
     }
 
-    /// Closes the one that is open, with these parts and its successors. `Memory` is its only error.
+    /// Closes the open specification, with these parts and its successors. The only error is `Memory`, and then nothing has changed.
     #[inline]
     pub fn close(&mut self, id: u32, priority: u32, owner: Player) -> Result<(), Memory>
         ensures specs { OnOk result (self.new.specs ≡ self.old.specs
@@ -91,7 +91,7 @@ impl OpenSpecs {
         Ok(())
     }
 
-    /// The specifications, without successors of one that is open.
+    /// The specifications, without the successors of the open one.
     pub fn finish(self) -> Specs
         ensures { result ≡ self.specs }
     {

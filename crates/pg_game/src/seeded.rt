@@ -1,16 +1,16 @@
-//! A hasher for identifiers that others choose.
+//! A hasher for identifiers from untrusted texts.
 
 use std::hash::{BuildHasher, DefaultHasher, FoldHasher, Hasher};
 
-/// Makes hashers that have read a seed already.
+/// Makes hashers that have read a seed.
 #[derive(Clone, Copy)]
 pub struct Seeded {
     start: FoldHasher,
 }
 
 impl Seeded {
-    /// The seed is a sum of all identifiers, in their order. So nobody can choose identifiers that collide without
-    /// changing which ones do.
+    /// The seed is a hash of all identifiers, in their order. So an identifier that is chosen to collide changes which
+    /// identifiers collide.
     pub fn by(ids: &[u32]) -> Seeded {
         let mut sum = DefaultHasher::new();
         'ids: for id in ids {

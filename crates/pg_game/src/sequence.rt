@@ -1,11 +1,11 @@
-//! Vectors as values of their items.
+//! Vectors that contracts see as lists of items.
 
 ghost use Rattle.std.specs.Prelude.{◌≡◌, ◌++◌, ◌∷◌, [], OnOk, OnErr};
 
 use crate::Memory;
 use std::marker::Model;
 
-/// A vector that contracts see as the list of its items.
+/// A vector. Contracts see it as the list of its items.
 #[derive(Drop)]
 pub struct Sequence<T> {
     items: Vec<T>,
@@ -20,13 +20,14 @@ impl<T> Model for Sequence<T> {
 }
 
 impl<T> Sequence<T> {
+    /// The sequence of these items. Takes no memory.
     pub fn new(items: Vec<T>) -> Sequence<T>
         ensures { result ≡ items.items }
     {
         Sequence { items }
     }
 
-    /// Adds an item at the end. The only error is `Memory`.
+    /// Adds an item at the end. The only error is `Memory`, and then nothing has changed.
     pub fn push(&mut self, item: T) -> Result<(), Memory>
     where
         T: Drop,
@@ -37,12 +38,14 @@ impl<T> Sequence<T> {
         Ok(())
     }
 
+    /// The items, in order.
     pub fn as_slice(&self) -> &[T]
         ensures { result.now ≡ self.now }
     {
         self.items.as_slice()
     }
 
+    /// The vector of the items. Takes no memory.
     pub fn into_vec(self) -> Vec<T>
         ensures { result.items ≡ self }
     {

@@ -30,7 +30,7 @@ fn make_rising(numbers: &mut Vec<u32>)
     numbers.dedup();
 }
 
-/// Puts a number after the list where it is not the last one. `Memory` is its only error.
+/// Adds a number at the end of the list, unless it is the last one already. The only error is `Memory`.
 #[inline]
 fn push_unless_last(numbers: &mut Vec<u32>, number: u32) -> Result<(), Memory>
     ensures { OnOk result ((x : ℕ) → Contains numbers.new.items x ↔ (Contains numbers.old.items x ⊎ (x ≡ number))) }
@@ -41,7 +41,7 @@ fn push_unless_last(numbers: &mut Vec<u32>, number: u32) -> Result<(), Memory>
     Ok(())
 }
 
-/// Leaves in `rising` each number of the row once, rising. `Memory` is its only error.
+/// Leaves in `rising` each number of the row once, rising. The only error is `Memory`.
 pub fn put_rising(row: &[u32], rising: &mut Vec<u32>) -> Result<(), Memory>
     ensures rising { OnOk result (IsStrictlyIncreasing rising.new.items) }
     ensures same { OnOk result ((w : ℕ) → Contains row.now w ↔ Contains rising.new.items w) }

@@ -1,4 +1,4 @@
-//! Games in the making, and games by tables.
+//! Unfinished games, and games by tables.
 
 ghost use Rattle.std.specs.Prelude.{All};
 ghost use Rattle.pg_game.specs.Specification.{AreNumbers};
@@ -18,7 +18,7 @@ pub type Row = (u32, Option<u32>);
 /// The priority, the owner and the successors of a vertex.
 pub type Vertex<'a> = (u32, Player, &'a [u32]);
 
-/// A game in the making, whose identifiers are 0, 1 and so on.
+/// An unfinished game, whose identifiers are 0, 1 and so on.
 #[derive(Drop)]
 pub struct Draft {
     specs: Vec<Spec>,
@@ -79,7 +79,7 @@ pub fn game_of_sets(alloc: Global, rows: &[Plain]) -> Result<Game, GameFault> {
     draft.game(alloc)
 }
 
-/// So many vertices of Even's, of priority 0, each of which is its own and only successor.
+/// This many vertices of Even's, of priority 0, each of which is its own and only successor.
 pub fn own_loops(alloc: Global, n: u32) -> Result<Game, GameFault> {
     let mut draft = Draft::new(alloc);
     for v in 0..n {

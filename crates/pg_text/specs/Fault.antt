@@ -1,4 +1,4 @@
--- Where a text is first at fault.
+-- The first faults of a text, by place.
 use Rattle.std.specs.Prelude.{ℕ, ◌≡◌, ◌<◌, ◌⊎◌, Bool, true, false, nat_le, List, [], ◌∷◌, ◌++◌, length}
 use Rattle.std.specs.List.{AllByRecursion}
 use Rattle.pg_game.specs.Specification.{max_number}
@@ -17,8 +17,8 @@ pub record IsLexicalFault (text : List ℕ) (place : ℕ) : Type 0 where
   pub solid : is_blank byte ≡ false
   pub wrong : (begins_token byte ≡ false) ⊎ ((byte ≡ 34) × AllAre is_no_quote after)
 
--- The text spells tokens. Those before the place begin a text of the grammar, and with the next they don't;
--- or all of them begin one and are none, and the place is the text's length
+-- The text spells tokens. Those before the place begin a text of the grammar, and with the next they do not;
+-- or all of them begin a text and are none, and the place is the text's length
 abbrev pub IsSyntaxFault : (List Token → Type 0) → (List Token → Type 0) → List ℕ → ℕ → Type 0
 IsSyntaxFault BeginsText IsText text place =
     (ts : List Placed) × Spells 0 text ts

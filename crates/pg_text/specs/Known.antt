@@ -1,4 +1,4 @@
--- What is known of a game: winners and choices of some of its vertices, and the texts that say so.
+-- What is known of a game: winners and choices of some of its vertices, and the texts of these.
 use Rattle.std.specs.Prelude.{ℕ, ◌≡◌, ◌<◌, Bool, false, List, length, Option, Some, None, slice_get, slice_index_or}
 use Rattle.std.specs.List.{Contains}
 use Rattle.pg_game.specs.declared.player.Player.{Player}
@@ -35,7 +35,7 @@ known_of rows p v = is_winner p (known_at rows v)
 abbrev pub known_choice : KnownRows → Choices
 known_choice rows v = choice_in_row (known_at rows v)
 
--- the lines name vertices of the game alone, and each once; they say the rows of these, and of no other vertex is there anything
+-- the lines have only vertices of the game, each once; the rows are those of the lines, and nothing for every other vertex
 pub record AreKnownLinesOf (g : Graph) (lines : List WrittenSolutionLine) (rows : KnownRows) : Type 0 where
   pub no_stranger : first_stranger g lines ≡ None
   pub once : first_twice lines ≡ None
@@ -43,7 +43,7 @@ pub record AreKnownLinesOf (g : Graph) (lines : List WrittenSolutionLine) (rows 
   pub said : (v : ℕ) → v < length g → (l : WrittenSolutionLine) → Contains lines l → l.id ≡ id_of g v → slice_get rows v ≡ Some (Some (row_of_line g l))
   pub unsaid : (v : ℕ) → v < length g → has_line lines (id_of g v) ≡ false → slice_get rows v ≡ Some None
 
--- the text is one of what is known
+-- the text says what is known
 pub record IsKnownTextOf (g : Graph) (text : List ℕ) (rows : KnownRows) : Type 0 where
   pub lines : List WrittenSolutionLine
   pub spelled : SpellsSolution text lines

@@ -1,4 +1,4 @@
--- What is written can be read again, and as nothing else; a text has one answer; a solution has no fault.
+-- A written text reads back, and as nothing else; a text has one result; a solution has no fault.
 use Rattle.std.specs.Prelude.{ℕ, ◌≡◌, ◌<◌, ◌⊎◌, List, map}
 use Rattle.std.specs.List.{AllByRecursion}
 use Rattle.pg_game.specs.Graph.{Graph, IsGame}
@@ -26,7 +26,7 @@ use Rattle.pg_text.specs.SolutionLines.{AreLinesOf}
 abbrev pub OneSpelling : Type 0
 OneSpelling = (text : List ℕ) (ts us : List Placed) → Spells 0 text ts → Spells 0 text us → ts ≡ us
 
--- the text spells a game text of these lines, with numbers of whatever size
+-- the text spells a game text of these lines, with numbers of any size
 abbrev pub SpellsLines : List ℕ → List games.WrittenGameLine → Type 0
 SpellsLines text lines = (ts : List Placed) × Spells 0 text ts × IsGameText (tokens_of ts) lines
 
@@ -39,7 +39,7 @@ pub record SpellsOneGame (text : List ℕ) (g : Graph) : Type 0 where
   pub game : IsGameOf (map spec_of lines) g
   pub one_game : (h : Graph) → IsGameOf (map spec_of lines) h → h ≡ g
 
--- the text spells a solution text of these lines, with numbers of whatever size
+-- the text spells a solution text of these lines, with numbers of any size
 abbrev pub SpellsRows : List ℕ → List solutions.WrittenSolutionLine → Type 0
 SpellsRows text lines = (ts : List Placed) × Spells 0 text ts × IsSolutionText (tokens_of ts) lines
 
@@ -59,7 +59,7 @@ abbrev pub WrittenSolutionReads : Type 0
 WrittenSolutionReads =
     (g : Graph) (rows : SolutionRows) → IsGame g → AreSolutionRows g rows → SpellsOneSolution (written_solution g rows) g rows
 
--- within the limits of games the written text is a text of the game, without fault
+-- within the limits of games the written text is one of the game, without fault
 abbrev pub WrittenGameIsText : Type 0
 WrittenGameIsText = (g : Graph) → IsGame g → IsWithinLimits g → IsTextOf (written_game g) g
 
@@ -72,7 +72,7 @@ WrittenSolutionIsText =
 abbrev pub TokensOrLexical : Type 0
 TokensOrLexical = (text : List ℕ) → ((ts : List Placed) × Spells 0 text ts) ⊎ ((at : ℕ) × IsLexicalFault text at)
 
--- a text of a game has no fault; out of memory says nothing of the text
+-- a text of a game has no fault; refused memory says nothing of the text
 abbrev pub TextOrFault : Type 0
 TextOrFault = (text : List ℕ) (g : Graph) (fault : TextFault) → IsTextOf text g → IsFaultOf text fault → fault ≡ Memory
 
@@ -80,7 +80,7 @@ TextOrFault = (text : List ℕ) (g : Graph) (fault : TextFault) → IsTextOf tex
 abbrev pub OneFault : Type 0
 OneFault = (text : List ℕ) (e f : TextFault) → IsFaultOf text e → IsFaultOf text f → (e ≡ Memory) ⊎ ((f ≡ Memory) ⊎ (e ≡ f))
 
--- out of memory is never returned as a fault of the game
+-- refused memory is never a fault of the game
 abbrev pub NoGameWantsMemory : Type 0
 NoGameWantsMemory = (text : List ℕ) → IsFaultOf text (Game GameFault.Memory) → ⊥
 
@@ -96,7 +96,7 @@ OneSolutionFault =
     (g : Graph) (text : List ℕ) (e f : SolutionTextFault) → IsSolutionFaultOf g text e → IsSolutionFaultOf g text f
     → (e ≡ solution.Memory) ⊎ ((f ≡ solution.Memory) ⊎ (e ≡ f))
 
--- nothing is wrong with the winners and choices
+-- the winners and choices have no fault
 pub record HasNoFault (g : Graph) (rows : SolutionRows) : Type 0 where
   pub choices : NoneHas (LacksChoice g rows)
   pub edges : NoneHas (HasBadChoice g rows)

@@ -1,4 +1,4 @@
--- What reading a text answers: the game or the winners and choices that it spells, or its first fault.
+-- The results of reading a text: the game or the winners and choices that it spells, or its first fault.
 use Rattle.std.specs.Prelude.{ℕ, ◌≡◌, ◌<◌, List, map, Some, None}
 use Rattle.std.specs.List.{AllByRecursion}
 use Rattle.pg_game.specs.Graph.{Graph}
@@ -35,7 +35,7 @@ IsSomeGameText ts = (lines : List games.WrittenGameLine) × IsGameText ts lines
 abbrev pub IsTextOf : List ℕ → Graph → Type 0
 IsTextOf text g = (lines : List games.WrittenGameLine) × SpellsGame text lines × IsGameOf (map spec_of lines) g × (first_fault (map spec_of lines) ≡ None)
 
--- the text's first fault; out of memory says nothing of the text
+-- the text's first fault; refused memory says nothing of the text
 abbrev pub IsFaultOf : List ℕ → TextFault → Type 0
 IsFaultOf text (game.Lexical at) = IsLexicalFault text at
 IsFaultOf text (game.Syntax at) = IsSyntaxFault BeginsGameText IsSomeGameText text at
@@ -61,7 +61,7 @@ pub record IsSolutionTextOf (g : Graph) (text : List ℕ) (rows : SolutionRows) 
   pub spelled : SpellsSolution text lines
   pub says : AreLinesOf g lines rows
 
--- the text's first fault for this game; out of memory says nothing of the text
+-- the text's first fault for this game; refused memory says nothing of the text
 abbrev pub IsSolutionFaultOf : Graph → List ℕ → SolutionTextFault → Type 0
 IsSolutionFaultOf g text (solution.Lexical at) = IsLexicalFault text at
 IsSolutionFaultOf g text (solution.Syntax at) = IsSyntaxFault BeginsSolutionText IsSomeSolutionText text at

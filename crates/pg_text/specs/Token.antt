@@ -17,7 +17,7 @@ IsSpelling (Name inner) bytes = AllAre is_no_quote inner × (bytes ≡ 34 ∷ (i
 IsSpelling Comma bytes = bytes ≡ 44 ∷ []
 IsSpelling Semicolon bytes = bytes ≡ 59 ∷ []
 
--- the token does not go on with the bytes that follow it: it is as long as it can be
+-- the token does not continue with the bytes after it: it is as long as it can be
 abbrev pub IsWhole : Token → List ℕ → Type 0
 IsWhole (Number n) rest = EndsRun is_digit rest
 IsWhole (Word letters) rest = EndsRun is_letter rest

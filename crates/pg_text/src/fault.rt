@@ -1,6 +1,6 @@
 //! Why a text was refused. Places count bytes from 0.
 //!
-//! The members are in the order in which faults are looked for: the first that applies is returned, over the whole text.
+//! The members are in order: the first that applies anywhere in the text is the fault.
 ghost use Rattle.std.specs.Prelude.{◌≡◌};
 ghost use Rattle.pg_text.specs.declared.fault.TextFault.TheVariants as game;
 ghost use Rattle.pg_text.specs.declared.fault.SolutionTextFault.TheVariants as solution;
@@ -11,7 +11,7 @@ use pg_game::{GameFault, Memory};
 use std::alloc::AllocFailed;
 use thiserror::Error;
 
-/// Why a text says nothing in a grammar.
+/// Why a text is none of a grammar.
 #[derive(Clone, Copy, Drop)]
 pub enum ParseFault {
     /// The first byte that is no blank and begins no token, or the first quote that is never closed.
@@ -87,7 +87,7 @@ impl From<ParseFault> for TextFault {
     }
 }
 
-/// Why a text is no solution text of a game. Vertices are named by their identifiers.
+/// Why a text is no solution text of a game. Faults have the identifiers of vertices.
 #[derive(Clone, Copy, Debug, Drop, PartialEq, Eq, Error)]
 pub enum SolutionTextFault {
     /// The first byte that is no blank and begins no token, or the first quote that is never closed.
@@ -102,7 +102,7 @@ pub enum SolutionTextFault {
     /// The first winner that is neither 0 nor 1, by its value.
     #[error("byte {0}: winner is not 0 or 1")]
     Winner(u32),
-    /// The first identifier, of a line or a choice, that isn't in the game.
+    /// The first identifier, of a line or a choice, that is not in the game.
     #[error("vertex {0}: not in the game")]
     Stranger(u32),
     /// The first line whose identifier has an earlier line.

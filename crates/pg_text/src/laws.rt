@@ -1,13 +1,12 @@
-//! Laws on texts and solutions alone, each the contract of a function without a body. `crate::proofs::Examples::written_five` and
-//! `crate::proofs::Examples::written_two` are written texts worked out, `crate::proofs::Examples::two_solved` a solution, and
-//! `crate::proofs::Examples::five_fails` winners and choices that are none.
+//! Laws on texts and solutions alone, each the contract of a function with an empty body. Worked examples are
+//! `crate::proofs::Examples::written_five` and `written_two` (written texts), `two_solved` (a solution), and `five_fails` (winners and
+//! choices that are none).
 ghost use Rattle.pg_text.specs.Laws.{OneSpelling, WrittenGameReads, WrittenSolutionReads, WrittenGameIsText, WrittenSolutionIsText, TokensOrLexical};
 ghost use Rattle.pg_text.specs.Laws.{TextOrFault, OneFault, NoGameWantsMemory, SolutionTextOrFault, OneSolutionFault, SolutionHasNoFault};
 
-/// What is written can be read again, and as nothing else: a text spells at most one list of tokens, the written text of a
-/// game spells one game text, whose game is that game and no other, and the same holds of winners and choices. Identifiers
-/// and priorities may be of any size (`crate::proofs::Examples::written_wide`). Where the game is within the limits, its
-/// texts have no fault.
+/// A written text reads back, and as nothing else. A text spells at most one list of tokens. The written text of a game
+/// spells one game text, and this describes that game and no other. The same holds for winners and choices. Identifiers and
+/// priorities may have any size (`crate::proofs::Examples::written_wide`). Within the limits of games, written texts have no fault.
 pub fn written()
     ensures tokens { OneSpelling }
     ensures games { WrittenGameReads }
@@ -16,8 +15,8 @@ pub fn written()
     ensures solution_texts { WrittenSolutionIsText }
 {}
 
-/// A text has one answer: it spells tokens or has a lexical fault; a text of a game has no fault, and another has at most one;
-/// and the same holds of solution texts. Out of memory is no answer, and is never wrapped in `Game`.
+/// A text has one result: it spells tokens or has a lexical fault; a text of a game has no fault, and another has at most one;
+/// and the same holds for solution texts. Refused memory is no result, and is never wrapped in `Game`.
 pub fn one_answer()
     ensures tokens { TokensOrLexical }
     ensures game { TextOrFault }
@@ -27,8 +26,8 @@ pub fn one_answer()
     ensures solution_fault { OneSolutionFault }
 {}
 
-/// A solution has no fault: winners and choices of which a check finds that a choice is missing or is no successor, that an
-/// edge leaves, or that a closed walk is bad, are no solution.
+/// A solution has no fault: winners and choices are no solution if a choice is missing or no successor, if an edge leaves, or
+/// if a closed walk is bad.
 pub fn no_fault()
     ensures { SolutionHasNoFault }
 {}

@@ -57,7 +57,7 @@ fn letter(byte: u8) -> bool
 }
 
 /// The first place from `from` on without a blank.
-#[inline]
+#[inline(always)]
 fn blanks_end(text: &[u8], from: usize) -> usize
     requires { from ≤ length text.now }
     ensures run { (run : List ℕ) × IsRun is_blank text.now from result run }
@@ -191,7 +191,7 @@ fn word_or_name(text: &[u8], from: usize) -> Lexeme
 }
 
 /// The next token of the text, from a place on.
-#[inline]
+#[inline(always)]
 pub fn next_token(text: &[u8], at: usize) -> Lexeme
     requires { at ≤ length text.now }
     ensures token { IsNextLexeme text.now at result }

@@ -1,9 +1,9 @@
-//! The texts of parity games and of their solutions, read and written (the formats of PGSolver's manual, in this project's
-//! profile).
+//! Readers and writers of the texts of parity games and of their solutions (the formats of PGSolver's manual, with this
+//! project's limits).
 //!
-//! A text spells tokens; the tokens are a game text or a solution text; what that says is a game, or winners and choices. The
-//! readers answer these, or the first fault and its place; the writers have one spelling for each value. A text is at most
-//! 268,435,456 bytes long.
+//! A text spells tokens; the tokens are a game text or a solution text; this describes a game, or winners and choices. The
+//! readers return these, or the first fault and its place; the writers have one spelling for each value. A text has at most
+//! 268,435,456 bytes.
 #![tactic(auto)]
 
 mod fault;
@@ -22,6 +22,9 @@ mod writing;
 
 pub use fault::{SolutionTextFault, TextFault};
 pub use line::{choice_before, end_before, number_before};
-pub use reading::{MAX_TEXT, read_game, read_known, read_solution, take_solution};
+pub use reading::{
+    MAX_TEXT, read_forward_game, read_forward_solution, read_game, read_known, read_solution,
+    take_solution,
+};
 pub use solution::{Known, Solution};
-pub use writing::{write_game, write_solution, write_winners};
+pub use writing::{write_forward_game, write_game, write_solution, write_winners};

@@ -9,7 +9,7 @@ use pg_game::Game;
 /// Writes a number whose digits end at a place of the line, with ten bytes at least before it, and returns where they begin.
 #[inline]
 pub fn number_before(line: &mut [u8], end: usize, n: u32) -> usize
-    requires room { 10 ≤ end }
+    requires capacity { 10 ≤ end }
     requires within { end ≤ length line.old }
     ensures written { drop result line.new ≡ numeral n ++ drop end line.old }
     ensures near { end ≤ result + 10 }
@@ -23,7 +23,7 @@ pub fn number_before(line: &mut [u8], end: usize, n: u32) -> usize
 /// Writes a byte before a place of the line, and returns where it is.
 #[inline]
 pub(crate) fn byte_before(line: &mut [u8], end: usize, byte: u8) -> usize
-    requires room { 1 ≤ end }
+    requires capacity { 1 ≤ end }
     requires within { end ≤ length line.old }
     ensures written { drop result line.new ≡ byte ∷ drop end line.old }
     ensures place { result + 1 ≡ end }
@@ -52,7 +52,7 @@ pub fn end_before(line: &mut [u8]) -> usize
 /// least before it. Answers where what is written begins.
 #[inline]
 pub fn choice_before(line: &mut [u8], end: usize, game: &Game, choice: Option<u32>) -> usize
-    requires room { 11 ≤ end }
+    requires capacity { 11 ≤ end }
     requires within { end ≤ length line.old }
     requires choice { IfSome choice (λ w. w < length game.now) }
     ensures written { drop result line.new ≡ written_choice game.now choice ++ drop end line.old }
@@ -73,7 +73,7 @@ pub fn choice_before(line: &mut [u8], end: usize, game: &Game, choice: Option<u3
 /// Writes a number and a space before a place of the line, and returns where they begin.
 #[inline]
 pub(crate) fn field_before(line: &mut [u8], end: usize, n: u32) -> usize
-    requires room { 11 ≤ end }
+    requires capacity { 11 ≤ end }
     requires within { end ≤ length line.old }
     ensures written { drop result line.new ≡ numeral n ++ 32 ∷ drop end line.old }
     ensures near { end ≤ result + 11 }

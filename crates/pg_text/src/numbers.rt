@@ -6,14 +6,13 @@ ghost use Rattle.pg_text.specs.private.FirstFault.{first_at};
 
 use pg_game::Player;
 
-/// The place of the first fault, where one may be known and another may be found.
-#[inline]
-pub fn first_of(known: Option<u32>, found: bool, place: u32) -> Option<u32>
-    ensures { result ≡ first_at known found place }
+/// Notes the place of a fault where one was found, unless an earlier one is known.
+#[inline(always)]
+pub fn note_first(known: &mut Option<u32>, found: bool, place: u32)
+    ensures { known.new ≡ first_at known.old found place }
 {
-    match known {
-        None if found => Some(place),
-        _ => known,
+    if found && known.is_none() {
+        *known = Some(place);
     }
 }
 

@@ -11,7 +11,7 @@ ghost use Rattle.pg_text.specs.private.Parsing.{KeepsReader, ReaderTakes, TakesL
 use crate::fault::ParseFault;
 use crate::grammar::{Grammar, Step};
 use crate::lexer::{Kind, Lexeme, first_invalid, next_token};
-use crate::numbers::first_of;
+use crate::numbers::note_first;
 use pg_game::Memory;
 
 /// A text that is being read, the first number above the limit, and the first player above 1.
@@ -30,12 +30,12 @@ impl<G: Grammar + Drop> Reader<G> {
     {
         let small = value.unwrap_or(0);
         let step = self.grammar.number(small)?;
-        self.large = first_of(self.large, value.is_none(), place);
+        note_first(&mut self.large, value.is_none(), place);
         match step {
             Step::Refused => Ok(false),
             Step::Taken => Ok(true),
             Step::Player => {
-                self.wrong = first_of(self.wrong, 1 < small, place);
+                note_first(&mut self.wrong, 1 < small, place);
                 Ok(true)
             }
         }

@@ -11,7 +11,7 @@ use crate::reader::read_lines;
 use crate::solution::{Known, Solution};
 use crate::solution_grammar::SolutionText;
 use crate::solution_rows::{known_of, rows_of};
-use pg_game::{Game, GameFault};
+use pg_game::{ForwardGame, Game, GameFault};
 use std::alloc::Global;
 
 /// The greatest number of bytes in a text.
@@ -26,8 +26,18 @@ pub fn read_game(alloc: Global, text: &[u8]) -> Result<Game, TextFault>
     ensures game { IfOk result (λ g. IsGame g × IsTextOf text.now g) }
     ensures fault { IfErr result (λ e. IsFaultOf text.now e) }
 {
+    let forward = read_forward_game(alloc, text)?;
+    Ok(Game::of_forward(alloc, forward)?)
+}
+
+/// The same as [`read_game`], without predecessors.
+pub fn read_forward_game(alloc: Global, text: &[u8]) -> Result<ForwardGame, TextFault>
+    requires { length text.now ≤ max_text }
+    ensures game { IfOk result (λ g. IsGame g × IsTextOf text.now g) }
+    ensures fault { IfErr result (λ e. IsFaultOf text.now e) }
+{
     let specs = read_lines(GameText::new(alloc)?, text)?;
-    match Game::from_rows(alloc, specs) {
+    match ForwardGame::from_rows(alloc, specs) {
         Ok(game) => Ok(game),
         Err(GameFault::Memory) => Err(TextFault::Memory),
         Err(fault) => Err(TextFault::Game(fault)),
@@ -45,14 +55,28 @@ pub fn read_solution(alloc: Global, game: &Game, text: &[u8]) -> Result<Solution
     ensures rows { IfOk result (λ s. IsSolutionTextOf game.now text.now s.rows) }
     ensures fault { IfErr result (λ e. IsSolutionFaultOf game.now text.now e) }
 {
+    read_forward_solution(alloc, game.forward(), text)
+}
+
+/// The same as [`read_solution`], for a game without predecessors.
+pub fn read_forward_solution(
+    alloc: Global,
+    game: &ForwardGame,
+    text: &[u8],
+) -> Result<Solution, SolutionTextFault>
+    requires { length text.now ≤ max_text }
+    ensures fit { IfOk result (λ s. AreSolutionRows game.now s.rows) }
+    ensures rows { IfOk result (λ s. IsSolutionTextOf game.now text.now s.rows) }
+    ensures fault { IfErr result (λ e. IsSolutionFaultOf game.now text.now e) }
+{
     let lines = read_lines(SolutionText::new(alloc), text)?;
     rows_of(alloc, game, lines.as_slice())
 }
 
-/// The same as [`read_solution`], of a text that is freed once its lines are read, before the rows are allocated.
+/// The same of a text that is freed once its lines are read, before the rows are allocated.
 pub fn take_solution(
     alloc: Global,
-    game: &Game,
+    game: &ForwardGame,
     text: Vec<u8>,
 ) -> Result<Solution, SolutionTextFault>
     requires { length text.items ≤ max_text }
@@ -77,5 +101,5 @@ pub fn read_known(alloc: Global, game: &Game, text: &[u8]) -> Result<Known, Solu
     ensures fault { IfErr result (λ e. IsKnownFaultOf game.now text.now e) }
 {
     let lines = read_lines(SolutionText::new(alloc), text)?;
-    known_of(alloc, game, lines.as_slice())
+    known_of(alloc, game.forward(), lines.as_slice())
 }

@@ -17,7 +17,7 @@ ghost use Rattle.pg_text.specs.Known.{AreKnownLinesOf};
 use crate::fault::SolutionTextFault;
 use crate::solution::{Known, Solution};
 use crate::solution_grammar::SolutionLine;
-use pg_game::{Game, Mask, Memory, Player, Sequence};
+use pg_game::{ForwardGame, Mask, Memory, Player, Sequence};
 use std::alloc::Global;
 
 /// What the lines read so far say.
@@ -29,7 +29,7 @@ struct Table {
 }
 
 /// The vertex with an identifier of a text.
-fn named(game: &Game, id: u32) -> Result<u32, SolutionTextFault>
+fn named(game: &ForwardGame, id: u32) -> Result<u32, SolutionTextFault>
     ensures { MatchResult result (λ v. IsNamed game.now id v) (λ e. (e ≡ SolutionTextFault.Stranger id) × (is_id game.now id ≡ false)) }
 {
     game.vertex_of(id).ok_or(SolutionTextFault::Stranger(id))
@@ -37,7 +37,7 @@ fn named(game: &Game, id: u32) -> Result<u32, SolutionTextFault>
 
 impl Table {
     /// No line was read.
-    fn new(alloc: Global, game: &Game) -> Result<Table, Memory>
+    fn new(alloc: Global, game: &ForwardGame) -> Result<Table, Memory>
         ensures { IfOk result (λ table. HoldsTable game.now [] table) }
     {
         let n = game.len();
@@ -49,7 +49,7 @@ impl Table {
     }
 
     /// Takes a line, whose identifiers are looked up.
-    fn take(&mut self, game: &Game, line: &SolutionLine) -> Result<(), SolutionTextFault>
+    fn take(&mut self, game: &ForwardGame, line: &SolutionLine) -> Result<(), SolutionTextFault>
         requires rows { length self.old.rows.items ≡ length game.now }
         requires marks { length self.old.said ≡ length game.now }
         ensures { (lines : List WrittenSolutionLine) → HoldsTable game.now lines self.old
@@ -82,7 +82,7 @@ impl Table {
     }
 
     /// The rows, where each vertex has one line.
-    fn finish(self, game: &Game) -> Result<Solution, SolutionTextFault>
+    fn finish(self, game: &ForwardGame) -> Result<Solution, SolutionTextFault>
         requires { length self.said ≡ length game.now }
         ensures { (lines : List WrittenSolutionLine) → HoldsTable game.now lines self
             → MatchResult result (λ s. AreLinesOf game.now lines s.rows) (λ e. IsRowFaultOf game.now lines e) }
@@ -114,7 +114,7 @@ impl Table {
     }
 
     /// What is said of each vertex, where none has two lines.
-    fn known(self, alloc: Global, game: &Game) -> Result<Known, SolutionTextFault>
+    fn known(self, alloc: Global, game: &ForwardGame) -> Result<Known, SolutionTextFault>
         requires rows { length self.rows.items ≡ length game.now }
         requires marks { length self.said ≡ length game.now }
         ensures { (lines : List WrittenSolutionLine) → HoldsTable game.now lines self
@@ -135,7 +135,11 @@ impl Table {
 }
 
 /// The table of these lines.
-fn table_of(alloc: Global, game: &Game, lines: &[SolutionLine]) -> Result<Table, SolutionTextFault>
+fn table_of(
+    alloc: Global,
+    game: &ForwardGame,
+    lines: &[SolutionLine],
+) -> Result<Table, SolutionTextFault>
     ensures { MatchResult result (λ table. HoldsTable game.now (map line_of lines.now) table) (λ e. IsLookUpFaultOf game.now (map line_of lines.now) e) }
 {
     let mut table = Table::new(alloc, game)?;
@@ -148,7 +152,7 @@ fn table_of(alloc: Global, game: &Game, lines: &[SolutionLine]) -> Result<Table,
 /// The rows that these lines say of the game's vertices.
 pub fn rows_of(
     alloc: Global,
-    game: &Game,
+    game: &ForwardGame,
     lines: &[SolutionLine],
 ) -> Result<Solution, SolutionTextFault>
     ensures fit { IfOk result (λ s. AreSolutionRows game.now s.rows) }
@@ -160,7 +164,7 @@ pub fn rows_of(
 /// What these lines say that is known of the game's vertices.
 pub fn known_of(
     alloc: Global,
-    game: &Game,
+    game: &ForwardGame,
     lines: &[SolutionLine],
 ) -> Result<Known, SolutionTextFault>
     ensures size { IfOk result (λ k. length k.rows ≡ length game.now) }

@@ -12,7 +12,7 @@ ghost use Rattle.pg_text.specs.Solution.{AreSolutionRows, SolutionRows};
 use crate::line::{byte_before, choice_before, end_before, field_before, number_before};
 use crate::solution::Solution;
 use itoa::Buffer;
-use pg_game::{Game, Memory, Player};
+use pg_game::{ForwardGame, Game, Memory, Player};
 use std::alloc::Global;
 
 /// The longest line of a solution text: two numbers, a winner, two spaces, a semicolon and a line feed.
@@ -30,7 +30,7 @@ fn put_number(out: &mut Vec<u8>, n: u32) -> Result<(), Memory>
 }
 
 /// A word, a space, the greatest identifier and the end of the line.
-fn put_header(out: &mut Vec<u8>, word: &[u8], game: &Game) -> Result<(), Memory>
+fn put_header(out: &mut Vec<u8>, word: &[u8], game: &ForwardGame) -> Result<(), Memory>
     ensures { OnOk result (out.new.items ≡ out.old.items ++ (word.now ++ (numeral (greatest_id game.now) ++ codes ";\n"))) }
 {
     out.extend_from_slice(word)?;
@@ -62,7 +62,7 @@ pub fn write_solution(alloc: Global, game: &Game, solution: &Solution) -> Result
     ensures short { IfOk result (λ text. length text.items ≤ greatest_solution_text) }
 {
     let mut out = Vec::with_capacity(alloc, solution_capacity(game))?;
-    put_header(&mut out, b"paritysol ", game)?;
+    put_header(&mut out, b"paritysol ", game.forward())?;
     let rows = solution.rows.as_slice();
     'rows: for v in 0..game.len() {
         put_row(&mut out, game, v, rows[v as usize])?;
@@ -77,7 +77,7 @@ pub fn write_winners(alloc: Global, game: &Game, solution: &Solution) -> Result<
     ensures short { IfOk result (λ text. length text.items ≤ greatest_winners_text) }
 {
     let mut out = Vec::with_capacity(alloc, solution_capacity(game))?;
-    put_header(&mut out, b"paritysol ", game)?;
+    put_header(&mut out, b"paritysol ", game.forward())?;
     let rows = solution.rows.as_slice();
     'rows: for v in 0..game.len() {
         put_row(&mut out, game, v, (rows[v as usize].0, None))?;
@@ -86,10 +86,10 @@ pub fn write_winners(alloc: Global, game: &Game, solution: &Solution) -> Result<
 }
 
 /// Writes identifiers of these vertices, separated by commas, before a place of the line.
-fn list_before(line: &mut [u8], end: usize, game: &Game, vertices: &[u32]) -> usize
+fn list_before(line: &mut [u8], end: usize, game: &ForwardGame, vertices: &[u32]) -> usize
     requires some { 0 < length vertices.now }
     requires below { (k : ℕ) → k < length vertices.now → slice_index vertices.now k < length game.now }
-    requires room { 11 * length vertices.now ≤ end }
+    requires capacity { 11 * length vertices.now ≤ end }
     requires within { end ≤ length line.old }
     ensures written { drop result line.new ≡ join_with_byte 44 (map (λ w. numeral (id_of game.now w)) vertices.now) ++ drop end line.old }
     ensures near { end ≤ result + 11 * length vertices.now }
@@ -109,9 +109,9 @@ fn list_before(line: &mut [u8], end: usize, game: &Game, vertices: &[u32]) -> us
 
 /// Writes identifier, priority and owner of a vertex before a place of the line, each with a space after it.
 #[inline]
-fn fields_before(line: &mut [u8], end: usize, game: &Game, v: u32) -> usize
+fn fields_before(line: &mut [u8], end: usize, game: &ForwardGame, v: u32) -> usize
     requires vertex { v < length game.now }
-    requires room { 33 ≤ end }
+    requires capacity { 33 ≤ end }
     requires within { end ≤ length line.old }
     ensures written { drop result line.new ≡ numeral (id_of game.now v)
         ++ (32 ∷ numeral (priority_of game.now v) ++ (32 ∷ numeral (digit_of (owner_of game.now v)) ++ (32 ∷ drop end line.old))) }
@@ -125,9 +125,9 @@ fn fields_before(line: &mut [u8], end: usize, game: &Game, v: u32) -> usize
 }
 
 /// The line of one vertex in a game text, which is written from its end into a line that is long enough.
-fn put_vertex(out: &mut Vec<u8>, line: &mut [u8], game: &Game, v: u32) -> Result<(), Memory>
+fn put_vertex(out: &mut Vec<u8>, line: &mut [u8], game: &ForwardGame, v: u32) -> Result<(), Memory>
     requires vertex { v < length game.now }
-    requires room { 40 + 11 * length (successors_of game.now v) ≤ length line.old }
+    requires capacity { 40 + 11 * length (successors_of game.now v) ≤ length line.old }
     ensures text { OnOk result (out.new.items ≡ out.old.items ++ written_vertex game.now (vertex_at game.now v)) }
     ensures size { length line.new ≡ length line.old }
 {
@@ -154,7 +154,7 @@ fn extend_line(line: &mut Vec<u8>, successors: usize) -> Result<(), Memory>
 
 /// The capacity for the text of a game, at most six times its length. So many bytes are allocated once, and nothing written is
 /// moved.
-fn game_capacity(game: &Game) -> usize
+fn game_capacity(game: &ForwardGame) -> usize
     ensures { result ≤ 6 * length (written_game game.now) }
 {
     let mut capacity = HEADER;
@@ -173,6 +173,14 @@ fn solution_capacity(game: &Game) -> usize
 
 /// The one written spelling of a game: at most 210,763,795 bytes. Refused with `Memory` alone.
 pub fn write_game(alloc: Global, game: &Game) -> Result<Vec<u8>, Memory>
+    ensures text { IfOk result (λ text. text.items ≡ written_game game.now) }
+    ensures short { IfOk result (λ text. length text.items ≤ greatest_game_text) }
+{
+    write_forward_game(alloc, game.forward())
+}
+
+/// The same as [`write_game`], of a game without predecessors.
+pub fn write_forward_game(alloc: Global, game: &ForwardGame) -> Result<Vec<u8>, Memory>
     ensures text { IfOk result (λ text. text.items ≡ written_game game.now) }
     ensures short { IfOk result (λ text. length text.items ≤ greatest_game_text) }
 {

@@ -70,13 +70,13 @@ module _ (total seats id : ℕ) (v : Drawer) (s : State (Unit {0}) Drawer) (h : 
         each = each_set total s.views id w h.each (omega arith, e.1, (λ z. absurd (omega arith)));
       }
 
-  abbrev Told : Bool → Type 0
-  Told b =
+  abbrev IsAnswered : Bool → Type 0
+  IsAnswered b =
       (w : Drawer) × IsDrawn total seats (after (h.word + 1) w)
       × MatchBool b ((length v.drawn < v.total) × (w ≡ drawer v.total v.tickets v.told_none (v.drawn ++ h.word ∷ [])))
       (w ≡ drawer v.total v.tickets (v.told_none + 1) v.drawn)
 
-  pub tells : (b : Bool) → nat_lt h.word v.total ≡ b → Told b
+  pub tells : (b : Bool) → nat_lt h.word v.total ≡ b → IsAnswered b
   tells b e = grind (arith, same_total, sum_by-at, number_drawn, draws_number, draws_none)
 
 -- a draw by one who has one ticket

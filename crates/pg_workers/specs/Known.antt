@@ -1,4 +1,4 @@
--- What is known of a game before it is solved: as regions, as rows of claims, and what is answered where it is posted.
+-- What is known of a game before it is solved: as regions, as rows of claims, and the results of its posts.
 use Rattle.std.specs.Prelude.{ℕ, ◌≡◌, ◌+◌, ◌↔◌, false, List, [], length, nat_eq}
 use Rattle.std.specs.List.{Contains, IsDistinct}
 use Rattle.pg_game.specs.declared.player.Player.{Player}
@@ -30,11 +30,11 @@ known_rows g known p = rows_below (known_of known p) (own_choices g p (known_cho
 abbrev pub IsAttractedToKnown : Graph → KnownRows → Player → ℕ → Type 0
 IsAttractedToKnown g known p v = Attractor g p (all_vertices g) (known_of known p) v
 
--- so many numbers have the property
+-- the number of numbers with the property
 abbrev pub HasCount : (ℕ → Type 0) → ℕ → Type 0
 HasCount P n = (vs : List ℕ) × IsDistinct nat_eq vs × ((v : ℕ) → Contains vs v ↔ P v) × (length vs ≡ n)
 
--- so many vertices are attracted to the known sets, each by its player
+-- the number of vertices that the players attract to their known sets
 abbrev pub IsKnownSize : Graph → KnownRows → ℕ → Type 0
 IsKnownSize g known n = (a : ℕ) × (b : ℕ) × HasCount (IsAttractedToKnown g known Even) a × HasCount (IsAttractedToKnown g known Odd) b × (n ≡ a + b)
 
@@ -42,7 +42,7 @@ IsKnownSize g known n = (a : ℕ) × (b : ℕ) × HasCount (IsAttractedToKnown g
 abbrev pub HasNone : Journal → Player → Type 0
 HasNone journal p = (v : ℕ) → settled (state_of journal) p v ≡ false
 
--- a reason for which a set that is no region may be refused where nothing is settled for its player
+-- a reason to refuse a set that is no region, if nothing is settled for its player
 abbrev pub IsOfPost : Refusal → Type 0
 IsOfPost (refusal.Claim e) = Unit {0}
 IsOfPost (refusal.Lost v) = Unit {0}
@@ -51,19 +51,19 @@ IsOfPost (refusal.Foreign v) = ⊥
 IsOfPost refusal.Stale = ⊥
 IsOfPost refusal.Memory = ⊥
 
--- the known set is no region, and this is why a board refuses its rows
+-- the known set is no region, and this is a board's reason to refuse its rows
 pub record IsRefusedKnown (g : Graph) (journal : Journal) (known : KnownRows) (p : Player) (e : Refusal) : Type 0 where
   pub no_region : IsKnownRegion g known p → ⊥
   pub refused : Refuses g (state_of journal) p (known_rows g known p) e
   pub of_post : IsOfPost e
 
--- what is settled before the player's known set is posted: nothing before Even's, and before Odd's what Even attracts to his, a region
+-- the state before the post of a player's known set: nothing for Even, and for Odd what Even attracts to his set, a region
 abbrev pub IsBefore : Graph → KnownRows → Player → Journal → Type 0
 IsBefore g known Even journal = journal ≡ []
 IsBefore g known Odd journal =
     IsKnownRegion g known Even × ((v : ℕ) → In (settled (state_of journal) Even) v ↔ IsAttractedToKnown g known Even v) × HasNone journal Odd
 
--- why a run found no solution: memory, or a known set that is no region, with the refusal of the post that met it
+-- why a run has no solution: refused memory, or a known set that is no region, with the refusal of its post
 abbrev pub IsSolveFault : Graph → KnownRows → SolveFault → Type 0
 IsSolveFault g known fault.Memory = Unit {0}
 IsSolveFault g known (fault.Known p e) = (journal : Journal) × IsLawful g journal × IsBefore g known p journal × IsRefusedKnown g journal known p e

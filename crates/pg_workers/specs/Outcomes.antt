@@ -1,4 +1,4 @@
--- What a whole run gives.
+-- The outcome of a run.
 use Rattle.std.specs.Prelude.{ℕ}
 use Rattle.pg_text.specs.Known.{KnownRows}
 use Rattle.pg_game.specs.Graph.{Graph}
@@ -10,7 +10,7 @@ use Rattle.pg_workers.specs.Known.{IsKnownSize}
 use Rattle.pg_workers.specs.Report.{IsInOrder, IsReport, AddsUp}
 
 -- the entries are a lawful journal that settles every vertex, the solution is its state and exact, each job has its row, and the
--- rows say who drew it and what the workers settled beside what the known sets attract
+-- rows say which worker drew it, and what the workers settled beside what the known sets attract
 pub record IsOutcome (g : Graph) (known : KnownRows) (total workers : ℕ) (o : Outcome) : Type 0 where
   pub lawful : IsLawful g o.entries.items
   pub full : IsFull g (state_of o.entries.items)

@@ -1,4 +1,4 @@
--- The report of a run: one row for each piece of work.
+-- The report of a run: one row for each job.
 use Rattle.std.specs.Prelude.{ℕ, ◌≡◌, ◌≤◌, ◌<◌, ◌+◌, Bool, false, List, [], ◌∷◌, length, map, filter, sum_by, take, drop, slice_get, Some, None, ◌≢◌}
 use Rattle.std.specs.List.{AllByRecursion}
 use Rattle.pg_game.specs.declared.player.Player.{Player}
@@ -6,7 +6,7 @@ use Rattle.pg_game.specs.declared.player.Player.TheVariants.{Even, Odd}
 use Rattle.pg_workers.specs.declared.report.ReportRow.{ReportRow}
 use Rattle.pg_board.specs.Journal.{Journal, number_settled}
 
--- the row of a job that nobody drew
+-- the row of a job that no worker drew
 abbrev pub blank_row : ℕ → ReportRow
 blank_row job = record { job = job; worker = None; posted = 0; settled = 0; stale = 0; refused = 0; gave_up = false; memory = false }
 
@@ -22,17 +22,17 @@ IsInOrder total report = (length report ≡ total) × AreNumbered report
 abbrev pub settled_in : List ReportRow → ℕ
 settled_in rows = sum_by (λ r. r.settled) rows
 
--- each claim that was posted settled something
+-- each posted claim settled a vertex or more
 abbrev pub AreCounts : ReportRow → Type 0
 AreCounts r = (r.posted ≤ r.settled) × (r.posted ≡ 0 → r.settled ≡ 0)
 
--- the row of a job that one of so many workers drew
+-- the row of a job that one of this many workers drew
 pub record IsDrawnRow (workers : ℕ) (r : ReportRow) : Type 0 where
   pub drawn : r.worker ≢ None
   pub numbered : (w : ℕ) → r.worker ≡ Some w → (1 ≤ w) × (w ≤ workers)
   pub counts : AreCounts r
 
--- a prefix of the jobs was drawn, each by one of the workers, and nobody drew another
+-- the workers drew a prefix of the jobs, and no other job
 pub record IsReport (workers : ℕ) (report : List ReportRow) : Type 0 where
   pub drawn : ℕ
   pub done : (k : ℕ) (r : ReportRow) → slice_get report k ≡ Some r → k < drawn → IsDrawnRow workers r
@@ -44,8 +44,8 @@ pub record AreOfCaller (players : List Player) (entries : Journal) : Type 0 wher
   pub posted : Player → Bool
   pub order : map (λ e. e.player) entries ≡ filter posted players
 
--- so many vertices that were known and what the workers settled are a prefix of the journal. The calling thread's entries follow it: one for
--- Even or none, and then one for Odd or none
+-- The known vertices, of this number, and those that the workers settled are a prefix of the journal. Entries of the calling thread follow: one for
+-- Even or none, and then one for Odd or none.
 pub record AddsUp (known : ℕ) (journal : Journal) (report : List ReportRow) : Type 0 where
   pub by_workers : ℕ
   pub within : by_workers ≤ length journal

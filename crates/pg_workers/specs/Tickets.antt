@@ -3,17 +3,17 @@ use Rattle.std.specs.Prelude.{◌≡◌, ℕ, ◌+◌, ◌<◌, List, [], ◌∷
 use Rattle.atomic_table.specs.Seated.{TableId}
 use Rattle.pg_workers.specs.Counting.{AreFair}
 
--- which jobs, and how many
+-- the jobs, and their number
 pub record Series : Type 0 where
   pub table : TableId
   pub total : ℕ
 
--- which jobs, and how many tickets were handed out
+-- the jobs, and the number of their tickets
 pub record JobNumbers : Type 0 where
   pub series : Series
   pub seats : ℕ
 
--- of which jobs, the numbers drawn, and whether a draw returned that none is left
+-- the jobs, the drawn numbers, and whether a draw found no job left
 pub record HeldTicket : Type 0 where
   pub series : Series
   pub numbers : List ℕ
@@ -23,15 +23,15 @@ pub record HeldTicket : Type 0 where
 abbrev pub fresh : Series → HeldTicket
 fresh series = record { series = series; numbers = []; told_none = false }
 
--- the ticket with one number more
+-- the ticket with one more number
 abbrev pub drew : HeldTicket → ℕ → HeldTicket
 drew t j = record { series = t.series; numbers = t.numbers ++ j ∷ []; told_none = t.told_none }
 
 abbrev pub told : HeldTicket → HeldTicket
 told t = record { series = t.series; numbers = t.numbers; told_none = true }
 
--- The tickets' lists are fair for the closing word, which counts the numbers drawn and the tickets to which none was returned. Where
--- there is such a ticket, the lists are together the numbers below the total, each once
+-- The tickets' lists are fair for the closing word, which counts the drawn numbers and the tickets that found no job left. If
+-- there is such a ticket, the lists together have each number below the total once.
 pub record AreDrawn (total : ℕ) (tickets : List HeldTicket) : Type 0 where
   pub word : ℕ
   pub fair : AreFair total word (λ t. t.numbers) tickets

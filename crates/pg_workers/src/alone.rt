@@ -1,4 +1,4 @@
-//! A game is solved in the calling thread, without a worker.
+//! Solving a game in the calling thread, without a worker.
 ghost use Rattle.std.specs.Prelude.{◌≤◌, length, IfOk, IfErr};
 ghost use Rattle.pg_game.specs.declared.player.Player.{Player};
 ghost use Rattle.pg_text.specs.Solution.{IsExactSolution};
@@ -10,8 +10,8 @@ use pg_game::Game;
 use pg_text::{Known, Solution};
 use std::alloc::Global;
 
-/// As `solve_game`, in the calling thread: it starts no thread and waits for nothing. What is known is posted first, Even's
-/// set and then Odd's, and Zielonka's recursion (1998) solves the rest. The refusals are those of `solve_game`.
+/// The same as `solve_game` in the calling thread: it starts no thread and waits for nothing. It posts Even's known set and
+/// then Odd's, and Zielonka's recursion (1998) solves the rest. The errors are those of `solve_game`.
 pub fn solve_alone(alloc: Global, game: &Game, known: &Known) -> Result<Solution, SolveFault>
     requires { length known.now.rows ≤ length game.now }
     ensures exact { IfOk result (λ s. IsExactSolution game.now s.rows) }

@@ -1,8 +1,8 @@
-//! The word that numbers are drawn from: what a seat at it knows, and the steps that are taken on it.
+//! The word from which tickets draw numbers: the view of a seat, and the steps on the word.
 use atomic_table::{Join, Play, Split, TableRule};
 use std::collections::LinkedList;
 
-/// What a seat knows. No value of it is made.
+/// The view of a seat. The program makes no value of it.
 pub(crate) struct Drawer {
     pub total: u64,
     pub tickets: u64,
@@ -10,7 +10,7 @@ pub(crate) struct Drawer {
     pub drawn: LinkedList<u64>,
 }
 
-/// How many numbers there are, and how many tickets.
+/// The number of numbers, and the number of tickets.
 #[derive(Drop)]
 pub(crate) struct About {
     pub total: u64,

@@ -2,9 +2,9 @@
 
 use std::sync::Wait;
 
-/// Is called for each job before its claims are posted, and after. Nothing is promised of it.
+/// A worker calls it for each job before it posts the claims, and after. No contract promises anything of it.
 pub trait Gate: Sync {
-    /// The worker's search has ended, also where memory was refused; it posts next what was found.
+    /// The worker's search has ended, also after refused memory; next it posts the claims.
     fn found<R: Wait>(&self, rt: &R, worker: u32, job: u64);
 
     /// The worker has posted all claims of the job.

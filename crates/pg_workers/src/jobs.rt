@@ -1,5 +1,5 @@
-//! Job numbers, drawn from one atomic word. Each worker draws by a ticket of its own, which keeps the numbers that it
-//! drew. A draw is one step on the word and waits for nobody.
+//! Job numbers from one atomic word. Each worker draws by a ticket of its own, which keeps its numbers. A draw is one
+//! step on the word and waits for nobody.
 ghost use Rattle.std.specs.Prelude.{◌≡◌, ◌≤◌, ◌<◌, [], true, All, IfOk, IfSome, IfNone, None, length, map, replicate, vec_len};
 ghost use Rattle.pg_workers.specs.private.Drawing.{drawer};
 ghost use Rattle.pg_workers.specs.Tickets.{fresh, drew, told, AreDrawn};
@@ -10,15 +10,14 @@ use pg_game::Memory;
 use std::alloc::Global;
 use std::marker::Model;
 
-/// What a ticket has drawn.
+/// The numbers of a ticket, and whether a draw found no job left.
 #[derive(Drop)]
 pub struct Drawn {
     pub numbers: Vec<u64>,
     pub told_none: bool,
 }
 
-/// Draws numbers of jobs, and keeps them. Contracts see of which jobs it is, the numbers drawn, and whether a draw returned
-/// that none is left.
+/// Draws numbers of jobs, and keeps them. Contracts see its jobs, the drawn numbers, and whether a draw found no job left.
 #[derive(Drop)]
 pub struct Ticket {
     seat: Seat<(), Drawer>,
@@ -53,7 +52,7 @@ impl Ticket {
         })
     }
 
-    /// The numbers drawn, in order.
+    /// The drawn numbers, in order.
     pub fn drawn(&self) -> &[u64]
         ensures numbers { result.now ≡ self.now.numbers }
         ensures below { All (λ j. j < self.now.series.total) result.now }
@@ -64,14 +63,13 @@ impl Ticket {
     }
 }
 
-/// The numbers below a total, each to be drawn by one ticket. Contracts see which jobs they are, with the total, and the
-/// number of tickets.
+/// The numbers below a total, each for one ticket. Contracts see the jobs with their total, and the number of tickets.
 #[derive(Drop)]
 pub struct Jobs {
     table: Table<(), Drawer, About, Drawing, Global>,
     total: u64,
     seats: u32,
-    room: Vec<Drawn>,
+    spare: Vec<Drawn>,
 }
 
 impl Model for Jobs {
@@ -80,15 +78,15 @@ impl Model for Jobs {
     ghost Value = { JobNumbers };
 
     ghost use Rattle.pg_workers.specs.TicketFields.{numbers_of};
-    ghost use Rattle.pg_workers.specs.private.TicketFields.{HasTicketRoom};
+    ghost use Rattle.pg_workers.specs.private.TicketFields.{HasTicketCapacity};
 
     ghost view = { numbers_of };
 
-    ghost invariant = { HasTicketRoom };
+    ghost invariant = { HasTicketCapacity };
 }
 
 impl Jobs {
-    /// Jobs numbered from 0, and a ticket for each seat, with capacity for all numbers from the start.
+    /// Jobs numbered from 0, and a ticket for each seat, with capacity for all numbers from the start. The only error is `Memory`.
     #[tactic(auto, using(crate::proofs::Moves::begins))]
     pub fn open(alloc: Global, total: u64, seats: u32) -> Result<(Jobs, Vec<Ticket>), Memory>
         requires total { total ≤ 4096 }
@@ -101,7 +99,7 @@ impl Jobs {
             total,
             seats: u64::from(seats),
         };
-        let room = Vec::with_capacity(alloc, seats as usize)?;
+        let spare = Vec::with_capacity(alloc, seats as usize)?;
         let mut tickets = Vec::with_capacity(alloc, seats as usize)?;
         let (table, mut rest) = Table::of_words(alloc, &[0], &about)?;
         for _i in 1..seats {
@@ -113,16 +111,16 @@ impl Jobs {
             table,
             total,
             seats,
-            room,
+            spare,
         };
         Ok((jobs, tickets))
     }
 
-    /// The next number, which the ticket keeps; None where no more are left, and then for good.
+    /// The next number, which the ticket keeps; None if no job is left, and then in every further draw. Takes no memory.
     pub fn draw(&self, ticket: &mut Ticket) -> Option<u64>
         requires { ticket.old.series ≡ self.now.series }
         ensures some { IfSome result (λ j. (ticket.new ≡ drew ticket.old j) × (j < self.now.series.total)) }
-        ensures room { IfSome result (λ j. length ticket.old.numbers < self.now.series.total) }
+        ensures spare { IfSome result (λ j. length ticket.old.numbers < self.now.series.total) }
         ensures none { IfNone result (ticket.new ≡ told ticket.old) }
         ensures sticky { ticket.old.told_none ≡ true → result ≡ None }
     {
@@ -139,8 +137,8 @@ impl Jobs {
         }
     }
 
-    /// What each ticket has drawn, in the order of the tickets. Takes no memory. No number was drawn twice, and where a
-    /// draw returned that none is left, each was drawn.
+    /// The drawn numbers of each ticket, in the order of the tickets. Takes no memory. No number was drawn twice; if a draw
+    /// found no job left, each was drawn.
     pub fn close(self, mut tickets: Vec<Ticket>) -> Vec<Drawn>
         requires all { vec_len tickets ≡ self.seats }
         requires own { All (λ t. t.series ≡ self.series) tickets.items }
@@ -152,14 +150,14 @@ impl Jobs {
             table,
             total: _,
             seats: _,
-            mut room,
+            mut spare,
         } = self;
         let Ticket {
             mut seat,
             numbers,
             told_none,
         } = tickets.remove(0);
-        room.push_reserved(Drawn { numbers, told_none });
+        spare.push_reserved(Drawn { numbers, told_none });
         for ticket in tickets {
             let Ticket {
                 seat: other,
@@ -167,9 +165,9 @@ impl Jobs {
                 told_none,
             } = ticket;
             table.shared.join_seat::<OneTicket>(&mut seat, other);
-            room.push_reserved(Drawn { numbers, told_none });
+            spare.push_reserved(Drawn { numbers, told_none });
         }
         table.close_with(seat).free();
-        room
+        spare
     }
 }

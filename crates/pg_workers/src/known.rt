@@ -1,4 +1,4 @@
-//! What is known of a game is posted as any claim is, Even's set and then Odd's, before a worker starts.
+//! Posts of what is known of a game, before a worker starts: Even's set and then Odd's, each as a claim.
 ghost use Rattle.std.specs.Prelude.{◌≡◌, ◌≤◌, ◌<◌, length, IfOk, IfErr, OnOk};
 ghost use Rattle.pg_finders.specs.Claims.{own_choices};
 ghost use Rattle.pg_workers.specs.Known.{known_rows, HasNone, IsSolveFault};
@@ -10,12 +10,12 @@ use pg_game::{Game, Memory, Player, Sequence};
 use pg_text::Known;
 use std::alloc::Global;
 
-/// Why a run has no outcome: a player's known set was refused, and for what, or memory was.
+/// Why a run has no outcome: the refusal of a player's known set, or refused memory.
 #[derive(Clone, Copy, Debug, Drop, PartialEq, Eq)]
 pub enum SolveFault {
-    /// The player's known set is no region; the reason is never out of memory.
+    /// The player's known set is no region; the reason is never refused memory.
     Known(Player, Refusal),
-    /// Out of memory.
+    /// Memory was refused.
     Memory,
 }
 
@@ -30,7 +30,7 @@ impl From<Memory> for SolveFault {
     }
 }
 
-/// The fault of a run whose post of the player's known set was refused.
+/// The fault of a run after a refused post of the player's known set.
 fn refused(player: Player, refusal: Refusal) -> SolveFault
     ensures { result ≡ fault_of player refusal }
 {
@@ -40,7 +40,7 @@ fn refused(player: Player, refusal: Refusal) -> SolveFault
     }
 }
 
-/// The choice where the player owns the vertex, and none where the opponent does.
+/// The choice if the player owns the vertex, else none.
 fn own_choice(game: &Game, player: Player, v: u32, choice: Option<u32>) -> Option<u32>
     requires { v < length game.now }
     ensures { result ≡ own_choices game.now player (λ _. choice) v }
@@ -52,7 +52,7 @@ fn own_choice(game: &Game, player: Player, v: u32, choice: Option<u32>) -> Optio
     }
 }
 
-/// The player's known set, as a claim: only his own vertices have choices.
+/// The player's known set as a claim: only his own vertices have choices.
 fn known_claim(alloc: Global, game: &Game, known: &Known, player: Player) -> Result<Claim, Memory>
     requires { length known.now.rows ≤ length game.now }
     ensures player { IfOk result (λ claim. claim.player ≡ player) }
@@ -75,7 +75,7 @@ fn known_claim(alloc: Global, game: &Game, known: &Known, player: Player) -> Res
     })
 }
 
-/// Posts the player's known set as worker 0, where it is not empty.
+/// Posts the player's known set as worker 0, unless it is empty.
 fn post_known(
     alloc: Global,
     board: &mut Board<'_>,
@@ -99,7 +99,7 @@ fn post_known(
     }
 }
 
-/// A board on which what is known was posted: Even's set and then Odd's.
+/// A board after the posts of what is known: Even's set and then Odd's.
 pub(crate) fn board_with<'g>(
     alloc: Global,
     game: &'g Game,

@@ -1,5 +1,5 @@
-//! Workers that share out pieces of work: each draws a job, looks for dominions on a copy of the board's unsettled
-//! part, and posts what it finds. The board trusts none of them; the calling thread settles what is left.
+//! Workers that share out jobs: each draws a job, searches for dominions on a copy of the board's unsettled part, and
+//! settles what it finds. The board checks each claim; the calling thread settles the rest.
 #![tactic(auto)]
 
 mod alone;

@@ -1,4 +1,4 @@
-//! What became of each job of a run. Each row of a worker has its place in the report by its job's number.
+//! The results of each job of a run. Each row of a worker has its place in the report by its job's number.
 ghost use Rattle.std.specs.Prelude.{◌≡◌, ◌+◌, ◌^◌, ◌≤◌, ◌<◌, ℕ, IfOk, length, map, vec_len};
 ghost use Rattle.pg_workers.specs.Report.{IsInOrder, blank_row, settled_in};
 ghost use Rattle.pg_workers.specs.private.Report.{AreBlank, AreOfPrefix, AreNotedRows, HasPlaces, answered, noted, rows_in, without_posts};
@@ -7,8 +7,9 @@ use pg_board::Refusal;
 use pg_game::Memory;
 use std::alloc::Global;
 
-/// What became of one job: who drew it, how many of its claims were posted and how many vertices they settled, how many
-/// were stale or refused for another reason, whether its search gave up, and whether memory was refused in it.
+/// The results of one job: the worker that drew it, the number of its posted claims and of the vertices that they settled,
+/// the number of stale claims and of those refused for another reason, whether its search gave up, and whether memory was
+/// refused in it.
 #[derive(Clone, Copy, Debug, Drop, PartialEq, Eq)]
 pub struct ReportRow {
     pub job: u64,
@@ -22,7 +23,7 @@ pub struct ReportRow {
 }
 
 impl ReportRow {
-    /// The row of a job that nobody drew.
+    /// The row of a job that no worker drew.
     pub(crate) fn blank(job: u64) -> ReportRow
         ensures { result ≡ blank_row job }
     {
@@ -38,7 +39,7 @@ impl ReportRow {
         }
     }
 
-    /// Notes what was answered to one claim.
+    /// Counts the answer to one claim.
     pub(crate) fn note(&mut self, answer: Result<u32, Refusal>)
         requires count { answered self.old + 1 < 2 ^ 64 }
         requires settled { IfOk answer (λ n. self.old.settled + n < 2 ^ 64) }
@@ -56,7 +57,7 @@ impl ReportRow {
     }
 }
 
-/// A row for each job, in order, which nobody drew.
+/// A row for each job, in order, none of them drawn.
 #[tactic(auto, using(crate::proofs::Rows::none_settled))]
 pub(crate) fn blank_report(alloc: Global, total: u64) -> Result<Vec<ReportRow>, Memory>
     requires { total ≤ 4096 }
@@ -96,7 +97,7 @@ pub(crate) fn with_rows(mut report: Vec<ReportRow>, all: &[Vec<ReportRow>]) -> V
     report
 }
 
-/// The row without what was posted and settled.
+/// The row with `posted` and `settled` set to 0.
 fn without_posts(row: ReportRow) -> ReportRow
     ensures { result ≡ without_posts row }
 {

@@ -1,4 +1,4 @@
-//! What is left of a board is solved by the recursion and posted: Even's claim and then Odd's, as worker 0.
+//! The recursion solves the rest of a board, and worker 0 posts the result: Even's claim and then Odd's.
 ghost use Rattle.std.specs.Prelude.{◌<◌, ◌∷◌, ℕ, [], length, OnOk};
 ghost use Rattle.pg_game.specs.declared.player.Player.TheVariants.{Even, Odd};
 ghost use Rattle.pg_board.specs.Journal.{state_of, IsDominionAfter};
@@ -11,7 +11,7 @@ use pg_finders::{Solved, zielonka};
 use pg_game::Memory;
 use std::alloc::{AllocError, Global};
 
-/// Posts a claim that was a dominion at some time as worker 0, where it has a row.
+/// Posts a claim that was a dominion at some time as worker 0, if it has a row.
 #[tactic(auto, using(crate::proofs::Calling::one_later, crate::proofs::Calling::none_later))]
 fn post_last(alloc: Global, board: &mut Board<'_>, claim: &Claim) -> Result<(), Memory>
     requires { 0 < length claim.now.rows → (k : ℕ) × IsDominionAfter board.old.graph board.old.journal k claim.now.player claim.now.rows }
@@ -32,7 +32,7 @@ fn post_last(alloc: Global, board: &mut Board<'_>, claim: &Claim) -> Result<(), 
     }
 }
 
-/// Settles all that a copy has unsettled by the two claims of the recursion, each an entry of worker 0.
+/// Settles all vertices of a copy by the two claims of the recursion, each an entry of worker 0.
 fn solve_rest(alloc: Global, board: &mut Board<'_>) -> Result<(), Memory>
     ensures full { OnOk result (IsFull board.new.graph (state_of board.new.journal)) }
     ensures later { OnOk result (IsLater (Even ∷ Odd ∷ []) board.old board.new) }
@@ -44,7 +44,7 @@ fn solve_rest(alloc: Global, board: &mut Board<'_>) -> Result<(), Memory>
     Ok(())
 }
 
-/// Settles all that is unsettled, by at most two entries of worker 0. A full board is left as it is.
+/// Settles all unsettled vertices by at most two entries of worker 0. A full board is unchanged.
 #[tactic(auto, using(crate::proofs::Calling::none_later_of_two))]
 pub(crate) fn settle_rest(alloc: Global, board: &mut Board<'_>) -> Result<(), Memory>
     ensures full { OnOk result (IsFull board.new.graph (state_of board.new.journal)) }

@@ -1,4 +1,4 @@
-//! Slots for the workers, threads that work on them, and what the slots hold once all threads have ended.
+//! Slots for the workers, threads that work on them, and the results in the slots after all threads have ended.
 ghost use Rattle.std.specs.Prelude.{◌≡◌, ◌≤◌, [], All, IfOk, map, replicate, vec_len};
 ghost use Rattle.std.specs.List.{range_with_len};
 ghost use Rattle.std.specs.Vec.{vec_capacity};
@@ -53,7 +53,7 @@ pub(crate) fn slots_of<L: Ledger, J: Naming>(
     Ok(slots)
 }
 
-/// Starts a worker for the slot on a thread of the scope. One that can't be started is left out, and its slot is still there.
+/// Starts a worker for the slot on a thread of the scope. If it cannot start, its slot is still there.
 fn start<
     's,
     'x: 's,
@@ -112,7 +112,7 @@ fn start_each<
     }
 }
 
-/// Lends slots to threads, each to one of its own, and returns once all have ended.
+/// Lends each slot to a thread of its own, and returns after all have ended.
 pub(crate) fn start_all<
     'x,
     'g,
@@ -147,7 +147,7 @@ pub(crate) fn start_all<
     slots
 }
 
-/// Shares, tickets and rows of all slots, in capacity that was allocated before.
+/// Shares, tickets and rows of all slots, in lists with enough capacity.
 pub(crate) fn take_apart<L: Ledger, J: Naming>(
     mut slots: Vec<Slot<L, J>>,
     mut shares: Vec<Share<L>>,
@@ -155,9 +155,9 @@ pub(crate) fn take_apart<L: Ledger, J: Naming>(
     mut rows: Vec<Vec<ReportRow>>,
 ) -> (Vec<Share<L>>, Vec<Ticket>, Vec<Vec<ReportRow>>)
     requires empty { (shares.items ≡ []) × (tickets.items ≡ []) × (rows.items ≡ []) }
-    requires room { (vec_len slots ≤ vec_capacity shares) × (vec_len slots ≤ vec_capacity tickets) × (vec_len slots ≤ vec_capacity rows) }
+    requires spare { (vec_len slots ≤ vec_capacity shares) × (vec_len slots ≤ vec_capacity tickets) × (vec_len slots ≤ vec_capacity rows) }
     ensures shares { vec_len result.0 ≡ vec_len slots }
-    ensures room { vec_capacity result.0 ≡ vec_capacity shares }
+    ensures spare { vec_capacity result.0 ≡ vec_capacity shares }
     ensures tickets { (vec_len result.1 ≡ vec_len slots) × All (λ t. t.series ≡ J.series) result.1.items }
     ensures amounts { map (λ rows. settled_in rows.items) result.2.items ≡ result.0.items }
     ensures numbers { map (λ rows. map (λ r. r.job) rows.items) result.2.items ≡ map (λ t. t.numbers) result.1.items }

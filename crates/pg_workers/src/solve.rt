@@ -1,5 +1,4 @@
-//! A whole run: workers on threads of their own share out the jobs over one office, and the calling thread settles what
-//! is left.
+//! A run: workers on threads of their own share out the jobs over one office, and the calling thread settles the rest.
 ghost use Rattle.std.specs.Prelude.{◌≡◌, ◌+◌, ◌≤◌, ℕ, IfOk, IfErr, length, replicate, vec_len};
 ghost use Rattle.pg_game.specs.declared.player.Player.{Player};
 ghost use Rattle.pg_text.specs.Known.{KnownRows};
@@ -29,7 +28,7 @@ use std::sync::Wait;
 use std::sync::ledger::{Blank, Ledger};
 use std::thread::Threads;
 
-/// What a run gives: a solution of the game, the journal that led to it, and what became of each job.
+/// The outcome of a run: a solution of the game, the journal that led to it, and the results of each job.
 #[derive(Drop)]
 pub struct Outcome {
     pub solution: Solution,
@@ -37,7 +36,7 @@ pub struct Outcome {
     pub report: Vec<ReportRow>,
 }
 
-/// What a board has once everything is settled.
+/// The solution and the entries of a full board.
 fn outcome_of(
     alloc: Global,
     mut board: Board<'_>,
@@ -60,8 +59,8 @@ fn outcome_of(
     })
 }
 
-/// The workers' part, on an office and jobs that were just opened: the closed board, and what became of each job. The
-/// first share is no worker's.
+/// The workers' part, on a new office and new jobs: the closed board, and the results of each job. The first share is no
+/// worker's.
 fn run<
     'g,
     L: Ledger + Send + Sync,
@@ -104,7 +103,7 @@ fn run<
     Ok((board, with_rows(report, rows.as_slice())))
 }
 
-/// The closed board and its report where the board is of this game. Otherwise a new board with the known sets alone, and the
+/// The closed board and its report if the board is of this game. Otherwise a new board with the known sets alone, and the
 /// report without posts.
 fn on_own_game<'g>(
     alloc: Global,
@@ -131,7 +130,7 @@ fn on_own_game<'g>(
     Ok((board, with_no_posts(report)))
 }
 
-/// A run over an office of the game, whose ledger is made of this blank.
+/// A run over an office of the game, with a ledger made of this blank.
 fn solve_on<L: Ledger + Send + Sync, G: Gate, F: Finder, R: Threads + Wait + Sync>(
     rt: &R,
     alloc: Global,
@@ -170,11 +169,13 @@ fn solve_on<L: Ledger + Send + Sync, G: Gate, F: Finder, R: Threads + Wait + Syn
     Ok(outcome_of(alloc, board, report)?)
 }
 
-/// Solves a game by as many workers as can be started, of 1 to 64, each on a thread of its own, and settles what they leave.
-/// What is known is posted before any worker starts, as worker 0: Even's set and then Odd's, where not empty. Of a vertex
-/// after the last known row nothing is known. A known set that is no region is answered by the refusal of its post.
-/// For every number of workers, gate and finder the entries are a lawful journal of the game, the solution is their
-/// state, and the report has a row for each job, in order.
+/// Solves a game by 1 to 64 workers, each on a thread of its own, and settles the rest. If a worker cannot start, the run
+/// goes on without it. Before any worker starts, the call posts what is known as worker 0: Even's set and then Odd's, unless
+/// empty. Of a vertex after the last known row nothing is known.
+///
+/// The error is `Known` with the refusal of its post if a known set is no region, or `Memory`. For every number of workers,
+/// gate and finder the entries are a lawful journal of the game, the solution is their state, and the report has a row for
+/// each job, in order.
 pub fn solve_game<R: Threads + Wait + Sync>(
     rt: &R,
     alloc: Global,

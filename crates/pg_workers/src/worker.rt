@@ -1,5 +1,5 @@
-//! A worker: it draws a job, has a copy of the unsettled part searched, checks each claim that was found on the copy's game,
-//! with no lock held, settles what was checked, notes what became of it, and draws again until none is left.
+//! A worker: it draws a job, calls the finder on a copy of the unsettled part, checks each claim on the copy's game without
+//! the lock, settles the checked claims, counts the answers, and draws again until no job is left.
 ghost use Rattle.std.specs.Prelude.{◌≡◌, ◌+◌, ◌^◌, ◌≤◌, ◌<◌, ℕ, All, false, true, IfOk, OnErr, Result, Some, length, map};
 ghost use Rattle.std.specs.Vec.{vec_capacity};
 ghost use Rattle.pg_board.specs.declared.refusal.Refusal.{Refusal};
@@ -22,7 +22,7 @@ use std::marker::{Brand, PhantomData};
 use std::sync::Wait;
 use std::sync::ledger::Ledger;
 
-/// Says to the type of a slot which jobs there are, and how many workers. Each call picks them.
+/// The jobs and the number of workers, in the type of a slot. Each call chooses them.
 pub(crate) trait Naming {
     ghost use Rattle.std.specs.Prelude.{ℕ};
     ghost use Rattle.pg_workers.specs.Tickets.{Series};
@@ -40,7 +40,7 @@ impl Naming for Brand {
     ghost workers = { 0 };
 }
 
-/// What one worker is lent. What it leaves there is known by this type alone.
+/// The values that one worker borrows. Afterwards only this type says what they are.
 #[derive(Drop)]
 pub(crate) struct Slot<L: Ledger, J: Naming> {
     pub worker: u32,
@@ -54,10 +54,10 @@ pub(crate) struct Slot<L: Ledger, J: Naming> {
     ghost numbers: { map (λ r. r.job) rows.items ≡ ticket.numbers },
     ghost done: { All (IsDrawnRow J.workers) rows.items },
     ghost own: { All (λ r. r.worker ≡ Some worker) rows.items },
-    ghost room: { J.series.total ≤ vec_capacity rows },
+    ghost spare: { J.series.total ≤ vec_capacity rows },
 }
 
-/// What all workers of a run share.
+/// The values that all workers of a run share.
 #[derive(Drop)]
 pub(crate) struct Task<'x, G, F> {
     pub options: &'x Options,
@@ -67,7 +67,7 @@ pub(crate) struct Task<'x, G, F> {
     ghost small: { size ≤ max_vertices },
 }
 
-/// Has a claim settled: it is checked on the game first, with no lock held.
+/// Checks a claim on the game without the lock, and settles it.
 fn settle_claim<L: Ledger, R: Wait>(
     rt: &R,
     alloc: Global,
@@ -85,7 +85,7 @@ fn settle_claim<L: Ledger, R: Wait>(
     office.settle(rt, alloc, share, worker, &checked)
 }
 
-/// Has one claim settled, and notes the answer in the job's row.
+/// Checks and settles one claim, and counts the answer in the job's row.
 fn post<L: Ledger, R: Wait>(
     rt: &R,
     alloc: Global,
@@ -97,19 +97,19 @@ fn post<L: Ledger, R: Wait>(
     row: &mut ReportRow,
 )
     requires share { row.old.settled ≤ share.old }
-    requires room { answered row.old + 1 < 2 ^ 64 }
+    requires spare { answered row.old + 1 < 2 ^ 64 }
     ensures noted { (answer : Result ℕ Refusal) × IsAnswerTo game.now claim.now share.old answer × (row.new ≡ noted row.old answer) }
     ensures counts { AreCounts row.old → AreCounts row.new }
     ensures settled { share.new + row.old.settled ≡ share.old + row.new.settled }
 {
     let answer = settle_claim(rt, alloc, office, game, share, worker, claim);
-    // for the proof: the share's amount has 64 bits, so the sum of what the row settled fits
+    // for the proof: the share's amount has 64 bits, so the row's sum of settled vertices fits
     let _amount = share.amount();
     row.note(answer);
 }
 
-/// Has all claims settled in order, and notes the results. Every claim counts as posted, stale or refused where memory was
-/// not refused.
+/// Checks and settles all claims in order, and counts the results. Every claim counts as posted, stale or refused, unless
+/// memory was refused.
 fn post_all<L: Ledger, R: Wait>(
     rt: &R,
     alloc: Global,
@@ -121,7 +121,7 @@ fn post_all<L: Ledger, R: Wait>(
     row: &mut ReportRow,
 )
     requires share { row.old.settled ≤ share.old }
-    requires room { answered row.old + length claims.items < 2 ^ 64 }
+    requires spare { answered row.old + length claims.items < 2 ^ 64 }
     ensures noted { AreNoted game.now claims.items row.old row.new }
     ensures all { row.new.memory ≡ false → answered row.new ≡ answered row.old + length claims.items }
     ensures few { answered row.new ≤ answered row.old + length claims.items }
@@ -134,7 +134,7 @@ fn post_all<L: Ledger, R: Wait>(
     }
 }
 
-/// What the finder gives for a job on a copy, and the copy's game.
+/// The finder's result for a job on a copy, and the copy's game.
 fn search<'g, L: Ledger, F: Finder, R: Wait>(
     rt: &R,
     alloc: Global,
@@ -148,7 +148,7 @@ fn search<'g, L: Ledger, F: Finder, R: Wait>(
     Ok((found, copied.inside.game()))
 }
 
-/// Has a copy searched for the job of this number and calls the gate.
+/// Calls the finder on a copy for the job of this number, and the gate.
 fn search_job<'g, L: Ledger, G: Gate, F: Finder, R: Wait>(
     rt: &R,
     alloc: Global,
@@ -166,7 +166,7 @@ fn search_job<'g, L: Ledger, G: Gate, F: Finder, R: Wait>(
     found
 }
 
-/// Has the claims that a job's search found settled, and returns the job's row. The share's amount rises by what was settled.
+/// Settles the claims of a job's search, and returns the job's row. The share's amount rises by the number settled.
 fn settle_found<L: Ledger, R: Wait>(
     rt: &R,
     alloc: Global,
@@ -194,7 +194,7 @@ fn settle_found<L: Ledger, R: Wait>(
     row
 }
 
-/// Does one job and returns its row. The share's amount rises by what was settled.
+/// Does one job and returns its row. The share's amount rises by the number settled.
 fn do_job<L: Ledger, G: Gate, F: Finder, R: Wait>(
     rt: &R,
     alloc: Global,
@@ -218,7 +218,7 @@ fn do_job<L: Ledger, G: Gate, F: Finder, R: Wait>(
 }
 
 impl<L: Ledger, J: Naming> Slot<L, J> {
-    /// Draws a number and does its job, or learns that there are no more.
+    /// Draws a number and does its job, unless no job is left.
     fn turn<G: Gate, F: Finder, R: Wait>(
         &mut self,
         rt: &R,

@@ -2,6 +2,7 @@ pub mod Common
 pub mod Devices
 pub mod Joined
 pub mod Judging
+pub mod Answering
 pub mod Lines
 pub mod Journals
 pub mod Solved
@@ -11,3 +12,4 @@ pub mod Rows
 pub mod Unknown
 pub mod Refusing
 pub mod Knowing
+pub mod CommandLine

@@ -1,4 +1,4 @@
--- What a command line may ask for.
+-- The meaning of a command line.
 use Rattle.std.specs.Prelude.{ℕ, ◌≡◌, ◌≤◌, List, Option, Some, None, option_map, string_bytes}
 use Rattle.pgboard.specs.declared.fault.AskedFault.{AskedFault}
 use Rattle.pgboard.specs.declared.fault.AskedFault.TheVariants as fault
@@ -14,7 +14,7 @@ IsInRange (Solve workers bound winners known game) = (1 ≤ workers) × (workers
 IsInRange (Trace workers game) = (1 ≤ workers) × (workers ≤ 64)
 IsInRange (Help text) = Unit {0}
 
--- the path of the file of the game, where one was given
+-- the path of the game's file, if there is one
 abbrev pub path_of : Asked → Option (List ℕ)
 path_of Joined = None
 path_of (Verify game solution) = Some (string_bytes game)
@@ -23,13 +23,13 @@ path_of (Solve workers bound winners known game) = option_map (λ path. string_b
 path_of (Trace workers game) = option_map (λ path. string_bytes path) game
 path_of (Help text) = None
 
--- the path of a second file, of the solution that is verified or of what is known, where one was given
+-- the path of a second file, of the solution or of what is known, if there is one
 abbrev pub second_path_of : Asked → Option (List ℕ)
 second_path_of (Verify game solution) = Some (string_bytes solution)
 second_path_of (Solve workers bound winners known game) = option_map (λ path. string_bytes path) known
 second_path_of _ = None
 
--- the words were refused with this text, or memory was
+-- the words were refused with this text, or memory was refused
 abbrev pub Says : List ℕ → AskedFault → Type 0
 Says text (fault.Words words) = string_bytes words ≡ text
 Says text fault.Memory = Unit {0}

@@ -6,7 +6,7 @@ use Rattle.pgboard.specs.declared.device.Std.{Std}
 abbrev pub last_count : ℕ
 last_count = 2 ^ 64 - 1
 
--- the count rises with a failure alone, and stays at its last value
+-- the count rises only with a failure, and stays at its last value
 abbrev pub CountsFailure : {A E : Type 0} → ℕ → ℕ → Result A E → Type 0
 CountsFailure old new r = MatchResult r (λ _. new ≡ old) (λ _. new ≡ min (old + 1) last_count)
 
@@ -18,6 +18,6 @@ HasFailed old new = (old < new) ⊎ (last_count ≤ old)
 abbrev pub AppendsPrefix : Option (List ℕ) → Option (List ℕ) → List ℕ → Type 0
 AppendsPrefix old new text = (prefix back : List ℕ) × (text ≡ prefix ++ back) × Appends old new prefix
 
--- a reader or a writer whose failures are not counted yet, and of whose bytes none are expected
+-- a reader or a writer without counted failures and without an expected number of bytes
 abbrev pub untouched : {T : Type 0} → T → Std T
 untouched inner = record { inner = inner; failures = 0; expected = 0 }

@@ -1,4 +1,4 @@
--- A game and a solution in one text, and what is said of them.
+-- A game and a solution in one text, and the verdict on them.
 use Rattle.std.specs.Prelude.{ℕ, ◌≢◌, ◌<◌, ◌≤◌, ◌==◌, List, [], ◌++◌, codes}
 use Rattle.std.specs.List.{before_first, after_first}
 use Rattle.pg_game.specs.Graph.{Graph}
@@ -15,7 +15,7 @@ use Rattle.pgboard.specs.declared.verdict.Verdict.TheVariants.{Holds, Fails}
 use Rattle.pgboard.specs.declared.fault.RunFault.{RunFault}
 use Rattle.pgboard.specs.declared.fault.RunFault.TheVariants as fault
 
--- the game before the first `%`, and the solution after it, or nothing where there is none
+-- the game before the first `%`, and the solution after it, or nothing without a `%`
 abbrev pub game_part : List ℕ → List ℕ
 game_part text = before_first (λ b. b == 37) text
 
@@ -37,7 +37,7 @@ abbrev pub verdict_line : Verdict → List ℕ
 verdict_line Holds = codes "ok\n"
 verdict_line (Fails fault) = codes "not a solution: " ++ (fault_text fault ++ codes "\n")
 
--- the texts spell a game, and winners and choices for it, of which the verdict is true
+-- the texts spell a game, and winners and choices for it, and the verdict is true of these
 pub record IsJudged (game solution : List ℕ) (verdict : Verdict) : Type 0 where
   pub graph : Graph
   pub rows : SolutionRows
@@ -45,7 +45,7 @@ pub record IsJudged (game solution : List ℕ) (verdict : Verdict) : Type 0 wher
   pub solution_is : IsSolutionTextOf graph solution rows
   pub verdict_is : IsVerdict graph rows verdict
 
--- why a run on a text of len bytes, which joins a game and a solution, gave no verdict
+-- why a run on a joined text of len bytes has no verdict
 abbrev pub JudgingFailed : List ℕ → List ℕ → ℕ → RunFault → Type 0
 JudgingFailed game solution len fault.Read = Unit {0}
 JudgingFailed game solution len fault.TooLong = max_text < len

@@ -7,5 +7,6 @@ pub mod Status
 pub mod Trace
 pub mod Solving
 pub mod Asking
+pub mod Line
 pub mod Answer
 pub mod private

@@ -1,4 +1,4 @@
--- What a run learns of the texts that its sources have, and why it gives no answer.
+-- What a run knows of the texts of its sources, and why it has no result.
 use Rattle.std.specs.Prelude.{ℕ, ◌≡◌, ◌≢◌, ◌<◌, ◌≤◌, ◌⊎◌, List, length, Option, Result, IfSome, IfOk, IfErr, IsErrOf}
 use Rattle.std.specs.Io.KnownBytes.{Appends, Keeps}
 use Rattle.pg_game.specs.Graph.{Graph}
@@ -9,7 +9,7 @@ use Rattle.pgboard.specs.Device.{HasFailed, AppendsPrefix}
 use Rattle.pgboard.specs.declared.fault.RunFault.{RunFault}
 use Rattle.pgboard.specs.declared.fault.RunFault.TheVariants as fault
 
--- the text that a source had, where it is known, is within the limit and one of the game
+-- the text that a source had, if it is known, is within the limit and one of the game
 abbrev pub IsReadGame : Option (List ℕ) → Graph → Type 0
 IsReadGame known g = IfSome known (λ text. (length text ≤ max_text) × IsTextOf text g)
 
@@ -35,13 +35,13 @@ abbrev pub IsGameFault : RunFault → Type 0
 IsGameFault (fault.Game f) = Unit {0}
 IsGameFault _ = ⊥
 
--- a run reads one source, whose count of failures goes from old to new: a read failed where the fault is `Read`, and else none did
+-- a run reads one source, and its count of failures goes from old to new: a read failed if the fault is `Read`, and else none did
 pub record Reads {A : Type 0} (result : Result A RunFault) (old new : ℕ) : Type 0 where
   pub no_failure : (IsErrOf result fault.Read → ⊥) → new ≡ old
   pub failed : IsErrOf result fault.Read → HasFailed old new
 
--- a run reads a game from a source and then a second source: the second was not read, or the game was read without a failure.
--- What is said of the second source is: that it was not read, that no read of it failed, and that one did
+-- a run reads a game from a source and then a second source: it did not read the second, or it read the game without a failure.
+-- The three relations are for the second source: it was not read, no read of it failed, a read of it failed.
 pub record ReadsInTurn {A : Type 0} (result : Result A RunFault) (game : Option (List ℕ)) (old new : ℕ) (Unread Unfailed Failed : Type 0) : Type 0 where
   pub no_game_failure : (IsErrOf result fault.Read → ⊥) → new ≡ old
   pub no_second_failure : (IsErrOf result fault.Read → ⊥) → Unfailed
@@ -49,7 +49,7 @@ pub record ReadsInTurn {A : Type 0} (result : Result A RunFault) (game : Option 
   pub unread : IfErr result (λ e. IsGameFault e → Unread)
   pub failed : IsErrOf result fault.Read → (HasFailed old new × Unread) ⊎ ((g : Graph) × IsReadGame game g × Failed)
 
--- a run writes an output: all of it; or, where a write failed, a prefix of one; or, for another fault, nothing
+-- a run writes an output: all of it; or, if a write failed, a prefix of one; or, for another fault, nothing
 pub record Writes {A : Type 0} (IsOutput : A → List ℕ → Type 0) (result : Result A RunFault) (old new : Option (List ℕ)) (failures later : ℕ) : Type 0 where
   pub written : IfOk result (λ a. (text : List ℕ) × IsOutput a text × Appends old new text)
   pub cut : IsErrOf result fault.Write → (a : A) × (text : List ℕ) × IsOutput a text × AppendsPrefix old new text

@@ -1,4 +1,4 @@
--- What solving a game may write.
+-- The output of solving a game.
 use Rattle.std.specs.Prelude.{ℕ, ◌≡◌, Bool, true, false, List, length, Option}
 use Rattle.pg_game.specs.declared.player.Player.{Player}
 use Rattle.pg_game.specs.Graph.{Graph}
@@ -21,7 +21,7 @@ abbrev pub IsSolveText : Bool → Graph → List ℕ → Type 0
 IsSolveText true g text = IsWinnersText g text
 IsSolveText false g text = (rows : SolutionRows) × IsExactSolution g rows × (text ≡ written_solution g rows)
 
--- the sources had a game and what is known of it, each player's known set is a region of his, and the text is of the game's solution
+-- the sources had a game and what is known of it, each player's known set is a region of his, and the text is that of the game's solution
 pub record IsSolveOutput (game known : Option (List ℕ)) (winners : Bool) (text : List ℕ) : Type 0 where
   pub graph : Graph
   pub rows : KnownRows
@@ -30,7 +30,7 @@ pub record IsSolveOutput (game known : Option (List ℕ)) (winners : Bool) (text
   pub regions : (p : Player) → IsKnownRegion graph rows p
   pub text_is : IsSolveText winners graph text
 
--- the text of a lawful journal that settles every vertex, and of a report with one row for each job: so many workers drew a
+-- the text of a lawful journal that settles every vertex, and of a report with one row for each job: this many workers drew a
 -- prefix of the jobs, and the rows say what they settled; nothing was known before
 pub record IsTraceText (workers : ℕ) (g : Graph) (text : List ℕ) : Type 0 where
   pub journal : Journal

@@ -7,7 +7,7 @@ use Rattle.pgboard.specs.declared.fault.AskedFault.TheVariants as asked
 use Rattle.pgboard.specs.declared.verdict.Verdict.{Verdict}
 use Rattle.pgboard.specs.declared.verdict.Verdict.TheVariants.{Holds, Fails}
 
--- a solution was found, or none
+-- the solution holds, or it does not
 abbrev pub verdict_status : Verdict → ℕ
 verdict_status Holds = 0
 verdict_status (Fails fault) = 1
@@ -22,7 +22,7 @@ status_of fault.Read = 4
 status_of fault.Write = 4
 status_of fault.Memory = 5
 
--- the command line was refused, or memory was
+-- the command line was refused, or memory was refused
 abbrev pub asked_status_of : AskedFault → ℕ
 asked_status_of (asked.Words text) = 2
 asked_status_of asked.Memory = 5

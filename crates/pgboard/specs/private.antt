@@ -3,3 +3,4 @@ pub mod Run
 pub mod Known
 pub mod Refused
 pub mod Trace
+pub mod Line

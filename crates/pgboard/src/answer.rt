@@ -1,8 +1,9 @@
 //! Doing what was asked for, over any sources and sink.
-ghost use Rattle.std.specs.Prelude.{◌≡◌, ◌≢◌, ◌≤◌, ℕ, List, None, IfOk, OnOk, IfErr};
-ghost use Rattle.std.specs.Io.KnownBytes.{Appends, Keeps};
-ghost use Rattle.pgboard.specs.Answer.{IsProgramAnswer, known_text};
-ghost use Rattle.pgboard.specs.Asking.{IsInRange, second_path_of};
+ghost use Rattle.std.specs.Prelude.{◌≡◌, ◌≤◌, IfErr};
+ghost use Rattle.pgboard.specs.Answer.{known_text, ReadsGiven, SolvingFailed, ReadsFor, IsOutputFor, FailsFor};
+ghost use Rattle.pgboard.specs.Asking.{IsInRange};
+ghost use Rattle.pgboard.specs.Device.{HasFailed};
+ghost use Rattle.pgboard.specs.Run.{Writes};
 ghost use Rattle.pgboard.specs.Solving.{IsSolveOutput};
 
 use crate::asking::Asked;
@@ -31,10 +32,11 @@ fn solve_from<I: Source, S: Source, O: Sink, R: Threads + Wait + Sync>(
 ) -> Result<(), RunFault>
     requires workers { (1 ≤ options.now.workers) × (options.now.workers ≤ 64) }
     requires bound { options.now.bound ≤ 8 }
-    ensures written { OnOk result ((text : List ℕ) × IsSolveOutput (I.left input.old) (known_text known.now (S.left second.old)) options.now.winners text
-        × Appends (O.taken out.old) (O.taken out.new) text) }
-    ensures alone { known.now ≡ None → second.new ≡ second.old }
-    ensures nothing { IfErr result (λ e. e ≢ RunFault.Write → Keeps (O.taken out.old) (O.taken out.new)) }
+    ensures reads { ReadsGiven known.now result (I.left input.old) (I.read_failures input.old) (I.read_failures input.new) (second.new ≡ second.old)
+        (S.read_failures second.new ≡ S.read_failures second.old) (HasFailed (S.read_failures second.old) (S.read_failures second.new)) }
+    ensures writes { Writes (λ _ text. IsSolveOutput (I.left input.old) (known_text known.now (S.left second.old)) options.now.winners text)
+        result (O.taken out.old) (O.taken out.new) (O.write_failures out.old) (O.write_failures out.new) }
+    ensures fault { IfErr result (λ e. SolvingFailed known.now (I.left input.old) (S.left second.old) e) }
 {
     match known {
         Some(_) => run_solve(rt, alloc, input, Some(second), out, options, gate, finder),
@@ -58,9 +60,12 @@ pub fn run_asked<I: Source, S: Source, O: Sink, R: Threads + Wait + Sync>(
     finder: &impl Finder,
 ) -> Result<u8, RunFault>
     requires { IsInRange asked.now }
-    ensures answer { IfOk result (λ status. IsProgramAnswer asked.now (I.left input.old) (S.left second.old) (O.taken out.old) (O.taken out.new) status) }
-    ensures one_text { second_path_of asked.now ≡ None → second.new ≡ second.old }
-    ensures nothing { IfErr result (λ e. e ≢ RunFault.Write → Keeps (O.taken out.old) (O.taken out.new)) }
+    ensures reads { ReadsFor asked.now result (I.left input.old) (I.read_failures input.old) (I.read_failures input.new) (input.new ≡ input.old)
+        (second.new ≡ second.old) (S.read_failures second.new ≡ S.read_failures second.old)
+        (HasFailed (S.read_failures second.old) (S.read_failures second.new)) }
+    ensures writes { Writes (λ status text. IsOutputFor asked.now (I.left input.old) (S.left second.old) status text)
+        result (O.taken out.old) (O.taken out.new) (O.write_failures out.old) (O.write_failures out.new) }
+    ensures fault { IfErr result (λ e. FailsFor asked.now (I.left input.old) (S.left second.old) e) }
 {
     match asked {
         Asked::Joined => Ok(run_joined(alloc, input, out)?.status()),

@@ -1,7 +1,9 @@
 //! What a command line may ask for.
-ghost use Rattle.std.specs.Prelude.{◌≡◌, ◌≢◌, ◌≤◌, Some, IfOk, is_some, option_map, string_bytes};
-ghost use Rattle.clap.specs.Matches.{found_of, first_value, matched_of};
+ghost use Rattle.std.specs.Prelude.{◌≡◌, ◌≤◌, ℕ, List, Option, Some, IfOk, IfErr, codes, option_map, string_bytes};
+ghost use Rattle.clap.specs.Words.{first_of, found_of, rows_of, subcommand_rows_of};
+ghost use Rattle.pgboard.specs.declared.asking.Asked.{Asked};
 ghost use Rattle.pgboard.specs.Asking.{IsInRange, path_of, second_path_of};
+ghost use Rattle.pgboard.specs.Line.{IsNumber, IsPath, IsRead};
 
 use crate::fault::AskedFault;
 use clap::ArgMatches;
@@ -44,7 +46,8 @@ impl Asked {
     /// What the words ask for that the command-line reader took. Without a command they are refused.
     pub(crate) fn from_matches(alloc: Global, matches: &ArgMatches<'_>) -> Result<Asked, AskedFault>
         ensures range { IfOk result IsInRange }
-        ensures command { IfOk result (λ asked. asked ≢ Asked.Joined) }
+        ensures read { IfOk result (λ asked. IsRead (subcommand_rows_of matches.now) asked) }
+        ensures taken { (asked : Asked) → IsRead (subcommand_rows_of matches.now) asked → IsInRange asked → IfErr result (λ e. e ≡ AskedFault.Memory) }
     {
         match matches.subcommand() {
             Some(("verify", given)) => verify(alloc, given),
@@ -82,7 +85,9 @@ impl Asked {
 
 fn verify(alloc: Global, given: &ArgMatches<'_>) -> Result<Asked, AskedFault>
     ensures range { IfOk result IsInRange }
-    ensures command { IfOk result (λ asked. asked ≢ Asked.Joined) }
+    ensures read { IfOk result (λ asked. IsRead (Some (codes "verify", rows_of (found_of given.now))) asked) }
+    ensures taken { (asked : Asked) → IsRead (Some (codes "verify", rows_of (found_of given.now))) asked → IsInRange asked
+        → IfErr result (λ e. e ≡ AskedFault.Memory) }
 {
     let game = path(alloc, given, "GAME")?;
     let solution = path(alloc, given, "SOLUTION")?;
@@ -91,7 +96,9 @@ fn verify(alloc: Global, given: &ArgMatches<'_>) -> Result<Asked, AskedFault>
 
 fn tidy(alloc: Global, given: &ArgMatches<'_>) -> Result<Asked, AskedFault>
     ensures range { IfOk result IsInRange }
-    ensures command { IfOk result (λ asked. asked ≢ Asked.Joined) }
+    ensures read { IfOk result (λ asked. IsRead (Some (codes "tidy", rows_of (found_of given.now))) asked) }
+    ensures taken { (asked : Asked) → IsRead (Some (codes "tidy", rows_of (found_of given.now))) asked → IsInRange asked
+        → IfErr result (λ e. e ≡ AskedFault.Memory) }
 {
     let game = optional_path(alloc, given, "GAME")?;
     Ok(Asked::Tidy { game })
@@ -99,7 +106,9 @@ fn tidy(alloc: Global, given: &ArgMatches<'_>) -> Result<Asked, AskedFault>
 
 fn solve(alloc: Global, given: &ArgMatches<'_>) -> Result<Asked, AskedFault>
     ensures range { IfOk result IsInRange }
-    ensures command { IfOk result (λ asked. asked ≢ Asked.Joined) }
+    ensures read { IfOk result (λ asked. IsRead (Some (codes "solve", rows_of (found_of given.now))) asked) }
+    ensures taken { (asked : Asked) → IsRead (Some (codes "solve", rows_of (found_of given.now))) asked → IsInRange asked
+        → IfErr result (λ e. e ≡ AskedFault.Memory) }
 {
     let workers = number(alloc, given, "workers", 1, 64)?;
     let bound = number(alloc, given, "bound", 0, 8)?;
@@ -117,7 +126,9 @@ fn solve(alloc: Global, given: &ArgMatches<'_>) -> Result<Asked, AskedFault>
 
 fn trace(alloc: Global, given: &ArgMatches<'_>) -> Result<Asked, AskedFault>
     ensures range { IfOk result IsInRange }
-    ensures command { IfOk result (λ asked. asked ≢ Asked.Joined) }
+    ensures read { IfOk result (λ asked. IsRead (Some (codes "trace", rows_of (found_of given.now))) asked) }
+    ensures taken { (asked : Asked) → IsRead (Some (codes "trace", rows_of (found_of given.now))) asked → IsInRange asked
+        → IfErr result (λ e. e ≡ AskedFault.Memory) }
 {
     let workers = number(alloc, given, "workers", 1, 64)?;
     let game = optional_path(alloc, given, "GAME")?;
@@ -143,7 +154,9 @@ fn number(
     least: u32,
     most: u32,
 ) -> Result<u32, AskedFault>
-    ensures { IfOk result (λ n. (least ≤ n) × (n ≤ most)) }
+    ensures range { IfOk result (λ n. (least ≤ n) × (n ≤ most)) }
+    ensures value { IfOk result (λ n. IsNumber name.now (rows_of (found_of given.now)) n) }
+    ensures taken { (n : ℕ) → IsNumber name.now (rows_of (found_of given.now)) n → least ≤ n → n ≤ most → IfErr result (λ e. e ≡ AskedFault.Memory) }
 {
     if let Some(n) = given.get_one::<u32>(name) {
         if least <= n && n <= most {
@@ -155,7 +168,8 @@ fn number(
 
 /// The path that was given under this name. One that can't be read back is refused.
 fn path(alloc: Global, given: &ArgMatches<'_>, name: &str) -> Result<String, AskedFault>
-    ensures { IfOk result (λ path. first_value (found_of given.now) name.now ≡ Some (string_bytes path)) }
+    ensures value { IfOk result (λ path. first_of name.now (rows_of (found_of given.now)) ≡ Some (string_bytes path)) }
+    ensures taken { (path : List ℕ) → first_of name.now (rows_of (found_of given.now)) ≡ Some path → IfErr result (λ e. e ≡ AskedFault.Memory) }
 {
     match given.get_str(name) {
         Some(path) => Ok(String::from_str(alloc, path)?),
@@ -169,8 +183,8 @@ fn optional_path(
     given: &ArgMatches<'_>,
     name: &str,
 ) -> Result<Option<String>, AskedFault>
-    ensures given { IfOk result (λ path. is_some path ≡ is_some (matched_of (found_of given.now) name.now)) }
-    ensures text { IfOk result (λ path. option_map (λ text. string_bytes text) path ≡ first_value (found_of given.now) name.now) }
+    ensures value { IfOk result (λ path. IsPath name.now (rows_of (found_of given.now)) (option_map (λ path. string_bytes path) path)) }
+    ensures taken { (path : Option (List ℕ)) → IsPath name.now (rows_of (found_of given.now)) path → IfErr result (λ e. e ≡ AskedFault.Memory) }
 {
     if given.contains_id(name) {
         return Ok(Some(path(alloc, given, name)?));

@@ -1,11 +1,19 @@
 //! The command line's words and flags, and its help: `-h` is short, and `--help` has examples too.
+ghost use Rattle.std.specs.Prelude.{◌≡◌, false, IfOk, codes};
+ghost use Rattle.clap.specs.Simple.{new_shape};
+ghost use Rattle.clap.specs.Words.{Shape, app_of, rule_of, with_subcommand};
+ghost use Rattle.pgboard.specs.Line.{program, workers_rule, bound_rule, winners_rule, known_rule, path_rule};
+ghost use Rattle.pgboard.specs.Line.{solve_command, trace_command, verify_command, tidy_command};
+ghost use Rattle.pgboard.specs.private.Line.{IsCommand};
+
 use clap::{Arg, ArgAction, Command, value_parser};
 use std::alloc::{AllocError, Global};
 
-/// The kit's line is what `rt version` prints. The last words hold the place of what the program can't know of itself: whether
-/// it was proved, and of what commit. Who builds it writes that over them, in a copy of the program (`tools/build`).
+/// The kit's line is what `rt version` prints, without the letter of the release. The last words hold the place of what the
+/// program can't know of itself: whether it was proved, and of what commit. Who builds it writes that over them, in a copy of
+/// the program (`tools/build`).
 const VERSION: &str = "0.1.0\n\
-kit: rattle-kit-13f logic dac8208d650f15bf\n\
+kit: rattle-kit-13 logic dac8208d650f15bf\n\
 build: not recorded: whether it was proved, and of what commit";
 
 const ABOUT: &str =
@@ -26,21 +34,21 @@ pgboard tidy game.pg                                see how a game was read{n}  
 const SOLVE: &str = "Writes a solution of GAME";
 
 const LONG_SOLVE: &str = "Writes a solution of GAME{n}{n}\
-Each vertex has a line with its winner, and where its winner owns it with the winner's choice. Winners are{n}\
-the only ones, choices need not be. Without GAME it reads standard input.{n}{n}\
-With --known FILE the search begins from what FILE says: a solution text in which vertices may be left out.{n}\
-It is checked. Where the vertices that it gives a player are not won there by its choices without leaving{n}\
-them, nothing is written, and a line says what is wrong first.{n}{n}\
+Each vertex has a line with its winner. If the winner owns the vertex, the line has the winner's choice, too.{n}\
+A game has one set of winners, and often several right choices. Without GAME it reads standard input.{n}{n}\
+With --known FILE the search begins from a part of a solution: a solution text that may leave vertices out.{n}\
+pgboard checks it first. If its choices do not win a player's vertices without leaving them, nothing is{n}\
+written, and a line on standard error names the first fault.{n}{n}\
 Examples:{n}  \
 pgboard solve game.pg > game.sol{n}  \
 pgboard solve --winners < game.pg{n}  \
 pgboard solve --known part.sol game.pg > game.sol";
 
-const TRACE: &str = "Writes the journal of solving GAME, and what became of each job";
+const TRACE: &str = "Writes the journal of solving GAME, and the result of each job";
 
-const LONG_TRACE: &str = "Writes the journal of solving GAME, and what became of each job{n}{n}\
-Small dominions of at most 4 vertices are looked for. The history may be another one in another run. Without{n}\
-GAME it reads standard input.{n}{n}\
+const LONG_TRACE: &str = "Writes the journal of solving GAME, and the result of each job{n}{n}\
+The searches look for dominions of at most 4 vertices. The journal may differ in another run. Without GAME it{n}\
+reads standard input.{n}{n}\
 Example:{n}  \
 pgboard trace --workers 1 game.pg";
 
@@ -55,8 +63,8 @@ pgboard verify game.pg game.sol && echo right";
 const TIDY: &str = "Writes GAME in its one written form";
 
 const LONG_TIDY: &str = "Writes GAME in its one written form{n}{n}\
-Vertices stand by rising identifier, and so do their successors, each once. Names and the start line are{n}\
-dropped. Without GAME it reads standard input.{n}{n}\
+Vertices and their successors come by rising identifier, each once. Names and the start line are left out.{n}\
+Without GAME it reads standard input.{n}{n}\
 Example:{n}  \
 zcat game.pg.gz | pgboard tidy > tidy.pg";
 
@@ -69,7 +77,9 @@ const STATUSES: &str = "Exit status:{n}  \
 5  memory was refused";
 
 /// The program's command. Its words are those after the program's name.
-pub fn command<'a>(alloc: Global) -> Result<Command<'a>, AllocError> {
+pub fn command<'a>(alloc: Global) -> Result<Command<'a>, AllocError>
+    ensures { IfOk result (λ command. app_of command ≡ program) }
+{
     let command = Command::new(alloc, "pgboard")
         .no_binary_name(true)
         .version(VERSION)
@@ -87,12 +97,17 @@ pub fn command<'a>(alloc: Global) -> Result<Command<'a>, AllocError> {
 fn with<'a>(
     command: Command<'a>,
     subcommand: Result<Command<'a>, AllocError>,
-) -> Result<Command<'a>, AllocError> {
+) -> Result<Command<'a>, AllocError>
+    ensures { (shape : Shape) → IfOk subcommand.entry (λ added. IsCommand shape added) → IfOk result (λ r. app_of r ≡ with_subcommand (app_of command.entry) shape) }
+{
     command.subcommand(subcommand?)
 }
 
 /// How many workers there are.
-fn workers<'a>(alloc: Global) -> Arg<'a> {
+fn workers<'a>(alloc: Global) -> Arg<'a>
+    ensures rule { rule_of result ≡ workers_rule }
+    ensures local { result.global ≡ false }
+{
     Arg::new(alloc, "workers")
         .long("workers")
         .value_name("N")
@@ -102,7 +117,10 @@ fn workers<'a>(alloc: Global) -> Arg<'a> {
 }
 
 /// How large the small dominions are that are looked for.
-fn bound<'a>(alloc: Global) -> Arg<'a> {
+fn bound<'a>(alloc: Global) -> Arg<'a>
+    ensures rule { rule_of result ≡ bound_rule }
+    ensures local { result.global ≡ false }
+{
     Arg::new(alloc, "bound")
         .long("bound")
         .value_name("N")
@@ -112,7 +130,10 @@ fn bound<'a>(alloc: Global) -> Arg<'a> {
 }
 
 /// The file of what is known already.
-fn known<'a>(alloc: Global) -> Arg<'a> {
+fn known<'a>(alloc: Global) -> Arg<'a>
+    ensures rule { rule_of result ≡ known_rule }
+    ensures local { result.global ≡ false }
+{
     Arg::new(alloc, "known")
         .long("known")
         .value_name("FILE")
@@ -120,7 +141,10 @@ fn known<'a>(alloc: Global) -> Arg<'a> {
 }
 
 /// Whether the winners alone are written.
-fn winners<'a>(alloc: Global) -> Arg<'a> {
+fn winners<'a>(alloc: Global) -> Arg<'a>
+    ensures rule { rule_of result ≡ winners_rule }
+    ensures local { result.global ≡ false }
+{
     Arg::new(alloc, "winners")
         .long("winners")
         .action(ArgAction::SetTrue)
@@ -128,7 +152,10 @@ fn winners<'a>(alloc: Global) -> Arg<'a> {
 }
 
 /// The file of the game, which may be left out.
-fn game<'a>(alloc: Global) -> Arg<'a> {
+fn game<'a>(alloc: Global) -> Arg<'a>
+    ensures rule { rule_of result ≡ path_rule (codes "GAME") false }
+    ensures local { result.global ≡ false }
+{
     path(
         alloc,
         "GAME",
@@ -137,24 +164,26 @@ fn game<'a>(alloc: Global) -> Arg<'a> {
 }
 
 /// A path, taken literally.
-fn path<'a>(alloc: Global, name: &'a str, help: &'a str) -> Arg<'a> {
+fn path<'a>(alloc: Global, name: &'a str, help: &'a str) -> Arg<'a>
+    ensures rule { rule_of result ≡ path_rule name.now false }
+    ensures local { result.global ≡ false }
+{
     Arg::new(alloc, name).help(help)
 }
 
 /// A subcommand with its short help and its long one.
-fn subcommand<'a>(
-    alloc: Global,
-    name: &'a str,
-    about: &'a str,
-    long_about: &'a str,
-) -> Command<'a> {
+fn subcommand<'a>(alloc: Global, name: &'a str, about: &'a str, long_about: &'a str) -> Command<'a>
+    ensures { IsCommand (new_shape name.now) result }
+{
     Command::new(alloc, name)
         .about(about)
         .long_about(long_about)
         .after_help(STATUSES)
 }
 
-fn solve<'a>(alloc: Global) -> Result<Command<'a>, AllocError> {
+fn solve<'a>(alloc: Global) -> Result<Command<'a>, AllocError>
+    ensures { IfOk result (λ command. IsCommand solve_command command) }
+{
     subcommand(alloc, "solve", SOLVE, LONG_SOLVE)
         .arg(workers(alloc))?
         .arg(bound(alloc))?
@@ -163,18 +192,24 @@ fn solve<'a>(alloc: Global) -> Result<Command<'a>, AllocError> {
         .arg(game(alloc))
 }
 
-fn trace<'a>(alloc: Global) -> Result<Command<'a>, AllocError> {
+fn trace<'a>(alloc: Global) -> Result<Command<'a>, AllocError>
+    ensures { IfOk result (λ command. IsCommand trace_command command) }
+{
     subcommand(alloc, "trace", TRACE, LONG_TRACE)
         .arg(workers(alloc))?
         .arg(game(alloc))
 }
 
-fn verify<'a>(alloc: Global) -> Result<Command<'a>, AllocError> {
+fn verify<'a>(alloc: Global) -> Result<Command<'a>, AllocError>
+    ensures { IfOk result (λ command. IsCommand verify_command command) }
+{
     subcommand(alloc, "verify", VERIFY, LONG_VERIFY)
         .arg(path(alloc, "GAME", "The file of the game").required(true))?
         .arg(path(alloc, "SOLUTION", "The file of the solution").required(true))
 }
 
-fn tidy<'a>(alloc: Global) -> Result<Command<'a>, AllocError> {
+fn tidy<'a>(alloc: Global) -> Result<Command<'a>, AllocError>
+    ensures { IfOk result (λ command. IsCommand tidy_command command) }
+{
     subcommand(alloc, "tidy", TIDY, LONG_TIDY).arg(game(alloc))
 }

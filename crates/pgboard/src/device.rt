@@ -1,4 +1,4 @@
-//! Where a run's bytes come from and go to.
+//! Sources and sinks of a run's bytes.
 ghost use Rattle.std.specs.Prelude.{ℕ, ◌≤◌, ◌<◌, ◌≡◌, length, List, Option, IfOk};
 ghost use Rattle.std.specs.Io.KnownBytes.{ReadConsumes, WriteAppends};
 ghost use Rattle.std.specs.Io.{ReadsAtMost};
@@ -12,13 +12,13 @@ pub struct Failed;
 
 /// Where bytes come from.
 pub trait Source {
-    /// The bytes that are left, where they are known.
+    /// The bytes that are left, if they are known.
     ghost left: { Self → Option (List ℕ) };
 
     /// How often it failed. The count stays at its last value.
     ghost read_failures: { Self → ℕ };
 
-    /// How many bytes are left to the best of its knowledge. More may come, or fewer.
+    /// A hint: the number of bytes that are left. More may come, or fewer.
     fn expected(&self) -> u64 {
         0
     }
@@ -31,7 +31,7 @@ pub trait Source {
 
 /// Where bytes go.
 pub trait Sink {
-    /// The bytes that were taken, where they are known.
+    /// The bytes that were taken, if they are known.
     ghost taken: { Self → Option (List ℕ) };
 
     /// How often it failed. The count stays at its last value.
@@ -54,7 +54,7 @@ pub struct Std<T> {
 }
 
 impl<T> Std<T> {
-    /// No failure is counted yet, and nothing is known of how many bytes there are.
+    /// No failure is counted yet, and the number of bytes is unknown.
     pub fn new(inner: T) -> Std<T>
         ensures { result ≡ untouched inner }
     {
@@ -65,7 +65,7 @@ impl<T> Std<T> {
         }
     }
 
-    /// How many failures were counted.
+    /// The number of counted failures.
     pub fn failures(&self) -> u64
         ensures { result ≡ self.now.failures }
     {
@@ -80,7 +80,7 @@ impl<T> Std<T> {
         self.inner
     }
 
-    /// The same, of which so many bytes are expected.
+    /// The same, with this expected number of bytes.
     pub fn expecting(self, bytes: u64) -> Std<T>
         ensures inner { result.inner ≡ self.inner }
         ensures failures { result.failures ≡ self.failures }

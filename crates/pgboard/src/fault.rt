@@ -1,4 +1,4 @@
-//! Why a run or a command line gave no answer: the faults, their texts and their exit statuses.
+//! The faults of runs and command lines, their texts and their exit statuses.
 ghost use Rattle.std.specs.Prelude.{◌≡◌};
 ghost use Rattle.pgboard.specs.Asking.{Says};
 ghost use Rattle.pgboard.specs.Status.{status_of, asked_status_of};
@@ -7,13 +7,13 @@ use pg_text::{SolutionTextFault, TextFault};
 use std::alloc::{AllocError, AllocFailed, Global};
 use thiserror::Error;
 
-/// Why a run gave no answer.
+/// Why a run has no result.
 #[derive(Clone, Copy, Debug, Drop, PartialEq, Eq, Error)]
 pub enum RunFault {
-    /// A file couldn't be opened, or a read failed.
+    /// A file could not be opened, or a read failed.
     #[error("read fault")]
     Read,
-    /// A text has more bytes than a text may have.
+    /// A text has more than 268,435,456 bytes.
     #[error("text too long")]
     TooLong,
     /// The game's text was refused.
@@ -22,7 +22,7 @@ pub enum RunFault {
     /// The text of a solution, or of what is known, was refused.
     #[error("solution: {0}")]
     Solution(SolutionTextFault),
-    /// What is known of a player is no region of his.
+    /// A player's known set is no region of his.
     #[error("known: {0}")]
     Known(KnownFault),
     /// A write failed. A prefix of the output may have gone out.
@@ -33,27 +33,27 @@ pub enum RunFault {
     Memory,
 }
 
-/// Why a player's known set is no region, by identifiers: what its post was refused for.
+/// Why a player's known set is no region, by identifiers: the reason of the refused post.
 #[derive(Clone, Copy, Debug, Drop, PartialEq, Eq, Error)]
 pub enum KnownFault {
-    /// The player owns the vertex, the first such one, and there is no choice at it or one that is no successor.
+    /// The first vertex that the player owns without a choice, or with one that is no successor.
     #[error("bad choice or none at {0}")]
     Choice(u32),
-    /// The least vertex with the opponent's parity that is the greatest on a closed walk that is left inside the set.
+    /// The least vertex with the opponent's parity that is the greatest on a closed walk of kept edges inside the set.
     #[error("bad cycle at {0}")]
     Cycle(u32),
-    /// The least vertex of the set that the opponent won before it, by what he is known to win and attracts to it.
+    /// The least vertex of the set that the opponent attracts to his own known set.
     #[error("{0} is lost")]
     Lost(u32),
-    /// The first edge that may be taken at a vertex of the set and leads out of it.
+    /// The first kept edge that leads out of the set.
     #[error("{0} leaves to {1}")]
     Open(u32, u32),
 }
 
-/// Why a command line asks for nothing.
+/// Why a command line was refused.
 #[derive(Debug, Drop, PartialEq, Eq, Error)]
 pub enum AskedFault {
-    /// The words were refused. The text says why, and ends with its line.
+    /// The words were refused. The text says why, and ends with a line feed.
     #[error("{0}")]
     Words(String),
     /// The allocator refused.
@@ -76,7 +76,7 @@ impl RunFault {
 }
 
 impl AskedFault {
-    /// A refusal of the words with this text, or `Memory`.
+    /// The error for refused words with this text, or `Memory`.
     pub fn words(alloc: Global, text: &str) -> AskedFault
         ensures { Says text.now result }
     {
@@ -86,7 +86,7 @@ impl AskedFault {
         }
     }
 
-    /// The exit status where the command line was refused.
+    /// The exit status for a refused command line.
     pub fn status(&self) -> u8
         ensures { result ≡ asked_status_of self.now }
     {

@@ -12,18 +12,18 @@ use crate::fault::RunFault;
 use crate::texts::{solution_from, solution_of};
 use crate::verdict::Verdict;
 use crate::writing::write_all;
-use pg_dominion::{SolutionFault, check_solution};
-use pg_game::Game;
+use pg_dominion::{SolutionFault, judge_solution};
+use pg_game::ForwardGame;
 use pg_text::Solution;
 use std::alloc::Global;
 
 /// What is said of winners and choices.
-fn verdict_on(alloc: Global, game: &Game, solution: &Solution) -> Result<Verdict, RunFault>
+fn verdict_on(alloc: Global, game: &ForwardGame, solution: &Solution) -> Result<Verdict, RunFault>
     requires { length solution.now.rows ≡ length game.now }
     ensures verdict { IfOk result (λ verdict. IsVerdict game.now solution.now.rows verdict) }
     ensures fault { IfErr result (λ e. e ≡ RunFault.Memory) }
 {
-    match check_solution(alloc, game, solution) {
+    match judge_solution(alloc, game, solution) {
         Ok(()) => Ok(Verdict::Holds),
         Err(SolutionFault::Memory) => Err(RunFault::Memory),
         Err(fault) => Ok(Verdict::Fails(fault)),
@@ -32,7 +32,7 @@ fn verdict_on(alloc: Global, game: &Game, solution: &Solution) -> Result<Verdict
 
 /// What is said of the winners and choices that a text spells. The game is given up, so that a caller's proof has no field
 /// of it to drop.
-pub fn verdict_of(alloc: Global, game: Game, text: &[u8]) -> Result<Verdict, RunFault>
+pub fn verdict_of(alloc: Global, game: ForwardGame, text: &[u8]) -> Result<Verdict, RunFault>
     requires { length text.now ≤ max_text }
     ensures verdict { IfOk result (λ verdict. IsVerdictOn game text.now verdict) }
     ensures fault { IfErr result (λ e. IsRefusedSolution game text.now e) }
@@ -44,7 +44,7 @@ pub fn verdict_of(alloc: Global, game: Game, text: &[u8]) -> Result<Verdict, Run
 /// The same of the text of a source, which is freed before the winners and choices are judged.
 pub fn verdict_from<S: Source>(
     alloc: Global,
-    game: Game,
+    game: ForwardGame,
     source: &mut S,
 ) -> Result<Verdict, RunFault>
     ensures verdict { IfOk result (λ verdict. IfSome (S.left source.old) (λ text. (length text ≤ max_text) × IsVerdictOn game text verdict)) }

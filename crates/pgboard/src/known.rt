@@ -1,4 +1,4 @@
-//! What is known of a game before it is solved: read from a text, or nothing; and why a known set is no region.
+//! What is known of a game before it is solved, from a text or nothing; and why a known set is no region.
 ghost use Rattle.std.specs.Prelude.{◌≡◌, ◌≤◌, ◌<◌, [], length, Some, IfOk, IfErr, option_map, slice_get};
 ghost use Rattle.pg_text.specs.Known.{IsKnownTextOf, known_of};
 ghost use Rattle.pg_text.specs.Reading.{max_text};
@@ -15,7 +15,7 @@ use pg_text::{Known, SolutionTextFault, read_known};
 use pg_workers::SolveFault;
 use std::alloc::{AllocError, Global};
 
-/// What a text says that is known of the game.
+/// What is known of the game by a text.
 pub fn known_of(alloc: Global, game: &Game, text: &[u8]) -> Result<Known, RunFault>
     requires { length text.now ≤ max_text }
     ensures size { IfOk result (λ known. length known.rows ≡ length game.now) }
@@ -29,7 +29,7 @@ pub fn known_of(alloc: Global, game: &Game, text: &[u8]) -> Result<Known, RunFau
     }
 }
 
-/// What is known of a game where no text is given: nothing, which takes no rows.
+/// What is known of a game without a text: nothing, which has no rows.
 pub fn nothing_known(alloc: Global) -> Known
     ensures { result.rows ≡ [] }
 {
@@ -53,8 +53,7 @@ fn is_known_of(known: &Known, player: Player, v: u32) -> bool
     }
 }
 
-/// The vertex in a row of the player's known set: of those that he is known to win, in order, the one with so many
-/// before it.
+/// The vertex in a row of the player's known set: of his known vertices, in order, the one with this many before it.
 fn vertex_in_row(game: &Game, known: &Known, player: Player, row: u32) -> u32
     requires known { length known.now.rows ≤ length game.now }
     requires row { row < length (known_rows game.now known.now.rows player) }
@@ -73,7 +72,7 @@ fn vertex_in_row(game: &Game, known: &Known, player: Player, row: u32) -> u32
     unreachable!()
 }
 
-/// What the check of a player's known set found, by identifiers.
+/// The fault that a check of a player's known set found, by identifiers.
 fn claim_fault(game: &Game, known: &Known, player: Player, fault: ClaimFault) -> KnownFault
     requires known { length known.now.rows ≤ length game.now }
     requires fault { IsSolveFault game.now known.now.rows (SolveFault.Known player (Refusal.Claim fault)) }
@@ -91,7 +90,7 @@ fn claim_fault(game: &Game, known: &Known, player: Player, fault: ClaimFault) ->
     }
 }
 
-/// What the post of a player's known set was refused for, by identifiers.
+/// The reason of the refused post of a player's known set, by identifiers.
 fn known_fault(game: &Game, known: &Known, player: Player, refusal: Refusal) -> KnownFault
     requires known { length known.now.rows ≤ length game.now }
     requires refusal { IsSolveFault game.now known.now.rows (SolveFault.Known player refusal) }
@@ -121,7 +120,7 @@ pub fn unsolved(game: &Game, known: &Known, fault: SolveFault) -> RunFault
     }
 }
 
-/// Why a game of which nothing is known is not solved: memory that is out is the only reason.
+/// Why a game of which nothing is known is not solved: refused memory is the only reason.
 pub fn only_memory(game: &Game, known: &Known, fault: SolveFault) -> Memory
     requires known { known.now.rows ≡ [] }
     requires fault { IsSolveFault game.now known.now.rows fault }

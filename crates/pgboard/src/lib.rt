@@ -1,5 +1,5 @@
-//! The runs of the program `pgboard` over any sources and sink, and the command line that asks for them. A program that
-//! calls it opens the files, names the devices and prints a fault.
+//! The runs of the program `pgboard` over any sources and sink, and its command line. A program that calls this library
+//! opens the files, names the devices and prints a fault.
 #![tactic(auto)]
 
 mod answer;

@@ -1,4 +1,4 @@
-//! Reading a whole text from a source, into one buffer.
+//! Reads a whole text from a source into one buffer.
 ghost use Rattle.std.specs.Prelude.{◌≡◌, ◌≤◌, ◌<◌, ◌+◌, ◌⊎◌, length, take, drop, IfOk, IfErr, OnOk, IfSome, IsErrOf, [], vec_len};
 ghost use Rattle.std.specs.Io.KnownBytes.{Consumes, IsAtEnd};
 ghost use Rattle.pg_text.specs.Reading.{max_text};
@@ -9,16 +9,16 @@ use crate::fault::RunFault;
 use pg_text::MAX_TEXT;
 use std::alloc::{AllocError, Global};
 
-/// How many bytes are asked for at a time, at most.
+/// The greatest number of bytes of one read.
 const PIECE: usize = 65_536;
 
-/// Zeros behind the bytes that were read, for the next ones: as many as the room holds, up to a piece. A text that fills its
-/// room gets more.
+/// Adds zeros after the bytes that were read, for the next ones: as many as the capacity allows, up to a piece. If a text
+/// fills its capacity, the buffer grows.
 fn make_room(text: &mut Vec<u8>, filled: usize) -> Result<(), AllocError>
     requires limit { filled ≤ max_text }
     requires within { filled ≤ vec_len text.old }
     ensures prefix { OnOk result (take filled text.new.items ≡ take filled text.old.items) }
-    ensures room { OnOk result (filled < vec_len text.new) }
+    ensures capacity { OnOk result (filled < vec_len text.new) }
 {
     if filled == text.capacity() {
         text.reserve(PIECE)?;
@@ -30,7 +30,7 @@ fn make_room(text: &mut Vec<u8>, filled: usize) -> Result<(), AllocError>
     Ok(())
 }
 
-/// One read, to the places after those that are filled.
+/// One read, to the places after the filled ones.
 fn read_behind<S: Source>(source: &mut S, text: &mut [u8], filled: usize) -> Result<usize, Failed>
     requires { filled < length text.old }
     ensures prefix { take filled text.new ≡ take filled text.old }
@@ -43,7 +43,7 @@ fn read_behind<S: Source>(source: &mut S, text: &mut [u8], filled: usize) -> Res
     source.read(&mut text[filled..])
 }
 
-/// All bytes that a source has left, read into a buffer that is empty and may have capacity.
+/// Reads all bytes that a source has left into an empty buffer, which may have capacity.
 fn read_into<S: Source>(source: &mut S, buffer: Vec<u8>) -> Result<Vec<u8>, RunFault>
     requires { buffer.items ≡ [] }
     ensures text { IfOk result (λ text. IfSome (S.left source.old) (λ bytes. text.items ≡ bytes)) }
@@ -71,9 +71,9 @@ fn read_into<S: Source>(source: &mut S, buffer: Vec<u8>) -> Result<Vec<u8>, RunF
     }
 }
 
-/// All bytes that a source has left. It is read until a read gives nothing.
+/// All bytes that a source has left. The call reads until a read returns no byte.
 ///
-/// `Read` where a read fails, `TooLong` where more bytes come than a text may have, and `Memory`.
+/// The errors are `Read` if a read fails, `TooLong` for more than 268,435,456 bytes, and `Memory`.
 pub fn read_text<S: Source>(alloc: Global, source: &mut S) -> Result<Vec<u8>, RunFault>
     ensures text { IfOk result (λ text. IfSome (S.left source.old) (λ bytes. text.items ≡ bytes)) }
     ensures limit { IfOk result (λ text. length text.items ≤ max_text) }
@@ -85,7 +85,7 @@ pub fn read_text<S: Source>(alloc: Global, source: &mut S) -> Result<Vec<u8>, Ru
     let mut buffer = Vec::new(alloc);
     let expected = source.expected().min(MAX_TEXT as u64) as usize;
     if expected > 0 {
-        // one byte more, for the read that gives nothing; where so many are refused, the reads ask for what they need
+        // one byte more, for the read that returns none; if this capacity is refused, the reads ask for what they need
         let _ = buffer.reserve_exact(expected + 1);
     }
     read_into(source, buffer)

@@ -11,10 +11,10 @@ use crate::device::{Sink, Source};
 use crate::fault::RunFault;
 use crate::judge::{verdict_from, verdict_of, write_verdict};
 use crate::reading::read_text;
-use crate::texts::{game_from, game_of, parts};
+use crate::texts::{forward_game_from, forward_game_of, parts};
 use crate::verdict::Verdict;
 use crate::writing::write_all;
-use pg_text::write_game;
+use pg_text::write_forward_game;
 use std::alloc::Global;
 
 /// Reads a game and a solution in one text, and writes whether it is one.
@@ -31,7 +31,7 @@ pub fn run_joined<I: Source, O: Sink>(
 {
     let text = read_text(alloc, input)?;
     let (game, solution) = parts(text.as_slice());
-    let game = game_of(alloc, game)?;
+    let game = forward_game_of(alloc, game)?;
     let verdict = verdict_of(alloc, game, solution)?;
     write_verdict(alloc, &verdict, out)?;
     Ok(verdict)
@@ -53,7 +53,7 @@ pub fn run_verify<G: Source, S: Source, O: Sink>(
     ensures fault { IfErr result (λ e. (e ≡ RunFault.Write)
         ⊎ (IsNoGame (G.left game.old) e ⊎ ((g : Graph) × IsReadGame (G.left game.old) g × IsNoSolution g (S.left solution.old) e))) }
 {
-    let game = game_from(alloc, game)?;
+    let game = forward_game_from(alloc, game)?;
     let verdict = verdict_from(alloc, game, solution)?;
     write_verdict(alloc, &verdict, out)?;
     Ok(verdict)
@@ -70,7 +70,7 @@ pub fn run_tidy<I: Source, O: Sink>(
         result (O.taken out.old) (O.taken out.new) (O.write_failures out.old) (O.write_failures out.new) }
     ensures fault { IfErr result (λ e. (e ≡ RunFault.Write) ⊎ IsNoGame (I.left input.old) e) }
 {
-    let game = game_from(alloc, input)?;
-    let text = write_game(alloc, &game)?;
+    let game = forward_game_from(alloc, input)?;
+    let text = write_forward_game(alloc, &game)?;
     write_all(text.as_slice(), out)
 }

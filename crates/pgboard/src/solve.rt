@@ -1,4 +1,4 @@
-//! Solving a game, from what is known of it or from nothing, and telling how it was solved.
+//! Solving a game, from what is known of it or from nothing, and the trace of a run.
 ghost use Rattle.std.specs.Prelude.{◌≡◌, ◌≤◌, ◌⊎◌, [], length, Some, None, IfOk, IfErr};
 ghost use Rattle.pg_game.specs.declared.player.Player.{Player};
 ghost use Rattle.pg_game.specs.Graph.{Graph};
@@ -25,14 +25,14 @@ use std::alloc::{AllocError, Global};
 use std::sync::Wait;
 use std::thread::Threads;
 
-/// How many choices a search for a small dominion may try.
+/// The number of choices that a search for a small dominion may try.
 const BUDGET: u64 = 10_000;
 
-/// The greatest dominions that are searched for where a run is traced.
+/// The greatest size of the dominions that a traced run searches for.
 const TRACE_BOUND: u32 = 4;
 
-/// How a game is to be solved: by 1 to 64 workers, with searches for dominions of at most 8 vertices (none for 0), and
-/// whether the winners alone are written.
+/// Options for solving a game: 1 to 64 workers, searches for dominions of at most `bound` vertices, 0 to 8 (none for 0), and
+/// whether the output has the winners alone.
 #[derive(Drop)]
 pub struct SolveOptions {
     pub workers: u32,
@@ -40,7 +40,7 @@ pub struct SolveOptions {
     pub winners: bool,
 }
 
-/// The text of a game's solution, found from what is known of it.
+/// The text of a game's solution, from what is known of it.
 fn solve_text<R: Threads + Wait + Sync>(
     rt: &R,
     alloc: Global,
@@ -64,7 +64,7 @@ fn solve_text<R: Threads + Wait + Sync>(
         bound: options.bound,
         budget: BUDGET,
     };
-    // the journal takes as much memory as the solution, and is given back before the text is made
+    // the journal takes as much memory as the solution, and is freed before the text is made
     let solution = match solve_game(rt, alloc, game, &run, known, gate, finder) {
         Ok(outcome) => outcome.solution,
         Err(fault) => return Err(unsolved(game, known, fault)),
@@ -162,11 +162,13 @@ fn solve_alone<I: Source, O: Sink, R: Threads + Wait + Sync>(
     write_all(text.as_slice(), out)
 }
 
-/// Reads a game, and where it is given what is known of the game, solves it, and writes its solution, or with `winners`
-/// its winners alone, which are a function of the game. The game is read and judged before what is known is read.
+/// Reads a game, and what is known of it if there is a source for that, solves the game, and writes its solution. With
+/// `winners` it writes the winners alone, which are a function of the game. It reads and judges the game before it reads
+/// what is known, and posts each player's known set before any worker starts.
 ///
-/// Of the known text each player's set is posted first, as any claim is. `Known` where one is refused: it is no region
-/// of its player, and the fault says by identifiers what it was refused for.
+/// The errors, in this order: `Read`, `TooLong` or `Game` for the game; `Read`, `TooLong` or `Solution` for what is known;
+/// `Known` if a player's known set is no region, with the reason by identifiers; `Write`. `Memory` may come in place of any.
+/// After `Write` a prefix of the output went out, after any other error nothing.
 pub fn run_solve<I: Source, K: Source, O: Sink, R: Threads + Wait + Sync>(
     rt: &R,
     alloc: Global,
@@ -195,7 +197,8 @@ pub fn run_solve<I: Source, K: Source, O: Sink, R: Threads + Wait + Sync>(
     }
 }
 
-/// Reads a game, solves it, and writes the journal of the run and what became of each job.
+/// Reads a game, solves it, and writes the journal of the run and the results of each job. The errors are those of
+/// `run_solve` without a known source.
 pub fn run_trace<I: Source, O: Sink, R: Threads + Wait + Sync>(
     rt: &R,
     alloc: Global,

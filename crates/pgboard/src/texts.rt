@@ -11,8 +11,10 @@ use crate::device::Source;
 use crate::fault::RunFault;
 use crate::reading::read_text;
 use memchr::memchr;
-use pg_game::Game;
-use pg_text::{Solution, SolutionTextFault, TextFault, read_game, read_solution, take_solution};
+use pg_game::{ForwardGame, Game};
+use pg_text::{
+    Solution, SolutionTextFault, TextFault, read_forward_game, read_forward_solution, take_solution,
+};
 use std::alloc::Global;
 
 /// The parts of a joined text before and after its first `%`.
@@ -28,28 +30,39 @@ pub fn parts(text: &[u8]) -> (&[u8], &[u8])
     }
 }
 
-/// The game that a text spells.
-pub fn game_of(alloc: Global, text: &[u8]) -> Result<Game, RunFault>
+/// The game that a text spells, without predecessors.
+pub fn forward_game_of(alloc: Global, text: &[u8]) -> Result<ForwardGame, RunFault>
     requires { length text.now ≤ max_text }
     ensures game { IfOk result (λ g. IsTextOf text.now g) }
     ensures fault { IfErr result (λ e. IsRefusedGame text.now e) }
 {
-    match read_game(alloc, text) {
+    match read_forward_game(alloc, text) {
         Ok(game) => Ok(game),
         Err(TextFault::Memory) => Err(RunFault::Memory),
         Err(fault) => Err(RunFault::Game(fault)),
     }
 }
 
-/// The game that the text of a source spells.
+/// The game that the text of a source spells, with predecessors.
 pub fn game_from<S: Source>(alloc: Global, source: &mut S) -> Result<Game, RunFault>
     ensures game { IfOk result (λ g. IsReadGame (S.left source.old) g) }
     ensures fault { IfErr result (λ e. IsNoGame (S.left source.old) e) }
     ensures no_failure { (IsErrOf result RunFault.Read → ⊥) → S.read_failures source.new ≡ S.read_failures source.old }
     ensures failed { IsErrOf result RunFault.Read → HasFailed (S.read_failures source.old) (S.read_failures source.new) }
 {
+    let forward = forward_game_from(alloc, source)?;
+    Ok(Game::of_forward(alloc, forward)?)
+}
+
+/// The same without predecessors.
+pub fn forward_game_from<S: Source>(alloc: Global, source: &mut S) -> Result<ForwardGame, RunFault>
+    ensures game { IfOk result (λ g. IsReadGame (S.left source.old) g) }
+    ensures fault { IfErr result (λ e. IsNoGame (S.left source.old) e) }
+    ensures no_failure { (IsErrOf result RunFault.Read → ⊥) → S.read_failures source.new ≡ S.read_failures source.old }
+    ensures failed { IsErrOf result RunFault.Read → HasFailed (S.read_failures source.old) (S.read_failures source.new) }
+{
     let text = read_text(alloc, source)?;
-    game_of(alloc, text.as_slice())
+    forward_game_of(alloc, text.as_slice())
 }
 
 /// Why a run has no solution.
@@ -63,13 +76,13 @@ fn refused_for(fault: SolutionTextFault) -> RunFault
 }
 
 /// The winners and choices that a text spells for a game.
-pub fn solution_of(alloc: Global, game: &Game, text: &[u8]) -> Result<Solution, RunFault>
+pub fn solution_of(alloc: Global, game: &ForwardGame, text: &[u8]) -> Result<Solution, RunFault>
     requires { length text.now ≤ max_text }
     ensures fit { IfOk result (λ s. length s.rows ≡ length game.now) }
     ensures rows { IfOk result (λ s. IsSolutionTextOf game.now text.now s.rows) }
     ensures fault { IfErr result (λ e. IsRefusedSolution game.now text.now e) }
 {
-    match read_solution(alloc, game, text) {
+    match read_forward_solution(alloc, game, text) {
         Ok(solution) => Ok(solution),
         Err(fault) => Err(refused_for(fault)),
     }
@@ -78,7 +91,7 @@ pub fn solution_of(alloc: Global, game: &Game, text: &[u8]) -> Result<Solution, 
 /// The winners and choices that the text of a source spells for a game.
 pub fn solution_from<S: Source>(
     alloc: Global,
-    game: &Game,
+    game: &ForwardGame,
     source: &mut S,
 ) -> Result<Solution, RunFault>
     ensures fit { IfOk result (λ s. length s.rows ≡ length game.now) }

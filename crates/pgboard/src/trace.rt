@@ -1,6 +1,6 @@
 //! The text of a run: its journal, then a line for each job, then the sums.
 //!
-//! Each function adds one line, and each loop keeps that what is written and what the rest gives is the whole.
+//! Each function adds one line. The invariant of each loop: the written lines and those of the rest are the whole text.
 ghost use Rattle.std.specs.Prelude.{◌≡◌, ◌<◌, ◌++◌, ◌∷◌, [], length, codes, flat_map, sum_by, IfOk, OnOk, IfSome};
 ghost use Rattle.std.specs.List.{AllByRecursion};
 ghost use Rattle.pg_game.specs.Player.{digit_of};
@@ -55,7 +55,7 @@ fn put_flag(out: &mut Vec<u8>, flag: bool) -> Result<(), AllocError>
     put(out, if flag { b" 1" } else { b" 0" })
 }
 
-/// A space and the worker, or `-` where there is none.
+/// A space and the worker, or `-` if there is none.
 fn put_worker(out: &mut Vec<u8>, worker: Option<u32>) -> Result<(), AllocError>
     ensures { OnOk result (out.new.items ≡ out.old.items ++ (32 ∷ worker_word worker)) }
 {
@@ -151,7 +151,7 @@ fn put_jobs(out: &mut Vec<u8>, report: &[ReportRow]) -> Result<(), AllocError>
     Ok(())
 }
 
-/// The sums of a report's columns, as wide as they may grow.
+/// The sums of a report's columns, in 128 bits.
 #[derive(Clone, Copy)]
 struct Sums {
     posted: u128,
@@ -202,14 +202,14 @@ fn put_total(out: &mut Vec<u8>, report: &[ReportRow]) -> Result<(), AllocError>
     put(out, b"\n")
 }
 
-/// How many bytes a trace has at most. Capacity for so many is allocated once, so that nothing written is moved.
+/// The greatest number of bytes of a trace. This capacity is allocated once, so that no written byte moves.
 fn trace_room(entries: &[Entry], report: &[ReportRow]) -> usize {
-    let mut room = OTHERS.saturating_add(JOB.saturating_mul(report.len()));
+    let mut capacity = OTHERS.saturating_add(JOB.saturating_mul(report.len()));
     for entry in entries {
         let rows = ROW.saturating_mul(entry.rows.as_slice().len());
-        room = room.saturating_add(ENTRY).saturating_add(rows);
+        capacity = capacity.saturating_add(ENTRY).saturating_add(rows);
     }
-    room
+    capacity
 }
 
 /// The whole text of a run on a game: the journal, the report and its sums.
@@ -231,7 +231,7 @@ pub(crate) fn write_trace(
     Ok(out)
 }
 
-/// How many vertices the entries settle.
+/// The number of vertices that the entries settle.
 fn settled_in(entries: &[Entry]) -> u128
     ensures { result ≡ number_settled entries.now }
 {

@@ -1,4 +1,4 @@
-//! What is said of winners and choices, and the line that says it.
+//! The verdict on winners and choices, and its line.
 ghost use Rattle.std.specs.Prelude.{◌≡◌, ◌++◌, IfOk, OnOk};
 ghost use Rattle.pg_text.specs.Written.{numeral};
 ghost use Rattle.pgboard.specs.Joined.{verdict_line, fault_text};
@@ -8,12 +8,12 @@ use itoa::Buffer;
 use pg_dominion::SolutionFault;
 use std::alloc::{AllocError, Global};
 
-/// What is said of winners and choices for all vertices of a game.
+/// The verdict on winners and choices for all vertices of a game.
 #[derive(Clone, Copy, Debug, Drop, PartialEq, Eq)]
 pub enum Verdict {
     /// They are a solution.
     Holds,
-    /// They are none, for this reason. It is never `Memory`.
+    /// They are none, with this first fault. It is never `Memory`.
     Fails(SolutionFault),
 }
 
@@ -28,7 +28,7 @@ impl Verdict {
         }
     }
 
-    /// The line that is written.
+    /// The line of the verdict. The only error is `Memory`.
     pub fn line(&self, alloc: Global) -> Result<Vec<u8>, AllocError>
         ensures { IfOk result (λ line. line.items ≡ verdict_line self.now) }
     {

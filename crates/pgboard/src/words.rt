@@ -1,7 +1,11 @@
 //! Reading the words after the program's name.
-ghost use Rattle.std.specs.Prelude.{◌≡◌, ◌≢◌, [], Ok, Err, IfOk};
+ghost use Rattle.std.specs.Prelude.{◌≡◌, ◌⊎◌, [], true, Ok, Err, IfOk, IfErr, map};
 ghost use Rattle.clap.specs.Values.{kind_of};
+ghost use Rattle.clap.specs.Words.{takes};
+ghost use Rattle.pgboard.specs.declared.asking.Asked.{Asked};
 ghost use Rattle.pgboard.specs.Asking.{IsInRange};
+ghost use Rattle.pgboard.specs.Line.{program, IsAskedBy, AskForHelp};
+ghost use Rattle.pgboard.specs.private.Line.{IsHelp};
 
 use crate::asking::Asked;
 use crate::command::command;
@@ -16,7 +20,10 @@ use std::alloc::Global;
 pub fn asked(alloc: Global, words: &[&str]) -> Result<Asked, AskedFault>
     ensures range { IfOk result IsInRange }
     ensures no_word { words.now ≡ [] → result ≡ Ok Asked.Joined }
-    ensures joined { IfOk result (λ asked. asked ≡ Asked.Joined → words.now ≡ []) }
+    ensures words { IfOk result (λ asked. IsAskedBy (map (λ word. word.now) words.now) asked) }
+    ensures taken { takes program (map (λ word. word.now) words.now) ≡ true → (asked : Asked) → IsAskedBy (map (λ word. word.now) words.now) asked
+        → IsInRange asked → IfErr result (λ e. e ≡ AskedFault.Memory) }
+    ensures helped { AskForHelp (map (λ word. word.now) words.now) → IfErr result (λ e. e ≡ AskedFault.Memory) }
 {
     if words.is_empty() {
         return Ok(Asked::Joined);
@@ -30,8 +37,10 @@ pub fn asked(alloc: Global, words: &[&str]) -> Result<Asked, AskedFault>
 
 /// A text to print, where one was asked for, or a refusal.
 fn refused(alloc: Global, error: &Error) -> Result<Asked, AskedFault>
-    ensures range { IfOk result IsInRange }
-    ensures text { IfOk result (λ asked. asked ≢ Asked.Joined) }
+    ensures text { IfOk result IsHelp }
+    ensures kind { IfOk result (λ _. (kind_of error.now ≡ ErrorKind.DisplayHelp) ⊎ (kind_of error.now ≡ ErrorKind.DisplayVersion)) }
+    ensures helped { (kind_of error.now ≡ ErrorKind.DisplayHelp) ⊎ (kind_of error.now ≡ ErrorKind.DisplayVersion)
+        → IfErr result (λ e. e ≡ AskedFault.Memory) }
     ensures memory { kind_of error.now ≡ ErrorKind.OutOfMemory → result ≡ Err AskedFault.Memory }
 {
     match error.kind() {

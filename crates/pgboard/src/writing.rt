@@ -1,5 +1,4 @@
-//! Writing a whole output to a sink, by a loop of its own over `write`: no buffer keeps bytes back, so that no failed
-//! write is hidden.
+//! Writes a whole output to a sink, by a loop over `write`: no buffer keeps bytes back, so no failed write is hidden.
 ghost use Rattle.std.specs.Prelude.{◌≡◌, OnOk, OnErr, IfErr};
 ghost use Rattle.std.specs.Io.KnownBytes.{Appends};
 ghost use Rattle.pgboard.specs.Device.{HasFailed, AppendsPrefix};
@@ -7,7 +6,7 @@ ghost use Rattle.pgboard.specs.Device.{HasFailed, AppendsPrefix};
 use crate::device::Sink;
 use crate::fault::RunFault;
 
-/// Writes all bytes. After `Write`, the one fault, a prefix of them went out.
+/// Writes all bytes. The only error is `Write`, and then a prefix of them went out.
 pub fn write_all<O: Sink>(bytes: &[u8], out: &mut O) -> Result<(), RunFault>
     ensures written { OnOk result (Appends (O.taken out.old) (O.taken out.new) bytes.now) }
     ensures no_failure { OnOk result (O.write_failures out.new ≡ O.write_failures out.old) }

@@ -1,4 +1,4 @@
--- What the calls on arrays answer, and why they refuse: the first reason that applies, for the least vertex.
+-- The answers of the calls on arrays, and their refusals: the first reason that applies, for the least vertex.
 use Rattle.std.specs.Prelude.{◌≡◌, ◌≢◌, ◌+◌, length, slice_index, Some}
 use Rattle.pg_game.specs.Graph.{Graph}
 use Rattle.pg_game.specs.Specification.{first_fault}
@@ -18,7 +18,7 @@ use Rattle.pgboard_c.specs.Arrays.{ResultArrays, AreResults, IsBadWinner}
 abbrev pub HaveStarts : GameArrays → Type 0
 HaveStarts a = (length a.starts ≡ length a.owners + 1) × (slice_index a.starts 0 ≡ 0)
 
--- the first array that doesn't fit those before it
+-- the first array that does not fit those before it
 abbrev pub IsMisfit : GameArrays → ArrayName → Type 0
 IsMisfit a array_name.Priorities = length a.priorities ≢ length a.owners
 IsMisfit a array_name.Starts = (length a.priorities ≡ length a.owners) × (HaveStarts a → ⊥)
@@ -27,7 +27,7 @@ IsMisfit a array_name.Targets =
 IsMisfit a array_name.Winners = ⊥
 IsMisfit a array_name.Choices = ⊥
 
--- why arrays say no game; out of memory says nothing of them
+-- why arrays are no game; refused memory says nothing of them
 abbrev pub IsArraysFault : GameArrays → Fault → Type 0
 IsArraysFault a fault.Memory = Unit {0}
 IsArraysFault a (fault.Size structure.Game) = a.size ≢ structure_size structure.Game
@@ -42,7 +42,7 @@ IsArraysFault a other = ⊥
 abbrev pub HaveSize : Graph → ResultArrays → Type 0
 HaveSize g r = (r.size ≡ structure_size structure.Results) × (length r.winners ≡ length g) × (length r.choices ≡ length g)
 
--- the first of the two arrays that has another length
+-- the first of the two arrays with another length
 abbrev pub IsResultMisfit : Graph → ResultArrays → ArrayName → Type 0
 IsResultMisfit g r array_name.Winners = length r.winners ≢ length g
 IsResultMisfit g r array_name.Choices = (length r.winners ≡ length g) × (length r.choices ≢ length g)
@@ -52,19 +52,19 @@ IsResultMisfit g r other = ⊥
 abbrev pub AreSolved : GameArrays → ResultArrays → Type 0
 AreSolved a r = (g : Graph) × (rows : SolutionRows) × IsGameOfArrays a g × AreResults r.winners r.choices rows × IsExactSolution g rows
 
--- why the struct for results has no place for the game's vertices
+-- why the struct for results does not fit the game's vertices
 abbrev pub AreUnfitResults : Graph → ResultArrays → Fault → Type 0
 AreUnfitResults g r (fault.Size structure.Results) = r.size ≢ structure_size structure.Results
 AreUnfitResults g r (fault.Results name) = (r.size ≡ structure_size structure.Results) × IsResultMisfit g r name
 AreUnfitResults g r other = ⊥
 
--- why solving gave nothing, where these were the results before
+-- why solving has no result, with the results before the call
 abbrev pub IsSolveFault : GameArrays → ResultArrays → Fault → Type 0
 IsSolveFault a r (fault.Size structure.Results) = (g : Graph) × IsGameOfArrays a g × AreUnfitResults g r (fault.Size structure.Results)
 IsSolveFault a r (fault.Results name) = (g : Graph) × IsGameOfArrays a g × AreUnfitResults g r (fault.Results name)
 IsSolveFault a r other = IsArraysFault a other
 
--- why a solution's struct has not winners and choices of the game's vertices
+-- why a solution's struct does not have winners and choices of the game's vertices
 abbrev pub IsUnfitSolution : Graph → ResultArrays → Fault → Type 0
 IsUnfitSolution g s (fault.Size structure.Solution) = s.size ≢ structure_size structure.Solution
 IsUnfitSolution g s (fault.Solution name) = (s.size ≡ structure_size structure.Solution) × IsResultMisfit g s name
@@ -74,7 +74,7 @@ IsUnfitSolution g s other = ⊥
 abbrev pub AreSolution : GameArrays → ResultArrays → Type 0
 AreSolution a s = (g : Graph) × (rows : SolutionRows) × IsGameOfArrays a g × AreResults s.winners s.choices rows × IsSolution g rows
 
--- why they are none, or say none
+-- why they are no solution, or not even winners and choices
 abbrev pub IsCheckFault : GameArrays → ResultArrays → Fault → Type 0
 IsCheckFault a s (fault.Size structure.Solution) = (g : Graph) × IsGameOfArrays a g × IsUnfitSolution g s (fault.Size structure.Solution)
 IsCheckFault a s (fault.Solution name) = (g : Graph) × IsGameOfArrays a g × IsUnfitSolution g s (fault.Solution name)

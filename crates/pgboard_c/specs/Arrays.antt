@@ -15,7 +15,7 @@ use Rattle.pgboard_c.specs.declared.results.SolutionArrays.{SolutionArrays}
 use Rattle.pgboard_c.specs.declared.fault.Structure.TheVariants as structure
 use Rattle.pgboard_c.specs.Numbers.{structure_size}
 
--- vertex v has the targets from starts[v] on, before starts[v + 1]; the size is the one that the struct says
+-- vertex v has the targets from starts[v] on, before starts[v + 1]; the size is the one in the struct
 pub record GameArrays : Type 0 where
   pub size : ℕ
   pub owners : List ℕ
@@ -54,11 +54,11 @@ pub record AreWellFormed (a : GameArrays) : Type 0 where
   pub owners : NoneHas (IsBadOwner a)
   pub priorities : NoneHas (IsBadPriority a)
 
--- what the arrays say of a vertex: its identifier is its number
+-- the vertex of the arrays: its identifier is its number
 abbrev pub array_spec : GameArrays → ℕ → Spec
 array_spec a v = record { id = v; priority = slice_index a.priorities v; owner = player_of (slice_index a.owners v); successors = targets_of a v }
 
--- what they say of the vertices below a number, in order
+-- the vertices of the arrays below a number, in order
 abbrev pub specs_below : GameArrays → ℕ → List Spec
 specs_below a zero = []
 specs_below a (suc v) = specs_below a v ++ array_spec a v ∷ []
@@ -66,18 +66,18 @@ specs_below a (suc v) = specs_below a v ++ array_spec a v ∷ []
 abbrev pub array_specs : GameArrays → List Spec
 array_specs a = specs_below a (length a.owners)
 
--- the game that the arrays say
+-- the game of the arrays
 abbrev pub IsGameOfArrays : GameArrays → Graph → Type 0
 IsGameOfArrays a g = AreWellFormed a × IsGame g × IsGameOf (array_specs a) g
 
--- the number where there is no choice
+-- the number for no choice
 abbrev pub no_choice : ℕ
 no_choice = 4294967295
 
 abbrev pub choice_from : ℕ → Option ℕ
 choice_from n = if n == no_choice then None else Some n
 
--- winners and choices; the size is the one that the struct says
+-- winners and choices; the size is the one in the struct
 pub record ResultArrays : Type 0 where
   pub size : ℕ
   pub winners : List ℕ
@@ -89,7 +89,7 @@ solution_arrays s = record { size = s.size; winners = s.winners.now; choices = s
 abbrev pub result_arrays : Results → ResultArrays
 result_arrays r = record { size = r.size; winners = r.winners.now; choices = r.choices.now }
 
--- the struct says the same size and has the same two slices; what these have may differ
+-- the struct has the same size and the same two slices; the contents of these may differ
 abbrev pub IsSameStruct : Results → Results → Type 0
 IsSameStruct old new = (new.size ≡ old.size) × (new.winners.ghost_name ≡ old.winners.ghost_name) × (new.choices.ghost_name ≡ old.choices.ghost_name)
 

@@ -18,14 +18,14 @@ use Rattle.pgboard_c.specs.declared.fault.Fault.TheVariants as fault
 use Rattle.pgboard_c.specs.Arrays.{GameArrays, ResultArrays, IsGameOfArrays, AreResults, choice_from}
 use Rattle.pgboard_c.specs.Answers.{HaveSize, IsSolveFault, IsUnfitSolution}
 
--- the number where the winner is not known
+-- the number for an unknown winner
 abbrev pub no_winner : ℕ
 no_winner = 255
 
 abbrev pub known_from : ℕ → ℕ → Option (Player × Option ℕ)
 known_from winner choice = if winner == no_winner then None else Some (player_of winner, choice_from choice)
 
--- what the arrays say of each vertex
+-- what is known of each vertex by the arrays
 pub record AreKnown (winners choices : List ℕ) (rows : KnownRows) : Type 0 where
   pub size : length rows ≡ length winners
   pub each : (v : ℕ) → v < length rows → known_at rows v ≡ known_from (slice_index winners v) (slice_index choices v)
@@ -36,16 +36,16 @@ IsBadKnownWinner winners v = (v < length winners) × (1 < slice_index winners v)
 abbrev pub HasRightChoice : Graph → KnownRows → ℕ → Type 0
 HasRightChoice g known v = (w : ℕ) × (known_choice known v ≡ Some w) × HasEdge g v w
 
--- each vertex that its owner is known to win has a choice that is a successor
+-- if a vertex's owner is known to win it, it has a choice that is a successor
 abbrev pub HaveRightChoices : Graph → KnownRows → Type 0
 HaveRightChoices g known = (v : ℕ) → v < length g → In (known_of known (owner_of g v)) v → HasRightChoice g known v
 
--- the vertex is known to be its owner's, and has no choice that is a successor
+-- the vertex's owner is known to win it, and it has no choice that is a successor
 abbrev pub IsWrongChoice : Graph → KnownRows → ℕ → Type 0
 IsWrongChoice g known v = (v < length g) × In (known_of known (owner_of g v)) v × (HasRightChoice g known v → ⊥)
 
--- a player's known set is no region. Beside its choices, this is what a board refuses it for: Even's first, and then Odd's where Even has
--- what he attracts to his
+-- a player's known set is no region. Beside its choices, this is a board's reason to refuse it: Even's first, and then Odd's after Even has
+-- what he attracts to his set
 abbrev pub IsRefusedKnown : Graph → KnownRows → Fault → Type 0
 IsRefusedKnown g known fault.Memory = Unit {0}
 IsRefusedKnown g known (fault.Known (known_fault.Choice v)) = IsLeast (IsWrongChoice g known) v
@@ -56,13 +56,13 @@ IsRefusedKnown g known (fault.Known (known_fault.Leaves v w)) =
     HaveRightChoices g known × (p : Player) × IsRefusedSet g known (solving.Known p (refusal.Open v w))
 IsRefusedKnown g known other = ⊥
 
--- as AreSolved, and each player's known set is a region of his
+-- the same as AreSolved, and each player's known set is a region of his
 abbrev pub AreSolvedFrom : GameArrays → ResultArrays → ResultArrays → Type 0
 AreSolvedFrom a k r =
     (g : Graph) × (known : KnownRows) × (rows : SolutionRows) × IsGameOfArrays a g × AreKnown k.winners k.choices known
     × ((p : Player) → IsKnownRegion g known p) × AreResults r.winners r.choices rows × IsExactSolution g rows
 
--- why solving from what is known gave nothing
+-- why solving from what is known has no result
 abbrev pub IsSolveFromFault : GameArrays → ResultArrays → ResultArrays → Fault → Type 0
 IsSolveFromFault a k r (fault.Size structure.Solution) = (g : Graph) × IsGameOfArrays a g × IsUnfitSolution g k (fault.Size structure.Solution)
 IsSolveFromFault a k r (fault.Solution name) = (g : Graph) × IsGameOfArrays a g × IsUnfitSolution g k (fault.Solution name)

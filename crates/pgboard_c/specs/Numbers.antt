@@ -1,4 +1,4 @@
--- The number of each answer, and what is reported beside it: a table with one line for each fault.
+-- The number of each answer, and its report: a table with one line for each fault.
 use Rattle.std.specs.Prelude.{ℕ, ◌≡◌}
 use Rattle.pg_game.specs.declared.game.GameFault.{GameFault}
 use Rattle.pg_game.specs.declared.game.GameFault.TheVariants as game
@@ -84,7 +84,7 @@ solution_answer (solution.Twice id) = answer 46 id 0
 solution_answer (solution.Missing id) = answer 47 id 0
 solution_answer solution.Memory = answer 1 0 0
 
--- the number of the answer, and what it is about: vertices, a place in a text, a size, or an array or a struct by its number
+-- the number of the answer, and its two places: vertices, a place in a text, a size, or an array or a struct by its number
 abbrev pub answer_of : Fault → Answer
 answer_of fault.Memory = answer 1 0 0
 answer_of (fault.Lengths a) = answer 2 (array_number a) 0
@@ -102,12 +102,12 @@ answer_of fault.GameTooLong = answer 30 0 0
 answer_of (fault.GameText f) = text_answer f
 answer_of fault.SolutionTooLong = answer 40 0 0
 answer_of (fault.SolutionText f) = solution_answer f
-answer_of (fault.Room size) = answer 50 size 0
+answer_of (fault.Capacity size) = answer 50 size 0
 
--- the answer is the fault's number, and its places are reported
+-- the answer is the fault's number, and the report has its places
 abbrev pub IsReported : Fault → ℕ → Report → Type 0
 IsReported fault number report = answer_of fault ≡ answer number report.at report.to
 
--- nothing is reported
+-- the report is blank
 abbrev pub IsBlank : Report → Type 0
 IsBlank report = (report.at ≡ 0) × (report.to ≡ 0)

@@ -1,4 +1,4 @@
--- What the calls on texts answer, and why they refuse.
+-- The answers of the calls on texts, and their refusals.
 use Rattle.std.specs.Prelude.{ℕ, ◌≡◌, ◌<◌, ◌≤◌, ◌++◌, List, length, drop}
 use Rattle.pg_game.specs.Graph.{Graph}
 use Rattle.pg_text.specs.Solution.{SolutionRows, IsSolution, IsExactSolution}
@@ -8,7 +8,7 @@ use Rattle.pg_dominion.specs.Verdict.{FailsBy}
 use Rattle.pgboard_c.specs.declared.fault.Fault.{Fault}
 use Rattle.pgboard_c.specs.declared.fault.Fault.TheVariants as fault
 
--- the text is at the front of the buffer, and after it is what was there before
+-- the text is at the front of the buffer, and the bytes after it are unchanged
 abbrev pub IsWritten : List ℕ → List ℕ → ℕ → List ℕ → Type 0
 IsWritten old new size text = (size ≡ length text) × (new ≡ text ++ drop size old)
 
@@ -20,23 +20,23 @@ IsSolvedText text answer = (g : Graph) × (rows : SolutionRows) × IsTextOf text
 abbrev pub IsTidyText : List ℕ → List ℕ → Type 0
 IsTidyText text answer = (g : Graph) × IsTextOf text g × (answer ≡ written_game g)
 
--- why a text gives no game; out of memory says nothing of it
+-- why a text is none of a game; refused memory says nothing of it
 abbrev pub IsRefusedGameText : List ℕ → Fault → Type 0
 IsRefusedGameText text fault.Memory = Unit {0}
 IsRefusedGameText text fault.GameTooLong = max_text < length text
 IsRefusedGameText text (fault.GameText f) = (length text ≤ max_text) × IsFaultOf text f
 IsRefusedGameText text other = ⊥
 
--- why a text gives no answer of the kind, where the buffer has so many bytes
+-- why a text has no answer of the kind, for a buffer of this many bytes
 abbrev pub IsTextFault : (List ℕ → List ℕ → Type 0) → List ℕ → ℕ → Fault → Type 0
-IsTextFault Is text room (fault.Room size) = (answer : List ℕ) × Is text answer × (size ≡ length answer) × (room < size)
-IsTextFault Is text room other = IsRefusedGameText text other
+IsTextFault Is text capacity (fault.Capacity size) = (answer : List ℕ) × Is text answer × (size ≡ length answer) × (capacity < size)
+IsTextFault Is text capacity other = IsRefusedGameText text other
 
 -- the texts spell a game and a solution of it
 abbrev pub AreVerified : List ℕ → List ℕ → Type 0
 AreVerified game solution = (g : Graph) × (rows : SolutionRows) × IsTextOf game g × IsSolutionTextOf g solution rows × IsSolution g rows
 
--- why they don't; the game is read before the solution's text is looked at
+-- why they do not; the game's fault comes before those of the solution
 abbrev pub IsVerifyFault : List ℕ → List ℕ → Fault → Type 0
 IsVerifyFault game solution fault.SolutionTooLong = (g : Graph) × IsTextOf game g × (max_text < length solution)
 IsVerifyFault game solution (fault.SolutionText f) = (g : Graph) × IsTextOf game g × (length solution ≤ max_text) × IsSolutionFaultOf g solution f

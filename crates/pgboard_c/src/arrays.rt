@@ -1,4 +1,4 @@
-//! A game in arrays, as a tool has it in memory: compressed sparse rows. A vertex is its place, from 0 on.
+//! A game in arrays, in compressed sparse rows. A vertex is its place, from 0 on.
 ghost use Rattle.std.specs.Prelude.{◌≡◌, ◌<◌, ◌≤◌, length, slice_index, IfOk, IfErr, OnOk, MatchOption, IsTrue, IsFalse, All};
 ghost use Rattle.pg_game.specs.Specification.{AreNumbers};
 ghost use Rattle.pg_game.specs.Least.{NoneHas, IsLeast};
@@ -8,17 +8,17 @@ ghost use Rattle.pgboard_c.specs.Arrays.{IsGameOfArrays};
 ghost use Rattle.pgboard_c.specs.Answers.{IsArraysFault};
 
 use crate::fault::{ArrayName, Fault, Structure};
-use pg_game::{Game, GameFault, Memory, Player, Specs};
+use pg_game::{ForwardGame, GameFault, Memory, Player, Specs};
 use std::alloc::Global;
 
 /// The greatest priority.
 const MAX_NUMBER: u32 = 2_147_483_647;
 
-/// More vertices than this have no identifiers: so many numbers there are from 0 to the greatest.
+/// The greatest number of vertices that have identifiers: the numbers from 0 to the greatest.
 const MAX_IDS: usize = 2_147_483_648;
 
 /// Owners, priorities, and the targets of all edges in rows: vertex `v` has those from `starts[v]` on, before
-/// `starts[v + 1]`. The size is that of this struct, by which a later version knows what is in it.
+/// `starts[v + 1]`. The size is that of this struct, so that a later version knows its fields.
 #[repr(C)]
 pub struct Arrays<'a> {
     pub size: usize,
@@ -101,7 +101,7 @@ impl<'a> Arrays<'a> {
         None
     }
 
-    /// Refused where the arrays can be no game's, whatever the edges.
+    /// The first reason why the arrays are no game, whatever the edges.
     fn check(&self) -> Result<(), Fault>
         ensures formed { OnOk result (AreWellFormed (game_arrays self.now)) }
         ensures fault { IfErr result (λ e. IsArraysFault (game_arrays self.now) e) }
@@ -142,7 +142,7 @@ impl<'a> Arrays<'a> {
         &self.targets[from..to]
     }
 
-    /// What the arrays say of the vertices. The only error is `Memory`.
+    /// The vertices of the arrays. The only error is `Memory`.
     fn specs(&self, alloc: Global) -> Result<Specs, Memory>
         requires formed { AreWellFormed (game_arrays self.now) }
         requires few { length self.now.owners.now ≤ 2147483648 }
@@ -157,8 +157,8 @@ impl<'a> Arrays<'a> {
         Ok(specs)
     }
 
-    /// The game that the arrays say.
-    pub fn game(&self, alloc: Global) -> Result<Game, Fault>
+    /// The game of the arrays, without predecessors.
+    pub fn forward_game(&self, alloc: Global) -> Result<ForwardGame, Fault>
         ensures game { IfOk result (λ g. IsGameOfArrays (game_arrays self.now) g) }
         ensures fault { IfErr result (λ e. IsArraysFault (game_arrays self.now) e) }
     {
@@ -167,7 +167,7 @@ impl<'a> Arrays<'a> {
             return Err(Fault::Game(GameFault::TooManyVertices));
         }
         let specs = self.specs(alloc)?;
-        match Game::from_rows(alloc, specs) {
+        match ForwardGame::from_rows(alloc, specs) {
             Ok(game) => Ok(game),
             Err(GameFault::Memory) => Err(Fault::Memory),
             Err(fault) => Err(Fault::Game(fault)),

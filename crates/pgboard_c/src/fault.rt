@@ -1,4 +1,4 @@
-//! Why a call gave nothing, or what is wrong with winners and choices, and what is reported of it.
+//! Why a call has no result, or the fault of winners and choices, and its report.
 ghost use Rattle.std.specs.Prelude.{◌≡◌, ◌<◌};
 ghost use Rattle.pgboard_c.specs.Numbers.{answer, array_number, structure_number, structure_size};
 ghost use Rattle.pgboard_c.specs.Numbers.{game_answer, verdict_answer, known_answer, text_answer, solution_answer, answer_of, IsReported, IsBlank};
@@ -8,7 +8,7 @@ use pg_game::GameFault;
 use pg_text::{SolutionTextFault, TextFault};
 use std::alloc::AllocError;
 
-/// An array that has not the length that the others ask for.
+/// An array with a length that does not fit the others.
 #[derive(Clone, Copy, Drop)]
 pub enum ArrayName {
     Priorities,
@@ -19,7 +19,7 @@ pub enum ArrayName {
 }
 
 impl ArrayName {
-    /// The number by which the array is reported.
+    /// The number of the array in a report.
     fn number(self) -> u64
         ensures { result ≡ array_number self }
     {
@@ -33,7 +33,7 @@ impl ArrayName {
     }
 }
 
-/// A struct of the C face that says its own size.
+/// A struct of the C interface, which begins with its own size.
 #[derive(Clone, Copy, Drop)]
 pub enum Structure {
     Game,
@@ -42,7 +42,7 @@ pub enum Structure {
 }
 
 impl Structure {
-    /// The number by which the struct is reported.
+    /// The number of the struct in a report.
     fn number(self) -> u64
         ensures { result ≡ structure_number self }
     {
@@ -64,37 +64,37 @@ impl Structure {
     }
 }
 
-/// Why what is known of a player's vertices is no region of his.
+/// Why a player's known set is no region of his.
 #[derive(Clone, Copy, Drop)]
 pub enum KnownFault {
     /// The first vertex that its owner is known to win, without a choice that is a successor.
     Choice(u32),
     /// The vertex has the opponent's parity and is the greatest on a closed walk of kept edges.
     Cycle(u32),
-    /// Even attracts the vertex to what is known for him, and it is known for Odd.
+    /// Even attracts the vertex to his known set, and it is in Odd's.
     Lost(u32),
     /// A kept edge leads out of the known set.
     Leaves(u32, u32),
 }
 
-/// Why a call gave nothing, or what is wrong with winners and choices. Vertices are named by their numbers.
+/// Why a call has no result, or the fault of winners and choices. Faults have the numbers of vertices.
 #[derive(Clone, Copy, Drop)]
 pub enum Fault {
     /// Memory was refused.
     Memory,
-    /// The struct says another size than the one that is known here.
+    /// The struct has another size than in this version.
     Size(Structure),
-    /// The array of a game doesn't fit those before it.
+    /// The array of a game does not fit those before it.
     Lengths(ArrayName),
-    /// The first vertex whose row isn't a part of the targets.
+    /// The first vertex whose row is not a part of the targets.
     Row(usize),
     /// The first vertex whose owner is neither 0 nor 1.
     Owner(usize),
     /// The first vertex whose priority is above 2,147,483,647.
     Priority(usize),
-    /// The array for results has not one entry for each vertex.
+    /// The array for results does not have one entry for each vertex.
     Results(ArrayName),
-    /// The array of a solution has not one entry for each vertex.
+    /// The array of a solution does not have one entry for each vertex.
     Solution(ArrayName),
     /// The first vertex whose winner is neither 0 nor 1.
     Winner(usize),
@@ -102,18 +102,18 @@ pub enum Fault {
     Game(GameFault),
     /// The winners and choices are no solution. Never `SolutionFault::Memory`.
     Verdict(SolutionFault),
-    /// What is known doesn't hold.
+    /// What is known does not hold.
     Known(KnownFault),
     /// The game's text is longer than 268,435,456 bytes.
     GameTooLong,
-    /// The text is no game's. Never `TextFault::Memory`.
+    /// The text is none of a game. Never `TextFault::Memory`.
     GameText(TextFault),
     /// The solution's text is longer than 268,435,456 bytes.
     SolutionTooLong,
     /// The text is no solution text of the game. Never `SolutionTextFault::Memory`.
     SolutionText(SolutionTextFault),
-    /// The buffer is smaller than the text, whose size this is.
-    Room(usize),
+    /// The buffer is smaller than the text; this is the size of the text.
+    Capacity(usize),
 }
 
 impl From<AllocError> for Fault {
@@ -127,7 +127,7 @@ impl From<AllocError> for Fault {
     }
 }
 
-/// What is reported of a fault: the number of the answer, and the two places that it is about. A place that it doesn't name is 0.
+/// The report of a fault: the number of the answer, and its two places. A place that the fault does not have is 0.
 #[derive(Clone, Copy)]
 pub struct Answer {
     pub number: u32,
@@ -212,7 +212,7 @@ impl Answer {
         }
     }
 
-    /// The report of each fault: here and in those above a fault gives its number and its places once.
+    /// The report of each fault, with its number and its places.
     fn of(fault: Fault) -> Answer
         ensures answer { result ≡ answer_of fault }
         ensures above { 0 < result.number }
@@ -234,12 +234,12 @@ impl Answer {
             Fault::GameText(fault) => Answer::of_text(fault),
             Fault::SolutionTooLong => Answer::new(40, 0, 0),
             Fault::SolutionText(fault) => Answer::of_solution(fault),
-            Fault::Room(size) => Answer::new(50, size as u64, 0),
+            Fault::Capacity(size) => Answer::new(50, size as u64, 0),
         }
     }
 }
 
-/// What is said beside an answer.
+/// What a call reports beside its answer.
 #[repr(C)]
 #[derive(Clone, Copy)]
 pub struct Report {
@@ -249,7 +249,7 @@ pub struct Report {
     pub to: u64,
 }
 
-/// Tells the fault, and gives its number.
+/// Reports the fault, and returns its number.
 pub fn report_fault(report: &mut Report, fault: Fault) -> u32
     ensures report { IsReported fault result report.new }
     ensures above { 0 < result }
@@ -259,7 +259,7 @@ pub fn report_fault(report: &mut Report, fault: Fault) -> u32
     number
 }
 
-/// Tells that there is no fault, whose number is 0.
+/// Reports that there is no fault, and returns 0.
 pub fn report_none(report: &mut Report) -> u32
     ensures answer { result ≡ 0 }
     ensures blank { IsBlank report.new }

@@ -18,10 +18,10 @@ use pg_text::{Known, Solution};
 use pg_workers::{SolveFault, solve_alone};
 use std::alloc::Global;
 
-/// The number where the winner is not known.
+/// The number for an unknown winner.
 const NO_WINNER: u8 = 255;
 
-/// The first vertex whose winner is neither 0 nor 1, nor left open.
+/// The first vertex whose winner is neither 0 nor 1 nor unknown.
 pub fn first_bad_known_winner(winners: &[u8]) -> Option<usize>
     ensures { MatchOption result (NoneHas (IsBadKnownWinner winners.now)) (IsLeast (IsBadKnownWinner winners.now)) }
 {
@@ -44,7 +44,7 @@ fn known_from(winner: u8, choice: u32) -> Option<(Player, Option<u32>)>
     }
 }
 
-/// What the arrays say that is known. The only error is `Memory`.
+/// What is known by the arrays. The only error is `Memory`.
 pub fn read_known(alloc: Global, winners: &[u8], choices: &[u32]) -> Result<Known, Memory>
     requires { length choices.now ≡ length winners.now }
     ensures { IfOk result (λ known. AreKnown winners.now choices.now known.rows) }
@@ -58,7 +58,7 @@ pub fn read_known(alloc: Global, winners: &[u8], choices: &[u32]) -> Result<Know
     })
 }
 
-/// Whether the vertex has a choice that is a successor, where its owner is known to win it.
+/// Whether the vertex has a choice that is a successor, or its owner is not known to win it.
 fn has_right_choice(game: &Game, known: &Known, v: u32) -> bool
     requires size { length known.now.rows ≡ length game.now }
     requires vertex { v < length game.now }
@@ -90,7 +90,7 @@ fn first_wrong_choice(game: &Game, known: &Known) -> Option<u32>
     None
 }
 
-/// Why the player's known set is no region, where each of the choices is a successor.
+/// Why the player's known set is no region, if each of the choices is a successor.
 fn known_fault(game: &Game, known: &Known, player: Player, refusal: Refusal) -> Fault
     requires size { length known.now.rows ≡ length game.now }
     requires choices { HaveRightChoices game.now known.now.rows }

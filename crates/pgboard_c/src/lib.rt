@@ -1,4 +1,4 @@
-//! A static library with a C face: games, and winners and choices, in arrays and in texts. It starts no thread.
+//! A static library for C: games, and winners and choices, in arrays and in texts. It starts no thread.
 //!
 //! `include/pgboard.h` declares the exports, and names each answer.
 #![tactic(auto)]

@@ -11,24 +11,26 @@ use crate::fault::{Fault, Report, report_fault, report_none};
 use crate::known::{first_bad_known_winner, read_known, solution_from};
 use crate::results::{Results, SolutionArrays, first_bad_winner, read_results, write_results};
 use crate::solving::solution_of;
-use pg_dominion::{SolutionFault, check_solution};
+use pg_dominion::{SolutionFault, judge_solution};
+use pg_game::Game;
 use std::alloc::Global;
 
-/// Solves the game that the arrays say. Nothing is written where it is refused.
+/// Solves the game of the arrays. After a refusal the arrays for results are unchanged.
 fn solve(alloc: Global, arrays: &Arrays, results: &mut Results) -> Result<(), Fault>
     ensures solved { OnOk result (AreSolved (game_arrays arrays.now) (result_arrays results.new)) }
     ensures fault { IfErr result (λ e. IsSolveFault (game_arrays arrays.now) (result_arrays results.old) e) }
     ensures kept { OnErr result (result_arrays results.new ≡ result_arrays results.old) }
     ensures struct_kept { IsSameStruct results.old results.new }
 {
-    let game = arrays.game(alloc)?;
-    results.check_lengths(&game)?;
+    let forward = arrays.forward_game(alloc)?;
+    results.check_lengths(&forward)?;
+    let game = Game::of_forward(alloc, forward)?;
     let solution = solution_of(alloc, &game)?;
     write_results(&solution, results.winners, results.choices);
     Ok(())
 }
 
-/// Solves the game that the arrays say, from what is known of it. Nothing is written where it is refused.
+/// Solves the game of the arrays, from what is known of it. After a refusal the arrays for results are unchanged.
 fn solve_known(
     alloc: Global,
     arrays: &Arrays,
@@ -40,38 +42,39 @@ fn solve_known(
     ensures kept { OnErr result (result_arrays results.new ≡ result_arrays results.old) }
     ensures struct_kept { IsSameStruct results.old results.new }
 {
-    let game = arrays.game(alloc)?;
-    given.check_lengths(&game)?;
+    let forward = arrays.forward_game(alloc)?;
+    given.check_lengths(&forward)?;
     if let Some(v) = first_bad_known_winner(given.winners) {
         return Err(Fault::Winner(v));
     }
-    results.check_lengths(&game)?;
+    results.check_lengths(&forward)?;
     let known = read_known(alloc, given.winners, given.choices)?;
+    let game = Game::of_forward(alloc, forward)?;
     let solution = solution_from(alloc, &game, &known)?;
     write_results(&solution, results.winners, results.choices);
     Ok(())
 }
 
-/// Whether winners and choices are a solution of the game that the arrays say.
+/// Whether winners and choices are a solution of the game of the arrays.
 fn check(alloc: Global, arrays: &Arrays, given: &SolutionArrays) -> Result<(), Fault>
     ensures holds { OnOk result (AreSolution (game_arrays arrays.now) (solution_arrays given.now)) }
     ensures fault { IfErr result (λ e. IsCheckFault (game_arrays arrays.now) (solution_arrays given.now) e) }
 {
-    let game = arrays.game(alloc)?;
+    let game = arrays.forward_game(alloc)?;
     given.check_lengths(&game)?;
     if let Some(v) = first_bad_winner(given.winners) {
         return Err(Fault::Winner(v));
     }
     let solution = read_results(alloc, given.winners, given.choices)?;
-    match check_solution(alloc, &game, &solution) {
+    match judge_solution(alloc, &game, &solution) {
         Ok(()) => Ok(()),
         Err(SolutionFault::Memory) => Err(Fault::Memory),
         Err(fault) => Err(Fault::Verdict(fault)),
     }
 }
 
-/// Solves the game that the arrays say: writes each vertex's winner, and his choice where he owns the vertex. The answer
-/// is 0, and then nothing is reported, or why there is none; then only `report` is written.
+/// Solves the game of the arrays: writes each vertex's winner, and his choice if he owns the vertex. The answer is 0, and
+/// the report is blank; or it is the number of the first reason that applies, and the call writes only `report`.
 #[unsafe(no_mangle)]
 pub extern "C" fn pgboard_solve(
     alloc: Global,
@@ -91,8 +94,8 @@ pub extern "C" fn pgboard_solve(
     }
 }
 
-/// As [`pgboard_solve`], from winners and choices that are known of some vertices. Where they hold, the solution is one of
-/// the game, whatever is known. Else the answer is what is wrong with them.
+/// The same as [`pgboard_solve`], from known winners and choices of some vertices. If they do not hold, the answer is their
+/// first fault.
 #[unsafe(no_mangle)]
 pub extern "C" fn pgboard_solve_known(
     alloc: Global,
@@ -114,8 +117,8 @@ pub extern "C" fn pgboard_solve_known(
     }
 }
 
-/// Whether winners and choices are a solution of the game: 0, and then nothing is reported, or what is wrong with them, or
-/// why they say nothing.
+/// Whether winners and choices are a solution of the game. The answer is 0, and the report is blank; or it is their first
+/// fault, or the first reason why the arrays are no game or no winners and choices.
 #[unsafe(no_mangle)]
 pub extern "C" fn pgboard_check(
     alloc: Global,

@@ -9,22 +9,23 @@ ghost use Rattle.pgboard_c.specs.Texts.{IsWritten, IsSolvedText, IsTidyText, IsR
 
 use crate::fault::{Fault, Report, report_fault, report_none};
 use crate::solving::solution_of;
-use pg_dominion::{SolutionFault, check_solution};
-use pg_game::Game;
+use pg_dominion::{SolutionFault, judge_solution};
+use pg_game::{ForwardGame, Game};
 use pg_text::{
-    MAX_TEXT, SolutionTextFault, TextFault, read_game, read_solution, write_game, write_solution,
+    MAX_TEXT, SolutionTextFault, TextFault, read_forward_game, read_forward_solution,
+    write_forward_game, write_solution,
 };
 use std::alloc::Global;
 
-/// The game that a text spells.
-fn game_of(alloc: Global, text: &[u8]) -> Result<Game, Fault>
+/// The game that a text spells, without predecessors.
+fn forward_game_of(alloc: Global, text: &[u8]) -> Result<ForwardGame, Fault>
     ensures game { IfOk result (λ g. IsGame g × IsTextOf text.now g) }
     ensures fault { IfErr result (λ e. IsRefusedGameText text.now e) }
 {
     if text.len() > MAX_TEXT {
         return Err(Fault::GameTooLong);
     }
-    match read_game(alloc, text) {
+    match read_forward_game(alloc, text) {
         Ok(game) => Ok(game),
         Err(TextFault::Memory) => Err(Fault::Memory),
         Err(fault) => Err(Fault::GameText(fault)),
@@ -34,12 +35,12 @@ fn game_of(alloc: Global, text: &[u8]) -> Result<Game, Fault>
 /// Copies the text to the front of the buffer, and returns its size.
 fn put(text: &[u8], into: &mut [u8]) -> Result<usize, Fault>
     ensures held { IfOk result (λ n. IsWritten into.old into.new n text.now) }
-    ensures small { IfErr result (λ e. (e ≡ Fault.Room (length text.now)) × (length into.old < length text.now)) }
+    ensures small { IfErr result (λ e. (e ≡ Fault.Capacity (length text.now)) × (length into.old < length text.now)) }
     ensures kept { OnErr result (into.new ≡ into.old) }
 {
     let n = text.len();
     if into.len() < n {
-        return Err(Fault::Room(n));
+        return Err(Fault::Capacity(n));
     }
     into[..n].copy_from_slice(text);
     Ok(n)
@@ -51,7 +52,8 @@ fn solve(alloc: Global, text: &[u8], into: &mut [u8]) -> Result<usize, Fault>
     ensures fault { IfErr result (λ e. IsTextFault IsSolvedText text.now (length into.old) e) }
     ensures kept { OnErr result (into.new ≡ into.old) }
 {
-    let game = game_of(alloc, text)?;
+    let forward = forward_game_of(alloc, text)?;
+    let game = Game::of_forward(alloc, forward)?;
     let solution = solution_of(alloc, &game)?;
     let answer = write_solution(alloc, &game, &solution)?;
     put(answer.as_slice(), into)
@@ -63,25 +65,25 @@ fn tidy(alloc: Global, text: &[u8], into: &mut [u8]) -> Result<usize, Fault>
     ensures fault { IfErr result (λ e. IsTextFault IsTidyText text.now (length into.old) e) }
     ensures kept { OnErr result (into.new ≡ into.old) }
 {
-    let game = game_of(alloc, text)?;
-    let answer = write_game(alloc, &game)?;
+    let game = forward_game_of(alloc, text)?;
+    let answer = write_forward_game(alloc, &game)?;
     put(answer.as_slice(), into)
 }
 
 /// Whether a text is a solution of a game.
-fn verify_on(alloc: Global, game: &Game, text: &[u8]) -> Result<(), Fault>
+fn verify_on(alloc: Global, game: &ForwardGame, text: &[u8]) -> Result<(), Fault>
     ensures holds { OnOk result ((rows : SolutionRows) × IsSolutionTextOf game.now text.now rows × IsSolution game.now rows) }
     ensures fault { IfErr result (λ e. (text_of : List ℕ) → IsTextOf text_of game.now → IsVerifyFault text_of text.now e) }
 {
     if text.len() > MAX_TEXT {
         return Err(Fault::SolutionTooLong);
     }
-    let solution = match read_solution(alloc, game, text) {
+    let solution = match read_forward_solution(alloc, game, text) {
         Ok(solution) => solution,
         Err(SolutionTextFault::Memory) => return Err(Fault::Memory),
         Err(fault) => return Err(Fault::SolutionText(fault)),
     };
-    match check_solution(alloc, game, &solution) {
+    match judge_solution(alloc, game, &solution) {
         Ok(()) => Ok(()),
         Err(SolutionFault::Memory) => Err(Fault::Memory),
         Err(fault) => Err(Fault::Verdict(fault)),
@@ -93,12 +95,12 @@ fn verify(alloc: Global, game: &[u8], solution: &[u8]) -> Result<(), Fault>
     ensures holds { OnOk result (AreVerified game.now solution.now) }
     ensures fault { IfErr result (λ e. IsVerifyFault game.now solution.now e) }
 {
-    let game = game_of(alloc, game)?;
+    let game = forward_game_of(alloc, game)?;
     verify_on(alloc, &game, solution)
 }
 
 /// Solves the game that a text spells: writes a solution's text to the front of the buffer, and its size. The answer is 0,
-/// and then nothing is reported, or why there is none; then only `report` is written.
+/// and the report is blank; or it is the number of the first reason that applies, and the call writes only `report`.
 #[unsafe(no_mangle)]
 pub extern "C" fn pgboard_solve_text(
     alloc: Global,
@@ -123,7 +125,7 @@ pub extern "C" fn pgboard_solve_text(
 }
 
 /// Writes the game that a text spells in its one written form to the front of the buffer, and its size. The answer is 0,
-/// and then nothing is reported, or why there is none; then only `report` is written.
+/// and the report is blank; or it is the number of the first reason that applies, and the call writes only `report`.
 #[unsafe(no_mangle)]
 pub extern "C" fn pgboard_tidy_text(
     alloc: Global,
@@ -147,8 +149,8 @@ pub extern "C" fn pgboard_tidy_text(
     }
 }
 
-/// Whether a text is a solution of the game that another spells: 0, and then nothing is reported, or what is wrong first.
-/// Vertices are named by their identifiers.
+/// Whether a text is a solution of the game that another spells. The answer is 0, and the report is blank; or it is the
+/// first fault, with the identifiers of vertices.
 #[unsafe(no_mangle)]
 pub extern "C" fn pgboard_verify_text(
     alloc: Global,

@@ -7,14 +7,14 @@ ghost use Rattle.pgboard_c.specs.Arrays.{no_choice, choice_from, AreResults, IsB
 ghost use Rattle.pgboard_c.specs.Answers.{HaveSize, AreUnfitResults, IsUnfitSolution};
 
 use crate::fault::{ArrayName, Fault, Structure};
-use pg_game::{Game, Memory, Player, Sequence};
+use pg_game::{ForwardGame, Memory, Player, Sequence};
 use pg_text::Solution;
 use std::alloc::Global;
 
-/// The number where there is no choice.
+/// The number for no choice.
 const NO_CHOICE: u32 = u32::MAX;
 
-/// Where results are written: a winner and a choice for each vertex.
+/// The arrays for results: a winner and a choice for each vertex.
 #[repr(C)]
 pub struct Results<'a> {
     pub size: usize,
@@ -22,7 +22,7 @@ pub struct Results<'a> {
     pub choices: &'a mut [u32],
 }
 
-/// Winners and choices of all vertices, to be judged.
+/// Winners and choices of all vertices, for a check.
 #[repr(C)]
 pub struct SolutionArrays<'a> {
     pub size: usize,
@@ -32,7 +32,7 @@ pub struct SolutionArrays<'a> {
 
 impl<'a> Results<'a> {
     /// Whether the struct has its size, and the arrays an entry for each vertex of the game.
-    pub fn check_lengths(&self, game: &Game) -> Result<(), Fault>
+    pub fn check_lengths(&self, game: &ForwardGame) -> Result<(), Fault>
         ensures fit { OnOk result (HaveSize game.now (result_arrays self.now)) }
         ensures few { OnOk result (length game.now ≤ no_choice) }
         ensures fault { IfErr result (λ e. AreUnfitResults game.now (result_arrays self.now) e) }
@@ -53,7 +53,7 @@ impl<'a> Results<'a> {
 
 impl<'a> SolutionArrays<'a> {
     /// Whether the struct has its size, and the arrays an entry for each vertex of the game.
-    pub fn check_lengths(&self, game: &Game) -> Result<(), Fault>
+    pub fn check_lengths(&self, game: &ForwardGame) -> Result<(), Fault>
         ensures fit { OnOk result (HaveSize game.now (solution_arrays self.now)) }
         ensures fault { IfErr result (λ e. IsUnfitSolution game.now (solution_arrays self.now) e) }
     {
@@ -113,7 +113,7 @@ fn player_of(digit: u8) -> Player
     }
 }
 
-/// The choice that is there.
+/// The choice of an entry.
 pub fn choice_from(number: u32) -> Option<u32>
     ensures { result ≡ choice_from number }
 {
@@ -124,7 +124,7 @@ pub fn choice_from(number: u32) -> Option<u32>
     }
 }
 
-/// The winners and choices that are in the arrays. The only error is `Memory`.
+/// The winners and choices of the arrays. The only error is `Memory`.
 pub fn read_results(alloc: Global, winners: &[u8], choices: &[u32]) -> Result<Solution, Memory>
     requires size { length choices.now ≡ length winners.now }
     requires digits { NoneHas (IsBadWinner winners.now) }

@@ -1,4 +1,4 @@
-//! A game is solved whole by the recursion (Zielonka 1998), with no thread: the two players' claims share it out.
+//! Solves a whole game by the recursion (Zielonka 1998), without a thread: the two players' claims share it out.
 ghost use Rattle.std.specs.Prelude.{◌<◌, length, IfOk, All};
 ghost use Rattle.pg_text.specs.Solution.{IsExactSolution};
 ghost use Rattle.pgboard_c.specs.private.Put.{IsPut};

@@ -2,10 +2,14 @@
 //! ends with the status of the outcome. Results go to standard output, and one fault line to standard error.
 #![tactic(auto)]
 
-ghost use Rattle.std.specs.Prelude.{◌≡◌, IfOk, IfErr, codes};
+ghost use Rattle.std.specs.Prelude.{ℕ, List, ◌≡◌, ◌⊎◌, None, Ok, IfOk, IfErr, codes, is_some, true};
 ghost use Rattle.std.specs.IoError.{error_kind};
+ghost use Rattle.pgboard.specs.Answer.{IsOutputFor, FailsFor, ReadsFor};
 ghost use Rattle.pgboard.specs.Asking.{IsInRange, Says};
-ghost use Rattle.pgboard.specs.Status.{asked_status_of};
+ghost use Rattle.pgboard.specs.Device.{HasFailed, untouched};
+ghost use Rattle.pgboard.specs.declared.fault.RunFault.{RunFault};
+ghost use Rattle.pgboard.specs.Status.{status_of, asked_status_of};
+ghost use Rattle.pgboard_program.specs.Input.{IsFile};
 
 mod input;
 
@@ -51,7 +55,9 @@ fn asked_by(rt: &HostRuntime) -> Result<Asked, AskedFault>
 
 /// The file of this path, or where none was given the other input.
 fn open(rt: &HostRuntime, path: Option<&str>, other: Input) -> Result<Std<Input>, RunFault>
-    ensures { IfErr result (λ fault. fault ≡ RunFault.Read) }
+    ensures other { path.entry ≡ None → result ≡ Ok (untouched other) }
+    ensures file { is_some path.entry ≡ true → IfOk result (λ source. IsFile source.inner × (source.failures ≡ 0)) }
+    ensures fault { IfErr result (λ fault. fault ≡ RunFault.Read) }
 {
     let Some(path) = path else {
         return Ok(Std::new(other));
@@ -72,6 +78,8 @@ fn run_on_files<T: Threads + Wait + Sync>(
     asked: &Asked,
 ) -> Result<u8, RunFault>
     requires { IsInRange asked.now }
+    ensures status { IfOk result (λ status. (text : List ℕ) × IsOutputFor asked.now None None status text) }
+    ensures fault { IfErr result (λ fault. (fault ≡ RunFault.Read) ⊎ FailsFor asked.now None None fault) }
 {
     let mut input = open(rt, asked.path(), Input::Standard(rt.stdin()))?;
     let mut second = open(rt, asked.second_path(), Input::Nothing)?;
@@ -87,6 +95,10 @@ fn run_over<T: Threads + Wait + Sync>(
     second: &mut Std<Input>,
 ) -> Result<u8, RunFault>
     requires { IsInRange asked.now }
+    ensures reads { ReadsFor asked.now result None input.old.failures input.new.failures (input.new ≡ input.old) (second.new ≡ second.old)
+        (second.new.failures ≡ second.old.failures) (HasFailed second.old.failures second.new.failures) }
+    ensures status { IfOk result (λ status. (text : List ℕ) × IsOutputFor asked.now None None status text) }
+    ensures fault { IfErr result (λ fault. FailsFor asked.now None None fault) }
 {
     let mut out = Std::new(rt.stdout());
     run_asked(
@@ -102,7 +114,10 @@ fn run_over<T: Threads + Wait + Sync>(
 }
 
 /// The status of a run. Its fault is printed.
-fn ended(rt: &HostRuntime, outcome: Result<u8, RunFault>) -> u8 {
+fn ended(rt: &HostRuntime, outcome: Result<u8, RunFault>) -> u8
+    ensures status { IfOk outcome (λ status. result ≡ status) }
+    ensures fault { IfErr outcome (λ fault. result ≡ status_of fault) }
+{
     match outcome {
         Ok(status) => status,
         Err(fault) => {
@@ -127,7 +142,9 @@ fn status_of<T: Threads + Wait + Sync>(
     asked: Result<Asked, AskedFault>,
 ) -> u8
     requires { IfOk asked IsInRange }
-    ensures { IfErr asked (λ refusal. result ≡ asked_status_of refusal) }
+    ensures run { IfOk asked (λ asked. ((text : List ℕ) × IsOutputFor asked None None result text)
+        ⊎ ((fault : RunFault) × ((fault ≡ RunFault.Read) ⊎ FailsFor asked None None fault) × (result ≡ status_of fault))) }
+    ensures refused { IfErr asked (λ refusal. result ≡ asked_status_of refusal) }
 {
     match asked {
         Ok(asked) => ended(rt, run_on_files(rt, threads, &asked)),

@@ -21,13 +21,13 @@ macro_rules! check {
 }
 
 mod asserting;
-mod broken;
 mod calls;
-mod claimed;
+mod capacities;
 mod command_line;
-mod counted;
+mod concurrency;
 mod devices;
+mod failing_devices;
+mod failure_counts;
 mod finders;
-mod held;
-mod rooms;
-mod told;
+mod known_devices;
+mod wrong_finders;

@@ -1,4 +1,4 @@
--- A region that grows: nothing is done, and one step after another.
+-- A region that grows by no step, or by one step after another.
 use Rattle.std.proofs.Common.{◌≡◌, sym, ◌∙◌, ap, subst}
 use Rattle.pg_game.specs.declared.player.Player.{Player}
 use Rattle.pg_game.specs.Graph.{Graph}

@@ -9,19 +9,19 @@ use Rattle.pg_board.specs.declared.regions.Regions.{Regions}
 use Rattle.pg_board.specs.State.{State}
 use Rattle.pg_board.specs.private.Regions.{table_state, state_with, AreRegions}
 
--- what was unsettled before the rows
+-- the vertices that were unsettled before the rows
 abbrev pub open_before : Regions → ClaimRows → VertexSet
 open_before r rows = union (members r.unsettled) (named rows)
 
--- how many members a mask has
+-- the number of members of a mask
 abbrev pub members_left : List Bool → ℕ
 members_left mask = sum_by (λ b. if b then 1 else 0) mask
 
--- what the rows name is settled, and there is capacity for rows of all that is not
-pub record IsGrowing (g : Graph) (r : Regions) (rows : ClaimRows) (room : ℕ) : Type 0 where
+-- the vertices of the rows are settled, and there is capacity for rows of all others
+pub record IsGrowing (g : Graph) (r : Regions) (rows : ClaimRows) (spare : ℕ) : Type 0 where
   pub regions : AreRegions g r
   pub apart : (v : ℕ) → In (named rows) v → members r.unsettled v ≡ false
-  pub fits : length rows + members_left r.unsettled ≤ room
+  pub fits : length rows + members_left r.unsettled ≤ spare
 
 -- the region with its rows before, and later: each new row leads to earlier ones, and the tables have them
 pub record Grows (g : Graph) (p : Player) (r : Regions) (rows : ClaimRows) (r' : Regions) (rows' : ClaimRows) : Type 0 where

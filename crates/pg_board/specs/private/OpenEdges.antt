@@ -10,7 +10,7 @@ use Rattle.pg_board.specs.declared.regions.Regions.{Regions}
 use Rattle.pg_board.specs.State.{is_unsettled}
 use Rattle.pg_board.specs.private.Regions.{table_state}
 
--- the rows' vertices are unsettled, and the mask has what else is
+-- the rows' vertices are unsettled, and the mask has all other unsettled vertices
 pub record AreTakenOut (rows : ClaimRows) (r : Regions) : Type 0 where
   pub unsettled : (v : ℕ) → In (named rows) v → is_unsettled (table_state r.table.items v) ≡ true
   pub left : (v : ℕ) → v < length r.table.items → members r.unsettled v ≡ (is_unsettled (table_state r.table.items v) && not (named rows v))

@@ -1,4 +1,4 @@
--- What a board has at hand beside its journal.
+-- The tables of a board beside its journal.
 use Rattle.std.specs.Prelude.{ℕ, ◌≡◌, ◌<◌, List, length, slice_index, Some, None, if◌then◌else◌, slice_index_or}
 use Rattle.pg_game.specs.declared.player.Player.{Player}
 use Rattle.pg_game.specs.Graph.{Graph, successors_of}
@@ -12,15 +12,15 @@ use Rattle.pg_board.specs.private.VertexState.{state_in}
 use Rattle.pg_board.specs.State.{State, is_unsettled, unsettled}
 use Rattle.pg_board.specs.Journal.{Journal, state_of, IsLawful, number_settled}
 
--- the state that a table says: nothing past its end
+-- the state in a table: nothing past its end
 abbrev pub table_state : List VertexState → State
 table_state table v = state_in (slice_index_or table v Unsettled)
 
--- the state after a player's rows, which leave what is settled as it is
+-- the state after a player's rows, which leave settled vertices unchanged
 abbrev pub state_with : State → Player → ClaimRows → State
 state_with st p rows v = if is_unsettled (st v) then (if named rows v then Some (p, choice_in rows v) else None) else st v
 
--- one row for each vertex; the mask has those that are unsettled, and each has passed settled successors alone
+-- one row for each vertex; the mask has the unsettled ones, and each vertex has passed only settled successors
 pub record AreRegions (g : Graph) (r : Regions) : Type 0 where
   pub size : length r.table.items ≡ length g
   pub mask_size : length r.unsettled ≡ length g
@@ -28,7 +28,7 @@ pub record AreRegions (g : Graph) (r : Regions) : Type 0 where
   pub mask : (v : ℕ) → members r.unsettled v ≡ unsettled g (table_state r.table.items) v
   pub passes : (v : ℕ) → v < length g → ArePassed (successors_of g v) r.unsettled (slice_index r.passed.items v)
 
--- the journal is lawful, and what is at hand says its state and its number
+-- the journal is lawful, and the table and the number are its state and its number settled
 pub record IsBoard (g : Graph) (journal : Journal) (r : Regions) (number : ℕ) : Type 0 where
   pub lawful : IsLawful g journal
   pub regions : AreRegions g r

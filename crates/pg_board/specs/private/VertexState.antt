@@ -1,10 +1,10 @@
--- What is kept of one vertex, and the state that it says.
+-- What a board stores for one vertex, and its state.
 use Rattle.std.specs.Prelude.{ℕ, Option, Some, None}
 use Rattle.pg_game.specs.declared.player.Player.{Player}
 use Rattle.pg_board.specs.declared.vertex_state.VertexState.{VertexState}
 use Rattle.pg_board.specs.declared.vertex_state.VertexState.TheVariants.{Unsettled, Settled, Chosen}
 
--- the player and the choice that it says: none where it is unsettled
+-- the player and the choice; none if the vertex is unsettled
 abbrev pub state_in : VertexState → Option (Player × Option ℕ)
 state_in Unsettled = None
 state_in (Settled p) = Some (p, None)

@@ -1,4 +1,4 @@
--- An attraction in the making: the vertices that may still be taken, the rows so far, and at each vertex how many successors
+-- An unfinished attraction: the free vertices, the rows so far, and at each vertex how many successors
 -- are known to be of no use.
 use Rattle.std.specs.Prelude.{ℕ, ◌≡◌, ◌≢◌, ◌≤◌, ◌<◌, ◌∷◌, ◌++◌, Bool, false, ◌⊎◌, List, length, take, slice_index, Option}
 use Rattle.pg_game.specs.declared.player.Player.{Player}
@@ -13,12 +13,12 @@ pub record Continues (old new : ClaimRows) : Type 0 where
   pub longer : length old ≤ length new
   pub front : (n : ℕ) → n ≤ length old → take n new ≡ take n old
 
--- the first so many of the vertices are not in the mask
+-- the first vertices, up to this number, are not in the mask
 pub record ArePassed (ws : List ℕ) (mask : List Bool) (count : ℕ) : Type 0 where
   pub within : count ≤ length ws
   pub gone : (k : ℕ) → k < count → members mask (slice_index ws k) ≡ false
 
--- the mask has vertices that the rows don't name, and each vertex has passed successors alone that are not in it
+-- the rows have no vertex of the mask, and each vertex has passed only successors outside the mask
 pub record IsFree (g : Graph) (mask : List Bool) (passed : List ℕ) (rows : ClaimRows) : Type 0 where
   pub size : length mask ≡ length g
   pub passed_size : length passed ≡ length g

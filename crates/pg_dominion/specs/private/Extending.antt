@@ -1,4 +1,4 @@
--- Rows that go on: nothing is done, and one step after another.
+-- Rows that grow by no step, or by one step after another.
 use mathlib.Core.Path.{fun_ext}
 use Rattle.std.proofs.Common.{refl, sym, ◌∙◌, subst, arith}
 use Rattle.pg_game.specs.declared.player.Player.{Player}

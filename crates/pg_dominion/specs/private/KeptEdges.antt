@@ -1,11 +1,11 @@
--- The edges that are kept of a game, as the private code of the checks lays them out, and its searches along them (private).
+-- The kept edges of a game, in the tables of the checks, and searches along them (private).
 use Rattle.std.specs.Prelude.{ℕ, ◌≡◌, ◌≢◌, ◌≤◌, ◌<◌, ◌+◌, ◌-◌, ◌^◌, ◌⊎◌, List, length, slice_index}
 use Rattle.pg_game.specs.Graph.{priority_of}
 use Rattle.pg_game.specs.Walk.{Walk}
 use Rattle.pg_dominion.specs.declared.kept.Kept.{Kept}
 use Rattle.pg_dominion.specs.KeptEdges.{Edge}
 
--- a number of steps after which a search is given up, and not the greatest, which has no end
+-- a number of steps after which a search ends without a result; the greatest number is no limit
 abbrev pub IsBounded : ℕ → Type 0
 IsBounded most = most < 2 ^ 64 - 1
 
@@ -25,8 +25,8 @@ Reaches k v w = Leads k (priority_of k.game.now v) v w
 abbrev pub AreAlike : (levels groups : List ℕ) → ℕ → ℕ → Type 0
 AreAlike levels groups x y = (slice_index groups y ≡ slice_index groups x) × (slice_index levels y ≡ slice_index levels x)
 
--- what searches have shown: whoever lies with x on a closed walk of priorities below x's level has x's group and level, and
--- nobody does where the group is x's own
+-- what searches have shown: each vertex on a closed walk with x, of priorities below x's level, has x's group and level, and
+-- there is no such walk if the group is x's own
 pub record AreLabelled (k : Kept) (levels groups : List ℕ) : Type 0 where
   pub levels_size : length levels ≡ length k.game.now
   pub groups_size : length groups ≡ length k.game.now
@@ -45,7 +45,7 @@ IsBefore places queue n w = (slice_index places w < n) × (slice_index queue (sl
 abbrev pub IsQueued : (places queue : List ℕ) → ℕ → Type 0
 IsQueued places queue w = IsBefore places queue (length queue) w
 
--- a search from the first vertex of the queue, which has what was reached; none of it is passed over
+-- a search from the first vertex of the queue, which has the reached vertices; it passes over none of them
 pub record Searching (k : Kept) (levels groups : List ℕ) (top own : ℕ) (places queue : List ℕ) : Type 0 where
   pub size : length places ≡ length k.game.now
   pub some : 0 < length queue
@@ -64,7 +64,7 @@ abbrev pub IsSpread : Kept → (levels groups : List ℕ) → ℕ → ℕ → �
 IsSpread k levels groups top own least places queue i =
     (w : ℕ) → EdgeUnder k top (slice_index queue i) w → IsFollowed levels groups top own least places queue i w
 
--- what was reached stays so
+-- a reached vertex stays reached
 pub record GoesOn (queue : List ℕ) (least : ℕ) (queue' : List ℕ) (least' : ℕ) : Type 0 where
   pub longer : length queue ≤ length queue'
   pub front : (i : ℕ) → i < length queue → slice_index queue' i ≡ slice_index queue i

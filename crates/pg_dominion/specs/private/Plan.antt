@@ -1,4 +1,4 @@
--- A solution's winners and choices, as the private code of the check lays them out as kept edges.
+-- A solution's winners and choices as kept edges, in the tables of the check.
 use Rattle.std.specs.Prelude.{ℕ, ◌≡◌, ◌≢◌, ◌≤◌, ◌<◌, true, Option, None, length, if◌then◌else◌}
 use Rattle.pg_game.specs.Player.{same_player}
 use Rattle.pg_game.specs.Graph.{Graph, owner_of}
@@ -13,7 +13,7 @@ use Rattle.pg_dominion.specs.private.Shape.{Layout, HasPlaces, chosen_at, is_bad
 abbrev pub own_choice : Graph → SolutionRows → ℕ → Option ℕ
 own_choice g rows v = if same_player (owner_of g v) (winner_of rows v) then choice_of rows v else None
 
--- the first so many vertices are laid out, and nothing is said of the others
+-- the tables have the first vertices, up to this number
 pub record IsPlanned (g : Graph) (rows : SolutionRows) (count : ℕ) (t : Layout) : Type 0 where
   pub sizes : HasPlaces g t
   pub inside_is : (v : ℕ) → v < count → members t.inside v ≡ true

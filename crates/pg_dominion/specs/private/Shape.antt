@@ -1,4 +1,4 @@
--- The rows of a claim, as the private code of the check reads them one after another.
+-- The rows of a claim, as the check reads them one after another.
 use Rattle.std.specs.Prelude.{ℕ, ◌≡◌, ◌≤◌, ◌+◌, max, Bool, ◌&&◌, Option, Some, None, List, [], ◌∷◌, length, take, slice_index, slice_set, true, false}
 use Rattle.std.specs.Prelude.{if◌then◌else◌}
 use Rattle.pg_game.specs.declared.player.Player.{Player}
@@ -12,7 +12,7 @@ abbrev pub next_after : ClaimRows → ℕ
 next_after [] = 0
 next_after (r ∷ rows) = max (r.0 + 1) (next_after rows)
 
--- the first so many rows are right, and this is the least vertex that the next one may name
+-- the first rows, up to this number, are right, and this is the least vertex that the next one may have
 pub record AreRightBefore (g : Graph) (p : Player) (rows : ClaimRows) (place least : ℕ) : Type 0 where
   pub right : AreRight g p (take place rows)
   pub least_is : least ≡ next_after (take place rows)
@@ -34,7 +34,7 @@ chosen_at t v = if members t.chosen v then Some (slice_index t.choices v) else N
 abbrev pub is_bad : Graph → Player → ℕ → Bool
 is_bad g p v = same_player (of_parity (priority_of g v)) (opponent p)
 
--- the mask and the list of choices with what is chosen at a vertex: nothing, or a successor
+-- the mask and the list of choices with one more choice at a vertex: none, or a successor
 abbrev pub chosen_with : List Bool → ℕ → Option ℕ → List Bool
 chosen_with chosen v None = slice_set chosen v false
 chosen_with chosen v (Some w) = slice_set chosen v true

@@ -1,4 +1,4 @@
--- What the private search along a claim's rows keeps: no kept edge leads back to where it began.
+-- The invariant of the search along a claim's rows: no kept edge leads back to its start.
 use Rattle.std.specs.Prelude.{ℕ, ◌≢◌, ◌≤◌, ◌<◌, List, length, slice_index, Contains}
 use Rattle.pg_game.specs.declared.player.Player.{Player}
 use Rattle.pg_game.specs.Graph.{Graph, priority_of}
@@ -11,6 +11,6 @@ abbrev pub Stays : Graph → Player → ClaimRows → ℕ → List ℕ → ℕ �
 Stays g p rows start list v =
     (w : ℕ) → KeptEdge g p (named rows) (choice_in rows) v w → In (named rows) w → priority_of g w ≤ priority_of g start → (w ≢ start) × Contains list w
 
--- the vertices of the list are the claim's
+-- the vertices of the list are those of the claim
 abbrev pub AreNamed : ClaimRows → List ℕ → Type 0
 AreNamed rows list = (i : ℕ) → i < length list → In (named rows) (slice_index list i)

@@ -3,7 +3,7 @@
 use Rattle.pg_finders.proofs.Common.{◌≡◌, ◌≢◌, ℕ, ◌+◌, ◌-◌, ◌<◌, Bool, true, false, ◌&&◌, ◌||◌, not, ◌⊎◌, inl, inr, List, [], ◌∷◌, ◌++◌, length, take, drop}
 use Rattle.pg_finders.proofs.Common.{map, refl, sym, ◌∙◌, ap, subst, arith, append_assoc, length-append, rules, fun_ext, append-nil, take-append-drop}
 use Rattle.pg_finders.proofs.Common.{and_parts, cases_Bool, or_cases, or_left, or_right, or_parts, false_from_ne_true, Player, opponent, same_player, Graph}
-use Rattle.pg_finders.proofs.Common.{HasEdge, owner_of, VertexSet, In, members, union, without, IsSubgame, own_or_other, same_is, Plan, Stop, listed, Once}
+use Rattle.pg_finders.proofs.Common.{HasEdge, owner_of, VertexSet, In, members, union, without, IsSubgame, own_or_other, same_is, Plan, Frame, listed, Once}
 use Rattle.pg_finders.proofs.Common.{Apart, SettledLists, settled_of, winners_of, choices_of, size, IsBegun, IsSolvedInside, IsAttracted, won_inside, active_of}
 use Rattle.pg_finders.proofs.Common.{place, IsKnown, IsGrown, AttractsNoActive, count_at, prefix, level_at, IsUnderWay, IsRunning, how_many_gone, steps_left}
 use Rattle.pg_finders.proofs.Common.{work, steps}
@@ -23,24 +23,24 @@ use Rattle.pg_finders.proofs.recursion.UnderWay.{left_cases, left_solved, won_si
 use Rattle.pg_finders.proofs.recursion.Running.{work_finish}
 
 -- the last subgame that waits is at its end: nothing of it is active
-pub record IsAtEnd (g : Graph) (inside : List Bool) (x : Solver) (stops : List Stop) (f : Stop) : Type 0 where
-  pub running : IsRunning g inside x (stops ++ f ∷ [])
+pub record IsAtEnd (g : Graph) (inside : List Bool) (x : Solver) (frames : List Frame) (f : Frame) : Type 0 where
+  pub running : IsRunning g inside x (frames ++ f ∷ [])
   pub none : (v : ℕ) → active_of x.subgame v ≡ false
 
-pub at_end : {g : Graph} {inside : List Bool} {x : Solver} (stops : List Stop) (f : Stop) → IsRunning g inside x (stops ++ f ∷ [])
-    → ((v : ℕ) → active_of x.subgame v ≡ false) → IsAtEnd g inside x stops f
-at_end stops f running none = record { running = running; none = none }
+pub at_end : {g : Graph} {inside : List Bool} {x : Solver} (frames : List Frame) (f : Frame) → IsRunning g inside x (frames ++ f ∷ [])
+    → ((v : ℕ) → active_of x.subgame v ≡ false) → IsAtEnd g inside x frames f
+at_end frames f running none = record { running = running; none = none }
 
 -- it is finished: the others that wait are as they were, and fewer steps are left
-pub record IsFinished (g : Graph) (inside : List Bool) (x : Solver) (stops : List Stop) (f : Stop) (active : VertexSet) (settled : SettledLists)
+pub record IsFinished (g : Graph) (inside : List Bool) (x : Solver) (frames : List Frame) (f : Frame) (active : VertexSet) (settled : SettledLists)
     (new : Plan) : Type 0 where
-  pub under_way : IsUnderWay g (members inside) active settled (take f.aside x.aside.items) stops (winners_of new) (choices_of new)
-  pub kept : map (level_at (members inside) settled (take f.aside x.aside.items)) stops
-      ≡ map (level_at (members inside) (settled_of x.settled) x.aside.items) stops
-  pub fewer : steps (size inside - how_many_gone settled (take f.aside x.aside.items)) + steps_left (size inside) stops < work (size inside) x (stops ++ f ∷ [])
+  pub under_way : IsUnderWay g (members inside) active settled (take f.set_aside x.set_aside.items) frames (winners_of new) (choices_of new)
+  pub kept : map (level_at (members inside) settled (take f.set_aside x.set_aside.items)) frames
+      ≡ map (level_at (members inside) (settled_of x.settled) x.set_aside.items) frames
+  pub fewer : steps (size inside - how_many_gone settled (take f.set_aside x.set_aside.items)) + steps_left (size inside) frames < work (size inside) x (frames ++ f ∷ [])
 
 -- what the opponent attracts to what he won is settled for him, C is active, and what the player won since is settled no more
-pub record Retakes (g : Graph) (f : Stop) (A : VertexSet) (old : Plan) (settled settled' : SettledLists) (C : VertexSet) (new : Plan) : Type 0 where
+pub record Retakes (g : Graph) (f : Frame) (A : VertexSet) (old : Plan) (settled settled' : SettledLists) (C : VertexSet) (new : Plan) : Type 0 where
   pub some : length (settled (opponent f.player)) ≢ count_at f (opponent f.player)
   pub grown : IsGrown g (opponent f.player) A old (settled (opponent f.player)) C new (settled' (opponent f.player))
   pub done : AttractsNoActive g (opponent f.player) (union A (listed (settled (opponent f.player)))) (listed (settled' (opponent f.player))) C
@@ -48,7 +48,7 @@ pub record Retakes (g : Graph) (f : Stop) (A : VertexSet) (old : Plan) (settled 
   pub apart : (v : ℕ) → In (listed (settled' (opponent f.player))) v → C v ≡ false
   pub own : settled' f.player ≡ prefix f settled f.player
 
-module _ {g : Graph} {inside : List Bool} {x : Solver} {stops : List Stop} {f : Stop} (h : IsAtEnd g inside x stops f) where
+module _ {g : Graph} {inside : List Bool} {x : Solver} {frames : List Frame} {f : Frame} (h : IsAtEnd g inside x frames f) where
   abbrev U : VertexSet
   U = members inside
 
@@ -58,8 +58,8 @@ module _ {g : Graph} {inside : List Bool} {x : Solver} {stops : List Stop} {f : 
   abbrev settled : SettledLists
   settled = settled_of x.settled
 
-  abbrev aside : List ℕ
-  aside = x.aside.items
+  abbrev set_aside : List ℕ
+  set_aside = x.set_aside.items
 
   abbrev old : Plan
   old = x.subgame.plan
@@ -71,51 +71,51 @@ module _ {g : Graph} {inside : List Bool} {x : Solver} {stops : List Stop} {f : 
   q = opponent f.player
 
   abbrev I : VertexSet
-  I = (level_at U settled aside f).inside
+  I = (level_at U settled set_aside f).inside
 
   abbrev L : VertexSet
-  L = (level_at U settled aside f).left
+  L = (level_at U settled set_aside f).left
 
   abbrev since : SettledLists
   since r = drop (count_at f r) (settled r)
 
   abbrev B : List ℕ
-  B = drop f.aside aside
+  B = drop f.set_aside set_aside
 
-  run : IsUnderWay g U X settled aside (stops ++ f ∷ []) (winners_of old) (choices_of old)
+  run : IsUnderWay g U X settled set_aside (frames ++ f ∷ []) (winners_of old) (choices_of old)
   run = h.running.under_way
 
   begun : IsBegun g I L p (winners_of old) (choices_of old)
-  begun = last_begun stops f run
+  begun = last_begun frames f run
 
   solved : IsSolvedInside g L (winners_of old) (choices_of old)
-  solved = left_solved stops f run h.none
+  solved = left_solved frames f run h.none
 
   inside_of : (r : Player) (v : ℕ) → In (listed (since r)) v → In I v
-  inside_of = since_inside stops f run
+  inside_of = since_inside frames f run
 
   aside_of : (v : ℕ) → In (listed B) v → In I v
-  aside_of = aside_inside stops f run
+  aside_of = aside_inside frames f run
 
   cases : (v : ℕ) → In I v → ((r : Player) × In (listed (since r)) v) ⊎ In (listed B) v
-  cases = inside_cases stops f run h.none
+  cases = inside_cases frames f run h.none
 
   his : (r : Player) (v : ℕ) → In (listed (since r)) v → winners_of old v ≡ r
   his r v i = run.his r v (in_drop (count_at f r) (settled r) v i)
 
   -- what is set aside is not settled
   not_aside : (r : Player) (v : ℕ) → In (listed (since r)) v → In (listed B) v → ⊥
-  not_aside r v i j = no_both (in_drop f.aside aside v j) (run.apart.aside_apart r v (in_drop (count_at f r) (settled r) v i))
+  not_aside r v i j = no_both (in_drop f.set_aside set_aside v j) (run.apart.aside_apart r v (in_drop (count_at f r) (settled r) v i))
 
   aside_his : (v : ℕ) → In (listed B) v → winners_of old v ≡ p
-  aside_his v i = begun.his v (minus (aside_of v i) (false_from_ne_true (L v) (λ y. (let k = (left_cases stops f run h.none) v y in not_aside k.0 v k.1 i))))
+  aside_his v i = begun.his v (minus (aside_of v i) (false_from_ne_true (L v) (λ y. (let k = (left_cases frames f run h.none) v y in not_aside k.0 v k.1 i))))
 
   some_aside : (v : ℕ) × In (listed B) v
   some_aside =
       let s = begun.some in
       let b = only (I s.0) (L s.0) s.1 in
       elim (cases s.0 b.0) [
-        | inl (r, y) ↦ absurd (no_both (since_left stops f run r s.0 y) b.1)
+        | inl (r, y) ↦ absurd (no_both (since_left frames f run r s.0 y) b.1)
         | inr y ↦ (s.0, y)
       ]
 
@@ -127,13 +127,13 @@ module _ {g : Graph} {inside : List Bool} {x : Solver} {stops : List Stop} {f : 
 
   finished : {active : VertexSet} {settled' : SettledLists} {own other : List ℕ} (new : Plan)
       → Finishes g p I active (prefix f settled) settled' own other (winners_of old) (winners_of new) (choices_of old) (choices_of new)
-      → 0 < length own + length other → IsFinished g inside x stops f active settled' new
+      → 0 < length own + length other → IsFinished g inside x frames f active settled' new
   finished {settled' = settled'} new t l =
-      let now = under_way_finish stops f run t in
+      let now = under_way_finish frames f run t in
       record {
         under_way = now;
-        kept = stops_kept stops f run t;
-        fewer = work_finish (size inside) (how_many_gone settled aside) (how_many_gone settled' (take f.aside aside)) stops f (finish_more stops f run t l)
+        kept = stops_kept frames f run t;
+        fewer = work_finish (size inside) (how_many_gone settled set_aside) (how_many_gone settled' (take f.set_aside set_aside)) frames f (finish_more frames f run t l)
             (lists_fit inside now.apart now.listed_inside);
       }
 
@@ -158,7 +158,7 @@ module _ {g : Graph} {inside : List Bool} {x : Solver} {stops : List Stop} {f : 
       other_is = other ∙ cut q;
       own_within = own_cases (In I) (inside_of p) aside_of;
       other_within = inside_of q;
-      own_once = once_join (since p) B (once_since p) (once_drop f.aside aside run.apart.aside_once) (apart_from (since p) B (not_aside p));
+      own_once = once_join (since p) B (once_since p) (once_drop f.set_aside set_aside run.apart.aside_once) (apart_from (since p) B (not_aside p));
       other_once = once_since q;
       apart = apart_from (since p ++ B) (since q) (λ v i j. none_lost v j);
       left = λ v. h.none v ∙ sym (false_from_ne_true (I v && not (listed (since p ++ B) v || listed (since q) v)) (λ y.
@@ -171,7 +171,7 @@ module _ {g : Graph} {inside : List Bool} {x : Solver} {stops : List Stop} {f : 
           (all_won begun solved (λ v l. mine v (taken_all v (begun.within v l))));
     }
 
-    pub settle_finished : IsFinished g inside x stops f X settled' old
+    pub settle_finished : IsFinished g inside x frames f X settled' old
     settle_finished =
         let a : 0 < length (since p ++ B) = some_length (since p ++ B) some_aside.0 (in_rest (since p) B some_aside.0 some_aside.1) in
         finished old settles (omega (arith, a))
@@ -195,19 +195,19 @@ module _ {g : Graph} {inside : List Bool} {x : Solver} {stops : List Stop} {f : 
 
     -- what the opponent won is not active
     pub reopened_apart : (v : ℕ) → In (listed (settled q)) v → A v ≡ false
-    reopened_apart v j = search (rules, false_from_ne_true, active_cases, no_both, in_drop, f.aside)
+    reopened_apart v j = search (rules, false_from_ne_true, active_cases, no_both, in_drop, f.set_aside)
 
     inside_parts : (v : ℕ) → In I v → In U v × (listed (prefix f settled q) v ≡ false)
-    inside_parts v i = (let c = part_of U (prefix f settled) (take f.aside aside) v i in (c.0, c.1 q))
+    inside_parts v i = (let c = part_of U (prefix f settled) (take f.set_aside set_aside) v i in (c.0, c.1 q))
 
     -- an edge of the opponent's out of the subgame leads to what the player has
     out_of_inside : (v w : ℕ) → In I v → owner_of g v ≡ q → HasEdge g v w → In U w → I w ≡ false → winners_of old w ≡ p
     out_of_inside v w i o e u n =
-        waits_away g U (map (level_at U settled aside) stops) I (winners_of old) (choices_of old) (last_waits stops f run) v w i e u n
+        waits_away g U (map (level_at U settled set_aside) frames) I (winners_of old) (choices_of old) (last_waits frames f run) v w i e u n
         ∙ (ap opponent o ∙ twice p)
 
     in_whole : (v : ℕ) → In (listed (settled q)) v → In U v
-    in_whole v i = run.listed_inside v (gone_settled settled aside q v i)
+    in_whole v i = run.listed_inside v (gone_settled settled set_aside q v i)
 
     not_won : (v : ℕ) → winners_of old v ≡ p → winners_of old v ≡ q → ⊥
     not_won v a b = not_both (winners_of old v) p a b
@@ -234,12 +234,12 @@ module _ {g : Graph} {inside : List Bool} {x : Solver} {stops : List Stop} {f : 
     reopened_rest = record {
       own = λ v w i o e. missed w (λ y. (let b = only (A v) (listed B v) i in elim (take_or_drop (count_at f q) (settled q) w y) [
         | inl x ↦ reopened_away v w b.0 o e x
-        | inr x ↦ (let k = (solved p).closed v w (mine v b) o e (since_left stops f run q w x) in
+        | inr x ↦ (let k = (solved p).closed v w (mine v b) o e (since_left frames f run q w x) in
             not_won w (same_is (winners_of old w) p (and_parts (L w) (same_player (winners_of old w) p) k).1) (his q w x))
       ]));
       other = λ v i o. (let b = only (A v) (listed B v) i in
           let c = (solved p).choices v (mine v b) (o ∙ twice p) in
-          let k : In A c.0 = active_own c.0 (sym (won_since stops f run h.none p c.0) ∙ c.3) in
+          let k : In A c.0 = active_own c.0 (sym (won_since frames f run h.none p c.0) ∙ c.3) in
           (c.0, c.2, or_left (A c.0) (listed (settled q) c.0) k, missed c.0 (λ y. no_both k (reopened_apart c.0 y))));
     }
       where
@@ -247,7 +247,7 @@ module _ {g : Graph} {inside : List Bool} {x : Solver} {stops : List Stop} {f : 
         missed w n = false_from_ne_true (listed (settled q) w) n
 
         mine : (v : ℕ) → (A v ≡ true) × (listed B v ≡ false) → In (won_inside L (winners_of old) p) v
-        mine v b = won_since stops f run h.none p v ∙ elim (active_cases v b.0) [ inl y ↦ absurd (no_both y b.1) | inr y ↦ y ]
+        mine v b = won_since frames f run h.none p v ∙ elim (active_cases v b.0) [ inl y ↦ absurd (no_both y b.1) | inr y ↦ y ]
 
     -- What the opponent attracts to it is settled.
     module _ {settled' : SettledLists} {C : VertexSet} {new : Plan} (t : Retakes g f A old settled settled' C new) where
@@ -281,7 +281,7 @@ module _ {g : Graph} {inside : List Bool} {x : Solver} {stops : List Stop} {f : 
 
       gained : IsAttracted g q I (won_inside L (winners_of old) q) (listed lost) (choices_of new) (place lost)
       gained =
-          subst (λ Z. IsAttracted g q I Z (listed lost) (choices_of new) (place lost)) (fun_ext (λ v. sym (won_since stops f run h.none q v)))
+          subst (λ Z. IsAttracted g q I Z (listed lost) (choices_of new) (place lost)) (fun_ext (λ v. sym (won_since frames f run h.none q v)))
           (subst (λ Z. IsAttracted g q Z (listed (since q)) (listed lost) (choices_of new) (place lost)) (fun_ext reopened) (grown_attracted grown done))
 
       rest_is : (v : ℕ) → C v ≡ without I (listed lost) v
@@ -315,10 +315,10 @@ module _ {g : Graph} {inside : List Bool} {x : Solver} {stops : List Stop} {f : 
         same = λ v n. grown.same v (false_from_ne_true (A v) (λ y. no_both (active_inside v y) n));
         solved = IsSolvedTo-subst (λ v. sym (rest_is v))
             (part_lost begun (listed lost) (winners_of new) (choices_of new) (place lost) solved gained
-            (λ v i. (grown.same v (since_apart v (sym (won_since stops f run h.none q v) ∙ i))).1) lost_won);
+            (λ v i. (grown.same v (since_apart v (sym (won_since frames f run h.none q v) ∙ i))).1) lost_won);
       }
 
-      pub resume_finished : IsFinished g inside x stops f C settled' new
+      pub resume_finished : IsFinished g inside x frames f C settled' new
       resume_finished =
-          let l : 0 < length (since q) = omega (arith, (stop_fits stops f run).0 q, t.some, length-drop (count_at f q) (settled q)) in
+          let l : 0 < length (since q) = omega (arith, (stop_fits frames f run).0 q, t.some, length-drop (count_at f q) (settled q)) in
           finished new resumes (omega (arith, l, length-append (since q) grown_cut.more))

@@ -23,10 +23,10 @@ no_bit rows now len words few have view v none = elim (cases_Bool (named now v))
 -- a row at the end, and a word with its bit
 pub bits_push : (rows : ClaimRows) (len : ℕ) (words : List ℕ) (v word : ℕ) → length rows ≡ 8 → len < 8 → HaveBits rows len words → word ≡ get_or words len 0
     → HaveBits (set rows len (v, None)) (len + 1) (set words (len + 1) (bit_or word (1 * 2 ^ (v % 64) % 2 ^ 64)))
-bits_push rows len words v word eight room have read = record {
+bits_push rows len words v word eight capacity have read = record {
   size = length-set words (len + 1) to ∙ have.size;
   each = λ j k l m. elim (cases_eq k (len + 1)) as (λ _. bit_at (get_or (set words (len + 1) to) k 0) (vertex_in (set rows len (v, None)) j % 64) ≡ 1) [
-    | inl q ↦ rw (q, get_or-set_same words (len + 1) to 0 (omega (arith, room, have.size))) (last j (omega (arith, l, q)))
+    | inl q ↦ rw (q, get_or-set_same words (len + 1) to 0 (omega (arith, capacity, have.size))) (last j (omega (arith, l, q)))
     | inr n ↦ rw (get_or-set_other words (len + 1) k to 0 n, other j (omega (arith, l, m, n))) (have.each j k l (omega (arith, m, n)))
   ];
 }
@@ -46,7 +46,7 @@ bits_push rows len words v word eight room have read = record {
     last : (j : ℕ) → j < len + 1 → bit_at to (vertex_in (set rows len (v, None)) j % 64) ≡ 1
     last j l = elim (cases_eq j len) as (λ _. bit_at to (vertex_in (set rows len (v, None)) j % 64) ≡ 1) [
       | inl q ↦ (let e : vertex_in (set rows len (v, None)) j ≡ v =
-          ap (vertex_in (set rows len (v, None))) q ∙ ap (λ (r : ℕ × Option ℕ). r.0) (get_or-set_same rows len (v, None) no_row (omega (arith, room, eight))) in
+          ap (vertex_in (set rows len (v, None))) q ∙ ap (λ (r : ℕ × Option ℕ). r.0) (get_or-set_same rows len (v, None) no_row (omega (arith, capacity, eight))) in
           rw e (bit_at_set_same w64 word (v % 64) (omega arith)))
       | inr n ↦ (let b : j < len = omega (arith, l, n) in rw (other j b) (kept j b))
     ]

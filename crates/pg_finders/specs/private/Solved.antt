@@ -1,4 +1,4 @@
--- Who wins the vertices of a subgame, and how (Zielonka 1998).
+-- The winners of a subgame's vertices, and their choices (Zielonka 1998).
 use Rattle.std.specs.Prelude.{ℕ, ◌≡◌, ◌<◌, ◌≤◌, ◌&&◌, false, Option, Some, None}
 use Rattle.pg_game.specs.declared.player.Player.{Player}
 use Rattle.pg_game.specs.Player.{opponent, same_player, of_parity}
@@ -16,24 +16,24 @@ Winners = ℕ → Player
 abbrev pub won_inside : VertexSet → Winners → Player → VertexSet
 won_inside U won p v = U v && same_player (won v) p
 
--- the player wins on X inside U: his choices stay in X, the opponent can't leave X inside U, and closed walks are good
+-- the player wins on X inside U: his choices stay in X, the opponent cannot leave X inside U, and closed walks are good
 pub record WinsOn (g : Graph) (U : VertexSet) (p : Player) (X : VertexSet) (s : Choices) : Type 0 where
   pub within : Within X U
   pub choices : (v : ℕ) → In X v → owner_of g v ≡ p → (w : ℕ) × (s v ≡ Some w) × HasEdge g v w × In X w
   pub closed : (v w : ℕ) → In X v → owner_of g v ≡ opponent p → HasEdge g v w → In U w → In X w
   pub good : OnlyGoodWalks g p X s
 
--- each player wins inside U on the vertices that are his
+-- each player wins inside U on his vertices
 abbrev pub IsSolvedInside : Graph → VertexSet → Winners → Choices → Type 0
 IsSolvedInside g U won s = (p : Player) → WinsOn g U p (won_inside U won p) s
 
--- the same, but for the part R: each player wins on what is his outside R, and no vertex of R has an edge into what its owner wins there
+-- the same outside R: each player wins on his vertices there, and no vertex of R has an edge to vertices that its owner wins there
 pub record IsSolvedTo (g : Graph) (U R : VertexSet) (won : Winners) (s : Choices) : Type 0 where
   pub rest : Within R U
   pub holds : (p : Player) → WinsOn g U p (won_inside (without U R) won p) s
   pub away : (v w : ℕ) → In R v → HasEdge g v w → In (without U R) w → won w ≡ opponent (owner_of g v)
 
--- A is what the player attracts to T in U: nothing more is attracted, and where A is not T the choices lead to smaller ranks
+-- A is what the player attracts to T in U: it attracts nothing more, and where A is not T the choices lead to smaller ranks
 pub record IsAttracted (g : Graph) (p : Player) (U T A : VertexSet) (s : Choices) (rank : ℕ → ℕ) : Type 0 where
   pub inside : Within A U
   pub target : Within T A
@@ -42,7 +42,7 @@ pub record IsAttracted (g : Graph) (p : Player) (U T A : VertexSet) (s : Choices
   pub leads : (v : ℕ) → In A v → T v ≡ false → owner_of g v ≡ p → (w : ℕ) × (s v ≡ Some w) × HasEdge g v w × In A w × (rank w < rank v)
   pub pushed : (v w : ℕ) → In A v → T v ≡ false → owner_of g v ≡ opponent p → HasEdge g v w → In U w → In A w × (rank w < rank v)
 
--- U is begun: a target, such that all of U that is no less than some vertex of it has the player's parity, attracts for him; that is his, and L is left of U
+-- U is begun: a target attracts for the player, and L is the rest of U; each vertex of U that is no less than some target has his parity
 pub record IsBegun (g : Graph) (U L : VertexSet) (p : Player) (won : Winners) (s : Choices) : Type 0 where
   pub subgame : IsSubgame g U
   pub within : Within L U

@@ -1,4 +1,4 @@
--- What the recursion keeps.
+-- The invariants of the recursion.
 pub mod Planned
 pub mod Waiting
 pub mod UnderWay

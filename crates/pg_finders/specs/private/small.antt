@@ -1,8 +1,8 @@
--- What the search for small dominions keeps.
+-- The invariants of the search for small dominions.
 pub mod Excluded
 pub mod Few
 pub mod Partial
 pub mod Walked
-pub mod Searched
+pub mod SearchSteps
 pub mod Ends
 pub mod Small

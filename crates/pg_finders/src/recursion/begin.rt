@@ -1,6 +1,6 @@
-//! The first half of a step of the recursion: what the greatest priorities of a subgame attract for their
-//! player is taken out (Zielonka 1998). In one step these are all of the greatest one's parity above every
-//! vertex of the other parity.
+//! The first half of a step of the recursion removes what the greatest priorities of a subgame attract for their
+//! player (Zielonka 1998). In one step these are all priorities of the greatest one's parity above every vertex of
+//! the other parity.
 
 ghost use Rattle.std.specs.Prelude.{◌≡◌, ◌<◌, ◌≤◌, ◌-◌, ℕ, length, [], OnOk, false, ◌⊎◌};
 ghost use Rattle.pg_game.specs.Player.{of_parity};
@@ -51,7 +51,7 @@ impl Subgame {
         }
     }
 
-    /// Lists a vertex that is active, which then is no more.
+    /// Lists an active vertex, which is then no longer active.
     fn leave_out(&mut self, n: u32, list: &mut Vec<u32>, v: u32) -> Result<(), Memory>
         requires ready { IsReady n self.old list.old.items }
         requires vertex { v < n }
@@ -69,7 +69,7 @@ impl Subgame {
         Ok(())
     }
 
-    /// Lists the active vertices between the places, which then are active no more.
+    /// Lists the active vertices between the places, which are then no longer active.
     fn leave_all_out(
         &mut self,
         n: u32,
@@ -96,7 +96,7 @@ impl Subgame {
     }
 }
 
-/// Takes out of a subgame what its greatest priorities of one parity attract for their player, and lists it.
+/// Removes from a subgame what its greatest priorities of one parity attract for their player, and lists it.
 pub fn begin(
     subgame: &mut Subgame,
     order: &mut Order,

@@ -8,7 +8,7 @@ use crate::parts::successor_in;
 use pg_game::{Game, Mask, Memory, Player};
 use std::alloc::Global;
 
-/// Who wins each vertex, and with which choices.
+/// The winner of each vertex, and the choices.
 #[derive(Drop)]
 pub struct Plan {
     winners: Vec<Player>,

@@ -1,4 +1,4 @@
-//! The vertices that are settled, a list for each player, in the order in which they were settled.
+//! The settled vertices, a list for each player, in the order of settling.
 
 ghost use Rattle.std.specs.Prelude.{◌≡◌, ◌<◌, ◌≤◌, ◌++◌, [], length, take, drop, All, IfOk, OnOk};
 ghost use Rattle.pg_game.specs.VertexSet.{members, union};
@@ -12,7 +12,7 @@ use crate::recursion::subgame::Subgame;
 use pg_game::{Game, Mask, Memory, Player};
 use std::alloc::Global;
 
-/// What each player has won for good.
+/// The vertices that each player has won for good.
 #[derive(Drop)]
 pub struct Settled {
     even: Vec<u32>,
@@ -20,7 +20,7 @@ pub struct Settled {
 }
 
 impl Settled {
-    /// Nothing is settled. There is capacity for so many vertices of each player.
+    /// Nothing is settled. There is capacity for this many vertices of each player.
     pub fn new(alloc: Global, n: u32) -> Result<Settled, Memory>
         ensures { IfOk result (λ settled. (p : Player) → settled_of settled p ≡ []) }
     {
@@ -30,7 +30,7 @@ impl Settled {
         })
     }
 
-    /// How many vertices the player has.
+    /// The number of the player's vertices.
     pub fn count(&self, player: Player) -> usize
         ensures { result ≡ length (settled_of self.now player) }
     {
@@ -63,24 +63,24 @@ impl Settled {
         }
     }
 
-    /// Settles for the player what he attracts to his vertices, where of the active ones only those that are
-    /// set aside from a place on may lead to them.
+    /// Settles for the player what he attracts to his vertices. Of the active vertices only those set aside from a place
+    /// on may lead to them.
     pub fn attract(
         &mut self,
         subgame: &mut Subgame,
         game: &Game,
         inside: &Mask,
         player: Player,
-        aside: &[u32],
+        set_aside: &[u32],
         from: usize,
     ) -> Result<(), Memory>
         requires ready { IsReady (length game.now) subgame.old (settled_of self.old player) }
         requires length { length inside.now ≡ length game.now }
         requires known { IsKnown game.now (members inside.now) player (active_of subgame.old) subgame.old.plan (settled_of self.old player) }
-        requires place { from ≤ length aside.now }
-        requires below { All (λ v. v < length game.now) aside.now }
+        requires place { from ≤ length set_aside.now }
+        requires below { All (λ v. v < length game.now) set_aside.now }
         requires rest { AttractsNoActive game.now player (union (active_of subgame.old) (listed (settled_of self.old player)))
-            (listed (settled_of self.old player)) (without (active_of subgame.old) (listed (drop from aside.now))) }
+            (listed (settled_of self.old player)) (without (active_of subgame.old) (listed (drop from set_aside.now))) }
         ensures ready { OnOk result (IsReady (length game.now) subgame.new (settled_of self.new player)) }
         ensures grown { OnOk result (IsGrown game.now player (active_of subgame.old) subgame.old.plan (settled_of self.old player)
             (active_of subgame.new) subgame.new.plan (settled_of self.new player)) }
@@ -94,19 +94,19 @@ impl Settled {
                 inside,
                 player,
                 &mut self.even,
-                &aside[from..],
+                &set_aside[from..],
             ),
             Player::Odd => subgame.attract_again(
                 game,
                 inside,
                 player,
                 &mut self.odd,
-                &aside[from..],
+                &set_aside[from..],
             ),
         }
     }
 
-    /// Takes back what the player got from a place on.
+    /// Removes the player's vertices from a place on.
     pub fn truncate(&mut self, player: Player, count: usize)
         ensures own { settled_of self.new player ≡ take count (settled_of self.old player) }
         ensures other { settled_of self.new (opponent player) ≡ settled_of self.old (opponent player) }

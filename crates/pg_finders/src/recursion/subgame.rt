@@ -1,5 +1,5 @@
-//! A subgame in hand: its active vertices, and the plan that is being made for them. A player attracts in
-//! place: what he takes is no longer active and is listed after what it leads to (Zielonka 1998).
+//! A subgame during the recursion: its active vertices, and their unfinished plan. A player attracts in place: a
+//! vertex that he takes is no longer active, and is listed after those that it leads to (Zielonka 1998).
 
 ghost use Rattle.std.specs.Prelude.{◌≡◌, ◌<◌, ℕ, length, All, IfOk, IfSome, IsNone, OnOk};
 ghost use Rattle.pg_game.specs.Graph.{HasEdge};
@@ -11,8 +11,8 @@ ghost use Rattle.pg_finders.specs.private.recursion.Growing.{active_of, won_of, 
 ghost use Rattle.pg_finders.specs.private.recursion.Growing.{AttractsNoActive};
 ghost use Rattle.pg_finders.specs.Part.{IsOut};
 
+use crate::recursion::cursors::Cursors;
 use crate::recursion::plan::Plan;
-use crate::recursion::watches::Watches;
 use pg_dominion::{Area, attract_from};
 use pg_game::{Game, Mask, Memory, Player};
 use std::alloc::Global;
@@ -22,7 +22,7 @@ use std::alloc::Global;
 pub struct Subgame {
     pub active: Mask,
     pub plan: Plan,
-    pub watches: Watches,
+    pub cursors: Cursors,
 }
 
 impl Subgame {
@@ -34,11 +34,11 @@ impl Subgame {
     {
         let active = inside.copy(alloc)?;
         let plan = Plan::new(alloc, game.len())?;
-        let watches = Watches::new(alloc, game.len())?;
+        let cursors = Cursors::new(alloc, game.len())?;
         Ok(Subgame {
             active,
             plan,
-            watches,
+            cursors,
         })
     }
 
@@ -68,8 +68,8 @@ impl Subgame {
         None
     }
 
-    /// Takes for the player a vertex that is active again: one of his that leads to what he won, or one of
-    /// the opponent's that leads to no active vertex.
+    /// Takes a vertex that is active again for the player: one of his that leads to what he won, or one of the
+    /// opponent's that leads to no active vertex.
     fn retake(
         &mut self,
         game: &Game,
@@ -96,13 +96,13 @@ impl Subgame {
                 None => Ok(()),
             };
         }
-        if self.watches.has_active(game, &self.active, v) {
+        if self.cursors.has_active(game, &self.active, v) {
             return Ok(());
         }
         self.take(game, player, v, None, list)
     }
 
-    /// Takes those of the vertices that the player attracts at once.
+    /// Takes the vertices of these that the player attracts at once.
     fn retake_all(
         &mut self,
         game: &Game,
@@ -127,7 +127,7 @@ impl Subgame {
         Ok(())
     }
 
-    /// Takes all that the player attracts to the listed vertices, among them and the active ones.
+    /// Takes all active vertices that the player attracts to the listed ones.
     pub fn attract(
         &mut self,
         game: &Game,
@@ -145,8 +145,8 @@ impl Subgame {
         attract_from(self, game, player, list, 0)
     }
 
-    /// Takes all that the player attracts to the listed vertices, which he won, where of the active ones
-    /// only the given vertices may lead to them.
+    /// Takes all that the player attracts to the listed vertices, which he won. Of the active vertices only the given
+    /// ones may lead to them.
     pub fn attract_again(
         &mut self,
         game: &Game,
@@ -185,7 +185,7 @@ impl Area for Subgame {
 
     ghost free = { λ x. active_of x };
 
-    ghost ready = { λ g x list room. IsReady (length g) x list };
+    ghost ready = { λ g x list capacity. IsReady (length g) x list };
 
     ghost grown = { λ g p x list x' list'. KeepsGrown g p x list x' list' };
 
@@ -200,7 +200,7 @@ impl Area for Subgame {
     }
 
     fn has_way_out(&mut self, game: &Game, _list: &Vec<u32>, v: u32) -> bool {
-        self.watches.has_active(game, &self.active, v)
+        self.cursors.has_active(game, &self.active, v)
     }
 
     fn take(
@@ -217,9 +217,9 @@ impl Area for Subgame {
         Ok(())
     }
 
-    ghost sized = { λ g x list room a. a.sizes.active };
+    ghost sized = { λ g x list capacity a. a.sizes.active };
 
-    ghost apart = { λ g x list room v a. a.apart v };
+    ghost apart = { λ g x list capacity v a. a.apart v };
 
     ghost grown_same = { λ g p x list before old prefix h. h };
 

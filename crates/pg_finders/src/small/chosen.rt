@@ -7,12 +7,12 @@ use std::marker::Model;
 
 /// At most eight vertices, each with a choice or none.
 ///
-/// Most vertices that are looked for are not there, and the numbers modulo 64 show that without a look at the rows.
+/// Most vertices that a search asks for are not there. Their numbers modulo 64 show this without a look at the rows.
 #[derive(Drop)]
 pub struct Chosen {
     rows: [(u32, Option<u32>); 8],
     len: usize,
-    /// At each place up to `len`, the numbers modulo 64 of the vertices before it, as bits.
+    /// For each place up to `len`, the numbers modulo 64 of the vertices before it, as bits.
     bits: [u64; 9],
 }
 
@@ -40,7 +40,7 @@ impl Chosen {
         }
     }
 
-    /// How many vertices there are.
+    /// The number of vertices.
     pub fn len(&self) -> usize
         ensures number { result ≡ length self.now }
         ensures few { result ≤ 8 }
@@ -133,7 +133,7 @@ impl Chosen {
         self.rows[at] = (v, choice);
     }
 
-    /// Leaves the first vertices.
+    /// Keeps only the first vertices.
     pub fn truncate(&mut self, len: usize)
         requires { len ≤ length self.old }
         ensures { self.new ≡ take len self.old }

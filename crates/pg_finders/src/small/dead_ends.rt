@@ -1,4 +1,4 @@
-//! Whether all choices at the last vertices of a claim in the making lead out of it. Changes nothing.
+//! Whether all choices at the last vertices of an unfinished claim lead out of it. Changes nothing.
 ghost use Rattle.std.specs.Prelude.{◌≡◌, ℕ, ◌+◌, ◌-◌, ◌*◌, ◌≤◌, ◌<◌, ◌^◌, length, IfSome, IsFalse};
 ghost use Rattle.pg_game.specs.Graph.{HasEdge, owner_of};
 ghost use Rattle.pg_game.specs.VertexSet.{In, members};
@@ -8,10 +8,10 @@ ghost use Rattle.pg_finders.specs.private.small.Partial.{vertex_in, IsPartial, N
 ghost use Rattle.pg_finders.specs.private.small.Ends.{IsElsewhere, IsRefused};
 
 use crate::small::chosen::Chosen;
-use crate::small::walks::Search;
+use crate::small::walks::DominionSearch;
 
-impl<'a> Search<'a> {
-    /// How many choices there are at a vertex of the player, where each is neither there nor the vertex itself.
+impl<'a> DominionSearch<'a> {
+    /// The number of choices at a vertex of the player, if each is neither there nor the vertex itself.
     fn choices_elsewhere(&self, chosen: &Chosen, v: u32) -> Option<u64>
         requires size { length self.now.mask.now ≡ length self.now.game.now }
         requires vertex { v < length self.now.game.now }
@@ -31,7 +31,7 @@ impl<'a> Search<'a> {
         Some(count)
     }
 
-    /// Whether the opponent's vertex leads to nothing inside but itself and what is there.
+    /// Whether the opponent's vertex leads inside only to itself and to vertices that are there.
     fn stays(&self, chosen: &Chosen, v: u32) -> bool
         requires size { length self.now.mask.now ≡ length self.now.game.now }
         requires vertex { v < length self.now.game.now }
@@ -45,8 +45,8 @@ impl<'a> Search<'a> {
         true
     }
 
-    /// How many choices a search would try at a vertex, the last within the bound, where no claim can have it: an earlier search
-    /// has shown that, or the vertex is a dead end.
+    /// The number of choices that a search would try at a vertex, the last within the bound, if no claim can have it: an earlier
+    /// search has shown that, or the vertex is a dead end.
     fn choices_at_the_end(&self, chosen: &Chosen, v: u32) -> Option<u64>
         requires size { length self.now.mask.now ≡ length self.now.game.now }
         requires vertex { v < length self.now.game.now }
@@ -67,7 +67,7 @@ impl<'a> Search<'a> {
         if self.stays(chosen, v) { None } else { Some(0) }
     }
 
-    /// How many choices a search would try at a vertex that is there and then, where none can be in a claim.
+    /// The number of choices that a search would try at a vertex that is there, and after it, if none can be in a claim.
     fn choices_before_the_end(&self, chosen: &Chosen, v: u32) -> Option<u64>
         requires size { length self.now.mask.now ≡ length self.now.game.now }
         requires vertex { v < length self.now.game.now }
@@ -88,8 +88,8 @@ impl<'a> Search<'a> {
         Some(count)
     }
 
-    /// How many choices a search would try from the player's vertex at a place, where it is seen at once that none leads on:
-    /// the bound allows no further vertex, or one, and this is the last that is not settled.
+    /// The number of choices that a search would try from the player's vertex at a place, if none can lead to a claim. This is
+    /// known at once if the bound allows no further vertex, or one, and this is the last undecided vertex.
     pub fn choices_in_vain(&self, chosen: &Chosen, done: usize) -> Option<u64>
         requires bound { self.now.bound ≤ 8 }
         requires excluded { NoneHasBetween self.now.game.now

@@ -14,11 +14,11 @@ impl Excluded {
     pub fn contains(&self, v: u32) -> bool
         ensures { IsTrue result ↔ IsBetween self.now.low self.now.high v }
     {
-        // without a branch, since of few vertices it can be foretold
+        // without a branch, which a processor could rarely predict
         (self.low <= v) & (v < self.high)
     }
 
-    /// Takes the vertex too, where it is the one before or after these; otherwise it alone.
+    /// Adds the vertex if it is the one before or after these; otherwise keeps it alone.
     pub fn add(&mut self, v: u32)
         requires { self.old.low ≤ self.old.high }
         ensures order { self.new.low ≤ self.new.high }

@@ -7,11 +7,11 @@ ghost use Rattle.pg_dominion.specs.Claim.{named};
 ghost use Rattle.pg_finders.specs.Finding.{most_choices, inner_degree, AtMostInside};
 ghost use Rattle.pg_finders.specs.private.small.Excluded.{IsBetween, NoneHasBetween};
 ghost use Rattle.pg_finders.specs.private.small.Partial.{vertex_in, AreDifferentRows, IsPartial, Extends, NoneAgrees};
-ghost use Rattle.pg_finders.specs.private.small.Searched.{Chooses, IfFound, IfNothing, IfGaveUp, IsNextPartial, StillAgrees, StillAgreesAt};
-ghost use Rattle.pg_finders.specs.private.small.Searched.{NoneAgreesAt, HasNoRoom, LacksRoom};
+ghost use Rattle.pg_finders.specs.private.small.SearchSteps.{Chooses, IfFound, IfNothing, IfGaveUp, IsNextPartial, StillAgrees, StillAgreesAt};
+ghost use Rattle.pg_finders.specs.private.small.SearchSteps.{NoneAgreesAt, HasNoCapacity, LacksCapacity};
 
 use crate::small::chosen::Chosen;
-use crate::small::walks::Search;
+use crate::small::walks::DominionSearch;
 
 /// How a search ended.
 #[derive(Clone, Copy, Drop)]
@@ -22,7 +22,7 @@ pub enum Step {
     GaveUp,
 }
 
-/// Counts choices that were tried in vain, unless they are more than may still be tried.
+/// Counts choices that the search tried in vain, unless they are more than the rest of the budget.
 fn spend(left: &mut u64, count: u64) -> Step
     ensures found { IfFound result ⊥ }
     ensures nothing { IfNothing result (left.new + count ≡ left.old) }
@@ -36,8 +36,8 @@ fn spend(left: &mut u64, count: u64) -> Step
     Step::Nothing
 }
 
-impl<'a> Search<'a> {
-    /// Adds a vertex, unless it is there. Whether the bound allows it.
+impl<'a> DominionSearch<'a> {
+    /// Adds a vertex, unless it is there. Returns whether the bound allows it.
     fn add(&self, chosen: &mut Chosen, w: u32) -> bool
         requires bound { self.now.bound ≤ 8 }
         requires rows { AreDifferentRows self.now.game.now (members self.now.mask.now) self.now.player self.now.bound chosen.old }
@@ -47,7 +47,7 @@ impl<'a> Search<'a> {
         ensures extends { Extends chosen.old chosen.new }
         ensures only { (v : ℕ) → In (named chosen.new) v → In (named chosen.old) v ⊎ (w ≡ v) }
         ensures added { IsTrue result → In (named chosen.new) w }
-        ensures full { IsFalse result → HasNoRoom chosen.new self.now.bound w }
+        ensures full { IsFalse result → HasNoCapacity chosen.new self.now.bound w }
     {
         if chosen.has(w) {
             return true;
@@ -59,7 +59,7 @@ impl<'a> Search<'a> {
         true
     }
 
-    /// Adds all successors inside of a row's vertex. Whether the bound allows it.
+    /// Adds all successors inside of a row's vertex. Returns whether the bound allows it.
     fn add_successors(&self, chosen: &mut Chosen, v: u32) -> bool
         requires bound { self.now.bound ≤ 8 }
         requires size { length self.now.mask.now ≡ length self.now.game.now }
@@ -69,7 +69,7 @@ impl<'a> Search<'a> {
         ensures extends { Extends chosen.old chosen.new }
         ensures only { (x : ℕ) → In (named chosen.new) x → In (named chosen.old) x ⊎ (HasEdge self.now.game.now v x × In (members self.now.mask.now) x) }
         ensures all { IsTrue result → (w : ℕ) → HasEdge self.now.game.now v w → In (members self.now.mask.now) w → In (named chosen.new) w }
-        ensures full { IsFalse result → LacksRoom self.now.game.now (members self.now.mask.now) chosen.new self.now.bound v }
+        ensures full { IsFalse result → LacksCapacity self.now.game.now (members self.now.mask.now) chosen.new self.now.bound v }
     {
         for w in self.game.successors(v) {
             if !self.mask.has(*w) {
@@ -97,7 +97,7 @@ impl<'a> Search<'a> {
         false
     }
 
-    /// Settles the opponent's vertex at a place, where a claim can have all that it leads to; otherwise nothing changes.
+    /// Decides the opponent's vertex at a place, if a claim can have all its successors; otherwise nothing changes.
     fn settle(&self, chosen: &mut Chosen, at: usize) -> bool
         requires bound { self.now.bound ≤ 8 }
         requires excluded { NoneHasBetween self.now.game.now
@@ -130,7 +130,7 @@ impl<'a> Search<'a> {
         true
     }
 
-    /// Chooses a vertex that is there, unless that closes a bad walk; then nothing changes.
+    /// Chooses a vertex that is there. If that closes a bad walk, nothing changes.
     fn choose_known(&self, chosen: &mut Chosen, at: usize, w: u32) -> bool
         requires state { IsPartial self.now.game.now (members self.now.mask.now) self.now.player self.now.bound chosen.old at }
         requires at { at < length chosen.old }
@@ -154,7 +154,7 @@ impl<'a> Search<'a> {
         true
     }
 
-    /// Chooses a vertex that is not there yet. It becomes the last row, so no walk is closed.
+    /// Chooses a vertex that is not there yet. It becomes the last row, so this closes no walk.
     fn choose_fresh(&self, chosen: &mut Chosen, at: usize, w: u32)
         requires bound { self.now.bound ≤ 8 }
         requires state { IsPartial self.now.game.now (members self.now.mask.now) self.now.player self.now.bound chosen.old at }
@@ -164,7 +164,7 @@ impl<'a> Search<'a> {
         requires edge { HasEdge self.now.game.now (vertex_in chosen.old at) w }
         requires inside { In (members self.now.mask.now) w }
         requires fresh { named chosen.old w ≡ false }
-        requires room { length chosen.old < self.now.bound }
+        requires capacity { length chosen.old < self.now.bound }
         ensures next { IsNextPartial self.now.game.now (members self.now.mask.now) self.now.player self.now.bound chosen.old at chosen.new }
         ensures agrees { StillAgreesAt self.now.game.now (members self.now.mask.now) self.now.player chosen.old at (vertex_in chosen.old at) w chosen.new }
         ensures chosen { chosen.new ≡ slice_set chosen.old at (vertex_in chosen.old at, Some w) ++ (w, None) ∷ [] }
@@ -173,7 +173,7 @@ impl<'a> Search<'a> {
         chosen.push(w);
     }
 
-    /// Chooses at a place, where a claim can; otherwise nothing changes.
+    /// Chooses at a place, if a claim can; otherwise nothing changes.
     fn choose(&self, chosen: &mut Chosen, at: usize, w: u32) -> bool
         requires bound { self.now.bound ≤ 8 }
         requires excluded { NoneHasBetween self.now.game.now
@@ -205,9 +205,9 @@ impl<'a> Search<'a> {
         true
     }
 
-    /// Goes on from the first rows, which are settled, until the rows are a claim; where nothing is found they are as before.
-    /// `left` counts the choices that may still be tried: where the player chooses, one is tried for what is found, and all
-    /// before there is nothing.
+    /// Continues from the first rows, which are decided, until the rows are a claim; if it finds none, they are unchanged.
+    /// `left` is the rest of the budget: at a vertex of the player the search tries at least one choice before it finds a claim,
+    /// and all before it finds none.
     pub fn go_on(&self, chosen: &mut Chosen, done: usize, left: &mut u64) -> Step
         requires bound { self.now.bound ≤ 8 }
         requires excluded { NoneHasBetween self.now.game.now

@@ -1,4 +1,4 @@
-//! Whether a small claim in the making has closed a walk that its player loses.
+//! Whether an unfinished small claim has a closed walk that its player loses.
 ghost use Rattle.std.specs.Prelude.{ℕ, ◌≤◌, ◌<◌, ◌+◌, ◌↔◌, length, IsTrue, IsFalse, IfSome, IsNone, take};
 ghost use Rattle.pg_game.specs.Region.{OnlyGoodWalks};
 ghost use Rattle.pg_dominion.specs.Claim.{named, choice_in};
@@ -9,9 +9,9 @@ use crate::small::chosen::Chosen;
 use crate::small::excluded::Excluded;
 use pg_game::{Game, Mask, Player};
 
-/// What a small search looks for, and where.
+/// The goal and the place of a small search.
 #[derive(Clone, Copy)]
-pub struct Search<'a> {
+pub struct DominionSearch<'a> {
     pub game: &'a Game,
     pub mask: &'a Mask,
     pub player: Player,
@@ -20,7 +20,7 @@ pub struct Search<'a> {
     pub excluded: Excluded,
 }
 
-impl<'a> Search<'a> {
+impl<'a> DominionSearch<'a> {
     /// Whether a kept edge leads from one row's vertex to another's.
     fn leads(&self, chosen: &Chosen, from: usize, to: usize) -> bool
         requires rows { AreFew self.now.game.now chosen.now }
@@ -39,7 +39,7 @@ impl<'a> Search<'a> {
         }
     }
 
-    /// Whether a kept edge leads to the row from the start or from a row that is left no more.
+    /// Whether a kept edge leads to the row from the start or from a reached row.
     fn is_next(
         &self,
         chosen: &Chosen,
@@ -65,7 +65,7 @@ impl<'a> Search<'a> {
         false
     }
 
-    /// A row that is left, of no greater priority than the start's, to which a kept edge leads.
+    /// An unreached row, of no greater priority than the start's, to which a kept edge leads.
     fn next_reached(
         &self,
         chosen: &Chosen,

@@ -17,7 +17,7 @@ pub struct Lead {
     pub next: Vec<u32>,
 }
 
-/// Takes the vertices in the mask with an edge to `to` and no greater priority than the goal's.
+/// Adds the vertices in the mask with an edge to `to` and no greater priority than the goal's.
 fn reach(
     game: &Game,
     mask: &Mask,

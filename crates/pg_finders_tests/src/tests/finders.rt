@@ -1,5 +1,5 @@
-//! Tests of what no clause says: that the calls answer with memory at hand, on worked games and on hostile ones; that
-//! a search goes on until its budget is used; what `Standard` gives for a job. The winners of the smallest games are
+//! Tests of what no clause says: that the calls answer with ample memory, on worked games and on hostile ones; that
+//! a search continues until its budget is used; what `Standard` gives for a job. The winners of the smallest games are
 //! compared with those of all strategies, and what small searches find with all sets of vertices with all choices,
 //! which checks the definitions that the clauses use.
 

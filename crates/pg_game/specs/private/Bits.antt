@@ -9,6 +9,6 @@ pub record FitBits (words : List ℕ) (n : ℕ) : Type 0 where
   pub size : length words ≡ div_ceil n 64
   pub none : (v : ℕ) → n ≤ v → bit_of words v ≡ false
 
--- the same, which a proof has to open, since each call that drops a mask has it among its facts
+-- the same, which a proof has to unfold, since it is among the facts of each call that drops a mask
 unfoldable pub AreWords : List ℕ → ℕ → Type 0
 AreWords words n = FitBits words n

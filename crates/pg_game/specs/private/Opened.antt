@@ -1,4 +1,4 @@
--- Specifications, and the successors of one more that is not whole yet (private).
+-- Specifications, and the successors of one more that is not complete yet (private).
 use Rattle.std.specs.Prelude.{ℕ, ◌≤◌, List, length, take}
 use Rattle.pg_game.specs.declared.player.Player.{Player}
 use Rattle.pg_game.specs.private.Rows.{IsCompressed}

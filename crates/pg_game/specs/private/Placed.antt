@@ -8,7 +8,7 @@ pub record AreNamed (ids row places : List ℕ) : Type 0 where
   pub size : length places ≡ length row
   pub each : (k : ℕ) → k < length row → (slice_index places k < length ids) × (slice_index ids (slice_index places k) ≡ slice_index row k)
 
--- the same between two indices, and the others are what they were
+-- the same between two indices, and the others are unchanged
 pub record AreNamedFrom (ids old new : List ℕ) (from to : ℕ) : Type 0 where
   pub each : (k : ℕ) → from ≤ k → k < to → (slice_index new k < length ids) × (slice_index ids (slice_index new k) ≡ slice_index old k)
   pub others : (k : ℕ) → (k < from) ⊎ (to ≤ k) → slice_index new k ≡ slice_index old k

@@ -10,14 +10,14 @@ pub record IsCompressed (offsets targets : List ℕ) : Type 0 where
   pub within : (k : ℕ) → k < length offsets → slice_index offsets k ≤ length targets
   pub last : (k : ℕ) → k + 1 ≡ length offsets → slice_index offsets k ≡ length targets
 
--- how many numbers there are in all rows
+-- the number of targets of all rows
 abbrev pub size_of : List (List ℕ) → ℕ
 size_of rows = sum_by (λ row. length row) rows
 
 abbrev pub row_at : List (List ℕ) → ℕ → List ℕ
 row_at rows v = slice_index_or rows v []
 
--- each row rises, and has rows' numbers alone
+-- each row rises, and has only numbers of rows
 pub record AreRisingRows (rows : List (List ℕ)) : Type 0 where
   pub below : (v k : ℕ) → v < length rows → k < length (row_at rows v) → slice_index (row_at rows v) k < length rows
   pub rising : (v : ℕ) → v < length rows → IsStrictlyIncreasing (row_at rows v)

@@ -1,4 +1,4 @@
--- How a game lies in memory.
+-- How a game is stored.
 use Rattle.std.specs.Prelude.{ℕ, ◌≡◌, ◌<◌, List, length}
 use Rattle.pg_game.specs.declared.player.Player.{Player}
 use Rattle.pg_game.specs.Graph.{Graph, IsGame}

@@ -8,12 +8,12 @@ abbrev pub TakenOr : Bool → Type 0 → Type 0 → Type 0
 TakenOr true A B = A
 TakenOr false A B = B
 
--- the tokens begin a text, and with one more they don't
+-- the tokens begin a text, and with one more they do not
 pub record Stops (BeginsText : List Token → Type 0) (ts : List Token) (t : Token) : Type 0 where
   pub begins : BeginsText ts
   pub stops : BeginsText (ts ++ t ∷ []) → ⊥
 
--- the token was read, or it can't be there
+-- the token was read, or it is not expected
 abbrev pub TakesToken : {R : Type 0} → (Bool → List Token → R → Type 0) → (List Token → Type 0) → R → R → Bool → Token → Type 0
 TakesToken Reads BeginsText old new taken t =
     (sound : Bool) (ts : List Token) → Reads sound ts old → TakenOr taken (Reads sound (ts ++ t ∷ []) new) (Stops BeginsText ts t)

@@ -1,4 +1,4 @@
--- How the private reader goes on over a text, where what a grammar holds of the tokens is a relation of these and its state.
+-- The progress of the private reader over a text. A relation connects the tokens with the state of the grammar.
 use Rattle.std.specs.Prelude.{ℕ, ◌≡◌, Bool, List, [], ◌∷◌, ◌++◌, ◌&&◌, Option, None}
 use Rattle.std.specs.Option.{is_none}
 use Rattle.pg_text.specs.declared.fault.ParseFault.{ParseFault}
@@ -23,7 +23,7 @@ pub record Keeps {R : Type 0} (Reads : Bool → List Token → R → Type 0) (Is
 abbrev pub KeepsReader : {R : Type 0} → (Bool → List Token → R → Type 0) → (List Token → Type 0) → List Placed → Reader R → Type 0
 KeepsReader Reads IsBefore ts r = Keeps Reads IsBefore ts r.grammar r.large r.wrong
 
--- the reader took the token at the place, or it can't be there
+-- the reader took the token at the place, or it is not expected
 abbrev pub ReaderTakes : {R : Type 0} → (Bool → List Token → R → Type 0) → (List Token → Type 0) → (List Token → Type 0) → Reader R → Reader R → Bool
     → Token → ℕ → Type 0
 ReaderTakes Reads BeginsText IsBefore old new taken t place =
@@ -36,7 +36,7 @@ TakesLexeme Takes text lexeme taken =
     (at : ℕ) → IsNextLexeme text at lexeme → (lexeme.kind ≡ kind.End → ⊥) → (lexeme.kind ≡ kind.Invalid → ⊥)
     → (t : Token) × IsToken text at lexeme.from lexeme.to t × Takes taken t lexeme.from
 
--- the token between the places does not go on with those before it
+-- the token between the places is not expected after those before it
 pub record IsUnexpected (BeginsText : List Token → Type 0) (text : List ℕ) (from to : ℕ) : Type 0 where
   pub before : List Placed
   pub at : ℕ
@@ -52,7 +52,7 @@ pub record SpellsLines {L : Type 0} (Says : List Token → L → Type 0) (text :
   pub numbers : AllFit (tokens_of tokens)
   pub says : Says (tokens_of tokens) lines
 
--- the text's first fault of spelling; out of memory says nothing of the text
+-- the text's first fault of spelling; refused memory says nothing of the text
 abbrev pub IsParseFaultOf : (List Token → Type 0) → (List Token → Type 0) → (List Token → Type 0) → List ℕ → ParseFault → Type 0
 IsParseFaultOf BeginsText IsText IsBefore text (fault.Lexical at) = IsLexicalFault text at
 IsParseFaultOf BeginsText IsText IsBefore text (fault.Syntax at) = IsSyntaxFault BeginsText IsText text at

@@ -1,4 +1,4 @@
--- What the table of a game's vertices holds of the lines of a solution text that were taken: this describes a private reader.
+-- The table of a game's vertices after some lines of a solution text, in a private reader.
 use Rattle.std.specs.Prelude.{ℕ, ◌≡◌, ◌<◌, Bool, List, [], ◌∷◌, length, Option, Some, None, slice_index_or}
 use Rattle.std.specs.List.{Contains}
 use Rattle.pg_game.specs.declared.player.Player.TheVariants.{Even}
@@ -11,7 +11,7 @@ use Rattle.pg_text.specs.SolutionText.{WrittenSolutionLine}
 use Rattle.pg_text.specs.Solution.{SolutionRows}
 use Rattle.pg_text.specs.SolutionLines.{first_stranger, first_twice, first_missing, has_line, row_of_line}
 
--- the lines name vertices alone; each vertex is marked that has one; and where none has two, their rows are the lines'
+-- the lines have only vertices, and each vertex with a line is marked; if none has two, the rows are those of the lines
 pub record HoldsLines (g : Graph) (lines : List WrittenSolutionLine) (rows : SolutionRows) (said : List Bool) (twice : Option ℕ) : Type 0 where
   pub game : IsGame g
   pub size : length rows ≡ length g
@@ -41,7 +41,7 @@ IsStrangerOf g l (fault.Twice id) = ⊥
 IsStrangerOf g l (fault.Missing id) = ⊥
 IsStrangerOf g l fault.Memory = ⊥
 
--- why the lines say no rows
+-- why the lines have no rows
 abbrev pub IsRowFaultOf : Graph → List WrittenSolutionLine → SolutionTextFault → Type 0
 IsRowFaultOf g lines (fault.Stranger id) = first_stranger g lines ≡ Some id
 IsRowFaultOf g lines (fault.Twice id) = (first_stranger g lines ≡ None) × (first_twice lines ≡ Some id)
@@ -52,7 +52,7 @@ IsRowFaultOf g lines (fault.Syntax at) = ⊥
 IsRowFaultOf g lines (fault.Number at) = ⊥
 IsRowFaultOf g lines (fault.Winner at) = ⊥
 
--- why lines name no rows of vertices, before it is asked which vertices have none
+-- why lines have no rows, before the search for vertices without a line
 abbrev pub IsLookUpFaultOf : Graph → List WrittenSolutionLine → SolutionTextFault → Type 0
 IsLookUpFaultOf g lines (fault.Stranger id) = first_stranger g lines ≡ Some id
 IsLookUpFaultOf g lines fault.Memory = Unit {0}
@@ -63,7 +63,7 @@ IsLookUpFaultOf g lines (fault.Syntax at) = ⊥
 IsLookUpFaultOf g lines (fault.Number at) = ⊥
 IsLookUpFaultOf g lines (fault.Winner at) = ⊥
 
--- why the lines say nothing that is known
+-- why the lines are none of what is known
 abbrev pub IsKnownRowFaultOf : Graph → List WrittenSolutionLine → SolutionTextFault → Type 0
 IsKnownRowFaultOf g lines (fault.Stranger id) = first_stranger g lines ≡ Some id
 IsKnownRowFaultOf g lines (fault.Twice id) = (first_stranger g lines ≡ None) × (first_twice lines ≡ Some id)

@@ -15,7 +15,7 @@ pub fn same<T: PartialEq + Debug + Copy, D: Debug + Copy>(
     }
 }
 
-/// Ends the test where it isn't so, and says where.
+/// Ends the test if it is not so, and says where.
 pub fn holds<D: Debug + Copy>(rt: &impl Abort, is_so: bool, at: D) {
     if !is_so {
         panic!(*rt; "{at:?}");

@@ -9,7 +9,7 @@ mod open;
 mod readme;
 
 use crate::tests::asserting::made;
-use pg_game::{Game, GameFault, Mask, Memory, Player, Sequence, Spec, Specs};
+use pg_game::{ForwardGame, Game, GameFault, Mask, Memory, Player, Sequence, Spec, Specs};
 use std::alloc::Global;
 use std::process::Abort;
 
@@ -26,7 +26,7 @@ const IN_ORDER: &[Row] = &[(0, 2, EVEN, &[0, 1]), (1, 1, ODD, &[1])];
 const WITH_A_GAP: &[Row] = &[(9, 2, ODD, &[3, 3, 9]), (3, 1, EVEN, &[9])];
 
 /// What is returned of a vertex: its row, which names its successors as vertices, and its predecessors.
-type Told<'a> = (Row<'a>, &'a [u32]);
+type Expected<'a> = (Row<'a>, &'a [u32]);
 
 /// Adds a specification, with numbers cut down to the greatest.
 fn add(
@@ -141,11 +141,12 @@ fn from_specs(alloc: Global, specs: Vec<Spec>) -> Result<Game, GameFault>
     Game::from_specs(alloc, specs)
 }
 
-/// As `Game::from_rows`, without its contract.
+/// The game of flat lists, without a contract.
 fn from_rows(alloc: Global, specs: Specs) -> Result<Game, GameFault>
     requires { All AreNumbers specs }
 {
-    Game::from_rows(alloc, specs)
+    let forward = ForwardGame::from_rows(alloc, specs)?;
+    Ok(Game::of_forward(alloc, forward)?)
 }
 
 /// As `==`, without its contract.
@@ -163,7 +164,7 @@ fn flat_game_of(alloc: Global, rows: &[Row]) -> Result<Game, GameFault> {
 }
 
 /// All that is returned of a vertex.
-fn look_at(rt: &impl Abort, game: &Game, v: u32, told: Told) {
+fn look_at(rt: &impl Abort, game: &Game, v: u32, expected: Expected) {
     assert!(*rt; v < game.len());
     let row = (
         game.id(v),
@@ -171,22 +172,22 @@ fn look_at(rt: &impl Abort, game: &Game, v: u32, told: Told) {
         game.owner(v),
         game.successors(v),
     );
-    check_eq!(*rt; (row, game.predecessors(v)), told, v);
+    check_eq!(*rt; (row, game.predecessors(v)), expected, v);
     check_eq!(*rt; game.vertex_of(row.0), Some(v), v);
 }
 
 /// How many vertices a game has, and all that is returned of them.
-fn look(rt: &impl Abort, game: &Game, vertices: &[Told]) {
+fn look(rt: &impl Abort, game: &Game, vertices: &[Expected]) {
     check_eq!(*rt; game.len() as usize, vertices.len());
     let mut v = 0u32;
-    for told in vertices {
-        look_at(rt, game, v, *told);
+    for expected in vertices {
+        look_at(rt, game, v, *expected);
         v = v.wrapping_add(1);
     }
 }
 
 /// The same, and that these identifiers have no vertex.
-fn look_beyond(rt: &impl Abort, game: &Game, vertices: &[Told], strangers: &[u32]) {
+fn look_beyond(rt: &impl Abort, game: &Game, vertices: &[Expected], strangers: &[u32]) {
     look(rt, game, vertices);
     for id in strangers {
         check_eq!(*rt; game.vertex_of(*id), None, *id);
@@ -194,15 +195,21 @@ fn look_beyond(rt: &impl Abort, game: &Game, vertices: &[Told], strangers: &[u32
 }
 
 /// The vertices of `WITH_A_GAP`.
-const TOLD_WITH_A_GAP: &[Told] = &[((3, 1, EVEN, &[1]), &[1]), ((9, 2, ODD, &[0, 1]), &[0, 1])];
+const EXPECTED_WITH_A_GAP: &[Expected] = &[
+    ((3, 1, EVEN, &[1]), &[1]),
+    ((9, 2, ODD, &[0, 1]), &[0, 1]),
+];
 
 /// The vertices of `IN_ORDER`.
-const TOLD_IN_ORDER: &[Told] = &[((0, 2, EVEN, &[0, 1]), &[0]), ((1, 1, ODD, &[1]), &[0, 1])];
+const EXPECTED_IN_ORDER: &[Expected] = &[
+    ((0, 2, EVEN, &[0, 1]), &[0]),
+    ((1, 1, ODD, &[1]), &[0, 1]),
+];
 
 #[test]
 fn a_game_with_gaps_goes_by_rising_identifier(rt: HostRuntime) {
     let game = made(&rt, game_of(rt.alloc(), WITH_A_GAP));
-    look_beyond(&rt, &game, TOLD_WITH_A_GAP, &[4]);
+    look_beyond(&rt, &game, EXPECTED_WITH_A_GAP, &[4]);
 }
 
 const THREE: &[Row] = &[
@@ -212,7 +219,7 @@ const THREE: &[Row] = &[
 ];
 
 /// The vertices of `THREE`.
-const TOLD_THREE: &[Told] = &[
+const EXPECTED_THREE: &[Expected] = &[
     ((0, 2_147_483_647, ODD, &[1, 2]), &[2]),
     ((1, 0, EVEN, &[1]), &[0, 1, 2]),
     ((2, 1, EVEN, &[0, 1, 2]), &[0, 2]),
@@ -221,13 +228,13 @@ const TOLD_THREE: &[Told] = &[
 #[test]
 fn a_game_in_order_has_no_need_of_an_index(rt: HostRuntime) {
     let game = made(&rt, flat_game_of(rt.alloc(), THREE));
-    look_beyond(&rt, &game, TOLD_THREE, &[3, 2_147_483_647]);
+    look_beyond(&rt, &game, EXPECTED_THREE, &[3, 2_147_483_647]);
 }
 
 #[test]
 fn rows_with_gaps_go_by_rising_identifier(rt: HostRuntime) {
     let game = made(&rt, flat_game_of(rt.alloc(), WITH_A_GAP));
-    look_beyond(&rt, &game, TOLD_WITH_A_GAP, &[0]);
+    look_beyond(&rt, &game, EXPECTED_WITH_A_GAP, &[0]);
 }
 
 /// Asks for the same game of these rows both ways.
@@ -405,14 +412,14 @@ fn edges_are_limited(rt: HostRuntime) {
 const GREATEST: &[Row] = &[(2_147_483_647, 2_147_483_647, ODD, &[2_147_483_647])];
 
 /// The vertex of `GREATEST`.
-const TOLD_GREATEST: &[Told] = &[((2_147_483_647, 2_147_483_647, ODD, &[0]), &[0])];
+const EXPECTED_GREATEST: &[Expected] = &[((2_147_483_647, 2_147_483_647, ODD, &[0]), &[0])];
 
 #[test]
 fn the_greatest_number_is_an_identifier(rt: HostRuntime) {
     look(
         &rt,
         &made(&rt, game_of(rt.alloc(), GREATEST)),
-        TOLD_GREATEST,
+        EXPECTED_GREATEST,
     );
 }
 

@@ -12,8 +12,11 @@ mod readme;
 mod solutions;
 
 use crate::tests::asserting::made;
-use pg_game::Game;
-use pg_text::{Solution, SolutionTextFault, TextFault, read_game, read_solution};
+use pg_game::{ForwardGame, Game};
+use pg_text::{
+    Solution, SolutionTextFault, TextFault, read_forward_game, read_forward_solution, read_game,
+    read_solution,
+};
 use std::alloc::Global;
 use std::process::Abort;
 
@@ -31,6 +34,14 @@ pub fn game(alloc: Global, text: &[u8]) -> Result<Game, TextFault> {
     read_game(alloc, text)
 }
 
+/// The same without predecessors.
+pub fn forward_game(alloc: Global, text: &[u8]) -> Result<ForwardGame, TextFault> {
+    if text.len() > 1000 {
+        return Err(TextFault::Memory);
+    }
+    read_forward_game(alloc, text)
+}
+
 /// Why a short text is no game, if it is none.
 pub fn game_fault(alloc: Global, text: &[u8]) -> Option<TextFault> {
     game(alloc, text).err()
@@ -44,6 +55,18 @@ pub fn solution(alloc: Global, game: &Game, text: &[u8]) -> Result<Solution, Sol
         return Err(SolutionTextFault::Memory);
     }
     read_solution(alloc, game, text)
+}
+
+/// The same for a game without predecessors.
+pub fn forward_solution(
+    alloc: Global,
+    game: &ForwardGame,
+    text: &[u8],
+) -> Result<Solution, SolutionTextFault> {
+    if text.len() > 1000 {
+        return Err(SolutionTextFault::Memory);
+    }
+    read_forward_solution(alloc, game, text)
 }
 
 /// Why a short text is no solution text of the game, if it is none.

@@ -1,4 +1,4 @@
--- What a worker is answered for its claims, and what it notes.
+-- The results of a worker's claims, and the row that counts them.
 use Rattle.std.specs.Prelude.{ℕ, ◌≡◌, ◌≢◌, ◌⊎◌, Bool, true, false, List, length, fold, slice_get, Some, Result, Err}
 use Rattle.pg_game.specs.Graph.{Graph}
 use Rattle.pg_dominion.specs.Fault.{IsClaimFault}
@@ -13,17 +13,17 @@ use Rattle.pg_workers.specs.Report.{blank_row}
 use Rattle.pg_workers.specs.declared.report.ReportRow.{ReportRow}
 use Rattle.pg_workers.specs.private.Report.{noted}
 
--- the claim was checked on the game, and this is an answer of some lawful board with at least the amount settled
+-- the claim is checked on the game, and this is an answer of some lawful board with at least the amount settled
 abbrev pub IsSettledAnswer : Graph → Claim → ℕ → Result ℕ Refusal → Type 0
 IsSettledAnswer g claim amount answer = (c : CheckedClaim) × (claim_of c ≡ claim) × AgreesWithGame g c.player c.rows × IsCheckedAnswerOfSome amount c answer
 
--- the answer to a claim: the check refused it, memory was refused, or it was checked and settled
+-- the answer to a claim: the check refused it, memory was refused, or a board settled the checked claim
 abbrev pub IsAnswerTo : Graph → Claim → ℕ → Result ℕ Refusal → Type 0
 IsAnswerTo g claim amount (Err refusal.Memory) = Unit {0}
 IsAnswerTo g claim amount (Err (refusal.Claim fault)) = IsClaimFault g claim.player claim.rows fault × (fault ≢ claim_fault.Memory)
 IsAnswerTo g claim amount answer = IsSettledAnswer g claim amount answer
 
--- the claims were answered one after the other, and the row notes each answer
+-- the claims got these answers one after the other, and the row counts each answer
 pub record AreNoted (g : Graph) (claims : List Claim) (old new : ReportRow) : Type 0 where
   pub answers : List (Result ℕ Refusal)
   pub number : length answers ≡ length claims
@@ -31,11 +31,11 @@ pub record AreNoted (g : Graph) (claims : List Claim) (old new : ReportRow) : Ty
       → (amount : ℕ) × IsAnswerTo g claim amount answer
   pub row : new ≡ fold noted old answers
 
--- the row of a job that a worker has drawn, with whether its search gave up and whether it was refused memory
+-- the row of a drawn job, with whether its search gave up and whether it was refused memory
 abbrev pub drawn_row : ℕ → ℕ → Bool → Bool → ReportRow
 drawn_row job worker gave_up memory = record (blank_row job) { worker = Some worker; gave_up = gave_up; memory = memory }
 
--- the search for the job was refused memory, or each claim that it found was answered in order, and the row notes this
+-- the search for the job was refused memory, or each of its claims got an answer in order, and the row notes this
 abbrev pub IsJobRow : ℕ → ℕ → ReportRow → Type 0
 IsJobRow job worker row =
     (row ≡ drawn_row job worker false true) ⊎ ((g : Graph) × (found : Found) × AreNoted g found.claims.items (drawn_row job worker found.gave_up false) row)

@@ -1,4 +1,4 @@
--- The rule of the word that numbers are drawn from, and what the steps on it return.
+-- The rule of the word that tickets draw from, and the results of the steps on it.
 use Rattle.std.specs.Prelude.{◌≡◌, ℕ, ◌+◌, ◌-◌, ◌<◌, ◌≤◌, List, [], ◌∷◌, ◌++◌, length, min, nat_lt, sum_by, MatchBool}
 use mathlib.Core.Option.{some}
 use lib.ListN.{get_elem?}
@@ -6,16 +6,16 @@ use Rattle.atomic_table.specs.Table.{State, Me, Step}
 use Rattle.pg_workers.specs.declared.drawing.Drawer.{Drawer}
 use Rattle.pg_workers.specs.Counting.{AreFair}
 
--- what one seat knows: how many numbers there are, how many tickets are at it, to how many of these a draw returned none,
+-- the view of a seat: the total, the number of its tickets, the number of these that found no job left,
 -- and the numbers that they drew
 abbrev pub drawer : ℕ → ℕ → ℕ → List ℕ → Drawer
 drawer total tickets told_none drawn = record { total = total; tickets = tickets; told_none = told_none; drawn = drawn }
 
--- none was returned to no more tickets than are at it, and a seat without tickets has drawn nothing
+-- no more of its tickets found no job left than it has, and a seat without tickets has drawn nothing
 abbrev pub IsDrawer : ℕ → Drawer → Type 0
 IsDrawer total v = (v.told_none ≤ v.tickets) × (0 < v.tickets → v.total ≡ total) × (v.tickets ≡ 0 → v.drawn ≡ [])
 
--- The lists are fair. The word counts each number drawn and each ticket to which none was returned, and no ticket is lost
+-- The lists are fair. The word counts each drawn number and each ticket that found no job left, and no ticket is lost
 pub record IsDrawn (total seats : ℕ) (s : State (Unit {0}) Drawer) : Type 0 where
   pub word : ℕ
   pub words : s.words ≡ word ∷ []
@@ -28,7 +28,7 @@ pub record IsDrawn (total seats : ℕ) (s : State (Unit {0}) Drawer) : Type 0 wh
 abbrev pub AtSeat : Type 0
 AtSeat = Me (Unit {0}) Drawer
 
--- a draw adds the number that was found, or none is returned to one more ticket
+-- a draw adds the number of the word, or one more ticket finds no job left
 abbrev pub Draws : Step (Unit {0}) → AtSeat → ℕ → AtSeat → Type 0
 Draws st m found n =
     (n.1 ≡ m.1)
@@ -43,7 +43,7 @@ one_less v = drawer v.total (v.tickets - 1) v.told_none v.drawn
 abbrev pub one_ticket : Drawer → Drawer
 one_ticket v = drawer v.total 1 0 []
 
--- what two seats know together, and what is left of the one that joined
+-- the view of two seats together, and the view that remains for the one that joined
 abbrev pub both_drawers : Drawer → Drawer → Drawer
 both_drawers v w = drawer v.total (v.tickets + w.tickets) (v.told_none + w.told_none) (v.drawn ++ w.drawn)
 

@@ -1,4 +1,4 @@
--- What is known of a game before it is solved: as regions, as rows of claims, and what is answered where it is posted (private).
+-- What is known of a game before it is solved: as regions, as rows of claims, and the results of its posts (private).
 use Rattle.std.specs.Prelude.{ℕ, ◌≡◌, ◌+◌, ◌↔◌, List, [], ◌∷◌}
 use Rattle.pg_game.specs.declared.player.Player.{Player}
 use Rattle.pg_game.specs.declared.player.Player.TheVariants.{Even, Odd}
@@ -18,7 +18,7 @@ use Rattle.pg_workers.specs.declared.known.SolveFault.{SolveFault}
 use Rattle.pg_workers.specs.declared.known.SolveFault.TheVariants as fault
 use Rattle.pg_workers.specs.Known.{IsKnownRegion, IsAttractedToKnown, HasCount, IsKnownSize, IsRefusedKnown}
 
--- the known set is a region, the player has what he attracts to it, and the opponent what he had
+-- the known set is a region, the player has what he attracts to it, and the opponent the same as before
 pub record SettlesKnown (old new : Play) (known : KnownRows) (p : Player) : Type 0 where
   pub region : IsKnownRegion old.graph known p
   pub later : IsLater (p ∷ []) old new
@@ -28,7 +28,7 @@ pub record SettlesKnown (old new : Play) (known : KnownRows) (p : Player) : Type
   pub size : HasCount (IsAttractedToKnown old.graph known p) more
   pub number : number_settled new.journal ≡ number_settled old.journal + more
 
--- what a post of the player's known set may fail with
+-- the possible faults of a post of the player's known set
 abbrev pub IsKnownFault : Graph → Journal → KnownRows → Player → SolveFault → Type 0
 IsKnownFault g journal known p fault.Memory = Unit {0}
 IsKnownFault g journal known p (fault.Known q e) = (q ≡ p) × IsRefusedKnown g journal known p e
@@ -42,7 +42,7 @@ fault_of p (refusal.Lost v) = fault.Known p (refusal.Lost v)
 fault_of p refusal.Stale = fault.Known p refusal.Stale
 fault_of p (refusal.Open v w) = fault.Known p (refusal.Open v w)
 
--- both known sets are regions, and what they attract is all that is settled: by an entry of worker 0 for Even's, and then one for Odd's
+-- both known sets are regions, and only what they attract is settled: by an entry of worker 0 for Even's, and then one for Odd's
 pub record HasKnown (g : Graph) (known : KnownRows) (journal : Journal) : Type 0 where
   pub entries : AreOfCaller (Even ∷ Odd ∷ []) journal
   pub regions : (p : Player) → IsKnownRegion g known p

@@ -1,4 +1,4 @@
--- The report of a run: one row for each piece of work (private).
+-- The report of a run: one row for each job (private).
 use Rattle.std.specs.Prelude.{ℕ, ◌≡◌, ◌≤◌, ◌<◌, ◌+◌, true, List, length, map, flat_map, slice_get, Some, Result, Ok, Err, Vec}
 use Rattle.std.specs.Global.{Global}
 use Rattle.pg_workers.specs.declared.report.ReportRow.{ReportRow}
@@ -7,7 +7,7 @@ use Rattle.pg_board.specs.declared.refusal.Refusal.{Refusal}
 use Rattle.pg_board.specs.declared.refusal.Refusal.TheVariants as refusal
 use Rattle.pg_workers.specs.Report.{blank_row}
 
--- nobody drew a job
+-- no worker drew a job
 abbrev pub AreBlank : List ReportRow → Type 0
 AreBlank report = (k : ℕ) (r : ReportRow) → slice_get report k ≡ Some r → r ≡ blank_row k
 
@@ -19,7 +19,7 @@ AreIdle n rows = (k : ℕ) (r : ReportRow) → slice_get rows k ≡ Some r → k
 abbrev pub jobs_in : List ReportRow → List ℕ
 jobs_in rows = map (λ r. r.job) rows
 
--- how many of the rows are of job j
+-- the number of rows of job j
 abbrev pub how_many_of_job : ℕ → List ReportRow → ℕ
 how_many_of_job j rows = times j (jobs_in rows)
 
@@ -27,22 +27,22 @@ how_many_of_job j rows = times j (jobs_in rows)
 abbrev pub rows_in : List (Vec ReportRow Global) → List ReportRow
 rows_in all = flat_map (λ rows. rows.items) all
 
--- of each of the first n jobs there is one row, and of no other job
+-- each of the first n jobs has one row, and no other job has any
 abbrev pub AreOfPrefix : ℕ → List ReportRow → Type 0
 AreOfPrefix n rows = (j : ℕ) → how_many_of_job j rows ≡ once_below j n
 
--- no two rows are of one job, and the report's row of each is still that of a job that nobody drew
+-- no two rows are of one job, and the report's row of each is still that of a job that no worker drew
 pub record HasPlaces (report rows : List ReportRow) : Type 0 where
   pub once : (j : ℕ) → how_many_of_job j rows ≤ 1
   pub free : (j : ℕ) → 0 < how_many_of_job j rows → slice_get report j ≡ Some (blank_row j)
 
--- each row is at the place of its job, and every other place is as it was
+-- each row is at the place of its job, and every other place is unchanged
 pub record AreNotedRows (before after rows : List ReportRow) : Type 0 where
   pub size : length after ≡ length before
   pub placed : (i : ℕ) (r : ReportRow) → slice_get rows i ≡ Some r → slice_get after r.job ≡ Some r
   pub others : (j : ℕ) → how_many_of_job j rows ≡ 0 → slice_get after j ≡ slice_get before j
 
--- the row after one claim was answered
+-- the row after the answer to one claim
 abbrev pub noted : ReportRow → Result ℕ Refusal → ReportRow
 noted r (Ok n) = record r { posted = r.posted + 1; settled = r.settled + n }
 noted r (Err refusal.Stale) = record r { stale = r.stale + 1 }
@@ -53,6 +53,6 @@ noted r (Err fault) = record r { refused = r.refused + 1 }
 abbrev pub without_posts : ReportRow → ReportRow
 without_posts r = record r { posted = 0; settled = 0 }
 
--- how many claims of the job were posted, stale or refused
+-- the number of claims of the job that were posted, stale or refused
 abbrev pub answered : ReportRow → ℕ
 answered r = r.posted + r.stale + r.refused

@@ -13,7 +13,7 @@ use Rattle.pg_workers.specs.Report.{AreOfCaller}
 abbrev pub Settles : Journal → Player → ClaimRows → Type 0
 Settles journal p rows = (v : ℕ) → In (named rows) v → In (settled (state_of journal) p) v
 
--- the same board with entries of worker 0 more, at most one for each of the players, in their order
+-- the same board with more entries, of worker 0: at most one for each of the players, in their order
 pub record IsLater (players : List Player) (old new : Play) : Type 0 where
   pub graph : new.graph ≡ old.graph
   pub added : List Entry

@@ -5,6 +5,7 @@ mod boards;
 mod calls;
 mod copies;
 mod games;
+mod long;
 mod memory;
 mod offices;
 mod random;

@@ -1,4 +1,4 @@
--- What a run learns of the text of what is known, which may be left out (private).
+-- What a run knows of the text of what is known, if there is one (private).
 use Rattle.std.specs.Prelude.{ℕ, ◌≢◌, List}
 use Rattle.pg_game.specs.Graph.{Graph}
 use Rattle.pg_text.specs.Known.{IsKnownFaultOf}
@@ -6,7 +6,7 @@ use Rattle.pg_text.specs.declared.fault.SolutionTextFault.TheVariants as solutio
 use Rattle.pgboard.specs.declared.fault.RunFault.{RunFault}
 use Rattle.pgboard.specs.declared.fault.RunFault.TheVariants as fault
 
--- why the text says nothing that is known of the game
+-- why the text is none of what is known of the game
 abbrev pub IsRefusedText : Graph → List ℕ → RunFault → Type 0
 IsRefusedText g text (fault.Solution f) = IsKnownFaultOf g text f × (f ≢ solution_fault.Memory)
 IsRefusedText g text fault.Memory = Unit {0}

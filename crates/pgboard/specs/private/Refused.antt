@@ -1,4 +1,4 @@
--- Why a game is not solved from what is known of it: by identifiers, what the post of a known set was refused for (private).
+-- Why a game is not solved from what is known of it: the reason of the refused post, by identifiers (private).
 use Rattle.pg_game.specs.Graph.{Graph}
 use Rattle.pg_text.specs.Known.{KnownRows}
 use Rattle.pgboard.specs.declared.fault.RunFault.{RunFault}

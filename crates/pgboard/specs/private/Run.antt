@@ -1,4 +1,4 @@
--- What a run learns of the texts that its sources have, and why it gives no answer (private).
+-- What a run knows of the texts of its sources, and why it has no result (private).
 use Rattle.std.specs.Prelude.{ℕ, ◌≢◌, ◌≤◌, List, length, Option, IfSome}
 use Rattle.pg_game.specs.Graph.{Graph}
 use Rattle.pg_text.specs.Solution.{SolutionRows}
@@ -10,7 +10,7 @@ use Rattle.pgboard.specs.declared.fault.RunFault.{RunFault}
 use Rattle.pgboard.specs.declared.fault.RunFault.TheVariants as fault
 use Rattle.pgboard.specs.Joined.{IsVerdict}
 
--- why the text is no game's
+-- why the text is none of a game
 abbrev pub IsRefusedGame : List ℕ → RunFault → Type 0
 IsRefusedGame text (fault.Game f) = IsFaultOf text f × (f ≢ game_fault.Memory)
 IsRefusedGame text fault.Memory = Unit {0}
@@ -22,7 +22,7 @@ IsRefusedSolution g text (fault.Solution f) = IsSolutionFaultOf g text f × (f �
 IsRefusedSolution g text fault.Memory = Unit {0}
 IsRefusedSolution g text _ = ⊥
 
--- the text that a source had, where it is known, is within the limit and one of these winners and choices for the game
+-- the text that a source had, if it is known, is within the limit and one of these winners and choices for the game
 abbrev pub IsReadSolution : Graph → Option (List ℕ) → SolutionRows → Type 0
 IsReadSolution g known rows = IfSome known (λ text. (length text ≤ max_text) × IsSolutionTextOf g text rows)
 

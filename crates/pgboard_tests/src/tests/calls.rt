@@ -42,7 +42,7 @@ pub fn answered_on<R: Threads + Wait + Sync>(
 }
 
 /// The status of an answer, and the words of its fault or none.
-pub fn told(alloc: Global, answer: Result<u8, RunFault>) -> Result<(u8, String), AllocError> {
+pub fn outcome(alloc: Global, answer: Result<u8, RunFault>) -> Result<(u8, String), AllocError> {
     match answer {
         Ok(status) => Ok((status, String::new(alloc))),
         Err(fault) => Ok((fault.status(), fault.to_string(alloc)?)),

@@ -36,6 +36,10 @@ const LINES: &[(&[&str], Line)] = &[
     (&["verify", "--", "-a", "--b"], Line::Verify("-a", "--b")),
     (&["tidy"], Line::Tidy(None)),
     (&["tidy", "a"], Line::Tidy(Some("a"))),
+    (&["tidy", ""], Line::Tidy(Some(""))),
+    (&["tidy", "--", "--x"], Line::Tidy(Some("--x"))),
+    // after a command its name is a path
+    (&["tidy", "tidy"], Line::Tidy(Some("tidy"))),
     (&["solve"], SOLVE),
     (
         &["solve", "--workers", "64", "--bound=0", "--winners", "a"],
@@ -76,15 +80,65 @@ const LINES: &[(&[&str], Line)] = &[
             game: None,
         },
     ),
+    // the path may be first, and options in any order
+    (
+        &[
+            "solve",
+            "a",
+            "--known",
+            "k",
+            "--winners",
+            "--bound",
+            "2",
+            "--workers",
+            "3",
+        ],
+        Line::Solve {
+            workers: 3,
+            bound: 2,
+            winners: true,
+            known: Some("k"),
+            game: Some("a"),
+        },
+    ),
+    // what follows `--` is a path, also where an option has that name
+    (
+        &["solve", "--known=", "--", "--winners"],
+        Line::Solve {
+            workers: 4,
+            bound: 4,
+            winners: false,
+            known: Some(""),
+            game: Some("--winners"),
+        },
+    ),
+    // a sign and leading zeros have no effect
+    (
+        &["solve", "--workers=+064", "--bound=-0"],
+        Line::Solve {
+            workers: 64,
+            bound: 0,
+            winners: false,
+            known: None,
+            game: None,
+        },
+    ),
     (&["trace"], Line::Trace(4, None)),
     (&["trace", "--workers", "2"], Line::Trace(2, None)),
+    (&["trace", "--workers=1"], Line::Trace(1, None)),
     (&["trace", "a"], Line::Trace(4, Some("a"))),
+    (
+        &["trace", "a", "--workers", "64"],
+        Line::Trace(64, Some("a")),
+    ),
+    (&["trace", "--", "-a"], Line::Trace(4, Some("-a"))),
     (&["--version"], Line::Help(VERSION)),
+    (&["-V"], Line::Help(VERSION)),
 ];
 
 /// What `--version` prints of a program over which no build has written what it knows.
 const VERSION: &str = "pgboard 0.1.0\n\
-kit: rattle-kit-13f logic dac8208d650f15bf\n\
+kit: rattle-kit-13 logic dac8208d650f15bf\n\
 build: not recorded: whether it was proved, and of what commit\n";
 
 /// Lines that are refused.
@@ -92,8 +146,12 @@ const REFUSED: &[&[&str]] = &[
     &["verify"],
     &["verify", "a"],
     &["verify", "a", "b", "c"],
+    &["verify", "--known", "a", "b", "c"],
     &["tidy", "a", "b"],
     &["tidy", "--x"],
+    &["tidy", "-x"],
+    &["tidy", "--winners"],
+    &["tidy", "--", "a", "b"],
     &["x"],
     &["Tidy"],
     &[""],
@@ -101,10 +159,34 @@ const REFUSED: &[&[&str]] = &[
     &["solve", "--workers", "65"],
     &["solve", "--workers", "-1"],
     &["solve", "--workers"],
+    &["solve", "--workers="],
+    &["solve", "--workers", "x"],
+    &["solve", "--workers", "1.0"],
     &["solve", "--bound", "9"],
     &["solve", "--bound", "4294967296"],
+    &["solve", "--bound", "18446744073709551616"],
+    &["solve", "--known"],
+    &["solve", "--known", "-k"],
+    &["solve", "--winners=true"],
+    // nothing is given twice
+    &["solve", "--workers", "1", "--workers", "1"],
+    &["solve", "--bound=1", "--bound=1"],
+    &["solve", "--winners", "--winners"],
+    &["solve", "--known", "a", "--known", "a"],
+    &["solve", "a", "b"],
+    // nothing is abbreviated, and options follow their command
+    &["solve", "--work", "1"],
+    &["solve", "-w", "1"],
+    &["--workers", "1", "solve"],
+    &["sol"],
     &["trace", "--workers", "0"],
+    &["trace", "--workers", "65"],
     &["trace", "--bound", "1"],
+    &["trace", "--winners"],
+    &["trace", "--known", "a"],
+    &["trace", "a", "b"],
+    &["solve", "--version"],
+    &["--"],
 ];
 
 /// A path of one's own, where there is one.
@@ -204,8 +286,18 @@ fn help_is_asked_for(rt: HostRuntime) {
         &["--help"],
         &["-h"],
         &["help"],
+        &["help", "solve"],
+        &["help", "trace"],
+        &["help", "verify"],
         &["help", "tidy"],
         &["solve", "--help"],
+        &["solve", "-h"],
+        &["trace", "--help"],
+        &["verify", "-h"],
+        &["tidy", "--help"],
+        // before what would be refused
+        &["verify", "--help"],
+        &["solve", "--workers", "1", "-h", "--x"],
     ];
     for words in HELP {
         check!(rt; is_helped(rt.alloc(), words), *words);

@@ -54,16 +54,16 @@ impl<'a> Source for Pieces<'a> {
 pub struct Bounded {
     pub taken: Vec<u8>,
     pub size: usize,
-    pub room: usize,
+    pub capacity: usize,
     failures: u64,
 }
 
 impl Bounded {
-    pub fn new(alloc: Global, size: usize, room: usize) -> Bounded {
+    pub fn new(alloc: Global, size: usize, capacity: usize) -> Bounded {
         Bounded {
             taken: Vec::new(alloc),
             size,
-            room,
+            capacity,
             failures: 0,
         }
     }
@@ -80,9 +80,9 @@ impl Sink for Bounded {
     ghost write_failures = { λ s. s.failures };
 
     fn write(&mut self, piece: &[u8]) -> Result<usize, Failed> {
-        let n = self.size.min(piece.len()).min(self.room);
+        let n = self.size.min(piece.len()).min(self.capacity);
         if (n > 0 || piece.is_empty()) && self.taken.extend_from_slice(&piece[..n]).is_ok() {
-            self.room -= n;
+            self.capacity -= n;
             return Ok(n);
         }
         self.failures = self.failures.saturating_add(1);

@@ -1,22 +1,23 @@
-use Rattle.pg_finders.proofs.Common.{◌≡◌, ℕ, length, slice_index, refl, sym, ◌∙◌, ap, arith, rules, and_parts, opponent, same_player, owner_of, NoneHas}
+use Rattle.pg_finders.proofs.Common.{◌≡◌, ℕ, length, slice_index, refl, sym, ◌∙◌, ap, arith, rules, and_parts, opponent, same_player, Graph, owner_of, NoneHas}
 use Rattle.pg_finders.proofs.Common.{members, member_below, same_is, Kept, IsWorst, own_choices, rows_below, good_for, choices_by}
 use Rattle.pg_game.specs.Least.{IsLeast}
 use Rattle.pg_finders.proofs.solitaire.Forced.{all_held, worst_leads, worst_parity, lead_held, held_good, ok_good}
 use Rattle.pg_finders.proofs.solitaire.solve.Goals as goal
 
-pub first_worst-requires : goal.first_worst-requires
-first_worst-requires c =
+pub least_bad_vertex-requires : goal.least_bad_vertex-requires
+least_bad_vertex-requires c =
     let g = c.args.game.now in
     let q = c.args.forced in
     let s = c.in_ok-single_successors.ensures in
+    let n : length c.forward.result.now ≡ length g = ap (λ (h : Graph). length h) c.forward.ensures in
     record {
-      inside = ap length c.in_ok-copy.ensures ∙ c.requires.size;
-      chosen = c.in_ok-owned_by.ensures.0;
-      choices = s.size;
-      bad = c.in_ok-of_parity.ensures.0;
+      inside = ap length c.in_ok-copy.ensures ∙ (c.requires.size ∙ sym n);
+      chosen = c.in_ok-owned_by.ensures.0 ∙ sym n;
+      choices = s.size ∙ sym n;
+      bad = c.in_ok-of_parity.ensures.0 ∙ sym n;
       below = λ v i. (let b = and_parts ((members c.args.mask.now) v) (same_player (owner_of g v) q) (sym (c.in_ok-owned_by.ensures.1 v) ∙ i) in
           let h = s.single v b.0 (same_is (owner_of g v) q b.1) in
-          omega (arith, member_below c.args.mask.now (slice_index c.in_ok-single_successors.field-0.items v) h.inside, c.requires.size));
+          omega (arith, member_below c.args.mask.now (slice_index c.in_ok-single_successors.field-0.items v) h.inside, c.requires.size, n));
     }
 
 pub returns-in-None : goal.returns-in-None
@@ -26,17 +27,15 @@ returns-in-None c =
     let q = c.args.forced in
     let k : Kept =
     record {
-      game =
-          c.args.game;
-      inside =
-          c.in_ok-copy.field-0;
+      game = c.forward.result;
+      inside = c.in_ok-copy.field-0;
       chosen = c.in_ok-owned_by.field-0;
       choices = c.in_ok-single_successors.field-0;
       bad = c.in_ok-of_parity.field-0;
     } in
     let none : NoneHas (IsWorst k) = search rules in
-    let held = all_held k U q (λ v. rw c.in_ok-copy.ensures refl) c.in_ok-owned_by.ensures.1
-    (λ v. rw (← c.other.ensures) (c.in_ok-of_parity.ensures.1 v)) c.in_ok-single_successors.ensures.single none in
+    let held = rw c.forward.ensures at (all_held k U q (λ v. rw c.in_ok-copy.ensures refl) (rw c.forward.ensures c.in_ok-owned_by.ensures.1)
+    (λ v. rw (← c.other.ensures, c.forward.ensures) (c.in_ok-of_parity.ensures.1 v)) (rw c.forward.ensures c.in_ok-single_successors.ensures.single) none) in
     let some = c.requires.some in
     ok_good g U q (rows_below (members c.args.mask.now) (own_choices g q (choices_by c.as_slice.result.now))
     (length g)) c.claim_of.result c.claim_of.ensures.player c.claim_of.ensures.rows
@@ -49,20 +48,20 @@ returns c =
     let q = c.args.forced in
     let k : Kept =
     record {
-      game =
-          c.args.game;
-      inside =
-          c.in_ok-copy.field-0;
+      game = c.forward.result;
+      inside = c.in_ok-copy.field-0;
       chosen = c.in_ok-owned_by.field-0;
       choices = c.in_ok-single_successors.field-0;
       bad = c.in_ok-of_parity.field-0;
     } in
     let v = c.in-Some.goal in
     let lead = c.in_ok-lead-in-Some.lead in
-    let least : IsLeast (IsWorst k) v = rw c.in-Some.is at c.in_ok-first_worst.ensures in
+    let least : IsLeast (IsWorst k) v = rw c.in-Some.is at c.in_ok-least_bad_vertex.ensures in
     let bad = λ (x : ℕ). (let z : members k.bad x ≡ good_for g U (opponent q) x = rw (← c.other.ensures) (c.in_ok-of_parity.ensures.1 x) in z) in
-    let walk = worst_leads k U q (λ x. rw c.in_ok-copy.ensures refl) c.in_ok-owned_by.ensures.1 bad c.in_ok-single_successors.ensures.single v least.has in
-    let parity = worst_parity k U q (λ x. rw c.in_ok-copy.ensures refl) c.in_ok-owned_by.ensures.1 bad c.in_ok-single_successors.ensures.single v least.has in
+    let walk = rw c.forward.ensures at (worst_leads k U q (λ x. rw c.in_ok-copy.ensures refl) (rw c.forward.ensures c.in_ok-owned_by.ensures.1)
+    (rw c.forward.ensures bad) (rw c.forward.ensures c.in_ok-single_successors.ensures.single) v least.has) in
+    let parity = rw c.forward.ensures at (worst_parity k U q (λ x. rw c.in_ok-copy.ensures refl) (rw c.forward.ensures c.in_ok-owned_by.ensures.1)
+    (rw c.forward.ensures bad) (rw c.forward.ensures c.in_ok-single_successors.ensures.single) v least.has) in
     let there = c.in_ok-lead-in-Some.ensures.all v walk.0 walk.1 in
     let held = lead_held g U q c.requires.one v lead.taken lead.next.items c.in_ok-lead-in-Some.ensures.leading there parity in
     ok_good g U (opponent q) (rows_below (members lead.taken) (own_choices g (opponent q) (choices_by c.as_slice-in-Some.result.now))

@@ -16,7 +16,7 @@ active_of x = members x.active
 
 pub record HasSizes (n : ℕ) (x : Subgame) : Type 0 where
   pub active : length x.active ≡ n
-  pub watches : length x.watches.places.items ≡ n
+  pub cursors : length x.cursors.places.items ≡ n
   pub plan : HasSize n x.plan
 
 -- no listed vertex is active, and none is listed twice
@@ -25,7 +25,7 @@ pub record IsReady (n : ℕ) (x : Subgame) (list : List ℕ) : Type 0 where
   pub once : Once list
   pub apart : (v : ℕ) → In (listed list) v → active_of x v ≡ false
 
--- where a vertex is listed first
+-- the first place of a vertex in the list
 abbrev pub place : List ℕ → ℕ → ℕ
 place [] v = 0
 place (u ∷ us) v = if u == v then 0 else suc (place us v)
@@ -34,8 +34,8 @@ place (u ∷ us) v = if u == v then 0 else suc (place us v)
 abbrev pub Before : List ℕ → ℕ → ℕ → Type 0
 Before list v w = In (listed list) w × (place list w < place list v)
 
--- The player took active vertices: those of `more`, after the prefix. Each of his has a choice that is listed earlier, and each edge
--- of the opponent's to a vertex that was active or listed leads to one listed earlier.
+-- The player took active vertices: those of `more`, after the prefix. Each of his has a choice that is earlier in the list, and each edge
+-- of the opponent's to a vertex that was active or in the list leads to an earlier one of the list.
 pub record IsGrown (g : Graph) (p : Player) (before : VertexSet) (old : Plan) (prefix : List ℕ) (after : VertexSet) (new : Plan) (list : List ℕ) : Type 0 where
   pub more : List ℕ
   pub list_is : list ≡ prefix ++ more
@@ -47,7 +47,7 @@ pub record IsGrown (g : Graph) (p : Player) (before : VertexSet) (old : Plan) (p
   pub leads : (v : ℕ) → In (listed more) v → owner_of g v ≡ p → (w : ℕ) × (choices_of new v ≡ Some w) × HasEdge g v w × Before list v w
   pub pushed : (v w : ℕ) → In (listed more) v → owner_of g v ≡ opponent p → HasEdge g v w → In (union before (listed prefix)) w → Before list v w
 
--- what has grown to the one subgame and list has grown to the other, wherever it began; so steps follow one another by form, with no lemma
+-- growth up to the one subgame and list is growth up to the other, from wherever it began; so one step follows another without a lemma
 abbrev pub KeepsGrown : Graph → Player → Subgame → List ℕ → Subgame → List ℕ → Type 0
 KeepsGrown g p x list x' list' = (before : VertexSet) (old : Plan) (prefix : List ℕ) → IsGrown g p before old prefix (active_of x) x.plan list
     → IsGrown g p before old prefix (active_of x') x'.plan list'

@@ -1,4 +1,4 @@
--- What a plan says of each vertex.
+-- The meaning of a plan for each vertex.
 use Rattle.std.specs.Prelude.{ℕ, ◌≡◌, ◌<◌, ◌≤◌, ◌+◌, List, [], ◌∷◌, Bool, false, length, slice_index_or, Some, None, if◌then◌else◌}
 use Rattle.pg_game.specs.declared.player.Player.{Player}
 use Rattle.pg_game.specs.declared.player.Player.TheVariants.{Even}
@@ -26,7 +26,7 @@ SameAt old new v = (winners_of new v ≡ winners_of old v) × (choices_of new v 
 abbrev pub SameOutside : VertexSet → Plan → Plan → Type 0
 SameOutside U old new = (v : ℕ) → U v ≡ false → SameAt old new v
 
--- how many vertices a mask has
+-- the number of vertices of a mask
 abbrev pub size : List Bool → ℕ
 size [] = 0
 size (b ∷ bits) = (if b then 1 else 0) + size bits

@@ -1,10 +1,10 @@
--- The solver in the midst of its loop, and the steps that it has left (private).
+-- The solver in its loop, and the number of steps that remain (private).
 use Rattle.std.specs.Prelude.{ℕ, ◌≡◌, ◌+◌, ◌-◌, ◌≤◌, Bool, List, [], ◌∷◌, length, map}
 use Rattle.pg_game.specs.declared.player.Player.TheVariants.{Even, Odd}
 use Rattle.pg_game.specs.Graph.{Graph}
 use Rattle.pg_game.specs.VertexSet.{members}
 use Rattle.pg_game.specs.Subgame.{IsSubgame}
-use Rattle.pg_finders.specs.declared.recursion.solver.Stop.{Stop}
+use Rattle.pg_finders.specs.declared.recursion.solver.Frame.{Frame}
 use Rattle.pg_finders.specs.declared.recursion.solver.Solver.{Solver}
 use Rattle.pg_finders.specs.private.recursion.Planned.{winners_of, choices_of, size}
 use Rattle.pg_finders.specs.private.recursion.Settled.{SettledLists, settled_of}
@@ -13,33 +13,33 @@ use Rattle.pg_finders.specs.private.recursion.Growing.{active_of, HasSizes}
 use Rattle.pg_finders.specs.private.recursion.Waiting.{Level, steps, steps_after}
 use Rattle.pg_finders.specs.private.recursion.UnderWay.{level_at, IsUnderWay}
 
--- the vertices of each level are before the place that its stop keeps
-abbrev pub AllPlaced : List ℕ → List Level → List Stop → Type 0
+-- the vertices of each level are before the place of its stop
+abbrev pub AllPlaced : List ℕ → List Level → List Frame → Type 0
 AllPlaced vertices [] fs = Unit {0}
 AllPlaced vertices (l ∷ ls) [] = Unit {0}
 AllPlaced vertices (l ∷ ls) (f ∷ fs) = AllStand vertices l.inside f.place × (f.place ≤ length vertices) × AllPlaced vertices ls fs
 
 -- the solver with these stops is under way in the mask
-pub record IsRunning (g : Graph) (inside : List Bool) (solver : Solver) (stops : List Stop) : Type 0 where
+pub record IsRunning (g : Graph) (inside : List Bool) (solver : Solver) (frames : List Frame) : Type 0 where
   pub inside_length : length inside ≡ length g
   pub whole : solver.size ≡ size inside
   pub sizes : HasSizes (length g) solver.subgame
   pub subgame : IsSubgame g (active_of solver.subgame)
   pub order : IsOrder g solver.order
   pub stand : AllStand solver.order.vertices.items (active_of solver.subgame) solver.order.upto
-  pub placed : AllPlaced solver.order.vertices.items (map (level_at (members inside) (settled_of solver.settled) solver.aside.items) stops) stops
-  pub under_way : IsUnderWay g (members inside) (active_of solver.subgame) (settled_of solver.settled) solver.aside.items stops
+  pub placed : AllPlaced solver.order.vertices.items (map (level_at (members inside) (settled_of solver.settled) solver.set_aside.items) frames) frames
+  pub under_way : IsUnderWay g (members inside) (active_of solver.subgame) (settled_of solver.settled) solver.set_aside.items frames
       (winners_of solver.subgame.plan) (choices_of solver.subgame.plan)
 
--- the steps that are left at most, where the whole has n vertices
-abbrev pub steps_left : ℕ → List Stop → ℕ
+-- the greatest number of steps that remain, for a whole of n vertices
+abbrev pub steps_left : ℕ → List Frame → ℕ
 steps_left n [] = 0
-steps_left n (f ∷ fs) = steps_after (n - (f.even + f.odd + f.aside)) + steps_left n fs
+steps_left n (f ∷ fs) = steps_after (n - (f.even + f.odd + f.set_aside)) + steps_left n fs
 
--- how many vertices the lists have
+-- the number of vertices of the lists
 abbrev pub how_many_gone : SettledLists → List ℕ → ℕ
-how_many_gone settled aside = length (settled Even) + length (settled Odd) + length aside
+how_many_gone settled set_aside = length (settled Even) + length (settled Odd) + length set_aside
 
--- the steps that it has left at most, of a mask with n vertices
-abbrev pub work : ℕ → Solver → List Stop → ℕ
-work n solver stops = steps (n - how_many_gone (settled_of solver.settled) solver.aside.items) + steps_left n stops
+-- the greatest number of steps that remain, for a mask of n vertices
+abbrev pub work : ℕ → Solver → List Frame → ℕ
+work n solver frames = steps (n - how_many_gone (settled_of solver.settled) solver.set_aside.items) + steps_left n frames

@@ -1,4 +1,4 @@
--- What is settled, as a list for each player (private).
+-- The settled vertices, as a list for each player (private).
 use Rattle.std.specs.Prelude.{ℕ, List}
 use Rattle.pg_game.specs.declared.player.Player.{Player}
 use Rattle.pg_game.specs.declared.player.Player.TheVariants.{Even, Odd}

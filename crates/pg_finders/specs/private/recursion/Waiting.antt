@@ -1,4 +1,4 @@
--- Subgames that wait for the answer on what their attractors leave (private).
+-- Subgames that wait until the rest outside their attractors is solved (private).
 use Rattle.std.specs.Prelude.{ℕ, zero, suc, ◌+◌, List, [], ◌∷◌}
 use Rattle.pg_game.specs.declared.player.Player.{Player}
 use Rattle.pg_game.specs.Graph.{Graph}
@@ -6,23 +6,23 @@ use Rattle.pg_game.specs.VertexSet.{VertexSet}
 use Rattle.pg_game.specs.Kept.{Choices}
 use Rattle.pg_finders.specs.private.Solved.{Winners, IsSolvedTo, IsBegun}
 
--- a subgame that is begun: its vertices, those that are left, the player of its greatest priority
+-- a subgame that is begun: its vertices, the rest, the player of its greatest priority
 pub record Level : Type 0 where
   pub inside : VertexSet
   pub left : VertexSet
   pub player : Player
 
--- U is solved up to the first level's subgame, what each level leaves up to the next one's subgame, and what the last leaves up to R
+-- U is solved up to the first level's subgame, the rest of each level up to the next one's subgame, and the rest of the last up to R
 abbrev pub Waits : Graph → VertexSet → List Level → VertexSet → Winners → Choices → Type 0
 Waits g U [] R won s = IsSolvedTo g U R won s
 Waits g U (f ∷ fs) R won s = IsSolvedTo g U f.inside won s × IsBegun g f.inside f.left f.player won s × Waits g f.left fs R won s
 
--- the steps that a subgame of so many vertices takes at most
+-- the greatest number of steps for a subgame of this many vertices
 abbrev pub steps : ℕ → ℕ
 steps zero = 1
 steps (suc n) = 2 + (steps n + steps n)
 
--- one step to leave a level, and then those of what is left of it, which has fewer vertices
+-- one step to leave a level, and then those of its rest, which has fewer vertices
 abbrev pub steps_after : ℕ → ℕ
 steps_after zero = 1
 steps_after (suc n) = 1 + steps n

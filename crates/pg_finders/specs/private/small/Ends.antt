@@ -1,4 +1,4 @@
--- Where a claim in the making can have one vertex more and no other.
+-- Unfinished claims that can have one vertex more and no other.
 use Rattle.std.specs.Prelude.{ℕ, ◌≡◌, ◌≢◌, ◌⊎◌, false}
 use Rattle.pg_game.specs.declared.player.Player.{Player}
 use Rattle.pg_game.specs.Graph.{Graph, HasEdge, owner_of}
@@ -10,7 +10,7 @@ use Rattle.pg_finders.specs.private.small.Excluded.{IsBetween}
 abbrev pub IsElsewhere : ClaimRows → ℕ → ℕ → Type 0
 IsElsewhere rows v w = (w ≢ v) × (named rows w ≡ false)
 
--- v is not among the rows, and whoever owns it, a play from it goes elsewhere at once: by each edge of the player's, by some edge of the opponent's
+-- v is not among the rows, and a play leaves it at once: if the player owns it, by each edge, and if the opponent does, by some edge
 pub record IsDeadEnd (g : Graph) (U : VertexSet) (p : Player) (rows : ClaimRows) (v : ℕ) : Type 0 where
   pub fresh : named rows v ≡ false
   pub own : owner_of g v ≡ p → (w : ℕ) → HasEdge g v w → In U w → IsElsewhere rows v w

@@ -1,4 +1,4 @@
--- What is shown of vertices by earlier searches.
+-- What earlier searches have shown of vertices.
 use Rattle.std.specs.Prelude.{ℕ, ◌≤◌, ◌<◌, length}
 use Rattle.pg_game.specs.declared.player.Player.{Player}
 use Rattle.pg_game.specs.Graph.{Graph}
@@ -9,7 +9,7 @@ use Rattle.pg_dominion.specs.Claim.{ClaimRows, named, IsGoodIn}
 abbrev pub IsBetween : ℕ → ℕ → ℕ → Type 0
 IsBetween low high v = (low ≤ v) × (v < high)
 
--- no good claim of at most so many vertices has the vertex
+-- no good claim of at most this many vertices has the vertex
 abbrev pub NoneHas : Graph → VertexSet → Player → ℕ → ℕ → Type 0
 NoneHas g U p bound v = (claim : ClaimRows) → IsGoodIn g U p claim → length claim ≤ bound → In (named claim) v → ⊥
 

@@ -1,9 +1,9 @@
--- How a few rows lie in an array.
+-- A few rows in an array.
 use Rattle.std.specs.Prelude.{ℕ, ◌≡◌, ◌≤◌, ◌<◌, ◌%◌, List, length, slice_index_or, Option}
 use Rattle.std.specs.Int.{bit_at}
 use Rattle.pg_finders.specs.private.small.Partial.{vertex_in}
 
--- the first so many of eight
+-- the first of eight, up to this number
 pub record IsFew (rows : List (ℕ × Option ℕ)) (len : ℕ) : Type 0 where
   pub size : length rows ≡ 8
   pub within : len ≤ 8

@@ -10,7 +10,7 @@ pub record IsLeastFrom (rows : ClaimRows) (low at : ℕ) : Type 0 where
   pub from : low ≤ vertex_in rows at
   pub least : (v : ℕ) → In (named rows) v → low ≤ v → vertex_in rows at ≤ v
 
--- the same among the first so many
+-- the same among the first, up to this number
 abbrev pub LeastSoFar : ClaimRows → ℕ → ℕ → Option ℕ → Type 0
 LeastSoFar rows low i None = (k : ℕ) → k < i → vertex_in rows k < low
 LeastSoFar rows low i (Some at) =

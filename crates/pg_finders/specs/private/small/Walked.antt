@@ -21,15 +21,15 @@ abbrev pub WalksBack : Graph → Player → ClaimRows → ℕ → ℕ → Type 0
 WalksBack g p rows done start =
     (ws : List ℕ) × Walk (Under g p rows done (priority_of g (vertex_in rows start))) (vertex_in rows start) ws (vertex_in rows start)
 
--- the row is the start, or is left no more
+-- the row is the start, or was reached before
 abbrev pub IsFrom : ℕ → List Bool → ℕ → Type 0
 IsFrom start left from = (from ≡ start) ⊎ (members left from ≡ false)
 
--- the row leads from some such row
+-- some such row leads to this one
 abbrev pub IsReachedNext : Graph → Player → ClaimRows → ℕ → ℕ → List Bool → ℕ → Type 0
 IsReachedNext g p rows done start left to = (from : ℕ) × (from < done) × IsFrom start left from × RowLeadsTo g p rows from to
 
--- the row is left, low enough, and next
+-- the row was not reached before, is low enough, and such a row leads to it
 abbrev pub IsReached : Graph → Player → ClaimRows → ℕ → ℕ → List Bool → ℕ → Type 0
 IsReached g p rows done start left to =
     (to < done) × In (members left) to × (priority_of g (vertex_in rows to) ≤ priority_of g (vertex_in rows start)) × IsReachedNext g p rows done start left to

@@ -10,7 +10,7 @@ pub record IsQueue (g : Graph) (goal : ℕ) (taken : List Bool) (queue : List �
   pub start : (i : ℕ) × (i < length queue) × (slice_index queue i ≡ goal)
   pub known : (v : ℕ) → In (members taken) v → (i : ℕ) × (i < length queue) × (slice_index queue i ≡ v)
 
--- what is taken stays so, and the queue goes on
+-- taken vertices stay taken, and the queue grows
 pub record Follows (taken : List Bool) (queue : List ℕ) (taken' : List Bool) (queue' : List ℕ) : Type 0 where
   pub grows : Within (members taken) (members taken')
   pub longer : length queue ≤ length queue'

@@ -16,7 +16,7 @@ pub record IsSingle (g : Graph) (U : VertexSet) (v w : ℕ) : Type 0 where
   pub inside : In U w
   pub only : (x : ℕ) → HasEdge g v x → In U x → x ≡ w
 
--- among the first so many successors, the single one in the set; none where none of them is in it
+-- among the first successors, up to this number, the single one in the set; none if none of them is in it
 abbrev pub SingleSoFar : Graph → VertexSet → ℕ → ℕ → Option ℕ → Type 0
 SingleSoFar g U v i None = (k : ℕ) → k < i → U (slice_index (successors_of g v) k) ≡ false
 SingleSoFar g U v i (Some x) = HasEdge g v x × In U x × ((k : ℕ) → k < i → In U (slice_index (successors_of g v) k) → slice_index (successors_of g v) k ≡ x)

@@ -1,4 +1,4 @@
-//! That rankings are accepted: else searches from each bad vertex go on, which would take minutes in a ladder so long that
+//! That rankings are accepted: else searches from each bad vertex continue, which would take minutes in a ladder so long that
 //! each of them looks at some of 150,000 levels.
 
 ghost use Rattle.std.specs.Prelude.{◌≡◌, ◌≤◌, length};

@@ -16,7 +16,7 @@ use std::process::Abort;
 /// Its searches take 5,620 steps, so none begins after it in a game of at most 1,300 vertices.
 const SHORT: Hostile = Hostile::Ladder(40, None);
 
-/// Rows of so many vertices, without choices. Each is pushed once more where memory was refused.
+/// Rows of this many vertices, without choices. Each is pushed once more where memory was refused.
 pub fn rows_of_all(rt: &impl Abort, alloc: Global, n: u32) -> Vec<Row> {
     let mut rows = Vec::new(alloc);
     for v in 0..n {
@@ -35,7 +35,7 @@ fn cycle(worst: Option<u32>) -> Option<ClaimFault> {
     }
 }
 
-/// The vertex after so many others.
+/// The vertex after this many others.
 pub fn behind(first: u32, vertex: Option<u32>) -> Option<u32> {
     match vertex {
         Some(v) => Some(v.saturating_add(first)),
@@ -81,6 +81,7 @@ pub const HOSTILE: &[(Hostile, Option<u32>)] = &[
     (Hostile::Ladder(60, Some(59)), Some(180)),
     (Hostile::Dense(40, 2), None),
     (Hostile::Dense(40, 1), Some(1)),
+    (Hostile::Cycle(1, 1), Some(0)),
     (Hostile::Cycle(2, 2), None),
     (Hostile::Cycle(5_000, 2), None),
 ];

@@ -16,9 +16,9 @@ fn checked<'g>(rt: &impl Abort, alloc: Global, game: &'g Game, claim: &'g Claim)
 }
 
 /// Vertex, owner, priority and kept successors of a row.
-type Told<'a> = (u32, Player, u32, &'a [u32]);
+type ExpectedRow<'a> = (u32, Player, u32, &'a [u32]);
 
-fn compare_row(rt: &impl Abort, row: &CheckedRow, want: Option<&Told>) {
+fn compare_row(rt: &impl Abort, row: &CheckedRow, want: Option<&ExpectedRow>) {
     let found = (row.vertex, row.owner, row.priority, row.kept.as_slice());
     check_eq!(*rt; Some(&found), want);
 }
@@ -29,14 +29,14 @@ fn compare_checked(
     checked: &Checked,
     player: Player,
     rows: &[Row],
-    want: &[Told],
+    want: &[ExpectedRow],
 ) {
     check_eq!(*rt; checked.player(), player);
     check_eq!(*rt; checked.claim().rows.as_slice(), rows);
     compare_rows(rt, checked.rows(), want);
 }
 
-fn compare_rows(rt: &impl Abort, rows: &[CheckedRow], want: &[Told]) {
+fn compare_rows(rt: &impl Abort, rows: &[CheckedRow], want: &[ExpectedRow]) {
     check_eq!(*rt; rows.len(), want.len());
     let mut at = 0usize;
     for row in rows {
@@ -53,7 +53,7 @@ const GAME: &[Vertex] = &[
 ];
 
 /// Claims in that game, and what is returned of their rows.
-const CLAIMS: &[(Player, &[Row], &[Told])] = &[
+const CLAIMS: &[(Player, &[Row], &[ExpectedRow])] = &[
     (
         EVEN,
         &[(1, Some(3)), (2, None), (3, Some(2))],

@@ -1,5 +1,5 @@
 //! Games that are hostile to searches, and random ones. Their vertices are Odd's, so that Even's claim of them all keeps all
-//! edges. Each stands behind what a draft has already.
+//! edges. Each is added after the vertices of a draft.
 
 ghost use Rattle.std.specs.Prelude.{◌≡◌, length};
 
@@ -72,16 +72,16 @@ fn numbers(rt: &impl Abort, alloc: Global, from: u32, to: u32) -> Vec<u32> {
 /// A hostile game.
 #[derive(Clone, Copy)]
 pub enum Hostile {
-    /// One cycle through so many vertices, with the priority at the last of them and 1 at the others.
+    /// One cycle through this many vertices, with the priority at the last of them and 1 at the others.
     Cycle(u32, u32),
-    /// So many bad vertices that lead to all below them, and a good one at the end.
+    /// This many bad vertices that lead to all below them, and a good one at the end.
     Downward(u32),
     /// A ring with a good vertex for each level that leads round it, and a bad one below that on which nothing lies: each
     /// component lies in that of the next level. Where a level is turned, its bad vertex has a priority above all.
     Ladder(u32, Option<u32>),
-    /// Each of so many vertices leads to each, and vertex v has the priority `step * v`.
+    /// Each of this many vertices leads to each, and vertex v has the priority `step * v`.
     Dense(u32, u32),
-    /// A bad vertex that leads to a cycle of so many good ones, so many of which lead to the next but one, too; and after it a
+    /// A bad vertex that leads to a cycle of this many good ones, this many of which lead to the next but one, too; and after it a
     /// bad one of greater priority that leads to 19 of them. Nothing leads to the bad ones.
     Chords(u32, u32),
 }
@@ -185,7 +185,7 @@ fn add_dense(rt: &impl Abort, alloc: Global, draft: &mut Draft, n: u32, step: u3
     }
 }
 
-/// The vertex of a cycle of so many that stands so far from its first one.
+/// The vertex of a cycle of this many at this distance from its first one.
 fn on_cycle(first: u32, n: u32, at: u32) -> u32 {
     let place = if at < n { at } else { at.saturating_sub(n) };
     first.saturating_add(place)
@@ -194,7 +194,7 @@ fn on_cycle(first: u32, n: u32, at: u32) -> u32 {
 /// Capacity for a few vertices, taken once more where memory was refused.
 fn room_for(rt: &impl Abort, alloc: Global, few: u8) -> Vec<u32> {
     match Vec::with_capacity(alloc, usize::from(few)) {
-        Ok(room) => room,
+        Ok(capacity) => capacity,
         Err(_) => made(rt, Vec::with_capacity(alloc, usize::from(few))),
     }
 }
@@ -208,7 +208,7 @@ fn numbers_from(rt: &impl Abort, alloc: Global, first: u32, few: u8) -> Vec<u32>
     numbers
 }
 
-/// The vertices from one to so many places, at most two, after one of a cycle.
+/// The vertices from one to this many places, at most two, after one of a cycle.
 fn next_on_cycle(
     rt: &impl Abort,
     alloc: Global,
@@ -250,7 +250,7 @@ pub fn random_plain(rt: &impl Abort, alloc: Global, random: &mut Random) -> Vec<
     rows
 }
 
-/// So many random members below `n`, of which some may be the same.
+/// This many random members below `n`, of which some may be the same.
 fn random_set(random: &mut Random, n: u32, degree: u32) -> u32 {
     let mut set = 0;
     for _i in 0..degree {

@@ -4,7 +4,7 @@ ghost use Rattle.std.specs.Prelude.{◌≡◌, length, vec_len, replicate, false
 ghost use Rattle.pg_dominion.specs.KeptEdges.{IsKept};
 
 use crate::tests::asserting::made;
-use pg_dominion::{Kept, first_worst};
+use pg_dominion::{Kept, least_bad_vertex};
 use pg_game::{Game, Mask, Player};
 use pg_test_support::ODD;
 use std::alloc::Global;
@@ -61,7 +61,7 @@ fn all_edges<'g>(rt: &impl Abort, alloc: Global, game: &'g Game, bad: Mask) -> K
     ensures { IsKept result }
 {
     Kept {
-        game,
+        game: game.forward(),
         inside: all_vertices(rt, alloc, game),
         chosen: no_vertices(rt, alloc, game),
         choices: no_choices(rt, alloc, game),
@@ -81,8 +81,8 @@ pub fn worst(rt: &impl Abort, alloc: Global, game: &Game, bad: Mask) -> Option<u
 fn worst_kept(rt: &impl Abort, alloc: Global, kept: &Kept) -> Option<u32>
     requires { IsKept kept.now }
 {
-    match first_worst(alloc, kept) {
+    match least_bad_vertex(alloc, kept) {
         Ok(found) => found,
-        Err(_) => made(rt, first_worst(alloc, kept)),
+        Err(_) => made(rt, least_bad_vertex(alloc, kept)),
     }
 }

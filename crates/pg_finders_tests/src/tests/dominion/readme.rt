@@ -1,4 +1,4 @@
-//! The code of README.md, which `tests/readme_code.py` of the repository looks for here.
+//! The code of README.md, which `tests/pages.py` of the repository looks for here.
 
 ghost use Rattle.std.specs.Prelude.{◌≡◌, length};
 ghost use Rattle.pg_game.specs.Subgame.{IsSubgame};

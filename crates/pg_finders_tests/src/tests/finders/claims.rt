@@ -92,7 +92,7 @@ const FIVE: &[Vertex] = &[
     (5, ODD, &[0]),
 ];
 
-/// The claims have so many rows.
+/// The claims have this many rows.
 fn assert_lengths(rt: &impl Abort, solved: &Solved, even: usize, odd: usize) {
     check_eq!(*rt; (rows(&solved.even).len(), rows(&solved.odd).len()), (even, odd));
 }
@@ -133,7 +133,7 @@ fn assert_won(rt: &impl Abort, rows: &[Row], wins: u32, is_evens: bool) {
     }
 }
 
-/// The claims are good, name so many vertices, and these are those that all strategies win.
+/// The claims are good, name this many vertices, and these are those that all strategies win.
 fn assert_claims(rt: &impl Abort, alloc: Global, game: &Game, solved: &Solved, numbered: Numbered) {
     let count = rows(&solved.even)
         .len()

@@ -180,7 +180,7 @@ impl Table {
         false
     }
 
-    /// Whether the set lies inside, and the opponent can't leave it there.
+    /// Whether the set lies inside, and the opponent cannot leave it there.
     pub fn is_closed(&self, inside: u32, player: Player, set: u32) -> bool {
         for v in 0..self.len() {
             let successors = self.successors(v) & inside;

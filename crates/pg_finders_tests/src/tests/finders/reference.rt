@@ -43,7 +43,7 @@ pub struct Numbered {
     rows: Three,
 }
 
-/// How many different rows a vertex of a game of so many vertices may have.
+/// How many different rows a vertex of a game of this many vertices may have.
 fn rows_of_length(len: u32) -> u32 {
     match len {
         1 => 6,
@@ -52,7 +52,7 @@ fn rows_of_length(len: u32) -> u32 {
     }
 }
 
-/// How many games of so many vertices there are.
+/// How many games of this many vertices there are.
 pub fn games_of_length(len: u32) -> u32 {
     let k = rows_of_length(len);
     match len {

@@ -9,12 +9,12 @@ use std::alloc::Global;
 use std::process::Abort;
 
 /// The player and the rows of a claim.
-type Told<'a> = (Player, &'a [Row]);
+type ExpectedClaim<'a> = (Player, &'a [Row]);
 
 /// A job, whether it is given up, and the claims that are given.
-type Case<'a> = (Job, bool, &'a [Told<'a>]);
+type Case<'a> = (Job, bool, &'a [ExpectedClaim<'a>]);
 
-fn assert_claim(rt: &impl Abort, claim: &Claim, want: Option<&Told>) {
+fn assert_claim(rt: &impl Abort, claim: &Claim, want: Option<&ExpectedClaim>) {
     check_eq!(*rt; Some(&(claim.player, claim.rows.as_slice())), want);
 }
 
@@ -42,7 +42,7 @@ fn assert_each(rt: &impl Abort, alloc: Global, vertices: &[Vertex], cases: &[Cas
     }
 }
 
-// A search for Even with so many seeds: a constant may call no function.
+// A search for Even with this many seeds: a constant may call no function.
 macro_rules! small {
     ($first:expr, $count:expr, $bound:expr, $budget:expr) => {
         Job::Small {
@@ -57,9 +57,9 @@ macro_rules! small {
 
 const TWO: &[Vertex] = &[(2, EVEN, &[0, 1]), (1, ODD, &[1])];
 
-const EVENS: Told = (EVEN, &[(0, Some(0))]);
+const EVENS: ExpectedClaim = (EVEN, &[(0, Some(0))]);
 
-const ODDS: Told = (ODD, &[(1, Some(1))]);
+const ODDS: ExpectedClaim = (ODD, &[(1, Some(1))]);
 
 const FOR_ODD: Job = Job::Small {
     player: ODD,
@@ -148,7 +148,7 @@ const TWELVE: &[Vertex] = &[
     ONE_OF_SEVEN,
 ];
 
-const FOUR: Told = (EVEN, &[(0, Some(1)), (1, None), (2, Some(0)), (3, Some(0))]);
+const FOUR: ExpectedClaim = (EVEN, &[(0, Some(1)), (1, None), (2, Some(0)), (3, Some(0))]);
 
 const BUDGETS: &[Case] = &[
     (small!(0, 64, 4, 10_000), false, &[FOUR]),

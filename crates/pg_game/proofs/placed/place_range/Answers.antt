@@ -10,8 +10,8 @@ returns-in_default-clause-missing c =
     let l : k < length c.targets.targets.items = omega (arith, c.targets-test.true, c.requires.end, c.targets.invariant.size) in
     let id : c.index-id.result.now ≡ get_or old k 0 =
     get_or_read c.targets.targets.items k _ l c.index-id.ensures 0 ∙ c.targets.invariant.placed.others k (inr (omega arith)) in
-    let none = not_among c.args.names.now c.index-id.result.now c.in_default.ensures.missing in
-    rw id (sym (c.targets.invariant.left ∙ outside_here c.args.names.now old k c.args.to c.targets-test.true c.requires.end (rw id at none)))
+    let none = not_among c.args.identifiers.now c.index-id.result.now c.in_default.ensures.missing in
+    rw id (sym (c.targets.invariant.left ∙ outside_here c.args.identifiers.now old k c.args.to c.targets-test.true c.requires.end (rw id at none)))
 
 pub targets-preserved : goal.targets-preserved
 targets-preserved c =
@@ -25,6 +25,6 @@ targets-preserved c =
     let at = found.1 ∙ id in
     record {
       size = length-set new k c.in-Some.place ∙ inv.size;
-      left = inv.left ∙ outside_later c.args.names.now old k c.args.to c.targets-test.true c.requires.end (among c.args.names.now (get_or old k 0) c.in-Some.place found.0 at);
+      left = inv.left ∙ outside_later c.args.identifiers.now old k c.args.to c.targets-test.true c.requires.end (among c.args.identifiers.now (get_or old k 0) c.in-Some.place found.0 at);
       placed = named_more c.in-Some.place inv.placed (omega arith) l found.0 at;
     }

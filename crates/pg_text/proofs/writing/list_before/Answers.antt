@@ -6,7 +6,7 @@ use Rattle.pg_text.proofs.writing.list_before.Goals as goal
 pub vertices-preserved : goal.vertices-preserved
 vertices-preserved c =
     let f : ℕ → List ℕ = λ w. numeral (id_of c.args.game.now w) in
-    let (some, high, room, end, low, size, is, front) = c.vertices.invariant in (
+    let (some, high, capacity, end, low, size, is, front) = c.vertices.invariant in (
       omega arith,
       omega arith,
       (let h = c.number_before-at.ensures.near in let p = c.byte_before-at.ensures.place in omega arith),
@@ -24,7 +24,7 @@ vertices-preserved c =
 pub returns-clause-written : goal.returns-clause-written
 returns-clause-written c =
     let f : ℕ → List ℕ = λ w. numeral (id_of c.args.game.now w) in
-    let (some, high, room, end, low, size, is, front) = c.vertices.invariant in
+    let (some, high, capacity, end, low, size, is, front) = c.vertices.invariant in
     let one : c.vertices.left ≡ 1 = omega arith in
     c.number_before.ensures.written ∙ (ap (λ n. numeral n ++ drop c.vertices.at c.vertices.line) c.id-2.ensures
     ∙ (ap (λ xs. f (get_or c.args.vertices.now 0 0) ++ xs) is
@@ -33,5 +33,5 @@ returns-clause-written c =
 
 pub returns-clause-kept : goal.returns-clause-kept
 returns-clause-kept c =
-    let (some, high, room, end, low, size, is, front) = c.vertices.invariant in
+    let (some, high, capacity, end, low, size, is, front) = c.vertices.invariant in
     same_front c.number_before.result c.vertices.at _ _ _ c.number_before.ensures.before c.number_before.ensures.kept front

@@ -5,7 +5,7 @@ use crate::tests::game::{dense, from_specs};
 use pg_game::Game;
 use std::process::Abort;
 
-/// Asks whether a vertex has so many predecessors, which are the first.
+/// Asks whether a vertex has this many predecessors, which are the first.
 fn compare_first(rt: &impl Abort, game: &Game, w: u32, count: usize) {
     assert!(*rt; w < game.len());
     let sources = game.predecessors(w);

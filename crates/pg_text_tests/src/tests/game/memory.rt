@@ -8,8 +8,8 @@ ghost use Rattle.pg_game.specs.Specification.{AreNumbers};
 
 use crate::tests::asserting::made;
 use crate::tests::game::{
-    EVEN, IN_ORDER, Row, TOLD_IN_ORDER, TOLD_WITH_A_GAP, WITH_A_GAP, add_flat, flat_game_of,
-    from_rows, game_of, look,
+    EVEN, EXPECTED_IN_ORDER, EXPECTED_WITH_A_GAP, IN_ORDER, Row, WITH_A_GAP, add_flat,
+    flat_game_of, from_rows, game_of, look,
 };
 use pg_game::{Game, GameFault, Mask, Memory, Specs};
 use std::alloc::Global;
@@ -36,7 +36,7 @@ fn a_game_is_made_after_a_refusal(rt: HostRuntime) {
     look(
         &rt,
         &made(&rt, game_twice(rt.alloc(), WITH_A_GAP)),
-        TOLD_WITH_A_GAP,
+        EXPECTED_WITH_A_GAP,
     );
 }
 
@@ -45,7 +45,7 @@ fn a_game_of_lists_is_made_after_a_refusal(rt: HostRuntime) {
     look(
         &rt,
         &made(&rt, flat_game_twice(rt.alloc(), IN_ORDER)),
-        TOLD_IN_ORDER,
+        EXPECTED_IN_ORDER,
     );
 }
 
@@ -54,7 +54,7 @@ fn a_game_of_lists_with_a_gap_is_made_after_a_refusal(rt: HostRuntime) {
     look(
         &rt,
         &made(&rt, flat_game_twice(rt.alloc(), WITH_A_GAP)),
-        TOLD_WITH_A_GAP,
+        EXPECTED_WITH_A_GAP,
     );
 }
 

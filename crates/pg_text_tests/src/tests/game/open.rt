@@ -4,7 +4,7 @@ ghost use Rattle.std.specs.Prelude.{All};
 ghost use Rattle.pg_game.specs.Specification.{AreNumbers};
 
 use crate::tests::asserting::made;
-use crate::tests::game::{EVEN, ODD, Told, from_rows, look};
+use crate::tests::game::{EVEN, Expected, ODD, from_rows, look};
 use pg_game::{Game, GameFault, OpenSpecs, Player};
 use std::alloc::Global;
 use std::process::Abort;
@@ -30,7 +30,7 @@ fn close_two(
         .expect(rt, "memory");
 }
 
-const TOLD: &[Told] = &[
+const EXPECTED: &[Expected] = &[
     ((0, 3, ODD, &[0, 1]), &[0, 1]),
     ((1, 4, EVEN, &[0, 1]), &[0, 1]),
 ];
@@ -46,5 +46,5 @@ fn closed(rt: &impl Abort, alloc: Global) -> Result<Game, GameFault> {
 
 #[test]
 fn what_is_dropped_or_left_open_is_in_no_specification(rt: HostRuntime) {
-    look(&rt, &made(&rt, closed(&rt, rt.alloc())), TOLD);
+    look(&rt, &made(&rt, closed(&rt, rt.alloc())), EXPECTED);
 }

@@ -1,11 +1,11 @@
-//! The code of README.md, which `tests/readme_code.py` of the repository looks for here.
+//! The code of README.md, which `tests/pages.py` of the repository looks for here.
 
 ghost use Rattle.std.specs.Prelude.{All};
 ghost use Rattle.pg_game.specs.Specification.{AreNumbers};
 
 use crate::tests::asserting::made;
-use crate::tests::game::{IN_ORDER, TOLD_IN_ORDER, look, specs_of};
-use pg_game::{Game, GameFault, OpenSpecs, Player, Spec, Specs};
+use crate::tests::game::{EXPECTED_IN_ORDER, IN_ORDER, look, specs_of};
+use pg_game::{ForwardGame, Game, GameFault, OpenSpecs, Player, Spec, Specs};
 use std::alloc::Global;
 use std::test::Fail;
 
@@ -37,13 +37,14 @@ fn pushed(alloc: Global) -> Result<Game, GameFault> {
     let mut specs = Specs::with_capacity(alloc, 2, 3)?;
     specs.push(0, 2, Player::Even, [0, 1].as_slice())?;
     specs.push(1, 1, Player::Odd, [1].as_slice())?;
-    let game = Game::from_rows(alloc, specs)?;
+    let forward = ForwardGame::from_rows(alloc, specs)?;
+    let game = Game::of_forward(alloc, forward)?;
     Ok(game)
 }
 
 #[test]
 fn specifications_are_pushed_with_their_successors(rt: HostRuntime) {
-    look(&rt, &made(&rt, pushed(rt.alloc())), TOLD_IN_ORDER);
+    look(&rt, &made(&rt, pushed(rt.alloc())), EXPECTED_IN_ORDER);
 }
 
 /// The same game.
@@ -54,8 +55,8 @@ fn pushed_one_by_one(alloc: Global) -> Result<Game, GameFault> {
     specs.close(0, 2, Player::Even)?;
     specs.push(1)?;
     specs.close(1, 1, Player::Odd)?;
-    let game = Game::from_rows(alloc, specs.finish())?;
-    Ok(game)
+    let forward = ForwardGame::from_rows(alloc, specs.finish())?;
+    Ok(Game::of_forward(alloc, forward)?)
 }
 
 #[test]
@@ -63,6 +64,6 @@ fn successors_are_pushed_one_by_one(rt: HostRuntime) {
     look(
         &rt,
         &made(&rt, pushed_one_by_one(rt.alloc())),
-        TOLD_IN_ORDER,
+        EXPECTED_IN_ORDER,
     );
 }

@@ -57,7 +57,7 @@ fn each_byte_has_its_answer(rt: HostRuntime) {
     }
 }
 
-/// The answer for so many bytes of a game text.
+/// The answer for this many bytes of a game text.
 fn game_at_length(len: u32) -> Option<TextFault> {
     match len {
         0..=5 => Some(TextFault::Syntax(0)),
@@ -68,7 +68,7 @@ fn game_at_length(len: u32) -> Option<TextFault> {
 
 const GAME_TEXT: &[u8] = b"parity 0;\n0 0 0 0;\n";
 
-/// The beginning of a text, of so many bytes as far as it has them.
+/// The beginning of a text, of this many bytes as far as it has them.
 fn cut(text: &[u8], len: u32) -> &[u8] {
     match text.get(..len as usize) {
         Some(beginning) => beginning,
@@ -83,7 +83,7 @@ fn a_cut_game_text_is_refused_at_its_end(rt: HostRuntime) {
     }
 }
 
-/// The answer for so many bytes of a solution text.
+/// The answer for this many bytes of a solution text.
 fn at_length(len: u32) -> Option<SolutionTextFault> {
     match len {
         0 => Some(SolutionTextFault::Missing(0)),

@@ -2,10 +2,10 @@
 
 ghost use Rattle.std.specs.Prelude.{◌≡◌, IfOk, IfErr};
 
-use super::{GAPS, game_fault, the_game};
+use super::{GAPS, forward_game, game_fault, the_game};
 use crate::tests::asserting::made;
-use pg_game::{Game, GameFault};
-use pg_text::{TextFault, read_game, write_game};
+use pg_game::{ForwardGame, Game, GameFault};
+use pg_text::{TextFault, read_game, write_forward_game, write_game};
 use std::alloc::Global;
 use std::process::Abort;
 
@@ -60,10 +60,19 @@ fn compare_read(rt: &impl Abort, alloc: Global, game: &Game, want: &str) {
     check!(*rt; read == *game, want);
 }
 
+/// A game without predecessors is written so, and is the game once it has them.
+fn compare_forward(rt: &impl Abort, alloc: Global, forward: ForwardGame, game: &Game, want: &str) {
+    let written = made(rt, write_forward_game(alloc, &forward));
+    check_eq!(*rt; written.as_slice(), want.as_bytes(), want);
+    check!(*rt; made(rt, Game::of_forward(alloc, forward)) == *game, want);
+}
+
 fn compare_spelling(rt: &impl Abort, alloc: Global, text: &str, want: &str) {
     let game = the_game(rt, alloc, text);
     compare_written(rt, alloc, &game, want);
     compare_read(rt, alloc, &game, want);
+    let forward = made(rt, forward_game(alloc, text.as_bytes()));
+    compare_forward(rt, alloc, forward, &game, want);
 }
 
 #[test]
@@ -76,6 +85,7 @@ fn a_game_is_written_in_one_spelling_and_read_back(rt: HostRuntime) {
 /// A game's text is refused so.
 fn refused(rt: &impl Abort, alloc: Global, text: &str, want: TextFault) {
     check_eq!(*rt; game_fault(alloc, text.as_bytes()), Some(want), text);
+    check_eq!(*rt; forward_game(alloc, text.as_bytes()).err(), Some(want), text);
 }
 
 const FAULTS: &[(&str, TextFault)] = &[

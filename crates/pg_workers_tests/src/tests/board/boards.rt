@@ -18,7 +18,7 @@ use std::process::Abort;
 pub type Put<'a> = (Player, &'a [Row], Result<Posted, Refusal>);
 
 /// An entry of worker 7: its player, how many vertices were claimed, and its rows.
-pub type Told<'a> = (Player, u32, &'a [Row]);
+pub type ExpectedEntry<'a> = (Player, u32, &'a [Row]);
 
 /// Who won a vertex, and by which choice.
 type Won = (Option<Player>, Option<u32>);
@@ -27,7 +27,7 @@ type Won = (Option<Player>, Option<u32>);
 pub struct Case<'a> {
     game: &'a [Vertex<'a>],
     claims: &'a [Put<'a>],
-    pub entries: &'a [Told<'a>],
+    pub entries: &'a [ExpectedEntry<'a>],
     vertices: &'a [Won],
 }
 
@@ -224,7 +224,7 @@ fn compare_case(rt: &impl Abort, alloc: Global, call: Call, case: &Case) {
 }
 
 /// The answer to a claim.
-fn compare_answer(rt: &impl Abort, alloc: Global, call: Call, board: &mut Board, put: &Put) {
+pub fn compare_answer(rt: &impl Abort, alloc: Global, call: Call, board: &mut Board, put: &Put) {
     let claim = claim_of(rt, alloc, put.0, put.1);
     check_eq!(*rt; call.put(alloc, board, &claim), put.2);
 }
@@ -243,7 +243,7 @@ pub fn compare_copy(rt: &impl Abort, copied: &Copied, case: &Case) {
     compare_mask(rt, copied.inside.mask(), case.vertices, settled);
 }
 
-pub fn compare_entries(rt: &impl Abort, entries: &[Entry], want: &[Told]) {
+pub fn compare_entries(rt: &impl Abort, entries: &[Entry], want: &[ExpectedEntry]) {
     check_eq!(*rt; entries.len(), want.len());
     let mut at = 0usize;
     for entry in entries {
@@ -252,7 +252,7 @@ pub fn compare_entries(rt: &impl Abort, entries: &[Entry], want: &[Told]) {
     }
 }
 
-fn compare_entry(rt: &impl Abort, entry: &Entry, want: Option<&Told>) {
+fn compare_entry(rt: &impl Abort, entry: &Entry, want: Option<&ExpectedEntry>) {
     let found = (entry.player, entry.claimed, entry.rows.as_slice());
     check_eq!(*rt; Some(&found), want);
     check_eq!(*rt; entry.worker, 7);

@@ -39,7 +39,7 @@ fn find(rt: &impl Abort, alloc: Global, copied: &Copied, job: &Job) -> Found {
     made(rt, Standard.find(alloc, copied, job))
 }
 
-// The search for dominions of a player with so many vertices, and its budget.
+// The search for dominions of a player with this many vertices, and its budget.
 macro_rules! small_job {
     ($player:expr, $bound:expr, $budget:expr) => {
         Job::Small {

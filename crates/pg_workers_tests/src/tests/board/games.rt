@@ -68,7 +68,7 @@ pub fn claim_of(rt: &impl Abort, alloc: Global, player: Player, rows: &[Row]) ->
     }
 }
 
-/// Even's claim of so many vertices, each of which is chosen at itself.
+/// Even's claim of this many vertices, each of which is chosen at itself.
 pub fn claim_of_loops(rt: &impl Abort, alloc: Global, n: u32) -> Claim {
     let mut rows = Vec::new(alloc);
     for v in 0..n {

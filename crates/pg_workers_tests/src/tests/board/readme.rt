@@ -1,4 +1,4 @@
-//! The code of README.md, which `tests/readme_code.py` of the repository looks for here.
+//! The code of README.md, which `tests/pages.py` of the repository looks for here.
 
 use crate::tests::board::games::{SHARED, game_made};
 use pg_board::{Board, Refusal};

@@ -81,7 +81,7 @@ pub fn check_alone(rt: &impl Abort, game: &[Plain], claims: &[Claim], report: &[
     }
 }
 
-/// How claims can be answered in any order: all of them are, so many are refused, and so many more may be. What the others
+/// How claims can be answered in any order: all of them are, this many are refused, and this many more may be. What the others
 /// name is settled by then.
 #[derive(Clone, Copy, Drop)]
 pub struct Bounds {

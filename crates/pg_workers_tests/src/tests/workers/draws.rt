@@ -9,7 +9,7 @@ use std::sync::atomic::{AtomicU64, Ordering};
 use std::thread;
 use std::thread::Threads;
 
-/// Lets other threads run so many times.
+/// Lets other threads run this many times.
 fn yield_often(times: u64) {
     for _time in 0..times {
         thread::yield_now();
@@ -79,7 +79,7 @@ fn draws_again(jobs: &Jobs, ticket: &mut Ticket) -> bool
     jobs.draw(ticket).is_some()
 }
 
-/// Asks so many times more, and says how often a number was drawn.
+/// Asks this many times more, and says how often a number was drawn.
 fn drawn_again(jobs: &Jobs, ticket: &mut Ticket, times: u32) -> u32
     requires series { ticket.old.series ≡ jobs.now.series }
     requires told { ticket.old.told_none ≡ true }

@@ -81,7 +81,7 @@ impl Finder for Singles {
     }
 }
 
-/// So many rows for a player, rising from 0, with least successors as choices.
+/// This many rows for a player, rising from 0, with least successors as choices.
 fn rising(alloc: Global, game: &Game, player: Player, count: u32) -> Result<Claim, Memory> {
     let mut rows = Vec::new(alloc);
     for v in 0..count {
@@ -93,7 +93,7 @@ fn rising(alloc: Global, game: &Game, player: Player, count: u32) -> Result<Clai
     })
 }
 
-/// Adds a claim of so many rows for each player.
+/// Adds a claim of this many rows for each player.
 fn add_rising(
     alloc: Global,
     claims: &mut Vec<Claim>,
@@ -242,7 +242,7 @@ impl Finder for NoMemory {
     }
 }
 
-/// Gives the same claims for each job, so many times.
+/// Gives the same claims for each job, this many times.
 #[derive(Drop)]
 pub struct Fixed<'a> {
     pub claims: &'a [(Player, &'a [Row])],
@@ -273,7 +273,7 @@ impl Finder for Fixed<'_> {
     }
 }
 
-/// Adds a claim of so many rows of the first vertex.
+/// Adds a claim of this many rows of the first vertex.
 fn add_equal(
     alloc: Global,
     claims: &mut Vec<Claim>,
@@ -284,7 +284,7 @@ fn add_equal(
     add(alloc, claims, EVEN, equal.as_slice())
 }
 
-/// Claims in the first job so many rows for each player, rising past the game's end, and as many rows of the first vertex,
+/// Claims in the first job this many rows for each player, rising past the game's end, and as many rows of the first vertex,
 /// each the same; and in each job the last vertex for Odd by itself.
 #[derive(Drop)]
 pub struct Long {
@@ -359,7 +359,7 @@ pub struct Recorder {
 }
 
 impl Recorder {
-    /// Capacity for so many jobs.
+    /// Capacity for this many jobs.
     pub fn with_places(alloc: Global, count: u32) -> Result<Recorder, Memory> {
         let mut jobs = Vec::new(alloc);
         for _job in 0..count {

@@ -74,7 +74,7 @@ pub fn solved<R: Threads + Wait + Abort + Sync>(
     try_solved(rt, alloc, game, options, gate, finder).expect(rt, "an outcome")
 }
 
-/// So many workers and the product's bounds.
+/// This many workers and the product's bounds.
 pub fn product(workers: u32) -> Options
     ensures { (result.workers ≡ workers) × (result.bound ≡ 4) }
 {
@@ -85,7 +85,7 @@ pub fn product(workers: u32) -> Options
     }
 }
 
-/// A run with so many workers and the product's bounds.
+/// A run with this many workers and the product's bounds.
 pub fn run_on<R: Threads + Wait + Abort + Sync>(
     rt: &R,
     alloc: Global,

@@ -5,7 +5,7 @@ use pg_workers::Gate;
 use std::sync::{Condvar, Mutex, OnceLock, Wait};
 use std::thread;
 
-/// How often a held worker looks whether it may go on before it gives up.
+/// How often a held worker looks whether it may continue before it gives up.
 const TURNS: u64 = 10_000_000;
 
 /// What a gate of two workers has seen.
@@ -198,7 +198,7 @@ pub struct Turn {
 }
 
 impl Turn {
-    /// A worker comes, and another goes on where nobody is under way.
+    /// A worker comes, and another continues if none is under way.
     fn come(&mut self, worker: u32, is_posted: bool) {
         if is_posted {
             self.in_posted |= bit(worker);
@@ -216,7 +216,7 @@ impl Turn {
         }
     }
 
-    /// One of those that are held goes on.
+    /// One of those that are held continues.
     fn go_on(&mut self) {
         let worker = self.next();
         let phase = u64::from(has(self.in_posted, worker));
@@ -240,7 +240,7 @@ impl Turn {
     }
 }
 
-/// One worker goes on at a time. Once all are held a seed draws who is next, so it alone makes the order, whatever else
+/// One worker continues at a time. Once all are held a seed draws who is next, so it alone makes the order, whatever else
 /// the machine has to do. Each worker has to start, and there have to be as many jobs.
 #[derive(Drop)]
 pub struct Turns {

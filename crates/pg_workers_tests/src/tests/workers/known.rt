@@ -20,13 +20,13 @@ const LAYERS: &[u8] = b"0 0 0 0; 1 3 0 0,1; 2 3 1 1;";
 type Row = (Player, Option<u32>);
 
 /// Who posted an entry, for whom, how many rows are claimed, and how many there are.
-type Told = (u32, Player, u32, usize);
+type Expected = (u32, Player, u32, usize);
 
 /// A game, what is known, how many workers, the entries, the solution, and how many vertices the jobs settled, all of them in
 /// the first.
-type Taken<'a> = (&'a [u8], &'a [u8], u32, &'a [Told], &'a [Row], u64);
+type Taken<'a> = (&'a [u8], &'a [u8], u32, &'a [Expected], &'a [Row], u64);
 
-fn compare_entry(rt: &impl Abort, entry: &Entry, want: Told) {
+fn compare_entry(rt: &impl Abort, entry: &Entry, want: Expected) {
     let found = (
         entry.worker,
         entry.player,
@@ -36,10 +36,10 @@ fn compare_entry(rt: &impl Abort, entry: &Entry, want: Told) {
     check_eq!(*rt; found, want);
 }
 
-fn compare_entries(rt: &impl Abort, entries: &[Entry], want: &[Told]) {
+fn compare_entries(rt: &impl Abort, entries: &[Entry], want: &[Expected]) {
     check_eq!(*rt; entries.len(), want.len());
-    for (entry, told) in entries.iter().zip(want) {
-        compare_entry(rt, entry, *told);
+    for (entry, expected) in entries.iter().zip(want) {
+        compare_entry(rt, entry, *expected);
     }
 }
 

@@ -57,7 +57,7 @@ fn two_loops(alloc: Global) -> Result<Game, Fail> {
     needed(read_game(alloc, TWO_LOOPS))
 }
 
-/// A run that is made once more where memory was refused to what the workers don't do.
+/// A run that is made once more where memory was refused to what the workers do not do.
 fn solved_again<R: Threads + Wait + Abort + Sync>(
     rt: &R,
     alloc: Global,

@@ -14,7 +14,7 @@ use std::sync::{Condvar, Mutex, Wait};
 use std::thread::Threads;
 use std::{hint, thread};
 
-/// How often a waiting worker looks whether it may go on before it gives up.
+/// How often a waiting worker looks whether it may continue before it gives up.
 const TURNS: u64 = 10_000_000;
 
 /// What a worker does between two looks.
@@ -99,7 +99,7 @@ impl Ordered {
         seen.found == self.plan.workers && self.plan.worker_at(seen.posted) == Some(worker)
     }
 
-    /// Looks again and again. Says whether it may go on.
+    /// Looks again and again. Says whether it may continue.
     fn polls<R: Wait>(&self, rt: &R, worker: u32, manner: Manner) -> bool {
         for _ in 0..TURNS {
             if self.may_post(&*self.seen.lock(rt), worker) {
@@ -114,7 +114,7 @@ impl Ordered {
         false
     }
 
-    /// Sleeps until there is a change, and looks again. Says whether it may go on.
+    /// Sleeps until there is a change, and looks again. Says whether it may continue.
     fn sleeps<R: Wait>(&self, rt: &R, worker: u32) -> bool {
         let mut guard = self.seen.lock(rt);
         for _ in 0..TURNS {
@@ -153,7 +153,7 @@ impl Gate for Ordered {
     }
 }
 
-/// Everything that was posted by a worker was by the first in the order, in so many entries.
+/// Everything that was posted by a worker was by the first in the order, in this many entries.
 fn check_entries(rt: &impl Abort, entries: &[Entry], first: Option<u32>, count: usize) {
     check_eq!(*rt; entries.len(), count);
     for entry in entries {
@@ -161,7 +161,7 @@ fn check_entries(rt: &impl Abort, entries: &[Entry], first: Option<u32>, count: 
     }
 }
 
-/// A run by a plan, in which nobody gives up.
+/// A run by a plan, in which no worker gives up.
 fn planned_run<R: Threads + Wait + Abort + Sync, F: Finder>(
     rt: &R,
     alloc: Global,
@@ -175,7 +175,7 @@ fn planned_run<R: Threads + Wait + Abort + Sync, F: Finder>(
     outcome
 }
 
-/// A run by a plan ends in this state, by so many entries of the first worker.
+/// A run by a plan ends in this state, by this many entries of the first worker.
 fn compare_planned<R: Threads + Wait + Abort + Sync, F: Finder>(
     rt: &R,
     alloc: Global,
@@ -254,7 +254,7 @@ const ORDERS: &[(u32, [u32; 3], u32)] = &[
     (3, [3, 2, 1], 27),
 ];
 
-/// All manners of so many workers in this order.
+/// All manners of this many workers in this order.
 fn run_in_all_manners<R: Threads + Wait + Abort + Sync>(
     rt: &R,
     alloc: Global,

@@ -1,4 +1,4 @@
-//! The code of README.md, which `tests/readme_code.py` of the repository looks for here.
+//! The code of README.md, which `tests/pages.py` of the repository looks for here.
 
 use crate::tests::workers::games::{TWO_LOOPS, game_of};
 use pg_finders::Standard;

@@ -42,7 +42,7 @@ impl State {
 pub enum Wrong {
     /// No row is claimed, or more are than there are.
     Count,
-    /// The claimed rows don't rise.
+    /// The claimed rows do not rise.
     Order,
     /// A row names no vertex, or has a choice that is no successor, or one too many or too few.
     Row,
@@ -200,7 +200,7 @@ fn reported_by(report: &[ReportRow], worker: u32) -> [u64; 2] {
     [posted, settled]
 }
 
-/// Each row has its job's number and a worker; each worker's rows add up to what he posted; nobody else posted, but for the
+/// Each row has its job's number and a worker; each worker's rows add up to what he posted; no one else posted, except the
 /// calling thread, who settles what is left by at most two claims, the last of all.
 fn check_report(rt: &impl Abort, outcome: &Outcome, workers: u32) {
     let entries = outcome.entries.as_slice();
@@ -215,7 +215,7 @@ fn check_report(rt: &impl Abort, outcome: &Outcome, workers: u32) {
     check_jobs(rt, report, workers);
 }
 
-/// The entries of the calling thread are the last, at most two, and all that nobody else posted.
+/// The entries of the calling thread are the last, at most two, and all that no one else posted.
 fn check_rest(rt: &impl Abort, entries: &[Entry], posted: u64) {
     let [by_none, _] = posted_by(entries, 0);
     check!(*rt; by_none <= 2);
@@ -227,7 +227,7 @@ fn check_rest(rt: &impl Abort, entries: &[Entry], posted: u64) {
     }
 }
 
-/// Whether one of so many workers drew the job of a row.
+/// Whether one of this many workers drew the job of a row.
 fn is_drawn(row: &ReportRow, workers: u32) -> bool {
     match row.worker {
         Some(worker) => 1 <= worker && worker <= workers,

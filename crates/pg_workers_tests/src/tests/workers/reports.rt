@@ -13,10 +13,10 @@ use std::sync::Wait;
 use std::thread::Threads;
 
 /// A job's numbers posted, settled, stale and refused, whether it gave up, and whether it had no memory.
-type Told = ([u64; 4], bool, bool);
+type Expected = ([u64; 4], bool, bool);
 
 /// Compares the row of a job of worker 1.
-fn compare_row(rt: &impl Abort, row: &ReportRow, job: u64, want: Told) {
+fn compare_row(rt: &impl Abort, row: &ReportRow, job: u64, want: Expected) {
     let ([posted, settled, stale, refused], gave_up, memory) = want;
     let row_wanted = ReportRow {
         job,
@@ -32,11 +32,11 @@ fn compare_row(rt: &impl Abort, row: &ReportRow, job: u64, want: Told) {
 }
 
 /// Compares the rows of five jobs.
-fn compare_rows(rt: &impl Abort, report: &[ReportRow], want: &[Told; 5]) {
+fn compare_rows(rt: &impl Abort, report: &[ReportRow], want: &[Expected; 5]) {
     check_eq!(*rt; report.len(), 5);
     let mut job = 0u64;
-    for (row, told) in report.iter().zip(want) {
-        compare_row(rt, row, job, *told);
+    for (row, expected) in report.iter().zip(want) {
+        compare_row(rt, row, job, *expected);
         job = job.wrapping_add(1);
     }
 }
@@ -46,16 +46,16 @@ fn assert_rows<R: Threads + Wait + Abort + Sync>(
     rt: &R,
     alloc: Global,
     finder: &impl Finder,
-    want: &[Told; 5],
+    want: &[Expected; 5],
 ) {
     let outcome = outcome_of(rt, alloc, two_loops(), 1, finder);
     compare_rows(rt, outcome.report.as_slice(), want);
 }
 
-const NOTHING: Told = ([0; 4], false, false);
+const NOTHING: Expected = ([0; 4], false, false);
 
 /// The first job settles both loops.
-const STANDARD: [Told; 5] = [
+const STANDARD: [Expected; 5] = [
     ([2, 2, 0, 0], false, false),
     NOTHING,
     NOTHING,
@@ -68,10 +68,10 @@ fn the_first_job_settles_both_loops(rt: HostRuntime) {
     assert_rows(&rt, rt.alloc(), &Standard, &STANDARD);
 }
 
-const TWO_AND_TWO: Told = ([0, 0, 2, 2], false, false);
+const TWO_AND_TWO: Expected = ([0, 0, 2, 2], false, false);
 
 /// Of four claims two are good, and stale from then on; two have a bad closed walk.
-const SINGLES: [Told; 5] = [
+const SINGLES: [Expected; 5] = [
     ([2, 2, 0, 2], false, false),
     TWO_AND_TWO,
     TWO_AND_TWO,
@@ -84,12 +84,12 @@ fn a_finder_of_single_vertices_is_answered_stale_and_refused(rt: HostRuntime) {
     assert_rows(&rt, rt.alloc(), &Singles, &SINGLES);
 }
 
-const THREE_STALE: Told = ([0, 0, 3, 0], false, false);
+const THREE_STALE: Expected = ([0, 0, 3, 0], false, false);
 
-type Case<'a> = (&'a [(Player, &'a [Row])], [Told; 5]);
+type Case<'a> = (&'a [(Player, &'a [Row])], [Expected; 5]);
 
 const CASES: &[Case] = &[
-    // a worker goes on after a stale claim
+    // a worker continues after a stale claim
     (
         &[
             (EVEN, &[(0, Some(0))]),
@@ -134,10 +134,10 @@ fn a_worker_goes_on_after_stale_and_refused_claims(rt: HostRuntime) {
     }
 }
 
-const ONE_STALE: Told = ([0, 0, 1, 0], false, false);
+const ONE_STALE: Expected = ([0, 0, 1, 0], false, false);
 
 /// Three claims of a million rows each are refused, and the good one after them is posted.
-const LONG: [Told; 5] = [
+const LONG: [Expected; 5] = [
     ([1, 1, 0, 3], false, false),
     ONE_STALE,
     ONE_STALE,
@@ -150,16 +150,16 @@ fn a_worker_goes_on_after_claims_of_a_million_rows(rt: HostRuntime) {
     assert_rows(&rt, rt.alloc(), &Long { count: 1_000_000 }, &LONG);
 }
 
-const LACKED: Told = ([0; 4], false, true);
+const LACKED: Expected = ([0; 4], false, true);
 
-const NO_MEMORY: [Told; 5] = [LACKED, LACKED, LACKED, LACKED, LACKED];
+const NO_MEMORY: [Expected; 5] = [LACKED, LACKED, LACKED, LACKED, LACKED];
 
 #[test]
 fn memory_that_is_refused_in_each_search_is_noted(rt: HostRuntime) {
     assert_rows(&rt, rt.alloc(), &NoMemory, &NO_MEMORY);
 }
 
-const HALTED: [Told; 5] = [NOTHING, LACKED, ([0; 4], true, false), NOTHING, NOTHING];
+const HALTED: [Expected; 5] = [NOTHING, LACKED, ([0; 4], true, false), NOTHING, NOTHING];
 
 #[test]
 fn each_row_says_whether_its_search_gave_up_or_had_no_memory(rt: HostRuntime) {
@@ -167,7 +167,7 @@ fn each_row_says_whether_its_search_gave_up_or_had_no_memory(rt: HostRuntime) {
 }
 
 /// Worker, player and vertex of an entry with one row.
-fn told(entry: &Entry) -> Option<(u32, Player, u32)> {
+fn expected(entry: &Entry) -> Option<(u32, Player, u32)> {
     let row = entry.rows.as_slice().first()?;
     Some((entry.worker, entry.player, row.0))
 }
@@ -176,7 +176,7 @@ fn told(entry: &Entry) -> Option<(u32, Player, u32)> {
 fn check_worker(rt: &impl Abort, entries: &[Entry], worker: u32) {
     check_eq!(*rt; entries.len(), 2);
     for (entry, (player, vertex)) in entries.iter().zip(&[(EVEN, 0), (ODD, 1)]) {
-        check_eq!(*rt; told(entry), Some((worker, *player, *vertex)));
+        check_eq!(*rt; expected(entry), Some((worker, *player, *vertex)));
     }
 }
 

@@ -1,9 +1,10 @@
 //! Workers run at once, whatever order they come in, and are given each job.
 
-use crate::tests::workers::finders::{AllLoops, NoMemory, Recorder, Watcher};
+use crate::tests::workers::finders::{AllLoops, Fixed, NoMemory, Recorder, Watcher};
 use crate::tests::workers::games::{gated_outcome, run_on, solved, two_loops};
 use crate::tests::workers::gates::{Alternating, Holder, LastFirst, Seen};
-use pg_finders::{Finder, Job, Standard};
+use pg_finders::{Copied, Finder, Found, Job, Standard};
+use pg_game::{Game, Memory};
 use pg_test_support::{EVEN, ODD, own_loops};
 use pg_workers::{Options, Pass, ReportRow};
 use std::alloc::Global;
@@ -13,7 +14,7 @@ use std::thread::Threads;
 
 const ONCE: &[u32] = &[1; 5];
 
-/// Nobody gave up, and each job was reported once before and once after its posts.
+/// No worker gave up, and each job was reported once before and once after its posts.
 fn check_seen(rt: &impl Abort, seen: &Seen) {
     check!(*rt; !seen.gave_up);
     check_eq!(*rt; seen.found.as_slice(), ONCE);
@@ -156,6 +157,59 @@ fn one_worker_does_a_hundred_jobs_in_order(rt: HostRuntime) {
     for row in outcome.report.as_slice() {
         check_idle(&rt, row, job);
         job = job.wrapping_add(1);
+    }
+}
+
+/// How many claims are made for a job, and whether its search gives up. No two of the 101 jobs have the same answer.
+fn answer_to(job: &Job) -> (u32, bool) {
+    match job {
+        Job::Loops => (100, false),
+        Job::Solitaire => (100, true),
+        Job::Small { player, first, .. } => (*first / 64, *player == ODD),
+        Job::Recursion => (99, true),
+    }
+}
+
+/// Answers each job in its own way: with claims without rows, which are refused.
+struct Distinct;
+
+impl Finder for Distinct {
+    fn find(&self, alloc: Global, copied: &Copied, job: &Job) -> Result<Found, Memory> {
+        let (times, gave_up) = answer_to(job);
+        let claims = &[(EVEN, [].as_slice())];
+        let Found { claims, .. } = Fixed { claims, times }.find(alloc, copied, job)?;
+        Ok(Found { claims, gave_up })
+    }
+}
+
+/// The row has what was answered to the job of its number.
+fn check_answer(rt: &impl Abort, row: &ReportRow) {
+    let found = (row.refused, row.gave_up);
+    let (count, gave_up) = answer_to(&job_of_many((row.job % 101) as u32));
+    check_eq!(*rt; found, (u64::from(count), gave_up), row.job);
+    check_eq!(*rt; [row.posted, row.settled, row.stale], [0; 3], row.job);
+    check!(*rt; !row.memory, row.job);
+}
+
+/// Each job of a number is searched for its row, with so many workers.
+fn check_rows_by<R: Threads + Wait + Abort + Sync>(
+    rt: &R,
+    alloc: Global,
+    game: &Game,
+    workers: u32,
+) {
+    let outcome = run_on(rt, alloc, game, workers, &Pass, &Distinct);
+    check_eq!(*rt; outcome.report.len(), 101);
+    for row in outcome.report.as_slice() {
+        check_answer(rt, row);
+    }
+}
+
+#[test]
+fn each_row_has_the_answer_to_the_job_of_its_number(rt: HostRuntime) {
+    let game = own_loops(rt.alloc(), MANY).expect(&rt, "a game");
+    for workers in [1, 3, 64] {
+        check_rows_by(&rt, rt.alloc(), &game, workers);
     }
 }
 

@@ -22,19 +22,19 @@ use std::thread::Threads;
 
 const GAMES: u64 = 50;
 
-/// How many runs of a game let one worker go on at a time, in an order that the seed alone makes.
+/// How many runs of a game let one worker continue at a time, in an order that the seed alone makes.
 const IN_TURNS: u64 = 40;
 
-/// How many runs of a game hold workers for a while, and let them go on side by side.
+/// How many runs of a game hold workers for a while, and let them run side by side.
 const SIDE_BY_SIDE: u64 = 160;
 
-/// So many different orders there have to be among a game's runs in turns.
+/// This many different orders there have to be among a game's runs in turns.
 const LEAST_ORDERS: usize = 38;
 
 /// The jobs of a game of at most 64 vertices.
 const JOBS: u32 = 5;
 
-/// How often a worker looks for the others' progress before it goes on all the same.
+/// How often a worker looks for the others' progress before it continues anyway.
 const LOOKS: u32 = 40;
 
 /// What is drawn next, and how many calls there were.
@@ -44,7 +44,7 @@ struct Progress {
     calls: u32,
 }
 
-/// Draws from a seed at each call how many more calls there have to be before this worker goes on, and waits for them,
+/// Draws from a seed at each call how many more calls there have to be before this worker continues, and waits for them,
 /// but not for ever.
 #[derive(Drop)]
 struct Schedule {
@@ -62,7 +62,7 @@ impl Schedule {
     }
 }
 
-/// Counts a call, and draws how many there have to be before its worker goes on.
+/// Counts a call, and draws how many there have to be before its worker continues.
 fn enter(progress: &mut Progress) -> u32 {
     progress.calls = progress.calls.wrapping_add(1);
     progress.calls.wrapping_add(progress.random.below(4))
@@ -160,7 +160,7 @@ fn run_in_turns<R: Threads + Wait + Abort + Sync, F: Finder>(
     (outcome, gate.turn.into_inner().order)
 }
 
-/// The run of a seed whose workers go on side by side.
+/// The run of a seed whose workers run side by side.
 fn run_side_by_side<R: Threads + Wait + Abort + Sync, F: Finder>(
     rt: &R,
     alloc: Global,
@@ -228,7 +228,7 @@ fn replay_in_turns<R: Threads + Wait + Abort + Sync, F: Finder>(
     check!(*rt; different >= LEAST_ORDERS, different);
 }
 
-/// The game under schedules that let workers go on side by side.
+/// The game under schedules that let workers run side by side.
 fn replay_side_by_side<R: Threads + Wait + Abort + Sync, F: Finder>(
     rt: &R,
     alloc: Global,

@@ -35,7 +35,7 @@ impl Meeting {
         }
     }
 
-    /// Whether another search begins within so many turns.
+    /// Whether another search begins within this many turns.
     fn waits(&self) -> bool {
         for _ in 0..TURNS {
             if self.second.get().is_some() {

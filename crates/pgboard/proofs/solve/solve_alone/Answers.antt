@@ -1,6 +1,5 @@
-use Rattle.pgboard.proofs.Common.{rules, ℕ, List, [], inr, Some, Appends, err_from_is_err_and, AppendsPrefix, IsSolveOutput}
-use Rattle.pgboard.specs.declared.fault.RunFault.TheVariants as fault
-use Rattle.pgboard.proofs.Knowing.{unsolved_alone, solved_alone, all_out, front_out}
+use Rattle.pgboard.proofs.Common.{rules, inr, err_from_is_err_and}
+use Rattle.pgboard.proofs.Knowing.{unsolved_alone, solved_alone}
 use Rattle.pgboard.proofs.solve.solve_alone.Goals as goal
 
 pub returns-in_err-text-clause-fault : goal.returns-in_err-text-clause-fault

@@ -1,6 +1,5 @@
-use Rattle.pgboard.proofs.Common.{rules, ℕ, List, inr, subst, Appends, err_from_is_err_and, IsKnownTextOf, AppendsPrefix, IsRefusedText, IsSolveOutput}
-use Rattle.pgboard.specs.declared.fault.RunFault.TheVariants as fault
-use Rattle.pgboard.proofs.Knowing.{not_known_text, not_solved, solved, kept, all_out, front_out}
+use Rattle.pgboard.proofs.Common.{rules, ℕ, List, inr, subst, err_from_is_err_and, IsKnownTextOf, IsRefusedText}
+use Rattle.pgboard.proofs.Knowing.{not_known_text, not_solved, solved}
 use Rattle.pgboard.proofs.solve.solve_knowing.Goals as goal
 
 pub returns-in_err-known-clause-fault : goal.returns-in_err-known-clause-fault

@@ -40,7 +40,7 @@ settled_is c =
     omega (arith, copied, c.len-settled.ensures, c.shrink_to_fit.new.self.ok.0)
 
 pub attract-requires-clause-growing : goal.attract-requires-clause-growing
-attract-requires-clause-growing c = search (rules, c.self.view_is, c.requires.room, c.as_slice.ensures.value, IsGrowing-more, c.settle_all.ensures.growing)
+attract-requires-clause-growing c = search (rules, c.self.view_is, c.requires.spare, c.as_slice.ensures.value, IsGrowing-more, c.settle_all.ensures.growing)
 
 pub settle_all-requires-clause-unsettled : goal.settle_all-requires-clause-unsettled
 settle_all-requires-clause-unsettled c =

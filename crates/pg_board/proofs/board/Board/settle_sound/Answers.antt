@@ -16,8 +16,8 @@ checked c = record {
   rest_is = c.as_slice.ensures.value ∙ c.rest_of.ensures.rows;
 }
 
-pub rest_of-requires-clause-room : goal.rest_of-requires-clause-room
-rest_of-requires-clause-room c =
+pub rest_of-requires-clause-spare : goal.rest_of-requires-clause-spare
+rest_of-requires-clause-spare c =
     omega (arith, few_rows (sound_here c.self.view_is c.requires).shape.right, c.in_ok-rows.ensures.capacity, c.len-n.ensures.number)
 
 pub first_open-edge-requires-clause-right : goal.first_open-edge-requires-clause-right

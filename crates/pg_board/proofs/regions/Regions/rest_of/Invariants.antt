@@ -5,6 +5,6 @@ use Rattle.pg_board.proofs.regions.Regions.rest_of.Given as goal
 abbrev pub invariant-rows : goal.invariant-rows
 invariant-rows l = record {
   rows : l.rest.items ≡ rest_of (table_state l.self.table.items) (take l.row-index l.row-items);
-  room : vec_capacity l.rest ≡ vec_capacity l.initial.rest;
+  spare : vec_capacity l.rest ≡ vec_capacity l.initial.rest;
   few : length l.rest.items ≤ l.row-index;
 }

@@ -7,12 +7,6 @@ use Rattle.pg_finders.specs.Jobs.{seeds_of, with_rows}
 use Rattle.pg_finders.proofs.Jobs.{both_of}
 use Rattle.pg_finders.proofs.standard.StandardFinder.find.Goals as goal
 
-pub returns-in_ok-even-in-Loops-clause-loops : goal.returns-in_ok-even-in-Loops-clause-loops
-returns-in_ok-even-in-Loops-clause-loops c =
-    let e = c.in_ok-even-in-Loops in
-    rw c.in-Loops.is (IfOk-weaker c.all_of.result _ _
-    (λ f h. record { even = e.even; odd = e.odd; evens = e.ensures.even; odds = e.ensures.odd; order = h }) c.all_of.ensures.claims)
-
 pub returns-in_ok-find_solitaire-in-Solitaire-clause-solitaire : goal.returns-in_ok-find_solitaire-in-Solitaire-clause-solitaire
 returns-in_ok-find_solitaire-in-Solitaire-clause-solitaire c =
     let i = c.args.copied.now.inside in

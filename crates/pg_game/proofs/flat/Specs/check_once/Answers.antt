@@ -12,20 +12,20 @@ returns-then-is_rising-clause-once c =
     let up = c.is_rising.ensures c.if-is_rising.true in
     still_once c.requires.moved (none_repeated [] c.args.sorted.now up (λ m x h k. absurd (Contains-nil m h)))
 
-pub returns-in_err-identifiers-clause-fault : goal.returns-in_err-identifiers-clause-fault
-returns-in_err-identifiers-clause-fault c =
+pub returns-in_err-index_set-clause-fault : goal.returns-in_err-index_set-clause-fault
+returns-in_err-index_set-clause-fault c =
     let e : c.as_slice.result.now ≡ ids_of c.args.self.now = c.as_slice.ensures.value ∙ sym (ids_is c.self.invariant c.self.view_is) in
-    let h = rw e at c.in_err-identifiers.ensures.fault in
+    let h = rw e at c.in_err-index_set.ensures.fault in
     search (rules, passed_on, h)
 
 pub returns-clause-rising : goal.returns-clause-rising
 returns-clause-rising c =
     let e : c.as_slice.result.now ≡ ids_of c.args.self.now = c.as_slice.ensures.value ∙ sym (ids_is c.self.invariant c.self.view_is) in
-    let keys = c.in_ok-identifiers.ensures.ids ∙ e in
-    let d : IsDistinct nat_eq (ids_of c.args.self.now) = subst (λ (xs : List ℕ). IsDistinct nat_eq xs) keys c.in_ok-identifiers.ensures.distinct in
+    let keys = c.in_ok-index_set.ensures.ids ∙ e in
+    let d : IsDistinct nat_eq (ids_of c.args.self.now) = subst (λ (xs : List ℕ). IsDistinct nat_eq xs) keys c.in_ok-index_set.ensures.distinct in
     IsStrictlyIncreasing-from_distinct c.args.sorted.now c.requires.sorted (still_distinct c.requires.moved d)
 
 pub returns-clause-once : goal.returns-clause-once
 returns-clause-once c =
     let e : c.as_slice.result.now ≡ ids_of c.args.self.now = c.as_slice.ensures.value ∙ sym (ids_is c.self.invariant c.self.view_is) in
-    subst (λ (xs : List ℕ). first_repeated [] xs ≡ None) e c.in_ok-identifiers.ensures.once
+    subst (λ (xs : List ℕ). first_repeated [] xs ≡ None) e c.in_ok-index_set.ensures.once

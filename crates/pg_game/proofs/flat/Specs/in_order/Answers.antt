@@ -16,13 +16,13 @@ of_rising-requires c =
     let e : c.as_slice.result.now ≡ ids_of c.args.self = c.as_slice.ensures.value ∙ sym (ids_is c.self.invariant c.self.view_is) in
     rw e record { rising = c.requires.rising; short = let n = length-map c.args.self (λ s. s.id) in omega (arith, n, c.requires.few) }
 
-pub returns-in_err-names-clause-fault : goal.returns-in_err-names-clause-fault
-returns-in_err-names-clause-fault c = search (rules, passed_on, memory_fine, c.in_err-names.ensures.memory)
+pub returns-in_err-identifiers-clause-fault : goal.returns-in_err-identifiers-clause-fault
+returns-in_err-identifiers-clause-fault c = search (rules, passed_on, memory_fine, c.in_err-identifiers.ensures.memory)
 
-pub placed-requires-clause-names : goal.placed-requires-clause-names
-placed-requires-clause-names c =
+pub placed-requires-clause-identifiers : goal.placed-requires-clause-identifiers
+placed-requires-clause-identifiers c =
     let e : c.as_slice.result.now ≡ ids_of c.args.self = c.as_slice.ensures.value ∙ sym (ids_is c.self.invariant c.self.view_is) in
-    rw (c.in_ok-names.ensures.names, e) (IsPermutation-refl (ids_of c.args.self))
+    rw (c.in_ok-identifiers.ensures.identifiers, e) (IsPermutation-refl (ids_of c.args.self))
 
 pub returns-in_err-placed-clause-fault : goal.returns-in_err-placed-clause-fault
 returns-in_err-placed-clause-fault c =
@@ -30,16 +30,16 @@ returns-in_err-placed-clause-fault c =
 
 pub named-requires : goal.named-requires
 named-requires c =
-    let e : c.in_ok-names.names ≡ ids_of c.args.self =
-    c.in_ok-names.ensures.names ∙ (c.as_slice.ensures.value ∙ sym (ids_is c.self.invariant c.self.view_is)) in
+    let e : c.in_ok-identifiers.identifiers ≡ ids_of c.args.self =
+    c.in_ok-identifiers.ensures.identifiers ∙ (c.as_slice.ensures.value ∙ sym (ids_is c.self.invariant c.self.view_is)) in
     let sound = listed c.args.self c.requires.few c.requires.some c.requires.rising ∙ c.in_ok-placed.ensures.sound in
     let p = rw e at c.in_ok-placed.ensures.placed in
     rw e (placed_stored sound c.requires.numbers (IsPermutation-refl c.args.self) refl c.requires.rising p)
 
 pub returns-clause-game : goal.returns-clause-game
 returns-clause-game c =
-    let e : c.in_ok-names.names ≡ ids_of c.args.self =
-    c.in_ok-names.ensures.names ∙ (c.as_slice.ensures.value ∙ sym (ids_is c.self.invariant c.self.view_is)) in
+    let e : c.in_ok-identifiers.identifiers ≡ ids_of c.args.self =
+    c.in_ok-identifiers.ensures.identifiers ∙ (c.as_slice.ensures.value ∙ sym (ids_is c.self.invariant c.self.view_is)) in
     let sound = listed c.args.self c.requires.few c.requires.some c.requires.rising ∙ c.in_ok-placed.ensures.sound in
     let p = rw e at c.in_ok-placed.ensures.placed in
     let made = placed_game sound c.requires.numbers (IsPermutation-refl c.args.self) refl c.requires.rising p in

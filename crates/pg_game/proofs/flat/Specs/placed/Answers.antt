@@ -18,7 +18,7 @@ returns-in-Some-place-clause-fault c =
     let m = c.in-Some-place.ensures.missing in
     let v = c.in-Some-place.v in
     let le : edges c.args.self ≤ max_edges = few_edges _ c.args.self c.in_ok-has_too_many_edges.ensures c.if-branch.false in
-    let e = unknown_at c.self.invariant c.self.view_is c.requires.names v c.in-Some-place.successor m.0 m.1 m.2 in
+    let e = unknown_at c.self.invariant c.self.view_is c.requires.identifiers v c.in-Some-place.successor m.0 m.1 m.2 in
     let id = get_or_read c.self.inside.ids.items v _ (omega (arith, m.0, c.self.invariant.successors)) c.index.ensures 0 in
     rw id (unknown_named c.args.self (sym c.in_default.ensures) le e)
 
@@ -26,15 +26,15 @@ pub risen-requires : goal.risen-requires
 risen-requires c = omega (arith, c.place.ensures.size, length_is c.self.invariant c.self.view_is, c.self.invariant.successors, c.requires.few)
 
 pub of_parts-requires : goal.of_parts-requires
-of_parts-requires c = parts_placed c.self.invariant c.self.view_is c.requires.names c.in_ok-rows.rows (c.in_ok-rows.ensures.size ∙ c.place.ensures.size)
+of_parts-requires c = parts_placed c.self.invariant c.self.view_is c.requires.identifiers c.in_ok-rows.rows (c.in_ok-rows.ensures.size ∙ c.place.ensures.size)
 
 pub returns-clause-placed : goal.returns-clause-placed
 returns-clause-placed c =
     let n = c.place.ensures.size in
-    rw c.of_parts.ensures (placed_specs c.self.invariant c.self.view_is c.requires.names c.place.new.self c.in_ok-rows.rows (c.in_ok-rows.ensures.size ∙ n) c.in_default-place.ensures.placed
+    rw c.of_parts.ensures (placed_specs c.self.invariant c.self.view_is c.requires.identifiers c.place.new.self c.in_ok-rows.rows (c.in_ok-rows.ensures.size ∙ n) c.in_default-place.ensures.placed
     (λ v l. c.in_ok-rows.ensures.rising v (omega (arith, l, n))) (λ v w l. c.in_ok-rows.ensures.same v w (omega (arith, l, n))))
 
 pub returns-clause-sound : goal.returns-clause-sound
 returns-clause-sound c =
     let le : edges c.args.self ≤ max_edges = few_edges _ c.args.self c.in_ok-has_too_many_edges.ensures c.if-branch.false in
-    rows_sound c.args.self (sym c.in_default.ensures) le (all_known c.self.invariant c.self.view_is c.requires.names c.place.new.self c.in_default-place.ensures.placed)
+    rows_sound c.args.self (sym c.in_default.ensures) le (all_known c.self.invariant c.self.view_is c.requires.identifiers c.place.new.self c.in_default-place.ensures.placed)

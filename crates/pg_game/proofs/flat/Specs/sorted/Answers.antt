@@ -7,18 +7,18 @@ use Rattle.pg_game.proofs.Ordered.{named_moves, lines_fit, specs_move, picked_id
 use Rattle.pg_game.proofs.Sound.{listed_fault}
 use Rattle.pg_game.proofs.flat.Specs.sorted.Goals as goal
 
-pub names-requires-clause-lines : goal.names-requires-clause-lines
-names-requires-clause-lines c = rw c.as_slice.ensures.value c.in_ok-lines.ensures
+pub identifiers-requires-clause-lines : goal.identifiers-requires-clause-lines
+identifiers-requires-clause-lines c = rw c.as_slice.ensures.value c.in_ok-lines.ensures
 
-pub placed-requires-clause-names : goal.placed-requires-clause-names
-placed-requires-clause-names c =
+pub placed-requires-clause-identifiers : goal.placed-requires-clause-identifiers
+placed-requires-clause-identifiers c =
     let lines = rw (← c.as_slice.ensures.value) at c.in_ok-lines.ensures in
-    rw c.in_ok-names.ensures.names (named_moves lines.paired)
+    rw c.in_ok-identifiers.ensures.identifiers (named_moves lines.paired)
 
 pub returns-in_err-placed-clause-fault : goal.returns-in_err-placed-clause-fault
 returns-in_err-placed-clause-fault c =
     let e : first_fault c.args.self ≡ rows_fault c.args.self =
-    listed_fault c.args.self record { nonempty = c.requires.some; vertices = c.requires.few; once = c.in_ok-names.ensures.once } in
+    listed_fault c.args.self record { nonempty = c.requires.some; vertices = c.requires.few; once = c.in_ok-identifiers.ensures.once } in
     rw e (search (rules, passed_on, c.in_err-placed.ensures.fault))
 
 pub picked-requires : goal.picked-requires
@@ -30,24 +30,24 @@ picked-requires c =
 pub named-requires : goal.named-requires
 named-requires c =
     let e : first_fault c.args.self ≡ rows_fault c.args.self =
-    listed_fault c.args.self record { nonempty = c.requires.some; vertices = c.requires.few; once = c.in_ok-names.ensures.once } in
+    listed_fault c.args.self record { nonempty = c.requires.some; vertices = c.requires.few; once = c.in_ok-identifiers.ensures.once } in
     let lines = c.in_ok-lines.ensures in
-    let names = c.in_ok-names.ensures.names in
-    let p = rw (names, c.as_slice.ensures.value) at c.in_ok-placed.ensures.placed in
-    let up = rw c.as_slice.ensures.value at c.in_ok-names.ensures.rising in
-    rw (c.in_ok-sorted.ensures no_spec, c.as_slice-2.ensures.value, names, c.as_slice.ensures.value)
+    let identifiers = c.in_ok-identifiers.ensures.identifiers in
+    let p = rw (identifiers, c.as_slice.ensures.value) at c.in_ok-placed.ensures.placed in
+    let up = rw c.as_slice.ensures.value at c.in_ok-identifiers.ensures.rising in
+    rw (c.in_ok-sorted.ensures no_spec, c.as_slice-2.ensures.value, identifiers, c.as_slice.ensures.value)
     (placed_stored (e ∙ c.in_ok-placed.ensures.sound) c.requires.numbers (specs_move c.args.self c.in_ok-lines.lines.items lines.paired no_spec)
     (picked_ids c.args.self c.in_ok-lines.lines.items lines.paired no_spec) up (picked_placed c.args.self c.in_ok-lines.lines.items lines.paired no_spec p))
 
 pub returns-clause-game : goal.returns-clause-game
 returns-clause-game c =
     let e : first_fault c.args.self ≡ rows_fault c.args.self =
-    listed_fault c.args.self record { nonempty = c.requires.some; vertices = c.requires.few; once = c.in_ok-names.ensures.once } in
+    listed_fault c.args.self record { nonempty = c.requires.some; vertices = c.requires.few; once = c.in_ok-identifiers.ensures.once } in
     let sound = e ∙ c.in_ok-placed.ensures.sound in
     let lines = c.in_ok-lines.ensures in
-    let names = c.in_ok-names.ensures.names in
-    let p = rw (names, c.as_slice.ensures.value) at c.in_ok-placed.ensures.placed in
-    let up = rw c.as_slice.ensures.value at c.in_ok-names.ensures.rising in
+    let identifiers = c.in_ok-identifiers.ensures.identifiers in
+    let p = rw (identifiers, c.as_slice.ensures.value) at c.in_ok-placed.ensures.placed in
+    let up = rw c.as_slice.ensures.value at c.in_ok-identifiers.ensures.rising in
     let made = placed_game sound c.requires.numbers (specs_move c.args.self c.in_ok-lines.lines.items lines.paired no_spec)
     (picked_ids c.args.self c.in_ok-lines.lines.items lines.paired no_spec) up (picked_placed c.args.self c.in_ok-lines.lines.items lines.paired no_spec p) in
-    rw (c.named.ensures, c.in_ok-sorted.ensures no_spec, c.as_slice-2.ensures.value, names, c.as_slice.ensures.value) (made.0, made.1, sound)
+    rw (c.named.ensures, c.in_ok-sorted.ensures no_spec, c.as_slice-2.ensures.value, identifiers, c.as_slice.ensures.value) (made.0, made.1, sound)

@@ -35,7 +35,7 @@ returns c =
     let s = c.self.inside in
     let o = c.other.inside in
     let same : c.is_same.result ≡ true = search rules in
-    let ids : s.names ≡ o.names = c.is_same.ensures.0 same in
+    let ids : s.identifiers ≡ o.identifiers = c.is_same.ensures.0 same in
     let ps : s.priorities.items ≡ o.priorities.items =
     sym c.as_slice.ensures.value ∙ (agree nat_eq number_decides _ _ _ c.ne.ensures c.if-ne.false ∙ c.as_slice-2.ensures.value) in
     let os : s.owners.items ≡ o.owners.items =

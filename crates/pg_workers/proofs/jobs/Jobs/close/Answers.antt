@@ -47,9 +47,9 @@ loop-ticket-preserved c =
           ∙ ap (λ l. c.seat.inside.seat.me.0.drawn ++ l)
           (ap (λ z. flat_map (λ (t : HeldTicket). t.numbers) at.yielded ++ z) numbers ∙ sym
           (flat_map-push (λ (t : HeldTicket). t.numbers) at.yielded x)),
-      listed-push (λ (d : Drawn). d.numbers.items) (λ (t : HeldTicket). t.numbers) _ at.room.items c.push_reserved.new.self.items _ at.yielded x p.items i.7
+      listed-push (λ (d : Drawn). d.numbers.items) (λ (t : HeldTicket). t.numbers) _ at.spare.items c.push_reserved.new.self.items _ at.yielded x p.items i.7
           (ap (λ t. t.numbers) view),
-      listed-push (λ (d : Drawn). d.told_none) (λ (t : HeldTicket). t.told_none) _ at.room.items c.push_reserved.new.self.items _ at.yielded x p.items i.8
+      listed-push (λ (d : Drawn). d.told_none) (λ (t : HeldTicket). t.told_none) _ at.spare.items c.push_reserved.new.self.items _ at.yielded x p.items i.8
           (ap (λ t. t.told_none) view),
       (let a = p.len in let was = i.9 in omega arith),
       p.capacity ∙ i.10,

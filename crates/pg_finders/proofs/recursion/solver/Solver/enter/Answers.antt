@@ -1,5 +1,5 @@
 use Rattle.pg_finders.proofs.Common.{◌≡◌, ◌≤◌, ◌&&◌, not, ◌++◌, ◌∷◌, [], length, vec_len, map, sym, ◌∙◌, ap, subst, arith, IsNonDecreasingBy, Player, Even}
-use Rattle.pg_finders.proofs.Common.{Odd, members, Stop, priority_of, settled_of, AreVertices, AllStand, winners_of, choices_of, IsBegun, active_of}
+use Rattle.pg_finders.proofs.Common.{Odd, members, Frame, priority_of, settled_of, AreVertices, AllStand, winners_of, choices_of, IsBegun, active_of}
 use Rattle.pg_finders.proofs.Common.{level_at, count_at, AllPlaced}
 use Rattle.pg_finders.proofs.Sets.{only}
 use Rattle.pg_finders.proofs.recursion.Listed.{some_length}
@@ -22,19 +22,19 @@ returns-then-gone-self-clause-none c _ v =
 abbrev After : Type 0
 After = goal.In_ok-push
 
-abbrev stop : After → Stop
-stop c = record {
+abbrev frame : After → Frame
+frame c = record {
   player =
       c.of_parity.result;
   place = c.upto-place.result;
   even = c.count.result;
   odd = c.count-2.result;
-  aside = c.len-aside.result;
+  set_aside = c.len-set_aside.result;
   upto = c.len.result;
 }
 
-aside_is : (c : After) → c.append_all.new.list.items ≡ c.args.self.now.aside.items ++ c.begin.new.list.items
-aside_is c = c.in_ok-append_all.ensures ∙ ap (λ xs. c.args.self.now.aside.items ++ xs) c.deref.ensures.value
+aside_is : (c : After) → c.append_all.new.list.items ≡ c.args.self.now.set_aside.items ++ c.begin.new.list.items
+aside_is c = c.in_ok-append_all.ensures ∙ ap (λ xs. c.args.self.now.set_aside.items ++ xs) c.deref.ensures.value
 
 vertices_are : (c : After) → c.begin.new.order.vertices.items ≡ c.args.self.now.order.vertices.items
 vertices_are c = c.in_ok-begin.ensures.vertices ∙ c.in-Some.ensures.vertices
@@ -44,20 +44,20 @@ begun : (c : After) → IsBegun c.args.game.now (active_of c.args.self.now.subga
 begun c = subst (λ p. IsBegun c.args.game.now (active_of c.args.self.now.subgame) (active_of c.begin.new.subgame) p (winners_of c.begin.new.subgame.plan)
     (choices_of c.begin.new.subgame.plan)) (sym c.of_parity.ensures) c.in_ok-begin.ensures.begun
 
-counts : (c : After) (p : Player) → count_at (stop c) p ≡ length (settled_of c.args.self.now.settled p)
+counts : (c : After) (p : Player) → count_at (frame c) p ≡ length (settled_of c.args.self.now.settled p)
 counts c Even = c.count.ensures
 counts c Odd = c.count-2.ensures
 
-from : (c : After) → c.len-aside.result ≡ length c.args.self.now.aside.items
-from c = let a : c.len-aside.result ≡ vec_len c.args.self.now.aside = c.len-aside.ensures in omega (arith, a, c.args.self.now.aside.ok)
+from : (c : After) → c.len-set_aside.result ≡ length c.args.self.now.set_aside.items
+from c = let a : c.len-set_aside.result ≡ vec_len c.args.self.now.set_aside = c.len-set_aside.ensures in omega (arith, a, c.args.self.now.set_aside.ok)
 
-upto : (c : After) → c.len.result ≡ length (c.args.self.now.aside.items ++ c.begin.new.list.items)
+upto : (c : After) → c.len.result ≡ length (c.args.self.now.set_aside.items ++ c.begin.new.list.items)
 upto c = let a : c.len.result ≡ vec_len c.append_all.new.list = c.len.ensures in
     let b : c.len.result ≡ length c.append_all.new.list.items = omega (arith, a, c.append_all.new.list.ok) in
     b ∙ ap (λ xs. length xs) (aside_is c)
 
 begins : (c : After) → Begins c.args.game.now (members c.args.inside.now) (active_of c.args.self.now.subgame) (active_of c.begin.new.subgame)
-    (settled_of c.args.self.now.settled) c.args.self.now.aside.items c.begin.new.list.items c.args.self.now.stops.items (stop c)
+    (settled_of c.args.self.now.settled) c.args.self.now.set_aside.items c.begin.new.list.items c.args.self.now.frames.items (frame c)
     (winners_of c.args.self.now.subgame.plan) (winners_of c.begin.new.subgame.plan) (choices_of c.args.self.now.subgame.plan)
     (choices_of c.begin.new.subgame.plan)
 begins c =
@@ -76,21 +76,21 @@ begins c =
     }
 
 placed : (c : After) → AllPlaced c.begin.new.order.vertices.items
-    (map (level_at (members c.args.inside.now) (settled_of c.args.self.now.settled) (c.args.self.now.aside.items ++ c.begin.new.list.items))
-    (c.args.self.now.stops.items ++ stop c ∷ [])) (c.args.self.now.stops.items ++ stop c ∷ [])
+    (map (level_at (members c.args.inside.now) (settled_of c.args.self.now.settled) (c.args.self.now.set_aside.items ++ c.begin.new.list.items))
+    (c.args.self.now.frames.items ++ frame c ∷ [])) (c.args.self.now.frames.items ++ frame c ∷ [])
 placed c =
     let x = c.args.self.now in
-    let level = level_at (members c.args.inside.now) (settled_of x.settled) (x.aside.items ++ c.begin.new.list.items) in
-    subst (λ vertices. AllPlaced vertices (map level (x.stops.items ++ stop c ∷ [])) (x.stops.items ++ stop c ∷ [])) (sym (vertices_are c))
-    (placed_push x.order.vertices.items level x.stops.items (stop c)
-    (subst (λ ls. AllPlaced x.order.vertices.items ls x.stops.items) (sym (stops_now (begins c))) c.requires.placed)
+    let level = level_at (members c.args.inside.now) (settled_of x.settled) (x.set_aside.items ++ c.begin.new.list.items) in
+    subst (λ vertices. AllPlaced vertices (map level (x.frames.items ++ frame c ∷ [])) (x.frames.items ++ frame c ∷ [])) (sym (vertices_are c))
+    (placed_push x.order.vertices.items level x.frames.items (frame c)
+    (subst (λ ls. AllPlaced x.order.vertices.items ls x.frames.items) (sym (stops_now (begins c))) c.requires.placed)
     (subst (λ Z. AllStand x.order.vertices.items Z c.upto-place.result) (sym (inside_now (begins c)))
     (subst (λ n. AllStand x.order.vertices.items (active_of x.subgame) n) (sym c.upto-place.ensures) c.requires.stand))
     (omega (arith, c.upto-place.ensures, c.requires.order.upto)))
 
 pub returns-clause-running : goal.returns-clause-running
 returns-clause-running c =
-    let stops : c.push.new.self.items ≡ c.args.self.now.stops.items ++ stop c ∷ [] = c.in_ok-push.ensures.items in
+    let frames : c.push.new.self.items ≡ c.args.self.now.frames.items ++ frame c ∷ [] = c.in_ok-push.ensures.items in
     record {
       inside_length = c.requires.inside_length;
       whole = c.requires.whole;
@@ -103,12 +103,12 @@ returns-clause-running c =
             (omega (arith, c.in_ok-begin.ensures.upto, c.in-Some.ensures.upto, c.requires.order.upto));
       };
       stand = c.in_ok-begin.ensures.stand;
-      placed = rw (stops, aside_is c) (placed c);
-      under_way = rw (stops, aside_is c) (under_way_begin (begins c));
+      placed = rw (frames, aside_is c) (placed c);
+      under_way = rw (frames, aside_is c) (under_way_begin (begins c));
     }
 
 pub returns-clause-fewer : goal.returns-clause-fewer
 returns-clause-fewer c _ =
-    let stops : c.push.new.self.items ≡ c.args.self.now.stops.items ++ stop c ∷ [] = c.in_ok-push.ensures.items in
+    let frames : c.push.new.self.items ≡ c.args.self.now.frames.items ++ frame c ∷ [] = c.in_ok-push.ensures.items in
     let s = (begun c).some in
-    rw (stops, aside_is c) (enters_fewer c.args.inside.now (begins c) (some_length c.begin.new.list.items s.0 (c.in_ok-begin.ensures.listed s.0 ∙ s.1)))
+    rw (frames, aside_is c) (enters_fewer c.args.inside.now (begins c) (some_length c.begin.new.list.items s.0 (c.in_ok-begin.ensures.listed s.0 ∙ s.1)))

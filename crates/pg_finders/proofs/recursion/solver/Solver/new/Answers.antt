@@ -14,7 +14,7 @@ returns c =
       order = c.in_ok-order.ensures.order;
       stand = subst (λ m. AllStand c.in_ok-order.order.vertices.items (members m) c.in_ok-order.order.upto) (sym e) c.in_ok-order.ensures.all;
       placed = subst (λ fs. AllPlaced c.in_ok-order.order.vertices.items
-          (map (level_at (members c.args.inside.now) (settled_of c.in_ok-settled.settled) c.in_ok-aside.aside.items) fs) fs)
-          (sym c.in_ok-stops.ensures.items) tt;
-      under_way = under_way_start (λ v. rw e refl) c.in_ok-settled.ensures c.in_ok-aside.ensures.items c.in_ok-stops.ensures.items;
+          (map (level_at (members c.args.inside.now) (settled_of c.in_ok-settled.settled) c.in_ok-set_aside.set_aside.items) fs) fs)
+          (sym c.in_ok-frames.ensures.items) tt;
+      under_way = under_way_start (λ v. rw e refl) c.in_ok-settled.ensures c.in_ok-set_aside.ensures.items c.in_ok-frames.ensures.items;
     }

@@ -21,7 +21,7 @@ returns-in_ok-push-clause-ready c =
     record {
       sizes = record {
         active = ap length c.remove.ensures ∙ (length-set c.args.self.now.active c.args.v false ∙ c.requires.ready.sizes.active);
-        watches = c.requires.ready.sizes.watches;
+        cursors = c.requires.ready.sizes.cursors;
         plan = c.requires.ready.sizes.plan;
       };
       once = subst Once (sym e) (once_push c.args.list.now.items c.args.v c.requires.ready.once (fresh c));

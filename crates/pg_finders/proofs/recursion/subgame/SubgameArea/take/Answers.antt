@@ -14,7 +14,7 @@ returns-clause-ready c =
     rw c.in_ok-push.ensures.items (record {
       sizes = record {
         active = ap length c.remove.ensures ∙ (length-set c.args.self.now.active c.args.v false ∙ old.sizes.active);
-        watches = old.sizes.watches;
+        cursors = old.sizes.cursors;
         plan = record { winners = c.write.ensures.winners ∙ old.sizes.plan.winners; choices = c.write.ensures.choices ∙ old.sizes.plan.choices };
       };
       once = once_push list c.args.v old.once c.requires.leads.fresh;

@@ -9,7 +9,7 @@ invariant_of-self c =
     let len = c.self.inside.len in
     let words = c.self.inside.bits in
     let few = c.self.invariant.0 in
-    let room : len < 8 = omega (arith, view_length rows c.args.self.now len few c.self.view_is, c.requires) in (
-      record { size = length-set rows len (c.args.v, None) ∙ few.size; within = omega (arith, room) },
-      bits_push rows len words c.args.v (get_or words len 0) few.size room c.self.invariant.1 refl,
+    let capacity : len < 8 = omega (arith, view_length rows c.args.self.now len few c.self.view_is, c.requires) in (
+      record { size = length-set rows len (c.args.v, None) ∙ few.size; within = omega (arith, capacity) },
+      bits_push rows len words c.args.v (get_or words len 0) few.size capacity c.self.invariant.1 refl,
     )

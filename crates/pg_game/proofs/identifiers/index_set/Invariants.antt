@@ -1,0 +1,10 @@
+use Rattle.pg_game.proofs.Common.{◌≡◌, take, drop, nat_eq, [], IsDistinct, first_repeated}
+use Rattle.pg_game.proofs.Seen.{earlier}
+use Rattle.pg_game.proofs.identifiers.index_set.Given as goal
+
+abbrev pub invariant-ids : goal.invariant-ids
+invariant-ids l = record {
+  left : first_repeated (earlier l.ids l.id-index) (drop l.id-index l.ids) ≡ first_repeated [] l.ids;
+  keys : l.set.keys ≡ take l.id-index l.ids;
+  distinct : IsDistinct nat_eq l.set.keys;
+}

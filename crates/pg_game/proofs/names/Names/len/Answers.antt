@@ -1,6 +1,0 @@
-use Rattle.pg_game.proofs.Common.{sym}
-use Rattle.pg_game.proofs.OwnPlaces.{own_length}
-use Rattle.pg_game.proofs.names.Names.len.Goals as goal
-
-pub returns-in-Own : goal.returns-in-Own
-returns-in-Own c = let is = rw c.in-Own.is at c.self.view_is in sym (own_length is)

@@ -1,0 +1,139 @@
+//! The identifiers of a game, which rise with the vertex. Identifiers 0, 1 and so on are not stored.
+
+ghost use Rattle.std.specs.Prelude.{◌≡◌, ◌<◌, ◌↔◌, ℕ, [], length, slice_index, nat_eq, None, IfOk, IfErr, IfSome, IfNone, IsTrue, OnOk};
+ghost use Rattle.std.specs.List.{IsDistinct};
+ghost use Rattle.pg_game.specs.Specification.{first_repeated, OrMemory};
+ghost use Rattle.pg_game.specs.declared.game.GameFault.TheVariants.{Memory};
+ghost use Rattle.pg_game.specs.private.Identifiers.{twice_of};
+ghost use Rattle.pg_game.specs.private.IdentifierList.{AreNames, AreOwnPlaces};
+
+use crate::game::GameFault;
+use crate::seeded::Seeded;
+use indexmap::IndexSet;
+use std::alloc::Global;
+use std::marker::Model;
+
+/// Rising identifiers.
+#[derive(Drop)]
+pub struct Identifiers {
+    kind: Kind,
+}
+
+#[derive(Drop)]
+enum Kind {
+    /// 0, 1 and so on, this many.
+    Own(u32),
+    /// Any others, sorted.
+    Listed(IndexSet<u32, Seeded>),
+}
+
+impl Model for Identifiers {
+    ghost use Rattle.std.specs.Prelude.{List, ℕ};
+    ghost use Rattle.pg_game.specs.private.IdentifierList.{AreNames, names_of};
+
+    ghost Value = { List ℕ };
+
+    ghost view = { λ n. names_of n.kind };
+
+    ghost invariant = { λ n. AreNames (names_of n.kind) };
+}
+
+/// Whether each identifier is its own place.
+pub fn are_own_places(ids: &[u32]) -> bool
+    ensures { IsTrue result → AreOwnPlaces ids.now }
+{
+    'ids: for v in 0..ids.len() {
+        if ids[v] as usize != v {
+            return false;
+        }
+    }
+    true
+}
+
+/// The identifiers in their order. The errors are an identifier that occurs earlier in the list, and `Memory`.
+pub fn index_set(alloc: Global, ids: &[u32]) -> Result<IndexSet<u32, Seeded>, GameFault>
+    ensures ids { IfOk result (λ set. set.keys ≡ ids.now) }
+    ensures distinct { IfOk result (λ set. IsDistinct nat_eq set.keys) }
+    ensures once { OnOk result (first_repeated [] ids.now ≡ None) }
+    ensures fault { IfErr result (λ e. OrMemory (twice_of ids.now ≡ Some e) e) }
+{
+    let mut set = IndexSet::with_capacity_and_hasher(alloc, ids.len(), Seeded::by(ids))?;
+    'ids: for id in ids {
+        if !set.insert(*id)? {
+            return Err(GameFault::Twice(*id));
+        }
+    }
+    Ok(set)
+}
+
+impl Identifiers {
+    /// The identifiers of a rising list. The only error is `Memory`.
+    pub fn of_rising(alloc: Global, ids: &[u32]) -> Result<Identifiers, GameFault>
+        requires { AreNames ids.now }
+        ensures identifiers { IfOk result (λ n. n ≡ ids.now) }
+        ensures memory { IfErr result (λ e. e ≡ Memory) }
+    {
+        if are_own_places(ids) {
+            return Ok(Identifiers {
+                kind: Kind::Own(ids.len() as u32),
+            });
+        }
+        let set = index_set(alloc, ids)?;
+        Ok(Identifiers {
+            kind: Kind::Listed(set),
+        })
+    }
+
+    /// The number of identifiers.
+    #[inline]
+    pub fn len(&self) -> u32
+        ensures { result ≡ length self.now }
+    {
+        match &self.kind {
+            Kind::Own(count) => *count,
+            Kind::Listed(ids) => ids.len() as u32,
+        }
+    }
+
+    /// The identifier at a place.
+    #[inline]
+    pub fn id(&self, v: u32) -> u32
+        requires { v < length self.now }
+        ensures { result ≡ slice_index self.now v }
+    {
+        match &self.kind {
+            Kind::Own(_) => v,
+            Kind::Listed(ids) => ids.as_slice()[v as usize],
+        }
+    }
+
+    /// Whether both are the same identifiers.
+    pub fn is_same(&self, other: &Identifiers) -> bool
+        ensures { IsTrue result ↔ (self.now ≡ other.now) }
+    {
+        if self.len() != other.len() {
+            return false;
+        }
+        'ids: for v in 0..self.len() {
+            if self.id(v) != other.id(v) {
+                return false;
+            }
+        }
+        true
+    }
+
+    /// The place of the identifier, or none.
+    #[inline(always)]
+    pub fn place_of(&self, id: u32) -> Option<u32>
+        ensures found { IfSome result (λ v. (v < length self.now) × (slice_index self.now v ≡ id)) }
+        ensures missing { IfNone result ((v : ℕ) → v < length self.now → slice_index self.now v ≡ id → ⊥) }
+    {
+        match &self.kind {
+            Kind::Own(count) => { if id < *count { Some(id) } else { None } }
+            Kind::Listed(ids) => match ids.get_index_of(&id) {
+                Some(v) => Some(v as u32),
+                None => None,
+            },
+        }
+    }
+}

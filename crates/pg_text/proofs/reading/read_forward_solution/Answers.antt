@@ -1,0 +1,6 @@
+use Rattle.pg_text.proofs.Common.{rules}
+use Rattle.pg_text.proofs.RowsRead.{rows_read}
+use Rattle.pg_text.proofs.reading.read_forward_solution.Goals as goal
+
+pub returns-clause-rows : goal.returns-clause-rows
+returns-clause-rows c = search (rules, c.as_slice.ensures.value, c.in_ok-lines.ensures, rows_read, c.rows_of.ensures.rows)

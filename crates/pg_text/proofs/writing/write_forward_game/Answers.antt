@@ -1,0 +1,19 @@
+use Rattle.std.proofs.lemmas.List.{drop_all}
+use Rattle.pg_text.proofs.Common.{◌≡◌, ◌++◌, ◌∙◌, [], ap, append-nil, drop, length, List, ℕ, arith, length-append, flat_map, sym, Vertex, written_vertex}
+use Rattle.pg_text.proofs.Lengths.{short_game}
+use Rattle.pg_text.proofs.writing.write_forward_game.Goals as goal
+
+pub returns-clause-short : goal.returns-clause-short
+returns-clause-short c =
+    let g = c.args.game.now in
+    let rest : List ℕ = flat_map (written_vertex g) (drop c.vertices.v g) in
+    let all = ap (λ (text : List ℕ). length text) c.vertices.invariant in
+    let parts = length-append c.vertices.out.items rest in
+    omega (arith, short_game g c.len-v-end.ensures.game c.len-v-end.ensures.limits)
+
+pub returns-clause-text : goal.returns-clause-text
+returns-clause-text c =
+    let g = c.args.game.now in
+    let last : drop c.vertices.v g ≡ [] = drop_all c.vertices.v g (omega arith) in
+    sym (append-nil c.vertices.out.items)
+    ∙ (ap (λ (xs : List Vertex). c.vertices.out.items ++ flat_map (written_vertex g) xs) (sym last) ∙ c.vertices.invariant)

@@ -1,0 +1,94 @@
+#!/usr/bin/env python3
+"""Finds wrong bodies that no contract can refuse.
+
+No contract can say that memory was really refused. So a value that says it is made in an implementation of `From`, of the
+allocator's error. All other code passes it on: by `?`, or in an arm whose pattern takes such a value.
+
+Nor can one say that workers run at once. So each file of tests/wrong_bodies names a unit test that has to fail on the edited
+sources: `file:`, `old:` and `new:` as in the must-fail edits, with paths from the repository's top, and `test:` with the crate
+and the test. The test runs without proofs (`rt try --test`) in a copy of the crates.
+"""
+
+import re
+import shutil
+import unittest
+
+import common
+
+# a value or a pattern that says that memory was refused
+SAYS = re.compile(r"\b\w+::Memory\b|(?<!: )(?<!-> )\b(?:AllocError|Memory)\b(?!>)")
+# lines on which such words are names, conditions or comments
+OTHER = re.compile(r"\s*(?:use|ghost|ensures|requires|//|→|×|pub type|Memory,$)")
+MADE_HERE = re.compile(r"impl(<[^>]*>)? From<Alloc\w+(<\w+>)?> for|impl From<Memory> for")
+
+
+def says_wrongly(line):
+    """Whether a line makes a value that says that memory was refused from something else."""
+    pattern, arrow, value = line.partition("=>")
+    pattern = pattern.partition(" if ")[0]
+    takes = all(SAYS.search(it) or "ErrorKind::OutOfMemory" in it for it in pattern.split("|"))
+    return not OTHER.match(line) and bool(SAYS.search(line)) and not (arrow and (takes or not SAYS.search(value)))
+
+
+def wrong_lines(text):
+    """The lines of a source that make such a value in no implementation of `From`."""
+    in_from = False
+    for line in text.splitlines():
+        in_from = bool(MADE_HERE.match(line)) if line.startswith(("impl", "}")) else in_from
+        if not in_from and says_wrongly(line):
+            yield line
+
+
+class Memory(unittest.TestCase):
+    def test_each_source(self):
+        for path in sorted(common.ROOT.glob("crates/*/src/**/*.rt")):
+            if "_test" not in str(path.relative_to(common.ROOT)):
+                with self.subTest(path.name):
+                    self.assertEqual(list(wrong_lines(path.read_text(encoding="utf-8"))), [])
+
+    def test_lines_that_are_refused_and_lines_that_are_taken(self):
+        for line in [
+            "    return Err(AllocError);",
+            "    Err(Fault::Memory)",
+            "    found.map_err(|_| Memory {})",
+            "    Err(Refusal::Stale) => Err(AllocError),",
+            "    Refusal::Stale | Refusal::Memory => Fault::Memory,",
+        ]:
+            self.assertTrue(says_wrongly(line), line)
+        for line in [
+            "    Memory,",
+            "use std::AllocError;",
+            "    Err(AllocError) => row.memory = true,",
+            "    Err(Refusal::Memory) => Err(AllocError),",
+            "    Err(Fault::Memory) | Err(Other::Memory) => Err(Refusal::Memory),",
+        ]:
+            self.assertFalse(says_wrongly(line), line)
+        after = "impl From<AllocError> for Fault {\n    Fault::Memory\n}\n\nfn f() -> Fault {\n    Fault::Memory\n}"
+        self.assertEqual(list(wrong_lines(after)), ["    Fault::Memory"])
+
+
+@common.needs("rt")
+class WrongBodies(unittest.TestCase):
+    def test_each_fails_its_test(self):
+        edits = sorted((common.ROOT / "tests" / "wrong_bodies").iterdir())
+        self.assertTrue(edits)
+        for path in edits:
+            with self.subTest(path.stem):
+                self.judge(dict(line.split(": ", 1) for line in path.read_text(encoding="utf-8").splitlines()))
+
+    def judge(self, edit):
+        folder = common.make_folder(self)
+        shutil.copytree(common.ROOT / "crates", folder / "crates", ignore=shutil.ignore_patterns("out", "must-fail"))
+        for name in ("crates.txt", "HANDLES"):
+            shutil.copy(common.ROOT / name, folder)
+        text = (folder / edit["file"]).read_text(encoding="utf-8")
+        self.assertEqual(text.count(edit["old"]), 1)
+        (folder / edit["file"]).write_text(text.replace(edit["old"], edit["new"]), encoding="utf-8")
+        crate, test = edit["test"].split()
+        # (a test that hangs is ended, and has not failed as it should)
+        _, out, err = common.run(["rt", "try", "--test"], timeout=900, cwd=folder / "crates" / crate)
+        self.assertRegex((out + err).decode(errors="replace")[-20_000:], rf"(?m)^test \S*::{test} .*\bFAILED$")
+
+
+if __name__ == "__main__":
+    common.main()
