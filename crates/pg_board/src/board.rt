@@ -124,7 +124,8 @@ impl<'g> Board<'g> {
         if let Some(v) = checked.first_foreign(self.game) {
             return Err(Refusal::Foreign(v));
         }
-        self.settle_sound(alloc, worker, checked.claim())
+        let claim = checked.claim(alloc)?;
+        self.settle_sound(alloc, worker, &claim)
     }
 
     /// The same as `post` for a claim that is known to be sound.

@@ -5,7 +5,7 @@ use Rattle.pg_dominion.proofs.Common.{kept, Walk, ClosedWalk, greatest, greatest
 use Rattle.pg_dominion.proofs.Common.{IsRightRow, IsSound, claim_row, claim_rows, AgreesAt, AgreesWithGame, RowEdge, row_priority, AreChecked}
 use Rattle.std.proofs.Common.{max}
 
-other_is : (q p : Player) → same_player q p ≡ false → q ≢ p
+pub other_is : (q p : Player) → same_player q p ≡ false → q ≢ p
 other_is q p e h = cc (is_same q p h, e)
 
 module _ (g : Graph) (p : Player) where

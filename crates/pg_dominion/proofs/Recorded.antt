@@ -7,7 +7,7 @@ use Rattle.std.proofs.Common.{drop-cons}
 use Rattle.std.specs.List.{AllPairs}
 use Rattle.std.proofs.lemmas.List.{get_or-map}
 use Rattle.std.proofs.lemmas.List.Kept.{AllPairs-from_increasing}
-use Rattle.pg_dominion.specs.Checked.{CheckedClaim, KeepsOne, IsForeign}
+use Rattle.pg_dominion.specs.Checked.{KeepsOne, IsForeign}
 use Rattle.pg_dominion.proofs.Agreed.{ClaimEdge, kept_cases, walk_priority, vertices, lengths}
 
 -- each row's vertex is below those of later rows
@@ -92,15 +92,12 @@ module _ (g : Graph) (p : Player) where
     refl,
   )
 
--- the same, said of the claim that the rows are
-pub foreign_here : (g : Graph) (x : CheckedClaim) (p : Player) (xs items : List CheckedRow) → record { player = p; rows = xs } ≡ x → items ≡ xs
-    → (i : ℕ) (r : CheckedRow) → i < length items → r ≡ get_or items i r
-    → AgreesWithGame g p (take i items) → (AgreesAt g p r → ⊥) → IsForeign g x.player x.rows r.vertex
-foreign_here g x p xs items view same i r l e a n =
+-- the same, of the list that a loop goes over
+pub foreign_here : (g : Graph) (p : Player) (rows items : List CheckedRow) → items ≡ rows → (i : ℕ) (r : CheckedRow) → i < length items
+    → r ≡ get_or items i r → AgreesWithGame g p (take i items) → (AgreesAt g p r → ⊥) → IsForeign g p rows r.vertex
+foreign_here g p rows items same i r l e a n =
     let h = foreign_at g p items i r l a (λ q. n (subst (λ (y : CheckedRow). AgreesAt g p y) (sym e) q)) in
-    subst (λ (y : CheckedClaim). IsForeign g y.player y.rows r.vertex) view
-    (subst (λ (zs : List CheckedRow). IsForeign g p zs r.vertex) same
-    (subst (λ (y : CheckedRow). IsForeign g p items y.vertex) (sym e) h))
+    subst (λ (zs : List CheckedRow). IsForeign g p zs r.vertex) same (subst (λ (y : CheckedRow). IsForeign g p items y.vertex) (sym e) h)
 
 -- where all rows agree, none is foreign
 pub never_foreign : (g : Graph) (p : Player) (rows : List CheckedRow) (v : ℕ) → AgreesWithGame g p rows → IsForeign g p rows v → ⊥

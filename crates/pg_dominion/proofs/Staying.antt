@@ -2,10 +2,12 @@
 use Rattle.pg_dominion.proofs.Common.{rules, ◌≡◌, ◌≢◌, ℕ, suc, ◌<◌, ◌≤◌, ◌↔◌, true, false, inl, inr, List, [], ◌∷◌, ◌++◌, length, get_or, refl, sym, ◌∙◌, ap}
 use Rattle.pg_dominion.proofs.Common.{subst, arith, Option, None, ◌==◌, Contains, list_any, eqb-true, cases_Bool, Contains-append_left, Player, Graph}
 use Rattle.pg_dominion.proofs.Common.{priority_of, In, KeptEdge, kept, Walk, greatest_priority, OnBadWalk, NoneHas, IsLeast, is_same, ClaimRows, named}
-use Rattle.pg_dominion.proofs.Common.{choice_in, is_bad, IsRightRow, AllByRecursion, CheckedRow, claim_row, AgreesAt, Stays, AreNamed, or_parts}
+use Rattle.pg_dominion.proofs.Common.{choice_in, is_bad, IsRightRow, AllByRecursion, Stays, AreNamed, or_parts, Bool, same_player, owner_of}
+use Rattle.pg_dominion.specs.private.Shape.{ends_at}
 use Rattle.std.specs.Prelude.{MatchOption, slice_index}
 use Rattle.std.proofs.lemmas.List.{append_assoc}
-use Rattle.pg_dominion.proofs.Agreed.{kept_cases}
+use Rattle.pg_dominion.proofs.Agreed.{other_is}
+use Rattle.pg_dominion.proofs.Common.{same_is}
 use Rattle.pg_dominion.proofs.Rows.{named_right}
 use Rattle.pg_dominion.proofs.Searching.{place_in, push_each, starts_in}
 
@@ -21,10 +23,14 @@ pub named_vertex : (g : Graph) (p : Player) (rows xs : ClaimRows) (v : ℕ) → 
 named_vertex g p rows xs v same right i = (named_right g p rows v right (rw (← same) i)).vertex
 
 module _ (g : Graph) (p : Player) (rows : ClaimRows) where
-  -- what a row keeps is what the claim keeps of its vertex
-  pub kept_in_row : (r : CheckedRow) (v : ℕ) (c : Option ℕ) → AgreesAt g p r → claim_row p r ≡ (v, c) → choice_in rows v ≡ c
-      → r.kept ≡ kept g p (choice_in rows) v
-  kept_in_row r v c a e h = search (rules, r.vertex, kept_cases, r.owner)
+  -- what a right row keeps is what the claim keeps of its vertex
+  kept_cases : (v : ℕ) (c : Option ℕ) → IsRightRow g p (v, c) → choice_in rows v ≡ c → (b : Bool) → same_player (owner_of g v) p ≡ b
+      → ends_at g v c ≡ kept g p (choice_in rows) v
+  kept_cases v c a e true s = let q = a.own (same_is (owner_of g v) p s) in search (rules, e, s, q.1)
+  kept_cases v c a e false s = let q = a.other (other_is (owner_of g v) p s) in search (rules, e, s, q)
+
+  pub kept_in_row : (v : ℕ) (c : Option ℕ) → IsRightRow g p (v, c) → choice_in rows v ≡ c → ends_at g v c ≡ kept g p (choice_in rows) v
+  kept_in_row v c a e = kept_cases v c a e (same_player (owner_of g v) p) refl
 
   pub Stays-from_row : (start : ℕ) (list : List ℕ) (v : ℕ) (ws : List ℕ) (n : ℕ) → ws ≡ kept g p (choice_in rows) v → length ws ≤ n
       → ((i : ℕ) → i < n → In (named rows) (slice_index ws i) → priority_of g (slice_index ws i) ≤ priority_of g start

@@ -1,104 +1,88 @@
 //! A claim that was checked, with what its game says of its vertices: so whether it is sound in another game can be judged
-//! row by row, with no search for closed walks. The claim and what the game says are lent, so a row takes no memory of its own.
+//! row by row, with no search for closed walks. A checked claim owns its rows, and outlives the claim and the game.
 
-ghost use Rattle.std.specs.Prelude.{◌≡◌, ℕ, ◌<◌, length, ◌∷◌, [], IfOk, MatchOption, true, false};
-ghost use Rattle.pg_game.specs.Graph.{HasEdge};
+ghost use Rattle.std.specs.Prelude.{◌≡◌, ◌<◌, length, IfOk, MatchOption, true, false};
 ghost use Rattle.pg_dominion.specs.Claim.{IsRightRow, AreRight, IsSound};
+ghost use Rattle.pg_dominion.specs.private.Shape.{ends_at};
 ghost use Rattle.pg_dominion.specs.Checked.{claim_row, claim_rows, claim_of, KeepsOne, AgreesAt, AgreesWithGame, IsForeign, AreChecked};
 
 use crate::claim::Claim;
-use pg_game::{ForwardGame, Game, Player};
+use pg_game::{ForwardGame, Game, Player, Sequence};
 use std::alloc::{AllocError, Global};
 use std::marker::Model;
-
-/// Successors of a vertex that are together in its game.
-#[derive(Drop)]
-pub struct KeptSuccessors<'g> {
-    vertices: &'g [u32],
-}
-
-impl<'g> Model for KeptSuccessors<'g> {
-    ghost use Rattle.std.specs.Prelude.{ℕ, List};
-
-    ghost Value = { List ℕ };
-
-    ghost view = { λ k. k.vertices.now };
-}
-
-impl<'g> KeptSuccessors<'g> {
-    pub fn as_slice(&self) -> &'g [u32]
-        ensures { result.now ≡ self.now }
-    {
-        self.vertices
-    }
-}
+use std::slice;
 
 /// A vertex of a checked claim, with what its game says of it. The kept successors are the choice alone where the
 /// player owns the vertex, and all of them elsewhere.
 #[derive(Drop)]
-pub struct CheckedRow<'g> {
+pub struct CheckedRow {
     pub vertex: u32,
     pub owner: Player,
     pub priority: u32,
-    pub kept: KeptSuccessors<'g>,
+    pub kept: Sequence<u32>,
 }
 
 /// A claim that `check_claim` accepted, which alone makes such a value. Its type keeps that its rows are not empty and
 /// rise, that one successor is kept at each vertex of its player, and that its kept edges make only good closed walks.
 #[derive(Drop)]
-pub struct Checked<'g> {
-    claim: &'g Claim,
-    rows: Vec<CheckedRow<'g>>,
+pub struct Checked {
+    player: Player,
+    rows: Vec<CheckedRow>,
 }
 
-impl<'g> Model for Checked<'g> {
-    ghost use Rattle.std.specs.Prelude.{◌≡◌};
-    ghost use Rattle.pg_dominion.specs.Checked.{CheckedClaim, AreChecked, claim_rows};
+impl Model for Checked {
+    ghost use Rattle.pg_dominion.specs.Checked.{CheckedClaim, AreChecked};
 
     ghost Value = { CheckedClaim };
 
-    ghost view = { λ c. record { player = c.claim.now.player; rows = c.rows.items } };
+    ghost view = { λ c. record { player = c.player; rows = c.rows.items } };
 
-    ghost invariant = { λ c. AreChecked c.claim.now.player c.rows.items × (c.claim.now.rows ≡ claim_rows c.claim.now.player c.rows.items) };
+    ghost invariant = { λ c. AreChecked c.player c.rows.items };
 }
 
-/// A successor of the vertex, by itself.
-fn single<'g>(game: &'g ForwardGame, v: u32, w: u32) -> &'g [u32]
-    requires vertex { v < length game.now }
-    requires edge { HasEdge game.now v w }
-    ensures { result.now ≡ w ∷ [] }
+/// Where the kept edges of a claim's row end: in its choice alone, or without one in all successors of its vertex.
+pub(crate) fn kept_successors<'a>(game: &'a ForwardGame, row: &'a (u32, Option<u32>)) -> &'a [u32]
+    requires { row.now.0 < length game.now }
+    ensures { result.now ≡ ends_at game.now row.now.0 row.now.1 }
 {
-    let successors = game.successors(v);
-    for k in 0..successors.len() {
-        if successors[k] == w {
-            return &successors[k..k + 1];
-        }
+    match &row.1 {
+        Some(w) => slice::from_ref(w),
+        None => game.successors(row.0),
     }
-    unreachable!()
 }
 
-impl<'g> CheckedRow<'g> {
+impl CheckedRow {
     /// The row of a claim that is right in a game, with what the game says of its vertex.
-    pub(crate) fn of(
-        game: &'g ForwardGame,
+    fn of(
+        alloc: Global,
+        game: &ForwardGame,
         player: Player,
         row: (u32, Option<u32>),
-    ) -> CheckedRow<'g>
+    ) -> Result<CheckedRow, AllocError>
         requires { IsRightRow game.now player row }
-        ensures agrees { AgreesAt game.now player result }
-        ensures row { claim_row player result ≡ row }
+        ensures agrees { IfOk result (AgreesAt game.now player) }
+        ensures row { IfOk result (λ r. claim_row player r ≡ row) }
     {
-        let (vertex, choice) = row;
-        let vertices = match choice {
-            Some(w) => single(game, vertex, w),
-            None => game.successors(vertex),
-        };
-        CheckedRow {
+        let vertex = row.0;
+        let kept = Vec::from_slice(alloc, kept_successors(game, &row))?;
+        Ok(CheckedRow {
             vertex,
             owner: game.owner(vertex),
             priority: game.priority(vertex),
-            kept: KeptSuccessors { vertices },
-        }
+            kept: Sequence::new(kept),
+        })
+    }
+
+    /// The row of the claim.
+    fn claimed(&self, player: Player) -> (u32, Option<u32>)
+        ensures { result ≡ claim_row player self.now }
+    {
+        let choice = if self.owner == player {
+            self.kept.as_slice().first().copied()
+        } else {
+            None
+        };
+        (self.vertex, choice)
     }
 
     /// Whether the row says of its vertex what the game says.
@@ -121,11 +105,11 @@ impl<'g> CheckedRow<'g> {
 }
 
 /// What the game says of the rows of a claim that are right in it.
-fn checked_rows<'g>(
+fn checked_rows(
     alloc: Global,
-    game: &'g ForwardGame,
+    game: &ForwardGame,
     claim: &Claim,
-) -> Result<Vec<CheckedRow<'g>>, AllocError>
+) -> Result<Vec<CheckedRow>, AllocError>
     requires { AreRight game.now claim.now.player claim.now.rows }
     ensures agree { IfOk result (λ rows. AgreesWithGame game.now claim.now.player rows.items) }
     ensures rows { IfOk result (λ rows. claim_rows claim.now.player rows.items ≡ claim.now.rows) }
@@ -133,54 +117,65 @@ fn checked_rows<'g>(
     let claimed = claim.rows.as_slice();
     let mut rows = Vec::with_capacity(alloc, claimed.len())?;
     'rows: for row in claimed {
-        rows.push(CheckedRow::of(game, claim.player, *row))?;
+        rows.push(CheckedRow::of(alloc, game, claim.player, *row)?)?;
     }
     Ok(rows)
 }
 
-impl<'g> Checked<'g> {
+impl Checked {
     /// A claim that is known to be sound, with what its game says of its vertices.
     pub(crate) fn of(
         alloc: Global,
-        game: &'g ForwardGame,
-        claim: &'g Claim,
-    ) -> Result<Checked<'g>, AllocError>
+        game: &ForwardGame,
+        claim: &Claim,
+    ) -> Result<Checked, AllocError>
         requires { IsSound game.now claim.now.player claim.now.rows }
         ensures holds { IfOk result (λ c. claim_of c ≡ claim.now) }
         ensures agrees { IfOk result (λ c. AgreesWithGame game.now c.player c.rows) }
     {
         let rows = checked_rows(alloc, game, claim)?;
-        Ok(Checked { claim, rows })
+        Ok(Checked {
+            player: claim.player,
+            rows,
+        })
     }
 
     pub fn player(&self) -> Player
         ensures { result ≡ self.now.player }
     {
-        self.claim.player
+        self.player
     }
 
     /// The rows, by rising vertex. Its contract has the invariant of the type.
-    pub fn rows(&self) -> &[CheckedRow<'g>]
+    pub fn rows(&self) -> &[CheckedRow]
         ensures rows { result.now ≡ self.now.rows }
         ensures checked { AreChecked self.now.player self.now.rows }
     {
         self.rows.as_slice()
     }
 
-    /// The claim that was checked.
-    pub fn claim(&self) -> &Claim
-        ensures claim { result.now ≡ claim_of self.now }
+    /// The claim that was checked, made of the rows. The only error is `Memory`.
+    pub fn claim(&self, alloc: Global) -> Result<Claim, AllocError>
+        ensures claim { IfOk result (λ c. c ≡ claim_of self.now) }
         ensures checked { AreChecked self.now.player self.now.rows }
     {
-        self.claim
+        let player = self.player();
+        let mut claimed = Vec::with_capacity(alloc, self.rows.len())?;
+        'rows: for row in self.rows() {
+            claimed.push(row.claimed(player))?;
+        }
+        Ok(Claim {
+            player,
+            rows: Sequence::new(claimed),
+        })
     }
 
     /// The vertex of the first row that does not say of it what the game says; none where the claim agrees with the game.
     pub fn first_foreign(&self, game: &Game) -> Option<u32>
         ensures { MatchOption result (AgreesWithGame game.now self.now.player self.now.rows) (IsForeign game.now self.now.player self.now.rows) }
     {
-        let player = self.claim.player;
-        'rows: for row in self.rows.as_slice() {
+        let player = self.player();
+        'rows: for row in self.rows() {
             if !row.agrees(game, player) {
                 return Some(row.vertex);
             }

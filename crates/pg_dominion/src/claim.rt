@@ -200,11 +200,7 @@ pub fn judge_claim(alloc: Global, game: &Game, claim: &Claim) -> Result<(), Clai
 }
 
 /// As `judge_claim`, with what was found, for a use where the game is not at hand or another.
-pub fn check_claim<'g>(
-    alloc: Global,
-    game: &'g Game,
-    claim: &'g Claim,
-) -> Result<Checked<'g>, ClaimFault>
+pub fn check_claim(alloc: Global, game: &Game, claim: &Claim) -> Result<Checked, ClaimFault>
     ensures sound { IfOk result (λ c. IsSound game.now claim.now.player claim.now.rows) }
     ensures holds { IfOk result (λ c. claim_of c ≡ claim.now) }
     ensures agrees { IfOk result (λ c. AgreesWithGame game.now c.player c.rows) }

@@ -19,7 +19,7 @@ mod walks;
 
 pub use area::{Area, attract_from};
 pub use attractor::attract;
-pub use checked::{Checked, CheckedRow, KeptSuccessors};
+pub use checked::{Checked, CheckedRow};
 pub use claim::{Claim, ClaimFault, check_claim, judge_claim};
 pub use cycles::least_bad_vertex;
 pub use kept::Kept;

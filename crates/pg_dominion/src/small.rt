@@ -11,7 +11,7 @@ ghost use Rattle.pg_game.specs.Region.{OnBadWalk};
 ghost use Rattle.pg_dominion.specs.Claim.{HasShape, named, choice_in};
 ghost use Rattle.pg_dominion.specs.private.Staying.{Stays, AreNamed};
 
-use crate::checked::CheckedRow;
+use crate::checked::kept_successors;
 use crate::claim::{Claim, is_bad};
 use pg_game::ForwardGame;
 use std::alloc::{AllocError, Global};
@@ -57,8 +57,8 @@ fn stays(
     let Some(choice) = choice_at(rows, v) else {
         unreachable!()
     };
-    let row = CheckedRow::of(game, claim.player, (v, choice));
-    let ends = row.kept.as_slice();
+    let row = (v, choice);
+    let ends = kept_successors(game, &row);
     let top = game.priority(start);
     'ends: for end in ends {
         let w = *end;

@@ -3,7 +3,7 @@ use Rattle.std.specs.Prelude.{ℕ, ◌≡◌, ◌≤◌, ◌+◌, max, Bool, ◌
 use Rattle.std.specs.Prelude.{if◌then◌else◌}
 use Rattle.pg_game.specs.declared.player.Player.{Player}
 use Rattle.pg_game.specs.Player.{same_player, opponent, of_parity}
-use Rattle.pg_game.specs.Graph.{Graph, priority_of}
+use Rattle.pg_game.specs.Graph.{Graph, priority_of, successors_of}
 use Rattle.pg_game.specs.VertexSet.{members}
 use Rattle.pg_dominion.specs.Claim.{ClaimRows, AreRight, named, choice_in}
 
@@ -29,6 +29,11 @@ pub record Layout : Type 0 where
 -- the choice that a layout has at a vertex
 abbrev pub chosen_at : Layout → ℕ → Option ℕ
 chosen_at t v = if members t.chosen v then Some (slice_index t.choices v) else None
+
+-- where the kept edges of a right row end: in its choice alone, or without one in all successors of its vertex
+abbrev pub ends_at : Graph → ℕ → Option ℕ → List ℕ
+ends_at g v None = successors_of g v
+ends_at g v (Some w) = w ∷ []
 
 -- the vertex's priority has the parity of the player's opponent
 abbrev pub is_bad : Graph → Player → ℕ → Bool

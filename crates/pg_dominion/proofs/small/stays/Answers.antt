@@ -7,29 +7,27 @@ use Rattle.pg_dominion.proofs.Staying.{kept_in_row, Stays-from_row, longer_push,
 use Rattle.pg_dominion.proofs.small.stays.Goals.{then-priority-top-via-then-priority-top, then-priority-top-via-else-priority-top+then-contains}
 use Rattle.pg_dominion.proofs.small.stays.Goals as goal
 
-pub of-row-requires : goal.of-row-requires
-of-row-requires c =
+pub kept_successors-ends-requires : goal.kept_successors-ends-requires
+kept_successors-ends-requires c =
     let claim = c.args.claim.now in
-    let h = c.in-Some.ensures in
-    let e : choice_in claim.rows c.args.v ≡ c.in-Some.choice
-    = subst (λ (xs : ClaimRows). choice_in xs c.args.v ≡ c.in-Some.choice) c.as_slice-rows.ensures h.1 in
-    subst (λ (o : Option ℕ). IsRightRow c.args.game.now claim.player (c.args.v, o)) e
-    (named_right c.args.game.now claim.player claim.rows c.args.v c.requires.shape.right.each c.requires.vertex)
+    (named_right c.args.game.now claim.player claim.rows c.args.v c.requires.shape.right.each c.requires.vertex).vertex
 
 pub returns-clause-stays : goal.returns-clause-stays
 returns-clause-stays c = λ _.
     let claim = c.args.claim.now in
     let g = c.args.game.now in
-    let h = c.in-Some.ensures in
     let e : choice_in claim.rows c.args.v ≡ c.in-Some.choice
-    = subst (λ (xs : ClaimRows). choice_in xs c.args.v ≡ c.in-Some.choice) c.as_slice-rows.ensures h.1 in
-    Stays-from_row g claim.player claim.rows c.args.start c.ends.list.items c.args.v c.as_slice-ends.result.now c.ends.end-index
-    (c.as_slice-ends.ensures ∙ kept_in_row g claim.player claim.rows c.of-row.result c.args.v c.in-Some.choice c.of-row.ensures.agrees c.of-row.ensures.row e)
+    = subst (λ (xs : ClaimRows). choice_in xs c.args.v ≡ c.in-Some.choice) c.as_slice-rows.ensures c.in-Some.ensures.1 in
+    let right : IsRightRow g claim.player (c.args.v, c.in-Some.choice)
+    = subst (λ (o : Option ℕ). IsRightRow g claim.player (c.args.v, o)) e
+    (named_right g claim.player claim.rows c.args.v c.requires.shape.right.each c.requires.vertex) in
+    Stays-from_row g claim.player claim.rows c.args.start c.ends.list.items c.args.v c.kept_successors-ends.result.now c.ends.end-index
+    (c.kept_successors-ends.ensures ∙ kept_in_row g claim.player claim.rows c.args.v c.in-Some.choice right e)
     (omega (arith, c.ends-test.false)) c.ends.invariant.stays
 
 pub ends-preserved-then-priority-top : goal.ends-preserved-then-priority-top
 ends-preserved-then-priority-top c =
-    let q = c.ends.list.items in let u = slice_index c.as_slice-ends.result.now c.ends.end-index in
+    let q = c.ends.list.items in let u = slice_index c.kept_successors-ends.result.now c.ends.end-index in
     record {
       within = c.ends.invariant.within;
       longer = c.ends.invariant.longer;
@@ -45,7 +43,7 @@ pub ends-preserved : goal.ends-preserved
 ends-preserved c =
     let claim = c.args.claim.now in
     let q = c.ends.list.items in
-    let ws = c.as_slice-ends.result.now in
+    let ws = c.kept_successors-ends.result.now in
     let u = slice_index ws c.ends.end-index in
     let h = c.in-Some-choice_at.ensures in
     let i : In (named claim.rows) u = subst (λ (xs : ClaimRows). In (named xs) u) c.as_slice-rows.ensures h.0 in

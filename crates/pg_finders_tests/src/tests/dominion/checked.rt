@@ -11,7 +11,7 @@ use std::alloc::Global;
 use std::process::Abort;
 
 /// A claim's check, which is accepted.
-fn checked<'g>(rt: &impl Abort, alloc: Global, game: &'g Game, claim: &'g Claim) -> Checked<'g> {
+fn checked(rt: &impl Abort, alloc: Global, game: &Game, claim: &Claim) -> Checked {
     made(rt, check_claim(alloc, game, claim))
 }
 
@@ -26,13 +26,14 @@ fn compare_row(rt: &impl Abort, row: &CheckedRow, want: Option<&ExpectedRow>) {
 /// Compares the rows of a checked claim with vertex, owner, priority and kept successors.
 fn compare_checked(
     rt: &impl Abort,
+    alloc: Global,
     checked: &Checked,
     player: Player,
     rows: &[Row],
     want: &[ExpectedRow],
 ) {
     check_eq!(*rt; checked.player(), player);
-    check_eq!(*rt; checked.claim().rows.as_slice(), rows);
+    check_eq!(*rt; made(rt, checked.claim(alloc)).rows.as_slice(), rows);
     compare_rows(rt, checked.rows(), want);
 }
 
@@ -76,7 +77,7 @@ fn a_checked_claim_has_the_rows_of_its_game(rt: HostRuntime) {
     for case in CLAIMS {
         let claim = claim_of(&rt, rt.alloc(), case.0, case.1);
         let checked = checked(&rt, rt.alloc(), &game, &claim);
-        compare_checked(&rt, &checked, case.0, case.1, case.2);
+        compare_checked(&rt, rt.alloc(), &checked, case.0, case.1, case.2);
     }
 }
 

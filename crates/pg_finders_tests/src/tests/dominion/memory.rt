@@ -64,22 +64,24 @@ fn a_claim_is_judged_after_a_refusal(rt: HostRuntime) {
     compare_judged(&rt, rt.alloc(), &game, BAD, fault);
 }
 
-fn checked_twice<'g>(
-    rt: &impl Abort,
-    alloc: Global,
-    game: &'g Game,
-    claim: &'g Claim,
-) -> Checked<'g> {
+fn checked_twice(rt: &impl Abort, alloc: Global, game: &Game, claim: &Claim) -> Checked {
     match check_claim(alloc, game, claim) {
         Ok(checked) => checked,
         Err(_) => made(rt, check_claim(alloc, game, claim)),
     }
 }
 
+fn claimed_twice(rt: &impl Abort, alloc: Global, checked: &Checked) -> Claim {
+    match checked.claim(alloc) {
+        Ok(claim) => claim,
+        Err(_) => made(rt, checked.claim(alloc)),
+    }
+}
+
 /// The good claim, checked on the game.
-fn compare_checked(rt: &impl Abort, game: &Game, checked: &Checked) {
+fn compare_checked(rt: &impl Abort, alloc: Global, game: &Game, checked: &Checked) {
     check_eq!(*rt; checked.player(), EVEN);
-    check_eq!(*rt; checked.claim().rows.as_slice(), GOOD);
+    check_eq!(*rt; claimed_twice(rt, alloc, checked).rows.as_slice(), GOOD);
     check_eq!(*rt; checked.rows().len(), 5);
     check_eq!(*rt; checked.first_foreign(game), None);
 }
@@ -88,7 +90,8 @@ fn compare_checked(rt: &impl Abort, game: &Game, checked: &Checked) {
 fn a_claim_is_checked_after_a_refusal(rt: HostRuntime) {
     let game = game_made(&rt, rt.alloc(), GAME);
     let claim = claim_of(&rt, rt.alloc(), EVEN, GOOD);
-    compare_checked(&rt, &game, &checked_twice(&rt, rt.alloc(), &game, &claim));
+    let checked = checked_twice(&rt, rt.alloc(), &game, &claim);
+    compare_checked(&rt, rt.alloc(), &game, &checked);
     check_eq!(rt; claim.rows.as_slice(), GOOD);
 }
 

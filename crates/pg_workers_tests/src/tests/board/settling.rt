@@ -13,7 +13,7 @@ use std::alloc::Global;
 use std::process::Abort;
 
 /// A claim that is sound in its game.
-fn checked_on<'g>(rt: &impl Abort, alloc: Global, game: &'g Game, claim: &'g Claim) -> Checked<'g> {
+fn checked_on(rt: &impl Abort, alloc: Global, game: &Game, claim: &Claim) -> Checked {
     made(rt, check_claim(alloc, game, claim))
 }
 
@@ -67,11 +67,16 @@ fn claims_that_were_checked_on_another_game_have_their_answers(rt: HostRuntime) 
     }
 }
 
-fn compare_case(rt: &impl Abort, alloc: Global, case: &Case) {
+/// A checked claim outlives the game that it was checked on, and the claim.
+fn checked_of(rt: &impl Abort, alloc: Global, case: &Case) -> Checked {
     let on = game_made(rt, alloc, case.on);
-    let game = game_made(rt, alloc, case.game);
     let claim = claim_of(rt, alloc, EVEN, case.rows);
-    let checked = checked_on(rt, alloc, &on, &claim);
+    checked_on(rt, alloc, &on, &claim)
+}
+
+fn compare_case(rt: &impl Abort, alloc: Global, case: &Case) {
+    let checked = checked_of(rt, alloc, case);
+    let game = game_made(rt, alloc, case.game);
     check_eq!(*rt; settled_on_new(rt, alloc, &game, &checked), case.want);
 }
 

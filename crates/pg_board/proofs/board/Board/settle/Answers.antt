@@ -6,12 +6,12 @@ use Rattle.pg_board.proofs.OldCopies.{IsAnswered, stands_at, old_copy, lawful_af
 use Rattle.pg_board.proofs.board.Board.settle.Goals.{After-settle_sound}
 use Rattle.pg_board.proofs.board.Board.settle.Goals as goal
 
-answered : (c : After-settle_sound) → IsAnswered c.args.self.now c.settle_sound.new.self c.args.worker c.claim.result.now c.settle_sound.result
+answered : (c : After-settle_sound) → IsAnswered c.args.self.now c.settle_sound.new.self c.args.worker c.in_ok-claim.claim c.settle_sound.result
 answered c = let e = c.settle_sound.ensures in record { posted = e.posted; refused = e.refused; unchanged = e.unchanged }
 
 -- the same of the claim that is made of the checked one
 answered_of : (c : After-settle_sound) → IsAnswered c.args.self.now c.settle_sound.new.self c.args.worker (claim_of c.args.checked.now) c.settle_sound.result
-answered_of c = search (rules, c.claim.ensures.claim, answered)
+answered_of c = search (rules, c.in_ok-claim.ensures.claim, answered)
 
 pub returns-in-Some-clause-old_copies : goal.returns-in-Some-clause-old_copies
 returns-in-Some-clause-old_copies c = λ k a d.
@@ -26,8 +26,8 @@ settle_sound-requires c =
     let q = c.args.checked.now in
     let b = c.self.inside in
     let here : IsSound b.game.now q.player (claim_rows q.player q.rows) = sound b.game.now q.player q.rows c.claim.ensures.checked c.in_default.ensures in
-    subst (λ (y : Play). IsSound y.graph c.claim.result.now.player c.claim.result.now.rows) c.self.view_is
-    (subst (λ (k : Claim). IsSound b.game.now k.player k.rows) (sym c.claim.ensures.claim) here)
+    subst (λ (y : Play). IsSound y.graph c.in_ok-claim.claim.player c.in_ok-claim.claim.rows) c.self.view_is
+    (subst (λ (k : Claim). IsSound b.game.now k.player k.rows) (sym c.in_ok-claim.ensures.claim) here)
 
 pub returns-clause-posted : goal.returns-clause-posted
 returns-clause-posted c = (answered_of (goal.at.returns-clause-posted c).After-settle_sound).posted

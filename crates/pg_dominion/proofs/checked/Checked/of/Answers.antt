@@ -5,6 +5,5 @@ use Rattle.pg_dominion.proofs.checked.Checked.of.Goals as goal
 pub invariant_of-result : goal.invariant_of-result
 invariant_of-result c =
     let claim = c.args.claim.now in
-    let same = c.in_ok-rows.ensures.rows in
-    let sound = subst (λ (xs : ClaimRows). IsSound c.args.game.now claim.player xs) (sym same) c.requires in
-    (checked c.args.game.now claim.player c.in_ok-rows.rows.items c.in_ok-rows.ensures.agree sound, sym same)
+    let sound = subst (λ (xs : ClaimRows). IsSound c.args.game.now claim.player xs) (sym c.in_ok-rows.ensures.rows) c.requires in
+    checked c.args.game.now claim.player c.in_ok-rows.rows.items c.in_ok-rows.ensures.agree sound
