@@ -1,4 +1,5 @@
 -- Words of bits: what they hold after a write, and how many bits are set.
+use Rattle.pg_game.proofs.Common.{rules}
 use Rattle.pg_game.proofs.Common.{◌≡◌, ◌≢◌, ℕ, zero, suc, ◌+◌, ◌-◌, ◌^◌, ◌<◌, ◌≤◌, Bool, true, false, List, [], ◌∷◌, map, length, set}
 use Rattle.pg_game.proofs.Common.{get_or, get_or-set_same, get_or-set_other, get_or_past, ext_get_or, length-set, refl, ap, sym, ◌∙◌, inl, inr, arith}
 use Rattle.pg_game.proofs.Common.{cases_eq, cases_lt, eq-eqb}
@@ -51,10 +52,7 @@ no_word words v l = ap (λ w. eqb (bit_at w (v % 64)) 1) (get_or_past words (v /
 
 -- words without a bit
 pub no_bits : (k v : ℕ) → bit_of (replicate k 0) v ≡ false
-no_bits k v = elim (cases_lt (v / 64) k) [
-  | inl l ↦ ap (λ w. eqb (bit_at w (v % 64)) 1) (get_or-replicate k (v / 64) 0 0 l) ∙ ap (λ b. eqb b 1) (bit_at-zero (v % 64))
-  | inr l ↦ no_word (replicate k 0) v (omega (arith, length-replicate {A = ℕ} k 0))
-]
+no_bits k v = search (rules, cases_lt, get_or-replicate, bit_at-zero, no_word, length-replicate)
 
 -- one bit is written
 module _ (words : List ℕ) (v to : ℕ) (within : v / 64 < length words)
@@ -84,11 +82,7 @@ module _ (words : List ℕ) (v to : ℕ) (within : v / 64 < length words)
       ])
 
   pub fit-set : (n : ℕ) → v < n → FitBits words n → FitBits (set words (v / 64) to) n
-  fit-set n l are = record {
-    short = are.short;
-    size = length-set words (v / 64) to ∙ are.size;
-    none = λ u m. bit_else u (omega arith) ∙ are.none u m;
-  }
+  fit-set n l are = search (rules, length-set, are.short, are.size, are.none)
 
 pub inserted : (words : List ℕ) (n v word : ℕ) → v < n → FitBits words n → word ≡ get_or words (v / 64) 0
     → let after = set words (v / 64) (bit_or word (1 * 2 ^ (v % 64) % 2 ^ 64)) in FitBits after n × (bits_of after n ≡ set (bits_of words n) v true)
@@ -116,11 +110,7 @@ removed words n v word l are read =
     )
 
 pub fit-none : (words : List ℕ) (k n : ℕ) → n < 2 ^ 32 → k ≡ div_ceil n 64 → words ≡ replicate k 0 → FitBits words n
-fit-none words k n short size is = record {
-  short = short;
-  size = ap length is ∙ (length-replicate k 0 ∙ size);
-  none = λ v _. ap (λ ws. bit_of ws v) is ∙ no_bits k v;
-}
+fit-none words k n short size is = search (rules, length-replicate, no_bits)
 
 pub bits_of_none : (words : List ℕ) (k n : ℕ) → words ≡ replicate k 0 → bits_of words n ≡ replicate n false
 bits_of_none words k n is =
@@ -143,23 +133,10 @@ module _ (words before : List ℕ) (n k : ℕ) (size : k ≡ div_ceil n 64) (one
   one_before i l = ap (λ ws. get_or ws i 0) ones ∙ get_or-replicate k i (2 ^ 64 - 1) 0 (omega (arith, size))
 
   pub full_with_rest : 0 < n % 64 → words ≡ set before (n / 64) (1 * 2 ^ (n % 64) % 2 ^ 64 - 1) → AreFull words n
-  full_with_rest some is =
-      let last : ℕ = 1 * 2 ^ (n % 64) % 2 ^ 64 - 1 in
-      let low : n % 64 < 64 = omega arith in
-      let within : n / 64 < length before = omega (arith, number) in
-      record {
-        size = ap length is ∙ (length-set before (n / 64) last ∙ number);
-        whole = λ i l. ap (λ ws. get_or ws i 0) is ∙ (get_or-set_other before (n / 64) i last 0 (omega arith) ∙ one_before i l);
-        rest = λ _.
-            ap (λ ws. get_or ws (n / 64) 0) is ∙ (get_or-set_same before (n / 64) last 0 within ∙ ap (λ x. x - 1) (one_shl (n % 64) 64 low));
-      }
+  full_with_rest some is = search (rules, number, length-set, get_or-set_other, one_before, get_or-set_same, one_shl)
 
   pub full_words : n % 64 ≤ 0 → words ≡ before → AreFull words n
-  full_words none is = record {
-    size = ap length is ∙ number;
-    whole = λ i l. ap (λ ws. get_or ws i 0) is ∙ one_before i l;
-    rest = λ some. absurd (omega arith);
-  }
+  full_words none is = search (rules, number, one_before)
 
 ones_below : (words : List ℕ) (v k : ℕ) → get_or words (v / 64) 0 ≡ 2 ^ k - 1 → v % 64 < k → bit_of words v ≡ true
 ones_below words v k is l = ap (λ w. eqb (bit_at w (v % 64)) 1) is ∙ eq-eqb _ 1 (bit_at_ones k (v % 64) l)
@@ -176,12 +153,7 @@ full-below {words} {n} full v l = elim (cases_lt (v / 64) (n / 64)) [
 ]
 
 full-above : {words : List ℕ} {n : ℕ} → AreFull words n → (v : ℕ) → n ≤ v → bit_of words v ≡ false
-full-above {words} {n} full v l = elim (cases_lt (v / 64) (length words)) [
-  | inl within ↦
-      let same : v / 64 ≡ n / 64 = omega (arith, full.size) in
-      none_above words v (n % 64) (ap (λ i. get_or words i 0) same ∙ full.rest (omega (arith, full.size))) (omega arith)
-  | inr past ↦ no_word words v past
-]
+full-above {words} {n} full v l = search (rules, cases_lt, none_above, no_word, full.size, full.rest)
 
 pub fit-full : {words : List ℕ} {n : ℕ} → n < 2 ^ 32 → AreFull words n → FitBits words n
 fit-full short full = record { short = short; size = full.size; none = full-above full }
@@ -294,15 +266,7 @@ member_in words n i are some fits =
 
 -- where all words are 0 there is none
 pub no_member : (words : List ℕ) (n v : ℕ) → ((i : ℕ) → i < length words → get_or words i 0 ≡ 0) → members (bits_of words n) v ≡ false
-no_member words n v zeros = elim (cases_lt v n) [
-  | inr past ↦ get_or_past (bits_of words n) v false (omega (arith, length-bits_of words n))
-  | inl l ↦
-      get_or-bits_of words n v l
-      ∙ (elim (cases_lt (v / 64) (length words)) as (λ _. bit_of words v ≡ false) [
-        | inl within ↦ ap (λ w. eqb (bit_at w (v % 64)) 1) (zeros (v / 64) within) ∙ ap (λ b. eqb b 1) (bit_at-zero (v % 64))
-        | inr past ↦ no_word words v past
-      ])
-]
+no_member words n v zeros = search (rules, cases_lt, get_or_past, length-bits_of, get_or-bits_of, bit_at-zero, no_word)
 
 pub none_counted : (words : List ℕ) → how_many (bits_of words (64 * 0)) ≡ 0
 unfolding bits_of

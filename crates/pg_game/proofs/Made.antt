@@ -90,11 +90,7 @@ module _ {specs sorted : List Spec} {ids : List ℕ} {rows : List (List ℕ)} (l
       }
 
   pub made_game : IsGame g
-  made_game = record {
-    nonempty = let h = laid.sound.nonempty in omega (arith, h, length_g, length_ids, length_specs);
-    ids = subst (λ (xs : List ℕ). IsStrictlyIncreasing xs) (sym (part.ids_are parts refl)) laid.rising;
-    successors = λ v l. rw (row_is v, length_g) (row_game v (omega (arith, l, length_g, length_ids)));
-  }
+  made_game = search (rules, length_g, length_ids, length_specs, parts, row_is, row_game, laid.sound.nonempty, part.ids_are, laid.rising)
 
   numbers_at : (v : ℕ) → v < length sorted → AreNumbers (get_or sorted v no_spec)
   numbers_at v l = All-permutation AreNumbers specs sorted laid.moved laid.numbers v no_spec l

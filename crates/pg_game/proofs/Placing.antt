@@ -1,7 +1,8 @@
 -- Specifications with places for successors.
+use Rattle.pg_game.proofs.Common.{rules}
 use Rattle.pg_game.proofs.Common.{◌≡◌, ℕ, ◌<◌, ◌≤◌, ◌↔◌, List, length, get_or, refl, sym, ◌∙◌, ap, subst, arith, None, Some, Contains, IsPermutation}
 use Rattle.pg_game.proofs.Common.{IsPermutation-sym, Contains-permutation, IsStrictlyIncreasing, get_or_default, Player, Spec, ids_of, first_outside}
-use Rattle.pg_game.proofs.Common.{Bool, true, false, inl, inr, cases_lt, edges, max_edges}
+use Rattle.pg_game.proofs.Common.{Bool, false, cases_lt, edges, max_edges}
 use Rattle.std.specs.Prelude.{IsTrue}
 use Rattle.pg_game.proofs.Common.{first_unspecified, first_unknown, AreParts, AreNamed, ArePlacedSpecs, row_at, specs_from}
 use Rattle.pg_game.proofs.Unknown.{to_specified, outside_is, unknown_here, unknown_before}
@@ -56,7 +57,4 @@ module _ {ids ps : List ℕ} {os : List Player} {rows : List (List ℕ)} (a : Ar
       }
 
 pub few_edges : (b : Bool) (specs : List Spec) → (IsTrue b ↔ (max_edges < edges specs)) → b ≡ false → edges specs ≤ max_edges
-few_edges b specs h f = elim (cases_lt max_edges (edges specs)) [
-  | inl l ↦ absurd (let t : b ≡ true = h.1 l in cc (t, f))
-  | inr l ↦ l
-]
+few_edges b specs h f = search (rules, cases_lt)

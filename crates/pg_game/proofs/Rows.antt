@@ -127,13 +127,3 @@ module _ {os ts os' ts' : List ℕ} (c : IsCompressed os ts) (d : IsCompressed o
 -- a row's end is an offset
 pub row_end : (os ts : List ℕ) (v : ℕ) {rows : List (List ℕ)} → rows_of os ts ≡ rows → v < length rows → v + 1 < length os
 row_end os ts v is l = let n = length-rows_of os ts in let e = ap (λ (xs : List (List ℕ)). length xs) is in omega (arith, n, e, l)
-
--- the same offsets over as many targets
-pub compressed_same : {os ts new : List ℕ} → IsCompressed os ts → length new ≡ length ts → IsCompressed os new
-compressed_same c e = record {
-  nonempty = c.nonempty;
-  first = c.first;
-  rising = c.rising;
-  within = λ k l. (let h = c.within k l in omega (arith, h, e));
-  last = λ k l. (let h = c.last k l in omega (arith, h, e));
-}

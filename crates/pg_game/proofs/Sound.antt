@@ -4,7 +4,7 @@ use Rattle.pg_game.proofs.Common.{Some, None, if◌then◌else◌, nat_lt, Conta
 use Rattle.pg_game.proofs.Common.{first_repeated, first_without, first_unknown, first_unspecified, IsSpecified, edges, max_vertices, max_edges, ids_of, rows_fault}
 use Rattle.std.specs.Prelude.{not, find}
 use Rattle.pg_game.proofs.Members.{Contains-head, Contains-tail, Contains-cons}
-use Rattle.pg_game.specs.declared.game.GameFault.TheVariants.{NoVertex, TooManyVertices, NoSuccessor, TooManyEdges, Unknown}
+use Rattle.pg_game.specs.declared.game.GameFault.TheVariants.{TooManyVertices, NoSuccessor, TooManyEdges, Unknown}
 use Rattle.pg_game.specs.Specification.{is_empty, paired_or}
 
 pub record IsSound (specs : List Spec) : Type 0 where
@@ -48,12 +48,6 @@ module _ (specs : List Spec) where
   rows_are : (b : Bool) (n : Option ℕ) (u : Option (ℕ × ℕ)) → first_without specs ≡ n → nat_lt max_edges (edges specs) ≡ b → first_unknown specs specs ≡ u
       → rows_fault specs ≡ fault_or (λ i. NoSuccessor i) n (if b then Some TooManyEdges else fault_or (λ (id, i). Unknown id i) u None)
   rows_are b n u e f g = rw (e, f, g) refl
-
-  pub without_named : {id : ℕ} → first_without specs ≡ Some id → rows_fault specs ≡ Some (NoSuccessor id)
-  without_named e = rows_are _ _ _ e refl refl
-
-  pub edges_named : first_without specs ≡ None → max_edges < edges specs → rows_fault specs ≡ Some TooManyEdges
-  edges_named e l = rows_are _ _ _ e (lt-ltb max_edges (edges specs) l) refl
 
   pub unknown_named : {id i : ℕ} → first_without specs ≡ None → edges specs ≤ max_edges → first_unknown specs specs ≡ Some (id, i)
       → rows_fault specs ≡ Some (Unknown id i)
@@ -132,10 +126,6 @@ module _ (specs : List Spec) (k : ℕ) (s : Spec) (l : k < length specs) (is : s
 pub empty_is : {X : Type 0} (xs : List X) → is_empty xs ≡ (length xs == 0)
 empty_is [] = refl
 empty_is (x ∷ xs) = sym (false_from_ne_true (length (x ∷ xs) == 0) (λ t. let z = eqb-true (length (x ∷ xs)) 0 t in omega (arith, z)))
-
-pub empty_fault : (specs : List Spec) → length specs ≡ 0 → first_fault specs ≡ Some NoVertex
-empty_fault [] e = refl
-empty_fault (s ∷ specs) e = absurd (omega (arith, e))
 
 pub many_fault : (specs : List Spec) → max_vertices < length specs → first_fault specs ≡ Some TooManyVertices
 many_fault specs l = rw (not_empty specs (omega (arith, l)), lt-ltb max_vertices (length specs) l) refl

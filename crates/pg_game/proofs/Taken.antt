@@ -1,5 +1,5 @@
 -- Specifications in lists of their parts, one by one.
-use Rattle.pg_game.proofs.Common.{◌≡◌, ℕ, ◌+◌, ◌<◌, List, [], ◌∷◌, ◌++◌, length, map, take, get_or, refl, sym, ◌∙◌, ap, arith, take_more, length-map}
+use Rattle.pg_game.proofs.Common.{◌≡◌, ℕ, ◌<◌, List, [], length, map, get_or, refl, sym, ◌∙◌, ap, arith, length-map}
 use Rattle.pg_game.proofs.Common.{get_or-map, ext_get_or, Player, Even, Spec, no_vertex, graph_of, ids_of, priorities_of, owners_of, successor_lists, AreParts, spec_from}
 use Rattle.pg_game.proofs.Common.{specs_from}
 use Rattle.pg_game.proofs.Parts as part
@@ -41,9 +41,6 @@ module _ {ids ps : List ℕ} {os : List Player} {rows : List (List ℕ)} (a : Ar
 
   pub owners_are : owners_of (specs_from ids ps os rows) ≡ os
   owners_are = part_of (λ s. s.owner) os Even a.owners (λ v. refl)
-
-  pub specs_taken : (v : ℕ) → v < length ids → take (v + 1) (specs_from ids ps os rows) ≡ take v (specs_from ids ps os rows) ++ spec_in v ∷ []
-  specs_taken v l = take_more specs v (spec_in v) (omega (arith, l, length_specs)) ∙ ap (λ (s : Spec). take v specs ++ s ∷ []) (spec_at v (spec_in v) l)
 
   pub lists_are : successor_lists (specs_from ids ps os rows) ≡ rows
   lists_are = part_of (λ s. s.successors) rows [] a.successors (λ v. refl)

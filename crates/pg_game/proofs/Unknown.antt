@@ -1,4 +1,5 @@
 -- The first successor that is not specified, one specification after another.
+use Rattle.pg_game.proofs.Common.{rules}
 use Rattle.pg_game.proofs.Common.{◌≡◌, ℕ, zero, suc, add-one, ◌+◌, ◌<◌, ◌≤◌, true, List, [], ◌∷◌, arith, Even, IsPermutation, get_or_default, length, drop, get_or, refl, sym, ◌∙◌, ap, nat_eq, Some, None, Contains}
 use Rattle.pg_game.proofs.Common.{list_any, eqb-true, drop_more, Spec, IsSpecified, first_unspecified, first_unknown, ids_of, first_outside}
 use Rattle.std.specs.Cmp.{nat_eq_equiv}
@@ -19,9 +20,7 @@ to_specified specs i m = sym (specified_is specs i) ∙ list_any-from_Contains n
 
 pub outside_is : (specs : List Spec) (identifiers xs : List ℕ) → IsPermutation (ids_of specs) identifiers → first_outside identifiers xs ≡ first_unspecified specs xs
 outside_is specs identifiers [] moved = refl
-outside_is specs identifiers (x ∷ xs) moved =
-    let e : list_any (nat_eq x) identifiers ≡ IsSpecified specs x = sym (list_any-IsPermutation (nat_eq x) (ids_of specs) identifiers moved) ∙ specified_is specs x in
-    rw (e, outside_is specs identifiers xs moved) refl
+outside_is specs identifiers (x ∷ xs) moved = search (rules, outside_is specs identifiers xs moved, list_any-IsPermutation, specified_is)
 
 module _ (specs : List Spec) (k : ℕ) (s : Spec) (l : k < length specs) (is : s ≡ get_or specs k s) where
   next : drop k specs ≡ s ∷ drop (k + 1) specs

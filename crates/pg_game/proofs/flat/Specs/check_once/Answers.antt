@@ -13,10 +13,7 @@ returns-then-is_rising-clause-once c =
     still_once c.requires.moved (none_repeated [] c.args.sorted.now up (λ m x h k. absurd (Contains-nil m h)))
 
 pub returns-in_err-index_set-clause-fault : goal.returns-in_err-index_set-clause-fault
-returns-in_err-index_set-clause-fault c =
-    let e : c.as_slice.result.now ≡ ids_of c.args.self.now = c.as_slice.ensures.value ∙ sym (ids_is c.self.invariant c.self.view_is) in
-    let h = rw e at c.in_err-index_set.ensures.fault in
-    search (rules, passed_on, h)
+returns-in_err-index_set-clause-fault c = search (rules, ids_is, passed_on, c.as_slice.result.now, c.args.self.now, c.as_slice.ensures.value, c.self.invariant, c.self.view_is, c.in_err-index_set.ensures.fault)
 
 pub returns-clause-rising : goal.returns-clause-rising
 returns-clause-rising c =

@@ -1,4 +1,5 @@
-use Rattle.pg_game.proofs.Common.{◌≡◌, ◌<◌, ◌≤◌, true, false, [], length, get_or, sym, ◌∙◌, ap, arith, List, Spec, get_or_read, drop_of_length-le, first_without}
+use Rattle.pg_game.proofs.Common.{rules}
+use Rattle.pg_game.proofs.Common.{◌≡◌, ◌<◌, true, false, [], length, get_or, sym, ◌∙◌, arith, get_or_read, drop_of_length-le}
 use Rattle.pg_game.specs.Specification.{is_empty}
 use Rattle.pg_game.proofs.Sound.{without_here, without_later, empty_is}
 use Rattle.pg_game.proofs.Taken.{length_is, spec_is, spec_in}
@@ -31,7 +32,4 @@ lines-preserved c =
     c.lines.invariant ∙ without_later ss v s l (sym (spec_is c.self.invariant c.self.view_is v s l)) some
 
 pub returns : goal.returns
-returns c =
-    let n = length_is c.self.invariant c.self.view_is in
-    let end : length c.args.self.now ≤ c.lines.v = omega (arith, n, c.lines-test.false, c.len-v-end.ensures) in
-    sym (c.lines.invariant ∙ ap (λ (xs : List Spec). first_without xs) (drop_of_length-le c.args.self.now end))
+returns c = search (rules, length_is, drop_of_length-le, c.self.invariant, c.self.view_is, c.args.self.now, c.lines.v, c.lines-test.false, c.len-v-end.ensures, c.lines.invariant)

@@ -1,4 +1,5 @@
-use Rattle.pg_game.proofs.Common.{◌<◌, ◌≤◌, length, sym, ap, arith, List, ℕ, Spec, different, edges, drop_of_length-le, refl, size_of}
+use Rattle.pg_game.proofs.Common.{rules}
+use Rattle.pg_game.proofs.Common.{◌<◌, length, sym, ap, arith, different, drop_of_length-le, refl}
 use Rattle.pg_game.proofs.Different.{different_is}
 use Rattle.pg_game.proofs.Sums.{edges_more, edges_most}
 use Rattle.pg_game.proofs.Taken.{length_is, lists_is, spec_is, spec_in}
@@ -22,10 +23,7 @@ lines-preserved c =
     }
 
 pub returns-then-size-le-MAX_EDGES : goal.returns-then-size-le-MAX_EDGES
-returns-then-size-le-MAX_EDGES c =
-    let most = edges_most c.args.self.now in
-    let e = ap (λ (rows : List (List ℕ)). size_of rows) (lists_is c.self.invariant c.self.view_is) in
-    (λ t. absurd (cc t), λ l. absurd (omega (arith, l, most, e, c.size.ensures.size, c.if-size-le-MAX_EDGES.true)))
+returns-then-size-le-MAX_EDGES c = search (rules, edges_most, lists_is, c.args.self.now, c.self.invariant, c.self.view_is, c.size.ensures.size, c.if-size-le-MAX_EDGES.true)
 
 pub overflow_cast-v-end : goal.overflow_cast-v-end
 overflow_cast-v-end c = let n = length_is c.self.invariant c.self.view_is in omega (arith, n, c.requires, c.len-v-end.ensures)
@@ -44,8 +42,4 @@ returns-then-edges-gt-MAX_EDGES c =
     (λ t. omega (arith, count, same, more, c.lines.invariant.sum, c.if-edges-gt-MAX_EDGES.true), λ k. refl)
 
 pub returns : goal.returns
-returns c =
-    let n = length_is c.self.invariant c.self.view_is in
-    let end : length c.args.self.now ≤ c.lines.v = omega (arith, n, c.lines-test.false, c.len-v-end.ensures) in
-    let none = ap (λ (xs : List Spec). edges xs) (drop_of_length-le c.args.self.now end) in
-    (λ t. absurd (cc t), λ l. absurd (omega (arith, l, none, c.lines.invariant.sum, c.lines.invariant.small)))
+returns c = search (rules, length_is, drop_of_length-le, c.self.invariant, c.self.view_is, c.args.self.now, c.lines.v, c.lines-test.false, c.len-v-end.ensures, c.lines.invariant.sum, c.lines.invariant.small)

@@ -1,7 +1,7 @@
 use Rattle.pg_game.proofs.Common.{◌≡◌, List, [], ◌<◌, length, refl, sym, ◌∙◌, arith, rules, IsStrictlyIncreasing, IsPermutation-refl, length-map}
 use Rattle.pg_game.proofs.Common.{ids_of, first_fault, rows_fault, Spec, max_vertices, ◌≤◌}
 use Rattle.pg_game.proofs.Members.{Contains-nil}
-use Rattle.pg_game.proofs.NoMemory.{passed_on, memory_fine}
+use Rattle.pg_game.proofs.NoMemory.{passed_on}
 use Rattle.pg_game.proofs.Laid.{none_repeated, placed_stored, placed_game}
 use Rattle.pg_game.proofs.Sound.{listed_fault}
 use Rattle.pg_game.proofs.Taken.{ids_is}
@@ -15,9 +15,6 @@ pub of_rising-requires : goal.of_rising-requires
 of_rising-requires c =
     let e : c.as_slice.result.now ≡ ids_of c.args.self = c.as_slice.ensures.value ∙ sym (ids_is c.self.invariant c.self.view_is) in
     rw e record { rising = c.requires.rising; short = let n = length-map c.args.self (λ s. s.id) in omega (arith, n, c.requires.few) }
-
-pub returns-in_err-identifiers-clause-fault : goal.returns-in_err-identifiers-clause-fault
-returns-in_err-identifiers-clause-fault c = search (rules, passed_on, memory_fine, c.in_err-identifiers.ensures.memory)
 
 pub placed-requires-clause-identifiers : goal.placed-requires-clause-identifiers
 placed-requires-clause-identifiers c =

@@ -1,12 +1,10 @@
-use Rattle.pg_game.proofs.Common.{◌≡◌, ℕ, length, rules, arith, ap, List}
+use Rattle.pg_game.proofs.Common.{◌≡◌, ℕ, rules}
 use Rattle.std.proofs.lemmas.List.Sorted.{IsNonDecreasingBy-from_sort_by_key}
 use Rattle.pg_game.proofs.Taken.{length_is, ids_is}
 use Rattle.pg_game.proofs.flat.Specs.lines.Goals as goal
 
 pub numbered-requires : goal.numbered-requires
-numbered-requires c =
-    let n = ap (λ (xs : List ℕ). length xs) c.as_slice.ensures.value in
-    omega (arith, n, length_is c.self.invariant c.self.view_is, c.requires)
+numbered-requires c = search (rules, length_is, c.as_slice.ensures.value, c.self.invariant, c.self.view_is, c.requires)
 
 pub returns : goal.returns
 returns c =

@@ -1,3 +1,4 @@
+use Rattle.pg_game.proofs.Common.{rules}
 use Rattle.pg_game.proofs.Common.{◌≡◌, ℕ, ◌<◌, [], ◌∷◌, ◌++◌, List, length, take, map, get_or, sym, ◌∙◌, ap, arith, get_or_read, take_all, take_more, map_push}
 use Rattle.pg_game.proofs.Common.{Even, Spec, specs_from}
 use Rattle.pg_game.proofs.Taken.{place_within, spec_at, spec_of}
@@ -9,9 +10,7 @@ row-row-requires c =
     omega (arith, l, c.self.invariant.successors)
 
 pub index-requires : goal.index-requires
-index-requires c =
-    let l = place_within c.self.invariant c.self.view_is _ (c.requires c.lines.line-index (0, 0) c.lines-test.true) in
-    omega (arith, l, c.self.inside.ids.ok.0)
+index-requires c = search (rules, place_within, c.self.invariant, c.self.view_is, c.requires, c.lines.line-index, c.lines-test.true, c.self.inside.ids.ok.0)
 
 pub index-requires-in-lines : goal.index-requires-in-lines
 index-requires-in-lines c =

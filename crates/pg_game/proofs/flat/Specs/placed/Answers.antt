@@ -1,32 +1,18 @@
+use Rattle.pg_game.proofs.Common.{rules}
 use Rattle.pg_game.proofs.Common.{◌≤◌, sym, ◌∙◌, arith, get_or_read, edges, max_edges}
-use Rattle.pg_game.proofs.Sound.{without_named, edges_named, unknown_named, rows_sound}
-use Rattle.pg_game.proofs.Placing.{unknown_at, all_known, parts_placed, placed_specs, few_edges}
+use Rattle.pg_game.proofs.Sound.{unknown_named, rows_sound}
+use Rattle.pg_game.proofs.Placing.{unknown_at, all_known, placed_specs, few_edges}
 use Rattle.pg_game.proofs.Taken.{length_is}
 use Rattle.pg_game.proofs.flat.Specs.placed.Goals as goal
-
-pub returns-in-Some-clause-fault : goal.returns-in-Some-clause-fault
-returns-in-Some-clause-fault c = without_named c.args.self (sym c.first_without.ensures ∙ c.in-Some.is)
-
-pub returns-then-branch-clause-fault : goal.returns-then-branch-clause-fault
-returns-then-branch-clause-fault c = edges_named c.args.self (sym c.in_default.ensures) (c.in_ok-has_too_many_edges.ensures.0 c.if-branch.true)
 
 pub place-requires : goal.place-requires
 place-requires c = omega (arith, length_is c.self.invariant c.self.view_is, c.self.invariant.successors, c.requires.few)
 
 pub returns-in-Some-place-clause-fault : goal.returns-in-Some-place-clause-fault
-returns-in-Some-place-clause-fault c =
-    let m = c.in-Some-place.ensures.missing in
-    let v = c.in-Some-place.v in
-    let le : edges c.args.self ≤ max_edges = few_edges _ c.args.self c.in_ok-has_too_many_edges.ensures c.if-branch.false in
-    let e = unknown_at c.self.invariant c.self.view_is c.requires.identifiers v c.in-Some-place.successor m.0 m.1 m.2 in
-    let id = get_or_read c.self.inside.ids.items v _ (omega (arith, m.0, c.self.invariant.successors)) c.index.ensures 0 in
-    rw id (unknown_named c.args.self (sym c.in_default.ensures) le e)
+returns-in-Some-place-clause-fault c = search (rules, few_edges, unknown_at, get_or_read, unknown_named, c.in-Some-place.ensures.missing, c.in-Some-place.v, c.args.self, c.in_ok-has_too_many_edges.ensures, c.if-branch.false, c.self.invariant, c.self.view_is, c.requires.identifiers, c.in-Some-place.successor, c.self.inside.ids.items, c.self.invariant.successors, c.index.ensures, c.in_default.ensures)
 
 pub risen-requires : goal.risen-requires
 risen-requires c = omega (arith, c.place.ensures.size, length_is c.self.invariant c.self.view_is, c.self.invariant.successors, c.requires.few)
-
-pub of_parts-requires : goal.of_parts-requires
-of_parts-requires c = parts_placed c.self.invariant c.self.view_is c.requires.identifiers c.in_ok-rows.rows (c.in_ok-rows.ensures.size ∙ c.place.ensures.size)
 
 pub returns-clause-placed : goal.returns-clause-placed
 returns-clause-placed c =

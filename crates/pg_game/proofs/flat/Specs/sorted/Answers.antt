@@ -1,25 +1,14 @@
-use Rattle.pg_game.proofs.Common.{◌≡◌, ◌∙◌, arith, rules}
+use Rattle.pg_game.proofs.Common.{rules}
+use Rattle.pg_game.proofs.Common.{◌≡◌, ◌∙◌, arith}
 use Rattle.pg_game.proofs.Common.{Spec, first_fault, rows_fault, length-map}
-use Rattle.pg_game.proofs.NoMemory.{passed_on}
 use Rattle.pg_game.proofs.Made.{no_spec}
 use Rattle.pg_game.proofs.Laid.{placed_stored, placed_game}
 use Rattle.pg_game.proofs.Ordered.{named_moves, lines_fit, specs_move, picked_ids, picked_placed}
 use Rattle.pg_game.proofs.Sound.{listed_fault}
 use Rattle.pg_game.proofs.flat.Specs.sorted.Goals as goal
 
-pub identifiers-requires-clause-lines : goal.identifiers-requires-clause-lines
-identifiers-requires-clause-lines c = rw c.as_slice.ensures.value c.in_ok-lines.ensures
-
 pub placed-requires-clause-identifiers : goal.placed-requires-clause-identifiers
-placed-requires-clause-identifiers c =
-    let lines = rw (← c.as_slice.ensures.value) at c.in_ok-lines.ensures in
-    rw c.in_ok-identifiers.ensures.identifiers (named_moves lines.paired)
-
-pub returns-in_err-placed-clause-fault : goal.returns-in_err-placed-clause-fault
-returns-in_err-placed-clause-fault c =
-    let e : first_fault c.args.self ≡ rows_fault c.args.self =
-    listed_fault c.args.self record { nonempty = c.requires.some; vertices = c.requires.few; once = c.in_ok-identifiers.ensures.once } in
-    rw e (search (rules, passed_on, c.in_err-placed.ensures.fault))
+placed-requires-clause-identifiers c = search (rules, named_moves, c.as_slice.ensures.value, c.in_ok-lines.ensures, c.in_ok-identifiers.ensures.identifiers)
 
 pub picked-requires : goal.picked-requires
 picked-requires c =

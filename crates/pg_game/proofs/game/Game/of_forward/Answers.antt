@@ -1,13 +1,11 @@
-use Rattle.pg_game.proofs.Common.{arith, refl, subst, Graph, HasPredecessors}
+use Rattle.pg_game.proofs.Common.{rules}
+use Rattle.pg_game.proofs.Common.{subst, Graph, HasPredecessors}
 use Rattle.pg_game.proofs.Back.{game_rows, has_back}
 use Rattle.pg_game.proofs.Parts.{length_is}
 use Rattle.pg_game.proofs.game.Game.of_forward.Goals as goal
 
 pub reversed-requires : goal.reversed-requires
-reversed-requires c = record {
-  rows = game_rows c.forward.invariant.parts c.forward.invariant.game;
-  few = omega (arith, length_is c.forward.invariant.parts refl, c.forward.invariant.parts.successors, c.forward.invariant.limits.vertices);
-}
+reversed-requires c = search (rules, game_rows, length_is, c.forward.invariant.parts, c.forward.invariant.game, c.forward.invariant.parts.successors, c.forward.invariant.limits.vertices)
 
 pub invariant_of-result : goal.invariant_of-result
 invariant_of-result c =

@@ -1,9 +1,6 @@
 use Rattle.pg_game.proofs.Common.{arith, ap, length, Graph}
 use Rattle.pg_game.proofs.game.Game.predecessors.Goals as goal
 
-pub row-requires : goal.row-requires
-row-requires c = let n = ap (λ (g : Graph). length g) c.self.view_is in omega (arith, n, c.self.invariant.size, c.requires)
-
 pub returns : goal.returns
 returns c =
     let n = ap (λ (g : Graph). length g) c.self.view_is in

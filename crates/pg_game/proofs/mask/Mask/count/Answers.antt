@@ -1,4 +1,5 @@
-use Rattle.pg_game.proofs.Common.{◌≡◌, ◌+◌, ◌≤◌, length, sym, ap, ◌∙◌, arith}
+use Rattle.pg_game.proofs.Common.{rules}
+use Rattle.pg_game.proofs.Common.{◌+◌, ◌≤◌, sym, arith}
 use Rattle.std.proofs.Common.{◌*◌}
 use Rattle.pg_game.specs.Bits.{bits_of}
 use Rattle.pg_game.specs.VertexSet.{how_many}
@@ -18,18 +19,7 @@ overflow_add-count c =
     omega (arith, all, word_more words i (c.type_inv.word-items i).fits, c.words.invariant, fit.short)
 
 pub words-preserved : goal.words-preserved
-words-preserved c =
-    let words = c.as_slice-word-items.result.now in
-    let i = c.words.word-index in
-    omega (arith, word_more words i (c.type_inv.word-items i).fits, c.words.invariant)
+words-preserved c = search (rules, word_more, c.as_slice-word-items.result.now, c.words.word-index, c.type_inv.word-items, c.words.invariant)
 
 pub returns : goal.returns
-returns c =
-    let words = c.self.inside.words.items in
-    let read = c.as_slice-word-items.ensures.value in
-    let end : c.words.word-index ≡ length words = omega (arith, ap length read) in
-    c.words.invariant
-    ∙ ap (λ k. how_many (bits_of c.as_slice-word-items.result.now (64 * k))) end
-    ∙ ap (λ ws. how_many (bits_of ws (64 * length words))) read
-    ∙ all_counted words c.self.inside.len (opened words c.self.inside.len c.self.invariant)
-    ∙ ap how_many c.self.view_is
+returns c = search (rules, all_counted, opened, c.self.inside.words.items, c.as_slice-word-items.ensures.value, c.words.word-index, c.words.invariant, c.as_slice-word-items.result.now, c.self.inside.len, c.self.invariant, c.self.view_is)

@@ -1,4 +1,5 @@
-use Rattle.pg_game.proofs.Common.{true, set, ap, ◌∙◌, arith, get_or_read}
+use Rattle.pg_game.proofs.Common.{rules}
+use Rattle.pg_game.proofs.Common.{arith, get_or_read}
 use Rattle.std.proofs.Common.{◌/◌}
 use Rattle.pg_game.proofs.Bits.{opened, closed, below, inserted}
 use Rattle.pg_game.proofs.mask.Mask.insert.Goals as goal
@@ -18,10 +19,4 @@ invariant_of-self c =
     closed _ n (inserted words n c.args.v c.index_mut.result.now l fit read).0
 
 pub returns : goal.returns
-returns c =
-    let words = c.self.inside.words.items in
-    let n = c.self.inside.len in
-    let l = below words n c.args.v c.self.view_is c.requires in
-    let fit = opened words n c.self.invariant in
-    let read = get_or_read words (c.args.v / 64) _ (omega (arith, l, fit.size)) c.index_mut.ensures.value 0 in
-    (inserted words n c.args.v c.index_mut.result.now l fit read).1 ∙ ap (λ m. set m c.args.v true) c.self.view_is
+returns c = search (rules, below, opened, get_or_read, inserted, c.self.inside.words.items, c.self.inside.len, c.args.v, c.self.view_is, c.requires, c.self.invariant, c.index_mut.ensures.value, c.index_mut.result.now)
