@@ -1,9 +1,22 @@
-use Rattle.pg_game.proofs.Common.{rules}
-use Rattle.pg_game.proofs.Common.{◌<◌, length, sym, ap, arith, different, drop_of_length-le, refl}
-use Rattle.pg_game.proofs.Different.{different_is}
-use Rattle.pg_game.proofs.Sums.{edges_more, edges_most}
+use Rattle.pg_game.proofs.Common.{rules, ◌<◌, length, sym, ap, arith, different, drop_of_length-le, refl, ◌≡◌, ℕ, ◌+◌, ◌≤◌, List, [], ◌∷◌, drop, get_or, ◌∙◌}
+use Rattle.pg_game.proofs.Common.{drop_more, sum_by-cons, Spec, edges, size_of, successor_lists}
+use Rattle.pg_game.proofs.Different.{different_is, different_most}
 use Rattle.pg_game.proofs.Taken.{length_is, lists_is, spec_is, spec_in}
 use Rattle.pg_game.proofs.flat.Specs.has_too_many_edges.Goals as goal
+
+edges_more : (specs : List Spec) (k : ℕ) (s : Spec) → k < length specs → s ≡ get_or specs k s →
+    edges (drop k specs) ≡ different s.successors + edges (drop (k + 1) specs)
+edges_more specs k s l is =
+    ap edges (drop_more specs k s l ∙ ap (λ (x : Spec). x ∷ drop (k + 1) specs) (sym is))
+    ∙ sum_by-cons (λ (x : Spec). different x.successors) s (drop (k + 1) specs)
+
+-- no more edges than numbers in the lists
+edges_most : (specs : List Spec) → edges specs ≤ size_of (successor_lists specs)
+edges_most [] = omega arith
+edges_most (s ∷ specs) =
+    let a = sum_by-cons (λ (x : Spec). different x.successors) s specs in
+    let b = sum_by-cons (λ (row : List ℕ). length row) s.successors (successor_lists specs) in
+    omega (arith, a, b, different_most s.successors, edges_most specs)
 
 pub lines-preserved : goal.lines-preserved
 lines-preserved c =

@@ -1,9 +1,63 @@
-use Rattle.pg_game.proofs.Common.{rules}
-use Rattle.pg_game.proofs.Common.{◌≤◌, sym, ◌∙◌, arith, get_or_read, edges, max_edges}
-use Rattle.pg_game.proofs.Sound.{unknown_named, rows_sound}
-use Rattle.pg_game.proofs.Placing.{unknown_at, all_known, placed_specs, few_edges}
+use Rattle.pg_game.proofs.Common.{rules, ◌≤◌, sym, ◌∙◌, arith, get_or_read, edges, max_edges, ◌≡◌, ℕ, ◌<◌, ◌↔◌, List, length, get_or, refl, ap, subst, None}
+use Rattle.pg_game.proofs.Common.{Some, Contains, IsPermutation, IsPermutation-sym, Contains-permutation, IsStrictlyIncreasing, get_or_default, Player, Spec}
+use Rattle.pg_game.proofs.Common.{ids_of, first_outside, Bool, false, cases_lt, first_unspecified, first_unknown, AreParts, AreNamed, ArePlacedSpecs, row_at}
+use Rattle.pg_game.proofs.Common.{specs_from}
+use Rattle.pg_game.proofs.Sound.{unknown_named, rows_sound, none_unknown}
 use Rattle.pg_game.proofs.Taken.{length_is}
+use Rattle.std.specs.Prelude.{IsTrue}
+use Rattle.pg_game.proofs.Unknown.{to_specified, outside_is, unknown_here, unknown_before}
+use Rattle.pg_game.proofs.Naming.{all_places}
 use Rattle.pg_game.proofs.flat.Specs.placed.Goals as goal
+use Rattle.pg_game.proofs.Taken as taken
+
+module _ {ids ps : List ℕ} {os : List Player} {rows : List (List ℕ)} (a : AreParts ids ps os rows) {ss : List Spec} (is : specs_from ids ps os rows ≡ ss)
+    {identifiers : List ℕ} (moved : IsPermutation (ids_of ss) identifiers) where
+  n : length ss ≡ length rows
+  n = taken.length_is a is ∙ sym a.successors
+
+  row_of : (v : ℕ) (d : Spec) → v < length ss → (get_or ss v d).successors ≡ row_at rows v
+  row_of v d l = ap (λ (s : Spec). s.successors) (taken.spec_is a is v d l)
+
+  -- the first row with an identifier that has no place names the first successor that is not specified
+  unknown_at : (v i : ℕ) → v < length rows → first_outside identifiers (row_at rows v) ≡ Some i →
+      ((u : ℕ) → u < v → first_outside identifiers (row_at rows u) ≡ None) → first_unknown ss ss ≡ Some (get_or ids v 0, i)
+  unknown_at v i l e before =
+      let m : v < length ss = omega (arith, l, n) in
+      let s = taken.spec_in a v in
+      unknown_before ss v (omega (arith, m)) (λ u d k.
+      let o : u < length ss = omega (arith, k, m) in
+      ap (λ (xs : List ℕ). first_unspecified ss xs) (row_of u d o) ∙ (sym (outside_is ss identifiers (row_at rows u) moved) ∙ before u k))
+      ∙ unknown_here ss v s m (sym (taken.spec_is a is v s m)) i (sym (outside_is ss identifiers (row_at rows v) moved) ∙ e)
+
+  -- where each identifier has a place, each successor is specified
+  all_known : (new : List (List ℕ)) → ((v : ℕ) → v < length rows → AreNamed identifiers (row_at rows v) (row_at new v)) → first_unknown ss ss ≡ None
+  all_known new each = none_unknown ss ss (λ s (v, l, e) i m.
+      let row : s.successors ≡ row_at rows v = sym (ap (λ (t : Spec). t.successors) e) ∙ row_of v s l in
+      let k = subst (λ (xs : List ℕ). Contains xs i) row m in
+      let p = (each v (omega (arith, l, n))).each k.0 k.1 in
+      let at = p.1 ∙ (get_or_default (row_at rows v) k.0 0 i k.1 ∙ k.2) in
+      let w = get_or (row_at new v) k.0 0 in
+      let in_names : Contains identifiers i = (w, p.0, get_or_default identifiers w i 0 p.0 ∙ at) in
+      to_specified ss i (Contains-permutation identifiers (ids_of ss) i (IsPermutation-sym (ids_of ss) identifiers moved) in_names))
+
+  parts_placed : (new : List (List ℕ)) → length new ≡ length rows → AreParts ids ps os new
+  parts_placed new e = record { priorities = a.priorities; owners = a.owners; successors = e ∙ a.successors }
+
+  placed_specs : (new risen : List (List ℕ)) → length risen ≡ length rows →
+      ((v : ℕ) → v < length rows → AreNamed identifiers (row_at rows v) (row_at new v)) → ((v : ℕ) → v < length rows → IsStrictlyIncreasing (row_at risen v)) →
+      ((v w : ℕ) → v < length rows → Contains (row_at new v) w ↔ Contains (row_at risen v) w) → ArePlacedSpecs identifiers ss (specs_from ids ps os risen)
+  placed_specs new risen size each up same =
+      let b : AreParts ids ps os risen = parts_placed risen size in
+      record {
+        size = taken.length_specs b ∙ sym (taken.length_is a is);
+        each = λ v d l.
+            (let k : v < length rows = omega (arith, l, n) in
+            rw (taken.spec_is a is v d l, taken.spec_at b v d (omega (arith, k, a.successors)))
+            record { id = refl; priority = refl; owner = refl; successors = all_places (each v k) (up v k) (λ w. same v w k) });
+      }
+
+few_edges : (b : Bool) (specs : List Spec) → (IsTrue b ↔ (max_edges < edges specs)) → b ≡ false → edges specs ≤ max_edges
+few_edges b specs h f = search (rules, cases_lt)
 
 pub place-requires : goal.place-requires
 place-requires c = omega (arith, length_is c.self.invariant c.self.view_is, c.self.invariant.successors, c.requires.few)
