@@ -64,12 +64,7 @@ module _ {sound : Bool} {ts : List Token} {s : State} {specs : List Spec} {id pr
   pub goes_on : (t : Token) {r q : Reading} {specs' : List Spec} {id' priority' : ℕ} {owner' : Player} {successors' : List ℕ} → k.read ≡ r → step r t ≡ Some q
       → (sound ≡ true → HoldsRead r specs id priority owner successors → HoldsRead q specs' id' priority' owner' successors')
       → Read sound (ts ++ t ∷ []) (reader_state q) specs' id' priority' owner' successors'
-  goes_on t {r} {q} e f a = record {
-    read = q;
-    ran = search (rules, run-append, k.ran);
-    state_is = refl;
-    agrees = λ u. a u (as_read r e u);
-  }
+  goes_on t {r} {q} e f a = search (rules, run-append, as_read, k.ran)
 
   pub semicolon_line : (s ≡ state.Successor) ⊎ (s ≡ state.Named) → {left : List ℕ}
       → Read sound (ts ++ Semicolon ∷ []) state.Ready (specs ++ spec id priority owner successors ∷ []) id priority owner left

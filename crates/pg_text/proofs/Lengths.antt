@@ -2,7 +2,7 @@
 use Rattle.pg_text.proofs.Common.{ℕ, ◌+◌, ◌*◌, ◌<◌, ◌≤◌, List, [], ◌∷◌, ◌++◌, length, map, arith, length-append, numeral, rules, Option, None, IfSome}
 use Rattle.pg_text.proofs.Common.{codes, flat_map, AllByRecursion, join_with_byte, Player, digit_of, Graph, Vertex, IsGame, id_of, no_vertex, max_number}
 use Rattle.pg_text.proofs.Common.{IsWithinLimits, SolutionRows, AreSolutionRows, greatest_id, written_vertex, written_game, written_choice, written_rows}
-use Rattle.pg_text.proofs.Common.{written_solution, written_winners, ◌≡◌, drop, drop_more, successors_of, vertex_at}
+use Rattle.pg_text.proofs.Common.{written_solution, written_winners, ◌≡◌, drop, drop_more, successors_of}
 use Rattle.std.specs.Prelude.{sum_by}
 use Rattle.std.proofs.Math.Nat.{mul-le-mul_right}
 use Rattle.std.proofs.lemmas.List.Concat.{flat_map-cons}
@@ -110,13 +110,7 @@ long_line g x h = long_parts g x x.successors h
 -- one line more of a game
 pub long_lines : (g : Graph) (v : ℕ) → v < length g → 0 < length (successors_of g v)
     → 7 + 2 * length (successors_of g v) + length (flat_map (written_vertex g) (drop (v + 1) g)) ≤ length (flat_map (written_vertex g) (drop v g))
-long_lines g v l h =
-    let one = long_line g (vertex_at g v) h in
-    let both = length-append (written_vertex g (vertex_at g v)) (flat_map (written_vertex g) (drop (v + 1) g)) in
-    rw (drop_more g v no_vertex l) (rw flat_map-cons (rw both (omega (arith, one))))
-
-pub long_game : (g : Graph) → 10 + length (flat_map (written_vertex g) g) ≤ length (written_game g)
-long_game g = search (rules, length-append, some_digits)
+long_lines g v l h = search (rules, long_line, length-append, drop_more, flat_map-cons)
 
 long_rows : (g : Graph) (xs : List Vertex) (rows : SolutionRows) → length rows ≡ length xs → 5 * length xs ≤ length (written_rows g xs rows)
 long_rows g [] rows e = omega arith

@@ -8,7 +8,6 @@ pub mod Parse
 pub mod Stages
 pub mod OneFault
 pub mod OneSolutionFault
-pub mod NoFault
 pub mod Runs
 pub mod Next
 pub mod Reach
@@ -21,11 +20,9 @@ pub mod GameRun
 pub mod GameReads
 pub mod Parsing
 pub mod WrittenSpells
-pub mod ReadGame
 pub mod Identifiers
 pub mod SolutionTable
 pub mod WrittenReads
-pub mod RowsFit
 pub mod RowsRead
 pub mod KnownLines
 pub mod Lengths

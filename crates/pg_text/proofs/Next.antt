@@ -22,12 +22,6 @@ module _ (text : List ℕ) (from : ℕ) (inside : from < length text) where
       → IsToken text from from to (Word run)
   word_at to run r p e = from_body (Word run) to run r.split r.end (search (rules, drop_more), r.passes, refl) e
 
-  pub comma_at : get_or text from 0 ≡ 44 → IsToken text from from (from + 1) Comma
-  comma_at e = from_body Comma (from + 1) (44 ∷ []) (drop_more text from 0 inside ∙ ap (λ b. b ∷ drop (from + 1) text) e) (omega arith) refl tt
-
-  pub semicolon_at : get_or text from 0 ≡ 59 → IsToken text from from (from + 1) Semicolon
-  semicolon_at e = from_body Semicolon (from + 1) (59 ∷ []) (drop_more text from 0 inside ∙ ap (λ b. b ∷ drop (from + 1) text) e) (omega arith) refl tt
-
   pub nothing_at : is_blank (get_or text from 0) ≡ false
       → ((begins_token (get_or text from 0) ≡ false) ⊎ ((get_or text from 0 ≡ 34) × AllAre is_no_quote (drop (from + 1) text))) → IsNoToken text from from
   nothing_at s w = record {

@@ -1,4 +1,5 @@
 -- Numerals, digit by digit: they are the library's decimals where these are whole, and they spell their numbers.
+use Rattle.pg_text.proofs.Common.{rules}
 use Rattle.pg_text.proofs.Common.{◌≡◌, ℕ, zero, suc, ◌+◌, ◌^◌, ◌<◌, ◌≤◌, List, [], ◌∷◌, ◌++◌, length, map, refl, sym, ◌∙◌, ap, subst, arith, inl, inr}
 use Rattle.pg_text.proofs.Common.{cases_lt, nat_tests, length-append, map-append, AllAre, is_digit, value_of, numeral}
 use Rattle.std.proofs.Common.{◌/◌, ◌%◌}
@@ -26,11 +27,7 @@ one_digit (suc n) h =
 
 -- that of another is the numeral of a tenth of it, and then its last digit
 pub more_digits : (n : ℕ) → 10 ≤ n → numeral n ≡ numeral (n / 10) ++ (48 + n % 10) ∷ []
-more_digits n h =
-    by_digits n (omega arith)
-    ∙ (ap (map (λ d. 48 + d)) (digits_of_step 10 n (omega arith) (omega arith))
-    ∙ (map-append (λ d. 48 + d) (digits_of 10 (n / 10)) (n % 10 ∷ [])
-    ∙ ap (λ (ds : List ℕ). ds ++ (48 + n % 10) ∷ []) (sym (by_digits (n / 10) (omega arith)))))
+more_digits n h = search (rules, by_digits, digits_of_step, map-append)
 
 -- what holds of one digit, and of more digits with one behind them, holds of each numeral
 module _ (P : ℕ → List ℕ → Type 0) (one : (n : ℕ) → n < 10 → P n ((48 + n) ∷ []))

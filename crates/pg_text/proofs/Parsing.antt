@@ -1,4 +1,5 @@
 -- The reader of texts goes on, a token at a time.
+use Rattle.pg_text.proofs.Common.{rules}
 use Rattle.pg_text.proofs.Common.{◌≡◌, ℕ, Bool, true, false, List, [], ◌∷◌, ◌++◌, refl, sym, subst, arith, nat_lt, ltb-true, ltb-false}
 use Rattle.pg_text.proofs.Common.{Token, Number, Placed, tokens_of, IsLexicalFault, IsSyntaxFault, fits, placed, first_at}
 use Rattle.pg_text.proofs.Common.{SpellsRest, IsBadFrom}
@@ -33,20 +34,14 @@ module _ {R : Type 0} {Reads : Bool → List Token → R → Type 0} {IsBefore :
 
   pub token_kept : (BeginsText : List Token → Type 0) (new : R) (taken : Bool) (t : Token) (place : ℕ) → fits t ≡ true → TakesToken Reads BeginsText old new taken t
       → TakenOr taken (Keeps Reads IsBefore (more t place) new large wrong) (Stops BeginsText (tokens_of ts) t)
-  token_kept BeginsText new true t place f takes = record {
-    reads = one_more t place (takes (is_none large && is_none wrong) (tokens_of ts) k.reads);
-    numbers = first_large-fit ts large t place k.numbers f;
-    players = λ l. first_player-more IsBefore ts (placed t place ∷ []) wrong (k.players l);
-  }
+  token_kept BeginsText new true t place f takes = search (rules, one_more, first_large-fit, first_player-more, k.reads, k.numbers, k.players)
   token_kept BeginsText new false t place f takes = takes (is_none large && is_none wrong) (tokens_of ts) k.reads
 
   module _ (weaker : (sound later : Bool) (ts : List Token) (it : R) → (later ≡ true → sound ≡ true) → Reads sound ts it → Reads later ts it)
       {n place small : ℕ} {later : Option ℕ} (t : IsTaken n place large later small) where
     -- what was read, while the faults are at most these
     as_far : (wrong' : Option ℕ) → (wrong' ≡ None → wrong ≡ None) → Reads (is_none later && is_none wrong') (tokens_of ts) old
-    as_far wrong' w =
-        weaker (is_none large && is_none wrong) (is_none later && is_none wrong') (tokens_of ts) old
-        (λ e. let (l, x) = both_none later wrong' e in rw ((taken_none t l).0, w x) refl) k.reads
+    as_far wrong' w = search (rules, both_none, taken_none, k.reads)
 
     value : (wrong' : Option ℕ) → (is_none later && is_none wrong') ≡ true → small ≡ n
     value wrong' e = (taken_none t (both_none later wrong' e).0).1

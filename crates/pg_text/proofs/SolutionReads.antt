@@ -61,12 +61,7 @@ module _ {sound : Bool} {ts : List Token} {s : State} {lines : List WrittenSolut
   pub goes_on : (t : Token) {r q : Reading} {lines' : List WrittenSolutionLine} {id' winner' : ℕ} {choice' : Option ℕ} → k.read ≡ r → step r t ≡ Some q
       → (sound ≡ true → HoldsRead r lines id winner choice → HoldsRead q lines' id' winner' choice')
       → Read sound (ts ++ t ∷ []) (reader_state q) lines' id' winner' choice'
-  goes_on t {r} {q} e f a = record {
-    read = q;
-    ran = search (rules, run-append, k.ran);
-    state_is = refl;
-    agrees = λ u. a u (as_read r e u);
-  }
+  goes_on t {r} {q} e f a = search (rules, run-append, as_read, k.ran)
 
   pub semicolon_line : (s ≡ state.Winner) ⊎ (s ≡ state.Choice)
       → Read sound (ts ++ Semicolon ∷ []) state.Ready (lines ++ line id winner choice ∷ []) id winner choice

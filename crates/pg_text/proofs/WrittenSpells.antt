@@ -1,5 +1,5 @@
 -- The written text of a game or of a solution spells one text.
-use Rattle.pg_text.proofs.Common.{◌≡◌, ℕ, ◌+◌, ◌-◌, ◌<◌, ◌≤◌, suc, get_or, true, List, [], ◌∷◌, ◌++◌, length, map, refl, sym, ◌∙◌, ap, subst, arith}
+use Rattle.pg_text.proofs.Common.{◌≡◌, ℕ, ◌+◌, ◌-◌, ◌<◌, ◌≤◌, suc, get_or, true, List, [], ◌∷◌, ◌++◌, length, map, refl, sym, ap, subst, arith}
 use Rattle.pg_text.proofs.Common.{append_assoc, numeral, rules, flat_map, codes, option_map, IfSome, AllByRecursion, join_with_byte, le-leb}
 use Rattle.pg_text.proofs.Common.{length-map, Player, digit_of, Graph, Vertex, id_of, owner_of, IsGame, no_vertex, successors_of, Token, Number}
 use Rattle.pg_text.proofs.Common.{Word, Comma, Semicolon, IsSpelling, IsWhole, Placed, tokens_of, Begins, Spells, is_blank, is_digit, is_letter, AllAre}
@@ -113,22 +113,7 @@ map-twice g (w ∷ ws) = ap (λ xs. numeral (id_of g w) ∷ xs) (map-twice g ws)
 
 spells_line : {rest : List ℕ} {ts : List Token} (g : Graph) (x : Vertex) → HasSuccessors g x → SpellsTokens rest ts
     → SpellsTokens (written_vertex g x ++ rest) (games.game_line_tokens (line_of g x) ++ ts)
-spells_line {rest = rest} {ts = ts} g x h s =
-    let owner : ℕ = digit_of x.owner in
-    let ids : List ℕ = map (λ w. id_of g w) x.successors in
-    let numbers : List Token = Number x.id ∷ Number x.priority ∷ Number owner ∷ [] in
-    let e : written_vertex g x ++ rest ≡ numeral x.id
-    ++ (32 ∷ (numeral x.priority ++ (32 ∷ (numeral owner ++ (32 ∷ (join_with_byte 44 (map numeral ids) ++ (59 ∷ 10 ∷ rest))))))) =
-    ap (λ ds. (numeral x.id ++ (32 ∷ numeral x.priority ++ (32 ∷ numeral owner ++ (32 ∷ join_with_byte 44 ds ++ codes ";\n")))) ++ rest)
-    (map-twice g x.successors)
-    ∙ simp append_assoc in
-    let f : games.game_line_tokens (line_of g x) ++ ts ≡ numbers ++ (separated ids ++ Semicolon ∷ ts) =
-    ap (λ us. numbers ++ us) (append_assoc (separated ids) (Semicolon ∷ []) ts) in
-    let a = spells_blank 32 refl (spells_list ids h (spells_end s) refl) in
-    let b = spells_blank 32 refl (spells_number owner a refl) in
-    let c = spells_blank 32 refl (spells_number x.priority b refl) in
-    subst (λ us. SpellsTokens (written_vertex g x ++ rest) us) (sym f)
-    (subst (λ (xs : List ℕ). SpellsTokens xs (numbers ++ (separated ids ++ Semicolon ∷ ts))) (sym e) (spells_number x.id c refl))
+spells_line {rest = rest} {ts = ts} g x h s = search (rules, map-twice, append_assoc, spells_blank, spells_list, spells_end, spells_number, x.owner, x.successors, x.id, x.priority, games.game_line_tokens)
 
 spells_lines : (g : Graph) (xs : List Vertex) → AllByRecursion (HasSuccessors g) xs
     → SpellsTokens (flat_map (written_vertex g) xs) (flat_map games.game_line_tokens (map (λ x. line_of g x) xs))
@@ -180,13 +165,7 @@ module _ (g : Graph) (i : IsGame g) where
       (spells_header (codes "parity") (greatest_id g) (omega arith) (refl, (refl, (refl, (refl, (refl, (refl, tt)))))) lines).from 0
 
   pub written_grammar : (ts : List Token) → ts ≡ written_tokens → IsGameText ts (written_lines g)
-  written_grammar ts e = record {
-    header = Some (greatest_id g);
-    start = None;
-    tokens = e;
-    nonempty = let h = i.nonempty in let n = length-map g (λ x. line_of g x) in omega arith;
-    successors = all-map (λ x. line_of g x) (λ l. 0 < length l.successors) g (have_successors g i);
-  }
+  written_grammar ts e = search (rules, length-map, all-map, have_successors, i.nonempty)
 
   pub written_owners : AllByRecursion (λ l. l.owner < 2) (written_lines g)
   written_owners = all-map (λ x. line_of g x) (λ l. l.owner < 2) g (all_from_places (λ x. digit_of x.owner < 2) no_vertex g (λ v l. owner_small (owner_of g v)))
@@ -239,12 +218,7 @@ fits_separated (n ∷ m ∷ ns) a = (fits_number n a.0, (refl, fits_separated (m
 fits_lines : (g : Graph) (xs : List Vertex) → AllByRecursion (λ x. HasNumbers (λ n. n ≤ max_number) g x) xs
     → AllFit (flat_map games.game_line_tokens (map (λ x. line_of g x) xs))
 fits_lines g [] a = tt
-fits_lines g (x ∷ xs) a =
-    let s = a.0 in
-    let ids : List ℕ = map (λ w. id_of g w) x.successors in
-    let rest = all-append (λ t. fits t ≡ true) (separated ids) (Semicolon ∷ []) (fits_separated ids s.successors) (refl, tt) in
-    all-append (λ t. fits t ≡ true) (games.game_line_tokens (line_of g x)) (flat_map games.game_line_tokens (map (λ x. line_of g x) xs))
-    (fits_number x.id s.id, (fits_number x.priority s.priority, (search rules, rest))) (fits_lines g xs a.1)
+fits_lines g (x ∷ xs) a = search (rules, fits_lines g xs a.1, all-append, fits_separated, fits_number, games.game_line_tokens)
 
 -- the written text of a game spells a game text of its own lines
 pub written_game_spells : (g : Graph) → IsGame g → IsWithinLimits g → SpellsGame (written_game g) (written_lines g)

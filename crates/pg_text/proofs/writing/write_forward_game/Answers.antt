@@ -1,5 +1,6 @@
+use Rattle.pg_text.proofs.Common.{rules}
 use Rattle.std.proofs.lemmas.List.{drop_all}
-use Rattle.pg_text.proofs.Common.{◌≡◌, ◌++◌, ◌∙◌, [], ap, append-nil, drop, length, List, ℕ, arith, length-append, flat_map, sym, Vertex, written_vertex}
+use Rattle.pg_text.proofs.Common.{ap, append-nil, drop, length, List, ℕ, arith, length-append, flat_map, written_vertex}
 use Rattle.pg_text.proofs.Lengths.{short_game}
 use Rattle.pg_text.proofs.writing.write_forward_game.Goals as goal
 
@@ -12,8 +13,4 @@ returns-clause-short c =
     omega (arith, short_game g c.len-v-end.ensures.game c.len-v-end.ensures.limits)
 
 pub returns-clause-text : goal.returns-clause-text
-returns-clause-text c =
-    let g = c.args.game.now in
-    let last : drop c.vertices.v g ≡ [] = drop_all c.vertices.v g (omega arith) in
-    sym (append-nil c.vertices.out.items)
-    ∙ (ap (λ (xs : List Vertex). c.vertices.out.items ++ flat_map (written_vertex g) xs) (sym last) ∙ c.vertices.invariant)
+returns-clause-text c = search (rules, drop_all, append-nil, c.args.game.now, c.vertices.v, c.vertices.out.items, c.vertices.invariant)

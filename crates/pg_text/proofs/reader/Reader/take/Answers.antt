@@ -1,4 +1,5 @@
-use Rattle.pg_text.proofs.Common.{refl, subst, List, ℕ, Word, Name, Comma, Semicolon}
+use Rattle.pg_text.proofs.Common.{rules}
+use Rattle.pg_text.proofs.Common.{refl, subst, List, ℕ, Word, Name, Comma}
 use Rattle.pg_text.specs.declared.lexer.Kind.TheVariants as kind
 use Rattle.pg_text.specs.private.Grammar.{TakesToken}
 use Rattle.pg_text.proofs.Next.{word_bytes}
@@ -28,10 +29,4 @@ returns-in-Comma g c at i e b =
     (Comma, of_kind kind.Comma c.args.text.now at c.args.lexeme c.in-Comma.is i, λ ts k. token_kept k g.G.Grammar.BeginsText _ _ Comma c.args.lexeme.from refl c.comma.ensures)
 
 pub returns-in-Semicolon : goal.returns-in-Semicolon
-returns-in-Semicolon g c =
-    if_ok c.semicolon.result
-    (λ taken takes at i e b. (
-      Semicolon,
-      of_kind kind.Semicolon c.args.text.now at c.args.lexeme c.in-Semicolon.is i,
-      λ ts k. token_kept k g.G.Grammar.BeginsText _ _ Semicolon c.args.lexeme.from refl takes,
-    )) c.semicolon.ensures
+returns-in-Semicolon g c = search (rules, if_ok, of_kind, token_kept, c.semicolon.result, kind.Semicolon, c.args.text.now, c.args.lexeme, c.in-Semicolon.is, g.G.Grammar.BeginsText, c.args.lexeme.from, c.semicolon.ensures)
