@@ -1,6 +1,6 @@
 //! A worker: it draws a job, calls the finder on a copy of the unsettled part, checks each claim on the copy's game without
 //! the lock, settles the checked claims, counts the answers, and draws again until no job is left.
-ghost use Rattle.std.specs.Prelude.{◌≡◌, ◌+◌, ◌^◌, ◌≤◌, ◌<◌, ℕ, All, false, true, IfOk, OnErr, Result, Some, length, map};
+ghost use Rattle.std.specs.Prelude.{◌≡◌, ◌+◌, ◌^◌, ◌≤◌, ◌<◌, ℕ, All, false, true, IfOk, IsFalse, OnErr, Result, Some, length, map};
 ghost use Rattle.std.specs.Vec.{vec_capacity};
 ghost use Rattle.pg_board.specs.declared.refusal.Refusal.{Refusal};
 ghost use Rattle.pg_workers.specs.private.Answers.{AreNoted, IsAnswerTo, IsJobRow, drawn_row};
@@ -218,7 +218,7 @@ fn do_job<L: Ledger, G: Gate, F: Finder, R: Wait>(
 }
 
 impl<L: Ledger, J: Naming> Slot<L, J> {
-    /// Draws a number and does its job, unless no job is left.
+    /// Draws a number and does its job, unless no job is left. Returns whether one was.
     fn turn<G: Gate, F: Finder, R: Wait>(
         &mut self,
         rt: &R,
@@ -229,6 +229,7 @@ impl<L: Ledger, J: Naming> Slot<L, J> {
     ) -> bool
         requires jobs { jobs.now.series ≡ J.series }
         requires task { J.series.total ≡ total_of task.now.options.now.bound task.now.size }
+        ensures { IsFalse result → self.new.ticket.told_none ≡ true }
     {
         let Slot {
             worker,
@@ -245,7 +246,7 @@ impl<L: Ledger, J: Naming> Slot<L, J> {
         true
     }
 
-    /// A worker's whole run.
+    /// A worker's whole run: it ends once a draw has found no job left.
     pub(crate) fn work<G: Gate, F: Finder, R: Wait>(
         &mut self,
         rt: &R,
@@ -256,6 +257,7 @@ impl<L: Ledger, J: Naming> Slot<L, J> {
     )
         requires jobs { jobs.now.series ≡ J.series }
         requires task { J.series.total ≡ total_of task.now.options.now.bound task.now.size }
+        ensures { self.new.ticket.told_none ≡ true }
     {
         for _ in rt.forever() {
             if !self.turn(rt, alloc, office, jobs, task) {
