@@ -1,5 +1,4 @@
 -- The recursion: lemmas.
-pub mod Attracted
 pub mod Waiting
 pub mod UnderWay
 pub mod Listed

@@ -1,5 +1,5 @@
 //! Whether all choices at the last vertices of an unfinished claim lead out of it. Changes nothing.
-ghost use Rattle.std.specs.Prelude.{◌≡◌, ℕ, ◌+◌, ◌-◌, ◌*◌, ◌≤◌, ◌<◌, ◌^◌, length, IfSome, IsFalse};
+ghost use Rattle.std.specs.Prelude.{◌≡◌, ◌≢◌, ℕ, ◌+◌, ◌-◌, ◌*◌, ◌≤◌, ◌<◌, ◌^◌, length, IfSome, IsFalse};
 ghost use Rattle.pg_game.specs.Graph.{HasEdge, owner_of};
 ghost use Rattle.pg_game.specs.VertexSet.{In, members};
 ghost use Rattle.pg_finders.specs.Finding.{most_choices, inner_degree, AtMostInside};
@@ -53,6 +53,7 @@ impl<'a> DominionSearch<'a> {
         ensures refused { IfSome result (λ _. IsRefused self.now.game.now (members self.now.mask.now) self.now.player
             self.now.excluded.low self.now.excluded.high chosen.now v) }
         ensures most { IfSome result (λ count. count ≤ inner_degree self.now.game.now (members self.now.mask.now) v) }
+        ensures others { IfSome result (λ count. owner_of self.now.game.now v ≢ self.now.player → count ≡ 0) }
         ensures short { IfSome result (λ count. count < 2 ^ 32) }
     {
         if self.excluded.contains(v) {
