@@ -12,11 +12,9 @@ use Rattle.pg_board.specs.declared.entry.Posted.{Posted}
 one_of_caller : (e : Entry) (p : Player) → e.worker ≡ 0 → e.player ≡ p → AreOfCaller (p ∷ []) (e ∷ [])
 one_of_caller e p worker player = record { worker = search rules; posted = λ _. true; order = ap (λ (q : Player). q ∷ []) player }
 
-pub none_of_caller : (p : Player) → AreOfCaller (p ∷ []) []
-none_of_caller p = record { worker = search rules; posted = λ _. false; order = refl }
-
-pub none_of_both : AreOfCaller (Even ∷ Odd ∷ []) []
-none_of_both = record { worker = search rules; posted = λ _. false; order = refl }
+none_of : (ps : List Player) → [] ≡ filter (λ (_ : Player). false) ps
+none_of [] = refl
+none_of (p ∷ ps) = none_of ps
 
 abbrev for_each : Bool → Bool → Player → Bool
 for_each even odd Even = even
@@ -48,22 +46,13 @@ one_later old new claim posted same adds = record {
   by_caller = one_of_caller adds.entry claim.player adds.by_worker adds.answers.player;
 }
 
-pub none_later : (old new : Play) (p : Player) → new ≡ old → IsLater (p ∷ []) old new
-none_later old new p same = record {
+pub none_later : (old new : Play) (ps : List Player) → new ≡ old → IsLater ps old new
+none_later old new ps same = record {
   graph = ap (λ (x : Play). x.graph) same;
   added = [];
   journal = ap (λ (x : Play). x.journal) same ∙ sym (append-nil old.journal);
   few = omega arith;
-  by_caller = none_of_caller p;
-}
-
-pub none_later_of_two : (old new : Play) → new ≡ old → IsLater (Even ∷ Odd ∷ []) old new
-none_later_of_two old new same = record {
-  graph = ap (λ (x : Play). x.graph) same;
-  added = [];
-  journal = ap (λ (x : Play). x.journal) same ∙ sym (append-nil old.journal);
-  few = omega arith;
-  by_caller = none_of_both;
+  by_caller = record { worker = search rules; posted = λ _. false; order = none_of ps };
 }
 
 pub both_later : (old mid new : Play) (g : Graph) (U : VertexSet) (even odd : Claim) → AreClaims g U even odd → IsLater (even.player ∷ []) old mid

@@ -132,7 +132,7 @@ module _ (g : Graph) (game : IsGame g) (known : KnownRows) (sized : length known
     pub settles_nothing : (journal : Journal) → HasNone journal p
         → SettlesKnown (record { graph = g; journal = journal }) (record { graph = g; journal = journal }) known p
     settles_nothing journal none =
-        let later = none_later (record { graph = g; journal = journal }) (record { graph = g; journal = journal }) p refl in
+        let later = none_later (record { graph = g; journal = journal }) (record { graph = g; journal = journal }) (p ∷ []) refl in
         grind (arith, empty_region, none_attracted, none_distinct, later)
 
   module _ (journal : Journal) (none : HasNone journal p) where

@@ -45,7 +45,7 @@ fn solve_rest(alloc: Global, board: &mut Board<'_>) -> Result<(), Memory>
 }
 
 /// Settles all unsettled vertices by at most two entries of worker 0. A full board is unchanged.
-#[tactic(auto, using(crate::proofs::Calling::none_later_of_two))]
+#[tactic(auto, using(crate::proofs::Calling::none_later))]
 pub(crate) fn settle_rest(alloc: Global, board: &mut Board<'_>) -> Result<(), Memory>
     ensures full { OnOk result (IsFull board.new.graph (state_of board.new.journal)) }
     ensures later { OnOk result (IsLater (Even ∷ Odd ∷ []) board.old board.new) }
