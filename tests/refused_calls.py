@@ -102,7 +102,7 @@ class Refusing(unittest.TestCase):
 class Program(Refusing):
     def is_right(self, words, given, whole, got):
         """Whether an answer is the one with all memory, or another solution or history of the game."""
-        if got[2] or got[0] or words[:1] not in (["solve"], ["trace"]) or "--winners" in words:
+        if got == whole or got[2] or got[0] or words[:1] not in (["solve"], ["trace"]) or "--winners" in words:
             return got == whole
         game = plain.game_of(given)
         if words[0] == "solve":
