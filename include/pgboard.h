@@ -28,8 +28,9 @@ uint32_t pgboard_version(void);
 #define PGBOARD_NO_WINNER 255u
 
 /* The answers; pgboard_strerror has a text for each. In brackets are the fields of `report`, `at` and then `to`. A field
- * without a name there is 0. A call reports the first fault: in the order of each group, for the least vertex and then the
- * least successor. */
+ * without a name there is 0. A call reports the first fault. It looks at the game, then at the solution or at what is known,
+ * then at the struct for results, and at last at what the solution or the known choices mean. Each of these has its faults in
+ * the order below, for the least vertex and then the least successor. */
 #define PGBOARD_OK 0u
 #define PGBOARD_MEMORY 1u
 
@@ -39,9 +40,9 @@ uint32_t pgboard_version(void);
 #define PGBOARD_ROW 3u       /* (the vertex) */
 #define PGBOARD_OWNER 4u     /* (the vertex) */
 #define PGBOARD_PRIORITY 5u  /* (the vertex) */
-#define PGBOARD_RESULTS 6u   /* of struct pgboard_results (one of PGBOARD_ARRAY_*) */
 #define PGBOARD_SOLUTION 8u  /* of struct pgboard_solution (one of PGBOARD_ARRAY_*) */
 #define PGBOARD_WINNER 7u    /* (the vertex) */
+#define PGBOARD_RESULTS 6u   /* of struct pgboard_results (one of PGBOARD_ARRAY_*) */
 
 /* a game */
 #define PGBOARD_NO_VERTEX 10u
@@ -57,7 +58,7 @@ uint32_t pgboard_version(void);
 #define PGBOARD_LEAVES 22u       /* (from, to) */
 #define PGBOARD_CYCLE 23u        /* (the vertex with that priority) */
 
-/* what is known of a game */
+/* what is known of a game: the choices, then all else of Even's vertices, and then of Odd's */
 #define PGBOARD_KNOWN_CHOICE 60u /* (the vertex) */
 #define PGBOARD_KNOWN_CYCLE 61u  /* (the vertex with that priority) */
 #define PGBOARD_KNOWN_LOST 62u   /* (the vertex) */

@@ -211,8 +211,15 @@ static void refuses_results(void)
     EXPECT(refuses(solve, PGBOARD_RESULTS, PGBOARD_ARRAY_CHOICES, 0));
     EXPECT(refuses(check, PGBOARD_SOLUTION, PGBOARD_ARRAY_CHOICES, 0));
     EXPECT(refuses(solve_known, PGBOARD_RESULTS, PGBOARD_ARRAY_CHOICES, 0));
+    game.known_winners[1] = 2;
+    EXPECT(refuses(solve_known, PGBOARD_WINNER, 1, 0));
     game.known_choices_len = 1;
     EXPECT(refuses(solve_known, PGBOARD_SOLUTION, PGBOARD_ARRAY_CHOICES, 0));
+    /* what is known is looked at once the results fit */
+    two();
+    game.known_winners[0] = 0;
+    game.choices_len = 3;
+    EXPECT(refuses(solve_known, PGBOARD_RESULTS, PGBOARD_ARRAY_CHOICES, 0));
 }
 
 /* What is known of the two vertices, and the answer and what is reported. */
@@ -393,6 +400,144 @@ static void refuses_long_texts(void)
     free(text);
 }
 
+#define LAST (MOST - 1)
+
+/* A game of 70,000 vertices, each with an edge to itself alone: Even owns and wins all. */
+static void many(void)
+{
+    static char owners[MOST];
+    static uint32_t priorities[MOST], places[MOST + 1];
+    memset(owners, '0', sizeof owners);
+    for (uint32_t v = 0; v <= MOST; v++)
+        places[v] = v;
+    set(MOST, owners, priorities, places, places);
+}
+
+/* The last vertex of many is at fault. */
+static void refuses_the_last_of_many(void)
+{
+    many();
+    game.targets_len--;
+    EXPECT(all_refuse(PGBOARD_LENGTHS, PGBOARD_ARRAY_TARGETS, 0));
+    game.targets_len++;
+    game.owners[LAST] = 2;
+    EXPECT(all_refuse(PGBOARD_OWNER, LAST, 0));
+    game.owners[LAST] = 0;
+    game.priorities[LAST] = 2147483648u;
+    EXPECT(all_refuse(PGBOARD_PRIORITY, LAST, 0));
+    game.priorities[LAST] = 0;
+    game.targets[LAST] = MOST;
+    EXPECT(all_refuse(PGBOARD_UNKNOWN, LAST, MOST));
+    game.starts[LAST] = MOST;
+    EXPECT(all_refuse(PGBOARD_NO_SUCCESSOR, LAST, 0));
+    game.starts[LAST] = MOST + 1;
+    EXPECT(all_refuse(PGBOARD_ROW, LAST - 1, 0));
+    many();
+    game.choices_len = game.known_choices_len = LAST;
+    EXPECT(refuses(solve, PGBOARD_RESULTS, PGBOARD_ARRAY_CHOICES, 0));
+    EXPECT(refuses(check, PGBOARD_SOLUTION, PGBOARD_ARRAY_CHOICES, 0));
+    EXPECT(refuses(solve_known, PGBOARD_SOLUTION, PGBOARD_ARRAY_CHOICES, 0));
+    many();
+    EXPECT(solve() == PGBOARD_OK && game.winners[LAST] == 0 && game.choices[LAST] == LAST);
+    EXPECT(refuses(check, PGBOARD_OK, 0, 0));
+    game.choices[LAST] = PGBOARD_NO_CHOICE;
+    EXPECT(refuses(check, PGBOARD_NO_CHOICE_AT, LAST, 0));
+    game.choices[LAST] = 0;
+    EXPECT(refuses(check, PGBOARD_BAD_CHOICE, LAST, 0));
+    game.winners[LAST] = 1;
+    EXPECT(refuses(check, PGBOARD_CYCLE, LAST, 0));
+    game.targets[LAST] = 0;
+    EXPECT(refuses(check, PGBOARD_LEAVES, LAST, 0));
+    game.winners[LAST] = 2;
+    EXPECT(refuses(check, PGBOARD_WINNER, LAST, 0));
+}
+
+/* What is known of the last vertex of many is at fault. */
+static void takes_what_is_known_of_many(void)
+{
+    many();
+    game.known_winners[LAST] = 2;
+    EXPECT(refuses(solve_known, PGBOARD_WINNER, LAST, 0));
+    game.known_winners[LAST] = 0;
+    EXPECT(refuses(solve_known, PGBOARD_KNOWN_CHOICE, LAST, 0));
+    game.known_winners[LAST] = 1;
+    EXPECT(refuses(solve_known, PGBOARD_KNOWN_CYCLE, LAST, 0));
+    game.targets[LAST] = 0;
+    EXPECT(refuses(solve_known, PGBOARD_KNOWN_LEAVES, LAST, 0));
+    game.known_winners[0] = 0, game.known_choices[0] = 0;
+    EXPECT(refuses(solve_known, PGBOARD_KNOWN_LOST, LAST, 0));
+    game.known_winners[LAST] = PGBOARD_NO_WINNER;
+    EXPECT(solve_known() == PGBOARD_OK && game.winners[LAST] == 0 && game.choices[LAST] == 0);
+}
+
+/* Writes a line for each of so many vertices, which has the vertex, `between` and the vertex again, and then a last one.
+ * Returns the place of the last one. */
+static size_t write_lines(char *into, uint32_t count, const char *between, const char *last)
+{
+    char *end = into;
+    for (uint32_t v = 0; v < count; v++)
+        end += sprintf(end, "%u%s%u;\n", v, between, v);
+    strcpy(end, last);
+    return (size_t)(end - into);
+}
+
+/* The last line of a text of 70,000 lines is at fault: at a byte of that line, or at an identifier. */
+static void refuses_long_lists(void)
+{
+    static char text[20 * MOST], solution[20 * MOST];
+    static const struct {
+        const char *line;
+        uint32_t answer;
+        int is_place;
+        uint64_t at, to;
+    } games[] = {
+        {"?", PGBOARD_GAME_LEXICAL, 1, 0, 0},
+        {",", PGBOARD_GAME_SYNTAX, 1, 0, 0},
+        {"2147483648 0 0 0;", PGBOARD_GAME_NUMBER, 1, 0, 0},
+        {"70000 0 2 0;", PGBOARD_GAME_OWNER, 1, 8, 0},
+        {"69999 0 0 0;", PGBOARD_TWICE, 0, LAST, 0},
+        {"70000 0 0 70001;", PGBOARD_UNKNOWN, 0, MOST, MOST + 1},
+    }, solutions[] = {
+        {"?", PGBOARD_SOLUTION_LEXICAL, 1, 0, 0},
+        {",", PGBOARD_SOLUTION_SYNTAX, 1, 0, 0},
+        {"2147483648 0;", PGBOARD_SOLUTION_NUMBER, 1, 0, 0},
+        {"70000 2;", PGBOARD_SOLUTION_WINNER, 1, 6, 0},
+        {"70000 0;", PGBOARD_SOLUTION_STRANGER, 0, MOST, 0},
+        {"69999 0;", PGBOARD_SOLUTION_TWICE, 0, LAST, 0},
+    };
+    static const struct {
+        const char *vertex, *line;
+        uint32_t answer;
+        uint64_t to;
+    } verdicts[] = {
+        {"69999 0 0 69999;", "", PGBOARD_SOLUTION_MISSING, 0},
+        {"69999 0 0 69999;", "69999 0;", PGBOARD_NO_CHOICE_AT, 0},
+        {"69999 0 0 69999;", "69999 0 0;", PGBOARD_BAD_CHOICE, 0},
+        {"69999 1 1 0;", "69999 1 0;", PGBOARD_LEAVES, 0},
+        {"69999 1 0 69999;", "69999 0 69999;", PGBOARD_CYCLE, 0},
+    };
+    for (size_t k = 0; k < sizeof games / sizeof *games; k++) {
+        uint64_t at = write_lines(text, MOST, " 0 0 ", games[k].line) * (size_t)games[k].is_place + games[k].at;
+        EXPECT(text_refuses(pgboard_solve_text, text, 64, games[k].answer, at, games[k].to));
+        EXPECT(text_refuses(pgboard_tidy_text, text, 64, games[k].answer, at, games[k].to));
+        EXPECT(not_verified(text, "", games[k].answer, at, games[k].to));
+    }
+    size_t size = write_lines(text, MOST, " 0 0 ", "");
+    EXPECT(text_refuses(pgboard_tidy_text, text, 64, PGBOARD_CAPACITY, size + strlen("parity 69999;\n"), 0));
+    for (size_t k = 0; k < sizeof solutions / sizeof *solutions; k++) {
+        size = write_lines(solution, MOST, " 0 ", solutions[k].line);
+        EXPECT(not_verified(text, solution, solutions[k].answer, size * (size_t)solutions[k].is_place + solutions[k].at, 0));
+    }
+    solution[size] = 0;
+    EXPECT(text_refuses(pgboard_solve_text, text, 64, PGBOARD_CAPACITY, size + strlen("paritysol 69999;\n"), 0));
+    EXPECT(not_verified(text, solution, PGBOARD_OK, 0, 0));
+    for (size_t k = 0; k < sizeof verdicts / sizeof *verdicts; k++) {
+        write_lines(text, LAST, " 0 0 ", verdicts[k].vertex);
+        write_lines(solution, LAST, " 0 ", verdicts[k].line);
+        EXPECT(not_verified(text, solution, verdicts[k].answer, LAST, verdicts[k].to));
+    }
+}
+
 /* Refuses each allocation of a call in turn, and counts those that made it answer so. */
 static void refuses_memory(void)
 {
@@ -518,6 +663,9 @@ int main(int argc, char **argv)
     takes_texts();
     refuses_texts();
     refuses_long_texts();
+    refuses_the_last_of_many();
+    takes_what_is_known_of_many();
+    refuses_long_lists();
     refuses_memory();
     refuses_large_games(strtoul(argv[1], NULL, 10), strtoul(argv[2], NULL, 10));
     printf("%d passed, %d failed\n", passed, failed);
