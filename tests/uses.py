@@ -423,7 +423,6 @@ class Explain(Use):
         self.check_damaged(lambda it: self.call(*files(it, solution)), game)
         self.check_damaged(lambda it: self.call(*files(game, it)), solution)
 
-    @common.needs("dot")
     def test_picture(self):
         words = [EXAMPLES / "five_continents.pg", EXAMPLES / "five_continents.wrong"]
         red, dotted = "color=red penwidth=3", "style=dotted"
