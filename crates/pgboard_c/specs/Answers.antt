@@ -48,9 +48,10 @@ IsResultMisfit g r array_name.Winners = length r.winners ≢ length g
 IsResultMisfit g r array_name.Choices = (length r.winners ≡ length g) × (length r.choices ≢ length g)
 IsResultMisfit g r other = ⊥
 
--- the arrays have the one solution's winners, and with its choices they are a solution
+-- the struct fits the game, and its arrays have the one solution's winners, and choices that make them a solution
 abbrev pub AreSolved : GameArrays → ResultArrays → Type 0
-AreSolved a r = (g : Graph) × (rows : SolutionRows) × IsGameOfArrays a g × AreResults r.winners r.choices rows × IsExactSolution g rows
+AreSolved a r =
+    (g : Graph) × (rows : SolutionRows) × IsGameOfArrays a g × HaveSize g r × AreResults r.winners r.choices rows × IsExactSolution g rows
 
 -- why the struct for results does not fit the game's vertices
 abbrev pub AreUnfitResults : Graph → ResultArrays → Fault → Type 0
@@ -70,14 +71,16 @@ IsUnfitSolution g s (fault.Size structure.Solution) = s.size ≢ structure_size 
 IsUnfitSolution g s (fault.Solution name) = (s.size ≡ structure_size structure.Solution) × IsResultMisfit g s name
 IsUnfitSolution g s other = ⊥
 
--- the arrays are a solution
+-- the struct fits the game, and its arrays are a solution
 abbrev pub AreSolution : GameArrays → ResultArrays → Type 0
-AreSolution a s = (g : Graph) × (rows : SolutionRows) × IsGameOfArrays a g × AreResults s.winners s.choices rows × IsSolution g rows
+AreSolution a s =
+    (g : Graph) × (rows : SolutionRows) × IsGameOfArrays a g × HaveSize g s × AreResults s.winners s.choices rows × IsSolution g rows
 
 -- why they are no solution, or not even winners and choices
 abbrev pub IsCheckFault : GameArrays → ResultArrays → Fault → Type 0
 IsCheckFault a s (fault.Size structure.Solution) = (g : Graph) × IsGameOfArrays a g × IsUnfitSolution g s (fault.Size structure.Solution)
 IsCheckFault a s (fault.Solution name) = (g : Graph) × IsGameOfArrays a g × IsUnfitSolution g s (fault.Solution name)
 IsCheckFault a s (fault.Winner v) = (g : Graph) × IsGameOfArrays a g × HaveSize g s × IsLeast (IsBadWinner s.winners) v
-IsCheckFault a s (fault.Verdict f) = (g : Graph) × (rows : SolutionRows) × IsGameOfArrays a g × AreResults s.winners s.choices rows × FailsBy g rows f
+IsCheckFault a s (fault.Verdict f) =
+    (g : Graph) × (rows : SolutionRows) × IsGameOfArrays a g × HaveSize g s × AreResults s.winners s.choices rows × FailsBy g rows f
 IsCheckFault a s other = IsArraysFault a other

@@ -3,7 +3,7 @@ use Rattle.std.specs.Prelude.{ℕ, ◌≡◌, ◌≢◌, ◌<◌, ◌==◌, List
 use Rattle.pg_game.specs.declared.player.Player.{Player}
 use Rattle.pg_game.specs.Graph.{Graph, HasEdge, owner_of}
 use Rattle.pg_game.specs.VertexSet.{In}
-use Rattle.pg_game.specs.Least.{IsLeast}
+use Rattle.pg_game.specs.Least.{NoneHas, IsLeast}
 use Rattle.pg_text.specs.GameText.{player_of}
 use Rattle.pg_text.specs.Known.{KnownRows, known_at, known_of, known_choice}
 use Rattle.pg_text.specs.Solution.{SolutionRows, IsExactSolution}
@@ -16,7 +16,7 @@ use Rattle.pgboard_c.specs.declared.fault.Structure.TheVariants as structure
 use Rattle.pgboard_c.specs.declared.fault.Fault.{Fault}
 use Rattle.pgboard_c.specs.declared.fault.Fault.TheVariants as fault
 use Rattle.pgboard_c.specs.Arrays.{GameArrays, ResultArrays, IsGameOfArrays, AreResults, choice_from}
-use Rattle.pgboard_c.specs.Answers.{HaveSize, IsSolveFault, IsUnfitSolution}
+use Rattle.pgboard_c.specs.Answers.{HaveSize, AreUnfitResults, IsArraysFault, IsUnfitSolution}
 
 -- the number for an unknown winner
 abbrev pub no_winner : ℕ
@@ -32,6 +32,10 @@ pub record AreKnown (winners choices : List ℕ) (rows : KnownRows) : Type 0 whe
 
 abbrev pub IsBadKnownWinner : List ℕ → ℕ → Type 0
 IsBadKnownWinner winners v = (v < length winners) × (1 < slice_index winners v) × (slice_index winners v ≢ no_winner)
+
+-- the struct fits the game, and each winner is a player or unknown
+abbrev pub FitsAsKnown : Graph → ResultArrays → Type 0
+FitsAsKnown g k = HaveSize g k × NoneHas (IsBadKnownWinner k.winners)
 
 abbrev pub HasRightChoice : Graph → KnownRows → ℕ → Type 0
 HasRightChoice g known v = (w : ℕ) × (known_choice known v ≡ Some w) × HasEdge g v w
@@ -59,14 +63,18 @@ IsRefusedKnown g known other = ⊥
 -- the same as AreSolved, and each player's known set is a region of his
 abbrev pub AreSolvedFrom : GameArrays → ResultArrays → ResultArrays → Type 0
 AreSolvedFrom a k r =
-    (g : Graph) × (known : KnownRows) × (rows : SolutionRows) × IsGameOfArrays a g × AreKnown k.winners k.choices known
-    × ((p : Player) → IsKnownRegion g known p) × AreResults r.winners r.choices rows × IsExactSolution g rows
+    (g : Graph) × (known : KnownRows) × (rows : SolutionRows) × IsGameOfArrays a g × FitsAsKnown g k × AreKnown k.winners k.choices known
+    × ((p : Player) → IsKnownRegion g known p) × HaveSize g r × AreResults r.winners r.choices rows × IsExactSolution g rows
 
--- why solving from what is known has no result
+-- why solving from what is known has no result: the game comes first, then what is known as arrays, then the results, then what it means
 abbrev pub IsSolveFromFault : GameArrays → ResultArrays → ResultArrays → Fault → Type 0
 IsSolveFromFault a k r (fault.Size structure.Solution) = (g : Graph) × IsGameOfArrays a g × IsUnfitSolution g k (fault.Size structure.Solution)
 IsSolveFromFault a k r (fault.Solution name) = (g : Graph) × IsGameOfArrays a g × IsUnfitSolution g k (fault.Solution name)
 IsSolveFromFault a k r (fault.Winner v) = (g : Graph) × IsGameOfArrays a g × HaveSize g k × IsLeast (IsBadKnownWinner k.winners) v
+IsSolveFromFault a k r (fault.Size structure.Results) =
+    (g : Graph) × IsGameOfArrays a g × FitsAsKnown g k × AreUnfitResults g r (fault.Size structure.Results)
+IsSolveFromFault a k r (fault.Results name) = (g : Graph) × IsGameOfArrays a g × FitsAsKnown g k × AreUnfitResults g r (fault.Results name)
 IsSolveFromFault a k r (fault.Known f) =
-    (g : Graph) × (known : KnownRows) × IsGameOfArrays a g × AreKnown k.winners k.choices known × IsRefusedKnown g known (fault.Known f)
-IsSolveFromFault a k r other = IsSolveFault a r other
+    (g : Graph) × (known : KnownRows) × IsGameOfArrays a g × FitsAsKnown g k × AreKnown k.winners k.choices known × HaveSize g r
+    × IsRefusedKnown g known (fault.Known f)
+IsSolveFromFault a k r other = IsArraysFault a other
