@@ -11,8 +11,8 @@ begins with a line '-- NAME':
     stdout begins   beside 'stdout has': what the output begins with
     stderr          the exact text on standard error; none: nothing
     stderr some     in place of stderr: any text that is not empty
-    stderr names    in place of stderr: a refused command line, of words that begin with 'error: ', end their line and have
-                    each of these lines
+    stderr names    in place of stderr: a refused command line, of words that begin with 'error: ', once, end with one line
+                    feed and have each of these lines
     status          none: 0
 Texts are ASCII with the escapes of Python's bytes: \xff is a byte, and a backslash at the end of a line leaves its line feed out.
 
@@ -86,7 +86,7 @@ class Cases(unittest.TestCase):
 
     def judge_error(self, case, err):
         if case.every("stderr names"):
-            self.assertRegex(err, rb"(?s)\Aerror: .*\n\Z")
+            self.assertRegex(err, rb"(?s)\Aerror: (?!.*error: ).*[^\n]\n\Z")
             self.assertTrue(case.one("stderr names"))
             for name in case.one("stderr names").splitlines():
                 self.assertIn(name, err)
