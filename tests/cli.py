@@ -322,7 +322,11 @@ LIMITS = {
         refused("game: vertex 0: specified twice"),
     ),
     "each_vertex_may_have_a_priority_of_its_own": (["tidy"], lambda: own_loops(VERTICES, lambda v: v), VERTICES - 1),
-    "a_name_of_a_megabyte": (["tidy"], lambda: b'0 0 0 0 "' + b"n" * 1_000_000 + b'";', (0, b"parity 0;\n0 0 0 0;\n", b"")),
+    "names_of_300_bytes_and_of_a_megabyte": (
+        ["tidy"],
+        lambda: b"".join(b'%d 0 0 %d "%b";' % (v, v, b"n" * length) for v, length in enumerate((300, 1_000_000))),
+        (0, b"parity 1;\n0 0 0 0;\n1 0 0 1;\n", b""),
+    ),
     "a_vertex_with_70000_successors": (["tidy"], lambda: wide_vertex(70_000), 69_999),
     "tidy_the_greatest_game": (["tidy"], lambda: greatest_game().partition(b"\n")[2], FIRST + VERTICES - 1),
     "a_solution_of_as_many_vertices_as_may_be": ([], lambda: own_loops(VERTICES) + b"%" + all_to_even(VERTICES, own=True), OK),
