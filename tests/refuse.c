@@ -2,8 +2,8 @@
 
        REFUSE_ALLOC=N  REFUSE_THREAD=N  REFUSE_READ=N  REFUSE_WRITE=N
 
-   With REFUSE_FROM=1 every later one of the same kind is refused too. With PIECE=K a read or a write takes at most K
-   bytes. Writes are those to standard output. With TOGETHER=K a thread waits at its start until K threads have started, or
+   With REFUSE_FROM=1 every later one of the same kind is refused too. With REFUSE_ABOVE=K each allocation of more than K
+   bytes is refused. With PIECE=K a read or a write takes at most K bytes. Writes are those to standard output. With TOGETHER=K a thread waits at its start until K threads have started, or
    something was refused; after a second it waits no longer. At the end the four counts go to the file that COUNTS names.
    What starting a thread takes inside the C library is not counted. */
 #define _GNU_SOURCE
@@ -22,7 +22,7 @@ enum kind { ALLOC, THREAD, READ, WRITE, KINDS };
 static const char *const names[KINDS] = {"REFUSE_ALLOC", "REFUSE_THREAD", "REFUSE_READ", "REFUSE_WRITE"};
 static atomic_long counts[KINDS];
 static long refused_at[KINDS];
-static long from, piece, together;
+static long from, above, piece, together;
 static int counting;
 static atomic_int was_refused;
 static __thread int starting;
@@ -35,6 +35,7 @@ static long number(const char *name) {
 __attribute__((constructor)) static void begin(void) {
     for (int kind = 0; kind < KINDS; kind++) refused_at[kind] = number(names[kind]);
     from = number("REFUSE_FROM");
+    above = number("REFUSE_ABOVE");
     piece = number("PIECE");
     together = number("TOGETHER");
     counting = 1;
@@ -68,28 +69,32 @@ static int refused(enum kind kind, int error) {
     return 1;
 }
 
+static int refused_memory(size_t size) {
+    return refused(ALLOC, ENOMEM) || (counting && !starting && above && size > (size_t)above);
+}
+
 #define NEXT(name) \
     static __typeof__(name) *next; \
     if (!next) next = (__typeof__(name) *)dlsym(RTLD_NEXT, #name)
 
 void *malloc(size_t size) {
     NEXT(malloc);
-    return refused(ALLOC, ENOMEM) ? NULL : next(size);
+    return refused_memory(size) ? NULL : next(size);
 }
 
 void *realloc(void *old, size_t size) {
     NEXT(realloc);
-    return refused(ALLOC, ENOMEM) ? NULL : next(old, size);
+    return refused_memory(size) ? NULL : next(old, size);
 }
 
 void *aligned_alloc(size_t alignment, size_t size) {
     NEXT(aligned_alloc);
-    return refused(ALLOC, ENOMEM) ? NULL : next(alignment, size);
+    return refused_memory(size) ? NULL : next(alignment, size);
 }
 
 int posix_memalign(void **to, size_t alignment, size_t size) {
     NEXT(posix_memalign);
-    return refused(ALLOC, ENOMEM) ? ENOMEM : next(to, alignment, size);
+    return refused_memory(size) ? ENOMEM : next(to, alignment, size);
 }
 
 void *calloc(size_t count, size_t size) {
@@ -108,7 +113,7 @@ void *calloc(size_t count, size_t size) {
         next = (__typeof__(calloc) *)dlsym(RTLD_NEXT, "calloc");
         looking = 0;
     }
-    return refused(ALLOC, ENOMEM) ? NULL : next(count, size);
+    return refused_memory(count * size) ? NULL : next(count, size);
 }
 
 static size_t cut(size_t count) {

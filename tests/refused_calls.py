@@ -16,6 +16,7 @@ import unittest
 
 import common
 import plain
+import random_games
 
 CONTINENTS = b'parity 4; 0 6 1 4,2 "Africa"; 4 5 1 0 "Antarctica"; 1 8 1 2,4,3 "America"; 3 6 0 4,2 "Australia"; 2 7 0 3,1,0,4 "Asia";'
 ONE_EACH = b"0 2 0 0,1; 1 1 1 1;"
@@ -157,6 +158,14 @@ class Program(Refusing):
         for game, workers in itertools.product((*GAMES, TWO_CYCLE, TWO_SIDED), (1, 2, 64)):
             with self.subTest(workers=workers, game=game):
                 self.assertEqual(self.counted(["solve", "--workers", str(workers)], game)[1][1], workers)
+
+    def test_no_allocation_is_more_than_twice_as_large_as_what_is_read_and_written(self):
+        game = plain.written_game(random_games.small_dominions(20_000)).encode()
+        for command in ("tidy", "solve", "trace"):
+            with self.subTest(command):
+                both = len(game) + len(self.counted([command], game)[0][1])
+                status, out, err = self.counted([command], game, REFUSE_ABOVE=2 * both)[0]
+                self.assertEqual((status, err, bool(out)), (0, b"", True))
 
     def test_a_read_that_fails_at_each_place_of_a_text_and_at_its_end(self):
         both = len(ONE_EACH + HOLDS) + 2
