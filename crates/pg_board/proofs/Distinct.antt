@@ -1,4 +1,4 @@
--- No vertex stands in two rows.
+-- No vertex is in two rows.
 use Rattle.pg_board.proofs.Common.{rules, ◌≡◌, ℕ, Bool, true, false, List, [], ◌∷◌, ◌++◌, refl, sym, subst, All, IsDistinct, map-append, All-weaker}
 use Rattle.pg_board.proofs.Common.{All-from_get_or, All-from_recursion, recursion_from_All, ClaimRows, named, is_unsettled, Journal, state_of}
 use Rattle.std.specs.Prelude.{Option, nat_eq, flat_map, None}

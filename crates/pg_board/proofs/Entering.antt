@@ -24,7 +24,7 @@ pub rest_inside : (g : Graph) (st : State) (p : Player) (R : ClaimRows) → IsGo
 rest_inside g st p R good twice v i =
     search (rules, (named_right g p R v good.shape.right.each i).vertex, and_from, lt-ltb, named_right, good.shape.right.each, in_rest)
 
--- the entry of a claim that is its own rest, on a lawful journal: its rows, and behind them what they attract
+-- the entry of a claim that is its own rest, on a lawful journal: its rows, and after them what they attract
 pub record Enters (g : Graph) (j : Journal) (p : Player) (R A : ClaimRows) (e : Entry) : Type 0 where
   pub game : IsGame g
   pub lawful : IsLawful g j
@@ -151,7 +151,7 @@ module _ {g : Graph} {j : Journal} {r : Regions} {number : ℕ} {p : Player} {R 
     pub grown_fits : number + length rows ≤ length g
     grown_fits = entry_fits (record { worker = 0; player = p; claimed = length R; rows = rows }) (record { player = refl; claimed = refl; rows_are = refl })
 
--- at the start of a growth there is room for a row of each vertex
+-- at the start of a growth there is capacity for a row of each vertex
 pub IsGrowing-start : (g : Graph) (r : Regions) (rows : ClaimRows) (spare : ℕ) → AreRegions g r → rows ≡ [] → length g ≤ spare
     → IsGrowing g r rows spare
 IsGrowing-start g r rows spare regions none size = subst (λ (xs : ClaimRows). IsGrowing g r xs spare) (sym none) (record {
@@ -165,7 +165,7 @@ IsGrowing-start g r rows spare regions none size = subst (λ (xs : ClaimRows). I
     ones : Bool → ℕ
     ones b = if b then 1 else 0
 
--- more room does
+-- a greater capacity suffices
 pub IsGrowing-more : (g : Graph) (r : Regions) (rows : ClaimRows) (n m : ℕ) → n ≤ m → IsGrowing g r rows n → IsGrowing g r rows m
 IsGrowing-more g r rows n m l growing = search (rules, growing.regions, growing.apart, growing.fits)
 

@@ -95,6 +95,6 @@ module _ (g : Graph) (j : Journal) (lawful : IsLawful g j) (R : ClaimRows) (dist
       one_more : (q : ℕ) → list_any (nat_eq q) (Both ++ v ∷ []) ≡ true → q < length g
       one_more q i = search (rules, list_any-append, both_below, eqb-true)
 
-  -- where they are all vertices, each unsettled one stands in the rows
+  -- where they are all vertices, each unsettled one is in the rows
   pub all_named : number_settled j + length R ≡ length g → (v : ℕ) → v < length g → is_unsettled (state_of j v) ≡ true → named R v ≡ true
   all_named n v l u = true_from_ne_false (named R v) (not_named n v l u)

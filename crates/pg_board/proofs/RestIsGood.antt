@@ -29,7 +29,7 @@ pub kept_of_rest : (g : Graph) (p : Player) (st : State) (rows : ClaimRows) (v w
     → KeptEdge g p (named (rest_of st rows)) (choice_in (rest_of st rows)) v w
 kept_of_rest g p st rows v w (i, m) = search (rules, (in_rest st rows v i).1, kept_same, choice_rest, in_rest)
 
--- and the other way round
+-- and conversely
 pub kept_rest : (g : Graph) (p : Player) (st : State) (rows : ClaimRows) (v w : ℕ)
     → KeptEdge g p (named (rest_of st rows)) (choice_in (rest_of st rows)) v w → KeptEdge g p (named (rest_of st rows)) (choice_in rows) v w
 kept_rest g p st rows v w (i, m) = search (rules, (in_rest st rows v i).1, kept_same, choice_rest, in_rest)

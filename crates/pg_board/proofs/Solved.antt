@@ -32,7 +32,7 @@ module _ (g : Graph) (j : Journal) (lawful : IsLawful g j) where
   abbrev st : State
   st = state_of j
 
-  -- no choice stands where the winner isn't the owner
+  -- there is no choice where the winner is not the owner
   entry_none : (k : ℕ) (e : Entry) → slice_get j k ≡ Some e → (v : ℕ) → named e.rows v ≡ true → owner_of g v ≢ e.player
       → choice_in e.rows v ≡ None
   entry_none k e at v i other = go (named (claimed_rows e) v) refl

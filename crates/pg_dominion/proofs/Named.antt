@@ -47,7 +47,7 @@ place_of (r ∷ rows) v i = elim (cases_Bool (r.0 == v)) [
       })
 ]
 
--- how many rows stand before the first that names the vertex
+-- how many rows are before the first that names the vertex
 abbrev pub rank : ClaimRows → ℕ → ℕ
 rank [] v = 0
 rank (r ∷ rows) v = if r.0 == v then 0 else suc (rank rows v)

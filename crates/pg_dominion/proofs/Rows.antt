@@ -31,7 +31,7 @@ split_push (y ∷ ys) r (b ∷ bs) x after e =
       | inr (q, s) ↦ inr (cc (h, q), s)
     ]
 
--- a set may be told otherwise
+-- a row that leads to a set leads to every equal set
 pub LeadsTo-same : (g : Graph) (p : Player) (U S S' : VertexSet) (r : ℕ × Option ℕ) → ((v : ℕ) → S v ≡ S' v) → IsAttractedRow g p U S r
     → IsAttractedRow g p U S' r
 LeadsTo-same g p U S S' r same l = search (rules)

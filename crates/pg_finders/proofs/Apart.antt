@@ -1,4 +1,4 @@
--- Rows by place: what stands there, and what they name.
+-- Rows by place: the row at a place, and the vertices that rows name.
 use Rattle.pg_finders.proofs.Common.{◌≡◌, ◌≢◌, ℕ, zero, suc, ◌+◌, ◌<◌, ◌≤◌, true, false, ◌||◌, inl, inr, [], ◌∷◌, length, take, set, get_or, refl, sym, ◌∙◌, ap}
 use Rattle.pg_finders.proofs.Common.{arith, rules, Option, ◌==◌, eqb-true, eq-eqb, cases_Bool, get_or-take, ClaimRows, named, choice_in, no_row, vertex_in}
 use Rattle.pg_finders.proofs.Common.{choice_at, AreDifferent}
@@ -27,7 +27,7 @@ named_more rows at v l = list_any_more (λ (r : ℕ × Option ℕ). r.0 == v) ro
 pub differ : (x v : ℕ) → x ≢ v → (x == v) ≡ false
 differ x v n = search (rules, eqb-true)
 
--- no vertex stands at two places, so its choice is that of its place
+-- no vertex is at two places, so its choice is that of its place
 pub choice_of_place : (rows : ClaimRows) (k : ℕ) → AreDifferent rows → k < length rows → choice_in rows (vertex_in rows k) ≡ choice_at rows k
 choice_of_place [] k d l = absurd (omega (arith, l))
 choice_of_place (r ∷ rows) zero d l = rw (eq-eqb r.0 r.0 refl) refl

@@ -92,7 +92,7 @@ smaller (x ∷ xs) (suc i) up l =
     let h : x < get_or xs i 0 = below_from_sorted (x ∷ xs) 0 (suc i) 0 (sorted_from_strictly_increasing (x ∷ xs) up) (omega arith) l in
     rw (lt-ltb x (get_or xs i 0) h, smaller xs i (rising_tail x xs up) (omega arith)) refl
 
--- in a rising list as many numbers are smaller than a member as stand before it
+-- in a rising list as many numbers are smaller than a member as are before it
 pub smaller_before : (xs : List ℕ) (i : ℕ) → IsStrictlyIncreasing xs → i < length xs → count_by (λ x. nat_lt x (get_or xs i 0)) xs ≡ i
 smaller_before xs i up l = sym (length-filter (λ x. nat_lt x (get_or xs i 0)) xs) ∙ smaller xs i up l
 

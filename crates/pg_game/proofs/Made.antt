@@ -21,7 +21,7 @@ pub record IsLaid (specs sorted : List Spec) (ids : List ℕ) (rows : List (List
   pub edges_are : size_of rows ≤ edges sorted
   pub each : (v : ℕ) (d : Spec) → v < length sorted → ArePlaces ids (get_or sorted v d).successors (row_at rows v)
 
--- what stands for a number that is no place
+-- the value for a number that is no place
 abbrev pub no_spec : Spec
 no_spec = record { id = 0; priority = 0; owner = Even; successors = [] }
 

@@ -3,7 +3,7 @@ use Rattle.pg_game.proofs.Common.{◌≡◌, ℕ, ◌<◌, List, length, map, ge
 use Rattle.pg_game.proofs.Common.{get_or-map, ext_get_or, IsPermutation-map, Spec, ids_of, ArePaired, ArePlacedSpecs}
 use Rattle.std.specs.List.Sorted.{IsNonDecreasing, IsNonDecreasingBy}
 
--- what the numbers of the lines stand for
+-- what the numbers of the lines mean
 abbrev pub picked : {X : Type 0} → List X → X → List (ℕ × ℕ) → List X
 picked xs d lines = map (λ (line : ℕ × ℕ). get_or xs line.1 d) lines
 

@@ -14,7 +14,7 @@ length-graph_of (i ∷ ids) (p ∷ ps) [] rows a = absurd (let h = a.owners in o
 length-graph_of (i ∷ ids) (p ∷ ps) (o ∷ os) [] a = absurd (let h = a.successors in omega arith)
 length-graph_of (i ∷ ids) (p ∷ ps) (o ∷ os) (ws ∷ rows) a = let h = length-graph_of ids ps os rows (tails a) in omega arith
 
--- each vertex, and what stands for one past the end
+-- each vertex, and the value for one past the end
 part_at : (ids ps : List ℕ) (os : List Player) (rows : List (List ℕ)) → AreParts ids ps os rows → (v : ℕ) →
     vertex_at (graph_of ids ps os rows) v ≡ record { id = get_or ids v 0; priority = get_or ps v 0; owner = get_or os v Even; successors = get_or rows v [] }
 part_at [] [] [] [] a v = refl

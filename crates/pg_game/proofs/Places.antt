@@ -15,7 +15,7 @@ order p q = grind arith
 pub same_place : (xs : List ℕ) → IsStrictlyIncreasing xs → (p q : ℕ) → p < length xs → q < length xs → get_or xs p 0 ≡ get_or xs q 0 → p ≡ q
 same_place xs up p q lp lq e = search (rules, order, rises)
 
--- where a number stands, if it does
+-- the place of a number, if it is in the list
 abbrev pub Stands : List ℕ → ℕ → Type 0
 Stands keys x =
     ((p : ℕ) × (position (nat_eq x) keys ≡ Some p) × (p < length keys) × (get_or keys p 0 ≡ x))
@@ -24,7 +24,7 @@ Stands keys x =
 pub stands : (keys : List ℕ) (x : ℕ) → Stands keys x
 stands keys x = search (rules, nat_eq, cases_Bool, position-Some, eqb-true, ltb-false, fails_before_first, eq-eqb)
 
--- whether a number stands there is whether it is among them
+-- whether a number has a place is whether it is among them
 pub among : (keys : List ℕ) (x : ℕ) (v : ℕ) → v < length keys → get_or keys v 0 ≡ x → list_any (nat_eq x) keys ≡ true
 among keys x v l e = list_any-from_Contains nat_eq_equiv x keys (v, l, get_or_default keys v x 0 l ∙ e)
 

@@ -42,7 +42,7 @@ extend : (place : ℕ) (text : List ℕ) (t : Placed) (bl bo re after : List ℕ
     → Begins place before t bl bo re → text ≡ before ++ b ∷ after → Begins place text t bl bo (re ++ b ∷ after)
 extend place text t bl bo re after b before w h e = search (rules, h.split, append_assoc, h.blank, h.placed, h.spelled, nat_tests, t.token, h.whole)
 
--- a text with a wrong byte behind tokens spells no tokens
+-- a text with a wrong byte after tokens spells no tokens
 stuck : (place : ℕ) (text before after : List ℕ) (b : ℕ) (ts us : List Placed) → Spells place before ts → is_blank b ≡ false
     → Wrong b after → text ≡ before ++ b ∷ after → Spells place text us → ⊥
 stuck place text before after b [] [] s f w e z =
@@ -61,7 +61,7 @@ stuck place text before after b (t ∷ ts) (u ∷ us) (bl, bo, re, h, r) f w e (
     let q' : Spells (place + length bl + length bo) se us = subst (λ m. Spells m se us) n q in
     stuck (place + length bl + length bo) se re after b ts us r f w (sym o.3) q'
 
--- two wrong bytes behind tokens are the same
+-- two wrong bytes after tokens are the same
 same_wrong : (place : ℕ) (text b1 a1 b2 a2 : List ℕ) (x y : ℕ) (ts us : List Placed) → Spells place b1 ts → Spells place b2 us
     → is_blank x ≡ false → is_blank y ≡ false → Wrong x a1 → Wrong y a2 → text ≡ b1 ++ x ∷ a1 → text ≡ b2 ++ y ∷ a2 → b1 ≡ b2
 same_wrong place text b1 a1 b2 a2 x y [] [] s z f g w v e d = (run_unique is_blank b1 b2 (x ∷ a1) (y ∷ a2) s z f g (sym e ∙ d)).0
@@ -116,7 +116,7 @@ run_of : (test : ℕ → Bool) (xs : List ℕ) → Run test xs
 run_of test [] = ([], [], refl, tt, tt)
 run_of test (x ∷ xs) = run_cons test x xs (test x) refl (run_of test xs)
 
--- a token at the front, and what is behind it
+-- a token at the front, and what follows it
 token_first : (place : ℕ) (text bl bo ys : List ℕ) (t : Token) → text ≡ bl ++ (bo ++ ys) → AllAre is_blank bl → IsSpelling t bo → IsWhole t ys
     → Lexed (place + length bl + length bo) ys → Lexed place text
 token_first place text bl bo ys t e a s w (inl (ts, z)) =

@@ -55,7 +55,7 @@ pub quote_split : (text : List ℕ) (start k : ℕ) → k < length (drop start t
     → drop start text ≡ take k (drop start text) ++ 34 ∷ drop (start + k + 1) text
 quote_split text start k h q = search (rules, drop_more, eqb-true, drop-drop, take-append-drop)
 
--- a token behind blanks
+-- a token after blanks
 pub token_past : (text : List ℕ) (at from end to : ℕ) (run : List ℕ) (t : Token) → IsRun is_blank text at from run → IsToken text from end to t
     → IsToken text at end to t
 token_past text at from end to run t r i = record {
@@ -90,7 +90,7 @@ lexeme_past kind.Invalid text at from end to run r i = record {
   wrong = i.wrong;
 }
 
--- it ends behind the place, and within the text
+-- it ends after the place, and within the text
 pub token_ahead : (text : List ℕ) (at from to : ℕ) (t : Token) → IsToken text at from to t → (at < to) × (at ≤ length text → to ≤ length text)
 token_ahead text at from to t i =
     let n : 0 < length i.body = search rules in
@@ -105,7 +105,7 @@ token_ahead text at from to t i =
           omega arith,
     )
 
--- a name, from the first quote behind its first
+-- a name, from the first quote after its first
 pub name_found : (text hay : List ℕ) (from more : ℕ) → from < length text → get_or text from 0 ≡ 34 → hay ≡ drop (from + 1) text
     → IsFirstByte (is_byte 34) hay (Some more) → (x : List ℕ) × IsToken text from from (from + more + 2) (Name x)
 name_found text hay from more h q e f =

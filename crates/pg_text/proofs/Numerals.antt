@@ -29,7 +29,7 @@ one_digit (suc n) h =
 pub more_digits : (n : ℕ) → 10 ≤ n → numeral n ≡ numeral (n / 10) ++ (48 + n % 10) ∷ []
 more_digits n h = search (rules, by_digits, digits_of_step, map-append)
 
--- what holds of one digit, and of more digits with one behind them, holds of each numeral
+-- what holds of one digit, and of more digits with one after them, holds of each numeral
 module _ (P : ℕ → List ℕ → Type 0) (one : (n : ℕ) → n < 10 → P n ((48 + n) ∷ []))
     (more : (n : ℕ) (ds : List ℕ) → 10 ≤ n → P (n / 10) ds → P n (ds ++ (48 + n % 10) ∷ [])) where
   up_to : (k n : ℕ) → n ≤ k → P n (numeral n)

@@ -66,7 +66,7 @@ spells_header : {rest : List ℕ} {ts : List Token} (word : List ℕ) (n : ℕ) 
     → SpellsTokens (word ++ (32 ∷ (numeral n ++ (59 ∷ 10 ∷ rest)))) (Word word ∷ Number n ∷ Semicolon ∷ ts)
 spells_header word n l a s = spells_token (Word word) word (l, a, refl) (spells_blank 32 refl (spells_number n (spells_end s) refl)) refl
 
--- numbers, each behind a comma
+-- numbers, each after a comma
 abbrev behind_commas : List ℕ → List ℕ
 behind_commas ns = flat_map (λ n. 44 ∷ numeral n) ns
 
@@ -183,7 +183,7 @@ row_lines g (x ∷ xs) (r ∷ rows) = row_line g x r ∷ row_lines g xs rows
 abbrev pub HasChoice : (ℕ → Type 0) → Graph → Player × Option ℕ → Type 0
 HasChoice P g r = IfSome r.1 (λ w. P (id_of g w))
 
--- behind a winner, the rest of a row
+-- after a winner, the rest of a row
 spells_choice : {rest : List ℕ} {ts : List Token} (g : Graph) (c : Option ℕ) → SpellsTokens rest ts
     → SpellsTokens (written_choice g c ++ (59 ∷ 10 ∷ rest)) ((solutions.choice_tokens (option_map (λ w. id_of g w) c) ++ Semicolon ∷ []) ++ ts)
 spells_choice g x1 s = grind (arith, spells_end, spells_blank, spells_number)

@@ -57,7 +57,7 @@ known_below [] p v i = absurd (cc i)
 known_below (r ∷ known) p zero i = omega arith
 known_below (r ∷ known) p (suc v) i = let h = known_below known p v i in omega arith
 
--- nothing is known behind the last row
+-- nothing is known after the last row
 pub unknown_beyond : (known : KnownRows) (p : Player) (v : ℕ) → length known ≤ v → known_of known p v ≡ false
 unknown_beyond known p v le = false_from_ne_true (known_of known p v) (λ i. let h = known_below known p v i in omega (arith, h, le))
 
@@ -232,7 +232,7 @@ module _ (g : Graph) (game : IsGame g) (known : KnownRows) (sized : length known
 
 module _ (g : Graph) (known : KnownRows) (opened mid : Play) (here : opened.graph ≡ g) (new_board : opened.journal ≡ [])
     (first : SettlesKnown opened mid known Even) where
-  -- what the post of Even's known set leaves is what stands before Odd's
+  -- what the post of Even's known set leaves is the board before Odd's post
   before_odd : IsBefore g known Odd mid.journal
   before_odd = (
     subst (λ (h : Graph). IsKnownRegion h known Even) here first.region,

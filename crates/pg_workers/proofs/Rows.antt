@@ -47,7 +47,7 @@ counted (x ∷ rows) (suc i) r e = search (rules, counted rows i r e, sum_by-con
 abbrev Found : ℕ → List ReportRow → Type 0
 Found j rows = (i : ℕ) × (r : ReportRow) × (slice_get rows i ≡ Some r) × (r.job ≡ j)
 
--- a row of a job that is counted stands in the list
+-- a row of a job that is counted is in the list
 pub found_row : (j : ℕ) (rows : List ReportRow) → 0 < how_many_of_job j rows
     → (i : ℕ) × (r : ReportRow) × (slice_get rows i ≡ Some r) × (r.job ≡ j)
 found_row j [] h = absurd (omega arith)

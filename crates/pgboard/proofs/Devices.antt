@@ -15,7 +15,7 @@ pub wrote_more : (a b c : Option (List ℕ)) (all prefix rest : List ℕ) (n : �
     → Appends b c (take n rest) → (more : List ℕ) × (all ≡ more ++ take (length rest - n) (drop n rest)) × Appends a c more
 wrote_more a b c all prefix rest n e p q = search (rules, take_rest, take-append-drop, append_assoc, both_written)
 
--- what is filled grows by what was read behind it
+-- what is filled grows by what was read after it
 pub filled_more : (a b c : Option (List ℕ)) (xs ys : List ℕ) (f n : ℕ) → take f ys ≡ take f xs → Consumes a b (take f xs)
     → Consumes b c (take n (drop f ys)) → Consumes a c (take (f + n) ys)
 filled_more a b c xs ys f n prefix before read =

@@ -59,18 +59,7 @@ module _ {known : Option (List ℕ)} {text slice game solution : List ℕ} (t : 
         → IfSome known (Failed e)
     no_output verdict e h only = search (rules, of_known, ⊎_elim, judged)
 
-    -- the text that the source had was judged
-    pub judged_known : (verdict : Verdict) → IsVerdictOn g solution verdict
-        → IfSome known (λ bytes. IsJudged (game_part bytes) (solution_part bytes) verdict)
-    judged_known verdict h = of_known known text (λ bytes. IsJudged (game_part bytes) (solution_part bytes) verdict) t.read (judged verdict h)
-
     -- the text was judged, and it is within the limit
     pub judged_within : (verdict : Verdict) → IsVerdictOn g solution verdict
         → IfSome known (λ bytes. (length bytes ≤ max_text) × IsJudged (game_part bytes) (solution_part bytes) verdict)
     judged_within verdict h = search rules
-
--- a verdict on the texts that both sources had
-pub judged_by_both : (games solutions : Option (List ℕ)) (g : Graph) (verdict : Verdict) → IsReadGame games g
-    → IfSome solutions (λ text. (length text ≤ max_text) × IsVerdictOn g text verdict)
-    → IfSome games (λ a. IfSome solutions (λ b. IsJudged a b verdict))
-judged_by_both games solutions g verdict is h = search rules

@@ -45,14 +45,3 @@ unsolved_alone games g game rows nothing fault.TooLong h = absurd h
 unsolved_alone games g game rows nothing (fault.Game f) h = absurd h
 unsolved_alone games g game rows nothing (fault.Solution f) h = absurd h
 unsolved_alone games g game rows nothing fault.Write h = absurd h
-
-pub kept : (taken : Option (List ℕ)) → Keeps taken taken
-kept taken = search rules
-
--- what was made went out, or a prefix of it
-module _ (S A : List ℕ → Type 0) (out bytes : List ℕ) (same : bytes ≡ out) (made : S out) where
-  pub all_out : (r : Result (Unit {0}) RunFault) → OnOk r (A bytes) → OnOk r ((text : List ℕ) × S text × A text)
-  all_out r went = search rules
-
-  pub front_out : (r : Result (Unit {0}) RunFault) (e : RunFault) → OnErr r (A bytes) → IsErrOf r e → (text : List ℕ) × S text × A text
-  front_out r e went is = search rules

@@ -1,7 +1,7 @@
 -- Lines of words between single spaces, written word by word.
 use Rattle.pgboard.proofs.Common.{rules, ◌≡◌, ℕ, List, [], ◌∷◌, ◌++◌, refl, sym, ◌∙◌, ap, append_assoc, join_with_byte, trace_line}
 
--- each word behind a space, and then the end
+-- each word after a space, and then the end
 abbrev spaced : List (List ℕ) → List ℕ → List ℕ
 spaced [] end = end
 spaced (w ∷ ws) end = 32 ∷ (w ++ spaced ws end)
@@ -14,7 +14,7 @@ spaced_more : (ws : List (List ℕ)) (x end : List ℕ) → spaced (ws ++ x ∷ 
 spaced_more [] x end = refl
 spaced_more (w ∷ ws) x end = ap (λ t. 32 ∷ (w ++ t)) (spaced_more ws x end)
 
--- behind what stood there stands a line's first word, and the next ones
+-- after what was there comes a line's first word, and the next ones
 pub record Begins (o w : List ℕ) (ws : List (List ℕ)) (r : List ℕ) : Type 0 where
   pub is : (end : List ℕ) → r ++ end ≡ o ++ (w ++ spaced ws end)
 

@@ -1,5 +1,5 @@
 -- An attraction that goes on once other vertices are active: what it knows of the vertices that were won before, and what it is in the
--- subgame, whose part of the list begins behind a prefix.
+-- subgame, whose part of the list begins after a prefix.
 use Rattle.pg_finders.proofs.Common.{◌≡◌, ℕ, suc, ◌+◌, false, inl, inr, List, [], ◌∷◌, ◌++◌, length, All, refl, sym, ◌∙◌, subst, arith, append_assoc, rules}
 use Rattle.pg_finders.proofs.Common.{◌==◌, eqb-true, cases_Bool, or_cases, and_parts, and_from, or_parts, or_left, or_right, false_from_ne_true, Player}
 use Rattle.pg_finders.proofs.Common.{same_player, Graph, HasEdge, owner_of, VertexSet, In, union, without, same_is, is_same, Plan, listed, Apart, winners_of}
@@ -74,7 +74,7 @@ tested_done {g = g} {p = p} {A = A} {A' = A'} {prefix = prefix} vertices h apart
   ];
 }
 
--- ---- the list behind a prefix
+-- ---- the list after a prefix
 
 place_rest : (xs ys : List ℕ) (v : ℕ) → listed xs v ≡ false → place (xs ++ ys) v ≡ length xs + place ys v
 place_rest [] ys v n = omega arith

@@ -35,7 +35,7 @@ pub some_length : (xs : List ℕ) (v : ℕ) → In (listed xs) v → 0 < length 
 some_length [] v i = absurd (cc i)
 some_length (x ∷ xs) v i = omega arith
 
--- nothing of the one is in the other, the other way round
+-- nothing of the other is in the one
 pub apart_other : (xs ys : List ℕ) → Apart xs ys → Apart ys xs
 apart_other xs ys f v i = false_from_ne_true (listed xs v) (λ y. no_both i (f v y))
 

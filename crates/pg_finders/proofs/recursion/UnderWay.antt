@@ -15,7 +15,7 @@ use Rattle.pg_finders.proofs.recursion.Waiting.{Agree, waits_on, waits_push, wai
 use Rattle.pg_finders.proofs.recursion.Sharing.{pick, picked, pick_apart, pick_either, gone_settled, gone_aside}
 use Rattle.pg_finders.proofs.recursion.Sharing.{gone_cases, gone_none, part_of, in_part, linked_more, linked_push, linked_pop, levels_same}
 
--- the lists are one list, in which no vertex stands twice
+-- the lists are one list, in which no vertex occurs twice
 abbrev all_gone : SettledLists → List ℕ → List ℕ
 all_gone settled set_aside = (settled Even ++ settled Odd) ++ set_aside
 
@@ -127,7 +127,7 @@ module _ {g : Graph} {U active active' : VertexSet} {settled : SettledLists} {se
         (waits_on g U (map (level_at U settled set_aside) frames) active active won won' s s' b.under_way.waits b.same (solved_none)) b.begun (solved_none));
   }
 
--- What is taken of a subgame for its player and for the opponent, each behind the prefix of his list; the others of it are active.
+-- What is taken of a subgame for its player and for the opponent, each after the prefix of his list; the others of it are active.
 pub record Finishes (g : Graph) (p : Player) (I active : VertexSet) (before settled : SettledLists) (own other : List ℕ) (won won' : Winners)
     (s s' : Choices) : Type 0 where
   pub own_is : settled p ≡ before p ++ own

@@ -76,7 +76,7 @@ pub enum Hostile {
     Cycle(u32, u32),
     /// This many bad vertices that lead to all below them, and a good one at the end.
     Downward(u32),
-    /// A ring with a good vertex for each level that leads round it, and a bad one below that on which nothing lies: each
+    /// A ring with a good vertex for each level on a cycle through it, and a bad one below that on which nothing lies: each
     /// component lies in that of the next level. Where a level is turned, its bad vertex has a priority above all.
     Ladder(u32, Option<u32>),
     /// Each of this many vertices leads to each, and vertex v has the priority `step * v`.

@@ -153,7 +153,7 @@ fn solitaire_twice(rt: &impl Abort, alloc: Global, inside: &Inside) -> Option<Cl
     }
 }
 
-/// Odd has one successor at each vertex of his, and Even wins all by going round.
+/// Odd has one successor at each vertex of his, and Even wins all by following the cycle.
 const SOLITAIRE: &[Vertex] = &[(1, EVEN, &[0, 1]), (1, EVEN, &[2]), (4, ODD, &[0])];
 
 const ROUND: &[Row] = &[(0, Some(1)), (1, Some(2)), (2, None)];

@@ -41,7 +41,7 @@ enum Step<'a> {
 /// workers 0, 1 and 64.
 type Closed = (u64, bool, (u64, u64, u64));
 
-/// A game, a claim that is posted by worker 0 before an office opens round the board, what a copy then has, the number of
+/// A game, a claim that is posted by worker 0 before an office opens with the board, what a copy then has, the number of
 /// seats, what is asked through the share of which seat, and the board at the closing.
 pub struct Run<'a> {
     pub game: &'a [Vertex<'a>],
@@ -132,7 +132,7 @@ pub const RUNS: &[Run] = &[
         ],
         closed: (2, false, (0, 2, 0)),
     },
-    // an office opens round a board with what is settled on it
+    // an office opens with a board with what is settled on it
     Run {
         game: SHARED,
         posted: Some((EVEN, (0, Some(0)))),
@@ -189,7 +189,7 @@ pub fn run_through<L: Ledger, R: Wait + Abort>(
     Ok(())
 }
 
-/// An office with this many shares: of a new board, or round one on which a claim is settled.
+/// An office with this many shares: of a new board, or of one on which a claim is settled.
 fn office_of<'g, L: Ledger, R: Abort>(
     rt: &R,
     alloc: Global,

@@ -5,7 +5,7 @@ use pg_test_support::{EVEN, ODD, Plain, Random, bit, game_of_sets};
 use std::alloc::Global;
 use std::process::Abort;
 
-/// The vertex, or one or two after it in the round of `n`.
+/// The vertex, or one or two after it in the cycle of `n`.
 fn near(random: &mut Random, v: u32, n: u32) -> u32 {
     v.wrapping_add(random.below(3)) % n.max(1)
 }

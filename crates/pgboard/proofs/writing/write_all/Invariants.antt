@@ -1,7 +1,7 @@
 use Rattle.pgboard.proofs.Common.{◌≡◌, ℕ, List, ◌++◌, length, Appends}
 use Rattle.pgboard.proofs.writing.write_all.Given as goal
 
--- what was taken stands before the rest
+-- what was taken is before the rest
 abbrev pub invariant-rest : goal.invariant-rest
 invariant-rest g l =
     ((prefix : List ℕ) × (l.bytes ≡ prefix ++ l.rest) × Appends (g.O.Sink.taken l.initial.out) (g.O.Sink.taken l.out) prefix)

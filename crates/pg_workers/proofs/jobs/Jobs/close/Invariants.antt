@@ -1,7 +1,7 @@
 use Rattle.pg_workers.proofs.Common.{◌≡◌, ◌+◌, [], ◌++◌, length, map, flat_map, count_by, vec_len, vec_capacity, into_iter_items, into_iter_len}
 use Rattle.pg_workers.proofs.jobs.Jobs.close.Given as goal
 
--- the seat stands for the first ticket and those that the loop has taken, and the room has what they drew
+-- the seat has the first ticket and those that the loop has taken, and the list has what they drew
 abbrev pub invariant-loop-ticket : goal.invariant-loop-ticket
 invariant-loop-ticket l =
     (l.yielded ++ into_iter_items l.ticket-iterator ≡ into_iter_items l.initial.ticket-iterator)

@@ -1,7 +1,7 @@
 use Rattle.pg_workers.proofs.Common.{◌≡◌, ◌+◌, ◌-◌, [], replicate, vec_len, vec_capacity, drawer, fresh}
 use Rattle.pg_workers.proofs.jobs.Jobs.open.Given as goal
 
--- the seat that is split stands for the tickets that are still to be made
+-- the seat that is split has the tickets that are still to be made
 abbrev pub invariant-loop-i : goal.invariant-loop-i
 invariant-loop-i l =
     (l.rest.table_id ≡ l.table.shared.table_id)
