@@ -15,7 +15,7 @@ use crate::tests::asserting::made;
 use pg_game::{ForwardGame, Game};
 use pg_text::{
     Solution, SolutionTextFault, TextFault, read_forward_game, read_forward_solution, read_game,
-    read_solution,
+    read_solution, take_solution,
 };
 use std::alloc::Global;
 use std::process::Abort;
@@ -67,6 +67,18 @@ pub fn forward_solution(
         return Err(SolutionTextFault::Memory);
     }
     read_forward_solution(alloc, game, text)
+}
+
+/// The same of a copy of the text, which the call frees.
+pub fn taken_solution(
+    alloc: Global,
+    game: &ForwardGame,
+    text: &[u8],
+) -> Result<Solution, SolutionTextFault> {
+    if text.len() > 1000 {
+        return Err(SolutionTextFault::Memory);
+    }
+    take_solution(alloc, game, Vec::from_slice(alloc, text)?)
 }
 
 /// Why a short text is no solution text of the game, if it is none.

@@ -3,7 +3,7 @@
 ghost use Rattle.std.specs.Prelude.{◌≡◌, IfOk, IfErr};
 ghost use Rattle.pg_text.specs.Solution.{AreSolutionRows};
 
-use super::{BOTH_WIN, GAPS, forward_solution, solution, solution_fault, the_game};
+use super::{BOTH_WIN, GAPS, forward_solution, solution, solution_fault, taken_solution, the_game};
 use crate::tests::asserting::made;
 use pg_game::{Game, Player};
 use pg_text::{Solution, SolutionTextFault, read_solution, write_solution, write_winners};
@@ -64,6 +64,8 @@ fn compare_spelling(rt: &impl Abort, alloc: Global, game: &Game, case: &Spelling
         forward_solution(alloc, game.forward(), case.1.as_bytes()),
     );
     check_eq!(*rt; read.rows.as_slice(), solution.rows.as_slice(), case.1);
+    let taken = made(rt, taken_solution(alloc, game.forward(), case.1.as_bytes()));
+    check_eq!(*rt; taken.rows.as_slice(), solution.rows.as_slice(), case.1);
 }
 
 fn compare_case(rt: &impl Abort, alloc: Global, case: &Spelling) {
@@ -124,6 +126,7 @@ fn solutions_and_winners_are_written_in_one_spelling_and_read_back(rt: HostRunti
 fn refused(rt: &impl Abort, alloc: Global, game: &Game, text: &str, want: SolutionTextFault) {
     check_eq!(*rt; solution_fault(alloc, game, text.as_bytes()), Some(want), text);
     check_eq!(*rt; forward_solution(alloc, game.forward(), text.as_bytes()).err(), Some(want), text);
+    check_eq!(*rt; taken_solution(alloc, game.forward(), text.as_bytes()).err(), Some(want), text);
 }
 
 const FAULTS: &[(&str, SolutionTextFault)] = &[
