@@ -7,16 +7,17 @@
 ghost use Rattle.std.specs.Prelude.{◌≡◌, ◌≤◌, All, IfOk};
 
 use crate::tests::workers::draws::{draws, has_drawn};
+use crate::tests::workers::finders::answer;
 use crate::tests::workers::games::{TWO_LOOPS, product, solved, try_solved};
 use crate::tests::workers::replay::{State, compare_replay};
-use pg_finders::Standard;
+use pg_finders::{Copied, Finder, Found, Job, Standard};
 use pg_game::{Game, Memory, Player};
 use pg_test_support::{EVEN, ODD, Plain, needed};
 use pg_text::read_game;
 use pg_workers::{Jobs, Outcome, Pass, SolveFault, Ticket};
 use std::alloc::Global;
 use std::process::Abort;
-use std::sync::Wait;
+use std::sync::{OnceLock, Wait};
 use std::test::Fail;
 use std::thread::Threads;
 
@@ -63,12 +64,13 @@ fn solved_again<R: Threads + Wait + Abort + Sync>(
     alloc: Global,
     game: &Game,
     workers: u32,
+    finder: &impl Finder,
 ) -> Outcome
     requires { (1 ≤ workers) × (workers ≤ 64) }
 {
     let options = product(workers);
-    match try_solved(rt, alloc, game, &options, &Pass, &Standard) {
-        Err(SolveFault::Memory) => solved(rt, alloc, game, &options, &Pass, &Standard),
+    match try_solved(rt, alloc, game, &options, &Pass, finder) {
+        Err(SolveFault::Memory) => solved(rt, alloc, game, &options, &Pass, finder),
         made => made.expect(rt, "an outcome"),
     }
 }
@@ -97,7 +99,7 @@ fn is_solved<R: Threads + Wait + Abort + Sync>(
     requires { (1 ≤ workers) × (workers ≤ 64) }
 {
     let game = two_loops(alloc)?;
-    check_loops(rt, &solved_again(rt, alloc, &game, workers));
+    check_loops(rt, &solved_again(rt, alloc, &game, workers, &Standard));
     Ok(())
 }
 
@@ -109,4 +111,39 @@ fn a_run_with_one_worker_is_right_whatever_is_refused(rt: HostRuntime) -> Result
 #[test]
 fn a_run_with_three_workers_is_right_whatever_is_refused(rt: HostRuntime) -> Result<(), Fail> {
     is_solved(&rt, rt.alloc(), 3)
+}
+
+/// Claims the loop of each player in the first job, and notes that it did.
+#[derive(Drop)]
+struct Once {
+    has_claimed: OnceLock<()>,
+}
+
+impl Finder for Once {
+    fn find(&self, alloc: Global, copied: &Copied, job: &Job) -> Result<Found, Memory> {
+        if *job != Job::Loops {
+            return answer(Vec::new(alloc), Ok(()));
+        }
+        let found = Standard.find(alloc, copied, job)?;
+        let _ = self.has_claimed.try_set(());
+        Ok(found)
+    }
+}
+
+/// Of two claims at most one was refused memory, and the other one was posted.
+fn check_claimed(rt: &impl Abort, finder: &Once, outcome: &Outcome) {
+    if let (Some(()), Some(row)) = (finder.has_claimed.get(), outcome.report.first()) {
+        check_eq!(*rt; row.posted, if row.memory { 1 } else { 2 });
+    }
+}
+
+#[test]
+fn a_worker_posts_the_claim_after_one_that_was_refused_memory(rt: HostRuntime) -> Result<(), Fail> {
+    let game = two_loops(rt.alloc())?;
+    let finder = Once {
+        has_claimed: OnceLock::new(),
+    };
+    let outcome = solved_again(&rt, rt.alloc(), &game, 1, &finder);
+    check_claimed(&rt, &finder, &outcome);
+    Ok(())
 }
