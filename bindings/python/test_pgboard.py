@@ -21,6 +21,10 @@ try:
     import networkx
 except ImportError:
     networkx = None
+try:
+    import numpy
+except ImportError:
+    numpy = None
 
 TWO = [0, 1], [2, 1], [[0, 1], [1]]
 CSR = array("B", [0, 1]), array("I", [2, 1]), array("I", [0, 2, 3]), array("I", [0, 1, 1])
@@ -130,6 +134,16 @@ class Buffers(Tests):
         part = [memoryview(CSR[0]), memoryview(CSR[1]), memoryview(CSR[2]), memoryview(array("I", [7, *CSR[3], 7]))[1:4]]
         for buffers in (signed, read_only, foreign, part):
             self.assertEqual(pgboard.solve_csr(*buffers), pgboard.solve_csr(*CSR))
+
+    @unittest.skipUnless(numpy, "NumPy is not installed")
+    def test_takes_arrays_of_numpy(self):
+        for kinds in ("u1", "u4"), ("i1", "i4"):
+            game = [numpy.array(it, kinds[at > 0]) for at, it in enumerate(CSR)]
+            winners, choices = map(numpy.asarray, pgboard.solve_csr(*game))
+            self.assertEqual((winners.tolist(), choices.tolist()), ([0, 1], [0, 1]))
+            pgboard.verify_csr(*game, winners, choices)
+        with self.assertRaises(TypeError):
+            pgboard.solve_csr(*game[:3], game[3].astype("i8"))
 
     def test_makes_no_copy(self):
         view = memoryview(CSR[3])
