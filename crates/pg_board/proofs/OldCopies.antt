@@ -28,19 +28,19 @@ pub record IsAnswered (x new : Play) (worker : ℕ) (claim : Claim) (result : Re
   pub unchanged : OnErr result (new ≡ x)
 
 -- a lawful journal of a game, as each board keeps it
-pub record Stands (x : Play) : Type 0 where
+pub record IsLawfulPlay (x : Play) : Type 0 where
   pub game : IsGame x.graph
   pub lawful : IsLawful x.graph x.journal
 
-pub stands_at : {x : Play} {g : Graph} {j : Journal} {r : Regions} {number : ℕ} → record { graph = g; journal = j } ≡ x → IsGame g
-    → IsBoard g j r number → Stands x
-stands_at view game board = subst Stands view (record { game = game; lawful = board.lawful })
+pub lawful_play : {x : Play} {g : Graph} {j : Journal} {r : Regions} {number : ℕ} → record { graph = g; journal = j } ≡ x → IsGame g
+    → IsBoard g j r number → IsLawfulPlay x
+lawful_play view game board = subst IsLawfulPlay view (record { game = game; lawful = board.lawful })
 
-added_by : {x new : Play} {worker : ℕ} {claim : Claim} {posted : Posted} → Stands x → IsGoodOn x.graph (state_of x.journal) claim.player claim.rows
+added_by : {x new : Play} {worker : ℕ} {claim : Claim} {posted : Posted} → IsLawfulPlay x → IsGoodOn x.graph (state_of x.journal) claim.player claim.rows
     → (a : Adds x new worker claim posted) → IsAdded x.graph x.journal claim.player claim.rows a.entry
-added_by stands good a = record { game = stands.game; lawful = stands.lawful; posted = good; answers = a.answers }
+added_by play good a = record { game = play.game; lawful = play.lawful; posted = good; answers = a.answers }
 
-module _ (x : Play) (stands : Stands x) (claim : Claim) (k : ℕ) (d : IsDominionAfter x.graph x.journal k claim.player claim.rows) where
+module _ (x : Play) (play : IsLawfulPlay x) (claim : Claim) (k : ℕ) (d : IsDominionAfter x.graph x.journal k claim.player claim.rows) where
   abbrev g : Graph
   g = x.graph
 
@@ -64,14 +64,14 @@ module _ (x : Play) (stands : Stands x) (claim : Claim) (k : ℕ) (d : IsDominio
   own : (new : Journal) → Posts g old (claim ∷ []) new → (v : ℕ)
       → In (settled (state_of new) p) v ↔ Attractor g p (all_vertices g) (union (settled (state_of old) p) (named rows)) v
   own new posts v = subst (λ (T : VertexSet). In (settled (state_of new) p) v ↔ Attractor g p (all_vertices g) T v) target_is
-      ((order g stands.game old new (claim ∷ []) stands.lawful ((k, d), tt) posts).1 p v)
+      ((order g play.game old new (claim ∷ []) play.lawful ((k, d), tt) posts).1 p v)
 
   settles_posted : (new : Play) (worker : ℕ) (posted : Posted) → IsGoodOn g (state_of old) p rows → Adds x new worker claim posted
       → SettlesDominion x new p rows
   settles_posted new worker posted good a = record {
     own = own new.journal (inr (a.entry, good.not_stale, a.answers, a.journal));
     other = λ v. ap (λ (j : Journal). settled (state_of j) (opponent p) v) a.journal
-        ∙ ap (λ (X : VertexSet). X v) (theirs (added_by stands good a));
+        ∙ ap (λ (X : VertexSet). X v) (theirs (added_by play good a));
   }
 
   claimed_size : (worker : ℕ) (new : Play) (posted : Posted) → Adds x new worker claim posted → posted.claimed ≡ length (rest_of (state_of old) rows)
@@ -84,12 +84,12 @@ module _ (x : Play) (stands : Stands x) (claim : Claim) (k : ℕ) (d : IsDominio
   old_copy new worker (Err refusal.Stale) h = search (rules, h.refused.2, h.unchanged, own)
   old_copy new worker (Err (refusal.Claim fault)) h = absurd (no_fault fault h.refused.0 h.refused.1)
   old_copy new worker (Err (refusal.Foreign v)) h = absurd h.refused
-  old_copy new worker (Err (refusal.Lost v)) h = search (rules, h.refused.1.has, never_lost, stands.lawful, h.refused.1.has.0, h.refused.1.has.1)
-  old_copy new worker (Err (refusal.Open v w)) h = absurd (let e = h.refused.2.edge in e.1 (stays_closed g old stands.lawful k p rows d v w e.0))
+  old_copy new worker (Err (refusal.Lost v)) h = search (rules, h.refused.1.has, never_lost, play.lawful, h.refused.1.has.0, h.refused.1.has.1)
+  old_copy new worker (Err (refusal.Open v w)) h = absurd (let e = h.refused.2.edge in e.1 (stays_closed g old play.lawful k p rows d v w e.0))
 
 -- the journal is lawful after a post
-pub lawful_after : {x new : Play} {worker : ℕ} {claim : Claim} (result : Result Posted Refusal) → Stands x → IsAnswered x new worker claim result
+pub lawful_after : {x new : Play} {worker : ℕ} {claim : Claim} (result : Result Posted Refusal) → IsLawfulPlay x → IsAnswered x new worker claim result
     → new.graph ≡ x.graph → IsLawful new.graph new.journal
-lawful_after (Ok posted) stands h graph =
-    rw (graph, h.posted.1.journal) (lawful_push (added_by stands h.posted.0 h.posted.1))
-lawful_after (Err e) stands h graph = subst (λ (y : Play). IsLawful y.graph y.journal) (sym h.unchanged) stands.lawful
+lawful_after (Ok posted) play h graph =
+    rw (graph, h.posted.1.journal) (lawful_push (added_by play h.posted.0 h.posted.1))
+lawful_after (Err e) play h graph = subst (λ (y : Play). IsLawful y.graph y.journal) (sym h.unchanged) play.lawful

@@ -32,19 +32,7 @@ fn post_last(alloc: Global, board: &mut Board<'_>, claim: &Claim) -> Result<(), 
     }
 }
 
-/// Settles all vertices of a copy by the two claims of the recursion, each an entry of worker 0.
-fn solve_rest(alloc: Global, board: &mut Board<'_>) -> Result<(), Memory>
-    ensures full { OnOk result (IsFull board.new.graph (state_of board.new.journal)) }
-    ensures later { OnOk result (IsLater (Even ∷ Odd ∷ []) board.old board.new) }
-{
-    let copied = board.copy(alloc)?;
-    let Solved { even, odd } = zielonka(alloc, &copied.inside)?;
-    post_last(alloc, board, &even)?;
-    post_last(alloc, board, &odd)?;
-    Ok(())
-}
-
-/// Settles all unsettled vertices by at most two entries of worker 0. A full board is unchanged.
+/// Settles all unsettled vertices by the two claims of the recursion, each an entry of worker 0. A full board is unchanged.
 #[tactic(auto, using(crate::proofs::Calling::none_later))]
 pub(crate) fn settle_rest(alloc: Global, board: &mut Board<'_>) -> Result<(), Memory>
     ensures full { OnOk result (IsFull board.new.graph (state_of board.new.journal)) }
@@ -53,5 +41,9 @@ pub(crate) fn settle_rest(alloc: Global, board: &mut Board<'_>) -> Result<(), Me
     if board.is_full() {
         return Ok(());
     }
-    solve_rest(alloc, board)
+    let copied = board.copy(alloc)?;
+    let Solved { even, odd } = zielonka(alloc, &copied.inside)?;
+    post_last(alloc, board, &even)?;
+    post_last(alloc, board, &odd)?;
+    Ok(())
 }

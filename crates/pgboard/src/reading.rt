@@ -14,7 +14,7 @@ const PIECE: usize = 65_536;
 
 /// Adds zeros after the bytes that were read, for the next ones: as many as the capacity allows, up to a piece. If a text
 /// fills its capacity, the buffer grows.
-fn make_room(text: &mut Vec<u8>, filled: usize) -> Result<(), AllocError>
+fn grow(text: &mut Vec<u8>, filled: usize) -> Result<(), AllocError>
     requires limit { filled ≤ max_text }
     requires within { filled ≤ vec_len text.old }
     ensures prefix { OnOk result (take filled text.new.items ≡ take filled text.old.items) }
@@ -56,7 +56,7 @@ fn read_into<S: Source>(source: &mut S, buffer: Vec<u8>) -> Result<Vec<u8>, RunF
     let mut text = buffer;
     let mut filled = 0;
     'reads: loop {
-        make_room(&mut text, filled)?;
+        grow(&mut text, filled)?;
         let Ok(n) = read_behind(source, text.as_mut_slice(), filled) else {
             return Err(RunFault::Read);
         };

@@ -203,7 +203,7 @@ fn put_total(out: &mut Vec<u8>, report: &[ReportRow]) -> Result<(), AllocError>
 }
 
 /// The greatest number of bytes of a trace. This capacity is allocated once, so that no written byte moves.
-fn trace_room(entries: &[Entry], report: &[ReportRow]) -> usize {
+fn trace_capacity(entries: &[Entry], report: &[ReportRow]) -> usize {
     let mut capacity = OTHERS.saturating_add(JOB.saturating_mul(report.len()));
     for entry in entries {
         let rows = ROW.saturating_mul(entry.rows.as_slice().len());
@@ -222,7 +222,7 @@ pub(crate) fn write_trace(
     requires { AllByRecursion (λ e. AllByRecursion (AreVertices (length game.now)) e.rows) entries.now }
     ensures { IfOk result (λ text. text.items ≡ trace_text game.now entries.now report.now) }
 {
-    let mut out = Vec::with_capacity(alloc, trace_room(entries, report))?;
+    let mut out = Vec::with_capacity(alloc, trace_capacity(entries, report))?;
     put_journal_head(&mut out, entries.len() as u64, settled_in(entries))?;
     put_entries(&mut out, game, entries)?;
     put_report_head(&mut out, report.len() as u64)?;

@@ -99,7 +99,7 @@ impl Chosen {
     }
 
     /// Whether the vertex is before the place.
-    pub fn stands_before(&self, end: usize, v: u32) -> bool
+    pub fn has_before(&self, end: usize, v: u32) -> bool
         requires { end ≤ length self.now }
         ensures found { IsTrue result → (k : ℕ) × (k < end) × (vertex_in self.now k ≡ v) }
         ensures none { IsFalse result → (k : ℕ) → k < end → vertex_in self.now k ≢ v }

@@ -5,7 +5,7 @@ ghost use Rattle.pg_game.specs.Graph.{HasEdge, owner_of};
 ghost use Rattle.pg_game.specs.VertexSet.{In, Within, members};
 ghost use Rattle.pg_dominion.specs.Claim.{named};
 ghost use Rattle.pg_finders.specs.Finding.{most_choices, inner_degree, AtMostInside};
-ghost use Rattle.pg_finders.specs.private.small.Excluded.{IsBetween, NoneHasBetween};
+ghost use Rattle.pg_finders.specs.private.small.Excluded.{LeadsBetween, NoneHasBetween};
 ghost use Rattle.pg_finders.specs.private.small.Partial.{vertex_in, AreDifferentRows, IsPartial, Extends, NoneAgrees};
 ghost use Rattle.pg_finders.specs.private.small.SearchSteps.{Chooses, IfFound, IfNothing, IfGaveUp, IsNextPartial, StillAgrees, StillAgreesAt};
 ghost use Rattle.pg_finders.specs.private.small.SearchSteps.{NoneAgreesAt, HasNoCapacity, LacksCapacity};
@@ -59,7 +59,7 @@ impl<'a> DominionSearch<'a> {
         true
     }
 
-    /// Adds all successors inside of a row's vertex. Returns whether the bound allows it.
+    /// Adds all successors inside of a row's vertex. Returns whether a claim within the bound can have them.
     fn add_successors(&self, chosen: &mut Chosen, v: u32) -> bool
         requires bound { self.now.bound ≤ 8 }
         requires size { length self.now.mask.now ≡ length self.now.game.now }
@@ -69,32 +69,21 @@ impl<'a> DominionSearch<'a> {
         ensures extends { Extends chosen.old chosen.new }
         ensures only { (x : ℕ) → In (named chosen.new) x → In (named chosen.old) x ⊎ (HasEdge self.now.game.now v x × In (members self.now.mask.now) x) }
         ensures all { IsTrue result → (w : ℕ) → HasEdge self.now.game.now v w → In (members self.now.mask.now) w → In (named chosen.new) w }
-        ensures full { IsFalse result → LacksCapacity self.now.game.now (members self.now.mask.now) chosen.new self.now.bound v }
+        ensures none { IsFalse result → LacksCapacity self.now.game.now (members self.now.mask.now) chosen.new self.now.bound v
+            ⊎ LeadsBetween self.now.game.now (members self.now.mask.now) self.now.excluded.low self.now.excluded.high v }
     {
         for w in self.game.successors(v) {
             if !self.mask.has(*w) {
                 continue;
+            }
+            if self.excluded.contains(*w) {
+                return false;
             }
             if !self.add(chosen, *w) {
                 return false;
             }
         }
         true
-    }
-
-    /// Whether a successor inside is in no small claim.
-    fn leads_to_excluded(&self, v: u32) -> bool
-        requires size { length self.now.mask.now ≡ length self.now.game.now }
-        requires vertex { v < length self.now.game.now }
-        ensures { IsTrue result → (w : ℕ) × HasEdge self.now.game.now v w × In (members self.now.mask.now) w
-            × IsBetween self.now.excluded.low self.now.excluded.high w }
-    {
-        for w in self.game.successors(v) {
-            if self.excluded.contains(*w) && self.mask.has(*w) {
-                return true;
-            }
-        }
-        false
     }
 
     /// Decides the opponent's vertex at a place, if a claim can have all its successors; otherwise nothing changes.
@@ -114,12 +103,7 @@ impl<'a> DominionSearch<'a> {
     {
         let v = chosen.vertex(at);
         let len = chosen.len();
-        // first, since most vertices fail by the bound
         if !self.add_successors(chosen, v) {
-            chosen.truncate(len);
-            return false;
-        }
-        if self.leads_to_excluded(v) {
             chosen.truncate(len);
             return false;
         }

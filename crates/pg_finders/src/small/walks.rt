@@ -137,12 +137,12 @@ impl<'a> DominionSearch<'a> {
         let v = chosen.vertex(at);
         if self.game.owner(v) == self.player {
             return match chosen.choice(at) {
-                Some(w) => chosen.stands_before(at + 1, w),
+                Some(w) => chosen.has_before(at + 1, w),
                 None => false,
             };
         }
         for w in self.game.successors(v) {
-            if chosen.stands_before(at + 1, *w) {
+            if chosen.has_before(at + 1, *w) {
                 return true;
             }
         }

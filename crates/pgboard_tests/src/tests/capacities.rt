@@ -53,7 +53,7 @@ fn read_from(rt: &impl Abort, alloc: Global, size: usize, expected: u64) -> (usi
 }
 
 /// How many bytes there are and how many are expected; how many come, the buffer's capacity, and the reads.
-const ROOMS: &[((usize, u64), (usize, usize, u64))] = &[
+const CAPACITIES: &[((usize, u64), (usize, usize, u64))] = &[
     ((0, 0), (0, 65_536, 1)),
     ((5, 0), (5, 65_536, 2)),
     ((5, 5), (5, 6, 2)),
@@ -67,7 +67,7 @@ const ROOMS: &[((usize, u64), (usize, usize, u64))] = &[
 
 #[test]
 fn the_capacity_is_what_was_expected_and_a_byte(rt: HostRuntime) {
-    for ((size, expected), want) in ROOMS {
+    for ((size, expected), want) in CAPACITIES {
         check_eq!(rt; read_from(&rt, rt.alloc(), *size, *expected), *want);
     }
 }

@@ -1,7 +1,7 @@
 -- What earlier searches have shown of vertices.
 use Rattle.std.specs.Prelude.{ℕ, ◌≤◌, ◌<◌, length}
 use Rattle.pg_game.specs.declared.player.Player.{Player}
-use Rattle.pg_game.specs.Graph.{Graph}
+use Rattle.pg_game.specs.Graph.{Graph, HasEdge}
 use Rattle.pg_game.specs.VertexSet.{VertexSet, In}
 use Rattle.pg_dominion.specs.Claim.{ClaimRows, named, IsGoodIn}
 
@@ -16,3 +16,7 @@ NoneHas g U p bound v = (claim : ClaimRows) → IsGoodIn g U p claim → length 
 -- nor one between the numbers
 abbrev pub NoneHasBetween : Graph → VertexSet → Player → ℕ → ℕ → ℕ → Type 0
 NoneHasBetween g U p bound low high = (v : ℕ) → IsBetween low high v → NoneHas g U p bound v
+
+-- a successor of v in the set is between the numbers
+abbrev pub LeadsBetween : Graph → VertexSet → ℕ → ℕ → ℕ → Type 0
+LeadsBetween g U low high v = (w : ℕ) × HasEdge g v w × In U w × IsBetween low high w

@@ -6,9 +6,9 @@ pub reads-preserved : goal.reads-preserved
 reads-preserved g c =
     let before = c.reads.invariant in
     let read = c.in-Ok.ensures in
-    let prefix = read.prefix ∙ ap (take c.reads.filled) c.as_mut_slice.ensures.value ∙ c.in_ok-make_room.ensures.prefix in
+    let prefix = read.prefix ∙ ap (take c.reads.filled) c.as_mut_slice.ensures.value ∙ c.in_ok-grow.ensures.prefix in
     let more = filled_more _ _ _ c.reads.text.items c.read_behind.new.text c.reads.filled c.in-Ok.n prefix before.read read.bytes in
-    rw (with_items_is c.make_room.new.text c.read_behind.new.text (search (rules, places))) record {
+    rw (with_items_is c.grow.new.text c.read_behind.new.text (search (rules, places))) record {
       read = more;
       within = search (rules, places);
       limit = omega arith;

@@ -2,7 +2,7 @@ use Rattle.pg_board.proofs.Common.{rules, sym, subst, Claim, IsSound, claim_rows
 use Rattle.pg_dominion.specs.Checked.{claim_of, IsForeign}
 use Rattle.pg_dominion.proofs.Agreed.{sound}
 use Rattle.pg_dominion.proofs.Recorded.{never_foreign}
-use Rattle.pg_board.proofs.OldCopies.{IsAnswered, stands_at, old_copy, lawful_after}
+use Rattle.pg_board.proofs.OldCopies.{IsAnswered, lawful_play, old_copy, lawful_after}
 use Rattle.pg_board.proofs.board.Board.settle.Goals.{After-settle_sound}
 use Rattle.pg_board.proofs.board.Board.settle.Goals as goal
 
@@ -39,12 +39,12 @@ returns-clause-refused c =
 
 pub returns-clause-lawful : goal.returns-clause-lawful
 returns-clause-lawful c =
-    let stands = stands_at c.self.view_is c.len-n.ensures.game c.self.invariant in
-    lawful_after c.settle_sound.result stands (answered (goal.at.returns-clause-lawful c).After-settle_sound) c.settle_sound.ensures.game
+    let play = lawful_play c.self.view_is c.len-n.ensures.game c.self.invariant in
+    lawful_after c.settle_sound.result play (answered (goal.at.returns-clause-lawful c).After-settle_sound) c.settle_sound.ensures.game
 
 pub returns-clause-old_copies : goal.returns-clause-old_copies
 returns-clause-old_copies c = λ k a d.
-    let stands = stands_at c.self.view_is c.len-n.ensures.game c.self.invariant in
+    let play = lawful_play c.self.view_is c.len-n.ensures.game c.self.invariant in
     let s = c.settle_sound in
-    old_copy c.args.self.now stands (claim_of c.args.checked.now) k d s.new.self c.args.worker s.result
+    old_copy c.args.self.now play (claim_of c.args.checked.now) k d s.new.self c.args.worker s.result
     (answered_of (goal.at.returns-clause-old_copies c).After-settle_sound)

@@ -14,7 +14,7 @@ returns-in-Some c =
     choice_of_place rows c.args.at c.requires.rows.different c.requires.at ∙ (sym c.choice.ensures ∙ c.in-Some.is) in
     record {
       none =
-          λ f to l m. c.stands_before.ensures.none f to (omega (arith, l))
+          λ f to l m. c.has_before.ensures.none f to (omega (arith, l))
           (sym (eqb-true c.in-Some.w (vertex_in rows to) ((leads_some g p (choice_in rows) v c.in-Some.w (vertex_in rows to) o h).1 m)));
     }
 
@@ -22,7 +22,7 @@ pub returns-in-None : goal.returns-in-None
 returns-in-None c = search (rules, choice_of_place, c.requires.rows.different, c.requires.at, c.choice.ensures, c.in-None.is, is_same)
 
 pub loop-w-preserved : goal.loop-w-preserved
-loop-w-preserved c = below_more _ _ c.loop-w.invariant (λ to l. c.stands_before-in-loop-w.ensures.none c.if-stands_before.false to (omega (arith, l)))
+loop-w-preserved c = below_more _ _ c.loop-w.invariant (λ to l. c.has_before-in-loop-w.ensures.none c.if-has_before.false to (omega (arith, l)))
 
 pub returns : goal.returns
 returns c = search (rules, c.successors-w-items.ensures.all, c.vertex-v.ensures, leads_other, get_or_default, c.loop-w.invariant, c.loop-w-test.false)

@@ -1,6 +1,6 @@
 use Rattle.pg_workers.proofs.Settling.{still_dominion, all_settled}
 use Rattle.pg_workers.proofs.Calling.{both_later}
-use Rattle.pg_workers.proofs.rest.solve_rest.Goals as goal
+use Rattle.pg_workers.proofs.rest.settle_rest.Goals as goal
 
 -- Odd's claim is still a dominion after the entry that Even's claim added
 pub post_last-requires-2 : goal.post_last-requires-2

@@ -1,5 +1,5 @@
 use Rattle.pgboard.proofs.Common.{◌≡◌, ◌≤◌, length, take, ap, ◌∙◌, arith, rules, length-take, take-take, take-append-le, places}
-use Rattle.pgboard.proofs.reading.make_room.Goals as goal
+use Rattle.pgboard.proofs.reading.grow.Goals as goal
 
 pub returns-in_ok-resize-clause-prefix : goal.returns-in_ok-resize-clause-prefix
 returns-in_ok-resize-clause-prefix c =
