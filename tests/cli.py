@@ -266,6 +266,12 @@ def wide_vertex(count):
     return rows_of([0], range(count)) + own_loops(count).partition(b"\n")[2]
 
 
+def chain(count):
+    """Odd's vertex leads to all others, which Even's first loop attracts one after another, from the first on."""
+    rest = b"".join(b"%d 0 0 %d;\n" % (v, v - 1) for v in range(2, count))
+    return b"0 0 1 " + b",".join(b"%d" % v for v in range(1, count)) + b";\n1 0 0 1;\n" + rest
+
+
 def all_to_even(count, own=False):
     """A solution in which Even wins everywhere, by own loops if he has a choice."""
     return b"paritysol %d;\n" % (count - 1) + b"".join(b"%d 0 %d;\n" % (v, v) if own else b"%d 0;\n" % v for v in range(count))
@@ -337,6 +343,8 @@ LIMITS = {
     "solve_as_many_vertices_as_may_be": (WINNERS, lambda: own_loops(VERTICES), lambda: all_to_even(VERTICES)),
     "solve_as_many_edges_as_may_be": (WINNERS, lambda: rows_of(range(WIDTH), range(WIDTH)), lambda: all_to_even(WIDTH)),
     "solve_a_vertex_with_70000_successors": (WINNERS, lambda: wide_vertex(70_000), lambda: all_to_even(70_000)),
+    # (a search that began again at the first successor each time would take minutes)
+    "solve_a_chain_of_all_successors_of_a_vertex": (WINNERS, lambda: chain(VERTICES), lambda: all_to_even(VERTICES)),
     "solve_own_loops_of_even_priorities": (
         ["solve", "--workers", "1", "--bound", "0"],
         lambda: own_loops(5_000, lambda v: 2 * v),

@@ -223,7 +223,8 @@ class HelpAgrees(unittest.TestCase):
     @classmethod
     def setUpClass(cls):
         listed = re.search(r"(?ms)^Commands:\n(.*?)\n\n", help_of("--help"))[1]
-        cls.commands = set(re.findall(r"(?m)^ {2}([a-z]+)\b", listed)) - {"help"}
+        cls.said = dict(re.findall(r"(?m)^ {2}([a-z]+)\b *(.*)$", listed))
+        cls.commands = set(cls.said) - {"help"}
         cls.helps = {name: help_of(*filter(None, [name]), "--help") for name in ["", *sorted(cls.commands)]}
         cls.flags = set(re.findall(FLAG, "".join(cls.helps.values())))
         cls.statuses = statuses_of(cls.helps[""])
@@ -239,6 +240,31 @@ class HelpAgrees(unittest.TestCase):
                 # (a command's own words may say less)
                 self.assertTrue(statuses_of(whole))
                 self.assertLessEqual({number for number, _ in statuses_of(whole)}, set("012345"))
+
+    def test_each_help_has_words_for_what_it_lists(self):
+        for name, whole in self.helps.items():
+            with self.subTest(name):
+                short = help_of(*filter(None, [name]), "-h")
+                first = whole.split("\n")[0]
+                self.assertTrue(first)
+                # (the program's help lists the commands, each with the first line of its own)
+                self.assertEqual([short.split("\n")[0], self.said.get(name, first)], [first, first])
+                for line in re.findall(r"(?m)^ +[-\[<].*$", short):
+                    self.assertRegex(line, r"\S {2,}\w")
+
+    def test_the_numbers_of_the_flags_and_of_a_trace(self):
+        table = re.findall(r"(?m)^\| `(--\w+ N)` \| (\d+) to (\d+) \| (\d+) \|", common.text_of("docs/CLI.md"))
+        self.assertEqual([flag for flag, *_ in table], ["--workers N", "--bound N"])
+        for name in self.helps:
+            with self.subTest(name):
+                short = help_of(*filter(None, [name]), "-h")
+                said = re.findall(r"(?m)^ +(--\w+) <N> .*?(\d+) to (\d+)\b.* \[default: (\d+)\]$", short)
+                wanted = [it for it in table if it[0] in flags_of(short)]
+                self.assertEqual([(f"{flag} N", *numbers) for flag, *numbers in said], wanted)
+        of_man = r"(?m)^\.TP\n(--\w+ N)\n(?:(?!\.TP).*\n)*?.*\b(\d+) to (\d+), and (\d+) when absent"
+        self.assertEqual(re.findall(of_man, man_page()["OPTIONS"]), table)
+        bounds = re.findall(r"dominions? \w+ at most (\d+) vertices", self.helps["trace"] + common.text_of("docs/TRACE.md"))
+        self.assertEqual(bounds, ["4", "4"])
 
     def test_each_synopsis(self):
         for page in [*PAGES, "crates/pgboard_program/README.md"]:

@@ -167,6 +167,24 @@ class Program(Refusing):
                 status, out, err = self.counted([command], game, REFUSE_ABOVE=2 * both)[0]
                 self.assertEqual((status, err, bool(out)), (0, b"", True))
 
+    def test_an_entry_of_the_journal_has_memory_for_its_own_rows(self):
+        game = plain.written_game(random_games.small_dominions(40_000)).encode()
+        limited = ["bash", "-c", 'ulimit -v 200000; exec "$@"', "", common.PROGRAM, "trace", "--workers", "1"]
+        status, out, err = common.run(limited, game)
+        self.assertEqual((status, err), (0, b""))
+        # (as many entries with capacity for all vertices are 600 megabytes)
+        self.assertRegex(out, rb"\Ajournal 1\d\d\d 40000\n")
+
+    def test_a_file_is_read_into_one_buffer_of_its_length(self):
+        (self.folder / "blanks").write_bytes(b" " * 1_000_000)
+        for words in ("tidy blanks", "verify game.pg blanks", "solve --known blanks game.pg"):
+            with self.subTest(words):
+                whole = self.counted(words.split())[0]
+                self.assertNotEqual(whole, NO_MEMORY)
+                # (one byte more is for the read that returns none)
+                self.assertEqual(self.counted(words.split(), REFUSE_ABOVE=1_000_001)[0], whole)
+                self.assertEqual(self.counted(words.split(), REFUSE_ABOVE=1_000_000)[0], NO_MEMORY)
+
     def test_a_read_that_fails_at_each_place_of_a_text_and_at_its_end(self):
         both = len(ONE_EACH + HOLDS) + 2
         for words, text, count in [

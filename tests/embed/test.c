@@ -261,6 +261,18 @@ static void takes_what_is_known(void)
     EXPECT(known(open, none, 1, 0, PGBOARD_KNOWN_LEAVES, 1, 0));
 }
 
+/* Even wins by both ways from vertex 0, and keeps the one that is known. */
+static void keeps_a_known_choice(void)
+{
+    static const uint32_t priorities[] = {0, 0, 0}, starts[] = {0, 2, 3, 4}, targets[] = {1, 2, 0, 0};
+    for (uint32_t way = 1; way <= 2; way++) {
+        set(3, "000", priorities, starts, targets);
+        game.known_winners[0] = game.known_winners[way] = 0;
+        game.known_choices[0] = way, game.known_choices[way] = 0;
+        EXPECT(solve_known() == PGBOARD_OK && game.choices[0] == way && refuses(check, PGBOARD_OK, 0, 0));
+    }
+}
+
 static void refuses_games(void)
 {
     two();
@@ -659,6 +671,7 @@ int main(int argc, char **argv)
     refuses_games();
     refuses_solutions();
     takes_what_is_known();
+    keeps_a_known_choice();
     tells_versions_and_texts();
     takes_texts();
     refuses_texts();
