@@ -200,7 +200,7 @@ fn draws_no_more(rt: &impl Abort, jobs: &Jobs, mut ticket: Ticket)
 }
 
 #[test]
-fn a_ticket_that_was_told_none_is_told_none_a_thousand_times_more(rt: HostRuntime) {
+fn a_ticket_that_drew_none_draws_none_a_thousand_times_more(rt: HostRuntime) {
     let (jobs, ticket) = one_ticket(&rt, rt.alloc(), 3);
     draws_no_more(&rt, &jobs, draw_all(&jobs, ticket, 0));
 }
@@ -227,7 +227,7 @@ fn draw_beyond(jobs: &Jobs, ticket: Ticket) -> Ticket
 
 /// Each ticket on a thread of its own is drawn on until none is left, and asks a thousand times more.
 #[test]
-fn a_ticket_that_was_told_none_on_a_thread_of_its_own_is_told_none_again(rt: HostRuntime) {
+fn a_ticket_that_drew_none_on_a_thread_of_its_own_draws_none_again(rt: HostRuntime) {
     let (jobs, tickets) = opened(&rt, rt.alloc(), 3, 2);
     let shared = &jobs;
     let draw = |ticket: Ticket| -> Ticket

@@ -312,7 +312,7 @@ const REPLAYED: &[(&[Posted], Result<State, Wrong>)] = &[
 ];
 
 #[test]
-fn each_wrong_entry_is_told(rt: HostRuntime) {
+fn each_wrong_entry_is_refused(rt: HostRuntime) {
     for (posted, want) in REPLAYED {
         compare_posted(&rt, rt.alloc(), *posted, *want);
     }

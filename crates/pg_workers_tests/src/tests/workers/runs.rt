@@ -1,14 +1,15 @@
 //! Workers run at once, whatever order they come in, and are given each job.
 
-use crate::tests::workers::finders::{AllLoops, Fixed, NoMemory, Recorder, Watcher};
+use crate::tests::workers::finders::{AllLoops, Fixed, NoMemory, Recorder, Watcher, answer};
 use crate::tests::workers::games::{gated_outcome, run_on, solved, two_loops};
 use crate::tests::workers::gates::{Alternating, Holder, LastFirst, Seen};
 use pg_finders::{Copied, Finder, Found, Job, Standard};
 use pg_game::{Game, Memory};
 use pg_test_support::{EVEN, ODD, own_loops};
-use pg_workers::{Options, Pass, ReportRow};
+use pg_workers::{Gate, Options, Pass, ReportRow};
 use std::alloc::Global;
 use std::process::Abort;
+use std::sync::atomic::{AtomicU64, Ordering};
 use std::sync::{OnceLock, Wait};
 use std::thread::Threads;
 
@@ -45,14 +46,14 @@ fn workers_run_at_once_while_whoever_comes_first_is_held(rt: HostRuntime) {
 }
 
 #[test]
-fn the_gate_is_told_of_each_job_where_finders_get_no_memory(rt: HostRuntime) {
+fn the_gate_is_called_for_each_job_where_finders_get_no_memory(rt: HostRuntime) {
     held_run(&rt, rt.alloc(), 0, &NoMemory);
 }
 
 /// While the worker of the first job is in the gate's `posted`, the other one copies the board: the first job's claims
 /// are settled in that copy.
 #[test]
-fn the_gate_is_told_of_posts_only_after_them(rt: HostRuntime) {
+fn the_gate_is_called_only_after_the_posts(rt: HostRuntime) {
     let gate = Alternating::new();
     let finder = Watcher {
         settled: OnceLock::new(),
@@ -63,6 +64,46 @@ fn the_gate_is_told_of_posts_only_after_them(rt: HostRuntime) {
     finder.compare_settled(&rt, 2);
 }
 
+/// Finds nothing, and counts the searches that have ended. As a gate it notes a report of a job whose search is not the last
+/// of them.
+#[derive(Drop)]
+struct Steps {
+    searched: AtomicU64,
+    is_out_of_step: OnceLock<()>,
+}
+
+impl Finder for Steps {
+    fn find(&self, alloc: Global, _copied: &Copied, _job: &Job) -> Result<Found, Memory> {
+        self.searched.fetch_add(1, Ordering::SeqCst);
+        answer(Vec::new(alloc), Ok(()))
+    }
+}
+
+impl Gate for Steps {
+    fn found<R: Wait>(&self, _rt: &R, _worker: u32, job: u64) {
+        if self.searched.load(Ordering::SeqCst) != job.wrapping_add(1) {
+            let _ = self.is_out_of_step.try_set(());
+        }
+    }
+
+    fn posted<R: Wait>(&self, _rt: &R, _worker: u32, _job: u64) {}
+}
+
+/// One worker draws the jobs in order, so that as many searches have ended as jobs were drawn.
+#[test]
+fn the_gate_is_called_only_after_the_search(rt: HostRuntime) {
+    let steps = Steps {
+        searched: AtomicU64::new(0),
+        is_out_of_step: OnceLock::new(),
+    };
+    let _outcome = gated_outcome(&rt, rt.alloc(), two_loops(), 1, &steps, &steps);
+    check!(rt; steps.is_out_of_step.get().is_none());
+    check_eq!(rt; steps.searched.into_inner(), 5);
+}
+
+/// It needs more than 32 bits.
+const BUDGET: u64 = 12_000_000_000;
+
 // A search for small dominions: a constant may call no function.
 macro_rules! small {
     ($player:expr, $first:expr, $count:expr) => {
@@ -71,7 +112,7 @@ macro_rules! small {
             first: $first,
             count: $count,
             bound: 7,
-            budget: 12,
+            budget: BUDGET,
         })
     };
 }
@@ -98,7 +139,7 @@ fn compare_jobs(rt: &impl Abort, recorder: &Recorder) {
 const ONE_WORKER: Options = Options {
     workers: 1,
     bound: 7,
-    budget: 12,
+    budget: BUDGET,
 };
 
 /// Has one worker's jobs on 65 vertices noted.
@@ -129,15 +170,15 @@ fn job_of_many(number: u32) -> Job {
             first: (number.wrapping_sub(2) / 2).wrapping_mul(64),
             count: 64,
             bound: 7,
-            budget: 12,
+            budget: BUDGET,
         },
     }
 }
 
 /// Worker 1 drew the job of this number, and nothing was found.
 fn check_idle(rt: &impl Abort, row: &ReportRow, job: u64) {
-    let told = (row.job, row.worker, row.posted, row.memory);
-    check_eq!(*rt; told, (job, Some(1), 0, false));
+    let seen = (row.job, row.worker, row.posted, row.memory);
+    check_eq!(*rt; seen, (job, Some(1), 0, false));
 }
 
 #[test]
