@@ -154,6 +154,11 @@ class Program(Refusing):
                     self.assertFalse(drawers & {str(it) for it in out}, got)
                     self.assertEqual("-" in drawers, len(out) == workers, got)
 
+    def test_a_start_that_is_refused_ends_no_other(self):
+        for n in range(1, 5):
+            with self.subTest(start=n):
+                self.assertEqual(self.counted(["solve", "--workers", "4"], TWO_SIDED, REFUSE_THREAD=n)[1][1], 4)
+
     def test_each_worker_is_started_whatever_the_game(self):
         for game, workers in itertools.product((*GAMES, TWO_CYCLE, TWO_SIDED), (1, 2, 64)):
             with self.subTest(workers=workers, game=game):
