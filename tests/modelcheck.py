@@ -260,7 +260,6 @@ class ModelCheck(uses.Use):
             self.check(self.model, formula, True, "--evidence", self.evidence)
             self.assertEqual(len(model.part(self.evidence.read_text(encoding="ascii")).transitions), count)
 
-    @common.needs("dot")
     def test_evidence_and_pictures_of_waiting(self):
         """The other is let in again and again, which is the only way to wait for ever; the pages show the picture."""
         words = [MODELS / "mutex.aut", WAITING]

@@ -292,7 +292,6 @@ class Draw(Use):
         super().setUp()
         self.trace = self.file("trace", common.program("trace", "--workers", "1", EXAMPLES / "requests.pg")[1])
 
-    @common.needs("dot")
     def test_the_pictures_of_the_pages(self):
         for name, words in PICTURES.items():
             for flags, end in (([], "dot"), (["--svg"], "svg")):
@@ -311,7 +310,6 @@ class Draw(Use):
                 self.assertIn(f'label=<2<br/>{("long" * 9)[:30]}...<br/><font point-size="9">id 1</font>>', out)
                 self.assertEqual(out.count("#fde68a"), len(words) // 2)
 
-    @common.needs("dot")
     def test_other_kinds_of_pictures(self):
         for flag, begins in (("--png", "PNG"), ("--pdf", "%PDF-")):
             with self.subTest(flag):
@@ -425,7 +423,6 @@ class Explain(Use):
         self.check_damaged(lambda it: self.call(*files(it, solution)), game)
         self.check_damaged(lambda it: self.call(*files(game, it)), solution)
 
-    @common.needs("dot")
     def test_picture(self):
         words = [EXAMPLES / "five_continents.pg", EXAMPLES / "five_continents.wrong"]
         red, dotted = "color=red penwidth=3", "style=dotted"
