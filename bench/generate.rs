@@ -247,6 +247,51 @@ fn sized(kind: &str, n: u32) -> Option<Game> {
     })
 }
 
+/// One cycle through all vertices, with a chord from each that skips up to 63, and a priority for each.
+fn chords(n: u32) -> Game {
+    let random = &mut Random(24);
+    (0..n)
+        .map(|v| {
+            let mut row = vec![(v + 1) % n, (v + 2 + random.below(63)) % n];
+            row.sort_unstable();
+            Vertex(v, random.below(2) == 1, row)
+        })
+        .collect()
+}
+
+/// Whether one random Buchi automaton simulates another fairly (Etessami, Wilke and Schuller 2005), as a game of k^2 pairs
+/// of states and 2 k^2 answers that are owed. Odd moves in the first automaton by a letter, and Even has to answer by it.
+fn simulation(k: u32) -> Game {
+    let random = &mut Random(25);
+    // of each state and letter the successors, and whether the state is accepting
+    let mut automaton = || -> Vec<([Vec<u32>; 2], bool)> {
+        (0..k)
+            .map(|_| {
+                let rows = [0, 1].map(|_| {
+                    let count = 1 + random.below(2);
+                    random.different(count, k)
+                });
+                (rows, random.below(8) == 0)
+            })
+            .collect()
+    };
+    let (first, second) = (automaton(), automaton());
+    let owed = |letter: u32, p: u32, q: u32| (1 + letter) * k * k + p * k + q;
+    let mut game = Vec::new();
+    for at in 0..k * k {
+        let (p, q) = (&first[(at / k) as usize], &second[(at % k) as usize]);
+        let priority = if q.1 { 2 } else { u32::from(p.1) };
+        let moves = (0..2).flat_map(|letter| p.0[letter as usize].iter().map(move |to| owed(letter, *to, at % k)));
+        game.push(Vertex(priority, true, moves.collect()));
+    }
+    for at in 0..2 * k * k {
+        let (letter, p, q) = (at / (k * k), at / k % k, at % k);
+        let answers = second[q as usize].0[letter as usize].iter().map(|to| p * k + to);
+        game.push(Vertex(0, false, answers.collect()));
+    }
+    game
+}
+
 /// A sparse game in which every second group of four vertices is a short loop that its player can keep to.
 fn small_dominions(n: u32) -> Game {
     let random = &mut Random(7);
@@ -383,6 +428,8 @@ fn game_of(name: &str) -> Option<Game> {
         "own_loops" => own_loops(LEVELS),
         "one_own_loop_too_many" => own_loops(MOST_VERTICES + 1),
         "small_dominions" => small_dominions(n),
+        "chords" => chords(n),
+        "simulation" => simulation(180),
         _ => return None,
     })
 }

@@ -1,31 +1,43 @@
 #!/usr/bin/env python3
-"""Turns a parity game as other tools have it into one that pgboard reads, on standard output.
+"""Turns a parity game of another tool into one that pgboard reads, on standard
+output.
 
-Comments (from `#` or `//` to the line's end, outside of names) and vertices without successors may be in the input, and a
-byte order mark before it. A file that was compressed by gzip is known by its first bytes. In names `\\"` becomes `'`, since
-pgboard's names have no escapes. After a header `minparity` the least priority decides, as with --min.
+The input may have comments (from `#` or `//` to the end of a line, outside of
+names), vertices without successors, and a byte order mark before it. A file
+that gzip compressed is known by its first bytes. In names `\\"` becomes `'`,
+since pgboard's names have no escapes. A line `start` is kept. After a header
+`minparity` or `min-parity` the least priority decides, as with --min.
 
---min        the least priority that is seen again and again decides, and not the greatest: p becomes K - p, where K is the
-             least even number that is no less than any priority. This turns the order round, so the least on a closed walk
-             becomes the greatest; and K is even, so p and K - p have the same parity, and the same player wins.
---odd        player 0 wins by odd priorities, and player 1 by even ones: p becomes p + 1, after --min where both are given.
-             This keeps the order and swaps the parities, so the walk that was player 0's by an odd priority is his by an
-             even one.
---dead-ends  a vertex without successors is lost by its owner, who can't move: it gets an edge to itself and the priority 1
-             where player 0 owns it, else 0. No walk leaves it, so its priority decides the one closed walk that it is on,
-             which its owner loses, and no other.
+--min        The least priority that is seen again and again decides, and not
+             the greatest. p becomes K - p, where K is the least even number
+             that is no less than any priority. So the least on a closed walk
+             becomes the greatest. K is even, so p and K - p have the same
+             parity, and the same player wins.
+--odd        Player 0 wins by odd priorities, and player 1 by even ones. p
+             becomes p + 1, after --min where both are given. This keeps the
+             order and swaps the parities.
+--dead-ends  A vertex without successors is lost by its owner, who can't move.
+             It gets an edge to itself and the priority 1 where player 0 owns
+             it, else 0. No walk leaves it, so its priority decides.
 
-So the winners, and the choices of winners at vertices with successors, are those of the game that was given.
+So the winners, and the choices of winners at vertices with successors, are
+those of the game that was given.
 
-A deterministic parity automaton in the HOA format with the header `controllable-AP`, as the synthesis competition has it,
-becomes the game that synthesise.py solves. In its first vertex the environment chooses; Even is the controller.
+An input that begins with `HOA:` is an automaton or a game in that format. A
+game has the header `spot-state-player`. Each state is the vertex of its number
+and keeps its owner and its name. An edge is a vertex of its own where the edges
+of a state differ in priority. Player 1 wins where the automaton accepts, and is
+Odd. Without that header the input is a deterministic automaton with the header
+`controllable-AP`, and becomes the game that synthesise.py solves: the
+environment chooses in vertex 0, and Even is the controller.
 
---solution   the input is a solution and not a game: a text that begins after lines for people, or a listing of vertices, and
-             of choices as `0->1`, after lines as `Player 0 wins from nodes:` (PGSolver) or `won by even:` (Oink). What is
-             written is a `paritysol` text. A vertex that is not listed has no line in it: `solve --known` completes it.
+--solution   The input is a solution: a `paritysol` text after lines for
+             people, or a listing of vertices, and of choices as `0->1`, after
+             lines as `Player 0 wins from nodes:` (PGSolver) or `won by even:`
+             (Oink). The output is a `paritysol` text. A vertex that is not
+             listed has no line in it: `solve --known` completes it.
 """
 
-import argparse
 import gzip
 import re
 import sys
@@ -38,7 +50,8 @@ HELP = """
 example:
   examples/convert.py --min --dead-ends game.gm.gz | ./pgboard solve
 
-status: 0 where it is done, 2 where the command line or the input was refused, or the output was not written
+status: 0 where it is done; 2 where the command line or the input was refused,
+or the output was not written
 """
 GREATEST = 2_147_483_647
 COMMENTS = {sign: re.compile(re.escape(sign) + rb"[^\n]*") for sign in (b"#", b"//")}
@@ -46,7 +59,7 @@ COMMENTS = {sign: re.compile(re.escape(sign) + rb"[^\n]*") for sign in (b"#", b"
 ESCAPED = re.compile(rb'\\"(?!\s*;)')
 NAME_OR_COMMENT = re.compile(rb'("[^"]*")|(?:#|//)[^\n]*')
 HEAD = re.compile(rb"\s*(?:(?:max-?|min-?)?parity\s+[0-9]+\s*;\s*|start\s+[0-9]+\s*;\s*)*")
-START = re.compile(rb"\bstart\s+[0-9]+\s*;")
+START = re.compile(rb"\bstart\s+([0-9]+)\s*;")
 # A game is regular where each vertex has a line of its own with single blanks. These find a line that is not, in a text that begins
 # and ends with a line feed: of a text as it is given; where a name is a quote alone; and the same with dead ends, which have nothing
 # after the third blank.
@@ -64,13 +77,13 @@ LISTED = re.compile(r"(?i)\s*(?:with strategy:?)?([\s0-9{}\[\](),;>-]*)")
 
 def bytes_of(path):
     """What a file or standard input has, unpacked."""
-    with open(path, "rb") if path else sys.stdin.buffer as file:
+    with sys.stdin.buffer if path == "-" else open(path, "rb") as file:
         data = file.read()
     if data.startswith(b"\x1f\x8b"):
         try:
             data = gzip.decompress(data)
         except (OSError, EOFError, zlib.error) as error:
-            raise Refused(f"{path or 'standard input'}: it can't be unpacked: {error}") from error
+            raise Refused(f"{games.called(path)}: it can't be unpacked: {error}") from error
     return data.removeprefix(b"\xef\xbb\xbf")
 
 
@@ -112,8 +125,15 @@ def regular(text):
     if bad:
         first, semicolon, _ = text[bad.end() :].lstrip().partition(b";")
         first = " ".join(first.decode(errors="backslashreplace").split())[:70]
-        raise Refused(f"not understood: {first}" if semicolon else f"no semicolon after {first}")
+        raise Refused(f"{'not understood:' if semicolon else 'no semicolon after'} {first}{other_format(first)}")
     return text, False
+
+
+def other_format(words):
+    """What is known of words that begin no line of a game."""
+    if re.match("paritysol |[^;]*(?i:player [01] wins|won by )", words):
+        return " (a solution: --solution reads it)"
+    return " (a line of the DIMACS formats, which no flag reads)" if re.match("[pc] ", words) else ""
 
 
 def pieces_of(text):
@@ -161,9 +181,13 @@ def with_names(text, names):
     return b'"'.join(whole)
 
 
-def header_of(head, lines):
+def header_of(head, starts, lines):
     number = re.search(rb"parity\s+([0-9]+)", head[0])
-    return b"parity %b;" % (number[1] if number else max(re.findall(rb"\n0*([0-9]+)", lines), key=lambda it: (len(it), it)))
+    header = b"parity %b;" % (number[1] if number else max(re.findall(rb"\n0*([0-9]+)", lines), key=lambda it: (len(it), it)))
+    named = sorted({it.lstrip(b"0") or b"0" for it in starts})
+    if len(named) > 1:
+        raise Refused(f"several lines `start` name vertices: {b', '.join(named).decode()}")
+    return header + b"".join(b"\nstart %b;" % it for it in named)
 
 
 def other_lines(head, text, given):
@@ -180,22 +204,53 @@ def other_lines(head, text, given):
 def game_of(data, given):
     """The text of a game that pgboard reads, in parts."""
     head = HEAD.match(data)
-    lines, names = lines_from(data, head.end()), []
+    lines, names, text = lines_from(data, head.end()), [], head[0]
     if given.min or given.odd or b"min" in head[0] or len(lines) < 2 or b",," in lines or NOT_AS_IT_IS.search(lines):
         text, names = apart(data)
         head = HEAD.match(text)
         lines = other_lines(head, lines_from(text, head.end()), given)
-    yield header_of(head, lines)
+    yield header_of(head, START.findall(text), lines)
     yield with_names(lines, names)
 
 
-def game_of_automaton(path, data):
-    """The text of the game of an automaton's environment and controller."""
+def game_of_automaton(path, data, closes):
+    """The text of a game in the HOA format, or of the game of an automaton's environment and controller."""
     import synthesise
     from hoa import Automaton
 
-    automaton = Automaton(path or "standard input", data.decode("utf-8", "surrogateescape"))
-    yield games.game_text(synthesise.Game(automaton).rows).encode("utf-8", "surrogateescape")
+    automaton = Automaton(path, data.decode("utf-8", "surrogateescape"))
+    if automaton.owners is None and closes:
+        raise Refused("--dead-ends is for a game, and an automaton needs none")
+    if automaton.owners is None:
+        text = games.game_text(synthesise.Game(automaton).rows)
+    else:
+        rows = sorted(vertices_of(automaton, closes))
+        lines = (f'{id} {priority} {owner} {",".join(map(str, to))}{name};\n' for id, priority, owner, to, name in rows)
+        text = f"parity {rows[-1][0]};\nstart {automaton.first};\n{''.join(lines)}"
+    yield text.encode("utf-8", "surrogateescape")
+
+
+def vertices_of(automaton, closes):
+    """The vertices of a game in the HOA format: (identifier, priority, owner, successors, name between quotes).
+
+    A priority is one more than the automaton's, so that odd ones accept; 0 decides nowhere.
+    """
+    last = max(automaton.edges)
+    for state, edges in automaton.edges.items():
+        owner, priorities = automaton.owners[state], {it[1] for it in edges}
+        successors, priority = dict.fromkeys(to for _, _, to in edges), 1 + max(priorities, default=-1)
+        if len(priorities) > 1:
+            successors, priority = [], 0
+            for _, own, to in dict.fromkeys((0, *it[1:]) for it in edges):
+                last += 1
+                successors.append(last)
+                yield last, own + 1, owner, [to], f' "{state} to {to}"'
+        if not edges:
+            if not closes:
+                raise Refused(f"state {state} has no edge, and --dead-ends was not given")
+            successors, priority = [state], 1 - owner
+        name = automaton.called[state].replace('\\"', "'")
+        yield state, priority, owner, list(successors), f' "{name}"' * bool(name)
 
 
 def listed(text):
@@ -233,16 +288,19 @@ def solution_of(data):
 
 
 def main(words):
-    parser = argparse.ArgumentParser(description=__doc__, epilog=HELP, formatter_class=argparse.RawDescriptionHelpFormatter)
-    parser.add_argument("input", metavar="FILE", nargs="?", help="the file of the game; standard input without it")
+    parser = games.parser(__doc__, HELP)
+    parser.add_argument("input", metavar="FILE", nargs="?", default="-", help="the file of the game; - or nothing is standard input")
     for flag in ("--min", "--odd", "--dead-ends", "--solution"):
         parser.add_argument(flag, action="store_true")
     given = parser.parse_args(words)
     data = bytes_of(given.input)
     is_automaton = not given.solution and data.lstrip().startswith(b"HOA:")
-    if (given.solution or is_automaton) and (given.min or given.odd or given.dead_ends):
-        raise Refused("--min, --odd and --dead-ends are for the text of a game")
-    made = solution_of(data) if given.solution else game_of_automaton(given.input, data) if is_automaton else game_of(data, given)
+    if is_automaton and (given.min or given.odd) or given.solution and (given.min or given.odd or given.dead_ends):
+        raise Refused("--min and --odd are for the text of a game, and --dead-ends for a game")
+    if given.solution:
+        made = solution_of(data)
+    else:
+        made = game_of_automaton(given.input, data, given.dead_ends) if is_automaton else game_of(data, given)
     sys.stdout.buffer.writelines(list(made))
 
 

@@ -1,18 +1,20 @@
 #!/usr/bin/env python3
-"""Draws a game, and with a solution who wins it and how, as Graphviz text or, where Graphviz's `dot` is installed, as a picture.
+"""Draws a game as Graphviz text, or as a picture where Graphviz's `dot` is
+installed. With a solution it shows who wins each vertex, and how.
 
-Even owns the diamonds and Odd the boxes; in each are its priority, its name where the game has one, and its identifier.
-What Even wins is light with a plain border, what Odd wins is dark with a double one, and what is open is white and dashed.
-The winner's choice is bold. A solution may leave vertices out, but all that it names has to be in the game. With --trace,
-what `pgboard trace` wrote of the game, the picture shows what the first K entries of the journal settle (all of them where no
-K is given). The result goes to standard output. Up to 200 vertices are drawn.
+Even owns the diamonds and Odd the boxes. Each vertex shows its priority, its
+name if it has one, and its identifier. What Even wins is light with a plain
+border, what Odd wins is dark with a double one, and what is open is white and
+dashed. The winner's choice is bold. A solution may leave vertices out, but all
+that it names has to be in the game.
+
+With --trace, what `pgboard trace` wrote of the game, the picture shows what
+the first K entries of the journal settle, or all entries without a K. The
+result goes to standard output. At most 200 vertices are drawn.
 """
 
-import argparse
 import html
 import re
-import shutil
-import subprocess
 import sys
 
 import games
@@ -20,12 +22,19 @@ from games import Refused
 
 HELP = """
 examples:
-  examples/draw.py --svg examples/five_continents.pg examples/five_continents.sol > picture.svg
-  ./pgboard tidy game.pg | examples/draw.py --png - game.sol > picture.png
+  examples/draw.py --svg examples/both_win.pg examples/both_win.sol > both.svg
+  ./pgboard tidy game.pg | examples/draw.py --png - game.sol > game.png
 
-status: 0 where it is drawn, 2 where the command line or a text was refused, there is no `dot`, or the output was not written
+status: 0 where it is drawn; 2 where the command line or a text was refused,
+there is no `dot`, or the output was not written
 """
 MOST_LETTERS = 30
+# (with less between vertices, edges in and out of one may end at the same place)
+HEAD = [
+    "    graph [nodesep=0.5];",
+    '    node [fontname="DejaVu Sans" width=0.7 height=0.5 margin=0.05];',
+    '    edge [fontname="DejaVu Sans"];',
+]
 LINE = re.compile(r'([0-9]{1,10}) ([0-9]{1,10}) ([01]) ([0-9]{1,10}(?: , [0-9]{1,10})*)(?: "([^"]*)")?')
 TOKEN = re.compile(r'"[^"]*"|[^\s;,"]+|[,;]')
 STYLES = {
@@ -33,12 +42,6 @@ STYLES = {
     0: 'style="filled" fillcolor="#fde68a"',
     1: 'style="filled" fillcolor="#2563a8" fontcolor="white" peripheries=2',
 }
-
-
-def text_of(path):
-    if path != "-":
-        return games.text_of(path)
-    return sys.stdin.buffer.read().decode("utf-8", "surrogateescape")
 
 
 def statements(text):
@@ -120,7 +123,7 @@ def label(id, priority, name):
 
 def picture(game, solution):
     """The Graphviz text of a game, of which the solution may leave vertices open."""
-    lines = ["digraph game {", '    node [fontname="DejaVu Sans" width=0.7 height=0.5 margin=0.05];', '    edge [fontname="DejaVu Sans"];']
+    lines = ["digraph game {", *HEAD]
     for id, (priority, owner, _, name) in game.items():
         winner, _ = solution.get(id, (None, None))
         lines.append(f'    {id} [shape={"box" if owner else "diamond"} label=<{label(id, priority, name)}> {STYLES[winner]}];')
@@ -131,37 +134,30 @@ def picture(game, solution):
     return "\n".join(lines + ["}", ""]).encode()
 
 
-def drawn(text, kind):
-    """The picture that Graphviz makes of the text."""
-    if not shutil.which("dot"):
-        raise Refused("no picture without Graphviz: the command dot is not on the PATH")
-    done = subprocess.run(["dot", f"-T{kind}"], input=text, stdout=subprocess.PIPE)
-    if done.returncode:
-        raise Refused(f"the command dot ended with status {done.returncode}")
-    return done.stdout
-
-
 def main(words):
-    parser = argparse.ArgumentParser(description=__doc__, epilog=HELP, formatter_class=argparse.RawDescriptionHelpFormatter)
-    parser.add_argument("game", metavar="GAME", nargs="?", default="-", help="the file of the game; standard input without it and for -")
-    parser.add_argument("solution", metavar="SOLUTION", nargs="?", help="a solution of the game, or a part of one")
+    parser = games.parser(__doc__, HELP)
+    parser.add_argument("game", metavar="GAME", nargs="?", default="-", help="a game; - or nothing is standard input")
+    parser.add_argument("solution", metavar="SOLUTION", nargs="?", help="a solution, or a part of one")
     kinds = parser.add_mutually_exclusive_group()
     for kind in ("svg", "png", "pdf"):
-        kinds.add_argument(f"--{kind}", dest="kind", action="store_const", const=kind, help="a picture in place of Graphviz text")
+        kinds.add_argument(f"--{kind}", dest="kind", action="store_const", const=kind, help="write this picture, not Graphviz text")
     parser.add_argument("--trace", metavar="TRACE", help="what `pgboard trace` wrote of the game")
     parser.add_argument("--entries", metavar="K", type=int, help="how many entries of the trace are shown")
     given = parser.parse_args(words)
     if given.trace and given.solution or given.entries is not None and (given.entries < 0 or not given.trace):
         parser.error("--trace comes without a SOLUTION, and --entries with --trace")
-    game, solution = game_of(text_of(given.game)), {}
-    if given.trace:
-        for rows in journal_of(text_of(given.trace))[: given.entries]:
-            solution.update(rows)
-    elif given.solution:
-        solution = solution_of(text_of(given.solution))
+    second = given.trace or given.solution
+    first, *rest = games.texts_of(given.game, *([second] if second else []))
+    with games.hints((given.game, first), (second, rest[0]) if given.solution else None):
+        game, solution = game_of(first), {}
+        if given.trace:
+            for rows in journal_of(rest[0])[: given.entries]:
+                solution.update(rows)
+        elif given.solution:
+            solution = solution_of(rest[0])
     judge(game, solution)
     text = picture(game, solution)
-    sys.stdout.buffer.write(drawn(text, given.kind) if given.kind else text)
+    sys.stdout.buffer.write(games.pictured(text, given.kind) if given.kind else text)
 
 
 if __name__ == "__main__":

@@ -1,23 +1,29 @@
 #!/usr/bin/env python3
 """Says why `pgboard verify` refuses a solution, in the vertices of the game.
 
-For a bad cycle it shows a closed walk that the other player wins, of edges that the solution keeps: of a vertex whose winner
-owns it, the edge to his choice, and of each other vertex all edges. It begins at the vertex that `verify` names, whose
-priority is the greatest on it, and no such walk through that vertex is shorter. For an edge that leaves what its player is
-said to win it shows the edge and the other ways, and for a choice that is missing or none the line and what could stand there.
+For a bad cycle it shows a closed walk that the other player wins, of edges
+that the solution keeps: where the winner owns a vertex, the edge to his
+choice, and elsewhere all edges. The walk begins at the vertex that `verify`
+names, whose priority is the greatest on it. No such walk is shorter.
+
+For an edge that leaves what its player is said to win, it shows the edge and
+the other ways. For a choice that is missing, or is no successor, it shows the
+line and what could be there.
 """
 
-import argparse
+import re
 
 import games
 from games import PLAYERS, Refused
 
 HELP = """
 example, where a choice of Even's makes a cycle that Odd wins:
-  examples/explain.py examples/five_continents.pg examples/five_continents.wrong
-  examples/explain.py --picture cycle.svg examples/five_continents.pg examples/five_continents.wrong
+  game=examples/five_continents
+  examples/explain.py $game.pg $game.wrong
+  examples/explain.py --picture cycle.svg $game.pg $game.wrong
 
-status: 0 where it is a solution, 1 where it is explained why not, 2 or more where something was refused
+status: 0 where it is a solution, 1 where it is explained why not, 2 or more
+where something was refused
 """
 
 STYLES = ('fillcolor="#fde68a"', 'fillcolor="#2563a8" fontcolor="white" peripheries=2')
@@ -104,27 +110,33 @@ def choosing(claim, id):
     return lines, [(id, to) for to in claim.successors(id)]
 
 
+# what `verify` says of a text that is no solution, without "not a solution: "
+FAULTS = {r"bad cycle at (\d+)": cycle, r"(\d+) leaves to (\d+)": leaving, r"(?:no|bad) choice at (\d+)": choosing}
+
+
 def explained(claim, verdict):
     """What is printed below the verdict, and the edges that it is about."""
-    words = verdict.removeprefix("not a solution: ").split()
-    ids = [int(it) for it in words if it.isdigit()]
-    if words[1:2] == ["leaves"]:
-        return leaving(claim, *ids)
-    return cycle(claim, *ids) if words[:2] == ["bad", "cycle"] else choosing(claim, *ids)
+    for form, how in FAULTS.items():
+        found = re.fullmatch(f"not a solution: {form}", verdict)
+        if found:
+            return how(claim, *map(int, found.groups()))
+    raise Refused(f"this is no verdict of pgboard's: {verdict or 'nothing'}")
 
 
 def draw(path, claim, edges):
-    """Draws the edges, and what lies round them: what leads to their vertices and where these lead, as far as all fits."""
+    """Draws the edges, and what lies round them: what leads to their vertices and where these lead, as far as all fits.
+
+    The vertex that `verify` names, from which the first edge leads, is marked.
+    """
     core = list(dict.fromkeys(id for edge in edges for id in edge))
     inside = set(core)
     near = [it for it in claim.game if it not in inside and inside.intersection(claim.successors(it))]
     near += [to for it in core for to in claim.successors(it) if to not in inside]
     shown = list(dict.fromkeys([*core, *near][: max(len(core), games.MOST_DRAWN)]))
-    greatest = max(claim.game[it][0] for it in core)
     lines = ["node [style=filled width=0.7 height=0.5 margin=0.05]"]
     for id in shown:
         priority, owner, _, _ = claim.game[id]
-        mark = " penwidth=4 color=red" if id in inside and priority == greatest else ""
+        mark = " penwidth=4 color=red" if id == core[0] else ""
         label = games.quoted(f"{priority}\n{claim.called(id)}")
         lines.append(f"{id} [shape={'box' if owner else 'diamond'} label={label} {STYLES[claim.winner(id)]}{mark}]")
     marked, drawn = set(edges), set(shown)
@@ -135,19 +147,20 @@ def draw(path, claim, edges):
 
 
 def main(words):
-    parser = argparse.ArgumentParser(description=__doc__, epilog=HELP, formatter_class=argparse.RawDescriptionHelpFormatter)
-    parser.add_argument("game", metavar="GAME")
-    parser.add_argument("solution", metavar="SOLUTION")
-    parser.add_argument("--picture", metavar="FILE", type=games.picture_path, help="draw it with what lies round; by its ending dot, svg, png or pdf")
+    parser = games.parser(__doc__, HELP)
+    parser.add_argument("game", metavar="GAME", help="a game; - is standard input")
+    parser.add_argument("solution", metavar="SOLUTION", help="a solution of it; - is standard input")
+    parser.add_argument("--picture", metavar="FILE", type=games.picture_path, help="draw what is wrong, in .dot, .svg, .png or .pdf")
     given = parser.parse_args(words)
-    game, solution = games.text_of(given.game), games.text_of(given.solution)
-    verdict, _ = games.verdict(game, solution)
-    print(verdict)
+    game, solution = games.texts_of(given.game, given.solution)
+    with games.hints((given.game, game), (given.solution, solution)):
+        verdict, _ = games.verdict(game, solution)
     if verdict == "ok":
+        print(verdict)
         return 0
     claim = Claim(game, solution)
     lines, edges = explained(claim, verdict)
-    print("\n".join(lines))
+    print("\n".join([verdict, *lines]))
     if given.picture:
         draw(given.picture, claim, edges)
     return 1

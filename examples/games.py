@@ -1,11 +1,14 @@
 """What the worked uses share: games as texts, the program that solves and judges them, pictures, and how they refuse.
 
-Games are max-parity games in PGSolver's format, where player 0 is Even. The program is the one that the environment
-variable PGBOARD names, and `pgboard` at the repository's top where it names none.
+Games are max-parity games in PGSolver's format, where player 0 is Even.
 """
 
+import argparse
+import contextlib
+import gc
 import os
 import re
+import shlex
 import shutil
 import subprocess
 import sys
@@ -17,6 +20,27 @@ MOST_DRAWN = 200
 PLAYERS = ("Even", "Odd")
 PICTURES = ("dot", "svg", "png", "pdf")
 TOKEN = re.compile(r'"[^"]*"|[0-9]+|[A-Za-z]+|[,;]')
+# a line of a solution as `solve` writes it
+SOLVED = re.compile(r"(?m)^([0-9]+) ([01])(?: ([0-9]+))?;$")
+NO_PROGRAM = "there is no pgboard: ./pgboard --unproved builds one in two minutes, ./pgboard --install proves one, or set PGBOARD"
+BEGINNINGS = {
+    b"\x1f\x8b": "it is compressed: examples/convert.py unpacks a game, and `gzip -dc` any file",
+    b"\xef\xbb\xbf": "it begins with a byte order mark: examples/convert.py removes it from a game, and `tail -c +4` from any file",
+}
+# what texts of other tools have outside of names, and no game or solution has; and what to do
+FOREIGN = {
+    "comment": (r"#|//", "a comment begins here: examples/convert.py removes comments"),
+    "least": (r"\bmin-?parity\b", "here the least priority decides: examples/convert.py turns it into the greatest, as with --min"),
+    "greatest": (r"\bmax-?parity\b", "this header is not read: examples/convert.py writes `parity` in its place"),
+    "automaton": (r"\bHOA:", "an automaton begins here: examples/convert.py makes its game"),
+    "listing": (r"(?i:\bplayer [01] wins|\bwon by )", "a listing of winners begins here: examples/convert.py --solution reads it"),
+    "dimacs": (r"(?m:^[ \t]*[pc][ \t])", "a line of the DIMACS formats begins here: no flag of examples/convert.py reads these"),
+    "dead": (
+        r'(?:\A|(?<=;))\s*[0-9]+\s+[0-9]+\s+[01]\s*(?:"[^"]*"\s*)?;',
+        "a vertex without successors: examples/convert.py --dead-ends gives it an edge",
+    ),
+}
+FOREIGNER = re.compile("|".join(f"(?P<{name}>{found})" for name, (found, _) in FOREIGN.items()) + '|"[^"]*"')
 
 
 def printable(text):
@@ -31,19 +55,35 @@ class Refused(Exception):
         super().__init__(printable(line[:500]))
 
 
+class Ended(Exception):
+    """The program ended with a status above 1; `said` is its line on standard error."""
+
+    def __init__(self, status, said):
+        super().__init__(said)
+        self.status, self.said = status, said
+
+
 def run(name, main):
-    """Runs a script's `main` and ends with its status; whatever is refused is one line on standard error, and status 2."""
+    """Runs a script's `main` and ends with its status; whatever is refused is one line on standard error, and status 2.
+
+    Where pgboard refused a text, its line is written, and its status ends the script.
+    """
     try:
         for stream, spelled in ((sys.stdin, "standard input"), (sys.stdout, "standard output")):
             if stream is None:
                 raise Refused(f"{spelled} is closed")
         sys.stdout.reconfigure(errors="surrogateescape")
         sys.setrecursionlimit(10_000)
+        # what a script makes lasts to its end, and to look for what does not takes as long as to make it
+        gc.disable()
         status = main(sys.argv[1:])
         sys.stdout.flush()
         sys.exit(status)
     except Refused as refused:
         fault = refused
+    except Ended as ended:
+        sys.stderr.write(ended.said)
+        sys.exit(ended.status)
     except RecursionError:
         fault = "nested too deeply"
     except MemoryError:
@@ -58,9 +98,31 @@ def run(name, main):
     sys.exit(2)
 
 
+def parser(description, examples):
+    """A parser of a script's words, whose help has at most 80 columns."""
+    form = lambda prog: argparse.RawDescriptionHelpFormatter(prog, width=80)
+    return argparse.ArgumentParser(description=description, epilog=examples, formatter_class=form)
+
+
+def called(path):
+    return "standard input" if path == "-" else path
+
+
 def text_of(path):
-    with open(path, encoding="utf-8", errors="surrogateescape", newline="") as file:
-        return file.read()
+    """The text of a file, or for `-` of standard input."""
+    with sys.stdin.buffer if path == "-" else open(path, "rb") as file:
+        data = file.read()
+    for begins, why in BEGINNINGS.items():
+        if data.startswith(begins):
+            raise Refused(f"{called(path)}: {why}")
+    return data.decode("utf-8", "surrogateescape")
+
+
+def texts_of(*paths):
+    """The texts of files, of which one may be standard input."""
+    if paths.count("-") > 1:
+        raise Refused("- is standard input, which can't be two files")
+    return [text_of(it) for it in paths]
 
 
 def write(path, text):
@@ -71,18 +133,69 @@ def write(path, text):
 def place(path, text, at):
     """A place of a text as `PATH:LINE:COLUMN`, both counted from 1."""
     before = text[:at]
-    return f"{path}:{before.count(chr(10)) + 1}:{at - before.rfind(chr(10))}"
+    return f"{called(path)}:{before.count(chr(10)) + 1}:{at - before.rfind(chr(10))}"
+
+
+@contextlib.contextmanager
+def hints(game, solution=None):
+    """Where a text is refused, by a script or by pgboard, says what it has of other tools' and what to do, if it has.
+
+    Each text comes with its path, as (path, text).
+    """
+    try:
+        yield
+    except (Refused, Ended):
+        for it, others in ((game, ("listing",)), (solution, ("dead", "automaton", "least", "greatest"))):
+            for found in FOREIGNER.finditer(it[1]) if it else ():
+                if found.lastgroup and found.lastgroup not in others:
+                    begins = found.end() - len(found[0].lstrip())
+                    raise Refused(f"{place(*it, begins)}: {FOREIGN[found.lastgroup][1]}") from None
+        raise
+
+
+def program():
+    """The words that run pgboard: PGBOARD's, else this clone's build, a proved one before another, else the PATH's."""
+    named, launcher = os.environ.get("PGBOARD"), os.path.join(TOP, "pgboard")
+    if named:
+        return [named] if os.path.isfile(named) else shlex.split(named)
+    there = lambda *path: os.path.isfile(os.path.join(TOP, *path))
+    if there("out", "proved", "pgboard") or there("crates", "pgboard_program", "out", "pgboard_program"):
+        return [launcher]
+    if there("out", "unproved", "pgboard"):
+        return [launcher, "--unproved"]
+    if shutil.which("pgboard"):
+        return ["pgboard"]
+    raise Refused(NO_PROGRAM)
+
+
+warned = set()
+
+
+def is_warning(line):
+    """Writes a warning on a build, once in all runs, and says whether the line is one."""
+    if line.startswith(("pgboard: unproved: ", "pgboard: warning: ")):
+        if line not in warned:
+            sys.stderr.write(line)
+        warned.add(line)
+        return True
+    return False
 
 
 def pgboard(*words):
-    """What the program writes where its status is 0 or 1. With any other it has said why, and its status ends the script."""
-    path = os.environ.get("PGBOARD") or os.path.join(TOP, "pgboard")
-    done = subprocess.run([path, *words], stdin=subprocess.DEVNULL, stdout=subprocess.PIPE)
+    """What the program writes where its status is 0 or 1."""
+    command = [*program(), *words]
+    with tempfile.TemporaryFile() as out:
+        how = {"stdin": subprocess.DEVNULL, "stdout": out, "stderr": subprocess.PIPE}
+        with subprocess.Popen(command, text=True, errors="backslashreplace", **how) as done:
+            said = "".join(it for it in done.stderr if not is_warning(it))
+        out.seek(0)
+        written = out.read().decode()
     if done.returncode < 0:
-        raise Refused(f"{path} was ended by signal {-done.returncode}")
+        raise Refused(f"{command[0]} was ended by signal {-done.returncode}")
     if done.returncode > 1:
-        sys.exit(done.returncode)
-    return done.stdout.decode()
+        raise Ended(done.returncode, said)
+    sys.stderr.write(said)
+    return written
 
 
 def reached(start, expand):
@@ -104,11 +217,11 @@ def reached(start, expand):
 
 
 def game_text(rows):
-    """A game as text; a name's quotes become single ones, since no name can hold them."""
-    lines = [f"parity {len(rows) - 1};\n"]
-    for number, (priority, owner, successors, name) in enumerate(rows):
-        quoted = name.replace('"', "'")
-        lines.append(f'{number} {priority} {owner} {",".join(map(str, successors))} "{quoted}";\n')
+    """A game as text, which starts in vertex 0; a row may have a name, whose quotes become single ones, since none can hold them."""
+    lines = [f"parity {len(rows) - 1};\nstart 0;\n"]
+    for number, (priority, owner, successors, *names) in enumerate(rows):
+        quoted = ' "{}"'.format(names[0].replace('"', "'")) if names else ""
+        lines.append(f'{number} {priority} {owner} {",".join(map(str, successors))}{quoted};\n')
     return "".join(lines)
 
 
@@ -126,10 +239,11 @@ def verdict(game, solution=None):
 
 def solved(rows):
     """Each vertex's winner, and his choice or None: what `solve` writes and `verify` takes."""
-    said, solution = verdict(game_text(rows))
+    said, solution = verdict(game_text([it[:3] for it in rows]))
     if said != "ok":
-        raise Refused(f"what pgboard solved was refused: {said}")
-    return [(winner, choice) for winner, choice, _ in solution_of(solution).values()]
+        raise Refused(f"what pgboard solved was refused: {said or 'no verdict'}")
+    lines = {int(id): (int(winner), int(choice) if choice else None) for id, winner, choice in SOLVED.findall(solution)}
+    return [lines[number] for number in range(len(rows))]
 
 
 def statements(text):
@@ -161,6 +275,14 @@ def game_of(text):
     return game
 
 
+def start_of(text):
+    """The vertex that a game's text names as its start, or None."""
+    named = {number(words[1]) for words, _ in statements(text) if words[0] == "start"}
+    if len(named) > 1:
+        raise Refused(f"several lines `start` name vertices: {', '.join(map(str, sorted(named)))}")
+    return named.pop() if named else None
+
+
 def solution_of(text):
     """The lines of a solution's text that pgboard takes: (winner, choice or None, line's number) of each identifier."""
     solution = {}
@@ -187,18 +309,30 @@ def quoted(text):
 
 
 def draw(path, count, lines):
-    """Writes a picture of so many vertices: Graphviz text where the path ends in .dot, else what `dot` makes of it."""
+    """Writes a picture of so many vertices."""
+    head = ["digraph {", '    node [fontname="DejaVu Sans"];', '    edge [fontname="DejaVu Sans"];']
+    write_picture(path, count, "\n".join([*head, *(f"    {line};" for line in lines), "}", ""]).encode(errors="replace"))
+
+
+def write_picture(path, count, text):
+    """Writes Graphviz text of so many vertices where the path ends in .dot, else what `dot` makes of it."""
     if count > MOST_DRAWN:
         raise Refused(f"{path}: {count} vertices are too many for a picture: at most {MOST_DRAWN} are drawn")
-    head = ["digraph {", '    node [fontname="DejaVu Sans"];', '    edge [fontname="DejaVu Sans"];']
-    text = "\n".join([*head, *(f"    {line};" for line in lines), "}", ""]).encode(errors="replace")
     kind = path.rpartition(".")[2]
     if kind != "dot":
-        if not shutil.which("dot"):
-            raise Refused(f"{path}: no picture without Graphviz: the command dot is not on the PATH")
-        done = subprocess.run(["dot", f"-T{kind}"], input=text, stdout=subprocess.PIPE, stderr=subprocess.DEVNULL)
-        if done.returncode:
-            raise Refused(f"{path}: the command dot ended with status {done.returncode}")
-        text = done.stdout
+        try:
+            text = pictured(text, kind)
+        except Refused as refused:
+            raise Refused(f"{path}: {refused}") from None
     with open(path, "wb") as file:
         file.write(text)
+
+
+def pictured(text, kind):
+    """The picture that Graphviz makes of its text."""
+    if not shutil.which("dot"):
+        raise Refused("no picture without Graphviz: the command dot is not on the PATH")
+    done = subprocess.run(["dot", f"-T{kind}"], input=text, stdout=subprocess.PIPE, stderr=subprocess.DEVNULL)
+    if done.returncode:
+        raise Refused(f"the command dot ended with status {done.returncode}")
+    return done.stdout

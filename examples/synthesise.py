@@ -1,29 +1,45 @@
 #!/usr/bin/env python3
-"""Finds a controller that meets a specification, or the environment that keeps every controller from it.
+"""Finds a controller that meets a specification, or the environment that keeps
+every controller from it.
 
-The specification is a deterministic parity automaton in the HOA format, whose header `controllable-AP` names the
-propositions that the controller sets; the environment sets the others. In each step the environment chooses its
-propositions, then the controller, who sees them, chooses his, and the automaton takes the edge of that letter. The controller
-wins where the automaton accepts; where it has no edge it doesn't. pgboard solves this game and verifies the solution.
+The specification is a deterministic parity automaton in the HOA format. Its
+header `controllable-AP` names the propositions that the controller sets; the
+environment sets the others. In each step the environment chooses its
+propositions. Then the controller, who sees them, chooses his, and the
+automaton takes the edge of that letter. The controller wins where the
+automaton accepts; where it has no edge he does not. At most 14 propositions
+are read.
 
-What is written is a Mealy machine for the controller, as a table in KISS2: each line has the inputs, the state, the next
-state and the outputs. Or it is the word `unrealizable` and such a table for the environment: its inputs are the controller's
-propositions, and its outputs are the same on all lines of a state, since it chooses first. Each table is read again and its
-product with the automaton, a game of one player, judged by `pgboard verify`.
+Or it is a game in that format: by the header `spot-state-player` the
+environment (0) and the controller (1) own states, and take turns.
+
+pgboard solves the game and verifies the solution. The first line of the output
+is REALIZABLE or UNREALIZABLE. After it is a Mealy machine for the controller,
+or a machine for the environment, as a table in KISS2: each line has the
+inputs, the state, the next state and the outputs. The environment's inputs are
+the controller's propositions, and its outputs are the same on all lines of a
+state, since it chooses first. States that behave alike are one. Each table is
+read again, and `pgboard verify` judges its product with the automaton, a game
+of one player.
+
+--aiger writes the machine as a circuit, in place of the table. Its inputs and
+outputs have the names of the propositions. Its latches are the bits of the
+state, from 0.
 """
 
-import argparse
-
+import aiger
 import games
 from games import Refused
 from hoa import Automaton
 
 HELP = """
-example, an arbiter of two clients, and one that has to grant at once whatever is requested:
+example, an arbiter of two clients, and one that has to grant at once:
   examples/synthesise.py examples/synthesise/arbiter_2.hoa
-  examples/synthesise.py --picture arbiter.svg examples/synthesise/arbiter_2_at_once.hoa
+  examples/synthesise.py --aiger - examples/synthesise/arbiter_2.hoa
+  examples/synthesise.py examples/synthesise/arbiter_2_at_once.hoa
 
-status: 0 where there is a controller, 1 where there is none, 2 where something was refused
+status: 0 where there is a controller, 1 where there is none, 2 where something
+was refused
 """
 
 
@@ -86,19 +102,42 @@ class Game:
             yield answer, to, bits(value, len(self.inputs))
 
     def machine(self, solution):
-        """The winner's machine, as rows (cube that is read, state, next state, what is written)."""
-        winner = solution[0][0]
-        step, width = (self.environment, len(self.outputs)) if winner else (self.controller, len(self.inputs))
-        rows, states, found = [], [self.automaton.first], {self.automaton.first}
+        """The winner's machine: of each state, the first one first, the values that are read by (next state, what is written)."""
+        step = self.environment if solution[0][0] else self.controller
+        machine, states, found = {}, [self.automaton.first], {self.automaton.first}
         for state in states:
-            lines = {}
+            lines = machine[state] = {}
             for read, to, written in step(solution, state):
                 lines.setdefault((to, written), set()).add(read)
-            rows += [(cube, state, to, written) for (to, written), reads in lines.items() for cube in cubes(reads, width)]
             new = [to for to in dict.fromkeys(to for to, _ in lines) if to not in found]
             states += new
             found.update(new)
-        return rows
+        return merged(machine)
+
+
+def merged(machine):
+    """The machine in which states that behave alike are one, by finer and finer groups of them (Moore 1956)."""
+    group, count = dict.fromkeys(machine, 0), 1
+    while True:
+        lines = {state: grouped(machine[state], group) for state in machine}
+        keys = {state: frozenset((it, frozenset(reads)) for it, reads in lines[state].items()) for state in machine}
+        numbers = {}
+        group = {state: numbers.setdefault((group[state], keys[state]), len(numbers)) for state in machine}
+        if len(numbers) == count:
+            break
+        count = len(numbers)
+    name = {}
+    for state in machine:
+        name.setdefault(group[state], state)
+    return {state: grouped(machine[state], {it: name[group[it]] for it in machine}) for state in name.values()}
+
+
+def grouped(lines, group):
+    """The lines of a state, with the groups of next states in place of these."""
+    found = {}
+    for (to, written), reads in lines.items():
+        found.setdefault((group[to], written), set()).update(reads)
+    return found
 
 
 def cubes(values, width):
@@ -109,6 +148,16 @@ def cubes(values, width):
     low, high = {it for it in values if it < half}, {it - half for it in values if it >= half}
     parts = [("-", low)] if low == high else [("0", low), ("1", high)]
     return [first + cube for first, part in parts if part for cube in cubes(part, width - 1)]
+
+
+def rows_of(machine, width):
+    """The rows of a machine's table: (cube that is read, state, next state, what is written)."""
+    return [
+        (cube, state, to, written)
+        for state, lines in machine.items()
+        for (to, written), reads in lines.items()
+        for cube in cubes(reads, width)
+    ]
 
 
 def table(rows, names, inputs, outputs):
@@ -156,7 +205,7 @@ def check(automaton, text, player, inputs, outputs):
     _, rows = games.reached(("at", first, automaton.first), row)
     said, _ = games.verdict(games.game_text(rows), "".join(f"{number} {player};\n" for number in range(len(rows))))
     if said != "ok":
-        raise Refused(f"the machine that was found fails: {said}")
+        raise Refused(f"the machine that was found fails: {said or 'no verdict'}")
 
 
 def draw(path, rows):
@@ -170,23 +219,31 @@ def draw(path, rows):
 
 
 def main(words):
-    parser = argparse.ArgumentParser(description=__doc__, epilog=HELP, formatter_class=argparse.RawDescriptionHelpFormatter)
-    parser.add_argument("specification", metavar="SPEC.hoa")
-    parser.add_argument("--picture", metavar="FILE", type=games.picture_path, help="draw the machine; by its ending dot, svg, png or pdf")
+    parser = games.parser(__doc__, HELP)
+    parser.add_argument("specification", metavar="SPEC.hoa", help="an automaton or a game; - is standard input")
+    parser.add_argument("--aiger", metavar="FILE", type=aiger.path, help="write a circuit: ASCII to .aag and -, binary to .aig")
+    parser.add_argument("--picture", metavar="FILE", type=games.picture_path, help="draw the machine, in .dot, .svg, .png or .pdf")
     parser.add_argument("--game", metavar="FILE", help="write the game")
     given = parser.parse_args(words)
     automaton = Automaton(given.specification)
+    if automaton.owners is not None:
+        automaton.turns()
     game = Game(automaton)
     if given.game:
         games.write(given.game, games.game_text(game.rows))
     solution = games.solved(game.rows)
-    winner, rows = solution[0][0], game.machine(solution)
+    winner, machine = solution[0][0], game.machine(solution)
     inputs, outputs = (game.outputs, game.inputs) if winner else (game.inputs, game.outputs)
+    rows = rows_of(machine, len(inputs))
     text = table(rows, automaton.names, inputs, outputs)
     check(automaton, text, winner, inputs, outputs)
+    if given.aiger:
+        circuit = aiger.Circuit(machine, automaton.names, inputs, outputs)
+        text = circuit.text() if given.aiger == "-" else ""
+        aiger.write(given.aiger, circuit)
     if given.picture:
         draw(given.picture, rows)
-    print("unrealizable\n" * winner + text, end="")
+    print("UNREALIZABLE\n" if winner else "REALIZABLE\n", text, sep="", end="")
     return winner
 
 

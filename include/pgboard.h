@@ -2,13 +2,30 @@
  *
  * Each call returns a number: 0, or one of those below. If it is 0, both fields of `report` are 0. Else `report` says
  * where the fault is, and the call writes nothing but `report`. No pointer may be null, even with length 0. No array or struct
- * that a call writes may overlap another. The calls start no thread, wait for nothing and keep nothing. Several threads may
- * make calls at once, each with its own arrays. */
+ * that a call writes may overlap another.
+ *
+ * The calls start no thread, wait for nothing and keep nothing. Several threads may make calls at once. They may share what a
+ * call only reads, such as a game; each needs its own results and report. No thread may change an array or a struct during a
+ * call that reads it. The header is C89, with the types of stdint.h, and C++. */
 #ifndef PGBOARD_H
 #define PGBOARD_H
 
 #include <stddef.h>
 #include <stdint.h>
+
+/* A call whose answer has to be used, and whose pointers are not null. */
+#if defined(__GNUC__) || defined(__clang__)
+#define PGBOARD_CALL __attribute__((warn_unused_result, nonnull))
+#else
+#define PGBOARD_CALL
+#endif
+#if defined(__cplusplus) || (defined(__STDC_VERSION__) && __STDC_VERSION__ >= 199901L)
+#define PGBOARD_INLINE static inline
+#elif defined(__GNUC__)
+#define PGBOARD_INLINE static __inline__
+#else
+#define PGBOARD_INLINE static
+#endif
 
 #ifdef __cplusplus
 extern "C" {
@@ -22,6 +39,16 @@ extern "C" {
 
 /* The version of the linked library, in the form of PGBOARD_VERSION. */
 uint32_t pgboard_version(void);
+
+/* The limits: vertices and edges of a game, where two edges from a vertex to the same successor are one; priorities, and
+ * identifiers in texts; and the bytes of a text. */
+#define PGBOARD_MAX_VERTICES 1048576u
+#define PGBOARD_MAX_EDGES 16777216u
+#define PGBOARD_MAX_NUMBER 2147483647u
+#define PGBOARD_MAX_TEXT 268435456u
+
+/* A size that suffices for what pgboard_solve_text and pgboard_tidy_text write of a game's text with so many bytes. */
+#define PGBOARD_TEXT_BOUND(game_len) ((size_t)(game_len) + (size_t)(game_len) / 8 + 22)
 
 /* In `choices`: no choice. In `winners` of what is known: an unknown winner. */
 #define PGBOARD_NO_CHOICE 4294967295u
@@ -135,114 +162,60 @@ struct pgboard_results {
 };
 
 /* Solves a game. */
+PGBOARD_CALL
 uint32_t pgboard_solve(const struct pgboard_game *game, struct pgboard_results *results, struct pgboard_report *report);
 
 /* The same as pgboard_solve, from what is known; PGBOARD_NO_WINNER is an unknown winner. What is known may come from any
  * source. Each player's known vertices have to be a set that he wins by his choices there, without leaving it. */
+PGBOARD_CALL
 uint32_t pgboard_solve_known(const struct pgboard_game *game, const struct pgboard_solution *known,
                              struct pgboard_results *results, struct pgboard_report *report);
 
 /* Whether winners and choices are a solution of a game: PGBOARD_OK, or the first fault. */
+PGBOARD_CALL
 uint32_t pgboard_check(const struct pgboard_game *game, const struct pgboard_solution *solution,
                        struct pgboard_report *report);
 
 /* Solves a game in PGSolver's format: writes the solution's text to the front of `into`, and its size. There is no zero
- * byte at the end. Reports have the identifiers of vertices. */
+ * byte at the end. PGBOARD_TEXT_BOUND(game_len) bytes suffice. Reports have the identifiers of vertices. */
+PGBOARD_CALL
 uint32_t pgboard_solve_text(const uint8_t *game, size_t game_len, uint8_t *into, size_t into_len, size_t *size,
                             struct pgboard_report *report);
 
 /* The same with the game's one written form. */
+PGBOARD_CALL
 uint32_t pgboard_tidy_text(const uint8_t *game, size_t game_len, uint8_t *into, size_t into_len, size_t *size,
                            struct pgboard_report *report);
 
 /* Whether a text is a solution of a game's text: PGBOARD_OK, or the first fault. Reports have the identifiers of
  * vertices. */
+PGBOARD_CALL
 uint32_t pgboard_verify_text(const uint8_t *game, size_t game_len, const uint8_t *solution, size_t solution_len,
                              struct pgboard_report *report);
 
-/* The text of an answer, in English. */
-static inline const char *pgboard_strerror(uint32_t answer)
+/* A text of the library, which stays as long as the program. It ends with a zero byte, which its length counts. */
+struct pgboard_text {
+    const char *bytes;
+    size_t bytes_len;
+};
+
+/* The text of an answer, in English, and the version as a text. The caller's struct points to any text before, as "". */
+void pgboard_answer_text(uint32_t answer, struct pgboard_text *text);
+void pgboard_version_text(struct pgboard_text *text);
+
+/* The same as C strings. */
+PGBOARD_INLINE const char *pgboard_strerror(uint32_t answer)
 {
-    switch (answer) {
-    case PGBOARD_OK:
-        return "no fault";
-    case PGBOARD_MEMORY:
-        return "memory was refused";
-    case PGBOARD_LENGTHS:
-        return "the arrays of the game do not fit one another";
-    case PGBOARD_ROW:
-        return "the row of a vertex is no part of the targets";
-    case PGBOARD_OWNER:
-        return "an owner is neither 0 nor 1";
-    case PGBOARD_PRIORITY:
-        return "a priority is above 2147483647";
-    case PGBOARD_RESULTS:
-        return "an array for results does not have one entry for each vertex";
-    case PGBOARD_WINNER:
-        return "a winner is neither 0 nor 1";
-    case PGBOARD_SOLUTION:
-        return "an array of the solution does not have one entry for each vertex";
-    case PGBOARD_SIZE:
-        return "the size of a struct is not the one that this library takes";
-    case PGBOARD_NO_VERTEX:
-        return "the game has no vertex";
-    case PGBOARD_TOO_MANY_VERTICES:
-        return "the game has too many vertices";
-    case PGBOARD_TWICE:
-        return "a vertex is specified twice";
-    case PGBOARD_NO_SUCCESSOR:
-        return "a vertex has no successor";
-    case PGBOARD_TOO_MANY_EDGES:
-        return "the game has too many edges";
-    case PGBOARD_UNKNOWN:
-        return "a successor is no vertex";
-    case PGBOARD_NO_CHOICE_AT:
-        return "the winner owns a vertex and has no choice there";
-    case PGBOARD_BAD_CHOICE:
-        return "a winner's choice is no successor";
-    case PGBOARD_LEAVES:
-        return "a kept edge leads to a vertex that its winner does not win";
-    case PGBOARD_CYCLE:
-        return "the greatest priority on a closed walk is the loser's";
-    case PGBOARD_KNOWN_CHOICE:
-        return "a vertex that its owner is known to win has no choice that is a successor";
-    case PGBOARD_KNOWN_CYCLE:
-        return "the greatest priority on a closed walk in what a player is known to win is the other's";
-    case PGBOARD_KNOWN_LOST:
-        return "Even attracts a vertex that is known for Odd to what is known for Even";
-    case PGBOARD_KNOWN_LEAVES:
-        return "a kept edge leads out of what a player is known to win";
-    case PGBOARD_GAME_TOO_LONG:
-        return "the game's text is longer than 268435456 bytes";
-    case PGBOARD_GAME_LEXICAL:
-        return "the game's text has a byte that begins no token, or a quote that is never closed";
-    case PGBOARD_GAME_SYNTAX:
-        return "the game's text has a token that is not expected, or ends too early";
-    case PGBOARD_GAME_NUMBER:
-        return "the game's text has a number above 2147483647";
-    case PGBOARD_GAME_OWNER:
-        return "the game's text has an owner that is neither 0 nor 1";
-    case PGBOARD_SOLUTION_TOO_LONG:
-        return "the solution's text is longer than 268435456 bytes";
-    case PGBOARD_SOLUTION_LEXICAL:
-        return "the solution's text has a byte that begins no token, or a quote that is never closed";
-    case PGBOARD_SOLUTION_SYNTAX:
-        return "the solution's text has a token that is not expected, or ends too early";
-    case PGBOARD_SOLUTION_NUMBER:
-        return "the solution's text has a number above 2147483647";
-    case PGBOARD_SOLUTION_WINNER:
-        return "the solution's text has a winner that is neither 0 nor 1";
-    case PGBOARD_SOLUTION_STRANGER:
-        return "the solution's text has a vertex that is not in the game";
-    case PGBOARD_SOLUTION_TWICE:
-        return "the solution's text has two lines for a vertex";
-    case PGBOARD_SOLUTION_MISSING:
-        return "the solution's text has no line for a vertex";
-    case PGBOARD_CAPACITY:
-        return "the buffer is smaller than the text";
-    default:
-        return "no answer of this library";
-    }
+    struct pgboard_text text = {"", 0};
+    pgboard_answer_text(answer, &text);
+    return text.bytes;
+}
+
+PGBOARD_INLINE const char *pgboard_version_string(void)
+{
+    struct pgboard_text text = {"", 0};
+    pgboard_version_text(&text);
+    return text.bytes;
 }
 
 #ifdef __cplusplus

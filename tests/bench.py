@@ -39,11 +39,20 @@ class Bench(unittest.TestCase):
                 self.assertEqual(status, 0, out + err)
                 shown = out.decode().splitlines()
                 self.assertEqual(shown[0], head)
-                self.assertRegex(shown[2], r"^\| own_loops( \| [0-9.]+ \([0-9.]+\))+ \|$")
-                # each run of both programs is kept
+                self.assertRegex(shown[2], r"^\| own_loops( \| [0-9.]+ \([0-9.]+(, [0-9.]+)?\))+ \|$")
+                # each run is kept, and the ratios are of these runs
                 (made,) = set(BENCH.glob("out/figures-*.tsv")) - before
-                runs = [it for it in made.read_text().splitlines() if it.startswith("own_loops\t")]
-                self.assertEqual(len(runs), 2 * len(set(re.findall(r"(?<=\| )([\w-]+), ", head))))
+                runs = [it.split("\t") for it in made.read_text().splitlines() if it.startswith("own_loops\t")]
+                figures = {(it[1], it[2]): [float(it[5]), float(it[6]), float(it[7]) / 1024] for it in runs}
+                self.assertEqual(len(runs), len(figures))
+                for column, cell in zip(re.findall(r"([\w-]+), (ms|CPU ms|MiB)", head), shown[2].split(" | ")[1:]):
+                    command, at = column[0], ["ms", "CPU ms", "MiB"].index(column[1])
+                    mine, other = (figures[command, who][at] for who in ("program", "comparator"))
+                    ratios = [mine / other]
+                    if command.startswith("solve"):
+                        verify = figures[command, "comparator's verify"][at]
+                        ratios.append(mine / (max(other, verify) if at == 2 else other + verify))
+                    self.assertEqual(re.search(r"\((.*)\)", cell)[1], ", ".join(f"{it:.2f}" for it in ratios), column)
                 made.unlink()
 
     def test_the_comparators_fast_parts_are_its_plain_ones(self):

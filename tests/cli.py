@@ -98,6 +98,19 @@ class Cases(unittest.TestCase):
 
 common.load_tests_of_table(Cases, {it.name: it.name for it in sorted(CASES.iterdir())}, Cases.judge)
 
+# what a build says of itself: rt alone records nothing, ./pgboard and ./package record the commit, and twelve digits where they suffice
+BUILD = rb"build: (?:not recorded: whether this program was proved, and of which commit it is|(?:un)?proved, (?:(?:changed since )?commit|sources) [0-9a-f]{40} *)"
+
+
+class Version(unittest.TestCase):
+    def test_it_is_printed(self):
+        for word in ("--version", "-V"):
+            with self.subTest(word):
+                status, out, err = common.program(word)
+                self.assertEqual((status, err), (0, b""))
+                self.assertRegex(out, rb"\Apgboard \d+\.\d+\.\d+\nkit: rattle-kit-\d+ logic [0-9a-f]+\n" + BUILD + rb"\n\Z")
+
+
 # --- devices ---
 
 LONGEST = 268_435_456
@@ -162,6 +175,10 @@ DEVICES = {
     "a_file_of_a_terabyte_is_too_long": ('exec "$@"', ["tidy", "terabyte"], b"", TOO_LONG),
 }
 SIZES = {"long": 100_000_000, "longest": LONGEST, "longer": LONGEST + 1, "terabyte": 1 << 40}
+# those that have no time or no memory with run-time checks
+NEEDS_SPEED = ["refused_memory_is_status_5_and_nothing_is_written", *(name for name, row in DEVICES.items() if row[0].startswith("head -c 2684"))]
+NEEDS_SPEED += ["a_reader_that_stops_early_is_a_write_fault", "a_slow_reader_gets_the_whole_output", "a_named_pipe_is_read_as_a_file_is"]
+NEEDS_SPEED += ["a_file_of_the_greatest_length_is_read", "a_file_with_one_byte_more_is_too_long", "a_file_of_a_terabyte_is_too_long"]
 # runs whose output is refused
 WRITING = [
     ([], JOINED),
@@ -237,6 +254,8 @@ class Devices(Answers):
 
 
 common.load_tests_of_table(Devices, DEVICES, Devices.judge)
+for name in NEEDS_SPEED:
+    setattr(Devices, f"test_{name}", common.needs_speed(getattr(Devices, f"test_{name}")))
 
 # --- limits ---
 
@@ -353,6 +372,7 @@ LIMITS = {
 }
 
 
+@common.needs_speed
 class Limits(Answers):
     def judge(self, row):
         words, make, wanted = row
@@ -408,6 +428,7 @@ OF_KNOWN = [
 ]
 
 
+@common.needs_speed
 class ManyLines(Answers):
     def setUp(self):
         self.folder = common.make_folder(self)

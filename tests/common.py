@@ -1,5 +1,6 @@
 """What the scripts of tests/ share: the repository's folder, the program under test, and a last line that ./test adds up."""
 
+import functools
 import os
 import pathlib
 import re
@@ -11,10 +12,20 @@ import unittest
 
 sys.dont_write_bytecode = True
 ROOT = pathlib.Path(__file__).resolve().parent.parent
-# the program that the gate has built; the first word of a script may be the path of another one
-PROGRAM = ROOT / "crates" / "pgboard_program" / "out" / "pgboard_program"
-if sys.argv[1:] and not sys.argv[1].startswith("-"):
-    PROGRAM = pathlib.Path(os.path.abspath(sys.argv.pop(1)))
+# in the gate no test may be skipped
+IS_GATE = bool(os.environ.get("PGBOARD_GATE"))
+# what `rt ci` and `rt run` build
+BUILT = ROOT / "crates" / "pgboard_program" / "out" / "pgboard_program"
+
+
+def last_built():
+    """The program that was built last, if there is one: by `rt`, or by ./pgboard with and without proofs."""
+    programs = [BUILT, ROOT / "out" / "proved" / "pgboard", ROOT / "out" / "unproved" / "pgboard"]
+    return max(programs, key=lambda it: it.stat().st_mtime if it.exists() else 0)
+
+
+# the first word of a script may be the path of another one
+PROGRAM = pathlib.Path(os.path.abspath(sys.argv.pop(1))) if sys.argv[1:] and not sys.argv[1].startswith("-") else last_built()
 
 
 def text_of(*path):
@@ -38,6 +49,17 @@ def run(words, given=b"", timeout=60, **how):
 def program(*words, given=b"", **how):
     """Runs the program under test likewise."""
     return run([PROGRAM, *words], given, **how)
+
+
+@functools.lru_cache(maxsize=None)
+def is_checked():
+    """Whether the program under test has run-time checks: it is some 200 times slower, takes more memory, and a signal ends it."""
+    return b"\nbuild: unproved, " in program("--version")[1]
+
+
+def needs_speed(test):
+    """Leaves out a test, or a class of tests, that a program with run-time checks has neither the time nor the memory for."""
+    return unittest.skipIf(is_checked(), "the program has run-time checks")(test)
 
 
 def needs(*tools):
@@ -79,10 +101,12 @@ class Result(unittest.TextTestResult):
 def main():
     """Runs the tests of the script, with flags of unittest as -k WORD; the last line is 'N passed, M failed'.
 
-    A script of which no test ran has failed, unless tools are missing for all of them.
+    A script of which no test ran has failed, unless all were skipped. In the gate a skipped test has failed.
     """
     runner = unittest.TextTestRunner(resultclass=Result)
     result = unittest.main(testRunner=runner, exit=False).result
-    failed = len(result.failures) + len(result.errors) or int(not result.passed and not result.skipped)
+    failed = len(result.failures) + len(result.errors) + IS_GATE * len(result.skipped) or int(not result.passed and not result.skipped)
+    for test, why in result.skipped:
+        print(f"skipped: {test}: {why}")
     print(f"{result.passed} passed, {failed} failed", flush=True)
     sys.exit(1 if failed else 0)

@@ -1,10 +1,12 @@
 #!/usr/bin/env python3
 """Builds the static library, and looks at what C and Python see of it: tests/embed.py [PROGRAM] [-k WORD]
 
-include/pgboard.h declares the exports of crates/pgboard_c and has the numbers that their contracts name, with a text for each
-answer; it is C11 and C++17. tests/embed/test.c goes through each answer, also with sanitizers; on random games it gives the
-winners of the program. The C program of docs/INTEROP.md, built by the commands there, prints what it says there. The tests of
-bindings/python pass.
+include/pgboard.h declares the exports of crates/pgboard_c and has the fields and the numbers that the crate has, with a text for
+each answer; it is C89 and C++. tests/embed/test.c goes through each answer by its name, also with sanitizers; on random games it
+gives the winners of the program, and so does tests/embed/test.cpp with include/pgboard.hpp. The C program of docs/INTEROP.md, built
+by the commands there, prints what it says there. The tests of bindings/python pass under each Python that is installed.
+
+PGBOARD_ARCHIVE names another static library to test, which is not made here.
 """
 
 import itertools
@@ -25,7 +27,8 @@ import rtlib
 
 CRATE = common.ROOT / "crates" / "pgboard_c"
 KIT = pathlib.Path(common.run(["rt", "doc"])[1].decode()).parent
-ARCHIVES = [CRATE / "out" / "libpgboard_c.a", KIT / "c" / "liblibc_c.a"]
+OTHER = os.environ.get("PGBOARD_ARCHIVE")
+ARCHIVES = [OTHER or CRATE / "out" / "libpgboard_c.a", KIT / "c" / "liblibc_c.a"]
 GAMES = 300
 WARNINGS = ["-Wall", "-Wextra", "-Werror", "-pedantic", "-Iinclude"]
 FLAGS = ["-std=c11", *WARNINGS, "-O1"]
@@ -40,20 +43,26 @@ TYPES = {
     "&SolutionArrays": "const struct pgboard_solution *",
     "&mut Results": "struct pgboard_results *",
     "&mut Report": "struct pgboard_report *",
+    "&mut Text<'static>": "struct pgboard_text *",
+    "u32": "uint32_t ",
 }
+RESULTS = {"u32": "uint32_t", None: "void"}
 HEADER = common.text_of("include/pgboard.h")
+# what the limits are called in the specifications
+LIMITS = {"max_vertices": "MAX_VERTICES", "max_edges": "MAX_EDGES", "max_number": "MAX_NUMBER", "max_text": "MAX_TEXT"}
+TEXTS = {name: text for text, name in re.findall(r"(?m)^(.+?) +(PGBOARD_\w+)$", common.text_of("tests/embed/texts.txt"))}
 
 
 def prototypes():
     """The exports as C declares them, by the crate's code."""
     for path in sorted((CRATE / "src").glob("*.rt")):
-        for name, parameters in re.findall(r'pub extern "C" fn (\w+)\((.*?)\) -> u32\n', path.read_text(encoding="utf-8"), re.DOTALL):
+        for name, parameters, result in re.findall(r'pub extern "C" fn (\w+)\((.*?)\)(?: -> (\w+))?\n', path.read_text(encoding="utf-8"), re.DOTALL):
             found = []
-            for parameter, kind in re.findall(r"(\w+): ([^,]+),", parameters):
+            for parameter, kind in re.findall(r"(\w+): ([^,]+)(?:,|$)", parameters):
                 if kind != "Global":
                     found.append(TYPES[kind] + parameter)
                     found += [f"size_t {parameter}_len"] * kind.endswith("]")
-            yield f"uint32_t {name}({', '.join(found) or 'void'});"
+            yield f"{RESULTS[result or None]} {name}({', '.join(found) or 'void'});"
 
 
 def header_numbers():
@@ -68,6 +77,19 @@ def header_numbers():
         yield group in ("array", "structure"), f"PGBOARD_{other_names.get(name, name)}", number
 
 
+def layouts():
+    """The structs that the crate has in C's layout, and each field with its place, by the sizes of a number and of a slice."""
+    structs = {re.search(r"\w+", kind.replace("&mut ", "&"))[0]: re.search(r"struct \w+", name)[0] for kind, name in TYPES.items() if "struct" in name}
+    for path in sorted((CRATE / "src").glob("*.rt")):
+        for name, fields in re.findall(r"#\[repr\(C\)\][^{;]*struct (\w+)[^{]*\{(.*?)\n\}", path.read_text(encoding="utf-8"), re.DOTALL):
+            found, place = {}, 0
+            for field, kind in re.findall(r"(?m)^ +(?:pub )?(\w+): (.*),$", fields):
+                names = [field, f"{field}_len"] if "[" in kind else [field]
+                found.update(zip(names, itertools.count(place, 8)))
+                place += 8 * len(names)
+            yield structs[name], found, place
+
+
 def drawn(seed):
     """A random game, and the numbers that test.c reads of it."""
     chance = random.Random(seed)
@@ -78,6 +100,17 @@ def drawn(seed):
     priorities, owners, rows = zip(*game)
     numbers = [size, starts[-1], *owners, *priorities, *starts, *itertools.chain(*rows)]
     return {v: (p, o, set(row)) for v, (p, o, row) in enumerate(game)}, " ".join(map(str, numbers)) + "\n"
+
+
+def pythons():
+    """Each Python from 3.8 on that is installed. (NumPy of a distribution is there for the Python of the distribution alone.)"""
+    names = [sys.executable, "/usr/bin/python3", *(f"python3.{minor}" for minor in range(8, 20))]
+    found = {}
+    for path in filter(None, map(shutil.which, names)):
+        status, said, _ = run([path, "-c", "import sys; print(sys.executable)"])
+        if status == 0:
+            found[os.path.realpath(said.strip())] = path
+    return found.values()
 
 
 def run(words, given=b""):
@@ -99,6 +132,8 @@ class Embed(unittest.TestCase):
     @classmethod
     def setUpClass(cls):
         cls.folder = common.make_folder(cls)
+        if OTHER:
+            return
         take_as_built()
         status, out, err = common.run(["rt", "lib", "--jobs", "1"], timeout=3000, cwd=CRATE)
         assert status == 0 and ARCHIVES[0].exists(), (out + err).decode()[-2000:]
@@ -108,47 +143,92 @@ class Embed(unittest.TestCase):
         self.assertEqual(status, 0, err)
 
     def test_the_header_declares_what_the_crate_exports(self):
-        declared = {re.sub(r"\s+", " ", it) for it in re.findall(r"(?ms)^uint32_t [^;]*;", HEADER)}
+        declared = {re.sub(r"\s+", " ", it) for it in re.findall(r"(?ms)^(?:uint32_t|void) [^;]*;", HEADER)}
         self.assertEqual(declared, set(prototypes()))
-        self.assertEqual(len(declared), 7)
+        self.assertEqual(len(declared), 9)
 
     def test_the_header_has_the_numbers_of_the_contracts(self):
         defined = dict(re.findall(r"(?m)^#define (PGBOARD_\w+) (\d+)u", HEADER))
         numbers = {name: number for _, name, number in header_numbers()}
-        self.assertEqual(defined, {**numbers, "PGBOARD_OK": "0", "PGBOARD_NO_CHOICE": "4294967295", "PGBOARD_NO_WINNER": "255"})
-        answers = {name for is_part, name, _ in header_numbers() if not is_part}
-        self.assertEqual(set(re.findall(r"case (PGBOARD_\w+):", HEADER)), answers | {"PGBOARD_OK"})
+        specs = "".join(it.read_text(encoding="utf-8") for it in sorted(common.ROOT.glob("crates/*/specs/*.antt")))
+        limits = {f"PGBOARD_{LIMITS[name]}": number for name, number in re.findall(r"(?m)^(\w+) = (\d+)$", specs) if name in LIMITS}
+        self.assertEqual(len(limits), len(LIMITS))
+        others = {"PGBOARD_OK": "0", "PGBOARD_NO_CHOICE": "4294967295", "PGBOARD_NO_WINNER": "255"}
+        self.assertEqual(defined, {**numbers, **limits, **others})
+        # test.c sees each of them come from the library
+        self.assertEqual(defined.keys() - set(re.findall(r"PGBOARD_\w+", common.text_of("tests/embed/test.c"))), set())
+
+    def test_the_header_has_the_structs_of_the_crate(self):
+        lines = ["#include <stddef.h>", '#include "pgboard.h"', "int main(void) { return 0; }"]
+        for struct, fields, size in layouts():
+            lines.append(f"_Static_assert(sizeof({struct}) == {size}, {chr(34)}{struct}{chr(34)});")
+            lines += [f'_Static_assert(offsetof({struct}, {name}) == {place}, "{name}");' for name, place in fields.items()]
+        self.assertEqual(len(lines), 3 + 5 + 9 + 5 + 5 + 2 + 2)
+        (self.folder / "layout.c").write_text("\n".join(lines), encoding="ascii")
+        self.built(["-std=c11", *WARNINGS, "-fsyntax-only", self.folder / "layout.c"])
+
+    def test_each_answer_has_its_own_text(self):
+        numbers = {name: int(number) for name, number in re.findall(r"(?m)^#define (PGBOARD_\w+) (\d+)u", HEADER)}
+        asked = [*TEXTS, "99"]
+        lines = [f'    printf("%s %s\\n", pgboard_strerror({name}), "{name}");' for name in asked]
+        program = '#include <stdio.h>\n#include "pgboard.h"\nint main(void)\n{\n' + "\n".join(lines) + "\n    return 0;\n}\n"
+        (self.folder / "texts.c").write_text(program, encoding="ascii")
+        self.built([*FLAGS, self.folder / "texts.c", *ARCHIVES, "-o", self.folder / "texts"])
+        wanted = [f"{text} {name}" for name, text in TEXTS.items()]
+        self.assertEqual(run([self.folder / "texts"])[1].splitlines(), [*wanted, "no answer of this library 99"])
+        self.assertEqual(TEXTS.keys(), {"PGBOARD_OK", *(name for is_part, name, _ in header_numbers() if not is_part)})
+        self.assertEqual(len(set(numbers[name] for name in TEXTS)), len(set(TEXTS.values())))
 
     def test_the_versions_are_the_programs(self):
         found = dict(re.findall(r"(?m)^#define PGBOARD_VERSION_(\w+) (\d+)$", HEADER))
         printed = run([common.PROGRAM, "--version"])[1].split()[1]
         self.assertEqual(".".join(found[it] for it in ("MAJOR", "MINOR", "PATCH")), printed)
+        program = '#include <stdio.h>\n#include "pgboard.h"\nint main(void) { return puts(pgboard_version_string()) < 0; }\n'
+        (self.folder / "version.c").write_text(program, encoding="ascii")
+        self.built([*FLAGS, self.folder / "version.c", *ARCHIVES, "-o", self.folder / "version"])
+        self.assertEqual(run([self.folder / "version"])[1], f"{printed}\n")
         self.assertIn(f'__version__ = "{printed}"', common.text_of("bindings/python/pgboard/version.py"))
 
-    def test_the_wheel_says_what_pyproject_says(self):
-        said = dict(re.findall(r"(?m)^(\S+): (.+)$", re.search(r'(?s)METADATA = """(.*?)"""', common.text_of("package"))[1]))
-        for name, key in (("Name", "name"), ("Summary", "description"), ("Requires-Python", "requires-python")):
-            self.assertIn(f'\n{key} = "{said[name]}"\n', common.text_of("bindings/python/pyproject.toml"))
-
     def test_the_header_in_c_and_cpp(self):
-        source = self.folder / "header.cpp"
-        source.write_text('#include "pgboard.h"\nint main() { return pgboard_strerror(0) == nullptr; }\n', encoding="ascii")
-        sources = {"c11": "tests/embed/test.c", "c++17": source}
-        for compiler, flag in (("gcc", "c11"), ("clang", "c11"), ("g++", "c++17"), ("clang++", "c++17")):
-            if shutil.which(compiler):
-                with self.subTest(compiler):
-                    self.assertEqual(run([compiler, f"-std={flag}", *WARNINGS, "-fsyntax-only", sources[flag]])[::2], (0, ""))
+        source = self.folder / "header.c"
+        source.write_text('#include "pgboard.h"\nint main(void) { return pgboard_strerror(0) == 0; }\n', encoding="ascii")
+        flags = {"-xc": ["c89", "c99", "c11", "c17"], "-xc++": ["c++98", "c++11", "c++17", "c++20"]}
+        for compiler in filter(shutil.which, ("gcc", "clang")):
+            for language, standards in flags.items():
+                for standard in standards:
+                    with self.subTest(compiler, standard=standard):
+                        self.assertEqual(run([compiler, language, f"-std={standard}", *WARNINGS, "-fsyntax-only", source])[::2], (0, ""))
+
+    def test_a_null_pointer_and_an_answer_not_looked_at_give_warnings(self):
+        program = '#include "pgboard.h"\nvoid f(const struct pgboard_game *game, struct pgboard_results *results, struct pgboard_report *report)\n{\n%s\n}\n'
+        wrong = {"pgboard_solve(game, results, report);": "unused", "if (pgboard_solve(0, results, report)) f(game + 1, results, report);": "null"}
+        for call, word in wrong.items():
+            (self.folder / "warned.c").write_text(program % call, encoding="ascii")
+            status, _, err = run(["cc", "-std=c89", *WARNINGS, "-c", self.folder / "warned.c", "-o", self.folder / "warned.o"])
+            self.assertEqual(status, 1)
+            self.assertIn(word, err)
 
     def test_each_answer_in_c(self):
-        limits = re.findall(r"(?m)^max_(?:vertices|edges) = (\d+)$", common.text_of("crates/pg_game/specs/Specification.antt"))
         for name, flags in (("plain", []), ("with sanitizers", SANITIZERS)):
             with self.subTest(name):
                 test = self.folder / f"test{len(flags)}"
                 self.built([*FLAGS, *flags, *REFUSING, "tests/embed/test.c", *ARCHIVES, "-o", test])
-                status, out, err = run([test, *limits])
-                self.assertEqual(status, 0, out + err)
-                self.assertRegex(out, r"(?m)^[1-9]\d* passed, 0 failed$")
+                self.passes(test)
                 self.judge_games(test)
+
+    def test_the_header_for_cpp(self):
+        for compiler, standard in itertools.product(filter(shutil.which, ("g++", "clang++")), ("c++17", "c++20")):
+            with self.subTest(compiler, standard=standard):
+                test = self.folder / f"{compiler}-{standard}"
+                flags = [f"-std={standard}", *WARNINGS, *(SANITIZERS if compiler == "g++" else [])]
+                self.assertEqual(run([compiler, *flags, "tests/embed/test.cpp", *ARCHIVES, "-o", test])[::2], (0, ""))
+                self.passes(test)
+                self.judge_games(test)
+
+    def passes(self, test):
+        status, out, err = run([test])
+        self.assertEqual(status, 0, out + err)
+        self.assertRegex(out, r"(?m)^[1-9]\d* passed, 0 failed$")
 
     def judge_games(self, test):
         """The library gives the program's winners on random games, with choices that are a solution by the definition."""
@@ -176,12 +256,11 @@ class Embed(unittest.TestCase):
     def test_bindings_python(self):
         shared = self.folder / "libpgboard.so"
         self.built(["-shared", "-o", shared, "-Wl,--whole-archive", ARCHIVES[0], "-Wl,--no-whole-archive", ARCHIVES[1]])
-        env = {**os.environ, "PGBOARD_LIBRARY": str(shared)}
+        env = {**os.environ, "PGBOARD_LIBRARY": str(shared), "PGBOARD_PROGRAM": str(common.PROGRAM)}
         folder = common.ROOT / "bindings" / "python"
-        # NumPy of a distribution is there for the Python of the distribution alone
-        for python in filter(os.path.exists, dict.fromkeys([sys.executable, "/usr/bin/python3"])):
+        for python in pythons():
             with self.subTest(python):
-                status, out, err = common.run([python, "-B", folder / "test_pgboard.py"], timeout=300, cwd=folder, env=env)
+                status, out, err = common.run([python, "-B", folder / "test_pgboard.py"], timeout=600, cwd=folder, env=env)
                 self.assertEqual(status, 0, out + err)
                 self.assertIn(b"\nRan ", err)
 

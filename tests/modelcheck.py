@@ -2,13 +2,18 @@
 """Tests of examples/modelcheck.py: tests/modelcheck.py [PROGRAM] [-k WORD]
 
 Its answers are compared with an evaluation of formulas by iterating sets, on random models, and with known answers on models of
-protocols. The evaluation takes nothing of the script. The rest is evidence, games and pictures.
+protocols. The evaluation takes nothing of the script: what a regular modality goes along is a relation of states, of which
+compositions and closures are taken. The rest is evidence, games and pictures.
 """
 
 import dataclasses
 import os
+import pty
 import random
 import re
+import shlex
+import subprocess
+import sys
 import unittest
 import unittest.mock
 from typing import Callable
@@ -18,7 +23,22 @@ import uses
 
 MODELS = uses.EXAMPLES / "modelcheck"
 # mostly one, so that a state has several transitions of a label
-LABELS = ["a", "a", "a", "b", "a b", "true"]
+LABELS = ["a", "a", "a", "b", "a b", "true", "c(1,true)", "c(1, true)", "a|b(2)"]
+# how one action is spelled, and the labels that it is
+ACTIONS = {
+    "a": {"a"},
+    '"a"': {"a"},
+    "b": {"b"},
+    '"a b"': {"a b"},
+    '"true"': {"true"},
+    "true": set(LABELS),
+    "false": set(),
+    "c(1, true)": {"c(1,true)", "c(1, true)"},
+    "c( 1,true )": {"c(1,true)", "c(1, true)"},
+    '"c(1,true)"': {"c(1,true)"},
+    "a|b(2)": {"a|b(2)"},
+    "b(2) | a": {"a|b(2)"},
+}
 
 
 @dataclasses.dataclass
@@ -64,7 +84,7 @@ def next_formula(chance, depth, names, kinds):
         return Formula(str(value).lower(), lambda model, sets: model.states if value else set())
     if chance.random() < 0.5:
         inner = next_formula(chance, depth - 1, names, kinds)
-        return modality(chance.random() < 0.5, chance.random() < 0.2, chance.choice([*LABELS, None]), inner)
+        return modality(chance.random() < 0.5, next_regular(chance, chance.choice([0, 0, 1, 2])), inner)
     left, right = next_formula(chance, depth - 1, names, kinds), next_formula(chance, depth - 1, names, [])
     return joined(left, chance.choice(["&&", "||"]), right)
 
@@ -74,18 +94,88 @@ def joined(left, sign, right):
     return Formula(f"({left.text} {sign} {right.text})", lambda model, sets: combine(left.holds(model, sets), right.holds(model, sets)))
 
 
-def modality(is_some, is_other, label, inner):
-    """Some transition, or each, of a label leads to where a formula holds: of any other label, or of all where it is None."""
+@dataclasses.dataclass
+class Regular:
+    """A text that a modality may have in its brackets, how strongly it binds, and of a model the pairs of states that it joins."""
+
+    text: str
+    binds: int
+    pairs: Callable
+    labels: set = None
+
+    def inside(self, binds, chance):
+        """The text where something binds so strongly around it."""
+        return f"({self.text})" if self.binds < binds or chance.random() < 0.1 else self.text
+
+
+# how strongly what is no action binds, and how an action's operators do
+CHOICE, SEQUENCE, REPEATED, IMPLIES, OR, AND, NOT = range(7)
+
+
+def labelled(text, binds, labels):
+    return Regular(text, binds, lambda model: {(state, to) for state, it, to in model.transitions if it in labels}, labels)
+
+
+def next_actions(chance, depth):
+    """A random set of actions."""
+    if depth == 0 or chance.random() < 0.5:
+        text = chance.choice([*ACTIONS, "a", "a"])
+        return labelled(text, NOT, ACTIONS[text])
+    if chance.random() < 0.4:
+        part = next_actions(chance, depth - 1)
+        return labelled(f"!{part.inside(NOT, chance)}", NOT, set(LABELS) - part.labels)
+    left, right = next_actions(chance, depth - 1), next_actions(chance, depth - 1)
+    binds, sign = chance.choice([(IMPLIES, "=>"), (OR, "||"), (AND, "&&")])
+    # an implication binds to the right, and the others associate
+    text = f"{left.inside(binds + (binds == IMPLIES), chance)} {sign} {right.inside(binds, chance)}"
+    kinds = {"=>": (set(LABELS) - left.labels) | right.labels, "||": left.labels | right.labels, "&&": left.labels & right.labels}
+    return labelled(text, binds, kinds[sign])
+
+
+def next_regular(chance, depth):
+    """A random regular formula."""
+    if depth == 0 or chance.random() < 0.2:
+        return next_actions(chance, 2)
+    left = next_regular(chance, depth - 1)
+    if chance.random() < 0.5:
+        is_star = chance.random() < 0.5
+        same = lambda model: {(state, state) for state in model.states} if is_star else set()
+        return Regular(left.inside(REPEATED, chance) + "+*"[is_star], REPEATED, lambda model: closed(left.pairs(model)) | same(model))
+    right = next_regular(chance, depth - 1)
+    if chance.random() < 0.5:
+        text = f"{left.inside(CHOICE, chance)} + {right.inside(SEQUENCE, chance)}"
+        return Regular(text, CHOICE, lambda model: left.pairs(model) | right.pairs(model))
+    text = f"{left.inside(REPEATED, chance)}{chance.choice(['.', ' . '])}{right.inside(SEQUENCE, chance)}"
+    return Regular(text, SEQUENCE, lambda model: after(left.pairs(model), right.pairs(model)))
+
+
+def after(left, right):
+    return {(state, to) for state, middle in left for at, to in right if middle == at}
+
+
+def closed(pairs):
+    """The least transitive relation with these pairs."""
+    while True:
+        more = pairs | after(pairs, pairs)
+        if more == pairs:
+            return pairs
+        pairs = more
+
+
+def modality(is_some, regular, inner):
+    """Some way that the regular formula goes, or each, leads to where a formula holds."""
+    known = {}
 
     def holds(model, sets):
         target = inner.holds(model, sets)
-        moves = [(state, to) for state, it, to in model.transitions if (label in (None, it)) != is_other]
+        if id(model) not in known:
+            known[id(model)] = model, regular.pairs(model)
+        moves = known[id(model)][1]
         if is_some:
             return {state for state, to in moves if to in target}
         return model.states - {state for state, to in moves if to not in target}
 
-    action = "!" * is_other + ("true" if label is None else f'"{label}"')
-    return Formula((f"<{action}> " if is_some else f"[{action}] ") + inner.text, holds)
+    return Formula((f"<{regular.text}> " if is_some else f"[{regular.text}] ") + inner.text, holds)
 
 
 def fixed_point(kind, name, inner):
@@ -111,11 +201,13 @@ def drawn(seed):
     return model, formula
 
 
+# what is said of a game before it is solved
+SIZE = "modelcheck: size of the game: vertices {}, edges {}\n"
 # one who asks is let in, which is false for a single reason
 WAITING = "[ask_1] mu X. (<true> true && [!enter_1] X)"
 
 
-class ModelCheck(uses.Use):
+class ModelCheck(uses.Use, unittest.TestCase):
     name = "modelcheck"
 
     def setUp(self):
@@ -129,7 +221,7 @@ class ModelCheck(uses.Use):
 
     def test_random_models(self):
         answers = []
-        for seed in range(500):
+        for seed in range(1000):
             with self.subTest(seed=seed):
                 model, formula = drawn(seed)
                 self.model.write_text(model.text, encoding="ascii")
@@ -146,7 +238,7 @@ class ModelCheck(uses.Use):
                 self.assertLessEqual({state for state, _, _ in part.transitions}, set(reached))
                 self.assertEqual(model.first in formula.holds(part, {}), answers[-1])
                 self.check(self.model, f"!{formula.text}", not answers[-1])
-        self.assertGreater(min(answers.count(True), answers.count(False)), 150)
+        self.assertGreater(min(answers.count(True), answers.count(False)), 300)
 
     def test_known_models(self):
         rows = uses.rows_of("known_models.txt")
@@ -164,8 +256,9 @@ class ModelCheck(uses.Use):
         model = Model(0, count, [(state, chance.choice("abc"), (state + step()) % count) for state in range(count) for _ in range(2)])
         self.model.write_text(model.text, encoding="ascii")
         x, y = Formula("X", lambda _, sets: sets["X"]), Formula("Y", lambda _, sets: sets["Y"])
-        left = joined(modality(True, False, "a", x), "||", modality(False, False, "b", y))
-        body = joined(joined(left, "&&", modality(True, False, None, y)), "||", modality(False, False, "c", x))
+        move = lambda is_some, text, inner: modality(is_some, labelled(text, NOT, set("abc") if text == "true" else {text}), inner)
+        left = joined(move(True, "a", x), "||", move(False, "b", y))
+        body = joined(joined(left, "&&", move(True, "true", y)), "||", move(False, "c", x))
         for outer, inner in (("nu", "mu"), ("mu", "nu")):
             with self.subTest(outer):
                 formula = fixed_point(outer, "X", fixed_point(inner, "Y", body))
@@ -181,10 +274,15 @@ class ModelCheck(uses.Use):
             "nu X. (<a> X && mu Y. <a> Y)": 1,
             "mu X. mu Y. <a> X || <a> Y": 1,
             "nu V. mu X. nu Y. mu Z. <a> (V && X && Y && Z)": 4,
+            "<true*> true": 1,
+            "nu X. <a*.b> X": 2,
+            "nu X. [a*.b] X": 0,
+            "[true*] <(a + b)+> true": 1,
+            "nu X. [a*] <b*> X": 2,
         }.items():
             with self.subTest(formula):
                 self.call(self.model, formula, "--game", self.game)
-                lines = self.game.read_text(encoding="utf-8").splitlines()[1:]
+                lines = self.game.read_text(encoding="utf-8").splitlines()[2:]
                 self.assertEqual(max(int(line.split()[1]) for line in lines), greatest)
 
     def test_game_of_the_benchmarks(self):
@@ -202,7 +300,7 @@ class ModelCheck(uses.Use):
             "6 0 0 0 \"1: <'a'> X\"",
             '7 0 1 7 "1: [!a] false"',
         ]
-        self.assertEqual(self.game.read_text(encoding="utf-8"), "parity 7;\n" + "".join(f"{it};\n" for it in rows))
+        self.assertEqual(self.game.read_text(encoding="utf-8"), "parity 7;\nstart 0;\n" + "".join(f"{it};\n" for it in rows))
 
     def test_forms_of_a_model(self):
         for text in (
@@ -216,7 +314,9 @@ class ModelCheck(uses.Use):
 
     def test_a_formula_of_a_file(self):
         formula = self.file("always.mcf", "% always\nnu X.\n <a> X\n")
-        self.assertEqual(self.run_script(self.model, formula), (0, "true\n", ""))
+        self.assertEqual(self.run_script(self.model, formula), (0, "true\n", SIZE.format(4, 4)))
+        self.assertEqual(self.run_script(self.model, "-", given=b"<b> true % none\n"), (1, "false\n", SIZE.format(1, 1)))
+        self.check_standard_input(str(self.model), str(self.model), "<a.a> true")
         formula = self.file("always.mcf", "nu X.\n (<a> X\n")
         status, out, err = self.run_script(self.model, formula)
         self.assertEqual((status, out), (2, ""))
@@ -224,7 +324,7 @@ class ModelCheck(uses.Use):
 
     def test_bytes_of_other_encodings(self):
         self.model.write_bytes(b'des (0, 1, 1)\n(0, "\xe9\xff", 0)\n')
-        self.assertEqual(self.run_script(self.model, "nu X. <true> X", "--evidence", self.evidence), (0, "true\n", ""))
+        self.assertEqual(self.run_script(self.model, "nu X. <true> X", "--evidence", self.evidence)[:2], (0, "true\n"))
         self.assertEqual(self.evidence.read_bytes(), self.model.read_bytes())
 
     def test_damaged_texts(self):
@@ -237,7 +337,23 @@ class ModelCheck(uses.Use):
         liar = self.file("liar", f'#!/bin/sh\n[ "$1" != verify ] || {{ echo "not a solution"; exit 1; }}\nexec {common.PROGRAM} "$@"\n')
         os.chmod(liar, 0o755)
         said = "modelcheck: what pgboard solved was refused: not a solution\n"
-        self.assertEqual(self.run_script(self.model, "true", PGBOARD=liar), (2, "", said))
+        self.assertEqual(self.run_script(self.model, "true", PGBOARD=liar), (2, "", SIZE.format(1, 1) + said))
+        self.check_no_verdict(self.model, "true")
+
+    def test_progress_on_a_terminal(self):
+        """The line of progress is replaced, and the size and the answer stay; a pipe gets no progress."""
+        command = [sys.executable, "-B", uses.EXAMPLES / "modelcheck.py", self.model, "[true*] <a> true"]
+        main, other = pty.openpty()
+        env = {**os.environ, "PGBOARD": shlex.quote(str(common.PROGRAM))}
+        ran = subprocess.run(command, stdout=subprocess.PIPE, stderr=other, env=env)
+        os.close(other)
+        shown = os.read(main, 9999).decode()
+        os.close(main)
+        self.assertEqual((ran.returncode, ran.stdout), (0, b"true\n"))
+        lines = [line.rpartition("\r\x1b[K")[2].rstrip("\r") for line in shown.split("\n")]
+        self.assertRegex(lines[0], r"^modelcheck: size of the game: vertices \d+, edges \d+$")
+        self.assertEqual(lines[1:], [""])
+        self.assertRegex(shown, r"(?s)\x1b\[Kmodelcheck: [\d,]+ vertices\r.*\x1b\[Kmodelcheck: solving\r")
 
     def test_what_is_too_large(self):
         status, out, err = self.run_script(self.model, "(" * 5000 + "true" + ")" * 5000)

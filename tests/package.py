@@ -1,18 +1,23 @@
 #!/usr/bin/env python3
 """Shows that ./package makes what a machine without the Rattle kit can use: tests/package.py [PROGRAM] [-k WORD]
 
-The tree is a checkout of one commit of its own here, so that changes that are not committed do not count. The libraries that
-`rt ci` has left are taken (--proved). What is made is unpacked, and used with what it brings alone: the program in an empty
-root, a C program by pkg-config, the wheel without an index, the Debian package. In a copy, a tree with changes is refused, and
-one that the prover refuses.
+The tree is a checkout of one commit of its own here, so that changes that are not committed do not count. What rt has proved in this
+tree is taken (--proved). What is made is unpacked, and used with what it brings alone: the program in an empty root, a C program by
+pkg-config and by CMake, the wheel without an index, the Debian packages in a bare root. Sums and the wheel's RECORD are computed
+again. A tree with changes is refused, one whose crates are not the commit's, and one that the prover refuses.
 """
 
+import base64
+import csv
+import hashlib
 import os
+import pathlib
 import re
 import shutil
 import subprocess
 import sys
 import unittest
+import zipfile
 
 import common
 import pages
@@ -23,7 +28,23 @@ EXPORTS = set(re.findall(r"(?m)^(?!static)\w[^;{}()#]*\b(pgboard_\w+)\([^;{]*\);
 WHO = ["-c", "user.name=tests", "-c", "user.email=tests@localhost"]
 # what the prover refuses of the crate that stands on all others
 CRATE = "crates/pgboard_program"
-EDIT = "a_file_that_can_not_be_opened_is_a_write_fault.edit"
+EDIT = "each_fault_ends_with_status_4.edit"
+PRODUCT = re.findall(r"(?m)^(\w+).*:", common.text_of("crates.txt").split("\n\n")[0])
+# what is copied, where it is in the folder, and in the Debian packages
+COMPLETIONS = {
+    "pgboard.bash": ("share/bash-completion/completions/pgboard", "usr/share/bash-completion/completions/pgboard"),
+    "_pgboard": ("share/zsh/site-functions/_pgboard", "usr/share/zsh/vendor-completions/_pgboard"),
+    "pgboard.fish": ("share/fish/vendor_completions.d/pgboard.fish", "usr/share/fish/vendor_completions.d/pgboard.fish"),
+}
+LIBRARIES = "usr/lib/x86_64-linux-gnu"
+CMAKE = """cmake_minimum_required(VERSION 3.13)
+project(embed C)
+find_package(pgboard {version} REQUIRED)
+foreach(target pgboard pgboard_static)
+  add_executable(by_${{target}} embed.c)
+  target_link_libraries(by_${{target}} pgboard::${{target}})
+endforeach()
+"""
 
 
 def done(*words, **how):
@@ -48,9 +69,9 @@ class Checkout:
         self.git("add", "--all")
         self.git("commit", "--quiet", "--message", "the tree as it is")
 
-    def package(self, folder):
+    def package(self, folder, proved=common.ROOT):
         """The status of ./package, and what it says."""
-        status, out, err = common.run([self.top / "package", "--proved", common.ROOT, folder], timeout=7200, env=self.env)
+        status, out, err = common.run([self.top / "package", "--proved", proved, folder], timeout=7200, env=self.env)
         return status, (out + err).decode()
 
 
@@ -60,13 +81,18 @@ def names_in(file, *flags):
     return {line.split()[0] for line in lines if re.search(r" [A-Z] ", line)}
 
 
-@common.needs("cc", "pkg-config")
+@common.needs("cc", "pkg-config", "dpkg-buildpackage", "dh")
 class Packaged(unittest.TestCase):
     @classmethod
     def setUpClass(cls):
         cls.folder = common.make_folder(cls)
         cls.tree = Checkout(common.ROOT, cls.folder / "git")
         cls.tree.commit()
+        # what git does not have is in no package
+        (cls.folder / "git" / "info" / "exclude").write_text("stray.py\n", encoding="ascii")
+        stray = common.ROOT / "bindings" / "python" / "pgboard" / "stray.py"
+        stray.touch()
+        cls.addClassCleanup(stray.unlink)
         cls.commit = cls.tree.git("rev-parse", "HEAD").strip()
         cls.dist = cls.folder / "dist"
         status, said = cls.tree.package(cls.dist)
@@ -76,6 +102,19 @@ class Packaged(unittest.TestCase):
         done("tar", "-xzf", archive, "-C", cls.folder)
         (cls.unpacked,) = cls.folder.glob("pgboard-*")
         cls.program = cls.unpacked / "bin" / "pgboard"
+        cls.version = cls.unpacked.name.split("-")[1]
+        cls.root = cls.folder / "debian"
+        cls.install_debian_packages()
+
+    @classmethod
+    def install_debian_packages(cls):
+        """Installs all of them in a root where nothing else is."""
+        for name in ("info", "updates"):
+            (cls.root / "var/lib/dpkg" / name).mkdir(parents=True)
+        for name in ("status", "available"):
+            (cls.root / "var/lib/dpkg" / name).touch()
+        flags = ["--force-depends", "--force-not-root", "--force-script-chrootless", f"--root={cls.root}"]
+        done("dpkg", *flags, "--install", *sorted(cls.dist.glob("*.deb")), env={**os.environ, "PATH": f"{os.environ['PATH']}:/usr/sbin:/sbin"})
 
     def test_the_sums_are_those_of_all_files(self):
         done("sha256sum", "--check", "--strict", "SHA256SUMS", cwd=self.dist)
@@ -83,11 +122,37 @@ class Packaged(unittest.TestCase):
         there = {str(it.relative_to(self.dist)) for it in self.dist.rglob("*") if it.is_file() and not it.is_symlink()}
         self.assertEqual(there - summed, {"SHA256SUMS"})
 
+    def origin(self, folder, paths):
+        """What PROVENANCE has to say of these files."""
+        cc = done("cc", "--version").splitlines()[0]
+        about = f"pgboard {self.version}\ncommit {self.commit}\nkit {done('rt', 'version')}"
+        about += f"proofs taken over by rt from {common.ROOT}, of the same sources\ncompiler {cc}\n"
+        return about + "".join(f"sha256 {hashlib.sha256((folder / it).read_bytes()).hexdigest()} {it}\n" for it in sorted(paths))
+
     def test_it_says_what_it_is_made_from(self):
-        said = (self.dist / "PROVENANCE").read_text(encoding="ascii")
-        self.assertIn(f"\ncommit {self.commit}\nkit {done('rt', 'version')}", said)
-        product = re.findall(r"(?m)^(\w+).*:", common.text_of("crates.txt").split("\n\n")[0])
-        self.assertEqual(sorted(re.findall(r"(?m)^crate (\w+): proved, sum [0-9a-f]{64}$", said)), sorted(product))
+        files = {it.name for it in self.dist.iterdir() if it.is_file()} - {"PROVENANCE", "SHA256SUMS"}
+        self.assertEqual((self.dist / "PROVENANCE").read_text(encoding="ascii"), self.origin(self.dist, files))
+        said = (self.unpacked / "share/doc/pgboard/PROVENANCE").read_text(encoding="ascii")
+        self.assertEqual(said, self.origin(self.unpacked / "lib", ["libpgboard.a", f"libpgboard.so.{self.version}"]))
+
+    def test_a_tree_whose_crates_are_others_is_refused(self):
+        copy = self.folder / "others"
+        for name in ("HANDLES", "crates.txt", *(f"crates/{it}/{part}" for it in PRODUCT for part in ("src", "specs", "proofs"))):
+            if (common.ROOT / name).is_dir():
+                shutil.copytree(common.ROOT / name, copy / name)
+            elif (common.ROOT / name).exists():
+                copy.mkdir(exist_ok=True)
+                shutil.copy(common.ROOT / name, copy / name)
+        changed = [next((copy / "crates" / it / "src").glob("*.rt")) for it in PRODUCT]
+        changed += [next((copy / "crates" / it / "specs").rglob("*.antt")) for it in PRODUCT]
+        for at, path in enumerate([*changed, copy / "HANDLES", copy / "crates.txt"]):
+            kept = path.read_bytes()
+            path.write_bytes(kept + b"\n") if at else path.unlink()
+            self.assertEqual(self.tree.package(self.folder / "none", copy), (1, f"package: {path} is not that of the commit\n"))
+            path.write_bytes(kept)
+        more = copy / "crates" / PRODUCT[0] / "src" / "a_module_more.rt"
+        more.touch()
+        self.assertEqual(self.tree.package(self.folder / "none", copy), (1, f"package: {more} is not that of the commit\n"))
 
     def test_the_same_again_gives_the_same_bytes(self):
         self.assertEqual(self.tree.package(self.folder / "again")[0], 0)
@@ -107,7 +172,10 @@ class Packaged(unittest.TestCase):
         main.write_text(text.replace(old, new), encoding="utf-8")
         self.assertEqual(tree.package(self.folder / "none"), (1, "package: the tree has changes that are not committed\n"))
         tree.commit()
-        status, said = tree.package(self.folder / "none")
+        for crate in PRODUCT[:-1]:
+            if (common.ROOT / "crates" / crate / "out" / "rlib").exists():
+                shutil.copytree(common.ROOT / "crates" / crate / "out" / "rlib", copy / "crates" / crate / "out" / "rlib")
+        status, said = tree.package(self.folder / "none", copy)
         self.assertEqual((status, (self.folder / "none").exists()), (1, False), said)
         self.assertRegex(said, r"\Apackage: not proved: pgboard_program\n")
 
@@ -165,17 +233,123 @@ class Packaged(unittest.TestCase):
         (self.folder / "python").mkdir()
         shutil.copy(common.ROOT / "bindings" / "python" / "test_pgboard.py", self.folder / "python")
         env = {name: value for name, value in os.environ.items() if name != "PGBOARD_LIBRARY"}
+        env["PGBOARD_PROGRAM"] = str(self.program)
         said = done(self.folder / "venv/bin/python", "-m", "unittest", "test_pgboard", cwd=self.folder / "python", env=env)
         self.assertRegex(said, r"(?m)^Ran [1-9]\d* tests")
 
-    @common.needs("dpkg-deb")
-    def test_the_debian_package_has_the_same_files(self):
-        (debian,) = self.dist.glob("*.deb")
-        self.assertEqual(done("dpkg-deb", "--field", debian, "Package", "Architecture"), "Package: pgboard\nArchitecture: amd64\n")
-        done("dpkg-deb", "--extract", debian, self.folder / "deb")
-        names = lambda top: {it.name for it in top.rglob("*") if not it.is_dir()}
-        self.assertEqual(names(self.folder / "deb"), names(self.unpacked))
-        self.assertEqual(common.run([self.folder / "deb/usr/bin/pgboard"], JOINED), (0, b"ok\n", b""))
+    def wheel(self):
+        (path,) = self.dist.glob("*.whl")
+        return path
+
+    def test_the_wheel_lists_its_files_with_their_sums(self):
+        with zipfile.ZipFile(self.wheel()) as wheel:
+            files = {it: wheel.read(it) for it in wheel.namelist()}
+        (record,) = (it for it in files if it.endswith(".dist-info/RECORD"))
+        encoded = lambda data: base64.urlsafe_b64encode(hashlib.sha256(data).digest()).rstrip(b"=").decode()
+        wanted = {(name, f"sha256={encoded(data)}", str(len(data))) for name, data in files.items() if name != record}
+        self.assertEqual(set(map(tuple, csv.reader(files[record].decode().splitlines()))), wanted | {(record, "", "")})
+
+    def test_the_wheel_has_what_git_has_and_the_library(self):
+        with zipfile.ZipFile(self.wheel()) as wheel:
+            files = {it: wheel.read(it) for it in wheel.namelist() if ".dist-info/" not in it}
+            about = {it.split("/", 1)[1]: wheel.read(it) for it in wheel.namelist() if ".dist-info/" in it}
+        names = self.tree.git("ls-files", "bindings/python/pgboard").split()
+        wanted = {f"pgboard/{it.rpartition('/')[2]}": (common.ROOT / it).read_bytes() for it in names}
+        wanted["pgboard/libpgboard.so"] = (self.unpacked / "lib" / "libpgboard.so").read_bytes()
+        self.assertEqual(files, wanted)
+        for name in ("LICENSE", "NOTICES", "PROVENANCE"):
+            self.assertEqual(about[name], (self.unpacked / "share/doc/pgboard" / name).read_bytes())
+        self.assertRegex(about["WHEEL"].decode(), r"(?m)^Root-Is-Purelib: false\nTag: py3-none-manylinux_2_17_x86_64$")
+        said = about["METADATA"].decode()
+        self.assertIn(common.text_of("bindings/python/README.md").strip(), said)
+        self.assertRegex(said, rf"(?m)^Name: pgboard\nVersion: {re.escape(self.version)}\nSummary: Solves and verifies max-parity games$")
+        for line in re.findall(r'(?m)^    "(.* :: .*)",$', common.text_of("bindings/python/pyproject.toml")):
+            self.assertIn(f"\nClassifier: {line}\n", said)
+
+    @common.needs("twine")
+    def test_an_index_would_take_the_wheel(self):
+        self.assertIn("PASSED", done("twine", "check", "--strict", self.wheel()))
+
+    # (Debian 12 has no auditwheel, which reads the same versions)
+    def test_no_part_of_the_library_needs_a_later_glibc(self):
+        versions = re.findall(r"GLIBC_([0-9.]+)", done("objdump", "-T", self.unpacked / "lib" / "libpgboard.so"))
+        self.assertLessEqual(max(tuple(map(int, it.split("."))) for it in versions), (2, 17))
+
+    def test_each_shell_gets_its_completions(self):
+        for name, (path, debian) in COMPLETIONS.items():
+            wanted = (common.ROOT / "completions" / name).read_bytes()
+            self.assertEqual((self.unpacked / path).read_bytes(), wanted)
+            self.assertEqual((self.root / debian).read_bytes(), wanted)
+
+    def test_headers_pages_and_examples_are_those_of_the_tree(self):
+        for name in self.tree.git("ls-files", "include", "examples", "docs/*.md", "docs/pictures", "README.md", "LICENSE", "CHANGELOG.md").split():
+            path = name if name.startswith("include/") else f"share/doc/pgboard/{name}"
+            self.assertEqual((self.unpacked / path).read_bytes(), (common.ROOT / name).read_bytes(), name)
+
+    def test_licences_of_what_is_linked_in_are_named(self):
+        folder = self.unpacked / "share/doc/pgboard"
+        found = (folder / "NOTICES").read_text(encoding="utf-8")
+        kit = pathlib.Path(done("rt", "doc")).parent / "rattle"
+        named = {it for line in common.text_of("crates.txt").split("\n\n")[0].splitlines() for it in re.findall(r"\w+", line.partition(":")[2])}
+        texts = {it: sorted(kit.glob(f"{it}/LICENSE*")) for it in named | {"strsim"} if not (common.ROOT / "crates" / it).exists()}
+        for name, paths in texts.items():
+            if paths:
+                self.assertTrue(any(it.read_text(encoding="utf-8").strip() in found for it in paths), name)
+        self.assertIn(common.text_of("LICENSE").strip(), found)
+        for debian in ("pgboard", "libpgboard0", "libpgboard-dev", "python3-pgboard"):
+            self.assertIn(found.strip(), (self.root / "usr/share/doc" / debian / "copyright").read_text(encoding="utf-8"))
+        self.assertIn("GNU LESSER GENERAL PUBLIC LICENSE", (folder / "LGPL-2.1.txt").read_text(encoding="utf-8"))
+
+    def test_the_program_can_be_linked_with_another_glibc(self):
+        command = re.search(r"(?m)^program with another version of it: (cc .*)$", (self.unpacked / "share/doc/pgboard/NOTICES.glibc").read_text(encoding="ascii"))[1]
+        done("sh", "-ec", command.replace("-o pgboard", f"-o {self.folder}/linked"), cwd=self.unpacked)
+        self.assertEqual(common.run([self.folder / "linked"], JOINED), (0, b"ok\n", b""))
+        self.assertEqual(done(self.folder / "linked", "--version"), done(self.program, "--version"))
+
+    @common.needs("lintian")
+    def test_debian_finds_no_error(self):
+        done("lintian", "--fail-on", "error", "--allow-root", *sorted(self.dist.glob("*.deb")))
+
+    def test_the_debian_packages_have_what_the_folder_has(self):
+        packages = {done("dpkg-deb", "--field", it, "Package").strip() for it in self.dist.glob("*.deb")}
+        self.assertEqual(packages, {"pgboard", "libpgboard0", "libpgboard-dev", "python3-pgboard"})
+        # (Debian removes what of them is no code)
+        self.assertEqual(names_in(self.root / LIBRARIES / "libpgboard.a", "--extern-only"), EXPORTS)
+        self.assertEqual(names_in(self.root / LIBRARIES / "libpgboard.so", "--dynamic"), EXPORTS)
+        for name in ("libpgboard.so.0", "libpgboard.so"):
+            self.assertEqual(os.readlink(self.root / LIBRARIES / name), os.readlink(self.unpacked / "lib" / name))
+        for name in ("pgboard.h", "pgboard.hpp"):
+            self.assertEqual((self.root / "usr/include" / name).read_bytes(), (self.unpacked / "include" / name).read_bytes())
+        pages = {it.name for it in (self.unpacked / "share/man").rglob("*") if it.is_file()}
+        self.assertEqual({it.name.removesuffix(".gz") for it in (self.root / "usr/share/man").rglob("*") if not it.is_dir()}, pages)
+        self.assertEqual(pages, {"pgboard.1", "pgboard.3", *(f"{it}.3" for it in EXPORTS), "pgboard_strerror.3"})
+
+    def test_the_debian_packages_work(self):
+        program = self.root / "usr/bin/pgboard"
+        self.assertEqual(common.run([program], JOINED), (0, b"ok\n", b""))
+        self.assertEqual(done(program, "--version"), done(self.program, "--version"))
+        env = {"PATH": "/usr/bin:/bin", "PYTHONPATH": str(self.root / "usr/lib/python3/dist-packages"), "LD_LIBRARY_PATH": str(self.root / LIBRARIES)}
+        said = done("python3", "-c", "import pgboard; print(pgboard.library.LIBRARY._name, pgboard.solve([0, 1], [2, 1], [[0, 1], [1]]))", env=env)
+        self.assertEqual(said, "libpgboard.so.0 ([0, 1], [0, 1])\n")
+        include = done("pkg-config", "--variable=includedir", "pgboard", env={**env, "PKG_CONFIG_PATH": str(self.root / LIBRARIES / "pkgconfig")}).strip()
+        self.assertEqual(os.path.realpath(include), str((self.root / "usr/include").resolve()))
+
+    @common.needs("cmake")
+    def test_a_c_program_is_built_by_cmake_alone(self):
+        program, printed, _ = pages.c_program(common.text_of(pages.C_PAGE))
+        for prefix, lib in ((self.unpacked, self.unpacked / "lib"), (self.root / "usr", self.root / LIBRARIES)):
+            folder = self.folder / f"cmake{prefix.name}"
+            folder.mkdir()
+            (folder / "embed.c").write_text(program, encoding="utf-8")
+            flags = [f"-DCMAKE_PREFIX_PATH={prefix}", "-DCMAKE_LIBRARY_ARCHITECTURE=x86_64-linux-gnu"]
+            for version, status in (("0.1", 0), ("0.1.99", 1), ("0.2", 1), ("1", 1), (self.version, 0)):
+                (folder / "CMakeLists.txt").write_text(CMAKE.format(version=version), encoding="ascii")
+                self.assertEqual(common.run(["cmake", "-S", folder, "-B", folder / f"of{version}", *flags])[0], status, version)
+            done("cmake", "--build", folder / f"of{self.version}")
+            for name in ("by_pgboard", "by_pgboard_static"):
+                made = folder / f"of{self.version}" / name
+                self.assertEqual(common.run([made], env={"LD_LIBRARY_PATH": str(lib)}), (0, printed.encode(), b""))
+                self.assertEqual("libpgboard.so.0" in done("ldd", made), name == "by_pgboard")
 
 
 if __name__ == "__main__":

@@ -2,9 +2,10 @@
 """Compares the pages with the program and the sources: tests/pages.py [PROGRAM] [-k WORD]
 
 Commands on the pages print what the pages show, links lead somewhere, each fault line is in docs/FAULTS.md, the synopses and the
-man page say what the program's help says, code on the pages is in a test, and sentences are short.
+man page say what the program's help says, code on the pages is in a test, and no page has a word that another one says better.
 """
 
+import os
 import re
 import shlex
 import shutil
@@ -64,7 +65,9 @@ def ran(case, commands):
     folder = common.make_folder(case)
     (folder / "pgboard").symlink_to(common.PROGRAM)
     shutil.copytree(common.ROOT / "examples", folder / "examples")
-    status, out, _ = common.run(["bash", "-c", f"exec 2>&1\n{commands}"], timeout=300, cwd=folder)
+    env = {**os.environ, "PGBOARD": shlex.quote(str(common.PROGRAM))}
+    # (docs/INTEROP.md begins with a folder for what its commands leave)
+    status, out, _ = common.run(["bash", "-c", f"exec 2>&1\nmade=.\n{commands}"], timeout=300, cwd=folder, env=env)
     return out.decode("utf-8", "backslashreplace"), status
 
 
@@ -72,6 +75,8 @@ class Examples(unittest.TestCase):
     def test_each_example_prints_what_the_page_shows(self):
         for page in pages("README.md", "examples/README.md", "docs/*.md"):
             for head, commands, wanted in examples(common.text_of(page)):
+                if common.is_checked() and head.strip("`") in NEED_SPEED:
+                    continue
                 with self.subTest(page, head=head):
                     self.assertEqual(ran(self, commands)[0], wanted, commands)
 
@@ -102,6 +107,8 @@ FAULTS = [
 # those that no text gives
 WITHOUT_EXAMPLE = ["game: no vertex", "game: vertex V: no successor"]
 REFUSED_WORDS = "A refused command line (status 2)"
+# those whose examples take minutes, or more memory than they allow, in a program with run-time checks
+NEED_SPEED = ["game: too many vertices", "game: too many edges", "text too long", "no memory"]
 
 
 def expected_of(path, name):
@@ -127,7 +134,8 @@ class Faults(unittest.TestCase):
                 head = under.split("\n")[0].strip("#` ")
                 if under.startswith("### "):
                     found.append(head)
-                if head in FAULTS and head not in WITHOUT_EXAMPLE or head == REFUSED_WORDS:
+                left_out = WITHOUT_EXAMPLE + NEED_SPEED * common.is_checked()
+                if head in FAULTS and head not in left_out or head == REFUSED_WORDS:
                     with self.subTest(head):
                         self.judge(head, under, int(status[1]))
         self.assertEqual(sorted(found), sorted(FAULTS))
@@ -240,6 +248,13 @@ class HelpAgrees(unittest.TestCase):
                 # (a command's own words may say less)
                 self.assertTrue(statuses_of(whole))
                 self.assertLessEqual({number for number, _ in statuses_of(whole)}, set("012345"))
+
+    def test_each_help_is_at_most_80_columns_wide(self):
+        for name in self.helps:
+            for words in ([name, "-h"], [name, "--help"], ["help", name]):
+                words = [it for it in words if it]
+                with self.subTest(words=words):
+                    self.assertEqual([it for it in help_of(*words).splitlines() if len(it) > 80], [])
 
     def test_each_help_has_words_for_what_it_lists(self):
         for name, whole in self.helps.items():
@@ -370,7 +385,6 @@ class Code(unittest.TestCase):
 # --- words ---
 
 PROSE = ["*.md", "docs/*.md", "bench/*.md", "examples/*.md", "tests/README.md", "crates/*/README.md", "bindings/*/README.md"]
-MOST_WORDS = 20
 # what a page may not say, and what it says in its place
 WORDS = {
     r"rooms?": "capacity, memory, buffer",
@@ -392,26 +406,9 @@ def plain_text(page):
     return re.sub(r"\[([^\]]*)\]\([^)]*\)", r"\1", re.sub(r"`[^`\n]+`", "CODE", text))
 
 
-def sentences(text):
-    """The words of each sentence of a text's paragraphs and list items; tables and headings have none."""
-    kept = "\n".join("" if re.match(r"\s*[#|]", it) else it.strip() for it in text.splitlines())
-    for block in re.split(r"\n\s*\n|\n(?=(?:[-*]|\d+\.) )", kept):
-        block = re.sub(r"^(?:[-*]|\d+\.) +", "", block.strip()).replace("**", "")
-        for sentence in re.split(r"(?<=[.?!])[\"')]*\s+", block.replace("\n", " ")):
-            words = re.findall(r"[^\W_][\w'’/.^-]*", sentence)
-            if words:
-                yield words
-
-
 class Prose(unittest.TestCase):
-    def test_each_page_has_short_sentences(self):
-        self.assertGreater(len(pages(*PROSE)), 10)
-        for page in pages(*PROSE):
-            with self.subTest(page):
-                counts = [len(it) for it in sentences(plain_text(page))]
-                self.assertLessEqual(round(sum(counts) / max(len(counts), 1), 1), MOST_WORDS)
-
     def test_no_page_has_words_of_our_own(self):
+        self.assertGreater(len(pages(*PROSE)), 10)
         for page in pages(*PROSE):
             for word, better in WORDS.items():
                 with self.subTest(page, better=better):

@@ -268,6 +268,7 @@ class RandomGames(unittest.TestCase):
         self.assertNotRegex(out, rb"(?m)^job .* 1$")
         return out
 
+    @common.needs_speed
     def test_a_trace_of_4000_vertices(self):
         self.assertGreater(self.check_trace(small_dominions(4_000), 3).count(b"entry "), 100)
 
@@ -288,7 +289,7 @@ class RandomGames(unittest.TestCase):
 
 if __name__ == "__main__":
     parser = argparse.ArgumentParser(add_help=False)
-    parser.add_argument("--count", type=int, default=800)
+    parser.add_argument("--count", type=int, default=40 if common.is_checked() else 800)
     parser.add_argument("--seed", type=int, default=1)
     GIVEN, sys.argv[1:] = parser.parse_known_args()
     common.main()

@@ -4,11 +4,13 @@
 
    With REFUSE_FROM=1 every later one of the same kind is refused too. With REFUSE_ABOVE=K each allocation of more than K
    bytes is refused. With PIECE=K a read or a write takes at most K bytes. Writes are those to standard output. With TOGETHER=K a thread waits at its start until K threads have started, or
-   something was refused; after a second it waits no longer. At the end the four counts go to the file that COUNTS names.
-   What starting a thread takes inside the C library is not counted. */
+   something was refused; after a second it waits no longer. What starting a thread takes inside the C library is not counted.
+   At the end the four counts go to the file that COUNTS names, then the bytes that were not freed, and the greatest number of bytes
+   that were allocated at once. */
 #define _GNU_SOURCE
 #include <dlfcn.h>
 #include <errno.h>
+#include <malloc.h>
 #include <pthread.h>
 #include <stdatomic.h>
 #include <stdio.h>
@@ -25,6 +27,7 @@ static long refused_at[KINDS];
 static long from, above, piece, together;
 static int counting;
 static atomic_int was_refused;
+static atomic_long live, peak;
 static __thread int starting;
 
 static long number(const char *name) {
@@ -48,7 +51,8 @@ __attribute__((destructor)) static void end(void) {
     counting = 0;
     file = name ? fopen(name, "w") : NULL;
     if (!file) return;
-    fprintf(file, "%ld %ld %ld %ld\n", (long)counts[ALLOC], (long)counts[THREAD], (long)counts[READ], (long)counts[WRITE]);
+    for (int kind = 0; kind < KINDS; kind++) fprintf(file, "%ld ", (long)counts[kind]);
+    fprintf(file, "%ld %ld\n", (long)live, (long)peak);
     fclose(file);
 }
 
@@ -73,28 +77,47 @@ static int refused_memory(size_t size) {
     return refused(ALLOC, ENOMEM) || (counting && !starting && above && size > (size_t)above);
 }
 
+/* adds the bytes of a block, or takes them away */
+static void *note(void *block, int sign) {
+    long now, most = peak;
+    if (!counting || !block) return block;
+    now = live += sign * (long)malloc_usable_size(block);
+    while (now > most && !atomic_compare_exchange_weak(&peak, &most, now)) {}
+    return block;
+}
+
 #define NEXT(name) \
     static __typeof__(name) *next; \
     if (!next) next = (__typeof__(name) *)dlsym(RTLD_NEXT, #name)
 
 void *malloc(size_t size) {
     NEXT(malloc);
-    return refused_memory(size) ? NULL : next(size);
+    return refused_memory(size) ? NULL : note(next(size), 1);
 }
 
 void *realloc(void *old, size_t size) {
     NEXT(realloc);
-    return refused_memory(size) ? NULL : next(old, size);
+    if (refused_memory(size)) return NULL;
+    note(old, -1);
+    return note(next(old, size), 1);
+}
+
+void free(void *block) {
+    NEXT(free);
+    note(block, -1);
+    next(block);
 }
 
 void *aligned_alloc(size_t alignment, size_t size) {
     NEXT(aligned_alloc);
-    return refused_memory(size) ? NULL : next(alignment, size);
+    return refused_memory(size) ? NULL : note(next(alignment, size), 1);
 }
 
 int posix_memalign(void **to, size_t alignment, size_t size) {
     NEXT(posix_memalign);
-    return refused_memory(size) ? ENOMEM : next(to, alignment, size);
+    int status = refused_memory(size) ? ENOMEM : next(to, alignment, size);
+    if (!status) note(*to, 1);
+    return status;
 }
 
 void *calloc(size_t count, size_t size) {
@@ -113,7 +136,7 @@ void *calloc(size_t count, size_t size) {
         next = (__typeof__(calloc) *)dlsym(RTLD_NEXT, "calloc");
         looking = 0;
     }
-    return refused_memory(count * size) ? NULL : next(count, size);
+    return refused_memory(count * size) ? NULL : note(next(count, size), 1);
 }
 
 static size_t cut(size_t count) {

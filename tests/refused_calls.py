@@ -1,7 +1,7 @@
 #!/usr/bin/env python3
 """Refuses each allocation in turn, each start of a thread, each read and each write: tests/refused_calls.py [PROGRAM] [-k WORD]
 
-refuse.c, which is loaded before a program, does the refusing; it needs cc. A run of the built program that is refused memory
+refuse.c, which is loaded before a program, does the refusing, and measures the memory of a run; it needs cc. A run of the built program that is refused memory
 ends in status 5 with nothing written, or as one with all memory may. A start that is refused leaves its worker out. Texts are
 read, and outputs written, byte by byte up to a failure at each place.
 
@@ -86,12 +86,12 @@ class Refusing(unittest.TestCase):
         assert built[0] == 0, built
 
     def counted(self, words, given=b"", path=None, **refused):
-        """Status, standard output and standard error, and how many allocations, starts, reads and writes there were."""
+        """Status, standard output and standard error, and the six numbers of refuse.c."""
         counts = self.folder / f"counts {next(self.numbers)}"
         env = {"LD_PRELOAD": self.folder / "refuse.so", "COUNTS": counts, **{name: str(n) for name, n in refused.items()}}
         ran = common.run([path or common.PROGRAM, *words], given, cwd=self.folder, env=env)
         # (a program that a signal ends leaves no counts)
-        return ran, [int(it) for it in counts.read_text(encoding="ascii").split()] if counts.exists() else [0, 0, 0, 0]
+        return ran, [int(it) for it in counts.read_text(encoding="ascii").split()] if counts.exists() else [0] * 6
 
     def each(self, kind, numbers, words, given=b"", path=None, **more):
         """The number and the answer of each refusal, in order. What a run asked for less often wasn't refused."""
@@ -100,6 +100,7 @@ class Refusing(unittest.TestCase):
 
 
 @common.needs("cc")
+@common.needs_speed
 class Program(Refusing):
     def is_right(self, words, given, whole, got):
         """Whether an answer is the one with all memory, or another solution or history of the game."""
@@ -180,6 +181,38 @@ class Program(Refusing):
         # (as many entries with capacity for all vertices are 600 megabytes)
         self.assertRegex(out, rb"\Ajournal 1\d\d\d 40000\n")
 
+    def test_all_memory_is_freed_at_the_end(self):
+        game = plain.written_game(random_games.small_dominions(20_000)).encode()
+        (self.folder / "great.pg").write_bytes(game)
+        (self.folder / "great.sol").write_bytes(self.counted(["solve"], game)[0][1])
+        for words, status in (
+            ("tidy great.pg", 0),
+            ("verify great.pg great.sol", 0),
+            ("verify great.pg game.sol", 3),
+            ("solve --workers 2 great.pg", 0),
+            ("solve --known great.sol great.pg", 0),
+            ("trace --workers 2 great.pg", 0),
+        ):
+            with self.subTest(words):
+                ran, (_, threads, _, _, left, most) = self.counted(words.split())
+                self.assertEqual(ran[0], status, ran[2])
+                self.assertGreater(most, len(game))
+                # (the C library keeps less than this of a thread)
+                self.assertLessEqual(left, 512 * threads)
+
+    def test_a_solution_text_is_freed_before_its_rows_are_made(self):
+        """A text with many blanks takes no more memory than the same text whose last byte is refused once its lines are read."""
+        (self.folder / "great.pg").write_bytes(b"".join(b"%d 0 0 %d;" % (v, v) for v in range(50_000)))
+        text = b"".join(b"%d 0 %d;" % (v, v) for v in range(50_000)) + b" " * 10_000_000
+        most = []
+        for last, status in ((b" ", 0), (b"0", 3)):
+            (self.folder / "great.sol").write_bytes(text + last)
+            ran, numbers = self.counted("verify great.pg great.sol".split())
+            self.assertEqual(ran[0], status, ran[2])
+            most.append(numbers[5])
+        self.assertGreater(most[0], len(text))
+        self.assertLess(most[0] - most[1], 50_000)
+
     def test_a_file_is_read_into_one_buffer_of_its_length(self):
         (self.folder / "blanks").write_bytes(b" " * 1_000_000)
         for words in ("tidy blanks", "verify game.pg blanks", "solve --known blanks game.pg"):
@@ -189,6 +222,17 @@ class Program(Refusing):
                 # (one byte more is for the read that returns none)
                 self.assertEqual(self.counted(words.split(), REFUSE_ABOVE=1_000_001)[0], whole)
                 self.assertEqual(self.counted(words.split(), REFUSE_ABOVE=1_000_000)[0], NO_MEMORY)
+
+    def test_a_file_takes_a_read_for_each_65536_bytes_and_an_output_one_write(self):
+        """One more read finds the end of the file, which is standard input or has a path."""
+        game = plain.written_game(random_games.small_dominions(40_000)).encode()
+        (self.folder / "many.pg").write_bytes(game)
+        of_files = ["-c", 'exec "$@" <many.pg >written', "", common.PROGRAM]
+        for words in ("tidy", "tidy many.pg", "solve --winners", "trace"):
+            with self.subTest(words):
+                (status, _, err), (_, _, reads, writes, *_) = self.counted([*of_files, *words.split()], path="bash")
+                self.assertEqual((status, err, writes), (0, b"", 1))
+                self.assertLessEqual(reads, len(game) // 65_536 + 2)
 
     def test_a_read_that_fails_at_each_place_of_a_text_and_at_its_end(self):
         both = len(ONE_EACH + HOLDS) + 2
@@ -226,12 +270,14 @@ class Program(Refusing):
 # what a unit test says where memory was refused to what it needs itself
 TEST_ENDED = b'error: "no memory for the test itself"\nthe test failed: its result gives status 1\n'
 # The first test of each row needs fewer allocations than the second and this number more; the games of a row have as many
-# vertices. Lists in order are the game as they are; others are laid out flat, without a value for each of the 40 vertices; the
+# vertices. Lists in order are the game as they are, and no allocation is made for it; others are laid out flat, without a value
+# for each of the 40 vertices; the
 # searches of a long cycle end before a ranking is made, as it is of a ladder; and of two games that differ in one edge the
 # second makes one, which takes more than three allocations.
 GAME_TESTS, DOMINION_TESTS = "pg_text_tests_tests tests::game::memory", "pg_finders_tests_tests tests::dominion::memory"
 IN_ORDER = "many_lists_in_order_are_a_game_after_a_refusal"
 FEWER = [
+    (GAME_TESTS, "many_lists_in_order_are_the_game_itself_after_a_refusal", "many_lists_in_order_are_made_after_a_refusal", 1),
     (GAME_TESTS, IN_ORDER, "many_lists_with_repeated_successors_are_laid_out_after_a_refusal", 0),
     (GAME_TESTS, "many_falling_lists_are_laid_out_after_a_refusal", IN_ORDER, 40),
     (DOMINION_TESTS, "a_long_cycle_is_judged_after_a_refusal", "a_ladder_is_judged_after_a_refusal", 0),
@@ -245,6 +291,7 @@ FEWER = [
 
 
 @common.needs("cc")
+@unittest.skipUnless(common.PROGRAM == common.BUILT, "the program is not that of `rt ci`, which builds the unit tests")
 class UnitTests(Refusing):
     def test_each_allocation(self):
         programs = sorted(common.ROOT.glob("crates/*/out/*_tests"))

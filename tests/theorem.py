@@ -17,6 +17,7 @@ import re
 import sys
 import unicodedata
 import unittest
+import xml.etree.ElementTree
 
 import common
 
@@ -426,7 +427,8 @@ class Theorem(unittest.TestCase):
             with self.subTest(key):
                 # what no public contract reaches belongs in specs/private/
                 self.assertEqual(".private." in key, key not in every)
-        unknown = [it for it in self.sources.reached(self.sources.items)[1] if it.split(".")[0] in CRATES and ".declared." not in it]
+        made = re.compile(r"\.specs\.(declared|contracts)\.")
+        unknown = [it for it in self.sources.reached(self.sources.items)[1] if it.split(".")[0] in CRATES and not made.search(it)]
         self.assertEqual(unknown, [])
 
 
@@ -523,6 +525,26 @@ class Layers(unittest.TestCase):
                 self.assertLessEqual({it.split("::")[0] for it in named if it[0].isupper()}, taken)
                 for method in methods:
                     self.assertRegex(code, rf"(?:\.|::){method.split('::')[1]}\(")
+
+    def test_the_picture(self):
+        """Each box of the picture is a function of the file that it names, and the drawing has its boxes and arrows."""
+        source = common.text_of("docs/pictures/architecture.dot")
+        boxes = dict(re.findall(r'(?m)^\s*(\w+) \[(?:shape=note, )?label="([^"]*)"', source))
+        for name, label in boxes.items():
+            if "\\n" in label:
+                function, path = label.split("\\n")
+                self.assertEqual(function, name)
+                self.assertTrue(re.search(rf"\bfn {function}\b", read(path)), label)
+        chains = re.findall(r"(?m)^\s*(\w+(?: -> \w+)+)", source)
+        arrows = {pair for chain in chains for pair in itertools.pairwise(chain.split(" -> "))}
+        drawing = xml.etree.ElementTree.parse(common.ROOT / "docs/pictures/architecture.svg")
+        drawn = {"node": {}, "edge": {}}
+        for group in drawing.iter("{http://www.w3.org/2000/svg}g"):
+            if group.get("class") in drawn:
+                texts = ["".join(it.itertext()) for it in group.iter("{http://www.w3.org/2000/svg}text")]
+                drawn[group.get("class")][group[0].text] = "\\n".join(texts)
+        self.assertEqual(drawn["node"], boxes)
+        self.assertEqual({tuple(it.split("->")) for it in drawn["edge"]}, arrows)
 
 
 if __name__ == "__main__":

@@ -1,22 +1,25 @@
 #!/usr/bin/env python3
-"""Tests of examples/convert.py, draw.py and explain.py, and what all tests of examples/ share: tests/uses.py [PROGRAM]
+"""Tests of examples/convert.py, draw.py, explain.py and winner.py, and what all tests of examples/ share: tests/uses.py [PROGRAM]
 
 Games that convert.py has turned are won as before, by the definition of who wins: each pair of positional strategies is played
-from each vertex to the end. The pictures of docs/pictures are what draw.py gives; with --write they are made anew. What
-explain.py prints of wrong solutions is about the vertex that `verify` names: a closed walk of kept edges that the other player
-wins, an edge that leaves, or a choice. What edges a solution keeps is worked out here.
+from each vertex to the end. Pictures are read back into their graphs. The pictures of docs/pictures are what draw.py gives; with
+--write they are made anew. What explain.py prints of wrong solutions is about the vertex that `verify` names: a closed walk of
+kept edges that the other player wins, an edge that leaves, or a choice. What edges a solution keeps is worked out here.
 """
 
 import collections
 import contextlib
+import gzip
 import importlib.util
 import io
 import itertools
+import math
 import os
 import pathlib
 import random
 import re
 import shlex
+import shutil
 import sys
 import unittest
 
@@ -40,18 +43,36 @@ def rows_of(name):
     return [[it.strip(" ") for it in re.split(r" \|(?= |$)", line, maxsplit=4)] for line in lines if not line.startswith("#")]
 
 
-class Use(unittest.TestCase):
-    """What the tests of each script of examples/ have."""
+def load(name):
+    """A script of examples/ as a module."""
+    spec = importlib.util.spec_from_file_location(f"examples_{name}", EXAMPLES / f"{name}.py")
+    script = importlib.util.module_from_spec(spec)
+    spec.loader.exec_module(script)
+    return script
+
+
+def called(script, words, given=b""):
+    """The status, the output and the errors of a script's main, in this process: many calls take no time to start."""
+    os.environ["PGBOARD"] = shlex.quote(str(common.PROGRAM))
+    out, err, before = io.TextIOWrapper(io.BytesIO(), "utf-8", "surrogateescape", newline=""), io.StringIO(), sys.stdin
+    sys.stdin = io.TextIOWrapper(io.BytesIO(given))
+    try:
+        with contextlib.redirect_stdout(out), contextlib.redirect_stderr(err):
+            status = script.main([str(it) for it in words]) or 0
+    finally:
+        sys.stdin = before
+    out.flush()
+    return status, out.buffer.getvalue().decode("utf-8", "replace"), err.getvalue()
+
+
+class Use:
+    """What the tests of each script of examples/ have, beside `unittest.TestCase`."""
 
     # the script
     name = None
 
     def setUp(self):
-        if self.name is None:
-            self.skipTest("it is what the tests of scripts share")
-        spec = importlib.util.spec_from_file_location(f"examples_{self.name}", EXAMPLES / f"{self.name}.py")
-        self.script = importlib.util.module_from_spec(spec)
-        spec.loader.exec_module(self.script)
+        self.script = load(self.name)
         self.folder = common.make_folder(self)
 
     def file(self, name, text):
@@ -61,17 +82,13 @@ class Use(unittest.TestCase):
         return str(path)
 
     def call(self, *words):
-        """The status and the output of the script's main, in this process: many calls take no time to start."""
-        os.environ["PGBOARD"] = str(common.PROGRAM)
-        out = io.StringIO()
-        with contextlib.redirect_stdout(out):
-            status = self.script.main([str(it) for it in words])
-        return status, out.getvalue()
+        """The status and the output of the script's main, in this process."""
+        return called(self.script, words)[:2]
 
     def run_script(self, *words, given=b"", **env):
         """The status, the output and the errors of the script as a process, at the top of the repository."""
         command = [sys.executable, "-B", EXAMPLES / f"{self.name}.py", *words]
-        env = {**os.environ, "PGBOARD": str(common.PROGRAM), **env}
+        env = {**os.environ, "PGBOARD": shlex.quote(str(common.PROGRAM)), **env}
         status, out, err = common.run(command, given, timeout=600, cwd=common.ROOT, env=env)
         return status, out.decode(errors="replace"), err.decode()
 
@@ -88,6 +105,27 @@ class Use(unittest.TestCase):
         self.assertEqual(status, 2)
         self.assertIn("the command dot is not on the PATH", err)
 
+    def check_standard_input(self, path, *words):
+        """That `-` in place of the path gives the same."""
+        wanted = self.run_script(*words)
+        self.assertEqual(self.run_script(*("-" if it == path else it for it in words), given=pathlib.Path(path).read_bytes()), wanted)
+        self.assertIn(wanted[0], (0, 1))
+
+    def check_no_verdict(self, *words, good=0):
+        """That a solution is believed only where `verify` says that it is one: neither nothing nor another word is enough.
+
+        So many calls of it are good, and the next one is not.
+        """
+        for said in ("", "okay", "not a solution"):
+            count = self.folder / "count"
+            count.write_text("x" * (good + 1), encoding="ascii")
+            says = f'read count < {count}; echo "${{count#x}}" > {count}; [ "$count" != x ] || {{ printf "{said}"; exit 0; }}'
+            program = self.file("program", f'#!/bin/sh\nif [ "$1" = verify ]; then {says}; fi\nexec {common.PROGRAM} "$@"\n')
+            os.chmod(program, 0o755)
+            status, out, err = self.run_script(*words, PGBOARD=program)
+            self.assertEqual((status, out), (2, ""), said)
+            self.assertRegex(err, f"^({self.name}: size.*\n)?{self.name}: (what|this|the machine).*: {said or 'no'}")
+
     def check_damaged(self, call, text):
         """That the script answers or refuses what a damaged text has, and fails in no other way."""
         for seed in range(200):
@@ -97,8 +135,8 @@ class Use(unittest.TestCase):
                     self.assertIn(call(given)[0], (0, 1))
                 except self.script.Refused as refused:
                     self.assertTrue(str(refused).isprintable())
-                except SystemExit as ended:
-                    self.assertEqual(ended.code, 3)
+                except self.script.games.Ended as ended:
+                    self.assertEqual((ended.status, ended.said.count("\n")), (3, 1))
 
     def check_benchmark(self, size):
         """That bench/ gets a game of about so many vertices, in which each player wins some."""
@@ -112,10 +150,11 @@ class Use(unittest.TestCase):
         self.assertEqual({line.split()[1] for line in lines}, {"0;", "1;"})
 
     def test_help(self):
-        """The help text shows an example, whose commands run."""
-        status, out, err = self.run_script("--help")
+        """The help shows an example, and has 80 columns also where the terminal has more."""
+        status, out, err = self.run_script("--help", COLUMNS="200")
         self.assertEqual((status, err), (0, ""))
         self.assertIn(f"\n  examples/{self.name}.py ", out)
+        self.assertLessEqual(max(map(len, out.splitlines())), 80)
 
 
 def damaged(chance, text):
@@ -126,6 +165,20 @@ def damaged(chance, text):
         piece = chance.choice(["", text[first:last] * 2, chance.choice(text), chance.choice('()[]{}<>"!&|,;:.01 9\n\x00\u00e9')])
         text = text[:first] + piece + text[last:]
     return text
+
+
+def graph_of(text):
+    """The vertices and edges of Graphviz text, with what stands between their brackets; vertices are what has no arrow."""
+    rows = re.findall(r"(?ms)^    (\w+)(?: -> (\w+))?(?: \[(.*?)\])?;$", text)
+    rows = [row for row in rows if row[0] not in ("graph", "node", "edge")]
+    vertices, edges = {row[0]: row[2] for row in rows if not row[1]}, {row[:2]: row[2] for row in rows if row[1]}
+    assert len(vertices) + len(edges) == len(rows), "nothing is drawn twice"
+    return vertices, edges
+
+
+def colour_of(style):
+    """Whose colours a vertex has: Even's, Odd's, or None where it is white."""
+    return {"#fde68a": 0, "#2563a8": 1, "white": None}[re.search('fillcolor="([^"]*)"', style)[1]]
 
 
 def check_kept(case, name, made):
@@ -180,7 +233,7 @@ def spelled_game(chance, game, least):
     header = chance.choice(["minparity", "min-parity"] if least else ["parity", "max-parity"])
     lines = [chance.choice(["", "# made by hand; 0 0 0 0;\n", '// a "game\n']), f"{header} {max(game)};\n"]
     for id, (priority, owner, successors) in game.items():
-        start = chance.choice(["start 1;\n"] + [""] * 9)
+        start = chance.choice(["start 01;\n"] + [""] * 9)
         name = chance.choice(["", ' "a"', '"# // ;"', ' "\\"b\\""'])
         note = chance.choice(["", "", " # a note", " // 1 2 3;", '# "a"'])
         numbers = f"{id}{blank()}{priority}{blank()}{owner}{blank()}{comma.join(map(str, sorted(successors)))}"
@@ -190,6 +243,7 @@ def spelled_game(chance, game, least):
 
 AUTOMATON = common.text_of("examples/synthesise/arbiter_2_at_once.hoa")
 ARENA = """parity 4;
+start 0;
 0 0 1 1,2 "0, the environment";
 1 0 0 3 "0, the controller";
 2 0 0 4 "0, the controller";
@@ -214,9 +268,15 @@ BY_OINK = "[ 0.01] solved in 12 iterations\nwon by even: 0->12 0 12\nwon by odd:
 SOLUTION = "paritysol 12;\n0 0 12;\n3 1 3;\n12 0;\n"
 # the fact, flags, the text, and what is written
 CONVERTED = [
-    ("names stay as they are", [], 'start 0; 0 8 0 0 "# not // a note";', 'parity 0;\n0 8 0 0 "# not // a note";\n'),
+    ("names stay as they are", [], 'start 0; 0 8 0 0 "# not // a note";', 'parity 0;\nstart 0;\n0 8 0 0 "# not // a note";\n'),
+    ("a start line", ["--min"], "parity 0; start 00;\n0 8 0 0;", "parity 0;\nstart 0;\n0 0 0 0;\n"),
+    ("a start line in a name", [], '0 8 0 0 "start 3;";', 'parity 0;\n0 8 0 0 "start 3;";\n'),
+    ("a start line after a vertex", [], "0 8 0 0;\nstart 0;", "parity 0;\nstart 0;\n0 8 0 0;\n"),
     ("a byte order mark", [], "\ufeffparity 0;\n0 8 0 0;\n", "parity 0;\n0 8 0 0;\n"),
     ("odd priorities for player 0", ["--odd"], "0 0 0 1;\n1 3 1 0;\n", "parity 1;\n0 1 0 1;\n1 4 1 0;\n"),
+    ("a header and a flag for the least priority", ["--min"], "minparity 1;\n0 0 0 1;\n1 3 1 0;\n", "parity 1;\n0 4 0 1;\n1 1 1 0;\n"),
+    ("a file of two compressed parts", [], gzip.compress(b"0 8 0 0;\n") + gzip.compress(b"1 8 0 1;\n"), "parity 1;\n0 8 0 0;\n1 8 0 1;\n"),
+    ("standard input by name", ["-"], "0 8 0 0;", "parity 0;\n0 8 0 0;\n"),
     ("a header of the least priority", [], "minparity 1;\n0 0 0 1;\n1 3 1 0;\n", "parity 1;\n0 4 0 1;\n1 1 1 0;\n"),
     ("quotes in a name", [], r'0 8 0 0 "a \"b\"";', "parity 0;\n0 8 0 0 \"a 'b'\";\n"),
     ("a name that ends in a backslash", [], '0 8 0 0 "C:\\";', 'parity 0;\n0 8 0 0 "C:\\";\n'),
@@ -230,7 +290,7 @@ CONVERTED = [
 ]
 
 
-class Convert(Use):
+class Convert(Use, unittest.TestCase):
     name = "convert"
 
     def converted(self, flags, text):
@@ -242,15 +302,20 @@ class Convert(Use):
                 self.assertEqual(self.converted(flags, text), (0, wanted, ""))
 
     def test_random_games_keep_their_winners(self):
-        for seed, (least, odd, dead, by_header) in enumerate(itertools.product((0, 1), repeat=4)):
-            for chance in map(random.Random, range(seed, 96, 16)):
+        ways = itertools.product((0, 1), (0, 1), (0, 1), ("flag", "header", "both"))
+        for seed, (least, odd, dead, by) in enumerate(ways):
+            for chance in map(random.Random, range(seed, 96, 24)):
                 game = random_games.random_game(chance, 5)
                 for id in chance.sample(list(game), dead):
                     game[id] = *game[id][:2], set()
-                with self.subTest(least=least, odd=odd, dead=dead, by_header=by_header, game=game):
-                    words = ["--min"] * (least and not by_header) + ["--odd"] * odd + ["--dead-ends"] * dead
-                    status, out, err = self.converted(words, spelled_game(chance, game, least and by_header))
+                with self.subTest(least=least, odd=odd, dead=dead, by=by, game=game):
+                    words = ["--min"] * (least and by != "header") + ["--odd"] * odd + ["--dead-ends"] * dead
+                    text = spelled_game(chance, game, least and by != "flag")
+                    status, out, err = called(self.script, words, text.encode())
                     self.assertEqual(status, 0, err)
+                    self.assertEqual("\nstart 1;\n" in out, "start 01;" in text)
+                    edges = {id: (owner, to or {id}) for id, (_, owner, to) in game.items()}
+                    self.assertEqual({id: it[1:] for id, it in plain.game_of(out.encode()).items()}, edges)
                     self.assertEqual(even_wins(plain.game_of(out.encode())), even_wins(game, least, odd))
 
     def test_a_pipe_that_nobody_reads(self):
@@ -285,7 +350,7 @@ PICTURES = {
 }
 
 
-class Draw(Use):
+class Draw(Use, unittest.TestCase):
     name = "draw"
 
     def setUp(self):
@@ -310,6 +375,58 @@ class Draw(Use):
                 self.assertIn(f'label=<2<br/>{("long" * 9)[:30]}...<br/><font point-size="9">id 1</font>>', out)
                 self.assertEqual(out.count("#fde68a"), len(words) // 2)
 
+    def check_drawn(self, text, game, solution):
+        """That a picture is the game's, with what the solution says of some vertices."""
+        vertices, edges = graph_of(text)
+        self.assertEqual(set(vertices), set(map(str, game)))
+        for id, (priority, owner, _) in game.items():
+            winner, _ = solution.get(id, (None, None))
+            self.assertEqual(re.search("shape=(\\w+)", vertices[str(id)])[1], ("diamond", "box")[owner])
+            self.assertEqual(re.search("label=<(.*)> style", vertices[str(id)])[1], f'{priority}<br/><font point-size="9">id {id}</font>')
+            self.assertEqual((colour_of(vertices[str(id)]), "dashed" in vertices[str(id)]), (winner, winner is None))
+            self.assertEqual("peripheries=2" in vertices[str(id)], winner == 1)
+        chosen = {(str(id), str(choice)) for id, (winner, choice) in solution.items() if winner == game[id][1]}
+        self.assertEqual(set(edges), {(str(id), str(to)) for id in game for to in game[id][2]})
+        self.assertEqual({edge for edge, style in edges.items() if "bold" in style}, chosen)
+
+    def test_random_games_read_back(self):
+        """The loser's choices, which a solution may have, are not bold; and a part of a solution leaves vertices white."""
+        for chance in map(random.Random, range(150)):
+            game = random_games.random_game(chance)
+            solution = {id: (chance.randrange(2), chance.choice(sorted(game[id][2]))) for id in game if chance.random() < 0.8}
+            rows = (f"{id} {winner} {choice};\n" for id, (winner, choice) in solution.items())
+            files = self.file("game.pg", plain.written_game(game)), self.file("game.sol", "".join(rows))
+            with self.subTest(game=game, solution=solution):
+                self.check_drawn(self.call(*files)[1], game, solution)
+
+    def test_entries_of_a_trace_read_back(self):
+        """After each number of entries the picture has what these settle, and no more."""
+        for chance in map(random.Random, range(12)):
+            game = random_games.random_game(chance)
+            path = self.file("game.pg", plain.written_game(game))
+            text = common.program("trace", "--workers", "1", path)[1].decode()
+            entries = [it.split("\n") for it in text.split("report")[0].split("entry ")[1:]]
+            trace, solution = self.file("trace", text), {}
+            for count in range(len(entries) + 1):
+                with self.subTest(game=game, count=count):
+                    self.check_drawn(self.call("--trace", trace, "--entries", count, path)[1], game, solution)
+                if count < len(entries):
+                    head, *rows = entries[count]
+                    numbers = [[int(it) for it in re.findall(r"\d+", row)] for row in rows if row]
+                    solution.update({id: (int(head.split()[2]), choice[0] if choice else None) for id, *choice in numbers})
+
+    def test_edges_end_apart(self):
+        """No edge of the picture on the pages ends so near to another's end that both look like one."""
+        text = (common.ROOT / "docs" / "pictures" / "requests.svg").read_text(encoding="utf-8")
+        paths = re.findall(r'<title>(\d+)&#45;&gt;(\d+)</title>\s*<path [^>]*\bd="([^"]*)"', text)
+        self.assertEqual(len(paths), 11)
+        ends = []
+        for before, after, path in paths:
+            numbers = [float(it) for it in re.findall(r"-?[\d.]+", path)]
+            ends += [(before, numbers[:2]), (after, numbers[-2:])]
+        for (at, one), (other, two) in itertools.combinations(ends, 2):
+            self.assertTrue(at != other or math.dist(one, two) > 15, (at, one, two))
+
     def test_other_kinds_of_pictures(self):
         for flag, begins in (("--png", "PNG"), ("--pdf", "%PDF-")):
             with self.subTest(flag):
@@ -327,7 +444,7 @@ class Draw(Use):
 PLAYERS = ("Even", "Odd")
 
 
-class Explain(Use):
+class Explain(Use, unittest.TestCase):
     name = "explain"
 
     def check_cycle(self, game, solution, lines, id):
@@ -343,6 +460,7 @@ class Explain(Use):
             self.assertEqual(line, said + f"   <- the greatest, and {PLAYERS[1 - winner]}'s" * (at == id))
         self.assertEqual(game[id][0], max(game[it][0] for it in walk))
         self.assertEqual(game[id][0] % 2, 1 - winner)
+        return list(zip(walk, [*walk[1:], walk[0]]))
 
     def check_leaving(self, game, solution, lines, id, to):
         self.assertIn(to, plain.kept(game, solution, id))
@@ -352,8 +470,9 @@ class Explain(Use):
         self.assertEqual(lines[0], said + f"{PLAYERS[1 - winner]} {to} (line {places[1]}).")
         verb = "chooses" if owner == winner else "may move to"
         self.assertEqual(lines[1], f"  {id} -> {to}: {PLAYERS[owner]} owns {id}, and {verb} {to}")
-        inside = [it for it in sorted(game[id][2]) if solution[it][0] == winner]
-        self.assertTrue(lines[2].startswith(f"Successors of {id} that {PLAYERS[winner]} is said to win: {inside[0] if inside else 'none'}"))
+        inside = ", ".join(str(it) for it in sorted(game[id][2]) if solution[it][0] == winner)
+        self.assertEqual(lines[2], f"Successors of {id} that {PLAYERS[winner]} is said to win: {inside or 'none'}")
+        return [(id, to)]
 
     def check_choosing(self, game, solution, lines, id):
         winner, choice = solution[id]
@@ -365,6 +484,24 @@ class Explain(Use):
         self.assertEqual(lines[0], said)
         successors = ", ".join(f"{it} (said to be {PLAYERS[solution[it][0]]}'s)" for it in sorted(game[id][2]))
         self.assertEqual(lines[1], f"Successors of {id}: {successors}")
+        return [(id, to) for to in game[id][2]]
+
+    def check_drawn(self, text, game, solution, red):
+        """That a picture has these edges in red, all vertices next to theirs, and the first edge's vertex marked."""
+        vertices, edges = graph_of(text)
+        core = {it for edge in red for it in edge}
+        near = {id for id in game if core & game[id][2]} | {to for id in core for to in game[id][2]}
+        self.assertEqual(set(vertices), set(map(str, core | near)))
+        for id in core | near:
+            priority, owner, _ = game[id]
+            style = vertices[str(id)]
+            self.assertTrue(style.startswith(f'shape={("diamond", "box")[owner]} label="{priority}\n{id}" '), style)
+            self.assertEqual((colour_of(style), "color=red" in style.split()), (solution[id][0], id == red[0][0]))
+        self.assertEqual(set(edges), {(str(id), str(to)) for id in core | near for to in game[id][2] if to in core | near})
+        self.assertEqual({edge for edge, style in edges.items() if "red" in style}, {(str(id), str(to)) for id, to in red})
+        kept = {(str(id), str(to)) for id in core | near for to in plain.kept(game, solution, id)}
+        dotted = {edge for edge, style in edges.items() if "dotted" in style}
+        self.assertEqual(dotted, set(edges) - kept - {(str(id), str(to)) for id, to in red})
 
     def test_wrong_solutions(self):
         checks = {"cycle": self.check_cycle, "leaves": self.check_leaving, "choice": self.check_choosing}
@@ -375,12 +512,14 @@ class Explain(Use):
             rows = (" ".join(str(it) for it in (id, *solution[id]) if it is not None) for id in solution)
             files = self.file("game.pg", plain.written_game(game)), self.file("game.sol", "".join(f"{row};\n" for row in rows))
             with self.subTest(game=game, solution=solution):
-                status, out = self.call(*files)
+                picture = self.folder / "picture.dot"
+                status, out = self.call(*files, "--picture", picture)
                 first, *lines = out.rstrip("\n").split("\n")
                 self.assertEqual((status, first + "\n"), (int(first != "ok"), plain.verdict(game, solution)))
                 for kind, check in checks.items():
                     if kind in first:
-                        check(game, solution, lines, *map(int, re.findall(r"\d+", first)))
+                        edges = check(game, solution, lines, *map(int, re.findall(r"\d+", first)))
+                        self.check_drawn(picture.read_text(encoding="utf-8"), game, solution, edges)
                 kinds[re.sub(r"[ \d]", "", first)] += 1
         self.assertEqual(len(kinds), 5, kinds)
         self.assertGreater(min(kinds.values()), 30, kinds)
@@ -414,8 +553,16 @@ class Explain(Use):
                 status, out, err = self.run_script(self.file("game.pg", game), self.file("game.sol", solution))
                 self.assertEqual((status, out, err.count("\n")), (3, "", 1))
                 self.assertTrue(err.startswith(f"pgboard: {said}"), err)
-        got = self.run_script(both, EXAMPLES / "both_win.sol", PGBOARD="no program")
+        got = self.run_script(both, EXAMPLES / "both_win.sol", PGBOARD="'no program'")
         self.assertEqual(got, (2, "", "explain: no program: No such file or directory\n"))
+
+    def test_a_verdict_that_is_none(self):
+        self.check_no_verdict(EXAMPLES / "both_win.pg", EXAMPLES / "both_win.sol")
+
+    def test_standard_input(self):
+        game, solution = (str(EXAMPLES / it) for it in ("five_continents.pg", "five_continents.wrong"))
+        for path in (game, solution):
+            self.check_standard_input(path, game, solution)
 
     def test_damaged_texts(self):
         game, solution = (common.text_of("examples", it) for it in ("five_continents.pg", "five_continents.wrong"))
@@ -430,13 +577,162 @@ class Explain(Use):
         self.check_picture([EXAMPLES / "both_win.pg", EXAMPLES / "both_win.wrong"], f"0 -> 1 [{red}]", f"0 -> 0 [{dotted}]")
 
 
+# --- winner.py ---
+
+
+class Winner(Use, unittest.TestCase):
+    name = "winner"
+
+    def check_part(self, game, start, text, winner):
+        """That a solution's text has the vertices that a play from there can reach, and the winner's choices; and gives the edges."""
+        lines = {int(id): (int(player), choice) for id, player, choice in re.findall(r"(?m)^(\d+) (\d)(?: (\d+))?;$", text)}
+        edges = {id: {int(choice)} if game[id][1] == winner else game[id][2] for id, (_, choice) in lines.items()}
+        found = {start}
+        for _ in game:
+            found |= {to for id in found for to in edges[id]}
+        rows = (f"{id} {winner} {lines[id][1]}".strip() + ";\n" for id in sorted(found))
+        self.assertEqual(text, f"paritysol {max(found)};\n" + "".join(rows))
+        for id in found:
+            self.assertLessEqual(edges[id], game[id][2])
+            self.assertEqual(bool(lines[id][1]), game[id][1] == winner)
+        return edges
+
+    def test_random_games(self):
+        """The winner is the definition's, and wins the part from each of its vertices, where only the other one has choices."""
+        statuses = []
+        for chance in map(random.Random, range(150)):
+            game = random_games.random_game(chance, 6)
+            start, other = chance.choice(list(game)), chance.choice(list(game))
+            text = plain.written_game(game)
+            text = text.decode() if isinstance(text, bytes) else text
+            path = self.file("game.pg", text.replace(";", f";\nstart {start};", 1))
+            part, picture = self.folder / "part.pg", self.folder / "part.dot"
+            for words, vertex in (([], start), (["--vertex", other], other)):
+                with self.subTest(game=game, vertex=vertex):
+                    winner = int(vertex not in even_wins(game))
+                    statuses.append(winner)
+                    self.assertEqual(self.call(path, *words), (winner, f"{PLAYERS[winner]} wins vertex {vertex}\n"))
+                    status, text = self.call(path, *words, "--reach", "--game", part, "--picture", picture)
+                    self.assertEqual(status, winner)
+                    edges = self.check_part(game, vertex, text, winner)
+                    written = part.read_text(encoding="utf-8")
+                    self.assertEqual(re.findall("start (.*);", written), [str(vertex)])
+                    wanted = {id: (*game[id][:2], to) for id, to in edges.items()}
+                    self.assertEqual(plain.game_of(written.encode()), wanted)
+                    self.assertEqual(even_wins(wanted), set() if winner else set(wanted))
+                    vertices, drawn = graph_of(picture.read_text(encoding="utf-8"))
+                    self.assertEqual(set(drawn), {(str(id), str(to)) for id, them in edges.items() for to in them})
+                    bold = {it for it, style in drawn.items() if "bold" in style}
+                    self.assertEqual(bold, {it for it in drawn if game[int(it[0])][1] == winner})
+                    styles = {int(id): (colour_of(it), "shape=box" in it) for id, it in vertices.items()}
+                    self.assertEqual(styles, {id: (winner, game[id][1] == 1) for id in edges})
+        self.assertGreater(min(statuses.count(0), statuses.count(1)), 80)
+
+    def test_names_stay(self):
+        part = self.folder / "part.pg"
+        path = self.file("game.pg", '0 1 0 1 "a b"; 1 2 1 1 "\u00e9"; 2 0 0 2;')
+        self.assertEqual(self.call(path, "--vertex", 0, "--game", part), (0, "Even wins vertex 0\n"))
+        self.assertEqual(part.read_text(encoding="utf-8"), 'parity 1;\nstart 0;\n0 1 0 1 "a b";\n1 2 1 1 "\u00e9";\n')
+
+    def test_a_part_is_known(self):
+        """`solve` takes what --reach writes as known."""
+        part = self.file("part.sol", self.run_script("--reach", "--vertex", "5", EXAMPLES / "requests.pg")[1])
+        status, _, err = common.program("solve", "--known", part, EXAMPLES / "requests.pg")
+        self.assertEqual((status, err), (0, b""))
+
+    def test_standard_input(self):
+        path = str(EXAMPLES / "requests.pg")
+        self.check_standard_input(path, "--reach", "--vertex", "4", path)
+
+    def test_a_verdict_that_is_none(self):
+        self.check_no_verdict("--vertex", "0", EXAMPLES / "both_win.pg")
+
+
 # --- all ---
+
+
+class Program(unittest.TestCase):
+    """Which program the scripts run, in a folder like this clone where builds come and go."""
+
+    def setUp(self):
+        self.top = common.make_folder(self)
+        shutil.copytree(EXAMPLES, self.top / "examples", ignore=shutil.ignore_patterns("__pycache__"))
+        self.script("pgboard", 'case $1 in --unproved) shift; echo "pgboard: unproved: no proof was made" >&2;; esac')
+        (self.top / "path").mkdir()
+
+    def script(self, path, line=""):
+        """A program that writes down its path and words, and then is pgboard."""
+        path = self.top / path
+        path.parent.mkdir(parents=True, exist_ok=True)
+        path.write_text(f'#!/bin/sh\necho "$0 $*" >> "{self.top}/log"\n{line}\nexec {common.PROGRAM} "$@"\n', encoding="utf-8")
+        path.chmod(0o755)
+
+    def winner(self, **env):
+        """Status, output and error of a script, and the programs that it ran, each with its first word."""
+        (self.top / "log").write_text("", encoding="ascii")
+        env = {"PATH": f"{self.top}/path:/bin", **env}
+        command = [sys.executable, "-B", self.top / "examples" / "winner.py", "--vertex", "0", EXAMPLES / "both_win.pg"]
+        status, out, err = common.run(command, cwd=self.top, env=env)
+        lines = (self.top / "log").read_text(encoding="utf-8").replace(f"{self.top}/", "").splitlines()
+        return status, out.decode(), err.decode(), [" ".join(it.split()[:2]) for it in lines]
+
+    def test_each_place_in_turn(self):
+        status, out, err, ran = self.winner()
+        self.assertEqual((status, out, ran, err.count("\n")), (2, "", [], 1), "nothing is built unasked")
+        self.assertTrue(err.startswith("winner: there is no pgboard: ./pgboard --unproved builds one"), err)
+        even = "Even wins vertex 0\n"
+        self.script("path/pgboard")
+        self.assertEqual(self.winner(), (0, even, "", ["path/pgboard solve", "path/pgboard verify"]))
+        self.script("out/unproved/pgboard")
+        warning = "pgboard: unproved: no proof was made\n"
+        self.assertEqual(self.winner(), (0, even, warning, ["pgboard --unproved"] * 2), "one warning, and two runs")
+        proved = 0, even, "", ["pgboard solve", "pgboard verify"]
+        for build in ("out/proved/pgboard", "crates/pgboard_program/out/pgboard_program"):
+            self.script(build)
+            self.assertEqual(self.winner(), proved)
+            (self.top / build).unlink()
+        self.script("out/proved/pgboard")
+        self.script("other place/pgboard")
+        for named in ("'other place/pgboard' ", f"{self.top}/other place/pgboard"):
+            self.assertEqual(self.winner(PGBOARD=named)[:3], (0, even, ""))
+        self.assertEqual(self.winner(PGBOARD="./pgboard --unproved"), (0, even, warning, ["./pgboard --unproved"] * 2))
+        self.assertEqual(self.winner(PGBOARD=""), proved)
+
+    def test_another_status_of_the_program(self):
+        self.script("out/proved/pgboard")
+        self.script("pgboard", "echo 'pgboard: no memory' >&2; exit 5")
+        self.assertEqual(self.winner()[:3], (5, "", "pgboard: no memory\n"))
+        self.script("pgboard", "kill -9 $$")
+        self.assertEqual(self.winner()[:3], (2, "", f"winner: {self.top}/pgboard was ended by signal 9\n"))
+
+    def test_lines_and_columns(self):
+        """No script has more than 400 lines."""
+        for path in EXAMPLES.glob("*.py"):
+            self.assertLessEqual(path.read_text(encoding="utf-8").count("\n"), 400, path)
 
 
 class Refused(unittest.TestCase):
     """Each script says in one line, or after its usage, where and why it refuses its words or a text."""
 
+    def refused(self, script, command, text):
+        """Status, output and errors of a script: as a process where it isn't refused by its own code in this one.
+
+        (convert.py imports a script that has the name of one in this folder.)
+        """
+        scripts = self.__dict__.setdefault("scripts", {})
+        if script != "convert":
+            try:
+                called(scripts.setdefault(script, load(script)), command[3:], text)
+            except scripts[script].games.Refused as refused:
+                return 2, b"", f"{script}: {refused}"
+            except (OSError, SystemExit):
+                pass
+        env = {**os.environ, "PGBOARD": shlex.quote(str(common.PROGRAM))}
+        status, out, err = common.run(command, text, timeout=600, cwd=common.ROOT, env=env)
+        return status, out, err.decode()
+
     def test_each_row(self):
+        os.chdir(common.ROOT)
         folder = common.make_folder(self)
         (folder / "model.aut").write_text(MODEL, encoding="ascii")
         (folder / "trace").write_bytes(common.program("trace", "--workers", "1", EXAMPLES / "requests.pg")[1])
@@ -445,11 +741,10 @@ class Refused(unittest.TestCase):
             with self.subTest(script, words=words, text=text):
                 text = text.replace("THE_HEAD", HEAD).replace("THE_BODY", BODY).encode().decode("unicode_escape")
                 pathlib.Path(file).write_bytes(text.encode("latin-1"))
-                named = {"FILE": file, "MODEL": folder / "model.aut", "TRACE": folder / "trace", "TEXT": text}
+                named = {"FILE": file, "MODEL": str(folder / "model.aut"), "TRACE": str(folder / "trace"), "TEXT": text}
                 command = [sys.executable, "-B", EXAMPLES / f"{script}.py", *(named.get(it, it) for it in shlex.split(words))]
-                env = {**os.environ, "PGBOARD": str(common.PROGRAM)}
-                status, out, err = common.run(command, text.encode("latin-1"), cwd=common.ROOT, env=env)
-                *usage, line = err.decode().splitlines()
+                status, out, err = self.refused(script, command, text.encode("latin-1"))
+                *usage, line = [it for it in err.splitlines() if "size of the game" not in it]
                 self.assertEqual((status, out), (2, b""))
                 self.assertTrue(not usage or usage[0].startswith("usage: "), err)
                 self.assertRegex(line, rf"^{script}(\.py)?: {re.escape(place.replace('FILE', file))}")

@@ -9,6 +9,7 @@ mod fault;
 mod game;
 mod lexer;
 mod read;
+mod rounds;
 mod selftest;
 mod solve;
 mod verify;

@@ -3,7 +3,7 @@
 use crate::game::{Game, Specs};
 use crate::read::{self, Solution};
 use crate::verify::{self, NoSolution, kept};
-use crate::{solve, write};
+use crate::{cycles, solve, write};
 use std::process::ExitCode;
 
 /// Numbers from a fixed seed (splitmix64).
@@ -86,6 +86,18 @@ fn fault(random: &mut Random) -> Option<String> {
         let (fast, slow) = (verify::check(&game, &solution), plain(&game, &solution));
         if fast != slow {
             return Some(format!("verify: {fast:?} and {slow:?}\n{}", shown()));
+        }
+        // the search by levels agrees, from the beginning and after some rounds
+        let found = |v: Option<u32>| v.map_or(Ok(()), |v| Err(NoSolution::Cycle(game.ids[v as usize])));
+        let looks = [0, 1 + random.below(20) as usize];
+        if !matches!(slow, Ok(()) | Err(NoSolution::Cycle(_))) {
+            continue;
+        }
+        for looks in looks {
+            let levels = found(cycles::least_after(&game, &solution, looks));
+            if levels != slow {
+                return Some(format!("after {looks} looks: {levels:?} and {slow:?}\n{}", shown()));
+            }
         }
     }
     None

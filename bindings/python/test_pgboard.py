@@ -3,7 +3,9 @@
 import ctypes
 import ctypes.util
 import doctest
+import itertools
 import os
+import pathlib
 import pickle
 import random
 import re
@@ -11,7 +13,10 @@ import shutil
 import signal
 import subprocess
 import sys
+import tempfile
 import threading
+import time
+import typing
 import unittest
 from array import array
 
@@ -31,8 +36,16 @@ CSR = array("B", [0, 1]), array("I", [2, 1]), array("I", [0, 2, 3]), array("I", 
 GAME = "9 1 1 9; 3 2 0 3, 9;"
 
 
+HERE = os.path.dirname(os.path.abspath(__file__))
+HEADER = pathlib.Path(HERE, "..", "..", "include", "pgboard.h")
+# the proved program, which gets the same games as text
+PROGRAM = os.environ.get("PGBOARD_PROGRAM")
+# a call on more bytes than this is made by a child process
+SMALL = pgboard.library.SMALL
+
+
 def random_game(numbers):
-    size = numbers.randint(1, 12)
+    size = numbers.choice([*range(1, 12), 50, 100])
     owners = [numbers.randint(0, 1) for _ in range(size)]
     priorities = [numbers.randint(0, 5) for _ in range(size)]
     return owners, priorities, [numbers.sample(range(size), numbers.randint(1, min(3, size))) for _ in range(size)]
@@ -42,12 +55,75 @@ def text_of(owners, priorities, successors):
     return "".join(f"{v} {p} {o} {','.join(map(str, row))};\n" for v, (o, p, row) in enumerate(zip(owners, priorities, successors)))
 
 
-def python(program, **env):
-    """Runs a program in a Python of its own, in this folder."""
-    here = os.path.dirname(os.path.abspath(__file__))
-    return subprocess.Popen(
-        [sys.executable, "-B", "-c", program], cwd=here, env={**os.environ, **env}, stdout=subprocess.PIPE, stderr=subprocess.PIPE, text=True
-    )
+def csr_of(owners, priorities, successors):
+    starts = [0, *itertools.accumulate(map(len, successors))]
+    return array("B", owners), array("I", priorities), array("I", starts), array("I", itertools.chain(*successors))
+
+
+def solution_text(winners, choices):
+    return "".join(f"{v} {w}{'' if c is None else f' {c}'};\n" for v, (w, c) in enumerate(zip(winners, choices)))
+
+
+def by_program(*words, files):
+    """The status and the output of the program, with these texts as files."""
+    with tempfile.TemporaryDirectory() as folder:
+        for name, text in files.items():
+            pathlib.Path(folder, name).write_text(text, encoding="ascii")
+        ran = subprocess.run([PROGRAM, *words, *files], cwd=folder, stdin=subprocess.DEVNULL, stdout=subprocess.PIPE, timeout=60, check=False)
+    return ran.returncode, ran.stdout.decode("ascii")
+
+
+def winners_by_program(game):
+    lines = by_program("solve", "--winners", files={"game": text_of(*game)})[1].splitlines()[1:]
+    return [int(line.rstrip(";").split()[1]) for line in lines]
+
+
+def python(program, cwd=HERE, **env):
+    """Runs a program in a Python of its own, as the leader of a group of processes."""
+    env = {name: value for name, value in {**os.environ, **env}.items() if value}
+    how = {"stdout": subprocess.PIPE, "stderr": subprocess.PIPE, "text": True, "start_new_session": True}
+    return subprocess.Popen([sys.executable, "-B", "-c", program], cwd=cwd, env=env, **how)
+
+
+# a game of which the library's call never ends, and which a signal does not wake: a lock that is taken already
+ENDLESS = """import ctypes, os, signal, sys, threading, time, pgboard
+from concurrent.futures import ThreadPoolExecutor
+# (a shell has what it runs in the background ignore the interrupt)
+signal.signal(signal.SIGINT, signal.default_int_handler)
+libc, lock = ctypes.CDLL(None), ctypes.create_string_buffer(64)
+libc.pthread_mutex_lock(lock)
+class Endless:
+    def pgboard_solve(*arguments):
+        return libc.pthread_mutex_lock(lock)
+pgboard.library.LIBRARY = Endless
+LARGE = [0] * 200, [0] * 200, [[0]] * 200
+def children():
+    return open(f"/proc/self/task/{threading.get_native_id()}/children").read().split()
+def interrupt(kill, target):
+    def later():
+        time.sleep(0.3)
+        interrupt.sent = time.monotonic()
+        kill(target, signal.SIGINT)
+    threading.Thread(target=later).start()
+def has_ended():
+    late = time.monotonic() - interrupt.sent
+    time.sleep(0.1)
+    print("interrupted", late < 1, len(os.listdir("/proc/self/task")), children(), flush=True)
+"""
+
+
+# the class of each answer of the header
+CLASSES = {
+    "MEMORY": "OutOfMemory", "LENGTHS": "BadLengths", "ROW": "BadRow", "OWNER": "BadOwner", "PRIORITY": "BadPriority",
+    "SOLUTION": "BadResults", "WINNER": "BadWinner", "RESULTS": "BadResults", "NO_VERTEX": "NoVertex",
+    "TOO_MANY_VERTICES": "TooManyVertices", "TWICE": "SpecifiedTwice", "NO_SUCCESSOR": "NoSuccessor", "TOO_MANY_EDGES": "TooManyEdges",
+    "UNKNOWN": "UnknownSuccessor", "NO_CHOICE_AT": "NoChoice", "BAD_CHOICE": "BadChoice", "LEAVES": "Leaves", "CYCLE": "BadCycle",
+    "KNOWN_CHOICE": "KnownChoice", "KNOWN_CYCLE": "KnownCycle", "KNOWN_LOST": "KnownLost", "KNOWN_LEAVES": "KnownLeaves",
+    "GAME_TOO_LONG": "TextTooLong", "GAME_LEXICAL": "NoToken", "GAME_SYNTAX": "NotExpected", "GAME_NUMBER": "NumberTooLarge",
+    "GAME_OWNER": "NoPlayer", "SOLUTION_TOO_LONG": "TextTooLong", "SOLUTION_LEXICAL": "NoToken", "SOLUTION_SYNTAX": "NotExpected",
+    "SOLUTION_NUMBER": "NumberTooLarge", "SOLUTION_WINNER": "NoPlayer", "SOLUTION_STRANGER": "Stranger",
+    "SOLUTION_TWICE": "WrittenTwice", "SOLUTION_MISSING": "NotWritten",
+}  # fmt: skip
 
 
 class Tests(unittest.TestCase):
@@ -66,8 +142,44 @@ class Arrays(Tests):
             game = random_game(random.Random(seed))
             winners, choices = pgboard.solve(*game)
             pgboard.verify(*game, winners, choices)
-            lines = [f"{v} {w}{'' if c is None else f' {c}'};\n" for v, (w, c) in enumerate(zip(winners, choices))]
-            self.assertEqual(pgboard.solve_text(text_of(*game)), f"paritysol {len(lines) - 1};\n{''.join(lines)}")
+            self.assertEqual(pgboard.solve_text(text_of(*game)), f"paritysol {len(winners) - 1};\n{solution_text(winners, choices)}")
+
+    @unittest.skipUnless(PROGRAM, "PGBOARD_PROGRAM names no program")
+    def test_agrees_with_the_program(self):
+        for seed in range(60):
+            game = random_game(random.Random(seed))
+            winners, choices = pgboard.solve(*game)
+            self.assertEqual(winners, winners_by_program(game), game)
+            files = {"game": text_of(*game), "solution": solution_text(winners, choices)}
+            self.assertEqual(by_program("verify", files=files), (0, "ok\n"), game)
+
+    @unittest.skipUnless(PROGRAM, "PGBOARD_PROGRAM names no program")
+    def test_refuses_what_the_program_refuses(self):
+        refused = 0
+        for seed in range(150):
+            numbers = random.Random(seed)
+            game = random_game(numbers)
+            winners, choices = pgboard.solve(*game)
+            v = numbers.randrange(len(winners))
+            if numbers.random() < 0.5:
+                winners[v] = 1 - winners[v]
+            else:
+                choices[v] = numbers.randrange(len(winners))
+            status, said = by_program("verify", files={"game": text_of(*game), "solution": solution_text(winners, choices)})
+            self.assertEqual((self.verdict(*game, winners, choices), status == 0), (said, said == "ok\n"), game)
+            refused += status
+        self.assertGreater(refused, 20)
+
+    def verdict(self, *claims):
+        """What the program would say."""
+        try:
+            pgboard.verify(*claims)
+        except pgboard.Leaves as fault:
+            return f"not a solution: {fault.at} leaves to {fault.to}\n"
+        except pgboard.NotASolution as fault:
+            words = {pgboard.NoChoice: "no choice", pgboard.BadChoice: "bad choice", pgboard.BadCycle: "bad cycle"}
+            return f"not a solution: {words[type(fault)]} at {fault.at}\n"
+        return "ok\n"
 
     def test_solves_from_what_is_known(self):
         for seed in range(100):
@@ -142,18 +254,107 @@ class Buffers(Tests):
             winners, choices = map(numpy.asarray, pgboard.solve_csr(*game))
             self.assertEqual((winners.tolist(), choices.tolist()), ([0, 1], [0, 1]))
             pgboard.verify_csr(*game, winners, choices)
-        with self.assertRaises(TypeError):
-            pgboard.solve_csr(*game[:3], game[3].astype("i8"))
+        # (what NumPy makes of a list)
+        self.assertEqual(pgboard.solve_csr(*(numpy.array(it) for it in ([0, 1], [2, 1], [0, 2, 3], [0, 1, 1]))), pgboard.solve_csr(*CSR))
 
-    def test_makes_no_copy(self):
-        view = memoryview(CSR[3])
-        address = pgboard.library.memory_of(view)
-        self.assertEqual(address, CSR[3].buffer_info()[0])
-        self.assertNotEqual(pgboard.library.memory_of(memoryview(b"")), 0)
+    def test_takes_integers_of_other_sizes(self):
+        for letter in "hHiIqQ":
+            wide = [array(letter, it) for it in CSR]
+            self.assertEqual(pgboard.solve_csr(*wide), pgboard.solve_csr(*CSR))
+            known = array(letter, [pgboard.NO_WINNER, 1]), array(letter, [0, 1])
+            self.assertEqual(pgboard.solve_csr(*wide, known=known), pgboard.solve_csr(*CSR))
+        for size in (3, 200):
+            # a number that fits, whose bytes are not its value
+            large = [array(letter, it) for letter, it in zip("qqqq", csr_of([1] * size, [2**31 - 1] * size, [[size - 1]] * size))]
+            self.assertEqual(pgboard.solve_csr(*large), (array("B", [1] * size), array("I", [size - 1] * size)))
+
+    def test_refuses_integers_that_do_not_fit(self):
+        def refused(fault, at, to, place, *value):
+            game = [array("q", it) for it in CSR]
+            game[place] = array("q", value)
+            self.refused(fault, at, to, pgboard.solve_csr, *game)
+
+        for far in (-1, 256, 2**32, 2**40):
+            refused(pgboard.BadOwner, 1, 0, 0, 0, far)
+        for far in (-1, 2**31, 2**32 + 1, 2**40):
+            refused(pgboard.BadPriority, 0, 0, 1, far, 1)
+        for far in (-1, -(2**40), 2, 2**32 + 1, 2**40):
+            refused(pgboard.UnknownSuccessor, 0, far, 3, 0, far, 1)
+        for letter, far in (("h", -1), ("H", 2**16 - 1), ("i", -1), ("I", 2**31 + 1), ("q", -(2**63)), ("Q", 2**63)):
+            self.refused(pgboard.UnknownSuccessor, 0, far, pgboard.solve_csr, *CSR[:3], array(letter, [0, far, 1]))
+        for far in (-1, 4, 2**32 + 2, 2**40):
+            refused(pgboard.BadRow, 0, 0, 2, 0, far, 3)
+            refused(pgboard.BadLengths, 3, 0, 2, 0, 2, far)
+        for far in (-1, 2, 2**8, 2**32, 2**40):
+            self.refused(pgboard.BadWinner, 1, 0, pgboard.solve_csr, *CSR, known=(array("q", [0, far]), array("q", [0, 1])))
+        for far in (-1, 2**32 - 2, 2**32, 2**40):
+            self.refused(pgboard.BadChoice, 0, 0, pgboard.verify_csr, *CSR, array("q", [0, 1]), array("q", [far, 1]))
+
+    def test_refuses_the_other_order_of_bytes(self):
+        for at, kind in enumerate((ctypes.c_uint16, ctypes.c_uint32, ctypes.c_int32, ctypes.c_int64)):
+            swapped = (kind.__ctype_be__ * len(CSR[at]))(*CSR[at])
+            with self.subTest(at=at), self.assertRaisesRegex(TypeError, f"integers in one dimension is needed, not one of items '>.' of {ctypes.sizeof(kind)} bytes$"):
+                pgboard.solve_csr(*CSR[:at], swapped, *CSR[at + 1 :])
+
+    @unittest.skipUnless(numpy, "NumPy is not installed")
+    def test_refuses_the_other_order_of_bytes_in_numpy(self):
+        for kind in ">u4", ">i4", ">i8":
+            with self.subTest(kind), self.assertRaisesRegex(TypeError, "^indices: .* not one of items '>"):
+                pgboard.solve_csr(*CSR[:3], numpy.array(CSR[3], kind))
+
+    @unittest.skipUnless(numpy, "NumPy is not installed")
+    def test_results_are_arrays_of_numpy_without_a_copy(self):
+        found = pgboard.solve_csr(*(numpy.array(it) for it in csr_of(*TWO)))
+        for held, kind in ((found.winners, "u1"), (found.choices, "u4")):
+            array_of = numpy.asarray(held)
+            self.assertEqual((array_of.dtype, array_of.tolist()), (numpy.dtype(kind), [0, 1]))
+            array_of[0] = 7
+            self.assertEqual(held[0], 7)
+
+    @unittest.skipUnless(numpy, "NumPy is not installed")
+    def test_says_that_an_array_has_gaps(self):
+        every_other = numpy.array([0, 9, 1, 9, 1, 9], "u4")[::2]
+        with self.assertRaisesRegex(TypeError, "^indices: .* not one with gaps between its items: numpy.ascontiguousarray copies it$"):
+            pgboard.solve_csr(*CSR[:3], every_other)
+        with self.assertRaisesRegex(TypeError, "^indices: .* not one of 2 dimensions$"):
+            pgboard.solve_csr(*CSR[:3], numpy.zeros((2, 2), "u4"))
+
+    def test_leaves_what_is_given_as_it_is(self):
+        for size in (2, 200):
+            game = csr_of([0] * size, [2] * size, [[0]] * size)
+            claims = array("B", [0] * size), array("I", [0] * size)
+            before = [it[:] for it in (*game, *claims)]
+            self.assertEqual(pgboard.solve_csr(*game, known=claims), claims)
+            pgboard.verify_csr(*game, *claims)
+            self.assertEqual([*game, *claims], before)
+
+    def test_another_thread_may_change_what_is_given(self):
+        # the other thread makes a row that ends far outside, while the call reads them
+        program = (
+            "import threading, time, pgboard\n"
+            "from array import array\n"
+            "size, ends = 100000, time.monotonic() + 2\n"
+            "game = array('B', bytes(size)), array('I', [0] * size), array('I', range(size + 1)), array('I', range(size))\n"
+            "def change():\n"
+            "    while time.monotonic() < ends:\n"
+            "        for end in 4000000000, 50000:\n"
+            "            game[2][50000] = end\n"
+            "            time.sleep(0.0003)\n"
+            "thread = threading.Thread(target=change)\n"
+            "thread.start()\n"
+            "while time.monotonic() < ends:\n"
+            "    try:\n"
+            "        pgboard.verify_csr(*game, game[0], game[3])\n"
+            "    except pgboard.BadRow:\n"
+            "        pass\n"
+            "thread.join()\n"
+        )
+        run = python(program)
+        self.assertEqual((run.communicate(timeout=60), run.returncode), (("", ""), 0))
 
     def test_refuses_other_items(self):
-        for at, other in [(0, [0, 1]), (0, array("I", [0, 1])), (1, array("Q", [2, 1])), (1, array("f", [2, 1])), (2, memoryview(bytes(24)).cast("I")[::2]), (3, "01")]:
-            with self.subTest(at=at, other=other), self.assertRaises(TypeError):
+        for at, other in [(0, [0, 1]), (0, b""[:0].join), (1, array("f", [2, 1])), (1, array("d", [2, 1])), (2, memoryview(bytes(24)).cast("I")[::2]), (3, "01")]:
+            with self.subTest(at=at, other=other), self.assertRaisesRegex(TypeError, f"^{['owners', 'priorities', 'indptr', 'indices'][at]}: a contiguous buffer"):
                 pgboard.solve_csr(*CSR[:at], other, *CSR[at + 1 :])
 
     def test_refuses_games(self):
@@ -188,15 +389,38 @@ class Faults(Tests):
             again = pickle.loads(pickle.dumps(it))
             self.assertEqual((type(again), str(again), vars(again)), (type(it), str(it), vars(it)))
 
-    def test_each_answer_of_the_header_has_one(self):
-        path = os.path.join(os.path.dirname(os.path.abspath(__file__)), "..", "..", "include", "pgboard.h")
-        if not os.path.exists(path):
-            self.skipTest("the header is not here")
-        with open(path, encoding="utf-8") as file:
-            header = file.read()
+    @unittest.skipUnless(HEADER.exists(), "the header is not here")
+    def test_each_answer_of_the_header_has_its_own(self):
+        header = HEADER.read_text(encoding="utf-8")
         answers = header[header.index("#define PGBOARD_OK") : header.index("#define PGBOARD_ARRAY_")]
-        numbers = {int(it) for it in re.findall(r"(?m)^#define PGBOARD_\w+ (\d+)u", answers)}
-        self.assertEqual(set(pgboard.faults.FAULTS), numbers - {0, 9, 50})
+        numbers = {name: int(number) for name, number in re.findall(r"(?m)^#define PGBOARD_(\w+) (\d+)u", answers)}
+        self.assertEqual({numbers[name]: kind for name, kind in CLASSES.items()}, {number: it.__name__ for number, it in pgboard.faults.FAULTS.items()})
+        self.assertEqual(numbers.keys() - CLASSES.keys(), {"OK", "SIZE", "CAPACITY"})
+
+    def test_texts_of_what_is_known_name_the_players(self):
+        # (vertex 1 of Odd may only go to vertex 0 of Even, where Even stays; each player is known to win what he owns)
+        even, odd = 0, 1
+        with self.assertRaises(pgboard.KnownLost) as found:
+            pgboard.solve([even, odd], [2, 1], [[0], [0]], known=([even, odd], [0, 0]))
+        self.assertEqual(str(found.exception), f"vertex 1 is known for player {odd}, and player {even} attracts it to what is known for him")
+
+    def test_texts_name_places_and_vertices(self):
+        texts = {
+            pgboard.BadLengths(3): "the successors do not fit the owners: there is one owner, one priority and one row of successors for each vertex",
+            pgboard.BadLengths(1): "the priorities do not fit the owners: there is one owner, one priority and one row of successors for each vertex",
+            pgboard.BadResults(4): "the winners have not one entry for each vertex",
+            pgboard.BadResults(5): "the choices have not one entry for each vertex",
+            pgboard.NoSuccessor(7): "vertex 7 has no successor",
+            pgboard.UnknownSuccessor(7, 9): "vertex 7: the successor 9 is no vertex",
+            pgboard.Leaves(7, 9): "vertex 7: a kept edge leads to 9, which the other player wins",
+            pgboard.KnownLeaves(7, 9): "vertex 7: a kept edge leads to 9, which is not known for the same player",
+            pgboard.NoToken(7): "byte 7: no token",
+            pgboard.TooManyVertices(): "there are more than 1048576 vertices",
+            pgboard.TooManyEdges(): "there are more than 16777216 edges",
+            pgboard.TextTooLong(): "the text is longer than 268435456 bytes",
+        }
+        for fault, text in texts.items():
+            self.assertEqual(str(fault), text)
 
 
 class Texts(Tests):
@@ -205,11 +429,38 @@ class Texts(Tests):
         self.assertEqual(pgboard.tidy_text(GAME.encode()), "parity 9;\n3 2 0 3,9;\n9 1 1 9;\n")
         pgboard.verify_text(GAME, b"9 1 9; 3 0 3;")
 
-    def test_asks_for_capacity(self):
-        self.assertEqual(pgboard.written("pgboard_tidy_text", GAME, capacity=0), pgboard.tidy_text(GAME))
+    def test_no_text_is_longer_than_its_buffer(self):
+        last = 2**31 - 1
+        games = [f"{last} {last} 1 {last};", "".join(f"{v} 0 {v % 2} {v};" for v in range(10)), "".join(f"{v} 0 0 {v};" for v in range(3000))]
+        games += ["".join(f"{last - v} 0 0 {last};" for v in range(200)), "parity 9;0 0 0 0;", "0 0 0 0,0,0;"]
+        games += ["".join(line.strip() for line in text_of(*random_game(random.Random(seed))).splitlines()) for seed in range(50)]
+        for game in games:
+            tidy, solution = pgboard.tidy_text(game), pgboard.solve_text(game)
+            self.assertEqual(pgboard.tidy_text(tidy), tidy)
+            pgboard.verify_text(game, solution)
 
     def test_names_are_any_bytes(self):
         self.assertEqual(pgboard.tidy_text(b'0 0 0 0 "\xff";'), "parity 0;\n0 0 0 0;\n")
+
+    def test_what_no_text_can_have_is_kept(self):
+        # (Python's stand-ins for bytes that are no UTF-8, as in names of files)
+        self.refused(pgboard.NoToken, 7, 0, pgboard.solve_text, "0 0 0 0\udcff;")
+        self.refused(pgboard.NoToken, 5, 0, pgboard.verify_text, "0 0 0 0;", "0 0 0\udcff;")
+        self.assertEqual(pgboard.tidy_text('0 0 0 0 "\udcff";'), "parity 0;\n0 0 0 0;\n")
+        for call in (pgboard.solve_text, pgboard.tidy_text):
+            with self.assertRaises(ValueError):
+                call('0 0 0 0 "\ud800";')
+
+    def test_solves_a_file(self):
+        with tempfile.TemporaryDirectory() as folder:
+            path = pathlib.Path(folder, "game.pg")
+            path.write_bytes(GAME.encode() + b' 4 1 0 9 "\xff";')
+            for it in (path, str(path), os.fsencode(path)):
+                self.assertEqual(pgboard.solve_file(it), "paritysol 9;\n3 0 3;\n4 1;\n9 1 9;\n")
+            path.write_text("0 0 0 ?;", encoding="ascii")
+            self.refused(pgboard.NoToken, 6, 0, pgboard.solve_file, path)
+            with self.assertRaises(FileNotFoundError):
+                pgboard.solve_file(f"{path}.gz")
 
     def test_takes_bytes_or_str_alone(self):
         for other in (None, 5, [48], bytearray(b"0 0 0 0;"), memoryview(b"0 0 0 0;")):
@@ -261,10 +512,52 @@ class Package(Tests):
     def test_examples(self):
         self.assertEqual(doctest.testmod(pgboard).failed, 0)
 
+    def test_types_can_be_asked_for(self):
+        for name in pgboard.__all__:
+            it = getattr(pgboard, name)
+            if isinstance(it, type) or callable(it) and it is not pgboard.Buffer:
+                typing.get_type_hints(it)
+        self.assertEqual(typing.get_type_hints(pgboard.solve_csr)["return"], pgboard.Solution)
+        self.assertEqual(pgboard.Solution._fields, ("winners", "choices"))
+
+    def mypy(self, *words):
+        ran = subprocess.run(["mypy", "--strict", "--cache-dir", os.devnull, *words], capture_output=True, text=True, env={**os.environ, "MYPYPATH": os.path.dirname(os.path.dirname(pgboard.__file__))})
+        return ran.returncode, ran.stdout + ran.stderr
+
     @unittest.skipUnless(shutil.which("mypy"), "mypy is not installed")
     def test_types(self):
-        run = subprocess.run(["mypy", "--strict", "--cache-dir", os.devnull, os.path.dirname(pgboard.__file__)], capture_output=True, text=True)
-        self.assertEqual(run.returncode, 0, run.stdout + run.stderr)
+        status, said = self.mypy(os.path.dirname(pgboard.__file__))
+        self.assertEqual(status, 0, said)
+
+    @unittest.skipUnless(shutil.which("mypy"), "mypy is not installed")
+    def test_types_of_buffers(self):
+        head = "from array import array\nimport pgboard\nclass Mine:\n    def __buffer__(self, flags: int, /) -> memoryview: return memoryview(b'')\n"
+        taken = ["b''", "bytearray()", "memoryview(b'')", "array('I')", "Mine()"]
+        if numpy and "site-packages" not in numpy.__file__:
+            taken.append("numpy.zeros(3)")
+            head += "import numpy\n"
+        refused = ["[0, 1]", "3", "'text'", "None", "object()"]
+        call = "pgboard.solve_csr(b'', {0}, {0}, b'', known=(b'', {0}))"
+        status, said = self.mypy("-c", head + "\n".join(map(call.format, taken)))
+        self.assertEqual(status, 0, said)
+        status, said = self.mypy("-c", head + "\n".join(map(call.format, refused)))
+        lines = set(map(int, re.findall(r"(?m)^<string>:(\d+): error: Argument", said)))
+        first = head.count("\n") + 1
+        self.assertEqual(lines, set(range(first, first + len(refused))), said)
+        status, said = self.mypy("-c", f"{head}reveal_type(pgboard.solve_csr(b'', b'', b'', b'').winners)")
+        self.assertRegex(said, 'Revealed type is "array.array\\[builtins.int')
+
+    def test_finds_the_library_of_the_system(self):
+        with tempfile.TemporaryDirectory() as folder:
+            shutil.copytree(os.path.dirname(pgboard.__file__), f"{folder}/python/pgboard", ignore=lambda *_: {"libpgboard.so"})
+            here = {"cwd": f"{folder}/python", "PYTHONPATH": "", "PGBOARD_LIBRARY": "", "LD_LIBRARY_PATH": folder}
+            call = "import pgboard; print(pgboard.library.LIBRARY._name, pgboard.solve([0], [0], [[0]]))"
+            if not ctypes.util.find_library("pgboard"):
+                self.assertIn("ImportError: pgboard: its library can't be loaded", python(call, **here).communicate(timeout=60)[1])
+            os.symlink(pgboard.library.path_of_library(), f"{folder}/libpgboard.so.0")
+            self.assertEqual(python(call, **here).communicate(timeout=60), ("libpgboard.so.0 ([0], [0])\n", ""))
+            os.symlink(pgboard.library.path_of_library(), f"{folder}/python/pgboard/libpgboard.so")
+            self.assertEqual(python(call, **here).communicate(timeout=60), (f"{folder}/python/pgboard/libpgboard.so ([0], [0])\n", ""))
 
 
 class Calls(Tests):
@@ -277,27 +570,92 @@ class Calls(Tests):
             it.join()
         self.assertEqual(found, [([0, 1], [0, 1])] * 4)
 
+    def run_of(self, program):
+        run = python(ENDLESS + program)
+        out, err = run.communicate(timeout=60)
+        self.assertEqual((err, run.returncode), ("", 0), out)
+        return out
+
     def test_an_interrupt_ends_a_long_call(self):
-        # the library's call is replaced by one that would last for a minute
         program = (
-            "import signal, time, pgboard\n"
-            # (a shell has what it runs in the background ignore the interrupt)
-            "signal.signal(signal.SIGINT, signal.default_int_handler)\n"
-            "class Slow:\n"
-            "    def pgboard_solve(*arguments):\n"
-            "        print('begun', flush=True)\n"
-            "        time.sleep(60)\n"
-            "pgboard.library.LIBRARY = Slow()\n"
-            "try:\n"
-            "    pgboard.solve([0], [0], [[0]])\n"
-            "except KeyboardInterrupt:\n"
-            "    print('interrupted', flush=True)\n"
+            "for _ in range(4):\n"
+            "    try:\n"
+            "        interrupt(os.kill, os.getpid())\n"
+            "        pgboard.solve(*LARGE)\n"
+            "    except KeyboardInterrupt:\n"
+            "        has_ended()\n"
         )
-        run = python(program)
-        self.assertEqual(run.stdout.readline(), "begun\n")
-        run.send_signal(signal.SIGINT)
-        out, err = run.communicate(timeout=20)
-        self.assertEqual((out, err, run.returncode), ("interrupted\n", "", 0))
+        self.assertEqual(self.run_of(program), "interrupted True 1 []\n" * 4)
+
+    def test_an_interrupt_at_a_terminal_ends_the_calls_of_all_threads(self):
+        # (which gets it to each process of the group)
+        program = (
+            "try:\n"
+            "    with ThreadPoolExecutor(3) as pool:\n"
+            "        calls = [pool.submit(pgboard.solve, *LARGE) for _ in range(3)]\n"
+            "        interrupt(os.killpg, os.getpid())\n"
+            "        calls[0].result()\n"
+            "except KeyboardInterrupt:\n"
+            "    has_ended()\n"
+            "print([type(it.exception()).__name__ for it in calls])\n"
+        )
+        self.assertEqual(self.run_of(program), f"interrupted True 1 []\n{['KeyboardInterrupt'] * 3}\n")
+
+    def test_what_a_handler_raises_ends_a_long_call(self):
+        program = (
+            "def late(number, frame):\n"
+            "    raise TimeoutError\n"
+            "signal.signal(signal.SIGALRM, late)\n"
+            "signal.setitimer(signal.ITIMER_REAL, 0.2)\n"
+            "try:\n"
+            "    pgboard.solve(*LARGE)\n"
+            "except TimeoutError:\n"
+            "    print(children())\n"
+        )
+        self.assertEqual(self.run_of(program), "[]\n")
+
+    def test_a_call_goes_on_where_interrupts_are_ignored(self):
+        program = (
+            "signal.signal(signal.SIGINT, signal.SIG_IGN)\n"
+            "interrupt(os.killpg, os.getpid())\n"
+            "threading.Timer(0.8, lambda: [os.kill(int(it), signal.SIGKILL) for it in children_of_main()]).start()\n"
+            "def children_of_main(): return open(f'/proc/self/task/{os.getpid()}/children').read().split()\n"
+            "begun = time.monotonic()\n"
+            "try:\n"
+            "    pgboard.solve(*LARGE)\n"
+            "except pgboard.OutOfMemory:\n"
+            "    print(time.monotonic() - begun > 0.7)\n"
+        )
+        self.assertEqual(self.run_of(program), "True\n")
+
+    def test_a_long_call_ends_with_its_process(self):
+        run = python(f"{ENDLESS}threading.Timer(0.3, lambda: print(open(f'/proc/self/task/{{os.getpid()}}/children').read(), flush=True)).start()\npgboard.solve(*LARGE)")
+        child = int(run.stdout.readline())
+        run.kill()
+        run.communicate(timeout=60)
+        ends = time.monotonic() + 5
+        while os.path.exists(f"/proc/{child}") and time.monotonic() < ends:
+            if " Z " in pathlib.Path(f"/proc/{child}/stat").read_text(encoding="ascii"):
+                break
+            time.sleep(0.01)
+        self.assertLess(time.monotonic(), ends)
+
+    def test_a_call_whose_process_fails_says_so(self):
+        program = (
+            "class Fails:\n"
+            "    def pgboard_solve(*arguments):\n"
+            "        os.kill(os.getpid(), signal.SIGSEGV)\n"
+            "pgboard.library.LIBRARY = Fails\n"
+            "try:\n"
+            "    pgboard.solve(*LARGE)\n"
+            "except RuntimeError as error:\n"
+            "    print(error)\n"
+        )
+        self.assertEqual(self.run_of(program), "a process of pgboard was ended by signal 11\n")
+
+    def test_works_where_children_are_not_waited_for(self):
+        program = "signal.signal(signal.SIGCHLD, signal.SIG_IGN)\nimport importlib\nimportlib.reload(pgboard.library)\nimportlib.reload(pgboard)\nprint(pgboard.solve(*LARGE)[0] == [0] * 200)\n"
+        self.assertEqual(self.run_of(program), "True\n")
 
 
 @unittest.skipUnless(networkx, "networkx is not installed")
@@ -314,7 +672,54 @@ class Graphs(Tests):
         self.assertEqual(dict(solved.nodes(data="choice")), {"stay": "stay", "lose": "lose"})
         self.assertNotIn("winner", self.graph.nodes["stay"])
 
+    @unittest.skipUnless(PROGRAM, "PGBOARD_PROGRAM names no program")
+    def test_agrees_with_the_program(self):
+        for seed in range(60):
+            game = random_game(random.Random(seed))
+            order = random.Random(seed).sample(range(len(game[0])), len(game[0]))
+            graph = networkx.DiGraph()
+            for v in order:
+                graph.add_node(f"v{v}", owner=game[0][v], priority=game[1][v])
+            graph.add_edges_from((f"v{v}", f"v{to}") for v, row in enumerate(game[2]) for to in row)
+            found = pgboard.solve_graph(graph).nodes
+            winners = [found[f"v{v}"]["winner"] for v in range(len(order))]
+            choices = [int(found[f"v{v}"]["choice"][1:]) if "choice" in found[f"v{v}"] else None for v in range(len(order))]
+            self.assertEqual(winners, winners_by_program(game), game)
+            files = {"game": text_of(*game), "solution": solution_text(winners, choices)}
+            self.assertEqual(by_program("verify", files=files), (0, "ok\n"), game)
+            self.assertEqual([w == o for w, o in zip(winners, game[0])], [it is not None for it in choices], game)
+
+    def test_what_was_found_before_is_gone(self):
+        solved = pgboard.solve_graph(self.graph)
+        solved.nodes["lose"].update(owner=0, note="kept")
+        again = pgboard.solve_graph(solved)
+        self.assertEqual(again.nodes["lose"], {"owner": 0, "priority": 1, "winner": 1, "note": "kept"})
+        self.assertEqual(again.nodes["stay"], {"owner": 0, "priority": 2, "winner": 0, "choice": "stay"})
+
+    def test_attributes_have_the_names_that_are_given(self):
+        for _, data in self.graph.nodes(data=True):
+            data.update(player=data.pop("owner"), colour=data.pop("priority"), choice="mine", winner="mine")
+        solved = pgboard.solve_graph(self.graph, owner="player", priority="colour", winner="w", choice="c")
+        self.assertEqual(solved.nodes["stay"], {"player": 0, "colour": 2, "choice": "mine", "winner": "mine", "w": 0, "c": "stay"})
+
+    def test_faults_name_their_node(self):
+        self.graph.add_node(("a", 1), owner=0, priority=0)
+        with self.assertRaisesRegex(pgboard.NoSuccessor, r"^node \('a', 1\) has no successor$") as found:
+            pgboard.solve_graph(self.graph)
+        self.assertEqual((found.exception.at, found.exception.node), (2, ("a", 1)))
+        for name, fault in (("owner", pgboard.BadOwner), ("priority", pgboard.BadPriority)):
+            for value in (2**31, 2**40, -1):
+                self.graph.nodes["lose"][name], kept = value, self.graph.nodes["lose"][name]
+                with self.assertRaisesRegex(fault, f"^node 'lose': the {name} is ") as found:
+                    pgboard.solve_graph(self.graph)
+                self.assertEqual(str(pickle.loads(pickle.dumps(found.exception))), str(found.exception))
+                self.graph.nodes["lose"][name] = kept
+        with self.assertRaisesRegex(pgboard.NoVertex, "^there is no vertex$"):
+            pgboard.solve_graph(networkx.DiGraph())
+
     def test_a_missing_attribute_is_named(self):
+        with self.assertRaisesRegex(pgboard.MissingAttribute, "^node 'stay' has no attribute 'rank'$"):
+            pgboard.solve_graph(self.graph, priority="rank")
         del self.graph.nodes["lose"]["priority"]
         with self.assertRaisesRegex(pgboard.MissingAttribute, "^node 'lose' has no attribute 'priority'$"):
             pgboard.solve_graph(self.graph)

@@ -1,7 +1,6 @@
 /* Goes through the calls of include/pgboard.h: each answer, what is reported beside it, and that nothing else is written.
  * With the word `games`, reads games as numbers from standard input (n and m, owners, priorities, starts, targets), and
- * writes for each the winners and the choices that it got. Else the words are the limits of a game: vertices, edges,
- * priorities; the last line is 'N passed, M failed'. Linked with -Wl,--wrap=malloc,--wrap=realloc, so that memory can
+ * writes for each the winners and the choices that it got. The last line is 'N passed, M failed'. Linked with -Wl,--wrap=malloc,--wrap=realloc, so that memory can
  * be refused. */
 #include <stdio.h>
 #include <stdlib.h>
@@ -81,14 +80,28 @@ static struct pgboard_report report;
 /* The structs over these arrays. */
 static struct pgboard_game arrays_of(void)
 {
-    struct pgboard_game it = {game.game_size, game.owners,     game.owners_len, game.priorities, game.priorities_len,
-                              game.starts,    game.starts_len, game.targets,    game.targets_len};
+    struct pgboard_game it = {.size = game.game_size};
+    it.owners = game.owners, it.owners_len = game.owners_len;
+    it.priorities = game.priorities, it.priorities_len = game.priorities_len;
+    it.starts = game.starts, it.starts_len = game.starts_len;
+    it.targets = game.targets, it.targets_len = game.targets_len;
     return it;
 }
 
 static struct pgboard_results results_of(void)
 {
-    struct pgboard_results it = {game.results_size, game.winners, game.winners_len, game.choices, game.choices_len};
+    struct pgboard_results it = {.size = game.results_size};
+    it.winners = game.winners, it.winners_len = game.winners_len;
+    it.choices = game.choices, it.choices_len = game.choices_len;
+    return it;
+}
+
+static struct pgboard_solution solution_of(const uint8_t *winners, size_t winners_len, const uint32_t *choices,
+                                           size_t choices_len)
+{
+    struct pgboard_solution it = {.size = game.solution_size};
+    it.winners = winners, it.winners_len = winners_len;
+    it.choices = choices, it.choices_len = choices_len;
     return it;
 }
 
@@ -104,8 +117,7 @@ static uint32_t solve(void)
 static uint32_t check(void)
 {
     struct pgboard_game it = arrays_of();
-    struct pgboard_solution solution = {game.solution_size, game.winners, game.winners_len, game.choices,
-                                        game.choices_len};
+    struct pgboard_solution solution = solution_of(game.winners, game.winners_len, game.choices, game.choices_len);
     report.at = report.to = 99;
     return pgboard_check(&it, &solution, &report);
 }
@@ -113,8 +125,8 @@ static uint32_t check(void)
 static uint32_t solve_known(void)
 {
     struct pgboard_game it = arrays_of();
-    struct pgboard_solution known = {game.solution_size, game.known_winners, game.known_len, game.known_choices,
-                                     game.known_choices_len};
+    struct pgboard_solution known =
+        solution_of(game.known_winners, game.known_len, game.known_choices, game.known_choices_len);
     struct pgboard_results results = results_of(), same = results;
     report.at = report.to = 99;
     uint32_t answer = pgboard_solve_known(&it, &known, &results, &report);
@@ -181,11 +193,11 @@ static void refuses_arrays(void)
     EXPECT(all_refuse(PGBOARD_OWNER, 0, 0));
     two();
     game.owners[1] = 255;
-    game.priorities[0] = 2147483648u;
+    game.priorities[0] = PGBOARD_MAX_NUMBER + 1u;
     EXPECT(all_refuse(PGBOARD_OWNER, 1, 0));
     game.owners[1] = 1;
     EXPECT(all_refuse(PGBOARD_PRIORITY, 0, 0));
-    game.priorities[0] = 2147483647u;
+    game.priorities[0] = PGBOARD_MAX_NUMBER;
     EXPECT(solve() == PGBOARD_OK && game.winners[0] == 1);
 }
 
@@ -362,8 +374,35 @@ static int not_verified(const char *text, const char *solution, uint32_t answer,
 
 static const char *const GAME = "9 1 1 9; 3 2 0 3, 9 \"a name\";";
 
+/* Whether what both calls write of a text of so many lines fits into the bound, with no byte beyond. */
+static int is_bounded(const char *text)
+{
+    writer *const calls[] = {pgboard_solve_text, pgboard_tidy_text};
+    size_t bound = PGBOARD_TEXT_BOUND(strlen(text)), size = 0;
+    uint8_t *into = calloc(bound, 1);
+    int holds = into != NULL;
+    for (int k = 0; k < 2 && holds; k++)
+        holds = calls[k]((const uint8_t *)text, strlen(text), into, bound, &size, &report) == PGBOARD_OK && size <= bound;
+    free(into);
+    return holds;
+}
+
+static void writes_within_the_bound(void)
+{
+    static char text[9 * 1000];
+    char *end = text;
+    EXPECT(is_bounded("2147483647 2147483647 1 2147483647;"));
+    for (unsigned v = 0; v < 10; v++)
+        end += sprintf(end, "%u 0 0 %u;", v, v);
+    EXPECT(is_bounded(text));
+    for (unsigned v = 10; v < 500; v++)
+        end += sprintf(end, "%u 0 0 0;", v);
+    EXPECT(is_bounded(text));
+}
+
 static void takes_texts(void)
 {
+    writes_within_the_bound();
     EXPECT(writes(pgboard_solve_text, GAME, "paritysol 9;\n3 0 3;\n9 1 9;\n"));
     EXPECT(writes(pgboard_tidy_text, GAME, "parity 9;\n3 2 0 3,9;\n9 1 1 9;\n"));
     EXPECT(verify(GAME, "9 1 9; 3 0 3;") == PGBOARD_OK && report.at == 0 && report.to == 0);
@@ -399,7 +438,7 @@ static void refuses_texts(void)
 /* Texts behind the limit are refused by their length, and never read. */
 static void refuses_long_texts(void)
 {
-    size_t size = 268435457;
+    size_t size = PGBOARD_MAX_TEXT + 1u;
     uint8_t *text = calloc(size, 1);
     uint8_t into[1];
     size_t written;
@@ -594,17 +633,18 @@ static uint32_t large(size_t n, size_t degree)
         for (size_t k = 0; k < degree; k++)
             targets[v * degree + k] = (uint32_t)k;
     }
-    struct pgboard_game it = {sizeof it, owners, n, priorities, n, starts, n + 1, targets, n * degree};
-    struct pgboard_results results = {sizeof results, winners, n, choices, n};
+    struct pgboard_game it = {.size = sizeof it, .owners = owners, .owners_len = n, .priorities = priorities, .priorities_len = n,
+                              .starts = starts, .starts_len = n + 1, .targets = targets, .targets_len = n * degree};
+    struct pgboard_results results = {.size = sizeof results, .winners = winners, .winners_len = n, .choices = choices, .choices_len = n};
     uint32_t answer = pgboard_solve(&it, &results, &report);
     free(priorities), free(starts), free(targets), free(choices), free(owners), free(winners);
     return answer;
 }
 
 /* The greatest games, of which one has a priority for each vertex, and games one past each limit. */
-static void refuses_large_games(size_t vertices, size_t edges)
+static void refuses_large_games(void)
 {
-    size_t n = 1;
+    size_t n = 1, vertices = PGBOARD_MAX_VERTICES, edges = PGBOARD_MAX_EDGES;
     while (n * n <= edges)
         n++;
     EXPECT(large(vertices + 1, 1) == PGBOARD_TOO_MANY_VERTICES && report.at == 0 && report.to == 0);
@@ -634,9 +674,10 @@ static int games(void)
             return 2;
         for (unsigned v = 0; v < n; v++)
             owners[v] = (uint8_t)wide[v];
-        struct pgboard_game it = {sizeof it, owners, n, priorities, n, starts, n + 1, targets, m};
-        struct pgboard_solution solution = {sizeof solution, winners, n, choices, n};
-        struct pgboard_results results = {sizeof results, winners, n, choices, n};
+        struct pgboard_game it = {.size = sizeof it, .owners = owners, .owners_len = n, .priorities = priorities, .priorities_len = n,
+                                  .starts = starts, .starts_len = n + 1, .targets = targets, .targets_len = m};
+        struct pgboard_solution solution = {.size = sizeof solution, .winners = winners, .winners_len = n, .choices = choices, .choices_len = n};
+        struct pgboard_results results = {.size = sizeof results, .winners = winners, .winners_len = n, .choices = choices, .choices_len = n};
         uint32_t answer = pgboard_solve(&it, &results, &report);
         uint32_t holds = pgboard_check(&it, &solution, &report);
         printf("%u %u", answer, holds);
@@ -663,8 +704,6 @@ int main(int argc, char **argv)
 {
     if (argc > 1 && strcmp(argv[1], "games") == 0)
         return games();
-    if (argc != 3)
-        return 2;
     solves();
     refuses_arrays();
     refuses_results();
@@ -680,7 +719,7 @@ int main(int argc, char **argv)
     takes_what_is_known_of_many();
     refuses_long_lists();
     refuses_memory();
-    refuses_large_games(strtoul(argv[1], NULL, 10), strtoul(argv[2], NULL, 10));
+    refuses_large_games();
     printf("%d passed, %d failed\n", passed, failed);
     return failed != 0;
 }

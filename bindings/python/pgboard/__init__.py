@@ -7,47 +7,101 @@
 Vertices are 0, 1 and so on. Player 0 is Even, who wins a play where the greatest priority seen again and again is even.
 
 The library is the file that the environment variable PGBOARD_LIBRARY names, else libpgboard.so beside this file, as the wheel
-of ./package has it, else crates/pgboard_c/out/libpgboard.so of the repository. Without one the import fails, and says what to
-do. Ctrl-C ends a call: the thread that makes it goes on unseen until it ends, so leave buffers alone that it was given.
+of ./package has it, else crates/pgboard_c/out/libpgboard.so of the repository, else the one of the system. Without one the
+import fails, and says what to do. Ctrl-C ends a call in any thread: a long one runs in a child process.
 """
 
 from __future__ import annotations
 
-import ctypes
+import os
 from array import array
-from typing import Any, Iterable, List, Optional, Sequence, Tuple, Type, Union
+from typing import TYPE_CHECKING, Any, Dict, Iterable, List, NamedTuple, Optional, Protocol, Sequence, Tuple, Type, Union
 
 from . import faults, library
 from .faults import *  # noqa: F401,F403
-from .library import NO_CHOICE, NO_WINNER, CAPACITY, judged, run, slices, struct_of
+from .library import NO_CHOICE, NO_WINNER, run
 from .version import __version__
 
 __all__ = [
-    "NO_CHOICE", "NO_WINNER", "__version__", "solve", "solve_csr", "solve_graph", "solve_text", "tidy_text", "verify", "verify_csr", "verify_text",
-    *faults.__all__,
+    "NO_CHOICE", "NO_WINNER", "Buffer", "Solution", "__version__", "solve", "solve_csr", "solve_file", "solve_graph", "solve_text",
+    "tidy_text", "verify", "verify_csr", "verify_text", *faults.__all__,
 ]  # fmt: skip
 
-# what has Python's buffer protocol: array.array, bytes, memoryview, numpy.ndarray and others
-Buffer = Any
+if TYPE_CHECKING:
+    Ints = array[int]
+    PathLike = os.PathLike[str]
+else:
+    # (these have no parameters before Python 3.9)
+    Ints, PathLike = array, os.PathLike
+
+
+class HasBuffer(Protocol):
+    """What has Python's buffer protocol."""
+
+    def __buffer__(self, flags: int, /) -> memoryview: ...
+
+
+class HasArrayInterface(Protocol):
+    """An array of NumPy, as its types of any version say it."""
+
+    @property
+    def __array_interface__(self) -> Dict[str, Any]: ...
+
+
+Buffer = Union[bytes, bytearray, memoryview, Ints, HasBuffer, HasArrayInterface]
 Numbers = Iterable[int]
 MaybeNumbers = Iterable[Optional[int]]
 Text = Union[str, bytes]
 
 
-def view_of(name: str, value: Buffer, itemsize: int) -> memoryview:
-    """A view of a buffer's memory; TypeError where its items are not numbers of so many bytes, one after another."""
+class Solution(NamedTuple):
+    """The winner of each vertex, and his choice where he owns it, else NO_CHOICE."""
+
+    winners: Ints
+    choices: Ints
+
+
+# the formats of items that are integers in this machine's order of bytes, and those of them that C takes as they are
+INTEGERS = "?bBhHiIlLqQnN"
+TAKEN = {"B": ("B", "b", "?"), "I": ("I", "i")}
+
+
+def integers(view: memoryview) -> Ints:
+    """The items of a view of integers, in a new array."""
+    is_signed = view.format[-1].islower()
+    return array({1: "Bb", 2: "Hh", 4: "Ii", 8: "Qq"}[view.itemsize][is_signed], bytes(view))
+
+
+def fitting(code: str, values: Sequence[int]) -> Ints:
+    """The same numbers in an array of other items. In place of what does not fit it has a number that the library refuses there."""
     try:
-        view = memoryview(value)
-    except TypeError:
-        view = None
-    formats = {1: "Bb?", 4: "IiLl"}[itemsize]
-    if view is None or view.ndim != 1 or not view.c_contiguous or view.itemsize != itemsize or view.format.lstrip("@=<") not in formats:
-        kind = f"{view.ndim}-dimensional with items {view.format!r} of {view.itemsize} bytes" if view else type(value).__name__
-        raise TypeError(f"{name}: a contiguous buffer of integers of {8 * itemsize} bits is needed, not {kind}")
-    return view
+        return array(code, values)
+    except OverflowError:
+        # (one below the greatest, which stands for no winner and no choice)
+        most = 2 ** (8 * array(code).itemsize) - 1
+        return array(code, (it if 0 <= it <= most else most - 1 for it in values))
 
 
-def numbers(code: str, values: Numbers, fault: Type[faults.Fault]) -> array[int]:
+def view_of(name: str, value: Buffer, code: str) -> memoryview:
+    """A view of a buffer's memory, if C takes its items for those of this code; else of a copy with such items. TypeError for what is
+    no contiguous buffer of integers."""
+    needed = "a contiguous buffer of integers in one dimension is needed, not"
+    try:
+        view = memoryview(value)  # type: ignore[arg-type]
+    except (TypeError, ValueError, BufferError) as error:
+        raise TypeError(f"{name}: {needed} {type(value).__name__}") from error
+    if view.format in TAKEN[code] and view.ndim == 1 and view.c_contiguous:
+        return view
+    if view.ndim != 1:
+        raise TypeError(f"{name}: {needed} one of {view.ndim} dimensions")
+    if not view.c_contiguous:
+        raise TypeError(f"{name}: {needed} one with gaps between its items: numpy.ascontiguousarray copies it")
+    if view.format.lstrip("@=<") not in tuple(INTEGERS):
+        raise TypeError(f"{name}: {needed} one of items {view.format!r} of {view.itemsize} bytes")
+    return memoryview(fitting(code, integers(view)))
+
+
+def numbers(code: str, values: Numbers, fault: Type[faults.Fault]) -> Ints:
     """An array of these numbers; the fault, at the first that it can't hold."""
     held = values if isinstance(values, (list, tuple)) else list(values)
     try:
@@ -56,7 +110,7 @@ def numbers(code: str, values: Numbers, fault: Type[faults.Fault]) -> array[int]
         raise fault(next(v for v, it in enumerate(held) if not 0 <= it < 2 ** (8 * array(code).itemsize))) from error
 
 
-def rows_of(successors: Iterable[Numbers]) -> Tuple[array[int], array[int]]:
+def rows_of(successors: Iterable[Numbers]) -> Tuple[Ints, Ints]:
     """Where each row begins and ends, and the rows one after another."""
     starts, targets = array("I", [0]), array("I")
     for v, row in enumerate(successors):
@@ -69,12 +123,12 @@ def rows_of(successors: Iterable[Numbers]) -> Tuple[array[int], array[int]]:
     return starts, targets
 
 
-def game_of(owners: Numbers, priorities: Numbers, successors: Iterable[Numbers]) -> Tuple[array[int], array[int], array[int], array[int]]:
+def game_of(owners: Numbers, priorities: Numbers, successors: Iterable[Numbers]) -> Tuple[Ints, Ints, Ints, Ints]:
     """The arrays of a game."""
     return (numbers("B", owners, faults.BadOwner), numbers("I", priorities, faults.BadPriority), *rows_of(successors))
 
 
-def claims_of(winners: MaybeNumbers, choices: MaybeNumbers) -> Tuple[array[int], array[int]]:
+def claims_of(winners: MaybeNumbers, choices: MaybeNumbers) -> Tuple[Ints, Ints]:
     """The arrays of winners and choices. None is no winner, which is taken of what is known alone, or no choice."""
     # what is no vertex is no choice that C could misread
     moves = (NO_CHOICE if it is None else it if 0 <= it < NO_CHOICE else NO_CHOICE - 1 for it in choices)
@@ -83,43 +137,44 @@ def claims_of(winners: MaybeNumbers, choices: MaybeNumbers) -> Tuple[array[int],
 
 def solve_csr(
     owners: Buffer, priorities: Buffer, indptr: Buffer, indices: Buffer, known: Optional[Tuple[Buffer, Buffer]] = None
-) -> Tuple[array[int], array[int]]:
+) -> Solution:
     """Solves a game in compressed sparse rows: vertex v has the successors indices[indptr[v]:indptr[v + 1]].
 
-    The arguments are buffers, of which no copy is made: `owners` of 8-bit integers, the others of 32-bit integers. Returns an array of
-    the winners, and one of their choices, which has NO_CHOICE where the winner doesn't own the vertex. `known` has winners
-    (NO_WINNER where there is none) and choices in the same form. Raises Refused, NotKnown or OutOfMemory, and TypeError for other
-    arguments."""
+    The arguments are buffers of integers. Those of 8 bits for `owners`, and of 32 bits for the others, are read where they are; of
+    others a copy is made. Returns arrays of the winners and of their choices, which have NO_CHOICE where the winner doesn't own the
+    vertex. `known` has winners (NO_WINNER where there is none) and choices in the same form. Raises Refused, NotKnown or
+    OutOfMemory, and TypeError for other arguments."""
     game = game_views(owners, priorities, indptr, indices)
     size = len(game[0])
-    winners, choices = array("B", bytes(size)), array("I", bytes(4 * size))
-    results = [memoryview(winners), memoryview(choices)]
-    given = [] if known is None else claim_views(*known)
-    parts = [struct_of(*it) for it in (game, given, results) if it]
-    answer_of_arrays("pgboard_solve" if known is None else "pgboard_solve_known", parts, game + given + results, game)
-    return winners, choices
+    found = Solution(array("B", bytes(size)), array("I", bytes(4 * size)))
+    given = [game] if known is None else [game, claim_views(*known)]
+    run_arrays("pgboard_solve" if known is None else "pgboard_solve_known", given, [memoryview(it) for it in found], indices)
+    return found
 
 
 def verify_csr(owners: Buffer, priorities: Buffer, indptr: Buffer, indices: Buffer, winners: Buffer, choices: Buffer) -> None:
     """Looks whether winners and choices are a solution of a game, all as `solve_csr` takes and returns them, and raises NotASolution
     with what is wrong first if they are none. Raises Refused too, or OutOfMemory."""
-    game, given = game_views(owners, priorities, indptr, indices), claim_views(winners, choices)
-    answer_of_arrays("pgboard_check", [struct_of(*game), struct_of(*given)], game + given, game)
+    run_arrays("pgboard_check", [game_views(owners, priorities, indptr, indices), claim_views(winners, choices)], [], indices)
 
 
 def game_views(owners: Buffer, priorities: Buffer, indptr: Buffer, indices: Buffer) -> List[memoryview]:
-    return [view_of("owners", owners, 1), view_of("priorities", priorities, 4), view_of("indptr", indptr, 4), view_of("indices", indices, 4)]
+    return [view_of("owners", owners, "B"), view_of("priorities", priorities, "I"), view_of("indptr", indptr, "I"), view_of("indices", indices, "I")]
 
 
 def claim_views(winners: Buffer, choices: Buffer) -> List[memoryview]:
-    return [view_of("winners", winners, 1), view_of("choices", choices, 4)]
+    return [view_of("winners", winners, "B"), view_of("choices", choices, "I")]
 
 
-def answer_of_arrays(name: str, parts: List[Any], views: List[memoryview], game: List[memoryview]) -> None:
-    """Makes a call on arrays, and raises what it refuses. A successor of a signed buffer is reported with its sign."""
-    answer, at, to = run(name, parts, views)
-    is_negative = to >= 2**31 and game[3].format in ("i", "l", "<i", "<l", "=i", "=l", "@i", "@l")
-    judged(answer, at, to - 2**32 if is_negative else to)
+def run_arrays(name: str, given: List[List[memoryview]], results: List[memoryview], indices: Buffer) -> None:
+    """Makes a call on a game and what else is given. An unknown successor is reported as it is in the caller's buffer."""
+    try:
+        run(name, given, results)
+    except faults.UnknownSuccessor as fault:
+        start, end = integers(given[0][2])[fault.at : fault.at + 2]
+        row = integers(memoryview(indices))[start:end]  # type: ignore[arg-type]
+        same = [it for it in row if it % 2**32 == fault.to] or [it for it in row if not 0 <= it < 2**32]
+        raise faults.UnknownSuccessor(fault.at, same[0]) from None
 
 
 def solve(
@@ -147,21 +202,24 @@ def text_view(text: Text) -> memoryview:
     raise TypeError(f"a text is bytes or str, not {type(text).__name__}")
 
 
-def written(name: str, text: Text, capacity: Optional[int] = None) -> str:
-    """The text that a call writes. The first buffer has twice the length of what is given. If that is too small, the call says
-    how much it needs."""
+def written(name: str, text: Text) -> str:
+    """The text that a call writes, which is never longer than the buffer (PGBOARD_TEXT_BOUND in include/pgboard.h)."""
     given = text_view(text)
-    answer, needed = CAPACITY, 2 * len(given) + 64 if capacity is None else capacity
-    while answer == CAPACITY:
-        into, size = memoryview(bytearray(needed)), ctypes.c_size_t()
-        answer, needed, to = run(name, [*slices(given, into), ctypes.byref(size)], [given, into])
-    judged(answer, needed, to)
-    return str(into[: size.value], "ascii")
+    into = bytearray(len(given) + len(given) // 8 + 22)
+    size = run(name, [[given]], [memoryview(into)])
+    return into[:size].decode("ascii")
 
 
 def solve_text(game: Text) -> str:
     """A solution's text of a game's text in PGSolver's format. Raises Refused, or OutOfMemory."""
     return written("pgboard_solve_text", game)
+
+
+def solve_file(path: Union[str, bytes, PathLike]) -> str:
+    """A solution's text of the game that a file has as text. Raises OSError where the file can't be read, and what `solve_text`
+    raises."""
+    with open(path, "rb") as file:
+        return solve_text(file.read())
 
 
 def tidy_text(game: Text) -> str:
@@ -171,8 +229,7 @@ def tidy_text(game: Text) -> str:
 
 def verify_text(game: Text, solution: Text) -> None:
     """Looks whether a text is a solution of a game's text, and raises NotASolution if it is none. Raises Refused too."""
-    views = [text_view(game), text_view(solution)]
-    judged(*run("pgboard_verify_text", slices(*views), views))
+    run("pgboard_verify_text", [[text_view(game)], [text_view(solution)]], [])
 
 
 def attributes(graph: Any, nodes: Sequence[Any], name: str) -> List[int]:
@@ -183,19 +240,28 @@ def attributes(graph: Any, nodes: Sequence[Any], name: str) -> List[int]:
     return [graph.nodes[it][name] for it in nodes]
 
 
-def solve_graph(graph: Any) -> Any:
-    """Solves a networkx.DiGraph, whose nodes have the attributes `owner` and `priority`. Returns a copy whose nodes have
-    `winner` too, and `choice` where the winner owns the node. A fault names nodes by their places in their order. Raises
-    MissingAttribute for a node without one of the two, TypeError for what is no directed graph, and what `solve` raises."""
+def solve_graph(graph: Any, owner: str = "owner", priority: str = "priority", winner: str = "winner", choice: str = "choice") -> Any:
+    """Solves a networkx.DiGraph, whose nodes have an owner and a priority, by the names of attributes that are given.
+
+    Returns a copy whose nodes have a winner too, and a choice where the winner owns the node; what they had under these names is
+    gone. A fault names its node. Raises MissingAttribute for a node without an owner or a priority, TypeError for what is no
+    directed graph, and what `solve` raises."""
     if not hasattr(graph, "successors"):
         raise TypeError(f"a graph is a networkx.DiGraph, not {type(graph).__name__}")
     nodes = list(graph)
     places = {node: v for v, node in enumerate(nodes)}
-    owners, priorities = attributes(graph, nodes, "owner"), attributes(graph, nodes, "priority")
-    winners, choices = solve(owners, priorities, [[places[to] for to in graph.successors(it)] for it in nodes])
+    owners, priorities = attributes(graph, nodes, owner), attributes(graph, nodes, priority)
+    try:
+        winners, choices = solve(owners, priorities, [[places[to] for to in graph.successors(it)] for it in nodes])
+    except faults.Fault as fault:
+        if "{vertex}" in fault.words:
+            fault.node = nodes[fault.at]
+        raise
     solved = graph.copy()
-    for node, winner, choice in zip(nodes, winners, choices):
-        solved.nodes[node]["winner"] = winner
-        if choice is not None:
-            solved.nodes[node]["choice"] = nodes[choice]
+    for node, by, move in zip(nodes, winners, choices):
+        found = solved.nodes[node]
+        found.pop(choice, None)
+        found[winner] = by
+        if move is not None:
+            found[choice] = nodes[move]
     return solved

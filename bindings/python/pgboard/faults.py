@@ -17,16 +17,19 @@ ARRAYS = {1: "priorities", 2: "starts of rows", 3: "successors", 4: "winners", 5
 
 
 class Fault(ValueError):
-    """Why there is no answer: `at` and `to` are the vertices, the place in a text or the number of the array that it is about."""
+    """Why there is no answer: `at` and `to` are the vertices, the place in a text or the number of the array that it is about.
+    `node` is the node of a graph that the vertex `at` is."""
 
     words = "{at}"
+    node: object = None
 
     def __init__(self, at: int = 0, to: int = 0) -> None:
         super().__init__(at, to)
         self.at, self.to = at, to
 
     def __str__(self) -> str:
-        return self.words.format(at=self.at, to=self.to, array=ARRAYS.get(self.at, "arrays"))
+        vertex = f"vertex {self.at}" if self.node is None else f"node {self.node!r}"
+        return self.words.format(at=self.at, to=self.to, vertex=vertex, array=ARRAYS.get(self.at, "arrays"))
 
 
 class Refused(Fault):
@@ -50,15 +53,15 @@ class BadLengths(Refused):
 
 
 class BadRow(Refused):
-    words = "vertex {at}: its row is no part of the successors"
+    words = "{vertex}: its row is no part of the successors"
 
 
 class BadOwner(Refused):
-    words = "vertex {at}: the owner is neither 0 nor 1"
+    words = "{vertex}: the owner is neither 0 nor 1"
 
 
 class BadPriority(Refused):
-    words = "vertex {at}: the priority is not from 0 to 2147483647"
+    words = "{vertex}: the priority is not from 0 to 2147483647"
 
 
 class BadResults(Refused):
@@ -66,11 +69,11 @@ class BadResults(Refused):
 
 
 class BadWinner(Refused):
-    words = "vertex {at}: the winner is neither 0 nor 1"
+    words = "{vertex}: the winner is neither 0 nor 1"
 
 
 class MissingAttribute(Refused):
-    """A node of a graph that has not the attribute `owner` or `priority`; `at` is its place in the order of nodes."""
+    """A node of a graph has no owner or no priority: it lacks this `attribute`. `at` is its place in the order of nodes."""
 
     def __init__(self, at: int, node: object, attribute: str) -> None:
         super().__init__(at)
@@ -86,55 +89,55 @@ class NoVertex(Refused):
 
 
 class TooManyVertices(Refused):
-    words = "there are too many vertices"
+    words = "there are more than 1048576 vertices"
 
 
 class SpecifiedTwice(Refused):
-    words = "vertex {at} is specified twice"
+    words = "{vertex} is specified twice"
 
 
 class NoSuccessor(Refused):
-    words = "vertex {at} has no successor"
+    words = "{vertex} has no successor"
 
 
 class TooManyEdges(Refused):
-    words = "there are too many edges"
+    words = "there are more than 16777216 edges"
 
 
 class UnknownSuccessor(Refused):
-    words = "vertex {at}: the successor {to} is no vertex"
+    words = "{vertex}: the successor {to} is no vertex"
 
 
 class NoChoice(NotASolution):
-    words = "vertex {at}: its winner owns it and has no choice"
+    words = "{vertex}: its winner owns it and has no choice"
 
 
 class BadChoice(NotASolution):
-    words = "vertex {at}: the choice is no successor"
+    words = "{vertex}: the choice is no successor"
 
 
 class Leaves(NotASolution):
-    words = "vertex {at}: a kept edge leads to {to}, which the other player wins"
+    words = "{vertex}: a kept edge leads to {to}, which the other player wins"
 
 
 class BadCycle(NotASolution):
-    words = "vertex {at}: its priority is the loser's, and the greatest on a closed walk"
+    words = "{vertex}: its priority is the loser's, and the greatest on a closed walk"
 
 
 class KnownChoice(NotKnown):
-    words = "vertex {at}: its owner is known to win it, and has no choice that is a successor"
+    words = "{vertex}: its owner is known to win it, and has no choice that is a successor"
 
 
 class KnownCycle(NotKnown):
-    words = "vertex {at}: its priority is the other player's, and the greatest on a closed walk in what is known"
+    words = "{vertex}: its priority is the other player's, and the greatest on a closed walk in what is known"
 
 
 class KnownLost(NotKnown):
-    words = "vertex {at} is known for player 1, and player 0 attracts it to what is known for him"
+    words = "{vertex} is known for player 1, and player 0 attracts it to what is known for him"
 
 
 class KnownLeaves(NotKnown):
-    words = "vertex {at}: a kept edge leads to {to}, which is not known for the same player"
+    words = "{vertex}: a kept edge leads to {to}, which is not known for the same player"
 
 
 class BadText(Refused):
@@ -162,15 +165,15 @@ class NoPlayer(BadText):
 
 
 class Stranger(Refused):
-    words = "vertex {at} is not in the game"
+    words = "{vertex} is not in the game"
 
 
 class WrittenTwice(Refused):
-    words = "vertex {at} is written twice"
+    words = "{vertex} is written twice"
 
 
 class NotWritten(Refused):
-    words = "vertex {at} is not written"
+    words = "{vertex} is not written"
 
 
 # the exception of each answer of include/pgboard.h, but for the two that are never handed on: the size of a struct (9), which is made

@@ -57,11 +57,11 @@ pub use Rattle.pg_board.specs.Play.{Play}
 pub use Rattle.pg_board.specs.Post.{Adds, AnswersDominion, SettlesUnlessMemory}
 pub use Rattle.pg_board.specs.Refusal.{IsLost, Refuses, refusal_of}
 pub use Rattle.pg_board.specs.State.{IsDominion, IsGoodOn, IsLawfulState, State, choices, is_unsettled, rest_of, settled, unsettled}
-pub use Rattle.pg_board.specs.declared.entry.Entry.{Entry}
-pub use Rattle.pg_board.specs.declared.entry.Posted.{Posted}
-pub use Rattle.pg_board.specs.declared.refusal.Refusal.{Refusal}
+pub use Rattle.pg_board.specs.declared.journal.Entry.{Entry}
+pub use Rattle.pg_board.specs.declared.journal.Posted.{Posted}
+pub use Rattle.pg_board.specs.declared.journal.Refusal.{Refusal}
 pub use Rattle.pg_board.specs.declared.regions.Regions.{Regions}
-pub use Rattle.pg_board.specs.declared.vertex_state.VertexState.{VertexState}
+pub use Rattle.pg_board.specs.declared.regions.VertexState.{VertexState}
 pub use Rattle.pg_board.specs.private.Growth.{IsGrowing, open_before}
 pub use Rattle.pg_board.specs.private.OpenEdges.{EndsOutside, IsFirstOutside, LeadsOutside}
 pub use Rattle.pg_board.specs.private.Regions.{AreRegions, IsBoard, state_with, table_state}

@@ -12,7 +12,7 @@ use Rattle.pg_board.proofs.Push.{state_push, distinct_rising}
 use Rattle.pg_board.proofs.Lawful.{lawful_push}
 use Rattle.pg_board.proofs.Numbers.{lawful_now, number_within, sum_fits, all_named}
 use Rattle.std.proofs.lemmas.Bool.{and_from}
-use Rattle.pg_dominion.specs.Area.{AttractsNoFurther}
+use Rattle.pg_dominion.specs.AttractorState.{AttractsNoFurther}
 use Rattle.pg_dominion.specs.private.Attracting.{LeadFrom}
 use Rattle.pg_dominion.proofs.Attracting.{grown_attraction, grown_rows}
 use Rattle.pg_dominion.proofs.Extending.{lead_none}
@@ -180,13 +180,13 @@ module _ (g : Graph) (p : Player) (r1 r2 : Regions) (R rows : ClaimRows) (grows 
   pub has_grown : (r : Regions) (first : ClaimRows) → first ≡ R → ((v : ℕ) → open_before r1 first v ≡ members r.unsettled v)
       → ((v : ℕ) → table_state r1.table.items v ≡ state_with (table_state r.table.items) p first v) → AreRegions g r2
       → AttractsNoFurther g p (open_before r1 R) (named rows) (named rows) → HasGrown g p r r2 R rows
-  has_grown r first is same told regions done =
+  has_grown r first is same written regions done =
       let same_here = subst (λ (xs : ClaimRows). (v : ℕ) → open_before r1 xs v ≡ members r.unsettled v) is same in
-      let told_here = subst (λ (xs : ClaimRows). (v : ℕ) → table_state r1.table.items v ≡ state_with (table_state r.table.items) p xs v) is told in
+      let written_here = subst (λ (xs : ClaimRows). (v : ℕ) → table_state r1.table.items v ≡ state_with (table_state r.table.items) p xs v) is written in
       record {
         regions = regions;
         attraction = subst (λ (U : VertexSet). IsAttraction g p U (named R) (drop (length R) rows)) (fun_ext same_here)
             (grown_attraction g p (open_before r1 R) R rows front turns done);
         parts = grown_rows g p (open_before r1 R) R rows front turns done;
-        tells = grows.tells (table_state r.table.items) told_here;
+        tells = grows.tells (table_state r.table.items) written_here;
       }

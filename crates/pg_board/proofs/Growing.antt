@@ -7,7 +7,7 @@ use Rattle.std.proofs.lemmas.List.Sums.{sum_by-set}
 use Rattle.pg_dominion.proofs.Rows.{choice-push_same, choice-push_other}
 use Rattle.pg_dominion.proofs.Taking.{takes_one}
 use Rattle.pg_dominion.proofs.Extending.{extends_taken}
-use Rattle.pg_dominion.specs.Area.{AttractsNoFurther}
+use Rattle.pg_dominion.specs.AttractorState.{AttractsNoFurther}
 use Rattle.pg_board.specs.private.Growth.{Grows}
 use Rattle.pg_board.proofs.RestIsGood.{vertices}
 use Rattle.pg_board.proofs.Places.{row_at, named_at, fresh_at}
@@ -27,9 +27,9 @@ module _ {g : Graph} {p : Player} {r r' : Regions} {rows : ClaimRows} {row : ℕ
   IsGrowing-take =
       search (rules, AreRegions-settle, h.settles, h.growing.regions, mask_now, named-push, length-append, or_cases, h.growing.apart, sum_by-set, member_below)
 
-  pub told-take : (st : State) → ((v : ℕ) → table_state r.table.items v ≡ state_with st p rows v) → (v : ℕ)
+  pub written-take : (st : State) → ((v : ℕ) → table_state r.table.items v ≡ state_with st p rows v) → (v : ℕ)
       → table_state r'.table.items v ≡ state_with st p (rows ++ row ∷ []) v
-  told-take st told =
+  written-take st written =
       search (rules, false_from_ne_true, h.growing.apart, and_parts, member_below, named-push, eq-eqb, eqb-true, choice-push_same, choice-push_other, read_set)
 
   pub same-take : (v : ℕ) → open_before r' (rows ++ row ∷ []) v ≡ open_before r rows v
@@ -38,7 +38,7 @@ module _ {g : Graph} {p : Player} {r r' : Regions} {rows : ClaimRows} {row : ℕ
       (λ w. refl) h.unsettled (row, refl, refl) mask_now).same
 
   pub Grows-take : IsAttractedRow g p (open_before r rows) (named rows) row → Grows g p r rows r' (rows ++ row ∷ [])
-  Grows-take leads = record { extends = extends_taken g p (members r.unsettled) (members r'.unsettled) rows row mask_now h.unsettled leads; tells = told-take }
+  Grows-take leads = record { extends = extends_taken g p (members r.unsettled) (members r'.unsettled) rows row mask_now h.unsettled leads; tells = written-take }
 
 -- a mask that didn't change is as much apart
 pub IsGrowing-same : (g : Graph) (r r' : Regions) (rows : ClaimRows) (spare : ℕ) → AreRegions g r' → r'.unsettled ≡ r.unsettled

@@ -8,7 +8,7 @@ use Rattle.pg_board.specs.Refusal.{IsOpenEdge, IsFirstOpenEdge}
 use Rattle.pg_board.proofs.Push.{distinct_rising}
 use Rattle.pg_board.proofs.RestIsGood.{vertices, in_rest, kept_rest, kept_of_rest, rest_right, rest_twice}
 use Rattle.pg_board.proofs.Numbers.{in_vertices}
-use Rattle.pg_board.specs.declared.refusal.Refusal.TheVariants as refusal
+use Rattle.pg_board.specs.declared.journal.Refusal.TheVariants as refusal
 
 -- the vertices of the rest and the player's
 abbrev pub Bounds : State → Player → ClaimRows → VertexSet

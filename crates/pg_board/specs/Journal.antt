@@ -8,7 +8,7 @@ use Rattle.pg_game.specs.VertexSet.{In, all_vertices, union}
 use Rattle.pg_game.specs.Attractor.{Attractor}
 use Rattle.pg_dominion.specs.Claim.{ClaimRows, named, choice_in}
 use Rattle.pg_dominion.specs.Attraction.{AttractInTurn}
-use Rattle.pg_board.specs.declared.entry.Entry.{Entry}
+use Rattle.pg_board.specs.declared.journal.Entry.{Entry}
 use Rattle.pg_board.specs.State.{State, settled, rest_of, IsGoodOn, IsLawfulState, IsDominion}
 
 abbrev pub Journal : Type 0

@@ -8,8 +8,8 @@ use Rattle.pg_game.specs.VertexSet.{members}
 use Rattle.pg_finders.specs.Part.{Part}
 use Rattle.pg_dominion.specs.Claim.{ClaimRows}
 use Rattle.pg_dominion.specs.Checked.{CheckedClaim, claim_rows, AgreesWithGame}
-use Rattle.pg_board.specs.declared.entry.Entry.{Entry}
-use Rattle.pg_board.specs.declared.refusal.Refusal.{Refusal}
+use Rattle.pg_board.specs.declared.journal.Entry.{Entry}
+use Rattle.pg_board.specs.declared.journal.Refusal.{Refusal}
 use Rattle.pg_board.specs.State.{unsettled, IsGoodOn}
 use Rattle.pg_board.specs.Journal.{Journal, state_of, Answers, IsLawful, number_settled}
 use Rattle.pg_board.specs.Refusal.{Refuses, RefusesChecked}

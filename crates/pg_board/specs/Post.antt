@@ -5,12 +5,12 @@ use Rattle.pg_game.specs.Player.{opponent}
 use Rattle.pg_game.specs.VertexSet.{In, all_vertices, union}
 use Rattle.pg_game.specs.Attractor.{Attractor}
 use Rattle.pg_dominion.specs.Claim.{ClaimRows, named}
-use Rattle.pg_board.specs.declared.refusal.Refusal.{Refusal}
-use Rattle.pg_board.specs.declared.refusal.Refusal.TheVariants as refusal
+use Rattle.pg_board.specs.declared.journal.Refusal.{Refusal}
+use Rattle.pg_board.specs.declared.journal.Refusal.TheVariants as refusal
 use Rattle.pg_board.specs.State.{State, settled, rest_of}
 use Rattle.pg_dominion.specs.declared.claim.Claim.{Claim}
-use Rattle.pg_board.specs.declared.entry.Entry.{Entry}
-use Rattle.pg_board.specs.declared.entry.Posted.{Posted}
+use Rattle.pg_board.specs.declared.journal.Entry.{Entry}
+use Rattle.pg_board.specs.declared.journal.Posted.{Posted}
 use Rattle.pg_board.specs.Play.{Play}
 use Rattle.pg_board.specs.Journal.{state_of, Answers}
 

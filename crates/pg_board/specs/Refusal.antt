@@ -11,8 +11,8 @@ use Rattle.pg_dominion.specs.Fault.{IsClaimFault}
 use Rattle.pg_dominion.specs.Checked.{CheckedClaim, claim_rows, AgreesWithGame, IsForeign}
 use Rattle.pg_dominion.specs.declared.claim.ClaimFault.{ClaimFault}
 use Rattle.pg_dominion.specs.declared.claim.ClaimFault.TheVariants as claim_fault
-use Rattle.pg_board.specs.declared.refusal.Refusal.{Refusal}
-use Rattle.pg_board.specs.declared.refusal.Refusal.TheVariants as refusal
+use Rattle.pg_board.specs.declared.journal.Refusal.{Refusal}
+use Rattle.pg_board.specs.declared.journal.Refusal.TheVariants as refusal
 use Rattle.pg_board.specs.State.{State, settled, rest_of}
 
 -- the claim has the vertex, and it is settled for the opponent

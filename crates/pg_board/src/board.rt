@@ -15,8 +15,7 @@ ghost use Rattle.pg_text.specs.Solution.{IsExactSolution};
 ghost use Rattle.pg_board.specs.Refusal.{Refuses, RefusesChecked, IsOfState};
 ghost use Rattle.pg_board.specs.Post.{Adds, AnswersDominion, SettlesUnlessMemory};
 
-use crate::entry::{Entry, Posted};
-use crate::refusal::Refusal;
+use crate::journal::{Entry, Posted, Refusal};
 use crate::regions::Regions;
 use pg_dominion::{Checked, Claim, judge_claim};
 use pg_finders::{Copied, Inside};
@@ -128,73 +127,6 @@ impl<'g> Board<'g> {
         self.settle_sound(alloc, worker, &claim)
     }
 
-    /// The same as `post` for a claim that is known to be sound.
-    fn settle_sound(&mut self, alloc: Global, worker: u32, claim: &Claim) -> Result<Posted, Refusal>
-        requires { IsSound self.old.graph claim.now.player claim.now.rows }
-        ensures game { self.new.graph ≡ self.old.graph }
-        ensures posted { IfOk result (λ posted. IsGoodOn self.old.graph (state_of self.old.journal) claim.now.player claim.now.rows
-            × Adds self.old self.new worker claim.now posted) }
-        ensures refused { IfErr result (λ e. Refuses self.old.graph (state_of self.old.journal) claim.now.player claim.now.rows e) }
-        ensures of_state { IfErr result IsOfState }
-        ensures unchanged { OnErr result (self.new ≡ self.old) }
-    {
-        let n = self.game.len();
-        if let Some(v) = self.regions.first_lost(claim) {
-            return Err(Refusal::Lost(v));
-        }
-        let mut rows = Vec::with_capacity(alloc, n as usize)?;
-        self.regions.rest_of(claim, &mut rows);
-        if rows.is_empty() {
-            return Err(Refusal::Stale);
-        }
-        let edge = self
-            .regions
-            .first_open(self.game, claim.player, rows.as_slice());
-        if let Some((v, w)) = edge {
-            return Err(Refusal::Open(v, w));
-        }
-        Ok(self.enter(worker, claim.player, rows)?)
-    }
-
-    /// Settles the rest and what it attracts, in one entry. The rows have capacity for every vertex, so all memory is
-    /// allocated before the board changes.
-    fn enter(
-        &mut self,
-        worker: u32,
-        player: Player,
-        mut rows: Vec<(u32, Option<u32>)>,
-    ) -> Result<Posted, Memory>
-        requires good { IsGoodOn self.old.graph (state_of self.old.journal) player rows.items }
-        requires unsettled { rest_of (state_of self.old.journal) rows.items ≡ rows.items }
-        requires spare { length self.old.graph ≤ vec_capacity rows }
-        ensures game { self.new.graph ≡ self.old.graph }
-        ensures added { IfOk result (Adds self.old self.new worker (record { player = player; rows = rows.items })) }
-        ensures unchanged { OnErr result (self.new ≡ self.old) }
-    {
-        // for the proof: the graph is a game, and so small that the numbers of its vertices add up without overflow
-        let n = self.game.len();
-        self.entries.reserve(1)?;
-        let entry = self.entries.len() as u64;
-        let claimed = rows.len() as u32;
-        self.regions.settle_all(self.game, player, rows.as_slice());
-        let is_full = self.number + claimed == n;
-        self.regions.attract(self.game, player, &mut rows, is_full);
-        rows.shrink_to_fit();
-        let settled = rows.len() as u32;
-        self.number += settled;
-        self.entries.push_reserved(Entry {
-            worker,
-            player,
-            claimed,
-            rows: Sequence::new(rows),
-        });
-        Ok(Posted {
-            entry,
-            claimed,
-            settled,
-        })
-    }
-
     /// The game. The contract of this call states the invariant of the type.
     pub fn game(&self) -> &'g Game
         ensures graph { result.now ≡ self.now.graph }
@@ -283,5 +215,72 @@ impl<'g> Board<'g> {
         ensures { result.items ≡ self.entry.journal }
     {
         self.entries
+    }
+
+    /// The same as `post` for a claim that is known to be sound.
+    fn settle_sound(&mut self, alloc: Global, worker: u32, claim: &Claim) -> Result<Posted, Refusal>
+        requires { IsSound self.old.graph claim.now.player claim.now.rows }
+        ensures game { self.new.graph ≡ self.old.graph }
+        ensures posted { IfOk result (λ posted. IsGoodOn self.old.graph (state_of self.old.journal) claim.now.player claim.now.rows
+            × Adds self.old self.new worker claim.now posted) }
+        ensures refused { IfErr result (λ e. Refuses self.old.graph (state_of self.old.journal) claim.now.player claim.now.rows e) }
+        ensures of_state { IfErr result IsOfState }
+        ensures unchanged { OnErr result (self.new ≡ self.old) }
+    {
+        let n = self.game.len();
+        if let Some(v) = self.regions.first_lost(claim) {
+            return Err(Refusal::Lost(v));
+        }
+        let mut rows = Vec::with_capacity(alloc, n as usize)?;
+        self.regions.rest_of(claim, &mut rows);
+        if rows.is_empty() {
+            return Err(Refusal::Stale);
+        }
+        let edge = self
+            .regions
+            .first_open(self.game, claim.player, rows.as_slice());
+        if let Some((v, w)) = edge {
+            return Err(Refusal::Open(v, w));
+        }
+        Ok(self.enter(worker, claim.player, rows)?)
+    }
+
+    /// Settles the rest and what it attracts, in one entry. The rows have capacity for every vertex, so all memory is
+    /// allocated before the board changes.
+    fn enter(
+        &mut self,
+        worker: u32,
+        player: Player,
+        mut rows: Vec<(u32, Option<u32>)>,
+    ) -> Result<Posted, Memory>
+        requires good { IsGoodOn self.old.graph (state_of self.old.journal) player rows.items }
+        requires unsettled { rest_of (state_of self.old.journal) rows.items ≡ rows.items }
+        requires spare { length self.old.graph ≤ vec_capacity rows }
+        ensures game { self.new.graph ≡ self.old.graph }
+        ensures added { IfOk result (Adds self.old self.new worker (record { player = player; rows = rows.items })) }
+        ensures unchanged { OnErr result (self.new ≡ self.old) }
+    {
+        // for the proof: the graph is a game, and so small that the numbers of its vertices add up without overflow
+        let n = self.game.len();
+        self.entries.reserve(1)?;
+        let entry = self.entries.len() as u64;
+        let claimed = rows.len() as u32;
+        self.regions.settle_rows(self.game, player, rows.as_slice());
+        let is_full = self.number + claimed == n;
+        self.regions.attract(self.game, player, &mut rows, is_full);
+        rows.shrink_to_fit();
+        let settled = rows.len() as u32;
+        self.number += settled;
+        self.entries.push_reserved(Entry {
+            worker,
+            player,
+            claimed,
+            rows: Sequence::new(rows),
+        });
+        Ok(Posted {
+            entry,
+            claimed,
+            settled,
+        })
     }
 }

@@ -2,12 +2,12 @@
 
 ghost use Rattle.pg_board.specs.Laws.{WinnersAreDisjoint, OrderHasNoEffect};
 
-/// No vertex is won by both players.
-pub fn disjoint()
-    ensures { WinnersAreDisjoint }
-{}
-
 /// If claims were dominions at some time, the order of their posts has no effect on the regions.
 pub fn order()
     ensures { OrderHasNoEffect }
+{}
+
+/// No vertex is won by both players.
+pub fn disjoint()
+    ensures { WinnersAreDisjoint }
 {}

@@ -4,18 +4,11 @@
 #![tactic(auto)]
 
 mod board;
-mod entry;
-mod growth;
+mod journal;
 pub mod laws;
-mod named;
 mod office;
-mod open_edges;
-mod refusal;
 mod regions;
-mod rest;
-mod vertex_state;
 
 pub use board::Board;
-pub use entry::{Entry, Posted};
+pub use journal::{Entry, Posted, Refusal};
 pub use office::{Office, Share};
-pub use refusal::Refusal;

@@ -1,36 +1,23 @@
-//! One board and the book of its ledger under a lock, and the shares of its users.
-//!
-//! Each share is a part of the ledger, and its amount is the number of vertices that were settled through it. The ledger
-//! keeps the book equal to the sum of all amounts. The type under the lock keeps the book equal to the number settled. So no
-//! share's amount exceeds the number settled, whatever others have posted.
+//! One board and the book of its ledger under a lock, and the shares of its users. Each share is a part of the ledger, and its
+//! amount is the number of vertices that were settled through it. The ledger keeps the book equal to the sum of all amounts,
+//! and the type under the lock keeps it equal to the number settled.
+
 ghost use Rattle.std.specs.Prelude.{◌≡◌, ◌+◌, ◌-◌, ◌≤◌, ◌<◌, ℕ, ◌∷◌, [], IfOk, IfSome, OnErr, length, sum, replicate, vec_capacity, vec_len};
-ghost use Rattle.pg_game.specs.Graph.{IsGame};
-ghost use Rattle.pg_game.specs.Limits.{IsWithinLimits};
 ghost use Rattle.pg_game.specs.Specification.{max_vertices};
 ghost use Rattle.pg_board.specs.Journal.{IsLawful, number_settled};
+ghost use Rattle.std.specs.Sync.Mutex.{mutex_guard_value};
 ghost use Rattle.pg_board.specs.Shares.{AreExact};
-ghost use Rattle.pg_board.specs.declared.entry.Posted.{Posted};
-ghost use Rattle.pg_board.specs.Post.{Adds};
-ghost use Rattle.pg_board.specs.Office.{IsCopyOfSome, IsPostAnswer, IsAnswerOfSome, IsCheckedAnswer, IsCheckedAnswerOfSome};
-ghost use Rattle.pg_dominion.specs.Checked.{claim_of};
+ghost use Rattle.pg_board.specs.Office.{IsCopyOfSome, IsAnswerOfSome, IsCheckedAnswerOfSome};
 
 use crate::board::Board;
-use crate::refusal::Refusal;
+use crate::journal::{Posted, Refusal};
 use pg_dominion::{Checked, Claim};
 use pg_finders::Copied;
 use pg_game::{Game, Memory};
 use std::alloc::Global;
 use std::marker::Model;
 use std::sync::ledger::{Blank, Book, Ledger, Share as Token};
-use std::sync::{Mutex, Wait};
-
-/// The state under the lock: the board, and the book, which is the number settled.
-#[derive(Drop)]
-pub(crate) struct LockedBoard<'g, L: Ledger> {
-    board: Board<'g>,
-    book: Book<L>,
-    ghost exact: { book.total ≡ number_settled board.journal },
-}
+use std::sync::{Mutex, MutexGuard, Wait};
 
 /// A share of an office: the number of vertices that were settled through it. Contracts see it as that number.
 #[derive(Drop)]
@@ -54,73 +41,23 @@ impl<L: Ledger> Share<L> {
     {
         self.amount
     }
-}
 
-impl<'g, L: Ledger> LockedBoard<'g, L> {
-    /// The board's own call. The share rises by the number that it settles.
-    fn post(
-        &mut self,
-        alloc: Global,
-        share: &mut Share<L>,
-        worker: u32,
-        claim: &Claim,
-    ) -> Result<u32, Refusal>
-        ensures game { IsGame self.old.board.graph }
-        ensures limits { IsWithinLimits self.old.board.graph }
-        ensures lawful { IsLawful self.old.board.graph self.old.board.journal }
-        ensures behind { share.old ≤ number_settled self.old.board.journal }
-        ensures posted { IfOk result (λ n. (posted : Posted) × Adds self.old.board self.new.board worker claim.now posted × (n ≡ posted.settled)) }
-        ensures answer { IsPostAnswer self.old.board.graph self.old.board.journal claim.now.player claim.now.rows result }
-        ensures added { IfOk result (λ n. (1 ≤ n) × (share.new ≡ share.old + n)) }
-        ensures within { IfOk result (λ n. share.new ≤ max_vertices) }
-        ensures unchanged { OnErr result (share.new ≡ share.old) }
-        ensures board { OnErr result (self.new.board ≡ self.old.board) }
+    /// Adds the vertices that a post through this share settled on the board, in the book too. Returns their number.
+    fn raise(&mut self, book: &mut Book<L>, board: &Board<'_>, posted: Posted) -> u32
+        requires book { book.old.total + posted.settled ≡ number_settled board.now.journal }
+        requires within { self.old + posted.settled ≤ number_settled board.now.journal }
+        ensures settled { result ≡ posted.settled }
+        ensures book { book.new.total ≡ number_settled board.now.journal }
+        ensures added { self.new ≡ self.old + posted.settled }
+        ensures within { self.new ≤ max_vertices }
     {
-        let LockedBoard { board, book } = self;
-        let Share { token, amount } = share;
-        book.audit(token);
-        // for the proof: the invariant of the board before the post
+        // for the proof: no more is settled than there are vertices, so the sum fits
         let _game = board.game();
-        let posted = board.post(alloc, worker, claim)?;
+        let Share { token, amount } = self;
         let more = u64::from(posted.settled);
         book.add(token, more);
-        // for the proof: no more is settled than there are vertices, so the sum fits
-        let _after = board.game();
         *amount += more;
-        Ok(posted.settled)
-    }
-
-    /// The same as `post` for a checked claim.
-    fn settle(
-        &mut self,
-        alloc: Global,
-        share: &mut Share<L>,
-        worker: u32,
-        checked: &Checked,
-    ) -> Result<u32, Refusal>
-        ensures game { IsGame self.old.board.graph }
-        ensures limits { IsWithinLimits self.old.board.graph }
-        ensures lawful { IsLawful self.old.board.graph self.old.board.journal }
-        ensures behind { share.old ≤ number_settled self.old.board.journal }
-        ensures posted { IfOk result (λ n. (posted : Posted) × Adds self.old.board self.new.board worker (claim_of checked.now) posted × (n ≡ posted.settled)) }
-        ensures answer { IsCheckedAnswer self.old.board.graph self.old.board.journal checked.now result }
-        ensures added { IfOk result (λ n. (1 ≤ n) × (share.new ≡ share.old + n)) }
-        ensures within { IfOk result (λ n. share.new ≤ max_vertices) }
-        ensures unchanged { OnErr result (share.new ≡ share.old) }
-        ensures board { OnErr result (self.new.board ≡ self.old.board) }
-    {
-        let LockedBoard { board, book } = self;
-        let Share { token, amount } = share;
-        book.audit(token);
-        // for the proof: the invariant of the board before the claim is settled
-        let _game = board.game();
-        let settled = board.settle(alloc, worker, checked)?.settled;
-        let added = u64::from(settled);
-        book.add(token, added);
-        // for the proof: no more is settled than there are vertices, so the sum fits
-        let _after = board.game();
-        *amount += added;
-        Ok(settled)
+        posted.settled
     }
 }
 
@@ -164,13 +101,13 @@ impl<'g, L: Ledger> Office<'g, L> {
         ensures exact { IfOk result (λ o. AreExact o.1.items (number_settled board.entry.journal) board.entry.journal) }
     {
         let mut shares = Vec::with_capacity(alloc, seats as usize)?;
-        let (mut book, mut rest) = blank.open::<L>();
-        let mut token = rest.split_off(1, 0);
+        let (mut book, mut remaining) = blank.open::<L>();
+        let mut token = remaining.split_off(1, 0);
         let amount = board.settled();
         book.add(&mut token, amount);
         shares.push_reserved(Share { token, amount });
         for _i in 0..seats - 1 {
-            let token = rest.split_off(1, 0);
+            let token = remaining.split_off(1, 0);
             shares.push_reserved(Share { token, amount: 0 });
         }
         let office = Office {
@@ -220,7 +157,12 @@ impl<'g, L: Ledger> Office<'g, L> {
         ensures within { IfOk result (λ n. share.new ≤ max_vertices) }
         ensures unchanged { OnErr result (share.new ≡ share.old) }
     {
-        self.locked.lock(rt).post(alloc, share, worker, claim)
+        let mut locked = self.lock_for(rt, share);
+        let LockedBoard { board, book } = &mut *locked;
+        // for the proof: the invariant of the board before the post
+        let _game = board.game();
+        let posted = board.post(alloc, worker, claim)?;
+        Ok(share.raise(book, board, posted))
     }
 
     /// The same as `post` for a checked claim: it searches for no closed walk under the lock.
@@ -237,7 +179,12 @@ impl<'g, L: Ledger> Office<'g, L> {
         ensures within { IfOk result (λ n. share.new ≤ max_vertices) }
         ensures unchanged { OnErr result (share.new ≡ share.old) }
     {
-        self.locked.lock(rt).settle(alloc, share, worker, checked)
+        let mut locked = self.lock_for(rt, share);
+        let LockedBoard { board, book } = &mut *locked;
+        // for the proof: the invariant of the board before the claim is settled
+        let _game = board.game();
+        let posted = board.settle(alloc, worker, checked)?;
+        Ok(share.raise(book, board, posted))
     }
 
     /// Waits for the lock and copies the unsettled part of the board, which has at least the share's amount settled. The
@@ -250,15 +197,34 @@ impl<'g, L: Ledger> Office<'g, L> {
     ) -> Result<Copied<'g>, Memory>
         ensures some { IfOk result (λ c. IsCopyOfSome c.inside c.at c.settled share.now) }
     {
+        let locked = self.lock_for(rt, share);
+        // for the proof: the invariant of the board
+        let _game = locked.board.game();
+        locked.board.copy(alloc)
+    }
+
+    /// Waits for the lock of a board with at least the share's amount settled. If the board has less, it locks anew.
+    fn lock_for<'a, R: Wait>(
+        &'a self,
+        rt: &R,
+        share: &Share<L>,
+    ) -> MutexGuard<'a, LockedBoard<'g, L>>
+        ensures { share.now ≤ number_settled (mutex_guard_value result).board.journal }
+    {
         for _ in rt.forever() {
             let locked = self.locked.lock(rt);
-            // for the proof: the invariant of the board
-            let _game = locked.board.game();
-            // the ledger does not compare a share that is only lent
             if locked.board.settled() >= share.amount {
-                return locked.board.copy(alloc);
+                return locked;
             }
         }
         unreachable!()
     }
+}
+
+/// The state under the lock: the board, and the book, which is the number settled.
+#[derive(Drop)]
+pub(crate) struct LockedBoard<'g, L: Ledger> {
+    board: Board<'g>,
+    book: Book<L>,
+    ghost exact: { book.total ≡ number_settled board.journal },
 }

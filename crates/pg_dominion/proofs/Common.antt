@@ -30,13 +30,13 @@ pub use Rattle.pg_game.specs.Walk.{ClosedWalk, Walk, greatest, greatest_priority
 pub use Rattle.pg_game.specs.declared.player.Player.{Player}
 pub use Rattle.pg_text.specs.Solution.{winner_of}
 pub use Rattle.pg_text.specs.Verdict.{HasBadChoice, LacksChoice, Leaves}
-pub use Rattle.pg_dominion.specs.Area.{AttractsNoFurther, Takes, listed_by}
+pub use Rattle.pg_dominion.specs.AttractorState.{AttractsNoFurther, Takes, listed_by}
 pub use Rattle.pg_dominion.specs.Attraction.{IsAttractedRow, IsAttraction}
 pub use Rattle.pg_dominion.specs.Checked.{AgreesAt, AgreesWithGame, AreChecked, RowEdge, claim_row, claim_rows, row_priority}
 pub use Rattle.pg_dominion.specs.Claim.{AreRight, ClaimRows, IsRightRow, IsSound, choice_in, named}
-pub use Rattle.pg_dominion.specs.KeptEdges.{Edge, IsKept, IsWorst, kept_row}
+pub use Rattle.pg_dominion.specs.KeptEdges.{Edge, IsKept, IsOnBadCycle, kept_row}
 pub use Rattle.pg_dominion.specs.declared.checked.CheckedRow.{CheckedRow}
-pub use Rattle.pg_dominion.specs.declared.kept.Kept.{Kept}
+pub use Rattle.pg_dominion.specs.declared.strategy_graph.StrategyGraph.{StrategyGraph}
 pub use Rattle.pg_dominion.specs.private.Attracting.{IsTakenOrOpen, LeadFrom}
 pub use Rattle.pg_dominion.specs.private.KeptEdges.{AreLabelled, AreNoted, EdgeUnder, GoesOn, IsFollowed, IsQueued, IsSpread, Leads, Reaches, Searching}
 pub use Rattle.pg_dominion.specs.private.Plan.{IsPlanned, LeavesTo}

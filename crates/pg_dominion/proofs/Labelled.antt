@@ -1,6 +1,7 @@
 -- What a search that found no way back has shown of all that it reached.
 use Rattle.pg_dominion.proofs.Common.{◌≡◌, ◌≢◌, ℕ, ◌+◌, ◌<◌, ◌≤◌, ◌⊎◌, inl, inr, List, [], ◌∷◌, length, set, refl, sym, ◌∙◌, ap, subst, arith, length-set}
-use Rattle.pg_dominion.proofs.Common.{get_or-set_same, get_or-set_other, rules, cases_eq, cases_lt, get_or-replicate, get_or_past, priority_of, Walk, Kept}
+use Rattle.pg_dominion.proofs.Common.{get_or-set_same, get_or-set_other, rules, cases_eq, cases_lt, get_or-replicate, get_or_past, priority_of, Walk}
+use Rattle.pg_dominion.proofs.Common.{StrategyGraph}
 use Rattle.pg_dominion.proofs.Common.{EdgeUnder, Leads, Reaches, AreLabelled, IsQueued, IsFollowed, Searching, IsSpread, AreNoted}
 use Rattle.std.proofs.Common.{replicate}
 use Rattle.std.proofs.lemmas.List.{length-replicate}
@@ -15,7 +16,7 @@ blank_at : (n x : ℕ) → slice_index (replicate n 0) x ≡ 0
 blank_at n x = search (rules, cases_lt, get_or-replicate, get_or_past, length-replicate)
 
 -- before any search
-pub labelled_blank : (k : Kept) (n : ℕ) → n ≡ length k.game.now → (levels groups : List ℕ) → levels ≡ replicate n 0 → groups ≡ replicate n 0
+pub labelled_blank : (k : StrategyGraph) (n : ℕ) → n ≡ length k.game.now → (levels groups : List ℕ) → levels ≡ replicate n 0 → groups ≡ replicate n 0
     → AreLabelled k levels groups
 labelled_blank k n e levels groups l m = search (rules, length-replicate, blank_at)
 
@@ -55,7 +56,7 @@ module _ (levels groups places queue : List ℕ) (level start least : ℕ) where
       ]
 
 -- a search that has reached its start alone
-pub searching_first : (k : Kept) (levels groups : List ℕ) (top own : ℕ) (places : List ℕ) (start : ℕ) → start < length k.game.now
+pub searching_first : (k : StrategyGraph) (levels groups : List ℕ) (top own : ℕ) (places : List ℕ) (start : ℕ) → start < length k.game.now
     → length places ≡ length k.game.now → (top < slice_index levels start → slice_index groups start ≡ own)
     → Searching k levels groups top own (set places start 0) (start ∷ [])
 searching_first k levels groups top own places start l size counts = record {
@@ -70,7 +71,7 @@ searching_first k levels groups top own places start l size counts = record {
     zero_at : (i : ℕ) → i < length (start ∷ []) → i ≡ 0
     zero_at i li = omega (arith, li)
 
-module _ (k : Kept) (levels groups : List ℕ) (top own least : ℕ) (places queue : List ℕ)
+module _ (k : StrategyGraph) (levels groups : List ℕ) (top own least : ℕ) (places queue : List ℕ)
     (labels : AreLabelled k levels groups) (s : Searching k levels groups top own places queue)
     (all : (i : ℕ) → i < length queue → IsSpread k levels groups top own least places queue i) where
   followed : (x w : ℕ) → IsQueued places queue x → EdgeUnder k top x w → IsFollowed levels groups top own least places queue (slice_index places x) w

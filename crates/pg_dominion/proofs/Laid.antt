@@ -5,15 +5,16 @@ use Rattle.pg_dominion.proofs.Common.{◌∙◌, ap, subst, arith, length-set, g
 use Rattle.pg_dominion.proofs.Common.{if◌then◌else◌, Contains, AllByRecursion, ne_eqb, cases_Bool, cases_eq, take_more, take_all}
 use Rattle.pg_dominion.proofs.Common.{Player, same_player, opponent}
 use Rattle.pg_dominion.proofs.Common.{of_parity, Graph, IsGame, HasEdge, priority_of, owner_of, members, kept, KeptEdge, OnBadWalk, edge_inside, same_is}
-use Rattle.pg_dominion.proofs.Common.{is_same, ClosedWalk-weaker, Kept, ClaimRows, named, choice_in, IsRightRow, IsKept, Edge, IsWorst, kept_row}
+use Rattle.pg_dominion.proofs.Common.{is_same, ClosedWalk-weaker, StrategyGraph, ClaimRows, named, choice_in, AreRight, IsRightRow, IsKept, Edge}
+use Rattle.pg_dominion.proofs.Common.{IsOnBadCycle, kept_row}
 use Rattle.pg_dominion.proofs.Common.{Layout, IsLaid, laid_with, is_bad}
 use Rattle.std.specs.Prelude.{slice_index}
 use Rattle.std.proofs.lemmas.Bool.{and_parts, and_from}
 use Rattle.pg_game.proofs.Masks.{members-set, none_mask}
 use Rattle.std.proofs.Common.{replicate, set}
 use Rattle.std.proofs.lemmas.List.{length-replicate}
-use Rattle.pg_dominion.specs.private.Shape.{AreRightBefore, HasPlaces, chosen_at, chosen_with}
-use Rattle.pg_dominion.proofs.Shape.{next_unnamed}
+use Rattle.pg_dominion.specs.private.Shape.{HasPlaces, chosen_at, chosen_with}
+use Rattle.pg_dominion.proofs.Shape.{right_at, unnamed}
 use Rattle.pg_dominion.proofs.Searching.{starts_in}
 use Rattle.pg_dominion.proofs.Rows.{named-push, named-push_same, named-push_other, choice-none, choice-push_same, choice-push_other, named_right}
 
@@ -69,20 +70,20 @@ module _ (g : Graph) (p : Player) where
     bad_is = λ v. rw b (none_mask n v);
   }
 
-  -- the next row is laid out
-  pub IsLaid-next : (rows : ClaimRows) (i least : ℕ) (t : Layout) → AreRightBefore g p rows i least → i < length rows
-      → IsRightRow g p (get_or rows i (0, None)) → least ≤ (get_or rows i (0, None)).0 → IsLaid g p (take i rows) t
+  -- the next of right rows is laid out
+  pub IsLaid-next : (rows : ClaimRows) (i : ℕ) (t : Layout) → AreRight g p rows → i < length rows → IsLaid g p (take i rows) t
       → IsLaid g p (take (i + 1) rows) (laid_with t (get_or rows i (0, None)) (is_bad g p (get_or rows i (0, None)).0))
-  IsLaid-next rows i least t before l right up a =
+  IsLaid-next rows i t right l a =
       let r = get_or rows i (0, None) in
+      let h = right_at g p rows i right l in
       subst (λ (xs : ClaimRows). IsLaid g p xs (laid_with t r (is_bad g p r.0))) (sym (take_more rows i (0, None) l))
-      (IsLaid-push (take i rows) t r right.vertex (next_unnamed g p rows i least before up) a)
+      (IsLaid-push (take i rows) t r h.0.vertex (unnamed (take i rows) r.0 h.1) a)
 
   -- all rows are laid out
   pub IsLaid-all : (rows : ClaimRows) (n : ℕ) (t : Layout) → length rows ≤ n → IsLaid g p (take n rows) t → IsLaid g p rows t
   IsLaid-all rows n t l a = subst (λ (xs : ClaimRows). IsLaid g p xs t) (take_all n rows l) a
 
-abbrev pub layout_of : Kept → Layout
+abbrev pub layout_of : StrategyGraph → Layout
 layout_of k = record { inside = k.inside; chosen = k.chosen; choices = k.choices.items; bad = k.bad }
 
 -- the row of a choice, or else the inner row
@@ -95,7 +96,7 @@ pub row_cases : (b : Bool) (w : ℕ) (inner : List ℕ) (c : Option ℕ) → (if
 row_cases true w inner c e = subst (λ (o : Option ℕ). w ∷ [] ≡ from_choice o inner) e refl
 row_cases false w inner c e = subst (λ (o : Option ℕ). inner ≡ from_choice o inner) e refl
 
-module _ (k : Kept) (p : Player) (rows : ClaimRows) (game : IsGame k.game.now)
+module _ (k : StrategyGraph) (p : Player) (rows : ClaimRows) (game : IsGame k.game.now)
     (right : AllByRecursion (IsRightRow k.game.now p) rows) (a : IsLaid k.game.now p rows (layout_of k)) where
   abbrev g : Graph
   g = k.game.now
@@ -120,8 +121,8 @@ module _ (k : Kept) (p : Player) (rows : ClaimRows) (game : IsGame k.game.now)
   from_kept : (v w : ℕ) → Own v w → Edge k v w
   from_kept v w (n, m) = subst (λ (xs : List ℕ). Contains xs w) (sym (row_is v)) (rw n m)
 
-  pub worst_is_bad : (v : ℕ) → IsWorst k v ↔ OnBadWalk g p (named rows) (choice_in rows) v
-  worst_is_bad v = (
+  pub bad_cycle_is_bad_walk : (v : ℕ) → IsOnBadCycle k v ↔ OnBadWalk g p (named rows) (choice_in rows) v
+  bad_cycle_is_bad_walk v = (
     λ h. (let b = and_parts (named rows v) (is_bad g p v) (sym (a.bad_is v) ∙ h.0) in
         (h.1.0, ClosedWalk-weaker (Edge k) Own to_kept (v ∷ h.1.0) h.1.1, h.1.2, same_is (of_parity (priority_of g v)) (opponent p) b.1)),
     λ h. (

@@ -3,7 +3,8 @@ use Rattle.pg_dominion.proofs.Common.{◌≡◌, ℕ, ◌+◌, ◌<◌, ◌≤�
 use Rattle.pg_dominion.proofs.Common.{arith, get_or-set_same, get_or-set_other, ltb-true, lt-ltb, rules, Option, Some, None, Contains, IsStrictlyIncreasing}
 use Rattle.pg_dominion.proofs.Common.{cases_Bool, cases_eq, Player, same_player, opponent, of_parity, Graph, IsGame, HasEdge, priority_of, owner_of}
 use Rattle.pg_dominion.proofs.Common.{successors_of, In, members, kept, KeptEdge, Walk, NoneHas, edge_inside, member_below, same_is, is_same, ClosedWalk-weaker}
-use Rattle.pg_dominion.proofs.Common.{winner_of, LacksChoice, HasBadChoice, Leaves, Kept, IsKept, Edge, IsWorst, kept_row, Layout, laid_with, is_bad, IsPlanned}
+use Rattle.pg_dominion.proofs.Common.{winner_of, LacksChoice, HasBadChoice, Leaves, StrategyGraph, IsKept, Edge, IsOnBadCycle, kept_row, Layout, laid_with}
+use Rattle.pg_dominion.proofs.Common.{is_bad, IsPlanned}
 use Rattle.pg_dominion.proofs.Common.{LeavesTo, sorted_from_strictly_increasing, below_from_sorted}
 use Rattle.std.specs.Prelude.{slice_index}
 use Rattle.std.proofs.Common.{replicate}
@@ -45,7 +46,7 @@ IsPlanned-push g rows v t c b l e f a = record {
   ];
 }
 
-module _ (k : Kept) (rows : SolutionRows) (game : IsGame k.game.now) (size : length rows ≡ length k.game.now) where
+module _ (k : StrategyGraph) (rows : SolutionRows) (game : IsGame k.game.now) (size : length rows ≡ length k.game.now) where
   abbrev g : Graph
   g = k.game.now
 
@@ -95,9 +96,9 @@ module _ (k : Kept) (rows : SolutionRows) (game : IsGame k.game.now) (size : len
       from_kept : (p : Player) (v w : ℕ) → KeptEdge g p (won_by rows p) (choice_of rows) v w → Edge k v w
       from_kept p v w (i, m) = search (rules, won)
 
-      pub worst_is_on_bad_walk : ((v : ℕ) → v < length g → members k.bad v ≡ is_bad g (winner_of rows v) v) → (v : ℕ)
-          → IsWorst k v ↔ IsOnBadWalk g rows v
-      worst_is_on_bad_walk bad v = (
+      pub bad_cycle_is_on_bad_walk : ((v : ℕ) → v < length g → members k.bad v ≡ is_bad g (winner_of rows v) v) → (v : ℕ)
+          → IsOnBadCycle k v ↔ IsOnBadWalk g rows v
+      bad_cycle_is_on_bad_walk bad v = (
         λ h. (let l : v < length g = omega (arith, member_below k.bad v h.0, kept_is.bad) in (
           h.1.0,
           to_kept (winner_of rows v) v h.1.0 v (is_won v l) h.1.1,
@@ -139,7 +140,7 @@ module _ (k : Kept) (rows : SolutionRows) (game : IsGame k.game.now) (size : len
           | inr s ↦ absurd (let h : Some w ≡ None = rw s at e in cc h)
         ]
 
-module _ (k : Kept) (rows : SolutionRows) where
+module _ (k : StrategyGraph) (rows : SolutionRows) where
   -- the first in a rising row that leads to the other winner is the least
   pub first_is_least : (v : ℕ) (ws : List ℕ) (i : ℕ) → IsStrictlyIncreasing (kept_row k v) → ws ≡ kept_row k v → i < length ws
       → ((j : ℕ) → j < i → winner_of rows (slice_index ws j) ≡ winner_of rows v) → (x : ℕ) → LeavesTo k rows v x → slice_index ws i ≤ x

@@ -2,7 +2,7 @@
 use Rattle.pg_dominion.proofs.Common.{◌≡◌, ℕ, zero, suc, ◌+◌, ◌<◌, ◌≤◌, false, inl, inr, List, [], ◌∷◌, ◌++◌, length, take, map, get_or, refl, sym, subst}
 use Rattle.pg_dominion.proofs.Common.{arith, length-append, rules, below_or_last, Option, AllByRecursion}
 use Rattle.pg_dominion.proofs.Common.{IsStrictlyIncreasing, eqb-true, false_from_ne_true}
-use Rattle.pg_dominion.proofs.Common.{take_more, take_all, length-map, get_or_append_left, get_or_push, sorted_from_strictly_increasing}
+use Rattle.pg_dominion.proofs.Common.{drop, take-append-drop, take_more, take_all, length-map, get_or_append_left, get_or_push, sorted_from_strictly_increasing}
 use Rattle.pg_dominion.proofs.Common.{below_from_sorted, Player, Graph, ClaimRows, named, IsRightRow, AreRight, next_after}
 use Rattle.std.specs.Prelude.{slice_index}
 use Rattle.std.proofs.Common.{None}
@@ -81,6 +81,14 @@ all_front P (x ∷ xs) ys a = (a.0, all_front P xs ys a.1)
 pub AreRight-front : (g : Graph) (p : Player) (xs ys : ClaimRows) → AreRight g p (xs ++ ys) → AreRight g p xs
 AreRight-front g p xs ys a = search (rules, all_front, a.each, map-append, a.rising, get_or_append_left, length-append)
 
+-- each of right rows is right, and its vertex is above those before
+pub right_at : (g : Graph) (p : Player) (rows : ClaimRows) (i : ℕ) → AreRight g p rows → i < length rows
+    → IsRightRow g p (get_or rows i (0, None)) × (next_after (take i rows) ≤ (get_or rows i (0, None)).0)
+right_at g p rows i a l =
+    let front : AreRight g p (take (i + 1) rows) = AreRight-front g p (take (i + 1) rows) (drop (i + 1) rows)
+    (subst (λ (xs : ClaimRows). AreRight g p xs) (sym (take-append-drop (i + 1) rows)) a) in
+    AreRight-last g p (take i rows) (get_or rows i (0, None)) (subst (λ (xs : ClaimRows). AreRight g p xs) (take_more rows i (0, None) l) front)
+
 -- rows that are checked one after another
 module _ (g : Graph) (p : Player) (rows : ClaimRows) where
   pub right_before_none : AreRightBefore g p rows 0 0
@@ -111,7 +119,3 @@ module _ (g : Graph) (p : Player) (rows : ClaimRows) where
 
     pub all_right : length rows ≤ i → AreRight g p rows
     all_right l = subst (λ (xs : ClaimRows). AreRight g p xs) (take_all i rows l) before.right
-
-    -- the next vertex is not named before
-    pub next_unnamed : least ≤ next.0 → named (take i rows) next.0 ≡ false
-    next_unnamed up = unnamed (take i rows) next.0 (omega (arith, before.least_is, up))

@@ -3,26 +3,26 @@ use Rattle.std.specs.Prelude.{ℕ, ◌≡◌, ◌<◌, List, [], ◌∷◌, leng
 use Rattle.pg_game.specs.Graph.{priority_of, successors_of}
 use Rattle.pg_game.specs.VertexSet.{In, members}
 use Rattle.pg_game.specs.Walk.{ClosedWalk, greatest_priority}
-use Rattle.pg_dominion.specs.declared.kept.Kept.{Kept}
+use Rattle.pg_dominion.specs.declared.strategy_graph.StrategyGraph.{StrategyGraph}
 
 -- the masks and the choices have one place for each vertex, and each choice is a vertex
-pub record IsKept (k : Kept) : Type 0 where
+pub record IsKept (k : StrategyGraph) : Type 0 where
   pub inside : length k.inside ≡ length k.game.now
   pub chosen : length k.chosen ≡ length k.game.now
   pub choices : length k.choices.items ≡ length k.game.now
   pub bad : length k.bad ≡ length k.game.now
   pub below : (v : ℕ) → In (members k.chosen) v → slice_index k.choices.items v < length k.game.now
 
-abbrev pub kept_row : Kept → ℕ → List ℕ
+abbrev pub kept_row : StrategyGraph → ℕ → List ℕ
 kept_row k v = if members k.chosen v then slice_index k.choices.items v ∷ [] else (if members k.inside v then successors_of k.game.now v else [])
 
-abbrev pub Edge : Kept → ℕ → ℕ → Type 0
+abbrev pub Edge : StrategyGraph → ℕ → ℕ → Type 0
 Edge k v w = Contains (kept_row k v) w
 
 -- the vertex is the greatest on a closed walk through it
-abbrev pub OnTop : Kept → ℕ → Type 0
+abbrev pub OnTop : StrategyGraph → ℕ → Type 0
 OnTop k v = (vs : List ℕ) × ClosedWalk (Edge k) (v ∷ vs) × (priority_of k.game.now v ≡ greatest_priority k.game.now (v ∷ vs))
 
 -- a bad vertex that is the greatest on a closed walk through it
-abbrev pub IsWorst : Kept → ℕ → Type 0
-IsWorst k v = In (members k.bad) v × OnTop k v
+abbrev pub IsOnBadCycle : StrategyGraph → ℕ → Type 0
+IsOnBadCycle k v = In (members k.bad) v × OnTop k v

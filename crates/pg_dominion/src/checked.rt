@@ -22,35 +22,6 @@ pub struct CheckedRow {
     pub kept: Sequence<u32>,
 }
 
-/// A claim that `check_claim` accepted, which alone makes such a value. Its type keeps that its rows are not empty and
-/// rise, that one successor is kept at each vertex of its player, and that its kept edges make only good closed walks.
-#[derive(Drop)]
-pub struct Checked {
-    player: Player,
-    rows: Vec<CheckedRow>,
-}
-
-impl Model for Checked {
-    ghost use Rattle.pg_dominion.specs.Checked.{CheckedClaim, AreChecked};
-
-    ghost Value = { CheckedClaim };
-
-    ghost view = { λ c. record { player = c.player; rows = c.rows.items } };
-
-    ghost invariant = { λ c. AreChecked c.player c.rows.items };
-}
-
-/// Where the kept edges of a claim's row end: in its choice alone, or without one in all successors of its vertex.
-pub(crate) fn kept_successors<'a>(game: &'a ForwardGame, row: &'a (u32, Option<u32>)) -> &'a [u32]
-    requires { row.now.0 < length game.now }
-    ensures { result.now ≡ ends_at game.now row.now.0 row.now.1 }
-{
-    match &row.1 {
-        Some(w) => slice::from_ref(w),
-        None => game.successors(row.0),
-    }
-}
-
 impl CheckedRow {
     /// The row of a claim that is right in a game, with what the game says of its vertex.
     fn of(
@@ -104,22 +75,22 @@ impl CheckedRow {
     }
 }
 
-/// What the game says of the rows of a claim that are right in it.
-fn checked_rows(
-    alloc: Global,
-    game: &ForwardGame,
-    claim: &Claim,
-) -> Result<Vec<CheckedRow>, AllocError>
-    requires { AreRight game.now claim.now.player claim.now.rows }
-    ensures agree { IfOk result (λ rows. AgreesWithGame game.now claim.now.player rows.items) }
-    ensures rows { IfOk result (λ rows. claim_rows claim.now.player rows.items ≡ claim.now.rows) }
-{
-    let claimed = claim.rows.as_slice();
-    let mut rows = Vec::with_capacity(alloc, claimed.len())?;
-    'rows: for row in claimed {
-        rows.push(CheckedRow::of(alloc, game, claim.player, *row)?)?;
-    }
-    Ok(rows)
+/// A claim that `check_claim` accepted, which alone makes such a value. Its type keeps that its rows are not empty and
+/// rise, that one successor is kept at each vertex of its player, and that its kept edges make only good closed walks.
+#[derive(Drop)]
+pub struct Checked {
+    player: Player,
+    rows: Vec<CheckedRow>,
+}
+
+impl Model for Checked {
+    ghost use Rattle.pg_dominion.specs.Checked.{CheckedClaim, AreChecked};
+
+    ghost Value = { CheckedClaim };
+
+    ghost view = { λ c. record { player = c.player; rows = c.rows.items } };
+
+    ghost invariant = { λ c. AreChecked c.player c.rows.items };
 }
 
 impl Checked {
@@ -182,4 +153,33 @@ impl Checked {
         }
         None
     }
+}
+
+/// Where the kept edges of a claim's row end: in its choice alone, or without one in all successors of its vertex.
+pub(crate) fn kept_successors<'a>(game: &'a ForwardGame, row: &'a (u32, Option<u32>)) -> &'a [u32]
+    requires { row.now.0 < length game.now }
+    ensures { result.now ≡ ends_at game.now row.now.0 row.now.1 }
+{
+    match &row.1 {
+        Some(w) => slice::from_ref(w),
+        None => game.successors(row.0),
+    }
+}
+
+/// What the game says of the rows of a claim that are right in it.
+fn checked_rows(
+    alloc: Global,
+    game: &ForwardGame,
+    claim: &Claim,
+) -> Result<Vec<CheckedRow>, AllocError>
+    requires { AreRight game.now claim.now.player claim.now.rows }
+    ensures agree { IfOk result (λ rows. AgreesWithGame game.now claim.now.player rows.items) }
+    ensures rows { IfOk result (λ rows. claim_rows claim.now.player rows.items ≡ claim.now.rows) }
+{
+    let claimed = claim.rows.as_slice();
+    let mut rows = Vec::with_capacity(alloc, claimed.len())?;
+    'rows: for row in claimed {
+        rows.push(CheckedRow::of(alloc, game, claim.player, *row)?)?;
+    }
+    Ok(rows)
 }

@@ -1,21 +1,26 @@
 //! Claims of a player, and the check of one: dominions without their closure (Jurdziński, Paterson and Zwick 2008).
 //!
-//! The rows are checked one after another. A claim that names a vertex of the opponent's parity, and is not small, is laid out
-//! by vertex as kept edges meanwhile, and `cycles` looks for a closed walk whose greatest priority is the opponent's.
+//! The rows are checked one after another. For a small claim with a vertex of the opponent's parity, a search along the rows looks
+//! for a closed walk whose greatest priority is the opponent's. Any other such claim, and one that this search cannot decide, is
+//! laid out by vertex as kept edges, and `cycles` looks for the walk.
 
-ghost use Rattle.std.specs.Prelude.{◌≡◌, ℕ, ◌↔◌, ◌<◌, IfOk, IfErr, OnOk, length, slice_set, true, false};
+ghost use Rattle.std.specs.Prelude.{◌≡◌, ℕ, ◌↔◌, ◌<◌, IfOk, IfErr, OnOk, length, slice_set, true, false, ◌++◌, List, MatchOption, None, if◌then◌else◌};
 ghost use Rattle.std.specs.List.{list_any};
 ghost use Rattle.pg_game.specs.Region.{OnBadWalk};
 ghost use Rattle.pg_dominion.specs.Claim.{IsSound, IsRightRow, HasShape, named, choice_in};
 ghost use Rattle.pg_dominion.specs.Fault.{IsClaimFault};
 ghost use Rattle.pg_dominion.specs.private.Shape.{is_bad, chosen_with, choices_with};
-ghost use Rattle.pg_dominion.specs.KeptEdges.{IsKept, IsWorst};
+ghost use Rattle.pg_dominion.specs.KeptEdges.{IsKept, IsOnBadCycle};
 ghost use Rattle.pg_dominion.specs.Checked.{claim_of, AgreesWithGame};
+ghost use Rattle.pg_game.specs.Least.{NoneHas};
+ghost use Rattle.pg_game.specs.Graph.{owner_of};
+ghost use Rattle.pg_game.specs.Player.{same_player};
+ghost use Rattle.pg_game.specs.VertexSet.{In};
+ghost use Rattle.pg_dominion.specs.private.Staying.{Stays, AreNamed};
 
-use crate::checked::Checked;
+use crate::checked::{Checked, kept_successors};
 use crate::cycles::least_bad_vertex;
-use crate::kept::Kept;
-use crate::small::{MOST_ROWS, is_shown_small};
+use crate::strategy_graph::StrategyGraph;
 use pg_game::{ForwardGame, Game, Mask, Player, Sequence};
 use std::alloc::{AllocError, Global};
 
@@ -49,49 +54,16 @@ impl From<AllocError> for ClaimFault {
     }
 }
 
-/// Whether the row names a vertex, with a choice that is a successor exactly where the player owns it.
-fn is_right_row(game: &ForwardGame, player: Player, row: (u32, Option<u32>)) -> bool
-    ensures right { result ≡ true → IsRightRow game.now player row }
-    ensures wrong { result ≡ false → IsRightRow game.now player row → ⊥ }
+/// The choice, if the player owns the vertex; else none.
+pub fn own_choice(game: &ForwardGame, player: Player, v: u32, choice: Option<u32>) -> Option<u32>
+    requires { v < length game.now }
+    ensures { result ≡ (if same_player (owner_of game.now v) player then choice else None) }
 {
-    let (v, choice) = row;
-    if v >= game.len() {
-        return false;
+    if game.owner(v) == player {
+        choice
+    } else {
+        None
     }
-    let own = game.owner(v) == player;
-    match choice {
-        Some(w) => own && game.has_edge(v, w),
-        None => !own,
-    }
-}
-
-/// Checks the rows of a claim one after another: all of them or, unless it goes past bad vertices, those before the first that
-/// names one. Whether it checked all. A wrong row is the error, which says its place.
-fn check_rows(game: &ForwardGame, claim: &Claim, past_bad: bool) -> Result<bool, ClaimFault>
-    ensures shape { IfOk result (λ all. all ≡ true → HasShape game.now claim.now.player claim.now.rows) }
-    ensures past { IfOk result (λ all. past_bad ≡ true → all ≡ true) }
-    ensures none { IfOk result (λ all. all ≡ true → past_bad ≡ false → list_any (λ r. is_bad game.now claim.now.player r.0) claim.now.rows ≡ false) }
-    ensures some { IfOk result (λ all. all ≡ false → list_any (λ r. is_bad game.now claim.now.player r.0) claim.now.rows ≡ true) }
-    ensures fault { IfErr result (λ e. IsClaimFault game.now claim.now.player claim.now.rows e) }
-{
-    let n = game.len();
-    let rows = claim.rows.as_slice();
-    if rows.is_empty() {
-        return Err(ClaimFault::Shape(0));
-    }
-    let mut place = 0u32;
-    let mut least = 0u32;
-    'rows: for row in rows {
-        if row.0 < least || !is_right_row(game, claim.player, *row) {
-            return Err(ClaimFault::Shape(place));
-        }
-        if !past_bad && is_bad(game, claim.player, row.0) {
-            return Ok(false);
-        }
-        least = row.0 + 1;
-        place += 1;
-    }
-    Ok(true)
 }
 
 /// Whether the vertex's priority has the parity of the player's opponent.
@@ -125,61 +97,6 @@ pub fn note_choice(chosen: &mut Mask, choices: &mut Vec<u32>, v: u32, choice: Op
     choices[v as usize] = choice.unwrap_or(0);
 }
 
-/// The kept edges of a claim, and its bad vertices, laid out while its rows are checked.
-fn kept_of<'g>(alloc: Global, game: &'g ForwardGame, claim: &Claim) -> Result<Kept<'g>, ClaimFault>
-    ensures shape { IfOk result (λ k. HasShape game.now claim.now.player claim.now.rows) }
-    ensures kept { IfOk result (λ k. IsKept k) }
-    ensures worst { IfOk result (λ k. (v : ℕ) → IsWorst k v ↔ OnBadWalk game.now claim.now.player (named claim.now.rows) (choice_in claim.now.rows) v) }
-    ensures fault { IfErr result (λ e. IsClaimFault game.now claim.now.player claim.now.rows e) }
-{
-    let n = game.len();
-    let rows = claim.rows.as_slice();
-    if rows.is_empty() {
-        return Err(ClaimFault::Shape(0));
-    }
-    let mut inside = Mask::empty(alloc, n)?;
-    let mut chosen = Mask::empty(alloc, n)?;
-    let mut choices = vec![in alloc; 0u32; n as usize]?;
-    let mut bad = Mask::empty(alloc, n)?;
-    let mut place = 0u32;
-    let mut least = 0u32;
-    'rows: for row in rows {
-        let (v, choice) = *row;
-        if v < least || !is_right_row(game, claim.player, *row) {
-            return Err(ClaimFault::Shape(place));
-        }
-        inside.insert(v);
-        note_test(is_bad(game, claim.player, v), &mut bad, v);
-        note_choice(&mut chosen, &mut choices, v, choice);
-        least = v + 1;
-        place += 1;
-    }
-    Ok(Kept {
-        game,
-        inside,
-        chosen,
-        choices,
-        bad,
-    })
-}
-
-/// Whether a claim is seen to be sound with no table of one place a vertex: it names no bad vertex, or it is small and a
-/// search along its rows finds no bad closed walk. The refusals are those of [`judge_claim`].
-fn is_seen_sound(alloc: Global, game: &ForwardGame, claim: &Claim) -> Result<bool, ClaimFault>
-    ensures sound { IfOk result (λ seen. seen ≡ true → IsSound game.now claim.now.player claim.now.rows) }
-    ensures fault { IfErr result (λ e. IsClaimFault game.now claim.now.player claim.now.rows e) }
-{
-    if check_rows(game, claim, false)? {
-        return Ok(true);
-    }
-    if claim.rows.as_slice().len() > MOST_ROWS {
-        return Ok(false);
-    }
-    let _all = check_rows(game, claim, true)?;
-    let is_shown = is_shown_small(alloc, game, claim)?;
-    Ok(is_shown)
-}
-
 /// Whether a claim is sound in a game: it has its shape, and the edges that it keeps inside make only closed walks
 /// whose greatest priority has the player's parity. Edges that leave the claim don't count.
 ///
@@ -208,4 +125,204 @@ pub fn check_claim(alloc: Global, game: &Game, claim: &Claim) -> Result<Checked,
 {
     judge_claim(alloc, game, claim)?;
     Ok(Checked::of(alloc, game.forward(), claim)?)
+}
+
+/// Whether a claim is seen to be sound with no table of one place a vertex: it names no bad vertex, or it is small and a
+/// search along its rows finds no bad closed walk. The refusals are those of [`judge_claim`].
+fn is_seen_sound(alloc: Global, game: &ForwardGame, claim: &Claim) -> Result<bool, ClaimFault>
+    ensures shape { IfOk result (λ seen. HasShape game.now claim.now.player claim.now.rows) }
+    ensures sound { IfOk result (λ seen. seen ≡ true → IsSound game.now claim.now.player claim.now.rows) }
+    ensures fault { IfErr result (λ e. IsClaimFault game.now claim.now.player claim.now.rows e) }
+{
+    if !names_bad_vertex(game, claim)? {
+        return Ok(true);
+    }
+    if claim.rows.as_slice().len() > MOST_ROWS {
+        return Ok(false);
+    }
+    let is_shown = is_shown_small(alloc, game, claim)?;
+    Ok(is_shown)
+}
+
+/// Checks the rows of a claim one after another. Whether one names a bad vertex. A wrong row is the error, which says its place.
+fn names_bad_vertex(game: &ForwardGame, claim: &Claim) -> Result<bool, ClaimFault>
+    ensures shape { IfOk result (λ bad. HasShape game.now claim.now.player claim.now.rows) }
+    ensures bad { IfOk result (λ bad. bad ≡ list_any (λ r. is_bad game.now claim.now.player r.0) claim.now.rows) }
+    ensures fault { IfErr result (λ e. IsClaimFault game.now claim.now.player claim.now.rows e) }
+{
+    // for the proof: a game has fewer than 2^32 vertices, so a vertex and one more fits
+    let _n = game.len();
+    let rows = claim.rows.as_slice();
+    if rows.is_empty() {
+        return Err(ClaimFault::Shape(0));
+    }
+    let mut place = 0u32;
+    let mut least = 0u32;
+    let mut bad = false;
+    'rows: for row in rows {
+        if row.0 < least || !is_right_row(game, claim.player, *row) {
+            return Err(ClaimFault::Shape(place));
+        }
+        bad |= is_bad(game, claim.player, row.0);
+        least = row.0 + 1;
+        place += 1;
+    }
+    Ok(bad)
+}
+
+/// Whether the row names a vertex, with a choice that is a successor exactly where the player owns it.
+fn is_right_row(game: &ForwardGame, player: Player, row: (u32, Option<u32>)) -> bool
+    ensures right { result ≡ true → IsRightRow game.now player row }
+    ensures wrong { result ≡ false → IsRightRow game.now player row → ⊥ }
+{
+    let (v, choice) = row;
+    if v >= game.len() {
+        return false;
+    }
+    let own = game.owner(v) == player;
+    match choice {
+        Some(w) => own && game.has_edge(v, w),
+        None => !own,
+    }
+}
+
+/// The greatest number of rows of a small claim.
+const MOST_ROWS: usize = 64;
+
+/// Whether the search showed that a claim has no bad closed walk. It is for small claims, since it compares rows one by one.
+fn is_shown_small(alloc: Global, game: &ForwardGame, claim: &Claim) -> Result<bool, AllocError>
+    requires { HasShape game.now claim.now.player claim.now.rows }
+    ensures { IfOk result (λ shown. shown ≡ true → NoneHas (OnBadWalk game.now claim.now.player (named claim.now.rows) (choice_in claim.now.rows))) }
+{
+    // for the proof: a claim with its shape names vertices of a game
+    let _n = game.len();
+    let rows = claim.rows.as_slice();
+    let mut list = Vec::new(alloc);
+    let mut steps = 0usize;
+    'rows: for row in rows {
+        let v = row.0;
+        if is_bad(game, claim.player, v) && !never_returns(game, claim, v, &mut list, &mut steps)? {
+            return Ok(false);
+        }
+    }
+    Ok(true)
+}
+
+/// Whether the search showed that the vertex is not the greatest on a closed walk of the claim's kept edges.
+fn never_returns(
+    game: &ForwardGame,
+    claim: &Claim,
+    start: u32,
+    list: &mut Vec<u32>,
+    steps: &mut usize,
+) -> Result<bool, AllocError>
+    requires shape { HasShape game.now claim.now.player claim.now.rows }
+    requires start { start < length game.now }
+    requires vertex { In (named claim.now.rows) start }
+    ensures { IfOk result (λ shown. shown ≡ true → OnBadWalk game.now claim.now.player (named claim.now.rows) (choice_in claim.now.rows) start → ⊥) }
+{
+    list.clear();
+    if !expand(game, claim, start, start, list, steps)? {
+        return Ok(false);
+    }
+    'list: for next in 0..usize::MAX {
+        if next >= list.len() {
+            return Ok(true);
+        }
+        let v = list[next];
+        if !expand(game, claim, start, v, list, steps)? {
+            return Ok(false);
+        }
+    }
+    Ok(false)
+}
+
+/// Lists the vertex's kept successors in the claim of at most the start's priority. Returns whether the start is not among them.
+fn expand(
+    game: &ForwardGame,
+    claim: &Claim,
+    start: u32,
+    v: u32,
+    list: &mut Vec<u32>,
+    steps: &mut usize,
+) -> Result<bool, AllocError>
+    requires shape { HasShape game.now claim.now.player claim.now.rows }
+    requires start { start < length game.now }
+    requires vertex { In (named claim.now.rows) v }
+    requires named { AreNamed claim.now.rows list.old.items }
+    ensures named { IfOk result (λ shown. AreNamed claim.now.rows list.new.items) }
+    ensures longer { IfOk result (λ shown. (more : List ℕ) × (list.new.items ≡ list.old.items ++ more)) }
+    ensures stays { IfOk result (λ shown. shown ≡ true → Stays game.now claim.now.player claim.now.rows start list.new.items v) }
+{
+    // for the proof: the graph is a game, so the ends of edges are vertices
+    let _n = game.len();
+    let rows = claim.rows.as_slice();
+    let Some(choice) = choice_at(rows, v) else {
+        unreachable!()
+    };
+    let row = (v, choice);
+    let ends = kept_successors(game, &row);
+    let top = game.priority(start);
+    'ends: for end in ends {
+        let w = *end;
+        *steps = steps.saturating_add(rows.len());
+        if *steps > MOST_STEPS || w == start {
+            return Ok(false);
+        }
+        let Some(_) = choice_at(rows, w) else {
+            continue;
+        };
+        if game.priority(w) > top || list.as_slice().contains(&w) {
+            continue;
+        }
+        list.push(w)?;
+    }
+    Ok(true)
+}
+
+/// The choice in the row of the vertex; none without such a row.
+fn choice_at(rows: &[(u32, Option<u32>)], v: u32) -> Option<Option<u32>>
+    ensures { MatchOption result (named rows.now v ≡ false) (λ c. (named rows.now v ≡ true) × (choice_in rows.now v ≡ c)) }
+{
+    'rows: for row in rows {
+        if row.0 == v {
+            return Some(row.1);
+        }
+    }
+    None
+}
+
+/// The greatest number of comparisons of rows.
+const MOST_STEPS: usize = 16_384;
+
+/// The kept edges of a claim with its shape, and its bad vertices.
+fn kept_of<'g>(
+    alloc: Global,
+    game: &'g ForwardGame,
+    claim: &Claim,
+) -> Result<StrategyGraph<'g>, AllocError>
+    requires { HasShape game.now claim.now.player claim.now.rows }
+    ensures kept { IfOk result (λ k. IsKept k) }
+    ensures bad_cycle { IfOk result (λ k. (v : ℕ) → IsOnBadCycle k v
+        ↔ OnBadWalk game.now claim.now.player (named claim.now.rows) (choice_in claim.now.rows) v) }
+{
+    let n = game.len();
+    let rows = claim.rows.as_slice();
+    let mut inside = Mask::empty(alloc, n)?;
+    let mut chosen = Mask::empty(alloc, n)?;
+    let mut choices = vec![in alloc; 0u32; n as usize]?;
+    let mut bad = Mask::empty(alloc, n)?;
+    'rows: for row in rows {
+        let (v, choice) = *row;
+        inside.insert(v);
+        note_test(is_bad(game, claim.player, v), &mut bad, v);
+        note_choice(&mut chosen, &mut choices, v, choice);
+    }
+    Ok(StrategyGraph {
+        game,
+        inside,
+        chosen,
+        choices,
+        bad,
+    })
 }

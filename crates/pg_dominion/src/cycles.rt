@@ -1,55 +1,72 @@
 //! The least bad vertex that is the greatest on a closed walk of kept edges.
 //!
-//! The plain body searches from each bad vertex for a way back below its priority, and passes over what earlier searches
-//! have shown (`walks`). In most games the searches end soon. If they take long, a ranking of the vertices (`peeling`)
-//! gives the answer in near-linear time. A pass over the edges checks every ranking (`ranking`), and one search confirms
-//! the vertex that it names. If either fails, the plain body continues.
+//! The plain body searches from each bad vertex for a way back below its priority. In most games the searches end soon. If they take
+//! long, a ranking of the vertices (`peeling`) gives the answer in near-linear time: a pass over the edges checks every ranking
+//! (`ranking`), and one search confirms the vertex that it names. If either fails, the plain body continues.
+//!
+//! A search without a way back has reached a set. A closed walk under its priority that meets this set stays in it. So its
+//! vertices get a level and a group: a later search of a lesser priority from outside the group passes over them. From a
+//! place in the queue before the first that was reached twice, each edge leads to a later place. Such a vertex is on no such
+//! closed walk, and gets a group of its own: it needs no search up to the level.
 
-ghost use Rattle.std.specs.Prelude.{◌≡◌, ℕ, ◌<◌, ◌≤◌, IfOk, IfSome, MatchOption, Some, None, length, true, false};
+ghost use Rattle.std.specs.Prelude.{◌≡◌, ℕ, ◌<◌, ◌≤◌, IfOk, IfSome, MatchOption, Some, None, length, true, false, ◌≢◌, ◌^◌, ◌⊎◌, slice_index};
 ghost use Rattle.pg_game.specs.Least.{NoneHas, IsLeast};
-ghost use Rattle.pg_dominion.specs.KeptEdges.{IsKept, IsWorst};
-ghost use Rattle.pg_dominion.specs.private.KeptEdges.{Reaches, IsBounded};
+ghost use Rattle.pg_dominion.specs.KeptEdges.{IsKept, IsOnBadCycle};
+ghost use Rattle.pg_dominion.specs.private.KeptEdges.{Reaches, IsBounded, Leads, AreLabelled, Searching, IsSpread, GoesOn, AreNoted};
 ghost use Rattle.pg_dominion.specs.private.SearchProgress.{AreSearches, IsSearched};
+ghost use Rattle.pg_game.specs.Graph.{priority_of};
 
-use crate::kept::Kept;
 use crate::peeling::find_ranking;
 use crate::ranking::is_ranked;
-use crate::walks::{Labels, WalkSearch, is_alone, walks_back};
+use crate::strategy_graph::StrategyGraph;
 use std::alloc::{AllocError, Global};
 
-/// Whether the vertex is the greatest on a closed walk through it, by a search with tables of its own.
-fn leads_back(alloc: Global, kept: &Kept, v: u32) -> Result<bool, AllocError>
-    requires kept { IsKept kept.now }
-    requires vertex { v < length kept.now.game.now }
-    ensures { IfOk result (λ found. found ≡ true → Reaches kept.now v v) }
+/// The least bad vertex that is the greatest on a closed walk through it.
+///
+/// In most games a search from each bad vertex ends soon. If searches look again and again at reached vertices, a ranking
+/// gives the result in near-linear time, with the memory of their tables. The only error is refused memory.
+pub fn least_bad_vertex(alloc: Global, kept: &StrategyGraph) -> Result<Option<u32>, AllocError>
+    requires { IsKept kept.now }
+    ensures { IfOk result (λ least. MatchOption least (NoneHas (IsOnBadCycle kept.now)) (IsLeast (IsOnBadCycle kept.now))) }
 {
-    let mut labels = Labels::new(alloc, kept)?;
-    let mut search = WalkSearch::new(alloc, kept)?;
-    let found = walks_back(kept, v, u64::MAX, &mut labels, &mut search)?;
-    Ok(found == Some(true))
+    let patience = u64::from(kept.game.len()) / 2;
+    let from = match search_from(alloc, kept, 0, patience)? {
+        SearchProgress::All(least) => return Ok(least),
+        SearchProgress::Before(v) => v,
+    };
+    if let Some(least) = first_by_ranking(alloc, kept)? {
+        return Ok(least);
+    }
+    match search_from(alloc, kept, from, u64::MAX)? {
+        SearchProgress::All(least) => Ok(least),
+        SearchProgress::Before(_) => unreachable!(),
+    }
 }
 
-/// The least bad vertex that is the greatest on a closed walk through it, if a ranking shows it.
-fn first_by_ranking(alloc: Global, kept: &Kept) -> Result<Option<Option<u32>>, AllocError>
-    requires { IsKept kept.now }
-    ensures { IfOk result (λ shown. IfSome shown (λ least. MatchOption least (NoneHas (IsWorst kept.now)) (IsLeast (IsWorst kept.now)))) }
+/// Searches from each bad vertex, from `from` on, until there are more repeats than the patience and about twice the edges at
+/// which searches started. A patience of the greatest number has no limit.
+fn search_from(
+    alloc: Global,
+    kept: &StrategyGraph,
+    from: u32,
+    patience: u64,
+) -> Result<SearchProgress, AllocError>
+    requires kept { IsKept kept.now }
+    requires none { (v : ℕ) → v < from → IsOnBadCycle kept.now v → ⊥ }
+    ensures { IfOk result (IsSearched kept.now patience) }
 {
-    let n = kept.game.len();
-    let ranking = find_ranking(alloc, kept)?;
-    let limit = ranking.limit;
-    if !is_ranked(alloc, kept, &ranking)? {
-        return Ok(None);
+    let Some(first) = first_bad(kept, from) else {
+        return Ok(SearchProgress::All(None));
+    };
+    let mut searches = Searches::new(alloc, kept, patience)?;
+    'starts: for v in first..kept.game.len() {
+        match searches.is_on_bad_cycle(kept, v)? {
+            Some(false) => {}
+            Some(true) => return Ok(SearchProgress::All(Some(v))),
+            None => return Ok(SearchProgress::Before(v)),
+        }
     }
-    if limit >= n {
-        return Ok(Some(None));
-    }
-    if !kept.bad.has(limit) {
-        return Ok(None);
-    }
-    if leads_back(alloc, kept, limit)? {
-        return Ok(Some(Some(limit)));
-    }
-    Ok(None)
+    Ok(SearchProgress::All(None))
 }
 
 /// The result of searches from one bad vertex after another.
@@ -62,10 +79,10 @@ enum SearchProgress {
 }
 
 /// The first bad vertex, from `from` on. Without one, no search needs tables.
-fn first_bad(kept: &Kept, from: u32) -> Option<u32>
+fn first_bad(kept: &StrategyGraph, from: u32) -> Option<u32>
     requires kept { IsKept kept.now }
-    requires none { (v : ℕ) → v < from → IsWorst kept.now v → ⊥ }
-    ensures { MatchOption result (NoneHas (IsWorst kept.now)) (λ first. (v : ℕ) → v < first → IsWorst kept.now v → ⊥) }
+    requires none { (v : ℕ) → v < from → IsOnBadCycle kept.now v → ⊥ }
+    ensures { MatchOption result (NoneHas (IsOnBadCycle kept.now)) (λ first. (v : ℕ) → v < first → IsOnBadCycle kept.now v → ⊥) }
 {
     'vertices: for v in from..kept.game.len() {
         if kept.bad.has(v) {
@@ -85,7 +102,7 @@ struct Searches {
 }
 
 impl Searches {
-    fn new(alloc: Global, kept: &Kept, most: u64) -> Result<Searches, AllocError>
+    fn new(alloc: Global, kept: &StrategyGraph, most: u64) -> Result<Searches, AllocError>
         ensures { IfOk result (λ s. AreSearches kept.now s × (s.most ≡ most)) }
     {
         Ok(Searches {
@@ -96,14 +113,14 @@ impl Searches {
     }
 
     /// Whether the vertex is bad and the greatest on a closed walk through it. None where the patience ends.
-    fn is_worst(&mut self, kept: &Kept, v: u32) -> Result<Option<bool>, AllocError>
+    fn is_on_bad_cycle(&mut self, kept: &StrategyGraph, v: u32) -> Result<Option<bool>, AllocError>
         requires kept { IsKept kept.now }
         requires searches { AreSearches kept.now self.old }
         requires vertex { v < length kept.now.game.now }
         ensures searches { IfOk result (λ found. AreSearches kept.now self.new) }
         ensures bounded { IfOk result (λ found. IsBounded self.new.most → IsBounded self.old.most) }
-        ensures worst { IfOk result (λ found. found ≡ Some true → IsWorst kept.now v) }
-        ensures none { IfOk result (λ found. found ≡ Some false → IsWorst kept.now v → ⊥) }
+        ensures bad_cycle { IfOk result (λ found. found ≡ Some true → IsOnBadCycle kept.now v) }
+        ensures none { IfOk result (λ found. found ≡ Some false → IsOnBadCycle kept.now v → ⊥) }
         ensures given_up { IfOk result (λ found. found ≡ None → IsBounded self.old.most) }
     {
         if !kept.bad.has(v) || is_alone(kept, &self.labels, v) {
@@ -114,50 +131,301 @@ impl Searches {
     }
 }
 
-/// Searches from each bad vertex, from `from` on, until there are more repeats than the patience and about twice the edges at
-/// which searches started. A patience of the greatest number has no limit.
-fn search_from(
-    alloc: Global,
-    kept: &Kept,
-    from: u32,
-    patience: u64,
-) -> Result<SearchProgress, AllocError>
-    requires kept { IsKept kept.now }
-    requires none { (v : ℕ) → v < from → IsWorst kept.now v → ⊥ }
-    ensures { IfOk result (IsSearched kept.now patience) }
-{
-    let Some(first) = first_bad(kept, from) else {
-        return Ok(SearchProgress::All(None));
-    };
-    let mut searches = Searches::new(alloc, kept, patience)?;
-    'starts: for v in first..kept.game.len() {
-        match searches.is_worst(kept, v)? {
-            Some(false) => {}
-            Some(true) => return Ok(SearchProgress::All(Some(v))),
-            None => return Ok(SearchProgress::Before(v)),
-        }
-    }
-    Ok(SearchProgress::All(None))
+/// What searches have shown. All vertices on a closed walk with a vertex, of priorities below its level, have its group and
+/// its level. If the group is the vertex's own number and one more, there is no such walk.
+struct Labels {
+    levels: Vec<u32>,
+    groups: Vec<u32>,
 }
 
-/// The least bad vertex that is the greatest on a closed walk through it.
-///
-/// In most games a search from each bad vertex ends soon. If searches look again and again at reached vertices, a ranking
-/// gives the result in near-linear time, with the memory of their tables. The only error is refused memory.
-pub fn least_bad_vertex(alloc: Global, kept: &Kept) -> Result<Option<u32>, AllocError>
-    requires { IsKept kept.now }
-    ensures { IfOk result (λ least. MatchOption least (NoneHas (IsWorst kept.now)) (IsLeast (IsWorst kept.now))) }
+impl Labels {
+    /// No search has shown anything yet.
+    fn new(alloc: Global, kept: &StrategyGraph) -> Result<Labels, AllocError>
+        ensures { IfOk result (λ l. AreLabelled kept.now l.levels.items l.groups.items) }
+    {
+        let n = kept.game.len();
+        Ok(Labels {
+            levels: vec![in alloc; 0u32; n as usize]?,
+            groups: vec![in alloc; 0u32; n as usize]?,
+        })
+    }
+}
+
+/// Written by hand, so that dropping a value is one step in the proofs of callers, and not one for each list.
+impl Drop for Labels {
+    fn drop(self) {
+        let Labels {
+            levels: _levels,
+            groups: _groups,
+        } = self;
+    }
+}
+
+/// The tables of one search after another.
+struct WalkSearch {
+    /// The reached vertices, from the start on, and the place of each vertex there, if it has one.
+    queue: Vec<u32>,
+    places: Vec<u32>,
+    /// The least place that was reached twice.
+    least: usize,
+    /// The number of edges from vertices of earlier searches that searches have looked at again.
+    repeats: u64,
+}
+
+impl WalkSearch {
+    fn new(alloc: Global, kept: &StrategyGraph) -> Result<WalkSearch, AllocError>
+        ensures { IfOk result (λ s. length s.places.items ≡ length kept.now.game.now) }
+    {
+        // The queue has capacity for all vertices, so that it frees no small blocks. The allocator would keep those, and the
+        // memory below them.
+        let n = kept.game.len();
+        Ok(WalkSearch {
+            queue: Vec::with_capacity(alloc, n as usize)?,
+            places: vec![in alloc; 0u32; n as usize]?,
+            least: usize::MAX,
+            repeats: 0,
+        })
+    }
+}
+
+/// Written by hand, so that dropping a value is one step in the proofs of callers, and not one for each list.
+impl Drop for WalkSearch {
+    fn drop(self) {
+        let WalkSearch {
+            queue: _queue,
+            places: _places,
+            least: _least,
+            repeats: _repeats,
+        } = self;
+    }
+}
+
+/// Whether searches have shown that the vertex is not the greatest on a closed walk through it.
+fn is_alone(kept: &StrategyGraph, labels: &Labels, v: u32) -> bool
+    requires labels { AreLabelled kept.now labels.now.levels.items labels.now.groups.items }
+    requires vertex { v < length kept.now.game.now }
+    ensures { result ≡ true → Reaches kept.now v v → ⊥ }
 {
-    let patience = u64::from(kept.game.len()) / 2;
-    let from = match search_from(alloc, kept, 0, patience)? {
-        SearchProgress::All(least) => return Ok(least),
-        SearchProgress::Before(v) => v,
+    // for the proof: a game has fewer than 2^32 vertices, so a vertex and one more fits
+    let _n = kept.game.len();
+    labels.levels[v as usize] > kept.game.priority(v) && labels.groups[v as usize] == v + 1
+}
+
+/// Whether a vertex is the greatest on a closed walk through it. None if there are more than `most` repeats; the greatest number is
+/// no limit.
+fn walks_back(
+    kept: &StrategyGraph,
+    start: u32,
+    most: u64,
+    labels: &mut Labels,
+    search: &mut WalkSearch,
+) -> Result<Option<bool>, AllocError>
+    requires kept { IsKept kept.now }
+    requires start { start < length kept.now.game.now }
+    requires labels { AreLabelled kept.now labels.old.levels.items labels.old.groups.items }
+    requires size { length search.old.places.items ≡ length kept.now.game.now }
+    ensures labels { IfOk result (λ found. AreLabelled kept.now labels.new.levels.items labels.new.groups.items) }
+    ensures size { IfOk result (λ found. length search.new.places.items ≡ length kept.now.game.now) }
+    ensures back { IfOk result (λ found. found ≡ Some true → Reaches kept.now start start) }
+    ensures none { IfOk result (λ found. found ≡ Some false → Reaches kept.now start start → ⊥) }
+    ensures given_up { IfOk result (λ found. found ≡ None → IsBounded most) }
+{
+    // for the proof: priorities are so small that one more fits, and so are vertices
+    let _n = kept.game.len();
+    let top = kept.game.priority(start);
+    let own = group_above(kept, labels, start, top);
+    search.queue.clear();
+    search.queue.push(start)?;
+    search.places[start as usize] = 0;
+    search.least = usize::MAX;
+    let found = finds_back(kept, labels, top, own, most, search)?;
+    let Some(leads_back) = found else {
+        return Ok(None);
     };
-    if let Some(least) = first_by_ranking(alloc, kept)? {
-        return Ok(least);
+    if leads_back {
+        return Ok(Some(true));
     }
-    match search_from(alloc, kept, from, u64::MAX)? {
-        SearchProgress::All(least) => Ok(least),
-        SearchProgress::Before(_) => unreachable!(),
+    if own == 0 {
+        note(labels, search, top + 1, start);
     }
+    Ok(Some(false))
+}
+
+/// The group of a vertex if its level is above the priority, else 0.
+fn group_above(kept: &StrategyGraph, labels: &Labels, v: u32, top: u32) -> u32
+    requires labels { AreLabelled kept.now labels.now.levels.items labels.now.groups.items }
+    requires vertex { v < length kept.now.game.now }
+    ensures above { top < slice_index labels.now.levels.items v → slice_index labels.now.groups.items v ≡ result }
+    ensures none { slice_index labels.now.levels.items v ≤ top → result ≡ 0 }
+{
+    if labels.levels[v as usize] > top {
+        labels.groups[v as usize]
+    } else {
+        0
+    }
+}
+
+/// Searches for a way back to the first vertex of the queue. Returns whether there is one; none if there are too many repeats.
+fn finds_back(
+    kept: &StrategyGraph,
+    labels: &Labels,
+    top: u32,
+    own: u32,
+    most: u64,
+    search: &mut WalkSearch,
+) -> Result<Option<bool>, AllocError>
+    requires kept { IsKept kept.now }
+    requires labels { AreLabelled kept.now labels.now.levels.items labels.now.groups.items }
+    requires least { 0 < search.old.least }
+    requires state { Searching kept.now labels.now.levels.items labels.now.groups.items top own search.old.places.items search.old.queue.items }
+    ensures least { IfOk result (λ found. 0 < search.new.least) }
+    ensures state { IfOk result (λ found. Searching kept.now labels.now.levels.items labels.now.groups.items top own search.new.places.items
+        search.new.queue.items) }
+    ensures first { IfOk result (λ found. slice_index search.new.queue.items 0 ≡ slice_index search.old.queue.items 0) }
+    ensures back { IfOk result (λ found. found ≡ Some true → Leads kept.now top (slice_index search.old.queue.items 0) (slice_index search.old.queue.items 0)) }
+    ensures spread { IfOk result (λ found. found ≡ Some false → (i : ℕ) → i < length search.new.queue.items
+        → IsSpread kept.now labels.now.levels.items labels.now.groups.items top own search.new.least search.new.places.items search.new.queue.items i) }
+    ensures given_up { IfOk result (λ found. found ≡ None → IsBounded most) }
+{
+    'queue: for next in 0..usize::MAX {
+        if next >= search.queue.len() {
+            break;
+        }
+        if spread(kept, labels, top, own, next, search)? {
+            return Ok(Some(true));
+        }
+        if search.repeats > most {
+            return Ok(None);
+        }
+    }
+    Ok(Some(false))
+}
+
+/// Continues the search for a way back to the queue's first vertex from a place of the queue. Returns whether there is one.
+fn spread(
+    kept: &StrategyGraph,
+    labels: &Labels,
+    top: u32,
+    own: u32,
+    at: usize,
+    search: &mut WalkSearch,
+) -> Result<bool, AllocError>
+    requires kept { IsKept kept.now }
+    requires labels { AreLabelled kept.now labels.now.levels.items labels.now.groups.items }
+    requires place { at < length search.old.queue.items }
+    requires least { 0 < search.old.least }
+    requires state { Searching kept.now labels.now.levels.items labels.now.groups.items top own search.old.places.items search.old.queue.items }
+    ensures least { IfOk result (λ found. 0 < search.new.least) }
+    ensures state { IfOk result (λ found. Searching kept.now labels.now.levels.items labels.now.groups.items top own search.new.places.items
+        search.new.queue.items) }
+    ensures later { IfOk result (λ found. GoesOn search.old.queue.items search.old.least search.new.queue.items search.new.least) }
+    ensures back { IfOk result (λ found. found ≡ true → Leads kept.now top (slice_index search.old.queue.items 0) (slice_index search.old.queue.items 0)) }
+    ensures spread { IfOk result (λ found. found ≡ false
+        → IsSpread kept.now labels.now.levels.items labels.now.groups.items top own search.new.least search.new.places.items search.new.queue.items at) }
+{
+    // for the proof: a game has fewer than 2^32 vertices, so a place in the queue fits
+    let _n = kept.game.len();
+    let v = search.queue[at];
+    let row = kept.row(v);
+    search.repeats = count_repeats(labels, v, row.len(), search.repeats);
+    'row: for w in row {
+        let to = *w;
+        if passes_over(kept, labels, top, own, to) {
+            continue;
+        }
+        let end = search.queue.len();
+        let place = search.places[to as usize] as usize;
+        if place < end && search.queue[place] == to {
+            if place == 0 {
+                return Ok(true);
+            }
+            search.least = search.least.min(place);
+            continue;
+        }
+        search.queue.push(to)?;
+        search.places[to as usize] = end as u32;
+    }
+    Ok(false)
+}
+
+/// Adds this many edges to the repeats, if an earlier search has reached their source.
+fn count_repeats(labels: &Labels, v: u32, edges: usize, repeats: u64) -> u64
+    requires { v < length labels.now.levels.items }
+{
+    if labels.levels[v as usize] > 0 {
+        repeats.saturating_add(edges as u64)
+    } else {
+        repeats
+    }
+}
+
+/// Whether a search of this priority, from this group or from none, passes over a vertex: its own priority is greater, or its level
+/// is, and it has another group. The test has no branch, which a processor could not predict.
+fn passes_over(kept: &StrategyGraph, labels: &Labels, top: u32, own: u32, v: u32) -> bool
+    requires kept { IsKept kept.now }
+    requires labels { AreLabelled kept.now labels.now.levels.items labels.now.groups.items }
+    requires vertex { v < length kept.now.game.now }
+    ensures over { result ≡ true → (top < priority_of kept.now.game.now v)
+        ⊎ ((top < slice_index labels.now.levels.items v) × (slice_index labels.now.groups.items v ≢ own)) }
+    ensures into { result ≡ false → (priority_of kept.now.game.now v ≤ top)
+        × (top < slice_index labels.now.levels.items v → slice_index labels.now.groups.items v ≡ own) }
+{
+    let is_greater = kept.game.priority(v) > top;
+    let is_shown = labels.levels[v as usize] > top;
+    let is_apart = labels.groups[v as usize] != own;
+    is_greater | (is_shown & is_apart)
+}
+
+/// Whether the vertex is the greatest on a closed walk through it, by a search with tables of its own.
+fn leads_back(alloc: Global, kept: &StrategyGraph, v: u32) -> Result<bool, AllocError>
+    requires kept { IsKept kept.now }
+    requires vertex { v < length kept.now.game.now }
+    ensures { IfOk result (λ found. found ≡ true → Reaches kept.now v v) }
+{
+    let mut labels = Labels::new(alloc, kept)?;
+    let mut search = WalkSearch::new(alloc, kept)?;
+    let found = walks_back(kept, v, u64::MAX, &mut labels, &mut search)?;
+    Ok(found == Some(true))
+}
+
+/// Gives the reached vertices the level, and groups: each before the least place its own, and the others one group.
+fn note(labels: &mut Labels, search: &WalkSearch, level: u32, start: u32)
+    requires levels { length labels.old.levels.items ≡ length search.now.places.items }
+    requires groups { length labels.old.groups.items ≡ length search.now.places.items }
+    requires start { start < length search.now.places.items }
+    requires short { length search.now.places.items < 2 ^ 32 }
+    requires below { (i : ℕ) → i < length search.now.queue.items → slice_index search.now.queue.items i < length search.now.places.items }
+    requires placed { (i : ℕ) → i < length search.now.queue.items → slice_index search.now.places.items (slice_index search.now.queue.items i) ≡ i }
+    ensures { AreNoted labels.old.levels.items labels.old.groups.items search.now.places.items search.now.queue.items level start search.now.least
+        (length search.now.queue.items) labels.new.levels.items labels.new.groups.items }
+{
+    'queue: for at in 0..search.queue.len() {
+        let v = search.queue[at];
+        let group = if at < search.least { v + 1 } else { start + 1 };
+        labels.levels[v as usize] = level;
+        labels.groups[v as usize] = group;
+    }
+}
+
+/// The least bad vertex that is the greatest on a closed walk through it, if a ranking shows it.
+fn first_by_ranking(alloc: Global, kept: &StrategyGraph) -> Result<Option<Option<u32>>, AllocError>
+    requires { IsKept kept.now }
+    ensures { IfOk result (λ shown. IfSome shown (λ least. MatchOption least (NoneHas (IsOnBadCycle kept.now)) (IsLeast (IsOnBadCycle kept.now)))) }
+{
+    let n = kept.game.len();
+    let ranking = find_ranking(alloc, kept)?;
+    let limit = ranking.limit;
+    if !is_ranked(alloc, kept, &ranking)? {
+        return Ok(None);
+    }
+    if limit >= n {
+        return Ok(Some(None));
+    }
+    if !kept.bad.has(limit) {
+        return Ok(None);
+    }
+    if leads_back(alloc, kept, limit)? {
+        return Ok(Some(Some(limit)));
+    }
+    Ok(None)
 }

@@ -6,10 +6,10 @@
 //! back over its place.
 
 ghost use Rattle.std.specs.Prelude.{◌≡◌, ℕ, ◌<◌, ◌≤◌, ◌^◌, length, slice_index, vec_len, IfOk, true, false};
-ghost use Rattle.pg_dominion.specs.KeptEdges.{IsKept, IsWorst};
+ghost use Rattle.pg_dominion.specs.KeptEdges.{IsKept, IsOnBadCycle};
 ghost use Rattle.pg_dominion.specs.private.Ranking.{AreEnds, IsJudged, IsRankedRow};
 
-use crate::kept::Kept;
+use crate::strategy_graph::StrategyGraph;
 use std::alloc::{AllocError, Global};
 
 /// Places of vertices, a key for each place, and a limit: the least bad vertex of which they show nothing. A number after the
@@ -19,6 +19,41 @@ pub struct Ranking {
     pub places: Vec<u32>,
     pub keys: Vec<u32>,
     pub limit: u32,
+}
+
+/// Whether the places show that no bad vertex below the limit is the greatest on a closed walk.
+pub fn is_ranked(alloc: Global, kept: &StrategyGraph, ranking: &Ranking) -> Result<bool, AllocError>
+    requires { IsKept kept.now }
+    ensures { IfOk result (λ b. b ≡ true → (v : ℕ) → v < ranking.now.limit → IsOnBadCycle kept.now v → ⊥) }
+{
+    let n = kept.game.len();
+    if ranking.places.len() != n as usize || ranking.keys.len() > n as usize {
+        return Ok(false);
+    }
+    let ends = next_greater(alloc, ranking.keys.as_slice())?;
+    let ends = ends.as_slice();
+    'vertices: for v in 0..n {
+        if !is_ranked_row(kept, ranking, ends, v) {
+            return Ok(false);
+        }
+    }
+    Ok(true)
+}
+
+/// For each place a later one, before which no key is greater.
+fn next_greater(alloc: Global, keys: &[u32]) -> Result<Vec<u32>, AllocError>
+    requires { length keys.now < 2 ^ 31 }
+    ensures len { IfOk result (λ e. vec_len e ≡ length keys.now) }
+    ensures covered { IfOk result (λ e. AreEnds keys.now e.items) }
+{
+    let len = keys.len() as u32;
+    let mut ends = vec![in alloc; 0u32; len as usize]?;
+    'ends: for down in 0..len {
+        let at = len - 1 - down;
+        let end = end_of(keys, &ends, at);
+        ends[at as usize] = end;
+    }
+    Ok(ends)
 }
 
 /// The first place after `at` with a greater key, by jumps over the known ends.
@@ -43,34 +78,8 @@ fn end_of(keys: &[u32], ends: &[u32], at: u32) -> u32
     end
 }
 
-/// For each place a later one, before which no key is greater.
-fn next_greater(alloc: Global, keys: &[u32]) -> Result<Vec<u32>, AllocError>
-    requires { length keys.now < 2 ^ 31 }
-    ensures len { IfOk result (λ e. vec_len e ≡ length keys.now) }
-    ensures covered { IfOk result (λ e. AreEnds keys.now e.items) }
-{
-    let len = keys.len() as u32;
-    let mut ends = vec![in alloc; 0u32; len as usize]?;
-    'ends: for down in 0..len {
-        let at = len - 1 - down;
-        let end = end_of(keys, &ends, at);
-        ends[at as usize] = end;
-    }
-    Ok(ends)
-}
-
-/// Whether a vertex is bad, and below the limit.
-fn is_judged(kept: &Kept, limit: u32, v: u32) -> bool
-    requires kept { IsKept kept.now }
-    requires vertex { v < length kept.now.game.now }
-    ensures yes { result ≡ true → IsJudged kept.now limit v }
-    ensures no { result ≡ false → IsJudged kept.now limit v → ⊥ }
-{
-    v < limit && kept.bad.has(v)
-}
-
 /// Whether a vertex and its edges meet the conditions of a ranking.
-fn is_ranked_row(kept: &Kept, ranking: &Ranking, ends: &[u32], v: u32) -> bool
+fn is_ranked_row(kept: &StrategyGraph, ranking: &Ranking, ends: &[u32], v: u32) -> bool
     requires kept { IsKept kept.now }
     requires vertex { v < length kept.now.game.now }
     requires places { length ranking.now.places.items ≡ length kept.now.game.now }
@@ -99,21 +108,12 @@ fn is_ranked_row(kept: &Kept, ranking: &Ranking, ends: &[u32], v: u32) -> bool
     goes_down || (end <= ends[at] as usize && keys[at] <= twice)
 }
 
-/// Whether the places show that no bad vertex below the limit is the greatest on a closed walk.
-pub fn is_ranked(alloc: Global, kept: &Kept, ranking: &Ranking) -> Result<bool, AllocError>
-    requires { IsKept kept.now }
-    ensures { IfOk result (λ b. b ≡ true → (v : ℕ) → v < ranking.now.limit → IsWorst kept.now v → ⊥) }
+/// Whether a vertex is bad, and below the limit.
+fn is_judged(kept: &StrategyGraph, limit: u32, v: u32) -> bool
+    requires kept { IsKept kept.now }
+    requires vertex { v < length kept.now.game.now }
+    ensures yes { result ≡ true → IsJudged kept.now limit v }
+    ensures no { result ≡ false → IsJudged kept.now limit v → ⊥ }
 {
-    let n = kept.game.len();
-    if ranking.places.len() != n as usize || ranking.keys.len() > n as usize {
-        return Ok(false);
-    }
-    let ends = next_greater(alloc, ranking.keys.as_slice())?;
-    let ends = ends.as_slice();
-    'vertices: for v in 0..n {
-        if !is_ranked_row(kept, ranking, ends, v) {
-            return Ok(false);
-        }
-    }
-    Ok(true)
+    v < limit && kept.bad.has(v)
 }

@@ -8,12 +8,12 @@ ghost use Rattle.pg_game.specs.Least.{NoneHas, IsLeast};
 ghost use Rattle.pg_text.specs.Solution.{IsSolution, winner_of, choice_of};
 ghost use Rattle.pg_text.specs.Verdict.{LacksChoice, HasBadChoice, Leaves, IsOnBadWalk, IsFirstLeaving};
 ghost use Rattle.pg_dominion.specs.Verdict.{FailsBy};
-ghost use Rattle.pg_dominion.specs.KeptEdges.{IsKept, IsWorst};
-ghost use Rattle.pg_dominion.specs.private.Plan.{own_choice, IsPlanOf, LeavesTo, IsFirstTo};
+ghost use Rattle.pg_dominion.specs.KeptEdges.{IsKept, IsOnBadCycle};
+ghost use Rattle.pg_dominion.specs.private.Plan.{IsPlanOf, LeavesTo, IsFirstTo};
 
-use crate::claim::{is_bad, note_choice, note_test};
+use crate::claim::{is_bad, note_choice, note_test, own_choice};
 use crate::cycles::least_bad_vertex;
-use crate::kept::Kept;
+use crate::strategy_graph::StrategyGraph;
 use pg_game::{ForwardGame, Game, Mask, Player};
 use pg_text::Solution;
 use std::alloc::{AllocError, Global};
@@ -45,150 +45,6 @@ impl From<AllocError> for SolutionFault {
     }
 }
 
-/// The winner of a vertex and its choice.
-fn row_at(solution: &Solution, v: u32) -> (Player, Option<u32>)
-    requires { v < length solution.now.rows }
-    ensures winner { result.0 ≡ winner_of solution.now.rows v }
-    ensures choice { result.1 ≡ choice_of solution.now.rows v }
-{
-    solution.rows.as_slice()[v as usize]
-}
-
-/// Whether the vertex's winner owns it and it has no choice.
-fn lacks_choice(game: &ForwardGame, solution: &Solution, v: u32) -> bool
-    requires size { length solution.now.rows ≡ length game.now }
-    requires vertex { v < length game.now }
-    ensures lacks { result ≡ true → LacksChoice game.now solution.now.rows v }
-    ensures has { result ≡ false → LacksChoice game.now solution.now.rows v → ⊥ }
-{
-    let (winner, choice) = row_at(solution, v);
-    game.owner(v) == winner && choice.is_none()
-}
-
-/// Whether the vertex's winner owns it and its choice is no successor.
-fn has_bad_choice(game: &ForwardGame, solution: &Solution, v: u32) -> bool
-    requires size { length solution.now.rows ≡ length game.now }
-    requires vertex { v < length game.now }
-    ensures bad { result ≡ true → HasBadChoice game.now solution.now.rows v }
-    ensures good { result ≡ false → HasBadChoice game.now solution.now.rows v → ⊥ }
-{
-    let (winner, choice) = row_at(solution, v);
-    if game.owner(v) != winner {
-        return false;
-    }
-    match choice {
-        Some(w) => !game.has_edge(v, w),
-        None => false,
-    }
-}
-
-fn first_without_choice(game: &ForwardGame, solution: &Solution) -> Option<u32>
-    requires { length solution.now.rows ≡ length game.now }
-    ensures { MatchOption result (NoneHas (LacksChoice game.now solution.now.rows)) (IsLeast (LacksChoice game.now solution.now.rows)) }
-{
-    for v in 0..game.len() {
-        if lacks_choice(game, solution, v) {
-            return Some(v);
-        }
-    }
-    None
-}
-
-fn first_bad_choice(game: &ForwardGame, solution: &Solution) -> Option<u32>
-    requires { length solution.now.rows ≡ length game.now }
-    ensures { MatchOption result (NoneHas (HasBadChoice game.now solution.now.rows)) (IsLeast (HasBadChoice game.now solution.now.rows)) }
-{
-    for v in 0..game.len() {
-        if has_bad_choice(game, solution, v) {
-            return Some(v);
-        }
-    }
-    None
-}
-
-/// The choice at a vertex that its winner owns.
-fn own_choice(game: &ForwardGame, solution: &Solution, v: u32) -> Option<u32>
-    requires size { length solution.now.rows ≡ length game.now }
-    requires vertex { v < length game.now }
-    ensures { result ≡ own_choice game.now solution.now.rows v }
-{
-    let (winner, choice) = row_at(solution, v);
-    if game.owner(v) == winner {
-        choice
-    } else {
-        None
-    }
-}
-
-/// The kept edges of all winners, where each has his choices.
-fn plan_of<'g>(
-    alloc: Global,
-    game: &'g ForwardGame,
-    solution: &Solution,
-) -> Result<Kept<'g>, AllocError>
-    requires size { length solution.now.rows ≡ length game.now }
-    requires choices { NoneHas (LacksChoice game.now solution.now.rows) }
-    requires right { NoneHas (HasBadChoice game.now solution.now.rows) }
-    ensures kept { IfOk result (λ k. IsKept k) }
-    ensures game { IfOk result (λ k. k.game.now ≡ game.now) }
-    ensures plan { IfOk result (λ k. IsPlanOf k solution.now.rows) }
-    ensures worst { IfOk result (λ k. ((v w : ℕ) → Leaves game.now solution.now.rows v w → ⊥) → (v : ℕ)
-        → IsWorst k v ↔ IsOnBadWalk game.now solution.now.rows v) }
-{
-    let n = game.len();
-    let mut inside = Mask::empty(alloc, n)?;
-    let mut chosen = Mask::empty(alloc, n)?;
-    let mut choices = vec![in alloc; 0u32; n as usize]?;
-    let mut bad = Mask::empty(alloc, n)?;
-    'vertices: for v in 0..n {
-        inside.insert(v);
-        note_test(is_bad(game, row_at(solution, v).0, v), &mut bad, v);
-        note_choice(&mut chosen, &mut choices, v, own_choice(game, solution, v));
-    }
-    Ok(Kept {
-        game,
-        inside,
-        chosen,
-        choices,
-        bad,
-    })
-}
-
-/// The least vertex of the other winner to which a kept edge leads from `v`.
-fn leaves_to(kept: &Kept, solution: &Solution, v: u32) -> Option<u32>
-    requires kept { IsKept kept.now }
-    requires size { length solution.now.rows ≡ length kept.now.game.now }
-    requires vertex { v < length kept.now.game.now }
-    ensures first { MatchOption result (NoneHas (LeavesTo kept.now solution.now.rows v)) (IsFirstTo kept.now solution.now.rows v) }
-    ensures within { IfSome result (λ w. w < length kept.now.game.now) }
-{
-    // for the proof: the graph is a game, so successors rise
-    let _n = kept.game.len();
-    let winner = row_at(solution, v).0;
-    'row: for w in kept.row(v) {
-        if row_at(solution, *w).0 != winner {
-            return Some(*w);
-        }
-    }
-    None
-}
-
-fn first_leaving(kept: &Kept, solution: &Solution) -> Option<(u32, u32)>
-    requires kept { IsKept kept.now }
-    requires size { length solution.now.rows ≡ length kept.now.game.now }
-    requires plan { IsPlanOf kept.now solution.now.rows }
-    ensures first { MatchOption result ((v w : ℕ) → Leaves kept.now.game.now solution.now.rows v w → ⊥)
-        (λ e. IsFirstLeaving kept.now.game.now solution.now.rows e.0 e.1) }
-    ensures within { IfSome result (λ e. (e.0 < length kept.now.game.now) × (e.1 < length kept.now.game.now)) }
-{
-    'vertices: for v in 0..kept.game.len() {
-        if let Some(w) = leaves_to(kept, solution, v) {
-            return Some((v, w));
-        }
-    }
-    None
-}
-
 /// Whether winners and choices are a solution of a game: the vertices of each winner are closed under the edges that he
 /// keeps, and these make only closed walks whose greatest priority has his parity (Zielonka 1998).
 ///
@@ -198,11 +54,11 @@ pub fn check_solution(alloc: Global, game: &Game, solution: &Solution) -> Result
     ensures holds { OnOk result (IsSolution game.now solution.now.rows) }
     ensures fails { IfErr result (λ e. FailsBy game.now solution.now.rows e) }
 {
-    judge_solution(alloc, game.forward(), solution)
+    check_forward_solution(alloc, game.forward(), solution)
 }
 
 /// The same as [`check_solution`], for a game without predecessors.
-pub fn judge_solution(
+pub fn check_forward_solution(
     alloc: Global,
     game: &ForwardGame,
     solution: &Solution,
@@ -227,4 +83,140 @@ pub fn judge_solution(
         return Err(SolutionFault::Cycle(game.id(v)));
     }
     Ok(())
+}
+
+fn first_without_choice(game: &ForwardGame, solution: &Solution) -> Option<u32>
+    requires { length solution.now.rows ≡ length game.now }
+    ensures { MatchOption result (NoneHas (LacksChoice game.now solution.now.rows)) (IsLeast (LacksChoice game.now solution.now.rows)) }
+{
+    for v in 0..game.len() {
+        if lacks_choice(game, solution, v) {
+            return Some(v);
+        }
+    }
+    None
+}
+
+/// Whether the vertex's winner owns it and it has no choice.
+fn lacks_choice(game: &ForwardGame, solution: &Solution, v: u32) -> bool
+    requires size { length solution.now.rows ≡ length game.now }
+    requires vertex { v < length game.now }
+    ensures lacks { result ≡ true → LacksChoice game.now solution.now.rows v }
+    ensures has { result ≡ false → LacksChoice game.now solution.now.rows v → ⊥ }
+{
+    let (winner, choice) = row_at(solution, v);
+    game.owner(v) == winner && choice.is_none()
+}
+
+/// The winner of a vertex and its choice.
+fn row_at(solution: &Solution, v: u32) -> (Player, Option<u32>)
+    requires { v < length solution.now.rows }
+    ensures winner { result.0 ≡ winner_of solution.now.rows v }
+    ensures choice { result.1 ≡ choice_of solution.now.rows v }
+{
+    solution.rows.as_slice()[v as usize]
+}
+
+fn first_bad_choice(game: &ForwardGame, solution: &Solution) -> Option<u32>
+    requires { length solution.now.rows ≡ length game.now }
+    ensures { MatchOption result (NoneHas (HasBadChoice game.now solution.now.rows)) (IsLeast (HasBadChoice game.now solution.now.rows)) }
+{
+    for v in 0..game.len() {
+        if has_bad_choice(game, solution, v) {
+            return Some(v);
+        }
+    }
+    None
+}
+
+/// Whether the vertex's winner owns it and its choice is no successor.
+fn has_bad_choice(game: &ForwardGame, solution: &Solution, v: u32) -> bool
+    requires size { length solution.now.rows ≡ length game.now }
+    requires vertex { v < length game.now }
+    ensures bad { result ≡ true → HasBadChoice game.now solution.now.rows v }
+    ensures good { result ≡ false → HasBadChoice game.now solution.now.rows v → ⊥ }
+{
+    let (winner, choice) = row_at(solution, v);
+    if game.owner(v) != winner {
+        return false;
+    }
+    match choice {
+        Some(w) => !game.has_edge(v, w),
+        None => false,
+    }
+}
+
+/// The kept edges of all winners, where each has his choices.
+fn plan_of<'g>(
+    alloc: Global,
+    game: &'g ForwardGame,
+    solution: &Solution,
+) -> Result<StrategyGraph<'g>, AllocError>
+    requires size { length solution.now.rows ≡ length game.now }
+    requires choices { NoneHas (LacksChoice game.now solution.now.rows) }
+    requires right { NoneHas (HasBadChoice game.now solution.now.rows) }
+    ensures kept { IfOk result (λ k. IsKept k) }
+    ensures game { IfOk result (λ k. k.game.now ≡ game.now) }
+    ensures plan { IfOk result (λ k. IsPlanOf k solution.now.rows) }
+    ensures bad_cycle { IfOk result (λ k. ((v w : ℕ) → Leaves game.now solution.now.rows v w → ⊥) → (v : ℕ)
+        → IsOnBadCycle k v ↔ IsOnBadWalk game.now solution.now.rows v) }
+{
+    let n = game.len();
+    let mut inside = Mask::empty(alloc, n)?;
+    let mut chosen = Mask::empty(alloc, n)?;
+    let mut choices = vec![in alloc; 0u32; n as usize]?;
+    let mut bad = Mask::empty(alloc, n)?;
+    'vertices: for v in 0..n {
+        inside.insert(v);
+        let (winner, choice) = row_at(solution, v);
+        note_test(is_bad(game, winner, v), &mut bad, v);
+        note_choice(
+            &mut chosen,
+            &mut choices,
+            v,
+            own_choice(game, winner, v, choice),
+        );
+    }
+    Ok(StrategyGraph {
+        game,
+        inside,
+        chosen,
+        choices,
+        bad,
+    })
+}
+
+fn first_leaving(kept: &StrategyGraph, solution: &Solution) -> Option<(u32, u32)>
+    requires kept { IsKept kept.now }
+    requires size { length solution.now.rows ≡ length kept.now.game.now }
+    requires plan { IsPlanOf kept.now solution.now.rows }
+    ensures first { MatchOption result ((v w : ℕ) → Leaves kept.now.game.now solution.now.rows v w → ⊥)
+        (λ e. IsFirstLeaving kept.now.game.now solution.now.rows e.0 e.1) }
+    ensures within { IfSome result (λ e. (e.0 < length kept.now.game.now) × (e.1 < length kept.now.game.now)) }
+{
+    'vertices: for v in 0..kept.game.len() {
+        if let Some(w) = leaves_to(kept, solution, v) {
+            return Some((v, w));
+        }
+    }
+    None
+}
+
+/// The least vertex of the other winner to which a kept edge leads from `v`.
+fn leaves_to(kept: &StrategyGraph, solution: &Solution, v: u32) -> Option<u32>
+    requires kept { IsKept kept.now }
+    requires size { length solution.now.rows ≡ length kept.now.game.now }
+    requires vertex { v < length kept.now.game.now }
+    ensures first { MatchOption result (NoneHas (LeavesTo kept.now solution.now.rows v)) (IsFirstTo kept.now solution.now.rows v) }
+    ensures within { IfSome result (λ w. w < length kept.now.game.now) }
+{
+    // for the proof: the graph is a game, so successors rise
+    let _n = kept.game.len();
+    let winner = row_at(solution, v).0;
+    'row: for w in kept.row(v) {
+        if row_at(solution, *w).0 != winner {
+            return Some(*w);
+        }
+    }
+    None
 }

@@ -34,14 +34,14 @@ pub use Rattle.pg_game.specs.private.VertexSet.{without}
 pub use Rattle.pg_dominion.proofs.Named.{choice-back, choice-front, named-append}
 pub use Rattle.pg_dominion.specs.Attraction.{IsAttractedRow}
 pub use Rattle.pg_dominion.specs.Claim.{ClaimRows, IsGoodIn, choice_in, named}
-pub use Rattle.pg_dominion.specs.KeptEdges.{IsWorst}
+pub use Rattle.pg_dominion.specs.KeptEdges.{IsOnBadCycle}
 pub use Rattle.pg_dominion.specs.declared.claim.Claim.{Claim}
-pub use Rattle.pg_dominion.specs.declared.kept.Kept.{Kept}
+pub use Rattle.pg_dominion.specs.declared.strategy_graph.StrategyGraph.{StrategyGraph}
 pub use Rattle.pg_finders.specs.Claims.{AreClaims, own_choices, rows_below}
 pub use Rattle.pg_finders.specs.Finding.{AtMostInside, IsLoop, IsSolitaire, most_choices}
 pub use Rattle.pg_finders.specs.Jobs.{IsOfSmall}
-pub use Rattle.pg_finders.specs.declared.recursion.plan.Plan.{Plan}
-pub use Rattle.pg_finders.specs.declared.recursion.solver.Frame.{Frame}
+pub use Rattle.pg_finders.specs.declared.recursion.subgame.Plan.{Plan}
+pub use Rattle.pg_finders.specs.declared.recursion.Frame.{Frame}
 pub use Rattle.pg_finders.specs.private.Solved.{IsAttracted, IsBegun, IsSolvedInside, IsSolvedTo, Winners, WinsOn, won_inside}
 pub use Rattle.pg_finders.specs.private.loops.Singles.{itself, loops}
 pub use Rattle.pg_finders.specs.private.recursion.Growing.{AttractsNoActive, Before, IsGrown, IsKnown, IsReady, IsTested, active_of, place, won_of}

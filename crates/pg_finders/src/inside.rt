@@ -1,12 +1,14 @@
-ghost use Rattle.std.specs.Prelude.{◌≡◌, ℕ, ◌<◌, length, IfOk, IfErr, IsTrue, IsFalse};
+//! What the finders search and what they make: a part of a game that is a subgame of it, and the claims in it.
+
+ghost use Rattle.std.specs.Prelude.{◌≡◌, ◌<◌, length, IfOk, IfErr, IfSome, IsNone};
 ghost use Rattle.pg_game.specs.Graph.{HasEdge};
-ghost use Rattle.pg_game.specs.VertexSet.{In};
-ghost use Rattle.pg_game.specs.VertexSet.{members};
+ghost use Rattle.pg_game.specs.VertexSet.{In, members};
 ghost use Rattle.pg_game.specs.Subgame.{IsSubgame};
 ghost use Rattle.pg_game.specs.Least.{IsLeast};
 ghost use Rattle.pg_finders.specs.Part.{IsPart, IsDeadEnd, IsOut};
 
-use pg_game::{Game, Mask};
+use pg_dominion::Claim;
+use pg_game::{Game, Mask, Player, Sequence};
 use std::marker::Model;
 
 /// A game and a subgame of it.
@@ -26,21 +28,6 @@ impl<'g> Model for Inside<'g> {
     ghost invariant = { λ a. IsPart (record { graph = a.game.now; mask = a.mask }) };
 }
 
-/// Whether a vertex has a successor in the mask.
-fn has_successor_in(game: &Game, mask: &Mask, v: u32) -> bool
-    requires size { length mask.now ≡ length game.now }
-    requires vertex { v < length game.now }
-    ensures found { IsTrue result → (w : ℕ) × HasEdge game.now v w × In (members mask.now) w }
-    ensures none { IsFalse result → IsOut game.now (members mask.now) v }
-{
-    for w in game.successors(v) {
-        if mask.has(*w) {
-            return true;
-        }
-    }
-    false
-}
-
 impl<'g> Inside<'g> {
     /// The part of the game in the mask. If the mask is no subgame, the error returns it, with the least vertex of it
     /// without a successor in it.
@@ -50,7 +37,7 @@ impl<'g> Inside<'g> {
         ensures refused { IfErr result (λ e. (e.0 ≡ mask) × IsLeast (IsDeadEnd game.now (members mask)) e.1) }
     {
         for v in 0..game.len() {
-            if mask.has(v) && !has_successor_in(game, &mask, v) {
+            if mask.has(v) && successor_in(game, &mask, v).is_none() {
                 return Err((mask, v));
             }
         }
@@ -96,4 +83,30 @@ pub struct Copied<'g> {
     pub inside: Inside<'g>,
     pub at: u64,
     pub settled: u64,
+}
+
+/// A successor of the vertex in the mask.
+pub fn successor_in(game: &Game, inside: &Mask, v: u32) -> Option<u32>
+    requires size { length inside.now ≡ length game.now }
+    requires vertex { v < length game.now }
+    ensures found { IfSome result (λ w. HasEdge game.now v w × In (members inside.now) w) }
+    ensures none { IsNone result → IsOut game.now (members inside.now) v }
+{
+    for w in game.successors(v) {
+        if inside.has(*w) {
+            return Some(*w);
+        }
+    }
+    None
+}
+
+/// The player's claim of these rows.
+pub fn claim_of(player: Player, rows: Vec<(u32, Option<u32>)>) -> Claim
+    ensures player { result.player ≡ player }
+    ensures rows { result.rows ≡ rows.items }
+{
+    Claim {
+        player,
+        rows: Sequence::new(rows),
+    }
 }

@@ -3,20 +3,16 @@
 //! subgame.
 #![tactic(auto)]
 
-mod choice;
 mod finder;
 mod inside;
 mod loops;
-mod parts;
 mod recursion;
 mod small;
 mod solitaire;
-mod standard;
 
-pub use finder::{Finder, Found, Job};
+pub use finder::{Finder, Found, Job, Standard};
 pub use inside::{Copied, Inside};
 pub use loops::find_loop;
 pub use recursion::{Solved, zielonka};
 pub use small::{Small, find_small};
 pub use solitaire::find_solitaire;
-pub use standard::Standard;

@@ -2,6 +2,7 @@
 //!
 //! A vertex alone is a player's dominion in a subgame if its priority has his parity and the play can stay there: by
 //! his own loop, or because the opponent has no other successor inside. All of them together are one claim.
+
 ghost use Rattle.std.specs.Prelude.{◌≡◌, ℕ, ◌<◌, ◌↔◌, ◌&&◌, length, IfOk, IsTrue, MatchOption, Some};
 ghost use Rattle.pg_game.specs.declared.player.Player.{Player};
 ghost use Rattle.pg_game.specs.declared.player.Player.TheVariants.{Even, Odd};
@@ -16,79 +17,10 @@ ghost use Rattle.pg_finders.specs.Finding.{IsLoop};
 ghost use Rattle.pg_finders.specs.Jobs.{AreLoopsOf};
 ghost use Rattle.pg_finders.specs.private.loops.Singles.{itself, loops};
 
-use crate::choice::own_choice;
-use crate::inside::Inside;
-use pg_dominion::Claim;
-use pg_game::{Game, Mask, Player, Sequence};
+use crate::inside::{Inside, claim_of};
+use pg_dominion::{Claim, own_choice};
+use pg_game::{Game, Mask, Player};
 use std::alloc::{AllocError, Global};
-
-/// Whether a vertex is its own only successor in the mask, or has none there.
-fn stays(game: &Game, mask: &Mask, v: u32) -> bool
-    requires size { length mask.now ≡ length game.now }
-    requires vertex { v < length game.now }
-    ensures { IsTrue result ↔ ((w : ℕ) → HasEdge game.now v w → In (members mask.now) w → w ≡ v) }
-{
-    for w in game.successors(v) {
-        if *w != v && mask.has(*w) {
-            return false;
-        }
-    }
-    true
-}
-
-/// Whether a vertex alone is the player's dominion.
-fn is_loop(game: &Game, mask: &Mask, player: Player, v: u32) -> bool
-    requires size { length mask.now ≡ length game.now }
-    requires subgame { IsSubgame game.now (members mask.now) }
-    requires vertex { v < length game.now }
-    ensures { result ≡ loops game.now (members mask.now) player v }
-{
-    if !mask.has(v) || Player::of_parity(game.priority(v)) != player {
-        return false;
-    }
-    if game.owner(v) == player {
-        game.has_edge(v, v)
-    } else {
-        stays(game, mask, v)
-    }
-}
-
-/// The rows of the vertices that are the player's dominions alone, each with itself as the choice where he owns it.
-fn rows_of_loops(
-    alloc: Global,
-    inside: &Inside,
-    player: Player,
-) -> Result<Vec<(u32, Option<u32>)>, AllocError>
-    ensures { IfOk result (λ rows. rows.items ≡ rows_below (loops inside.now.graph (members inside.now.mask) player)
-        (own_choices inside.now.graph player itself) (length inside.now.graph)) }
-{
-    let game = inside.game();
-    let mask = inside.mask();
-    let mut rows = Vec::new(alloc);
-    for v in 0..game.len() {
-        if is_loop(game, mask, player, v) {
-            rows.push((v, own_choice(game, player, v, v)))?;
-        }
-    }
-    Ok(rows)
-}
-
-/// The claim of a player's rows of loops; none if there are none.
-fn claim_of_loops(inside: &Inside, player: Player, rows: Vec<(u32, Option<u32>)>) -> Option<Claim>
-    requires { rows.items ≡ rows_below (loops inside.now.graph (members inside.now.mask) player) (own_choices inside.now.graph player itself)
-        (length inside.now.graph) }
-    ensures { AreLoopsOf inside.now.graph (members inside.now.mask) player result }
-{
-    // for the proof: the part is a subgame
-    let _game = inside.game();
-    if rows.is_empty() {
-        return None;
-    }
-    Some(Claim {
-        player,
-        rows: Sequence::new(rows),
-    })
-}
 
 /// The vertices that alone are the player's dominions, each with itself as the choice if he owns it.
 /// None if there is no such vertex. The only error is `Memory`.
@@ -107,4 +39,69 @@ pub fn find_loop(
 {
     let rows = rows_of_loops(alloc, inside, player)?;
     Ok(claim_of_loops(inside, player, rows))
+}
+
+/// The rows of the vertices that are the player's dominions alone, each with itself as the choice where he owns it.
+fn rows_of_loops(
+    alloc: Global,
+    inside: &Inside,
+    player: Player,
+) -> Result<Vec<(u32, Option<u32>)>, AllocError>
+    ensures { IfOk result (λ rows. rows.items ≡ rows_below (loops inside.now.graph (members inside.now.mask) player)
+        (own_choices inside.now.graph player itself) (length inside.now.graph)) }
+{
+    let game = inside.game();
+    let mask = inside.mask();
+    let mut rows = Vec::new(alloc);
+    for v in 0..game.len() {
+        if is_loop(game, mask, player, v) {
+            rows.push((v, own_choice(game.forward(), player, v, Some(v))))?;
+        }
+    }
+    Ok(rows)
+}
+
+/// Whether a vertex alone is the player's dominion.
+fn is_loop(game: &Game, mask: &Mask, player: Player, v: u32) -> bool
+    requires size { length mask.now ≡ length game.now }
+    requires subgame { IsSubgame game.now (members mask.now) }
+    requires vertex { v < length game.now }
+    ensures { result ≡ loops game.now (members mask.now) player v }
+{
+    if !mask.has(v) || Player::of_parity(game.priority(v)) != player {
+        return false;
+    }
+    if game.owner(v) == player {
+        game.has_edge(v, v)
+    } else {
+        has_no_other_successor(game, mask, v)
+    }
+}
+
+/// Whether a vertex is its own only successor in the mask, or has none there.
+fn has_no_other_successor(game: &Game, mask: &Mask, v: u32) -> bool
+    requires size { length mask.now ≡ length game.now }
+    requires vertex { v < length game.now }
+    ensures { IsTrue result ↔ ((w : ℕ) → HasEdge game.now v w → In (members mask.now) w → w ≡ v) }
+{
+    for w in game.successors(v) {
+        if *w != v && mask.has(*w) {
+            return false;
+        }
+    }
+    true
+}
+
+/// The claim of a player's rows of loops; none if there are none.
+fn claim_of_loops(inside: &Inside, player: Player, rows: Vec<(u32, Option<u32>)>) -> Option<Claim>
+    requires { rows.items ≡ rows_below (loops inside.now.graph (members inside.now.mask) player) (own_choices inside.now.graph player itself)
+        (length inside.now.graph) }
+    ensures { AreLoopsOf inside.now.graph (members inside.now.mask) player result }
+{
+    // for the proof: the part is a subgame
+    let _game = inside.game();
+    if rows.is_empty() {
+        return None;
+    }
+    Some(claim_of(player, rows))
 }

@@ -1,26 +1,31 @@
-//! Zielonka's recursion (1998) solves a whole subgame by two claims, one for each player.
+//! Zielonka's recursion (1998), which solves a whole subgame by two claims, one for each player, as a loop: no function
+//! calls itself. Waiting subgames share three lists and keep places in them: the vertices set aside, and those settled for
+//! each player, in the order of settling. A step takes time in what it attracts and makes active again.
 
-ghost use Rattle.std.specs.Prelude.{◌≡◌, length, IfOk};
+ghost use Rattle.std.specs.Prelude.{◌≡◌, length, IfOk, ◌≢◌, ◌≤◌, ◌<◌, ◌^◌, drop, take, ◌||◌, ℕ, All, ◌++◌, ◌∷◌, [], OnOk, true, false};
 ghost use Rattle.pg_game.specs.declared.player.Player.TheVariants.{Even, Odd};
-ghost use Rattle.pg_game.specs.VertexSet.{members};
-ghost use Rattle.pg_finders.specs.private.Solved.{won_inside};
-ghost use Rattle.pg_finders.specs.private.recursion.Planned.{winners_of, choices_of, HasSize};
+ghost use Rattle.pg_game.specs.VertexSet.{members, union};
+ghost use Rattle.pg_finders.specs.private.Solved.{won_inside, IsSolvedInside};
+ghost use Rattle.pg_finders.specs.private.recursion.Planned.{winners_of, choices_of, HasSize, size};
 ghost use Rattle.pg_finders.specs.Claims.{AreClaims, own_choices, rows_below};
+ghost use Rattle.pg_game.specs.Subgame.{IsSubgame};
+ghost use Rattle.pg_finders.specs.private.recursion.Listed.{listed};
+ghost use Rattle.pg_finders.specs.private.recursion.Growing.{active_of, IsReady, IsKnown, IsGrown, AttractsNoActive, AttractsAtMost};
+ghost use Rattle.pg_game.specs.Player.{opponent};
+ghost use Rattle.std.specs.Borrow.{sem};
+ghost use Rattle.pg_finders.specs.private.recursion.Settled.{settled_of, LendsList};
+ghost use Rattle.pg_finders.specs.private.recursion.UnderWay.{count_at};
+ghost use Rattle.pg_finders.specs.private.recursion.Running.{IsRunning, how_many_gone, work};
+ghost use Rattle.pg_game.specs.private.VertexSet.{without};
 
-mod begin;
-mod counting;
-mod cursors;
 mod order;
-mod plan;
-mod settled;
-mod solver;
 mod subgame;
 
-use crate::inside::Inside;
-use crate::recursion::plan::Plan;
-use crate::recursion::solver::Solver;
-use pg_dominion::Claim;
-use pg_game::{Game, Mask, Memory, Player, Sequence};
+use crate::inside::{Inside, claim_of};
+use crate::recursion::order::Order;
+use crate::recursion::subgame::{Plan, Subgame, begin};
+use pg_dominion::{Claim, own_choice};
+use pg_game::{Game, Mask, Memory, Player};
 use std::alloc::Global;
 
 /// The two players' claims, which share the subgame out.
@@ -44,17 +49,6 @@ pub fn zielonka(alloc: Global, inside: &Inside) -> Result<Solved, Memory>
     solve(alloc, inside)
 }
 
-/// The player's claim of these rows.
-fn claim_of(player: Player, rows: Vec<(u32, Option<u32>)>) -> Claim
-    ensures player { result.player ≡ player }
-    ensures rows { result.rows ≡ rows.items }
-{
-    Claim {
-        player,
-        rows: Sequence::new(rows),
-    }
-}
-
 /// The two claims of the recursion on all vertices inside.
 fn solve(alloc: Global, inside: &Inside) -> Result<Solved, Memory>
     ensures { IfOk result (λ solved. AreClaims inside.now.graph (members inside.now.mask) solved.even solved.odd) }
@@ -71,6 +65,351 @@ fn solve(alloc: Global, inside: &Inside) -> Result<Solved, Memory>
         even: claim_of(Player::Even, even),
         odd: claim_of(Player::Odd, odd),
     })
+}
+
+/// A run of the loop.
+#[derive(Drop)]
+struct Solver {
+    subgame: Subgame,
+    order: Order,
+    settled: Settled,
+    set_aside: Vec<u32>,
+    frames: Vec<Frame>,
+    list: Vec<u32>,
+    /// The number of planned vertices.
+    size: usize,
+}
+
+impl Solver {
+    /// No vertex is settled yet.
+    fn new(alloc: Global, game: &Game, inside: &Mask) -> Result<Solver, Memory>
+        requires length { length inside.now ≡ length game.now }
+        requires subgame { IsSubgame game.now (members inside.now) }
+        ensures { IfOk result (λ solver. IsRunning game.now inside.now solver solver.frames.items) }
+    {
+        // Capacities are for all vertices that a list may get, as far as this is known. If a list outgrows a block below a KiB, the
+        // allocator of glibc keeps that block, and does not return the memory below it to the system.
+        let n = inside.count();
+        let frames = Vec::with_capacity(alloc, 64)?;
+        // the order first, which frees its temporary memory
+        let order = Order::new(alloc, game, inside)?;
+        let subgame = Subgame::new(alloc, game, inside)?;
+        let settled = Settled::new(alloc, n)?;
+        let set_aside = Vec::with_capacity(alloc, n as usize)?;
+        let list = Vec::with_capacity(alloc, n as usize)?;
+        let solver = Solver {
+            subgame,
+            order,
+            settled,
+            set_aside,
+            frames,
+            list,
+            size: n as usize,
+        };
+        Ok(solver)
+    }
+
+    /// The number of vertices that are settled for the player.
+    fn count(&self, player: Player) -> usize
+        ensures { result ≡ length (settled_of self.now.settled player) }
+    {
+        self.settled.count(player)
+    }
+
+    fn into_plan(self) -> Plan
+        ensures { result ≡ self.subgame.plan }
+    {
+        self.subgame.plan
+    }
+
+    /// Plans the whole mask.
+    fn run(&mut self, game: &Game, inside: &Mask) -> Result<(), Memory>
+        requires { IsRunning game.now inside.now self.old self.old.frames.items }
+        ensures solved { OnOk result (IsSolvedInside game.now (members inside.now) (winners_of self.new.subgame.plan) (choices_of self.new.subgame.plan)) }
+        ensures size { OnOk result (HasSize (length game.now) self.new.subgame.plan) }
+    {
+        'steps: loop {
+            if self.enter(game, inside)? {
+                continue;
+            }
+            let Some(frame) = self.frames.pop() else {
+                break;
+            };
+            self.leave(game, inside, frame)?;
+        }
+        Ok(())
+    }
+
+    /// Begins the active part: sets aside what its greatest priority attracts. False if nothing is
+    /// active.
+    fn enter(&mut self, game: &Game, inside: &Mask) -> Result<bool, Memory>
+        requires { IsRunning game.now inside.now self.old self.old.frames.items }
+        ensures running { OnOk result (IsRunning game.now inside.now self.new self.new.frames.items) }
+        ensures fewer { IfOk result (λ entered. entered ≡ true
+            → work (size inside.now) self.new self.new.frames.items < work (size inside.now) self.old self.old.frames.items) }
+        ensures same { IfOk result (λ entered. entered ≡ false
+            → work (size inside.now) self.new self.new.frames.items ≡ work (size inside.now) self.old self.old.frames.items) }
+        ensures none { IfOk result (λ entered. entered ≡ false → (v : ℕ) → active_of self.new.subgame v ≡ false) }
+    {
+        // for the proof: there are so few vertices that the numbers listed add up without overflow
+        let _n = game.len();
+        if self.gone() == self.size {
+            return Ok(false);
+        }
+        let place = self.order.upto();
+        let Some(top) = self.order.top(game, &self.subgame.active) else {
+            return Ok(false);
+        };
+        begin(
+            &mut self.subgame,
+            &mut self.order,
+            game,
+            top,
+            &mut self.list,
+        )?;
+        let set_aside = self.set_aside.len();
+        append_all(&mut self.set_aside, &self.list)?;
+        self.frames.push(Frame {
+            player: Player::of_parity(top),
+            place,
+            even: self.settled.count(Player::Even),
+            odd: self.settled.count(Player::Odd),
+            set_aside,
+            upto: self.set_aside.len(),
+        })?;
+        Ok(true)
+    }
+
+    /// The number of vertices that are settled or set aside. The others are active.
+    fn gone(&self) -> usize
+        requires { how_many_gone (settled_of self.now.settled) self.now.set_aside.items < 2 ^ 32 }
+        ensures { result ≡ how_many_gone (settled_of self.now.settled) self.now.set_aside.items }
+    {
+        self.settled.count(Player::Even) + self.settled.count(Player::Odd) + self.set_aside.len()
+    }
+
+    /// Finishes the subgame that waits there, which has no active vertex.
+    fn leave(&mut self, game: &Game, inside: &Mask, frame: Frame) -> Result<(), Memory>
+        requires running { IsRunning game.now inside.now self.old (self.old.frames.items ++ frame ∷ []) }
+        requires done { (v : ℕ) → active_of self.old.subgame v ≡ false }
+        ensures running { OnOk result (IsRunning game.now inside.now self.new self.new.frames.items) }
+        ensures fewer { OnOk result (work (size inside.now) self.new self.new.frames.items < work (size inside.now) self.old
+            (self.old.frames.items ++ frame ∷ [])) }
+    {
+        let other = frame.player.other();
+        if self.settled.count(other) == frame.count(other) {
+            self.settle(game, inside, frame)
+        } else {
+            self.resume(game, inside, frame)
+        }
+    }
+
+    /// Settles the subgame that waits there for its player, who won its whole rest.
+    fn settle(&mut self, game: &Game, inside: &Mask, frame: Frame) -> Result<(), Memory>
+        requires running { IsRunning game.now inside.now self.old (self.old.frames.items ++ frame ∷ []) }
+        requires done { (v : ℕ) → active_of self.old.subgame v ≡ false }
+        requires all { length (settled_of self.old.settled (opponent frame.player)) ≡ count_at frame (opponent frame.player) }
+        ensures running { OnOk result (IsRunning game.now inside.now self.new self.new.frames.items) }
+        ensures fewer { OnOk result (work (size inside.now) self.new self.new.frames.items < work (size inside.now) self.old
+            (self.old.frames.items ++ frame ∷ [])) }
+    {
+        self.settled
+            .append_from(frame.player, &self.set_aside, frame.set_aside)?;
+        self.set_aside.truncate(frame.set_aside);
+        Ok(())
+    }
+
+    /// Removes from the subgame that waits there what the opponent won and attracts, and makes the others active. What he
+    /// won stays in its list: of the others only those set aside may lead to it.
+    fn resume(&mut self, game: &Game, inside: &Mask, frame: Frame) -> Result<(), Memory>
+        requires running { IsRunning game.now inside.now self.old (self.old.frames.items ++ frame ∷ []) }
+        requires done { (v : ℕ) → active_of self.old.subgame v ≡ false }
+        requires some { length (settled_of self.old.settled (opponent frame.player)) ≢ count_at frame (opponent frame.player) }
+        ensures running { OnOk result (IsRunning game.now inside.now self.new self.new.frames.items) }
+        ensures fewer { OnOk result (work (size inside.now) self.new self.new.frames.items < work (size inside.now) self.old
+            (self.old.frames.items ++ frame ∷ [])) }
+    {
+        let other = frame.player.other();
+        self.reopen(frame);
+        self.settled.attract(
+            &mut self.subgame,
+            game,
+            inside,
+            other,
+            &self.set_aside,
+            frame.set_aside,
+        )?;
+        self.set_aside.truncate(frame.set_aside);
+        self.order.go_back(frame.place);
+        Ok(())
+    }
+
+    /// Makes active again the vertices set aside for the subgame, and those of the rest that its player won.
+    fn reopen(&mut self, frame: Frame)
+        requires set_aside { frame.set_aside ≤ length self.old.set_aside.items }
+        requires counts { (p : Player) → count_at frame p ≤ length (settled_of self.old.settled p) }
+        requires aside_below { All (λ v. v < length self.old.subgame.active) self.old.set_aside.items }
+        requires settled_below { (p : Player) → All (λ v. v < length self.old.subgame.active) (settled_of self.old.settled p) }
+        ensures length { length self.new.subgame.active ≡ length self.old.subgame.active }
+        ensures active { (v : ℕ) → active_of self.new.subgame v
+            ≡ ((active_of self.old.subgame v || listed (drop frame.set_aside self.old.set_aside.items) v) || listed
+            (drop (count_at frame frame.player) (settled_of self.old.settled frame.player)) v) }
+        ensures own { settled_of self.new.settled frame.player ≡ take (count_at frame frame.player) (settled_of self.old.settled frame.player) }
+        ensures other { settled_of self.new.settled (opponent frame.player) ≡ settled_of self.old.settled (opponent frame.player) }
+        ensures set_aside { self.new.set_aside ≡ self.old.set_aside }
+        ensures plan { self.new.subgame.plan ≡ self.old.subgame.plan }
+        ensures cursors { self.new.subgame.cursors ≡ self.old.subgame.cursors }
+        ensures order { self.new.order ≡ self.old.order }
+        ensures frames { self.new.frames ≡ self.old.frames }
+        ensures size { self.new.size ≡ self.old.size }
+    {
+        insert_all(&mut self.subgame.active, &self.set_aside[frame.set_aside..]);
+        let own = frame.count(frame.player);
+        insert_all(
+            &mut self.subgame.active,
+            &self.settled.list(frame.player)[own..],
+        );
+        self.settled.truncate(frame.player, own);
+    }
+}
+
+/// A subgame that waits until the rest outside its attractor is solved.
+#[derive(Clone, Copy)]
+struct Frame {
+    /// The player of its attractor.
+    player: Player,
+    /// The subgame's vertices are before this place in the order by priority.
+    place: usize,
+    /// The number of vertices that were settled for each player when the subgame was begun.
+    even: usize,
+    odd: usize,
+    /// The places between which its attractor is set aside.
+    set_aside: usize,
+    upto: usize,
+}
+
+impl Frame {
+    /// The number of vertices that were settled for the player.
+    fn count(self, player: Player) -> usize
+        ensures { result ≡ count_at self player }
+    {
+        match player {
+            Player::Even => self.even,
+            Player::Odd => self.odd,
+        }
+    }
+}
+
+/// The vertices that each player has won for good, in the order of settling.
+#[derive(Drop)]
+struct Settled {
+    even: Vec<u32>,
+    odd: Vec<u32>,
+}
+
+impl Settled {
+    /// Nothing is settled. There is capacity for this many vertices of each player.
+    fn new(alloc: Global, n: u32) -> Result<Settled, Memory>
+        ensures { IfOk result (λ settled. (p : Player) → settled_of settled p ≡ []) }
+    {
+        Ok(Settled {
+            even: Vec::with_capacity(alloc, n as usize)?,
+            odd: Vec::with_capacity(alloc, n as usize)?,
+        })
+    }
+
+    /// The player's vertices.
+    fn list(&self, player: Player) -> &[u32]
+        ensures { result.now ≡ settled_of self.now player }
+    {
+        match player {
+            Player::Even => &self.even,
+            Player::Odd => &self.odd,
+        }
+    }
+
+    fn list_mut(&mut self, player: Player) -> &mut Vec<u32>
+        ensures* lends { sem 𝓛 (LendsList self.entry player result) }
+        ensures items { result.now.items ≡ settled_of self.old player }
+    {
+        match player {
+            Player::Even => &mut self.even,
+            Player::Odd => &mut self.odd,
+        }
+    }
+
+    /// The number of the player's vertices.
+    fn count(&self, player: Player) -> usize
+        ensures { result ≡ length (settled_of self.now player) }
+    {
+        self.list(player).len()
+    }
+
+    /// Gives the vertices of the list from a place on to the player.
+    fn append_from(&mut self, player: Player, list: &[u32], from: usize) -> Result<(), Memory>
+        requires { from ≤ length list.now }
+        ensures own { OnOk result (settled_of self.new player ≡ settled_of self.old player ++ drop from list.now) }
+        ensures other { OnOk result (settled_of self.new (opponent player) ≡ settled_of self.old (opponent player)) }
+    {
+        append_all(self.list_mut(player), &list[from..])
+    }
+
+    /// Settles for the player what he attracts to his vertices. Of the active vertices only those set aside from a place
+    /// on may lead to them.
+    fn attract(
+        &mut self,
+        subgame: &mut Subgame,
+        game: &Game,
+        inside: &Mask,
+        player: Player,
+        set_aside: &[u32],
+        from: usize,
+    ) -> Result<(), Memory>
+        requires ready { IsReady (length game.now) subgame.old (settled_of self.old player) }
+        requires length { length inside.now ≡ length game.now }
+        requires known { IsKnown game.now (members inside.now) player (active_of subgame.old) subgame.old.plan (settled_of self.old player) }
+        requires place { from ≤ length set_aside.now }
+        requires below { All (λ v. v < length game.now) set_aside.now }
+        requires at_most { AttractsAtMost game.now player (active_of subgame.old) (settled_of self.old player) (drop from set_aside.now) }
+        ensures ready { OnOk result (IsReady (length game.now) subgame.new (settled_of self.new player)) }
+        ensures grown { OnOk result (IsGrown game.now player (active_of subgame.old) subgame.old.plan (settled_of self.old player)
+            (active_of subgame.new) subgame.new.plan (settled_of self.new player)) }
+        ensures done { OnOk result (AttractsNoActive game.now player (union (active_of subgame.old) (listed (settled_of self.old player)))
+            (listed (settled_of self.new player)) (active_of subgame.new)) }
+        ensures other { settled_of self.new (opponent player) ≡ settled_of self.old (opponent player) }
+    {
+        let list = self.list_mut(player);
+        subgame.attract_again(game, inside, player, list, &set_aside[from..])
+    }
+
+    /// Removes the player's vertices from a place on.
+    fn truncate(&mut self, player: Player, count: usize)
+        ensures own { settled_of self.new player ≡ take count (settled_of self.old player) }
+        ensures other { settled_of self.new (opponent player) ≡ settled_of self.old (opponent player) }
+    {
+        self.list_mut(player).truncate(count);
+    }
+}
+
+/// Appends the vertices to the list.
+fn append_all(list: &mut Vec<u32>, vertices: &[u32]) -> Result<(), Memory>
+    ensures { OnOk result (list.new.items ≡ list.old.items ++ vertices.now) }
+{
+    for v in vertices {
+        list.push(*v)?;
+    }
+    Ok(())
+}
+
+/// Adds the listed vertices to the mask.
+fn insert_all(mask: &mut Mask, list: &[u32])
+    requires { All (λ v. v < length mask.old) list.now }
+    ensures length { length mask.new ≡ length mask.old }
+    ensures has { (v : ℕ) → members mask.new v ≡ union (members mask.old) (listed list.now) v }
+{
+    for v in list {
+        mask.insert(*v);
+    }
 }
 
 /// The rows of the mask that a plan gives Even, and those that it gives Odd, in lists with these capacities at first.
@@ -94,11 +433,7 @@ fn rows_of(
     for v in 0..game.len() {
         if mask.has(v) {
             let winner = plan.winner(v);
-            let choice = if game.owner(v) == winner {
-                plan.choice(v)
-            } else {
-                None
-            };
+            let choice = own_choice(game.forward(), winner, v, plan.choice(v));
             match winner {
                 Player::Even => even.push((v, choice))?,
                 Player::Odd => odd.push((v, choice))?,

@@ -1,27 +1,62 @@
 //! Subgames in which one player has a single successor at each of his vertices.
 //!
 //! The other player then plays alone (Berwanger and Grädel 2004). If some closed walk is good for him, he wins the
-//! vertices that lead to its greatest vertex over no greater priority. Without such a walk all closed walks are good
-//! for the player without a choice, who wins all vertices.
-ghost use Rattle.std.specs.Prelude.{◌≡◌, ℕ, ◌<◌, ◌↔◌, length, slice_index, IfOk, IfSome, IsNone, IsTrue, MatchOption};
+//! vertices that lead to its greatest vertex over no greater priority: a breadth-first search against the edges finds
+//! them. Without such a walk all closed walks are good for the player without a choice, who wins all vertices.
+
+ghost use Rattle.std.specs.Prelude.{◌≡◌, ℕ, ◌<◌, ◌↔◌, length, slice_index, IfOk, IfSome, IsNone, IsTrue, MatchOption, ◌⊎◌, List, OnOk};
 ghost use Rattle.pg_game.specs.VertexSet.{In, members};
-ghost use Rattle.pg_game.specs.Graph.{owner_of};
+ghost use Rattle.pg_game.specs.Graph.{owner_of, priority_of};
 ghost use Rattle.pg_game.specs.Subgame.{IsSubgame};
 ghost use Rattle.pg_dominion.specs.Claim.{IsGoodIn};
 ghost use Rattle.pg_finders.specs.Part.{IsOut};
 ghost use Rattle.pg_finders.specs.private.recursion.Planned.{HoldsSet};
 ghost use Rattle.pg_finders.specs.Claims.{own_choices, rows_below};
 ghost use Rattle.pg_finders.specs.Finding.{HasOneSuccessor, IsSolitaire};
-ghost use Rattle.pg_finders.specs.private.solitaire.Solitaire.{HasOneAt, IsSingle, owned, good_for, choices_by};
+ghost use Rattle.pg_finders.specs.private.solitaire.Solitaire.{HasOneAt, IsSingle, owned, good_for, choices_by, EdgeBelow, AreLeading, IsSeen};
+ghost use Rattle.pg_game.specs.Walk.{Walk};
+ghost use Rattle.pg_finders.specs.private.solitaire.Leading.{IsQueue, Follows};
 
-mod leading;
-
-use crate::choice::own_choice;
-use crate::inside::Inside;
-use crate::solitaire::leading::lead_to;
-use pg_dominion::{Claim, Kept, least_bad_vertex};
-use pg_game::{Game, Mask, Player, Sequence};
+use crate::inside::{Inside, claim_of};
+use pg_dominion::{Claim, StrategyGraph, least_bad_vertex, own_choice};
+use pg_game::{Game, Mask, Player};
 use std::alloc::{AllocError, Global};
+
+/// A claim of either player that is good in the subgame, if that has a vertex and one player has a single successor
+/// inside at each of his vertices inside, or has no vertex inside; else none. It need not have all vertices inside. The
+/// only error is `Memory`.
+pub fn find_solitaire(alloc: Global, inside: &Inside) -> Result<Option<Claim>, AllocError>
+    ensures none { IfOk result (λ found. MatchOption found (IsSolitaire inside.now.graph (members inside.now.mask) → ⊥)
+        (λ claim. IsSolitaire inside.now.graph (members inside.now.mask))) }
+    ensures good { IfOk result (λ found. MatchOption found (Unit {0}) (λ claim. IsGoodIn inside.now.graph (members inside.now.mask) claim.player claim.rows)) }
+{
+    let game = inside.game();
+    let mask = inside.mask();
+    if mask.is_empty() {
+        return Ok(None);
+    }
+    if has_one_successor(game, mask, Player::Even) {
+        return Ok(Some(solve(alloc, game, mask, Player::Even)?));
+    }
+    if has_one_successor(game, mask, Player::Odd) {
+        return Ok(Some(solve(alloc, game, mask, Player::Odd)?));
+    }
+    Ok(None)
+}
+
+/// Whether the player has a single successor in the mask at each of his vertices in it.
+fn has_one_successor(game: &Game, mask: &Mask, player: Player) -> bool
+    requires size { length mask.now ≡ length game.now }
+    requires subgame { IsSubgame game.now (members mask.now) }
+    ensures { IsTrue result ↔ HasOneSuccessor game.now (members mask.now) player }
+{
+    for v in 0..game.len() {
+        if mask.has(v) && game.owner(v) == player && single_successor(game, mask, v).is_none() {
+            return false;
+        }
+    }
+    true
+}
 
 /// The single successor of a vertex in the mask. None if there are two, or none.
 fn single_successor(game: &Game, mask: &Mask, v: u32) -> Option<u32>
@@ -42,18 +77,34 @@ fn single_successor(game: &Game, mask: &Mask, v: u32) -> Option<u32>
     single
 }
 
-/// Whether the player has a single successor in the mask at each of his vertices in it.
-fn has_one_successor(game: &Game, mask: &Mask, player: Player) -> bool
+/// A claim that is good in the subgame, where `forced` has a single successor inside at each of his vertices.
+fn solve(alloc: Global, game: &Game, mask: &Mask, forced: Player) -> Result<Claim, AllocError>
     requires size { length mask.now ≡ length game.now }
     requires subgame { IsSubgame game.now (members mask.now) }
-    ensures { IsTrue result ↔ HasOneSuccessor game.now (members mask.now) player }
+    requires some { (v : ℕ) × In (members mask.now) v }
+    requires one { HasOneSuccessor game.now (members mask.now) forced }
+    ensures { IfOk result (λ claim. IsGoodIn game.now (members mask.now) claim.player claim.rows) }
 {
-    for v in 0..game.len() {
-        if mask.has(v) && game.owner(v) == player && single_successor(game, mask, v).is_none() {
-            return false;
+    let kept = StrategyGraph {
+        game: game.forward(),
+        inside: mask.copy(alloc)?,
+        chosen: owned_by(alloc, game, mask, forced)?,
+        choices: single_successors(alloc, game, mask, forced)?,
+        bad: of_parity(alloc, game, mask, forced.other())?,
+    };
+    match least_bad_vertex(alloc, &kept)? {
+        None => claim_of_set(alloc, game, forced, mask, kept.choices.as_slice()),
+        Some(goal) => {
+            let lead = lead_to(alloc, game, mask, goal)?;
+            claim_of_set(
+                alloc,
+                game,
+                forced.other(),
+                &lead.taken,
+                lead.next.as_slice(),
+            )
         }
     }
-    true
 }
 
 /// The player's vertices in the mask.
@@ -68,37 +119,6 @@ fn owned_by(alloc: Global, game: &Game, mask: &Mask, player: Player) -> Result<M
         }
     }
     Ok(set)
-}
-
-/// The vertices in the mask whose priority has the player's parity.
-fn of_parity(alloc: Global, game: &Game, mask: &Mask, player: Player) -> Result<Mask, AllocError>
-    requires { length mask.now ≡ length game.now }
-    ensures { IfOk result (λ set. HoldsSet set (length game.now) (good_for game.now (members mask.now) player)) }
-{
-    let mut set = Mask::empty(alloc, game.len())?;
-    for v in 0..game.len() {
-        if mask.has(v) && Player::of_parity(game.priority(v)) == player {
-            set.insert(v);
-        }
-    }
-    Ok(set)
-}
-
-/// The single successor of a vertex that the player owns in the mask, and 0 for another vertex.
-fn forced_choice(game: &Game, mask: &Mask, player: Player, v: u32) -> u32
-    requires size { length mask.now ≡ length game.now }
-    requires subgame { IsSubgame game.now (members mask.now) }
-    requires one { HasOneSuccessor game.now (members mask.now) player }
-    requires vertex { v < length game.now }
-    ensures { In (members mask.now) v → owner_of game.now v ≡ player → IsSingle game.now (members mask.now) v result }
-{
-    if !mask.has(v) || game.owner(v) != player {
-        return 0;
-    }
-    match single_successor(game, mask, v) {
-        Some(w) => w,
-        None => 0,
-    }
 }
 
 /// By vertex, the single successors of the player's vertices in the mask.
@@ -123,8 +143,39 @@ fn single_successors(
     Ok(next)
 }
 
+/// The single successor of a vertex that the player owns in the mask, and 0 for another vertex.
+fn forced_choice(game: &Game, mask: &Mask, player: Player, v: u32) -> u32
+    requires size { length mask.now ≡ length game.now }
+    requires subgame { IsSubgame game.now (members mask.now) }
+    requires one { HasOneSuccessor game.now (members mask.now) player }
+    requires vertex { v < length game.now }
+    ensures { In (members mask.now) v → owner_of game.now v ≡ player → IsSingle game.now (members mask.now) v result }
+{
+    if !mask.has(v) || game.owner(v) != player {
+        return 0;
+    }
+    match single_successor(game, mask, v) {
+        Some(w) => w,
+        None => 0,
+    }
+}
+
+/// The vertices in the mask whose priority has the player's parity.
+fn of_parity(alloc: Global, game: &Game, mask: &Mask, player: Player) -> Result<Mask, AllocError>
+    requires { length mask.now ≡ length game.now }
+    ensures { IfOk result (λ set. HoldsSet set (length game.now) (good_for game.now (members mask.now) player)) }
+{
+    let mut set = Mask::empty(alloc, game.len())?;
+    for v in 0..game.len() {
+        if mask.has(v) && Player::of_parity(game.priority(v)) == player {
+            set.insert(v);
+        }
+    }
+    Ok(set)
+}
+
 /// The claim of a set, with the player's choices from the list.
-fn claim_of(
+fn claim_of_set(
     alloc: Global,
     game: &Game,
     player: Player,
@@ -139,63 +190,74 @@ fn claim_of(
     let mut rows = Vec::new(alloc);
     for v in 0..game.len() {
         if set.has(v) {
-            rows.push((v, own_choice(game, player, v, next[v as usize])))?;
+            let choice = Some(next[v as usize]);
+            rows.push((v, own_choice(game.forward(), player, v, choice)))?;
         }
     }
-    Ok(Claim {
-        player,
-        rows: Sequence::new(rows),
-    })
+    Ok(claim_of(player, rows))
 }
 
-/// A claim that is good in the subgame, where `forced` has a single successor inside at each of his vertices.
-fn solve(alloc: Global, game: &Game, mask: &Mask, forced: Player) -> Result<Claim, AllocError>
+/// The vertices in the mask from which a walk leads to the goal over no greater priority than the goal's.
+fn lead_to(alloc: Global, game: &Game, mask: &Mask, goal: u32) -> Result<Lead, AllocError>
     requires size { length mask.now ≡ length game.now }
-    requires subgame { IsSubgame game.now (members mask.now) }
-    requires some { (v : ℕ) × In (members mask.now) v }
-    requires one { HasOneSuccessor game.now (members mask.now) forced }
-    ensures { IfOk result (λ claim. IsGoodIn game.now (members mask.now) claim.player claim.rows) }
+    requires goal { goal < length game.now }
+    ensures leading { IfOk result (λ lead. AreLeading game.now (members mask.now) (priority_of game.now goal) goal lead.taken lead.next.items) }
+    ensures all { IfOk result (λ lead. (v : ℕ) (vs : List ℕ) → Walk (EdgeBelow game.now (members mask.now) (priority_of game.now goal)) v vs goal
+        → In (members lead.taken) v) }
 {
-    let kept = Kept {
-        game: game.forward(),
-        inside: mask.copy(alloc)?,
-        chosen: owned_by(alloc, game, mask, forced)?,
-        choices: single_successors(alloc, game, mask, forced)?,
-        bad: of_parity(alloc, game, mask, forced.other())?,
+    let n = game.len();
+    let mut lead = Lead {
+        taken: Mask::empty(alloc, n)?,
+        next: vec![in alloc; 0u32; n as usize]?,
     };
-    match least_bad_vertex(alloc, &kept)? {
-        None => claim_of(alloc, game, forced, mask, kept.choices.as_slice()),
-        Some(goal) => {
-            let lead = lead_to(alloc, game, mask, goal)?;
-            claim_of(
-                alloc,
-                game,
-                forced.other(),
-                &lead.taken,
-                lead.next.as_slice(),
-            )
+    let mut queue = Vec::new(alloc);
+    queue.push(goal)?;
+    'queue: for at in 0..usize::MAX {
+        if at >= queue.len() {
+            break;
         }
+        let to = queue[at];
+        reach_back(game, mask, goal, to, &mut lead, &mut queue)?;
     }
+    Ok(lead)
 }
 
-/// A claim of either player that is good in the subgame, if that has a vertex and one player has a single successor
-/// inside at each of his vertices inside, or has no vertex inside; else none. It need not have all vertices inside. The
-/// only error is `Memory`.
-pub fn find_solitaire(alloc: Global, inside: &Inside) -> Result<Option<Claim>, AllocError>
-    ensures none { IfOk result (λ found. MatchOption found (IsSolitaire inside.now.graph (members inside.now.mask) → ⊥)
-        (λ claim. IsSolitaire inside.now.graph (members inside.now.mask))) }
-    ensures good { IfOk result (λ found. MatchOption found (Unit {0}) (λ claim. IsGoodIn inside.now.graph (members inside.now.mask) claim.player claim.rows)) }
+/// The vertices that lead to the goal, and at each of them the next vertex.
+#[derive(Drop)]
+struct Lead {
+    taken: Mask,
+    next: Vec<u32>,
+}
+
+/// Adds the vertices in the mask with an edge to `to` and no greater priority than the goal's.
+fn reach_back(
+    game: &Game,
+    mask: &Mask,
+    goal: u32,
+    to: u32,
+    lead: &mut Lead,
+    queue: &mut Vec<u32>,
+) -> Result<(), AllocError>
+    requires size { length mask.now ≡ length game.now }
+    requires goal { goal < length game.now }
+    requires state { AreLeading game.now (members mask.now) (priority_of game.now goal) goal lead.old.taken lead.old.next.items }
+    requires queue { IsQueue game.now goal lead.old.taken queue.old.items }
+    requires to { (to ≡ goal) ⊎ In (members lead.old.taken) to }
+    requires vertex { to < length game.now }
+    ensures state { OnOk result (AreLeading game.now (members mask.now) (priority_of game.now goal) goal lead.new.taken lead.new.next.items) }
+    ensures queue { OnOk result (IsQueue game.now goal lead.new.taken queue.new.items) }
+    ensures follows { OnOk result (Follows lead.old.taken queue.old.items lead.new.taken queue.new.items) }
+    ensures seen { OnOk result (IsSeen game.now (members mask.now) (priority_of game.now goal) (members lead.new.taken) to) }
 {
-    let game = inside.game();
-    let mask = inside.mask();
-    if mask.is_empty() {
-        return Ok(None);
+    let top = game.priority(goal);
+    'edges: for from in game.predecessors(to) {
+        let v = *from;
+        if !mask.has(v) || lead.taken.has(v) || game.priority(v) > top {
+            continue;
+        }
+        queue.push(v)?;
+        lead.next[v as usize] = to;
+        lead.taken.insert(v);
     }
-    if has_one_successor(game, mask, Player::Even) {
-        return Ok(Some(solve(alloc, game, mask, Player::Even)?));
-    }
-    if has_one_successor(game, mask, Player::Odd) {
-        return Ok(Some(solve(alloc, game, mask, Player::Odd)?));
-    }
-    Ok(None)
+    Ok(())
 }

@@ -1,5 +1,6 @@
 -- How many different numbers a list has, and which vertex an identifier names: by rising lists.
-use Rattle.pg_game.proofs.Common.{◌≡◌, ◌≢◌, ℕ, zero, suc, add-one, ◌+◌, ◌<◌, ◌≤◌, Bool, true, false, inl, inr, List, [], ◌∷◌, length, get_or, refl, sym, ◌∙◌, ap, subst}
+use Rattle.pg_game.proofs.Common.{◌≡◌, ◌≢◌, ℕ, zero, suc, add-one, ◌+◌, ◌<◌, ◌≤◌, Bool, true, false, inl, inr, List, [], ◌∷◌, length, get_or, refl, sym}
+use Rattle.pg_game.proofs.Common.{◌∙◌, ap, subst}
 use Rattle.pg_game.proofs.Common.{arith, rules, ◌==◌, nat_lt, count_by, Contains, list_any, IsStrictlyIncreasing, eqb-true, eq-eqb, false_from_ne_true, le-ltb}
 use Rattle.pg_game.proofs.Common.{cases_Bool, get_or_default, sorted_from_strictly_increasing, below_from_sorted, different}
 use Rattle.std.proofs.Common.{not, ◌↔◌, lt-ltb}

@@ -1,8 +1,9 @@
 -- Rows by places, and the game of specifications by rising identifier.
 use Rattle.pg_game.proofs.Common.{◌≡◌, ℕ, suc, ◌+◌, ◌<◌, false, inl, inr, List, [], ◌∷◌, length, map, get_or, refl, sym, ◌∙◌, ap, subst, arith, All, None}
 use Rattle.pg_game.proofs.Common.{◌==◌, ◌↔◌, Contains, list_any, IsStrictlyIncreasing, IsPermutation, false_from_ne_true, length-map, get_or-map, ext_get_or}
-use Rattle.pg_game.proofs.Common.{Contains-get_or, sum_by-cons, Spec, IsGame, AreNumbers, IsGameOf, first_fault, first_repeated, edges, different, priorities_of}
-use Rattle.pg_game.proofs.Common.{owners_of, ids_of, successor_lists, ArePlaces, row_at, size_of, graph_of, IsStored, AreAllPlaces, ArePlacedSpecs}
+use Rattle.pg_game.proofs.Common.{Contains-get_or, sum_by-cons, Spec, IsGame, AreNumbers, IsGameOf, first_fault, first_repeated, edges, different}
+use Rattle.pg_game.proofs.Common.{priorities_of}
+use Rattle.pg_game.proofs.Common.{owners_of, ids_of, successor_lists, ArePlaces, row_at, size_of, graph_of, IsStored, AreAllPlaces, AreResolvedSpecs}
 use Rattle.pg_game.proofs.Members.{Contains-head, Contains-tail, Contains-cons}
 use Rattle.pg_game.proofs.Gathered.{any_from}
 use Rattle.pg_game.proofs.Different.{rising_tail, below_first, different_is}
@@ -31,13 +32,13 @@ module _ {ids : List ℕ} (up : IsStrictlyIncreasing ids) {successors places : L
         subst (λ (i : ℕ). Contains successors i) (sym (get_or-map name places m.0 0 x l) ∙ m.2) h.1),
   )
 
-  pub different_placed : different successors ≡ length places
-  different_placed = different_is successors (map name places) named_rise same_named ∙ length-map places name
+  pub different_resolved : different successors ≡ length places
+  different_resolved = different_is successors (map name places) named_rise same_named ∙ length-map places name
 
-  pub are_placed : ArePlaces ids successors places
-  are_placed = record {
+  pub are_resolved : ArePlaces ids successors places
+  are_resolved = record {
     rising = a.rising;
-    size = let h = different_placed in omega (arith, h);
+    size = let h = different_resolved in omega (arith, h);
     members = λ w. (
       λ m. a.from w m,
       λ h. (let p = a.all (get_or ids w 0) h.1 in subst (λ (v : ℕ). Contains places v) (same_place ids up p.0 w (a.from p.0 p.1).0 h.0 p.2) p.1),
@@ -57,31 +58,31 @@ none_repeated earlier (x ∷ xs) up less =
     ]))
 
 -- as many edges as there are places
-edges-placed : (specs : List Spec) (placed : List (List ℕ)) → length placed ≡ length specs →
-    ((v : ℕ) (d : Spec) → v < length specs → different (get_or specs v d).successors ≡ length (row_at placed v)) → edges specs ≡ size_of placed
-edges-placed [] [] e same = refl
-edges-placed [] (r ∷ placed) e same = absurd (omega arith)
-edges-placed (s ∷ specs) [] e same = absurd (omega arith)
-edges-placed (s ∷ specs) (r ∷ placed) e same =
+edges-resolved : (specs : List Spec) (resolved : List (List ℕ)) → length resolved ≡ length specs →
+    ((v : ℕ) (d : Spec) → v < length specs → different (get_or specs v d).successors ≡ length (row_at resolved v)) → edges specs ≡ size_of resolved
+edges-resolved [] [] e same = refl
+edges-resolved [] (r ∷ resolved) e same = absurd (omega arith)
+edges-resolved (s ∷ specs) [] e same = absurd (omega arith)
+edges-resolved (s ∷ specs) (r ∷ resolved) e same =
     let a = sum_by-cons (λ (t : Spec). different t.successors) s specs in
-    let b = sum_by-cons (λ (ws : List ℕ). length ws) r placed in
+    let b = sum_by-cons (λ (ws : List ℕ). length ws) r resolved in
     let c = same 0 s (omega arith) in
-    let d = edges-placed specs placed (omega arith) (λ v d l. same (suc v) d (omega arith)) in
+    let d = edges-resolved specs resolved (omega arith) (λ v d l. same (suc v) d (omega arith)) in
     omega (arith, a, b, c, d)
 
 -- specifications by rising identifier, and the same with places for successors
-module _ {specs sorted placed : List Spec} {ids : List ℕ} (sound : first_fault specs ≡ None) (numbers : All AreNumbers specs)
-    (moved : IsPermutation specs sorted) (are : ids_of sorted ≡ ids) (up : IsStrictlyIncreasing ids) (p : ArePlacedSpecs ids sorted placed) where
-  row_is : (v : ℕ) (d : Spec) → v < length sorted → row_at (successor_lists placed) v ≡ (get_or placed v d).successors
-  row_is v d l = get_or-map (λ (s : Spec). s.successors) placed v d [] (omega (arith, l, p.size))
+module _ {specs sorted resolved : List Spec} {ids : List ℕ} (sound : first_fault specs ≡ None) (numbers : All AreNumbers specs)
+    (moved : IsPermutation specs sorted) (are : ids_of sorted ≡ ids) (up : IsStrictlyIncreasing ids) (p : AreResolvedSpecs ids sorted resolved) where
+  row_is : (v : ℕ) (d : Spec) → v < length sorted → row_at (successor_lists resolved) v ≡ (get_or resolved v d).successors
+  row_is v d l = get_or-map (λ (s : Spec). s.successors) resolved v d [] (omega (arith, l, p.size))
 
-  places_at : (v : ℕ) (d : Spec) → v < length sorted → AreAllPlaces ids (get_or sorted v d).successors (row_at (successor_lists placed) v)
+  places_at : (v : ℕ) (d : Spec) → v < length sorted → AreAllPlaces ids (get_or sorted v d).successors (row_at (successor_lists resolved) v)
   places_at v d l = rw (row_is v d l) (p.each v d l).successors
 
-  size : length (successor_lists placed) ≡ length sorted
-  size = length-map placed (λ (s : Spec). s.successors) ∙ p.size
+  size : length (successor_lists resolved) ≡ length sorted
+  size = length-map resolved (λ (s : Spec). s.successors) ∙ p.size
 
-  laid : IsLaid specs sorted ids (successor_lists placed)
+  laid : IsLaid specs sorted ids (successor_lists resolved)
   laid = record {
     sound = sound_is specs sound;
     numbers = numbers;
@@ -90,26 +91,27 @@ module _ {specs sorted placed : List Spec} {ids : List ℕ} (sound : first_fault
     rising = up;
     size = size;
     edges_are =
-        let e = edges-placed sorted (successor_lists placed) size (λ v d l. different_placed up (places_at v d l)) in
+        let e = edges-resolved sorted (successor_lists resolved) size (λ v d l. different_resolved up (places_at v d l)) in
         omega (arith, e);
-    each = λ v d l. are_placed up (places_at v d l);
+    each = λ v d l. are_resolved up (places_at v d l);
   }
 
-  part_same : {X : Type 0} (f : Spec → X) (d : Spec) → ((v : ℕ) → v < length sorted → f (get_or placed v d) ≡ f (get_or sorted v d)) → map f sorted ≡ map f placed
+  part_same : {X : Type 0} (f : Spec → X) (d : Spec) → ((v : ℕ) → v < length sorted → f (get_or resolved v d) ≡ f (get_or sorted v d))
+      → map f sorted ≡ map f resolved
   part_same f d each =
-      ext_get_or (f d) (map f sorted) (map f placed) (length-map sorted f ∙ (sym p.size ∙ sym (length-map placed f))) (λ v l.
+      ext_get_or (f d) (map f sorted) (map f resolved) (length-map sorted f ∙ (sym p.size ∙ sym (length-map resolved f))) (λ v l.
       let k : v < length sorted = omega (arith, l, length-map sorted f) in
-      get_or-map f sorted v d (f d) k ∙ (sym (each v k) ∙ sym (get_or-map f placed v d (f d) (omega (arith, k, p.size)))))
+      get_or-map f sorted v d (f d) k ∙ (sym (each v k) ∙ sym (get_or-map f resolved v d (f d) (omega (arith, k, p.size)))))
 
-  priorities_same : priorities_of sorted ≡ priorities_of placed
+  priorities_same : priorities_of sorted ≡ priorities_of resolved
   priorities_same = part_same (λ s. s.priority) no_spec (λ v l. (p.each v no_spec l).priority)
 
-  owners_same : owners_of sorted ≡ owners_of placed
+  owners_same : owners_of sorted ≡ owners_of resolved
   owners_same = part_same (λ s. s.owner) no_spec (λ v l. (p.each v no_spec l).owner)
 
-  pub placed_stored : IsStored ids (priorities_of placed) (owners_of placed) (successor_lists placed)
-  placed_stored = rw (← priorities_same, ← owners_same) (made_stored laid)
+  pub resolved_stored : IsStored ids (priorities_of resolved) (owners_of resolved) (successor_lists resolved)
+  resolved_stored = rw (← priorities_same, ← owners_same) (made_stored laid)
 
-  pub placed_game : IsGame (graph_of ids (priorities_of placed) (owners_of placed) (successor_lists placed))
-      × IsGameOf specs (graph_of ids (priorities_of placed) (owners_of placed) (successor_lists placed))
-  placed_game = rw (← priorities_same, ← owners_same) (made_game laid, made_of laid)
+  pub resolved_game : IsGame (graph_of ids (priorities_of resolved) (owners_of resolved) (successor_lists resolved))
+      × IsGameOf specs (graph_of ids (priorities_of resolved) (owners_of resolved) (successor_lists resolved))
+  resolved_game = rw (← priorities_same, ← owners_same) (made_game laid, made_of laid)

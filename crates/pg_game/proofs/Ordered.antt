@@ -1,6 +1,6 @@
 -- Specifications, picked by their lines.
 use Rattle.pg_game.proofs.Common.{◌≡◌, ℕ, ◌<◌, List, length, map, get_or, refl, sym, ◌∙◌, ap, subst, arith, All, All-permutation, IsPermutation, length-map}
-use Rattle.pg_game.proofs.Common.{get_or-map, ext_get_or, IsPermutation-map, Spec, ids_of, ArePaired, ArePlacedSpecs}
+use Rattle.pg_game.proofs.Common.{get_or-map, ext_get_or, IsPermutation-map, Spec, ids_of, ArePaired, AreResolvedSpecs}
 use Rattle.std.specs.List.Sorted.{IsNonDecreasing, IsNonDecreasingBy}
 
 -- what the numbers of the lines mean
@@ -70,10 +70,11 @@ module _ (specs : List Spec) (lines : List (ℕ × ℕ)) (p : ArePaired (ids_of 
       ∙ (ap (λ (s : Spec). s.id) (get_or-map f lines k (0, 0) d lk)
       ∙ (id_at k lk ∙ sym (get_or-map (λ (line : ℕ × ℕ). line.0) lines k (0, 0) 0 lk))))
 
-  -- what is placed stays so
-  pub picked_placed : {ids : List ℕ} {placed : List Spec} → ArePlacedSpecs ids specs placed → ArePlacedSpecs ids (picked specs d lines) (picked placed d lines)
-  picked_placed {ids} {placed} h =
-      let g = λ (line : ℕ × ℕ). get_or placed line.1 d in
+  -- what is resolved stays so
+  pub picked_resolved : {ids : List ℕ} {resolved : List Spec} → AreResolvedSpecs ids specs resolved
+      → AreResolvedSpecs ids (picked specs d lines) (picked resolved d lines)
+  picked_resolved {ids} {resolved} h =
+      let g = λ (line : ℕ × ℕ). get_or resolved line.1 d in
       record {
         size = length-map lines g ∙ sym (length-map lines f);
         each = λ k e l. (let lk : k < length lines = omega (arith, l, length-map lines f) in

@@ -1,6 +1,7 @@
 -- Places of identifiers in a rising list of them.
 use Rattle.pg_game.proofs.Common.{◌≡◌, ℕ, ◌<◌, ◌⊎◌, true, false, List, length, get_or, nat_eq, rules, arith, Some, None, position, IsStrictlyIncreasing}
-use Rattle.pg_game.proofs.Common.{eqb-true, eq-eqb, ltb-false, cases_Bool, list_any, false_from_ne_true, get_or_default, ◌∙◌, sorted_from_strictly_increasing, below_from_sorted}
+use Rattle.pg_game.proofs.Common.{eqb-true, eq-eqb, ltb-false, cases_Bool, list_any, false_from_ne_true, get_or_default, ◌∙◌}
+use Rattle.pg_game.proofs.Common.{sorted_from_strictly_increasing, below_from_sorted}
 use Rattle.std.specs.Cmp.{nat_eq_equiv}
 use Rattle.std.proofs.lemmas.List.Sums.{fails_before_first}
 use Rattle.std.proofs.lemmas.List.Quantifiers.{position-Some}
@@ -29,7 +30,8 @@ pub among : (keys : List ℕ) (x : ℕ) (v : ℕ) → v < length keys → get_or
 among keys x v l e = list_any-from_Contains nat_eq_equiv x keys (v, l, get_or_default keys v x 0 l ∙ e)
 
 pub not_among : (keys : List ℕ) (x : ℕ) → ((v : ℕ) → v < length keys → get_or keys v 0 ≡ x → ⊥) → list_any (nat_eq x) keys ≡ false
-not_among keys x none = false_from_ne_true _ (λ t. let m = Contains-from_any (λ y z. eqb-true y z) x keys t in none m.0 m.1 (get_or_default keys m.0 0 x m.1 ∙ m.2))
+not_among keys x none = false_from_ne_true _ (λ t. let m = Contains-from_any (λ y z. eqb-true y z) x keys t in none m.0 m.1 (get_or_default keys m.0 0 x m.1
+    ∙ m.2))
 
 pub stood : (keys : List ℕ) (x p : ℕ) → position (nat_eq x) keys ≡ Some p → (p < length keys) × (get_or keys p 0 ≡ x)
 stood keys x p is = search (rules, stands)

@@ -1,7 +1,9 @@
 -- Specifications without fault, test by test.
-use Rattle.pg_game.proofs.Common.{◌≡◌, ℕ, zero, suc, ◌+◌, ◌∙◌, ap, drop, get_or, drop_more, ◌==◌, false_from_ne_true, eqb-true, ◌<◌, ◌≤◌, Bool, true, false, ◌⊎◌, inl, inr, List, [], ◌∷◌, length, refl, sym, subst, arith, rules, Option}
+use Rattle.pg_game.proofs.Common.{◌≡◌, ℕ, zero, suc, ◌+◌, ◌∙◌, ap, drop, get_or, drop_more, ◌==◌, false_from_ne_true, eqb-true, ◌<◌, ◌≤◌, Bool, true, false}
+use Rattle.pg_game.proofs.Common.{◌⊎◌, inl, inr, List, [], ◌∷◌, length, refl, sym, subst, arith, rules, Option}
 use Rattle.pg_game.proofs.Common.{Some, None, if◌then◌else◌, nat_lt, Contains, ltb-false, le-ltb, lt-ltb, not-false, Spec, GameFault, first_fault, fault_or}
-use Rattle.pg_game.proofs.Common.{first_repeated, first_without, first_unknown, first_unspecified, IsSpecified, edges, max_vertices, max_edges, ids_of, rows_fault}
+use Rattle.pg_game.proofs.Common.{first_repeated, first_without, first_unknown, first_unspecified, IsSpecified, edges, max_vertices, max_edges, ids_of}
+use Rattle.pg_game.proofs.Common.{rows_fault}
 use Rattle.std.specs.Prelude.{not, find}
 use Rattle.pg_game.proofs.Members.{Contains-head, Contains-tail, Contains-cons}
 use Rattle.pg_game.specs.declared.game.GameFault.TheVariants.{TooManyVertices, NoSuccessor, TooManyEdges, Unknown}

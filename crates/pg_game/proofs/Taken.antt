@@ -1,6 +1,7 @@
 -- Specifications in lists of their parts, one by one.
 use Rattle.pg_game.proofs.Common.{◌≡◌, ℕ, ◌<◌, List, [], length, map, get_or, refl, sym, ◌∙◌, ap, arith, length-map}
-use Rattle.pg_game.proofs.Common.{get_or-map, ext_get_or, Player, Even, Spec, no_vertex, graph_of, ids_of, priorities_of, owners_of, successor_lists, AreParts, spec_from}
+use Rattle.pg_game.proofs.Common.{get_or-map, ext_get_or, Player, Even, Spec, no_vertex, graph_of, ids_of, priorities_of, owners_of, successor_lists}
+use Rattle.pg_game.proofs.Common.{AreParts, spec_from}
 use Rattle.pg_game.proofs.Common.{specs_from}
 use Rattle.pg_game.proofs.Parts as part
 

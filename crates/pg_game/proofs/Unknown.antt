@@ -1,6 +1,7 @@
 -- The first successor that is not specified, one specification after another.
 use Rattle.pg_game.proofs.Common.{rules}
-use Rattle.pg_game.proofs.Common.{◌≡◌, ℕ, zero, suc, add-one, ◌+◌, ◌<◌, ◌≤◌, true, List, [], ◌∷◌, arith, Even, IsPermutation, get_or_default, length, drop, get_or, refl, sym, ◌∙◌, ap, nat_eq, Some, None, Contains}
+use Rattle.pg_game.proofs.Common.{◌≡◌, ℕ, zero, suc, add-one, ◌+◌, ◌<◌, ◌≤◌, true, List, [], ◌∷◌, arith, Even, IsPermutation, get_or_default, length, drop}
+use Rattle.pg_game.proofs.Common.{get_or, refl, sym, ◌∙◌, ap, nat_eq, Some, None, Contains}
 use Rattle.pg_game.proofs.Common.{list_any, eqb-true, drop_more, Spec, IsSpecified, first_unspecified, first_unknown, ids_of, first_outside}
 use Rattle.std.specs.Cmp.{nat_eq_equiv}
 use Rattle.std.proofs.lemmas.Map.Views.{Contains-from_any, list_any-from_Contains}
@@ -18,7 +19,8 @@ from_specified specs i t = Contains-from_any (λ x y. eqb-true x y) i (ids_of sp
 pub to_specified : (specs : List Spec) (i : ℕ) → Contains (ids_of specs) i → IsSpecified specs i ≡ true
 to_specified specs i m = sym (specified_is specs i) ∙ list_any-from_Contains nat_eq_equiv i (ids_of specs) m
 
-pub outside_is : (specs : List Spec) (identifiers xs : List ℕ) → IsPermutation (ids_of specs) identifiers → first_outside identifiers xs ≡ first_unspecified specs xs
+pub outside_is : (specs : List Spec) (identifiers xs : List ℕ) → IsPermutation (ids_of specs) identifiers
+    → first_outside identifiers xs ≡ first_unspecified specs xs
 outside_is specs identifiers [] moved = refl
 outside_is specs identifiers (x ∷ xs) moved = search (rules, outside_is specs identifiers xs moved, list_any-IsPermutation, specified_is)
 

@@ -8,5 +8,6 @@ pub mod Rows
 pub mod Described
 pub mod IdentifierList
 pub mod Lines
-pub mod Placed
+pub mod Resolved
 pub mod Opened
+pub mod Seed

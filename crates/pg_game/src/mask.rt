@@ -1,4 +1,5 @@
-//! Sets of vertices, one bit for each vertex.
+//! Sets of vertices, one bit for each vertex. A call for one vertex reads or writes one word of 64 bits, and a call for the
+//! whole set goes over all words.
 
 ghost use Rattle.std.specs.Prelude.{◌≡◌, ◌<◌, ℕ, length, IfOk, true, false, slice_set, replicate};
 ghost use Rattle.pg_game.specs.VertexSet.{In, members, how_many};

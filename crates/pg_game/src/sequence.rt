@@ -1,4 +1,5 @@
-//! Vectors that contracts see as lists of items.
+//! Vectors that contracts see as lists of items. A public struct has one in place of a `Vec`, so that its clauses name the
+//! items alone.
 
 ghost use Rattle.std.specs.Prelude.{◌≡◌, ◌++◌, ◌∷◌, [], OnOk, OnErr};
 

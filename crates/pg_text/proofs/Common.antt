@@ -38,8 +38,8 @@ unfoldable pub use Rattle.pg_text.specs.Written.{numeral}
 pub use Rattle.pg_text.specs.declared.fault.SolutionTextFault.{SolutionTextFault}
 pub use Rattle.pg_text.specs.declared.fault.SolutionTextFault.TheVariants.{Stranger}
 pub use Rattle.pg_text.specs.declared.lexer.Kind.{Kind}
-pub use Rattle.pg_text.specs.declared.solution.Solution.{Solution}
-pub use Rattle.pg_text.specs.declared.solution_grammar.SolutionLine.{SolutionLine}
+pub use Rattle.pg_text.specs.declared.solution_text.Solution.{Solution}
+pub use Rattle.pg_text.specs.declared.solution_text.SolutionLine.{SolutionLine}
 pub use Rattle.pg_text.specs.private.FirstFault.{FirstLarge, first_at, placed}
 pub use Rattle.pg_text.specs.private.GameRun.{Front, Listing, Named, Priority, Reading, Successor, front, line, run, step, with_line}
 pub use Rattle.pg_text.specs.private.Lexeme.{IsNoToken, IsLexemeOf, IsRun, IsToken}

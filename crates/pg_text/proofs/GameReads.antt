@@ -4,8 +4,8 @@ use Rattle.pg_text.proofs.Common.{Player, Spec, Token, Number, Word, Semicolon, 
 use Rattle.pg_text.proofs.Common.{IsSomeGameText, Front, Reading, line, step, run}
 use Rattle.std.proofs.Common.{Option, Some, None}
 use Rattle.pg_game.proofs.Taken.{spec_of as spec}
-use Rattle.pg_text.specs.declared.game_grammar.State.{State}
-use Rattle.pg_text.specs.declared.game_grammar.State.TheVariants as state
+use Rattle.pg_text.specs.declared.game_text.State.{State}
+use Rattle.pg_text.specs.declared.game_text.State.TheVariants as state
 use Rattle.pg_text.specs.private.GameReads.{reader_state, AreLines, HoldsRead, Read, SaysSpecs}
 use Rattle.pg_text.specs.private.GameRun as reading
 use Rattle.pg_text.specs.private.Grammar.{TakesPlayer, Stops}

@@ -6,8 +6,8 @@ use Rattle.pg_text.proofs.Common.{SpellsRest, IsBadFrom}
 use Rattle.std.proofs.Common.{Option, Some, None}
 use Rattle.std.specs.Prelude.{◌&&◌, IfOk, Result, Ok, Err}
 use Rattle.std.specs.Option.{is_none}
-use Rattle.pg_text.specs.declared.grammar.Step.{Step}
-use Rattle.pg_text.specs.declared.grammar.Step.TheVariants as step
+use Rattle.pg_text.specs.declared.reader.Step.{Step}
+use Rattle.pg_text.specs.declared.reader.Step.TheVariants as step
 use Rattle.pg_text.specs.private.Grammar.{TakenOr, TakesToken, TakesNumber, NumberTaken, Stops}
 use Rattle.pg_text.specs.private.Parsing.{Keeps, IsUnexpected}
 use Rattle.pg_text.proofs.Once.{tokens_append}
@@ -32,7 +32,8 @@ module _ {R : Type 0} {Reads : Bool → List Token → R → Type 0} {IsBefore :
   one_more : {sound : Bool} {new : R} (t : Token) (place : ℕ) → Reads sound (tokens_of ts ++ t ∷ []) new → Reads sound (tokens_of (more t place)) new
   one_more {sound} {new} t place r = subst (λ us. Reads sound us new) (sym (tokens_append ts (placed t place ∷ []))) r
 
-  pub token_kept : (BeginsText : List Token → Type 0) (new : R) (taken : Bool) (t : Token) (place : ℕ) → fits t ≡ true → TakesToken Reads BeginsText old new taken t
+  pub token_kept : (BeginsText : List Token → Type 0) (new : R) (taken : Bool) (t : Token) (place : ℕ) → fits t ≡ true
+      → TakesToken Reads BeginsText old new taken t
       → TakenOr taken (Keeps Reads IsBefore (more t place) new large wrong) (Stops BeginsText (tokens_of ts) t)
   token_kept BeginsText new true t place f takes = search (rules, one_more, first_large-fit, first_player-more, k.reads, k.numbers, k.players)
   token_kept BeginsText new false t place f takes = takes (is_none large && is_none wrong) (tokens_of ts) k.reads
@@ -59,7 +60,8 @@ module _ {R : Type 0} {Reads : Bool → List Token → R → Type 0} {IsBefore :
         let wrong' = first_at wrong (nat_lt 1 small) place in
         record {
           reads = one_more (Number n) place
-              ((takes (is_none later && is_none wrong') n (tokens_of ts) (as_far wrong' (λ e. (none_known wrong (nat_lt 1 small) place e).0)) (value wrong')).read
+              ((takes (is_none later && is_none wrong') n (tokens_of ts)
+              (as_far wrong' (λ e. (none_known wrong (nat_lt 1 small) place e).0)) (value wrong')).read
               (λ e. let (l, w) = both_none later wrong' e in
               let y = ltb-false 1 small (none_known wrong (nat_lt 1 small) place w).1 in
               let v = (taken_none t l).1 in

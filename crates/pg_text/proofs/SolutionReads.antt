@@ -1,10 +1,11 @@
 -- What the grammar of solution texts holds of the tokens that were read.
-use Rattle.pg_text.proofs.Common.{◌≡◌, ℕ, zero, suc, ◌<◌, ◌≤◌, Bool, true, false, List, [], ◌∷◌, ◌++◌, refl, ◌∙◌, ap, subst, arith, rules, map, codes, bytes_eq, ◌⊎◌, inl, inr}
+use Rattle.pg_text.proofs.Common.{◌≡◌, ℕ, zero, suc, ◌<◌, ◌≤◌, Bool, true, false, List, [], ◌∷◌, ◌++◌, refl, ◌∙◌, ap, subst, arith, rules, map, codes}
+use Rattle.pg_text.proofs.Common.{bytes_eq, ◌⊎◌, inl, inr}
 use Rattle.pg_text.proofs.Common.{Player, digit_of, SolutionLine, Token, Number, Word, Semicolon, player_of, WrittenSolutionLine, IsBeforeWinner}
 use Rattle.pg_text.proofs.Common.{BeginsSolutionText, IsSomeSolutionText, line_of}
 use Rattle.std.proofs.Common.{Option, Some, None}
-use Rattle.pg_text.specs.declared.solution_grammar.State.{State}
-use Rattle.pg_text.specs.declared.solution_grammar.State.TheVariants as state
+use Rattle.pg_text.specs.declared.solution_text.State.{State}
+use Rattle.pg_text.specs.declared.solution_text.State.TheVariants as state
 use Rattle.pg_text.specs.private.SolutionReads.{AreWinners, reader_state, HoldsRead, Read, SaysLines}
 use Rattle.pg_text.specs.private.SolutionRun as reading
 use Rattle.pg_text.specs.private.SolutionRun.{Reading, line, step, run}

@@ -113,7 +113,20 @@ map-twice g (w ∷ ws) = ap (λ xs. numeral (id_of g w) ∷ xs) (map-twice g ws)
 
 spells_line : {rest : List ℕ} {ts : List Token} (g : Graph) (x : Vertex) → HasSuccessors g x → SpellsTokens rest ts
     → SpellsTokens (written_vertex g x ++ rest) (games.game_line_tokens (line_of g x) ++ ts)
-spells_line {rest = rest} {ts = ts} g x h s = search (rules, map-twice, append_assoc, spells_blank, spells_list, spells_end, spells_number, x.owner, x.successors, x.id, x.priority, games.game_line_tokens)
+spells_line {rest = rest} {ts = ts} g x h s = search (
+  rules,
+  map-twice,
+  append_assoc,
+  spells_blank,
+  spells_list,
+  spells_end,
+  spells_number,
+  x.owner,
+  x.successors,
+  x.id,
+  x.priority,
+  games.game_line_tokens,
+)
 
 spells_lines : (g : Graph) (xs : List Vertex) → AllByRecursion (HasSuccessors g) xs
     → SpellsTokens (flat_map (written_vertex g) xs) (flat_map games.game_line_tokens (map (λ x. line_of g x) xs))

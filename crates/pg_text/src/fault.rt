@@ -1,6 +1,6 @@
-//! Why a text was refused. Places count bytes from 0.
-//!
-//! The members are in order: the first that applies anywhere in the text is the fault.
+//! Why a text was refused. Places count bytes from 0. The members are in order: the first that applies anywhere in the text
+//! is the fault.
+
 ghost use Rattle.std.specs.Prelude.{◌≡◌};
 ghost use Rattle.pg_text.specs.declared.fault.TextFault.TheVariants as game;
 ghost use Rattle.pg_text.specs.declared.fault.SolutionTextFault.TheVariants as solution;
@@ -8,7 +8,6 @@ ghost use Rattle.pg_text.specs.declared.fault.ParseFault.TheVariants as parse;
 ghost use Rattle.pg_text.specs.ParseFault.{game_fault, solution_fault};
 
 use pg_game::{GameFault, Memory};
-use std::alloc::AllocFailed;
 use thiserror::Error;
 
 /// Why a text is none of a grammar.
@@ -65,14 +64,6 @@ impl From<Memory> for TextFault {
     }
 }
 
-impl<T: Drop> From<AllocFailed<T>> for TextFault {
-    ghost from_gives = { λ _ fault. fault ≡ game.Memory };
-
-    fn from(_fault: AllocFailed<T>) -> TextFault {
-        TextFault::Memory
-    }
-}
-
 impl From<ParseFault> for TextFault {
     ghost from_gives = { λ e fault. fault ≡ game_fault e };
 
@@ -120,14 +111,6 @@ impl From<Memory> for SolutionTextFault {
     ghost from_gives = { λ _ fault. fault ≡ solution.Memory };
 
     fn from(_fault: Memory) -> SolutionTextFault {
-        SolutionTextFault::Memory
-    }
-}
-
-impl<T: Drop> From<AllocFailed<T>> for SolutionTextFault {
-    ghost from_gives = { λ _ fault. fault ≡ solution.Memory };
-
-    fn from(_fault: AllocFailed<T>) -> SolutionTextFault {
         SolutionTextFault::Memory
     }
 }

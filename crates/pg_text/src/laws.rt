@@ -1,6 +1,7 @@
 //! Laws on texts and solutions alone, each the contract of a function with an empty body. Worked examples are
 //! `crate::proofs::Examples::written_five` and `written_two` (written texts), `two_solved` (a solution), and `five_fails` (winners and
 //! choices that are none).
+
 ghost use Rattle.pg_text.specs.Laws.{OneSpelling, WrittenGameReads, WrittenSolutionReads, WrittenGameIsText, WrittenSolutionIsText, TokensOrLexical};
 ghost use Rattle.pg_text.specs.Laws.{TextOrFault, OneFault, NoGameWantsMemory, SolutionTextOrFault, OneSolutionFault, SolutionHasNoFault};
 

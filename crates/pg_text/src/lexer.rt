@@ -1,19 +1,14 @@
-//! The tokens of a text, one at a time and without a list of them (PGSolver's manual).
-//!
-//! Numbers, commas and semicolons are the common ones and stay in one small function; words and names are kept out of line.
-//! A number of any length is read in 64 bits, since its value stops growing once it is above the limit.
+//! The tokens of a text, one at a time and without a list of them (PGSolver's manual). Numbers, commas and semicolons are the
+//! common ones and stay in one small function; words and names are out of line. A number of any length is read in 64 bits,
+//! since its value stops growing once it is above the limit.
+
 ghost use Rattle.std.specs.Prelude.{◌≡◌, ◌≢◌, ℕ, ◌+◌, ◌<◌, ◌≤◌, length, drop, List, slice_index, false, MatchOption, IfSome, Some};
-ghost use Rattle.pg_text.specs.Bytes.{is_blank, is_digit, is_letter, EndsRun, value_of};
+ghost use Rattle.pg_text.specs.Bytes.{EndsRun, value_of};
+ghost use Rattle.pg_text.specs.Bytes as bytes;
 ghost use Rattle.pg_text.specs.private.Lexeme.{IsNextLexeme, IsRun, fitting};
 ghost use Rattle.pg_text.specs.private.Reach.{SpellsRest, IsBadFrom};
 
 use memchr::memchr;
-
-/// The greatest number that a text may hold.
-const GREATEST: u64 = 2147483647;
-
-/// How many bytes a number within the limit takes at most, with the byte after it.
-const SHORT: usize = 11;
 
 /// What a token is. A number above the limit has no value here.
 #[derive(Clone, Copy)]
@@ -35,161 +30,6 @@ pub struct Lexeme {
     pub to: usize,
 }
 
-#[inline]
-fn blank(byte: u8) -> bool
-    ensures { result ≡ is_blank byte }
-{
-    byte == b' ' || byte == b'\t' || byte == b'\r' || byte == b'\n'
-}
-
-#[inline]
-fn digit(byte: u8) -> bool
-    ensures { result ≡ is_digit byte }
-{
-    b'0' <= byte && byte <= b'9'
-}
-
-#[inline]
-fn letter(byte: u8) -> bool
-    ensures { result ≡ is_letter byte }
-{
-    b'A' <= byte && byte <= b'Z' || b'a' <= byte && byte <= b'z'
-}
-
-/// The first place from `from` on without a blank.
-#[inline(always)]
-fn blanks_end(text: &[u8], from: usize) -> usize
-    requires { from ≤ length text.now }
-    ensures run { (run : List ℕ) × IsRun is_blank text.now from result run }
-    ensures within { result ≤ length text.now }
-    ensures ends { EndsRun is_blank (drop result text.now) }
-{
-    let mut to = from;
-    'blanks: while to < text.len() && blank(text[to]) {
-        to += 1;
-    }
-    to
-}
-
-/// The first place from `from` on without a letter.
-#[inline(never)]
-fn letters_end(text: &[u8], from: usize) -> usize
-    requires { from ≤ length text.now }
-    ensures run { (run : List ℕ) × IsRun is_letter text.now from result run }
-    ensures within { result ≤ length text.now }
-    ensures ends { EndsRun is_letter (drop result text.now) }
-{
-    let mut to = from;
-    'letters: while to < text.len() && letter(text[to]) {
-        to += 1;
-    }
-    to
-}
-
-/// The number at a place before the last ten bytes, and the place after it. None where there is no digit, more than ten, or a
-/// number above the limit. So few digits are read without a test of the value or for the text's end between them.
-#[inline(always)]
-fn short_number(text: &[u8], from: usize) -> Option<(u32, usize)>
-    requires { from + 11 ≤ length text.now }
-    ensures run { IfSome result (λ n. (run : List ℕ) × IsRun is_digit text.now from n.1 run × (Some n.0 ≡ fitting (value_of run))) }
-    ensures ends { IfSome result (λ n. EndsRun is_digit (drop n.1 text.now)) }
-    ensures ahead { IfSome result (λ n. (from < n.1) × (n.1 < length text.now)) }
-{
-    let mut value = 0u64;
-    'digits: for k in 0..SHORT {
-        let byte = text[from + k];
-        if !digit(byte) {
-            if k == 0 || value > GREATEST {
-                return None;
-            }
-            return Some((value as u32, from + k));
-        }
-        value = value * 10 + u64::from(byte - b'0');
-    }
-    None
-}
-
-/// The value of any number of digits from `from` on, and the place after them.
-#[inline(never)]
-fn long_number(text: &[u8], from: usize) -> (Option<u32>, usize)
-    requires { from ≤ length text.now }
-    ensures run { (run : List ℕ) × IsRun is_digit text.now from result.1 run × (result.0 ≡ fitting (value_of run)) }
-    ensures within { result.1 ≤ length text.now }
-    ensures ends { EndsRun is_digit (drop result.1 text.now) }
-{
-    let mut value = 0u64;
-    let mut to = from;
-    'digits: while to < text.len() && digit(text[to]) {
-        if value <= GREATEST {
-            value = value * 10 + u64::from(text[to] - b'0');
-        }
-        to += 1;
-    }
-    if value <= GREATEST {
-        (Some(value as u32), to)
-    } else {
-        (None, to)
-    }
-}
-
-/// The value of the digits from `from` on, and the place after them. It has no value above the limit.
-#[inline(always)]
-fn number(text: &[u8], from: usize) -> (Option<u32>, usize)
-    requires { from ≤ length text.now }
-    ensures run { (run : List ℕ) × IsRun is_digit text.now from result.1 run × (result.0 ≡ fitting (value_of run)) }
-    ensures within { result.1 ≤ length text.now }
-    ensures ends { EndsRun is_digit (drop result.1 text.now) }
-{
-    if text.len() - from >= SHORT {
-        if let Some((value, to)) = short_number(text, from) {
-            return (Some(value), to);
-        }
-    }
-    long_number(text, from)
-}
-
-/// The word or the name at a place, or that there is none.
-#[inline(never)]
-fn word_or_name(text: &[u8], from: usize) -> Lexeme
-    requires inside { from < length text.now }
-    requires solid { is_blank (slice_index text.now from) ≡ false }
-    requires no_digit { is_digit (slice_index text.now from) ≡ false }
-    requires no_comma { slice_index text.now from ≢ 44 }
-    requires no_semicolon { slice_index text.now from ≢ 59 }
-    ensures token { IsNextLexeme text.now from result }
-    ensures order { result.from ≤ result.to }
-    ensures within { result.to ≤ length text.now }
-{
-    let first = text[from];
-    if first == b'"' {
-        let later = &text[from + 1..];
-        return match memchr(b'"', later) {
-            Some(more) => Lexeme {
-                kind: Kind::Name,
-                from,
-                to: from + more + 2,
-            },
-            None => Lexeme {
-                kind: Kind::Invalid,
-                from,
-                to: from,
-            },
-        };
-    }
-    if letter(first) {
-        return Lexeme {
-            kind: Kind::Word,
-            from,
-            to: letters_end(text, from),
-        };
-    }
-    Lexeme {
-        kind: Kind::Invalid,
-        from,
-        to: from,
-    }
-}
-
 /// The next token of the text, from a place on.
 #[inline(always)]
 pub fn next_token(text: &[u8], at: usize) -> Lexeme
@@ -207,8 +47,8 @@ pub fn next_token(text: &[u8], at: usize) -> Lexeme
         };
     }
     let first = text[from];
-    if digit(first) {
-        let (value, to) = number(text, from);
+    if is_digit(first) {
+        let (value, to) = read_number(text, from);
         return Lexeme {
             kind: Kind::Number(value),
             from,
@@ -248,4 +88,165 @@ pub fn first_invalid(text: &[u8], at: usize) -> Option<usize>
             _ => next = lexeme.to,
         }
     }
+}
+
+/// The first place from `from` on without a blank.
+#[inline(always)]
+fn blanks_end(text: &[u8], from: usize) -> usize
+    requires { from ≤ length text.now }
+    ensures run { (run : List ℕ) × IsRun bytes.is_blank text.now from result run }
+    ensures within { result ≤ length text.now }
+    ensures ends { EndsRun bytes.is_blank (drop result text.now) }
+{
+    let mut to = from;
+    'blanks: while to < text.len() && is_blank(text[to]) {
+        to += 1;
+    }
+    to
+}
+
+#[inline]
+fn is_blank(byte: u8) -> bool
+    ensures { result ≡ bytes.is_blank byte }
+{
+    byte == b' ' || byte == b'\t' || byte == b'\r' || byte == b'\n'
+}
+
+#[inline]
+fn is_digit(byte: u8) -> bool
+    ensures { result ≡ bytes.is_digit byte }
+{
+    b'0' <= byte && byte <= b'9'
+}
+
+/// The value of the digits from `from` on, and the place after them. It has no value above the limit.
+#[inline(always)]
+fn read_number(text: &[u8], from: usize) -> (Option<u32>, usize)
+    requires { from ≤ length text.now }
+    ensures run { (run : List ℕ) × IsRun bytes.is_digit text.now from result.1 run × (result.0 ≡ fitting (value_of run)) }
+    ensures within { result.1 ≤ length text.now }
+    ensures ends { EndsRun bytes.is_digit (drop result.1 text.now) }
+{
+    if text.len() - from >= SHORT {
+        if let Some((value, to)) = short_number(text, from) {
+            return (Some(value), to);
+        }
+    }
+    long_number(text, from)
+}
+
+/// How many bytes a number within the limit takes at most, with the byte after it.
+const SHORT: usize = 11;
+
+/// The number at a place before the last ten bytes, and the place after it. None where there is no digit, more than ten, or a
+/// number above the limit. So few digits are read without a test of the value or for the text's end between them.
+#[inline(always)]
+fn short_number(text: &[u8], from: usize) -> Option<(u32, usize)>
+    requires { from + 11 ≤ length text.now }
+    ensures run { IfSome result (λ n. (run : List ℕ) × IsRun bytes.is_digit text.now from n.1 run × (Some n.0 ≡ fitting (value_of run))) }
+    ensures ends { IfSome result (λ n. EndsRun bytes.is_digit (drop n.1 text.now)) }
+    ensures ahead { IfSome result (λ n. (from < n.1) × (n.1 < length text.now)) }
+{
+    let mut value = 0u64;
+    'digits: for k in 0..SHORT {
+        let byte = text[from + k];
+        if !is_digit(byte) {
+            if k == 0 || value > GREATEST {
+                return None;
+            }
+            return Some((value as u32, from + k));
+        }
+        value = value * 10 + u64::from(byte - b'0');
+    }
+    None
+}
+
+/// The greatest number that a text may hold.
+const GREATEST: u64 = 2147483647;
+
+/// The value of any number of digits from `from` on, and the place after them.
+#[inline(never)]
+fn long_number(text: &[u8], from: usize) -> (Option<u32>, usize)
+    requires { from ≤ length text.now }
+    ensures run { (run : List ℕ) × IsRun bytes.is_digit text.now from result.1 run × (result.0 ≡ fitting (value_of run)) }
+    ensures within { result.1 ≤ length text.now }
+    ensures ends { EndsRun bytes.is_digit (drop result.1 text.now) }
+{
+    let mut value = 0u64;
+    let mut to = from;
+    'digits: while to < text.len() && is_digit(text[to]) {
+        if value <= GREATEST {
+            value = value * 10 + u64::from(text[to] - b'0');
+        }
+        to += 1;
+    }
+    if value <= GREATEST {
+        (Some(value as u32), to)
+    } else {
+        (None, to)
+    }
+}
+
+/// The word or the name at a place, or that there is none.
+#[inline(never)]
+fn word_or_name(text: &[u8], from: usize) -> Lexeme
+    requires inside { from < length text.now }
+    requires solid { bytes.is_blank (slice_index text.now from) ≡ false }
+    requires no_digit { bytes.is_digit (slice_index text.now from) ≡ false }
+    requires no_comma { slice_index text.now from ≢ 44 }
+    requires no_semicolon { slice_index text.now from ≢ 59 }
+    ensures token { IsNextLexeme text.now from result }
+    ensures order { result.from ≤ result.to }
+    ensures within { result.to ≤ length text.now }
+{
+    let first = text[from];
+    if first == b'"' {
+        let later = &text[from + 1..];
+        return match memchr(b'"', later) {
+            Some(more) => Lexeme {
+                kind: Kind::Name,
+                from,
+                to: from + more + 2,
+            },
+            None => Lexeme {
+                kind: Kind::Invalid,
+                from,
+                to: from,
+            },
+        };
+    }
+    if is_letter(first) {
+        return Lexeme {
+            kind: Kind::Word,
+            from,
+            to: letters_end(text, from),
+        };
+    }
+    Lexeme {
+        kind: Kind::Invalid,
+        from,
+        to: from,
+    }
+}
+
+#[inline]
+fn is_letter(byte: u8) -> bool
+    ensures { result ≡ bytes.is_letter byte }
+{
+    b'A' <= byte && byte <= b'Z' || b'a' <= byte && byte <= b'z'
+}
+
+/// The first place from `from` on without a letter.
+#[inline(never)]
+fn letters_end(text: &[u8], from: usize) -> usize
+    requires { from ≤ length text.now }
+    ensures run { (run : List ℕ) × IsRun bytes.is_letter text.now from result run }
+    ensures within { result ≤ length text.now }
+    ensures ends { EndsRun bytes.is_letter (drop result text.now) }
+{
+    let mut to = from;
+    'letters: while to < text.len() && is_letter(text[to]) {
+        to += 1;
+    }
+    to
 }

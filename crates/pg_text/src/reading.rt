@@ -1,4 +1,6 @@
-//! Games and solutions from their texts.
+//! Games and solutions from their texts. A reader makes lines of the tokens. The lines become a game or rows, or have a
+//! first fault.
+
 ghost use Rattle.std.specs.Prelude.{◌≡◌, ◌≤◌, length, IfOk, IfErr};
 ghost use Rattle.pg_game.specs.Graph.{IsGame};
 ghost use Rattle.pg_text.specs.Solution.{AreSolutionRows};
@@ -6,11 +8,9 @@ ghost use Rattle.pg_text.specs.Reading.{max_text, IsTextOf, IsFaultOf, IsSolutio
 ghost use Rattle.pg_text.specs.Known.{IsKnownTextOf, IsKnownFaultOf};
 
 use crate::fault::{SolutionTextFault, TextFault};
-use crate::game_grammar::GameText;
+use crate::game_text::GameText;
 use crate::reader::read_lines;
-use crate::solution::{Known, Solution};
-use crate::solution_grammar::SolutionText;
-use crate::solution_rows::{known_of, rows_of};
+use crate::solution_text::{Known, Solution, known_of, solution_lines, solution_of};
 use pg_game::{ForwardGame, Game, GameFault};
 use std::alloc::Global;
 
@@ -69,8 +69,7 @@ pub fn read_forward_solution(
     ensures rows { IfOk result (λ s. IsSolutionTextOf game.now text.now s.rows) }
     ensures fault { IfErr result (λ e. IsSolutionFaultOf game.now text.now e) }
 {
-    let lines = read_lines(SolutionText::new(alloc), text)?;
-    rows_of(alloc, game, lines.as_slice())
+    solution_of(alloc, game, solution_lines(alloc, text)?.as_slice())
 }
 
 /// The same of a text that is freed once its lines are read, before the rows are allocated.
@@ -84,9 +83,9 @@ pub fn take_solution(
     ensures rows { IfOk result (λ s. IsSolutionTextOf game.now text.items s.rows) }
     ensures fault { IfErr result (λ e. IsSolutionFaultOf game.now text.items e) }
 {
-    let taken = read_lines(SolutionText::new(alloc), text.as_slice())?;
+    let lines = solution_lines(alloc, text.as_slice())?;
     drop(text);
-    rows_of(alloc, game, taken.as_slice())
+    solution_of(alloc, game, lines.as_slice())
 }
 
 /// What a text says that is known of a game: winners and choices as in a solution text, where vertices may be left out. The
@@ -100,6 +99,6 @@ pub fn read_known(alloc: Global, game: &Game, text: &[u8]) -> Result<Known, Solu
     ensures rows { IfOk result (λ k. IsKnownTextOf game.now text.now k.rows) }
     ensures fault { IfErr result (λ e. IsKnownFaultOf game.now text.now e) }
 {
-    let lines = read_lines(SolutionText::new(alloc), text)?;
+    let lines = solution_lines(alloc, text)?;
     known_of(alloc, game.forward(), lines.as_slice())
 }

@@ -1,58 +1,19 @@
-//! The one written spelling of games, solutions and winners: one line for each vertex in rising identifier, after a header
-//! with the greatest identifier. Numbers have no leading zeros (`itoa` writes them); there is no start line and no name.
-ghost use Rattle.std.specs.Prelude.{◌≡◌, ℕ, ◌<◌, ◌≤◌, ◌++◌, ◌+◌, ◌*◌, ◌^◌, ◌∷◌, [], length, drop, take, slice_index, codes, map, max, IfOk};
-ghost use Rattle.std.specs.Prelude.{OnOk, IfSome};
+//! The one written spelling of games, solutions and winners: a header with the greatest identifier, and then one line for each
+//! vertex in rising identifier. Numbers have no leading zeros; there is no start line and no name. A line is written from its
+//! end, so that `itoa` writes digits where they stay: a writer of a part returns where it begins.
+
+ghost use Rattle.std.specs.Prelude.{◌≡◌, ◌<◌, ◌≤◌, ◌+◌, ◌*◌, ◌^◌, ◌++◌, ◌∷◌, [], ℕ, length, drop, take, slice_index, codes, map, max, IfOk, OnOk, IfSome};
 ghost use Rattle.std.specs.List.{join_with_byte};
 ghost use Rattle.pg_game.specs.Graph.{id_of, priority_of, owner_of, successors_of, vertex_at};
 ghost use Rattle.pg_game.specs.Player.{digit_of};
-ghost use Rattle.pg_text.specs.Written.{greatest_id, numeral, written_game, written_vertex, written_solution, written_rows, written_winners};
+ghost use Rattle.pg_text.specs.Written.{greatest_id, numeral, written_game, written_vertex, written_solution, written_rows, written_winners, written_choice};
 ghost use Rattle.pg_text.specs.Lengths.{greatest_game_text, greatest_solution_text, greatest_winners_text};
 ghost use Rattle.pg_text.specs.Solution.{AreSolutionRows, SolutionRows};
 
-use crate::line::{byte_before, choice_before, end_before, field_before, number_before};
-use crate::solution::Solution;
-use itoa::Buffer;
+use crate::solution_text::Solution;
+use itoa::{Buffer, write_digits};
 use pg_game::{ForwardGame, Game, Memory, Player};
 use std::alloc::Global;
-
-/// The longest line of a solution text: two numbers, a winner, two spaces, a semicolon and a line feed.
-const ROW: usize = 34;
-
-/// The longest first line: a word, a space, a number, a semicolon and a line feed.
-const HEADER: usize = 22;
-
-/// A number in decimal digits.
-fn put_number(out: &mut Vec<u8>, n: u32) -> Result<(), Memory>
-    ensures { OnOk result (out.new.items ≡ out.old.items ++ numeral n) }
-{
-    let mut buffer = Buffer::new();
-    out.extend_from_slice(buffer.format(n).as_bytes())
-}
-
-/// A word, a space, the greatest identifier and the end of the line.
-fn put_header(out: &mut Vec<u8>, word: &[u8], game: &ForwardGame) -> Result<(), Memory>
-    ensures { OnOk result (out.new.items ≡ out.old.items ++ (word.now ++ (numeral (greatest_id game.now) ++ codes ";\n"))) }
-{
-    out.extend_from_slice(word)?;
-    let last = game.len() - 1;
-    put_number(out, game.id(last))?;
-    out.extend_from_slice(b";\n")
-}
-
-/// The line of one vertex in a solution text.
-fn put_row(out: &mut Vec<u8>, game: &Game, v: u32, row: (Player, Option<u32>)) -> Result<(), Memory>
-    requires vertex { v < length game.now }
-    requires choice { IfSome row.1 (λ w. w < length game.now) }
-    ensures { OnOk result (out.new.items ≡ out.old.items ++ written_rows game.now (vertex_at game.now v ∷ []) (row ∷ [])) }
-{
-    let mut buffer = [0u8; ROW];
-    let line = buffer.as_mut_slice();
-    let at = end_before(line);
-    let at = choice_before(line, at, game, row.1);
-    let at = number_before(line, at, u32::from(row.0.digit()));
-    let at = field_before(line, at, game.id(v));
-    out.extend_from_slice(&line[at..])
-}
 
 /// The written winners and choices of a game, with a choice where the solution has one: at most 26,214,422 bytes. Refused with
 /// `Memory` alone.
@@ -83,6 +44,194 @@ pub fn write_winners(alloc: Global, game: &Game, solution: &Solution) -> Result<
         put_row(&mut out, game, v, (rows[v as usize].0, None))?;
     }
     Ok(out)
+}
+
+/// The one written spelling of a game: at most 210,763,795 bytes. Refused with `Memory` alone.
+pub fn write_game(alloc: Global, game: &Game) -> Result<Vec<u8>, Memory>
+    ensures text { IfOk result (λ text. text.items ≡ written_game game.now) }
+    ensures short { IfOk result (λ text. length text.items ≤ greatest_game_text) }
+{
+    write_forward_game(alloc, game.forward())
+}
+
+/// The same as [`write_game`], of a game without predecessors.
+pub fn write_forward_game(alloc: Global, game: &ForwardGame) -> Result<Vec<u8>, Memory>
+    ensures text { IfOk result (λ text. text.items ≡ written_game game.now) }
+    ensures short { IfOk result (λ text. length text.items ≤ greatest_game_text) }
+{
+    let mut out = Vec::with_capacity(alloc, game_capacity(game))?;
+    let mut line = Vec::new(alloc);
+    put_header(&mut out, b"parity ", game)?;
+    'vertices: for v in 0..game.len() {
+        extend_line(&mut line, game.successors(v).len())?;
+        put_vertex(&mut out, line.as_mut_slice(), game, v)?;
+    }
+    Ok(out)
+}
+
+/// Adds a number in decimal digits. The only error is `Memory`.
+pub fn put_number(out: &mut Vec<u8>, n: u64) -> Result<(), Memory>
+    ensures { OnOk result (out.new.items ≡ out.old.items ++ numeral n) }
+{
+    let mut buffer = Buffer::new();
+    out.extend_from_slice(buffer.format(n).as_bytes())
+}
+
+/// Writes a number whose digits end at a place of the line, with ten bytes at least before it, and returns where they begin.
+#[inline]
+pub fn number_before(line: &mut [u8], end: usize, n: u32) -> usize
+    requires capacity { 10 ≤ end }
+    requires within { end ≤ length line.old }
+    ensures written { drop result line.new ≡ numeral n ++ drop end line.old }
+    ensures near { end ≤ result + 10 }
+    ensures before { result ≤ end }
+    ensures kept { take result line.new ≡ take result line.old }
+    ensures size { length line.new ≡ length line.old }
+{
+    write_digits(u64::from(n), line, end)
+}
+
+/// Writes the end of a line, and returns where it begins.
+#[inline]
+pub fn end_before(line: &mut [u8]) -> usize
+    requires { 2 ≤ length line.old }
+    ensures written { drop result line.new ≡ codes ";\n" }
+    ensures place { result + 2 ≡ length line.old }
+    ensures kept { take result line.new ≡ take result line.old }
+    ensures size { length line.new ≡ length line.old }
+{
+    let end = line.len();
+    let at = byte_before(line, end, b'\n');
+    byte_before(line, at, b';')
+}
+
+/// Writes a space and the choice's identifier before a place of the line, where there is a choice, with eleven bytes at
+/// least before it, and returns where they begin.
+#[inline]
+pub fn choice_before(line: &mut [u8], end: usize, game: &Game, choice: Option<u32>) -> usize
+    requires capacity { 11 ≤ end }
+    requires within { end ≤ length line.old }
+    requires choice { IfSome choice (λ w. w < length game.now) }
+    ensures written { drop result line.new ≡ written_choice game.now choice ++ drop end line.old }
+    ensures near { end ≤ result + 11 }
+    ensures before { result ≤ end }
+    ensures kept { take result line.new ≡ take result line.old }
+    ensures size { length line.new ≡ length line.old }
+{
+    match choice {
+        Some(w) => {
+            let at = number_before(line, end, game.id(w));
+            byte_before(line, at, b' ')
+        }
+        None => end,
+    }
+}
+
+/// The same for the text of a solution or of winners, at most seven times its length.
+fn solution_capacity(game: &Game) -> usize
+    ensures { (rows : SolutionRows) → length rows ≡ length game.now → result ≤ 7 * length (written_solution game.now rows) }
+{
+    HEADER + ROW * game.len() as usize
+}
+
+/// The longest first line: a word, a space, a number, a semicolon and a line feed.
+const HEADER: usize = 22;
+
+/// The longest line of a solution text: two numbers, a winner, two spaces, a semicolon and a line feed.
+const ROW: usize = 34;
+
+/// A word, a space, the greatest identifier and the end of the line.
+fn put_header(out: &mut Vec<u8>, word: &[u8], game: &ForwardGame) -> Result<(), Memory>
+    ensures { OnOk result (out.new.items ≡ out.old.items ++ (word.now ++ (numeral (greatest_id game.now) ++ codes ";\n"))) }
+{
+    out.extend_from_slice(word)?;
+    let last = game.len() - 1;
+    put_number(out, u64::from(game.id(last)))?;
+    out.extend_from_slice(b";\n")
+}
+
+/// The line of one vertex in a solution text.
+fn put_row(out: &mut Vec<u8>, game: &Game, v: u32, row: (Player, Option<u32>)) -> Result<(), Memory>
+    requires vertex { v < length game.now }
+    requires choice { IfSome row.1 (λ w. w < length game.now) }
+    ensures { OnOk result (out.new.items ≡ out.old.items ++ written_rows game.now (vertex_at game.now v ∷ []) (row ∷ [])) }
+{
+    let mut buffer = [0u8; ROW];
+    let line = buffer.as_mut_slice();
+    let at = end_before(line);
+    let at = choice_before(line, at, game, row.1);
+    let at = number_before(line, at, u32::from(row.0.digit()));
+    let at = field_before(line, at, game.id(v));
+    out.extend_from_slice(&line[at..])
+}
+
+/// Writes a number and a space before a place of the line, and returns where they begin.
+#[inline]
+fn field_before(line: &mut [u8], end: usize, n: u32) -> usize
+    requires capacity { 11 ≤ end }
+    requires within { end ≤ length line.old }
+    ensures written { drop result line.new ≡ numeral n ++ 32 ∷ drop end line.old }
+    ensures near { end ≤ result + 11 }
+    ensures before { result ≤ end }
+    ensures kept { take result line.new ≡ take result line.old }
+    ensures size { length line.new ≡ length line.old }
+{
+    let at = byte_before(line, end, b' ');
+    number_before(line, at, n)
+}
+
+/// Writes a byte before a place of the line, and returns where it is.
+#[inline]
+fn byte_before(line: &mut [u8], end: usize, byte: u8) -> usize
+    requires capacity { 1 ≤ end }
+    requires within { end ≤ length line.old }
+    ensures written { drop result line.new ≡ byte ∷ drop end line.old }
+    ensures place { result + 1 ≡ end }
+    ensures kept { take result line.new ≡ take result line.old }
+    ensures size { length line.new ≡ length line.old }
+{
+    line[end - 1] = byte;
+    end - 1
+}
+
+/// The capacity for the text of a game, at most six times its length. So many bytes are allocated once, and nothing written is
+/// moved.
+fn game_capacity(game: &ForwardGame) -> usize
+    ensures { result ≤ 6 * length (written_game game.now) }
+{
+    let mut capacity = HEADER;
+    'lines: for v in 0..game.len() {
+        capacity = capacity.saturating_add(40 + 11 * game.successors(v).len());
+    }
+    capacity
+}
+
+/// Makes the line long enough for a vertex with so many successors.
+fn extend_line(line: &mut Vec<u8>, successors: usize) -> Result<(), Memory>
+    requires { successors < 2 ^ 32 }
+    ensures enough { OnOk result (40 + 11 * successors ≤ length line.new.items) }
+    ensures bound { OnOk result (length line.new.items ≤ max (length line.old.items) (40 + 11 * successors)) }
+{
+    let size = 40 + 11 * successors;
+    if line.len() < size {
+        line.resize(size, 0)?;
+    }
+    Ok(())
+}
+
+/// The line of one vertex in a game text, which is written from its end into a line that is long enough.
+fn put_vertex(out: &mut Vec<u8>, line: &mut [u8], game: &ForwardGame, v: u32) -> Result<(), Memory>
+    requires vertex { v < length game.now }
+    requires capacity { 40 + 11 * length (successors_of game.now v) ≤ length line.old }
+    ensures text { OnOk result (out.new.items ≡ out.old.items ++ written_vertex game.now (vertex_at game.now v)) }
+    ensures size { length line.new ≡ length line.old }
+{
+    // for the proof: the graph is a game, so each vertex has a successor
+    let _n = game.len();
+    let at = end_before(line);
+    let at = list_before(line, at, game, game.successors(v));
+    let at = fields_before(line, at, game, v);
+    out.extend_from_slice(&line[at..])
 }
 
 /// Writes identifiers of these vertices, separated by commas, before a place of the line.
@@ -122,74 +271,4 @@ fn fields_before(line: &mut [u8], end: usize, game: &ForwardGame, v: u32) -> usi
     let at = field_before(line, end, u32::from(game.owner(v).digit()));
     let at = field_before(line, at, game.priority(v));
     field_before(line, at, game.id(v))
-}
-
-/// The line of one vertex in a game text, which is written from its end into a line that is long enough.
-fn put_vertex(out: &mut Vec<u8>, line: &mut [u8], game: &ForwardGame, v: u32) -> Result<(), Memory>
-    requires vertex { v < length game.now }
-    requires capacity { 40 + 11 * length (successors_of game.now v) ≤ length line.old }
-    ensures text { OnOk result (out.new.items ≡ out.old.items ++ written_vertex game.now (vertex_at game.now v)) }
-    ensures size { length line.new ≡ length line.old }
-{
-    // for the proof: the graph is a game, so each vertex has a successor
-    let _n = game.len();
-    let at = end_before(line);
-    let at = list_before(line, at, game, game.successors(v));
-    let at = fields_before(line, at, game, v);
-    out.extend_from_slice(&line[at..])
-}
-
-/// Makes the line long enough for a vertex with so many successors.
-fn extend_line(line: &mut Vec<u8>, successors: usize) -> Result<(), Memory>
-    requires { successors < 2 ^ 32 }
-    ensures enough { OnOk result (40 + 11 * successors ≤ length line.new.items) }
-    ensures bound { OnOk result (length line.new.items ≤ max (length line.old.items) (40 + 11 * successors)) }
-{
-    let size = 40 + 11 * successors;
-    if line.len() < size {
-        line.resize(size, 0)?;
-    }
-    Ok(())
-}
-
-/// The capacity for the text of a game, at most six times its length. So many bytes are allocated once, and nothing written is
-/// moved.
-fn game_capacity(game: &ForwardGame) -> usize
-    ensures { result ≤ 6 * length (written_game game.now) }
-{
-    let mut capacity = HEADER;
-    'lines: for v in 0..game.len() {
-        capacity = capacity.saturating_add(40 + 11 * game.successors(v).len());
-    }
-    capacity
-}
-
-/// The same for the text of a solution or of winners, at most seven times its length.
-fn solution_capacity(game: &Game) -> usize
-    ensures { (rows : SolutionRows) → length rows ≡ length game.now → result ≤ 7 * length (written_solution game.now rows) }
-{
-    HEADER + ROW * game.len() as usize
-}
-
-/// The one written spelling of a game: at most 210,763,795 bytes. Refused with `Memory` alone.
-pub fn write_game(alloc: Global, game: &Game) -> Result<Vec<u8>, Memory>
-    ensures text { IfOk result (λ text. text.items ≡ written_game game.now) }
-    ensures short { IfOk result (λ text. length text.items ≤ greatest_game_text) }
-{
-    write_forward_game(alloc, game.forward())
-}
-
-/// The same as [`write_game`], of a game without predecessors.
-pub fn write_forward_game(alloc: Global, game: &ForwardGame) -> Result<Vec<u8>, Memory>
-    ensures text { IfOk result (λ text. text.items ≡ written_game game.now) }
-    ensures short { IfOk result (λ text. length text.items ≤ greatest_game_text) }
-{
-    let mut out = Vec::with_capacity(alloc, game_capacity(game))?;
-    let mut line = Vec::new(alloc);
-    put_header(&mut out, b"parity ", game)?;
-    'vertices: for v in 0..game.len() {
-        extend_line(&mut line, game.successors(v).len())?;
-        put_vertex(&mut out, line.as_mut_slice(), game, v)?;
-    }
-    Ok(out)
 }

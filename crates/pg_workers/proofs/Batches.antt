@@ -1,7 +1,15 @@
 -- Sizes of batches, as they are tried one after the other.
 use Rattle.pg_workers.proofs.Common.{rules, ◌≡◌, ◌≢◌, ◌≤◌, ◌<◌, ◌*◌, ◌/◌, ℕ, zero, suc, ◌+◌, ◌-◌, ◌^◌, true, false, ◌⊎◌, refl, sym, ◌∙◌, subst, arith, ltb-true}
 use Rattle.pg_workers.proofs.Common.{nat_lt, common_steps, le-div_iff_mul-le, two-pow-succ, false_from_ne_true, max_vertices, batch_of, batches, batches_of}
-use Rattle.pg_workers.proofs.Common.{doubled, most_batches, most_doublings, total_of}
+use Rattle.std.proofs.Math.Nat.{div-eq_of_lt-le}
+use Rattle.std.proofs.lemmas.Grind.{div_ceil_times}
+use Rattle.pg_workers.proofs.Common.{◌%◌, min, doubled, most_batches, most_doublings, total_of}
+
+-- a quotient that is rounded up
+pub rounded_up : (n size : ℕ) → 0 < size → n / size + min 1 (n % size) ≡ batches_of size n
+rounded_up n size some =
+    let b = div_ceil_times n size some in
+    sym (div-eq_of_lt-le size (omega (arith, b.1, some)) (omega (arith, b.0, some)))
 
 -- this size is tried after smaller ones that gave too many batches
 pub record IsTried (n size : ℕ) : Type 0 where

@@ -5,8 +5,8 @@ use Rattle.std.specs.Prelude.{filter}
 use Rattle.pg_game.specs.declared.player.Player.TheVariants.{Even, Odd}
 use Rattle.pg_text.proofs.FirstFaults.{all-append}
 use Rattle.pg_board.specs.Post.{Adds}
-use Rattle.pg_board.specs.declared.entry.Entry.{Entry}
-use Rattle.pg_board.specs.declared.entry.Posted.{Posted}
+use Rattle.pg_board.specs.declared.journal.Entry.{Entry}
+use Rattle.pg_board.specs.declared.journal.Posted.{Posted}
 
 -- one entry for the player
 one_of_caller : (e : Entry) (p : Player) → e.worker ≡ 0 → e.player ≡ p → AreOfCaller (p ∷ []) (e ∷ [])

@@ -28,7 +28,7 @@ pub listed-push : {X Y Z : Type 0} (f : X → Z) (g : Y → Z) (now was first : 
 listed-push f g now was first x ts t is h same = search (rules, map-append, append_assoc)
 
 -- the lists of all tickets, by what the last seat knows
-pub drawn_by_all : (total word told : ℕ) (drawn : List ℕ) (ts : List HeldTicket) → ((x : ℕ) → times x drawn ≡ once_below x (min total word))
-    → length drawn ≡ min total word → word ≡ min total word + told → drawn ≡ flat_map (λ t. t.numbers) ts
-    → told ≡ count_by (λ t. t.told_none) ts → AreDrawn total ts
-drawn_by_all total word told drawn ts fair long steps is told_is = grind (arith, sum_by, times-flat_map, length-flat_map)
+pub drawn_by_all : (total word none : ℕ) (drawn : List ℕ) (ts : List HeldTicket) → ((x : ℕ) → times x drawn ≡ once_below x (min total word))
+    → length drawn ≡ min total word → word ≡ min total word + none → drawn ≡ flat_map (λ t. t.numbers) ts
+    → none ≡ count_by (λ t. t.told_none) ts → AreDrawn total ts
+drawn_by_all total word none drawn ts fair long steps is none_is = grind (arith, sum_by, times-flat_map, length-flat_map)

@@ -18,7 +18,7 @@ pub use Rattle.pg_finders.proofs.Common.{AreClaims, common_steps, get_or_default
 pub use Rattle.pg_board.proofs.Common.{AreStateRows, Claim, ClaimRows, Graph, IsDominionAfter, IsExactSolution, IsFull, IsGoodIn, IsLawful, Journal, Play}
 pub use Rattle.pg_board.proofs.Common.{Player, VertexSet, false_from_ne_true, is_unsettled, map-append, number_settled, or_cases, slice_get_within}
 pub use Rattle.pg_board.proofs.Common.{state_of, sum_by_push, take-append-drop, take-append-le, take_more, target_attracted, unsettled}
-pub use Rattle.pg_board.specs.declared.refusal.Refusal.{Refusal}
+pub use Rattle.pg_board.specs.declared.journal.Refusal.{Refusal}
 pub use Rattle.pg_workers.specs.Counting.{once_below, times}
 pub use Rattle.pg_workers.specs.Known.{IsSolveFault, known_rows}
 pub use Rattle.pg_workers.specs.Outcomes.{IsOutcome}
@@ -32,4 +32,4 @@ pub use Rattle.pg_workers.specs.private.Drawing.{AtSeat, Draws, IsDrawer, IsDraw
 pub use Rattle.pg_workers.specs.private.Known.{HasSettled, IsKnownFault}
 pub use Rattle.pg_workers.specs.private.Report.{AreBlank, AreIdle, AreNotedRows, AreOfPrefix, HasPlaces, answered, how_many_of_job, jobs_in, noted}
 pub use Rattle.pg_workers.specs.private.Report.{rows_in}
-pub use Rattle.pg_workers.specs.private.Rest.{IsLater, Settles}
+pub use Rattle.pg_workers.specs.private.Later.{IsLater, Settles}

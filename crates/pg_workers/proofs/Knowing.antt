@@ -28,10 +28,10 @@ use Rattle.pg_finders.specs.Claims.{own_choices, rows_below}
 use Rattle.pg_finders.proofs.Good.{good_rows}
 use Rattle.pg_finders.proofs.Rows.{RowsOf, rows_of_below, rows_until}
 use Rattle.pg_finders.proofs.Sets.{not_same, equal_from}
-use Rattle.pg_board.specs.declared.entry.Entry.{Entry}
-use Rattle.pg_board.specs.declared.entry.Posted.{Posted}
-use Rattle.pg_board.specs.declared.refusal.Refusal.{Refusal}
-use Rattle.pg_board.specs.declared.refusal.Refusal.TheVariants as refusal
+use Rattle.pg_board.specs.declared.journal.Entry.{Entry}
+use Rattle.pg_board.specs.declared.journal.Posted.{Posted}
+use Rattle.pg_board.specs.declared.journal.Refusal.{Refusal}
+use Rattle.pg_board.specs.declared.journal.Refusal.TheVariants as refusal
 use Rattle.pg_board.specs.Play.{Play}
 use Rattle.pg_board.specs.State.{State, settled, unsettled, is_unsettled, rest_of, IsGoodOn}
 use Rattle.pg_board.specs.Journal.{Journal, state_of, IsLawful, IsDominionAfter, number_settled}
@@ -47,7 +47,7 @@ use Rattle.pg_board.proofs.RestIsGood.{vertices, in_rest, named_rest}
 use Rattle.pg_workers.specs.Known.{IsKnownRegion, known_rows, IsAttractedToKnown, HasCount, HasNone, IsBefore, IsSolveFault}
 use Rattle.pg_workers.specs.private.Known.{SettlesKnown, IsKnownFault, HasKnown, fault_of}
 use Rattle.pg_workers.specs.Report.{AreOfCaller}
-use Rattle.pg_workers.specs.private.Rest.{IsLater}
+use Rattle.pg_workers.specs.private.Later.{IsLater}
 use Rattle.pg_workers.specs.declared.known.SolveFault.{SolveFault}
 use Rattle.pg_workers.proofs.Calling.{both_of_caller, none_later, one_later}
 

@@ -5,7 +5,7 @@ use Rattle.pg_workers.proofs.Common.{get_elem?, Step, opening, Allows, Splits, J
 use Rattle.pg_workers.proofs.Common.{one_ticket, both_drawers, spent_drawer, sum_by-append}
 use Rattle.atomic_table.specs.Table.{State}
 use Rattle.atomic_table.proofs.Lists.{at_set, at_snoc}
-use Rattle.pg_workers.specs.declared.drawing.Drawer.{Drawer}
+use Rattle.pg_workers.specs.declared.jobs.Drawer.{Drawer}
 use Rattle.pg_workers.proofs.Counts.{sum_by-set_at, sum_by-at, sum_by-le_each, alone, once_more, once_none}
 
 pub begins : (total seats : ℕ) → IsDrawn total seats (opening (0 ∷ []) [] (drawer total seats 0 []))

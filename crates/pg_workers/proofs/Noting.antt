@@ -2,8 +2,10 @@
 use Rattle.pg_workers.proofs.Common.{rules, ◌≡◌, ℕ, zero, suc, ◌+◌, ◌^◌, ◌<◌, ◌≤◌, ◌⊎◌, inl, inr, ⊎_elim, true, false, List, [], ◌∷◌, ◌++◌, length, sym}
 use Rattle.pg_workers.proofs.Common.{ap, ◌∙◌, subst, arith, length-append, common_steps, slice_get, Some, Result, IfOk, Graph}
 use Rattle.pg_finders.specs.declared.finder.Found.{Found}
+use Rattle.pg_finders.specs.declared.finder.Job.{Job}
+use Rattle.pg_finders.specs.declared.inside.Copied.{Copied}
 use Rattle.std.specs.Result.{OnErr}
-use Rattle.pg_workers.specs.private.Answers.{IsJobRow, drawn_row}
+use Rattle.pg_workers.specs.private.Answers.{IsJobRow, IsSearched, drawn_row}
 use Rattle.std.specs.Prelude.{Ok}
 use Rattle.pg_workers.proofs.Common.{Err, fold_push, none-some, same_Some, Claim, Refusal, ReportRow, AreNoted, IsAnswerTo, AreCounts, answered, noted}
 
@@ -59,8 +61,9 @@ one_noted g claims claim old now amount answer h mine = record {
 }
 
 -- the row of a job notes its search and the answers to its claims
-pub job_row : {A E : Type 0} (g : A → Graph) (f : A → Found) (found : Result A E) (job worker : ℕ) (row : ReportRow)
-    → IfOk found (λ x. AreNoted (g x) (f x).claims.items (drawn_row job worker (f x).gave_up false) row)
-    → OnErr found (row ≡ drawn_row job worker false true) → IsJobRow job worker row
-job_row g f (Ok x) job worker row noted memory = inr (g x, f x, noted)
-job_row g f (Err e) job worker row noted memory = inl memory
+pub job_row : {A E S : Type 0} (finds : S → Copied → Job → Found → Type 0) (finder : S) (search : Job) (amount : ℕ) (g : A → Graph) (f : A → Found)
+    (found : Result A E) (number worker : ℕ) (row : ReportRow) → IfOk found (λ x. IsSearched finds finder search amount (g x) (f x))
+    → IfOk found (λ x. AreNoted (g x) (f x).claims.items (drawn_row number worker (f x).gave_up false) row)
+    → OnErr found (row ≡ drawn_row number worker false true) → IsJobRow finds finder search amount number worker row
+job_row finds finder search amount g f (Ok x) number worker row searched noted memory = inr (g x, f x, searched, noted)
+job_row finds finder search amount g f (Err e) number worker row searched noted memory = inl memory

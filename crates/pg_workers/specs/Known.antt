@@ -10,8 +10,8 @@ use Rattle.pg_game.specs.Region.{IsRegion}
 use Rattle.pg_text.specs.Known.{KnownRows, known_of, known_choice}
 use Rattle.pg_dominion.specs.Claim.{ClaimRows}
 use Rattle.pg_finders.specs.Claims.{own_choices, rows_below}
-use Rattle.pg_board.specs.declared.refusal.Refusal.{Refusal}
-use Rattle.pg_board.specs.declared.refusal.Refusal.TheVariants as refusal
+use Rattle.pg_board.specs.declared.journal.Refusal.{Refusal}
+use Rattle.pg_board.specs.declared.journal.Refusal.TheVariants as refusal
 use Rattle.pg_board.specs.State.{settled}
 use Rattle.pg_board.specs.Journal.{Journal, state_of, IsLawful}
 use Rattle.pg_board.specs.Refusal.{Refuses}

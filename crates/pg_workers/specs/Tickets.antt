@@ -27,8 +27,9 @@ fresh series = record { series = series; numbers = []; told_none = false }
 abbrev pub drew : HeldTicket → ℕ → HeldTicket
 drew t j = record { series = t.series; numbers = t.numbers ++ j ∷ []; told_none = t.told_none }
 
-abbrev pub told : HeldTicket → HeldTicket
-told t = record { series = t.series; numbers = t.numbers; told_none = true }
+-- the ticket once a draw has found no job left
+abbrev pub exhausted : HeldTicket → HeldTicket
+exhausted t = record { series = t.series; numbers = t.numbers; told_none = true }
 
 -- The tickets' lists are fair for the closing word, which counts the drawn numbers and the tickets that found no job left. If
 -- there is such a ticket, the lists together have each number below the total once.

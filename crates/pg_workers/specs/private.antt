@@ -4,5 +4,5 @@ pub mod Report
 pub mod Answers
 pub mod Tickets
 pub mod TicketFields
-pub mod Rest
+pub mod Later
 pub mod Known

@@ -1,13 +1,17 @@
-//! Job numbers from one atomic word. Each worker draws by a ticket of its own, which keeps its numbers. A draw is one
-//! step on the word and waits for nobody.
-ghost use Rattle.std.specs.Prelude.{◌≡◌, ◌≤◌, ◌<◌, [], true, All, IfOk, IfSome, IfNone, None, length, map, replicate, vec_len};
-ghost use Rattle.pg_workers.specs.private.Drawing.{drawer};
-ghost use Rattle.pg_workers.specs.Tickets.{fresh, drew, told, AreDrawn};
+//! The jobs of a run and their numbers, which workers draw from one atomic word. Each worker draws by a ticket of its own, which
+//! keeps its numbers. A draw is one step on the word and waits for nobody.
 
-use crate::drawing::{About, Draw, Drawer, Drawing, OneTicket};
-use atomic_table::{Seat, Table};
-use pg_game::Memory;
+ghost use Rattle.std.specs.Prelude.{◌≡◌, ◌+◌, ◌*◌, ◌==◌, ◌≤◌, ◌<◌, [], true, All, IfOk, IfSome, IfNone, None, if◌then◌else◌, length, map, replicate, vec_len};
+ghost use Rattle.pg_workers.specs.private.Drawing.{drawer};
+ghost use Rattle.pg_workers.specs.Tickets.{fresh, drew, exhausted, AreDrawn};
+ghost use Rattle.pg_game.specs.Specification.{max_vertices};
+ghost use Rattle.pg_workers.specs.Work.{total_of, job_of, batch_of, batches_of, IsBatchSize};
+
+use atomic_table::{Join, Play, Seat, Split, Table, TableRule};
+use pg_finders::Job;
+use pg_game::{Memory, Player};
 use std::alloc::Global;
+use std::collections::LinkedList;
 use std::marker::Model;
 
 /// The numbers of a ticket, and whether a draw found no job left.
@@ -39,6 +43,16 @@ impl Model for Ticket {
 }
 
 impl Ticket {
+    /// The drawn numbers, in order.
+    pub fn drawn(&self) -> &[u64]
+        ensures numbers { result.now ≡ self.now.numbers }
+        ensures below { All (λ j. j < self.now.series.total) result.now }
+    {
+        // for the proof: reading a field gives the invariant of the type, and so the numbers are below the total
+        let _told_none = self.told_none;
+        self.numbers.as_slice()
+    }
+
     /// A ticket at a seat of its own, with capacity for all numbers.
     fn new(alloc: Global, total: u64, seat: Seat<(), Drawer>) -> Result<Ticket, Memory>
         requires { (seat.me ≡ (drawer total 1 0 [], [])) × (total ≤ 4096) }
@@ -50,16 +64,6 @@ impl Ticket {
             numbers,
             told_none: false,
         })
-    }
-
-    /// The drawn numbers, in order.
-    pub fn drawn(&self) -> &[u64]
-        ensures numbers { result.now ≡ self.now.numbers }
-        ensures below { All (λ j. j < self.now.series.total) result.now }
-    {
-        // for the proof: reading a field gives the invariant of the type, and so the numbers are below the total
-        let _told_none = self.told_none;
-        self.numbers.as_slice()
     }
 }
 
@@ -101,12 +105,12 @@ impl Jobs {
         };
         let spare = Vec::with_capacity(alloc, seats as usize)?;
         let mut tickets = Vec::with_capacity(alloc, seats as usize)?;
-        let (table, mut rest) = Table::of_words(alloc, &[0], &about)?;
+        let (table, mut remaining) = Table::of_words(alloc, &[0], &about)?;
         for _i in 1..seats {
-            let seat = table.shared.split_seat::<OneTicket>(&mut rest);
+            let seat = table.shared.split_seat::<OneTicket>(&mut remaining);
             tickets.push_reserved(Ticket::new(alloc, total, seat)?);
         }
-        tickets.push_reserved(Ticket::new(alloc, total, rest)?);
+        tickets.push_reserved(Ticket::new(alloc, total, remaining)?);
         let jobs = Jobs {
             table,
             total,
@@ -121,7 +125,7 @@ impl Jobs {
         requires { ticket.old.series ≡ self.now.series }
         ensures some { IfSome result (λ j. (ticket.new ≡ drew ticket.old j) × (j < self.now.series.total)) }
         ensures spare { IfSome result (λ j. length ticket.old.numbers < self.now.series.total) }
-        ensures none { IfNone result (ticket.new ≡ told ticket.old) }
+        ensures none { IfNone result (ticket.new ≡ exhausted ticket.old) }
         ensures sticky { ticket.old.told_none ≡ true → result ≡ None }
     {
         if ticket.told_none {
@@ -143,7 +147,7 @@ impl Jobs {
         requires all { vec_len tickets ≡ self.seats }
         requires own { All (λ t. t.series ≡ self.series) tickets.items }
         ensures numbers { map (λ d. d.numbers.items) result.items ≡ map (λ t. t.numbers) tickets.items }
-        ensures told { map (λ d. d.told_none) result.items ≡ map (λ t. t.told_none) tickets.items }
+        ensures told_none { map (λ d. d.told_none) result.items ≡ map (λ t. t.told_none) tickets.items }
         ensures fair { AreDrawn self.series.total tickets.items }
     {
         let Jobs {
@@ -171,3 +175,145 @@ impl Jobs {
         spare
     }
 }
+
+/// Options for solving a game.
+///
+/// `workers`: their number, 1 to 64. `bound`: the most vertices of a small dominion, 0 to 8; 0 for no search. `budget`: the
+/// most choices that one search for small dominions tries.
+#[derive(Clone, Copy, Debug, Drop)]
+pub struct Options {
+    pub workers: u32,
+    pub bound: u32,
+    pub budget: u64,
+}
+
+impl Options {
+    /// The number of jobs for this many vertices.
+    pub fn total(&self, n: u32) -> u64
+        requires { n ≤ max_vertices }
+        ensures number { result ≡ total_of self.now.bound n }
+        ensures few { result ≤ 4096 }
+        ensures batches { IsBatchSize n (batch_of n) × (result ≡ (if self.now.bound == 0 then 3 else 3 + 2 * batches_of (batch_of n) n)) }
+    {
+        let size = batch_of(n);
+        if self.bound == 0 {
+            return OTHER_JOBS;
+        }
+        OTHER_JOBS + 2 * batch_count(n, size)
+    }
+
+    /// The job of this number, for this many vertices.
+    pub fn job(&self, n: u32, number: u64) -> Job
+        requires vertices { n ≤ max_vertices }
+        requires number { number < total_of self.now.bound n }
+        ensures { result ≡ job_of self.now.bound self.now.budget n number }
+    {
+        let total = self.total(n);
+        if number == 0 {
+            return Job::Loops;
+        }
+        if number == 1 {
+            return Job::Solitaire;
+        }
+        if number + 1 == total {
+            return Job::Recursion;
+        }
+        let size = batch_of(n);
+        let first = size * ((number - 2) / 2);
+        Job::Small {
+            player: if number % 2 == 0 {
+                Player::Even
+            } else {
+                Player::Odd
+            },
+            first: first as u32,
+            count: (n as u64 - first).min(size) as u32,
+            bound: self.bound,
+            budget: self.budget,
+        }
+    }
+}
+
+/// The view of a seat. The program makes no value of it.
+pub(crate) struct Drawer {
+    pub total: u64,
+    pub tickets: u64,
+    pub told_none: u64,
+    pub drawn: LinkedList<u64>,
+}
+
+/// The number of numbers, and the number of tickets.
+#[derive(Drop)]
+pub(crate) struct About {
+    pub total: u64,
+    pub seats: u64,
+}
+
+/// The rule that every step keeps.
+pub(crate) struct Drawing;
+
+impl TableRule<(), Drawer, About> for Drawing {
+    ghost use Rattle.std.specs.Prelude.{[]};
+    ghost use Rattle.pg_workers.specs.private.Drawing.{IsDrawn, drawer};
+
+    ghost holds = { λ about s. IsDrawn about.total about.seats s };
+
+    ghost first = { λ about. drawer about.total about.seats 0 [] };
+}
+
+/// One ticket leaves a seat that several share, or comes back.
+pub(crate) struct OneTicket;
+
+impl Split<Drawer> for OneTicket {
+    ghost use Rattle.pg_workers.specs.private.Drawing.{one_less, one_ticket};
+
+    ghost left = { one_less };
+
+    ghost right = { one_ticket };
+}
+
+impl Join<Drawer> for OneTicket {
+    ghost use Rattle.pg_workers.specs.private.Drawing.{both_drawers, spent_drawer};
+
+    ghost both = { both_drawers };
+
+    ghost spent = { spent_drawer };
+}
+
+/// A draw.
+pub(crate) struct Draw;
+
+impl Play<(), Drawer> for Draw {
+    ghost use Rattle.pg_workers.specs.private.Drawing.{Draws};
+
+    ghost then = { Draws };
+}
+
+/// The number of vertices of a batch: the least of 64, 128, 256 and so on with at most 2,046 batches.
+fn batch_of(n: u32) -> u64
+    requires { n ≤ max_vertices }
+    ensures size { result ≡ batch_of n }
+    ensures some { 64 ≤ result }
+    ensures least { IsBatchSize n result }
+{
+    let mut size = 64u64;
+    while batch_count(n, size) > MAX_BATCHES {
+        size *= 2;
+    }
+    size
+}
+
+/// The number of batches of this size, the last one perhaps smaller.
+#[tactic(auto, using(crate::proofs::Batches::rounded_up))]
+fn batch_count(n: u32, size: u64) -> u64
+    requires { 0 < size }
+    ensures { result ≡ batches_of size n }
+{
+    (n as u64).div_ceil(size)
+}
+
+/// The greatest number of batches, so that a game has at most 4,096 jobs.
+const MAX_BATCHES: u64 = 2_046;
+
+/// The jobs that are no search for small dominions: loops, the solitaire case and the recursion.
+const OTHER_JOBS: u64 = 3;

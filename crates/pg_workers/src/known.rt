@@ -1,14 +1,22 @@
-//! Posts of what is known of a game, before a worker starts: Even's set and then Odd's, each as a claim.
-ghost use Rattle.std.specs.Prelude.{◌≡◌, ◌≤◌, ◌<◌, length, IfOk, IfErr, OnOk};
-ghost use Rattle.pg_finders.specs.Claims.{own_choices};
-ghost use Rattle.pg_workers.specs.Known.{known_rows, HasNone, IsSolveFault};
+//! What the calling thread posts, as worker 0: before a worker starts what is known of the game, and after all have ended what the
+//! recursion finds in the unsettled part (Zielonka 1998). In both Even's claim comes first, and then Odd's.
+
+ghost use Rattle.std.specs.Prelude.{◌≡◌, ◌≤◌, ◌<◌, length, IfOk, IfErr, OnOk, ◌∷◌, ℕ, []};
+ghost use Rattle.pg_workers.specs.Known.{known_rows, HasNone, IsSolveFault, IsKnownRegion};
 ghost use Rattle.pg_workers.specs.private.Known.{fault_of, HasKnown, IsKnownFault, SettlesKnown};
+ghost use Rattle.pg_game.specs.declared.player.Player.TheVariants.{Even, Odd};
+ghost use Rattle.pg_board.specs.Journal.{state_of, IsDominionAfter};
+ghost use Rattle.pg_board.specs.Full.{IsFull};
+ghost use Rattle.pg_workers.specs.private.Later.{Settles, IsLater};
+ghost use Rattle.pg_game.specs.declared.player.Player.{Player};
+ghost use Rattle.pg_text.specs.Solution.{IsExactSolution};
 
 use pg_board::{Board, Refusal};
-use pg_dominion::Claim;
+use pg_dominion::{Claim, own_choice};
+use pg_finders::{Solved, zielonka};
 use pg_game::{Game, Memory, Player, Sequence};
-use pg_text::Known;
-use std::alloc::Global;
+use pg_text::{Known, Solution};
+use std::alloc::{AllocError, Global};
 
 /// Why a run has no outcome: the refusal of a player's known set, or refused memory.
 #[derive(Clone, Copy, Debug, Drop, PartialEq, Eq)]
@@ -30,49 +38,56 @@ impl From<Memory> for SolveFault {
     }
 }
 
-/// The fault of a run after a refused post of the player's known set.
-fn refused(player: Player, refusal: Refusal) -> SolveFault
-    ensures { result ≡ fault_of player refusal }
-{
-    match refusal {
-        Refusal::Memory => SolveFault::Memory,
-        _ => SolveFault::Known(player, refusal),
-    }
-}
-
-/// The choice if the player owns the vertex, else none.
-fn own_choice(game: &Game, player: Player, v: u32, choice: Option<u32>) -> Option<u32>
-    requires { v < length game.now }
-    ensures { result ≡ own_choices game.now player (λ _. choice) v }
-{
-    if game.owner(v) == player {
-        choice
-    } else {
-        None
-    }
-}
-
-/// The player's known set as a claim: only his own vertices have choices.
-fn known_claim(alloc: Global, game: &Game, known: &Known, player: Player) -> Result<Claim, Memory>
+/// The same as `solve_game` in the calling thread: it starts no thread and waits for nothing. It posts Even's known set and
+/// then Odd's, and Zielonka's recursion (1998) solves what is unsettled. The errors are those of `solve_game`.
+pub fn solve_alone(alloc: Global, game: &Game, known: &Known) -> Result<Solution, SolveFault>
     requires { length known.now.rows ≤ length game.now }
-    ensures player { IfOk result (λ claim. claim.player ≡ player) }
-    ensures rows { IfOk result (λ claim. claim.rows ≡ known_rows game.now known.now.rows player) }
+    ensures exact { IfOk result (λ s. IsExactSolution game.now s.rows) }
+    ensures regions { IfOk result (λ s. (p : Player) → IsKnownRegion game.now known.now.rows p) }
+    ensures fault { IfErr result (λ e. IsSolveFault game.now known.now.rows e) }
 {
-    // for the proof: there are no more rows than vertices, whose number fits
-    let _n = game.len();
-    let of_vertices = known.rows.as_slice();
-    let mut rows = Vec::new(alloc);
-    for v in 0..of_vertices.len() as u32 {
-        if let Some((winner, choice)) = of_vertices[v as usize] {
-            if winner == player {
-                rows.push((v, own_choice(game, player, v, choice)))?;
-            }
-        }
+    let mut board = board_with(alloc, game, known)?;
+    solve_unsettled(alloc, &mut board)?;
+    match board.solution(alloc)? {
+        Some(solution) => Ok(solution),
+        None => unreachable!(),
     }
-    Ok(Claim {
-        player,
-        rows: Sequence::new(rows),
-    })
+}
+
+/// A board after the posts of what is known: Even's set and then Odd's.
+pub(crate) fn board_with<'g>(
+    alloc: Global,
+    game: &'g Game,
+    known: &Known,
+) -> Result<Board<'g>, SolveFault>
+    requires { length known.now.rows ≤ length game.now }
+    ensures game { IfOk result (λ b. b.graph ≡ game.now) }
+    ensures known { IfOk result (λ b. HasKnown game.now known.now.rows b.journal) }
+    ensures fault { IfErr result (λ e. IsSolveFault game.now known.now.rows e) }
+{
+    let mut board = Board::open(alloc, game)?;
+    // for the proof, here and below: reading the board gives that its journal is lawful
+    let _opened = board.game();
+    post_known(alloc, &mut board, known, Player::Even)?;
+    let _posted = board.game();
+    post_known(alloc, &mut board, known, Player::Odd)?;
+    Ok(board)
+}
+
+/// Settles all unsettled vertices by the two claims of the recursion, each an entry of worker 0. A full board is unchanged.
+#[tactic(auto, using(crate::proofs::Calling::none_later))]
+pub(crate) fn solve_unsettled(alloc: Global, board: &mut Board<'_>) -> Result<(), Memory>
+    ensures full { OnOk result (IsFull board.new.graph (state_of board.new.journal)) }
+    ensures later { OnOk result (IsLater (Even ∷ Odd ∷ []) board.old board.new) }
+{
+    if board.is_full() {
+        return Ok(());
+    }
+    let copied = board.copy(alloc)?;
+    let Solved { even, odd } = zielonka(alloc, &copied.inside)?;
+    post_dominion(alloc, board, &even)?;
+    post_dominion(alloc, board, &odd)?;
+    Ok(())
 }
 
 /// Posts the player's known set as worker 0, unless it is empty.
@@ -99,22 +114,56 @@ fn post_known(
     }
 }
 
-/// A board after the posts of what is known: Even's set and then Odd's.
-pub(crate) fn board_with<'g>(
-    alloc: Global,
-    game: &'g Game,
-    known: &Known,
-) -> Result<Board<'g>, SolveFault>
+/// The player's known set as a claim: only his own vertices have choices.
+fn known_claim(alloc: Global, game: &Game, known: &Known, player: Player) -> Result<Claim, Memory>
     requires { length known.now.rows ≤ length game.now }
-    ensures game { IfOk result (λ b. b.graph ≡ game.now) }
-    ensures known { IfOk result (λ b. HasKnown game.now known.now.rows b.journal) }
-    ensures fault { IfErr result (λ e. IsSolveFault game.now known.now.rows e) }
+    ensures player { IfOk result (λ claim. claim.player ≡ player) }
+    ensures rows { IfOk result (λ claim. claim.rows ≡ known_rows game.now known.now.rows player) }
 {
-    let mut board = Board::open(alloc, game)?;
-    // for the proof, here and below: reading the board gives that its journal is lawful
-    let _opened = board.game();
-    post_known(alloc, &mut board, known, Player::Even)?;
-    let _posted = board.game();
-    post_known(alloc, &mut board, known, Player::Odd)?;
-    Ok(board)
+    // for the proof: there are no more rows than vertices, whose number fits
+    let _n = game.len();
+    let of_vertices = known.rows.as_slice();
+    let mut rows = Vec::new(alloc);
+    for v in 0..of_vertices.len() as u32 {
+        if let Some((winner, choice)) = of_vertices[v as usize] {
+            if winner == player {
+                rows.push((v, own_choice(game.forward(), player, v, choice)))?;
+            }
+        }
+    }
+    Ok(Claim {
+        player,
+        rows: Sequence::new(rows),
+    })
+}
+
+/// The fault of a run after a refused post of the player's known set.
+fn refused(player: Player, refusal: Refusal) -> SolveFault
+    ensures { result ≡ fault_of player refusal }
+{
+    match refusal {
+        Refusal::Memory => SolveFault::Memory,
+        _ => SolveFault::Known(player, refusal),
+    }
+}
+
+/// Posts a claim that was a dominion at some time as worker 0, if it has a row.
+#[tactic(auto, using(crate::proofs::Calling::one_later, crate::proofs::Calling::none_later))]
+fn post_dominion(alloc: Global, board: &mut Board<'_>, claim: &Claim) -> Result<(), Memory>
+    requires { 0 < length claim.now.rows → (k : ℕ) × IsDominionAfter board.old.graph board.old.journal k claim.now.player claim.now.rows }
+    ensures settles { OnOk result (Settles board.new.journal claim.now.player claim.now.rows) }
+    ensures later { OnOk result (IsLater (claim.now.player ∷ []) board.old board.new) }
+{
+    if claim.rows.as_slice().is_empty() {
+        return Ok(());
+    }
+    match board.post(alloc, 0, claim) {
+        Ok(_) => Ok(()),
+        Err(Refusal::Stale) => Ok(()),
+        Err(Refusal::Memory) => Err(AllocError),
+        Err(Refusal::Claim(_)) => unreachable!(),
+        Err(Refusal::Foreign(_)) => unreachable!(),
+        Err(Refusal::Lost(_)) => unreachable!(),
+        Err(Refusal::Open(..)) => unreachable!(),
+    }
 }

@@ -1,4 +1,6 @@
-//! The results of each job of a run. Each row of a worker has its place in the report by its job's number.
+//! The report of a run: one row for each job. Each row of a worker has its place by its job's number, and the jobs that no worker
+//! drew have blank rows.
+
 ghost use Rattle.std.specs.Prelude.{◌≡◌, ◌+◌, ◌^◌, ◌≤◌, ◌<◌, ℕ, IfOk, length, map, vec_len};
 ghost use Rattle.pg_workers.specs.Report.{IsInOrder, blank_row, settled_in};
 ghost use Rattle.pg_workers.specs.private.Report.{AreBlank, AreOfPrefix, AreNotedRows, HasPlaces, answered, noted, rows_in, without_posts};
@@ -72,17 +74,6 @@ pub(crate) fn blank_report(alloc: Global, total: u64) -> Result<Vec<ReportRow>, 
     Ok(report)
 }
 
-/// Puts each row at the place of its job.
-fn place_rows(report: &mut [ReportRow], rows: &[ReportRow])
-    requires { HasPlaces report.old rows.now }
-    ensures placed { AreNotedRows report.old report.new rows.now }
-    ensures settled { settled_in report.new ≡ settled_in report.old + settled_in rows.now }
-{
-    for row in rows {
-        report[row.job as usize] = *row;
-    }
-}
-
 /// A report in which each row of all workers is at the place of its job.
 pub(crate) fn with_rows(mut report: Vec<ReportRow>, all: &[Vec<ReportRow>]) -> Vec<ReportRow>
     requires blank { AreBlank report.items }
@@ -97,17 +88,6 @@ pub(crate) fn with_rows(mut report: Vec<ReportRow>, all: &[Vec<ReportRow>]) -> V
     report
 }
 
-/// The row with `posted` and `settled` set to 0.
-fn without_posts(row: ReportRow) -> ReportRow
-    ensures { result ≡ without_posts row }
-{
-    ReportRow {
-        posted: 0,
-        settled: 0,
-        ..row
-    }
-}
-
 /// The report with `posted` and `settled` set to 0 in every row.
 pub(crate) fn with_no_posts(mut report: Vec<ReportRow>) -> Vec<ReportRow>
     ensures length { vec_len result ≡ vec_len report }
@@ -117,4 +97,26 @@ pub(crate) fn with_no_posts(mut report: Vec<ReportRow>) -> Vec<ReportRow>
         report[k] = without_posts(report[k]);
     }
     report
+}
+
+/// Puts each row at the place of its job.
+fn place_rows(report: &mut [ReportRow], rows: &[ReportRow])
+    requires { HasPlaces report.old rows.now }
+    ensures placed { AreNotedRows report.old report.new rows.now }
+    ensures settled { settled_in report.new ≡ settled_in report.old + settled_in rows.now }
+{
+    for row in rows {
+        report[row.job as usize] = *row;
+    }
+}
+
+/// The row with `posted` and `settled` set to 0.
+fn without_posts(row: ReportRow) -> ReportRow
+    ensures { result ≡ without_posts row }
+{
+    ReportRow {
+        posted: 0,
+        settled: 0,
+        ..row
+    }
 }

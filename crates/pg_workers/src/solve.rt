@@ -1,4 +1,6 @@
-//! A run: workers on threads of their own share out the jobs over one office, and the calling thread settles the rest.
+//! A run: the calling thread posts what is known, workers on threads of their own share out the jobs over one office, and then the
+//! calling thread solves what is still unsettled.
+
 ghost use Rattle.std.specs.Prelude.{◌≡◌, ◌+◌, ◌≤◌, ℕ, IfOk, IfErr, length, replicate, vec_len};
 ghost use Rattle.pg_game.specs.declared.player.Player.{Player};
 ghost use Rattle.pg_text.specs.Known.{KnownRows};
@@ -10,20 +12,17 @@ ghost use Rattle.pg_workers.specs.Report.{AreNumbered, IsReport, settled_in};
 ghost use Rattle.pg_workers.specs.Tickets.{fresh};
 ghost use Rattle.pg_workers.specs.Work.{total_of};
 
-use crate::gate::Gate;
-use crate::jobs::{Jobs, Ticket};
-use crate::known::{SolveFault, board_with};
-use crate::options::Options;
+use crate::jobs::{Jobs, Options, Ticket};
+use crate::known::{SolveFault, board_with, solve_unsettled};
 use crate::report::{ReportRow, blank_report, with_no_posts, with_rows};
-use crate::rest::settle_rest;
-use crate::scope::{slots_of, start_all, take_apart};
-use crate::worker::{Naming, Task};
+use crate::threads::{new_workers, start_all, take_apart};
+use crate::worker::{Gate, RunJobs, Search, Setup, Task};
 use pg_board::{Board, Entry, Office, Share};
 use pg_finders::Finder;
 use pg_game::{Game, Memory};
 use pg_text::{Known, Solution};
 use std::alloc::Global;
-use std::marker::Brand;
+use std::marker::{Brand, PhantomData};
 use std::sync::Wait;
 use std::sync::ledger::{Blank, Ledger};
 use std::thread::Threads;
@@ -36,27 +35,68 @@ pub struct Outcome {
     pub report: Vec<ReportRow>,
 }
 
-/// The solution and the entries of a full board.
-fn outcome_of(
+/// Solves a game by 1 to 64 workers, each on a thread of its own, and then solves what they left unsettled. If a worker cannot start, the run
+/// goes on without it. Before any worker starts, the call posts what is known as worker 0: Even's set and then Odd's, unless
+/// empty. Of a vertex after the last known row nothing is known.
+///
+/// The error is `Known` with the refusal of its post if a known set is no region, or `Memory`. For every number of workers,
+/// gate and finder the entries are a lawful journal of the game, the solution is their state, and the report has a row for
+/// each job, in order.
+pub fn solve_game<R: Threads + Wait + Sync>(
+    rt: &R,
     alloc: Global,
-    mut board: Board<'_>,
-    report: Vec<ReportRow>,
-) -> Result<Outcome, Memory>
-    requires { AreNumbered report.items }
-    ensures { (known : KnownRows) (n : ℕ) → HasSettled board.entry.graph known report.items board.entry.journal → IsReport n report.items
-        → IfOk result (λ o. IsOutcome board.entry.graph known (vec_len report) n o) }
+    game: &Game,
+    options: &Options,
+    known: &Known,
+    gate: &impl Gate,
+    finder: &impl Finder,
+) -> Result<Outcome, SolveFault>
+    requires known { length known.now.rows ≤ length game.now }
+    requires workers { (1 ≤ options.now.workers) × (options.now.workers ≤ 64) }
+    requires bound { options.now.bound ≤ 8 }
+    ensures outcome { IfOk result (λ o. IsOutcome game.now known.now.rows (total_of options.now.bound (length game.now)) options.now.workers o) }
+    ensures regions { IfOk result (λ o. (p : Player) → IsKnownRegion game.now known.now.rows p) }
+    ensures fault { IfErr result (λ e. IsSolveFault game.now known.now.rows e) }
 {
-    settle_rest(alloc, &mut board)?;
-    let Some(solution) = board.solution(alloc)? else {
-        unreachable!()
+    let blank = Blank::new(u64::from(options.workers) + 1);
+    let setup = Setup {
+        rt,
+        alloc,
+        options,
+        size: game.len(),
+        gate,
+        finder,
     };
-    // for the proof: reading the board gives that its journal is lawful
-    let _game = board.game();
-    Ok(Outcome {
-        solution,
-        entries: board.into_entries(),
-        report,
-    })
+    solve_on::<Brand, _, _, R>(&setup, blank, game, known)
+}
+
+/// A run over an office of the game, with a ledger made of this blank.
+fn solve_on<L: Ledger + Send + Sync, G: Gate, F: Search, R: Threads + Wait + Sync>(
+    setup: &Setup<'_, G, F, R>,
+    blank: Blank,
+    game: &Game,
+    known: &Known,
+) -> Result<Outcome, SolveFault>
+    requires name { blank.name ≡ L.name }
+    requires parts { (blank.parts ≡ L.parts) × (blank.parts ≡ setup.now.options.now.workers + 1) }
+    requires size { setup.now.size ≡ length game.now }
+    requires known { length known.now.rows ≤ length game.now }
+    requires workers { (1 ≤ setup.now.options.now.workers) × (setup.now.options.now.workers ≤ 64) }
+    ensures outcome { IfOk result (λ o. IsOutcome game.now known.now.rows (total_of setup.now.options.now.bound (length game.now))
+        setup.now.options.now.workers o) }
+    ensures regions { IfOk result (λ o. (p : Player) → IsKnownRegion game.now known.now.rows p) }
+    ensures fault { IfErr result (λ e. IsSolveFault game.now known.now.rows e) }
+{
+    let alloc = setup.alloc;
+    let workers = setup.options.workers;
+    let board = board_with(alloc, game, known)?;
+    let (office, mut shares) = Office::<L>::open_with(alloc, blank, board, workers + 1)?;
+    let first = shares.remove(0);
+    let total = setup.options.total(setup.size);
+    let (jobs, tickets) = Jobs::open(alloc, total, workers)?;
+    let (board, report) = run::<L, Brand, G, F, R>(setup, office, first, shares, jobs, tickets)?;
+    let (board, report) = on_own_game(alloc, game, known, board, report)?;
+    Ok(outcome_of(alloc, board, report)?)
 }
 
 /// The workers' part, on a new office and new jobs: the closed board, and the results of each job. The first share is no
@@ -64,22 +104,19 @@ fn outcome_of(
 fn run<
     'g,
     L: Ledger + Send + Sync,
-    J: Naming + Send + Sync,
+    J: RunJobs + Send + Sync,
     G: Gate,
-    F: Finder,
+    F: Search,
     R: Threads + Wait + Sync,
 >(
-    rt: &R,
-    alloc: Global,
+    setup: &Setup<'_, G, F, R>,
     office: Office<'g, L>,
     first: Share<L>,
     shares: Vec<Share<L>>,
     jobs: Jobs,
     tickets: Vec<Ticket>,
-    total: u64,
-    task: &Task<'_, G, F>,
 ) -> Result<(Board<'g>, Vec<ReportRow>), Memory>
-    requires total { (total ≡ J.series.total) × (total ≤ 4096) × (total ≡ total_of task.now.options.now.bound task.now.size) }
+    requires total { (J.series.total ≤ 4096) × (J.series.total ≡ total_of setup.now.options.now.bound setup.now.size) }
     requires shares { (shares.items ≡ replicate (vec_len shares) 0) × (vec_len shares + 1 ≡ L.parts) }
     requires jobs { (jobs.series ≡ J.series) × (jobs.seats ≡ vec_len shares) }
     requires workers { (vec_len shares ≡ J.workers) × (1 ≤ J.workers) × (J.workers ≤ 64) }
@@ -87,16 +124,24 @@ fn run<
     ensures numbered { IfOk result (λ r. AreNumbered r.1.items) }
     ensures settled { IfOk result (λ r. settled_in r.1.items + first ≡ number_settled r.0.journal) }
     ensures rows { IfOk result (λ r. IsReport J.workers r.1.items) }
-    ensures length { IfOk result (λ r. vec_len r.1 ≡ total) }
+    ensures length { IfOk result (λ r. vec_len r.1 ≡ J.series.total) }
 {
+    let alloc = setup.alloc;
+    let total = setup.options.total(setup.size);
     let seats = shares.len();
     let shares_back = Vec::with_capacity(alloc, seats + 1)?;
     let tickets_back = Vec::with_capacity(alloc, seats)?;
     let rows_back = Vec::with_capacity(alloc, seats)?;
     let report = blank_report(alloc, total)?;
-    let slots = slots_of::<L, J>(alloc, total, shares, tickets)?;
-    let slots = start_all(rt, alloc, &office, &jobs, task, slots);
-    let (mut shares, tickets, rows) = take_apart(slots, shares_back, tickets_back, rows_back);
+    let workers = new_workers::<L, J>(alloc, total, shares, tickets)?;
+    let task = Task {
+        setup,
+        office: &office,
+        jobs: &jobs,
+        of_run: PhantomData,
+    };
+    let workers = start_all(&task, workers);
+    let (mut shares, tickets, rows) = take_apart(workers, shares_back, tickets_back, rows_back);
     drop(jobs.close(tickets));
     shares.push_reserved(first);
     let board = office.close(shares);
@@ -130,68 +175,25 @@ fn on_own_game<'g>(
     Ok((board, with_no_posts(report)))
 }
 
-/// A run over an office of the game, with a ledger made of this blank.
-fn solve_on<L: Ledger + Send + Sync, G: Gate, F: Finder, R: Threads + Wait + Sync>(
-    rt: &R,
+/// The solution and the entries of a full board.
+fn outcome_of(
     alloc: Global,
-    blank: Blank,
-    game: &Game,
-    options: &Options,
-    known: &Known,
-    gate: &G,
-    finder: &F,
-) -> Result<Outcome, SolveFault>
-    requires name { blank.name ≡ L.name }
-    requires parts { (blank.parts ≡ L.parts) × (blank.parts ≡ options.now.workers + 1) }
-    requires known { length known.now.rows ≤ length game.now }
-    requires workers { (1 ≤ options.now.workers) × (options.now.workers ≤ 64) }
-    requires bound { options.now.bound ≤ 8 }
-    ensures outcome { IfOk result (λ o. IsOutcome game.now known.now.rows (total_of options.now.bound (length game.now)) options.now.workers o) }
-    ensures regions { IfOk result (λ o. (p : Player) → IsKnownRegion game.now known.now.rows p) }
-    ensures fault { IfErr result (λ e. IsSolveFault game.now known.now.rows e) }
+    mut board: Board<'_>,
+    report: Vec<ReportRow>,
+) -> Result<Outcome, Memory>
+    requires { AreNumbered report.items }
+    ensures { (known : KnownRows) (n : ℕ) → HasSettled board.entry.graph known report.items board.entry.journal → IsReport n report.items
+        → IfOk result (λ o. IsOutcome board.entry.graph known (vec_len report) n o) }
 {
-    let size = game.len();
-    let total = options.total(size);
-    let task = Task {
-        options,
-        size,
-        gate,
-        finder,
+    solve_unsettled(alloc, &mut board)?;
+    let Some(solution) = board.solution(alloc)? else {
+        unreachable!()
     };
-    let board = board_with(alloc, game, known)?;
-    let (office, mut shares) = Office::<L>::open_with(alloc, blank, board, options.workers + 1)?;
-    let first = shares.remove(0);
-    let (jobs, tickets) = Jobs::open(alloc, total, options.workers)?;
-    let (board, report) = run::<L, Brand, G, F, R>(
-        rt, alloc, office, first, shares, jobs, tickets, total, &task,
-    )?;
-    let (board, report) = on_own_game(alloc, game, known, board, report)?;
-    Ok(outcome_of(alloc, board, report)?)
-}
-
-/// Solves a game by 1 to 64 workers, each on a thread of its own, and settles the rest. If a worker cannot start, the run
-/// goes on without it. Before any worker starts, the call posts what is known as worker 0: Even's set and then Odd's, unless
-/// empty. Of a vertex after the last known row nothing is known.
-///
-/// The error is `Known` with the refusal of its post if a known set is no region, or `Memory`. For every number of workers,
-/// gate and finder the entries are a lawful journal of the game, the solution is their state, and the report has a row for
-/// each job, in order.
-pub fn solve_game<R: Threads + Wait + Sync>(
-    rt: &R,
-    alloc: Global,
-    game: &Game,
-    options: &Options,
-    known: &Known,
-    gate: &impl Gate,
-    finder: &impl Finder,
-) -> Result<Outcome, SolveFault>
-    requires known { length known.now.rows ≤ length game.now }
-    requires workers { (1 ≤ options.now.workers) × (options.now.workers ≤ 64) }
-    requires bound { options.now.bound ≤ 8 }
-    ensures outcome { IfOk result (λ o. IsOutcome game.now known.now.rows (total_of options.now.bound (length game.now)) options.now.workers o) }
-    ensures regions { IfOk result (λ o. (p : Player) → IsKnownRegion game.now known.now.rows p) }
-    ensures fault { IfErr result (λ e. IsSolveFault game.now known.now.rows e) }
-{
-    let blank = Blank::new(u64::from(options.workers) + 1);
-    solve_on::<Brand, _, _, R>(rt, alloc, blank, game, options, known, gate, finder)
+    // for the proof: reading the board gives that its journal is lawful
+    let _game = board.game();
+    Ok(Outcome {
+        solution,
+        entries: board.into_entries(),
+        report,
+    })
 }

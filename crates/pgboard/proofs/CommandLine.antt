@@ -16,9 +16,9 @@ use Rattle.clap.specs.declared.builder.command.Command.{Command}
 use Rattle.clap.specs.declared.parser.matches.Found.{Found}
 use Rattle.clap.specs.declared.parser.matches.MatchedArg.{MatchedArg}
 use Rattle.clap.proofs.WalkLemmas.{one_text-rows, raw_values-rows, first_value-rows}
-use Rattle.pgboard.specs.declared.asking.Asked.{Asked}
+use Rattle.pgboard.specs.declared.arguments.Asked.{Asked}
 use Rattle.pgboard.specs.declared.fault.AskedFault.{AskedFault}
-use Rattle.pgboard.specs.declared.asking.Asked.TheVariants.{Joined, Verify, Tidy, Solve, Trace, Help}
+use Rattle.pgboard.specs.declared.arguments.Asked.TheVariants.{Joined, Verify, Tidy, Solve, Trace, Help}
 use Rattle.pgboard.specs.Asking.{IsInRange}
 use Rattle.pgboard.specs.Line.{program, AskForHelp, IsAskedBy, IsFlag, IsNumber, IsPath, IsRead}
 use Rattle.pgboard.specs.private.Line.{IsCommand, IsHelp}

@@ -20,8 +20,8 @@ pub use Rattle.pg_finders.proofs.Common.{Contains-head, Walk, length-replicate, 
 pub use Rattle.pg_board.proofs.Common.{Attractor, Choices, Even, HasEdge, In, IsAttractedRow, IsGame, IsRegion, IsRightRow, KeptEdge, Odd, State, named}
 pub use Rattle.pg_board.proofs.Common.{all_vertices, attracted_rows, cases_Bool, cases_lt, choice_in, claimed_rows, fun_ext, is_same, named_right, own_or_other}
 pub use Rattle.pg_board.proofs.Common.{owner_of, rest_of, same_player, settled, take-length, union}
-pub use Rattle.pg_board.specs.declared.entry.Entry.{Entry}
-pub use Rattle.pg_board.specs.declared.refusal.Refusal.{Refusal}
+pub use Rattle.pg_board.specs.declared.journal.Entry.{Entry}
+pub use Rattle.pg_board.specs.declared.journal.Refusal.{Refusal}
 pub use Rattle.pg_workers.proofs.Common.{AddsUp, ClaimRows, Graph, IsExactSolution, IsLawful, IsSolveFault, Journal, KnownRows, Player, VertexSet}
 pub use Rattle.pg_workers.proofs.Common.{common_steps, false_from_ne_true, known_choice, known_of, known_rows, number_settled, own_choices, rows_below}
 pub use Rattle.pg_workers.proofs.Common.{state_of, take-append-drop, take-append-le}

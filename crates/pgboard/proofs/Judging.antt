@@ -2,7 +2,7 @@
 use Rattle.pgboard.proofs.Common.{rules, ◌≡◌, ◌≤◌, ◌⊎◌, ⊎_elim, ℕ, List, length, Option, IfSome, Err, IsErrOf, ap, ◌∙◌, subst, Graph, max_text, IsTextOf}
 use Rattle.pgboard.proofs.Common.{RunFault, game_part, solution_part, IsJudged, JudgingFailed, IsReadGame, IsRefusedGame, IsRefusedSolution}
 use Rattle.pgboard.proofs.Common.{IsVerdictOn}
-use Rattle.pgboard.specs.declared.verdict.Verdict.{Verdict}
+use Rattle.pgboard.specs.declared.verify.Verdict.{Verdict}
 use Rattle.pgboard.specs.declared.fault.RunFault.TheVariants as fault
 
 -- what holds of the text that was read holds of the text that the source had

@@ -6,7 +6,7 @@ use Rattle.pgboard.proofs.Common.{known_rows, IsSolveFault}
 use Rattle.pg_dominion.specs.declared.claim.ClaimFault.TheVariants.{Shape, Cycle}
 use Rattle.pg_finders.proofs.Sets.{not_same}
 use Rattle.pg_board.proofs.RestIsGood.{in_rest}
-use Rattle.pg_board.specs.declared.refusal.Refusal.TheVariants as refusal
+use Rattle.pg_board.specs.declared.journal.Refusal.TheVariants as refusal
 use Rattle.pg_workers.specs.declared.known.SolveFault.TheVariants as solving
 use Rattle.pgboard.proofs.Unknown.{empty_region, none_of_rows}
 

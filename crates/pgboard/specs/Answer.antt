@@ -3,11 +3,11 @@ use Rattle.std.specs.Prelude.{ℕ, ◌≡◌, ◌≤◌, ◌⊎◌, List, [], le
 use Rattle.pg_game.specs.Graph.{Graph}
 use Rattle.pg_text.specs.Written.{written_game}
 use Rattle.pg_text.specs.Reading.{max_text}
-use Rattle.pgboard.specs.declared.asking.Asked.{Asked}
-use Rattle.pgboard.specs.declared.asking.Asked.TheVariants.{Joined, Verify, Tidy, Solve, Trace, Help}
+use Rattle.pgboard.specs.declared.arguments.Asked.{Asked}
+use Rattle.pgboard.specs.declared.arguments.Asked.TheVariants.{Joined, Verify, Tidy, Solve, Trace, Help}
 use Rattle.pgboard.specs.declared.fault.RunFault.{RunFault}
 use Rattle.pgboard.specs.declared.fault.RunFault.TheVariants as fault
-use Rattle.pgboard.specs.declared.verdict.Verdict.{Verdict}
+use Rattle.pgboard.specs.declared.verify.Verdict.{Verdict}
 use Rattle.pgboard.specs.Joined.{game_part, solution_part, verdict_line, IsJudged, JudgingFailed}
 use Rattle.pgboard.specs.Refused.{IsNotKnown}
 use Rattle.pgboard.specs.Run.{IsReadGame, IsNoGame, IsNoSolution, Reads, ReadsInTurn}

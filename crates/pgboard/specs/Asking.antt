@@ -2,8 +2,8 @@
 use Rattle.std.specs.Prelude.{ℕ, ◌≡◌, ◌≤◌, List, Option, Some, None, option_map, string_bytes}
 use Rattle.pgboard.specs.declared.fault.AskedFault.{AskedFault}
 use Rattle.pgboard.specs.declared.fault.AskedFault.TheVariants as fault
-use Rattle.pgboard.specs.declared.asking.Asked.{Asked}
-use Rattle.pgboard.specs.declared.asking.Asked.TheVariants.{Joined, Verify, Tidy, Solve, Trace, Help}
+use Rattle.pgboard.specs.declared.arguments.Asked.{Asked}
+use Rattle.pgboard.specs.declared.arguments.Asked.TheVariants.{Joined, Verify, Tidy, Solve, Trace, Help}
 
 -- numbers are in their ranges: 1 to 64 workers, dominions of 0 to 8 vertices
 abbrev pub IsInRange : Asked → Type 0

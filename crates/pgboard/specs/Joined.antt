@@ -10,8 +10,8 @@ use Rattle.pg_text.specs.declared.fault.SolutionTextFault.TheVariants as solutio
 use Rattle.pg_dominion.specs.declared.solution.SolutionFault.{SolutionFault}
 use Rattle.pg_dominion.specs.declared.solution.SolutionFault.TheVariants.{NoChoice, BadChoice, Leaves, Cycle, Memory}
 use Rattle.pg_dominion.specs.Verdict.{FailsBy}
-use Rattle.pgboard.specs.declared.verdict.Verdict.{Verdict}
-use Rattle.pgboard.specs.declared.verdict.Verdict.TheVariants.{Holds, Fails}
+use Rattle.pgboard.specs.declared.verify.Verdict.{Verdict}
+use Rattle.pgboard.specs.declared.verify.Verdict.TheVariants.{Holds, Fails}
 use Rattle.pgboard.specs.declared.fault.RunFault.{RunFault}
 use Rattle.pgboard.specs.declared.fault.RunFault.TheVariants as fault
 

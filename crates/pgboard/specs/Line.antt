@@ -7,8 +7,8 @@ use Rattle.clap.specs.Simple.{new_shape}
 use Rattle.clap.specs.declared.builder.action.ArgAction.TheVariants.{SetTrue}
 use Rattle.clap.specs.declared.builder.value_parser.ValueParser.TheVariants.{Signed}
 use Rattle.clap.specs.declared.error.kind.ErrorKind.TheVariants.{DisplayHelp, DisplayVersion}
-use Rattle.pgboard.specs.declared.asking.Asked.{Asked}
-use Rattle.pgboard.specs.declared.asking.Asked.TheVariants.{Joined, Verify, Tidy, Solve, Trace, Help}
+use Rattle.pgboard.specs.declared.arguments.Asked.{Asked}
+use Rattle.pgboard.specs.declared.arguments.Asked.TheVariants.{Joined, Verify, Tidy, Solve, Trace, Help}
 
 -- an option with a number, which is 4 where it is absent
 abbrev pub number_rule : Text → ℕ → ℕ → Rule

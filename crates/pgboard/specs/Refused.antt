@@ -7,8 +7,8 @@ use Rattle.pg_text.specs.declared.fault.SolutionTextFault.TheVariants as solutio
 use Rattle.pg_text.specs.Reading.{max_text}
 use Rattle.pg_dominion.specs.Claim.{ClaimRows}
 use Rattle.pg_dominion.specs.declared.claim.ClaimFault.TheVariants.{Shape, Cycle}
-use Rattle.pg_board.specs.declared.refusal.Refusal.{Refusal}
-use Rattle.pg_board.specs.declared.refusal.Refusal.TheVariants as refusal
+use Rattle.pg_board.specs.declared.journal.Refusal.{Refusal}
+use Rattle.pg_board.specs.declared.journal.Refusal.TheVariants as refusal
 use Rattle.pg_workers.specs.declared.known.SolveFault.TheVariants as solving
 use Rattle.pg_workers.specs.Known.{known_rows, IsSolveFault}
 use Rattle.pgboard.specs.declared.fault.KnownFault.{KnownFault}

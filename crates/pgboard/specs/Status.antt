@@ -4,8 +4,8 @@ use Rattle.pgboard.specs.declared.fault.RunFault.{RunFault}
 use Rattle.pgboard.specs.declared.fault.RunFault.TheVariants as fault
 use Rattle.pgboard.specs.declared.fault.AskedFault.{AskedFault}
 use Rattle.pgboard.specs.declared.fault.AskedFault.TheVariants as asked
-use Rattle.pgboard.specs.declared.verdict.Verdict.{Verdict}
-use Rattle.pgboard.specs.declared.verdict.Verdict.TheVariants.{Holds, Fails}
+use Rattle.pgboard.specs.declared.verify.Verdict.{Verdict}
+use Rattle.pgboard.specs.declared.verify.Verdict.TheVariants.{Holds, Fails}
 
 -- the solution holds, or it does not
 abbrev pub verdict_status : Verdict → ℕ

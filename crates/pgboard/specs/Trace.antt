@@ -4,7 +4,7 @@ use Rattle.std.specs.List.{join_with_byte}
 use Rattle.pg_game.specs.Player.{digit_of}
 use Rattle.pg_game.specs.Graph.{Graph, id_of}
 use Rattle.pg_text.specs.Written.{numeral}
-use Rattle.pg_board.specs.declared.entry.Entry.{Entry}
+use Rattle.pg_board.specs.declared.journal.Entry.{Entry}
 use Rattle.pg_board.specs.Journal.{Journal, number_settled}
 use Rattle.pg_workers.specs.declared.report.ReportRow.{ReportRow}
 

@@ -1,9 +1,15 @@
-//! Sources and sinks of a run's bytes.
-ghost use Rattle.std.specs.Prelude.{ℕ, ◌≤◌, ◌<◌, ◌≡◌, length, List, Option, IfOk};
-ghost use Rattle.std.specs.Io.KnownBytes.{ReadConsumes, WriteAppends};
-ghost use Rattle.std.specs.Io.{ReadsAtMost};
-ghost use Rattle.pgboard.specs.Device.{CountsFailure, untouched};
+//! Sources and sinks of a run's bytes, and the two loops over them: one reads a whole text into one buffer, and one writes a
+//! whole output by calls of `write`. No buffer keeps bytes back, so no failed write is hidden.
 
+ghost use Rattle.std.specs.Prelude.{ℕ, ◌≤◌, ◌<◌, ◌≡◌, length, List, Option, IfOk, ◌+◌, ◌⊎◌, take, drop, IfErr, OnOk, IfSome, IsErrOf, [], vec_len, OnErr};
+ghost use Rattle.std.specs.Io.KnownBytes.{ReadConsumes, WriteAppends, Consumes, IsAtEnd, Appends};
+ghost use Rattle.std.specs.Io.{ReadsAtMost};
+ghost use Rattle.pgboard.specs.Device.{CountsFailure, untouched, HasFailed, AppendsPrefix};
+ghost use Rattle.pg_text.specs.Reading.{max_text};
+
+use crate::fault::RunFault;
+use pg_text::MAX_TEXT;
+use std::alloc::{AllocError, Global};
 use std::io::{Read, Write};
 
 /// A read or a write failed.
@@ -126,4 +132,104 @@ impl<W: Write> Sink for Std<W> {
             }
         }
     }
+}
+
+/// All bytes that a source has left. The call reads until a read returns no byte.
+///
+/// The errors are `Read` if a read fails, `TooLong` for more than 268,435,456 bytes, and `Memory`.
+pub fn read_text<S: Source>(alloc: Global, source: &mut S) -> Result<Vec<u8>, RunFault>
+    ensures text { IfOk result (λ text. IfSome (S.left source.old) (λ bytes. text.items ≡ bytes)) }
+    ensures limit { IfOk result (λ text. length text.items ≤ max_text) }
+    ensures no_failure { (IsErrOf result RunFault.Read → ⊥) → S.read_failures source.new ≡ S.read_failures source.old }
+    ensures too_long { IsErrOf result RunFault.TooLong → IfSome (S.left source.old) (λ bytes. max_text < length bytes) }
+    ensures failed { IsErrOf result RunFault.Read → HasFailed (S.read_failures source.old) (S.read_failures source.new) }
+    ensures only { IfErr result (λ e. ((e ≡ RunFault.Read) ⊎ (e ≡ RunFault.TooLong)) ⊎ (e ≡ RunFault.Memory)) }
+{
+    let mut buffer = Vec::new(alloc);
+    let expected = source.expected().min(MAX_TEXT as u64) as usize;
+    if expected > 0 {
+        // one byte more, for the read that returns none; if this capacity is refused, the reads ask for what they need
+        let _ = buffer.reserve_exact(expected + 1);
+    }
+    read_into(source, buffer)
+}
+
+/// Writes all bytes. The only error is `Write`, and then a prefix of them went out.
+pub fn write_all<O: Sink>(bytes: &[u8], out: &mut O) -> Result<(), RunFault>
+    ensures written { OnOk result (Appends (O.taken out.old) (O.taken out.new) bytes.now) }
+    ensures no_failure { OnOk result (O.write_failures out.new ≡ O.write_failures out.old) }
+    ensures cut { OnErr result (AppendsPrefix (O.taken out.old) (O.taken out.new) bytes.now) }
+    ensures failed { OnErr result (HasFailed (O.write_failures out.old) (O.write_failures out.new)) }
+    ensures only { IfErr result (λ e. e ≡ RunFault.Write) }
+{
+    let mut rest = bytes;
+    'rest: while !rest.is_empty() {
+        let Ok(n) = out.write(rest) else {
+            return Err(RunFault::Write);
+        };
+        rest = &rest[n..];
+    }
+    Ok(())
+}
+
+/// Reads all bytes that a source has left into an empty buffer, which may have capacity.
+fn read_into<S: Source>(source: &mut S, buffer: Vec<u8>) -> Result<Vec<u8>, RunFault>
+    requires { buffer.items ≡ [] }
+    ensures text { IfOk result (λ text. IfSome (S.left source.old) (λ bytes. text.items ≡ bytes)) }
+    ensures limit { IfOk result (λ text. length text.items ≤ max_text) }
+    ensures no_failure { (IsErrOf result RunFault.Read → ⊥) → S.read_failures source.new ≡ S.read_failures source.old }
+    ensures too_long { IsErrOf result RunFault.TooLong → IfSome (S.left source.old) (λ bytes. max_text < length bytes) }
+    ensures failed { IsErrOf result RunFault.Read → HasFailed (S.read_failures source.old) (S.read_failures source.new) }
+    ensures only { IfErr result (λ e. ((e ≡ RunFault.Read) ⊎ (e ≡ RunFault.TooLong)) ⊎ (e ≡ RunFault.Memory)) }
+{
+    let mut text = buffer;
+    let mut filled = 0;
+    'reads: loop {
+        grow(&mut text, filled)?;
+        let Ok(n) = read_after(source, text.as_mut_slice(), filled) else {
+            return Err(RunFault::Read);
+        };
+        if n == 0 {
+            text.truncate(filled);
+            return Ok(text);
+        }
+        if n > MAX_TEXT - filled {
+            return Err(RunFault::TooLong);
+        }
+        filled += n;
+    }
+}
+
+/// Adds zeros after the bytes that were read, for the next ones: as many as the capacity allows, up to a piece. If a text
+/// fills its capacity, the buffer grows.
+fn grow(text: &mut Vec<u8>, filled: usize) -> Result<(), AllocError>
+    requires limit { filled ≤ max_text }
+    requires within { filled ≤ vec_len text.old }
+    ensures prefix { OnOk result (take filled text.new.items ≡ take filled text.old.items) }
+    ensures capacity { OnOk result (filled < vec_len text.new) }
+{
+    if filled == text.capacity() {
+        text.reserve(PIECE)?;
+    }
+    let end = text.capacity().min(filled + PIECE);
+    if text.len() < end {
+        text.resize(end, 0)?;
+    }
+    Ok(())
+}
+
+/// The greatest number of bytes of one read.
+const PIECE: usize = 65_536;
+
+/// One read, to the places after the filled ones.
+fn read_after<S: Source>(source: &mut S, text: &mut [u8], filled: usize) -> Result<usize, Failed>
+    requires { filled < length text.old }
+    ensures prefix { take filled text.new ≡ take filled text.old }
+    ensures size { length text.new ≡ length text.old }
+    ensures within { IfOk result (λ n. filled + n ≤ length text.new) }
+    ensures bytes { IfOk result (λ n. Consumes (S.left source.old) (S.left source.new) (take n (drop filled text.new))) }
+    ensures end { IfOk result (λ n. n ≡ 0 → IsAtEnd (S.left source.new)) }
+    ensures failures { CountsFailure (S.read_failures source.old) (S.read_failures source.new) result }
+{
+    source.read(&mut text[filled..])
 }

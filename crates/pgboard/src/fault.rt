@@ -1,4 +1,5 @@
-//! The faults of runs and command lines, their texts and their exit statuses.
+//! The faults of runs and command lines, with their texts and their exit statuses.
+
 ghost use Rattle.std.specs.Prelude.{◌≡◌};
 ghost use Rattle.pgboard.specs.Asking.{Says};
 ghost use Rattle.pgboard.specs.Status.{status_of, asked_status_of};
@@ -33,6 +34,31 @@ pub enum RunFault {
     Memory,
 }
 
+impl RunFault {
+    /// The exit status of a run that ends with this fault.
+    pub fn status(&self) -> u8
+        ensures { result ≡ status_of self.now }
+    {
+        match self {
+            RunFault::Known(_) => 1,
+            RunFault::TooLong | RunFault::Game(_) | RunFault::Solution(_) => 3,
+            RunFault::Read | RunFault::Write => 4,
+            RunFault::Memory => 5,
+        }
+    }
+}
+
+impl From<AllocError> for RunFault {
+    ghost use Rattle.std.specs.Prelude.{◌≡◌};
+    ghost use Rattle.pgboard.specs.declared.fault.RunFault.{RunFault};
+
+    ghost from_gives = { λ _ e. e ≡ RunFault.Memory };
+
+    fn from(_error: AllocError) -> RunFault {
+        RunFault::Memory
+    }
+}
+
 /// Why a player's known set is no region, by identifiers: the reason of the refused post.
 #[derive(Clone, Copy, Debug, Drop, PartialEq, Eq, Error)]
 pub enum KnownFault {
@@ -61,20 +87,6 @@ pub enum AskedFault {
     Memory,
 }
 
-impl RunFault {
-    /// The exit status of a run that ends with this fault.
-    pub fn status(&self) -> u8
-        ensures { result ≡ status_of self.now }
-    {
-        match self {
-            RunFault::Known(_) => 1,
-            RunFault::TooLong | RunFault::Game(_) | RunFault::Solution(_) => 3,
-            RunFault::Read | RunFault::Write => 4,
-            RunFault::Memory => 5,
-        }
-    }
-}
-
 impl AskedFault {
     /// The error for refused words with this text, or `Memory`.
     pub fn words(alloc: Global, text: &str) -> AskedFault
@@ -94,17 +106,6 @@ impl AskedFault {
             AskedFault::Words(_) => 2,
             AskedFault::Memory => 5,
         }
-    }
-}
-
-impl From<AllocError> for RunFault {
-    ghost use Rattle.std.specs.Prelude.{◌≡◌};
-    ghost use Rattle.pgboard.specs.declared.fault.RunFault.{RunFault};
-
-    ghost from_gives = { λ _ e. e ≡ RunFault.Memory };
-
-    fn from(_error: AllocError) -> RunFault {
-        RunFault::Memory
     }
 }
 

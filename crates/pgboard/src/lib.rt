@@ -2,28 +2,17 @@
 //! opens the files, names the devices and prints a fault.
 #![tactic(auto)]
 
-mod answer;
-mod asking;
+mod arguments;
 mod command;
 mod device;
 mod fault;
-mod judge;
-mod known;
-mod reading;
-mod run;
 mod solve;
-mod texts;
 mod trace;
-mod verdict;
-mod words;
-mod writing;
+mod verify;
 
-pub use answer::run_asked;
-pub use asking::Asked;
-pub use device::{Failed, Sink, Source, Std};
+pub use arguments::Asked;
+pub use command::asked;
+pub use device::{Failed, Sink, Source, Std, read_text};
 pub use fault::{AskedFault, KnownFault, RunFault};
-pub use reading::read_text;
-pub use run::{run_joined, run_tidy, run_verify};
-pub use solve::{SolveOptions, run_solve, run_trace};
-pub use verdict::Verdict;
-pub use words::asked;
+pub use solve::{SolveOptions, run_asked, run_solve, run_trace};
+pub use verify::{Verdict, run_joined, run_tidy, run_verify};

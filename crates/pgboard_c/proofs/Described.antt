@@ -1,8 +1,7 @@
 -- What arrays say, vertex by vertex.
-use Rattle.pgboard_c.proofs.Common.{rules, ◌≡◌, ℕ, zero, suc, ◌<◌, ◌≤◌, List, [], ◌∷◌, length, refl, arith, length-append, All, Some, Spec, AreNumbers, NoneHas}
-use Rattle.pgboard_c.proofs.Common.{max_vertices, first_fault, GameArrays, IsBadPriority, specs_below, array_spec}
+use Rattle.pgboard_c.proofs.Common.{rules, ◌≡◌, ℕ, zero, suc, ◌<◌, ◌≤◌, List, [], ◌∷◌, length, refl, arith, length-append, All, Spec, AreNumbers, NoneHas}
+use Rattle.pgboard_c.proofs.Common.{GameArrays, IsBadPriority, specs_below, array_spec}
 use Rattle.std.proofs.lemmas.List.Elements.{All-nil, All-push}
-use Rattle.pg_game.specs.declared.game.GameFault.TheVariants.{TooManyVertices}
 
 pub length_specs : (a : GameArrays) (v : ℕ) → length (specs_below a v) ≡ v
 length_specs a zero = refl
@@ -14,7 +13,3 @@ pub numbers_below : (a : GameArrays) → NoneHas (IsBadPriority a) → (v : ℕ)
 numbers_below a good zero le few = All-nil AreNumbers
 numbers_below a good (suc v) le few = All-push AreNumbers (specs_below a v) (array_spec a v)
     (numbers_below a good v (omega (arith, le)) (omega (arith, few))) (search rules)
-
--- more specifications than there may be vertices
-pub too_many : (specs : List Spec) → max_vertices < length specs → first_fault specs ≡ Some TooManyVertices
-too_many specs lt = search rules

@@ -9,9 +9,9 @@ use Rattle.pg_game.specs.Specification.{IsGameOf, max_number}
 use Rattle.pg_game.specs.Least.{NoneHas}
 use Rattle.pg_text.specs.GameText.{player_of}
 use Rattle.pg_text.specs.Solution.{SolutionRows, winner_of, choice_of}
-use Rattle.pgboard_c.specs.declared.arrays.Arrays.{Arrays}
-use Rattle.pgboard_c.specs.declared.results.Results.{Results}
-use Rattle.pgboard_c.specs.declared.results.SolutionArrays.{SolutionArrays}
+use Rattle.pgboard_c.specs.declared.on_arrays.Arrays.{Arrays}
+use Rattle.pgboard_c.specs.declared.on_arrays.Results.{Results}
+use Rattle.pgboard_c.specs.declared.on_arrays.SolutionArrays.{SolutionArrays}
 use Rattle.pgboard_c.specs.declared.fault.Structure.TheVariants as structure
 use Rattle.pgboard_c.specs.Numbers.{structure_size}
 

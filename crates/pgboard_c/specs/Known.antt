@@ -8,7 +8,7 @@ use Rattle.pg_text.specs.GameText.{player_of}
 use Rattle.pg_text.specs.Known.{KnownRows, known_at, known_of, known_choice}
 use Rattle.pg_text.specs.Solution.{SolutionRows, IsExactSolution}
 use Rattle.pg_dominion.specs.declared.claim.ClaimFault.TheVariants as claim_fault
-use Rattle.pg_board.specs.declared.refusal.Refusal.TheVariants as refusal
+use Rattle.pg_board.specs.declared.journal.Refusal.TheVariants as refusal
 use Rattle.pg_workers.specs.declared.known.SolveFault.TheVariants as solving
 use Rattle.pg_workers.specs.Known.{IsKnownRegion, IsSolveFault as IsRefusedSet}
 use Rattle.pgboard_c.specs.declared.fault.KnownFault.TheVariants as known_fault

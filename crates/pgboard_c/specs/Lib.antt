@@ -4,3 +4,4 @@ pub mod Answers
 pub mod Known
 pub mod Texts
 pub mod private
+pub mod Text

@@ -1,7 +1,8 @@
-//! Why a call has no result, or the fault of winners and choices, and its report.
+//! The answers of the exports: why a call has no result, or the fault of winners and choices, with a number and a report for C.
+
 ghost use Rattle.std.specs.Prelude.{◌≡◌, ◌<◌};
-ghost use Rattle.pgboard_c.specs.Numbers.{answer, array_number, structure_number, structure_size};
-ghost use Rattle.pgboard_c.specs.Numbers.{game_answer, verdict_answer, known_answer, text_answer, solution_answer, answer_of, IsReported, IsBlank};
+ghost use Rattle.pgboard_c.specs.Numbers.{answer, array_number, structure_number, structure_size, answer_of, IsReported, IsBlank};
+ghost use Rattle.pgboard_c.specs.Numbers.{game_answer, verdict_answer, known_answer, text_answer, solution_answer};
 
 use pg_dominion::SolutionFault;
 use pg_game::GameFault;
@@ -42,6 +43,16 @@ pub enum Structure {
 }
 
 impl Structure {
+    /// The size of the struct in bytes: a size and some slices, each a pointer and a length.
+    pub fn size(self) -> usize
+        ensures { result ≡ structure_size self }
+    {
+        match self {
+            Structure::Game => 72,
+            Structure::Solution | Structure::Results => 40,
+        }
+    }
+
     /// The number of the struct in a report.
     fn number(self) -> u64
         ensures { result ≡ structure_number self }
@@ -50,16 +61,6 @@ impl Structure {
             Structure::Game => 1,
             Structure::Solution => 2,
             Structure::Results => 3,
-        }
-    }
-
-    /// The size of the struct in bytes: a size and some slices, each a pointer and a length.
-    pub fn size(self) -> usize
-        ensures { result ≡ structure_size self }
-    {
-        match self {
-            Structure::Game => 72,
-            Structure::Solution | Structure::Results => 40,
         }
     }
 }
@@ -125,6 +126,35 @@ impl From<AllocError> for Fault {
     fn from(_fault: AllocError) -> Fault {
         Fault::Memory
     }
+}
+
+/// What a call reports beside its answer.
+#[repr(C)]
+#[derive(Clone, Copy)]
+pub struct Report {
+    /// The vertex, the place in a text or the size that the answer is about.
+    pub at: u64,
+    /// The second vertex.
+    pub to: u64,
+}
+
+/// Reports the fault, and returns its number.
+pub fn report_fault(report: &mut Report, fault: Fault) -> u32
+    ensures report { IsReported fault result report.new }
+    ensures above { 0 < result }
+{
+    let Answer { number, at, to } = Answer::of(fault);
+    *report = Report { at, to };
+    number
+}
+
+/// Reports that there is no fault, and returns 0.
+pub fn report_none(report: &mut Report) -> u32
+    ensures answer { result ≡ 0 }
+    ensures blank { IsBlank report.new }
+{
+    *report = Report { at: 0, to: 0 };
+    0
 }
 
 /// The report of a fault: the number of the answer, and its two places. A place that the fault does not have is 0.
@@ -237,33 +267,4 @@ impl Answer {
             Fault::Capacity(size) => Answer::new(50, size as u64, 0),
         }
     }
-}
-
-/// What a call reports beside its answer.
-#[repr(C)]
-#[derive(Clone, Copy)]
-pub struct Report {
-    /// The vertex, the place in a text or the size that the answer is about.
-    pub at: u64,
-    /// The second vertex.
-    pub to: u64,
-}
-
-/// Reports the fault, and returns its number.
-pub fn report_fault(report: &mut Report, fault: Fault) -> u32
-    ensures report { IsReported fault result report.new }
-    ensures above { 0 < result }
-{
-    let Answer { number, at, to } = Answer::of(fault);
-    *report = Report { at, to };
-    number
-}
-
-/// Reports that there is no fault, and returns 0.
-pub fn report_none(report: &mut Report) -> u32
-    ensures answer { result ≡ 0 }
-    ensures blank { IsBlank report.new }
-{
-    *report = Report { at: 0, to: 0 };
-    0
 }

@@ -3,11 +3,8 @@
 //! `include/pgboard.h` declares the exports, and names each answer.
 #![tactic(auto)]
 
-mod arrays;
 mod fault;
 mod known;
 mod on_arrays;
 mod on_texts;
-mod results;
-mod solving;
-mod version;
+mod text;

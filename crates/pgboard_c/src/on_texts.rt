@@ -1,103 +1,24 @@
-//! The exports on texts in PGSolver's formats, which are in the caller's memory.
-ghost use Rattle.std.specs.Prelude.{◌≡◌, ◌≢◌, ◌<◌, ℕ, List, length, IfOk, OnOk, OnErr, IfErr};
+//! The exports on texts in PGSolver's formats, which are in the caller's memory. A whole game is solved by the recursion
+//! (Zielonka 1998), without a thread: the two players' claims share it out.
+
+ghost use Rattle.std.specs.Prelude.{◌≡◌, ◌≢◌, ◌<◌, ℕ, List, length, IfOk, OnOk, OnErr, IfErr, All};
 ghost use Rattle.pg_game.specs.Graph.{IsGame};
-ghost use Rattle.pg_text.specs.Solution.{SolutionRows, IsSolution};
+ghost use Rattle.pg_text.specs.Solution.{SolutionRows, IsSolution, IsExactSolution};
 ghost use Rattle.pg_text.specs.Reading.{IsTextOf, IsSolutionTextOf};
 ghost use Rattle.pgboard_c.specs.declared.fault.Fault.{Fault};
 ghost use Rattle.pgboard_c.specs.Numbers.{IsReported, IsBlank};
 ghost use Rattle.pgboard_c.specs.Texts.{IsWritten, IsSolvedText, IsTidyText, IsRefusedGameText, IsTextFault, AreVerified, IsVerifyFault};
+ghost use Rattle.pgboard_c.specs.private.Put.{IsPut};
 
 use crate::fault::{Fault, Report, report_fault, report_none};
-use crate::solving::solution_of;
-use pg_dominion::{SolutionFault, judge_solution};
-use pg_game::{ForwardGame, Game};
+use pg_dominion::{Claim, SolutionFault, check_forward_solution};
+use pg_finders::{Inside, Solved, zielonka};
+use pg_game::{ForwardGame, Game, Mask, Memory, Player, Sequence};
 use pg_text::{
-    MAX_TEXT, SolutionTextFault, TextFault, read_forward_game, read_forward_solution,
+    MAX_TEXT, Solution, SolutionTextFault, TextFault, read_forward_game, read_forward_solution,
     write_forward_game, write_solution,
 };
 use std::alloc::Global;
-
-/// The game that a text spells, without predecessors.
-fn forward_game_of(alloc: Global, text: &[u8]) -> Result<ForwardGame, Fault>
-    ensures game { IfOk result (λ g. IsGame g × IsTextOf text.now g) }
-    ensures fault { IfErr result (λ e. IsRefusedGameText text.now e) }
-{
-    if text.len() > MAX_TEXT {
-        return Err(Fault::GameTooLong);
-    }
-    match read_forward_game(alloc, text) {
-        Ok(game) => Ok(game),
-        Err(TextFault::Memory) => Err(Fault::Memory),
-        Err(fault) => Err(Fault::GameText(fault)),
-    }
-}
-
-/// Copies the text to the front of the buffer, and returns its size.
-fn put(text: &[u8], into: &mut [u8]) -> Result<usize, Fault>
-    ensures held { IfOk result (λ n. IsWritten into.old into.new n text.now) }
-    ensures small { IfErr result (λ e. (e ≡ Fault.Capacity (length text.now)) × (length into.old < length text.now)) }
-    ensures kept { OnErr result (into.new ≡ into.old) }
-{
-    let n = text.len();
-    if into.len() < n {
-        return Err(Fault::Capacity(n));
-    }
-    into[..n].copy_from_slice(text);
-    Ok(n)
-}
-
-/// Writes a solution of the game that a text spells, and returns its size.
-fn solve(alloc: Global, text: &[u8], into: &mut [u8]) -> Result<usize, Fault>
-    ensures solved { IfOk result (λ n. (answer : List ℕ) × IsSolvedText text.now answer × IsWritten into.old into.new n answer) }
-    ensures fault { IfErr result (λ e. IsTextFault IsSolvedText text.now (length into.old) e) }
-    ensures kept { OnErr result (into.new ≡ into.old) }
-{
-    let forward = forward_game_of(alloc, text)?;
-    let game = Game::of_forward(alloc, forward)?;
-    let solution = solution_of(alloc, &game)?;
-    let answer = write_solution(alloc, &game, &solution)?;
-    put(answer.as_slice(), into)
-}
-
-/// Writes the game that a text spells in its one written form, and returns its size.
-fn tidy(alloc: Global, text: &[u8], into: &mut [u8]) -> Result<usize, Fault>
-    ensures tidied { IfOk result (λ n. (answer : List ℕ) × IsTidyText text.now answer × IsWritten into.old into.new n answer) }
-    ensures fault { IfErr result (λ e. IsTextFault IsTidyText text.now (length into.old) e) }
-    ensures kept { OnErr result (into.new ≡ into.old) }
-{
-    let game = forward_game_of(alloc, text)?;
-    let answer = write_forward_game(alloc, &game)?;
-    put(answer.as_slice(), into)
-}
-
-/// Whether a text is a solution of a game.
-fn verify_on(alloc: Global, game: &ForwardGame, text: &[u8]) -> Result<(), Fault>
-    ensures holds { OnOk result ((rows : SolutionRows) × IsSolutionTextOf game.now text.now rows × IsSolution game.now rows) }
-    ensures fault { IfErr result (λ e. (text_of : List ℕ) → IsTextOf text_of game.now → IsVerifyFault text_of text.now e) }
-{
-    if text.len() > MAX_TEXT {
-        return Err(Fault::SolutionTooLong);
-    }
-    let solution = match read_forward_solution(alloc, game, text) {
-        Ok(solution) => solution,
-        Err(SolutionTextFault::Memory) => return Err(Fault::Memory),
-        Err(fault) => return Err(Fault::SolutionText(fault)),
-    };
-    match judge_solution(alloc, game, &solution) {
-        Ok(()) => Ok(()),
-        Err(SolutionFault::Memory) => Err(Fault::Memory),
-        Err(fault) => Err(Fault::Verdict(fault)),
-    }
-}
-
-/// Whether the texts are a game and a solution of it.
-fn verify(alloc: Global, game: &[u8], solution: &[u8]) -> Result<(), Fault>
-    ensures holds { OnOk result (AreVerified game.now solution.now) }
-    ensures fault { IfErr result (λ e. IsVerifyFault game.now solution.now e) }
-{
-    let game = forward_game_of(alloc, game)?;
-    verify_on(alloc, &game, solution)
-}
 
 /// Solves the game that a text spells: writes a solution's text to the front of the buffer, and its size. The answer is 0,
 /// and the report is blank; or it is the number of the first reason that applies, and the call writes only `report`.
@@ -165,5 +86,117 @@ pub extern "C" fn pgboard_verify_text(
     match verify(alloc, game, solution) {
         Ok(()) => report_none(report),
         Err(fault) => report_fault(report, fault),
+    }
+}
+
+/// Writes a solution of the game that a text spells, and returns its size.
+fn solve(alloc: Global, text: &[u8], into: &mut [u8]) -> Result<usize, Fault>
+    ensures solved { IfOk result (λ n. (answer : List ℕ) × IsSolvedText text.now answer × IsWritten into.old into.new n answer) }
+    ensures fault { IfErr result (λ e. IsTextFault IsSolvedText text.now (length into.old) e) }
+    ensures kept { OnErr result (into.new ≡ into.old) }
+{
+    let forward = forward_game_of(alloc, text)?;
+    let game = Game::of_forward(alloc, forward)?;
+    let solution = solution_by_recursion(alloc, &game)?;
+    let answer = write_solution(alloc, &game, &solution)?;
+    copy_to_front(answer.as_slice(), into)
+}
+
+/// The game that a text spells, without predecessors.
+fn forward_game_of(alloc: Global, text: &[u8]) -> Result<ForwardGame, Fault>
+    ensures game { IfOk result (λ g. IsGame g × IsTextOf text.now g) }
+    ensures fault { IfErr result (λ e. IsRefusedGameText text.now e) }
+{
+    if text.len() > MAX_TEXT {
+        return Err(Fault::GameTooLong);
+    }
+    match read_forward_game(alloc, text) {
+        Ok(game) => Ok(game),
+        Err(TextFault::Memory) => Err(Fault::Memory),
+        Err(fault) => Err(Fault::GameText(fault)),
+    }
+}
+
+/// The game's solution, with a choice exactly where the winner owns the vertex. The only error is `Memory`.
+pub fn solution_by_recursion(alloc: Global, game: &Game) -> Result<Solution, Memory>
+    ensures { IfOk result (λ s. IsExactSolution game.now s.rows) }
+{
+    let n = game.len();
+    let all = Mask::full(alloc, n)?;
+    let inside = Inside::of_subgame(game, all);
+    let Solved { even, odd } = zielonka(alloc, &inside)?;
+    let mut rows = vec![in alloc; (Player::Even, None); n as usize]?;
+    put_claim(&even, &mut rows);
+    put_claim(&odd, &mut rows);
+    Ok(Solution {
+        rows: Sequence::new(rows),
+    })
+}
+
+/// Writes the claim's player and choices into the rows of its vertices.
+fn put_claim(claim: &Claim, rows: &mut Vec<(Player, Option<u32>)>)
+    requires { All (λ r. r.0 < length rows.old.items) claim.now.rows }
+    ensures { IsPut claim.now.player claim.now.rows rows.old.items rows.new.items }
+{
+    let claimed = claim.rows.as_slice();
+    let mut left = claimed.len();
+    'rows: while left > 0 {
+        left -= 1;
+        let (v, choice) = claimed[left];
+        rows[v as usize] = (claim.player, choice);
+    }
+}
+
+/// Copies the text to the front of the buffer, and returns its size.
+fn copy_to_front(text: &[u8], into: &mut [u8]) -> Result<usize, Fault>
+    ensures held { IfOk result (λ n. IsWritten into.old into.new n text.now) }
+    ensures small { IfErr result (λ e. (e ≡ Fault.Capacity (length text.now)) × (length into.old < length text.now)) }
+    ensures kept { OnErr result (into.new ≡ into.old) }
+{
+    let n = text.len();
+    if into.len() < n {
+        return Err(Fault::Capacity(n));
+    }
+    into[..n].copy_from_slice(text);
+    Ok(n)
+}
+
+/// Writes the game that a text spells in its one written form, and returns its size.
+fn tidy(alloc: Global, text: &[u8], into: &mut [u8]) -> Result<usize, Fault>
+    ensures tidied { IfOk result (λ n. (answer : List ℕ) × IsTidyText text.now answer × IsWritten into.old into.new n answer) }
+    ensures fault { IfErr result (λ e. IsTextFault IsTidyText text.now (length into.old) e) }
+    ensures kept { OnErr result (into.new ≡ into.old) }
+{
+    let game = forward_game_of(alloc, text)?;
+    let answer = write_forward_game(alloc, &game)?;
+    copy_to_front(answer.as_slice(), into)
+}
+
+/// Whether the texts are a game and a solution of it.
+fn verify(alloc: Global, game: &[u8], solution: &[u8]) -> Result<(), Fault>
+    ensures holds { OnOk result (AreVerified game.now solution.now) }
+    ensures fault { IfErr result (λ e. IsVerifyFault game.now solution.now e) }
+{
+    let game = forward_game_of(alloc, game)?;
+    verify_on(alloc, &game, solution)
+}
+
+/// Whether a text is a solution of a game.
+fn verify_on(alloc: Global, game: &ForwardGame, text: &[u8]) -> Result<(), Fault>
+    ensures holds { OnOk result ((rows : SolutionRows) × IsSolutionTextOf game.now text.now rows × IsSolution game.now rows) }
+    ensures fault { IfErr result (λ e. (text_of : List ℕ) → IsTextOf text_of game.now → IsVerifyFault text_of text.now e) }
+{
+    if text.len() > MAX_TEXT {
+        return Err(Fault::SolutionTooLong);
+    }
+    let solution = match read_forward_solution(alloc, game, text) {
+        Ok(solution) => solution,
+        Err(SolutionTextFault::Memory) => return Err(Fault::Memory),
+        Err(fault) => return Err(Fault::SolutionText(fault)),
+    };
+    match check_forward_solution(alloc, game, &solution) {
+        Ok(()) => Ok(()),
+        Err(SolutionFault::Memory) => Err(Fault::Memory),
+        Err(fault) => Err(Fault::Verdict(fault)),
     }
 }

@@ -1,4 +1,6 @@
-//! What the program reads: a file, standard input, or nothing where no second file was given.
+//! What the program reads: a file, standard input, or nothing where no second file was given. One type, so that a run has one
+//! kind of source.
+
 use std::fs::File;
 use std::io::{Read, Result, Stdin};
 

@@ -1,5 +1,5 @@
 //! The program `pgboard`: it reads the command line, opens the files, has the library `pgboard` run what was asked for, and
-//! ends with the status of the outcome. Results go to standard output, and one fault line to standard error.
+//! ends with the status of the outcome. Results go to standard output, and faults to standard error.
 #![tactic(auto)]
 
 ghost use Rattle.std.specs.Prelude.{ℕ, List, ◌≡◌, ◌⊎◌, None, Ok, IfOk, IfErr, codes, is_some, true};
@@ -25,6 +25,19 @@ use std::process::ExitCode;
 use std::sync::Wait;
 use std::thread::Threads;
 
+fn main(rt: HostRuntime) -> ExitCode {
+    ExitCode::from(status_of(&rt, &rt, asked_by(&rt)))
+}
+
+/// What the command line asks for.
+fn asked_by(rt: &HostRuntime) -> Result<Asked, AskedFault>
+    ensures { IfOk result IsInRange }
+{
+    let owned = owned_words(rt)?;
+    let words: Vec<&str> = owned.iter().map(|it| it.as_str()).collect(rt.alloc())?;
+    asked(rt.alloc(), words.as_slice())
+}
+
 /// The words after the program's name.
 fn owned_words(rt: &HostRuntime) -> Result<Vec<String>, AskedFault> {
     match env::args(rt) {
@@ -44,13 +57,36 @@ fn unread(alloc: Global, error: &Error) -> AskedFault
     }
 }
 
-/// What the command line asks for.
-fn asked_by(rt: &HostRuntime) -> Result<Asked, AskedFault>
-    ensures { IfOk result IsInRange }
+/// Runs what was asked for and prints a fault. The status of the outcome, and of a refused command line its own.
+fn status_of<T: Threads + Wait + Sync>(
+    rt: &HostRuntime,
+    threads: &T,
+    asked: Result<Asked, AskedFault>,
+) -> u8
+    requires { IfOk asked IsInRange }
+    ensures run { IfOk asked (λ asked. ((text : List ℕ) × IsOutputFor asked None None result text)
+        ⊎ ((fault : RunFault) × ((fault ≡ RunFault.Read) ⊎ FailsFor asked None None fault) × (result ≡ status_of fault))) }
+    ensures refused { IfErr asked (λ refusal. result ≡ asked_status_of refusal) }
 {
-    let owned = owned_words(rt)?;
-    let words: Vec<&str> = owned.iter().map(|it| it.as_str()).collect(rt.alloc())?;
-    asked(rt.alloc(), words.as_slice())
+    match asked {
+        Ok(asked) => ended(rt, run_on_files(rt, threads, &asked)),
+        Err(refusal) => print_refusal(rt, &refusal),
+    }
+}
+
+/// Opens the files, and then runs what was asked for on them. The status of the outcome.
+fn run_on_files<T: Threads + Wait + Sync>(
+    rt: &HostRuntime,
+    threads: &T,
+    asked: &Asked,
+) -> Result<u8, RunFault>
+    requires { IsInRange asked.now }
+    ensures status { IfOk result (λ status. (text : List ℕ) × IsOutputFor asked.now None None status text) }
+    ensures fault { IfErr result (λ fault. (fault ≡ RunFault.Read) ⊎ FailsFor asked.now None None fault) }
+{
+    let mut input = open(rt, asked.path(), Input::Standard(rt.stdin()))?;
+    let mut second = open(rt, asked.second_path(), Input::Nothing)?;
+    run_over(rt, threads, asked, &mut input, &mut second)
 }
 
 /// The file of this path, or where none was given the other input.
@@ -69,21 +105,6 @@ fn open(rt: &HostRuntime, path: Option<&str>, other: Input) -> Result<Std<Input>
         }
         Err(_) => Err(RunFault::Read),
     }
-}
-
-/// Opens the files, and then runs what was asked for on them. The status of the outcome.
-fn run_on_files<T: Threads + Wait + Sync>(
-    rt: &HostRuntime,
-    threads: &T,
-    asked: &Asked,
-) -> Result<u8, RunFault>
-    requires { IsInRange asked.now }
-    ensures status { IfOk result (λ status. (text : List ℕ) × IsOutputFor asked.now None None status text) }
-    ensures fault { IfErr result (λ fault. (fault ≡ RunFault.Read) ⊎ FailsFor asked.now None None fault) }
-{
-    let mut input = open(rt, asked.path(), Input::Standard(rt.stdin()))?;
-    let mut second = open(rt, asked.second_path(), Input::Nothing)?;
-    run_over(rt, threads, asked, &mut input, &mut second)
 }
 
 /// Runs what was asked for on these inputs and standard output.
@@ -128,30 +149,9 @@ fn ended(rt: &HostRuntime, outcome: Result<u8, RunFault>) -> u8
 }
 
 /// The status of a refused command line. Why it is refused is printed.
-fn refused(rt: &HostRuntime, refusal: &AskedFault) -> u8
+fn print_refusal(rt: &HostRuntime, refusal: &AskedFault) -> u8
     ensures { result ≡ asked_status_of refusal.now }
 {
     let _ = rt.eprint(refusal);
     refusal.status()
-}
-
-/// Runs what was asked for and prints a fault. The status of the outcome, and of a refused command line its own.
-fn status_of<T: Threads + Wait + Sync>(
-    rt: &HostRuntime,
-    threads: &T,
-    asked: Result<Asked, AskedFault>,
-) -> u8
-    requires { IfOk asked IsInRange }
-    ensures run { IfOk asked (λ asked. ((text : List ℕ) × IsOutputFor asked None None result text)
-        ⊎ ((fault : RunFault) × ((fault ≡ RunFault.Read) ⊎ FailsFor asked None None fault) × (result ≡ status_of fault))) }
-    ensures refused { IfErr asked (λ refusal. result ≡ asked_status_of refusal) }
-{
-    match asked {
-        Ok(asked) => ended(rt, run_on_files(rt, threads, &asked)),
-        Err(refusal) => refused(rt, &refusal),
-    }
-}
-
-fn main(rt: HostRuntime) -> ExitCode {
-    ExitCode::from(status_of(&rt, &rt, asked_by(&rt)))
 }

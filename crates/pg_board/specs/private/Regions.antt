@@ -6,8 +6,8 @@ use Rattle.pg_game.specs.VertexSet.{members}
 use Rattle.pg_dominion.specs.Claim.{ClaimRows, named, choice_in}
 use Rattle.pg_dominion.specs.private.Attracting.{ArePassed}
 use Rattle.pg_board.specs.declared.regions.Regions.{Regions}
-use Rattle.pg_board.specs.declared.vertex_state.VertexState.{VertexState}
-use Rattle.pg_board.specs.declared.vertex_state.VertexState.TheVariants.{Unsettled}
+use Rattle.pg_board.specs.declared.regions.VertexState.{VertexState}
+use Rattle.pg_board.specs.declared.regions.VertexState.TheVariants.{Unsettled}
 use Rattle.pg_board.specs.private.VertexState.{state_in}
 use Rattle.pg_board.specs.State.{State, is_unsettled, unsettled}
 use Rattle.pg_board.specs.Journal.{Journal, state_of, IsLawful, number_settled}

@@ -6,7 +6,7 @@ use Rattle.pg_game.specs.Graph.{Graph, owner_of, successors_of}
 use Rattle.pg_game.specs.VertexSet.{VertexSet, In, members, union}
 use Rattle.pg_dominion.specs.Claim.{ClaimRows, named}
 use Rattle.pg_dominion.specs.Attraction.{IsAttractedRow}
-use Rattle.pg_dominion.specs.Area.{HasOpen}
+use Rattle.pg_dominion.specs.AttractorState.{HasOpen}
 
 -- the newer list begins with the older
 pub record Continues (old new : ClaimRows) : Type 0 where

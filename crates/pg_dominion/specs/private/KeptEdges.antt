@@ -2,7 +2,7 @@
 use Rattle.std.specs.Prelude.{ℕ, ◌≡◌, ◌≢◌, ◌≤◌, ◌<◌, ◌+◌, ◌-◌, ◌^◌, ◌⊎◌, List, length, slice_index}
 use Rattle.pg_game.specs.Graph.{priority_of}
 use Rattle.pg_game.specs.Walk.{Walk}
-use Rattle.pg_dominion.specs.declared.kept.Kept.{Kept}
+use Rattle.pg_dominion.specs.declared.strategy_graph.StrategyGraph.{StrategyGraph}
 use Rattle.pg_dominion.specs.KeptEdges.{Edge}
 
 -- a number of steps after which a search ends without a result; the greatest number is no limit
@@ -10,15 +10,15 @@ abbrev pub IsBounded : ℕ → Type 0
 IsBounded most = most < 2 ^ 64 - 1
 
 -- an edge to a vertex of at most this priority
-abbrev pub EdgeUnder : Kept → ℕ → ℕ → ℕ → Type 0
+abbrev pub EdgeUnder : StrategyGraph → ℕ → ℕ → ℕ → Type 0
 EdgeUnder k top v w = Edge k v w × (priority_of k.game.now w ≤ top)
 
 -- a walk over vertices of at most this priority
-abbrev pub Leads : Kept → ℕ → ℕ → ℕ → Type 0
+abbrev pub Leads : StrategyGraph → ℕ → ℕ → ℕ → Type 0
 Leads k top v w = (vs : List ℕ) × Walk (EdgeUnder k top) v vs w
 
 -- a walk from v to w over vertices of at most v's priority
-abbrev pub Reaches : Kept → ℕ → ℕ → Type 0
+abbrev pub Reaches : StrategyGraph → ℕ → ℕ → Type 0
 Reaches k v w = Leads k (priority_of k.game.now v) v w
 
 -- two vertices have the same group and level
@@ -27,7 +27,7 @@ AreAlike levels groups x y = (slice_index groups y ≡ slice_index groups x) × 
 
 -- what searches have shown: each vertex on a closed walk with x, of priorities below x's level, has x's group and level, and
 -- there is no such walk if the group is x's own
-pub record AreLabelled (k : Kept) (levels groups : List ℕ) : Type 0 where
+pub record AreLabelled (k : StrategyGraph) (levels groups : List ℕ) : Type 0 where
   pub levels_size : length levels ≡ length k.game.now
   pub groups_size : length groups ≡ length k.game.now
   pub blank : (x : ℕ) → slice_index groups x ≡ 0 → slice_index levels x ≡ 0
@@ -46,7 +46,7 @@ abbrev pub IsQueued : (places queue : List ℕ) → ℕ → Type 0
 IsQueued places queue w = IsBefore places queue (length queue) w
 
 -- a search from the first vertex of the queue, which has the reached vertices; it passes over none of them
-pub record Searching (k : Kept) (levels groups : List ℕ) (top own : ℕ) (places queue : List ℕ) : Type 0 where
+pub record Searching (k : StrategyGraph) (levels groups : List ℕ) (top own : ℕ) (places queue : List ℕ) : Type 0 where
   pub size : length places ≡ length k.game.now
   pub some : 0 < length queue
   pub below : (i : ℕ) → i < length queue → slice_index queue i < length k.game.now
@@ -60,7 +60,7 @@ IsFollowed levels groups top own least places queue i w =
     IsPassed levels groups top own w ⊎ (IsQueued places queue w × ((i < slice_index places w) ⊎ (least ≤ slice_index places w)))
 
 -- so are all that the vertex at place i leads to
-abbrev pub IsSpread : Kept → (levels groups : List ℕ) → ℕ → ℕ → ℕ → (places queue : List ℕ) → ℕ → Type 0
+abbrev pub IsSpread : StrategyGraph → (levels groups : List ℕ) → ℕ → ℕ → ℕ → (places queue : List ℕ) → ℕ → Type 0
 IsSpread k levels groups top own least places queue i =
     (w : ℕ) → EdgeUnder k top (slice_index queue i) w → IsFollowed levels groups top own least places queue i w
 

@@ -5,7 +5,7 @@ use Rattle.pg_game.specs.Graph.{Graph, owner_of}
 use Rattle.pg_game.specs.VertexSet.{members}
 use Rattle.pg_game.specs.Kept.{kept}
 use Rattle.pg_text.specs.Solution.{SolutionRows, winner_of, choice_of}
-use Rattle.pg_dominion.specs.declared.kept.Kept.{Kept}
+use Rattle.pg_dominion.specs.declared.strategy_graph.StrategyGraph.{StrategyGraph}
 use Rattle.pg_dominion.specs.KeptEdges.{Edge, kept_row}
 use Rattle.pg_dominion.specs.private.Shape.{Layout, HasPlaces, chosen_at, is_bad}
 
@@ -21,13 +21,13 @@ pub record IsPlanned (g : Graph) (rows : SolutionRows) (count : ℕ) (t : Layout
   pub bad_is : (v : ℕ) → v < count → members t.bad v ≡ is_bad g (winner_of rows v) v
 
 -- the kept edges are those of each vertex's winner
-abbrev pub IsPlanOf : Kept → SolutionRows → Type 0
+abbrev pub IsPlanOf : StrategyGraph → SolutionRows → Type 0
 IsPlanOf k rows = (v : ℕ) → v < length k.game.now → kept_row k v ≡ kept k.game.now (winner_of rows v) (choice_of rows) v
 
 -- an edge from v leads to the other winner's vertices
-abbrev pub LeavesTo : Kept → SolutionRows → ℕ → ℕ → Type 0
+abbrev pub LeavesTo : StrategyGraph → SolutionRows → ℕ → ℕ → Type 0
 LeavesTo k rows v w = Edge k v w × (winner_of rows w ≢ winner_of rows v)
 
-pub record IsFirstTo (k : Kept) (rows : SolutionRows) (v w : ℕ) : Type 0 where
+pub record IsFirstTo (k : StrategyGraph) (rows : SolutionRows) (v w : ℕ) : Type 0 where
   pub leaves : LeavesTo k rows v w
   pub least : (x : ℕ) → LeavesTo k rows v x → w ≤ x

@@ -7,7 +7,7 @@ use Rattle.pg_finders.proofs.Common.{IsGrown, AttractsNoActive}
 use Rattle.std.proofs.Math.Bool.{or-false}
 use Rattle.std.proofs.lemmas.Bool.{and_left, and_right, not_from_true}
 use Rattle.pg_game.proofs.Players.{not_own}
-use Rattle.pg_dominion.specs.Area.{AttractsNoFurther}
+use Rattle.pg_dominion.specs.AttractorState.{AttractsNoFurther}
 use Rattle.pg_finders.proofs.Sets.{only, minus, minus_both, no_both, equal_from}
 use Rattle.pg_finders.proofs.recursion.Listed.{listed-append, once_join, apart_from, in_prefix, in_rest, prefix_or_rest, one_listed}
 

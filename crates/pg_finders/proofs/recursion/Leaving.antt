@@ -8,7 +8,7 @@ use Rattle.pg_finders.proofs.Common.{Apart, SettledLists, settled_of, winners_of
 use Rattle.pg_finders.proofs.Common.{place, IsKnown, IsGrown, AttractsNoActive, count_at, prefix, level_at, IsUnderWay, IsRunning, how_many_gone, steps_left}
 use Rattle.pg_finders.proofs.Common.{work, steps}
 use Rattle.std.proofs.Common.{length-drop}
-use Rattle.pg_finders.specs.declared.recursion.solver.Solver.{Solver}
+use Rattle.pg_finders.specs.declared.recursion.Solver.{Solver}
 use Rattle.pg_finders.proofs.Sets.{not_both, twice, no_both, equal_from, only, minus}
 use Rattle.pg_finders.proofs.recursion.Listed.{in_prefix, in_rest, prefix_or_rest, in_take, in_drop, take_or_drop, once_join, once_drop, once_right, take_apart}
 use Rattle.pg_finders.proofs.recursion.Listed.{apart_from, some_length}
@@ -37,7 +37,8 @@ pub record IsFinished (g : Graph) (inside : List Bool) (x : Solver) (frames : Li
   pub under_way : IsUnderWay g (members inside) active settled (take f.set_aside x.set_aside.items) frames (winners_of new) (choices_of new)
   pub kept : map (level_at (members inside) settled (take f.set_aside x.set_aside.items)) frames
       ≡ map (level_at (members inside) (settled_of x.settled) x.set_aside.items) frames
-  pub fewer : steps (size inside - how_many_gone settled (take f.set_aside x.set_aside.items)) + steps_left (size inside) frames < work (size inside) x (frames ++ f ∷ [])
+  pub fewer : steps (size inside - how_many_gone settled (take f.set_aside x.set_aside.items)) + steps_left (size inside) frames < work (size inside) x
+      (frames ++ f ∷ [])
 
 -- what the opponent attracts to what he won is settled for him, C is active, and what the player won since is settled no more
 pub record Retakes (g : Graph) (f : Frame) (A : VertexSet) (old : Plan) (settled settled' : SettledLists) (C : VertexSet) (new : Plan) : Type 0 where
@@ -133,7 +134,8 @@ module _ {g : Graph} {inside : List Bool} {x : Solver} {frames : List Frame} {f 
       record {
         under_way = now;
         kept = stops_kept frames f run t;
-        fewer = work_finish (size inside) (how_many_gone settled set_aside) (how_many_gone settled' (take f.set_aside set_aside)) frames f (finish_more frames f run t l)
+        fewer = work_finish (size inside) (how_many_gone settled set_aside) (how_many_gone settled' (take f.set_aside set_aside)) frames f (finish_more
+            frames f run t l)
             (lists_fit inside now.apart now.listed_inside);
       }
 

@@ -68,7 +68,8 @@ linked_pop i n first [] last f l = ((l.0, sym l.1), l.2, l.3.0, l.3.1)
 linked_pop i n first (x ∷ xs) last f l = let h = linked_pop (count_at x) n x.upto xs last f l.3 in ((l.0, l.1, l.2, h.0), h.1, h.2, h.3)
 
 -- the levels are the same where the lists agree up to the stops
-pub levels_same : (U : VertexSet) (settled : SettledLists) (set_aside : List ℕ) (settled' : SettledLists) (set_aside' : List ℕ) (i n : Player → ℕ) (first last : ℕ)
+pub levels_same : (U : VertexSet) (settled : SettledLists) (set_aside : List ℕ) (settled' : SettledLists) (set_aside' : List ℕ) (i n : Player
+    → ℕ) (first last : ℕ)
     (frames : List Frame) → Linked i n first frames last → ((p : Player) (k : ℕ) → k ≤ n p → take k (settled' p) ≡ take k (settled p))
     → ((k : ℕ) → k ≤ last → take k set_aside' ≡ take k set_aside) → map (level_at U settled' set_aside') frames ≡ map (level_at U settled set_aside) frames
 levels_same U settled set_aside settled' set_aside' i n first last [] l f h = refl
@@ -79,6 +80,7 @@ levels_same U settled set_aside settled' set_aside' i n first last (x ∷ xs) l 
     let here : level_at U settled' set_aside' x ≡ level_at U settled set_aside x =
     ap (λ s. record { inside = part U s (take x.set_aside set_aside'); left = part U s (take x.upto set_aside'); player = x.player }) a
     ∙ (ap (λ xs. record { inside = part U (prefix x settled) xs; left = part U (prefix x settled) (take x.upto set_aside'); player = x.player }) b
-    ∙ ap (λ xs. record { inside = part U (prefix x settled) (take x.set_aside set_aside); left = part U (prefix x settled) xs; player = x.player }) (h x.upto le.1)) in
+    ∙ ap (λ xs. record { inside = part U (prefix x settled) (take x.set_aside set_aside); left = part U (prefix x settled) xs; player = x.player })
+    (h x.upto le.1)) in
     ap (λ y. y ∷ map (level_at U settled' set_aside') xs) here
     ∙ ap (λ ys. level_at U settled set_aside x ∷ ys) (levels_same U settled set_aside settled' set_aside' (count_at x) n x.upto last xs l.3 f h)

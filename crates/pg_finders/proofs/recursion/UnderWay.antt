@@ -106,7 +106,8 @@ module _ {g : Graph} {U active active' : VertexSet} {settled : SettledLists} {se
         (omega (arith, b.from, b.upto, length-append set_aside added)) b.counts);
     apart = record {
       settled_once = b.under_way.apart.settled_once;
-      aside_once = once_join set_aside added b.under_way.apart.aside_once b.once (apart_from set_aside added (λ v i j. no_both i (out_of_lists v (b.within v j)).2));
+      aside_once = once_join set_aside added b.under_way.apart.aside_once b.once (apart_from set_aside added (λ v i j. no_both i (out_of_lists v (b.within
+          v j)).2));
       players = b.under_way.apart.players;
       aside_apart = λ p. apart_from (settled p) (set_aside ++ added) (λ v i j. elim (prefix_or_rest set_aside added v j) [
         | inl y ↦ no_both y (b.under_way.apart.aside_apart p v i)
@@ -149,7 +150,8 @@ module _ {g : Graph} {U active : VertexSet} {settled : SettledLists} {set_aside 
   abbrev last : Level
   last = level_at U settled set_aside f
 
-  links : Linked (λ p. 0) (count_at f) 0 frames f.set_aside × (f.set_aside ≤ f.upto) × ((p : Player) → count_at f p ≤ length (settled p)) × (f.upto ≡ length set_aside)
+  links : Linked (λ p. 0) (count_at f) 0 frames f.set_aside × (f.set_aside ≤ f.upto) × ((p : Player)
+      → count_at f p ≤ length (settled p)) × (f.upto ≡ length set_aside)
   links = linked_pop (λ p. 0) (λ p. length (settled p)) 0 frames (length set_aside) f h.linked
 
   pub stop_fits : ((p : Player) → count_at f p ≤ length (settled p)) × (f.set_aside ≤ length set_aside)

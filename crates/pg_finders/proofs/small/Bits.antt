@@ -46,7 +46,8 @@ bits_push rows len words v word eight capacity have read = record {
     last : (j : ℕ) → j < len + 1 → bit_at to (vertex_in (set rows len (v, None)) j % 64) ≡ 1
     last j l = elim (cases_eq j len) as (λ _. bit_at to (vertex_in (set rows len (v, None)) j % 64) ≡ 1) [
       | inl q ↦ (let e : vertex_in (set rows len (v, None)) j ≡ v =
-          ap (vertex_in (set rows len (v, None))) q ∙ ap (λ (r : ℕ × Option ℕ). r.0) (get_or-set_same rows len (v, None) no_row (omega (arith, capacity, eight))) in
+          ap (vertex_in (set rows len (v, None))) q ∙ ap (λ (r : ℕ × Option ℕ). r.0)
+          (get_or-set_same rows len (v, None) no_row (omega (arith, capacity, eight))) in
           rw e (bit_at_set_same w64 word (v % 64) (omega arith)))
       | inr n ↦ (let b : j < len = omega (arith, l, n) in rw (other j b) (kept j b))
     ]

@@ -3,7 +3,8 @@ use Rattle.pg_finders.proofs.Common.{rules, ◌≡◌, ◌≢◌, ℕ, ◌<◌, 
 use Rattle.pg_finders.proofs.Common.{ltb-true, Option, Some, IfOk, IfSome, IsNone, if◌then◌else◌, Contains, Player, Even, Odd, same_player, opponent, of_parity}
 use Rattle.pg_finders.proofs.Common.{Graph, HasEdge, owner_of, priority_of, successors_of, VertexSet, In, members, IsSubgame, Choices, kept, KeptEdge, Walk}
 use Rattle.pg_finders.proofs.Common.{ClosedWalk, greatest_priority, NoneHas, OnlyGoodWalks, some_or_none, ClosedWalk-weaker, good_from_none, same_is, is_same}
-use Rattle.pg_finders.proofs.Common.{Claim, Kept, ClaimRows, named, IsGoodIn, IsWorst, IsSolitaire, WinsOn, own_choices, rows_below, HasOneAt, IsSingle, owned}
+use Rattle.pg_finders.proofs.Common.{Claim, StrategyGraph, ClaimRows, named, IsGoodIn, IsOnBadCycle, IsSolitaire, WinsOn, own_choices, rows_below, HasOneAt}
+use Rattle.pg_finders.proofs.Common.{IsSingle, owned}
 use Rattle.pg_finders.proofs.Common.{good_for, choices_by, EdgeBelow, AreLeading, eqb-true, eq-eqb, and_parts, and_from}
 use Rattle.std.proofs.Common.{eqb}
 use Rattle.std.specs.Prelude.{Result, slice_index}
@@ -39,7 +40,7 @@ cases true true x y = refl
 cases true false x y = refl
 cases false b x y = refl
 
-module _ (k : Kept) (U : VertexSet) (q : Player) (inside : (v : ℕ) → members k.inside v ≡ U v)
+module _ (k : StrategyGraph) (U : VertexSet) (q : Player) (inside : (v : ℕ) → members k.inside v ≡ U v)
     (chosen : (v : ℕ) → members k.chosen v ≡ owned k.game.now U q v) (bad : (v : ℕ) → members k.bad v ≡ good_for k.game.now U (opponent q) v)
     (single : (v : ℕ) → In U v → owner_of k.game.now v ≡ q → IsSingle k.game.now U v (slice_index k.choices.items v)) where
   abbrev g : Graph
@@ -61,15 +62,15 @@ module _ (k : Kept) (U : VertexSet) (q : Player) (inside : (v : ℕ) → members
   begins v [] c = c.0
   begins v (w ∷ ws) c = c.0.0
 
-  bad_is_worst : (v : ℕ) → OnBadWalk g q U s v → IsWorst k v
-  bad_is_worst v h = (
+  bad_walk_is_bad_cycle : (v : ℕ) → OnBadWalk g q U s v → IsOnBadCycle k v
+  bad_walk_is_bad_cycle v h = (
     bad v ∙ and_from (U v) (same_player (of_parity (priority_of g v)) (opponent q)) (begins v h.0 h.1) (is_same (of_parity (priority_of g v)) (opponent q) h.3),
     (h.0, ClosedWalk-weaker (KeptEdge g q U s) (Edge k) from_kept (v ∷ h.0) h.1, h.2),
   )
 
   -- without a bad closed walk all vertices are his
-  pub all_held : NoneHas (IsWorst k) → WinsOn g U q U s
-  all_held none = search (rules, k.choices.items, good_from_none, bad_is_worst)
+  pub all_held : NoneHas (IsOnBadCycle k) → WinsOn g U q U s
+  all_held none = search (rules, k.choices.items, good_from_none, bad_walk_is_bad_cycle)
 
   edge_of : (v w : ℕ) → Edge k v w → HasEdge g v w × In U v
   edge_of v w m =
@@ -89,11 +90,11 @@ module _ (k : Kept) (U : VertexSet) (q : Player) (inside : (v : ℕ) → members
   walk_below top v (w ∷ ws) end e l m = (let h = edge_of v w e.0 in ((h.0, h.1, l), walk_below top w ws end e.1 (omega (arith, m)) (omega (arith, m))))
 
   -- what a bad closed walk says of its greatest vertex
-  pub worst_leads : (v : ℕ) → IsWorst k v → (vs : List ℕ) × Walk (EdgeBelow g U (priority_of g v)) v vs v
-  worst_leads v h = (h.1.0, walk_below (priority_of g v) v h.1.0 v h.1.1 (omega arith) (omega (arith, h.1.2)))
+  pub bad_cycle_leads : (v : ℕ) → IsOnBadCycle k v → (vs : List ℕ) × Walk (EdgeBelow g U (priority_of g v)) v vs v
+  bad_cycle_leads v h = (h.1.0, walk_below (priority_of g v) v h.1.0 v h.1.1 (omega arith) (omega (arith, h.1.2)))
 
-  pub worst_parity : (v : ℕ) → IsWorst k v → of_parity (priority_of g v) ≡ opponent q
-  worst_parity v h = search (rules, same_is, and_parts)
+  pub bad_cycle_parity : (v : ℕ) → IsOnBadCycle k v → of_parity (priority_of g v) ≡ opponent q
+  bad_cycle_parity v h = search (rules, same_is, and_parts)
 
 module _ (g : Graph) (U : VertexSet) (q : Player) (one : HasOneSuccessor g U q) (goal : ℕ) (taken : List Bool) (next : List ℕ)
     (lead : AreLeading g U (priority_of g goal) goal taken next) (there : In (members taken) goal) (parity : of_parity (priority_of g goal) ≡ opponent q) where

@@ -1,19 +1,28 @@
-//! A subgame during the recursion: its active vertices, and their unfinished plan. A player attracts in place: a
-//! vertex that he takes is no longer active, and is listed after those that it leads to (Zielonka 1998).
+//! A subgame during the recursion: its active vertices, and their unfinished plan. A player attracts in place: a vertex
+//! that he takes is no longer active, and is listed after those that it leads to (Zielonka 1998). The first half of a step
+//! removes what the greatest priorities attract for their player: those of the greatest one's parity above every vertex of
+//! the other parity.
+//!
+//! For each vertex a cursor keeps the place among its successors where the last search for an active one ended. If
+//! successors become inactive one by one, the searches pass over them once.
 
-ghost use Rattle.std.specs.Prelude.{◌≡◌, ◌<◌, ℕ, length, All, IfOk, IfSome, IsNone, OnOk};
+ghost use Rattle.std.specs.Prelude.{◌≡◌, ◌<◌, ℕ, length, All, IfOk, IfSome, IsNone, OnOk, ◌≤◌, ◌-◌, [], false, ◌⊎◌, slice_index, IsTrue, IsFalse, ◌≢◌, Some};
 ghost use Rattle.pg_game.specs.Graph.{HasEdge};
 ghost use Rattle.pg_game.specs.VertexSet.{In, members, union};
 ghost use Rattle.pg_game.specs.private.VertexSet.{without};
 ghost use Rattle.pg_game.specs.Subgame.{IsSubgame};
-ghost use Rattle.pg_finders.specs.private.recursion.Listed.{listed};
-ghost use Rattle.pg_finders.specs.private.recursion.Growing.{active_of, won_of, HasSizes, IsReady, IsKnown, IsGrown, IsTested};
-ghost use Rattle.pg_finders.specs.private.recursion.Growing.{AttractsNoActive};
+ghost use Rattle.pg_finders.specs.private.recursion.Listed.{listed, Once};
+ghost use Rattle.pg_finders.specs.private.recursion.Growing.{active_of, won_of, HasSizes, IsReady, IsKnown, IsGrown, IsTested, AttractsNoActive};
+ghost use Rattle.pg_finders.specs.private.recursion.Growing.{AttractsAtMost};
 ghost use Rattle.pg_finders.specs.Part.{IsOut};
+ghost use Rattle.pg_game.specs.Player.{of_parity};
+ghost use Rattle.pg_finders.specs.private.recursion.Order.{IsOrder, AllStand, vertex_at_place, priority_at};
+ghost use Rattle.pg_finders.specs.private.recursion.Planned.{winners_of, choices_of, IsGiven, SameOutside, HasSize, SameAt};
+ghost use Rattle.pg_finders.specs.private.Solved.{IsBegun};
 
-use crate::recursion::cursors::Cursors;
-use crate::recursion::plan::Plan;
-use pg_dominion::{Area, attract_from};
+use crate::inside::successor_in;
+use crate::recursion::order::Order;
+use pg_dominion::{AttractorState, attract_from};
 use pg_game::{Game, Mask, Memory, Player};
 use std::alloc::Global;
 
@@ -42,30 +51,73 @@ impl Subgame {
         })
     }
 
-    /// Whether the player won the vertex inside: it is planned as his and not active.
-    fn has_won(&self, inside: &Mask, player: Player, v: u32) -> bool
-        requires active { v < length self.now.active }
-        requires winner { v < length self.now.plan.winners.items }
-        requires inside { v < length inside.now }
-        ensures { result ≡ won_of (members inside.now) (active_of self.now) self.now.plan player v }
+    /// Takes all active vertices that the player attracts to the listed ones.
+    pub fn attract(
+        &mut self,
+        game: &Game,
+        player: Player,
+        list: &mut Vec<u32>,
+    ) -> Result<(), Memory>
+        requires ready { IsReady (length game.now) self.old list.old.items }
+        requires subgame { IsSubgame game.now (union (active_of self.old) (listed list.old.items)) }
+        ensures ready { OnOk result (IsReady (length game.now) self.new list.new.items) }
+        ensures grown { OnOk result (IsGrown game.now player (active_of self.old) self.old.plan list.old.items
+            (active_of self.new) self.new.plan list.new.items) }
+        ensures done { OnOk result (AttractsNoActive game.now player (union (active_of self.old) (listed list.old.items)) (listed list.new.items)
+            (active_of self.new)) }
     {
-        inside.has(v) && !self.active.has(v) && self.plan.winner(v) == player
+        attract_from(self, game, player, list, 0)
     }
 
-    /// A successor of the vertex that the player won inside.
-    fn won_successor(&self, game: &Game, inside: &Mask, player: Player, v: u32) -> Option<u32>
-        requires sizes { HasSizes (length game.now) self.now }
+    /// Takes all that the player attracts to the listed vertices, which he won. Of the active vertices only the given
+    /// ones may lead to them.
+    pub fn attract_again(
+        &mut self,
+        game: &Game,
+        inside: &Mask,
+        player: Player,
+        list: &mut Vec<u32>,
+        vertices: &[u32],
+    ) -> Result<(), Memory>
+        requires ready { IsReady (length game.now) self.old list.old.items }
         requires length { length inside.now ≡ length game.now }
-        requires vertex { v < length game.now }
-        ensures found { IfSome result (λ w. HasEdge game.now v w × In (won_of (members inside.now) (active_of self.now) self.now.plan player) w) }
-        ensures none { IsNone result → IsOut game.now (won_of (members inside.now) (active_of self.now) self.now.plan player) v }
+        requires known { IsKnown game.now (members inside.now) player (active_of self.old) self.old.plan list.old.items }
+        requires below { All (λ v. v < length game.now) vertices.now }
+        requires at_most { AttractsAtMost game.now player (active_of self.old) list.old.items vertices.now }
+        ensures ready { OnOk result (IsReady (length game.now) self.new list.new.items) }
+        ensures grown { OnOk result (IsGrown game.now player (active_of self.old) self.old.plan list.old.items
+            (active_of self.new) self.new.plan list.new.items) }
+        ensures done { OnOk result (AttractsNoActive game.now player (union (active_of self.old) (listed list.old.items)) (listed list.new.items)
+            (active_of self.new)) }
     {
-        for w in game.successors(v) {
-            if self.has_won(inside, player, *w) {
-                return Some(*w);
-            }
+        let from = list.len();
+        self.retake_all(game, inside, player, list, vertices)?;
+        attract_from(self, game, player, list, from)
+    }
+
+    /// Takes the vertices of these that the player attracts at once.
+    fn retake_all(
+        &mut self,
+        game: &Game,
+        inside: &Mask,
+        player: Player,
+        list: &mut Vec<u32>,
+        vertices: &[u32],
+    ) -> Result<(), Memory>
+        requires ready { IsReady (length game.now) self.old list.old.items }
+        requires length { length inside.now ≡ length game.now }
+        requires known { IsKnown game.now (members inside.now) player (active_of self.old) self.old.plan list.old.items }
+        requires below { All (λ v. v < length game.now) vertices.now }
+        ensures ready { OnOk result (IsReady (length game.now) self.new list.new.items) }
+        ensures grown { OnOk result (IsGrown game.now player (active_of self.old) self.old.plan list.old.items
+            (active_of self.new) self.new.plan list.new.items) }
+        ensures tested { OnOk result ((v : ℕ) → In (listed vertices.now) v
+            → IsTested game.now player (listed list.old.items) (active_of self.old) (active_of self.new) v) }
+    {
+        for v in vertices {
+            self.retake(game, inside, player, list, *v)?;
         }
-        None
+        Ok(())
     }
 
     /// Takes a vertex that is active again for the player: one of his that leads to what he won, or one of the
@@ -102,78 +154,111 @@ impl Subgame {
         self.take(game, player, v, None, list)
     }
 
-    /// Takes the vertices of these that the player attracts at once.
-    fn retake_all(
-        &mut self,
-        game: &Game,
-        inside: &Mask,
-        player: Player,
-        list: &mut Vec<u32>,
-        vertices: &[u32],
-    ) -> Result<(), Memory>
-        requires ready { IsReady (length game.now) self.old list.old.items }
+    /// A successor of the vertex that the player won inside.
+    fn won_successor(&self, game: &Game, inside: &Mask, player: Player, v: u32) -> Option<u32>
+        requires sizes { HasSizes (length game.now) self.now }
         requires length { length inside.now ≡ length game.now }
-        requires known { IsKnown game.now (members inside.now) player (active_of self.old) self.old.plan list.old.items }
-        requires below { All (λ v. v < length game.now) vertices.now }
-        ensures ready { OnOk result (IsReady (length game.now) self.new list.new.items) }
-        ensures grown { OnOk result (IsGrown game.now player (active_of self.old) self.old.plan list.old.items
-            (active_of self.new) self.new.plan list.new.items) }
-        ensures tested { OnOk result ((v : ℕ) → In (listed vertices.now) v
-            → IsTested game.now player (listed list.old.items) (active_of self.old) (active_of self.new) v) }
+        requires vertex { v < length game.now }
+        ensures found { IfSome result (λ w. HasEdge game.now v w × In (won_of (members inside.now) (active_of self.now) self.now.plan player) w) }
+        ensures none { IsNone result → IsOut game.now (won_of (members inside.now) (active_of self.now) self.now.plan player) v }
     {
-        for v in vertices {
-            self.retake(game, inside, player, list, *v)?;
+        for w in game.successors(v) {
+            if self.has_won(inside, player, *w) {
+                return Some(*w);
+            }
+        }
+        None
+    }
+
+    /// Whether the player won the vertex inside: it is planned as his and not active.
+    fn has_won(&self, inside: &Mask, player: Player, v: u32) -> bool
+        requires active { v < length self.now.active }
+        requires winner { v < length self.now.plan.winners.items }
+        requires inside { v < length inside.now }
+        ensures { result ≡ won_of (members inside.now) (active_of self.now) self.now.plan player v }
+    {
+        inside.has(v) && !self.active.has(v) && self.plan.winner(v) == player
+    }
+
+    /// Gives an active vertex to the player, with any active successor as its choice.
+    fn give(&mut self, game: &Game, player: Player, v: u32)
+        requires sizes { HasSizes (length game.now) self.old }
+        requires subgame { IsSubgame game.now (active_of self.old) }
+        requires vertex { v < length game.now }
+        ensures sizes { HasSizes (length game.now) self.new }
+        ensures active { self.new.active ≡ self.old.active }
+        ensures given { In (active_of self.old) v → IsGiven game.now (active_of self.old) player self.new.plan v }
+        ensures same { SameOutside (active_of self.old) self.old.plan self.new.plan }
+        ensures kept { (w : ℕ) → IsGiven game.now (active_of self.old) player self.old.plan w → IsGiven game.now (active_of self.old) player self.new.plan w }
+    {
+        if self.active.has(v) {
+            self.plan.write_any(game, &self.active, player, v);
+        }
+    }
+
+    /// Gives the active vertices between the places to the player.
+    fn give_all(&mut self, game: &Game, player: Player, order: &Order, first: usize, end: usize)
+        requires sizes { HasSizes (length game.now) self.old }
+        requires subgame { IsSubgame game.now (active_of self.old) }
+        requires order { IsOrder game.now order.now }
+        requires end { end ≤ length order.now.vertices.items }
+        ensures sizes { HasSizes (length game.now) self.new }
+        ensures active { self.new.active ≡ self.old.active }
+        ensures given { (k : ℕ) → first ≤ k → k < end → In (active_of self.old) (vertex_at_place order.now k)
+            → IsGiven game.now (active_of self.old) player self.new.plan (vertex_at_place order.now k) }
+        ensures same { SameOutside (active_of self.old) self.old.plan self.new.plan }
+    {
+        'places: for place in first..end {
+            self.give(game, player, order.vertex(place));
+        }
+    }
+
+    /// Lists an active vertex, which is then no longer active.
+    fn leave_out(&mut self, n: u32, list: &mut Vec<u32>, v: u32) -> Result<(), Memory>
+        requires ready { IsReady n self.old list.old.items }
+        requires vertex { v < n }
+        ensures ready { OnOk result (IsReady n self.new list.new.items) }
+        ensures plan { OnOk result (self.new.plan ≡ self.old.plan) }
+        ensures gone { OnOk result (active_of self.new v ≡ false) }
+        ensures fewer { OnOk result ((w : ℕ) → In (active_of self.new) w → In (active_of self.old) w) }
+        ensures both { OnOk result ((w : ℕ) → union (active_of self.new) (listed list.new.items) w ≡ union (active_of self.old) (listed list.old.items) w) }
+        ensures listed { OnOk result ((w : ℕ) → In (listed list.new.items) w → In (listed list.old.items) w ⊎ (w ≡ v)) }
+    {
+        if self.active.has(v) {
+            list.push(v)?;
+            self.active.remove(v);
         }
         Ok(())
     }
 
-    /// Takes all active vertices that the player attracts to the listed ones.
-    pub fn attract(
+    /// Lists the active vertices between the places, which are then no longer active.
+    fn leave_all_out(
         &mut self,
-        game: &Game,
-        player: Player,
+        n: u32,
+        order: &Order,
+        first: usize,
+        end: usize,
         list: &mut Vec<u32>,
     ) -> Result<(), Memory>
-        requires ready { IsReady (length game.now) self.old list.old.items }
-        requires subgame { IsSubgame game.now (union (active_of self.old) (listed list.old.items)) }
-        ensures ready { OnOk result (IsReady (length game.now) self.new list.new.items) }
-        ensures grown { OnOk result (IsGrown game.now player (active_of self.old) self.old.plan list.old.items
-            (active_of self.new) self.new.plan list.new.items) }
-        ensures done { OnOk result (AttractsNoActive game.now player (union (active_of self.old) (listed list.old.items)) (listed list.new.items)
-            (active_of self.new)) }
+        requires ready { IsReady n self.old list.old.items }
+        requires below { (k : ℕ) → k < end → vertex_at_place order.now k < n }
+        requires places { first ≤ end }
+        requires end { end ≤ length order.now.vertices.items }
+        requires empty { list.old.items ≡ [] }
+        ensures ready { OnOk result (IsReady n self.new list.new.items) }
+        ensures plan { OnOk result (self.new.plan ≡ self.old.plan) }
+        ensures gone { OnOk result ((k : ℕ) → first ≤ k → k < end → active_of self.new (vertex_at_place order.now k) ≡ false) }
+        ensures both { OnOk result ((w : ℕ) → union (active_of self.new) (listed list.new.items) w ≡ active_of self.old w) }
+        ensures listed { OnOk result ((w : ℕ) → In (listed list.new.items) w → (k : ℕ) × (first ≤ k) × (k < end) × (vertex_at_place order.now k ≡ w)) }
     {
-        attract_from(self, game, player, list, 0)
-    }
-
-    /// Takes all that the player attracts to the listed vertices, which he won. Of the active vertices only the given
-    /// ones may lead to them.
-    pub fn attract_again(
-        &mut self,
-        game: &Game,
-        inside: &Mask,
-        player: Player,
-        list: &mut Vec<u32>,
-        vertices: &[u32],
-    ) -> Result<(), Memory>
-        requires ready { IsReady (length game.now) self.old list.old.items }
-        requires length { length inside.now ≡ length game.now }
-        requires known { IsKnown game.now (members inside.now) player (active_of self.old) self.old.plan list.old.items }
-        requires below { All (λ v. v < length game.now) vertices.now }
-        requires rest { AttractsNoActive game.now player (union (active_of self.old) (listed list.old.items)) (listed list.old.items)
-            (without (active_of self.old) (listed vertices.now)) }
-        ensures ready { OnOk result (IsReady (length game.now) self.new list.new.items) }
-        ensures grown { OnOk result (IsGrown game.now player (active_of self.old) self.old.plan list.old.items
-            (active_of self.new) self.new.plan list.new.items) }
-        ensures done { OnOk result (AttractsNoActive game.now player (union (active_of self.old) (listed list.old.items)) (listed list.new.items)
-            (active_of self.new)) }
-    {
-        let from = list.len();
-        self.retake_all(game, inside, player, list, vertices)?;
-        attract_from(self, game, player, list, from)
+        'places: for place in first..end {
+            self.leave_out(n, list, order.vertex(place))?;
+        }
+        Ok(())
     }
 }
 
-impl Area for Subgame {
+impl AttractorState for Subgame {
     ghost use Rattle.std.specs.Prelude.{length};
     ghost use Rattle.pg_finders.specs.private.recursion.Growing.{active_of, IsReady, KeepsGrown};
 
@@ -224,4 +309,157 @@ impl Area for Subgame {
     ghost grown_same = { λ g p x list before old prefix h. h };
 
     ghost grown_then = { λ g p x y z list list' list'' a b before old prefix h. b before old prefix (a before old prefix h) };
+}
+
+/// The winner of each vertex, and the choices.
+#[derive(Drop)]
+pub struct Plan {
+    winners: Vec<Player>,
+    choices: Vec<Option<u32>>,
+}
+
+impl Plan {
+    pub fn new(alloc: Global, n: u32) -> Result<Plan, Memory>
+        ensures { IfOk result (λ plan. HasSize n plan) }
+    {
+        Ok(Plan {
+            winners: vec![in alloc; Player::Even; n as usize]?,
+            choices: vec![in alloc; None; n as usize]?,
+        })
+    }
+
+    pub fn winner(&self, v: u32) -> Player
+        requires { v < length self.now.winners.items }
+        ensures { result ≡ winners_of self.now v }
+    {
+        self.winners[v as usize]
+    }
+
+    pub fn choice(&self, v: u32) -> Option<u32>
+        requires { v < length self.now.choices.items }
+        ensures { result ≡ choices_of self.now v }
+    {
+        self.choices[v as usize]
+    }
+
+    pub fn write(&mut self, v: u32, player: Player, choice: Option<u32>)
+        requires winner { v < length self.old.winners.items }
+        requires choice { v < length self.old.choices.items }
+        ensures winners { length self.new.winners.items ≡ length self.old.winners.items }
+        ensures choices { length self.new.choices.items ≡ length self.old.choices.items }
+        ensures winner { winners_of self.new v ≡ player }
+        ensures choice { choices_of self.new v ≡ choice }
+        ensures elsewhere { (w : ℕ) → w ≢ v → SameAt self.old self.new w }
+    {
+        self.winners[v as usize] = player;
+        self.choices[v as usize] = choice;
+    }
+
+    /// Gives a vertex inside to the player, with any successor inside as the choice.
+    pub fn write_any(&mut self, game: &Game, inside: &Mask, player: Player, v: u32)
+        requires size { HasSize (length game.now) self.old }
+        requires length { length inside.now ≡ length game.now }
+        requires vertex { v < length game.now }
+        requires subgame { IsSubgame game.now (members inside.now) }
+        requires inside { In (members inside.now) v }
+        ensures size { HasSize (length game.now) self.new }
+        ensures winner { winners_of self.new v ≡ player }
+        ensures choice { (w : ℕ) × (choices_of self.new v ≡ Some w) × HasEdge game.now v w × In (members inside.now) w }
+        ensures elsewhere { (w : ℕ) → w ≢ v → SameAt self.old self.new w }
+    {
+        let choice = successor_in(game, inside, v);
+        self.write(v, player, choice);
+    }
+}
+
+/// Removes from a subgame what its greatest priorities of one parity attract for their player, and lists it.
+pub fn begin(
+    subgame: &mut Subgame,
+    order: &mut Order,
+    game: &Game,
+    top: u32,
+    list: &mut Vec<u32>,
+) -> Result<(), Memory>
+    requires sizes { HasSizes (length game.now) subgame.old }
+    requires subgame { IsSubgame game.now (active_of subgame.old) }
+    requires order { IsOrder game.now order.old }
+    requires stand { AllStand order.old.vertices.items (active_of subgame.old) order.old.upto }
+    requires some { 0 < order.old.upto }
+    requires last { priority_at game.now order.old (order.old.upto - 1) ≡ top }
+    requires active { In (active_of subgame.old) (vertex_at_place order.old (order.old.upto - 1)) }
+    ensures sizes { OnOk result (HasSizes (length game.now) subgame.new) }
+    ensures once { OnOk result (Once list.new.items) }
+    ensures begun { OnOk result (IsBegun game.now (active_of subgame.old) (active_of subgame.new) (of_parity top) (winners_of subgame.new.plan)
+        (choices_of subgame.new.plan)) }
+    ensures listed { OnOk result ((v : ℕ) → listed list.new.items v ≡ without (active_of subgame.old) (active_of subgame.new) v) }
+    ensures same { OnOk result (SameOutside (active_of subgame.old) subgame.old.plan subgame.new.plan) }
+    ensures vertices { order.new.vertices.items ≡ order.old.vertices.items }
+    ensures stand { OnOk result (AllStand order.new.vertices.items (active_of subgame.new) order.new.upto) }
+    ensures upto { OnOk result (order.new.upto ≤ order.old.upto) }
+{
+    let player = Player::of_parity(top);
+    let end = order.upto();
+    let first = order.first_of(game, &subgame.active, player);
+    subgame.give_all(game, player, order, first, end);
+    list.clear();
+    subgame.leave_all_out(game.len(), order, first, end, list)?;
+    order.go_back(first);
+    subgame.attract(game, player, list)?;
+    Ok(())
+}
+
+/// The places where searches begin, one for each vertex.
+#[derive(Drop)]
+pub struct Cursors {
+    places: Vec<u32>,
+}
+
+impl Cursors {
+    /// Each search begins at the first successor.
+    pub fn new(alloc: Global, n: u32) -> Result<Cursors, Memory>
+        ensures { IfOk result (λ cursors. length cursors.places.items ≡ n) }
+    {
+        Ok(Cursors {
+            places: vec![in alloc; 0u32; n as usize]?,
+        })
+    }
+
+    /// Whether a successor of `v` is active.
+    pub fn has_active(&mut self, game: &Game, active: &Mask, v: u32) -> bool
+        requires places { length self.old.places.items ≡ length game.now }
+        requires size { length active.now ≡ length game.now }
+        requires vertex { v < length game.now }
+        ensures places { length self.new.places.items ≡ length game.now }
+        ensures found { IsTrue result → (w : ℕ) × HasEdge game.now v w × In (members active.now) w }
+        ensures none { IsFalse result → IsOut game.now (members active.now) v }
+    {
+        let successors = game.successors(v);
+        let end = successors.len() as u32;
+        let begin = self.places[v as usize].min(end);
+        if let Some(at) = first_active(successors, active, begin, end) {
+            self.places[v as usize] = at;
+            return true;
+        }
+        if let Some(at) = first_active(successors, active, 0, begin) {
+            self.places[v as usize] = at;
+            return true;
+        }
+        false
+    }
+}
+
+/// The first place from `begin` on and before `end` with an active vertex.
+fn first_active(successors: &[u32], active: &Mask, begin: u32, end: u32) -> Option<u32>
+    requires below { (k : ℕ) → k < length successors.now → slice_index successors.now k < length active.now }
+    requires end { end ≤ length successors.now }
+    ensures place { IfSome result (λ at. at < length successors.now) }
+    ensures found { IfSome result (λ at. In (members active.now) (slice_index successors.now at)) }
+    ensures none { IsNone result → (k : ℕ) → begin ≤ k → k < end → members active.now (slice_index successors.now k) ≡ false }
+{
+    for at in begin..end {
+        if active.has(successors[at as usize]) {
+            return Some(at);
+        }
+    }
+    None
 }

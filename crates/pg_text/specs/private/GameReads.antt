@@ -3,9 +3,9 @@ use Rattle.std.specs.Prelude.{ℕ, ◌≡◌, ◌<◌, Bool, true, List, [], ◌
 use Rattle.std.specs.List.{AllByRecursion}
 use Rattle.pg_game.specs.declared.player.Player.{Player}
 use Rattle.pg_game.specs.declared.game.Spec.{Spec}
-use Rattle.pg_text.specs.declared.game_grammar.GameText.{GameText}
-use Rattle.pg_text.specs.declared.game_grammar.State.{State}
-use Rattle.pg_text.specs.declared.game_grammar.State.TheVariants as state
+use Rattle.pg_text.specs.declared.game_text.GameText.{GameText}
+use Rattle.pg_text.specs.declared.game_text.State.{State}
+use Rattle.pg_text.specs.declared.game_text.State.TheVariants as state
 use Rattle.pg_text.specs.GameText.{WrittenGameLine, IsGameText, player_of, spec_of}
 use Rattle.pg_text.specs.Token.{Token}
 use Rattle.pg_text.specs.private.GameRun as reading

@@ -1,7 +1,7 @@
 -- What a token does to a text of a grammar that is being read.
 use Rattle.std.specs.Prelude.{ℕ, ◌≡◌, ◌<◌, Bool, true, false, List, [], ◌∷◌, ◌++◌}
-use Rattle.pg_text.specs.declared.grammar.Step.{Step}
-use Rattle.pg_text.specs.declared.grammar.Step.TheVariants as step
+use Rattle.pg_text.specs.declared.reader.Step.{Step}
+use Rattle.pg_text.specs.declared.reader.Step.TheVariants as step
 use Rattle.pg_text.specs.Token.{Token, Number}
 
 abbrev pub TakenOr : Bool → Type 0 → Type 0 → Type 0

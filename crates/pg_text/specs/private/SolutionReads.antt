@@ -2,10 +2,10 @@
 use Rattle.std.specs.Prelude.{ℕ, ◌≡◌, ◌<◌, Bool, true, List, [], map, Option, Some, None}
 use Rattle.std.specs.List.{AllByRecursion}
 use Rattle.pg_game.specs.Player.{digit_of}
-use Rattle.pg_text.specs.declared.solution_grammar.State.{State}
-use Rattle.pg_text.specs.declared.solution_grammar.State.TheVariants as state
-use Rattle.pg_text.specs.declared.solution_grammar.SolutionLine.{SolutionLine}
-use Rattle.pg_text.specs.declared.solution_grammar.SolutionText.{SolutionText}
+use Rattle.pg_text.specs.declared.solution_text.State.{State}
+use Rattle.pg_text.specs.declared.solution_text.State.TheVariants as state
+use Rattle.pg_text.specs.declared.solution_text.SolutionLine.{SolutionLine}
+use Rattle.pg_text.specs.declared.solution_text.SolutionText.{SolutionText}
 use Rattle.pg_text.specs.Token.{Token}
 use Rattle.pg_text.specs.SolutionText.{WrittenSolutionLine, IsSolutionText}
 use Rattle.pg_text.specs.private.SolutionRun as reading

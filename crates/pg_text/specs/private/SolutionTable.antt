@@ -6,7 +6,7 @@ use Rattle.pg_game.specs.Graph.{Graph, IsGame, id_of}
 use Rattle.pg_game.specs.VertexSet.{members}
 use Rattle.pg_text.specs.declared.fault.SolutionTextFault.{SolutionTextFault}
 use Rattle.pg_text.specs.declared.fault.SolutionTextFault.TheVariants as fault
-use Rattle.pg_text.specs.declared.solution_rows.Table.{Table}
+use Rattle.pg_text.specs.declared.solution_text.Table.{Table}
 use Rattle.pg_text.specs.SolutionText.{WrittenSolutionLine}
 use Rattle.pg_text.specs.Solution.{SolutionRows}
 use Rattle.pg_text.specs.SolutionLines.{first_stranger, first_twice, first_missing, has_line, row_of_line}

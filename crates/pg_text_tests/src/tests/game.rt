@@ -9,7 +9,7 @@ mod open;
 mod readme;
 
 use crate::tests::asserting::made;
-use pg_game::{ForwardGame, Game, GameFault, Mask, Memory, Player, Sequence, Spec, Specs};
+use pg_game::{ForwardGame, Game, GameBuilder, GameFault, Mask, Memory, Player, Sequence, Spec};
 use std::alloc::Global;
 use std::process::Abort;
 
@@ -75,7 +75,7 @@ fn specs_of(alloc: Global, rows: &[Row]) -> Result<Vec<Spec>, Memory>
 }
 
 /// Adds a row to flat lists, with numbers cut down to the greatest.
-fn add_flat(flat: &mut Specs, row: Row) -> Result<(), Memory>
+fn add_flat(flat: &mut GameBuilder, row: Row) -> Result<(), Memory>
     requires { All AreNumbers flat.old }
     ensures { All AreNumbers flat.new }
 {
@@ -85,10 +85,10 @@ fn add_flat(flat: &mut Specs, row: Row) -> Result<(), Memory>
 }
 
 /// The specifications of these rows in flat lists, without capacity for them before.
-fn flat_of_rows(alloc: Global, rows: &[Row]) -> Result<Specs, Memory>
+fn flat_of_rows(alloc: Global, rows: &[Row]) -> Result<GameBuilder, Memory>
     ensures { IfOk result (λ flat. All AreNumbers flat) }
 {
-    let mut flat = Specs::with_capacity(alloc, 0, 0)?;
+    let mut flat = GameBuilder::with_capacity(alloc, 0, 0)?;
     'rows: for row in rows {
         add_flat(&mut flat, *row)?;
     }
@@ -96,10 +96,10 @@ fn flat_of_rows(alloc: Global, rows: &[Row]) -> Result<Specs, Memory>
 }
 
 /// The same specifications in flat lists.
-fn flat_of(alloc: Global, specs: &[Spec]) -> Result<Specs, Memory>
+fn flat_of(alloc: Global, specs: &[Spec]) -> Result<GameBuilder, Memory>
     ensures { IfOk result (λ flat. All AreNumbers flat) }
 {
-    let mut flat = Specs::with_capacity(alloc, 2, 2)?;
+    let mut flat = GameBuilder::with_capacity(alloc, 2, 2)?;
     'specs: for spec in specs {
         let successors = spec.successors.as_slice();
         add_flat(&mut flat, (spec.id, spec.priority, spec.owner, successors))?;
@@ -142,7 +142,7 @@ fn from_specs(alloc: Global, specs: Vec<Spec>) -> Result<Game, GameFault>
 }
 
 /// The game of flat lists, without a contract.
-fn from_rows(alloc: Global, specs: Specs) -> Result<Game, GameFault>
+fn from_rows(alloc: Global, specs: GameBuilder) -> Result<Game, GameFault>
     requires { All AreNumbers specs }
 {
     let forward = ForwardGame::from_rows(alloc, specs)?;

@@ -5,10 +5,12 @@ use Rattle.pg_dominion.specs.Fault.{IsClaimFault}
 use Rattle.pg_dominion.specs.Checked.{CheckedClaim, claim_of, AgreesWithGame}
 use Rattle.pg_dominion.specs.declared.claim.Claim.{Claim}
 use Rattle.pg_dominion.specs.declared.claim.ClaimFault.TheVariants as claim_fault
-use Rattle.pg_board.specs.declared.refusal.Refusal.{Refusal}
-use Rattle.pg_board.specs.declared.refusal.Refusal.TheVariants as refusal
-use Rattle.pg_board.specs.Office.{IsCheckedAnswerOfSome}
+use Rattle.pg_board.specs.declared.journal.Refusal.{Refusal}
+use Rattle.pg_board.specs.declared.journal.Refusal.TheVariants as refusal
+use Rattle.pg_board.specs.Office.{IsCheckedAnswerOfSome, IsCopyOfSome}
 use Rattle.pg_finders.specs.declared.finder.Found.{Found}
+use Rattle.pg_finders.specs.declared.finder.Job.{Job}
+use Rattle.pg_finders.specs.declared.inside.Copied.{Copied}
 use Rattle.pg_workers.specs.Report.{blank_row}
 use Rattle.pg_workers.specs.declared.report.ReportRow.{ReportRow}
 use Rattle.pg_workers.specs.private.Report.{noted}
@@ -35,7 +37,12 @@ pub record AreNoted (g : Graph) (claims : List Claim) (old new : ReportRow) : Ty
 abbrev pub drawn_row : ℕ → ℕ → Bool → Bool → ReportRow
 drawn_row job worker gave_up memory = record (blank_row job) { worker = Some worker; gave_up = gave_up; memory = memory }
 
--- the search for the job was refused memory, or each of its claims got an answer in order, and the row notes this
-abbrev pub IsJobRow : ℕ → ℕ → ReportRow → Type 0
-IsJobRow job worker row =
-    (row ≡ drawn_row job worker false true) ⊎ ((g : Graph) × (found : Found) × AreNoted g found.claims.items (drawn_row job worker found.gave_up false) row)
+-- the result of a search for the job on a copy of some lawful board of the game, with at least the amount settled
+abbrev pub IsSearched : {S : Type 0} → (S → Copied → Job → Found → Type 0) → S → Job → ℕ → Graph → Found → Type 0
+IsSearched finds finder job amount g found = (c : Copied) × (c.inside.graph ≡ g) × IsCopyOfSome c.inside c.at c.settled amount × finds finder c job found
+
+-- the search for the job was refused memory, or each of its claims got an answer on the copy's game in order, and the row notes this
+abbrev pub IsJobRow : {S : Type 0} → (S → Copied → Job → Found → Type 0) → S → Job → ℕ → ℕ → ℕ → ReportRow → Type 0
+IsJobRow finds finder job amount number worker row =
+    (row ≡ drawn_row number worker false true)
+    ⊎ ((g : Graph) × (found : Found) × IsSearched finds finder job amount g found × AreNoted g found.claims.items (drawn_row number worker found.gave_up false) row)

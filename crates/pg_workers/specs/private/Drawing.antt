@@ -3,7 +3,7 @@ use Rattle.std.specs.Prelude.{◌≡◌, ℕ, ◌+◌, ◌-◌, ◌<◌, ◌≤�
 use mathlib.Core.Option.{some}
 use lib.ListN.{get_elem?}
 use Rattle.atomic_table.specs.Table.{State, Me, Step}
-use Rattle.pg_workers.specs.declared.drawing.Drawer.{Drawer}
+use Rattle.pg_workers.specs.declared.jobs.Drawer.{Drawer}
 use Rattle.pg_workers.specs.Counting.{AreFair}
 
 -- the view of a seat: the total, the number of its tickets, the number of these that found no job left,

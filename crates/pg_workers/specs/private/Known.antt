@@ -6,14 +6,14 @@ use Rattle.pg_game.specs.Player.{opponent}
 use Rattle.pg_game.specs.Graph.{Graph}
 use Rattle.pg_game.specs.VertexSet.{In}
 use Rattle.pg_text.specs.Known.{KnownRows}
-use Rattle.pg_board.specs.declared.refusal.Refusal.{Refusal}
-use Rattle.pg_board.specs.declared.refusal.Refusal.TheVariants as refusal
+use Rattle.pg_board.specs.declared.journal.Refusal.{Refusal}
+use Rattle.pg_board.specs.declared.journal.Refusal.TheVariants as refusal
 use Rattle.pg_board.specs.Play.{Play}
 use Rattle.pg_board.specs.State.{settled}
 use Rattle.pg_board.specs.Journal.{Journal, state_of, number_settled}
 use Rattle.pg_workers.specs.declared.report.ReportRow.{ReportRow}
 use Rattle.pg_workers.specs.Report.{AreOfCaller, settled_in}
-use Rattle.pg_workers.specs.private.Rest.{IsLater}
+use Rattle.pg_workers.specs.private.Later.{IsLater}
 use Rattle.pg_workers.specs.declared.known.SolveFault.{SolveFault}
 use Rattle.pg_workers.specs.declared.known.SolveFault.TheVariants as fault
 use Rattle.pg_workers.specs.Known.{IsKnownRegion, IsAttractedToKnown, HasCount, IsKnownSize, IsRefusedKnown}

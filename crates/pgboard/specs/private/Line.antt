@@ -3,8 +3,8 @@ use Rattle.std.specs.Prelude.{◌≡◌, false}
 use Rattle.clap.specs.Words.{Shape, shape_of}
 use Rattle.clap.specs.declared.builder.command.Command.{Command}
 use Rattle.clap.specs.declared.builder.command.Command.TheViews.{out-Command}
-use Rattle.pgboard.specs.declared.asking.Asked.{Asked}
-use Rattle.pgboard.specs.declared.asking.Asked.TheVariants.{Help}
+use Rattle.pgboard.specs.declared.arguments.Asked.{Asked}
+use Rattle.pgboard.specs.declared.arguments.Asked.TheVariants.{Help}
 
 -- the command is read by this
 abbrev pub IsCommand : Shape → Command → Type 0

@@ -5,7 +5,7 @@ use Rattle.pg_text.specs.Solution.{SolutionRows}
 use Rattle.pg_text.specs.Reading.{max_text, IsFaultOf, IsSolutionTextOf, IsSolutionFaultOf}
 use Rattle.pg_text.specs.declared.fault.TextFault.TheVariants as game_fault
 use Rattle.pg_text.specs.declared.fault.SolutionTextFault.TheVariants as solution_fault
-use Rattle.pgboard.specs.declared.verdict.Verdict.{Verdict}
+use Rattle.pgboard.specs.declared.verify.Verdict.{Verdict}
 use Rattle.pgboard.specs.declared.fault.RunFault.{RunFault}
 use Rattle.pgboard.specs.declared.fault.RunFault.TheVariants as fault
 use Rattle.pgboard.specs.Joined.{IsVerdict}

@@ -139,7 +139,7 @@ const LINES: &[(&[&str], Line)] = &[
 /// What `--version` prints of a program over which no build has written what it knows.
 const VERSION: &str = "pgboard 0.1.0\n\
 kit: rattle-kit-13 logic dac8208d650f15bf\n\
-build: not recorded: whether it was proved, and of what commit\n";
+build: not recorded: whether this program was proved, and of which commit it is\n";
 
 /// Lines that are refused.
 const REFUSED: &[&[&str]] = &[

@@ -25,9 +25,9 @@ returns-else-eq c =
     let i : In U v = cc (c.has.ensures, c.if-not-has.false) in
     let parity : of_parity (priority_of g v) ≡ p = search (rules, same_is) in
     let s = c.requires.subgame.successor v i in
-    equal_from c.stays.result (loops g U p v)
+    equal_from c.has_no_other_successor.result (loops g U p v)
     (λ y.
-    (let only = c.stays.ensures.0 y in
+    (let only = c.has_no_other_successor.ensures.0 y in
     let itself : HasEdge g v v = subst (λ x. HasEdge g v x) (only s.0 s.1 s.2) s.1 in
     test_from_loop g U p v record { inside = i; parity = parity; itself = itself; only = λ _. only }))
-    (λ y. c.stays.ensures.1 ((loop_from_test g U p v y).only (λ o. absurd (search (rules, is_same, o)))))
+    (λ y. c.has_no_other_successor.ensures.1 ((loop_from_test g U p v y).only (λ o. absurd (search (rules, is_same, o)))))

@@ -6,7 +6,7 @@ use Rattle.pg_game.specs.Graph.{Graph, HasEdge, owner_of}
 use Rattle.pg_game.specs.VertexSet.{VertexSet, In, Within, members, union}
 use Rattle.pg_game.specs.private.VertexSet.{without}
 use Rattle.pg_finders.specs.declared.recursion.subgame.Subgame.{Subgame}
-use Rattle.pg_finders.specs.declared.recursion.plan.Plan.{Plan}
+use Rattle.pg_finders.specs.declared.recursion.subgame.Plan.{Plan}
 use Rattle.pg_finders.specs.private.recursion.Listed.{listed, Once}
 use Rattle.pg_finders.specs.private.recursion.Planned.{winners_of, choices_of, HasSize, SameOutside}
 use Rattle.pg_finders.specs.private.Solved.{won_inside}
@@ -71,3 +71,7 @@ IsTested g p D before now v =
 pub record AttractsNoActive (g : Graph) (p : Player) (U D active : VertexSet) : Type 0 where
   pub own : (v w : ℕ) → In active v → owner_of g v ≡ p → HasEdge g v w → D w ≡ false
   pub other : (v : ℕ) → In active v → owner_of g v ≡ opponent p → (w : ℕ) × HasEdge g v w × In U w × (D w ≡ false)
+
+-- of the active vertices, only these may be attracted at once to the listed ones
+abbrev pub AttractsAtMost : Graph → Player → VertexSet → List ℕ → List ℕ → Type 0
+AttractsAtMost g p active list these = AttractsNoActive g p (union active (listed list)) (listed list) (without active (listed these))

@@ -5,7 +5,7 @@ use Rattle.pg_game.specs.declared.player.Player.TheVariants.{Even}
 use Rattle.pg_game.specs.Kept.{Choices}
 use Rattle.pg_game.specs.VertexSet.{VertexSet, In, members}
 use Rattle.pg_game.specs.Graph.{Graph, HasEdge}
-use Rattle.pg_finders.specs.declared.recursion.plan.Plan.{Plan}
+use Rattle.pg_finders.specs.declared.recursion.subgame.Plan.{Plan}
 use Rattle.pg_finders.specs.private.Solved.{Winners}
 
 abbrev pub winners_of : Plan → Winners

@@ -4,8 +4,8 @@ use Rattle.pg_game.specs.declared.player.Player.TheVariants.{Even, Odd}
 use Rattle.pg_game.specs.Graph.{Graph}
 use Rattle.pg_game.specs.VertexSet.{members}
 use Rattle.pg_game.specs.Subgame.{IsSubgame}
-use Rattle.pg_finders.specs.declared.recursion.solver.Frame.{Frame}
-use Rattle.pg_finders.specs.declared.recursion.solver.Solver.{Solver}
+use Rattle.pg_finders.specs.declared.recursion.Frame.{Frame}
+use Rattle.pg_finders.specs.declared.recursion.Solver.{Solver}
 use Rattle.pg_finders.specs.private.recursion.Planned.{winners_of, choices_of, size}
 use Rattle.pg_finders.specs.private.recursion.Settled.{SettledLists, settled_of}
 use Rattle.pg_finders.specs.private.recursion.Order.{IsOrder, AllStand}

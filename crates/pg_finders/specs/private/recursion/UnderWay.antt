@@ -5,7 +5,7 @@ use Rattle.pg_game.specs.declared.player.Player.TheVariants.{Even, Odd}
 use Rattle.pg_game.specs.Graph.{Graph}
 use Rattle.pg_game.specs.VertexSet.{VertexSet, In}
 use Rattle.pg_game.specs.Kept.{Choices}
-use Rattle.pg_finders.specs.declared.recursion.solver.Frame.{Frame}
+use Rattle.pg_finders.specs.declared.recursion.Frame.{Frame}
 use Rattle.pg_finders.specs.private.recursion.Listed.{listed, Once, Apart}
 use Rattle.pg_finders.specs.private.recursion.Settled.{SettledLists}
 use Rattle.pg_finders.specs.private.Solved.{Winners}

@@ -4,8 +4,8 @@ use Rattle.pg_game.specs.declared.player.Player.{Player}
 use Rattle.pg_game.specs.Graph.{Graph, HasEdge, owner_of}
 use Rattle.pg_game.specs.VertexSet.{VertexSet, In, Within}
 use Rattle.pg_dominion.specs.Claim.{ClaimRows, named, choice_in, IsGoodIn}
-use Rattle.pg_finders.specs.declared.small.search.Step.{Step}
-use Rattle.pg_finders.specs.declared.small.search.Step.TheVariants.{Found, Nothing, GaveUp}
+use Rattle.pg_finders.specs.declared.small.Step.{Step}
+use Rattle.pg_finders.specs.declared.small.Step.TheVariants.{Found, Nothing, GaveUp}
 use Rattle.pg_finders.specs.private.small.Partial.{vertex_in, IsPartial, ExtendsChoices}
 
 abbrev pub IfFound : Step → Type 0 → Type 0

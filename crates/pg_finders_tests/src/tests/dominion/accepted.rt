@@ -4,9 +4,9 @@
 ghost use Rattle.std.specs.Prelude.{◌≡◌, ◌≤◌, length};
 
 use crate::tests::asserting::made;
-use crate::tests::dominion::bodies::{HOSTILE, ROUNDS, SEED, behind, worst_by_definition};
+use crate::tests::dominion::bodies::{HOSTILE, ROUNDS, SEED, behind, least_bad_by_definition};
 use crate::tests::dominion::games::{Hostile, add_plain, random_plain};
-use crate::tests::dominion::kept::{odd_vertices, worst};
+use crate::tests::dominion::kept::{least_bad, odd_vertices};
 use pg_game::{Game, Mask};
 use pg_test_support::{Draft, Random};
 use std::alloc::Global;
@@ -39,7 +39,7 @@ fn add_random(rt: &impl Abort, alloc: Global, draft: &mut Draft, parts: &mut Vec
         let plain = random_plain(rt, alloc, &mut random);
         let first = draft.len();
         add_plain(rt, alloc, draft, plain.as_slice());
-        let answer = worst_by_definition(rt, alloc, plain.as_slice());
+        let answer = least_bad_by_definition(rt, alloc, plain.as_slice());
         made(rt, parts.push((first, draft.len(), behind(first, answer))));
     }
 }
@@ -80,7 +80,7 @@ fn compare_part(
     want: Option<u32>,
 ) {
     let bad = bad_vertices(rt, alloc, game, parts, chosen);
-    check_eq!(*rt; worst(rt, alloc, game, bad), want);
+    check_eq!(*rt; least_bad(rt, alloc, game, bad), want);
 }
 
 /// The ladder with all parts, and notes where these are.
@@ -115,7 +115,7 @@ fn a_ranking_is_accepted_of_each_game_behind_a_long_ladder(rt: HostRuntime) {
 fn compare_turned(rt: &impl Abort, alloc: Global, level: u32, want: u32) {
     let game = Hostile::Ladder(150_000, Some(level)).game(rt, alloc);
     let bad = odd_vertices(rt, alloc, &game);
-    check_eq!(*rt; worst(rt, alloc, &game, bad), Some(want));
+    check_eq!(*rt; least_bad(rt, alloc, &game, bad), Some(want));
 }
 
 #[test]

@@ -5,7 +5,7 @@
 use crate::tests::asserting::made;
 use crate::tests::dominion::claims::compare_fault;
 use crate::tests::dominion::games::{Hostile, add_plain, plain_game, random_plain};
-use crate::tests::dominion::kept::{odd_vertices, worst};
+use crate::tests::dominion::kept::{least_bad, odd_vertices};
 use crate::tests::dominion::reference::claim_fault;
 use pg_dominion::ClaimFault;
 use pg_game::Game;
@@ -28,8 +28,8 @@ pub fn rows_of_all(rt: &impl Abort, alloc: Global, n: u32) -> Vec<Row> {
 }
 
 /// The fault of a claim with this least vertex on a bad closed walk.
-fn cycle(worst: Option<u32>) -> Option<ClaimFault> {
-    match worst {
+fn cycle(least_bad: Option<u32>) -> Option<ClaimFault> {
+    match least_bad {
         Some(v) => Some(ClaimFault::Cycle(v)),
         None => None,
     }
@@ -44,8 +44,8 @@ pub fn behind(first: u32, vertex: Option<u32>) -> Option<u32> {
 }
 
 /// The least vertex on a bad closed walk of all edges, without a look along rows.
-fn worst_of(rt: &impl Abort, alloc: Global, game: &Game) -> Option<u32> {
-    worst(rt, alloc, game, odd_vertices(rt, alloc, game))
+fn least_bad_odd(rt: &impl Abort, alloc: Global, game: &Game) -> Option<u32> {
+    least_bad(rt, alloc, game, odd_vertices(rt, alloc, game))
 }
 
 /// A game has this least vertex on a bad closed walk, or none, as a claim of all vertices and by searches; and by a ranking
@@ -53,8 +53,8 @@ fn worst_of(rt: &impl Abort, alloc: Global, game: &Game) -> Option<u32> {
 fn compare(rt: &impl Abort, alloc: Global, game: &Game, ranked: &Game, want: Option<u32>) {
     let rows = rows_of_all(rt, alloc, game.len());
     compare_fault(rt, alloc, game, EVEN, rows.as_slice(), cycle(want));
-    check_eq!(*rt; worst_of(rt, alloc, game), want);
-    check_eq!(*rt; worst_of(rt, alloc, ranked), behind(121, want));
+    check_eq!(*rt; least_bad_odd(rt, alloc, game), want);
+    check_eq!(*rt; least_bad_odd(rt, alloc, ranked), behind(121, want));
 }
 
 /// The short ladder.
@@ -102,7 +102,7 @@ fn short_and_plain(rt: &impl Abort, alloc: Global, plain: &[Plain]) -> Game {
 }
 
 /// The least vertex on a bad closed walk of all edges, by the reference.
-pub fn worst_by_definition(rt: &impl Abort, alloc: Global, plain: &[Plain]) -> Option<u32> {
+pub fn least_bad_by_definition(rt: &impl Abort, alloc: Global, plain: &[Plain]) -> Option<u32> {
     let rows = rows_of_all(rt, alloc, size_of(plain));
     match claim_fault(plain, EVEN, rows.as_slice()) {
         Some(ClaimFault::Cycle(v)) => Some(v),
@@ -112,7 +112,7 @@ pub fn worst_by_definition(rt: &impl Abort, alloc: Global, plain: &[Plain]) -> O
 
 /// A random game has the reference's answer. Whether it has no bad closed walk.
 fn is_good(rt: &impl Abort, alloc: Global, plain: &[Plain]) -> bool {
-    let want = worst_by_definition(rt, alloc, plain);
+    let want = least_bad_by_definition(rt, alloc, plain);
     let game = plain_game(rt, alloc, plain);
     compare(rt, alloc, &game, &short_and_plain(rt, alloc, plain), want);
     want.is_none()

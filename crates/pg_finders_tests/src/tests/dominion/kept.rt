@@ -1,10 +1,10 @@
-//! Kept edges of a game, and the least bad vertex that they have.
+//! StrategyGraph edges of a game, and the least bad vertex that they have.
 
 ghost use Rattle.std.specs.Prelude.{◌≡◌, length, vec_len, replicate, false};
 ghost use Rattle.pg_dominion.specs.KeptEdges.{IsKept};
 
 use crate::tests::asserting::made;
-use pg_dominion::{Kept, least_bad_vertex};
+use pg_dominion::{StrategyGraph, least_bad_vertex};
 use pg_game::{Game, Mask, Player};
 use pg_test_support::ODD;
 use std::alloc::Global;
@@ -56,11 +56,11 @@ fn no_choices(rt: &impl Abort, alloc: Global, game: &Game) -> Vec<u32>
 }
 
 /// All edges of a game, with these bad vertices.
-fn all_edges<'g>(rt: &impl Abort, alloc: Global, game: &'g Game, bad: Mask) -> Kept<'g>
+fn all_edges<'g>(rt: &impl Abort, alloc: Global, game: &'g Game, bad: Mask) -> StrategyGraph<'g>
     requires { length bad ≡ length game.now }
     ensures { IsKept result }
 {
-    Kept {
+    StrategyGraph {
         game: game.forward(),
         inside: all_vertices(rt, alloc, game),
         chosen: no_vertices(rt, alloc, game),
@@ -70,15 +70,15 @@ fn all_edges<'g>(rt: &impl Abort, alloc: Global, game: &'g Game, bad: Mask) -> K
 }
 
 /// The least bad vertex that is the greatest on a closed walk, where all edges are kept.
-pub fn worst(rt: &impl Abort, alloc: Global, game: &Game, bad: Mask) -> Option<u32>
+pub fn least_bad(rt: &impl Abort, alloc: Global, game: &Game, bad: Mask) -> Option<u32>
     requires { length bad ≡ length game.now }
 {
     let kept = all_edges(rt, alloc, game, bad);
-    worst_kept(rt, alloc, &kept)
+    least_bad_kept(rt, alloc, &kept)
 }
 
 /// The same, asked once more where memory was refused.
-fn worst_kept(rt: &impl Abort, alloc: Global, kept: &Kept) -> Option<u32>
+fn least_bad_kept(rt: &impl Abort, alloc: Global, kept: &StrategyGraph) -> Option<u32>
     requires { IsKept kept.now }
 {
     match least_bad_vertex(alloc, kept) {

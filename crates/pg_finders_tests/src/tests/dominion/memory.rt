@@ -10,7 +10,7 @@ ghost use Rattle.pg_game.specs.VertexSet.{Within, members};
 use crate::tests::asserting::made;
 use crate::tests::dominion::bodies::rows_of_all;
 use crate::tests::dominion::games::{Hostile, claim_of, game_made, mask_made};
-use crate::tests::dominion::kept::{all_vertices, odd_vertices, worst};
+use crate::tests::dominion::kept::{all_vertices, least_bad, odd_vertices};
 use crate::tests::dominion::subgames::{is_subgame, is_within};
 use pg_dominion::{
     Checked, Claim, ClaimFault, SolutionFault, attract, check_claim, check_solution, judge_claim,
@@ -195,10 +195,10 @@ fn vertices_are_attracted_after_a_refusal(rt: HostRuntime) {
 }
 
 /// The least bad vertex, with an answer that is the same after a refusal.
-fn compare_worst(rt: &impl Abort, alloc: Global, game: &Game, bad: Mask, want: Option<u32>)
+fn compare_least_bad(rt: &impl Abort, alloc: Global, game: &Game, bad: Mask, want: Option<u32>)
     requires { length bad ≡ length game.now }
 {
-    check_eq!(*rt; worst(rt, alloc, game, bad), want);
+    check_eq!(*rt; least_bad(rt, alloc, game, bad), want);
 }
 
 /// The vertices with odd priorities, without the greatest of them.
@@ -216,9 +216,9 @@ fn without_2(rt: &impl Abort, alloc: Global, game: &Game) -> Mask
 fn the_least_bad_vertex_is_found_after_a_refusal(rt: HostRuntime) {
     let game = game_made(&rt, rt.alloc(), GAME);
     let odd = odd_vertices(&rt, rt.alloc(), &game);
-    compare_worst(&rt, rt.alloc(), &game, odd, Some(2));
+    compare_least_bad(&rt, rt.alloc(), &game, odd, Some(2));
     let bad = without_2(&rt, rt.alloc(), &game);
-    compare_worst(&rt, rt.alloc(), &game, bad, None);
+    compare_least_bad(&rt, rt.alloc(), &game, bad, None);
 }
 
 /// The answer to Even's claim of all vertices of a hostile game, which is a good one.

@@ -5,7 +5,7 @@ ghost use Rattle.std.specs.Prelude.{◌≡◌, length};
 use crate::tests::asserting::made;
 use crate::tests::dominion::games::{game_made, plain_game};
 use crate::tests::dominion::reference::{Won, numbered, solution_fault};
-use pg_dominion::{SolutionFault, check_solution, judge_solution};
+use pg_dominion::{SolutionFault, check_forward_solution, check_solution};
 use pg_game::{Game, Sequence};
 use pg_test_support::{EVEN, ODD, Plain, Vertex, size_of};
 use pg_text::Solution;
@@ -34,7 +34,7 @@ fn compare_fault(
     };
     if solution.rows.as_slice().len() == game.len() as usize {
         check_eq!(*rt; fault(alloc, game, &solution), want);
-        check_eq!(*rt; judge_solution(alloc, game.forward(), &solution).err(), want);
+        check_eq!(*rt; check_forward_solution(alloc, game.forward(), &solution).err(), want);
     } else {
         check!(*rt; false, "there is not one row for each vertex");
     }

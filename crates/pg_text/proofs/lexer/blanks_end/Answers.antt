@@ -7,5 +7,5 @@ blanks-preserved c = (
   omega arith,
   c.blanks.invariant.1 ++ get_or c.args.text.now c.blanks.to 0 ∷ [],
   run_more is_blank c.args.text.now c.args.from c.blanks.to c.blanks.invariant.1 c.blanks.invariant.2 c.blanks-test.true
-      (sym c.blank.ensures ∙ c.if-blank.true),
+      (sym c.is_blank.ensures ∙ c.if-is_blank.true),
 )

@@ -7,5 +7,5 @@ letters-preserved c = (
   omega arith,
   c.letters.invariant.1 ++ get_or c.args.text.now c.letters.to 0 ∷ [],
   run_more is_letter c.args.text.now c.args.from c.letters.to c.letters.invariant.1 c.letters.invariant.2 c.letters-test.true
-      (sym c.letter.ensures ∙ c.if-letter.true),
+      (sym c.is_letter.ensures ∙ c.if-is_letter.true),
 )

@@ -8,7 +8,7 @@ digits-preserved c = (
   omega arith,
   c.digits.invariant.1 ++ get_or c.args.text.now c.digits.to 0 ∷ [],
   run_more is_digit c.args.text.now c.args.from c.digits.to c.digits.invariant.1 c.digits.invariant.2 c.digits-test.true
-      (sym c.digit.ensures ∙ c.if-digit.true),
+      (sym c.is_digit.ensures ∙ c.if-is_digit.true),
   (elim c.if-value-le-GREATEST.branch [
     | then-value-le-GREATEST w ↦
         rw w.value-is (counts_more c.digits.value (get_or c.args.text.now c.digits.to 0) _ c.digits.invariant.1 c.digits.invariant.3 (omega arith)

@@ -9,7 +9,7 @@ digits-preserved c =
     let at = c.args.from + c.digits.k in
     let (below, run, is_run, value) = c.digits.invariant in
     let d = get_or text at 0 in
-    let t : is_digit d ≡ true = sym c.digit.ensures ∙ c.if-not-digit.false in
+    let t : is_digit d ≡ true = sym c.is_digit.ensures ∙ c.if-not-is_digit.false in
     let more = run_more is_digit text c.args.from at run is_run (omega (arith, c.digits-test.true, c.requires)) t in
     let (small, same) = digits_more c.digits.value c.digits.k d c.from.result run below value t c.from.ensures in
     (small, run ++ d ∷ [], subst (λ (to : ℕ). IsRun is_digit text c.args.from to (run ++ d ∷ [])) (omega arith) more, same)
@@ -17,5 +17,5 @@ digits-preserved c =
 pub overflow_cast-result : goal.overflow_cast-result
 overflow_cast-result c = search rules
 
-pub returns-then-not-digit-clause-run : goal.returns-then-not-digit-clause-run
-returns-then-not-digit-clause-run c = search rules
+pub returns-then-not-is_digit-clause-run : goal.returns-then-not-is_digit-clause-run
+returns-then-not-is_digit-clause-run c = search rules

@@ -9,11 +9,11 @@ returns-in-Some-clause-token c = search (rules, name_found, c.requires.inside, c
 pub returns-in-None-clause-token : goal.returns-in-None-clause-token
 returns-in-None-clause-token c = search (rules, nothing_at, plain_all, c.requires.inside, c.if-first-eq34.true, between_to_end, c.in-None.ensures)
 
-pub returns-then-letter-clause-token : goal.returns-then-letter-clause-token
-returns-then-letter-clause-token c =
-    search (rules, c.letters_end.ensures.run, word_at, c.requires.inside, c.letter.ensures, c.if-letter.true, c.letters_end.ensures.ends)
+pub returns-then-is_letter-clause-token : goal.returns-then-is_letter-clause-token
+returns-then-is_letter-clause-token c =
+    search (rules, c.letters_end.ensures.run, word_at, c.requires.inside, c.is_letter.ensures, c.if-is_letter.true, c.letters_end.ensures.ends)
 
 pub returns-clause-token : goal.returns-clause-token
 returns-clause-token c = nothing_at c.args.text.now c.args.from c.requires.inside c.requires.solid
     (inl (begins_none (get_or c.args.text.now c.args.from 0) c.requires.no_digit
-    (sym c.letter.ensures ∙ c.if-letter.false) c.if-first-eq34.false c.requires.no_comma c.requires.no_semicolon))
+    (sym c.is_letter.ensures ∙ c.if-is_letter.false) c.if-first-eq34.false c.requires.no_comma c.requires.no_semicolon))

@@ -16,7 +16,19 @@ pub put_row-requires-clause-choice : goal.put_row-requires-clause-choice
 put_row-requires-clause-choice c = search (rules, all_at, c.args.game.now, c.rows.v, c.args.solution.now.rows, c.as_slice-rows.ensures, c.requires.choices)
 
 pub rows-preserved : goal.rows-preserved
-rows-preserved c = search (rules, append_assoc, row_more, c.args.game.now, c.as_slice-rows.result.now, c.as_slice-rows.ensures, c.requires.size, c.rows.v, c.in_ok-put_row.ensures, c.rows.out.items, c.rows.invariant)
+rows-preserved c = search (
+  rules,
+  append_assoc,
+  row_more,
+  c.args.game.now,
+  c.as_slice-rows.result.now,
+  c.as_slice-rows.ensures,
+  c.requires.size,
+  c.rows.v,
+  c.in_ok-put_row.ensures,
+  c.rows.out.items,
+  c.rows.invariant,
+)
 
 pub returns-clause-short : goal.returns-clause-short
 returns-clause-short c =

@@ -11,7 +11,7 @@ use crate::tests::game::{
     EVEN, EXPECTED_IN_ORDER, EXPECTED_WITH_A_GAP, IN_ORDER, Row, WITH_A_GAP, add_flat,
     flat_game_of, from_rows, game_of, look,
 };
-use pg_game::{Game, GameFault, Mask, Memory, Specs};
+use pg_game::{ForwardGame, Game, GameBuilder, GameFault, Mask, Memory};
 use std::alloc::Global;
 use std::process::Abort;
 
@@ -59,11 +59,11 @@ fn a_game_of_lists_with_a_gap_is_made_after_a_refusal(rt: HostRuntime) {
 }
 
 /// Lists of 40 vertices, whose successors are themselves, once or twice, and whose identifiers are 0, 1 and so on, or fall.
-fn many(alloc: Global, falls: bool, times: usize) -> Result<Specs, Memory>
+fn many(alloc: Global, falls: bool, times: usize) -> Result<GameBuilder, Memory>
     requires { times ≤ 2 }
     ensures { IfOk result (λ flat. All AreNumbers flat) }
 {
-    let mut flat = Specs::with_capacity(alloc, 40, 80)?;
+    let mut flat = GameBuilder::with_capacity(alloc, 40, 80)?;
     'vertices: for v in 0..40u32 {
         let id = if falls { 400 - 10 * v } else { v };
         let twice = [id, id];
@@ -96,7 +96,38 @@ fn compare_many(rt: &impl Abort, alloc: Global, falls: bool, times: usize)
     check_eq!(*rt; made(rt, many_twice(alloc, falls, times)).len(), 40);
 }
 
-// `tests/refused_calls.py` of the repository compares how many allocations there are in the next three.
+/// The lists in order, made once more where memory was refused.
+fn lists_twice(alloc: Global) -> Result<GameBuilder, Memory> {
+    match many(alloc, false, 1) {
+        Ok(lists) => Ok(lists),
+        Err(_) => many(alloc, false, 1),
+    }
+}
+
+/// Their game without predecessors.
+fn forward_of_many(alloc: Global) -> Result<ForwardGame, GameFault> {
+    ForwardGame::from_rows(alloc, many(alloc, false, 1)?)
+}
+
+/// The same, made once more where memory was refused.
+fn forward_twice(alloc: Global) -> Result<ForwardGame, GameFault> {
+    match forward_of_many(alloc) {
+        Err(GameFault::Memory) => forward_of_many(alloc),
+        made => made,
+    }
+}
+
+// `tests/refused_calls.py` of the repository compares how many allocations there are in the next five.
+
+#[test]
+fn many_lists_in_order_are_made_after_a_refusal(rt: HostRuntime) {
+    made(&rt, lists_twice(rt.alloc()));
+}
+
+#[test]
+fn many_lists_in_order_are_the_game_itself_after_a_refusal(rt: HostRuntime) {
+    check_eq!(rt; made(&rt, forward_twice(rt.alloc())).len(), 40);
+}
 
 #[test]
 fn many_lists_in_order_are_a_game_after_a_refusal(rt: HostRuntime) {

@@ -5,14 +5,14 @@ ghost use Rattle.pg_game.specs.Specification.{AreNumbers};
 
 use crate::tests::asserting::made;
 use crate::tests::game::{EVEN, Expected, ODD, from_rows, look};
-use pg_game::{Game, GameFault, OpenSpecs, Player};
+use pg_game::{Game, GameFault, IncrementalBuilder, Player};
 use std::alloc::Global;
 use std::process::Abort;
 
 /// Closes a specification with two successors, after another that was dropped.
 fn close_two(
     rt: &impl Abort,
-    specs: &mut OpenSpecs,
+    specs: &mut IncrementalBuilder,
     id: u32,
     priority: u32,
     owner: Player,
@@ -37,7 +37,7 @@ const EXPECTED: &[Expected] = &[
 
 /// The game of two specifications, with successors that were dropped or left open.
 fn closed(rt: &impl Abort, alloc: Global) -> Result<Game, GameFault> {
-    let mut specs = OpenSpecs::new(alloc).expect(rt, "memory");
+    let mut specs = IncrementalBuilder::new(alloc).expect(rt, "memory");
     close_two(rt, &mut specs, 0, 3, ODD, (0, 1));
     close_two(rt, &mut specs, 1, 4, EVEN, (1, 0));
     specs.push(7).expect(rt, "memory");

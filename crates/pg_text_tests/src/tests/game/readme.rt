@@ -5,7 +5,7 @@ ghost use Rattle.pg_game.specs.Specification.{AreNumbers};
 
 use crate::tests::asserting::made;
 use crate::tests::game::{EXPECTED_IN_ORDER, IN_ORDER, look, specs_of};
-use pg_game::{ForwardGame, Game, GameFault, OpenSpecs, Player, Spec, Specs};
+use pg_game::{ForwardGame, Game, GameBuilder, GameFault, IncrementalBuilder, Player, Spec};
 use std::alloc::Global;
 use std::test::Fail;
 
@@ -34,7 +34,7 @@ fn the_edges_of_a_game_are_gone_through(rt: HostRuntime) -> Result<(), Fail> {
 
 /// The game of `IN_ORDER`.
 fn pushed(alloc: Global) -> Result<Game, GameFault> {
-    let mut specs = Specs::with_capacity(alloc, 2, 3)?;
+    let mut specs = GameBuilder::with_capacity(alloc, 2, 3)?;
     specs.push(0, 2, Player::Even, [0, 1].as_slice())?;
     specs.push(1, 1, Player::Odd, [1].as_slice())?;
     let forward = ForwardGame::from_rows(alloc, specs)?;
@@ -49,7 +49,7 @@ fn specifications_are_pushed_with_their_successors(rt: HostRuntime) {
 
 /// The same game.
 fn pushed_one_by_one(alloc: Global) -> Result<Game, GameFault> {
-    let mut specs = OpenSpecs::new(alloc)?;
+    let mut specs = IncrementalBuilder::new(alloc)?;
     specs.push(0)?;
     specs.push(1)?;
     specs.close(0, 2, Player::Even)?;

@@ -13,7 +13,7 @@ with_rows-requires-clause-prefix g c =
     let drawn = c.close.ensures.fair in let back = c.take_apart-shares in
     let n : ℕ = min c.args.jobs.series.total drawn.word in
     let prefix = of_front n (λ (t : HeldTicket). t.numbers) back.result.1.items back.result.2.items drawn.fair back.ensures.numbers in
-    let long = c.in_ok-report.ensures.rows.0 in let total = c.requires.total.0 in
+    let long = c.in_ok-report.ensures.rows.0 in let total = c.total-total.ensures.number ∙ sym c.requires.total.1 in
     let series = ap (λ s. s.total) c.requires.jobs.0 in
     (n, omega arith, subst (λ (all : List (Vec ReportRow Global)). AreOfPrefix n (rows_in all)) (sym c.as_slice.ensures.value) prefix)
 
@@ -35,7 +35,7 @@ returns-clause-settled g c =
 pub returns-clause-rows : goal.returns-clause-rows
 returns-clause-rows g c =
     let back = c.take_apart-shares in let rows = back.result.2.items in
-    let workers : ℕ = g.J.Naming.workers in let drawn = c.close.ensures.fair in
+    let workers : ℕ = g.J.RunJobs.workers in let drawn = c.close.ensures.fair in
     let n : ℕ = min c.args.jobs.series.total drawn.word in
     let prefix = of_front n (λ (t : HeldTicket). t.numbers) back.result.1.items rows drawn.fair back.ensures.numbers in
     let made = c.with_rows in

@@ -50,7 +50,7 @@ pub enum Wrong {
     Again,
     /// A kept edge of a claimed row ends outside the claimed rows and the player's region.
     Open,
-    /// Kept edges of claimed rows make a closed walk that the opponent wins.
+    /// StrategyGraph edges of claimed rows make a closed walk that the opponent wins.
     Walk,
     /// A row is called attracted, and a kept edge of it ends outside the player's region and the rows before.
     NotAttracted,

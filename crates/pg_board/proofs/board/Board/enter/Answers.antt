@@ -20,9 +20,9 @@ entering c = record {
 grown : (c : After-len-settled)
     → HasGrown c.self.inside.game.now c.args.player c.self.inside.regions c.attract.new.self c.args.rows.items c.attract.new.rows.items
 grown c =
-    let settled = c.settle_all.ensures in let attracted = c.attract.ensures in
-    has_grown c.self.inside.game.now c.args.player c.settle_all.new.self c.attract.new.self c.args.rows.items c.attract.new.rows.items attracted.grows
-    c.self.inside.regions c.as_slice.result.now c.as_slice.ensures.value settled.same settled.told attracted.growing.regions attracted.done
+    let settled = c.settle_rows.ensures in let attracted = c.attract.ensures in
+    has_grown c.self.inside.game.now c.args.player c.settle_rows.new.self c.attract.new.self c.args.rows.items c.attract.new.rows.items attracted.grows
+    c.self.inside.regions c.as_slice.result.now c.as_slice.ensures.value settled.same settled.written attracted.growing.regions attracted.done
 
 -- the number of the rows
 size_is : (c : After-len-settled) → length c.shrink_to_fit.new.self.items ≡ length c.attract.new.rows.items
@@ -40,21 +40,21 @@ settled_is c =
     omega (arith, copied, c.len-settled.ensures, c.shrink_to_fit.new.self.ok.0)
 
 pub attract-requires-clause-growing : goal.attract-requires-clause-growing
-attract-requires-clause-growing c = search (rules, c.self.view_is, c.requires.spare, c.as_slice.ensures.value, IsGrowing-more, c.settle_all.ensures.growing)
+attract-requires-clause-growing c = search (rules, c.self.view_is, c.requires.spare, c.as_slice.ensures.value, IsGrowing-more, c.settle_rows.ensures.growing)
 
-pub settle_all-requires-clause-unsettled : goal.settle_all-requires-clause-unsettled
-settle_all-requires-clause-unsettled c =
-    search (rules, entering, c.as_slice.ensures.value, rest_within, entering (goal.at.settle_all-requires-clause-unsettled c).After-len-claimed)
+pub settle_rows-requires-clause-unsettled : goal.settle_rows-requires-clause-unsettled
+settle_rows-requires-clause-unsettled c =
+    search (rules, entering, c.as_slice.ensures.value, rest_within, entering (goal.at.settle_rows-requires-clause-unsettled c).After-len-claimed)
 
-pub settle_all-requires-clause-distinct : goal.settle_all-requires-clause-distinct
-settle_all-requires-clause-distinct c =
+pub settle_rows-requires-clause-distinct : goal.settle_rows-requires-clause-distinct
+settle_rows-requires-clause-distinct c =
     subst (λ (xs : ClaimRows). IsDistinct nat_eq (vertices xs)) (sym c.as_slice.ensures.value)
-    (rest_distinct (entering (goal.at.settle_all-requires-clause-distinct c).After-len-claimed))
+    (rest_distinct (entering (goal.at.settle_rows-requires-clause-distinct c).After-len-claimed))
 
 pub attract-requires-clause-subgame : goal.attract-requires-clause-subgame
 attract-requires-clause-subgame c =
-    open_subgame (entering (goal.at.attract-requires-clause-subgame c).After-len-claimed) c.settle_all.new.self c.as_slice.result.now
-    c.as_slice.ensures.value c.settle_all.ensures.same
+    open_subgame (entering (goal.at.attract-requires-clause-subgame c).After-len-claimed) c.settle_rows.new.self c.as_slice.result.now
+    c.as_slice.ensures.value c.settle_rows.ensures.same
 
 pub overflow_cast-claimed : goal.overflow_cast-claimed
 overflow_cast-claimed c =
@@ -102,6 +102,6 @@ overflow_add-is_full c =
 
 pub attract-requires-clause-full : goal.attract-requires-clause-full
 attract-requires-clause-full c =
-    none_left (entering (goal.at.attract-requires-clause-full c).After-len-claimed) c.settle_all.new.self c.as_slice.result.now
-    c.as_slice.ensures.value c.settle_all.ensures.same c.settle_all.ensures.growing.apart (c.len-claimed.ensures ∙ c.args.rows.ok.0)
+    none_left (entering (goal.at.attract-requires-clause-full c).After-len-claimed) c.settle_rows.new.self c.as_slice.result.now
+    c.as_slice.ensures.value c.settle_rows.ensures.same c.settle_rows.ensures.growing.apart (c.len-claimed.ensures ∙ c.args.rows.ok.0)
     c.len-n.ensures.number

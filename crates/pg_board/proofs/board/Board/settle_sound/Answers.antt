@@ -1,7 +1,7 @@
 use Rattle.pg_board.proofs.Common.{◌≡◌, ◌<◌, length, refl, sym, ◌∙◌, subst, arith, Claim, ClaimRows, Play, rest_of, IsGoodOn, state_of, Refuses, Adds}
 use Rattle.pg_board.proofs.RestIsGood.{rest_is_good, rest_twice}
 use Rattle.pg_board.proofs.Posting.{IsChecked, rest_now, rest_right_here, rest_open, refused_open, claim_good, nonempty, sound_here, adds_claim, few_rows}
-use Rattle.pg_board.specs.declared.refusal.Refusal.TheVariants as refusal
+use Rattle.pg_board.specs.declared.journal.Refusal.TheVariants as refusal
 use Rattle.pg_board.proofs.board.Board.settle_sound.Goals.{After-as_slice}
 use Rattle.pg_board.proofs.board.Board.settle_sound.Goals as goal
 

@@ -5,8 +5,8 @@ use Rattle.pg_board.proofs.office.Office.open_with.Given as goal
 
 abbrev pub invariant-loop-i : goal.invariant-loop-i
 invariant-loop-i g l =
-    (l.rest.parts + l._i + 1 ≡ l.seats)
-    × (l.rest.amount ≡ 0)
+    (l.remaining.parts + l._i + 1 ≡ l.seats)
+    × (l.remaining.amount ≡ 0)
     × (l.shares.items ≡ l.amount ∷ replicate l._i 0)
     × (vec_len l.shares ≡ l._i + 1)
     × (vec_capacity l.shares ≡ l.seats)

@@ -31,7 +31,15 @@ has_back stored size sources = record {
 }
 
 pub reversed-requires : goal.reversed-requires
-reversed-requires c = search (rules, game_rows, length_is, c.forward.invariant.parts, c.forward.invariant.game, c.forward.invariant.parts.successors, c.forward.invariant.limits.vertices)
+reversed-requires c = search (
+  rules,
+  game_rows,
+  length_is,
+  c.forward.invariant.parts,
+  c.forward.invariant.game,
+  c.forward.invariant.parts.successors,
+  c.forward.invariant.limits.vertices,
+)
 
 pub invariant_of-result : goal.invariant_of-result
 invariant_of-result c =

@@ -22,4 +22,16 @@ pub words-preserved : goal.words-preserved
 words-preserved c = search (rules, word_more, c.as_slice-word-items.result.now, c.words.word-index, c.type_inv.word-items, c.words.invariant)
 
 pub returns : goal.returns
-returns c = search (rules, all_counted, opened, c.self.inside.words.items, c.as_slice-word-items.ensures.value, c.words.word-index, c.words.invariant, c.as_slice-word-items.result.now, c.self.inside.len, c.self.invariant, c.self.view_is)
+returns c = search (
+  rules,
+  all_counted,
+  opened,
+  c.self.inside.words.items,
+  c.as_slice-word-items.ensures.value,
+  c.words.word-index,
+  c.words.invariant,
+  c.as_slice-word-items.result.now,
+  c.self.inside.len,
+  c.self.invariant,
+  c.self.view_is,
+)

@@ -10,4 +10,19 @@ index-requires c =
     omega (arith, l, (opened c.self.inside.words.items c.self.inside.len c.self.invariant).size, c.self.inside.words.ok.0)
 
 pub returns : goal.returns
-returns c = search (rules, below, opened, get_or_read, shr_and_one, get_or-bits_of, c.self.inside.words.items, c.args.v, c.self.inside.len, c.self.view_is, c.requires, c.self.invariant, c.index.result.now, c.index.ensures)
+returns c = search (
+  rules,
+  below,
+  opened,
+  get_or_read,
+  shr_and_one,
+  get_or-bits_of,
+  c.self.inside.words.items,
+  c.args.v,
+  c.self.inside.len,
+  c.self.view_is,
+  c.requires,
+  c.self.invariant,
+  c.index.result.now,
+  c.index.ensures,
+)

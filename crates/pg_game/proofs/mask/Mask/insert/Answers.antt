@@ -19,4 +19,18 @@ invariant_of-self c =
     closed _ n (inserted words n c.args.v c.index_mut.result.now l fit read).0
 
 pub returns : goal.returns
-returns c = search (rules, below, opened, get_or_read, inserted, c.self.inside.words.items, c.self.inside.len, c.args.v, c.self.view_is, c.requires, c.self.invariant, c.index_mut.ensures.value, c.index_mut.result.now)
+returns c = search (
+  rules,
+  below,
+  opened,
+  get_or_read,
+  inserted,
+  c.self.inside.words.items,
+  c.self.inside.len,
+  c.args.v,
+  c.self.view_is,
+  c.requires,
+  c.self.invariant,
+  c.index_mut.ensures.value,
+  c.index_mut.result.now,
+)

@@ -25,8 +25,24 @@ returns-in-Name g c at i e b =
     (Name bytes, t, λ ts k. token_kept k g.G.Grammar.BeginsText _ _ (Name bytes) c.args.lexeme.from refl (c.name.ensures bytes))
 
 pub returns-in-Comma : goal.returns-in-Comma
-returns-in-Comma g c at i e b =
-    (Comma, of_kind kind.Comma c.args.text.now at c.args.lexeme c.in-Comma.is i, λ ts k. token_kept k g.G.Grammar.BeginsText _ _ Comma c.args.lexeme.from refl c.comma.ensures)
+returns-in-Comma g c at i e b = (
+  Comma,
+  of_kind kind.Comma c.args.text.now at c.args.lexeme c.in-Comma.is i,
+  λ ts k. token_kept k g.G.Grammar.BeginsText _ _ Comma c.args.lexeme.from refl c.comma.ensures,
+)
 
 pub returns-in-Semicolon : goal.returns-in-Semicolon
-returns-in-Semicolon g c = search (rules, if_ok, of_kind, token_kept, c.semicolon.result, kind.Semicolon, c.args.text.now, c.args.lexeme, c.in-Semicolon.is, g.G.Grammar.BeginsText, c.args.lexeme.from, c.semicolon.ensures)
+returns-in-Semicolon g c = search (
+  rules,
+  if_ok,
+  of_kind,
+  token_kept,
+  c.semicolon.result,
+  kind.Semicolon,
+  c.args.text.now,
+  c.args.lexeme,
+  c.in-Semicolon.is,
+  g.G.Grammar.BeginsText,
+  c.args.lexeme.from,
+  c.semicolon.ensures,
+)

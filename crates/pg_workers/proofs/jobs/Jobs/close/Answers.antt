@@ -71,7 +71,7 @@ returns-clause-fair c =
     omega arith in
     let known = knows_all _ _ _ _ last.0 last.1.0 last.1.1 all_seats in
     let total = ap (λ k. k.total) jobs.key ∙ ap (λ o. o.series.total) c.self.view_is in
-    let told = ap (λ m. m.0.told_none) first ∙ ap (λ t. if t.told_none then 1 else 0) view in
+    let found_none = ap (λ m. m.0.told_none) first ∙ ap (λ t. if t.told_none then 1 else 0) view in
     let numbers = ap (λ m. m.0.drawn) first ∙ ap (λ t. t.numbers) view in
     let out = drawn_by_all _ known.0 at.seat.me.0.told_none at.seat.me.0.drawn (c.remove.result ∷ at.yielded) known.1 known.2 known.3
     (i.6 ∙ ap (λ l. l ++ flat_map (λ (t : HeldTicket). t.numbers) at.yielded) numbers)

@@ -13,7 +13,7 @@ attract_from-requires-clause-done c =
     no_further (done_equal (λ v. sym (grown_union h.grown v))
     (subst (λ xs. AttractsNoActive c.args.game.now c.args.player U (listed xs) (active_of c.retake_all.new.self))
     (sym (ap (λ n. take n c.retake_all.new.list.items) from_is ∙ prefix_taken h.grown))
-    (tested_done c.args.vertices.now h.grown c.requires.ready.apart c.requires.rest h.tested)))
+    (tested_done c.args.vertices.now h.grown c.requires.ready.apart c.requires.at_most h.tested)))
 
 pub returns-clause-done : goal.returns-clause-done
 returns-clause-done c =

@@ -2,7 +2,7 @@ use Rattle.std.proofs.Common.{◌≡◌, List, ℕ, ◌∙◌, subst}
 use Rattle.std.specs.Prelude.{Result, Ok, Err, IfOk, IfErr}
 use Rattle.pg_game.specs.Graph.{Graph, IsGame}
 use Rattle.pg_game.specs.Limits.{IsWithinLimits}
-use Rattle.pg_text.specs.declared.solution.Solution.{Solution}
+use Rattle.pg_text.specs.declared.solution_text.Solution.{Solution}
 use Rattle.pg_text.specs.declared.fault.SolutionTextFault.{SolutionTextFault}
 use Rattle.pg_text.specs.declared.fault.SolutionTextFault.TheVariants as fault
 use Rattle.pg_text.specs.Solution.{SolutionRows, AreSolutionRows}

@@ -1,11 +1,11 @@
 use Rattle.std.proofs.Common.{◌≡◌, ◌∙◌, true, sym}
-use Rattle.pg_workers.specs.Tickets.{HeldTicket, told}
+use Rattle.pg_workers.specs.Tickets.{HeldTicket, exhausted}
 use Rattle.pg_workers_tests.proofs.tests.workers.draws.draws_again.Goals as goal
 
-told_again : (t : HeldTicket) → t.told_none ≡ true → told t ≡ t
-told_again t e = λ i. record { series = t.series; numbers = t.numbers; told_none = sym e i }
+exhausted_again : (t : HeldTicket) → t.told_none ≡ true → exhausted t ≡ t
+exhausted_again t e = λ i. record { series = t.series; numbers = t.numbers; told_none = sym e i }
 
 pub returns-clause-same : goal.returns-clause-same
 returns-clause-same c =
     let none = rw (c.draw.ensures.sticky c.requires.told) at c.draw.ensures.none in
-    none ∙ told_again c.args.ticket.now c.requires.told
+    none ∙ exhausted_again c.args.ticket.now c.requires.told

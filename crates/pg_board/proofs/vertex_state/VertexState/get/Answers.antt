@@ -1,5 +1,0 @@
-use Rattle.std.proofs.Common.{rules}
-use Rattle.pg_board.proofs.vertex_state.VertexState.get.Goals as goal
-
-pub returns-in-Settled : goal.returns-in-Settled
-returns-in-Settled c = search rules

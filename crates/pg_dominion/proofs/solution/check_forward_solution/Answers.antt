@@ -1,0 +1,55 @@
+use Rattle.pg_dominion.proofs.Common.{ℕ, length, subst, ltb-true, Graph, NoneHas, IsLeast, edge_inside, Leaves, IsOnBadCycle}
+use Rattle.pg_text.specs.Verdict.{IsFirstLeaving}
+use Rattle.pg_text.proofs.Verdict.{solution_from_no_fault}
+use Rattle.pg_dominion.proofs.solution.check_forward_solution.Goals as goal
+
+pub returns-in-Some-2-clause-fails : goal.returns-in-Some-2-clause-fails
+returns-in-Some-2-clause-fails c =
+    let rows = c.args.solution.now.rows in
+    let k = c.in_ok-kept.kept in
+    let leaves = subst (λ (g : Graph). (u w : ℕ) → Leaves g rows u w → ⊥) c.in_ok-kept.ensures.game c.in_default-first_leaving.ensures.first in
+    let h : IsLeast (IsOnBadCycle k) c.in-Some-2.v = rw c.in-Some-2.is at c.in_ok-v.ensures in
+    let same = c.in_ok-kept.ensures.bad_cycle leaves in (
+      c.in-Some-2.v,
+      c.id-in-Some-2.ensures,
+      (
+        c.in_default.ensures,
+        c.in_default-first_bad_choice.ensures,
+        leaves,
+        record { has = (same c.in-Some-2.v).0 h.has; least = λ u b. h.least u ((same u).1 b) },
+      ),
+    )
+
+pub returns-clause-holds : goal.returns-clause-holds
+returns-clause-holds c =
+    let g = c.args.game.now in
+    let rows = c.args.solution.now.rows in
+    let leaves = subst (λ (g : Graph). (u w : ℕ) → Leaves g rows u w → ⊥) c.in_ok-kept.ensures.game c.in_default-first_leaving.ensures.first in
+    let none : NoneHas (IsOnBadCycle c.in_ok-kept.kept) = rw c.in_default-2.is at c.in_ok-v.ensures in
+    let same = c.in_ok-kept.ensures.bad_cycle leaves in
+    solution_from_no_fault g rows c.requires (λ v w l e. ltb-true w (length g) (edge_inside g c.len-n.ensures.game v w l e))
+    c.in_default.ensures c.in_default-first_bad_choice.ensures leaves (λ v b. none v ((same v).1 b))
+
+pub returns-in-Some-clause-fails : goal.returns-in-Some-clause-fails
+returns-in-Some-clause-fails c = (c.in-Some.v, c.id.ensures, c.in-Some.ensures)
+
+pub plan_of-requires-clause-choices : goal.plan_of-requires-clause-choices
+plan_of-requires-clause-choices c = c.in_default.ensures
+
+pub plan_of-requires-clause-right : goal.plan_of-requires-clause-right
+plan_of-requires-clause-right c = c.in_default-first_bad_choice.ensures
+
+pub returns-in-Some-first_bad_choice-clause-fails : goal.returns-in-Some-first_bad_choice-clause-fails
+returns-in-Some-first_bad_choice-clause-fails c =
+    (c.in-Some-first_bad_choice.v, c.id-in-Some-first_bad_choice.ensures, (c.in_default.ensures, c.in-Some-first_bad_choice.ensures))
+
+pub returns-in-Some-first_leaving-clause-fails : goal.returns-in-Some-first_leaving-clause-fails
+returns-in-Some-first_leaving-clause-fails c =
+    let e = c.in-Some-first_leaving in
+    let first = subst (λ (g : Graph). IsFirstLeaving g c.args.solution.now.rows e.v e.w) c.in_ok-kept.ensures.game e.ensures.first in (
+      e.v,
+      e.w,
+      c.id-in-Some-first_leaving.ensures,
+      c.id-in-Some-first_leaving-2.ensures,
+      (c.in_default.ensures, c.in_default-first_bad_choice.ensures, first),
+    )

@@ -1,0 +1,49 @@
+//! The edges that are kept of a game, read in place: no edge is copied.
+
+ghost use Rattle.std.specs.Prelude.{◌≡◌, ℕ, ◌<◌, ◌^◌, length, slice_index};
+ghost use Rattle.pg_dominion.specs.KeptEdges.{IsKept, kept_row};
+
+use pg_game::{ForwardGame, Mask};
+
+/// The edges that are kept of a game: from a vertex with a choice the edge to it, from another vertex
+/// inside all edges, and none from a vertex outside. A vertex is bad where its priority has the wrong parity.
+pub struct StrategyGraph<'g> {
+    pub game: &'g ForwardGame,
+    pub inside: Mask,
+    pub chosen: Mask,
+    pub choices: Vec<u32>,
+    pub bad: Mask,
+}
+
+impl<'g> StrategyGraph<'g> {
+    /// Where the kept edges of a vertex end.
+    pub fn row(&self, v: u32) -> &[u32]
+        requires kept { IsKept self.now }
+        requires vertex { v < length self.now.game.now }
+        ensures all { result.now ≡ kept_row self.now v }
+        ensures below { (i : ℕ) → i < length result.now → slice_index result.now i < length self.now.game.now }
+        ensures short { length result.now < 2 ^ 32 }
+    {
+        let at = v as usize;
+        if self.chosen.has(v) {
+            return &self.choices[at..at + 1];
+        }
+        if self.inside.has(v) {
+            return self.game.successors(v);
+        }
+        &self.choices[at..at]
+    }
+}
+
+/// By hand, so that letting one go is one step in the proofs of callers, and not one for each list.
+impl<'g> Drop for StrategyGraph<'g> {
+    fn drop(self) {
+        let StrategyGraph {
+            inside: _inside,
+            chosen: _chosen,
+            choices: _choices,
+            bad: _bad,
+            game: _game,
+        } = self;
+    }
+}

@@ -1,0 +1,343 @@
+//! The rows of an unfinished small claim: a few vertices in the order in which they were added, each with a choice or none;
+//! the vertices of which earlier searches have shown that no small claim has one; and whether the rows have a closed walk
+//! that their player loses. All without memory of its own.
+
+ghost use Rattle.std.specs.Prelude.{◌≡◌, ◌≢◌, ℕ, ◌≤◌, ◌<◌, ◌++◌, ◌∷◌, [], length, slice_set, slice_index_or, take, None, IsTrue, IsFalse, ◌+◌, ◌^◌, ◌↔◌, ◌⊎◌};
+ghost use Rattle.std.specs.Prelude.{IfSome, IsNone};
+ghost use Rattle.pg_dominion.specs.Claim.{named, choice_in};
+ghost use Rattle.pg_finders.specs.private.small.Partial.{no_row, vertex_in, choice_at, AreFew};
+ghost use Rattle.pg_finders.specs.private.small.Excluded.{IsBetween};
+ghost use Rattle.pg_game.specs.Region.{OnlyGoodWalks};
+ghost use Rattle.pg_finders.specs.private.small.Walked.{RowLeadsTo, IsReachedNext, IsReached, WalksBack};
+
+use pg_game::{Game, Mask, Player};
+use std::marker::Model;
+
+/// At most eight vertices, each with a choice or none.
+///
+/// Most vertices that a search asks for are not there. Their numbers modulo 64 show this without a look at the rows.
+#[derive(Drop)]
+pub struct Chosen {
+    rows: [(u32, Option<u32>); 8],
+    len: usize,
+    /// For each place up to `len`, the numbers modulo 64 of the vertices before it, as bits.
+    bits: [u64; 9],
+}
+
+impl Model for Chosen {
+    ghost use Rattle.std.specs.Prelude.{List, ℕ, Option, take};
+
+    ghost Value = { List (ℕ × Option ℕ) };
+
+    ghost view = { λ c. take c.len c.rows };
+
+    ghost use Rattle.pg_finders.specs.private.small.Few.{IsFew, HaveBits};
+
+    ghost invariant = { λ c. IsFew c.rows c.len × HaveBits c.rows c.len c.bits };
+}
+
+impl Chosen {
+    /// No vertices.
+    pub fn new() -> Chosen
+        ensures { result ≡ [] }
+    {
+        Chosen {
+            rows: [(0, None); 8],
+            len: 0,
+            bits: [0; 9],
+        }
+    }
+
+    /// The number of vertices.
+    pub fn len(&self) -> usize
+        ensures number { result ≡ length self.now }
+        ensures few { result ≤ 8 }
+    {
+        self.len
+    }
+
+    /// The vertex at a place.
+    pub fn vertex(&self, at: usize) -> u32
+        requires { at < length self.now }
+        ensures { result ≡ vertex_in self.now at }
+    {
+        self.row(at).0
+    }
+
+    /// The choice at a place.
+    pub fn choice(&self, at: usize) -> Option<u32>
+        requires { at < length self.now }
+        ensures { result ≡ choice_at self.now at }
+    {
+        self.row(at).1
+    }
+
+    /// Whether the vertex is there.
+    #[inline]
+    pub fn has(&self, v: u32) -> bool
+        ensures { result ≡ named self.now v }
+    {
+        let bits = self.bits[self.len];
+        if (bits >> (v % 64)) & 1 == 0 {
+            return false;
+        }
+        self.has_row(v)
+    }
+
+    /// Whether the vertex is before the place.
+    pub fn has_before(&self, end: usize, v: u32) -> bool
+        requires { end ≤ length self.now }
+        ensures found { IsTrue result → (k : ℕ) × (k < end) × (vertex_in self.now k ≡ v) }
+        ensures none { IsFalse result → (k : ℕ) → k < end → vertex_in self.now k ≢ v }
+    {
+        for at in 0..end {
+            if self.vertex(at) == v {
+                return true;
+            }
+        }
+        false
+    }
+
+    /// Adds a vertex at the end, without a choice.
+    pub fn push(&mut self, v: u32)
+        requires { length self.old < 8 }
+        ensures { self.new ≡ self.old ++ (v, None) ∷ [] }
+    {
+        self.rows[self.len] = (v, None);
+        self.bits[self.len + 1] = self.bits[self.len] | (1u64 << (v % 64));
+        self.len += 1;
+    }
+
+    /// Sets the choice at a place.
+    pub fn choose(&mut self, at: usize, choice: Option<u32>)
+        requires { at < length self.old }
+        ensures { self.new ≡ slice_set self.old at (vertex_in self.old at, choice) }
+    {
+        let v = self.row(at).0;
+        // for the proof: the place is one of the array
+        let _len = self.len;
+        self.rows[at] = (v, choice);
+    }
+
+    /// Keeps only the first vertices.
+    pub fn truncate(&mut self, len: usize)
+        requires { len ≤ length self.old }
+        ensures { self.new ≡ take len self.old }
+    {
+        self.len = len;
+    }
+
+    /// The vertex and the choice at a place.
+    fn row(&self, at: usize) -> (u32, Option<u32>)
+        requires { at < length self.now }
+        ensures { result ≡ slice_index_or self.now at no_row }
+    {
+        // for the proof: the place is one of the array
+        let _len = self.len;
+        self.rows[at]
+    }
+
+    /// The same, by a look at each row.
+    fn has_row(&self, v: u32) -> bool
+        ensures { result ≡ named self.now v }
+    {
+        for row in &self.rows[..self.len] {
+            if row.0 == v {
+                return true;
+            }
+        }
+        false
+    }
+}
+
+/// The vertices from `low` on, below `high`.
+#[derive(Clone, Copy, Drop)]
+pub struct Excluded {
+    pub low: u32,
+    pub high: u32,
+}
+
+impl Excluded {
+    /// Whether the vertex is one of them.
+    pub fn contains(&self, v: u32) -> bool
+        ensures { IsTrue result ↔ IsBetween self.now.low self.now.high v }
+    {
+        // without a branch, which a processor could rarely predict
+        (self.low <= v) & (v < self.high)
+    }
+
+    /// Adds the vertex if it is the one before or after these; otherwise keeps it alone.
+    pub fn add(&mut self, v: u32)
+        requires { self.old.low ≤ self.old.high }
+        ensures order { self.new.low ≤ self.new.high }
+        ensures only { (w : ℕ) → IsBetween self.new.low self.new.high w → IsBetween self.old.low self.old.high w ⊎ (w ≡ v) }
+        ensures taken { v + 1 < 2 ^ 32 → IsBetween self.new.low self.new.high v }
+        ensures kept { ((v + 1 ≡ self.old.low) ⊎ (v ≡ self.old.high)) → (w : ℕ) → IsBetween self.old.low self.old.high w
+            → IsBetween self.new.low self.new.high w }
+        ensures alone { v + 1 < 2 ^ 32 → v + 1 ≢ self.old.low → v ≢ self.old.high → (w : ℕ) → IsBetween self.new.low self.new.high w → w ≡ v }
+    {
+        let after = v.saturating_add(1);
+        if after == self.low {
+            self.low = v;
+        } else if v == self.high {
+            self.high = after;
+        } else {
+            *self = Excluded {
+                low: v,
+                high: after,
+            };
+        }
+    }
+}
+
+/// The goal and the place of a small search.
+#[derive(Clone, Copy)]
+pub struct DominionSearch<'a> {
+    pub game: &'a Game,
+    pub mask: &'a Mask,
+    pub player: Player,
+    pub bound: usize,
+    /// No good claim within the bound has one of these.
+    pub excluded: Excluded,
+}
+
+impl<'a> DominionSearch<'a> {
+    /// Whether one more row closes no walk that is bad for the player.
+    pub fn stays_good(&self, chosen: &Chosen, at: usize) -> bool
+        requires rows { AreFew self.now.game.now chosen.now }
+        requires at { at < length chosen.now }
+        requires before { OnlyGoodWalks self.now.game.now self.now.player (named (take at chosen.now)) (choice_in chosen.now) }
+        ensures good { IsTrue result → OnlyGoodWalks self.now.game.now self.now.player (named (take (at + 1) chosen.now)) (choice_in chosen.now) }
+        ensures bad { IsFalse result → OnlyGoodWalks self.now.game.now self.now.player (named (take (at + 1) chosen.now)) (choice_in chosen.now) → ⊥ }
+    {
+        !self.closes(chosen, at) || self.is_good(chosen, at + 1)
+    }
+
+    /// Whether a kept edge of the row leads to itself or an earlier one.
+    fn closes(&self, chosen: &Chosen, at: usize) -> bool
+        requires rows { AreFew self.now.game.now chosen.now }
+        requires at { at < length chosen.now }
+        ensures none { IsFalse result → (to : ℕ) → to ≤ at → RowLeadsTo self.now.game.now self.now.player chosen.now at to → ⊥ }
+    {
+        let v = chosen.vertex(at);
+        if self.game.owner(v) == self.player {
+            return match chosen.choice(at) {
+                Some(w) => chosen.has_before(at + 1, w),
+                None => false,
+            };
+        }
+        for w in self.game.successors(v) {
+            if chosen.has_before(at + 1, *w) {
+                return true;
+            }
+        }
+        false
+    }
+
+    /// Whether the kept edges of the first rows make only closed walks that are good for the player.
+    fn is_good(&self, chosen: &Chosen, done: usize) -> bool
+        requires rows { AreFew self.now.game.now chosen.now }
+        requires done { done ≤ length chosen.now }
+        ensures good { IsTrue result → OnlyGoodWalks self.now.game.now self.now.player (named (take done chosen.now)) (choice_in chosen.now) }
+        ensures bad { IsFalse result → OnlyGoodWalks self.now.game.now self.now.player (named (take done chosen.now)) (choice_in chosen.now) → ⊥ }
+    {
+        for start in 0..done {
+            let priority = self.game.priority(chosen.vertex(start));
+            if Player::of_parity(priority) != self.player && self.walks_back(chosen, done, start) {
+                return false;
+            }
+        }
+        true
+    }
+
+    /// Whether a closed walk leads through the start over no greater priority than its own.
+    fn walks_back(&self, chosen: &Chosen, done: usize, start: usize) -> bool
+        requires rows { AreFew self.now.game.now chosen.now }
+        requires done { done ≤ length chosen.now }
+        requires start { start < done }
+        ensures back { IsTrue result → WalksBack self.now.game.now self.now.player chosen.now done start }
+        ensures none { IsFalse result → WalksBack self.now.game.now self.now.player chosen.now done start → ⊥ }
+    {
+        let mut left = [true; 8];
+        'rows: while let Some(to) = self.next_reached(chosen, done, start, &left) {
+            if to == start {
+                return true;
+            }
+            left[to] = false;
+        }
+        false
+    }
+
+    /// An unreached row, of no greater priority than the start's, to which a kept edge leads.
+    fn next_reached(
+        &self,
+        chosen: &Chosen,
+        done: usize,
+        start: usize,
+        left: &[bool; 8],
+    ) -> Option<usize>
+        requires rows { AreFew self.now.game.now chosen.now }
+        requires done { done ≤ length chosen.now }
+        requires start { start < length chosen.now }
+        ensures found { IfSome result (λ to. IsReached self.now.game.now self.now.player chosen.now done start left.now to) }
+        ensures none { IsNone result → (to : ℕ) → IsReached self.now.game.now self.now.player chosen.now done start left.now to → ⊥ }
+    {
+        let top = self.game.priority(chosen.vertex(start));
+        for to in 0..done {
+            if !left[to] {
+                continue;
+            }
+            if self.game.priority(chosen.vertex(to)) > top {
+                continue;
+            }
+            if self.is_next(chosen, done, start, left, to) {
+                return Some(to);
+            }
+        }
+        None
+    }
+
+    /// Whether a kept edge leads to the row from the start or from a reached row.
+    fn is_next(
+        &self,
+        chosen: &Chosen,
+        done: usize,
+        start: usize,
+        left: &[bool; 8],
+        to: usize,
+    ) -> bool
+        requires rows { AreFew self.now.game.now chosen.now }
+        requires done { done ≤ length chosen.now }
+        requires to { to < length chosen.now }
+        ensures found { IsTrue result → IsReachedNext self.now.game.now self.now.player chosen.now done start left.now to }
+        ensures none { IsFalse result → IsReachedNext self.now.game.now self.now.player chosen.now done start left.now to → ⊥ }
+    {
+        for from in 0..done {
+            if from != start && left[from] {
+                continue;
+            }
+            if self.leads(chosen, from, to) {
+                return true;
+            }
+        }
+        false
+    }
+
+    /// Whether a kept edge leads from one row's vertex to another's.
+    fn leads(&self, chosen: &Chosen, from: usize, to: usize) -> bool
+        requires rows { AreFew self.now.game.now chosen.now }
+        requires from { from < length chosen.now }
+        requires to { to < length chosen.now }
+        ensures { IsTrue result ↔ RowLeadsTo self.now.game.now self.now.player chosen.now from to }
+    {
+        let v = chosen.vertex(from);
+        let w = chosen.vertex(to);
+        if self.game.owner(v) != self.player {
+            return self.game.has_edge(v, w);
+        }
+        match chosen.choice(from) {
+            Some(x) => x == w,
+            None => false,
+        }
+    }
+}

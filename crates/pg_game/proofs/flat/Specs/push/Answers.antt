@@ -1,6 +1,0 @@
-use Rattle.pg_game.proofs.Common.{rules}
-use Rattle.pg_game.proofs.Pushed.{specs_more}
-use Rattle.pg_game.proofs.flat.Specs.push.Goals as goal
-
-pub returns-clause-pushed : goal.returns-clause-pushed
-returns-clause-pushed c = search (rules, specs_more, c.args.id, c.args.priority, c.args.owner, c.args.successors.now, c.self.invariant, c.self.view_is, c.push_reserved.ensures.items, c.push_reserved-2.ensures.items, c.push_reserved-3.ensures.items, c.in_ok-push.ensures.pushed, c.in_ok-reserve.ensures.items, c.in_ok-reserve-2.ensures.items, c.in_ok-reserve-3.ensures.items)

@@ -1,5 +1,0 @@
-use Rattle.pg_text.proofs.GameReads.{reads_none}
-use Rattle.pg_text.proofs.game_grammar.GameText.new.Goals as goal
-
-pub returns : goal.returns
-returns c = reads_none _ _ _ _ _ c.in_ok-new.ensures.specs

@@ -1,5 +1,0 @@
-use Rattle.pg_text.proofs.GameReads.{says}
-use Rattle.pg_text.proofs.game_grammar.GameTextGrammar.lines.Goals as goal
-
-pub returns : goal.returns
-returns c ts k t = rw c.finish.ensures (says k t)

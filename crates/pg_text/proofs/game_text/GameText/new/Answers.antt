@@ -1,0 +1,5 @@
+use Rattle.pg_text.proofs.GameReads.{reads_none}
+use Rattle.pg_text.proofs.game_text.GameText.new.Goals as goal
+
+pub returns : goal.returns
+returns c = reads_none _ _ _ _ _ c.in_ok-new.ensures.specs

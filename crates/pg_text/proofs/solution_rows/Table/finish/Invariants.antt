@@ -1,5 +1,0 @@
-use Rattle.pg_text.proofs.Common.{◌≡◌, ℕ, ◌<◌, true, members}
-use Rattle.pg_text.proofs.solution_rows.Table.finish.Given as goal
-
-abbrev pub invariant-vertices : goal.invariant-vertices
-invariant-vertices l = (u : ℕ) → u < l.v → members l.self.said u ≡ true

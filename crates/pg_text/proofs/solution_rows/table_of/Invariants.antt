@@ -1,5 +1,0 @@
-use Rattle.pg_text.proofs.Common.{map, take, line_of, HoldsTable}
-use Rattle.pg_text.proofs.solution_rows.table_of.Given as goal
-
-abbrev pub invariant-lines : goal.invariant-lines
-invariant-lines l = HoldsTable l.game (take l.line-index (map line_of l.lines)) l.table

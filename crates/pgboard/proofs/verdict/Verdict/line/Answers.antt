@@ -1,5 +1,0 @@
-use Rattle.std.proofs.Common.{rules}
-use Rattle.pgboard.proofs.verdict.Verdict.line.Goals as goal
-
-pub returns-in_ok-extend_from_slice-in-Fails : goal.returns-in_ok-extend_from_slice-in-Fails
-returns-in_ok-extend_from_slice-in-Fails c = search rules

@@ -1,5 +1,0 @@
-use Rattle.pgboard.proofs.Common.{rules, decimal_is_numeral}
-use Rattle.pgboard.proofs.verdict.put_number.Goals as goal
-
-pub returns : goal.returns
-returns c = search (rules, decimal_is_numeral)

@@ -1,0 +1,147 @@
+// pgboard.h for C++17: vectors and texts in, results or an exception out.
+#ifndef PGBOARD_HPP
+#define PGBOARD_HPP
+
+#include <cstdint>
+#include <new>
+#include <stdexcept>
+#include <string>
+#include <string_view>
+#include <type_traits>
+#include <vector>
+
+#include "pgboard.h"
+
+namespace pgboard {
+
+// Why there is no result: an answer of pgboard.h, and what its report says. Refused memory is a std::bad_alloc instead.
+struct fault : std::runtime_error {
+    std::uint32_t answer;
+    std::uint64_t at, to;
+
+    fault(std::uint32_t number, const pgboard_report &report)
+        : std::runtime_error(pgboard_strerror(number)), answer(number), at(report.at), to(report.to)
+    {
+    }
+};
+
+// A game, as struct pgboard_game has it: the successors of v are targets[starts[v]], up to and without targets[starts[v + 1]].
+struct game {
+    std::vector<std::uint8_t> owners;
+    std::vector<std::uint32_t> priorities, starts, targets;
+};
+
+// Winners and choices; of what is known of a game, or the result.
+struct solution {
+    std::vector<std::uint8_t> winners;
+    std::vector<std::uint32_t> choices;
+};
+
+namespace detail {
+
+// (an empty vector may have no address, and the calls take none that is null)
+template <class Items> auto address(Items &items)
+{
+    static std::remove_const_t<typename Items::value_type> nothing{};
+    return items.data() ? items.data() : &nothing;
+}
+
+inline void judge(std::uint32_t answer, const pgboard_report &report)
+{
+    if (answer == PGBOARD_MEMORY)
+        throw std::bad_alloc();
+    if (answer != PGBOARD_OK)
+        throw fault(answer, report);
+}
+
+inline pgboard_game arrays(const game &it)
+{
+    pgboard_game arrays{};
+    arrays.size = sizeof arrays;
+    arrays.owners = address(it.owners), arrays.owners_len = it.owners.size();
+    arrays.priorities = address(it.priorities), arrays.priorities_len = it.priorities.size();
+    arrays.starts = address(it.starts), arrays.starts_len = it.starts.size();
+    arrays.targets = address(it.targets), arrays.targets_len = it.targets.size();
+    return arrays;
+}
+
+template <class Arrays, class Solution> Arrays arrays(Solution &it)
+{
+    Arrays arrays{};
+    arrays.size = sizeof arrays;
+    arrays.winners = address(it.winners), arrays.winners_len = it.winners.size();
+    arrays.choices = address(it.choices), arrays.choices_len = it.choices.size();
+    return arrays;
+}
+
+inline const std::uint8_t *bytes(std::string_view text)
+{
+    return reinterpret_cast<const std::uint8_t *>(text.data() ? text.data() : "");
+}
+
+template <class Call> std::string written(Call call, std::string_view text)
+{
+    std::string into(PGBOARD_TEXT_BOUND(text.size()), '\0');
+    std::size_t size = 0;
+    pgboard_report report;
+    judge(call(bytes(text), text.size(), reinterpret_cast<std::uint8_t *>(into.data()), into.size(), &size, &report), report);
+    into.resize(size);
+    return into;
+}
+
+} // namespace detail
+
+// Solves a game.
+inline solution solve(const game &game)
+{
+    solution found{std::vector<std::uint8_t>(game.owners.size()), std::vector<std::uint32_t>(game.owners.size())};
+    const pgboard_game arrays = detail::arrays(game);
+    pgboard_results results = detail::arrays<pgboard_results>(found);
+    pgboard_report report;
+    detail::judge(pgboard_solve(&arrays, &results, &report), report);
+    return found;
+}
+
+// Solves a game from what is known, where PGBOARD_NO_WINNER is an unknown winner.
+inline solution solve(const game &game, const solution &known)
+{
+    solution found{std::vector<std::uint8_t>(game.owners.size()), std::vector<std::uint32_t>(game.owners.size())};
+    const pgboard_game arrays = detail::arrays(game);
+    const pgboard_solution given = detail::arrays<pgboard_solution>(known);
+    pgboard_results results = detail::arrays<pgboard_results>(found);
+    pgboard_report report;
+    detail::judge(pgboard_solve_known(&arrays, &given, &results, &report), report);
+    return found;
+}
+
+// Checks that winners and choices are a solution of a game; a fault says what is wrong first.
+inline void check(const game &game, const solution &solution)
+{
+    const pgboard_game arrays = detail::arrays(game);
+    const pgboard_solution given = detail::arrays<pgboard_solution>(solution);
+    pgboard_report report;
+    detail::judge(pgboard_check(&arrays, &given, &report), report);
+}
+
+// The text of a solution of a game's text.
+inline std::string solve_text(std::string_view game)
+{
+    return detail::written(pgboard_solve_text, game);
+}
+
+// The one written form of a game's text.
+inline std::string tidy_text(std::string_view game)
+{
+    return detail::written(pgboard_tidy_text, game);
+}
+
+// Checks that a text is a solution of a game's text; a fault says what is wrong first.
+inline void verify_text(std::string_view game, std::string_view solution)
+{
+    pgboard_report report;
+    detail::judge(pgboard_verify_text(detail::bytes(game), game.size(), detail::bytes(solution), solution.size(), &report), report);
+}
+
+} // namespace pgboard
+
+#endif

@@ -1,0 +1,12 @@
+# A version that is asked for is met by the same major number, and of 0 by the same minor number.
+set(PACKAGE_VERSION @version@)
+string(REGEX MATCH "^(0\\.)?[0-9]+" _pgboard_same "${PACKAGE_VERSION}")
+string(REGEX MATCH "^(0\\.)?[0-9]+" _pgboard_asked "${PACKAGE_FIND_VERSION}")
+if(PACKAGE_FIND_VERSION VERSION_GREATER PACKAGE_VERSION OR NOT _pgboard_same STREQUAL _pgboard_asked)
+  set(PACKAGE_VERSION_COMPATIBLE FALSE)
+else()
+  set(PACKAGE_VERSION_COMPATIBLE TRUE)
+  if(PACKAGE_FIND_VERSION STREQUAL PACKAGE_VERSION)
+    set(PACKAGE_VERSION_EXACT TRUE)
+  endif()
+endif()

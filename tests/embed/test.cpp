@@ -1,0 +1,70 @@
+// Goes through the calls of include/pgboard.hpp. With the word `games`, reads games as numbers from standard input (n and m, owners,
+// priorities, starts, targets), and writes for each the winners and the choices that it got. The last line is 'N passed, M failed'.
+#include <cstring>
+#include <functional>
+#include <iostream>
+
+#include "pgboard.hpp"
+
+static int passed, failed;
+#define EXPECT(holds) ((holds) ? ++passed : (++failed, std::cout << "FAILED embed/test.cpp:" << __LINE__ << ": " #holds "\n", 0))
+
+// Even owns 0 and may stay there or go to 1; Odd owns 1 and stays. Even wins 0, Odd wins 1.
+static const pgboard::game two{{0, 1}, {2, 1}, {0, 2, 3}, {0, 1, 1}};
+
+static bool refuses(std::uint32_t answer, std::uint64_t at, std::uint64_t to, const std::function<void()> &call)
+{
+    try {
+        call();
+    } catch (const pgboard::fault &fault) {
+        return fault.answer == answer && fault.at == at && fault.to == to && std::strcmp(fault.what(), pgboard_strerror(answer)) == 0;
+    }
+    return false;
+}
+
+static int games()
+{
+    unsigned n, m;
+    const auto read = [](auto &into) {
+        for (auto &it : into) {
+            unsigned number;
+            std::cin >> number;
+            it = static_cast<std::remove_reference_t<decltype(it)>>(number);
+        }
+    };
+    while (std::cin >> n >> m) {
+        pgboard::game game{std::vector<std::uint8_t>(n), std::vector<std::uint32_t>(n), std::vector<std::uint32_t>(n + 1), std::vector<std::uint32_t>(m)};
+        read(game.owners), read(game.priorities), read(game.starts), read(game.targets);
+        const auto found = pgboard::solve(game);
+        pgboard::check(game, found);
+        std::cout << "0 0";
+        for (unsigned v = 0; v < n; v++)
+            std::cout << ' ' << unsigned{found.winners[v]} << ':' << (found.choices[v] == PGBOARD_NO_CHOICE ? -1L : long{found.choices[v]});
+        std::cout << '\n';
+    }
+    return 0;
+}
+
+int main(int argc, char **argv)
+{
+    if (argc > 1 && std::strcmp(argv[1], "games") == 0)
+        return games();
+    const std::string text = "9 1 1 9; 3 2 0 3, 9 \"a name\";";
+    const auto found = pgboard::solve(two);
+    EXPECT((found.winners == std::vector<std::uint8_t>{0, 1}) && (found.choices == std::vector<std::uint32_t>{0, 1}));
+    EXPECT(pgboard::solve(two, {{PGBOARD_NO_WINNER, 1}, {PGBOARD_NO_CHOICE, 1}}).winners == found.winners);
+    EXPECT((pgboard::check(two, found), true));
+    EXPECT(pgboard::solve_text(text) == "paritysol 9;\n3 0 3;\n9 1 9;\n");
+    EXPECT(pgboard::tidy_text(text) == "parity 9;\n3 2 0 3,9;\n9 1 1 9;\n");
+    EXPECT((pgboard::verify_text(text, "9 1 9; 3 0 3;"), true));
+    EXPECT(refuses(PGBOARD_LEAVES, 0, 1, [&] { pgboard::check(two, {{0, 1}, {1, 1}}); }));
+    EXPECT(refuses(PGBOARD_SOLUTION, PGBOARD_ARRAY_CHOICES, 0, [&] { pgboard::check(two, {{0, 1}, {1}}); }));
+    EXPECT(refuses(PGBOARD_KNOWN_LEAVES, 0, 1, [&] { pgboard::solve(two, {{0, PGBOARD_NO_WINNER}, {1, 1}}); }));
+    EXPECT(refuses(PGBOARD_LENGTHS, PGBOARD_ARRAY_STARTS, 0, [] { pgboard::solve({}); }));
+    EXPECT(refuses(PGBOARD_NO_VERTEX, 0, 0, [] { pgboard::solve({{}, {}, {0}, {}}); }));
+    EXPECT(refuses(PGBOARD_GAME_LEXICAL, 6, 0, [] { pgboard::solve_text("0 0 0 ?;"); }));
+    EXPECT(refuses(PGBOARD_GAME_SYNTAX, 0, 0, [] { pgboard::tidy_text({}); }));
+    EXPECT(refuses(PGBOARD_SOLUTION_MISSING, 3, 0, [&] { pgboard::verify_text(text, {}); }));
+    std::cout << passed << " passed, " << failed << " failed\n";
+    return failed != 0;
+}

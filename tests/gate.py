@@ -1,0 +1,240 @@
+#!/usr/bin/env python3
+"""Shows what ./test does before, while and after it runs its parts: tests/gate.py [-k WORD]
+
+A copy of ./test runs in a folder of its own, beside scripts of two lines, with a PATH of stand-ins: for the tools that it looks
+for, for apt-get, for rt and for Python, whose modules are files beside it.
+"""
+
+import os
+import re
+import shutil
+import sys
+import unittest
+
+import common
+
+TEST = common.text_of("test")
+# each tool with a file of the PATH that makes it known, and the packages that have it
+TOOLS = {
+    "git": ("git", "git"),
+    "cc with a static C library": ("cc", "gcc libc6-dev"),
+    "g++": ("g++", "g++"),
+    "clang": ("clang", "clang"),
+    "cmake": ("cmake", "cmake"),
+    "pkg-config": ("pkg-config", "pkg-config"),
+    "debhelper": ("dh", "debhelper"),
+    "dpkg-buildpackage": ("dpkg-buildpackage", "build-essential dpkg-dev"),
+    "lintian": ("lintian", "lintian"),
+    "twine": ("twine", "twine"),
+    "dot": ("dot", "graphviz fonts-dejavu-core"),
+    "berkeley-abc": ("berkeley-abc", "berkeley-abc"),
+    "mypy": ("mypy", "mypy"),
+    "rustc 1.85 or later": ("rustc", "rustc"),
+    "NumPy": ("numpy.module", "python3-numpy"),
+    "NetworkX": ("networkx.module", "python3-networkx"),
+    "venv": ("ensurepip.module", "python3-venv"),
+    "setuptools": ("setuptools.module", "python3-setuptools"),
+    "wheel": ("wheel.module", "python3-wheel"),
+}
+INSTALL = "apt-get install -y --no-install-recommends"
+PYTHON = f"""#!/bin/sh
+case "$*" in
+"-c import "*) [ -e "${{0%/*}}/${{2#import }}.module" ] ;;
+*) exec {sys.executable} "$@" ;;
+esac
+"""
+# what apt-get was called for is kept; it installs all or, with a file `refuses` beside it, nothing
+APT_GET = f"""#!/bin/sh
+echo "$*" >> "${{0%/*}}/calls"
+if [ "$1" = install ] && [ ! -e "${{0%/*}}/refuses" ]; then
+    for it in {' '.join(file for file, _ in TOOLS.values())}; do [ -e "${{0%/*}}/$it" ] || cp "${{0%/*}}/true" "${{0%/*}}/$it"; done
+fi
+"""
+RT = """#!/bin/sh
+echo "== pg_low"
+echo "what the check says"
+echo "rt: pg_low proved"
+echo "rt: pg_low: its tests are proved"
+echo "rt: pg_high NOT PROVED" | sed "${EDIT-s/NOT PROVED/proved/}"
+echo "rt: pg_high: trying its must-fail edits (7)"
+echo "9 passed, ${FAILED-0} failed"
+exit "${FAILED-0}"
+"""
+
+
+class Gate(unittest.TestCase):
+    def setUp(self):
+        self.folder = common.make_folder(self)
+        self.top, self.path = self.folder / "top", self.folder / "path"
+        (self.top / "tests").mkdir(parents=True)
+        self.path.mkdir()
+        shutil.copy(common.ROOT / "test", self.top)
+        shutil.copy(common.ROOT / "tests" / "common.py", self.top / "tests")
+        self.built = self.top / "crates" / "pgboard_program" / "out" / "pgboard_program"
+        self.built.parent.mkdir(parents=True)
+        self.put(self.built, "#!/bin/sh\n")
+        self.scripts = re.search(r'(?m)^SCRIPTS = "(.*)"', TEST)[1].split() + re.search(r'(?m)^SLOW = "(.*)"', TEST)[1].split()
+        for name in self.scripts:
+            self.script(name, "pass")
+        for name in ("sh", "sed", "true", "cp", "env"):
+            (self.path / name).symlink_to(shutil.which(name))
+        for file, _ in TOOLS.values():
+            self.put(self.path / file, "#!/bin/sh\n")
+        for name, text in (("python3", PYTHON), ("apt-get", APT_GET), ("rt", RT)):
+            self.put(self.path / name, text)
+
+    def put(self, path, text):
+        path.write_text(text, encoding="ascii")
+        path.chmod(0o755)
+
+    def script(self, name, does):
+        """A script of the tests whose one test does this."""
+        test = f"class It(unittest.TestCase):\n    def test(self):\n        {does}\n"
+        self.put(self.top / "tests" / f"{name}.py", f"import unittest\nimport common\n{test}common.main()\n")
+
+    def run_test(self, *words, is_root=True, **env):
+        """Status, output and error of ./test, as root or not."""
+        begin = "" if is_root else "import os; os.geteuid = lambda: 1000; "
+        program = f"{begin}import runpy; runpy.run_path('{self.top}/test', run_name='__main__')"
+        env = {"PATH": str(self.path), **env}
+        status, out, err = common.run([sys.executable, "-B", "-c", program, *words], cwd=self.top, env=env)
+        return status, out.decode(), err.decode()
+
+    def calls(self):
+        calls = self.path / "calls"
+        return calls.read_text(encoding="ascii").splitlines() if calls.exists() else []
+
+    # --- the tools ---
+
+    def test_with_all_tools_nothing_is_installed(self):
+        self.assertEqual(self.run_test("cli")[0], 0)
+        self.assertEqual(self.calls(), [])
+
+    def test_root_installs_each_missing_tool(self):
+        for tool, (file, packages) in TOOLS.items():
+            with self.subTest(tool):
+                (self.path / file).unlink()
+                (self.path / "calls").unlink(missing_ok=True)
+                status, out, err = self.run_test("cli")
+                self.assertEqual((status, err), (0, ""), out)
+                # (Debian 12 has a second package of Rust, which is new enough)
+                called = [it.replace("rustc-web", "rustc") for it in self.calls()]
+                self.assertEqual(called, ["update", f"install -y --no-install-recommends {packages}"])
+                self.assertTrue(out.endswith("\n1 passed, 0 failed\n"), out)
+
+    def check_refused(self, got, tool, packages):
+        status, out, err = got
+        self.assertEqual(status, 2)
+        self.assertEqual(err.replace("rustc-web", "rustc"), f"test: missing: {tool}; in Debian, sudo {INSTALL} {packages}\n")
+        self.assertNotRegex(out, "passed|rt ci")
+
+    def test_others_get_the_command_for_each_missing_tool_and_a_status(self):
+        for tool, (file, packages) in TOOLS.items():
+            for lacks_apt_get in (False, True):
+                with self.subTest(tool, lacks_apt_get=lacks_apt_get):
+                    gone = [file] + ["apt-get"] * lacks_apt_get
+                    for it in gone:
+                        (self.path / it).rename(self.folder / it)
+                    self.check_refused(self.run_test(is_root=lacks_apt_get), tool, packages)
+                    for it in gone:
+                        (self.folder / it).rename(self.path / it)
+        self.assertEqual(self.calls(), [])
+
+    def test_what_apt_get_does_not_install_is_missing(self):
+        self.put(self.path / "refuses", "")
+        for tool, (file, packages) in TOOLS.items():
+            with self.subTest(tool):
+                (self.path / file).rename(self.folder / file)
+                self.check_refused(self.run_test(), tool, packages)
+                (self.folder / file).rename(self.path / file)
+
+    def test_a_python_further_on_the_path_has_the_modules(self):
+        first = self.folder / "first"
+        first.mkdir()
+        self.put(first / "python3", PYTHON)
+        self.script("cli", "self.assertIn('path/python3', __import__('os').environ['RAN'])")
+        self.put(self.path / "python3", PYTHON.replace("exec ", 'RAN=$0 exec '))
+        self.assertEqual(self.run_test("cli", PATH=f"{first}:{self.path}")[::2], (0, ""))
+
+    def test_without_rt_nothing_runs(self):
+        (self.path / "rt").unlink()
+        status, out, err = self.run_test()
+        self.assertEqual((status, out, err), (2, "", "test: the command rt of the Rattle kit is not on the PATH (docs/INSTALL.md)\n"))
+
+    # --- the parts ---
+
+    def test_the_gate_runs_all_over_the_program_of_rt(self):
+        (self.top / "out" / "unproved").mkdir(parents=True)
+        self.put(self.top / "out" / "unproved" / "pgboard", "#!/bin/sh\n")
+        for name in self.scripts:
+            self.script(name, f"self.assertEqual(str(common.PROGRAM), '{self.built}')")
+        status, out, err = self.run_test()
+        self.assertEqual((status, err), (0, ""), out)
+        lines = out.splitlines()
+        what = f"`rt ci` of 0 crates with proofs and {len(self.scripts)} scripts"
+        self.assertRegex(lines[0], rf"^test: {what}; about .* minutes .*; logs in .*/out/test$")
+        shown = [re.sub(r"^ +\d+:\d\d  ", "", it) for it in lines[1:]]
+        crates = ["pg_low proved", "pg_low: its tests are proved", "pg_high proved", "pg_high: trying its must-fail edits (7)"]
+        scripts = [f"{it}: 1 passed, 0 failed" for it in self.scripts]
+        self.assertEqual(shown, [*crates, "proofs: 9 passed, 0 failed", f"test: over {self.built}", *scripts, f"{9 + len(scripts)} passed, 0 failed"])
+        self.assertIn("what the check says", (self.top / "out" / "test" / "proofs.log").read_text(encoding="ascii"))
+        self.assertIn(f"test: over {self.built}", out)
+
+    def test_the_time_of_the_gate_is_that_of_the_page(self):
+        self.assertIn(re.search(r'GATE_TAKES.* = "(.*?) with', TEST)[1], common.text_of("CONTRIBUTING.md"))
+
+    def test_parts_run_over_what_was_built_last(self):
+        unproved = self.top / "out" / "unproved" / "pgboard"
+        unproved.parent.mkdir(parents=True)
+        self.put(unproved, "#!/bin/sh\n")
+        os.utime(self.built, (0, 0))
+        for words, names in ((["scripts"], self.scripts[:-3]), (["uses", "cli"], ["cli", "uses"]), (["embed"], ["embed"])):
+            with self.subTest(words):
+                for name in self.scripts:
+                    self.script(name, f"self.assertEqual(str(common.PROGRAM), '{unproved}')" if name in names else "self.fail()")
+                status, out, err = self.run_test(*words)
+                self.assertEqual((status, err, out.splitlines()[-1]), (0, "", f"{len(names)} passed, 0 failed"), out)
+        status, out, err = self.run_test("proofs")
+        self.assertEqual((status, out.splitlines()[-1]), (0, "9 passed, 0 failed"))
+
+    def test_a_failure_is_counted_and_shown(self):
+        self.script("cli", "self.assertEqual('one thing', 'another')")
+        self.script("uses", "common.os._exit(3)")
+        status, out, _ = self.run_test("cli", "uses", "theorem")
+        self.assertEqual((status, out.splitlines()[-1]), (1, "1 passed, 2 failed"))
+        self.assertRegex(out, "(?s)AssertionError: 'one thing' != 'another'.*test: cli ended with status 1; .*/out/test/cli.log is the whole log")
+        self.assertIn("uses: 0 passed, 1 failed", out)
+        for name in ("cli", "uses"):
+            self.script(name, "pass")
+        status, out, _ = self.run_test(EDIT="", FAILED="1")
+        self.assertEqual((status, out.splitlines()[-1]), (1, f"{9 + len(self.scripts)} passed, 1 failed"))
+        self.assertIn("rt: pg_high NOT PROVED", out)
+
+    def test_a_status_without_a_counted_failure_is_one(self):
+        self.script("cli", "common.unittest.TextTestResult.wasSuccessful; import atexit; atexit.register(lambda: common.os._exit(7))")
+        self.assertEqual(self.run_test("cli")[0], 1)
+
+    def test_a_skipped_test_fails_the_gate_alone(self):
+        self.script("cli", "self.skipTest('no tool')")
+        self.assertEqual(self.run_test("cli", "uses")[0], 0)
+        status, out, _ = self.run_test()
+        self.assertEqual((status, out.splitlines()[-1]), (1, f"{8 + len(self.scripts)} passed, 1 failed"))
+        self.assertIn("no tool", out)
+
+    def test_without_a_program_a_line_says_how_to_build_one(self):
+        self.built.unlink()
+        for words in (["cli"], []):
+            status, out, err = self.run_test(*words)
+            self.assertEqual(status, 2)
+            self.assertRegex(err, r"^test: \S+ is not there; ./pgboard --unproved --rebuild builds a program in one or two minutes\n$")
+
+    def test_help_names_each_part_and_another_word_is_refused(self):
+        status, out, err = self.run_test("--help")
+        self.assertEqual((status, err), (0, ""))
+        self.assertLessEqual({"proofs", "scripts", *self.scripts}, set(re.findall(r"\w+", out)))
+        self.assertEqual(self.run_test("clu")[::2], (2, "test: clu is no part; ./test --help names them\n"))
+        self.assertEqual(sorted([*self.scripts, "circuits", "common", "plain"]), sorted(it.stem for it in common.ROOT.glob("tests/*.py")))
+
+
+if __name__ == "__main__":
+    common.main()
