@@ -3,8 +3,9 @@
 
 include/pgboard.h declares the exports of crates/pgboard_c and has the fields and the numbers that the crate has, with a text for
 each answer; it is C89 and C++. tests/embed/test.c goes through each answer by its name, also with sanitizers; on random games it
-gives the winners of the program, and so does tests/embed/test.cpp with include/pgboard.hpp. The C program of docs/INTEROP.md, built
-by the commands there, prints what it says there. The tests of bindings/python pass under each Python that is installed.
+gives the winners of the program, and so does tests/embed/test.cpp with include/pgboard.hpp. tests/embed/linear.c solves two large
+games within a limit of time. The C program of docs/INTEROP.md, built by the commands there, prints what it says there. The tests of
+bindings/python pass under each Python that is installed.
 
 PGBOARD_ARCHIVE names another static library to test, which is not made here.
 """
@@ -215,6 +216,10 @@ class Embed(unittest.TestCase):
                 self.built([*FLAGS, *flags, *REFUSING, "tests/embed/test.c", *ARCHIVES, "-o", test])
                 self.passes(test)
                 self.judge_games(test)
+
+    def test_solving_is_not_quadratic_in_the_priorities(self):
+        self.built([*FLAGS, "tests/embed/linear.c", *ARCHIVES, "-o", self.folder / "linear"])
+        self.passes(self.folder / "linear")
 
     def test_the_header_for_cpp(self):
         for compiler, standard in itertools.product(filter(shutil.which, ("g++", "clang++")), ("c++17", "c++20")):

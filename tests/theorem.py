@@ -96,11 +96,12 @@ def calls(path):
     """The calls of a file by name, as `post` or `Board::post`."""
     found, call = {}, None
     for owner, of_trait, line in owned_lines(path):
-        begun = re.match(r"\s*(pub (?:\(crate\) |extern \"C\" )?)?fn (\w+)", line)
+        begun = re.match(r"\s*(pub(?:\(crate\))? (?:extern \"C\" )?)?fn (\w+)", line)
         if begun:
             is_export = "extern" in (begun[1] or "")
             call = Call(begun[1] == "pub " or is_export or of_trait, is_export)
             found[f"{owner}::{begun[2]}" if owner else begun[2]] = call
+            call = None if line.endswith(" {") else call
         elif re.match(r"\s*\{$", line):
             call = None
         elif call:

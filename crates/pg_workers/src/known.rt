@@ -2,20 +2,18 @@
 //! recursion finds in the unsettled part (Zielonka 1998). In both Even's claim comes first, and then Odd's.
 
 ghost use Rattle.std.specs.Prelude.{◌≡◌, ◌≤◌, ◌<◌, length, IfOk, IfErr, OnOk, ◌∷◌, ℕ, []};
-ghost use Rattle.pg_workers.specs.Known.{known_rows, HasNone, IsSolveFault, IsKnownRegion};
+ghost use Rattle.pg_workers.specs.Known.{known_rows, HasNone, IsSolveFault};
 ghost use Rattle.pg_workers.specs.private.Known.{fault_of, HasKnown, IsKnownFault, SettlesKnown};
 ghost use Rattle.pg_game.specs.declared.player.Player.TheVariants.{Even, Odd};
 ghost use Rattle.pg_board.specs.Journal.{state_of, IsDominionAfter};
 ghost use Rattle.pg_board.specs.Full.{IsFull};
 ghost use Rattle.pg_workers.specs.private.Later.{Settles, IsLater};
-ghost use Rattle.pg_game.specs.declared.player.Player.{Player};
-ghost use Rattle.pg_text.specs.Solution.{IsExactSolution};
 
 use pg_board::{Board, Refusal};
 use pg_dominion::{Claim, own_choice};
 use pg_finders::{Solved, zielonka};
 use pg_game::{Game, Memory, Player, Sequence};
-use pg_text::{Known, Solution};
+use pg_text::Known;
 use std::alloc::{AllocError, Global};
 
 /// Why a run has no outcome: the refusal of a player's known set, or refused memory.
@@ -35,22 +33,6 @@ impl From<Memory> for SolveFault {
 
     fn from(_error: Memory) -> SolveFault {
         SolveFault::Memory
-    }
-}
-
-/// The same as `solve_game` in the calling thread: it starts no thread and waits for nothing. It posts Even's known set and
-/// then Odd's, and Zielonka's recursion (1998) solves what is unsettled. The errors are those of `solve_game`.
-pub fn solve_alone(alloc: Global, game: &Game, known: &Known) -> Result<Solution, SolveFault>
-    requires { length known.now.rows ≤ length game.now }
-    ensures exact { IfOk result (λ s. IsExactSolution game.now s.rows) }
-    ensures regions { IfOk result (λ s. (p : Player) → IsKnownRegion game.now known.now.rows p) }
-    ensures fault { IfErr result (λ e. IsSolveFault game.now known.now.rows e) }
-{
-    let mut board = board_with(alloc, game, known)?;
-    solve_unsettled(alloc, &mut board)?;
-    match board.solution(alloc)? {
-        Some(solution) => Ok(solution),
-        None => unreachable!(),
     }
 }
 

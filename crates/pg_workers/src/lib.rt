@@ -2,6 +2,7 @@
 //! settles what it finds. The board checks each claim; the calling thread solves what the workers left unsettled.
 #![tactic(auto)]
 
+mod alone;
 mod jobs;
 mod known;
 mod report;
@@ -9,8 +10,9 @@ mod solve;
 mod threads;
 mod worker;
 
+pub use alone::{solve_alone, solve_board};
 pub use jobs::{Drawn, Jobs, Options, Ticket};
-pub use known::{SolveFault, solve_alone};
+pub use known::SolveFault;
 pub use report::ReportRow;
 pub use solve::{Outcome, solve_game};
 pub use worker::{Gate, Pass};

@@ -14,4 +14,3 @@ pub use Rattle.pgboard_c.specs.Arrays.{array_spec, array_specs, choice_from, gam
 pub use Rattle.pgboard_c.specs.Arrays.{specs_below}
 pub use Rattle.pg_text.specs.Known.{KnownRows, known_at, known_of, known_choice}
 pub use Rattle.pgboard_c.specs.Known.{HasRightChoice, HaveRightChoices, IsBadKnownWinner, known_from}
-pub use Rattle.pgboard_c.specs.private.Put.{IsPut}

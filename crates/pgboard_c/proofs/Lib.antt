@@ -1,5 +1,4 @@
 pub mod Common
 pub mod Described
 pub mod Choices
-pub mod Solved
 pub mod Shapes

@@ -3,5 +3,4 @@ pub mod Numbers
 pub mod Answers
 pub mod Known
 pub mod Texts
-pub mod private
 pub mod Text

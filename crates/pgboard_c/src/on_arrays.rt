@@ -16,10 +16,11 @@ ghost use Rattle.pg_text.specs.Solution.{choice_of};
 
 use crate::fault::{ArrayName, Fault, Report, Structure, report_fault, report_none};
 use crate::known::{first_bad_known_winner, read_known, solution_from_known};
-use crate::on_texts::solution_by_recursion;
+use pg_board::Board;
 use pg_dominion::{SolutionFault, check_forward_solution};
 use pg_game::{ForwardGame, Game, GameBuilder, GameFault, Memory, Player, Sequence};
 use pg_text::Solution;
+use pg_workers::solve_board;
 use std::alloc::Global;
 
 /// Solves the game of the arrays: writes each vertex's winner, and his choice if he owns the vertex. The answer is 0, and
@@ -122,7 +123,7 @@ fn solve(alloc: Global, arrays: &Arrays, results: &mut Results) -> Result<(), Fa
     let forward = arrays.forward_game(alloc)?;
     results.check_lengths(&forward)?;
     let game = Game::of_forward(alloc, forward)?;
-    let solution = solution_by_recursion(alloc, &game)?;
+    let solution = solve_board(alloc, Board::open(alloc, &game)?)?;
     write_results(&solution, results.winners, results.choices);
     Ok(())
 }

@@ -1,5 +1,5 @@
-//! The exports on texts in PGSolver's formats, which are in the caller's memory. A whole game is solved by the recursion
-//! (Zielonka 1998), without a thread: the two players' claims share it out.
+//! The exports on texts in PGSolver's formats, which are in the caller's memory. A game is solved in the calling thread: the searches of a
+//! run one after another, and then the recursion (Zielonka 1998).
 
 ghost use Rattle.std.specs.Prelude.{◌≡◌, ◌≢◌, ◌<◌, ℕ, List, length, IfOk, OnOk, OnErr, IfErr, All};
 ghost use Rattle.pg_game.specs.Graph.{IsGame};
@@ -8,16 +8,16 @@ ghost use Rattle.pg_text.specs.Reading.{IsTextOf, IsSolutionTextOf};
 ghost use Rattle.pgboard_c.specs.declared.fault.Fault.{Fault};
 ghost use Rattle.pgboard_c.specs.Numbers.{IsReported, IsBlank};
 ghost use Rattle.pgboard_c.specs.Texts.{IsWritten, IsSolvedText, IsTidyText, IsRefusedGameText, IsTextFault, AreVerified, IsVerifyFault};
-ghost use Rattle.pgboard_c.specs.private.Put.{IsPut};
 
 use crate::fault::{Fault, Report, report_fault, report_none};
-use pg_dominion::{Claim, SolutionFault, check_forward_solution};
-use pg_finders::{Inside, Solved, zielonka};
-use pg_game::{ForwardGame, Game, Mask, Memory, Player, Sequence};
+use pg_board::Board;
+use pg_dominion::{SolutionFault, check_forward_solution};
+use pg_game::{ForwardGame, Game};
 use pg_text::{
-    MAX_TEXT, Solution, SolutionTextFault, TextFault, read_forward_game, read_forward_solution,
+    MAX_TEXT, SolutionTextFault, TextFault, read_forward_game, read_forward_solution,
     write_forward_game, write_solution,
 };
+use pg_workers::solve_board;
 use std::alloc::Global;
 
 /// Solves the game that a text spells: writes a solution's text to the front of the buffer, and its size. The answer is 0,
@@ -97,7 +97,7 @@ fn solve(alloc: Global, text: &[u8], into: &mut [u8]) -> Result<usize, Fault>
 {
     let forward = forward_game_of(alloc, text)?;
     let game = Game::of_forward(alloc, forward)?;
-    let solution = solution_by_recursion(alloc, &game)?;
+    let solution = solve_board(alloc, Board::open(alloc, &game)?)?;
     let answer = write_solution(alloc, &game, &solution)?;
     copy_to_front(answer.as_slice(), into)
 }
@@ -114,36 +114,6 @@ fn forward_game_of(alloc: Global, text: &[u8]) -> Result<ForwardGame, Fault>
         Ok(game) => Ok(game),
         Err(TextFault::Memory) => Err(Fault::Memory),
         Err(fault) => Err(Fault::GameText(fault)),
-    }
-}
-
-/// The game's solution, with a choice exactly where the winner owns the vertex. The only error is `Memory`.
-pub fn solution_by_recursion(alloc: Global, game: &Game) -> Result<Solution, Memory>
-    ensures { IfOk result (λ s. IsExactSolution game.now s.rows) }
-{
-    let n = game.len();
-    let all = Mask::full(alloc, n)?;
-    let inside = Inside::of_subgame(game, all);
-    let Solved { even, odd } = zielonka(alloc, &inside)?;
-    let mut rows = vec![in alloc; (Player::Even, None); n as usize]?;
-    put_claim(&even, &mut rows);
-    put_claim(&odd, &mut rows);
-    Ok(Solution {
-        rows: Sequence::new(rows),
-    })
-}
-
-/// Writes the claim's player and choices into the rows of its vertices.
-fn put_claim(claim: &Claim, rows: &mut Vec<(Player, Option<u32>)>)
-    requires { All (λ r. r.0 < length rows.old.items) claim.now.rows }
-    ensures { IsPut claim.now.player claim.now.rows rows.old.items rows.new.items }
-{
-    let claimed = claim.rows.as_slice();
-    let mut left = claimed.len();
-    'rows: while left > 0 {
-        left -= 1;
-        let (v, choice) = claimed[left];
-        rows[v as usize] = (claim.player, choice);
     }
 }
 

@@ -1,6 +1,6 @@
 -- Where the program's bytes come from.
-use Rattle.pgboard_program.specs.declared.input.Input.{Input}
-use Rattle.pgboard_program.specs.declared.input.Input.TheVariants as input
+use Rattle.pgboard_program.specs.declared.Input.{Input}
+use Rattle.pgboard_program.specs.declared.Input.TheVariants as input
 
 -- the input is a file that was opened
 abbrev pub IsFile : Input → Type 0

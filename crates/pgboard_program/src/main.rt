@@ -11,16 +11,13 @@ ghost use Rattle.pgboard.specs.declared.fault.RunFault.{RunFault};
 ghost use Rattle.pgboard.specs.Status.{status_of, asked_status_of};
 ghost use Rattle.pgboard_program.specs.Input.{IsFile};
 
-mod input;
-
-use input::Input;
 use pg_finders::Standard;
 use pg_workers::Pass;
 use pgboard::{Asked, AskedFault, RunFault, Std, asked, run_asked};
 use std::alloc::Global;
 use std::env;
 use std::fs::File;
-use std::io::{Error, ErrorKind};
+use std::io::{Error, ErrorKind, Read, Stdin};
 use std::process::ExitCode;
 use std::sync::Wait;
 use std::thread::Threads;
@@ -154,4 +151,23 @@ fn print_refusal(rt: &HostRuntime, refusal: &AskedFault) -> u8
 {
     let _ = rt.eprint(refusal);
     refusal.status()
+}
+
+/// What the program reads: a file, standard input, or nothing where no second file was given. One type, so that a run has one
+/// kind of source.
+#[derive(Drop)]
+enum Input {
+    File(File),
+    Standard(Stdin),
+    Nothing,
+}
+
+impl Read for Input {
+    fn read(&mut self, buffer: &mut [u8]) -> std::io::Result<usize> {
+        match self {
+            Input::File(file) => file.read(buffer),
+            Input::Standard(stdin) => stdin.read(buffer),
+            Input::Nothing => Ok(0),
+        }
+    }
 }
