@@ -1,0 +1,24 @@
+-- What the calling thread adds to a board, as worker 0.
+use Rattle.std.specs.Prelude.{◌≡◌, ◌≤◌, ◌++◌, ℕ, Bool, List, length, map, filter}
+use Rattle.std.specs.List.{AllByRecursion}
+use Rattle.pg_game.specs.declared.player.Player.{Player}
+use Rattle.pg_game.specs.VertexSet.{In}
+use Rattle.pg_dominion.specs.Claim.{ClaimRows, named}
+use Rattle.pg_board.specs.declared.journal.Entry.{Entry}
+use Rattle.pg_board.specs.Play.{Play}
+use Rattle.pg_board.specs.State.{settled}
+use Rattle.pg_board.specs.Journal.{Journal, state_of}
+
+-- entries of worker 0, at most one for each of the players, in their order
+pub record AreOfCaller (players : List Player) (entries : Journal) : Type 0 where
+  pub worker : AllByRecursion (λ e. e.worker ≡ 0) entries
+  pub posted : Player → Bool
+  pub order : map (λ e. e.player) entries ≡ filter posted players
+
+-- the same board with more entries, of worker 0: at most one for each of the players, in their order
+pub record IsLater (players : List Player) (old new : Play) : Type 0 where
+  pub graph : new.graph ≡ old.graph
+  pub added : List Entry
+  pub journal : new.journal ≡ old.journal ++ added
+  pub few : length added ≤ length players
+  pub by_caller : AreOfCaller players added
