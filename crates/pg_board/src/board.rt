@@ -247,7 +247,7 @@ impl<'g> Board<'g> {
     pub fn into_entries(self) -> Vec<Entry>
         ensures { result.items ≡ self.entry.journal }
     {
-        self.contents.entries
+        self.detach().entries
     }
 
     /// The same as `post` for a claim that is known to be sound.
@@ -269,16 +269,14 @@ impl<'g> Board<'g> {
         if rows.is_empty() {
             return Err(Refusal::Stale);
         }
-        let edge =
-            self.contents
-                .regions
-                .first_open(self.game, claim.player, rows.as_slice());
+        let edge = self
+            .contents
+            .regions
+            .first_open(self.game, claim.player, rows.as_slice());
         if let Some((v, w)) = edge {
             return Err(Refusal::Open(v, w));
         }
         self.contents.entries.reserve(1)?;
-        Ok(self
-            .contents
-            .enter(self.game, worker, claim.player, rows))
+        Ok(self.contents.enter(self.game, worker, claim.player, rows))
     }
 }

@@ -52,12 +52,7 @@ impl Contents {
 
     /// Settles what is unsettled of a claim that was a dominion at some time, in one entry of worker 0; if nothing is, adds none.
     /// The rows are an empty list with capacity for every vertex.
-    pub fn settle_dominion(
-        &mut self,
-        game: &Game,
-        claim: &Claim,
-        mut rows: Vec<(u32, Option<u32>)>,
-    )
+    pub fn settle_dominion(&mut self, game: &Game, claim: &Claim, mut rows: Vec<(u32, Option<u32>)>)
         requires board { IsOf game.now self.old }
         requires dominion { 0 < length claim.now.rows
             → (k : ℕ) × IsDominionAfter game.now self.old.entries.items k claim.now.player claim.now.rows }
