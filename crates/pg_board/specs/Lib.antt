@@ -7,5 +7,6 @@ pub mod Play
 pub mod Post
 pub mod Shares
 pub mod Full
+pub mod Finish
 pub mod Office
 pub mod private

@@ -1,6 +1,7 @@
 -- Definitions that only private functions and proofs cite: no public contract uses them.
 pub mod VertexState
 pub mod Regions
+pub mod Contents
 pub mod OpenEdges
 pub mod Growth
 pub mod Growing

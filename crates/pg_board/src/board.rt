@@ -1,8 +1,9 @@
 //! The board: a game, the journal of its settled vertices, and tables of the journal's state.
 //! The invariant of its type is that the journal is lawful, so every board has a lawful one.
 
-ghost use Rattle.std.specs.Prelude.{◌≡◌, ◌≤◌, ℕ, [], length, IfOk, IfErr, OnErr, IsTrue, IsSome, IfSome, ◌↔◌, vec_capacity};
+ghost use Rattle.std.specs.Prelude.{◌≡◌, ◌≤◌, ℕ, [], length, IfOk, IfErr, OnErr, IsTrue, IsSome, IfSome, ◌↔◌, OnOk, ◌∷◌};
 ghost use Rattle.pg_game.specs.declared.player.Player.{Player};
+ghost use Rattle.pg_game.specs.declared.player.Player.TheVariants.{Even, Odd};
 ghost use Rattle.pg_game.specs.Graph.{IsGame};
 ghost use Rattle.pg_game.specs.Limits.{IsWithinLimits};
 ghost use Rattle.pg_game.specs.VertexSet.{members};
@@ -11,15 +12,18 @@ ghost use Rattle.pg_dominion.specs.Checked.{claim_rows, claim_of, AgreesWithGame
 ghost use Rattle.pg_board.specs.State.{unsettled, rest_of, IsGoodOn, choices, winner_in};
 ghost use Rattle.pg_board.specs.Journal.{state_of, IsLawful, IsDominionAfter, number_settled, settled_by};
 ghost use Rattle.pg_board.specs.Full.{IsFull, AreStateRows};
+ghost use Rattle.pg_board.specs.Finish.{IsLater};
+ghost use Rattle.pg_board.specs.private.Contents.{IsOf, play_of};
 ghost use Rattle.pg_text.specs.Solution.{IsExactSolution};
 ghost use Rattle.pg_board.specs.Refusal.{Refuses, RefusesChecked, IsOfState};
 ghost use Rattle.pg_board.specs.Post.{Adds, AnswersDominion, SettlesUnlessMemory};
 
+use crate::contents::Contents;
 use crate::journal::{Entry, Posted, Refusal};
 use crate::regions::Regions;
 use pg_dominion::{Checked, Claim, judge_claim};
-use pg_finders::{Copied, Inside};
-use pg_game::{Game, Memory, Player, Sequence};
+use pg_finders::{Copied, Inside, Solved, zielonka};
+use pg_game::{Game, Memory, Player};
 use pg_text::Solution;
 use std::alloc::Global;
 use std::marker::Model;
@@ -28,20 +32,18 @@ use std::marker::Model;
 #[derive(Drop)]
 pub struct Board<'g> {
     game: &'g Game,
-    entries: Vec<Entry>,
-    regions: Regions,
-    number: u32,
+    contents: Contents,
 }
 
 impl<'g> Model for Board<'g> {
     ghost use Rattle.pg_board.specs.Play.{Play};
-    ghost use Rattle.pg_board.specs.private.Regions.{IsBoard};
+    ghost use Rattle.pg_board.specs.private.Contents.{IsOf, play_of};
 
     ghost Value = { Play };
 
-    ghost view = { λ b. record { graph = b.game.now; journal = b.entries.items } };
+    ghost view = { λ b. play_of b.game.now b.contents };
 
-    ghost invariant = { λ b. IsBoard b.game.now b.entries.items b.regions b.number };
+    ghost invariant = { λ b. IsOf b.game.now b.contents };
 }
 
 impl<'g> Board<'g> {
@@ -54,10 +56,28 @@ impl<'g> Board<'g> {
         let _n = game.len();
         Ok(Board {
             game,
-            entries: Vec::new(alloc),
-            regions: Regions::open(alloc, game)?,
-            number: 0,
+            contents: Contents {
+                entries: Vec::new(alloc),
+                regions: Regions::open(alloc, game)?,
+                number: 0,
+            },
         })
+    }
+
+    /// A board of these contents.
+    pub(crate) fn attach(game: &'g Game, contents: Contents) -> Board<'g>
+        requires { IsOf game.now contents }
+        ensures { result ≡ play_of game.now contents }
+    {
+        Board { game, contents }
+    }
+
+    /// The contents, without their game.
+    pub(crate) fn detach(self) -> Contents
+        ensures contents { IsOf self.entry.graph result }
+        ensures board { play_of self.entry.graph result ≡ self.entry }
+    {
+        self.contents
     }
 
     /// The unsettled part, the number of entries and the number settled. Looks at no edge. The only error is `Memory`.
@@ -71,10 +91,10 @@ impl<'g> Board<'g> {
     {
         // for the proof: the graph is a game, so no edge leaves it
         let _n = self.game.len();
-        let mask = self.regions.unsettled.copy(alloc)?;
+        let mask = self.contents.regions.unsettled.copy(alloc)?;
         Ok(Copied {
             inside: Inside::of_subgame(self.game, mask),
-            at: self.entries.len() as u64,
+            at: self.contents.entries.len() as u64,
             settled: self.settled(),
         })
     }
@@ -136,7 +156,7 @@ impl<'g> Board<'g> {
         ensures within { number_settled self.now.journal ≤ length self.now.graph }
     {
         // for the proof: reading a field gives the invariant of the type, and so the journal is lawful
-        let _ = &self.entries;
+        let _ = &self.contents.entries;
         // for the proof: the graph is a game, within the limits
         let _n = self.game.len();
         self.game
@@ -146,7 +166,7 @@ impl<'g> Board<'g> {
     pub fn winner(&self, v: u32) -> Option<Player>
         ensures { result ≡ winner_in (state_of self.now.journal v) }
     {
-        let (winner, _) = self.regions.at(v)?;
+        let (winner, _) = self.contents.regions.at(v)?;
         Some(winner)
     }
 
@@ -154,7 +174,7 @@ impl<'g> Board<'g> {
     pub fn choice(&self, v: u32) -> Option<u32>
         ensures { result ≡ choices (state_of self.now.journal) v }
     {
-        let (_, choice) = self.regions.at(v)?;
+        let (_, choice) = self.contents.regions.at(v)?;
         choice
     }
 
@@ -162,7 +182,7 @@ impl<'g> Board<'g> {
     pub fn settled(&self) -> u64
         ensures { result ≡ number_settled self.now.journal }
     {
-        u64::from(self.number)
+        u64::from(self.contents.number)
     }
 
     /// The number of vertices that the entries of one worker settled.
@@ -172,7 +192,7 @@ impl<'g> Board<'g> {
         // for the proof: there are so few vertices that their number fits
         let _n = self.game.len();
         let mut total = 0;
-        'entries: for entry in &self.entries {
+        'entries: for entry in &self.contents.entries {
             if entry.worker == worker {
                 total += entry.rows.as_slice().len() as u64;
             }
@@ -184,14 +204,14 @@ impl<'g> Board<'g> {
     pub fn entries(&self) -> &[Entry]
         ensures { result.now ≡ self.now.journal }
     {
-        self.entries.as_slice()
+        self.contents.entries.as_slice()
     }
 
     /// Whether no vertex is unsettled.
     pub fn is_full(&self) -> bool
         ensures { IsTrue result ↔ IsFull self.now.graph (state_of self.now.journal) }
     {
-        self.number == self.game.len()
+        self.contents.is_full(self.game)
     }
 
     /// Winners and choices of all vertices, exactly where the board is full. A vertex has a choice exactly where its winner
@@ -201,20 +221,33 @@ impl<'g> Board<'g> {
         ensures solution { IfOk result (λ found. IfSome found (λ s. IsExactSolution self.now.graph s.rows)) }
         ensures state { IfOk result (λ found. IfSome found (λ s. AreStateRows self.now.graph (state_of self.now.journal) s.rows)) }
     {
-        if !self.is_full() {
-            return Ok(None);
-        }
-        let rows = self.regions.rows(alloc)?;
-        Ok(Some(Solution {
-            rows: Sequence::new(rows),
-        }))
+        self.contents.solution(alloc, self.game)
+    }
+
+    /// Settles all that is unsettled by Zielonka's recursion (1998), as worker 0: Even's part and then Odd's, each as one
+    /// entry unless it has no vertex. A full board is unchanged. The only error is `Memory`, after which nothing has changed.
+    pub fn finish(&mut self, alloc: Global) -> Result<(), Memory>
+        ensures lawful { IsLawful self.new.graph self.new.journal }
+        ensures full { OnOk result (IsFull self.new.graph (state_of self.new.journal)) }
+        ensures later { OnOk result (IsLater (Even ∷ Odd ∷ []) self.old self.new) }
+        ensures unchanged { OnErr result (self.new ≡ self.old) }
+    {
+        let n = self.game.len();
+        let copied = self.copy(alloc)?;
+        let Solved { even, odd } = zielonka(alloc, &copied.inside)?;
+        let even_rows = Vec::with_capacity(alloc, n as usize)?;
+        let odd_rows = Vec::with_capacity(alloc, n as usize)?;
+        self.contents.entries.reserve(2)?;
+        self.contents.settle_dominion(self.game, &even, even_rows);
+        self.contents.settle_dominion(self.game, &odd, odd_rows);
+        Ok(())
     }
 
     /// The journal; the board is given up.
     pub fn into_entries(self) -> Vec<Entry>
         ensures { result.items ≡ self.entry.journal }
     {
-        self.entries
+        self.detach().entries
     }
 
     /// The same as `post` for a claim that is known to be sound.
@@ -228,59 +261,22 @@ impl<'g> Board<'g> {
         ensures unchanged { OnErr result (self.new ≡ self.old) }
     {
         let n = self.game.len();
-        if let Some(v) = self.regions.first_lost(claim) {
+        if let Some(v) = self.contents.regions.first_lost(claim) {
             return Err(Refusal::Lost(v));
         }
         let mut rows = Vec::with_capacity(alloc, n as usize)?;
-        self.regions.rest_of(claim, &mut rows);
+        self.contents.regions.rest_of(claim, &mut rows);
         if rows.is_empty() {
             return Err(Refusal::Stale);
         }
         let edge = self
+            .contents
             .regions
             .first_open(self.game, claim.player, rows.as_slice());
         if let Some((v, w)) = edge {
             return Err(Refusal::Open(v, w));
         }
-        Ok(self.enter(worker, claim.player, rows)?)
-    }
-
-    /// Settles the rest and what it attracts, in one entry. The rows have capacity for every vertex, so all memory is
-    /// allocated before the board changes.
-    fn enter(
-        &mut self,
-        worker: u32,
-        player: Player,
-        mut rows: Vec<(u32, Option<u32>)>,
-    ) -> Result<Posted, Memory>
-        requires good { IsGoodOn self.old.graph (state_of self.old.journal) player rows.items }
-        requires unsettled { rest_of (state_of self.old.journal) rows.items ≡ rows.items }
-        requires spare { length self.old.graph ≤ vec_capacity rows }
-        ensures game { self.new.graph ≡ self.old.graph }
-        ensures added { IfOk result (Adds self.old self.new worker (record { player = player; rows = rows.items })) }
-        ensures unchanged { OnErr result (self.new ≡ self.old) }
-    {
-        // for the proof: the graph is a game, and so small that the numbers of its vertices add up without overflow
-        let n = self.game.len();
-        self.entries.reserve(1)?;
-        let entry = self.entries.len() as u64;
-        let claimed = rows.len() as u32;
-        self.regions.settle_rows(self.game, player, rows.as_slice());
-        let is_full = self.number + claimed == n;
-        self.regions.attract(self.game, player, &mut rows, is_full);
-        rows.shrink_to_fit();
-        let settled = rows.len() as u32;
-        self.number += settled;
-        self.entries.push_reserved(Entry {
-            worker,
-            player,
-            claimed,
-            rows: Sequence::new(rows),
-        });
-        Ok(Posted {
-            entry,
-            claimed,
-            settled,
-        })
+        self.contents.entries.reserve(1)?;
+        Ok(self.contents.enter(self.game, worker, claim.player, rows))
     }
 }

@@ -4,11 +4,14 @@
 #![tactic(auto)]
 
 mod board;
+mod contents;
 mod journal;
 pub mod laws;
 mod office;
 mod regions;
+mod session;
 
 pub use board::Board;
 pub use journal::{Entry, Posted, Refusal};
 pub use office::{Office, Share};
+pub use session::Session;

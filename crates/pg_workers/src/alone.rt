@@ -7,7 +7,7 @@ ghost use Rattle.pg_text.specs.Solution.{IsExactSolution};
 ghost use Rattle.pg_workers.specs.Known.{IsSolveFault, IsKnownRegion};
 
 use crate::jobs::Options;
-use crate::known::{SolveFault, board_with, solve_unsettled};
+use crate::known::{SolveFault, board_with};
 use pg_board::{Board, Refusal};
 use pg_dominion::Claim;
 use pg_finders::{Finder, Found, Job, Standard};
@@ -33,7 +33,7 @@ pub fn solve_board(alloc: Global, mut board: Board<'_>) -> Result<Solution, Memo
     ensures exact { IfOk result (λ s. IsExactSolution board.entry.graph s.rows) }
 {
     post_jobs(alloc, &mut board)?;
-    solve_unsettled(alloc, &mut board)?;
+    board.finish(alloc)?;
     match board.solution(alloc)? {
         Some(solution) => Ok(solution),
         None => unreachable!(),

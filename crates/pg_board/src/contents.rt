@@ -1,0 +1,111 @@
+//! What a board stores beside its game: the journal, and tables of the journal's state. The calls that write them take no
+//! memory, so their callers have it all before the board changes.
+
+ghost use Rattle.std.specs.Prelude.{◌≡◌, ◌≤◌, ◌<◌, ◌+◌, ◌↔◌, ◌∷◌, ℕ, [], length, IfOk, IsTrue, IsSome, IfSome, vec_capacity, vec_len};
+ghost use Rattle.pg_board.specs.State.{rest_of, IsGoodOn};
+ghost use Rattle.pg_board.specs.Journal.{state_of, IsDominionAfter};
+ghost use Rattle.pg_board.specs.Full.{IsFull, AreStateRows};
+ghost use Rattle.pg_board.specs.Finish.{IsLater};
+ghost use Rattle.pg_board.specs.Post.{Adds};
+ghost use Rattle.pg_board.specs.private.Contents.{IsOf, Settles, play_of};
+ghost use Rattle.pg_text.specs.Solution.{IsExactSolution};
+
+use crate::journal::{Entry, Posted};
+use crate::regions::Regions;
+use pg_dominion::Claim;
+use pg_game::{Game, Memory, Player, Sequence};
+use pg_text::Solution;
+use std::alloc::Global;
+
+/// The journal, its tables, and the number of settled vertices.
+#[derive(Drop)]
+pub struct Contents {
+    pub entries: Vec<Entry>,
+    pub regions: Regions,
+    pub number: u32,
+}
+
+impl Contents {
+    /// Whether no vertex is unsettled.
+    pub fn is_full(&self, game: &Game) -> bool
+        requires { IsOf game.now self.now }
+        ensures { IsTrue result ↔ IsFull game.now (state_of self.now.entries.items) }
+    {
+        self.number == game.len()
+    }
+
+    /// The solution, exactly where no vertex is unsettled. The only error is `Memory`.
+    pub fn solution(&self, alloc: Global, game: &Game) -> Result<Option<Solution>, Memory>
+        requires { IsOf game.now self.now }
+        ensures full { IfOk result (λ found. IsSome found ↔ IsFull game.now (state_of self.now.entries.items)) }
+        ensures solution { IfOk result (λ found. IfSome found (λ s. IsExactSolution game.now s.rows)) }
+        ensures state { IfOk result (λ found. IfSome found (λ s. AreStateRows game.now (state_of self.now.entries.items) s.rows)) }
+    {
+        if !self.is_full(game) {
+            return Ok(None);
+        }
+        let rows = self.regions.rows(alloc)?;
+        Ok(Some(Solution {
+            rows: Sequence::new(rows),
+        }))
+    }
+
+    /// Settles what is unsettled of a claim that was a dominion at some time, in one entry of worker 0; if nothing is, adds none.
+    /// The rows are an empty list with capacity for every vertex.
+    pub fn settle_dominion(&mut self, game: &Game, claim: &Claim, mut rows: Vec<(u32, Option<u32>)>)
+        requires board { IsOf game.now self.old }
+        requires dominion { 0 < length claim.now.rows
+            → (k : ℕ) × IsDominionAfter game.now self.old.entries.items k claim.now.player claim.now.rows }
+        requires rows { (rows.items ≡ []) × (length game.now ≤ vec_capacity rows) }
+        requires spare { vec_len self.old.entries < vec_capacity self.old.entries }
+        ensures board { IsOf game.now self.new }
+        ensures settles { Settles self.new.entries.items claim.now.player claim.now.rows }
+        ensures later { IsLater (claim.now.player ∷ []) (play_of game.now self.old) (play_of game.now self.new) }
+        ensures spare { vec_capacity self.new.entries ≡ vec_capacity self.old.entries }
+    {
+        self.regions.rest_of(claim, &mut rows);
+        if !rows.is_empty() {
+            self.enter(game, 0, claim.player, rows);
+        }
+    }
+
+    /// Settles the rest and what it attracts, in one entry. The rows have capacity for every vertex, and the journal for one
+    /// more entry.
+    pub fn enter(
+        &mut self,
+        game: &Game,
+        worker: u32,
+        player: Player,
+        mut rows: Vec<(u32, Option<u32>)>,
+    ) -> Posted
+        requires board { IsOf game.now self.old }
+        requires good { IsGoodOn game.now (state_of self.old.entries.items) player rows.items }
+        requires unsettled { rest_of (state_of self.old.entries.items) rows.items ≡ rows.items }
+        requires spare { (length game.now ≤ vec_capacity rows) × (vec_len self.old.entries < vec_capacity self.old.entries) }
+        ensures board { IsOf game.now self.new }
+        ensures added { Adds (play_of game.now self.old) (play_of game.now self.new) worker (record { player = player; rows = rows.items }) result }
+        ensures spare { vec_capacity self.new.entries ≡ vec_capacity self.old.entries }
+    {
+        // for the proof: the graph is a game, and so small that the numbers of its vertices add up without overflow
+        let n = game.len();
+        let entry = self.entries.len() as u64;
+        let claimed = rows.len() as u32;
+        self.regions.settle_rows(game, player, rows.as_slice());
+        let is_full = self.number + claimed == n;
+        self.regions.attract(game, player, &mut rows, is_full);
+        rows.shrink_to_fit();
+        let settled = rows.len() as u32;
+        self.number += settled;
+        self.entries.push_reserved(Entry {
+            worker,
+            player,
+            claimed,
+            rows: Sequence::new(rows),
+        });
+        Posted {
+            entry,
+            claimed,
+            settled,
+        }
+    }
+}
