@@ -2,7 +2,7 @@
 use Rattle.pg_board.proofs.Common.{rules, ◌≡◌, ℕ, List, Bool, true, false, ◌<◌, ◌≤◌, ◌⊎◌, [], ◌∷◌, ◌++◌, inl, inr, length, refl, sym, ◌∙◌, ap, subst, arith, fun_ext}
 use Rattle.pg_board.proofs.Common.{length-append, append-nil, append_assoc, map-append, take-append-le, or_cases, or_right, target_attracted, VertexSet, In, members}
 use Rattle.pg_board.proofs.Common.{Player, Even, Odd, Graph, IsGame, ClaimRows, Claim, named, IsGoodIn, Entry, Posted, Play, State, settled, unsettled, rest_of}
-use Rattle.pg_board.proofs.Common.{is_unsettled, IsGoodOn, Journal, state_of, IsDominionAfter, IsFull, Adds, table_state, IsBoard}
+use Rattle.pg_board.proofs.Common.{is_unsettled, IsGoodOn, Journal, state_of, IsDominionAfter, IsLawful, IsFull, Adds, table_state, IsBoard}
 use Rattle.std.proofs.Common.{map, Ok}
 use Rattle.std.specs.Prelude.{filter}
 use Rattle.std.proofs.lemmas.Grind.{common_steps}
@@ -15,6 +15,7 @@ use Rattle.pg_board.specs.private.Contents.{IsOf, Settles, play_of}
 use Rattle.pg_board.proofs.RestIsGood.{rest_is_good, rest_twice}
 use Rattle.pg_board.proofs.Push.{settled_shut}
 use Rattle.pg_board.proofs.Dominion.{state_append, dominion_good, ours_or_open}
+use Rattle.pg_board.proofs.Copies.{dominion_now}
 use Rattle.pg_board.proofs.Posting.{few_rows, adds_claim}
 use Rattle.pg_board.proofs.OldCopies.{old_copy}
 
@@ -36,22 +37,36 @@ full_after : (g : Graph) (journal first second : Journal) (U : VertexSet) (even 
     → IsFull g (state_of (journal ++ first ++ second))
 full_after g journal first second U even odd is claims a b = grind (arith, stays_shut, or_cases, settled_shut)
 
--- a claim of the subgame that was left is still a dominion after further entries
-pub still_dominion : (old new : Play) (ps : List Player) (h : Graph) (U : VertexSet) (even odd : Claim) (at : ℕ) → IsLater ps old new → h ≡ old.graph
-    → AreClaims h U even odd → ((p : Player) (rows : ClaimRows) → IsGoodIn old.graph U p rows → IsDominionAfter old.graph old.journal at p rows)
-    → 0 < length odd.rows → IsDominionAfter new.graph new.journal at odd.player odd.rows
-still_dominion old new ps h U even odd at later is claims dominions some = grind (arith, common_steps, dominion_later)
-
 -- where both claims were posted, nothing is left
-pub all_settled : (old mid new : Play) (ps qs : List Player) (h : Graph) (U : VertexSet) (even odd : Claim) → IsLater ps old mid → IsLater qs mid new
-    → h ≡ old.graph → ((v : ℕ) → U v ≡ unsettled old.graph (state_of old.journal) v) → AreClaims h U even odd
-    → Settles mid.journal even.player even.rows → Settles new.journal odd.player odd.rows → IsFull new.graph (state_of new.journal)
-all_settled old mid new ps qs h U even odd first second is mask claims a b =
+pub all_settled : (old mid new : Play) (ps qs : List Player) (even odd : Claim) → IsLater ps old mid → IsLater qs mid new
+    → AreClaims old.graph (unsettled old.graph (state_of old.journal)) even odd → Settles mid.journal even.player even.rows
+    → Settles new.journal odd.player odd.rows → IsFull new.graph (state_of new.journal)
+all_settled old mid new ps qs even odd first second claims a b =
     let j : new.journal ≡ old.journal ++ first.added ++ second.added = second.journal ∙ ap (λ (x : Journal). x ++ second.added) first.journal in
-    let here : AreClaims old.graph U even odd = subst (λ (g : Graph). AreClaims g U even odd) is claims in
-    let full = full_after old.graph old.journal first.added second.added U even odd mask here
+    let full = full_after old.graph old.journal first.added second.added (unsettled old.graph (state_of old.journal)) even odd (λ v. refl) claims
     (subst (λ (x : Journal). Settles x even.player even.rows) first.journal a) (subst (λ (x : Journal). Settles x odd.player odd.rows) j b) in
     search rules
+
+-- two claims that share out the unsettled part are dominions, and Odd's still is after further entries
+module _ (g : Graph) (j : Journal) (game : IsGame g) (lawful : IsLawful g j) (even odd : Claim)
+    (claims : AreClaims g (unsettled g (state_of j)) even odd) where
+  abbrev Good : Player → ClaimRows → Type 0
+  Good p rows = IsGoodIn g (unsettled g (state_of j)) p rows
+
+  pub even_due : 0 < length even.rows → (k : ℕ) × IsDominionAfter g j k even.player even.rows
+  even_due some = (
+    length j,
+    dominion_now g game j lawful even.player even.rows
+        (subst (λ (p : Player). Good p even.rows) (sym claims.even_player) (claims.even_good some)),
+  )
+
+  pub odd_due : (added now : Journal) → now ≡ j ++ added → 0 < length odd.rows → (k : ℕ) × IsDominionAfter g now k odd.player odd.rows
+  odd_due added now is some = (
+    length j,
+    subst (λ (x : Journal). IsDominionAfter g x (length j) odd.player odd.rows) (sym is)
+        (dominion_later g j added (length j) odd.player odd.rows (dominion_now g game j lawful odd.player odd.rows
+        (subst (λ (p : Player). Good p odd.rows) (sym claims.odd_player) (claims.odd_good some)))),
+  )
 
 -- one entry for the player
 one_of_caller : (e : Entry) (p : Player) → e.worker ≡ 0 → e.player ≡ p → AreOfCaller (p ∷ []) (e ∷ [])

@@ -63,10 +63,13 @@ impl Contents {
         ensures later { IsLater (claim.now.player ∷ []) (play_of game.now self.old) (play_of game.now self.new) }
         ensures spare { vec_capacity self.new.entries ≡ vec_capacity self.old.entries }
     {
+        // for the proof: the graph is a game
+        let _n = game.len();
         self.regions.rest_of(claim, &mut rows);
-        if !rows.is_empty() {
-            self.enter(game, 0, claim.player, rows);
+        if rows.is_empty() {
+            return;
         }
+        self.enter(game, 0, claim.player, rows);
     }
 
     /// Settles the rest and what it attracts, in one entry. The rows have capacity for every vertex, and the journal for one
