@@ -272,6 +272,21 @@ class RandomGames(unittest.TestCase):
     def test_a_trace_of_4000_vertices(self):
         self.assertGreater(self.check_trace(small_dominions(4_000), 3).count(b"entry "), 100)
 
+    @common.needs_speed
+    def test_each_of_4095_jobs_is_done(self):
+        """The search of each batch finds a dominion of its player, and the recursion solves the rest."""
+        game, found = plain.written_game(small_dominions(130_944)).encode(), [(0, 0), (0, 0), *[(1, 4)] * 4_092, (2, 130_944 - 4 * 4_092)]
+        wanted = [f"job {job} 1 {posted} {settled} 0 0 0 0" for job, (posted, settled) in enumerate(found)]
+        out = common.program("trace", "--workers", "1", given=game)[1].decode()
+        self.assertEqual(re.findall("(?m)^job .*$", out), wanted)
+
+    def test_workers_do_not_share_the_choices_of_a_search(self):
+        """A search of 8,721 choices, of 10,000 that it may try, ends by each number of workers."""
+        game = {v: (1, 0, set(range(9))) for v in range(9)} | {9: (1, 1, {0, 10}), 10: (1, 1, {9})}
+        for workers in (1, 2, 3, 64):
+            with self.subTest(workers=workers):
+                self.assertNotRegex(self.check_trace(game, workers), rb"(?m)^job .* 1 .$")
+
     def test_a_trace_by_each_number_of_workers(self):
         for workers in range(1, 65):
             with self.subTest(workers=workers):

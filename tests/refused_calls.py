@@ -29,6 +29,7 @@ PART = b"%d 4 0 %d; %d 3 1 %d,%d; %d 0 1 %d,%d; %d 3 0 %d,%d;"
 TWO_SIDED = b"".join(PART % tuple(v + it for it in (0, 1, 1, 2, 3, 2, 0, 3, 3, 1, 2)) for v in range(0, 400, 4))
 GAMES = [CONTINENTS, ONE_EACH, LAYERS, GAPS, b"parity 5;start 77;00 07 01 0,00;"]
 HOLDS = b"paritysol 1;\n0 0 0;\n1 1 1;\n"
+JOINED = b"parity 1;\n0 2 0 0,1;\n1 1 1 1;\n%" + HOLDS
 NO_MEMORY = (5, b"", b"pgboard: no memory\n")
 READ_FAULT = (4, b"", b"pgboard: read fault\n")
 # no worker could be started: the calling thread settles all
@@ -49,7 +50,7 @@ FILES = {
 }
 # the words, the input, and the status of a run with all memory, whose whole output is tested elsewhere
 RUNS = [
-    ("", ONE_EACH + b"%" + HOLDS, 0),
+    ("", JOINED, 0),
     ("", ONE_EACH + b"%0 0; 1 1 1;", 1),
     ("verify game.pg game.sol", b"", 0),
     ("verify game.pg wrong.sol", b"", 1),
@@ -181,6 +182,18 @@ class Program(Refusing):
         # (as many entries with capacity for all vertices are 600 megabytes)
         self.assertRegex(out, rb"\Ajournal 1\d\d\d 40000\n")
 
+    def test_a_run_takes_so_many_bytes_for_each_vertex_and_worker(self):
+        """Each bound is at most 2 % above what was measured. Of a cycle all vertices are one claim; the other game has a long journal."""
+        n, jobs = 65_536, 2_051
+        cycle = b"".join(b"%d 0 0 %d;" % (v, (v + 1) % n) for v in range(n))
+        many = plain.written_game(random_games.small_dominions(n)).encode()
+        for command, (game, each, workers) in itertools.product(("solve", "trace"), ((cycle, 156, 1), (many, 122, 1), (many, 122, 64))):
+            with self.subTest(command, each=each, workers=workers):
+                ran, numbers = self.counted([command, "--workers", str(workers)], game)
+                self.assertEqual(ran[0], 0, ran[2])
+                # (a worker has a ticket with 8 bytes for each job, and rows of 56)
+                self.assertLess(numbers[5], each * n + 64 * jobs * (workers - 1))
+
     def test_all_memory_is_freed_at_the_end(self):
         game = plain.written_game(random_games.small_dominions(20_000)).encode()
         (self.folder / "great.pg").write_bytes(game)
@@ -237,7 +250,7 @@ class Program(Refusing):
     def test_a_read_that_fails_at_each_place_of_a_text_and_at_its_end(self):
         both = len(ONE_EACH + HOLDS) + 2
         for words, text, count in [
-            ("", ONE_EACH + b"%" + HOLDS, both),
+            ("", JOINED, len(JOINED) + 1),
             ("tidy", GAPS, len(GAPS) + 1),
             ("solve", ONE_EACH, len(ONE_EACH) + 1),
             ("trace", LAYERS, len(LAYERS) + 1),
@@ -252,7 +265,7 @@ class Program(Refusing):
     def test_a_write_that_fails_at_each_place(self):
         """Bytes go out one by one up to the failure, and with pieces of 5 the first failure leaves 5."""
         for words, given in [
-            ("", ONE_EACH + b"%" + HOLDS),
+            ("", JOINED),
             ("tidy", GAPS),
             ("solve --winners", CONTINENTS),
             ("trace --workers 1", ONE_EACH),

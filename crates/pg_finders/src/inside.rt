@@ -68,13 +68,6 @@ impl<'g> Inside<'g> {
     {
         &self.mask
     }
-
-    /// The mask; the part is given up.
-    pub fn into_mask(self) -> Mask
-        ensures { result ≡ self.entry.mask }
-    {
-        self.mask
-    }
 }
 
 /// A copy of the unsettled part of a board, with the number of its entries and the number of settled vertices.

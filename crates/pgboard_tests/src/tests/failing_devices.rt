@@ -27,6 +27,9 @@ const LINE: &[u8] = b"not a solution: bad cycle at 1\n";
 /// Even wins all: 0 by its own loop, 1 by moving to 0, and 2 since Odd can only move from it to 1.
 const LAYERS: Given = (b"0 0 0 0; 1 3 0 0,1; 2 3 1 1;", usize::MAX, u64::MAX);
 
+/// Identifiers with gaps, in any order.
+const GAPS: Given = (b"9 2 1 3,3,9; 3 1 0 9;", usize::MAX, u64::MAX);
+
 const LAYERS_SOLVED: &[u8] = b"paritysol 2;\n0 0 0;\n1 0 0;\n2 0;\n";
 
 /// A game that is refused.
@@ -104,7 +107,7 @@ const RUNS: &[Run] = &[
     ),
     // the sink is full after five bytes
     (&[], JOINED, UNREAD, FIVE, WRITE, b"not a", 0),
-    (&["tidy"], GAME, UNREAD, FIVE, WRITE, b"parit", 0),
+    (&["tidy"], GAPS, UNREAD, FIVE, WRITE, b"parit", 0),
     (&["solve"], GAME, UNREAD, FIVE, WRITE, b"parit", 0),
     (&["trace"], GAME, UNREAD, FIVE, WRITE, b"journ", 0),
     // a refused game leaves the second source unread

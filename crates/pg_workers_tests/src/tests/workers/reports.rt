@@ -3,8 +3,8 @@
 use crate::tests::workers::finders::{Fixed, Halting, Long, NoMemory, Singles};
 use crate::tests::workers::games::{outcome_of, two_loops};
 use pg_board::Entry;
-use pg_finders::{Finder, Standard};
-use pg_game::Player;
+use pg_finders::{Copied, Finder, Found, Job, Standard};
+use pg_game::{Memory, Player};
 use pg_test_support::{EVEN, ODD, Row};
 use pg_workers::ReportRow;
 use std::alloc::Global;
@@ -164,6 +164,35 @@ const HALTED: [Expected; 5] = [NOTHING, LACKED, ([0; 4], true, false), NOTHING, 
 #[test]
 fn each_row_says_whether_its_search_gave_up_or_had_no_memory(rt: HostRuntime) {
     assert_rows(&rt, rt.alloc(), &Halting, &HALTED);
+}
+
+/// Claims Even's loop for each job, and says that it gave up.
+struct GivingUp;
+
+impl Finder for GivingUp {
+    fn find(&self, alloc: Global, copied: &Copied, job: &Job) -> Result<Found, Memory> {
+        let claims: &[(Player, &[Row])] = &[(EVEN, &[(0, Some(0))])];
+        let Found { claims, .. } = Fixed { claims, times: 1 }.find(alloc, copied, job)?;
+        Ok(Found {
+            claims,
+            gave_up: true,
+        })
+    }
+}
+
+const STALE_TOO: Expected = ([0, 0, 1, 0], true, false);
+
+const CLAIMED: [Expected; 5] = [
+    ([1, 1, 0, 0], true, false),
+    STALE_TOO,
+    STALE_TOO,
+    STALE_TOO,
+    STALE_TOO,
+];
+
+#[test]
+fn a_row_with_posts_says_that_its_search_gave_up(rt: HostRuntime) {
+    assert_rows(&rt, rt.alloc(), &GivingUp, &CLAIMED);
 }
 
 /// Worker, player and vertex of an entry with one row.
