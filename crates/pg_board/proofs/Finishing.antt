@@ -47,6 +47,13 @@ all_settled old mid new ps qs even odd first second claims a b =
     (subst (λ (x : Journal). Settles x even.player even.rows) first.journal a) (subst (λ (x : Journal). Settles x odd.player odd.rows) j b) in
     search rules
 
+-- the claims of a copy share out the unsettled part
+pub shared_out : (x : Play) (h : Graph) (U : VertexSet) (even odd : Claim) → h ≡ x.graph → ((v : ℕ) → U v ≡ unsettled x.graph (state_of x.journal) v)
+    → AreClaims h U even odd → AreClaims x.graph (unsettled x.graph (state_of x.journal)) even odd
+shared_out x h U even odd graph mask claims =
+    subst (λ (g : Graph). AreClaims g (unsettled x.graph (state_of x.journal)) even odd) graph
+    (subst (λ (S : VertexSet). AreClaims h S even odd) (fun_ext mask) claims)
+
 -- two claims that share out the unsettled part are dominions, and Odd's still is after further entries
 module _ (g : Graph) (j : Journal) (game : IsGame g) (lawful : IsLawful g j) (even odd : Claim)
     (claims : AreClaims g (unsettled g (state_of j)) even odd) where

@@ -233,7 +233,7 @@ impl<'g> Board<'g> {
         ensures later { OnOk result (IsLater (Even ∷ Odd ∷ []) self.old self.new) }
         ensures unchanged { OnErr result (self.new ≡ self.old) }
     {
-        if self.is_full() {
+        if self.contents.is_full(self.game) {
             return Ok(());
         }
         let copied = self.copy(alloc)?;
@@ -251,6 +251,7 @@ impl<'g> Board<'g> {
     /// Settles two claims that share out the unsettled part. All memory is allocated before the board changes.
     fn settle_solved(&mut self, alloc: Global, solved: &Solved) -> Result<(), Memory>
         requires { AreClaims self.old.graph (unsettled self.old.graph (state_of self.old.journal)) solved.now.even solved.now.odd }
+        ensures lawful { IsLawful self.new.graph self.new.journal }
         ensures full { OnOk result (IsFull self.new.graph (state_of self.new.journal)) }
         ensures later { OnOk result (IsLater (Even ∷ Odd ∷ []) self.old self.new) }
         ensures unchanged { OnErr result (self.new ≡ self.old) }
