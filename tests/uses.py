@@ -277,6 +277,8 @@ CONVERTED = [
     ("a header and a flag for the least priority", ["--min"], "minparity 1;\n0 0 0 1;\n1 3 1 0;\n", "parity 1;\n0 4 0 1;\n1 1 1 0;\n"),
     ("a file of two compressed parts", [], gzip.compress(b"0 8 0 0;\n") + gzip.compress(b"1 8 0 1;\n"), "parity 1;\n0 8 0 0;\n1 8 0 1;\n"),
     ("standard input by name", ["-"], "0 8 0 0;", "parity 0;\n0 8 0 0;\n"),
+    ("a header of the greatest identifier", [], "9 8 0 10;\n10 8 0 9;\n", "parity 10;\n9 8 0 10;\n10 8 0 9;\n"),
+    ("the greatest priority", ["--odd"], "0 2147483646 0 0;\n", "parity 0;\n0 2147483647 0 0;\n"),
     ("a header of the least priority", [], "minparity 1;\n0 0 0 1;\n1 3 1 0;\n", "parity 1;\n0 4 0 1;\n1 1 1 0;\n"),
     ("quotes in a name", [], r'0 8 0 0 "a \"b\"";', "parity 0;\n0 8 0 0 \"a 'b'\";\n"),
     ("a name that ends in a backslash", [], '0 8 0 0 "C:\\";', 'parity 0;\n0 8 0 0 "C:\\";\n'),
