@@ -302,6 +302,8 @@ class Convert(Use, unittest.TestCase):
         for name, flags, text, wanted in CONVERTED:
             with self.subTest(name):
                 self.assertEqual(self.converted(flags, text), (0, wanted, ""))
+                if "-" not in flags:
+                    self.assertEqual(self.run_script(*flags, self.file("given", text)), (0, wanted, ""))
 
     def test_random_games_keep_their_winners(self):
         ways = itertools.product((0, 1), (0, 1), (0, 1), ("flag", "header", "both"))
@@ -368,13 +370,14 @@ class Draw(Use, unittest.TestCase):
                     check_kept(self, f"{name}.{end}", out)
 
     def test_a_game_of_standard_input_with_names(self):
-        game = '0 1 0 0,1 "<a> & b"; 1 2 1 1 "' + "long" * 9 + '\t";'
+        game = '0 1 0 0,1 "<a> & b"; 1 2 1 1 "' + "long" * 9 + '\t"; 2 0 0 2 "' + "x" * 30 + '";'
         for words in ([], ["-"], ["-", self.file("part.sol", "1 0;")]):
             with self.subTest(words):
                 status, out, err = self.run_script(*words, given=game.encode())
                 self.assertEqual((status, err), (0, ""))
                 self.assertIn('label=<1<br/>&lt;a&gt; &amp; b<br/><font point-size="9">id 0</font>>', out)
                 self.assertIn(f'label=<2<br/>{("long" * 9)[:30]}...<br/><font point-size="9">id 1</font>>', out)
+                self.assertIn(f'label=<0<br/>{"x" * 30}<br/><font point-size="9">id 2</font>>', out)
                 self.assertEqual(out.count("#fde68a"), len(words) // 2)
 
     def check_drawn(self, text, game, solution):
@@ -387,16 +390,16 @@ class Draw(Use, unittest.TestCase):
             self.assertEqual(re.search("label=<(.*)> style", vertices[str(id)])[1], f'{priority}<br/><font point-size="9">id {id}</font>')
             self.assertEqual((colour_of(vertices[str(id)]), "dashed" in vertices[str(id)]), (winner, winner is None))
             self.assertEqual("peripheries=2" in vertices[str(id)], winner == 1)
-        chosen = {(str(id), str(choice)) for id, (winner, choice) in solution.items() if winner == game[id][1]}
+        chosen = {(str(id), str(choice)) for id, (winner, choice) in solution.items() if winner == game[id][1] and choice is not None}
         self.assertEqual(set(edges), {(str(id), str(to)) for id in game for to in game[id][2]})
         self.assertEqual({edge for edge, style in edges.items() if "bold" in style}, chosen)
 
     def test_random_games_read_back(self):
-        """The loser's choices, which a solution may have, are not bold; and a part of a solution leaves vertices white."""
+        """The loser's choices, which a solution may have, are not bold; a part of a solution leaves vertices white, or choices out."""
         for chance in map(random.Random, range(150)):
             game = random_games.random_game(chance)
-            solution = {id: (chance.randrange(2), chance.choice(sorted(game[id][2]))) for id in game if chance.random() < 0.8}
-            rows = (f"{id} {winner} {choice};\n" for id, (winner, choice) in solution.items())
+            solution = {id: (chance.randrange(2), chance.choice([*sorted(game[id][2]), None])) for id in game if chance.random() < 0.8}
+            rows = (f"{id} {winner} {'' if choice is None else choice};\n" for id, (winner, choice) in solution.items())
             files = self.file("game.pg", plain.written_game(game)), self.file("game.sol", "".join(rows))
             with self.subTest(game=game, solution=solution):
                 self.check_drawn(self.call(*files)[1], game, solution)
