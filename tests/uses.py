@@ -277,6 +277,8 @@ CONVERTED = [
     ("a header and a flag for the least priority", ["--min"], "minparity 1;\n0 0 0 1;\n1 3 1 0;\n", "parity 1;\n0 4 0 1;\n1 1 1 0;\n"),
     ("a file of two compressed parts", [], gzip.compress(b"0 8 0 0;\n") + gzip.compress(b"1 8 0 1;\n"), "parity 1;\n0 8 0 0;\n1 8 0 1;\n"),
     ("standard input by name", ["-"], "0 8 0 0;", "parity 0;\n0 8 0 0;\n"),
+    ("a header of the greatest identifier", [], "9 8 0 10;\n10 8 0 9;\n", "parity 10;\n9 8 0 10;\n10 8 0 9;\n"),
+    ("the greatest priority", ["--odd"], "0 2147483646 0 0;\n", "parity 0;\n0 2147483647 0 0;\n"),
     ("a header of the least priority", [], "minparity 1;\n0 0 0 1;\n1 3 1 0;\n", "parity 1;\n0 4 0 1;\n1 1 1 0;\n"),
     ("quotes in a name", [], r'0 8 0 0 "a \"b\"";', "parity 0;\n0 8 0 0 \"a 'b'\";\n"),
     ("a name that ends in a backslash", [], '0 8 0 0 "C:\\";', 'parity 0;\n0 8 0 0 "C:\\";\n'),
@@ -300,6 +302,8 @@ class Convert(Use, unittest.TestCase):
         for name, flags, text, wanted in CONVERTED:
             with self.subTest(name):
                 self.assertEqual(self.converted(flags, text), (0, wanted, ""))
+                if "-" not in flags:
+                    self.assertEqual(self.run_script(*flags, self.file("given", text)), (0, wanted, ""))
 
     def test_random_games_keep_their_winners(self):
         ways = itertools.product((0, 1), (0, 1), (0, 1), ("flag", "header", "both"))
@@ -366,13 +370,14 @@ class Draw(Use, unittest.TestCase):
                     check_kept(self, f"{name}.{end}", out)
 
     def test_a_game_of_standard_input_with_names(self):
-        game = '0 1 0 0,1 "<a> & b"; 1 2 1 1 "' + "long" * 9 + '\t";'
+        game = '0 1 0 0,1 "<a> & b"; 1 2 1 1 "' + "long" * 9 + '\t"; 2 0 0 2 "' + "x" * 30 + '";'
         for words in ([], ["-"], ["-", self.file("part.sol", "1 0;")]):
             with self.subTest(words):
                 status, out, err = self.run_script(*words, given=game.encode())
                 self.assertEqual((status, err), (0, ""))
                 self.assertIn('label=<1<br/>&lt;a&gt; &amp; b<br/><font point-size="9">id 0</font>>', out)
                 self.assertIn(f'label=<2<br/>{("long" * 9)[:30]}...<br/><font point-size="9">id 1</font>>', out)
+                self.assertIn(f'label=<0<br/>{"x" * 30}<br/><font point-size="9">id 2</font>>', out)
                 self.assertEqual(out.count("#fde68a"), len(words) // 2)
 
     def check_drawn(self, text, game, solution):
@@ -385,16 +390,16 @@ class Draw(Use, unittest.TestCase):
             self.assertEqual(re.search("label=<(.*)> style", vertices[str(id)])[1], f'{priority}<br/><font point-size="9">id {id}</font>')
             self.assertEqual((colour_of(vertices[str(id)]), "dashed" in vertices[str(id)]), (winner, winner is None))
             self.assertEqual("peripheries=2" in vertices[str(id)], winner == 1)
-        chosen = {(str(id), str(choice)) for id, (winner, choice) in solution.items() if winner == game[id][1]}
+        chosen = {(str(id), str(choice)) for id, (winner, choice) in solution.items() if winner == game[id][1] and choice is not None}
         self.assertEqual(set(edges), {(str(id), str(to)) for id in game for to in game[id][2]})
         self.assertEqual({edge for edge, style in edges.items() if "bold" in style}, chosen)
 
     def test_random_games_read_back(self):
-        """The loser's choices, which a solution may have, are not bold; and a part of a solution leaves vertices white."""
+        """The loser's choices, which a solution may have, are not bold; a part of a solution leaves vertices white, or choices out."""
         for chance in map(random.Random, range(150)):
             game = random_games.random_game(chance)
-            solution = {id: (chance.randrange(2), chance.choice(sorted(game[id][2]))) for id in game if chance.random() < 0.8}
-            rows = (f"{id} {winner} {choice};\n" for id, (winner, choice) in solution.items())
+            solution = {id: (chance.randrange(2), chance.choice([*sorted(game[id][2]), None])) for id in game if chance.random() < 0.8}
+            rows = (f"{id} {winner} {'' if choice is None else choice};\n" for id, (winner, choice) in solution.items())
             files = self.file("game.pg", plain.written_game(game)), self.file("game.sol", "".join(rows))
             with self.subTest(game=game, solution=solution):
                 self.check_drawn(self.call(*files)[1], game, solution)
