@@ -258,9 +258,9 @@ class Embed(unittest.TestCase):
         self.built(["-shared", "-o", shared, "-Wl,--whole-archive", ARCHIVES[0], "-Wl,--no-whole-archive", ARCHIVES[1]])
         env = {**os.environ, "PGBOARD_LIBRARY": str(shared), "PGBOARD_PROGRAM": str(common.PROGRAM)}
         folder = common.ROOT / "bindings" / "python"
-        for python in pythons():
-            with self.subTest(python):
-                status, out, err = common.run([python, "-B", folder / "test_pgboard.py"], timeout=600, cwd=folder, env=env)
+        for python, name in itertools.product(pythons(), ("test_pgboard.py", "test_board.py")):
+            with self.subTest(python, name=name):
+                status, out, err = common.run([python, "-B", folder / name], timeout=600, cwd=folder, env=env)
                 self.assertEqual(status, 0, out + err)
                 self.assertIn(b"\nRan ", err)
 
