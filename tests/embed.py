@@ -127,16 +127,28 @@ def take_as_built():
             (library / "stamp").write_text(crate.stamp(), encoding="utf-8")
 
 
+def build_archive():
+    """Proves and builds the static library, unless another one is named."""
+    if not OTHER:
+        take_as_built()
+        status, out, err = common.run(["rt", "lib", "--jobs", "1"], timeout=3000, cwd=CRATE)
+        assert status == 0 and ARCHIVES[0].exists(), (out + err).decode()[-2000:]
+
+
+def build_shared(folder):
+    """The same as a shared library, in a folder. Returns its path."""
+    shared = folder / "libpgboard.so"
+    status, _, err = run(["cc", "-shared", "-o", shared, "-Wl,--whole-archive", ARCHIVES[0], "-Wl,--no-whole-archive", ARCHIVES[1]])
+    assert status == 0, err
+    return shared
+
+
 @common.needs("rt", "cc")
 class Embed(unittest.TestCase):
     @classmethod
     def setUpClass(cls):
         cls.folder = common.make_folder(cls)
-        if OTHER:
-            return
-        take_as_built()
-        status, out, err = common.run(["rt", "lib", "--jobs", "1"], timeout=3000, cwd=CRATE)
-        assert status == 0 and ARCHIVES[0].exists(), (out + err).decode()[-2000:]
+        build_archive()
 
     def built(self, words):
         status, _, err = run(["cc", *words])
@@ -254,9 +266,7 @@ class Embed(unittest.TestCase):
         self.assertEqual(run([f"{self.folder}/embed"]), (0, printed, ""))
 
     def test_bindings_python(self):
-        shared = self.folder / "libpgboard.so"
-        self.built(["-shared", "-o", shared, "-Wl,--whole-archive", ARCHIVES[0], "-Wl,--no-whole-archive", ARCHIVES[1]])
-        env = {**os.environ, "PGBOARD_LIBRARY": str(shared), "PGBOARD_PROGRAM": str(common.PROGRAM)}
+        env = {**os.environ, "PGBOARD_LIBRARY": str(build_shared(self.folder)), "PGBOARD_PROGRAM": str(common.PROGRAM)}
         folder = common.ROOT / "bindings" / "python"
         for python, name in itertools.product(pythons(), ("test_pgboard.py", "test_board.py")):
             with self.subTest(python, name=name):

@@ -48,7 +48,8 @@ status: 0 where the solution is printed, 2 where something was refused
 """
 # a solver may print so many bytes; a text that pgboard takes is not longer
 MOST = 268_435_456
-LINE = re.compile(r"[ \t\r\n]*(?:paritysol[ \t\r\n]+[0-9]+|([0-9]{1,10})[ \t\r\n]+([01])(?:[ \t\r\n]+([0-9]{1,10}))?)?[ \t\r\n]*")
+NUMBER, BLANKS = "0*([0-9]{1,10})", r"[ \t\r\n]"
+LINE = re.compile(f"{BLANKS}*(?:paritysol{BLANKS}*[0-9]+|{NUMBER}{BLANKS}+0*([01])(?:{BLANKS}+{NUMBER})?)?{BLANKS}*")
 # no vertex of any game
 NO_VERTEX = -1
 COLOURS = ("#8a8a8a", "#2563a8", "#d97706", "#15803d", "#b91c1c", "#7c3aed", "#0e7490", "#a16207", "#be185d")
@@ -113,8 +114,6 @@ def lines_of(text):
         if line[1]:
             yield int(line[1]), int(line[2]), int(line[3]) if line[3] else None
         at += len(piece) + 1
-    if not at:
-        raise Refused("it has no line of a solution")
 
 
 class Solver:
