@@ -100,7 +100,7 @@ class Referee(Boards):
         return [SAID.fullmatch(line).groups() for line in lines], int(left[1])
 
     def test_random_solutions_against_the_plain_board(self):
-        words = set()
+        said_words = set()
         for seed in range(80):
             chance = random.Random(seed)
             game = random_games.random_game(chance)
@@ -115,13 +115,19 @@ class Referee(Boards):
             lines, left = self.referee(game, *solvers)
             board = plain_board.Board(game)
             for worker, command, ended, said in lines:
-                self.assertEqual((command, ended), (solvers[int(worker) - 1], "status 0"))
+                self.assertEqual(command, solvers[int(worker) - 1])
+                is_ended = len(board.state()) == len(game) and ended == "ended, since the board is full"
                 wanted = said_of(board, int(worker), solutions[int(worker) - 1])
-                # (the others may be ended where the board is full)
-                self.assertEqual(said, wanted, (plain.written_game(game), solutions, lines))
-                words.update(re.findall("[a-z]+", said))
+                self.assertIn((ended, said), [("status 0", wanted), *((ended, it) for it in (wanted, "nothing is claimed") if is_ended)], (game, solutions, lines))
+                said_words.update(re.findall("cycle|choice|leaves|already|claimed", said))
             self.assertEqual(left, len(game) - len(board.state()))
-        self.assertGreaterEqual(words, set(re.findall("[a-z]+", " ".join(REFUSED.values()))))
+        self.assertEqual(len(said_words), 5, said_words)
+
+    def test_what_another_solver_has_settled_is_lost(self):
+        game = {3: (2, 0, {9}), 9: (1, 1, {9}), 12: (0, 0, {12})}
+        lines, left = self.referee(game, f"cat {self.file('odd', '9 1 9;')}", f"sh -c 'sleep 1; cat {self.file('even', '3 0 9; 9 1 9;')}'")
+        wanted = ["Odd settled 2, of which 1 of 1 claimed", "Even refused: 3 is settled for the other player; Odd refused: all of it is settled already"]
+        self.assertEqual(([it[3] for it in lines], left), (wanted, 1))
 
     def test_what_a_solver_does_not_print_well_is_named(self):
         for text, said in NONSENSE.items():

@@ -99,6 +99,12 @@ struct Claim {
     std::vector<std::pair<uint32_t, uint32_t>> rows;
 };
 
+// Of each vertex the winner or PGBOARD_NO_WINNER, and his choice if he owns it.
+struct State {
+    std::vector<uint8_t> winners;
+    Numbers choices;
+};
+
 // The board under a lock, since the library takes no lock of its own.
 class Board {
   public:
@@ -143,39 +149,23 @@ class Board {
         return pgboard_board_entry(&board, number, &entry, vertices.data(), vertices.size(), choices.data(), choices.size(), &report) == PGBOARD_OK;
     }
 
-    // The winner of each vertex, or PGBOARD_NO_WINNER.
-    std::vector<uint8_t> winners(const Game &game)
+    // What is settled by now, or the solution.
+    State state(const Game &game, decltype(&pgboard_board_state) read = pgboard_board_state)
     {
-        std::vector<uint8_t> winners(game.size());
-        Numbers choices(game.size());
-        pgboard_results results = {sizeof results, winners.data(), winners.size(), choices.data(), choices.size()};
+        State state{std::vector<uint8_t>(game.size()), Numbers(game.size())};
+        pgboard_results results = {sizeof results, state.winners.data(), game.size(), state.choices.data(), game.size()};
         pgboard_report report;
         std::lock_guard<std::mutex> hold(lock);
-        need(pgboard_board_state(&board, &results, &report), report);
-        return winners;
+        need(read(&board, &results, &report), report);
+        return state;
     }
 
-    uint64_t settled()
+    // Settles what is left, as worker 0.
+    State finish(const Game &game)
     {
-        std::lock_guard<std::mutex> hold(lock);
-        return pgboard_board_settled(&board);
-    }
-
-    // Settles what is left, as worker 0, and prints the solution.
-    void finish(const Game &game)
-    {
-        std::vector<uint8_t> winners(game.size());
-        Numbers choices(game.size());
-        pgboard_results results = {sizeof results, winners.data(), winners.size(), choices.data(), choices.size()};
         pgboard_report report;
         need(pgboard_board_finish(&board, &report), report);
-        need(pgboard_board_solution(&board, &results, &report), report);
-        std::string text = "paritysol " + std::to_string(game.ids.back()) + ";\n";
-        for (uint32_t v = 0; v < game.size(); v++) {
-            text += std::to_string(game.ids[v]) + (winners[v] ? " 1" : " 0");
-            text += choices[v] == NONE ? ";\n" : " " + std::to_string(game.ids[choices[v]]) + ";\n";
-        }
-        std::cout << text << std::flush;
+        return state(game, pgboard_board_solution);
     }
 
     // Says what each worker has settled, by the journal, and how its posts were answered.
@@ -258,7 +248,9 @@ class Promotion {
             size_t from = promoted;
             promoted = 0;
             if (from == 0)
-                std::copy_if(game.of_rank[current].begin(), game.of_rank[current].end(), std::back_inserter(set), [&](uint32_t v) { return region[v] == current; });
+                for (uint32_t v : game.of_rank[current])
+                    if (region[v] == current)
+                        set.push_back(v);
             attract(from);
             if (set.empty() || is_open())
                 continue;
@@ -304,11 +296,10 @@ class Promotion {
     // Whether the vertex has a successor in the region, which is then its choice.
     bool stays(uint32_t v)
     {
-        auto is_here = [&](uint32_t to) { return to != NONE && region[to] == current; };
-        auto found = std::find_if(game.successors[v].begin(), game.successors[v].end(), is_here);
-        if (!is_here(choice[v]) && found != game.successors[v].end())
-            choice[v] = *found;
-        return is_here(choice[v]);
+        for (uint32_t to : game.successors[v])
+            if (choice[v] == NONE || region[choice[v]] != current)
+                choice[v] = to;
+        return region[choice[v]] == current;
     }
 
     uint32_t best_escape() const
@@ -388,41 +379,55 @@ class Promotion {
     uint64_t seen = 0;
 };
 
-// Finds what each player wins on single vertices, and guesses what he wins on at most eight: what is needed round a seed. A guess may
-// be wrong, since nothing looks at its closed walks.
+// What a player wins on single vertices, among those that are free.
+static Claim alone(const Game &game, const State &state, uint32_t player)
+{
+    Claim claim{player, {}};
+    auto is_free = [&](uint32_t v) { return state.winners[v] == PGBOARD_NO_WINNER; };
+    for (uint32_t v = 0; v < game.size(); v++) {
+        const Numbers &row = game.successors[v];
+        const bool is_own = game.owners[v] == player, stays = std::count(row.begin(), row.end(), v) > 0;
+        const bool leaves = std::any_of(row.begin(), row.end(), [&](uint32_t to) { return to != v && is_free(to); });
+        if (is_free(v) && game.priorities[v] % 2 == player && (is_own ? stays : !leaves))
+            claim.rows.emplace_back(v, is_own ? v : NONE);
+    }
+    return claim;
+}
+
+// A guess: what a player needs round a vertex, while it is small. It may be wrong, since nothing here looks at closed walks.
+static Claim guess(const Game &game, const State &state, uint32_t seed, std::mt19937 &chance)
+{
+    Claim claim{game.priorities[seed] % 2, {{seed, NONE}}};
+    auto is_in = [&](uint32_t v) {
+        return state.winners[v] == claim.player || std::any_of(claim.rows.begin(), claim.rows.end(), [&](auto row) { return row.first == v; });
+    };
+    for (size_t i = 0; i < claim.rows.size() && claim.rows.size() <= 8; i++) {
+        Numbers needed = game.successors[claim.rows[i].first];
+        if (game.owners[claim.rows[i].first] == claim.player) {
+            auto known = std::find_if(needed.begin(), needed.end(), is_in);
+            claim.rows[i].second = known != needed.end() ? *known : needed[chance() % needed.size()];
+            needed = {claim.rows[i].second};
+        }
+        for (uint32_t to : needed)
+            if (!is_in(to))
+                claim.rows.emplace_back(to, NONE);
+    }
+    return claim.rows.size() <= 8 ? claim : Claim{claim.player, {}};
+}
+
+// Posts what players win on single vertices and guesses, until a round brings nothing new.
 static void post_small(Board &board, const Game &game, uint32_t worker)
 {
     std::mt19937 chance(worker);
     for (bool is_new = true; is_new;) {
-        const std::vector<uint8_t> winners = board.winners(game);
-        auto is_free = [&](uint32_t v) { return winners[v] == PGBOARD_NO_WINNER; };
-        Claim alone[2] = {{0, {}}, {1, {}}};
-        for (uint32_t v = 0; v < game.size(); v++) {
-            const Numbers &row = game.successors[v];
-            const uint32_t player = game.priorities[v] % 2;
-            const bool is_own = game.owners[v] == player;
-            if (is_free(v) && (is_own ? std::count(row.begin(), row.end(), v) > 0 : std::all_of(row.begin(), row.end(), [&](uint32_t to) { return to == v || !is_free(to); })))
-                alone[player].rows.emplace_back(v, is_own ? v : NONE);
-        }
+        const State state = board.state(game);
+        std::vector<Claim> claims{alone(game, state, 0), alone(game, state, 1)};
+        for (int i = 0; i < 2000; i++)
+            if (uint32_t seed = chance() % game.size(); state.winners[seed] == PGBOARD_NO_WINNER)
+                claims.push_back(guess(game, state, seed, chance));
         is_new = false;
-        for (const Claim &claim : alone)
+        for (const Claim &claim : claims)
             is_new |= !claim.rows.empty() && board.post(worker, claim) == PGBOARD_OK;
-        for (int guesses = 0; guesses < 2000; guesses++) {
-            const uint32_t seed = std::uniform_int_distribution<uint32_t>(0, game.size() - 1)(chance);
-            Claim claim{game.priorities[seed] % 2, {{seed, NONE}}};
-            for (size_t i = 0; i < claim.rows.size() && claim.rows.size() <= 8; i++) {
-                const Numbers &row = game.successors[claim.rows[i].first];
-                const bool is_own = game.owners[claim.rows[i].first] == claim.player;
-                auto is_in = [&](uint32_t v) { return winners[v] == claim.player || std::any_of(claim.rows.begin(), claim.rows.end(), [&](auto it) { return it.first == v; }); };
-                auto known = std::find_if(row.begin(), row.end(), is_in);
-                if (is_own)
-                    claim.rows[i].second = known != row.end() ? *known : row[chance() % row.size()];
-                for (uint32_t to : row)
-                    if ((!is_own || to == claim.rows[i].second) && !is_in(to))
-                        claim.rows.emplace_back(to, NONE);
-            }
-            is_new |= is_free(seed) && claim.rows.size() <= 8 && board.post(worker, claim) == PGBOARD_OK;
-        }
     }
 }
 
@@ -438,8 +443,10 @@ static void lie(Board &board, const Game &game, uint32_t worker, const std::atom
         if (chance() % 2 && board.read_entry(number, entry, vertices, choices)) {
             number++;
             claim.player = chance() % 2 ? entry.player : 1 - entry.player;
-            for (uint64_t i = 0; i < std::min<uint64_t>(entry.rows, 1000); i++)
-                claim.rows.emplace_back(vertices[i], claim.player == entry.player ? choices[i] : game.owners[vertices[i]] == claim.player ? any_choice(vertices[i]) : NONE);
+            for (uint64_t i = 0; i < std::min<uint64_t>(entry.rows, 1000); i++) {
+                const uint32_t v = vertices[i], other = game.owners[v] == claim.player ? any_choice(v) : NONE;
+                claim.rows.emplace_back(v, claim.player == entry.player ? choices[i] : other);
+            }
             auto &[v, choice] = claim.rows[chance() % claim.rows.size()];
             choice = chance() % 2 ? any_choice(v) : choice;
         } else {
@@ -450,6 +457,16 @@ static void lie(Board &board, const Game &game, uint32_t worker, const std::atom
         }
         board.post(worker, claim);
     }
+}
+
+static std::string text_of(const Game &game, const State &solution)
+{
+    std::string text = "paritysol " + std::to_string(game.ids.back()) + ";\n";
+    for (uint32_t v = 0; v < game.size(); v++) {
+        text += std::to_string(game.ids[v]) + (solution.winners[v] ? " 1" : " 0");
+        text += solution.choices[v] == NONE ? ";\n" : " " + std::to_string(game.ids[solution.choices[v]]) + ";\n";
+    }
+    return text;
 }
 
 int main(int count, char **words)
@@ -472,7 +489,7 @@ int main(int count, char **words)
         it.join();
     is_over = true;
     liar.join();
-    board.finish(game);
+    std::cout << text_of(game, board.finish(game)) << std::flush;
     board.report(game, {"the recursion", "promotion", "promotion in a part", "small dominions", "lies"});
     return 0;
 }
