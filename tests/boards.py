@@ -99,6 +99,13 @@ class Referee(Boards):
         self.assertEqual(len(lines), len(solvers), err)
         return [SAID.fullmatch(line).groups() for line in lines], int(left[1])
 
+    def test_the_example_of_the_page(self):
+        command, printed = re.search(r"(?ms)^```console\n\$ python3 (.*?)\n(.*?)^```$", common.text_of("examples", "README.md")).groups()
+        status, out, err = common.run(["bash", "-c", f"exec 2>&1; {sys.executable} -B {command}"], env=self.env, cwd=common.ROOT)
+        self.assertEqual((status, err), (0, b""))
+        seconds = lambda text: re.sub(r"\d+\.\d s", "N s", text)
+        self.assertEqual(seconds(out.decode()), seconds(printed))
+
     def test_random_solutions_against_the_plain_board(self):
         said_words = set()
         for seed in range(80):
@@ -330,6 +337,14 @@ class Promote(Boards):
             out, _ = self.ran(program, game)
             path = self.file("game.sol", out)
             self.assertEqual(common.program("verify", self.folder / "game.pg", path)[1], b"ok\n", seed)
+
+    def test_the_commands_of_the_page(self):
+        commands = re.findall(r"(?m)^\$ (.*)$", common.text_of("examples", "README.md").split("`board/promote.cpp`")[1].split("\n## ")[0])
+        for name in ("crates", "include", "examples"):
+            (self.folder / name).symlink_to(common.ROOT / name)
+        status, out, err = common.run(["bash", "-e", "-c", "\n".join(commands)], timeout=3000, cwd=self.folder)
+        self.assertEqual((status, len(commands)), (0, 3), out + err)
+        self.solves(plain.game_of(common.text_of("examples", "requests.pg").encode()), out[out.index(b"paritysol") :])
 
     def test_what_is_refused(self):
         program = self.programs["g++ -O2"]

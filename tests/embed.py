@@ -3,8 +3,8 @@
 
 include/pgboard.h declares the exports of crates/pgboard_c and has the fields and the numbers that the crate has, with a text for
 each answer; it is C89 and C++. tests/embed/test.c goes through each answer by its name, also with sanitizers; on random games it
-gives the winners of the program, and so does tests/embed/test.cpp with include/pgboard.hpp. The C program of docs/INTEROP.md, built
-by the commands there, prints what it says there. The tests of bindings/python pass under each Python that is installed.
+gives the winners of the program, and so does tests/embed/test.cpp with include/pgboard.hpp. The C programs of docs/INTEROP.md, built
+by the commands there, print what it says there. The tests of bindings/python pass under each Python that is installed.
 
 PGBOARD_ARCHIVE names another static library to test, which is not made here.
 """
@@ -255,15 +255,17 @@ class Embed(unittest.TestCase):
             winners = common.program("solve", "--winners", given=plain.written_game(game).encode())
             self.assertEqual(winners[1].decode(), plain.written_winners(game, solution), game)
 
-    def test_the_c_program_of_the_pages(self):
-        program, printed, commands = pages.c_program(common.text_of(pages.C_PAGE))
-        (self.folder / "embed.c").write_text(program, encoding="utf-8")
+    def test_the_c_programs_of_the_pages(self):
+        programs, commands = pages.c_programs(common.text_of(pages.C_PAGE))
+        self.assertEqual(len(programs), 2)
         for name in ("crates", "include"):
             (self.folder / name).symlink_to(common.ROOT / name)
-        self.built([*FLAGS, "-fsyntax-only", f"{self.folder}/embed.c"])
-        status, out, err = common.run(["bash", "-e", "-c", commands], timeout=3000, cwd=self.folder)
-        self.assertEqual(status, 0, out + err)
-        self.assertEqual(run([f"{self.folder}/embed"]), (0, printed, ""))
+        for program, printed in programs:
+            (self.folder / "embed.c").write_text(program, encoding="utf-8")
+            self.built([*FLAGS, "-fsyntax-only", f"{self.folder}/embed.c"])
+            status, out, err = common.run(["bash", "-e", "-c", commands], timeout=3000, cwd=self.folder)
+            self.assertEqual(status, 0, out + err)
+            self.assertEqual(run([f"{self.folder}/embed"]), (0, printed, ""))
 
     def test_bindings_python(self):
         env = {**os.environ, "PGBOARD_LIBRARY": str(build_shared(self.folder)), "PGBOARD_PROGRAM": str(common.PROGRAM)}

@@ -452,6 +452,9 @@ class Boards(unittest.TestCase):
 
     def test_examples(self):
         self.assertEqual(doctest.testmod(module), (0, 1))
+        page = pathlib.Path(__file__).with_name("README.md").read_text(encoding="utf-8")
+        example = doctest.DocTestParser().get_doctest(page.split("A board takes")[1].split("```")[1], {"pgboard": pgboard}, "README.md", None, 0)
+        self.assertEqual(doctest.DocTestRunner().run(example), (0, 5))
 
     def test_a_handler_of_a_signal_may_call_the_board(self):
         program = (
