@@ -4,7 +4,7 @@
 include/pgboard.h declares the exports of crates/pgboard_c and has the fields and the numbers that the crate has, with a text for
 each answer; it is C89 and C++. tests/embed/test.c goes through each answer by its name, also with sanitizers; on random games it
 gives the winners of the program, and so does tests/embed/test.cpp with include/pgboard.hpp. tests/embed/linear.c solves two large
-games within a limit of time. The C program of docs/INTEROP.md, built by the commands there, prints what it says there. The tests of
+games within a limit of time. The C programs of docs/INTEROP.md, built by the commands there, print what it says there. The tests of
 bindings/python pass under each Python that is installed.
 
 PGBOARD_ARCHIVE names another static library to test, which is not made here.
@@ -128,16 +128,28 @@ def take_as_built():
             (library / "stamp").write_text(crate.stamp(), encoding="utf-8")
 
 
+def build_archive():
+    """Proves and builds the static library, unless another one is named."""
+    if not OTHER:
+        take_as_built()
+        status, out, err = common.run(["rt", "lib", "--jobs", "1"], timeout=3000, cwd=CRATE)
+        assert status == 0 and ARCHIVES[0].exists(), (out + err).decode()[-2000:]
+
+
+def build_shared(folder):
+    """The same as a shared library, in a folder. Returns its path."""
+    shared = folder / "libpgboard.so"
+    status, _, err = run(["cc", "-shared", "-o", shared, "-Wl,--whole-archive", ARCHIVES[0], "-Wl,--no-whole-archive", ARCHIVES[1]])
+    assert status == 0, err
+    return shared
+
+
 @common.needs("rt", "cc")
 class Embed(unittest.TestCase):
     @classmethod
     def setUpClass(cls):
         cls.folder = common.make_folder(cls)
-        if OTHER:
-            return
-        take_as_built()
-        status, out, err = common.run(["rt", "lib", "--jobs", "1"], timeout=3000, cwd=CRATE)
-        assert status == 0 and ARCHIVES[0].exists(), (out + err).decode()[-2000:]
+        build_archive()
 
     def built(self, words):
         status, _, err = run(["cc", *words])
@@ -248,24 +260,24 @@ class Embed(unittest.TestCase):
             winners = common.program("solve", "--winners", given=plain.written_game(game).encode())
             self.assertEqual(winners[1].decode(), plain.written_winners(game, solution), game)
 
-    def test_the_c_program_of_the_pages(self):
-        program, printed, commands = pages.c_program(common.text_of(pages.C_PAGE))
-        (self.folder / "embed.c").write_text(program, encoding="utf-8")
+    def test_the_c_programs_of_the_pages(self):
+        programs, commands = pages.c_programs(common.text_of(pages.C_PAGE))
+        self.assertEqual(len(programs), 2)
         for name in ("crates", "include"):
             (self.folder / name).symlink_to(common.ROOT / name)
-        self.built([*FLAGS, "-fsyntax-only", f"{self.folder}/embed.c"])
-        status, out, err = common.run(["bash", "-e", "-c", commands], timeout=3000, cwd=self.folder)
-        self.assertEqual(status, 0, out + err)
-        self.assertEqual(run([f"{self.folder}/embed"]), (0, printed, ""))
+        for program, printed in programs:
+            (self.folder / "embed.c").write_text(program, encoding="utf-8")
+            self.built([*FLAGS, "-fsyntax-only", f"{self.folder}/embed.c"])
+            status, out, err = common.run(["bash", "-e", "-c", commands], timeout=3000, cwd=self.folder)
+            self.assertEqual(status, 0, out + err)
+            self.assertEqual(run([f"{self.folder}/embed"]), (0, printed, ""))
 
     def test_bindings_python(self):
-        shared = self.folder / "libpgboard.so"
-        self.built(["-shared", "-o", shared, "-Wl,--whole-archive", ARCHIVES[0], "-Wl,--no-whole-archive", ARCHIVES[1]])
-        env = {**os.environ, "PGBOARD_LIBRARY": str(shared), "PGBOARD_PROGRAM": str(common.PROGRAM)}
+        env = {**os.environ, "PGBOARD_LIBRARY": str(build_shared(self.folder)), "PGBOARD_PROGRAM": str(common.PROGRAM)}
         folder = common.ROOT / "bindings" / "python"
-        for python in pythons():
-            with self.subTest(python):
-                status, out, err = common.run([python, "-B", folder / "test_pgboard.py"], timeout=600, cwd=folder, env=env)
+        for python, name in itertools.product(pythons(), ("test_pgboard.py", "test_board.py")):
+            with self.subTest(python, name=name):
+                status, out, err = common.run([python, "-B", folder / name], timeout=600, cwd=folder, env=env)
                 self.assertEqual(status, 0, out + err)
                 self.assertIn(b"\nRan ", err)
 

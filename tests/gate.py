@@ -188,7 +188,7 @@ class Gate(unittest.TestCase):
         unproved.parent.mkdir(parents=True)
         self.put(unproved, "#!/bin/sh\n")
         os.utime(self.built, (0, 0))
-        for words, names in ((["scripts"], self.scripts[:-3]), (["uses", "cli"], ["cli", "uses"]), (["embed"], ["embed"])):
+        for words, names in ((["scripts"], self.scripts[:-4]), (["uses", "cli"], ["cli", "uses"]), (["embed"], ["embed"])):
             with self.subTest(words):
                 for name in self.scripts:
                     self.script(name, f"self.assertEqual(str(common.PROGRAM), '{unproved}')" if name in names else "self.fail()")

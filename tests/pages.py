@@ -15,7 +15,7 @@ import cli
 import common
 
 BLOCK = re.compile(r"(?ms)^```(\w*)\n(.*?)^```$")
-# the page that has a whole C program
+# the page that has whole C programs
 C_PAGE = "docs/INTEROP.md"
 LINK = re.compile(r"\[[^\]]*\]\(([^)\s]+)\)")
 
@@ -49,9 +49,10 @@ def examples(text):
             yield head, block[2], after[2]
 
 
-def c_program(text):
-    """The C program of a page, what it prints, and the commands that build it of `embed.c`."""
-    return re.search(r"(?ms)^```c\n(.*?)^```$.*?^```text\n(.*?)^```$.*?^```sh\n(.*?)^```$", text).groups()
+def c_programs(text):
+    """The C programs of a page, each with what it prints, and the commands that build one of `embed.c`."""
+    programs = re.findall(r"(?ms)^```c\n(.*?)^```$.*?^```text\n(.*?)^```$", text)
+    return programs, next(it[2] for it in BLOCK.finditer(text) if it[1] == "sh" and " embed.c " in it[2])
 
 
 def anchors(page):
@@ -360,7 +361,7 @@ def is_tested(page, block):
     if language == "rust":
         return any(is_in(code, it) for it in tests_of((common.ROOT / page).parent.name))
     if language == "c":
-        return is_in(code, c_program(common.text_of(C_PAGE))[0])
+        return any(is_in(code, program) for program, _ in c_programs(common.text_of(C_PAGE))[0])
     if language == "console":
         # (launcher.py runs these)
         return page == "README.md"

@@ -122,7 +122,9 @@ CLASSES = {
     "GAME_TOO_LONG": "TextTooLong", "GAME_LEXICAL": "NoToken", "GAME_SYNTAX": "NotExpected", "GAME_NUMBER": "NumberTooLarge",
     "GAME_OWNER": "NoPlayer", "SOLUTION_TOO_LONG": "TextTooLong", "SOLUTION_LEXICAL": "NoToken", "SOLUTION_SYNTAX": "NotExpected",
     "SOLUTION_NUMBER": "NumberTooLarge", "SOLUTION_WINNER": "NoPlayer", "SOLUTION_STRANGER": "Stranger",
-    "SOLUTION_TWICE": "WrittenTwice", "SOLUTION_MISSING": "NotWritten",
+    "SOLUTION_TWICE": "WrittenTwice", "SOLUTION_MISSING": "NotWritten", "BOARD_CLOSED": "Closed", "BOARD_UNSETTLED": "Unsettled",
+    "POST_PLAYER": "BadPlayer", "POST_LENGTHS": "BadClaimLengths", "POST_SHAPE": "BadShape", "POST_CYCLE": "ClaimCycle",
+    "POST_LOST": "Lost", "POST_STALE": "Stale", "POST_OPEN": "Open",
 }  # fmt: skip
 
 
@@ -395,7 +397,7 @@ class Faults(Tests):
         answers = header[header.index("#define PGBOARD_OK") : header.index("#define PGBOARD_ARRAY_")]
         numbers = {name: int(number) for name, number in re.findall(r"(?m)^#define PGBOARD_(\w+) (\d+)u", answers)}
         self.assertEqual({numbers[name]: kind for name, kind in CLASSES.items()}, {number: it.__name__ for number, it in pgboard.faults.FAULTS.items()})
-        self.assertEqual(numbers.keys() - CLASSES.keys(), {"OK", "SIZE", "CAPACITY"})
+        self.assertEqual(numbers.keys() - CLASSES.keys(), {"OK", "SIZE", "CAPACITY", "BOARD_OPEN", "BOARD_ENTRY"})
 
     def test_texts_of_what_is_known_name_the_players(self):
         # (vertex 1 of Odd may only go to vertex 0 of Even, where Even stays; each player is known to win what he owns)

@@ -8,131 +8,26 @@ Vertices are 0, 1 and so on. Player 0 is Even, who wins a play where the greates
 
 The library is the file that the environment variable PGBOARD_LIBRARY names, else libpgboard.so beside this file, as the wheel
 of ./package has it, else crates/pgboard_c/out/libpgboard.so of the repository, else the one of the system. Without one the
-import fails, and says what to do. Ctrl-C ends a call in any thread: a long one runs in a child process.
+import fails, and says what to do. Ctrl-C ends a call in any thread: a long one runs in a child process. A `Board` is in the
+program's own memory, so Ctrl-C waits for the end of its calls.
 """
 
 from __future__ import annotations
 
-import os
 from array import array
-from typing import TYPE_CHECKING, Any, Dict, Iterable, List, NamedTuple, Optional, Protocol, Sequence, Tuple, Type, Union
+from typing import Any, Iterable, List, Optional, Sequence, Tuple, Union
 
 from . import faults, library
+from .arrays import Buffer, MaybeNumbers, Numbers, PathLike, Solution, Text, as_given, claim_views, claims_of, game_of, game_views
+from .board import Board, Entries, Entry, Posted
 from .faults import *  # noqa: F401,F403
 from .library import NO_CHOICE, NO_WINNER, run
 from .version import __version__
 
 __all__ = [
-    "NO_CHOICE", "NO_WINNER", "Buffer", "Solution", "__version__", "solve", "solve_csr", "solve_file", "solve_graph", "solve_text",
-    "tidy_text", "verify", "verify_csr", "verify_text", *faults.__all__,
+    "NO_CHOICE", "NO_WINNER", "Board", "Buffer", "Entries", "Entry", "Posted", "Solution", "__version__", "solve", "solve_csr",
+    "solve_file", "solve_graph", "solve_text", "tidy_text", "verify", "verify_csr", "verify_text", *faults.__all__,
 ]  # fmt: skip
-
-if TYPE_CHECKING:
-    Ints = array[int]
-    PathLike = os.PathLike[str]
-else:
-    # (these have no parameters before Python 3.9)
-    Ints, PathLike = array, os.PathLike
-
-
-class HasBuffer(Protocol):
-    """What has Python's buffer protocol."""
-
-    def __buffer__(self, flags: int, /) -> memoryview: ...
-
-
-class HasArrayInterface(Protocol):
-    """An array of NumPy, as its types of any version say it."""
-
-    @property
-    def __array_interface__(self) -> Dict[str, Any]: ...
-
-
-Buffer = Union[bytes, bytearray, memoryview, Ints, HasBuffer, HasArrayInterface]
-Numbers = Iterable[int]
-MaybeNumbers = Iterable[Optional[int]]
-Text = Union[str, bytes]
-
-
-class Solution(NamedTuple):
-    """The winner of each vertex, and his choice where he owns it, else NO_CHOICE."""
-
-    winners: Ints
-    choices: Ints
-
-
-# the formats of items that are integers in this machine's order of bytes, and those of them that C takes as they are
-INTEGERS = "?bBhHiIlLqQnN"
-TAKEN = {"B": ("B", "b", "?"), "I": ("I", "i")}
-
-
-def integers(view: memoryview) -> Ints:
-    """The items of a view of integers, in a new array."""
-    is_signed = view.format[-1].islower()
-    return array({1: "Bb", 2: "Hh", 4: "Ii", 8: "Qq"}[view.itemsize][is_signed], bytes(view))
-
-
-def fitting(code: str, values: Sequence[int]) -> Ints:
-    """The same numbers in an array of other items. In place of what does not fit it has a number that the library refuses there."""
-    try:
-        return array(code, values)
-    except OverflowError:
-        # (one below the greatest, which stands for no winner and no choice)
-        most = 2 ** (8 * array(code).itemsize) - 1
-        return array(code, (it if 0 <= it <= most else most - 1 for it in values))
-
-
-def view_of(name: str, value: Buffer, code: str) -> memoryview:
-    """A view of a buffer's memory, if C takes its items for those of this code; else of a copy with such items. TypeError for what is
-    no contiguous buffer of integers."""
-    needed = "a contiguous buffer of integers in one dimension is needed, not"
-    try:
-        view = memoryview(value)  # type: ignore[arg-type]
-    except (TypeError, ValueError, BufferError) as error:
-        raise TypeError(f"{name}: {needed} {type(value).__name__}") from error
-    if view.format in TAKEN[code] and view.ndim == 1 and view.c_contiguous:
-        return view
-    if view.ndim != 1:
-        raise TypeError(f"{name}: {needed} one of {view.ndim} dimensions")
-    if not view.c_contiguous:
-        raise TypeError(f"{name}: {needed} one with gaps between its items: numpy.ascontiguousarray copies it")
-    if view.format.lstrip("@=<") not in tuple(INTEGERS):
-        raise TypeError(f"{name}: {needed} one of items {view.format!r} of {view.itemsize} bytes")
-    return memoryview(fitting(code, integers(view)))
-
-
-def numbers(code: str, values: Numbers, fault: Type[faults.Fault]) -> Ints:
-    """An array of these numbers; the fault, at the first that it can't hold."""
-    held = values if isinstance(values, (list, tuple)) else list(values)
-    try:
-        return array(code, held)
-    except OverflowError as error:
-        raise fault(next(v for v, it in enumerate(held) if not 0 <= it < 2 ** (8 * array(code).itemsize))) from error
-
-
-def rows_of(successors: Iterable[Numbers]) -> Tuple[Ints, Ints]:
-    """Where each row begins and ends, and the rows one after another."""
-    starts, targets = array("I", [0]), array("I")
-    for v, row in enumerate(successors):
-        held = row if isinstance(row, (list, tuple)) else list(row)
-        try:
-            targets.extend(held)
-        except OverflowError as error:
-            raise faults.UnknownSuccessor(v, next(it for it in held if not 0 <= it < 2**32)) from error
-        starts.append(len(targets))
-    return starts, targets
-
-
-def game_of(owners: Numbers, priorities: Numbers, successors: Iterable[Numbers]) -> Tuple[Ints, Ints, Ints, Ints]:
-    """The arrays of a game."""
-    return (numbers("B", owners, faults.BadOwner), numbers("I", priorities, faults.BadPriority), *rows_of(successors))
-
-
-def claims_of(winners: MaybeNumbers, choices: MaybeNumbers) -> Tuple[Ints, Ints]:
-    """The arrays of winners and choices. None is no winner, which is taken of what is known alone, or no choice."""
-    # what is no vertex is no choice that C could misread
-    moves = (NO_CHOICE if it is None else it if 0 <= it < NO_CHOICE else NO_CHOICE - 1 for it in choices)
-    return numbers("B", [NO_WINNER if it is None else it for it in winners], faults.BadWinner), array("I", moves)
 
 
 def solve_csr(
@@ -158,23 +53,12 @@ def verify_csr(owners: Buffer, priorities: Buffer, indptr: Buffer, indices: Buff
     run_arrays("pgboard_check", [game_views(owners, priorities, indptr, indices), claim_views(winners, choices)], [], indices)
 
 
-def game_views(owners: Buffer, priorities: Buffer, indptr: Buffer, indices: Buffer) -> List[memoryview]:
-    return [view_of("owners", owners, "B"), view_of("priorities", priorities, "I"), view_of("indptr", indptr, "I"), view_of("indices", indices, "I")]
-
-
-def claim_views(winners: Buffer, choices: Buffer) -> List[memoryview]:
-    return [view_of("winners", winners, "B"), view_of("choices", choices, "I")]
-
-
 def run_arrays(name: str, given: List[List[memoryview]], results: List[memoryview], indices: Buffer) -> None:
     """Makes a call on a game and what else is given. An unknown successor is reported as it is in the caller's buffer."""
     try:
         run(name, given, results)
     except faults.UnknownSuccessor as fault:
-        start, end = integers(given[0][2])[fault.at : fault.at + 2]
-        row = integers(memoryview(indices))[start:end]  # type: ignore[arg-type]
-        same = [it for it in row if it % 2**32 == fault.to] or [it for it in row if not 0 <= it < 2**32]
-        raise faults.UnknownSuccessor(fault.at, same[0]) from None
+        raise as_given(fault, given[0][2], indices) from None
 
 
 def solve(

@@ -10,6 +10,7 @@ __all__ = [
     "NoVertex", "TooManyVertices", "SpecifiedTwice", "NoSuccessor", "TooManyEdges", "UnknownSuccessor",
     "NoChoice", "BadChoice", "Leaves", "BadCycle", "KnownChoice", "KnownCycle", "KnownLost", "KnownLeaves",
     "TextTooLong", "NoToken", "NotExpected", "NumberTooLarge", "NoPlayer", "Stranger", "WrittenTwice", "NotWritten",
+    "Closed", "Unsettled", "RefusedClaim", "BadPlayer", "BadClaimLengths", "BadShape", "ClaimCycle", "Lost", "Stale", "Open",
 ]  # fmt: skip
 
 # the arrays by the numbers of include/pgboard.h
@@ -176,8 +177,51 @@ class NotWritten(Refused):
     words = "{vertex} is not written"
 
 
-# the exception of each answer of include/pgboard.h, but for the two that are never handed on: the size of a struct (9), which is made
-# here, and a buffer that is too small (50), which is asked for again
+class Closed(Fault):
+    words = "the board is closed"
+
+
+class Unsettled(Fault):
+    words = "the number of unsettled vertices is {at}"
+
+
+class RefusedClaim(Refused):
+    """A claim that a board refuses. The board is as before."""
+
+
+class BadPlayer(RefusedClaim):
+    words = "player {at} is neither 0 nor 1"
+
+
+class BadClaimLengths(RefusedClaim):
+    words = "there are {at} vertices and {to} choices"
+
+
+class BadShape(RefusedClaim):
+    words = (
+        "row {at}: its vertex is not in the game or not greater than the one before, or has no choice that is a successor where the "
+        "player owns it, or a choice where he does not"
+    )
+
+
+class ClaimCycle(RefusedClaim, BadCycle):
+    words = "{vertex}: its priority is the other player's, and the greatest on a closed walk in the claim"
+
+
+class Lost(RefusedClaim):
+    words = "{vertex} is settled for the other player"
+
+
+class Stale(RefusedClaim):
+    words = "each vertex of the claim is settled for its player"
+
+
+class Open(RefusedClaim):
+    words = "{vertex}: a kept edge leads to {to}, which is neither in the claim nor settled for its player"
+
+
+# The exception of each answer of include/pgboard.h. Four are never handed on: the size of a struct (9), a board that is open (70) and
+# the number of an entry (72), which are right here, and a buffer that is too small (50), which is asked for again.
 FAULTS: Dict[int, Type[Fault]] = {
     1: OutOfMemory,
     2: BadLengths,
@@ -214,4 +258,13 @@ FAULTS: Dict[int, Type[Fault]] = {
     61: KnownCycle,
     62: KnownLost,
     63: KnownLeaves,
+    71: Closed,
+    73: Unsettled,
+    80: BadPlayer,
+    81: BadClaimLengths,
+    82: BadShape,
+    83: ClaimCycle,
+    84: Lost,
+    85: Stale,
+    86: Open,
 }

@@ -35,7 +35,18 @@ EXPORTS = {
     "pgboard_tidy_text": 6,
     "pgboard_verify_text": 5,
     "pgboard_version": 0,
+    "pgboard_board_open": 3,
+    "pgboard_board_post": 4,
+    "pgboard_board_state": 3,
+    "pgboard_board_settled": 1,
+    "pgboard_board_entries": 1,
+    "pgboard_board_entry": 8,
+    "pgboard_board_finish": 2,
+    "pgboard_board_solution": 3,
+    "pgboard_board_close": 1,
 }
+# those that return a number of 64 bits; the others return an answer or nothing
+NUMBERS_OF_64_BITS = "pgboard_board_settled", "pgboard_board_entries"
 # What a call writes beside its results: the report, the size of a text, and the answer. Up to three structs of the header, of a size
 # and up to four slices, are after it.
 OUTCOME, STRUCT = struct.Struct("QQNQ"), 72
@@ -59,7 +70,8 @@ def load() -> ctypes.CDLL:
     try:
         found = ctypes.CDLL(path)
         for name, arguments in EXPORTS.items():
-            getattr(found, name).restype, getattr(found, name).argtypes = ctypes.c_uint32, [ctypes.c_size_t] * arguments
+            result = ctypes.c_uint64 if name in NUMBERS_OF_64_BITS else ctypes.c_uint32
+            getattr(found, name).restype, getattr(found, name).argtypes = result, [ctypes.c_size_t] * arguments
     except (OSError, AttributeError) as error:
         raise ImportError(f"pgboard: its library can't be loaded ({error}): {what_to_do}") from error
     version = found.pgboard_version()

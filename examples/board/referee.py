@@ -1,0 +1,313 @@
+#!/usr/bin/env python3
+"""Solves a game by other solvers, none of which has to be trusted.
+
+Each --solver is a command that prints a solution, or a part of one, in
+PGSolver's format. All run at once. What each says that a player wins goes to
+a board as one claim. The board checks it: it settles what holds, and refuses
+the rest. Zielonka's recursion settles what no solver has found. Then the
+solution is printed, which is right whatever the solvers said.
+
+In a command {game} is the path of the game, in the form of `pgboard tidy`;
+without it the game is the command's standard input. {solution} is the path of
+a file that the command writes; without it the command's standard output is
+read. There is no shell, so use sh -c '..' where you need one.
+
+Standard error says of each solver how it ended, what was settled of each
+player's part, and what was refused, with the vertex.
+"""
+
+import contextlib
+import os
+import re
+import shlex
+import signal
+import subprocess
+import sys
+import tempfile
+import threading
+import time
+
+HERE = os.path.dirname(os.path.abspath(__file__))
+sys.path[1:1] = [os.path.dirname(HERE), os.path.join(HERE, "..", "..", "bindings", "python")]
+import games
+from games import PLAYERS, Refused
+
+try:
+    import pgboard
+except ImportError as error:
+    print(f"referee: {error}", file=sys.stderr)
+    sys.exit(2)
+
+HELP = """
+examples:
+  examples/board/referee.py --solver 'oink {game} {solution}' game.pg
+  examples/board/referee.py --time 5 --picture run.svg \\
+      --solver 'a-solver {game}' --solver 'another < {game}' game.pg
+
+status: 0 where the solution is printed, 2 where something was refused
+"""
+# a solver may print so many bytes; a text that pgboard takes is not longer
+MOST = 268_435_456
+NUMBER, BLANKS = "0*([0-9]{1,10})", r"[ \t\r\n]"
+LINE = re.compile(f"{BLANKS}*(?:paritysol{BLANKS}*[0-9]+|{NUMBER}{BLANKS}+0*([01])(?:{BLANKS}+{NUMBER})?)?{BLANKS}*")
+# no vertex of any game
+NO_VERTEX = -1
+COLOURS = ("#8a8a8a", "#2563a8", "#d97706", "#15803d", "#b91c1c", "#7c3aed", "#0e7490", "#a16207", "#be185d")
+WIDTH, HEIGHT, LEFT, TOP = 720, 360, 80, 20
+
+
+class Game:
+    """A game in the arrays of a board, and the identifiers of its vertices."""
+
+    def __init__(self, text):
+        self.text = pgboard.tidy_text(text)
+        rows = [line[:-1].split(" ") for line in self.text.splitlines()[1:]]
+        self.ids = [int(row[0]) for row in rows]
+        self.number = {id: v for v, id in enumerate(self.ids)}
+        self.owners = [int(row[2]) for row in rows]
+        priorities = [int(row[1]) for row in rows]
+        self.board = pgboard.Board(self.owners, priorities, ([self.number[int(to)] for to in row[3].split(",")] for row in rows))
+
+    def is_full(self):
+        return self.board.settled == len(self.ids)
+
+    def parts_of(self, text):
+        """What a solver says that each player wins: a choice or None of each vertex. Choices that no winner owns are left out."""
+        parts, seen = ({}, {}), set()
+        for id, winner, choice in lines_of(text):
+            v = self.number.get(id)
+            if v is None or v in seen:
+                raise Refused(f"vertex {id} is {'not in the game' if v is None else 'written twice'}")
+            seen.add(v)
+            is_chosen = choice is not None and self.owners[v] == winner
+            parts[winner][v] = self.number.get(choice, NO_VERTEX) if is_chosen else None
+        return parts
+
+    def solution_text(self):
+        winners, choices = self.board.solution()
+        lines = [f"paritysol {self.ids[-1]};\n"]
+        for id, winner, choice in zip(self.ids, winners, choices):
+            lines.append(f"{id} {winner};\n" if choice == pgboard.NO_CHOICE else f"{id} {winner} {self.ids[choice]};\n")
+        return "".join(lines)
+
+    def said_of(self, refused, vertices):
+        """Why the board refuses a claim of these vertices, by identifiers."""
+        if isinstance(refused, pgboard.BadShape):
+            return f"no choice, or a bad one, at {self.ids[sorted(vertices)[refused.at]]}"
+        if isinstance(refused, pgboard.Stale):
+            return "all of it is settled already"
+        place = self.ids[refused.at]
+        if isinstance(refused, pgboard.Open):
+            return f"{place} leaves to {self.ids[refused.to]}"
+        return f"bad cycle at {place}" if isinstance(refused, pgboard.BadCycle) else f"{place} is settled for the other player"
+
+
+def lines_of(text):
+    """The lines of a solution's text: identifier, winner, and choice or None. What comes after the last semicolon is left out, since
+    a solver may be ended as it prints."""
+    at = 0
+    for piece in text.split(";")[:-1]:
+        line = LINE.fullmatch(piece)
+        if not line:
+            blanks = len(piece) - len(piece.lstrip())
+            raise Refused(f"line {text.count(chr(10), 0, at + blanks) + 1} is of no solution")
+        if line[1]:
+            yield int(line[1]), int(line[2]), int(line[3]) if line[3] else None
+        at += len(piece) + 1
+
+
+class Solver:
+    """A command, and what it has done."""
+
+    def __init__(self, worker, command):
+        self.worker, self.command, self.words = worker, command, shlex.split(command)
+        self.process, self.is_over, self.why = None, False, ""
+
+    def name(self):
+        return f"solver {self.worker} ({self.command})"
+
+    def run(self, text, limit, folder):
+        """Runs the command until it ends or the limit in seconds is over. Returns what it has printed."""
+        paths = {"{game}": os.path.join(folder, "game.pg"), "{solution}": os.path.join(folder, f"{self.worker}.sol")}
+        words = [re.sub(r"\{game\}|\{solution\}", lambda it: paths[it[0]], word) for word in self.words]
+        writes_file = any("{solution}" in word for word in self.words)
+        with contextlib.ExitStack() as open_files:
+            given = subprocess.DEVNULL if any("{game}" in word for word in self.words) else open_files.enter_context(open(paths["{game}"], "rb"))
+            out = subprocess.DEVNULL if writes_file else subprocess.PIPE
+            self.process = subprocess.Popen(words, stdin=given, stdout=out, start_new_session=True)
+        timer = threading.Timer(0 if self.why else limit, self.end, [f"ended after {limit:g} s"])
+        timer.start()
+        printed = b"" if writes_file else self.process.stdout.read(MOST + 1)
+        if len(printed) > MOST:
+            self.end("ended, since it printed too much")
+        self.process.wait()
+        timer.cancel()
+        self.end()
+        self.is_over = True
+        if writes_file and os.path.isfile(paths["{solution}"]):
+            with open(paths["{solution}"], "rb") as file:
+                printed = file.read(MOST + 1)
+        return printed[:MOST].decode("utf-8", "replace")
+
+    def end(self, why=""):
+        """Ends the command and all that it has started."""
+        if self.is_over:
+            return
+        self.why = self.why or why
+        if self.process:
+            with contextlib.suppress(ProcessLookupError):
+                os.killpg(self.process.pid, signal.SIGKILL)
+
+    def how_it_ended(self):
+        status = self.process.returncode
+        return self.why or (f"status {status}" if status >= 0 else f"signal {-status}")
+
+
+class Referee:
+    """Runs solvers, posts what they print, and keeps when each post was made."""
+
+    def __init__(self, game, solvers, limit):
+        self.game, self.solvers, self.limit = game, solvers, limit
+        self.begun, self.lock = time.monotonic(), threading.Lock()
+        # the seconds, the worker and the number of vertices of each post
+        self.posts = []
+
+    def run(self):
+        with tempfile.TemporaryDirectory(prefix="pgboard-") as folder:
+            games.write(os.path.join(folder, "game.pg"), self.game.text)
+            threads = [threading.Thread(target=self.serve, args=(it, folder), daemon=True) for it in self.solvers]
+            try:
+                for it in threads:
+                    it.start()
+                for it in threads:
+                    it.join()
+            finally:
+                for it in self.solvers:
+                    it.end("ended")
+        # (Ctrl-C does not reach Python during a call of the board)
+        signal.signal(signal.SIGINT, signal.SIG_DFL)
+        before = self.game.board.settled
+        self.game.board.finish()
+        self.note(0, self.game.board.settled - before)
+        self.say(f"the recursion settled {self.game.board.settled - before} of {len(self.game.ids)}")
+
+    def serve(self, solver, folder):
+        """Runs a solver and posts what it prints; where the board is full then, the other solvers end."""
+        try:
+            text = solver.run(self.game.text, self.limit, folder)
+        except OSError as error:
+            self.say(f"{solver.name()}: {error.filename or solver.command}: {error.strerror}")
+            return
+        with self.lock:
+            after = f"{solver.name()}: {solver.how_it_ended()}, {time.monotonic() - self.begun:.1f} s"
+            self.say(f"{after}: {self.post_all(solver.worker, text)}")
+            if self.game.is_full():
+                for it in self.solvers:
+                    it.end("ended, since the board is full")
+
+    def post_all(self, worker, text):
+        """Posts each player's part, and says what became of it."""
+        try:
+            parts = self.game.parts_of(text)
+        except Refused as refused:
+            return str(refused)
+        said = [f"{PLAYERS[player]} {self.post(worker, player, part)}" for player, part in enumerate(parts) if part]
+        return "; ".join(said) or "nothing is claimed"
+
+    def post(self, worker, player, part):
+        try:
+            posted = self.game.board.post(player, part, worker)
+        except pgboard.RefusedClaim as refused:
+            return f"refused: {self.game.said_of(refused, part)}"
+        self.note(worker, posted.settled)
+        return f"settled {posted.settled}, of which {posted.rest} of {len(part)} claimed"
+
+    def note(self, worker, count):
+        if count:
+            self.posts.append((time.monotonic() - self.begun, worker, count))
+
+    def say(self, line):
+        print(f"referee: {games.printable(line)}", file=sys.stderr, flush=True)
+
+    def picture(self):
+        """An SVG picture: for each worker the vertices that it has settled, as a line over the seconds."""
+        last = max(self.posts[-1][0], 0.001)
+        across = lambda seconds: f"{LEFT + (WIDTH - LEFT) * seconds / last:.1f}"
+        up = lambda count: f"{TOP + (HEIGHT - TOP) * (1 - count / len(self.game.ids)):.1f}"
+        names = ["the recursion", *(it.command for it in self.solvers)]
+        lines = [
+            f'<svg xmlns="http://www.w3.org/2000/svg" viewBox="0 0 {WIDTH + 20} {HEIGHT + 40 + 20 * len(names)}" font-family="DejaVu Sans" font-size="12">',
+            f'<path d="M{LEFT},{TOP}V{HEIGHT}H{WIDTH}" fill="none" stroke="black"/>',
+            f'<text x="{LEFT - 8}" y="{TOP + 4}" text-anchor="end">{len(self.game.ids)}</text><text x="{LEFT - 8}" y="{HEIGHT}" text-anchor="end">0</text>',
+            f'<text x="{WIDTH}" y="{HEIGHT + 16}" text-anchor="end">{last:.2f} s</text><text x="{LEFT}" y="{HEIGHT + 16}">settled vertices by worker</text>',
+        ]
+        for worker, name in enumerate(names):
+            count, steps = 0, [f"M{LEFT},{up(0)}"]
+            for seconds, by, settled in self.posts:
+                if by == worker:
+                    count += settled
+                    steps.append(f"H{across(seconds)}V{up(count)}")
+            colour, y = COLOURS[worker % len(COLOURS)], HEIGHT + 36 + 20 * worker
+            lines.append(f'<path id="worker{worker}" d="{"".join(steps)}H{WIDTH}" fill="none" stroke="{colour}" stroke-width="2.5"/>')
+            lines.append(f'<path d="M{LEFT},{y - 4}h24" stroke="{colour}" stroke-width="2.5"/><text x="{LEFT + 32}" y="{y}">{count} {escaped(name)}</text>')
+        return "\n".join([*lines, "</svg>\n"])
+
+
+def escaped(text):
+    return games.printable(text).replace("&", "&amp;").replace("<", "&lt;")
+
+
+def svg_path(path):
+    if not path.endswith(".svg"):
+        raise ValueError
+    return path
+
+
+svg_path.__name__ = "picture (.svg)"
+
+
+def seconds(word):
+    value = float(word)
+    if not 0 < value <= threading.TIMEOUT_MAX:
+        raise ValueError
+    return value
+
+
+def main(words):
+    parser = games.parser(__doc__, HELP)
+    parser.add_argument("game", metavar="GAME", help="a game; - is standard input")
+    parser.add_argument("--solver", metavar="COMMAND", action="append", default=[], help="the command of a solver; there may be several")
+    parser.add_argument("--time", metavar="SECONDS", type=seconds, default=60, help="the time that each solver has (60)")
+    parser.add_argument("--picture", metavar="FILE", type=svg_path, help="draw how many vertices each solver settled, over time, in .svg")
+    given = parser.parse_args(words)
+    solvers = []
+    for worker, command in enumerate(given.solver, 1):
+        try:
+            solvers.append(Solver(worker, command))
+        except ValueError as error:
+            raise Refused(f"--solver {command}: {error}") from None
+        if not solvers[-1].words:
+            raise Refused("--solver: there is no command")
+    text = games.text_of(given.game)
+    try:
+        with games.hints((given.game, text)):
+            game = read_game(given.game, text)
+    except pgboard.OutOfMemory as error:
+        raise MemoryError from error
+    referee = Referee(game, solvers, given.time)
+    referee.run()
+    if given.picture:
+        games.write(given.picture, referee.picture())
+    sys.stdout.write(game.solution_text())
+    return 0
+
+
+def read_game(path, text):
+    try:
+        return Game(text)
+    except pgboard.Refused as refused:
+        raise Refused(f"{games.called(path)}: {refused}") from None
+
+
+if __name__ == "__main__":
+    games.run("referee", main)

@@ -1,0 +1,358 @@
+#!/usr/bin/env python3
+"""Tests of examples/board over the static library: tests/boards.py [PROGRAM] [-k WORD]
+
+What referee.py says of stand-in solvers is what the plain board (plain_board.py) says of the same claims, posted in the same order, and
+what it prints is a solution by the definitions. The solvers print right, wrong, partial and damaged solutions, or nonsense, crash, or
+never end; bench's comparator is one. promote.cpp, built by two compilers and with sanitizers, prints solutions of random games and
+of games that take the recursion long; each worker's numbers add up, and nothing but the recursion of a claim that holds gets in.
+
+PGBOARD_ARCHIVE names another static library, as in embed.py.
+"""
+
+import os
+import pathlib
+import random
+import re
+import shutil
+import sys
+import time
+import unittest
+
+import common
+import embed
+import plain
+import plain_board
+import random_games
+
+BOARD = common.ROOT / "examples" / "board"
+SAID = re.compile(r"referee: solver (\d+) \((.*)\): (.*), \d+\.\d s: (.*)")
+PLAYERS = "Even", "Odd"
+REFUSED = {
+    "shape": "no choice, or a bad one, at {0}", "cycle": "bad cycle at {0}", "lost": "{0} is settled for the other player",
+    "stale": "all of it is settled already", "open": "{0} leaves to {1}",
+}  # fmt: skip
+GAME = {3: (2, 0, {3, 9}), 9: (1, 1, {9}), 12: (0, 1, {3})}
+# what no solver may print, and what is said of it
+NONSENSE = {
+    "": "nothing is claimed", "hello": "nothing is claimed", "\n\nhello;\n3 0 3;": "line 3 is of no solution",
+    "3 0 3; 9 1 9\n9 1;": "line 1 is of no solution", "3 0 3;\n\n 9 2 9;": "line 3 is of no solution", "3 0 3; -9 1 9;": "line 1 is of no solution",
+    "3 0 3,9;": "line 1 is of no solution", "4 0;": "vertex 4 is not in the game", "3 0 3; 9 1 9; 3 0 3;": "vertex 3 is written twice",
+    "99999999999 0;": "line 1 is of no solution", "paritysol 12;": "nothing is claimed", ";;;": "nothing is claimed", "9 1 9 9;": "line 1 is of no solution",
+    "3 0 3;\xff\xfe;": "line 1 is of no solution", "paritysol 1; paritysol 2; 9 1 4;": "Odd refused: no choice, or a bad one, at 9",
+}  # fmt: skip
+
+
+def said_of(board, worker, solution):
+    """What the referee has to say of a solver's solution, by the plain board, which takes over what is posted."""
+    said = []
+    for player in (0, 1):
+        rows = [(id, choice if board.game[id][1] == player else None) for id, (winner, choice) in sorted(solution.items()) if winner == player]
+        fault = rows and board.fault(player, rows)
+        if fault:
+            name, at, to = fault
+            said.append(f"{PLAYERS[player]} refused: {REFUSED[name].format(rows[at][0] if name == 'shape' else at, to)}")
+        elif rows:
+            won, rest = board.region(player), board.rest(rows)
+            new = plain.attracted(board.game, won | {v for v, _ in rest}, player) - won
+            board.add((worker, player, len(rest), [(v, None) for v in new]))
+            said.append(f"{PLAYERS[player]} settled {len(new)}, of which {len(rest)} of {len(rows)} claimed")
+    return "; ".join(said) or "nothing is claimed"
+
+
+@common.needs("rt", "cc")
+class Boards(unittest.TestCase):
+    @classmethod
+    def setUpClass(cls):
+        cls.folder = common.make_folder(cls)
+        embed.build_archive()
+
+    def file(self, name, text):
+        path = self.folder / name
+        path.write_bytes(text if isinstance(text, bytes) else text.encode("utf-8", "surrogateescape"))
+        return path
+
+    def solves(self, game, out):
+        """That a text is a solution of the game with choices where they are needed."""
+        self.assertIsNone(plain.written_fault(game, out), plain.written_game(game))
+
+
+class Referee(Boards):
+    @classmethod
+    def setUpClass(cls):
+        super().setUpClass()
+        cls.env = {**os.environ, "PGBOARD_LIBRARY": str(embed.build_shared(cls.folder))}
+
+    def run_script(self, *words, given=b"", script=(BOARD / "referee.py",), **env):
+        status, out, err = common.run([sys.executable, "-B", *script, *words], given, timeout=120, env={**self.env, **env})
+        return status, out, err.decode()
+
+    def referee(self, game, *solvers, more=(), **how):
+        """The lines of each solver as (worker, command, how it ended, what was done), and how many vertices were left to the recursion.
+        What is printed has to be a solution."""
+        words = [it for solver in solvers for it in ("--solver", solver)]
+        status, out, err = self.run_script(*words, *more, self.file("game.pg", plain.written_game(game)), **how)
+        self.assertEqual(status, 0, err)
+        self.solves(game, out)
+        *lines, last = err.splitlines()
+        left = re.fullmatch(rf"referee: the recursion settled (\d+) of {len(game)}", last)
+        self.assertTrue(left, err)
+        self.assertEqual(len(lines), len(solvers), err)
+        return [SAID.fullmatch(line).groups() for line in lines], int(left[1])
+
+    def test_the_example_of_the_page(self):
+        command, printed = re.search(r"(?ms)^```console\n\$ python3 (.*?)\n(.*?)^```$", common.text_of("examples", "README.md")).groups()
+        status, out, err = common.run(["bash", "-c", f"exec 2>&1; {sys.executable} -B {command}"], env=self.env, cwd=common.ROOT)
+        self.assertEqual((status, err), (0, b""))
+        seconds = lambda text: re.sub(r"\d+\.\d s", "N s", text)
+        self.assertEqual(seconds(out.decode()), seconds(printed))
+
+    def test_random_solutions_against_the_plain_board(self):
+        said_words = set()
+        for seed in range(80):
+            chance = random.Random(seed)
+            game = random_games.random_game(chance)
+            right = random_games.right_solution(game)
+            solutions, solvers = [], []
+            for at in range(chance.choice([1, 1, 2, 3])):
+                part = random_games.some_of(chance, right)
+                kinds = [right, part, random_games.with_a_fault(chance, game, right), random_games.with_a_fault(chance, game, part)]
+                solutions.append(chance.choice([*kinds, random_games.random_solution(chance, game)]))
+                path = self.file(f"{at}.sol", random_games.random_solution_text(chance, solutions[-1]))
+                solvers.append(f"cat {path}")
+            lines, left = self.referee(game, *solvers)
+            board = plain_board.Board(game)
+            for worker, command, ended, said in lines:
+                self.assertEqual(command, solvers[int(worker) - 1])
+                is_ended = len(board.state()) == len(game) and ended == "ended, since the board is full"
+                wanted = said_of(board, int(worker), solutions[int(worker) - 1])
+                self.assertIn((ended, said), [("status 0", wanted), *((ended, it) for it in (wanted, "nothing is claimed") if is_ended)], (game, solutions, lines))
+                said_words.update(re.findall("cycle|choice|leaves|already|claimed", said))
+            self.assertEqual(left, len(game) - len(board.state()))
+        self.assertEqual(len(said_words), 5, said_words)
+
+    def test_what_another_solver_has_settled_is_lost(self):
+        game = {3: (2, 0, {9}), 9: (1, 1, {9}), 12: (0, 0, {12})}
+        lines, left = self.referee(game, f"cat {self.file('odd', '9 1 9;')}", f"sh -c 'sleep 1; cat {self.file('even', '3 0 9; 9 1 9;')}'")
+        wanted = ["Odd settled 2, of which 1 of 1 claimed", "Even refused: 3 is settled for the other player; Odd refused: all of it is settled already"]
+        self.assertEqual(([it[3] for it in lines], left), (wanted, 1))
+
+    def test_what_a_solver_does_not_print_well_is_named(self):
+        for text, said in NONSENSE.items():
+            with self.subTest(text):
+                lines, left = self.referee(GAME, f"cat {self.file('solution', text.encode('latin-1'))}")
+                self.assertEqual((lines[0][2:], left), (("status 0", said), 3))
+
+    def test_random_bytes(self):
+        for seed in range(20):
+            chance = random.Random(seed)
+            text = random_games.damaged(chance, random_games.random_solution_text(chance, random_games.random_solution(chance, GAME)))
+            self.referee(GAME, f"cat {self.file('solution', text)}", f"head -c 1000 {self.file('bytes', chance.randbytes(1000))}")
+
+    def test_a_solver_that_crashes_is_heard(self):
+        half = self.file("half", "paritysol 12;\n9 1 9;\n3 0")
+        ends = {"exit 3": "status 3", "kill -SEGV $$": "signal 11", "kill -9 $$": "signal 9"}
+        for end, how in ends.items():
+            lines, left = self.referee(GAME, f"sh -c 'cat {half}; {end}'")
+            self.assertEqual((lines[0][2:], left), ((how, "Odd settled 1, of which 1 of 1 claimed"), 2))
+        self.assertEqual(self.referee(GAME, "false")[0][0][2:], ("status 1", "nothing is claimed"))
+
+    def test_a_solver_that_never_ends_is_ended_with_all_that_it_started(self):
+        half, pid = self.file("half", "9 1 9; 3 0"), self.folder / "pid"
+        begun = time.monotonic()
+        lines, left = self.referee(GAME, f"sh -c 'sleep 600 & echo $! > {pid}; cat {half}; wait'", "sleep 600", more=["--time", "1.5"])
+        self.assertEqual([it[2] for it in lines], ["ended after 1.5 s"] * 2)
+        self.assertEqual(({it[0]: it[3] for it in lines}, left), ({"1": "Odd settled 1, of which 1 of 1 claimed", "2": "nothing is claimed"}, 2))
+        self.assertLess(time.monotonic() - begun, 60)
+        self.assert_gone(int(pid.read_text(encoding="ascii")))
+
+    def assert_gone(self, pid):
+        ends = time.monotonic() + 10
+        while os.path.exists(f"/proc/{pid}") and " Z " not in pathlib.Path(f"/proc/{pid}/stat").read_text(encoding="ascii"):
+            self.assertLess(time.monotonic(), ends)
+            time.sleep(0.05)
+
+    def test_a_full_board_ends_the_other_solvers(self):
+        begun = time.monotonic()
+        lines, left = self.referee(GAME, "sleep 600", f"cat {self.file('all', '3 0 3; 9 1 9; 12 0;')}", more=["--time", "600"])
+        self.assertEqual([it[2:] for it in lines], [("status 0", "Even settled 2, of which 2 of 2 claimed; Odd settled 1, of which 1 of 1 claimed"), ("ended, since the board is full", "nothing is claimed")])
+        self.assertEqual(left, 0)
+        self.assertLess(time.monotonic() - begun, 60)
+
+    def test_a_solver_that_prints_without_end_is_ended(self):
+        program = f"import sys; sys.path.insert(1, {str(BOARD)!r}); import referee; referee.MOST = 10**6; referee.games.run('referee', referee.main)"
+        lines, _ = self.referee(GAME, "yes '3 0 3;'", more=["--time", "600"], script=["-c", program])
+        self.assertEqual(lines[0][2:], ("ended, since it printed too much", "vertex 3 is written twice"))
+
+    def test_how_a_solver_gets_the_game_and_gives_the_solution(self):
+        solution = self.file("all", "3 0 3; 9 1 9; 12 0;")
+        said = "Even settled 2, of which 2 of 2 claimed; Odd settled 1, of which 1 of 1 claimed"
+        for name, solver in {"input": "sh -c 'cat > {0}; cat {1}'", "path": "sh -c 'cat {{game}} > {0}; cat {1}'", "both": "sh -c 'cat {{game}} > {0}; cp {1} {{solution}}; echo no;'"}.items():
+            got = self.folder / f"game of {name}".replace(" ", "_")
+            self.assertEqual(self.referee(GAME, solver.format(got, solution))[0][0][2:], ("status 0", said))
+            self.assertEqual(got.read_text(encoding="ascii"), plain.written_game(GAME))
+        lines, _ = self.referee(GAME, "sh -c 'test -e {game} && test -e {solution}'")
+        self.assertEqual(lines[0][2:], ("status 1", "nothing is claimed"))
+        # (a path is one word, whatever it has)
+        strange = self.folder / "a folder; of {game}"
+        strange.mkdir(exist_ok=True)
+        lines, _ = self.referee(GAME, f"sh -c 'cp {solution} \"$0\"' {{solution}}", TMPDIR=str(strange))
+        self.assertEqual(lines[0][2:], ("status 0", said))
+
+    def test_the_game_may_have_any_form_and_be_standard_input(self):
+        for seed in range(10):
+            chance = random.Random(seed)
+            game = random_games.random_game(chance)
+            status, out, err = self.run_script("-", given=random_games.random_game_text(chance, game))
+            self.assertEqual((status, err), (0, f"referee: the recursion settled {len(game)} of {len(game)}\n"))
+            self.solves(game, out)
+
+    @unittest.skipUnless(random_games.COMPARATOR.exists() or common.IS_GATE, "bench.py has not built the comparator")
+    def test_the_comparator_is_a_solver(self):
+        for seed in range(20):
+            game = random_games.random_game(random.Random(seed), 60)
+            lines, left = self.referee(game, f"{random_games.COMPARATOR} solve {{game}}")
+            self.assertEqual((lines[0][2], left), ("status 0", 0), lines)
+
+    def test_the_picture_has_what_each_solver_settled(self):
+        path = self.folder / "run.svg"
+        solvers = [f"cat {self.file('odd', '9 1 9;')}", f"sh -c 'sleep 0.3; cat {self.file('even', '3 0 3;')} # <&'", "false"]
+        self.referee({**GAME, 20: (1, 1, {20})}, *solvers, more=["--picture", path])
+        text = path.read_text(encoding="utf-8")
+        counts = {name: int(count) for count, name in re.findall(r'<text x="\d+" y="\d+">(\d+) (.*?)</text>', text)}
+        names = ["the recursion", *(it.replace("&", "&amp;").replace("<", "&lt;") for it in solvers)]
+        self.assertEqual(counts, dict(zip(names, [1, 1, 2, 0])))
+        # four vertices are 340 units high, and each line goes up by as many as its worker settled, and to the end
+        for worker, count in enumerate([1, 1, 2, 0]):
+            steps = re.search(rf'id="worker{worker}" d="M80,360\.0((?:H[\d.]+V[\d.]+)*)H720"', text)[1]
+            places = [(float(x), float(y)) for x, y in re.findall(r"H([\d.]+)V([\d.]+)", steps)]
+            self.assertEqual([y for _, y in places], [360 - 85 * count] * bool(count))
+            self.assertTrue(all(80 <= x <= 720 for x, _ in places))
+            if worker == 2:
+                self.assertGreater(places[0][0], 200)
+        self.assertEqual(common.run(["xmllint", "--noout", path])[0] if shutil.which("xmllint") else 0, 0)
+
+    def test_what_is_refused(self):
+        good = self.file("game.pg", plain.written_game(GAME))
+        bad = self.file("bad.pg", "0 0 0 7;")
+        refused = {
+            (str(bad),): rf"referee: {re.escape(str(bad))}: vertex 0: the successor 7 is no vertex",
+            (str(self.file("comment.pg", "0 0 0 0; # Even\n")),): r"referee: \S+comment.pg:1:10: a comment begins here: examples/convert.py removes comments",
+            ("/nowhere.pg",): "referee: /nowhere.pg: No such file or directory",
+            ("--solver", "sh -c 'x", str(good)): "referee: --solver sh -c 'x: No closing quotation",
+            ("--solver", " ", str(good)): "referee: --solver: there is no command",
+            ("--time", "0", str(good)): r"[\s\S]*argument --time: invalid seconds value: '0'",
+            ("--time", "nan", str(good)): r"[\s\S]*argument --time: invalid seconds value: 'nan'",
+            ("--picture", "run.png", str(good)): r"[\s\S]*argument --picture: invalid picture \(.svg\) value: 'run.png'",
+        }
+        for words, line in refused.items():
+            with self.subTest(words):
+                status, out, err = self.run_script(*words)
+                self.assertEqual((status, out), (2, b""))
+                self.assertRegex(err.rstrip("\n"), f"^{line}$")
+        status, out, err = self.run_script(str(good), PGBOARD_LIBRARY="/nowhere.so")
+        self.assertEqual((status, out), (2, b""))
+        self.assertRegex(err, "^referee: pgboard: its library can't be loaded .*\n$")
+        status, out, err = self.run_script("--solver", "/nowhere {game}", str(good))
+        self.assertEqual((status, err), (0, "referee: solver 1 (/nowhere {game}): /nowhere: No such file or directory\nreferee: the recursion settled 3 of 3\n"))
+
+    def test_help_fits(self):
+        status, out, err = self.run_script("--help")
+        self.assertEqual((status, err, [it for it in out.decode().splitlines() if len(it) > 80]), (0, "", []))
+        self.assertLessEqual(len(common.text_of("examples", "board", "referee.py").splitlines()), 400)
+
+
+def ladder(levels):
+    """A game on which the recursion takes time exponential in the levels (Friedmann 2011)."""
+    rows = {}
+    for i in range(1, levels + 1):
+        rows["a", i] = 1 - i % 2, 1 - i % 2, [("b", i), ("d", i - 1)]
+        rows["b", i] = 1 - i % 2, i % 2, [("a", i), ("c", i)][: 1 + (i < levels)]
+    for i in range(levels):
+        rows["c", i] = 3 * i + 5, 1 - i % 2, [("b", i + 1), ("d", i)]
+        rows["d", i] = 3 * i + 4, i % 2, [("e", i), *(("d", j) for j in (i - 1, i + 1) if 0 <= j < levels)]
+        rows["e", i] = 3 * i + 3, 1 - i % 2, [("d", i), ("b", i)][: 1 + (i > 0)]
+    number = {name: v for v, name in enumerate(rows)}
+    return {number[name]: (priority, owner, {number[to] for to in row}) for name, (priority, owner, row) in rows.items()}
+
+
+def of_degree_two(chance, size):
+    return {v: (v, chance.randrange(2), set(chance.sample(range(size), 2))) for v in range(size)}
+
+
+def ring(chance, size):
+    return {v: (v, chance.randrange(2), {(v + 1) % size, (v + 2 + chance.randrange(63)) % size}) for v in range(size)}
+
+
+@common.needs("g++")
+class Promote(Boards):
+    WORKERS = ["the recursion", "promotion", "promotion in a part", "small dominions", "lies"]
+
+    @classmethod
+    def setUpClass(cls):
+        super().setUpClass()
+        cls.programs = {}
+        for compiler, flags in (("g++", ["-O2"]), ("g++", ["-O1", *embed.SANITIZERS]), ("g++", ["-O1", "-g", "-fsanitize=thread"]), ("clang++", ["-O2"])):
+            if shutil.which(compiler):
+                program = cls.folder / f"promote{len(cls.programs)}"
+                words = [compiler, "-std=c++17", *embed.WARNINGS, *flags, BOARD / "promote.cpp", *embed.ARCHIVES, "-lpthread", "-o", program]
+                status, _, err = embed.run(words)
+                assert (status, err) == (0, ""), err
+                cls.programs[" ".join([compiler, *flags])] = program
+
+    def ran(self, program, game, timeout=60):
+        """The output, and of each worker what it settled and how its posts were answered."""
+        status, out, err = common.run([program, self.file("game.pg", plain.written_game(game))], timeout=timeout)
+        self.assertEqual(status, 0, err.decode())
+        lines = err.decode().splitlines()
+        self.assertEqual(len(lines), 5, lines)
+        workers = []
+        for number, (name, line) in enumerate(zip(self.WORKERS, lines)):
+            settled, answers = re.fullmatch(rf"worker {number} \({name}\): settled (\d+)((?:; .*)?)", line).groups()
+            workers.append((int(settled), answers.split("; ")[1:]))
+        self.assertEqual(sum(settled for settled, _ in workers), len(game), lines)
+        # promotion ends: nothing is left to the recursion, and of its posts none is refused but stale ones
+        self.assertEqual(workers[0], (0, []), lines)
+        stale = embed.TEXTS["PGBOARD_POST_STALE"]
+        for _, answers in workers[1:3]:
+            self.assertEqual([it for it in answers if not re.fullmatch(rf"posted \d+|refused \d+: {re.escape(stale)}", it)], [])
+        return out, workers
+
+    def test_random_games(self):
+        for name, program in self.programs.items():
+            refused = set()
+            for seed in range(150 if name == "g++ -O2" else 40):
+                with self.subTest(name, seed=seed):
+                    chance = random.Random(seed)
+                    game = random_games.random_game(chance, chance.choice([8, 8, 20, 60, 200]))
+                    out, workers = self.ran(program, game)
+                    self.solves(game, out)
+                    refused.update(re.sub(r"\d+", "N", it) for it in workers[4][1])
+            # the liar was heard, and refused for more than one reason
+            self.assertGreater(len([it for it in refused if it.startswith("refused")]), 1, refused)
+
+    def test_games_that_take_the_recursion_long(self):
+        program = self.programs["g++ -O2"]
+        self.solves(ladder(40), self.ran(program, ladder(40))[0])
+        for seed, game in enumerate((of_degree_two(random.Random(1), 30_000), ring(random.Random(2), 50_000))):
+            out, _ = self.ran(program, game)
+            path = self.file("game.sol", out)
+            self.assertEqual(common.program("verify", self.folder / "game.pg", path)[1], b"ok\n", seed)
+
+    def test_the_commands_of_the_page(self):
+        commands = re.findall(r"(?m)^\$ (.*)$", common.text_of("examples", "README.md").split("`board/promote.cpp`")[1].split("\n## ")[0])
+        for name in ("crates", "include", "examples"):
+            (self.folder / name).symlink_to(common.ROOT / name)
+        status, out, err = common.run(["bash", "-e", "-c", "\n".join(commands)], timeout=3000, cwd=self.folder)
+        self.assertEqual((status, len(commands)), (0, 3), out + err)
+        self.solves(plain.game_of(common.text_of("examples", "requests.pg").encode()), out[out.index(b"paritysol") :])
+
+    def test_what_is_refused(self):
+        program = self.programs["g++ -O2"]
+        self.assertEqual(embed.run([program]), (2, "", "promote: usage: promote GAME\n"))
+        self.assertEqual(embed.run([program, "/nowhere"]), (2, "", "promote: /nowhere cannot be read\n"))
+        said = embed.TEXTS["PGBOARD_GAME_LEXICAL"]
+        self.assertEqual(embed.run([program, self.file("bad.pg", "0 0 0 ?;")]), (2, "", f"promote: {said} (6)\n"))
+
+
+if __name__ == "__main__":
+    common.main()
