@@ -541,6 +541,11 @@ class Explain(Use, unittest.TestCase):
         self.assertEqual((status, err, len(out.splitlines())), (1, "", count + 2))
         self.assertIn("\n  7: priority 113, Odd may move to 8   <- the greatest, and Odd's\n", out)
 
+    def test_a_line_is_named_by_where_it_begins(self):
+        status, out = self.call(self.file("game.pg", "0 0 0 1; 1 1 1 1;"), self.file("game.sol", "\n0 0\n1;\n1\n1\n1;"))
+        self.assertEqual((status, out.split("\n")[0]), (1, "not a solution: 0 leaves to 1"))
+        self.assertIn("Even is said to win 0 (line 2 of the solution), and Odd 1 (line 4).", out)
+
     def test_the_shortest_walk(self):
         """The long way round from 0 has 0's priority as its greatest as well, and the shortest leads through a greater one."""
         game = self.file("game.pg", "0 3 1 1,2,4; 1 0 1 2; 2 0 1 3; 3 1 1 0; 4 4 1 0; 5 0 0 5;")
