@@ -372,9 +372,10 @@ class ModelCheck(uses.Use, unittest.TestCase):
         """The winner needs one of the transitions to the same state, and the other player may take each."""
         model = Model(0, 2, [(0, "a", 1), (0, "b", 1)])
         self.model.write_text(model.text, encoding="ascii")
-        for formula, count in (("<true> true", 1), ("[true] true", 2)):
+        for formula, labels in (("<true> true", "a"), ("<b> true", "b"), ("[true] true", "ab"), ("[b] true", "b")):
             self.check(self.model, formula, True, "--evidence", self.evidence)
-            self.assertEqual(len(model.part(self.evidence.read_text(encoding="ascii")).transitions), count)
+            found = model.part(self.evidence.read_text(encoding="ascii")).transitions
+            self.assertEqual(sorted(found), [(0, label, 1) for label in labels])
 
     def test_evidence_and_pictures_of_waiting(self):
         """The other is let in again and again, which is the only way to wait for ever; the pages show the picture."""
