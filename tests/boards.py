@@ -162,7 +162,7 @@ class Referee(Boards):
         lines, left = self.referee(GAME, f"sh -c 'sleep 600 & echo $! > {pid}; cat {half}; wait'", "sleep 600", more=["--time", "1.5"])
         self.assertEqual([it[2] for it in lines], ["ended after 1.5 s"] * 2)
         self.assertEqual(({it[0]: it[3] for it in lines}, left), ({"1": "Odd settled 1, of which 1 of 1 claimed", "2": "nothing is claimed"}, 2))
-        self.assertLess(time.monotonic() - begun, 60)
+        self.assertLess(time.monotonic() - begun, 20)
         self.assert_gone(int(pid.read_text(encoding="ascii")))
 
     def assert_gone(self, pid):
