@@ -3,3 +3,4 @@ pub mod Described
 pub mod Choices
 pub mod Solved
 pub mod Shapes
+pub mod Boxed
