@@ -19,6 +19,7 @@ pub mod Entering
 pub mod Posting
 pub mod OldCopies
 pub mod Solved
+pub mod Finishing
 pub mod Growing
 pub mod Added
 pub mod Present

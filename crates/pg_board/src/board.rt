@@ -8,6 +8,7 @@ ghost use Rattle.pg_game.specs.Graph.{IsGame};
 ghost use Rattle.pg_game.specs.Limits.{IsWithinLimits};
 ghost use Rattle.pg_game.specs.VertexSet.{members};
 ghost use Rattle.pg_dominion.specs.Claim.{ClaimRows, IsGoodIn, IsSound};
+ghost use Rattle.pg_finders.specs.Claims.{AreClaims};
 ghost use Rattle.pg_dominion.specs.Checked.{claim_rows, claim_of, AgreesWithGame};
 ghost use Rattle.pg_board.specs.State.{unsettled, rest_of, IsGoodOn, choices, winner_in};
 ghost use Rattle.pg_board.specs.Journal.{state_of, IsLawful, IsDominionAfter, number_settled, settled_by};
@@ -37,13 +38,13 @@ pub struct Board<'g> {
 
 impl<'g> Model for Board<'g> {
     ghost use Rattle.pg_board.specs.Play.{Play};
-    ghost use Rattle.pg_board.specs.private.Contents.{IsOf, play_of};
+    ghost use Rattle.pg_board.specs.private.Regions.{IsBoard};
 
     ghost Value = { Play };
 
-    ghost view = { λ b. play_of b.game.now b.contents };
+    ghost view = { λ b. record { graph = b.game.now; journal = b.contents.entries.items } };
 
-    ghost invariant = { λ b. IsOf b.game.now b.contents };
+    ghost invariant = { λ b. IsBoard b.game.now b.contents.entries.items b.contents.regions b.contents.number };
 }
 
 impl<'g> Board<'g> {
@@ -232,22 +233,39 @@ impl<'g> Board<'g> {
         ensures later { OnOk result (IsLater (Even ∷ Odd ∷ []) self.old self.new) }
         ensures unchanged { OnErr result (self.new ≡ self.old) }
     {
-        let n = self.game.len();
+        if self.contents.is_full(self.game) {
+            return Ok(());
+        }
         let copied = self.copy(alloc)?;
-        let Solved { even, odd } = zielonka(alloc, &copied.inside)?;
-        let even_rows = Vec::with_capacity(alloc, n as usize)?;
-        let odd_rows = Vec::with_capacity(alloc, n as usize)?;
-        self.contents.entries.reserve(2)?;
-        self.contents.settle_dominion(self.game, &even, even_rows);
-        self.contents.settle_dominion(self.game, &odd, odd_rows);
-        Ok(())
+        let solved = zielonka(alloc, &copied.inside)?;
+        self.settle_solved(alloc, &solved)
     }
 
     /// The journal; the board is given up.
     pub fn into_entries(self) -> Vec<Entry>
         ensures { result.items ≡ self.entry.journal }
     {
-        self.contents.entries
+        self.detach().entries
+    }
+
+    /// Settles two claims that share out the unsettled part. All memory is allocated before the board changes.
+    fn settle_solved(&mut self, alloc: Global, solved: &Solved) -> Result<(), Memory>
+        requires { AreClaims self.old.graph (unsettled self.old.graph (state_of self.old.journal)) solved.now.even solved.now.odd }
+        ensures lawful { IsLawful self.new.graph self.new.journal }
+        ensures full { OnOk result (IsFull self.new.graph (state_of self.new.journal)) }
+        ensures later { OnOk result (IsLater (Even ∷ Odd ∷ []) self.old self.new) }
+        ensures unchanged { OnErr result (self.new ≡ self.old) }
+    {
+        // for the proof: the graph is a game
+        let n = self.game.len() as usize;
+        let even_rows = Vec::with_capacity(alloc, n)?;
+        let odd_rows = Vec::with_capacity(alloc, n)?;
+        self.contents.entries.reserve(2)?;
+        self.contents
+            .settle_dominion(self.game, &solved.even, even_rows);
+        self.contents
+            .settle_dominion(self.game, &solved.odd, odd_rows);
+        Ok(())
     }
 
     /// The same as `post` for a claim that is known to be sound.
@@ -269,16 +287,14 @@ impl<'g> Board<'g> {
         if rows.is_empty() {
             return Err(Refusal::Stale);
         }
-        let edge =
-            self.contents
-                .regions
-                .first_open(self.game, claim.player, rows.as_slice());
+        let edge = self
+            .contents
+            .regions
+            .first_open(self.game, claim.player, rows.as_slice());
         if let Some((v, w)) = edge {
             return Err(Refusal::Open(v, w));
         }
         self.contents.entries.reserve(1)?;
-        Ok(self
-            .contents
-            .enter(self.game, worker, claim.player, rows))
+        Ok(self.contents.enter(self.game, worker, claim.player, rows))
     }
 }

@@ -52,12 +52,7 @@ impl Contents {
 
     /// Settles what is unsettled of a claim that was a dominion at some time, in one entry of worker 0; if nothing is, adds none.
     /// The rows are an empty list with capacity for every vertex.
-    pub fn settle_dominion(
-        &mut self,
-        game: &Game,
-        claim: &Claim,
-        mut rows: Vec<(u32, Option<u32>)>,
-    )
+    pub fn settle_dominion(&mut self, game: &Game, claim: &Claim, mut rows: Vec<(u32, Option<u32>)>)
         requires board { IsOf game.now self.old }
         requires dominion { 0 < length claim.now.rows
             → (k : ℕ) × IsDominionAfter game.now self.old.entries.items k claim.now.player claim.now.rows }
@@ -68,10 +63,13 @@ impl Contents {
         ensures later { IsLater (claim.now.player ∷ []) (play_of game.now self.old) (play_of game.now self.new) }
         ensures spare { vec_capacity self.new.entries ≡ vec_capacity self.old.entries }
     {
+        // for the proof: the graph is a game
+        let _n = game.len();
         self.regions.rest_of(claim, &mut rows);
-        if !rows.is_empty() {
-            self.enter(game, 0, claim.player, rows);
+        if rows.is_empty() {
+            return;
         }
+        self.enter(game, 0, claim.player, rows);
     }
 
     /// Settles the rest and what it attracts, in one entry. The rows have capacity for every vertex, and the journal for one

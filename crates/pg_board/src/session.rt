@@ -31,12 +31,12 @@ pub struct Session {
 }
 
 impl Model for Session {
-    ghost use Rattle.pg_board.specs.Play.{Play};
-    ghost use Rattle.pg_board.specs.private.Contents.{AreOf, session_of};
+    ghost use Rattle.pg_board.specs.Play.{Play, journal_of};
+    ghost use Rattle.pg_board.specs.private.Contents.{AreOf};
 
     ghost Value = { Play };
 
-    ghost view = { λ s. session_of s.game s.contents };
+    ghost view = { λ s. record { graph = s.game; journal = journal_of s.contents } };
 
     ghost invariant = { λ s. AreOf s.game s.contents };
 }

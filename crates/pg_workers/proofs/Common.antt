@@ -18,11 +18,12 @@ pub use Rattle.pg_finders.proofs.Common.{AreClaims, common_steps, get_or_default
 pub use Rattle.pg_board.proofs.Common.{AreStateRows, Claim, ClaimRows, Graph, IsDominionAfter, IsExactSolution, IsFull, IsGoodIn, IsLawful, Journal, Play}
 pub use Rattle.pg_board.proofs.Common.{Player, VertexSet, false_from_ne_true, is_unsettled, map-append, number_settled, or_cases, slice_get_within}
 pub use Rattle.pg_board.proofs.Common.{state_of, sum_by_push, take-append-drop, take-append-le, take_more, target_attracted, unsettled}
+pub use Rattle.pg_board.specs.Finish.{AreOfCaller, IsLater}
 pub use Rattle.pg_board.specs.declared.journal.Refusal.{Refusal}
 pub use Rattle.pg_workers.specs.Counting.{once_below, times}
 pub use Rattle.pg_workers.specs.Known.{IsSolveFault, known_rows}
 pub use Rattle.pg_workers.specs.Outcomes.{IsOutcome}
-pub use Rattle.pg_workers.specs.Report.{AddsUp, AreCounts, AreOfCaller, AreNumbered, IsDrawnRow, IsInOrder, IsReport, blank_row, settled_in}
+pub use Rattle.pg_workers.specs.Report.{AddsUp, AreCounts, AreNumbered, IsDrawnRow, IsInOrder, IsReport, blank_row, settled_in}
 pub use Rattle.pg_workers.specs.Tickets.{AreDrawn, HeldTicket, fresh}
 unfoldable pub use Rattle.pg_workers.specs.Work.{batch_of, batches, batches_of, doubled, most_batches, most_doublings, total_of}
 pub use Rattle.pg_workers.specs.declared.known.SolveFault.{SolveFault}
@@ -32,4 +33,3 @@ pub use Rattle.pg_workers.specs.private.Drawing.{AtSeat, Draws, IsDrawer, IsDraw
 pub use Rattle.pg_workers.specs.private.Known.{HasSettled, IsKnownFault}
 pub use Rattle.pg_workers.specs.private.Report.{AreBlank, AreIdle, AreNotedRows, AreOfPrefix, HasPlaces, answered, how_many_of_job, jobs_in, noted}
 pub use Rattle.pg_workers.specs.private.Report.{rows_in}
-pub use Rattle.pg_workers.specs.private.Later.{IsLater, Settles}

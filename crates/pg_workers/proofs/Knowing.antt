@@ -46,10 +46,9 @@ use Rattle.pg_board.proofs.Places.{named_at}
 use Rattle.pg_board.proofs.RestIsGood.{vertices, in_rest, named_rest}
 use Rattle.pg_workers.specs.Known.{IsKnownRegion, known_rows, IsAttractedToKnown, HasCount, HasNone, IsBefore, IsSolveFault}
 use Rattle.pg_workers.specs.private.Known.{SettlesKnown, IsKnownFault, HasKnown, fault_of}
-use Rattle.pg_workers.specs.Report.{AreOfCaller}
-use Rattle.pg_workers.specs.private.Later.{IsLater}
+use Rattle.pg_board.specs.Finish.{AreOfCaller, IsLater}
 use Rattle.pg_workers.specs.declared.known.SolveFault.{SolveFault}
-use Rattle.pg_workers.proofs.Calling.{both_of_caller, none_later, one_later}
+use Rattle.pg_board.proofs.Finishing.{both_of_caller, none_later, one_later}
 
 -- what is known is known of vertices
 known_below : (known : KnownRows) (p : Player) (v : ℕ) → known_of known p v ≡ true → v < length known

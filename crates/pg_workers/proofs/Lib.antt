@@ -1,5 +1,4 @@
 pub mod Common
-pub mod Calling
 pub mod AddingUp
 pub mod Rows
 pub mod Placing
@@ -8,6 +7,5 @@ pub mod Counts
 pub mod Moves
 pub mod Closing
 pub mod Batches
-pub mod Settling
 pub mod Knowing
 pub mod Dropping

@@ -1,10 +1,9 @@
 -- The report of a run: one row for each job.
-use Rattle.std.specs.Prelude.{ℕ, ◌≡◌, ◌≤◌, ◌<◌, ◌+◌, Bool, false, List, [], ◌∷◌, length, map, filter, sum_by, take, drop, slice_get, Some, None, ◌≢◌}
-use Rattle.std.specs.List.{AllByRecursion}
-use Rattle.pg_game.specs.declared.player.Player.{Player}
+use Rattle.std.specs.Prelude.{ℕ, ◌≡◌, ◌≤◌, ◌<◌, ◌+◌, false, List, [], ◌∷◌, length, sum_by, take, drop, slice_get, Some, None, ◌≢◌}
 use Rattle.pg_game.specs.declared.player.Player.TheVariants.{Even, Odd}
 use Rattle.pg_workers.specs.declared.report.ReportRow.{ReportRow}
 use Rattle.pg_board.specs.Journal.{Journal, number_settled}
+use Rattle.pg_board.specs.Finish.{AreOfCaller}
 
 -- the row of a job that no worker drew
 abbrev pub blank_row : ℕ → ReportRow
@@ -37,12 +36,6 @@ pub record IsReport (workers : ℕ) (report : List ReportRow) : Type 0 where
   pub drawn : ℕ
   pub done : (k : ℕ) (r : ReportRow) → slice_get report k ≡ Some r → k < drawn → IsDrawnRow workers r
   pub blank : (k : ℕ) (r : ReportRow) → slice_get report k ≡ Some r → drawn ≤ k → r ≡ blank_row k
-
--- entries of worker 0, at most one for each of the players, in their order
-pub record AreOfCaller (players : List Player) (entries : Journal) : Type 0 where
-  pub worker : AllByRecursion (λ e. e.worker ≡ 0) entries
-  pub posted : Player → Bool
-  pub order : map (λ e. e.player) entries ≡ filter posted players
 
 -- The known vertices, of this number, and those that the workers settled are a prefix of the journal. Entries of the calling thread follow: one for
 -- Even or none, and then one for Odd or none.

@@ -4,5 +4,4 @@ pub mod Report
 pub mod Answers
 pub mod Tickets
 pub mod TicketFields
-pub mod Later
 pub mod Known

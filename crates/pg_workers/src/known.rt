@@ -1,22 +1,17 @@
-//! What the calling thread posts, as worker 0: before a worker starts what is known of the game, and after all have ended what the
-//! recursion finds in the unsettled part (Zielonka 1998). In both Even's claim comes first, and then Odd's.
+//! What the calling thread posts before a worker starts, as worker 0: what is known of the game, Even's claim and then Odd's.
+//! A run without workers, which then solves the unsettled part by the recursion.
 
-ghost use Rattle.std.specs.Prelude.{◌≡◌, ◌≤◌, ◌<◌, length, IfOk, IfErr, OnOk, ◌∷◌, ℕ, []};
+ghost use Rattle.std.specs.Prelude.{◌≡◌, ◌≤◌, length, IfOk, IfErr, OnOk};
 ghost use Rattle.pg_workers.specs.Known.{known_rows, HasNone, IsSolveFault, IsKnownRegion};
 ghost use Rattle.pg_workers.specs.private.Known.{fault_of, HasKnown, IsKnownFault, SettlesKnown};
-ghost use Rattle.pg_game.specs.declared.player.Player.TheVariants.{Even, Odd};
-ghost use Rattle.pg_board.specs.Journal.{state_of, IsDominionAfter};
-ghost use Rattle.pg_board.specs.Full.{IsFull};
-ghost use Rattle.pg_workers.specs.private.Later.{Settles, IsLater};
 ghost use Rattle.pg_game.specs.declared.player.Player.{Player};
 ghost use Rattle.pg_text.specs.Solution.{IsExactSolution};
 
 use pg_board::{Board, Refusal};
 use pg_dominion::{Claim, own_choice};
-use pg_finders::{Solved, zielonka};
 use pg_game::{Game, Memory, Player, Sequence};
 use pg_text::{Known, Solution};
-use std::alloc::{AllocError, Global};
+use std::alloc::Global;
 
 /// Why a run has no outcome: the refusal of a player's known set, or refused memory.
 #[derive(Clone, Copy, Debug, Drop, PartialEq, Eq)]
@@ -47,7 +42,7 @@ pub fn solve_alone(alloc: Global, game: &Game, known: &Known) -> Result<Solution
     ensures fault { IfErr result (λ e. IsSolveFault game.now known.now.rows e) }
 {
     let mut board = board_with(alloc, game, known)?;
-    solve_unsettled(alloc, &mut board)?;
+    board.finish(alloc)?;
     match board.solution(alloc)? {
         Some(solution) => Ok(solution),
         None => unreachable!(),
@@ -72,22 +67,6 @@ pub(crate) fn board_with<'g>(
     let _posted = board.game();
     post_known(alloc, &mut board, known, Player::Odd)?;
     Ok(board)
-}
-
-/// Settles all unsettled vertices by the two claims of the recursion, each an entry of worker 0. A full board is unchanged.
-#[tactic(auto, using(crate::proofs::Calling::none_later))]
-pub(crate) fn solve_unsettled(alloc: Global, board: &mut Board<'_>) -> Result<(), Memory>
-    ensures full { OnOk result (IsFull board.new.graph (state_of board.new.journal)) }
-    ensures later { OnOk result (IsLater (Even ∷ Odd ∷ []) board.old board.new) }
-{
-    if board.is_full() {
-        return Ok(());
-    }
-    let copied = board.copy(alloc)?;
-    let Solved { even, odd } = zielonka(alloc, &copied.inside)?;
-    post_dominion(alloc, board, &even)?;
-    post_dominion(alloc, board, &odd)?;
-    Ok(())
 }
 
 /// Posts the player's known set as worker 0, unless it is empty.
@@ -144,26 +123,5 @@ fn refused(player: Player, refusal: Refusal) -> SolveFault
     match refusal {
         Refusal::Memory => SolveFault::Memory,
         _ => SolveFault::Known(player, refusal),
-    }
-}
-
-/// Posts a claim that was a dominion at some time as worker 0, if it has a row.
-#[tactic(auto, using(crate::proofs::Calling::one_later, crate::proofs::Calling::none_later))]
-fn post_dominion(alloc: Global, board: &mut Board<'_>, claim: &Claim) -> Result<(), Memory>
-    requires { 0 < length claim.now.rows → (k : ℕ) × IsDominionAfter board.old.graph board.old.journal k claim.now.player claim.now.rows }
-    ensures settles { OnOk result (Settles board.new.journal claim.now.player claim.now.rows) }
-    ensures later { OnOk result (IsLater (claim.now.player ∷ []) board.old board.new) }
-{
-    if claim.rows.as_slice().is_empty() {
-        return Ok(());
-    }
-    match board.post(alloc, 0, claim) {
-        Ok(_) => Ok(()),
-        Err(Refusal::Stale) => Ok(()),
-        Err(Refusal::Memory) => Err(AllocError),
-        Err(Refusal::Claim(_)) => unreachable!(),
-        Err(Refusal::Foreign(_)) => unreachable!(),
-        Err(Refusal::Lost(_)) => unreachable!(),
-        Err(Refusal::Open(..)) => unreachable!(),
     }
 }

@@ -13,7 +13,7 @@ ghost use Rattle.pg_workers.specs.Tickets.{fresh};
 ghost use Rattle.pg_workers.specs.Work.{total_of};
 
 use crate::jobs::{Jobs, Options, Ticket};
-use crate::known::{SolveFault, board_with, solve_unsettled};
+use crate::known::{SolveFault, board_with};
 use crate::report::{ReportRow, blank_report, with_no_posts, with_rows};
 use crate::threads::{new_workers, start_all, take_apart};
 use crate::worker::{Gate, RunJobs, Search, Setup, Task};
@@ -185,12 +185,10 @@ fn outcome_of(
     ensures { (known : KnownRows) (n : ℕ) → HasSettled board.entry.graph known report.items board.entry.journal → IsReport n report.items
         → IfOk result (λ o. IsOutcome board.entry.graph known (vec_len report) n o) }
 {
-    solve_unsettled(alloc, &mut board)?;
+    board.finish(alloc)?;
     let Some(solution) = board.solution(alloc)? else {
         unreachable!()
     };
-    // for the proof: reading the board gives that its journal is lawful
-    let _game = board.game();
     Ok(Outcome {
         solution,
         entries: board.into_entries(),

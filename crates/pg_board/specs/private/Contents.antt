@@ -1,5 +1,5 @@
 -- What a board stores, beside its game.
-use Rattle.std.specs.Prelude.{ℕ, Option, Some, None, []}
+use Rattle.std.specs.Prelude.{ℕ, Option, Some, None}
 use Rattle.pg_game.specs.declared.player.Player.{Player}
 use Rattle.pg_game.specs.Graph.{Graph}
 use Rattle.pg_game.specs.VertexSet.{In}
@@ -16,11 +16,7 @@ play_of g c = record { graph = g; journal = c.entries.items }
 abbrev pub IsOf : Graph → Contents → Type 0
 IsOf g c = IsBoard g c.entries.items c.regions c.number
 
--- the same of a session: it has contents
-abbrev pub session_of : Graph → Option Contents → Play
-session_of g None = record { graph = g; journal = [] }
-session_of g (Some c) = play_of g c
-
+-- the same of a session, which has contents
 abbrev pub AreOf : Graph → Option Contents → Type 0
 AreOf g None = ⊥
 AreOf g (Some c) = IsOf g c

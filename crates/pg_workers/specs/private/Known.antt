@@ -12,8 +12,8 @@ use Rattle.pg_board.specs.Play.{Play}
 use Rattle.pg_board.specs.State.{settled}
 use Rattle.pg_board.specs.Journal.{Journal, state_of, number_settled}
 use Rattle.pg_workers.specs.declared.report.ReportRow.{ReportRow}
-use Rattle.pg_workers.specs.Report.{AreOfCaller, settled_in}
-use Rattle.pg_workers.specs.private.Later.{IsLater}
+use Rattle.pg_workers.specs.Report.{settled_in}
+use Rattle.pg_board.specs.Finish.{AreOfCaller, IsLater}
 use Rattle.pg_workers.specs.declared.known.SolveFault.{SolveFault}
 use Rattle.pg_workers.specs.declared.known.SolveFault.TheVariants as fault
 use Rattle.pg_workers.specs.Known.{IsKnownRegion, IsAttractedToKnown, HasCount, IsKnownSize, IsRefusedKnown}

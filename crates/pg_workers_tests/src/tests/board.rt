@@ -12,4 +12,5 @@ mod random;
 mod readme;
 mod reference;
 mod sequences;
+mod sessions;
 mod settling;

@@ -4,10 +4,10 @@ use Rattle.pg_workers.proofs.solve.outcome_of.Goals as goal
 
 pub returns : goal.returns
 returns c = λ known n settled report.
-    let new = c.solve_unsettled.new.board in let later = c.in_ok-solve_unsettled.ensures in
+    let new = c.finish.new.self in let later = c.in_ok-finish.ensures in
     let full = c.in_ok-solution.ensures in
     let state : AreStateRows new.graph (state_of new.journal) c.in-Some.solution.rows = rw c.in-Some.is at full.state in
     let exact : IsExactSolution new.graph c.in-Some.solution.rows = rw c.in-Some.is at full.solution in
     let long : length c.args.report.items ≡ vec_len c.args.report = search rules in
     is_outcome c.args.board new known n (record { solution = c.in-Some.solution; entries = c.into_entries.result; report = c.args.report })
-    later.later c.into_entries.ensures c.game-game.ensures.lawful later.full state exact long c.requires report settled
+    later.later c.into_entries.ensures later.lawful later.full state exact long c.requires report settled

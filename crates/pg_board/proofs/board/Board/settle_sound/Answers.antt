@@ -7,7 +7,7 @@ use Rattle.pg_board.proofs.board.Board.settle_sound.Goals as goal
 
 -- the claim and its rest
 checked : (c : After-as_slice)
-    → IsChecked c.self.inside.game.now c.self.inside.entries.items c.self.inside.regions c.self.inside.number c.args.claim.now.player
+    → IsChecked c.self.inside.game.now c.self.inside.contents.entries.items c.self.inside.contents.regions c.self.inside.contents.number c.args.claim.now.player
     c.args.claim.now.rows c.as_slice.result.now
 checked c = record {
   board = c.self.invariant;
@@ -37,7 +37,7 @@ returns-in-Some-edge-clause-refused c =
 pub enter-requires-clause-good : goal.enter-requires-clause-good
 enter-requires-clause-good c =
     let g = c.self.inside.game.now in
-    let st = state_of c.self.inside.entries.items in
+    let st = state_of c.self.inside.contents.entries.items in
     let claim = c.args.claim.now in
     let all = c.as_slice.ensures.value in
     let h = checked (goal.at.enter-requires-clause-good c).After-as_slice in
@@ -47,7 +47,7 @@ enter-requires-clause-good c =
 
 pub enter-requires-clause-unsettled : goal.enter-requires-clause-unsettled
 enter-requires-clause-unsettled c =
-    let st = state_of c.self.inside.entries.items in
+    let st = state_of c.self.inside.contents.entries.items in
     let h = checked (goal.at.enter-requires-clause-unsettled c).After-as_slice in
     subst (λ (xs : ClaimRows). rest_of st xs ≡ xs) (sym (rest_now h) ∙ c.as_slice.ensures.value) (rest_twice st c.args.claim.now.rows)
 

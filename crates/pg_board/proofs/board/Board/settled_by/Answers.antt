@@ -5,7 +5,7 @@ use Rattle.pg_board.proofs.board.Board.settled_by.Goals as goal
 pub overflow_add-total : goal.overflow_add-total
 overflow_add-total c =
     let b = c.self.inside in
-    let j = b.entries.items in
+    let j = b.contents.entries.items in
     let i = c.entries.entry-index in
     let e = c.entry-item.result in
     let so_far : c.entries.total ≡ settled_by (take i j) c.args.worker =

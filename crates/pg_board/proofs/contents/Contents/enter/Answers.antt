@@ -4,25 +4,25 @@ use Rattle.std.specs.Prelude.{nat_eq}
 use Rattle.pg_board.proofs.RestIsGood.{vertices}
 use Rattle.pg_board.proofs.Entering.{IsEntering, HasGrown, HasRows, open_subgame, rest_distinct, rest_within, entry_answers, grown_fits, board_entered}
 use Rattle.pg_board.proofs.Entering.{has_grown, IsGrowing-more, few, none_left}
-use Rattle.pg_board.proofs.board.Board.enter.Goals.{After-len-claimed, After-len-settled, After-push_reserved}
-use Rattle.pg_board.proofs.board.Board.enter.Goals as goal
+use Rattle.pg_board.proofs.contents.Contents.enter.Goals.{After-len-claimed, After-len-settled, After-push_reserved}
+use Rattle.pg_board.proofs.contents.Contents.enter.Goals as goal
 
 -- what is required, said of the fields
 entering : (c : After-len-claimed)
-    → IsEntering c.self.inside.game.now c.self.inside.entries.items c.self.inside.regions c.self.inside.number c.args.player c.args.rows.items
+    → IsEntering c.args.game.now c.args.self.now.entries.items c.args.self.now.regions c.args.self.now.number c.args.player c.args.rows.items
 entering c = record {
   game = c.len-n.ensures.game;
-  board = c.self.invariant;
-  good = subst (λ (y : Play). IsGoodOn y.graph (state_of y.journal) c.args.player c.args.rows.items) (sym c.self.view_is) c.requires.good;
-  twice = subst (λ (y : Play). rest_of (state_of y.journal) c.args.rows.items ≡ c.args.rows.items) (sym c.self.view_is) c.requires.unsettled;
+  board = c.requires.board;
+  good = c.requires.good;
+  twice = c.requires.unsettled;
 }
 
 grown : (c : After-len-settled)
-    → HasGrown c.self.inside.game.now c.args.player c.self.inside.regions c.attract.new.self c.args.rows.items c.attract.new.rows.items
+    → HasGrown c.args.game.now c.args.player c.args.self.now.regions c.attract.new.self c.args.rows.items c.attract.new.rows.items
 grown c =
     let settled = c.settle_rows.ensures in let attracted = c.attract.ensures in
-    has_grown c.self.inside.game.now c.args.player c.settle_rows.new.self c.attract.new.self c.args.rows.items c.attract.new.rows.items attracted.grows
-    c.self.inside.regions c.as_slice.result.now c.as_slice.ensures.value settled.same settled.written attracted.growing.regions attracted.done
+    has_grown c.args.game.now c.args.player c.settle_rows.new.self c.attract.new.self c.args.rows.items c.attract.new.rows.items attracted.grows
+    c.args.self.now.regions c.as_slice.result.now c.as_slice.ensures.value settled.same settled.written attracted.growing.regions attracted.done
 
 -- the number of the rows
 size_is : (c : After-len-settled) → length c.shrink_to_fit.new.self.items ≡ length c.attract.new.rows.items
@@ -40,7 +40,7 @@ settled_is c =
     omega (arith, copied, c.len-settled.ensures, c.shrink_to_fit.new.self.ok.0)
 
 pub attract-requires-clause-growing : goal.attract-requires-clause-growing
-attract-requires-clause-growing c = search (rules, c.self.view_is, c.requires.spare, c.as_slice.ensures.value, IsGrowing-more, c.settle_rows.ensures.growing)
+attract-requires-clause-growing c = search (rules, c.requires.spare, c.as_slice.ensures.value, IsGrowing-more, c.settle_rows.ensures.growing)
 
 pub settle_rows-requires-clause-unsettled : goal.settle_rows-requires-clause-unsettled
 settle_rows-requires-clause-unsettled c =
@@ -71,29 +71,26 @@ overflow_add-self c =
     let at = goal.at.overflow_add-self c in let fits = grown_fits (entering at.After-len-claimed) (grown at.After-len-settled) in
     omega (arith, fits, size_is at.After-len-settled, c.len-n.ensures.limits.vertices, c.len-settled.ensures, c.shrink_to_fit.new.self.ok.0)
 
-pub invariant_of-self-2 : goal.invariant_of-self-2
-invariant_of-self-2 c =
-    let at = goal.at.invariant_of-self-2 c in let b = c.self.inside in let e = entry at.After-push_reserved in
+pub returns-clause-board : goal.returns-clause-board
+returns-clause-board c =
+    let at = goal.at.returns-clause-board c in let b = c.args.self.now in let e = entry at.After-push_reserved in
     let entered = board_entered (entering at.After-len-claimed) (grown at.After-len-settled) e (has_rows at.After-push_reserved) c.len-settled.result
     (settled_is at.After-push_reserved) in
     let journal : c.push_reserved.new.self.items ≡ b.entries.items ++ e ∷ [] = search rules in
-    subst (λ (j : Journal). IsBoard b.game.now j c.attract.new.self (b.number + c.len-settled.result)) (sym journal) entered
+    subst (λ (j : Journal). IsBoard c.args.game.now j c.attract.new.self (b.number + c.len-settled.result)) (sym journal) entered
 
 pub returns-clause-added : goal.returns-clause-added
 returns-clause-added c =
-    let at = goal.at.returns-clause-added c in let b = c.self.inside in let e = entry at.After-push_reserved in
-    let old : length c.reserve.new.self.items ≡ length b.entries.items = ap (λ (xs : Journal). length xs) c.reserve.ensures.items in
-    let posted : Posted = record { entry = c.len-entry.result; claimed = c.len-claimed.result; settled = c.len-settled.result } in
-    let now : Play = record { graph = b.game.now; journal = c.push_reserved.new.self.items } in
-    subst (λ (x : Play). Adds x now c.args.worker (record { player = c.args.player; rows = c.args.rows.items }) posted) c.self.view_is (record {
+    let at = goal.at.returns-clause-added c in let e = entry at.After-push_reserved in
+    record {
       entry = e;
       journal = search rules;
       answers = entry_answers (entering at.After-len-claimed) (grown at.After-len-settled) e (has_rows at.After-push_reserved);
       by_worker = refl;
-      number = omega (arith, old, c.len-entry.ensures, c.reserve.new.self.ok.0);
+      number = omega (arith, c.len-entry.ensures, c.args.self.now.entries.ok.0);
       claimed = refl;
       settled = settled_is at.After-push_reserved;
-    })
+    }
 
 pub overflow_add-is_full : goal.overflow_add-is_full
 overflow_add-is_full c =
