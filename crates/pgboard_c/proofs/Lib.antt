@@ -4,3 +4,4 @@ pub mod Choices
 pub mod Solved
 pub mod Shapes
 pub mod Boxed
+pub mod Posted

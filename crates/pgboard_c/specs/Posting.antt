@@ -1,5 +1,6 @@
 -- A claim in arrays, and the answers of the call that posts it.
 use Rattle.std.specs.Prelude.{ℕ, ◌≡◌, ◌≢◌, ◌<◌, ◌≤◌, ◌⊎◌, ◌++◌, ◌∷◌, [], List, zero, suc, length, slice_index}
+use Rattle.pg_game.specs.declared.player.Player.{Player}
 use Rattle.pg_text.specs.GameText.{player_of}
 use Rattle.pg_dominion.specs.declared.claim.Claim.{Claim}
 use Rattle.pg_dominion.specs.declared.claim.ClaimFault.TheVariants as claim_fault
@@ -8,10 +9,10 @@ use Rattle.pg_board.specs.declared.journal.Posted.{Posted}
 use Rattle.pg_board.specs.declared.journal.Refusal.{Refusal}
 use Rattle.pg_board.specs.declared.journal.Refusal.TheVariants as refusal
 use Rattle.pg_board.specs.Play.{Play}
-use Rattle.pg_board.specs.State.{IsGoodOn}
-use Rattle.pg_board.specs.Journal.{state_of}
+use Rattle.pg_board.specs.State.{IsGoodOn, rest_of}
+use Rattle.pg_board.specs.Journal.{state_of, IsDominionAfter}
 use Rattle.pg_board.specs.Refusal.{Refuses}
-use Rattle.pg_board.specs.Post.{Adds}
+use Rattle.pg_board.specs.Post.{Adds, SettlesDominion}
 use Rattle.pgboard_c.specs.declared.post.ClaimArrays.{ClaimArrays}
 use Rattle.pgboard_c.specs.declared.post.PostedNumbers.{PostedNumbers}
 use Rattle.pgboard_c.specs.declared.fault.Structure.TheVariants as structure
@@ -66,7 +67,8 @@ refusal_fault refusal.Stale = fault.Post post_fault.Stale
 refusal_fault (refusal.Open v w) = fault.Post (post_fault.Open v w)
 refusal_fault refusal.Memory = fault.Memory
 
--- the claim is good, and the board has one more entry, with the numbers that are reported
+-- the claim is good, and the board has one more entry, with the numbers that are reported. If it was a dominion after some entries, all that
+-- was unsettled of it is settled
 pub record IsPosted (old new : Play) (c : ClaimLists) (n : PostedNumbers) : Type 0 where
   pub claim : IsClaim c
   pub graph : new.graph ≡ old.graph
@@ -76,8 +78,24 @@ pub record IsPosted (old new : Play) (c : ClaimLists) (n : PostedNumbers) : Type
   pub entry : n.entry ≡ posted.entry
   pub rest : n.rest ≡ posted.claimed
   pub settled : n.settled ≡ posted.settled
+  pub old_copies : (k : ℕ) → IsDominionAfter old.graph old.journal k (player_of c.player) (claim_of_lists c).rows
+      → (n.rest ≡ length (rest_of (state_of old.journal) (claim_of_lists c).rows)) × SettlesDominion old new (player_of c.player) (claim_of_lists c).rows
+
+-- why a claim that was a dominion is not posted: nothing of it is unsettled, or memory was refused
+abbrev pub IsFaultOfDominion : Play → Player → ClaimRows → Fault → Type 0
+IsFaultOfDominion s p rows (fault.Post post_fault.Stale) = (rest_of (state_of s.journal) rows ≡ []) × SettlesDominion s s p rows
+IsFaultOfDominion s p rows fault.Memory = Unit {0}
+IsFaultOfDominion s p rows other = ⊥
+
+-- the board refuses the claim, and the fault says why
+pub record IsRefused (s : Play) (c : ClaimLists) (e : Fault) : Type 0 where
+  pub claim : IsClaim c
+  pub refusal : Refusal
+  pub refused : Refuses s.graph (state_of s.journal) (player_of c.player) (claim_of_lists c).rows refusal
+  pub fault_is : e ≡ refusal_fault refusal
+  pub old_copies : (k : ℕ) → IsDominionAfter s.graph s.journal k (player_of c.player) (claim_of_lists c).rows
+      → IsFaultOfDominion s (player_of c.player) (claim_of_lists c).rows e
 
 -- why a claim is not posted: the first of the reasons that apply
 abbrev pub IsPostFault : Play → ClaimLists → Fault → Type 0
-IsPostFault s c e = IsNoClaim c e
-    ⊎ (IsClaim c × (r : Refusal) × Refuses s.graph (state_of s.journal) (player_of c.player) (claim_of_lists c).rows r × (e ≡ refusal_fault r))
+IsPostFault s c e = IsNoClaim c e ⊎ IsRefused s c e
