@@ -1,9 +1,12 @@
-use Rattle.pg_board.proofs.Common.{◌≡◌, ◌<◌, length, refl, sym, ◌∙◌, subst, arith, Claim, ClaimRows, Play, rest_of, IsGoodOn, state_of, Refuses, Adds}
+use Rattle.pg_board.proofs.Common.{◌≡◌, ◌<◌, length, refl, sym, ◌∙◌, ap, subst, arith, Graph, Claim, ClaimRows, Journal, Play, rest_of, IsGoodOn, state_of, Refuses, Adds}
 use Rattle.pg_board.proofs.RestIsGood.{rest_is_good, rest_twice}
 use Rattle.pg_board.proofs.Posting.{IsChecked, rest_now, rest_right_here, rest_open, refused_open, claim_good, nonempty, sound_here, adds_claim, few_rows}
 use Rattle.pg_board.specs.declared.journal.Refusal.TheVariants as refusal
 use Rattle.pg_board.proofs.board.Board.settle_sound.Goals.{After-as_slice}
 use Rattle.pg_board.proofs.board.Board.settle_sound.Goals as goal
+
+abbrev play : Graph → Journal → Play
+play g j = record { graph = g; journal = j }
 
 -- the claim and its rest
 checked : (c : After-as_slice)
@@ -43,13 +46,15 @@ enter-requires-clause-good c =
     let h = checked (goal.at.enter-requires-clause-good c).After-as_slice in
     let some = nonempty c.rest_of.new.rest.items (c.rest_of.new.rest.ok.0) (sym c.is_empty.ensures ∙ c.if-is_empty.false) in
     let good = claim_good h (subst (λ (xs : ClaimRows). 0 < length xs) (sym all) some) c.in_default-edge.ensures.edge in
-    subst (λ (xs : ClaimRows). IsGoodOn g st claim.player xs) (sym (rest_now h) ∙ all) (rest_is_good g st claim.player claim.rows good)
+    subst (λ (j : Journal). IsGoodOn g (state_of j) claim.player c.rest_of.new.rest.items) (sym c.reserve.ensures.items)
+    (subst (λ (xs : ClaimRows). IsGoodOn g st claim.player xs) (sym (rest_now h) ∙ all) (rest_is_good g st claim.player claim.rows good))
 
 pub enter-requires-clause-unsettled : goal.enter-requires-clause-unsettled
 enter-requires-clause-unsettled c =
     let st = state_of c.self.inside.contents.entries.items in
     let h = checked (goal.at.enter-requires-clause-unsettled c).After-as_slice in
-    subst (λ (xs : ClaimRows). rest_of st xs ≡ xs) (sym (rest_now h) ∙ c.as_slice.ensures.value) (rest_twice st c.args.claim.now.rows)
+    subst (λ (j : Journal). rest_of (state_of j) c.rest_of.new.rest.items ≡ c.rest_of.new.rest.items) (sym c.reserve.ensures.items)
+    (subst (λ (xs : ClaimRows). rest_of st xs ≡ xs) (sym (rest_now h) ∙ c.as_slice.ensures.value) (rest_twice st c.args.claim.now.rows))
 
 pub returns-clause-posted : goal.returns-clause-posted
 returns-clause-posted c =
@@ -60,10 +65,13 @@ returns-clause-posted c =
     let h = checked (goal.at.returns-clause-posted c).After-as_slice in
     let some = nonempty rest (c.rest_of.new.rest.ok.0) (sym c.is_empty.ensures ∙ c.if-is_empty.false) in
     let good = claim_good h (subst (λ (xs : ClaimRows). 0 < length xs) (sym all) some) c.in_default-edge.ensures.edge in
-    let posted = c.in_ok-enter.field-0 in
+    let posted = c.enter.result in
     let here = subst (λ (x : Play). rest ≡ rest_of (state_of x.journal) claim.rows) c.self.view_is (sym all ∙ rest_now h) in
     let rest_claim : Claim = record { player = p; rows = rest } in
-    let added = subst (λ (x : Play). Adds x c.enter.new.self c.args.worker rest_claim posted) c.self.view_is c.in_ok-enter.ensures.added in (
+    let g = c.self.inside.game.now in
+    let new = play g c.enter.new.self.entries.items in
+    let same : play g c.reserve.new.self.items ≡ c.args.self.now = ap (play g) c.reserve.ensures.items ∙ c.self.view_is in
+    let added = subst (λ (x : Play). Adds x new c.args.worker rest_claim posted) same c.enter.ensures.added in (
       subst (λ (x : Play). IsGoodOn x.graph (state_of x.journal) p claim.rows) c.self.view_is good,
-      adds_claim c.args.self.now c.enter.new.self c.args.worker p rest claim posted refl here added,
+      adds_claim c.args.self.now new c.args.worker p rest claim posted refl here added,
     )
