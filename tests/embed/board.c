@@ -321,7 +321,7 @@ static struct rows random_claim(uint64_t *seed)
     struct rows it = good_claim(seed);
     size_t k = drawn(seed, it.vertices_len);
     uint32_t v = it.vertices[k];
-    switch (drawn(seed, 12)) {
+    switch (drawn(seed, 9)) {
     case 0: /* one choice is another edge */
         if (it.choices[k] != NONE)
             it.choices[k] = targets[starts[v] + drawn(seed, starts[v + 1] - starts[v])];
@@ -356,7 +356,7 @@ static struct rows random_claim(uint64_t *seed)
 static void *posts(void *given)
 {
     uint64_t seed = *(uint64_t *)given;
-    for (int k = 0; k < 40; k++) {
+    for (int k = 0; k < 20; k++) {
         struct rows it = random_claim(&seed);
         struct pgboard_claim claim = {.size = sizeof claim, .worker = (uint32_t)(seed >> 32), .player = it.player, .vertices = it.vertices,
                                       .vertices_len = it.vertices_len, .choices = it.choices, .choices_len = it.choices_len};
