@@ -300,8 +300,11 @@ impl Answer {
     {
         match fault {
             PostFault::Player(player) => Answer::new(80, u64::from(player), 0),
-            PostFault::Lengths(vertices, choices) =>
-                Answer::new(81, vertices as u64, choices as u64),
+            PostFault::Lengths(vertices, choices) => Answer::new(
+                81,
+                vertices as u64,
+                choices as u64,
+            ),
             PostFault::Shape(row) => Answer::new(82, u64::from(row), 0),
             PostFault::Cycle(v) => Answer::new(83, u64::from(v), 0),
             PostFault::Lost(v) => Answer::new(84, u64::from(v), 0),

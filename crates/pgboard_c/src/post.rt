@@ -78,7 +78,11 @@ fn post(alloc: Global, board: &mut Handle, claim: &ClaimArrays) -> Result<Posted
     answer
 }
 
-fn post_on(alloc: Global, session: &mut Session, given: &ClaimArrays) -> Result<PostedNumbers, Fault>
+fn post_on(
+    alloc: Global,
+    session: &mut Session,
+    given: &ClaimArrays,
+) -> Result<PostedNumbers, Fault>
     ensures posted { IfOk result (λ n. IsPosted session.old session.new (claim_lists given.now) n) }
     ensures fault { IfErr result (λ e. IsPostFault session.old (claim_lists given.now) e) }
     ensures unchanged { OnErr result (session.new ≡ session.old) }
@@ -122,10 +126,7 @@ impl<'a> ClaimArrays<'a> {
             return Err(Fault::Post(PostFault::Player(self.player)));
         }
         if self.vertices.len() != self.choices.len() {
-            return Err(Fault::Post(PostFault::Lengths(
-                self.vertices.len(),
-                self.choices.len(),
-            )));
+            return Err(Fault::Post(PostFault::Lengths(self.vertices.len(), self.choices.len())));
         }
         Ok(())
     }
