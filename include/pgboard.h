@@ -120,13 +120,13 @@ uint32_t pgboard_version(void);
 /* a claim that is posted */
 #define PGBOARD_POST_PLAYER 80u  /* the player is neither 0 nor 1 (the player) */
 #define PGBOARD_POST_LENGTHS 81u /* the arrays have two lengths (that of the vertices, that of the choices) */
-#define PGBOARD_POST_SHAPE 82u   /* the first wrong row: its vertex is not in the game or not above the one before it, or its choice
-                                  * is not a successor exactly where the player owns the vertex (the row, from 0; 0 if there is none) */
+#define PGBOARD_POST_SHAPE 82u   /* the first wrong row: its vertex is not in the game or not above the one before it, or it does
+                                  * not have a successor as choice exactly where the player owns the vertex (the row, from 0) */
 #define PGBOARD_POST_CYCLE 83u   /* the greatest priority on a closed walk in the claim is the opponent's (the vertex with it) */
 #define PGBOARD_POST_LOST 84u    /* a vertex is settled for the opponent (the vertex) */
 #define PGBOARD_POST_STALE 85u   /* all vertices are settled for the player */
-#define PGBOARD_POST_OPEN 86u    /* an edge that the player does not choose against leads from an unsettled vertex of the claim to a
-                                  * vertex that is neither in the claim nor settled for the player (from, to) */
+#define PGBOARD_POST_OPEN 86u    /* an edge of the opponent, or a choice, leads from an unsettled vertex of the claim to one that
+                                  * is neither in the claim nor settled for the player (from, to) */
 
 /* The array or struct of an answer. */
 #define PGBOARD_ARRAY_PRIORITIES 1u
@@ -217,9 +217,9 @@ uint32_t pgboard_verify_text(const uint8_t *game, size_t game_len, const uint8_t
  * So each settled vertex has its right winner, whatever is posted, by whom and in which order. Each post that settles something
  * is an entry of the board's journal. Entries are numbered from 0.
  *
- * Set the struct to zero before the first call: that is a closed board. Never look into it, and never copy one that is open. After
- * any answer but PGBOARD_OK the board is unchanged. Each call has a board for itself, also one that only reads. Threads that share
- * a board take turns:
+ * Set the struct to zero before the first call: that is a closed board. Never look into it, and never copy one that is open.
+ * After any answer but PGBOARD_OK the board is unchanged. Each call has a board for itself, also one that only reads. Threads
+ * that share a board take turns:
  *
  *     static pthread_mutex_t turn = PTHREAD_MUTEX_INITIALIZER;
  *     pthread_mutex_lock(&turn);

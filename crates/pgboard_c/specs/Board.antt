@@ -13,7 +13,6 @@ use Rattle.pg_board.specs.Full.{IsFull, AreStateRows}
 use Rattle.pg_board.specs.Finish.{IsLater}
 use Rattle.pgboard_c.specs.declared.held.Handle.{Handle}
 use Rattle.pgboard_c.specs.declared.fault.BoardFault.TheVariants as board_fault
-use Rattle.pgboard_c.specs.declared.fault.Structure.TheVariants as structure
 use Rattle.pgboard_c.specs.declared.fault.Fault.{Fault}
 use Rattle.pgboard_c.specs.declared.fault.Fault.TheVariants as fault
 use Rattle.pgboard_c.specs.Arrays.{GameArrays, ResultArrays, IsGameOfArrays, AreResults, no_choice, choice_number}

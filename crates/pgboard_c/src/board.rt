@@ -1,7 +1,7 @@
 //! The exports on a board that a C program holds: each is the call of a session, through the handle. After any answer but 0 the
 //! board is unchanged, and the call writes only `report`.
 
-ghost use Rattle.std.specs.Prelude.{◌≡◌, ◌≢◌, ◌<◌, ◌≤◌, ℕ, Option, None, Some, IfErr, OnOk, OnErr, length, slice_index};
+ghost use Rattle.std.specs.Prelude.{◌≡◌, ◌≢◌, ◌<◌, ℕ, Option, None, Some, IfErr, OnOk, OnErr, length, slice_index};
 ghost use Rattle.pg_board.specs.Play.{Play};
 ghost use Rattle.pg_board.specs.Journal.{state_of};
 ghost use Rattle.pgboard_c.specs.declared.fault.Fault.{Fault};

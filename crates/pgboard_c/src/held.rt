@@ -1,5 +1,5 @@
 //! What C holds of a board: the address of a session, or nothing. The pointer is to a byte, since a pointer to a struct with a
-//! `Vec` does not cross to C, and its type says by a ghost field which session it owns. Only here is a box taken apart and made again.
+//! `Vec` does not cross to C; a ghost field says which session it owns. Only here is a box taken apart, and made again.
 
 ghost use Rattle.std.specs.Prelude.{◌≡◌, Option, None, Some, IsSome, is_some, option_map, false};
 ghost use Rattle.std.specs.Box.Ownership.{box_owns};

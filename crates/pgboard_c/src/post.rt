@@ -1,15 +1,11 @@
 //! The export that posts a claim on a board that a C program holds, and the reading of the claim from its arrays.
 
-ghost use Rattle.std.specs.Prelude.{◌≡◌, ◌≢◌, ◌≤◌, IfOk, IfErr, OnOk, OnErr, Some, length};
-ghost use Rattle.pg_board.specs.declared.journal.Posted.{Posted};
+ghost use Rattle.std.specs.Prelude.{◌≡◌, ◌≢◌, IfOk, IfErr, OnOk, OnErr, Some};
 ghost use Rattle.pg_board.specs.Play.{Play};
-ghost use Rattle.pg_board.specs.Journal.{state_of};
-ghost use Rattle.pg_board.specs.Refusal.{Refuses};
-ghost use Rattle.pg_text.specs.GameText.{player_of};
 ghost use Rattle.pgboard_c.specs.declared.fault.Fault.{Fault};
 ghost use Rattle.pgboard_c.specs.Numbers.{IsReported, IsBlank};
 ghost use Rattle.pgboard_c.specs.Board.{board_in, IsLawfulBoard, OnBoard};
-ghost use Rattle.pgboard_c.specs.Posting.{claim_lists, claim_of_lists, rows_before, IsClaim, IsNoClaim, refusal_fault, IsPosted, IsPostFault};
+ghost use Rattle.pgboard_c.specs.Posting.{claim_lists, claim_of_lists, IsClaim, IsNoClaim, refusal_fault, IsPosted, IsPostFault};
 
 use crate::fault::{Fault, PostFault, Report, Structure, report_fault, report_none};
 use crate::held::Handle;
