@@ -4,9 +4,9 @@
  * where the fault is, and the call writes nothing but `report`. No pointer may be null, even with length 0. No array or struct
  * that a call writes may overlap another.
  *
- * The calls start no thread, wait for nothing and keep nothing. Several threads may make calls at once. They may share what a
- * call only reads, such as a game; each needs its own results and report. No thread may change an array or a struct during a
- * call that reads it. The header is C89, with the types of stdint.h, and C++. */
+ * The calls start no thread, wait for nothing and keep nothing but open boards. Several threads may make calls at once. They may
+ * share what a call only reads, such as a game; each needs its own results and report, and its turn at a board. No thread may
+ * change an array or a struct during a call that reads it. The header is C89, with the types of stdint.h, and C++. */
 #ifndef PGBOARD_H
 #define PGBOARD_H
 
@@ -50,7 +50,7 @@ uint32_t pgboard_version(void);
 /* A size that suffices for what pgboard_solve_text and pgboard_tidy_text write of a game's text with so many bytes. */
 #define PGBOARD_TEXT_BOUND(game_len) ((size_t)(game_len) + (size_t)(game_len) / 8 + 22)
 
-/* In `choices`: no choice. In `winners` of what is known: an unknown winner. */
+/* In `choices`: no choice. In `winners` of what is known: an unknown winner. In those of a board's state: an unsettled vertex. */
 #define PGBOARD_NO_CHOICE 4294967295u
 #define PGBOARD_NO_WINNER 255u
 
@@ -108,8 +108,25 @@ uint32_t pgboard_version(void);
 #define PGBOARD_SOLUTION_TWICE 46u    /* (the identifier) */
 #define PGBOARD_SOLUTION_MISSING 47u  /* (the identifier) */
 
-/* the text that a call writes */
-#define PGBOARD_CAPACITY 50u /* (the size of the text) */
+/* the text, or the entry of a board, that a call writes */
+#define PGBOARD_CAPACITY 50u /* (the size of the text; the number of rows) */
+
+/* a board */
+#define PGBOARD_BOARD_OPEN 70u      /* the board is open already */
+#define PGBOARD_BOARD_CLOSED 71u    /* the board is not open */
+#define PGBOARD_BOARD_ENTRY 72u     /* no entry has this number (the number of entries) */
+#define PGBOARD_BOARD_UNSETTLED 73u /* the board is not full (the number of unsettled vertices) */
+
+/* a claim that is posted */
+#define PGBOARD_POST_PLAYER 80u  /* the player is neither 0 nor 1 (the player) */
+#define PGBOARD_POST_LENGTHS 81u /* the arrays have two lengths (that of the vertices, that of the choices) */
+#define PGBOARD_POST_SHAPE 82u   /* the first wrong row: its vertex is not in the game or not above the one before it, or it does
+                                  * not have a successor as choice exactly where the player owns the vertex (the row, from 0) */
+#define PGBOARD_POST_CYCLE 83u   /* the greatest priority on a closed walk in the claim is the opponent's (the vertex with it) */
+#define PGBOARD_POST_LOST 84u    /* a vertex is settled for the opponent (the vertex) */
+#define PGBOARD_POST_STALE 85u   /* all vertices are settled for the player */
+#define PGBOARD_POST_OPEN 86u    /* an edge of the opponent, or a choice, leads from an unsettled vertex of the claim to one that
+                                  * is neither in the claim nor settled for the player (from, to) */
 
 /* The array or struct of an answer. */
 #define PGBOARD_ARRAY_PRIORITIES 1u
@@ -120,6 +137,7 @@ uint32_t pgboard_version(void);
 #define PGBOARD_STRUCT_GAME 1u
 #define PGBOARD_STRUCT_SOLUTION 2u
 #define PGBOARD_STRUCT_RESULTS 3u
+#define PGBOARD_STRUCT_CLAIM 4u
 
 /* The report of a call, beside its answer. */
 struct pgboard_report {
@@ -192,6 +210,94 @@ uint32_t pgboard_tidy_text(const uint8_t *game, size_t game_len, uint8_t *into, 
 PGBOARD_CALL
 uint32_t pgboard_verify_text(const uint8_t *game, size_t game_len, const uint8_t *solution, size_t solution_len,
                              struct pgboard_report *report);
+
+/* A board: a game, and a winner and a choice of each vertex that is settled so far. Solvers of any kind post on it what they
+ * find: claims that a player wins some vertices by his choices there. The board checks each claim. It refuses what does not hold,
+ * and else settles the claim's unsettled vertices and all further ones from which the player forces a play to his settled ones.
+ * So each settled vertex has its right winner, whatever is posted, by whom and in which order. Each post that settles something
+ * is an entry of the board's journal. Entries are numbered from 0.
+ *
+ * Set the struct to zero before the first call: that is a closed board. Never look into it, and never copy one that is open.
+ * After any answer but PGBOARD_OK the board is unchanged. Each call has a board for itself, also one that only reads. Threads
+ * that share a board take turns:
+ *
+ *     static pthread_mutex_t turn = PTHREAD_MUTEX_INITIALIZER;
+ *     pthread_mutex_lock(&turn);
+ *     answer = pgboard_board_post(&board, &claim, &posted, &report);
+ *     pthread_mutex_unlock(&turn);
+ */
+struct pgboard_board {
+    void *at;
+    unsigned char live;
+};
+
+/* A claim: the player (0 Even, 1 Odd) wins these vertices, which rise, by these choices. A choice is a successor where the player
+ * owns the vertex, and else PGBOARD_NO_CHOICE. It need not be closed: it may lead to what is settled for the player. `worker` is
+ * a number of the program's own, which the entry keeps. */
+struct pgboard_claim {
+    size_t size;
+    uint32_t worker;
+    uint32_t player;
+    const uint32_t *vertices;
+    size_t vertices_len;
+    const uint32_t *choices;
+    size_t choices_len;
+};
+
+/* A post: its entry's number, how many vertices of the claim were unsettled, and how many vertices it settles, these included. */
+struct pgboard_posted {
+    uint64_t entry;
+    uint64_t rest;
+    uint64_t settled;
+};
+
+/* An entry: its worker and player, how many of its rows were claimed, which are the first, and how many rows it has. */
+struct pgboard_entry {
+    uint32_t worker;
+    uint32_t player;
+    uint64_t claimed;
+    uint64_t rows;
+};
+
+/* Opens a board of a game, on which nothing is settled. The game is copied. The faults are PGBOARD_BOARD_OPEN and those of a
+ * game. */
+PGBOARD_CALL
+uint32_t pgboard_board_open(struct pgboard_board *board, const struct pgboard_game *game, struct pgboard_report *report);
+
+/* Posts a claim. The faults are PGBOARD_BOARD_CLOSED, PGBOARD_SIZE and those of a claim that is posted. A claim that was found on
+ * an earlier state is posted too: vertices that are settled for the player by then are no fault, but for PGBOARD_POST_STALE. */
+PGBOARD_CALL
+uint32_t pgboard_board_post(struct pgboard_board *board, const struct pgboard_claim *claim, struct pgboard_posted *posted,
+                            struct pgboard_report *report);
+
+/* Writes the winner and the choice of each settled vertex, and PGBOARD_NO_WINNER and PGBOARD_NO_CHOICE of the others. The
+ * unsettled part is a game of its own: each of its vertices has a successor in it. */
+PGBOARD_CALL
+uint32_t pgboard_board_state(struct pgboard_board *board, struct pgboard_results *results, struct pgboard_report *report);
+
+/* The number of settled vertices, and of entries; 0 of a closed board. */
+PGBOARD_CALL
+uint64_t pgboard_board_settled(struct pgboard_board *board);
+PGBOARD_CALL
+uint64_t pgboard_board_entries(struct pgboard_board *board);
+
+/* Reads an entry: its numbers, and its rows at the front of the two arrays. The faults are PGBOARD_BOARD_CLOSED,
+ * PGBOARD_BOARD_ENTRY, and PGBOARD_CAPACITY if an array is shorter than the rows. As many places as the game has vertices
+ * suffice. */
+PGBOARD_CALL
+uint32_t pgboard_board_entry(struct pgboard_board *board, uint64_t number, struct pgboard_entry *entry, uint32_t *vertices,
+                             size_t vertices_len, uint32_t *choices, size_t choices_len, struct pgboard_report *report);
+
+/* Settles all vertices that are left, as worker 0. The faults are PGBOARD_BOARD_CLOSED and PGBOARD_MEMORY. */
+PGBOARD_CALL
+uint32_t pgboard_board_finish(struct pgboard_board *board, struct pgboard_report *report);
+
+/* Writes the solution of a full board, as pgboard_solve does. Of another the fault is PGBOARD_BOARD_UNSETTLED. */
+PGBOARD_CALL
+uint32_t pgboard_board_solution(struct pgboard_board *board, struct pgboard_results *results, struct pgboard_report *report);
+
+/* Closes a board: frees it, if it is open. */
+void pgboard_board_close(struct pgboard_board *board);
 
 /* A text of the library, which stays as long as the program. It ends with a zero byte, which its length counts. */
 struct pgboard_text {

@@ -8,6 +8,7 @@
 #include <string>
 #include <string_view>
 #include <type_traits>
+#include <utility>
 #include <vector>
 
 #include "pgboard.h"
@@ -141,6 +142,89 @@ inline void verify_text(std::string_view game, std::string_view solution)
     pgboard_report report;
     detail::judge(pgboard_verify_text(detail::bytes(game), game.size(), detail::bytes(solution), solution.size(), &report), report);
 }
+
+// An entry of a board's journal; the first `claimed` vertices were claimed.
+struct entry {
+    std::uint32_t worker, player;
+    std::size_t claimed;
+    std::vector<std::uint32_t> vertices, choices;
+};
+
+// A board of a game, which closes it at the end. A board may be moved. As in C, it is used by one call at a time.
+class board {
+  public:
+    explicit board(const game &game) : size(game.owners.size())
+    {
+        const pgboard_game arrays = detail::arrays(game);
+        pgboard_report report;
+        detail::judge(pgboard_board_open(&held, &arrays, &report), report);
+    }
+    board(board &&other) noexcept : held(std::exchange(other.held, {})), size(other.size) {}
+    board &operator=(board other) noexcept
+    {
+        std::swap(held, other.held);
+        std::swap(size, other.size);
+        return *this;
+    }
+    ~board() { pgboard_board_close(&held); }
+
+    // Posts a claim; a fault says why it is refused.
+    pgboard_posted post(std::uint32_t player, const std::vector<std::uint32_t> &vertices, const std::vector<std::uint32_t> &choices,
+                        std::uint32_t worker = 0)
+    {
+        pgboard_claim claim{};
+        claim.size = sizeof claim;
+        claim.worker = worker;
+        claim.player = player;
+        claim.vertices = detail::address(vertices), claim.vertices_len = vertices.size();
+        claim.choices = detail::address(choices), claim.choices_len = choices.size();
+        pgboard_posted posted;
+        pgboard_report report;
+        detail::judge(pgboard_board_post(&held, &claim, &posted, &report), report);
+        return posted;
+    }
+
+    // The winner and the choice of each vertex, or PGBOARD_NO_WINNER.
+    pgboard::solution state() { return results(pgboard_board_state); }
+
+    std::uint64_t settled() { return pgboard_board_settled(&held); }
+    std::uint64_t entries() { return pgboard_board_entries(&held); }
+
+    // The entry with this number, from 0.
+    pgboard::entry entry(std::uint64_t number)
+    {
+        pgboard::entry found{0, 0, 0, std::vector<std::uint32_t>(size), std::vector<std::uint32_t>(size)};
+        pgboard_entry it;
+        pgboard_report report;
+        detail::judge(pgboard_board_entry(&held, number, &it, detail::address(found.vertices), size, detail::address(found.choices), size, &report), report);
+        found.worker = it.worker, found.player = it.player, found.claimed = static_cast<std::size_t>(it.claimed);
+        found.vertices.resize(static_cast<std::size_t>(it.rows)), found.choices.resize(static_cast<std::size_t>(it.rows));
+        return found;
+    }
+
+    // Settles what is left.
+    void finish()
+    {
+        pgboard_report report;
+        detail::judge(pgboard_board_finish(&held, &report), report);
+    }
+
+    // The solution of a full board.
+    pgboard::solution solution() { return results(pgboard_board_solution); }
+
+  private:
+    template <class Call> pgboard::solution results(Call call)
+    {
+        pgboard::solution found{std::vector<std::uint8_t>(size), std::vector<std::uint32_t>(size)};
+        pgboard_results results = detail::arrays<pgboard_results>(found);
+        pgboard_report report;
+        detail::judge(call(&held, &results, &report), report);
+        return found;
+    }
+
+    pgboard_board held{};
+    std::size_t size;
+};
 
 } // namespace pgboard
 

@@ -3,13 +3,15 @@
 
 include/pgboard.h declares the exports of crates/pgboard_c and has the fields and the numbers that the crate has, with a text for
 each answer; it is C89 and C++. tests/embed/test.c goes through each answer by its name, also with sanitizers; on random games it
-gives the winners of the program, and so does tests/embed/test.cpp with include/pgboard.hpp. tests/embed/linear.c solves two large
-games within a limit of time. The C programs of docs/INTEROP.md, built by the commands there, print what it says there. The tests of
-bindings/python pass under each Python that is installed.
+gives the winners of the program, and so does tests/embed/test.cpp with include/pgboard.hpp. tests/embed/board.c goes through the
+calls on boards, also under valgrind, and has eight threads post on one board, which is replayed on a plain one. tests/embed/linear.c
+solves two large games within a limit of time. The C programs of docs/INTEROP.md, built by the commands there, print what it says
+there. The tests of bindings/python pass under each Python that is installed.
 
 PGBOARD_ARCHIVE names another static library to test, which is not made here.
 """
 
+import collections
 import itertools
 import os
 import pathlib
@@ -22,6 +24,7 @@ import unittest
 import common
 import pages
 import plain
+import plain_board
 
 sys.path.insert(0, os.path.dirname(os.path.realpath(shutil.which("rt"))))
 import rtlib
@@ -31,6 +34,9 @@ KIT = pathlib.Path(common.run(["rt", "doc"])[1].decode()).parent
 OTHER = os.environ.get("PGBOARD_ARCHIVE")
 ARCHIVES = [OTHER or CRATE / "out" / "libpgboard_c.a", KIT / "c" / "liblibc_c.a"]
 GAMES = 300
+# games on which eight threads post
+THREADED = 200
+NO_CHOICE, NO_WINNER = 2**32 - 1, 255
 WARNINGS = ["-Wall", "-Wextra", "-Werror", "-pedantic", "-Iinclude"]
 FLAGS = ["-std=c11", *WARNINGS, "-O1"]
 REFUSING = ["-Wl,--wrap=malloc,--wrap=realloc"]
@@ -39,15 +45,23 @@ SANITIZERS = ["-fsanitize=address,undefined", "-fno-sanitize-recover=all", "-g"]
 TYPES = {
     "&[u8]": "const uint8_t *",
     "&mut [u8]": "uint8_t *",
+    "&mut [u32]": "uint32_t *",
     "&mut usize": "size_t *",
     "&Arrays": "const struct pgboard_game *",
     "&SolutionArrays": "const struct pgboard_solution *",
     "&mut Results": "struct pgboard_results *",
     "&mut Report": "struct pgboard_report *",
     "&mut Text<'static>": "struct pgboard_text *",
+    "&mut Handle": "struct pgboard_board *",
+    "&ClaimArrays": "const struct pgboard_claim *",
+    "&mut PostedNumbers": "struct pgboard_posted *",
+    "&mut EntryNumbers": "struct pgboard_entry *",
     "u32": "uint32_t ",
+    "u64": "uint64_t ",
 }
-RESULTS = {"u32": "uint32_t", None: "void"}
+RESULTS = {"u32": "uint32_t", "u64": "uint64_t", None: "void"}
+# what a field takes in C, beside a slice; an allocator takes nothing
+SIZES = {"u32": 4, "bool": 1, "u64": 8, "usize": 8, "*mut u8": 8}
 HEADER = common.text_of("include/pgboard.h")
 # what the limits are called in the specifications
 LIMITS = {"max_vertices": "MAX_VERTICES", "max_edges": "MAX_EDGES", "max_number": "MAX_NUMBER", "max_text": "MAX_TEXT"}
@@ -69,7 +83,7 @@ def prototypes():
 def header_numbers():
     """The names of the header and their numbers, by the definitions that the contracts cite: of answers, and of parts."""
     text = common.text_of("crates/pgboard_c/specs/Numbers.antt")
-    groups = {"text": "GAME_", "solution": "SOLUTION_", "known": "KNOWN_", "array": "ARRAY_", "structure": "STRUCT_"}
+    groups = {"text": "GAME_", "solution": "SOLUTION_", "known": "KNOWN_", "board": "BOARD_", "post": "POST_", "array": "ARRAY_", "structure": "STRUCT_"}
     other_names = {"NO_CHOICE": "NO_CHOICE_AT"}
     found = re.findall(r"(?m)^(?:\w+_answer|answer_of) \(?(\w+)\.(\w+)[^=\n]*= answer (\d+) ", text)
     answers = [it for it in found if it[1] != "Memory" or it[0] == "fault"]
@@ -79,16 +93,22 @@ def header_numbers():
 
 
 def layouts():
-    """The structs that the crate has in C's layout, and each field with its place, by the sizes of a number and of a slice."""
+    """The structs that the crate has in C's layout, and each field with its place, by the sizes of numbers and of slices."""
     structs = {re.search(r"\w+", kind.replace("&mut ", "&"))[0]: re.search(r"struct \w+", name)[0] for kind, name in TYPES.items() if "struct" in name}
+    declared = {}
     for path in sorted((CRATE / "src").glob("*.rt")):
         for name, fields in re.findall(r"#\[repr\(C\)\][^{;]*struct (\w+)[^{]*\{(.*?)\n\}", path.read_text(encoding="utf-8"), re.DOTALL):
-            found, place = {}, 0
-            for field, kind in re.findall(r"(?m)^ +(?:pub )?(\w+): (.*),$", fields):
-                names = [field, f"{field}_len"] if "[" in kind else [field]
-                found.update(zip(names, itertools.count(place, 8)))
-                place += 8 * len(names)
-            yield structs[name], found, place
+            declared[name] = re.findall(r"(?m)^ +(?:pub(?:\(crate\))? )?(\w+): (.*),$", fields)
+    for name, struct in structs.items():
+        found, place = {}, 0
+        for field, kind in declared[name]:
+            # a struct inside has one field of its own
+            field, kind = declared[kind][0] if kind in declared else (field, kind)
+            for part in [field, f"{field}_len"] if "[" in kind else [field]:
+                size = SIZES.get(kind, 8)
+                found[part] = place = -(-place // size) * size
+                place += size
+        yield struct, found, -(-place // 8) * 8
 
 
 def drawn(seed):
@@ -101,6 +121,54 @@ def drawn(seed):
     priorities, owners, rows = zip(*game)
     numbers = [size, starts[-1], *owners, *priorities, *starts, *itertools.chain(*rows)]
     return {v: (p, o, set(row)) for v, (p, o, row) in enumerate(game)}, " ".join(map(str, numbers)) + "\n"
+
+
+def replayed(text):
+    """Replays what eight threads posted on a plain board: each answer, each entry, and the states at the end and once finished. Yields the
+    answers."""
+    lines = [line.split() for line in text.splitlines()]
+    game = {v: (int(row[1]), int(row[2]), set(map(int, row[3:]))) for v, row in enumerate(row for row in lines if row[0] == "vertex")}
+    entries = [entry_of(row) for row in lines if row[0] == "entry"]
+    states = [(int(row[1]), choice_of(row[2])) for row in lines if row[0] == "state"]
+    numbers = {int(number): name for name, number in re.findall(r"#define PGBOARD_(?:POST_)?(\w+) (\d+)u", HEADER)}
+    board = plain_board.Board(game)
+    for row in lines:
+        if row[0] == "post":
+            first, second = [k for k, word in enumerate(row) if word == "|"]
+            answer, worker, player, *said = map(int, row[1:first])
+            vertices, choices = list(map(int, row[first + 1 : second])), list(map(choice_of, row[second + 1 :]))
+            rows = list(zip(vertices, choices))
+            wrong = ("player", player, 0) if player > 1 else ("lengths", len(vertices), len(choices)) if len(vertices) != len(choices) else None
+            reason, *places = wrong or board.fault(player, rows) or ("ok", 0, 0)
+            wanted = [0, 0, 0]
+            if reason == "ok":
+                entry = entries[len(board.journal)]
+                assert entry[0] == worker and board.entry_fault(player, rows, entry) is None, (row, entry)
+                wanted = [len(board.journal), entry[2], len(entry[3])]
+                board.add(entry)
+            assert (numbers[answer], said) == (reason.upper(), [*places, *wanted]), (row, reason, places, wanted)
+            yield numbers[answer]
+    state, unsettled = board.state(), (NO_WINNER, None)
+    assert [state.get(v, unsettled) for v in sorted(game)] == states[: len(game)]
+    assert ["settled", str(len(state))] in lines
+    assert lines.index(["finished"]) - len(game) - 1 - len(board.journal) == next(k for k, row in enumerate(lines) if row[0] == "entry"), "entries"
+    for entry in entries[len(board.journal) :]:
+        worker, player, claimed, rows = entry
+        assert worker == 0 and board.fault(player, rows[:claimed]) is None and board.entry_fault(player, rows[:claimed], entry) is None, entry
+        board.add(entry)
+    state = board.state()
+    assert [state[v] for v in sorted(game)] == states[len(game) :]
+    assert plain.verdict(game, state) == "ok\n"
+
+
+def choice_of(word):
+    return None if int(word) == NO_CHOICE else int(word)
+
+
+def entry_of(row):
+    """The worker, the player, how many rows were claimed, and the rows."""
+    places = row[5:]
+    return *map(int, row[1:4]), list(zip(map(int, places[::2]), map(choice_of, places[1::2])))
 
 
 def pythons():
@@ -156,9 +224,9 @@ class Embed(unittest.TestCase):
         self.assertEqual(status, 0, err)
 
     def test_the_header_declares_what_the_crate_exports(self):
-        declared = {re.sub(r"\s+", " ", it) for it in re.findall(r"(?ms)^(?:uint32_t|void) [^;]*;", HEADER)}
+        declared = {re.sub(r"\s+", " ", it) for it in re.findall(r"(?ms)^(?:uint32_t|uint64_t|void) [^;]*;", HEADER)}
         self.assertEqual(declared, set(prototypes()))
-        self.assertEqual(len(declared), 9)
+        self.assertEqual(len(declared), 18)
 
     def test_the_header_has_the_numbers_of_the_contracts(self):
         defined = dict(re.findall(r"(?m)^#define (PGBOARD_\w+) (\d+)u", HEADER))
@@ -168,15 +236,16 @@ class Embed(unittest.TestCase):
         self.assertEqual(len(limits), len(LIMITS))
         others = {"PGBOARD_OK": "0", "PGBOARD_NO_CHOICE": "4294967295", "PGBOARD_NO_WINNER": "255"}
         self.assertEqual(defined, {**numbers, **limits, **others})
-        # test.c sees each of them come from the library
-        self.assertEqual(defined.keys() - set(re.findall(r"PGBOARD_\w+", common.text_of("tests/embed/test.c"))), set())
+        # the tests in C see each of them come from the library
+        seen = common.text_of("tests/embed/test.c") + common.text_of("tests/embed/board.c")
+        self.assertEqual(defined.keys() - set(re.findall(r"PGBOARD_\w+", seen)), set())
 
     def test_the_header_has_the_structs_of_the_crate(self):
         lines = ["#include <stddef.h>", '#include "pgboard.h"', "int main(void) { return 0; }"]
         for struct, fields, size in layouts():
             lines.append(f"_Static_assert(sizeof({struct}) == {size}, {chr(34)}{struct}{chr(34)});")
             lines += [f'_Static_assert(offsetof({struct}, {name}) == {place}, "{name}");' for name, place in fields.items()]
-        self.assertEqual(len(lines), 3 + 5 + 9 + 5 + 5 + 2 + 2)
+        self.assertEqual(len(lines), 3 + 9 + 9 + 5 + 5 + 2 + 2 + 2 + 7 + 3 + 4)
         (self.folder / "layout.c").write_text("\n".join(lines), encoding="ascii")
         self.built(["-std=c11", *WARNINGS, "-fsyntax-only", self.folder / "layout.c"])
 
@@ -232,6 +301,33 @@ class Embed(unittest.TestCase):
     def test_solving_is_not_quadratic_in_the_priorities(self):
         self.built([*FLAGS, "tests/embed/linear.c", *ARCHIVES, "-o", self.folder / "linear"])
         self.passes(self.folder / "linear")
+
+    def test_each_answer_of_a_board_in_c(self):
+        for name, flags in (("plain", []), ("with sanitizers", SANITIZERS)):
+            with self.subTest(name):
+                self.passes(self.built_board(name, flags))
+
+    @common.needs("valgrind")
+    def test_a_board_under_valgrind(self):
+        program = self.built_board("for valgrind", ["-g"])
+        status, out, err = run(["valgrind", "-q", "--error-exitcode=9", "--leak-check=full", "--errors-for-leak-kinds=all", program])
+        self.assertEqual(status, 0, out + err)
+
+    def test_threads_that_share_a_board(self):
+        answers = collections.Counter()
+        for name, flags in (("plain", []), ("with sanitizers", SANITIZERS), ("with the thread sanitizer", ["-fsanitize=thread", "-g"])):
+            program = self.built_board(name, flags)
+            for seed in range(THREADED if name == "plain" else THREADED // 10):
+                status, out, err = run([program, "threads", str(seed)])
+                self.assertEqual(status, 0, err)
+                answers.update(replayed(out))
+        # each kind of answer came
+        self.assertEqual(answers.keys(), {"PLAYER", "LENGTHS", "SHAPE", "CYCLE", "LOST", "STALE", "OPEN", "OK"})
+
+    def built_board(self, name, flags):
+        program = self.folder / f"board {name}"
+        self.built([*FLAGS, *flags, *REFUSING, "tests/embed/board.c", *ARCHIVES, "-o", program, "-lpthread"])
+        return program
 
     def test_the_header_for_cpp(self):
         for compiler, standard in itertools.product(filter(shutil.which, ("g++", "clang++")), ("c++17", "c++20")):

@@ -6,40 +6,8 @@
 #include <stdlib.h>
 #include <string.h>
 
+#include "expect.h"
 #include "pgboard.h"
-
-static int passed, failed;
-
-/* The first allocation that is refused, counted from 1, with all after it; below 0, none is. */
-static long allowed = -1;
-void *__real_malloc(size_t size);
-void *__real_realloc(void *block, size_t size);
-void *__wrap_malloc(size_t size);
-void *__wrap_realloc(void *block, size_t size);
-
-static int is_refused(void)
-{
-    if (allowed > 0)
-        allowed--;
-    return allowed == 0;
-}
-void *__wrap_malloc(size_t size)
-{
-    return is_refused() ? NULL : __real_malloc(size);
-}
-void *__wrap_realloc(void *block, size_t size)
-{
-    return is_refused() ? NULL : __real_realloc(block, size);
-}
-
-static void expect(int holds, const char *what, unsigned line)
-{
-    passed += holds;
-    failed += !holds;
-    if (!holds)
-        printf("FAILED embed/test.c:%u: %s\n", line, what);
-}
-#define EXPECT(holds) expect((holds), #holds, __LINE__)
 
 #define MOST 70000
 

@@ -65,6 +65,22 @@ int main(int argc, char **argv)
     EXPECT(refuses(PGBOARD_GAME_LEXICAL, 6, 0, [] { pgboard::solve_text("0 0 0 ?;"); }));
     EXPECT(refuses(PGBOARD_GAME_SYNTAX, 0, 0, [] { pgboard::tidy_text({}); }));
     EXPECT(refuses(PGBOARD_SOLUTION_MISSING, 3, 0, [&] { pgboard::verify_text(text, {}); }));
+    pgboard::board first(two), board = std::move(first);
+    EXPECT(refuses(PGBOARD_BOARD_CLOSED, 0, 0, [&] { first.finish(); }));
+    EXPECT(refuses(PGBOARD_POST_OPEN, 0, 1, [&] { board.post(0, {0}, {1}); }));
+    EXPECT(refuses(PGBOARD_POST_SHAPE, 0, 0, [&] { board.post(0, {}, {}); }));
+    EXPECT(refuses(PGBOARD_POST_LENGTHS, 1, 0, [&] { board.post(0, {0}, {}); }));
+    EXPECT(refuses(PGBOARD_BOARD_UNSETTLED, 2, 0, [&] { board.solution(); }));
+    const auto posted = board.post(1, {1}, {1}, 8);
+    EXPECT(posted.entry == 0 && posted.rest == 1 && posted.settled == 1);
+    EXPECT((board.state().winners == std::vector<std::uint8_t>{PGBOARD_NO_WINNER, 1}) && board.settled() == 1);
+    board.finish();
+    EXPECT(board.entries() == 2 && board.solution().winners == found.winners && board.solution().choices == found.choices);
+    const auto entry = board.entry(0);
+    EXPECT(entry.worker == 8 && entry.player == 1 && entry.claimed == 1 && entry.vertices == std::vector<std::uint32_t>{1} && entry.choices == entry.vertices);
+    EXPECT(refuses(PGBOARD_BOARD_ENTRY, 2, 0, [&] { board.entry(2); }));
+    board = pgboard::board(two);
+    EXPECT(board.entries() == 0);
     std::cout << passed << " passed, " << failed << " failed\n";
     return failed != 0;
 }

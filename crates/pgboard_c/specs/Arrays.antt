@@ -77,6 +77,11 @@ no_choice = 4294967295
 abbrev pub choice_from : ℕ → Option ℕ
 choice_from n = if n == no_choice then None else Some n
 
+-- the number of a choice or of none; a number below that of no choice comes back by choice_from
+abbrev pub choice_number : Option ℕ → ℕ
+choice_number None = no_choice
+choice_number (Some w) = w
+
 -- winners and choices; the size is the one in the struct
 pub record ResultArrays : Type 0 where
   pub size : ℕ

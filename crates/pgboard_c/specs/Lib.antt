@@ -3,4 +3,8 @@ pub mod Numbers
 pub mod Answers
 pub mod Known
 pub mod Texts
+pub mod Held
+pub mod Board
+pub mod Posting
+pub mod Entries
 pub mod Text

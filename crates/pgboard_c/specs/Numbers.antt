@@ -14,6 +14,10 @@ use Rattle.pgboard_c.specs.declared.fault.Structure.{Structure}
 use Rattle.pgboard_c.specs.declared.fault.Structure.TheVariants as structure
 use Rattle.pgboard_c.specs.declared.fault.KnownFault.{KnownFault}
 use Rattle.pgboard_c.specs.declared.fault.KnownFault.TheVariants as known
+use Rattle.pgboard_c.specs.declared.fault.BoardFault.{BoardFault}
+use Rattle.pgboard_c.specs.declared.fault.BoardFault.TheVariants as board
+use Rattle.pgboard_c.specs.declared.fault.PostFault.{PostFault}
+use Rattle.pgboard_c.specs.declared.fault.PostFault.TheVariants as post
 use Rattle.pgboard_c.specs.declared.fault.Fault.{Fault}
 use Rattle.pgboard_c.specs.declared.fault.Fault.TheVariants as fault
 use Rattle.pgboard_c.specs.declared.fault.Answer.{Answer}
@@ -34,12 +38,14 @@ abbrev pub structure_number : Structure → ℕ
 structure_number structure.Game = 1
 structure_number structure.Solution = 2
 structure_number structure.Results = 3
+structure_number structure.Claim = 4
 
 -- the bytes of a struct
 abbrev pub structure_size : Structure → ℕ
 structure_size structure.Game = 72
 structure_size structure.Solution = 40
 structure_size structure.Results = 40
+structure_size structure.Claim = 48
 
 abbrev pub answer : ℕ → ℕ → ℕ → Answer
 answer number at to = record { number = number; at = at; to = to }
@@ -84,7 +90,22 @@ solution_answer (solution.Twice id) = answer 46 id 0
 solution_answer (solution.Missing id) = answer 47 id 0
 solution_answer solution.Memory = answer 1 0 0
 
--- the number of the answer, and its two places: vertices, a place in a text, a size, or an array or a struct by its number
+abbrev pub board_answer : BoardFault → Answer
+board_answer board.Open = answer 70 0 0
+board_answer board.Closed = answer 71 0 0
+board_answer (board.Entry count) = answer 72 count 0
+board_answer (board.Unsettled count) = answer 73 count 0
+
+abbrev pub post_answer : PostFault → Answer
+post_answer (post.Player player) = answer 80 player 0
+post_answer (post.Lengths vertices choices) = answer 81 vertices choices
+post_answer (post.Shape row) = answer 82 row 0
+post_answer (post.Cycle v) = answer 83 v 0
+post_answer (post.Lost v) = answer 84 v 0
+post_answer post.Stale = answer 85 0 0
+post_answer (post.Open v w) = answer 86 v w
+
+-- the number of the answer, and its two places: vertices, a row, a place in a text, a size or count, or an array or a struct by its number
 abbrev pub answer_of : Fault → Answer
 answer_of fault.Memory = answer 1 0 0
 answer_of (fault.Lengths a) = answer 2 (array_number a) 0
@@ -103,6 +124,8 @@ answer_of (fault.GameText f) = text_answer f
 answer_of fault.SolutionTooLong = answer 40 0 0
 answer_of (fault.SolutionText f) = solution_answer f
 answer_of (fault.Capacity size) = answer 50 size 0
+answer_of (fault.Board f) = board_answer f
+answer_of (fault.Post f) = post_answer f
 
 -- the answer is the fault's number, and the report has its places
 abbrev pub IsReported : Fault → ℕ → Report → Type 0

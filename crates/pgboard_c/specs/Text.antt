@@ -1,7 +1,23 @@
 -- The texts for C: a table with one line for each answer. Each has a zero at its end.
 use Rattle.std.specs.Prelude.{ℕ, List, codes, if◌then◌else◌, ◌==◌}
 
--- of the answers on texts, buffers and what is known, and of every other number
+-- of the answers on boards, and of every other number
+abbrev pub board_text : ℕ → List ℕ
+board_text n =
+    if n == 70 then codes "the board is open already\0" else
+    if n == 71 then codes "the board is not open\0" else
+    if n == 72 then codes "the board has no entry of this number\0" else
+    if n == 73 then codes "the board has unsettled vertices\0" else
+    if n == 80 then codes "the claim's player is neither 0 nor 1\0" else
+    if n == 81 then codes "the claim's arrays have different lengths\0" else
+    if n == 82 then codes "a row of the claim is wrong\0" else
+    if n == 83 then codes "the greatest priority on a closed walk in the claim is the opponent's\0" else
+    if n == 84 then codes "a vertex of the claim is settled for the opponent\0" else
+    if n == 85 then codes "all vertices of the claim are settled for the player\0" else
+    if n == 86 then codes "a kept edge leads out of the claim and of what is settled for the player\0" else
+    codes "no answer of this library\0"
+
+-- of the answers on texts, buffers and what is known
 abbrev pub format_text : ℕ → List ℕ
 format_text n =
     if n == 30 then codes "the game's text is longer than 268435456 bytes\0" else
@@ -17,12 +33,12 @@ format_text n =
     if n == 45 then codes "the solution's text has a vertex that is not in the game\0" else
     if n == 46 then codes "the solution's text has two lines for a vertex\0" else
     if n == 47 then codes "the solution's text has no line for a vertex\0" else
-    if n == 50 then codes "the buffer is smaller than the text\0" else
+    if n == 50 then codes "the buffer is smaller than the text, or an array than the entry\0" else
     if n == 60 then codes "a vertex that its owner is known to win has no choice that is a successor\0" else
     if n == 61 then codes "the greatest priority on a closed walk in what a player is known to win is the other's\0" else
     if n == 62 then codes "Even attracts a vertex that is known for Odd to what is known for Even\0" else
     if n == 63 then codes "a kept edge leads out of what a player is known to win\0" else
-    codes "no answer of this library\0"
+    board_text n
 
 abbrev pub answer_text : ℕ → List ℕ
 answer_text n =

@@ -2,7 +2,7 @@
 
 ghost use Rattle.std.specs.Prelude.{◌≡◌, ◌<◌};
 ghost use Rattle.pgboard_c.specs.Numbers.{answer, array_number, structure_number, structure_size, answer_of, IsReported, IsBlank};
-ghost use Rattle.pgboard_c.specs.Numbers.{game_answer, verdict_answer, known_answer, text_answer, solution_answer};
+ghost use Rattle.pgboard_c.specs.Numbers.{game_answer, verdict_answer, known_answer, text_answer, solution_answer, board_answer, post_answer};
 
 use pg_dominion::SolutionFault;
 use pg_game::GameFault;
@@ -40,16 +40,19 @@ pub enum Structure {
     Game,
     Solution,
     Results,
+    Claim,
 }
 
 impl Structure {
-    /// The size of the struct in bytes: a size and some slices, each a pointer and a length.
+    /// The size of the struct in bytes: a size, of a claim also two numbers of half that size, and some slices, each a pointer
+    /// and a length.
     pub fn size(self) -> usize
         ensures { result ≡ structure_size self }
     {
         match self {
             Structure::Game => 72,
             Structure::Solution | Structure::Results => 40,
+            Structure::Claim => 48,
         }
     }
 
@@ -61,6 +64,7 @@ impl Structure {
             Structure::Game => 1,
             Structure::Solution => 2,
             Structure::Results => 3,
+            Structure::Claim => 4,
         }
     }
 }
@@ -76,6 +80,38 @@ pub enum KnownFault {
     Lost(u32),
     /// A kept edge leads out of the known set.
     Leaves(u32, u32),
+}
+
+/// Why a call on a board has no result.
+#[derive(Clone, Copy, Drop)]
+pub enum BoardFault {
+    /// The board is open already.
+    Open,
+    /// The board is not open.
+    Closed,
+    /// No entry has the number; this is the number of entries.
+    Entry(usize),
+    /// The board is not full; this is the number of unsettled vertices.
+    Unsettled(u64),
+}
+
+/// Why a claim is not posted. Faults have vertices, but for those of the claim's own arrays.
+#[derive(Clone, Copy, Drop)]
+pub enum PostFault {
+    /// The player is neither 0 nor 1.
+    Player(u32),
+    /// The arrays have different lengths, which are these.
+    Lengths(usize, usize),
+    /// The first wrong row.
+    Shape(u32),
+    /// The vertex has the opponent's parity and is the greatest on a closed walk of kept edges in the claim.
+    Cycle(u32),
+    /// The least vertex of the claim that is settled for the opponent.
+    Lost(u32),
+    /// All vertices of the claim are settled for the player.
+    Stale,
+    /// The first kept edge of the rest that ends neither in the rest nor at the player's vertices.
+    Open(u32, u32),
 }
 
 /// Why a call has no result, or the fault of winners and choices. Faults have the numbers of vertices.
@@ -113,8 +149,12 @@ pub enum Fault {
     SolutionTooLong,
     /// The text is no solution text of the game. Never `SolutionTextFault::Memory`.
     SolutionText(SolutionTextFault),
-    /// The buffer is smaller than the text; this is the size of the text.
+    /// The buffer is smaller than the text, or an array than an entry; this is the size of the text, or the number of rows.
     Capacity(usize),
+    /// The board has no answer.
+    Board(BoardFault),
+    /// The claim is not posted.
+    Post(PostFault),
 }
 
 impl From<AllocError> for Fault {
@@ -242,6 +282,37 @@ impl Answer {
         }
     }
 
+    fn of_board(fault: BoardFault) -> Answer
+        ensures answer { result ≡ board_answer fault }
+        ensures above { 0 < result.number }
+    {
+        match fault {
+            BoardFault::Open => Answer::new(70, 0, 0),
+            BoardFault::Closed => Answer::new(71, 0, 0),
+            BoardFault::Entry(count) => Answer::new(72, count as u64, 0),
+            BoardFault::Unsettled(count) => Answer::new(73, count, 0),
+        }
+    }
+
+    fn of_post(fault: PostFault) -> Answer
+        ensures answer { result ≡ post_answer fault }
+        ensures above { 0 < result.number }
+    {
+        match fault {
+            PostFault::Player(player) => Answer::new(80, u64::from(player), 0),
+            PostFault::Lengths(vertices, choices) => Answer::new(
+                81,
+                vertices as u64,
+                choices as u64,
+            ),
+            PostFault::Shape(row) => Answer::new(82, u64::from(row), 0),
+            PostFault::Cycle(v) => Answer::new(83, u64::from(v), 0),
+            PostFault::Lost(v) => Answer::new(84, u64::from(v), 0),
+            PostFault::Stale => Answer::new(85, 0, 0),
+            PostFault::Open(v, w) => Answer::new(86, u64::from(v), u64::from(w)),
+        }
+    }
+
     /// The report of each fault, with its number and its places.
     fn of(fault: Fault) -> Answer
         ensures answer { result ≡ answer_of fault }
@@ -265,6 +336,8 @@ impl Answer {
             Fault::SolutionTooLong => Answer::new(40, 0, 0),
             Fault::SolutionText(fault) => Answer::of_solution(fault),
             Fault::Capacity(size) => Answer::new(50, size as u64, 0),
+            Fault::Board(fault) => Answer::of_board(fault),
+            Fault::Post(fault) => Answer::of_post(fault),
         }
     }
 }

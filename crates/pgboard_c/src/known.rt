@@ -63,7 +63,7 @@ pub fn solution_from_known(alloc: Global, game: &Game, known: &Known) -> Result<
 }
 
 /// The number for an unknown winner.
-const NO_WINNER: u8 = 255;
+pub const NO_WINNER: u8 = 255;
 
 /// What is known of a vertex with this winner and this choice.
 fn known_from(winner: u8, choice: u32) -> Option<(Player, Option<u32>)>

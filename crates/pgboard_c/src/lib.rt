@@ -3,8 +3,13 @@
 //! `include/pgboard.h` declares the exports, and names each answer.
 #![tactic(auto)]
 
+mod board;
+mod entry;
 mod fault;
+mod handle;
+mod held;
 mod known;
 mod on_arrays;
 mod on_texts;
+mod post;
 mod text;

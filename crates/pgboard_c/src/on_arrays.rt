@@ -4,7 +4,7 @@
 ghost use Rattle.std.specs.Prelude.{◌≡◌, ◌≢◌, OnOk, OnErr, IfErr, ◌<◌, ◌≤◌, length, slice_index, IfOk, MatchOption, IsTrue, IsFalse, All, ℕ, IfSome};
 ghost use Rattle.pgboard_c.specs.declared.fault.Fault.{Fault};
 ghost use Rattle.pgboard_c.specs.Numbers.{IsReported, IsBlank};
-ghost use Rattle.pgboard_c.specs.Arrays.{game_arrays, result_arrays, solution_arrays, array_specs, targets_of, no_choice, choice_from};
+ghost use Rattle.pgboard_c.specs.Arrays.{game_arrays, result_arrays, solution_arrays, array_specs, targets_of, no_choice, choice_from, choice_number};
 ghost use Rattle.pgboard_c.specs.Arrays.{HaveLengths, IsBadRow, IsBadOwner, IsBadPriority, AreWellFormed, IsGameOfArrays, AreResults, IsBadWinner, IsSameStruct};
 ghost use Rattle.pgboard_c.specs.Answers.{AreSolved, IsSolveFault, AreSolution, IsCheckFault, IsArraysFault, HaveSize, AreUnfitResults, IsUnfitSolution};
 ghost use Rattle.pgboard_c.specs.Known.{AreSolvedFrom, IsSolveFromFault};
@@ -129,7 +129,7 @@ fn solve(alloc: Global, arrays: &Arrays, results: &mut Results) -> Result<(), Fa
 }
 
 /// Writes the winner and the choice of each vertex.
-fn write_results(solution: &Solution, winners: &mut [u8], choices: &mut [u32])
+pub fn write_results(solution: &Solution, winners: &mut [u8], choices: &mut [u32])
     requires winners { length winners.old ≡ length solution.now.rows }
     requires choices { length choices.old ≡ length solution.now.rows }
     requires below { (v : ℕ) → v < length solution.now.rows → IfSome (choice_of solution.now.rows v) (λ w. w < no_choice) }
@@ -182,6 +182,16 @@ pub fn choice_from(number: u32) -> Option<u32>
     }
 }
 
+/// The number of a choice, or of none.
+pub fn number_of(choice: Option<u32>) -> u32
+    ensures { result ≡ choice_number choice }
+{
+    match choice {
+        Some(w) => w,
+        None => NO_CHOICE,
+    }
+}
+
 /// Whether winners and choices are a solution of the game of the arrays.
 fn check(alloc: Global, arrays: &Arrays, given: &SolutionArrays) -> Result<(), Fault>
     ensures holds { OnOk result (AreSolution (game_arrays arrays.now) (solution_arrays given.now)) }
@@ -228,7 +238,7 @@ fn read_results(alloc: Global, winners: &[u8], choices: &[u32]) -> Result<Soluti
 }
 
 /// The player with this digit.
-fn player_of(digit: u8) -> Player
+pub fn player_of(digit: u8) -> Player
     requires { digit ≤ 1 }
     ensures { digit ≡ digit_of result }
 {
@@ -241,7 +251,7 @@ fn player_of(digit: u8) -> Player
 
 impl<'a> Arrays<'a> {
     /// The game of the arrays, without predecessors.
-    fn forward_game(&self, alloc: Global) -> Result<ForwardGame, Fault>
+    pub fn forward_game(&self, alloc: Global) -> Result<ForwardGame, Fault>
         ensures game { IfOk result (λ g. IsGameOfArrays (game_arrays self.now) g) }
         ensures fault { IfErr result (λ e. IsArraysFault (game_arrays self.now) e) }
     {
@@ -388,7 +398,7 @@ impl<'a> Arrays<'a> {
 
 impl<'a> Results<'a> {
     /// Whether the struct has its size, and the arrays an entry for each vertex of the game.
-    fn check_lengths(&self, game: &ForwardGame) -> Result<(), Fault>
+    pub fn check_lengths(&self, game: &ForwardGame) -> Result<(), Fault>
         ensures fit { OnOk result (HaveSize game.now (result_arrays self.now)) }
         ensures few { OnOk result (length game.now ≤ no_choice) }
         ensures fault { IfErr result (λ e. AreUnfitResults game.now (result_arrays self.now) e) }

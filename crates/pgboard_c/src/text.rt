@@ -3,7 +3,7 @@
 
 ghost use Rattle.std.specs.Prelude.{◌≡◌};
 ghost use Rattle.pgboard_c.specs.Numbers.{version};
-ghost use Rattle.pgboard_c.specs.Text.{answer_text, format_text, version_text};
+ghost use Rattle.pgboard_c.specs.Text.{answer_text, format_text, board_text, version_text};
 
 /// A text of the library, with a zero byte at its end.
 #[repr(C)]
@@ -66,12 +66,32 @@ fn format_text(answer: u32) -> &'static [u8]
         45 => b"the solution's text has a vertex that is not in the game\0",
         46 => b"the solution's text has two lines for a vertex\0",
         47 => b"the solution's text has no line for a vertex\0",
-        50 => b"the buffer is smaller than the text\0",
+        50 => b"the buffer is smaller than the text, or an array than the entry\0",
         60 => b"a vertex that its owner is known to win has no choice that is a successor\0",
         61 =>
             b"the greatest priority on a closed walk in what a player is known to win is the other's\0",
         62 => b"Even attracts a vertex that is known for Odd to what is known for Even\0",
         63 => b"a kept edge leads out of what a player is known to win\0",
+        _ => board_text(answer),
+    }
+}
+
+/// The texts of the answers on boards.
+fn board_text(answer: u32) -> &'static [u8]
+    ensures { result.now ≡ board_text answer }
+{
+    match answer {
+        70 => b"the board is open already\0",
+        71 => b"the board is not open\0",
+        72 => b"the board has no entry of this number\0",
+        73 => b"the board has unsettled vertices\0",
+        80 => b"the claim's player is neither 0 nor 1\0",
+        81 => b"the claim's arrays have different lengths\0",
+        82 => b"a row of the claim is wrong\0",
+        83 => b"the greatest priority on a closed walk in the claim is the opponent's\0",
+        84 => b"a vertex of the claim is settled for the opponent\0",
+        85 => b"all vertices of the claim are settled for the player\0",
+        86 => b"a kept edge leads out of the claim and of what is settled for the player\0",
         _ => b"no answer of this library\0",
     }
 }
