@@ -3,7 +3,7 @@ pub mod Numbers
 pub mod Answers
 pub mod Known
 pub mod Texts
-pub mod Held
+pub mod private
 pub mod Board
 pub mod Posting
 pub mod Entries

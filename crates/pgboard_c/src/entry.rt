@@ -24,7 +24,7 @@ pub extern "C" fn pgboard_board_entry(
     choices: &mut [u32],
     report: &mut Report,
 ) -> u32
-    ensures read { result ≡ 0 → (s : Play) × (board_in board.old ≡ Some s) × IsEntry s number entry.new vertices.old choices.old vertices.new choices.new }
+    ensures found { result ≡ 0 → (s : Play) × (board_in board.old ≡ Some s) × IsEntry s number entry.new vertices.old choices.old vertices.new choices.new }
     ensures blank { result ≡ 0 → IsBlank report.new }
     ensures refused { result ≢ 0 → (e : Fault) × IsReported e result report.new
         × OnBoard (board_in board.old) (λ s. IsEntryFault s number (length vertices.old) (length choices.old)) e }

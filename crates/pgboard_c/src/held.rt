@@ -3,7 +3,7 @@
 
 ghost use Rattle.std.specs.Prelude.{◌≡◌, Option, None, Some, IsSome, is_some, option_map, false};
 ghost use Rattle.std.specs.Box.Ownership.{box_owns};
-ghost use Rattle.pgboard_c.specs.Held.{held};
+ghost use Rattle.pgboard_c.specs.private.Held.{held};
 ghost use Rattle.pg_board.specs.Play.{Play};
 
 use pg_board::Session;

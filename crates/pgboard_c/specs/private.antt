@@ -1,0 +1,2 @@
+-- Definitions that only private functions and proofs cite: no public contract uses them.
+pub mod Held
