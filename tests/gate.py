@@ -7,6 +7,7 @@ for, for apt-get, for rt and for Python, whose modules are files beside it.
 
 import os
 import re
+import runpy
 import shutil
 import sys
 import unittest
@@ -29,6 +30,7 @@ TOOLS = {
     "dot": ("dot", "graphviz fonts-dejavu-core"),
     "berkeley-abc": ("berkeley-abc", "berkeley-abc"),
     "mypy": ("mypy", "mypy"),
+    "valgrind": ("valgrind", "valgrind"),
     "rustc 1.85 or later": ("rustc", "rustc"),
     "NumPy": ("numpy.module", "python3-numpy"),
     "NetworkX": ("networkx.module", "python3-networkx"),
@@ -109,6 +111,14 @@ class Gate(unittest.TestCase):
     def test_with_all_tools_nothing_is_installed(self):
         self.assertEqual(self.run_test("cli")[0], 0)
         self.assertEqual(self.calls(), [])
+
+    def test_what_is_installed_here_is_found(self):
+        script = runpy.run_path(str(common.ROOT / "test"))
+        for tool, _, shows in script["TOOLS"]:
+            # (a compiler may be there and not be enough)
+            if " " not in tool and shutil.which(TOOLS[tool][0]):
+                with self.subTest(tool):
+                    self.assertTrue(script["succeeds"]("sh", "-c", shows), shows)
 
     def test_root_installs_each_missing_tool(self):
         for tool, (file, packages) in TOOLS.items():
@@ -233,7 +243,7 @@ class Gate(unittest.TestCase):
         self.assertEqual((status, err), (0, ""))
         self.assertLessEqual({"proofs", "scripts", *self.scripts}, set(re.findall(r"\w+", out)))
         self.assertEqual(self.run_test("clu")[::2], (2, "test: clu is no part; ./test --help names them\n"))
-        self.assertEqual(sorted([*self.scripts, "circuits", "common", "plain"]), sorted(it.stem for it in common.ROOT.glob("tests/*.py")))
+        self.assertEqual(sorted([*self.scripts, "circuits", "common", "plain", "plain_board"]), sorted(it.stem for it in common.ROOT.glob("tests/*.py")))
 
 
 if __name__ == "__main__":
