@@ -338,6 +338,7 @@ class Promote(Boards):
             path = self.file("game.sol", out)
             self.assertEqual(common.program("verify", self.folder / "game.pg", path)[1], b"ok\n", seed)
 
+    @unittest.skipIf(embed.OTHER, "another library is tested")
     def test_the_commands_of_the_page(self):
         commands = re.findall(r"(?m)^\$ (.*)$", common.text_of("examples", "README.md").split("`board/promote.cpp`")[1].split("\n## ")[0])
         for name in ("crates", "include", "examples"):
