@@ -35,7 +35,7 @@ OTHER = os.environ.get("PGBOARD_ARCHIVE")
 ARCHIVES = [OTHER or CRATE / "out" / "libpgboard_c.a", KIT / "c" / "liblibc_c.a"]
 GAMES = 300
 # games on which eight threads post
-THREADED = 200
+THREADED = 100
 NO_CHOICE, NO_WINNER = 2**32 - 1, 255
 WARNINGS = ["-Wall", "-Wextra", "-Werror", "-pedantic", "-Iinclude"]
 FLAGS = ["-std=c11", *WARNINGS, "-O1"]

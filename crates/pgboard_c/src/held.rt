@@ -106,6 +106,9 @@ impl Held {
     }
 }
 
+/// A board may be used by one thread after another.
+unsafe impl Send for Held {}
+
 /// A box, taken apart.
 struct Parts<T, A: Allocator> {
     ptr: *mut T,
