@@ -84,4 +84,5 @@ fn post(alloc: Global, board: &mut Board<'_>, claim: &Claim) -> Result<(), Memor
 
 /// The most vertices of a small dominion, and the most choices that a search tries, as the program has them by default.
 const BOUND: u32 = 4;
+
 const BUDGET: u64 = 10_000;
