@@ -1,7 +1,7 @@
 #!/usr/bin/env python3
 """Tests of examples/board over the static library: tests/boards.py [PROGRAM] [-k WORD]
 
-What referee.py says of stand-in solvers is what the plain board (plain_board.py) says of the same claims, posted in the same order, and
+What referee.py says of stand-in solvers is what the plain board (plain_journal.py) says of the same claims, posted in the same order, and
 what it prints is a solution by the definitions. The solvers print right, wrong, partial and damaged solutions, or nonsense, crash, or
 never end; bench's comparator is one. promote.cpp, built by two compilers and with sanitizers, prints solutions of random games and
 of games that take the recursion long; each worker's numbers add up, and nothing but the recursion of a claim that holds gets in.
@@ -21,7 +21,7 @@ import unittest
 import common
 import embed
 import plain
-import plain_board
+import plain_journal
 import random_games
 
 BOARD = common.ROOT / "examples" / "board"
@@ -106,7 +106,7 @@ class Referee(Boards):
         seconds = lambda text: re.sub(r"\d+\.\d s", "N s", text)
         self.assertEqual(seconds(out.decode()), seconds(printed))
 
-    def test_random_solutions_against_the_plain_board(self):
+    def test_random_solutions_against_the_plain_journal(self):
         said_words = set()
         for seed in range(80):
             chance = random.Random(seed)
@@ -120,7 +120,7 @@ class Referee(Boards):
                 path = self.file(f"{at}.sol", random_games.random_solution_text(chance, solutions[-1]))
                 solvers.append(f"cat {path}")
             lines, left = self.referee(game, *solvers)
-            board = plain_board.Board(game)
+            board = plain_journal.Board(game)
             for worker, command, ended, said in lines:
                 self.assertEqual(command, solvers[int(worker) - 1])
                 is_ended = len(board.state()) == len(game) and ended == "ended, since the board is full"

@@ -1,6 +1,6 @@
 """Tests of pgboard.Board, by unittest.
 
-Random posts go to a board and to the plain board of tests/plain_board.py, which share no code: the same answer with the same places, the
+Random posts go to a board and to the plain board of tests/plain_journal.py, which share no code: the same answer with the same places, the
 same state, and a journal whose entries answer their claims. PGBOARD_POSTS is how many there are.
 """
 
@@ -24,7 +24,7 @@ from pgboard import board as module
 
 sys.path.append(str(pathlib.Path(__file__).resolve().parent.parent.parent / "tests"))
 import plain
-import plain_board
+import plain_journal
 
 POSTS = int(os.environ.get("PGBOARD_POSTS", "100000"))
 # the names that the plain board has for refusals
@@ -155,12 +155,12 @@ class Boards(unittest.TestCase):
         self.assertEqual(plain.verdict(reference.game, reference.state()), "ok\n")
         self.assertEqual(board.solution(), board.state())
 
-    def test_random_posts_against_the_plain_board(self):
+    def test_random_posts_against_the_plain_journal(self):
         counts, chance, done = collections.Counter(), random.Random(1), 0
         while done < POSTS:
             size = chance.randint(1, 8)
             game = random_game(chance, size)
-            poster, reference = Poster(chance, game), plain_board.Board(plain_game(*game))
+            poster, reference = Poster(chance, game), plain_journal.Board(plain_game(*game))
             with pgboard.Board(*game) as board:
                 for _ in range(chance.randint(0, 40)):
                     counts[self.one_post(board, reference, poster, chance)] += 1
@@ -194,7 +194,7 @@ class Boards(unittest.TestCase):
         for seed in range(10):
             chance = random.Random(seed)
             game = random_game(chance, 60)
-            reference = plain_board.Board(plain_game(*game))
+            reference = plain_journal.Board(plain_game(*game))
             board, taken = pgboard.Board(*game), [[] for _ in range(8)]
 
             def work(worker, board=board, game=game, taken=taken):
