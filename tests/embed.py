@@ -3,8 +3,8 @@
 
 include/pgboard.h declares the exports of crates/pgboard_c and has the fields and the numbers that the crate has, with a text for
 each answer; it is C89 and C++. tests/embed/test.c goes through each answer by its name, also with sanitizers; on random games it
-gives the winners of the program, and so does tests/embed/test.cpp with include/pgboard.hpp. The C programs of docs/INTEROP.md, built
-by the commands there, print what it says there. The tests of bindings/python pass under each Python that is installed.
+gives the winners of the program, and so does tests/embed/test.cpp with include/pgboard.hpp. The C program of docs/INTEROP.md, built
+by the commands there, prints what it says there. The tests of bindings/python pass under each Python that is installed.
 
 PGBOARD_ARCHIVE names another static library to test, which is not made here.
 """
