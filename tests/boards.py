@@ -279,6 +279,13 @@ def of_degree_two(chance, size):
     return {v: (v, chance.randrange(2), set(chance.sample(range(size), 2))) for v in range(size)}
 
 
+def layers(chance, size):
+    """Edges mostly lead down or stay near, so that many small parts are won one after another."""
+    width, priorities = chance.choice([3, 5, 8]), chance.choice([3, size])
+    near = lambda v: chance.randint(max(0, v - chance.choice([1, width, 3 * width])), min(size - 1, v + chance.choice([0, 1, width])))
+    return {v: (chance.randrange(priorities), chance.randrange(2), {near(v) for _ in range(chance.choice([1, 2, 3]))}) for v in range(size)}
+
+
 def ring(chance, size):
     return {v: (v, chance.randrange(2), {(v + 1) % size, (v + 2 + chance.randrange(63)) % size}) for v in range(size)}
 
@@ -323,7 +330,8 @@ class Promote(Boards):
             for seed in range(150 if name == "g++ -O2" else 40):
                 with self.subTest(name, seed=seed):
                     chance = random.Random(seed)
-                    game = random_games.random_game(chance, chance.choice([8, 8, 20, 60, 200]))
+                    size = chance.choice([8, 8, 20, 60, 200])
+                    game = chance.choice([random_games.random_game, layers])(chance, size)
                     out, workers = self.ran(program, game)
                     self.solves(game, out)
                     refused.update(re.sub(r"\d+", "N", it) for it in workers[4][1])

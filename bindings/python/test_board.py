@@ -468,7 +468,8 @@ class Boards(unittest.TestCase):
             "signal.setitimer(signal.ITIMER_REAL, 0)\n"
             "print(board.settled)\n"
         )
-        ran = subprocess.run([sys.executable, "-B", "-c", program], capture_output=True, text=True, timeout=30, check=False)
+        here = pathlib.Path(pgboard.__file__).parent.parent
+        ran = subprocess.run([sys.executable, "-B", "-c", program], cwd=here, capture_output=True, text=True, timeout=30, check=False)
         self.assertEqual((ran.returncode, ran.stdout), (0, "400\n"), ran.stderr)
 
 

@@ -341,7 +341,8 @@ class Promotion {
         return made;
     }
 
-    // Leaves out what was settled since the last time. The highest region that touches it is forgotten, and all below.
+    // Leaves out what was settled since the last time. A vertex that leads to it may now belong to the region of another successor, so
+    // the highest of these regions is forgotten, and all below.
     void take_over_entries()
     {
         uint32_t top = current;
@@ -357,10 +358,8 @@ class Promotion {
         }
         for (uint32_t v : gone)
             for (uint32_t before : game.predecessors[v])
-                if (region[before] != OUTSIDE) {
-                    touch(before);
+                if (region[before] != OUTSIDE)
                     std::for_each(game.successors[before].begin(), game.successors[before].end(), touch);
-                }
         forget(current, top + 1);
         current = top;
     }
