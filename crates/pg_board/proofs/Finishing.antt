@@ -1,11 +1,10 @@
 -- What a board adds of its own accord, as worker 0: for each player at most one entry, and together they settle all that was left.
-use Rattle.pg_board.proofs.Common.{rules, ◌≡◌, ℕ, List, Bool, true, false, ◌<◌, ◌≤◌, ◌⊎◌, [], ◌∷◌, ◌++◌, inl, inr, length, refl, sym, ◌∙◌, ap, subst, arith, fun_ext}
-use Rattle.pg_board.proofs.Common.{length-append, append-nil, append_assoc, map-append, take-append-le, or_cases, or_right, target_attracted, VertexSet, In, members}
-use Rattle.pg_board.proofs.Common.{Player, Even, Odd, Graph, IsGame, ClaimRows, Claim, named, IsGoodIn, Entry, Posted, Play, State, settled, unsettled, rest_of}
-use Rattle.pg_board.proofs.Common.{is_unsettled, IsGoodOn, Journal, state_of, IsDominionAfter, IsLawful, IsFull, Adds, table_state, IsBoard}
+use Rattle.pg_board.proofs.Common.{rules, ◌≡◌, ℕ, List, Bool, true, false, ◌<◌, ◌≤◌, ◌⊎◌, [], ◌∷◌, ◌++◌, inl, inr, length, refl, sym, ◌∙◌, ap, subst, arith}
+use Rattle.pg_board.proofs.Common.{fun_ext, length-append, append-nil, append_assoc, map-append, take-append-le, or_cases, or_right, target_attracted}
+use Rattle.pg_board.proofs.Common.{VertexSet, In, Player, Even, Odd, Graph, IsGame, ClaimRows, Claim, named, IsGoodIn, Entry, Posted, Play, State, settled, unsettled, rest_of}
+use Rattle.pg_board.proofs.Common.{is_unsettled, IsGoodOn, Journal, state_of, IsDominionAfter, IsLawful, IsFull, Adds, table_state}
 use Rattle.std.proofs.Common.{map, Ok}
 use Rattle.std.specs.Prelude.{filter}
-use Rattle.std.proofs.lemmas.Grind.{common_steps}
 use Rattle.pg_text.proofs.FirstFaults.{all-append}
 use Rattle.pg_finders.specs.Claims.{AreClaims}
 use Rattle.pg_board.specs.Finish.{AreOfCaller, IsLater}

@@ -10,6 +10,9 @@ use Rattle.pg_board.proofs.RestIsGood.{vertices, in_rest, kept_rest, kept_of_res
 use Rattle.pg_board.proofs.Numbers.{in_vertices}
 use Rattle.pg_board.specs.declared.journal.Refusal.TheVariants as refusal
 
+abbrev pub play : Graph → Journal → Play
+play g j = record { graph = g; journal = j }
+
 -- the vertices of the rest and the player's
 abbrev pub Bounds : State → Player → ClaimRows → VertexSet
 Bounds st p rows = union (named (rest_of st rows)) (settled st p)

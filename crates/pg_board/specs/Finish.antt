@@ -1,13 +1,10 @@
 -- What the calling thread adds to a board, as worker 0.
-use Rattle.std.specs.Prelude.{◌≡◌, ◌≤◌, ◌++◌, ℕ, Bool, List, length, map, filter}
+use Rattle.std.specs.Prelude.{◌≡◌, ◌≤◌, ◌++◌, Bool, List, length, map, filter}
 use Rattle.std.specs.List.{AllByRecursion}
 use Rattle.pg_game.specs.declared.player.Player.{Player}
-use Rattle.pg_game.specs.VertexSet.{In}
-use Rattle.pg_dominion.specs.Claim.{ClaimRows, named}
 use Rattle.pg_board.specs.declared.journal.Entry.{Entry}
 use Rattle.pg_board.specs.Play.{Play}
-use Rattle.pg_board.specs.State.{settled}
-use Rattle.pg_board.specs.Journal.{Journal, state_of}
+use Rattle.pg_board.specs.Journal.{Journal}
 
 -- entries of worker 0, at most one for each of the players, in their order
 pub record AreOfCaller (players : List Player) (entries : Journal) : Type 0 where

@@ -42,7 +42,7 @@ impl Model for Session {
 }
 
 impl Session {
-    /// Nothing is settled. The only error is `Memory`.
+    /// A session of this game, in which nothing is settled. The only error is `Memory`, with which the game is gone.
     pub fn open(alloc: Global, game: Game) -> Result<Session, Memory>
         ensures graph { IfOk result (λ s. s.graph ≡ game) }
         ensures journal { IfOk result (λ s. s.journal ≡ []) }
@@ -54,7 +54,8 @@ impl Session {
         })
     }
 
-    /// The same as `Board::post`.
+    /// Checks the claim on the present state, as `Board::post` does. If it is good, the journal gains one entry. Else the error
+    /// is the first reason that applies, in the order of `Refusal`, or `Memory`. After an error nothing has changed.
     pub fn post(&mut self, alloc: Global, worker: u32, claim: &Claim) -> Result<Posted, Refusal>
         ensures lawful { IsLawful self.new.graph self.new.journal }
         ensures game { self.new.graph ≡ self.old.graph }
@@ -71,7 +72,8 @@ impl Session {
         answer
     }
 
-    /// The same as `Board::finish`.
+    /// Settles all that is unsettled by the recursion, as `Board::finish` does: Even's part and then Odd's, as worker 0. The only
+    /// error is `Memory`, after which nothing has changed.
     pub fn finish(&mut self, alloc: Global) -> Result<(), Memory>
         ensures lawful { IsLawful self.new.graph self.new.journal }
         ensures full { OnOk result (IsFull self.new.graph (state_of self.new.journal)) }
@@ -120,7 +122,8 @@ impl Session {
         self.contents().entries.as_slice()
     }
 
-    /// The same as `Board::solution`.
+    /// Winners and choices of all vertices, exactly where all are settled. A vertex has a choice exactly where its winner owns
+    /// it. The only error is `Memory`.
     pub fn solution(&self, alloc: Global) -> Result<Option<Solution>, Memory>
         ensures full { IfOk result (λ found. IsSome found ↔ IsFull self.now.graph (state_of self.now.journal)) }
         ensures solution { IfOk result (λ found. IfSome found (λ s. IsExactSolution self.now.graph s.rows)) }

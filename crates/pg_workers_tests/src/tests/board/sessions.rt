@@ -1,6 +1,8 @@
 //! Sessions against the reference: claims one after another, each answer and the session after it, and what `finish` adds to
 //! what they left.
 
+ghost use Rattle.std.specs.Prelude.{◌<◌};
+
 use crate::tests::asserting::made;
 use crate::tests::board::games::plain_game;
 use crate::tests::board::random::{random_claim, random_game};
@@ -106,8 +108,10 @@ fn compare_post(
     found
 }
 
-/// Which answer it is, below 6.
-fn kind_of(answer: Result<Posted, Refusal>) -> usize {
+/// Which answer it is.
+fn kind_of(answer: Result<Posted, Refusal>) -> usize
+    ensures { result < 6 }
+{
     match answer {
         Ok(_) => 0,
         Err(Refusal::Claim(ClaimFault::Shape(_))) => 1,

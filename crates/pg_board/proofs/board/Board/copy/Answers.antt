@@ -11,20 +11,18 @@ same_set g st table old new e mask state = fun_ext (λ v. sym (ap (λ m. members
 
 pub of_subgame-requires-clause-subgame : goal.of_subgame-requires-clause-subgame
 of_subgame-requires-clause-subgame c =
-    let b = c.self.inside in
-    let i = c.self.invariant in
-    subst (λ (U : VertexSet). IsSubgame b.game.now U)
-    (same_set b.game.now (state_of b.contents.entries.items) b.contents.regions.table.items b.contents.regions.unsettled c.in_ok-mask.mask c.in_ok-mask.ensures i.regions.mask i.state)
-    (lawful_now b.game.now b.contents.entries.items i.lawful).open_part
+    let b = c.self.inside.contents in let g = c.self.inside.game.now in let i = c.self.invariant in
+    subst (λ (U : VertexSet). IsSubgame g U)
+    (same_set g (state_of b.entries.items) b.regions.table.items b.regions.unsettled c.in_ok-mask.mask c.in_ok-mask.ensures i.regions.mask i.state)
+    (lawful_now g b.entries.items i.lawful).open_part
 
 pub returns-clause-dominions : goal.returns-clause-dominions
 returns-clause-dominions c =
-    let b = c.self.inside in
-    let i = c.self.invariant in
-    let same = same_set b.game.now (state_of b.contents.entries.items) b.contents.regions.table.items b.contents.regions.unsettled c.of_subgame.result.mask
+    let b = c.self.inside.contents in let g = c.self.inside.game.now in let i = c.self.invariant in
+    let same = same_set g (state_of b.entries.items) b.regions.table.items b.regions.unsettled c.of_subgame.result.mask
     (c.of_subgame.ensures.mask ∙ c.in_ok-mask.ensures) i.regions.mask i.state in
-    let at : c.len.result ≡ length b.contents.entries.items = omega (arith, c.len.ensures, b.contents.entries.ok.0) in
+    let at : c.len.result ≡ length b.entries.items = omega (arith, c.len.ensures, b.entries.ok.0) in
     subst (λ (x : Play). (p : Player) (rows : ClaimRows) → IsGoodIn x.graph (members c.of_subgame.result.mask) p rows
     → IsDominionAfter x.graph x.journal c.len.result p rows) c.self.view_is
-    (λ p rows good. subst (λ (n : ℕ). IsDominionAfter b.game.now b.contents.entries.items n p rows) (sym at)
-    (dominion_now b.game.now c.len-n.ensures.game b.contents.entries.items i.lawful p rows (subst (λ (U : VertexSet). IsGoodIn b.game.now U p rows) (sym same) good)))
+    (λ p rows good. subst (λ (n : ℕ). IsDominionAfter g b.entries.items n p rows) (sym at)
+    (dominion_now g c.len-n.ensures.game b.entries.items i.lawful p rows (subst (λ (U : VertexSet). IsGoodIn g U p rows) (sym same) good)))

@@ -1,12 +1,10 @@
-use Rattle.pg_board.proofs.Common.{◌≡◌, ◌∙◌, ◌∷◌, [], sym, ap, subst, Even, Odd, Graph, Journal, Play, IsLawful, state_of, unsettled}
+use Rattle.pg_board.proofs.Common.{◌≡◌, ◌∙◌, ◌∷◌, [], sym, ap, subst, Even, Odd, Journal, Play, IsLawful, state_of, unsettled}
 use Rattle.pg_finders.specs.Claims.{AreClaims}
 use Rattle.pg_board.specs.Finish.{IsLater}
 use Rattle.pg_board.proofs.Finishing.{even_due, odd_due, all_settled, both_later}
+use Rattle.pg_board.proofs.Posting.{play}
 use Rattle.pg_board.proofs.board.Board.settle_solved.Goals.{After-reserve}
 use Rattle.pg_board.proofs.board.Board.settle_solved.Goals as goal
-
-abbrev play : Graph → Journal → Play
-play g j = record { graph = g; journal = j }
 
 -- the board after the call of `reserve` is the same
 same : (c : After-reserve) → play c.self.inside.game.now c.reserve.new.self.items ≡ c.args.self.now
@@ -17,7 +15,9 @@ lawful c = subst (λ (j : Journal). IsLawful c.self.inside.game.now j) (sym c.re
 
 shared : (c : After-reserve)
     → AreClaims c.self.inside.game.now (unsettled c.self.inside.game.now (state_of c.reserve.new.self.items)) c.args.solved.now.even c.args.solved.now.odd
-shared c = subst (λ (x : Play). AreClaims x.graph (unsettled x.graph (state_of x.journal)) c.args.solved.now.even c.args.solved.now.odd) (sym (same c)) c.requires
+shared c =
+    subst (λ (x : Play). AreClaims x.graph (unsettled x.graph (state_of x.journal)) c.args.solved.now.even c.args.solved.now.odd)
+    (sym (same c)) c.requires
 
 pub settle_dominion-requires-clause-dominion : goal.settle_dominion-requires-clause-dominion
 settle_dominion-requires-clause-dominion c =

@@ -1,12 +1,10 @@
-use Rattle.pg_board.proofs.Common.{◌≡◌, ◌<◌, length, refl, sym, ◌∙◌, ap, subst, arith, Graph, Claim, ClaimRows, Journal, Play, rest_of, IsGoodOn, state_of, Refuses, Adds}
+use Rattle.pg_board.proofs.Common.{◌≡◌, ◌<◌, length, refl, sym, ◌∙◌, ap, subst, arith, Claim, ClaimRows, Journal, Play, rest_of}
+use Rattle.pg_board.proofs.Common.{IsGoodOn, state_of, Refuses, Adds}
 use Rattle.pg_board.proofs.RestIsGood.{rest_is_good, rest_twice}
-use Rattle.pg_board.proofs.Posting.{IsChecked, rest_now, rest_right_here, rest_open, refused_open, claim_good, nonempty, sound_here, adds_claim, few_rows}
+use Rattle.pg_board.proofs.Posting.{IsChecked, play, rest_now, rest_right_here, rest_open, refused_open, claim_good, nonempty, sound_here, adds_claim, few_rows}
 use Rattle.pg_board.specs.declared.journal.Refusal.TheVariants as refusal
 use Rattle.pg_board.proofs.board.Board.settle_sound.Goals.{After-as_slice}
 use Rattle.pg_board.proofs.board.Board.settle_sound.Goals as goal
-
-abbrev play : Graph → Journal → Play
-play g j = record { graph = g; journal = j }
 
 -- the claim and its rest
 checked : (c : After-as_slice)

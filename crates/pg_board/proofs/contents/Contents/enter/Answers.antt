@@ -1,5 +1,5 @@
-use Rattle.pg_board.proofs.Common.{◌≡◌, ◌+◌, [], ◌∷◌, ◌++◌, length, refl, sym, ap, subst, arith, rules, IsDistinct, ClaimRows, Entry, Posted, Play, IsGoodOn}
-use Rattle.pg_board.proofs.Common.{rest_of, Journal, state_of, IsBoard, Adds, ◌∙◌}
+use Rattle.pg_board.proofs.Common.{◌≡◌, ◌+◌, [], ◌∷◌, ◌++◌, length, refl, sym, ap, subst, arith, rules, IsDistinct, ClaimRows, Entry}
+use Rattle.pg_board.proofs.Common.{Journal, IsBoard, ◌∙◌}
 use Rattle.std.specs.Prelude.{nat_eq}
 use Rattle.pg_board.proofs.RestIsGood.{vertices}
 use Rattle.pg_board.proofs.Entering.{IsEntering, HasGrown, HasRows, open_subgame, rest_distinct, rest_within, entry_answers, grown_fits, board_entered}
