@@ -20,12 +20,12 @@ static void expect(int holds, const char *what)
     if (!holds) printf("failed: %s\n", what);
 }
 
-/* The targets of each vertex: itself, or its neighbours on a path. */
+/* The targets of each vertex: itself, or its neighbours on a path that Even owns. */
 static void make(int is_path)
 {
     uint32_t v, edges = 0;
     for (v = 0; v < N; v++) {
-        owners[v] = (uint8_t)(v / 3 % 2);
+        owners[v] = (uint8_t)(is_path ? 0 : v / 3 % 2);
         priorities[v] = v;
         if (!is_path) {
             targets[edges++] = v;
@@ -66,7 +66,7 @@ static void solve(const char *name, int is_path)
 int main(void)
 {
     solve("a loop at each vertex", 0);
-    solve("a path both ways", 1);
+    solve("a path of one player", 1);
     printf("%d passed, %d failed\n", passed, failed);
     return failed != 0;
 }

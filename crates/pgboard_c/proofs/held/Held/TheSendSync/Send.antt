@@ -13,7 +13,7 @@ use Rattle.std.specs.declared.alloc.Global.{Global}
 use Rattle.std_alloc.proofs.SendSync.{quiet, lies}
 use Rattle.pg_board.specs.contracts.session.Session as session
 use Rattle.pg_board.proofs.session.Session.TheSendSync.{the_send}
-use Rattle.pgboard_c.specs.Held.{held}
+use Rattle.pgboard_c.specs.private.Held.{held}
 use Rattle.pgboard_c.specs.contracts.held.Held.{the_row, the_type}
 
 held_goes : (a : Global) (p : Ptr) (o : Option session.the_row.Denot) → Keyless (held a p o)
