@@ -182,7 +182,7 @@ class Gate(unittest.TestCase):
         self.assertEqual((status, err), (0, ""), out)
         lines = out.splitlines()
         what = f"`rt ci` of 0 crates with proofs and {len(self.scripts)} scripts"
-        self.assertRegex(lines[0], rf"^test: {what}; about .* minutes .*; logs in .*/out/test$")
+        self.assertRegex(lines[0], rf"^test: {what}; about .* (minutes|hours) on .*; logs in .*/out/test$")
         shown = [re.sub(r"^ +\d+:\d\d  ", "", it) for it in lines[1:]]
         crates = ["pg_low proved", "pg_low: its tests are proved", "pg_high proved", "pg_high: trying its must-fail edits (7)"]
         scripts = [f"{it}: 1 passed, 0 failed" for it in self.scripts]
