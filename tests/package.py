@@ -10,6 +10,7 @@ again. A tree with changes is refused, one whose crates are not the commit's, an
 import base64
 import csv
 import hashlib
+import itertools
 import os
 import pathlib
 import re
@@ -207,15 +208,15 @@ class Packaged(unittest.TestCase):
         status, out, err = common.run([self.program, "--version"])
         self.assertEqual((status, err), (0, b""))
         kit = re.escape(common.kit())
-        self.assertRegex(out.decode(), rf"^pgboard [0-9.]+\nkit: {kit}\nbuild: proved, commit {self.commit}\n$")
+        self.assertRegex(out.decode(), rf"^pgboard [0-9.]+\nkit: {kit}\nbuild: proved, commit {self.commit} *\n$")
 
     def test_a_c_program_is_built_by_pkg_config_alone(self):
-        program, printed, _ = pages.c_program(common.text_of(pages.C_PAGE))
-        (self.folder / "embed.c").write_text(program, encoding="utf-8")
         lib = self.unpacked / "lib"
         env = {"PATH": "/usr/bin:/bin", "PKG_CONFIG_PATH": str(lib / "pkgconfig"), "LD_LIBRARY_PATH": str(lib)}
-        for name, flags in (("shared", ""), ("static", "-static")):
-            with self.subTest(name):
+        programs, _ = pages.c_programs(common.text_of(pages.C_PAGE))
+        for (program, printed), (name, flags) in itertools.product(programs, (("shared", ""), ("static", "-static"))):
+            with self.subTest(name, program=program):
+                (self.folder / "embed.c").write_text(program, encoding="utf-8")
                 command = f"cc -Wall -Werror embed.c $(pkg-config --cflags --libs pgboard) {flags} -o {name}"
                 done("sh", "-ec", command, cwd=self.folder, env=env)
                 self.assertEqual(common.run([self.folder / name], env=env), (0, printed.encode(), b""))
@@ -336,7 +337,7 @@ class Packaged(unittest.TestCase):
 
     @common.needs("cmake")
     def test_a_c_program_is_built_by_cmake_alone(self):
-        program, printed, _ = pages.c_program(common.text_of(pages.C_PAGE))
+        program, printed = pages.c_programs(common.text_of(pages.C_PAGE))[0][0]
         for prefix, lib in ((self.unpacked, self.unpacked / "lib"), (self.root / "usr", self.root / LIBRARIES)):
             folder = self.folder / f"cmake{prefix.name}"
             folder.mkdir()
