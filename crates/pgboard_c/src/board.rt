@@ -152,10 +152,7 @@ fn open(alloc: Global, board: &mut Handle, arrays: &Arrays) -> Result<(), Fault>
     let session = Session::open(alloc, game)?;
     // for the proof: the contract of this call states what each session is
     let _game = session.game();
-    let Ok(session) = Box::new(alloc, session) else {
-        return Err(Fault::Memory);
-    };
-    *board = Handle::holding(session);
+    *board = Handle::holding(Box::new(alloc, session)?);
     Ok(())
 }
 

@@ -7,7 +7,7 @@ ghost use Rattle.pgboard_c.specs.Numbers.{game_answer, verdict_answer, known_ans
 use pg_dominion::SolutionFault;
 use pg_game::GameFault;
 use pg_text::{SolutionTextFault, TextFault};
-use std::alloc::AllocError;
+use std::alloc::{AllocError, AllocFailed};
 
 /// An array with a length that does not fit the others.
 #[derive(Clone, Copy, Drop)]
@@ -164,6 +164,17 @@ impl From<AllocError> for Fault {
     ghost from_gives = { λ _ fault. fault ≡ Memory };
 
     fn from(_fault: AllocError) -> Fault {
+        Fault::Memory
+    }
+}
+
+impl<T: Drop> From<AllocFailed<T>> for Fault {
+    ghost use Rattle.std.specs.Prelude.{◌≡◌};
+    ghost use Rattle.pgboard_c.specs.declared.fault.Fault.TheVariants.{Memory};
+
+    ghost from_gives = { λ _ fault. fault ≡ Memory };
+
+    fn from(_fault: AllocFailed<T>) -> Fault {
         Fault::Memory
     }
 }

@@ -1,6 +1,7 @@
 //! The export that posts a claim on a board that a C program holds, and the reading of the claim from its arrays.
 
-ghost use Rattle.std.specs.Prelude.{◌≡◌, ◌≢◌, IfOk, IfErr, OnOk, OnErr, Some};
+ghost use Rattle.std.specs.Prelude.{◌≡◌, ◌≢◌, ℕ, IfOk, IfErr, OnOk, OnErr, Some};
+ghost use Rattle.pg_board.specs.declared.journal.Refusal.{Refusal};
 ghost use Rattle.pg_board.specs.Play.{Play};
 ghost use Rattle.pgboard_c.specs.declared.fault.Fault.{Fault};
 ghost use Rattle.pgboard_c.specs.Numbers.{IsReported, IsBlank};
@@ -97,6 +98,7 @@ fn post_on(
 
 /// Why a board refuses a claim, as a fault. Only a checked claim can be of another game.
 fn fault_of(refusal: Refusal) -> Fault
+    requires { (v : ℕ) → refusal ≡ Refusal.Foreign v → ⊥ }
     ensures { result ≡ refusal_fault refusal }
 {
     match refusal {
@@ -105,7 +107,8 @@ fn fault_of(refusal: Refusal) -> Fault
         Refusal::Lost(v) => Fault::Post(PostFault::Lost(v)),
         Refusal::Stale => Fault::Post(PostFault::Stale),
         Refusal::Open(v, w) => Fault::Post(PostFault::Open(v, w)),
-        Refusal::Claim(ClaimFault::Memory) | Refusal::Foreign(_) | Refusal::Memory => Fault::Memory,
+        Refusal::Claim(ClaimFault::Memory) | Refusal::Memory => Fault::Memory,
+        Refusal::Foreign(_) => unreachable!(),
     }
 }
 
