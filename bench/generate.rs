@@ -243,6 +243,7 @@ fn sized(kind: &str, n: u32) -> Option<Game> {
         "ladder" => ladder(n, n / 4),
         "own_loops" => own_loops(n),
         "nested" => nested(n),
+        "chords" => chords(n),
         _ => return None,
     })
 }
@@ -257,6 +258,29 @@ fn chords(n: u32) -> Game {
             Vertex(v, random.below(2) == 1, row)
         })
         .collect()
+}
+
+/// A game on which the recursion takes a time exponential in the levels (Friedmann 2011).
+fn recursive_ladder(levels: u32) -> Game {
+    let (a, b, c, d, e) = (0, levels, 2 * levels, 3 * levels, 4 * levels);
+    let mut game = Game::new();
+    for i in 1..=levels {
+        game.push(Vertex(1 - i % 2, i % 2 == 0, vec![b + i - 1, d + i - 1]));
+    }
+    for i in 1..=levels {
+        game.push(Vertex(1 - i % 2, i % 2 == 1, if i < levels { vec![a + i - 1, c + i] } else { vec![a + i - 1] }));
+    }
+    for i in 0..levels {
+        game.push(Vertex(3 * i + 5, i % 2 == 0, vec![b + i, d + i]));
+    }
+    for i in 0..levels {
+        let near = [(i > 0).then(|| d + i - 1), (i + 1 < levels).then_some(d + i + 1), Some(e + i)];
+        game.push(Vertex(3 * i + 4, i % 2 == 1, near.into_iter().flatten().collect()));
+    }
+    for i in 0..levels {
+        game.push(Vertex(3 * i + 3, i % 2 == 0, if i > 0 { vec![b + i - 1, d + i] } else { vec![d] }));
+    }
+    game
 }
 
 /// Whether one random Buchi automaton simulates another fairly (Etessami, Wilke and Schuller 2005), as a game of k^2 pairs
@@ -429,6 +453,8 @@ fn game_of(name: &str) -> Option<Game> {
         "one_own_loop_too_many" => own_loops(MOST_VERTICES + 1),
         "small_dominions" => small_dominions(n),
         "chords" => chords(n),
+        "degree_two" => sparse(30_000, 2, 30_000, 26),
+        "recursive_ladder" => recursive_ladder(40),
         "simulation" => simulation(180),
         _ => return None,
     })

@@ -1,4 +1,5 @@
-/* What a post costs: posts ROWS. A board of 1,048,576 vertices in rings of so many, 1,000 at most; each post claims one for Even. */
+/* What a post costs: posts ROWS [bad]. A board of 1,048,576 vertices in rings of so many, 1,000 at most; each post claims one for Even.
+ * With a second word the first vertex of each ring has an odd priority, below the others, so that closed walks are looked at. */
 #include "pgboard.h"
 #include <stdio.h>
 #include <stdlib.h>
@@ -24,7 +25,7 @@ static int order(const void *a, const void *b)
 
 int main(int argc, char **argv)
 {
-    uint32_t ring = argc == 2 ? (uint32_t)atoi(argv[1]) : 0, posts = ring > 100 ? 500 : 5000, v, k, i;
+    uint32_t ring = argc > 1 ? (uint32_t)atoi(argv[1]) : 0, posts = ring > 100 ? 500 : 5000, v, k, i;
     double *times = malloc(posts * sizeof *times), begun;
     struct pgboard_board board = {0};
     struct pgboard_game game = {sizeof game, owners, N, priorities, N, starts, N + 1, targets, N};
@@ -32,13 +33,13 @@ int main(int argc, char **argv)
     struct pgboard_posted posted;
     struct pgboard_report report;
 
-    if (!times || ring < 1 || ring > 1000) {
-        fprintf(stderr, "posts ROWS: 1 to 1000 rows of a claim\n");
+    if (!times || ring < (argc > 2 ? 2 : 1) || ring > 1000) {
+        fprintf(stderr, "posts ROWS [bad]: 1 to 1000 rows of a claim, 2 to 1000 with a bad one\n");
         return 2;
     }
     for (v = 0; v < N; v++) {
         uint32_t first = v / ring * ring, last = first + ring < N ? first + ring : N;
-        priorities[v] = 2 * (v % 100000);
+        priorities[v] = argc > 2 && v == first ? 1 : 2 * (v % 100000) + 2;
         owners[v] = 0;
         starts[v + 1] = v + 1;
         targets[v] = v + 1 < last ? v + 1 : first;

@@ -128,6 +128,9 @@ uint32_t pgboard_version(void);
 #define PGBOARD_POST_OPEN 86u    /* an edge of the opponent, or a choice, leads from an unsettled vertex of the claim to one that
                                   * is neither in the claim nor settled for the player (from, to) */
 
+/* a bound on the recursion */
+#define PGBOARD_GAVE_UP 90u /* it needs more steps than the call allows */
+
 /* The array or struct of an answer. */
 #define PGBOARD_ARRAY_PRIORITIES 1u
 #define PGBOARD_ARRAY_STARTS 2u
@@ -182,6 +185,13 @@ struct pgboard_results {
 /* Solves a game. */
 PGBOARD_CALL
 uint32_t pgboard_solve(const struct pgboard_game *game, struct pgboard_results *results, struct pgboard_report *report);
+
+/* The same as pgboard_solve, with a bound on the recursion, which takes exponential time on some games: the answer is
+ * PGBOARD_GAVE_UP if it needs more steps. A step begins a subgame. A game needs the same number in each call. The searches before
+ * the recursion have bounds of their own. */
+PGBOARD_CALL
+uint32_t pgboard_solve_within(const struct pgboard_game *game, uint64_t steps, struct pgboard_results *results,
+                              struct pgboard_report *report);
 
 /* The same as pgboard_solve, from what is known; PGBOARD_NO_WINNER is an unknown winner. What is known may come from any
  * source. Each player's known vertices have to be a set that he wins by his choices there, without leaving it. */
@@ -291,6 +301,10 @@ uint32_t pgboard_board_entry(struct pgboard_board *board, uint64_t number, struc
 /* Settles all vertices that are left, as worker 0. The faults are PGBOARD_BOARD_CLOSED and PGBOARD_MEMORY. */
 PGBOARD_CALL
 uint32_t pgboard_board_finish(struct pgboard_board *board, struct pgboard_report *report);
+
+/* The same with a bound, as of pgboard_solve_within: PGBOARD_GAVE_UP is a fault too. A full board needs no step. */
+PGBOARD_CALL
+uint32_t pgboard_board_finish_within(struct pgboard_board *board, uint64_t steps, struct pgboard_report *report);
 
 /* Writes the solution of a full board, as pgboard_solve does. Of another the fault is PGBOARD_BOARD_UNSETTLED. */
 PGBOARD_CALL

@@ -103,6 +103,17 @@ inline solution solve(const game &game)
     return found;
 }
 
+// Solves a game, or gives up with the fault PGBOARD_GAVE_UP if the recursion needs more steps than these.
+inline solution solve_within(const game &game, std::uint64_t steps)
+{
+    solution found{std::vector<std::uint8_t>(game.owners.size()), std::vector<std::uint32_t>(game.owners.size())};
+    const pgboard_game arrays = detail::arrays(game);
+    pgboard_results results = detail::arrays<pgboard_results>(found);
+    pgboard_report report;
+    detail::judge(pgboard_solve_within(&arrays, steps, &results, &report), report);
+    return found;
+}
+
 // Solves a game from what is known, where PGBOARD_NO_WINNER is an unknown winner.
 inline solution solve(const game &game, const solution &known)
 {
@@ -193,12 +204,23 @@ class board {
     // The entry with this number, from 0.
     pgboard::entry entry(std::uint64_t number)
     {
-        pgboard::entry found{0, 0, 0, std::vector<std::uint32_t>(size), std::vector<std::uint32_t>(size)};
+        pgboard::entry found{0, 0, 0, std::vector<std::uint32_t>(16), std::vector<std::uint32_t>(16)};
         pgboard_entry it;
         pgboard_report report;
-        detail::judge(pgboard_board_entry(&held, number, &it, detail::address(found.vertices), size, detail::address(found.choices), size, &report), report);
+        const auto resize = [&found](std::uint64_t rows) {
+            found.vertices.resize(static_cast<std::size_t>(rows)), found.choices.resize(static_cast<std::size_t>(rows));
+        };
+        const auto read = [&] {
+            return pgboard_board_entry(&held, number, &it, found.vertices.data(), found.vertices.size(), found.choices.data(), found.choices.size(), &report);
+        };
+        std::uint32_t answer = read();
+        if (answer == PGBOARD_CAPACITY) {
+            resize(report.at); // the number of rows
+            answer = read();
+        }
+        detail::judge(answer, report);
         found.worker = it.worker, found.player = it.player, found.claimed = static_cast<std::size_t>(it.claimed);
-        found.vertices.resize(static_cast<std::size_t>(it.rows)), found.choices.resize(static_cast<std::size_t>(it.rows));
+        resize(it.rows);
         return found;
     }
 
@@ -207,6 +229,13 @@ class board {
     {
         pgboard_report report;
         detail::judge(pgboard_board_finish(&held, &report), report);
+    }
+
+    // The same, or gives up with the fault PGBOARD_GAVE_UP if the recursion needs more steps than these.
+    void finish_within(std::uint64_t steps)
+    {
+        pgboard_report report;
+        detail::judge(pgboard_board_finish_within(&held, steps, &report), report);
     }
 
     // The solution of a full board.

@@ -1,14 +1,19 @@
 #!/usr/bin/env python3
-"""Tests of examples/board over the static library: tests/boards.py [PROGRAM] [-k WORD]
+"""Tests of examples/board and bench/library over the static library: tests/boards.py [PROGRAM] [-k WORD]
 
 What referee.py says of stand-in solvers is what the plain board (plain_board.py) says of the same claims, posted in the same order, and
 what it prints is a solution by the definitions. The solvers print right, wrong, partial and damaged solutions, or nonsense, crash, or
 never end; bench's comparator is one. promote.cpp, built by two compilers and with sanitizers, prints solutions of random games and
 of games that take the recursion long; each worker's numbers add up, and nothing but the recursion of a claim that holds gets in.
 
+bench/library.cpp prints solutions of random games in each of its modes. bench/library names a wrong solution, its cells are worked out
+again from figures that are given, and the commands of docs/BENCHMARKS.md print its tables.
+
 PGBOARD_ARCHIVE names another static library, as in embed.py.
 """
 
+import importlib.machinery
+import importlib.util
 import os
 import pathlib
 import random
@@ -261,20 +266,6 @@ class Referee(Boards):
         self.assertLessEqual(len(common.text_of("examples", "board", "referee.py").splitlines()), 400)
 
 
-def ladder(levels):
-    """A game on which the recursion takes time exponential in the levels (Friedmann 2011)."""
-    rows = {}
-    for i in range(1, levels + 1):
-        rows["a", i] = 1 - i % 2, 1 - i % 2, [("b", i), ("d", i - 1)]
-        rows["b", i] = 1 - i % 2, i % 2, [("a", i), ("c", i)][: 1 + (i < levels)]
-    for i in range(levels):
-        rows["c", i] = 3 * i + 5, 1 - i % 2, [("b", i + 1), ("d", i)]
-        rows["d", i] = 3 * i + 4, i % 2, [("e", i), *(("d", j) for j in (i - 1, i + 1) if 0 <= j < levels)]
-        rows["e", i] = 3 * i + 3, 1 - i % 2, [("d", i), ("b", i)][: 1 + (i > 0)]
-    number = {name: v for v, name in enumerate(rows)}
-    return {number[name]: (priority, owner, {number[to] for to in row}) for name, (priority, owner, row) in rows.items()}
-
-
 def of_degree_two(chance, size):
     return {v: (v, chance.randrange(2), set(chance.sample(range(size), 2))) for v in range(size)}
 
@@ -340,7 +331,7 @@ class Promote(Boards):
 
     def test_games_that_take_the_recursion_long(self):
         program = self.programs["g++ -O2"]
-        self.solves(ladder(40), self.ran(program, ladder(40))[0])
+        self.solves(plain.ladder(40), self.ran(program, plain.ladder(40))[0])
         for seed, game in enumerate((of_degree_two(random.Random(1), 30_000), ring(random.Random(2), 50_000))):
             out, _ = self.ran(program, game)
             path = self.file("game.sol", out)
@@ -361,6 +352,78 @@ class Promote(Boards):
         self.assertEqual(embed.run([program, "/nowhere"]), (2, "", "promote: /nowhere cannot be read\n"))
         said = embed.TEXTS["PGBOARD_GAME_LEXICAL"]
         self.assertEqual(embed.run([program, self.file("bad.pg", "0 0 0 ?;")]), (2, "", f"promote: {said} (6)\n"))
+
+
+@common.needs("rustc", "c++")
+class Library(Boards):
+    SCRIPT = common.ROOT / "bench" / "library"
+
+    @classmethod
+    def setUpClass(cls):
+        super().setUpClass()
+        loader = importlib.machinery.SourceFileLoader("bench_library", str(cls.SCRIPT))
+        cls.bench = importlib.util.module_from_spec(importlib.util.spec_from_loader("bench_library", loader))
+        loader.exec_module(cls.bench)
+
+    def table(self, *words, program=common.PROGRAM):
+        given = ["--runs", "1", "--only", "own_loops", "--program", program, "--archive", embed.ARCHIVES[0]]
+        status, out, err = common.run([sys.executable, "-B", self.SCRIPT, *words, *given], timeout=1800)
+        self.assertNotIn(b"Traceback", err, err.decode())
+        return status, out.decode().splitlines()
+
+    def test_the_commands_of_the_page_print_its_tables(self):
+        page = common.text_of("docs/BENCHMARKS.md")
+        commands = re.findall(r"(?m)^bench/library (.+)$", page)
+        heads = re.findall(r"(?m)^(\| game \|.*)$", page)
+        self.assertEqual(([it.split()[0] for it in commands], len(heads)), (list(self.bench.HEADS), len(self.bench.HEADS)))
+        for words, head in zip(commands, heads):
+            with self.subTest(words):
+                status, shown = self.table(*words.split())
+                self.assertEqual((status, shown[0]), (0, head), shown)
+                self.assertRegex(shown[2], rf"^\| own_loops( \| -?[0-9.]+( \(-?[0-9.]+\))?){{{head.count('|') - 2}}} \|$")
+
+    def test_a_solution_that_the_program_refuses_is_named(self):
+        refuses = self.folder / "refuses"
+        refuses.write_text(f'#!/bin/sh\ncase "$*" in verify*.pg*out) exit 1 ;; *) exec {common.PROGRAM} "$@" ;; esac\n')
+        refuses.chmod(0o755)
+        for table in self.bench.HEADS:
+            status, shown = self.table(table, program=refuses)
+            self.assertEqual((status, shown[2]), (1, "| own_loops | WRONG |"), shown)
+
+    def test_the_cells_of_a_solving(self):
+        # reading takes 10 ms, a byte of 200 more 0.1 ms, and so 5 ms are for the 50 bytes of the solution
+        took = {"verify": 10, "tidy": 30, "solve": 60}
+        sizes = {"tidy": 200, "solve": 50}
+        self.assertEqual(self.row("solve", took, sizes, solve=(0, 0, 0, 49.5), known=(0, 0, 0, 54), make=(0, 0, 0, 9)), ["45.0", "49.5 (1.10)", "54.0 (1.20)", "9.0 (0.20)"])
+
+    def test_the_cells_of_promotion(self):
+        ran = {"alone": (50, 40, 5, 4), "one": (70, 52, 9, 6), "four": (60, 99, 7, 7)}
+        self.assertEqual(self.row("promotion", {}, {}, **ran), ["40.0", "52.0 (1.30)", "50.0", "60.0 (1.20)", "4.0", "6.0 (1.50)"])
+
+    def row(self, table, took, sizes, **ran):
+        """The cells of figures that are given: the times and the bytes of commands, and of each mode its four times."""
+        bench = self.bench.Bench.__new__(self.bench.Bench)
+        bench.program, bench.runs, bench.wrong, last = "program", 3, 0, []
+
+        def whole(program, *words, status=0, **_):
+            last.append(words[0])
+            return -1, took[words[0]], ""
+
+        bench.whole, bench.size, bench.in_library = whole, lambda: sizes[last[-1]], lambda game, mode: ran[mode]
+        return bench.row(table, "game")
+
+    def test_each_mode_solves_random_games(self):
+        library = self.bench.built(embed.ARCHIVES[0])
+        for seed in range(60):
+            chance = random.Random(seed)
+            game = chance.choice([random_games.random_game, layers])(chance, chance.choice([8, 20, 60, 200]))
+            path = self.file("game.pg", plain.written_game(game))
+            for mode in ("solve", "known", "alone", "one", "four"):
+                with self.subTest(mode, seed=seed):
+                    status, out, err = common.run([library, mode, path])
+                    self.assertEqual(status, 0)
+                    self.solves(game, out)
+                    self.assertRegex(err, rb"^[0-9.e-]+ [0-9.e-]+\n$")
 
 
 if __name__ == "__main__":

@@ -226,7 +226,7 @@ class Embed(unittest.TestCase):
     def test_the_header_declares_what_the_crate_exports(self):
         declared = {re.sub(r"\s+", " ", it) for it in re.findall(r"(?ms)^(?:uint32_t|uint64_t|void) [^;]*;", HEADER)}
         self.assertEqual(declared, set(prototypes()))
-        self.assertEqual(len(declared), 18)
+        self.assertEqual(len(declared), 20)
 
     def test_the_header_has_the_numbers_of_the_contracts(self):
         defined = dict(re.findall(r"(?m)^#define (PGBOARD_\w+) (\d+)u", HEADER))

@@ -75,10 +75,10 @@ class Gate(unittest.TestCase):
         self.built = self.top / "crates" / "pgboard_program" / "out" / "pgboard_program"
         self.built.parent.mkdir(parents=True)
         self.put(self.built, "#!/bin/sh\n")
-        self.scripts = re.search(r'(?m)^SCRIPTS = "(.*)"', TEST)[1].split() + re.search(r'(?m)^SLOW = "(.*)"', TEST)[1].split()
+        self.scripts = runpy.run_path(str(common.ROOT / "test"))["ALL"]
         for name in self.scripts:
             self.script(name, "pass")
-        for name in ("sh", "sed", "true", "cp", "env"):
+        for name in ("sh", "sed", "true", "cp", "env", "touch", "sleep"):
             (self.path / name).symlink_to(shutil.which(name))
         for file, _ in TOOLS.values():
             self.put(self.path / file, "#!/bin/sh\n")
@@ -186,7 +186,8 @@ class Gate(unittest.TestCase):
         shown = [re.sub(r"^ +\d+:\d\d  ", "", it) for it in lines[1:]]
         crates = ["pg_low proved", "pg_low: its tests are proved", "pg_high proved", "pg_high: trying its must-fail edits (7)"]
         scripts = [f"{it}: 1 passed, 0 failed" for it in self.scripts]
-        self.assertEqual(shown, [*crates, "proofs: 9 passed, 0 failed", f"test: over {self.built}", *scripts, f"{9 + len(scripts)} passed, 0 failed"])
+        before = [*crates, "proofs: 9 passed, 0 failed", f"test: over {self.built}"]
+        self.assertEqual([*shown[:len(before)], *sorted(shown[len(before):-1]), shown[-1]], [*before, *sorted(scripts), f"{9 + len(scripts)} passed, 0 failed"])
         self.assertIn("what the check says", (self.top / "out" / "test" / "proofs.log").read_text(encoding="ascii"))
         self.assertIn(f"test: over {self.built}", out)
 
@@ -198,7 +199,8 @@ class Gate(unittest.TestCase):
         unproved.parent.mkdir(parents=True)
         self.put(unproved, "#!/bin/sh\n")
         os.utime(self.built, (0, 0))
-        for words, names in ((["scripts"], self.scripts[:-4]), (["uses", "cli"], ["cli", "uses"]), (["embed"], ["embed"])):
+        quick = [it for it in self.scripts if it not in ("bodies", "embed", "package", "boards")]
+        for words, names in ((["scripts"], quick), (["uses", "cli"], ["cli", "uses"]), (["embed"], ["embed"])):
             with self.subTest(words):
                 for name in self.scripts:
                     self.script(name, f"self.assertEqual(str(common.PROGRAM), '{unproved}')" if name in names else "self.fail()")
@@ -219,6 +221,20 @@ class Gate(unittest.TestCase):
         status, out, _ = self.run_test(EDIT="", FAILED="1")
         self.assertEqual((status, out.splitlines()[-1]), (1, f"{9 + len(self.scripts)} passed, 1 failed"))
         self.assertIn("rt: pg_high NOT PROVED", out)
+
+    def test_two_scripts_run_at_once(self):
+        # each passes only if the other one begins within ten seconds; on one processor the first one does not
+        meets = "self.assertEqual(common.run(['sh', '-c', 'touch {}; for i in {}; do [ -e {} ] && exit; sleep .1; done; exit 1'])[0], 0)"
+        times = " ".join(map(str, range(100)))
+        self.script("cli", meets.format("one", times, "other"))
+        self.script("uses", meets.format("other", times, "one"))
+        status, out, _ = self.run_test("cli", "uses")
+        wanted = (0, "2 passed, 0 failed") if len(os.sched_getaffinity(0)) > 1 else (1, "1 passed, 1 failed")
+        self.assertEqual((status, out.splitlines()[-1]), wanted, out)
+
+    def test_what_needs_the_comparator_begins_after_four_others(self):
+        self.assertLess(self.scripts.index("bench"), 4)
+        self.assertEqual(set(self.scripts[-2:]), {"boards", "random_games"})
 
     def test_a_status_without_a_counted_failure_is_one(self):
         self.script("cli", "common.unittest.TextTestResult.wasSuccessful; import atexit; atexit.register(lambda: common.os._exit(7))")

@@ -232,7 +232,8 @@ class Packaged(unittest.TestCase):
         done(sys.executable, "-m", "venv", self.folder / "venv")
         done(self.folder / "venv/bin/pip", "install", "--no-index", "--disable-pip-version-check", wheel)
         (self.folder / "python").mkdir()
-        shutil.copy(common.ROOT / "bindings" / "python" / "test_pgboard.py", self.folder / "python")
+        for path in ("bindings/python/test_pgboard.py", "tests/plain.py"):
+            shutil.copy(common.ROOT / path, self.folder / "python")
         env = {name: value for name, value in os.environ.items() if name != "PGBOARD_LIBRARY"}
         env["PGBOARD_PROGRAM"] = str(self.program)
         said = done(self.folder / "venv/bin/python", "-m", "unittest", "test_pgboard", cwd=self.folder / "python", env=env)

@@ -169,6 +169,41 @@ def attracted(game, target, player):
         target = target | more
 
 
+def ladder(levels):
+    """A game on which the recursion takes time exponential in the levels (Friedmann 2011)."""
+    rows = {}
+    for i in range(1, levels + 1):
+        rows["a", i] = 1 - i % 2, 1 - i % 2, [("b", i), ("d", i - 1)]
+        rows["b", i] = 1 - i % 2, i % 2, [("a", i), ("c", i)][: 1 + (i < levels)]
+    for i in range(levels):
+        rows["c", i] = 3 * i + 5, 1 - i % 2, [("b", i + 1), ("d", i)]
+        rows["d", i] = 3 * i + 4, i % 2, [("e", i), *(("d", j) for j in (i - 1, i + 1) if 0 <= j < levels)]
+        rows["e", i] = 3 * i + 3, 1 - i % 2, [("d", i), ("b", i)][: 1 + (i > 0)]
+    number = {name: v for v, name in enumerate(rows)}
+    return {number[name]: (priority, owner, {number[to] for to in row}) for name, (priority, owner, row) in rows.items()}
+
+
+def part(game, vertices):
+    return {id: (priority, owner, row & vertices) for id, (priority, owner, row) in game.items() if id in vertices}
+
+
+def recursion(game):
+    """The winners by Zielonka's recursion (1998), and how many subgames that have a vertex it begins. It sets aside what the greatest
+    priorities of one parity attract."""
+    if not game:
+        return {}, 0
+    player = max(priority for priority, _, _ in game.values()) % 2
+    bad = max((priority for priority, _, _ in game.values() if priority % 2 != player), default=-1)
+    set_aside = attracted(game, {id for id in game if game[id][0] > bad}, player)
+    winners, steps = recursion(part(game, game.keys() - set_aside))
+    lost = {id for id, winner in winners.items() if winner != player}
+    if not lost:
+        return dict.fromkeys(game, player), steps + 1
+    lost = attracted(game, lost, 1 - player)
+    winners, more = recursion(part(game, game.keys() - lost))
+    return {**winners, **dict.fromkeys(lost, 1 - player)}, steps + more + 1
+
+
 def lines_of_rows(head, rows):
     return "".join(f"{it};\n" for it in [head, *(" ".join(map(str, row)) for row in rows)])
 

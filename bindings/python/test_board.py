@@ -9,13 +9,16 @@ import copy
 import ctypes
 import doctest
 import gc
+import itertools
 import os
 import pathlib
 import pickle
 import random
+import signal
 import subprocess
 import sys
 import threading
+import time
 import unittest
 from array import array
 
@@ -42,6 +45,11 @@ def random_game(chance, size):
 
 def plain_game(owners, priorities, successors):
     return {v: (p, o, set(row)) for v, (o, p, row) in enumerate(zip(owners, priorities, successors))}
+
+
+def lists_of(game):
+    """A plain game of vertices 0, 1 and so on, as a board takes it."""
+    return [game[v][1] for v in range(len(game))], [game[v][0] for v in range(len(game))], [sorted(game[v][2]) for v in range(len(game))]
 
 
 def claims_of_solution(game):
@@ -195,9 +203,9 @@ class Boards(unittest.TestCase):
             chance = random.Random(seed)
             game = random_game(chance, 60)
             reference = plain_board.Board(plain_game(*game))
-            board, taken = pgboard.Board(*game), [[] for _ in range(8)]
+            board, taken, right = pgboard.Board(*game), [[] for _ in range(8)], [0] * 8
 
-            def work(worker, board=board, game=game, taken=taken):
+            def work(worker, board=board, game=game, taken=taken, right=right):
                 mine = random.Random(worker)
                 poster = Poster(mine, game)
                 for _ in range(150):
@@ -205,13 +213,16 @@ class Boards(unittest.TestCase):
                     answer = posted(board, mine, player, rows, worker)
                     if isinstance(answer, pgboard.Posted):
                         taken[worker].append(answer)
-                    self.assertEqual(len(board.unsettled()) <= 60 - len(board.entries), True)
+                    # (an entry settles a vertex or more, and others may follow between the calls)
+                    entries = len(board.entries)
+                    right[worker] += len(board.unsettled()) <= 60 - entries
 
             threads = [threading.Thread(target=work, args=(worker,)) for worker in range(8)]
             for it in threads:
                 it.start()
             for it in threads:
                 it.join()
+            self.assertEqual(right, [150] * 8)
             for number, entry in enumerate(map(plain_entry, board.entries)):
                 self.assertIn((number, entry[2], len(entry[3])), taken[entry[0]])
                 self.takes_over(reference, entry[1], sorted(entry[3][: entry[2]]), entry)
@@ -471,6 +482,158 @@ class Boards(unittest.TestCase):
         here = pathlib.Path(pgboard.__file__).parent.parent
         ran = subprocess.run([sys.executable, "-B", "-c", program], cwd=here, capture_output=True, text=True, timeout=30, check=False)
         self.assertEqual((ran.returncode, ran.stdout), (0, "400\n"), ran.stderr)
+
+
+# a board that takes the recursion long, and an interrupt at its process
+LONG = """import os, signal, sys, threading, time
+sys.path.append(sys.argv[1])
+import pgboard, plain
+signal.signal(signal.SIGINT, signal.default_int_handler)
+game = plain.ladder(40)
+board = pgboard.Board(*zip(*((game[v][1], game[v][0], sorted(game[v][2])) for v in range(len(game)))))
+def later():
+    time.sleep(0.5)
+    later.sent = time.monotonic()
+    os.kill(os.getpid(), signal.SIGINT)
+threading.Thread(target=later).start()
+try:
+    board.finish()
+except KeyboardInterrupt:
+    print(time.monotonic() - later.sent < 1, board.settled, len(board.entries))
+try:
+    board.finish(steps=1000)
+except pgboard.GaveUp:
+    print(board.settled, open(f"/proc/self/task/{os.getpid()}/children").read())
+"""
+
+
+class Finishing(unittest.TestCase):
+    """`finish` with a bound, and by a child process: against the plain recursion, and against `finish` in this process."""
+
+    def set_few(self, few):
+        """Has a child process finish boards with more unsettled vertices than these, to the end of the test."""
+        self.addCleanup(setattr, module, "FEW", module.FEW)
+        module.FEW = few
+
+    def view(self, board):
+        return board.settled, board.state(), list(board.entries)
+
+    def test_a_bound_is_the_number_of_subgames_of_the_plain_recursion(self):
+        games = [lists_of(plain.ladder(levels)) for levels in (1, 4, 7)]
+        for seed in range(100):
+            chance = random.Random(seed)
+            games.append(random_game(chance, chance.choice([1, 2, 3, 5, 8, 20, 80])))
+        for game, few in itertools.product(games, (10**9, -1)):
+            self.set_few(few)
+            winners, steps = plain.recursion(plain_game(*game))
+            with self.subTest(steps=steps, few=few), pgboard.Board(*game) as board:
+                for fewer in {0, steps // 2, steps - 1}:
+                    before = self.view(board)
+                    with self.assertRaises(pgboard.GaveUp):
+                        board.finish(steps=fewer)
+                    self.assertEqual(self.view(board), before)
+                board.finish(steps=steps)
+                self.assertEqual(dict(enumerate(board.solution().winners)), winners)
+                full = self.view(board)
+                board.finish(steps=0)
+                self.assertEqual(self.view(board), full)
+
+    def test_a_child_finishes_as_this_process_does(self):
+        for seed in range(100):
+            views = []
+            for few in (10**9, 0):
+                self.set_few(few)
+                chance = random.Random(seed)
+                game = random_game(chance, chance.choice([1, 5, 20, 61, 150]))
+                with pgboard.Board(*game) as board:
+                    poster = Poster(chance, game)
+                    for _ in range(chance.randint(0, 6)):
+                        posted(board, chance, *poster.claim(), 7)
+                    board.finish(steps=chance.choice([None, 2**64 - 1]))
+                    views.append((self.view(board), board.solution()))
+            self.assertEqual(*views)
+
+    def test_an_interrupt_ends_finish(self):
+        words = [sys.executable, "-B", "-c", LONG, os.path.dirname(plain.__file__)]
+        here = pathlib.Path(pgboard.__file__).parent.parent
+        ran = subprocess.run(words, cwd=here, capture_output=True, text=True, timeout=60, check=False)
+        self.assertEqual((ran.returncode, ran.stdout), (0, "True 0 0\n0 \n"), ran.stderr)
+
+    def test_an_interrupt_between_the_posts_waits_for_the_second(self):
+        class Interrupted(pgboard.Board):
+            def _post(self, *given):
+                self.interrupts = getattr(self, "interrupts", 0) + 1
+                if self.interrupts == 1:
+                    raise KeyboardInterrupt
+                found = super()._post(*given)
+                if self.interrupts == 2:
+                    raise KeyboardInterrupt
+                return found
+
+        self.set_few(0)
+        board, other = Interrupted(*TWO), pgboard.Board(*TWO)
+        with self.assertRaises(KeyboardInterrupt):
+            board.finish()
+        other.finish()
+        self.assertEqual((self.view(board), board.interrupts), (self.view(other), 4))
+
+    def test_a_handler_of_a_signal_may_settle_meanwhile(self):
+        class Slow:
+            def __getattr__(self, name):
+                return getattr(library, name)
+
+            def pgboard_board_finish(self, *arguments):
+                time.sleep(0.5)
+                return library.pgboard_board_finish(*arguments)
+
+        library = module.LIBRARY
+        self.addCleanup(setattr, module, "LIBRARY", library)
+        module.LIBRARY = Slow()
+        self.set_few(0)
+        for player in (0, 1):
+            board = pgboard.Board(*TWO)
+            self.addCleanup(signal.signal, signal.SIGALRM, signal.getsignal(signal.SIGALRM))
+            signal.signal(signal.SIGALRM, lambda *_, board=board, player=player: board.post(player, {player: player}, 7))
+            signal.setitimer(signal.ITIMER_REAL, 0.1)
+            board.finish()
+            self.assertEqual([(it.worker, it.player) for it in board.entries], [(7, player), (0, 1 - player)])
+
+    def test_a_child_that_fails_leaves_the_board(self):
+        library, parent = module.LIBRARY, os.getpid()
+
+        class Crashes:
+            def __getattr__(self, name):
+                if os.getpid() != parent:
+                    os.kill(os.getpid(), signal.SIGSEGV)
+                return getattr(library, name)
+
+        class Lies(Crashes):
+            """The child finds that each player wins what the other one does."""
+
+            def __getattr__(self, name):
+                return getattr(library, name)
+
+            def pgboard_board_entry(self, handle, number, entry, *others):
+                answer = library.pgboard_board_entry(handle, number, entry, *others)
+                if os.getpid() != parent:
+                    module.EntryStruct.from_address(entry).player ^= 1
+                return answer
+
+        self.addCleanup(setattr, module, "LIBRARY", library)
+        self.set_few(0)
+        for wrong, words in ((Crashes(), "a process of pgboard was ended by signal 11"), (Lies(), "the board refuses what a child process has found")):
+            board = pgboard.Board(*TWO)
+            module.LIBRARY = wrong
+            with self.assertRaisesRegex(RuntimeError, f"^{words}$"):
+                board.finish()
+            module.LIBRARY = library
+            self.assertEqual((board.settled, len(board.entries)), (0, 0))
+            board.finish()
+            self.assertEqual(board.solution().winners, array("B", [0, 1]))
+
+    def test_refuses_bounds(self):
+        with self.assertRaisesRegex(ValueError, "^steps -1 is below 0$"):
+            pgboard.Board(*TWO).finish(-1)
 
 
 if __name__ == "__main__":

@@ -22,6 +22,9 @@ from array import array
 
 import pgboard
 
+sys.path.append(str(pathlib.Path(__file__).resolve().parent.parent.parent / "tests"))
+import plain
+
 try:
     import networkx
 except ImportError:
@@ -58,6 +61,11 @@ def text_of(owners, priorities, successors):
 def csr_of(owners, priorities, successors):
     starts = [0, *itertools.accumulate(map(len, successors))]
     return array("B", owners), array("I", priorities), array("I", starts), array("I", itertools.chain(*successors))
+
+
+def lists_of(game):
+    """A plain game of vertices 0, 1 and so on as `solve` takes it."""
+    return [game[v][1] for v in range(len(game))], [game[v][0] for v in range(len(game))], [sorted(game[v][2]) for v in range(len(game))]
 
 
 def solution_text(winners, choices):
@@ -124,7 +132,7 @@ CLASSES = {
     "SOLUTION_NUMBER": "NumberTooLarge", "SOLUTION_WINNER": "NoPlayer", "SOLUTION_STRANGER": "Stranger",
     "SOLUTION_TWICE": "WrittenTwice", "SOLUTION_MISSING": "NotWritten", "BOARD_CLOSED": "Closed", "BOARD_UNSETTLED": "Unsettled",
     "POST_PLAYER": "BadPlayer", "POST_LENGTHS": "BadClaimLengths", "POST_SHAPE": "BadShape", "POST_CYCLE": "ClaimCycle",
-    "POST_LOST": "Lost", "POST_STALE": "Stale", "POST_OPEN": "Open",
+    "POST_LOST": "Lost", "POST_STALE": "Stale", "POST_OPEN": "Open", "GAVE_UP": "GaveUp",
 }  # fmt: skip
 
 
@@ -193,6 +201,39 @@ class Arrays(Tests):
             found = pgboard.solve(*game, known=(known, choices))
             self.assertEqual(found[0], winners)
             pgboard.verify(*game, *found)
+
+    def test_gives_up(self):
+        game = lists_of(plain.ladder(10))
+        # (the least bound that suffices, by halving)
+        least, enough = 0, 10**6
+        while least < enough:
+            steps = (least + enough) // 2
+            try:
+                found = pgboard.solve(*game, steps=steps)
+                enough = steps
+            except pgboard.GaveUp:
+                least = steps + 1
+        self.assertEqual(found, pgboard.solve(*game))
+        for steps in (0, 10, least - 1):
+            self.refused(pgboard.GaveUp, 0, 0, pgboard.solve, *game, steps=steps)
+        for steps in (least, 10**6, 2**64 - 1, 2**64, 2**70):
+            self.assertEqual(pgboard.solve(*game, steps=steps), found)
+        self.assertLess(10, least)
+
+    def test_a_bound_that_suffices_has_no_effect(self):
+        for seed in range(200):
+            game = random_game(random.Random(seed))
+            whole = {v: (p, o, set(row)) for v, (o, p, row) in enumerate(zip(*game))}
+            # (what the searches find before is not left to the recursion)
+            found = pgboard.solve(*game, steps=plain.recursion(whole)[1])
+            self.assertEqual(found, pgboard.solve(*game))
+            self.assertEqual(dict(enumerate(found[0])), plain.recursion(whole)[0])
+
+    def test_refuses_bounds(self):
+        with self.assertRaisesRegex(ValueError, "^steps -1 is below 0$"):
+            pgboard.solve(*TWO, steps=-1)
+        with self.assertRaisesRegex(TypeError, "^known and steps can't be given together$"):
+            pgboard.solve(*TWO, known=([None, None], [None, None]), steps=5)
 
     def test_refuses_games(self):
         self.refused(pgboard.NoVertex, 0, 0, pgboard.solve, [], [], [])
@@ -417,6 +458,7 @@ class Faults(Tests):
             pgboard.Leaves(7, 9): "vertex 7: a kept edge leads to 9, which the other player wins",
             pgboard.KnownLeaves(7, 9): "vertex 7: a kept edge leads to 9, which is not known for the same player",
             pgboard.NoToken(7): "byte 7: no token",
+            pgboard.GaveUp(): "the recursion needs more steps than it may take",
             pgboard.TooManyVertices(): "there are more than 1048576 vertices",
             pgboard.TooManyEdges(): "there are more than 16777216 edges",
             pgboard.TextTooLong(): "the text is longer than 268435456 bytes",

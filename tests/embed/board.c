@@ -139,6 +139,21 @@ static uint32_t finishes(void)
     return pgboard_board_finish(&board, &report);
 }
 
+/* The most steps of a call with a bound. */
+static uint64_t steps;
+
+static uint32_t finishes_within(void)
+{
+    return pgboard_board_finish_within(&board, steps, &report);
+}
+
+static uint32_t solves_within(void)
+{
+    struct pgboard_game it = game();
+    struct pgboard_results into = results();
+    return pgboard_solve_within(&it, steps, &into, &report);
+}
+
 static uint32_t posts_zero(void)
 {
     return post_one(0, 0, 0);
@@ -150,6 +165,7 @@ static void is_closed_at_first(void)
     EXPECT(refuses(posts_zero, PGBOARD_BOARD_CLOSED, 0, 0));
     EXPECT(refuses(state, PGBOARD_BOARD_CLOSED, 0, 0));
     EXPECT(refuses(finishes, PGBOARD_BOARD_CLOSED, 0, 0));
+    EXPECT(refuses(finishes_within, PGBOARD_BOARD_CLOSED, 0, 0));
     EXPECT(refuses(solution, PGBOARD_BOARD_CLOSED, 0, 0));
     EXPECT(not_read(0, MOST, MOST, PGBOARD_BOARD_CLOSED, 0));
     EXPECT(pgboard_board_settled(&board) == 0 && pgboard_board_entries(&board) == 0);
@@ -244,10 +260,10 @@ static void refuses_results(void)
 }
 
 /* Each allocation is refused in turn, with all after it, until the call needs no more. */
-static void refuses_memory(void)
+static void refuses_memory(uint32_t (*finish)(void))
 {
-    uint32_t (*calls[])(void) = {opens, posts_zero, finishes, solution};
-    three();
+    uint32_t (*calls[])(void) = {opens, posts_zero, finish, solution};
+    three(), steps = 9;
     for (int k = 0; k < 4; k++) {
         uint32_t answer = PGBOARD_MEMORY;
         long refused = 0;
@@ -282,6 +298,121 @@ static void random_game(uint64_t *seed)
         starts[v + 1] = starts[v] + 1 + (uint32_t)drawn(seed, 3);
         for (uint32_t e = starts[v]; e < starts[v + 1]; e++)
             targets[e] = (uint32_t)drawn(seed, n);
+    }
+}
+
+/* The recursive ladder (Friedmann 2011), on which the recursion takes time exponential in the levels. */
+static void ladder(uint32_t levels)
+{
+    uint32_t a = 0, b = levels, c = 2 * levels, d = 3 * levels, e = 4 * levels, to = 0;
+    n = 5 * levels;
+    for (uint32_t kind = 0; kind < 5; kind++)
+        for (uint32_t i = 0; i < levels; i++) {
+            uint32_t v = kind * levels + i, is_odd = i % 2;
+            starts[v] = to;
+            if (kind == 0)
+                owners[v] = (uint8_t)is_odd, priorities[v] = is_odd, targets[to++] = b + i, targets[to++] = d + i;
+            if (kind == 1)
+                owners[v] = (uint8_t)!is_odd, priorities[v] = is_odd, targets[to++] = a + i;
+            if (kind == 1 && i + 1 < levels)
+                targets[to++] = c + i + 1;
+            if (kind == 2)
+                owners[v] = (uint8_t)!is_odd, priorities[v] = 3 * i + 5, targets[to++] = b + i, targets[to++] = d + i;
+            if (kind == 3)
+                owners[v] = (uint8_t)is_odd, priorities[v] = 3 * i + 4, targets[to++] = e + i;
+            if (kind == 3 && i > 0)
+                targets[to++] = d + i - 1;
+            if (kind == 3 && i + 1 < levels)
+                targets[to++] = d + i + 1;
+            if (kind == 4)
+                owners[v] = (uint8_t)!is_odd, priorities[v] = 3 * i + 3, targets[to++] = d + i;
+            if (kind == 4 && i > 0)
+                targets[to++] = b + i - 1;
+        }
+    starts[n] = to;
+}
+
+/* The least bound with which a call does not give up, by halving. The board is a new one before each call, and at the end. */
+static uint64_t least_bound(uint32_t (*call)(void))
+{
+    uint64_t least = 0, enough = 1000000;
+    while (least < enough) {
+        pgboard_board_close(&board);
+        EXPECT(opens() == PGBOARD_OK);
+        steps = least + (enough - least) / 2;
+        uint32_t answer = call();
+        EXPECT(answer == PGBOARD_OK || (answer == PGBOARD_GAVE_UP && report.at == 0 && report.to == 0));
+        if (answer == PGBOARD_OK)
+            enough = steps;
+        else
+            least = steps + 1;
+    }
+    pgboard_board_close(&board);
+    EXPECT(opens() == PGBOARD_OK);
+    return least;
+}
+
+/* With no step, with 10, with one too few and with just enough. The searches of a solve leave less of the ladder to the recursion. */
+static void gives_up(void)
+{
+    uint8_t right[MOST];
+    ladder(12);
+    uint64_t of_board = least_bound(finishes_within), of_game = least_bound(solves_within);
+    EXPECT(10 < of_game && of_game < of_board);
+    steps = of_game;
+    EXPECT(solves_within() == PGBOARD_OK);
+    memcpy(right, winners, n);
+    EXPECT(finishes() == PGBOARD_OK && solution() == PGBOARD_OK && memcmp(right, winners, n) == 0);
+    pgboard_board_close(&board);
+    EXPECT(opens() == PGBOARD_OK);
+    for (int k = 0; k < 3; k++) {
+        steps = k == 0 ? 0 : k == 1 ? 10 : of_board - 1;
+        EXPECT(refuses(finishes_within, PGBOARD_GAVE_UP, 0, 0));
+        steps = k == 0 ? 0 : k == 1 ? 10 : of_game - 1;
+        EXPECT(refuses(solves_within, PGBOARD_GAVE_UP, 0, 0));
+    }
+    steps = of_board;
+    EXPECT(finishes_within() == PGBOARD_OK && report.at == 0 && report.to == 0);
+    EXPECT(solution() == PGBOARD_OK && memcmp(right, winners, n) == 0);
+    steps = 0;
+    EXPECT(finishes_within() == PGBOARD_OK);
+    pgboard_board_close(&board);
+    /* a board of which something is settled */
+    three();
+    EXPECT(opens() == PGBOARD_OK && posts_zero() == PGBOARD_OK);
+    EXPECT(refuses(finishes_within, PGBOARD_GAVE_UP, 0, 0));
+    steps = 1;
+    EXPECT(finishes_within() == PGBOARD_OK && pgboard_board_entries(&board) == 2 && solution() == PGBOARD_OK && winners[1] == 1);
+    pgboard_board_close(&board);
+}
+
+/* Any bound from the least one that suffices on is none: the same solution, and the same board. */
+static void has_no_effect_with_steps_enough(void)
+{
+    uint8_t right[MOST];
+    uint32_t right_choice[MOST];
+    uint64_t seed = 7;
+    for (int k = 0; k < 200; k++) {
+        random_game(&seed);
+        struct pgboard_game it = game();
+        struct pgboard_results into = results();
+        uint64_t of_game = least_bound(solves_within), of_board = least_bound(finishes_within);
+        EXPECT(pgboard_solve(&it, &into, &report) == PGBOARD_OK);
+        memcpy(right, winners, n), memcpy(right_choice, choices, n * sizeof *choices);
+        for (int any = 0; any < 3; any++) {
+            memset(winners, 9, n), memset(choices, 9, n * sizeof *choices);
+            steps = any == 0 ? of_game : any == 1 ? of_game + drawn(&seed, 1000) : UINT64_MAX;
+            EXPECT(solves_within() == PGBOARD_OK && memcmp(right, winners, n) == 0 && memcmp(right_choice, choices, n * sizeof *choices) == 0);
+        }
+        EXPECT(finishes() == PGBOARD_OK);
+        struct view finished = view(), within;
+        pgboard_board_close(&board);
+        EXPECT(opens() == PGBOARD_OK);
+        steps = drawn(&seed, 2) ? of_board : UINT64_MAX;
+        EXPECT(finishes_within() == PGBOARD_OK);
+        within = view();
+        EXPECT(memcmp(&finished, &within, sizeof within) == 0);
+        pgboard_board_close(&board);
     }
 }
 
@@ -436,7 +567,10 @@ int main(int argc, char **argv)
     is_closed_at_first();
     posts_and_refuses();
     refuses_results();
-    refuses_memory();
+    refuses_memory(finishes);
+    refuses_memory(finishes_within);
+    gives_up();
+    has_no_effect_with_steps_enough();
     printf("%d passed, %d failed\n", passed, failed);
     return failed != 0;
 }

@@ -82,6 +82,18 @@ static uint32_t solve(void)
     return memcmp(&results, &same, sizeof same) == 0 ? answer : 99;
 }
 
+/* The most steps of solve_within. */
+static uint64_t steps = UINT64_MAX;
+
+static uint32_t solve_within(void)
+{
+    struct pgboard_game it = arrays_of();
+    struct pgboard_results results = results_of(), same = results;
+    report.at = report.to = 99;
+    uint32_t answer = pgboard_solve_within(&it, steps, &results, &report);
+    return memcmp(&results, &same, sizeof same) == 0 ? answer : 99;
+}
+
 static uint32_t check(void)
 {
     struct pgboard_game it = arrays_of();
@@ -110,7 +122,8 @@ static int refuses(uint32_t (*call)(void), uint32_t answer, uint64_t at, uint64_
 
 static int all_refuse(uint32_t answer, uint64_t at, uint64_t to)
 {
-    return refuses(solve, answer, at, to) && refuses(check, answer, at, to) && refuses(solve_known, answer, at, to);
+    return refuses(solve, answer, at, to) && refuses(solve_within, answer, at, to) && refuses(check, answer, at, to) &&
+           refuses(solve_known, answer, at, to);
 }
 
 /* Even owns 0 and may stay there or go to 1; Odd owns 1 and stays. Even wins 0, Odd wins 1. */
@@ -128,6 +141,10 @@ static void solves(void)
     EXPECT(game.winners[0] == 0 && game.winners[1] == 1 && game.winners[2] == 77);
     EXPECT(game.choices[0] == 0 && game.choices[1] == 1 && game.choices[2] == 77u * 0x01010101u);
     EXPECT(refuses(check, PGBOARD_OK, 0, 0));
+    two();
+    EXPECT(solve_within() == PGBOARD_OK && report.at == 0 && report.to == 0);
+    EXPECT(game.winners[0] == 0 && game.winners[1] == 1 && game.winners[2] == 77);
+    EXPECT(game.choices[0] == 0 && game.choices[1] == 1 && game.choices[2] == 77u * 0x01010101u);
     /* a choice where the winner isn't the owner has no effect, and is not written */
     game.owners[1] = 0;
     EXPECT(solve() == PGBOARD_OK && game.winners[1] == 1 && game.choices[1] == PGBOARD_NO_CHOICE);
@@ -176,6 +193,7 @@ static void refuses_results(void)
     game.results_size = game.solution_size = 8;
     game.winners_len = game.known_len = 1;
     EXPECT(refuses(solve, PGBOARD_SIZE, PGBOARD_STRUCT_RESULTS, sizeof(struct pgboard_results)));
+    EXPECT(refuses(solve_within, PGBOARD_SIZE, PGBOARD_STRUCT_RESULTS, sizeof(struct pgboard_results)));
     EXPECT(refuses(check, PGBOARD_SIZE, PGBOARD_STRUCT_SOLUTION, sizeof(struct pgboard_solution)));
     EXPECT(refuses(solve_known, PGBOARD_SIZE, PGBOARD_STRUCT_SOLUTION, sizeof(struct pgboard_solution)));
     game.solution_size = sizeof(struct pgboard_solution);
@@ -185,10 +203,12 @@ static void refuses_results(void)
     EXPECT(refuses(solve_known, PGBOARD_SIZE, PGBOARD_STRUCT_RESULTS, sizeof(struct pgboard_results)));
     game.results_size = sizeof(struct pgboard_results);
     EXPECT(refuses(solve, PGBOARD_RESULTS, PGBOARD_ARRAY_WINNERS, 0));
+    EXPECT(refuses(solve_within, PGBOARD_RESULTS, PGBOARD_ARRAY_WINNERS, 0));
     EXPECT(refuses(solve_known, PGBOARD_RESULTS, PGBOARD_ARRAY_WINNERS, 0));
     game.winners_len = 2;
     game.choices_len = 3;
     EXPECT(refuses(solve, PGBOARD_RESULTS, PGBOARD_ARRAY_CHOICES, 0));
+    EXPECT(refuses(solve_within, PGBOARD_RESULTS, PGBOARD_ARRAY_CHOICES, 0));
     EXPECT(refuses(check, PGBOARD_SOLUTION, PGBOARD_ARRAY_CHOICES, 0));
     EXPECT(refuses(solve_known, PGBOARD_RESULTS, PGBOARD_ARRAY_CHOICES, 0));
     game.known_winners[1] = 2;
@@ -561,7 +581,7 @@ static void refuses_long_lists(void)
 static void refuses_memory(void)
 {
     uint8_t into[64];
-    long refused[6] = {0};
+    long refused[7] = {0};
     for (long n = 1; n < 200; n++) {
         two();
         allowed = n;
@@ -570,6 +590,8 @@ static void refuses_memory(void)
         allowed = -1;
         EXPECT(ended || (solve() == PGBOARD_OK && refuses(check, PGBOARD_OK, 0, 0)));
         EXPECT(solve() == PGBOARD_OK);
+        allowed = n;
+        refused[6] += refuses(solve_within, PGBOARD_MEMORY, 0, 0);
         allowed = n;
         refused[1] += refuses(check, PGBOARD_MEMORY, 0, 0);
         allowed = n;
@@ -583,7 +605,7 @@ static void refuses_memory(void)
         refused[5] += refuses(solve_known, PGBOARD_MEMORY, 0, 0);
         allowed = -1;
     }
-    for (int k = 0; k < 6; k++)
+    for (int k = 0; k < 7; k++)
         EXPECT(1 < refused[k] && refused[k] < 190);
 }
 

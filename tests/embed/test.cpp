@@ -12,6 +12,9 @@ static int passed, failed;
 // Even owns 0 and may stay there or go to 1; Odd owns 1 and stays. Even wins 0, Odd wins 1.
 static const pgboard::game two{{0, 1}, {2, 1}, {0, 2, 3}, {0, 1, 1}};
 
+// A game of which the searches leave something to the recursion.
+static const pgboard::game five{{1, 1, 1, 0, 0}, {0, 4, 2, 3, 5}, {0, 1, 2, 4, 5, 7}, {4, 4, 3, 2, 2, 1, 0}};
+
 static bool refuses(std::uint32_t answer, std::uint64_t at, std::uint64_t to, const std::function<void()> &call)
 {
     try {
@@ -53,6 +56,9 @@ int main(int argc, char **argv)
     const auto found = pgboard::solve(two);
     EXPECT((found.winners == std::vector<std::uint8_t>{0, 1}) && (found.choices == std::vector<std::uint32_t>{0, 1}));
     EXPECT(pgboard::solve(two, {{PGBOARD_NO_WINNER, 1}, {PGBOARD_NO_CHOICE, 1}}).winners == found.winners);
+    const auto within = pgboard::solve_within(five, 9);
+    EXPECT(within.winners == pgboard::solve(five).winners && within.choices == pgboard::solve(five).choices);
+    EXPECT(refuses(PGBOARD_GAVE_UP, 0, 0, [] { pgboard::solve_within(five, 0); }));
     EXPECT((pgboard::check(two, found), true));
     EXPECT(pgboard::solve_text(text) == "paritysol 9;\n3 0 3;\n9 1 9;\n");
     EXPECT(pgboard::tidy_text(text) == "parity 9;\n3 2 0 3,9;\n9 1 1 9;\n");
@@ -81,6 +87,21 @@ int main(int argc, char **argv)
     EXPECT(refuses(PGBOARD_BOARD_ENTRY, 2, 0, [&] { board.entry(2); }));
     board = pgboard::board(two);
     EXPECT(board.entries() == 0);
+    EXPECT(refuses(PGBOARD_GAVE_UP, 0, 0, [&] { board.finish_within(0); }));
+    EXPECT(board.entries() == 0 && board.settled() == 0);
+    board.finish_within(9);
+    EXPECT(board.solution().winners == found.winners && board.solution().choices == found.choices);
+    // own loops of Even's, each with the priority 2, which he wins by staying: entries of 16 rows, of 17 and of the others
+    pgboard::game loops{{}, {}, {0}, {}};
+    for (std::uint32_t v = 0; v < 100; v++)
+        loops.owners.push_back(0), loops.priorities.push_back(2), loops.targets.push_back(v), loops.starts.push_back(v + 1);
+    pgboard::board long_board(loops);
+    for (const auto &[from, to] : {std::pair{0, 16}, {16, 33}, {33, 100}}) {
+        const std::vector<std::uint32_t> rows(loops.targets.begin() + from, loops.targets.begin() + to);
+        const auto number = long_board.post(0, rows, rows).entry;
+        const auto long_entry = long_board.entry(number);
+        EXPECT(long_entry.claimed == rows.size() && long_entry.vertices == rows && long_entry.choices == rows);
+    }
     std::cout << passed << " passed, " << failed << " failed\n";
     return failed != 0;
 }

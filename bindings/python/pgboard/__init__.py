@@ -9,7 +9,7 @@ Vertices are 0, 1 and so on. Player 0 is Even, who wins a play where the greates
 The library is the file that the environment variable PGBOARD_LIBRARY names, else libpgboard.so beside this file, as the wheel
 of ./package has it, else crates/pgboard_c/out/libpgboard.so of the repository, else the one of the system. Without one the
 import fails, and says what to do. Ctrl-C ends a call in any thread: a long one runs in a child process. A `Board` is in the
-program's own memory, so Ctrl-C waits for the end of its calls.
+program's own memory, so Ctrl-C waits for the end of its calls, but for `finish`.
 """
 
 from __future__ import annotations
@@ -31,19 +31,28 @@ __all__ = [
 
 
 def solve_csr(
-    owners: Buffer, priorities: Buffer, indptr: Buffer, indices: Buffer, known: Optional[Tuple[Buffer, Buffer]] = None
+    owners: Buffer,
+    priorities: Buffer,
+    indptr: Buffer,
+    indices: Buffer,
+    known: Optional[Tuple[Buffer, Buffer]] = None,
+    steps: Optional[int] = None,
 ) -> Solution:
     """Solves a game in compressed sparse rows: vertex v has the successors indices[indptr[v]:indptr[v + 1]].
 
     The arguments are buffers of integers. Those of 8 bits for `owners`, and of 32 bits for the others, are read where they are; of
     others a copy is made. Returns arrays of the winners and of their choices, which have NO_CHOICE where the winner doesn't own the
-    vertex. `known` has winners (NO_WINNER where there is none) and choices in the same form. Raises Refused, NotKnown or
-    OutOfMemory, and TypeError for other arguments."""
+    vertex. `known` has winners (NO_WINNER where there is none) and choices in the same form. `steps` bounds Zielonka's recursion, which
+    takes exponential time on some games: GaveUp is raised if it begins more subgames. There may not be both. Raises Refused, NotKnown
+    or OutOfMemory too, and TypeError for other arguments."""
+    if known is not None and steps is not None:
+        raise TypeError("known and steps can't be given together")
     game = game_views(owners, priorities, indptr, indices)
     size = len(game[0])
     found = Solution(array("B", bytes(size)), array("I", bytes(4 * size)))
     given = [game] if known is None else [game, claim_views(*known)]
-    run_arrays("pgboard_solve" if known is None else "pgboard_solve_known", given, [memoryview(it) for it in found], indices)
+    name = "pgboard_solve_known" if known is not None else "pgboard_solve_within" if steps is not None else "pgboard_solve"
+    run_arrays(name, given, [memoryview(it) for it in found], indices, steps)
     return found
 
 
@@ -53,22 +62,27 @@ def verify_csr(owners: Buffer, priorities: Buffer, indptr: Buffer, indices: Buff
     run_arrays("pgboard_check", [game_views(owners, priorities, indptr, indices), claim_views(winners, choices)], [], indices)
 
 
-def run_arrays(name: str, given: List[List[memoryview]], results: List[memoryview], indices: Buffer) -> None:
+def run_arrays(name: str, given: List[List[memoryview]], results: List[memoryview], indices: Buffer, steps: Optional[int] = None) -> None:
     """Makes a call on a game and what else is given. An unknown successor is reported as it is in the caller's buffer."""
     try:
-        run(name, given, results)
+        run(name, given, results, steps)
     except faults.UnknownSuccessor as fault:
         raise as_given(fault, given[0][2], indices) from None
 
 
 def solve(
-    owners: Numbers, priorities: Numbers, successors: Iterable[Numbers], known: Optional[Tuple[MaybeNumbers, MaybeNumbers]] = None
+    owners: Numbers,
+    priorities: Numbers,
+    successors: Iterable[Numbers],
+    known: Optional[Tuple[MaybeNumbers, MaybeNumbers]] = None,
+    steps: Optional[int] = None,
 ) -> Tuple[List[int], List[Optional[int]]]:
     """Solves a game: the owner (0 or 1), the priority and the successors of each vertex.
 
     Returns the winner of each vertex, and for each vertex that its winner owns the successor that he moves to, else None. `known` has
-    winners and choices of this form, with None for a winner that isn't known. Raises Refused, NotKnown or OutOfMemory."""
-    winners, choices = solve_csr(*game_of(owners, priorities, successors), None if known is None else claims_of(*known))
+    winners and choices of this form, with None for a winner that isn't known. `steps` is that of `solve_csr`. Raises Refused, NotKnown,
+    GaveUp or OutOfMemory."""
+    winners, choices = solve_csr(*game_of(owners, priorities, successors), None if known is None else claims_of(*known), steps)
     return list(winners), [None if it == NO_CHOICE else it for it in choices]
 
 

@@ -1,8 +1,8 @@
 """A board of include/pgboard.h. Solvers post what they find to it; it settles what holds, and refuses the rest.
 
-A board lives in this process, so its calls run here, and not in a child process. Each board has a lock, since the library takes one
-call at a time on it, and ctypes releases the interpreter's lock during a call. The library gets arrays of our own alone: no other
-thread can change one during the call.
+A board lives in this process, so its calls run here. `finish` alone may take long: a child process finishes a copy, and what it finds
+is posted here. Each board has a lock, since the library takes one call at a time on it, and ctypes releases the interpreter's lock
+during a call. The library gets arrays of our own alone: no other thread can change one during the call.
 """
 
 from __future__ import annotations
@@ -17,10 +17,12 @@ from typing import TYPE_CHECKING, Any, Iterable, List, Mapping, NamedTuple, Opti
 
 from . import faults
 from .arrays import Buffer, Ints, Numbers, Solution, as_given, fitting, game_of, game_views, view_of
-from .library import LIBRARY, NO_CHOICE, NO_WINNER, judged
+from .library import LIBRARY, NO_CHOICE, NO_WINNER, OUTCOME, UNANSWERED, bound, judged, run_in_child, shared
 
 # the answer that a buffer is too small
 CAPACITY = 50
+# To finish so few vertices takes no time.
+FEW = 60
 # in bytes of winners: 1 where there is none, and else 0
 HAS_NONE = bytes(it == NO_WINNER for it in range(256))
 
@@ -103,6 +105,14 @@ def own(view: memoryview, code: str) -> Ints:
     return array(code, bytes(view))
 
 
+def entry_in(block: memoryview, place: int, size: int) -> Entry:
+    """The entry that has its struct at this place of a block, and then two arrays of this size."""
+    read = EntryStruct.from_buffer(block, place)
+    rows = place + ctypes.sizeof(EntryStruct)
+    arrays = [array("I", bytes(block[at : at + 4 * read.rows])) for at in (rows, rows + 4 * size)]
+    return Entry(read.worker, read.player, read.claimed, *arrays)
+
+
 def close(handle: Handle) -> None:
     LIBRARY.pgboard_board_close(ctypes.addressof(handle))
 
@@ -121,7 +131,8 @@ class Board:
         array('B', [0, 1])
 
     Several threads may use a board; their calls take turns. `close`, the end of a `with` block or of the board frees its memory. After
-    that each call raises Closed. A call is not ended by Ctrl-C. Each call may raise OutOfMemory, and then has done nothing."""
+    that each call raises Closed. Ctrl-C ends `finish` alone. Each call may raise OutOfMemory, and then has done nothing, but for
+    `finish`."""
 
     def __init__(self, owners: Numbers, priorities: Numbers, successors: Iterable[Numbers]) -> None:
         """Takes a game as `solve` does. Nothing of it is settled. Raises Refused."""
@@ -249,10 +260,62 @@ class Board:
                     return Entry(read.worker, read.player, read.claimed, *arrays)
                 rows = report.at
 
-    def finish(self) -> None:
-        """Settles what is unsettled by Zielonka's recursion, as worker 0: an entry for Even, and then one for Odd."""
+    def finish(self, steps: Optional[int] = None) -> None:
+        """Settles what is unsettled by Zielonka's recursion, as worker 0: an entry for Even, and then one for Odd.
+
+        Raises GaveUp if the recursion begins more subgames than `steps`; the board is then as before. After Ctrl-C it is as before, or
+        finished. After OutOfMemory it is as before, or has the entry for Even."""
+        name, numbers = "pgboard_board_finish" if steps is None else "pgboard_board_finish_within", bound(steps)
         with self._lock:
-            self._call("pgboard_board_finish")
+            unsettled = len(self._state.winners) - self.settled
+            if unsettled <= FEW:
+                self._call(name, *numbers)
+            else:
+                self._post_all(self._finished(name, numbers, unsettled))
+
+    def _finished(self, name: str, numbers: List[int], unsettled: int) -> List[Entry]:
+        """The entries that finishing this board would add: a child process finishes its copy of the board."""
+        each, before = ctypes.sizeof(EntryStruct) + 8 * unsettled, len(self.entries)
+        block = memoryview(shared(OUTCOME.size + 2 * each))
+        base = ctypes.addressof(ctypes.c_char.from_buffer(block))
+
+        def work() -> None:
+            handle = ctypes.addressof(self._handle)
+            answer, count = getattr(LIBRARY, name)(handle, *numbers, base), 0
+            while answer == 0 and before + count < LIBRARY.pgboard_board_entries(handle):
+                entry = base + OUTCOME.size + count * each
+                rows = entry + ctypes.sizeof(EntryStruct)
+                answer = LIBRARY.pgboard_board_entry(handle, before + count, entry, rows, unsettled, rows + 4 * unsettled, unsettled, base)
+                count += 1
+            at, to = OUTCOME.unpack_from(block)[:2]
+            OUTCOME.pack_into(block, 0, at, to, count, answer)
+
+        OUTCOME.pack_into(block, 0, 0, 0, 0, UNANSWERED)
+        run_in_child(block, work)
+        count = judged(*OUTCOME.unpack_from(block))
+        return [entry_in(block, OUTCOME.size + k * each, unsettled) for k in range(count)]
+
+    def _post_all(self, entries: List[Entry]) -> None:
+        """Posts what finishing another copy of this board has added. An interrupt waits until all is posted."""
+        interrupt = None
+        while True:
+            try:
+                for it in entries:
+                    self._post_again(it)
+                break
+            except KeyboardInterrupt as error:
+                interrupt = error
+        if interrupt:
+            raise interrupt
+
+    def _post_again(self, it: Entry) -> None:
+        """Posts the claim of an entry, unless an interrupt came after that, or a handler of a signal has settled all of it."""
+        try:
+            self._post(it.player, it.vertices[: it.claimed], it.choices[: it.claimed], it.worker)
+        except faults.Stale:
+            pass
+        except faults.RefusedClaim as error:
+            raise RuntimeError("the board refuses what a child process has found") from error
 
     def solution(self) -> Solution:
         """The solution, of a full board. Raises Unsettled, whose `at` is the number of unsettled vertices."""

@@ -11,6 +11,7 @@ __all__ = [
     "NoChoice", "BadChoice", "Leaves", "BadCycle", "KnownChoice", "KnownCycle", "KnownLost", "KnownLeaves",
     "TextTooLong", "NoToken", "NotExpected", "NumberTooLarge", "NoPlayer", "Stranger", "WrittenTwice", "NotWritten",
     "Closed", "Unsettled", "RefusedClaim", "BadPlayer", "BadClaimLengths", "BadShape", "ClaimCycle", "Lost", "Stale", "Open",
+    "GaveUp",
 ]  # fmt: skip
 
 # the arrays by the numbers of include/pgboard.h
@@ -220,6 +221,10 @@ class Open(RefusedClaim):
     words = "{vertex}: a kept edge leads to {to}, which is neither in the claim nor settled for its player"
 
 
+class GaveUp(Fault):
+    words = "the recursion needs more steps than it may take"
+
+
 # The exception of each answer of include/pgboard.h. Four are never handed on: the size of a struct (9), a board that is open (70) and
 # the number of an entry (72), which are right here, and a buffer that is too small (50), which is asked for again.
 FAULTS: Dict[int, Type[Fault]] = {
@@ -267,4 +272,5 @@ FAULTS: Dict[int, Type[Fault]] = {
     84: Lost,
     85: Stale,
     86: Open,
+    90: GaveUp,
 }

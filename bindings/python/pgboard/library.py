@@ -10,7 +10,7 @@ import os
 import signal
 import struct
 import warnings
-from typing import List, Tuple
+from typing import Callable, List, Optional, Tuple
 
 from .faults import FAULTS, OutOfMemory
 from .version import __version__
@@ -29,6 +29,7 @@ HERE = os.path.dirname(os.path.abspath(__file__))
 # the exports, and how many arguments each takes
 EXPORTS = {
     "pgboard_solve": 3,
+    "pgboard_solve_within": 4,
     "pgboard_solve_known": 4,
     "pgboard_check": 3,
     "pgboard_solve_text": 6,
@@ -42,6 +43,7 @@ EXPORTS = {
     "pgboard_board_entries": 1,
     "pgboard_board_entry": 8,
     "pgboard_board_finish": 2,
+    "pgboard_board_finish_within": 3,
     "pgboard_board_solution": 3,
     "pgboard_board_close": 1,
 }
@@ -84,8 +86,18 @@ LIBRARY = load()
 PROCESS = ctypes.CDLL(None)
 
 
-def run(name: str, given: List[List[memoryview]], results: List[memoryview]) -> int:
-    """Makes a call on groups of views, and fills the views of results. Returns the size of a text, or raises the fault of the answer.
+def bound(steps: Optional[int]) -> List[int]:
+    """The argument of a call for this bound on the steps of the recursion; none without a bound."""
+    if steps is None:
+        return []
+    if steps < 0:
+        raise ValueError(f"steps {steps} is below 0")
+    return [min(steps, 2**64 - 1)]
+
+
+def run(name: str, given: List[List[memoryview]], results: List[memoryview], steps: Optional[int] = None) -> int:
+    """Makes a call on groups of views, and on a bound if there is one, and fills the views of results. Returns the size of a text, or
+    raises the fault of the answer.
 
     The call works on copies, so nothing that another thread does meanwhile reaches it. Python looks at Ctrl-C between its own steps
     alone, and so never in the library. Therefore a child process makes each call that may take long; Ctrl-C ends the child."""
@@ -98,12 +110,13 @@ def run(name: str, given: List[List[memoryview]], results: List[memoryview]) -> 
     for at, group in enumerate(groups):
         slices, place = copy_in(block, base, place, group)
         arguments += slices if is_text else [struct_of(block, base, OUTCOME.size + at * STRUCT, slices)]
+        arguments += bound(steps) if at == 0 else []
     arguments += [base + SIZE, base] if is_text and results else [base]
     OUTCOME.pack_into(block, 0, 0, 0, 0, UNANSWERED)
     if is_small:
         call(block, name, arguments)
     else:
-        run_in_child(block, name, arguments)
+        run_in_child(block, lambda: call(block, name, arguments))
     written = judged(*OUTCOME.unpack_from(block))
     copy_out(block, place, results)
     return written
@@ -160,14 +173,14 @@ def judged(at: int, to: int, written: int, answer: int) -> int:
     return written
 
 
-def run_in_child(block: memoryview, name: str, arguments: List[int]) -> None:
-    """Makes a call in a child process, and waits until it has ended. What is raised here meanwhile, as KeyboardInterrupt is in the
-    main thread, ends the child."""
+def run_in_child(block: memoryview, work: Callable[[], None]) -> None:
+    """Has a child process do work, which writes an answer, and waits until it has ended. What is raised here meanwhile, as
+    KeyboardInterrupt is in the main thread, ends the child."""
     child, status = 0, 0
     try:
         child = os.fork()
         if child == 0:
-            be_child(block, name, arguments)
+            be_child(work)
         # (until it is waited for below, no other process has its number)
         os.waitid(os.P_PID, child, os.WEXITED | os.WNOWAIT)
     except ChildProcessError:
@@ -182,8 +195,8 @@ def run_in_child(block: memoryview, name: str, arguments: List[int]) -> None:
         raise reason_of(status)
 
 
-def be_child(block: memoryview, name: str, arguments: List[int]) -> None:
-    """Makes a call, and ends this process. Ctrl-C at a terminal reaches all processes there, and ends this one, unless the program
+def be_child(work: Callable[[], None]) -> None:
+    """Does the work, and ends this process. Ctrl-C at a terminal reaches all processes there, and ends this one, unless the program
     ignores it; and it ends with the thread that waits for it."""
     try:
         gc.disable()
@@ -191,7 +204,7 @@ def be_child(block: memoryview, name: str, arguments: List[int]) -> None:
             signal.signal(signal.SIGINT, signal.SIG_DFL)
         signal.pthread_sigmask(signal.SIG_UNBLOCK, [signal.SIGINT])
         PROCESS.prctl(1, signal.SIGKILL)  # PR_SET_PDEATHSIG
-        call(block, name, arguments)
+        work()
     finally:
         os._exit(0)
 

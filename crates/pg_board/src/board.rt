@@ -1,7 +1,7 @@
 //! The board: a game, the journal of its settled vertices, and tables of the journal's state.
 //! The invariant of its type is that the journal is lawful, so every board has a lawful one.
 
-ghost use Rattle.std.specs.Prelude.{◌≡◌, ◌≤◌, ℕ, [], length, IfOk, IfErr, OnErr, IsTrue, IsSome, IfSome, ◌↔◌, OnOk, ◌∷◌};
+ghost use Rattle.std.specs.Prelude.{◌≡◌, ◌≤◌, ℕ, [], length, IfOk, IfErr, OnErr, IsTrue, IsSome, IfSome, ◌↔◌, OnOk, ◌∷◌, true, false};
 ghost use Rattle.pg_game.specs.declared.player.Player.{Player};
 ghost use Rattle.pg_game.specs.declared.player.Player.TheVariants.{Even, Odd};
 ghost use Rattle.pg_game.specs.Graph.{IsGame};
@@ -23,7 +23,7 @@ use crate::contents::Contents;
 use crate::journal::{Entry, Posted, Refusal};
 use crate::regions::Regions;
 use pg_dominion::{Checked, Claim, judge_claim};
-use pg_finders::{Copied, Inside, Solved, zielonka};
+use pg_finders::{Copied, Inside, Solved, zielonka, zielonka_within};
 use pg_game::{Game, Memory, Player};
 use pg_text::Solution;
 use std::alloc::Global;
@@ -239,6 +239,28 @@ impl<'g> Board<'g> {
         let copied = self.copy(alloc)?;
         let solved = zielonka(alloc, &copied.inside)?;
         self.settle_solved(alloc, &solved)
+    }
+
+    /// The same as `finish`, unless the recursion needs more steps than these (`zielonka_within`). False if it gave up: then some
+    /// vertex is unsettled, and nothing has changed.
+    pub fn finish_within(&mut self, alloc: Global, steps: u64) -> Result<bool, Memory>
+        ensures lawful { IsLawful self.new.graph self.new.journal }
+        ensures game { self.new.graph ≡ self.old.graph }
+        ensures full { IfOk result (λ done. done ≡ true → IsFull self.new.graph (state_of self.new.journal)) }
+        ensures later { IfOk result (λ done. done ≡ true → IsLater (Even ∷ Odd ∷ []) self.old self.new) }
+        ensures gave_up { IfOk result (λ done. done ≡ false → self.new ≡ self.old) }
+        ensures unsettled { IfOk result (λ done. done ≡ false → IsFull self.old.graph (state_of self.old.journal) → ⊥) }
+        ensures unchanged { OnErr result (self.new ≡ self.old) }
+    {
+        if self.contents.is_full(self.game) {
+            return Ok(true);
+        }
+        let copied = self.copy(alloc)?;
+        let Some(solved) = zielonka_within(alloc, &copied.inside, steps)? else {
+            return Ok(false);
+        };
+        self.settle_solved(alloc, &solved)?;
+        Ok(true)
     }
 
     /// The journal; the board is given up.

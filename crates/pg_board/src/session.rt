@@ -1,7 +1,7 @@
 //! A game and its board, which nothing borrows: each call that posts makes a `Board` of them for its own time. So a session can
 //! be kept where no lifetime can be, as behind a handle in C.
 
-ghost use Rattle.std.specs.Prelude.{◌≡◌, ◌≤◌, ◌↔◌, ◌∷◌, ℕ, [], length, IfOk, IfErr, OnOk, OnErr, IsSome, IfSome};
+ghost use Rattle.std.specs.Prelude.{◌≡◌, ◌≤◌, ◌↔◌, ◌∷◌, ℕ, [], length, IfOk, IfErr, OnOk, OnErr, IsSome, IfSome, true, false};
 ghost use Rattle.pg_game.specs.declared.player.Player.TheVariants.{Even, Odd};
 ghost use Rattle.pg_game.specs.Graph.{IsGame};
 ghost use Rattle.pg_game.specs.Limits.{IsWithinLimits};
@@ -82,6 +82,23 @@ impl Session {
     {
         let mut board = Board::attach(&self.game, self.contents.take().unwrap());
         let answer = board.finish(alloc);
+        self.contents = Some(board.detach());
+        answer
+    }
+
+    /// The same as `finish` within a number of steps, as `Board::finish_within` does. False if it gave up: then some vertex is
+    /// unsettled, and nothing has changed.
+    pub fn finish_within(&mut self, alloc: Global, steps: u64) -> Result<bool, Memory>
+        ensures lawful { IsLawful self.new.graph self.new.journal }
+        ensures game { self.new.graph ≡ self.old.graph }
+        ensures full { IfOk result (λ done. done ≡ true → IsFull self.new.graph (state_of self.new.journal)) }
+        ensures later { IfOk result (λ done. done ≡ true → IsLater (Even ∷ Odd ∷ []) self.old self.new) }
+        ensures gave_up { IfOk result (λ done. done ≡ false → self.new ≡ self.old) }
+        ensures unsettled { IfOk result (λ done. done ≡ false → IsFull self.old.graph (state_of self.old.journal) → ⊥) }
+        ensures unchanged { OnErr result (self.new ≡ self.old) }
+    {
+        let mut board = Board::attach(&self.game, self.contents.take().unwrap());
+        let answer = board.finish_within(alloc, steps);
         self.contents = Some(board.detach());
         answer
     }

@@ -1,8 +1,10 @@
 //! Zielonka's recursion (1998), which solves a whole subgame by two claims, one for each player, as a loop: no function
 //! calls itself. Waiting subgames share three lists and keep places in them: the vertices set aside, and those settled for
-//! each player, in the order of settling. A step takes time in what it attracts and makes active again.
+//! each player, in the order of settling. A step takes time in what it attracts and makes active again. A caller may bound the
+//! number of subgames that are begun, which is exponential on some games.
 
 ghost use Rattle.std.specs.Prelude.{◌≡◌, length, IfOk, ◌≢◌, ◌≤◌, ◌<◌, ◌^◌, drop, take, ◌||◌, ℕ, All, ◌++◌, ◌∷◌, [], OnOk, true, false};
+ghost use Rattle.std.specs.Prelude.{None, IsSome, IfSome};
 ghost use Rattle.pg_game.specs.declared.player.Player.TheVariants.{Even, Odd};
 ghost use Rattle.pg_game.specs.VertexSet.{members, union};
 ghost use Rattle.pg_finders.specs.private.Solved.{won_inside, IsSolvedInside};
@@ -40,31 +42,53 @@ pub struct Solved {
 pub fn zielonka(alloc: Global, inside: &Inside) -> Result<Solved, Memory>
     ensures { IfOk result (λ solved. AreClaims inside.now.graph (members inside.now.mask) solved.even solved.odd) }
 {
-    if inside.mask().is_empty() {
-        return Ok(Solved {
-            even: claim_of(Player::Even, Vec::new(alloc)),
-            odd: claim_of(Player::Odd, Vec::new(alloc)),
-        });
+    match solve_up_to(alloc, inside, None)? {
+        Some(solved) => Ok(solved),
+        None => unreachable!(),
     }
-    solve(alloc, inside)
 }
 
-/// The two claims of the recursion on all vertices inside.
-fn solve(alloc: Global, inside: &Inside) -> Result<Solved, Memory>
-    ensures { IfOk result (λ solved. AreClaims inside.now.graph (members inside.now.mask) solved.even solved.odd) }
+/// The same as `zielonka`, unless it needs more steps than these: then it gives up, and there are no claims. A step begins a
+/// subgame that has a vertex. The same subgame needs the same number of steps in each call, and no vertex inside needs none.
+pub fn zielonka_within(alloc: Global, inside: &Inside, steps: u64) -> Result<Option<Solved>, Memory>
+    ensures { IfOk result (λ found. IfSome found (λ solved. AreClaims inside.now.graph (members inside.now.mask) solved.even solved.odd)) }
+{
+    solve_up_to(alloc, inside, Some(steps))
+}
+
+/// The two claims; none if there is a limit and the recursion needs more steps.
+fn solve_up_to(alloc: Global, inside: &Inside, limit: Option<u64>) -> Result<Option<Solved>, Memory>
+    ensures claims { IfOk result (λ found. IfSome found (λ solved. AreClaims inside.now.graph (members inside.now.mask) solved.even solved.odd)) }
+    ensures unlimited { IfOk result (λ found. limit ≡ None → IsSome found) }
+{
+    if inside.mask().is_empty() {
+        return Ok(Some(Solved {
+            even: claim_of(Player::Even, Vec::new(alloc)),
+            odd: claim_of(Player::Odd, Vec::new(alloc)),
+        }));
+    }
+    solve(alloc, inside, limit)
+}
+
+/// The two claims of the recursion on all vertices inside; none if it needs more steps than the limit.
+fn solve(alloc: Global, inside: &Inside, limit: Option<u64>) -> Result<Option<Solved>, Memory>
+    ensures claims { IfOk result (λ found. IfSome found (λ solved. AreClaims inside.now.graph (members inside.now.mask) solved.even solved.odd)) }
+    ensures unlimited { IfOk result (λ found. limit ≡ None → IsSome found) }
 {
     let game = inside.game();
     let mask = inside.mask();
     let mut solver = Solver::new(alloc, game, mask)?;
-    solver.run(game, mask)?;
+    if !solver.run(game, mask, limit)? {
+        return Ok(None);
+    }
     let for_even = solver.count(Player::Even);
     let for_odd = solver.count(Player::Odd);
     let plan = solver.into_plan();
     let (even, odd) = rows_of(alloc, game, mask, &plan, for_even, for_odd)?;
-    Ok(Solved {
+    Ok(Some(Solved {
         even: claim_of(Player::Even, even),
         odd: claim_of(Player::Odd, odd),
-    })
+    }))
 }
 
 /// A run of the loop.
@@ -122,14 +146,20 @@ impl Solver {
         self.subgame.plan
     }
 
-    /// Plans the whole mask.
-    fn run(&mut self, game: &Game, inside: &Mask) -> Result<(), Memory>
+    /// Plans the whole mask. False if it gave up, since it needs more steps than the limit.
+    fn run(&mut self, game: &Game, inside: &Mask, limit: Option<u64>) -> Result<bool, Memory>
         requires { IsRunning game.now inside.now self.old self.old.frames.items }
-        ensures solved { OnOk result (IsSolvedInside game.now (members inside.now) (winners_of self.new.subgame.plan) (choices_of self.new.subgame.plan)) }
-        ensures size { OnOk result (HasSize (length game.now) self.new.subgame.plan) }
+        ensures solved { IfOk result (λ done. done ≡ true
+            → IsSolvedInside game.now (members inside.now) (winners_of self.new.subgame.plan) (choices_of self.new.subgame.plan)) }
+        ensures size { IfOk result (λ done. done ≡ true → HasSize (length game.now) self.new.subgame.plan) }
+        ensures unlimited { IfOk result (λ done. limit ≡ None → done ≡ true) }
     {
+        let mut left = limit;
         'steps: loop {
             if self.enter(game, inside)? {
+                if !take_step(&mut left) {
+                    return Ok(false);
+                }
                 continue;
             }
             let Some(frame) = self.frames.pop() else {
@@ -137,7 +167,7 @@ impl Solver {
             };
             self.leave(game, inside, frame)?;
         }
-        Ok(())
+        Ok(true)
     }
 
     /// Begins the active part: sets aside what its greatest priority attracts. False if nothing is
@@ -388,6 +418,20 @@ impl Settled {
         ensures other { settled_of self.new (opponent player) ≡ settled_of self.old (opponent player) }
     {
         self.list_mut(player).truncate(count);
+    }
+}
+
+/// Takes one of the steps that are left. False if none is left; without a limit one always is.
+fn take_step(left: &mut Option<u64>) -> bool
+    ensures unlimited { left.old ≡ None → (result ≡ true) × (left.new ≡ None) }
+{
+    match *left {
+        None => true,
+        Some(0) => false,
+        Some(steps) => {
+            *left = Some(steps - 1);
+            true
+        }
     }
 }
 

@@ -41,9 +41,7 @@ pub use Rattle.pg_text.specs.declared.lexer.Kind.{Kind}
 pub use Rattle.pg_text.specs.declared.solution_text.Solution.{Solution}
 pub use Rattle.pg_text.specs.declared.solution_text.SolutionLine.{SolutionLine}
 pub use Rattle.pg_text.specs.private.FirstFault.{FirstLarge, first_at, placed}
-pub use Rattle.pg_text.specs.private.GameRun.{Front, Listing, Named, Priority, Reading, Successor, front, line, run, step, with_line}
 pub use Rattle.pg_text.specs.private.Lexeme.{IsNoToken, IsLexemeOf, IsRun, IsToken}
 pub use Rattle.pg_text.specs.private.Reach.{IsBadFrom, ReadsTo, SpellsRest}
 pub use Rattle.pg_text.specs.private.SolutionReads.{line_of}
-pub use Rattle.pg_text.specs.private.SolutionRun.{Choice}
 pub use Rattle.pg_text.specs.private.SolutionTable.{HoldsLines, HoldsTable, IsLookUpFaultOf, IsNamed}

@@ -11,13 +11,13 @@ pub mod OneSolutionFault
 pub mod Runs
 pub mod Next
 pub mod Reach
-pub mod SolutionRun
 pub mod FirstFaults
 pub mod SolutionReads
 pub mod Written
 pub mod Numerals
-pub mod GameRun
 pub mod GameReads
+pub mod Machine
+pub mod Lines
 pub mod Parsing
 pub mod WrittenSpells
 pub mod Identifiers

@@ -1,62 +1,64 @@
 -- A text has at most one fault as a solution of a game, and none where it is a solution's.
 use Rattle.pg_text.proofs.Common.{◌≡◌, ℕ, zero, suc, ◌<◌, ◌⊎◌, inl, inr, List, [], ◌∷◌, ◌++◌, refl, sym, ◌∙◌, ap, subst, arith, rules, Option, Some, None}
-use Rattle.pg_text.proofs.Common.{IfSome, ⊤, AllByRecursion, append-nil, Graph, SolutionTextFault, Stranger, Token, Placed, tokens_of, Spells}
+use Rattle.pg_text.proofs.Common.{append-nil, Graph, SolutionTextFault, Stranger, Token, Placed, tokens_of, Spells, Semicolon, flat_map, codes, length, append_assoc, ◌≤◌}
 use Rattle.pg_text.proofs.Common.{AllFit, IsPlayerFault, WrittenSolutionLine, solution_tokens, IsSolutionText, BeginsSolutionText, IsBeforeWinner}
-use Rattle.pg_text.proofs.Common.{first_stranger, first_twice, first_missing, Choice, SpellsSolution, IsSomeSolutionText}
+use Rattle.pg_text.proofs.Common.{first_stranger, first_twice, first_missing, SpellsSolution, IsSomeSolutionText}
 use Rattle.pg_text.specs.declared.fault.SolutionTextFault.TheVariants.{Lexical, Syntax, Number, Winner, Twice, Missing, Memory}
-use Rattle.pg_text.specs.private.SolutionRun.{Reading, Start, HeadWord, HeadNumber, Ready, Id, step, run}
+use Rattle.pg_text.specs.GameText.{headed}
+use Rattle.pg_text.specs.SolutionText.{choice_tokens, solution_line_tokens}
+use Rattle.pg_text.specs.private.SolutionReads.{AreWinners}
 use Rattle.pg_text.specs.Reading.{IsSolutionFaultOf}
 use Rattle.pg_text.specs.Laws.{OneSolutionFault, SolutionTextOrFault}
 use Rattle.pg_text.proofs.Spelling.{one_spelling}
 use Rattle.pg_text.proofs.Faults.{lexical_once, lexical_or_tokens}
 use Rattle.pg_text.proofs.Once.{tokens_at, player_once, syntax_once, syntax_or_grammar, number_once, number_or_fit, solution_prefix, solution_begins}
-use Rattle.pg_text.proofs.FirstFaults.{all-push_parts}
 use Rattle.pg_text.proofs.Stages.{one_fault_of, no_fault}
-use Rattle.pg_text.proofs.SolutionRun.{run-append, run-text, end_of, one_lines}
+use Rattle.pg_text.proofs.Lines.{Avoids, behind_head, no_word, lines_once, player_small}
 use Rattle.pg_text.specs.Token as token
-use Rattle.pg_text.specs.private.SolutionRun as state
 
-abbrev Won : List WrittenSolutionLine → Type 0
-Won ls = AllByRecursion (λ l. l.winner < 2) ls
+same_choice : (c d : Option ℕ) (xs ys : List Token) → (choice_tokens c ++ Semicolon ∷ []) ++ xs ≡ (choice_tokens d ++ Semicolon ∷ []) ++ ys → (c ≡ d) × (xs ≡ ys)
+same_choice None None xs ys e = (refl, cc e)
+same_choice (Some n) (Some m) xs ys e = (cc e, cc e)
+same_choice None (Some m) xs ys e = absurd (cc e)
+same_choice (Some n) None xs ys e = absurd (cc e)
 
--- all winners that were read are 0 or 1
-abbrev Below : Reading → Type 0
-Below Start = ⊤
-Below HeadWord = ⊤
-Below (HeadNumber n) = ⊤
-Below (Ready h ls) = Won ls
-Below (Id h ls i) = Won ls
-Below (state.Winner h ls i w) = Won ls × (w < 2)
-Below (Choice h ls i w c) = Won ls × (w < 2)
+first : (l : WrittenSolutionLine) → (n : ℕ) × (ts : List Token) × (solution_line_tokens l ≡ token.Number n ∷ ts)
+first l = (l.id, token.Number l.winner ∷ (choice_tokens l.choice ++ Semicolon ∷ []), refl)
 
-below_run : (r s : Reading) (ts : List Token) → run (Some r) ts ≡ Some s → Below s → Below r
-below_run r s [] e b = let f : r ≡ s = cc in subst Below (sym f) b
-below_run r s (t ∷ ts) e b = go (λ q f. below_run q s ts f b) (step r t) (search (rules, all-push_parts)) e
-  where
-    go : ((q : Reading) → run (Some q) ts ≡ Some s → Below q) → (o : Option Reading) → IfSome o (λ q. Below q → Below r) → run o ts ≡ Some s → Below r
-    go later None one f = absurd (cc f)
-    go later (Some q) one f = one (later q f)
+front : (a b : WrittenSolutionLine) (xs ys : List Token) → solution_line_tokens a ++ xs ≡ solution_line_tokens b ++ ys → (a ≡ b) × (xs ≡ ys)
+front a b xs ys e =
+    let (c, r) = same_choice a.choice b.choice xs ys (cc e) in
+    let line : ℕ → ℕ → Option ℕ → WrittenSolutionLine = λ i w d. record { id = i; winner = w; choice = d } in
+    let f : line a.id a.winner a.choice ≡ line b.id b.winner b.choice = cc (e, c) in
+    (f, r)
 
-next_line : (h : Option ℕ) (ls : List WrittenSolutionLine) (i : ℕ) → run (Some (end_of h ls)) (token.Number i ∷ []) ≡ Some (Id h ls i)
-next_line x0 ls i = search (rules)
+behind : (h k : Option ℕ) (ks ls : List WrittenSolutionLine) (xs ys : List Token) → Avoids (codes "paritysol") xs → Avoids (codes "paritysol") ys
+    → headed (codes "paritysol") h ++ (flat_map solution_line_tokens ks ++ xs) ≡ headed (codes "paritysol") k ++ (flat_map solution_line_tokens ls ++ ys)
+    → flat_map solution_line_tokens ks ++ xs ≡ flat_map solution_line_tokens ls ++ ys
+behind h k ks ls xs ys a b e =
+    behind_head (codes "paritysol") h k (flat_map solution_line_tokens ks ++ xs) (flat_map solution_line_tokens ls ++ ys)
+    (no_word solution_line_tokens first front (codes "paritysol") ks xs a) (no_word solution_line_tokens first front (codes "paritysol") ls ys b) e
 
-before_run : (h : Option ℕ) (ls : List WrittenSolutionLine) (i : ℕ) (more : List Token)
-    → run (Some Start) ((solution_tokens h ls ++ token.Number i ∷ []) ++ more) ≡ run (Some (Id h ls i)) more
-before_run h ls i more =
-    run-append (Some Start) (solution_tokens h ls ++ token.Number i ∷ []) more
-    ∙ ap (λ o. run o more) (run-append (Some Start) (solution_tokens h ls) (token.Number i ∷ [])
-    ∙ (ap (λ o. run o (token.Number i ∷ [])) (run-text h ls) ∙ next_line h ls i))
+-- tokens are a solution text of at most one list of lines
+pub one_lines : (ts : List Token) (ls ks : List WrittenSolutionLine) → IsSolutionText ts ls → IsSolutionText ts ks → ls ≡ ks
+one_lines ts ls ks (h, i) (k, j) =
+    let e : headed (codes "paritysol") h ++ (flat_map solution_line_tokens ls ++ []) ≡ headed (codes "paritysol") k ++ (flat_map solution_line_tokens ks ++ []) =
+    search (rules, append-nil, i, j) in
+    let f = behind h k ls ks [] [] (λ us g. cc g) (λ us g. cc g) e in
+    lines_once solution_line_tokens first front ls ks (sym (append-nil (flat_map solution_line_tokens ls)) ∙ (f ∙ append-nil (flat_map solution_line_tokens ks)))
 
--- a winner inside what is read to the end is below 2 where all that were read are
-inner_winner : (xs m : List Token) (n : ℕ) (s : Reading) → IsBeforeWinner xs → run (Some Start) (xs ++ token.Number n ∷ m) ≡ Some s → Below s → n < 2
-inner_winner xs m n s (h, ls, i, o, x) e b = search (rules, before_run, below_run)
+-- a winner inside lines whose winners are 0 and 1, and what follows them, is 0 or 1
+inner_winner : (xs m : List Token) (n : ℕ) (k : Option ℕ) (ls : List WrittenSolutionLine) (more : List Token) → IsBeforeWinner xs → AreWinners ls
+    → length more ≤ 1 → Avoids (codes "paritysol") more → xs ++ token.Number n ∷ m ≡ solution_tokens k ls ++ more → n < 2
+inner_winner xs m n k ls more (h, ks, i, o, x) won short a e =
+    let stem : List Token = token.Number i ∷ [] in
+    let f : headed (codes "paritysol") h ++ (flat_map solution_line_tokens ks ++ (stem ++ token.Number n ∷ m))
+    ≡ headed (codes "paritysol") k ++ (flat_map solution_line_tokens ls ++ more) = search (rules, append_assoc) in
+    player_small solution_line_tokens first front (λ l. l.winner) stem m n (λ l us g. cc g) (λ l. omega arith) more short ks ls
+    (behind h k ks ls (stem ++ token.Number n ∷ m) more (λ us g. cc g) a f) won
 
 later_winner : (xs ys m : List Token) (n : ℕ) → IsBeforeWinner xs → IsBeforeWinner ys → ys ≡ xs ++ token.Number n ∷ m → n < 2
-later_winner xs ys m n a (h, ls, i, o, y) e =
-    let f : run (Some Start) ((solution_tokens h ls ++ token.Number i ∷ []) ++ []) ≡ Some (Id h ls i) = before_run h ls i [] in
-    let g : run (Some Start) (solution_tokens h ls ++ token.Number i ∷ []) ≡ Some (Id h ls i) =
-    ap (λ ts. run (Some Start) ts) (sym (append-nil (solution_tokens h ls ++ token.Number i ∷ []))) ∙ f in
-    inner_winner xs m n (Id h ls i) a (ap (λ ts. run (Some Start) ts) (sym e ∙ y) ∙ g) o
+later_winner xs ys m n a (h, ls, i, o, y) e = inner_winner xs m n h ls (token.Number i ∷ []) a o (omega arith) (λ us g. cc g) (sym e ∙ y)
 
 winner_once : (text : List ℕ) (a b : ℕ) → IsPlayerFault IsSomeSolutionText IsBeforeWinner text a
     → IsPlayerFault IsSomeSolutionText IsBeforeWinner text b → a ≡ b
@@ -64,11 +66,11 @@ winner_once = player_once BeginsSolutionText IsSomeSolutionText IsBeforeWinner s
 
 -- a wrong winner is in no text whose winners are 0 and 1
 winner_or_lines : (text : List ℕ) (a : ℕ) (us : List Placed) (lines : List WrittenSolutionLine) → IsPlayerFault IsSomeSolutionText IsBeforeWinner text a
-    → Spells 0 text us → IsSolutionText (tokens_of us) lines → Won lines → ⊥
+    → Spells 0 text us → IsSolutionText (tokens_of us) lines → AreWinners lines → ⊥
 winner_or_lines text a us lines (ts, s, g, f, (b1, a1, t1, n1, e1, p1, y1, k1, c1)) z (h, w) o =
     let d : tokens_of us ≡ tokens_of b1 ++ token.Number n1 ∷ tokens_of a1 = ap tokens_of (one_spelling 0 text us ts z s ∙ e1) ∙ tokens_at b1 a1 t1 n1 k1 in
-    let r : run (Some Start) (tokens_of b1 ++ token.Number n1 ∷ tokens_of a1) ≡ Some (end_of h lines) = ap (run (Some Start)) (sym d ∙ w) ∙ run-text h lines in
-    let l = inner_winner (tokens_of b1) (tokens_of a1) n1 (end_of h lines) y1 r (search rules) in
+    let e = sym d ∙ (w ∙ sym (append-nil (solution_tokens h lines))) in
+    let l = inner_winner (tokens_of b1) (tokens_of a1) n1 h lines [] y1 o (omega arith) (λ us g. cc g) e in
     omega (arith, l, c1)
 
 lines_of : (text : List ℕ) (ls ks : List WrittenSolutionLine) → SpellsSolution text ls → SpellsSolution text ks → ls ≡ ks

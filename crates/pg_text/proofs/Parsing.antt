@@ -1,18 +1,19 @@
 -- The reader of texts goes on, a token at a time.
 use Rattle.pg_text.proofs.Common.{rules}
-use Rattle.pg_text.proofs.Common.{◌≡◌, ℕ, Bool, true, false, List, [], ◌∷◌, ◌++◌, refl, sym, subst, arith, nat_lt, ltb-true, ltb-false}
-use Rattle.pg_text.proofs.Common.{Token, Number, Placed, tokens_of, IsLexicalFault, IsSyntaxFault, fits, placed, first_at}
+use Rattle.pg_text.proofs.Common.{◌≡◌, ℕ, Bool, true, false, List, [], ◌∷◌, ◌++◌, refl, sym, subst, arith, ◌<◌, ltb-true, ltb-false}
+use Rattle.pg_text.proofs.Common.{Token, Placed, tokens_of, IsLexicalFault, IsSyntaxFault, placed, first_at}
 use Rattle.pg_text.proofs.Common.{SpellsRest, IsBadFrom}
 use Rattle.std.proofs.Common.{Option, Some, None}
 use Rattle.std.specs.Prelude.{◌&&◌, IfOk, Result, Ok, Err}
 use Rattle.std.specs.Option.{is_none}
-use Rattle.pg_text.specs.declared.reader.Step.{Step}
-use Rattle.pg_text.specs.declared.reader.Step.TheVariants as step
-use Rattle.pg_text.specs.private.Grammar.{TakenOr, TakesToken, TakesNumber, NumberTaken, Stops}
+use Rattle.pg_text.specs.declared.table.State.{State}
+use Rattle.pg_text.specs.declared.table.State.TheVariants.{Player}
+use Rattle.pg_text.specs.private.FirstFault.{wrong_in}
+use Rattle.pg_text.specs.private.Machine.{Table, symbol_of, number_of, Enters}
 use Rattle.pg_text.specs.private.Parsing.{Keeps, IsUnexpected}
 use Rattle.pg_text.proofs.Once.{tokens_append}
 use Rattle.pg_text.proofs.Reach.{reaches_more, later_fault}
-use Rattle.pg_text.proofs.FirstFaults.{syntax_here, IsTaken, taken_none, taken_large, first_large-fit, none_known, first_player-more, first_player-number}
+use Rattle.pg_text.proofs.FirstFaults.{syntax_here, IsTaken, taken_none, taken_large, none_known, first_player-token}
 
 both_none : (a b : Option ℕ) → (is_none a && is_none b) ≡ true → (a ≡ None) × (b ≡ None)
 both_none None None e = (refl, refl)
@@ -23,60 +24,36 @@ pub if_ok : {T E : Type 0} (r : Result T E) {P Q : T → Type 0} → ((t : T) �
 if_ok (Ok t) f p = f t p
 if_ok (Err e) f p = p
 
-module _ {R : Type 0} {Reads : Bool → List Token → R → Type 0} {IsBefore : List Token → Type 0} {ts : List Placed} {old : R}
-    {large wrong : Option ℕ} (k : Keeps Reads IsBefore ts old large wrong) where
-  -- the tokens and one more
-  abbrev more : Token → ℕ → List Placed
-  more t place = ts ++ placed t place ∷ []
+player_wrong : (s : State) (value : ℕ) → wrong_in s value ≡ true → (s ≡ Player) × (1 < value)
+player_wrong x0 value e = search (rules, ltb-true)
 
-  one_more : {sound : Bool} {new : R} (t : Token) (place : ℕ) → Reads sound (tokens_of ts ++ t ∷ []) new → Reads sound (tokens_of (more t place)) new
-  one_more {sound} {new} t place r = subst (λ us. Reads sound us new) (sym (tokens_append ts (placed t place ∷ []))) r
+player_right : (s : State) (value : ℕ) → wrong_in s value ≡ false → s ≡ Player → value < 2
+player_right s value e is = let h = ltb-false 1 value (subst (λ q. wrong_in q value ≡ false) is e) in omega (arith, h)
 
-  pub token_kept : (BeginsText : List Token → Type 0) (new : R) (taken : Bool) (t : Token) (place : ℕ) → fits t ≡ true
-      → TakesToken Reads BeginsText old new taken t
-      → TakenOr taken (Keeps Reads IsBefore (more t place) new large wrong) (Stops BeginsText (tokens_of ts) t)
-  token_kept BeginsText new true t place f takes = search (rules, one_more, first_large-fit, first_player-more, k.reads, k.numbers, k.players)
-  token_kept BeginsText new false t place f takes = takes (is_none large && is_none wrong) (tokens_of ts) k.reads
-
-  module _ (weaker : (sound later : Bool) (ts : List Token) (it : R) → (later ≡ true → sound ≡ true) → Reads sound ts it → Reads later ts it)
-      {n place small : ℕ} {later : Option ℕ} (t : IsTaken n place large later small) where
-    -- what was read, while the faults are at most these
-    as_far : (wrong' : Option ℕ) → (wrong' ≡ None → wrong ≡ None) → Reads (is_none later && is_none wrong') (tokens_of ts) old
-    as_far wrong' w = search (rules, both_none, taken_none, k.reads)
-
-    value : (wrong' : Option ℕ) → (is_none later && is_none wrong') ≡ true → small ≡ n
-    value wrong' e = (taken_none t (both_none later wrong' e).0).1
-
-    pub number_kept : (BeginsText : List Token → Type 0) (new : R) (took : Step) → TakesNumber Reads BeginsText IsBefore old new small took
-        → NumberTaken took (Stops BeginsText (tokens_of ts) (Number n)) (Keeps Reads IsBefore (more (Number n) place) new later wrong)
-        (Keeps Reads IsBefore (more (Number n) place) new later (first_at wrong (nat_lt 1 small) place))
-    number_kept BeginsText new step.Refused takes = takes (is_none later && is_none wrong) n (tokens_of ts) (as_far wrong (λ e. e)) (value wrong)
-    number_kept BeginsText new step.Taken takes = record {
-      reads = one_more (Number n) place (takes (is_none later && is_none wrong) n (tokens_of ts) (as_far wrong (λ e. e)) (value wrong));
-      numbers = taken_large t ts k.numbers;
-      players = λ l. first_player-more IsBefore ts (placed (Number n) place ∷ []) wrong (k.players (taken_none t l).0);
-    }
-    number_kept BeginsText new step.Player takes =
-        let wrong' = first_at wrong (nat_lt 1 small) place in
-        record {
-          reads = one_more (Number n) place
-              ((takes (is_none later && is_none wrong') n (tokens_of ts)
-              (as_far wrong' (λ e. (none_known wrong (nat_lt 1 small) place e).0)) (value wrong')).read
-              (λ e. let (l, w) = both_none later wrong' e in
-              let y = ltb-false 1 small (none_known wrong (nat_lt 1 small) place w).1 in
-              let v = (taken_none t l).1 in
-              omega (arith, y, v)));
-          numbers = taken_large t ts k.numbers;
-          players = λ l.
-              let (u, v) = taken_none t l in
-              first_player-number IsBefore ts wrong (nat_lt 1 small) n place (k.players u)
-              (λ w. (takes (is_none later && is_none wrong) n (tokens_of ts) (as_far wrong (λ e. e)) (value wrong)).before (rw (l, w) refl))
-              (λ g. let x = ltb-true 1 small g in omega (arith, v));
-        }
-
--- the number is this step
-pub step_is : (A B C : Type 0) {took is : Step} → took ≡ is → NumberTaken took A B C → NumberTaken is A B C
-step_is A B C e n = subst (λ (s : Step). NumberTaken s A B C) e n
+module _ {R : Type 0} {Reads : Bool → List Token → State → R → Type 0} {IsBefore : List Token → Type 0} {ts : List Placed} {state : State} {old : R}
+    {large wrong : Option ℕ} (k : Keeps Reads IsBefore ts state old large wrong)
+    (weaker : (sound later : Bool) (ts : List Token) (s : State) (it : R) → (later ≡ true → sound ≡ true) → Reads sound ts s it → Reads later ts s it) where
+  -- the token was read
+  pub token_kept : {place small : ℕ} {later : Option ℕ} (t : Token) → IsTaken (number_of t) place large later small → (table : Table) (to : State) (new : R)
+      → table state (symbol_of t) ≡ Some to → Enters table Reads old new to small
+      → ((us : List Token) (it : R) → Reads true us state it → to ≡ Player → IsBefore us)
+      → Keeps Reads IsBefore (ts ++ placed t place ∷ []) to new later (first_at wrong (wrong_in to small) place)
+  token_kept {place} {small} {later} t taken table to new e enters before =
+      let wrong' = first_at wrong (wrong_in to small) place in
+      let sound' = is_none later && is_none wrong' in
+      let old_reads : Reads sound' (tokens_of ts) state old = search (rules, weaker, both_none, taken_none, none_known, k.reads) in
+      record {
+        reads = subst (λ us. Reads sound' us to new) (sym (tokens_append ts (placed t place ∷ []))) (enters sound' (tokens_of ts) state t old_reads e (λ u.
+            let (l, w) = both_none later wrong' u in
+            let v = (none_known wrong (wrong_in to small) place w).1 in
+            ((taken_none taken l).1, player_right to small v)));
+        numbers = taken_large taken t ts refl k.numbers;
+        players = λ l.
+            let (m, v) = taken_none taken l in
+            first_player-token IsBefore ts wrong (wrong_in to small) t place (k.players m)
+            (λ b w. before (tokens_of ts) old (let r = k.reads in rw (m, w) at r) (player_wrong to small b).0)
+            (λ b. subst (λ n. 1 < n) v (player_wrong to small b).1);
+      }
 
 -- a text with a token that is not expected has a later lexical fault, or is at fault there
 module _ {BeginsText : List Token → Type 0} {text : List ℕ} {from to : ℕ} (u : IsUnexpected BeginsText text from to) where

@@ -15,8 +15,8 @@ use Rattle.pg_text.specs.Laws.{WrittenGameReads, WrittenSolutionReads, WrittenGa
 use Rattle.pg_game.specs.private.Described.{spec_at, specs_of}
 use Rattle.pg_game.proofs.Described.{described_game, one_described, described_sound}
 use Rattle.pg_text.proofs.Spelling.{one_spelling}
-use Rattle.pg_text.proofs.GameRun.{one_reading}
-use Rattle.pg_text.proofs.SolutionRun.{one_lines}
+use Rattle.pg_text.proofs.Parse.{one_reading}
+use Rattle.pg_text.proofs.OneSolutionFault.{one_lines}
 use Rattle.pg_text.proofs.Identifiers.{number_at, stranger-append}
 use Rattle.pg_text.proofs.SolutionTable.{IsChoice, player_back, find_none, row_is, at_home}
 use Rattle.pg_text.proofs.WrittenSpells.{line_of, row_line, row_lines, written_lines, written_grammar, written_owners, spells_game, spells_solution}

@@ -10,7 +10,7 @@ use Rattle.pg_text.proofs.SolutionReads.{owner_small}
 use Rattle.pg_text.proofs.FirstFaults.{all-append}
 use Rattle.pg_game.specs.Graph.{priority_of}
 use Rattle.pg_text.proofs.Numerals.{numeral_spells}
-use Rattle.pg_text.proofs.GameRun.{further, separated-first}
+use Rattle.pg_text.proofs.Parse.{further, separated-first}
 use Rattle.pg_text.proofs.Written.{join_first}
 use Rattle.pg_text.specs.GameText as games
 use Rattle.pg_text.specs.SolutionText as solutions

@@ -1,17 +1,16 @@
-//! The grammar of game texts (PGSolver's manual). The state says what was read last, and the fields hold the parts of the line
-//! begun.
+//! What a game text says (PGSolver's manual): the lines that were read, and the parts of the line begun.
 
 ghost use Rattle.std.specs.Prelude.{IfOk, true, []};
 ghost use Rattle.pg_text.specs.private.GameReads.{ReadsGame};
 
-use crate::reader::{Grammar, Step, player};
+use crate::reader::{Grammar, player};
+use crate::table::{State, Symbol, next_in_game};
 use pg_game::{GameBuilder, IncrementalBuilder, Memory, Player};
 use std::alloc::Global;
 
 /// A game text that is being read.
 #[derive(Drop)]
 pub struct GameText {
-    state: State,
     specs: IncrementalBuilder,
     id: u32,
     priority: u32,
@@ -21,10 +20,9 @@ pub struct GameText {
 impl GameText {
     /// Nothing was read.
     pub fn new(alloc: Global) -> Result<GameText, Memory>
-        ensures { IfOk result (λ text. ReadsGame true [] text) }
+        ensures { IfOk result (λ text. ReadsGame true [] State.Start text) }
     {
         Ok(GameText {
-            state: State::Start,
             specs: IncrementalBuilder::new(alloc)?,
             id: 0,
             priority: 0,
@@ -36,7 +34,9 @@ impl GameText {
 impl Grammar for GameText {
     ghost use Rattle.pg_text.specs.GameText.{BeginsGameText, IsBeforeOwner};
     ghost use Rattle.pg_text.specs.Reading.{IsSomeGameText};
-    ghost use Rattle.pg_text.specs.private.GameReads.{ReadsGame, SaysSpecs, weaker};
+    ghost use Rattle.pg_text.specs.private.Machine.{weaker};
+    ghost use Rattle.pg_text.specs.private.Tables.{game_table};
+    ghost use Rattle.pg_text.specs.private.GameReads.{ReadsGame, SaysSpecs};
 
     type Lines = GameBuilder;
 
@@ -48,112 +48,45 @@ impl Grammar for GameText {
 
     ghost Says = { SaysSpecs };
 
+    ghost table = { game_table };
+
     ghost Reads = { ReadsGame };
 
     #[inline(always)]
-    fn number(&mut self, value: u32) -> Result<Step, Memory> {
-        match self.state {
-            State::Start | State::Headed | State::Started | State::Ready => {
-                self.id = value;
-                self.state = State::Id;
-                Ok(Step::Taken)
-            }
-            State::HeadWord => {
-                self.state = State::HeadNumber;
-                Ok(Step::Taken)
-            }
-            State::StartWord => {
-                self.state = State::StartNumber;
-                Ok(Step::Taken)
-            }
+    fn next(state: State, symbol: Symbol) -> Option<State> {
+        next_in_game(state, symbol)
+    }
+
+    #[inline(always)]
+    fn enter(&mut self, state: State, value: u32) -> Result<(), Memory> {
+        match state {
             State::Id => {
-                self.priority = value;
-                self.state = State::Priority;
-                Ok(Step::Taken)
+                self.id = value;
+                Ok(())
             }
             State::Priority => {
+                self.priority = value;
+                Ok(())
+            }
+            State::Player => {
                 self.owner = player(value);
                 self.specs.clear();
-                self.state = State::Owner;
-                Ok(Step::Player)
+                Ok(())
             }
-            State::Owner | State::Listing => {
+            State::Vertex => {
                 self.specs.push(value)?;
-                self.state = State::Successor;
-                Ok(Step::Taken)
+                Ok(())
             }
-            _ => Ok(Step::Refused),
-        }
-    }
-
-    fn word(&mut self, letters: &[u8]) -> bool {
-        match self.state {
-            State::Start => {
-                if letters == b"parity".as_slice() {
-                    self.state = State::HeadWord;
-                    true
-                } else if letters == b"start".as_slice() {
-                    self.state = State::StartWord;
-                    true
-                } else {
-                    false
-                }
-            }
-            State::Headed => {
-                if letters == b"start".as_slice() {
-                    self.state = State::StartWord;
-                    true
-                } else {
-                    false
-                }
-            }
-            _ => false,
-        }
-    }
-
-    fn name(&mut self) -> bool {
-        match self.state {
-            State::Successor => {
-                self.state = State::Named;
-                true
-            }
-            _ => false,
-        }
-    }
-
-    #[inline(always)]
-    fn comma(&mut self) -> bool {
-        match self.state {
-            State::Successor => {
-                self.state = State::Listing;
-                true
-            }
-            _ => false,
-        }
-    }
-
-    #[inline(always)]
-    fn semicolon(&mut self) -> Result<bool, Memory> {
-        match self.state {
-            State::HeadNumber => {
-                self.state = State::Headed;
-                Ok(true)
-            }
-            State::StartNumber => {
-                self.state = State::Started;
-                Ok(true)
-            }
-            State::Successor | State::Named => {
+            State::Ready => {
                 self.specs.close(self.id, self.priority, self.owner)?;
-                self.state = State::Ready;
-                Ok(true)
+                Ok(())
             }
-            _ => Ok(false),
+            _ => Ok(()),
         }
     }
 
-    fn is_complete(&self) -> bool {
-        match self.state {
+    fn is_complete(state: State) -> bool {
+        match state {
             State::Ready => true,
             _ => false,
         }
@@ -163,24 +96,5 @@ impl Grammar for GameText {
         self.specs.finish()
     }
 
-    ghost weaker = { weaker };
-}
-
-/// What of a game text was read last.
-#[derive(Clone, Copy, PartialEq, Eq)]
-enum State {
-    Start,
-    HeadWord,
-    HeadNumber,
-    Headed,
-    StartWord,
-    StartNumber,
-    Started,
-    Ready,
-    Id,
-    Priority,
-    Owner,
-    Listing,
-    Successor,
-    Named,
+    ghost weaker = { λ sound later ts s it h k. weaker h k };
 }

@@ -10,6 +10,7 @@ mod lexer;
 mod reader;
 mod reading;
 mod solution_text;
+mod table;
 mod writing;
 
 pub use fault::{SolutionTextFault, TextFault};

@@ -1,36 +1,28 @@
-//! One reader for the texts of all grammars, in one pass over the tokens (PGSolver's manual). A number above the limit or a
-//! player above 1 is only noted, since the grammar is judged first. A token that is not allowed where it is ends the pass,
-//! and the rest is searched once for a byte that begins no token.
+//! One reader for the texts of all grammars, in one pass over the tokens (PGSolver's manual). A grammar's table says which
+//! state follows. A number above the limit or a player above 1 is only noted, since the grammar is judged first. A token that
+//! is not allowed where it is ends the pass, and the rest is searched once for a byte that begins no token.
 
 ghost use Rattle.std.specs.Prelude.{◌≡◌, ℕ, ◌≤◌, true, length, IfOk, MatchResult, List, [], Bool};
-ghost use Rattle.pg_text.specs.Token.{Number, Placed, Spells, Token, Word, Name, Comma, Semicolon};
+ghost use Rattle.pg_text.specs.Token.{Placed, Spells, Token};
 ghost use Rattle.pg_text.specs.Reading.{max_text};
 ghost use Rattle.pg_text.specs.private.Lexeme.{fitting};
 ghost use Rattle.pg_text.specs.private.Parsing.{KeepsReader, ReaderTakes, TakesLexeme, IsUnexpected, SpellsLines, IsParseFaultOf};
-ghost use Rattle.pg_text.specs.private.Grammar.{TakesNumber, TakesToken, IsComplete};
+ghost use Rattle.pg_text.specs.private.Machine.{symbol_of, number_of};
 ghost use Rattle.pg_text.specs.GameText.{player_of};
-ghost use Rattle.pg_text.specs.private.FirstFault.{first_at};
+ghost use Rattle.pg_text.specs.private.FirstFault.{first_at, wrong_in};
 
 use crate::fault::ParseFault;
 use crate::lexer::{Kind, Lexeme, first_invalid, next_token};
+use crate::table::{State, Symbol, word_symbol};
 use pg_game::{Memory, Player};
 
-/// What a number is where it is.
-#[derive(Clone, Copy, PartialEq, Eq)]
-pub enum Step {
-    /// No number can be there.
-    Refused,
-    /// A number with no range of its own.
-    Taken,
-    /// A player, who is 0 or 1.
-    Player,
-}
-
-/// A text of a grammar, read up to some token.
+/// What a text of a grammar says, read up to some token.
 pub trait Grammar {
-    ghost use Rattle.std.specs.Prelude.{ℕ, ◌≡◌, Bool, true, List, IfOk};
-    ghost use Rattle.pg_text.specs.Token.{Token, Word, Name, Comma, Semicolon};
-    ghost use Rattle.pg_text.specs.private.Grammar.{TakesNumber, TakesToken, IsComplete};
+    ghost use Rattle.std.specs.Prelude.{ℕ, ◌≡◌, Bool, true, List, Option, Some, None, OnOk};
+    ghost use Rattle.pg_text.specs.Token.{Token};
+    ghost use Rattle.pg_text.specs.declared.table.State.{State};
+    ghost use Rattle.pg_text.specs.declared.table.State.TheVariants as states;
+    ghost use Rattle.pg_text.specs.private.Machine.{Table, symbol_of, Stops, Enters, IsComplete};
 
     /// What a text says.
     type Lines;
@@ -47,48 +39,44 @@ pub trait Grammar {
     /// The tokens are a text that says this, and its players are 0 and 1.
     ghost Says: { List Token → Self.Lines → Type 0 };
 
-    /// These tokens were read. Where the flag is true, this holds what they say, and the players so far are 0 and 1.
-    ghost Reads: { Bool → List Token → Self → Type 0 };
+    /// The state after a state and a symbol.
+    ghost table: { Table };
 
-    /// Takes a number. Its value has no effect on what may follow.
-    fn number(&mut self, value: u32) -> Result<Step, Memory>
-        ensures { IfOk result (λ step. TakesNumber Reads BeginsText IsBeforePlayer self.old self.new value step) };
+    /// These tokens lead to the state. Where the flag is true, this holds what they say, and the players so far are 0 and 1.
+    ghost Reads: { Bool → List Token → State → Self → Type 0 };
 
-    /// Takes a word; false where it is not allowed.
-    fn word(&mut self, letters: &[u8]) -> bool
-        ensures { TakesToken Reads BeginsText self.old self.new result (Word letters.now) };
+    /// The state after a symbol; none where the symbol is not allowed.
+    fn next(state: State, symbol: Symbol) -> Option<State>
+        ensures table { result ≡ table state symbol }
+        ensures stops { (sound : Bool) (ts : List Token) (it : Self) (t : Token) → Reads sound ts state it → symbol ≡ symbol_of t → result ≡ None
+            → Stops BeginsText ts t }
+        ensures player { (ts : List Token) (it : Self) → Reads true ts state it → result ≡ Some states.Player → IsBeforePlayer ts };
 
-    /// Takes a name; false where none is allowed.
-    fn name(&mut self) -> bool
-        ensures { (bytes : List ℕ) → TakesToken Reads BeginsText self.old self.new result (Name bytes) };
+    /// Enters a state by a token, which has this value if it is a number.
+    fn enter(&mut self, state: State, value: u32) -> Result<(), Memory>
+        ensures { OnOk result (Enters table Reads self.old self.new state value) };
 
-    /// Takes a comma; false where none is allowed.
-    fn comma(&mut self) -> bool
-        ensures { TakesToken Reads BeginsText self.old self.new result Comma };
-
-    /// Takes a semicolon; false where none is allowed.
-    fn semicolon(&mut self) -> Result<bool, Memory>
-        ensures { IfOk result (λ taken. TakesToken Reads BeginsText self.old self.new taken Semicolon) };
-
-    /// Whether the tokens are a text.
-    fn is_complete(&self) -> bool
-        ensures { (sound : Bool) (ts : List Token) → Reads sound ts self.now → IsComplete BeginsText IsText ts result };
+    /// Whether a text may end in this state.
+    fn is_complete(state: State) -> bool
+        ensures { (sound : Bool) (ts : List Token) (it : Self) → Reads sound ts state it → IsComplete BeginsText IsText ts result };
 
     /// What the text says.
     fn lines(self) -> Self::Lines
-        ensures { (ts : List Token) → Reads true ts self → IsText ts → Says ts result };
+        ensures { (ts : List Token) (s : State) → Reads true ts s self → IsText ts → Says ts result };
 
-    ghost weaker: { (sound later : Bool) (ts : List Token) (it : Self) → (later ≡ true → sound ≡ true) → Reads sound ts it → Reads later ts it };
+    ghost weaker: { (sound later : Bool) (ts : List Token) (s : State) (it : Self) → (later ≡ true → sound ≡ true) → Reads sound ts s it
+        → Reads later ts s it };
 }
 
 /// What a text of a grammar says, of which nothing is read yet.
 pub fn read_lines<G: Grammar + Drop>(grammar: G, text: &[u8]) -> Result<G::Lines, ParseFault>
     requires size { length text.now ≤ max_text }
-    requires start { G.Reads true [] grammar }
+    requires start { G.Reads true [] State.Start grammar }
     ensures { MatchResult result (λ lines. SpellsLines G.Says text.now lines)
         (λ e. IsParseFaultOf G.BeginsText G.IsText G.IsBeforePlayer text.now e) }
 {
     let mut reader = Reader {
+        state: State::Start,
         grammar,
         large: None,
         wrong: None,
@@ -119,47 +107,51 @@ pub fn player(n: u32) -> Player
 /// A text that is being read, the first number above the limit, and the first player above 1.
 #[derive(Drop)]
 struct Reader<G> {
+    state: State,
     grammar: G,
     large: Option<u32>,
     wrong: Option<u32>,
 }
 
 impl<G: Grammar + Drop> Reader<G> {
-    /// Takes a number, which has no value where it is above the limit; false where none is allowed.
-    #[inline(always)]
-    fn number(&mut self, value: Option<u32>, place: u32) -> Result<bool, Memory>
-        ensures { IfOk result (λ taken. (n : ℕ) → value ≡ fitting n
-            → ReaderTakes G.Reads G.BeginsText G.IsBeforePlayer self.old self.new taken (Number n) place) }
-    {
-        let small = value.unwrap_or(0);
-        let step = self.grammar.number(small)?;
-        note_first(&mut self.large, value.is_none(), place);
-        match step {
-            Step::Refused => Ok(false),
-            Step::Taken => Ok(true),
-            Step::Player => {
-                note_first(&mut self.wrong, 1 < small, place);
-                Ok(true)
-            }
-        }
-    }
-
-    /// Takes the token between the places; false where it is not allowed there.
+    /// Takes a token; false where it is not allowed.
     #[inline(always)]
     fn take(&mut self, text: &[u8], lexeme: Lexeme) -> Result<bool, Memory>
         requires size { length text.now ≤ max_text }
         requires order { lexeme.from ≤ lexeme.to }
         requires within { lexeme.to ≤ length text.now }
-        ensures { IfOk result (λ taken. TakesLexeme (ReaderTakes G.Reads G.BeginsText G.IsBeforePlayer self.old self.new) text.now lexeme taken) }
+        ensures { IfOk result (λ taken. TakesLexeme (ReaderTakes G.Reads G.BeginsText G.IsBeforePlayer self.old self.new taken) text.now lexeme) }
     {
+        let place = lexeme.from as u32;
         match lexeme.kind {
-            Kind::Number(value) => self.number(value, lexeme.from as u32),
-            Kind::Word => Ok(self.grammar.word(&text[lexeme.from..lexeme.to])),
-            Kind::Name => Ok(self.grammar.name()),
-            Kind::Comma => Ok(self.grammar.comma()),
-            Kind::Semicolon => self.grammar.semicolon(),
-            Kind::End => Ok(false),
-            Kind::Invalid => Ok(false),
+            Kind::Number(value) => self.step(Symbol::Number, value, place),
+            Kind::Word => {
+                let symbol = word_symbol(&text[lexeme.from..lexeme.to]);
+                self.step(symbol, Some(0), place)
+            }
+            Kind::Name => self.step(Symbol::Name, Some(0), place),
+            Kind::Comma => self.step(Symbol::Comma, Some(0), place),
+            Kind::Semicolon => self.step(Symbol::Semicolon, Some(0), place),
+            Kind::End | Kind::Invalid => Ok(false),
+        }
+    }
+
+    /// Takes the token at the place, by its symbol and its value, which is 0 of what is no number, and none above the limit.
+    #[inline(always)]
+    fn step(&mut self, symbol: Symbol, value: Option<u32>, place: u32) -> Result<bool, Memory>
+        ensures { IfOk result (λ taken. (t : Token) → symbol ≡ symbol_of t → value ≡ fitting (number_of t)
+            → ReaderTakes G.Reads G.BeginsText G.IsBeforePlayer self.old self.new taken t place) }
+    {
+        match G::next(self.state, symbol) {
+            Some(state) => {
+                let small = value.unwrap_or(0);
+                self.grammar.enter(state, small)?;
+                self.state = state;
+                note_first(&mut self.large, value.is_none(), place);
+                note_first(&mut self.wrong, is_wrong(state, small), place);
+                Ok(true)
+            }
+            None => Ok(false),
         }
     }
 
@@ -168,7 +160,7 @@ impl<G: Grammar + Drop> Reader<G> {
         ensures { (text : List ℕ) (ts : List Placed) → Spells 0 text ts → end ≡ length text → KeepsReader G.Reads G.IsBeforePlayer ts self
             → MatchResult result (λ lines. SpellsLines G.Says text lines) (λ e. IsParseFaultOf G.BeginsText G.IsText G.IsBeforePlayer text e) }
     {
-        if !self.grammar.is_complete() {
+        if !G::is_complete(self.state) {
             return Err(ParseFault::Syntax(end));
         }
         if let Some(at) = self.large {
@@ -178,6 +170,17 @@ impl<G: Grammar + Drop> Reader<G> {
             return Err(ParseFault::Player(at));
         }
         Ok(self.grammar.lines())
+    }
+}
+
+/// Whether the value is no player's, where a player was read.
+#[inline(always)]
+fn is_wrong(state: State, value: u32) -> bool
+    ensures { result ≡ wrong_in state value }
+{
+    match state {
+        State::Player => 1 < value,
+        _ => false,
     }
 }
 

@@ -1,5 +1,5 @@
-//! The grammar of solution texts (PGSolver's manual), and the rows that their lines say of a game's vertices. One pass looks
-//! each identifier up once. A line of a stranger ends it, but a second line of a vertex is only noted, since a stranger
+//! What a solution text says (PGSolver's manual), and the rows that its lines say of a game's vertices. One pass looks each
+//! identifier up once. A line of a stranger ends it, but a second line of a vertex is only noted, since a stranger
 //! further on is named before it.
 
 ghost use Rattle.std.specs.Prelude.{◌≡◌, ◌<◌, ◌≤◌, ◌++◌, ◌∷◌, [], List, length, map, slice_index_or, true, false, if◌then◌else◌};
@@ -17,14 +17,14 @@ ghost use Rattle.pg_text.specs.private.SolutionTable.{HoldsTable, IsNamed, IsStr
 ghost use Rattle.pg_text.specs.Known.{AreKnownLinesOf};
 
 use crate::fault::{ParseFault, SolutionTextFault};
-use crate::reader::{Grammar, Step, player, read_lines};
+use crate::reader::{Grammar, player, read_lines};
+use crate::table::{State, Symbol, next_in_solution};
 use pg_game::{ForwardGame, Mask, Memory, Player, Sequence};
 use std::alloc::Global;
 
 /// A solution text that is being read.
 #[derive(Drop)]
 pub struct SolutionText {
-    state: State,
     lines: Vec<SolutionLine>,
     id: u32,
     winner: Player,
@@ -34,10 +34,9 @@ pub struct SolutionText {
 impl SolutionText {
     /// Nothing was read.
     pub fn new(alloc: Global) -> SolutionText
-        ensures { ReadsSolution true [] result }
+        ensures { ReadsSolution true [] State.Start result }
     {
         SolutionText {
-            state: State::Start,
             lines: Vec::new(alloc),
             id: 0,
             winner: Player::Even,
@@ -50,7 +49,9 @@ impl Grammar for SolutionText {
     ghost use Rattle.std.specs.Prelude.{map};
     ghost use Rattle.pg_text.specs.SolutionText.{BeginsSolutionText, IsBeforeWinner};
     ghost use Rattle.pg_text.specs.Reading.{IsSomeSolutionText};
-    ghost use Rattle.pg_text.specs.private.SolutionReads.{ReadsSolution, SaysLines, line_of, weaker};
+    ghost use Rattle.pg_text.specs.private.Machine.{weaker};
+    ghost use Rattle.pg_text.specs.private.Tables.{solution_table};
+    ghost use Rattle.pg_text.specs.private.SolutionReads.{ReadsSolution, SaysLines, line_of};
 
     type Lines = Vec<SolutionLine>;
 
@@ -62,80 +63,46 @@ impl Grammar for SolutionText {
 
     ghost Says = { λ ts lines. SaysLines ts (map line_of lines.items) };
 
+    ghost table = { solution_table };
+
     ghost Reads = { ReadsSolution };
 
     #[inline(always)]
-    fn number(&mut self, value: u32) -> Result<Step, Memory> {
-        match self.state {
-            State::Start | State::Ready => {
-                self.id = value;
-                self.state = State::Id;
-                Ok(Step::Taken)
-            }
-            State::HeadWord => {
-                self.state = State::HeadNumber;
-                Ok(Step::Taken)
-            }
-            State::Id => {
-                self.winner = player(value);
-                self.choice = None;
-                self.state = State::Winner;
-                Ok(Step::Player)
-            }
-            State::Winner => {
-                self.choice = Some(value);
-                self.state = State::Choice;
-                Ok(Step::Taken)
-            }
-            _ => Ok(Step::Refused),
-        }
-    }
-
-    fn word(&mut self, letters: &[u8]) -> bool {
-        match self.state {
-            State::Start => {
-                if letters == b"paritysol".as_slice() {
-                    self.state = State::HeadWord;
-                    true
-                } else {
-                    false
-                }
-            }
-            _ => false,
-        }
-    }
-
-    fn name(&mut self) -> bool {
-        false
-    }
-
-    fn comma(&mut self) -> bool {
-        false
+    fn next(state: State, symbol: Symbol) -> Option<State> {
+        next_in_solution(state, symbol)
     }
 
     #[inline(always)]
-    fn semicolon(&mut self) -> Result<bool, Memory> {
-        match self.state {
-            State::HeadNumber => {
-                self.state = State::Ready;
-                Ok(true)
+    fn enter(&mut self, state: State, value: u32) -> Result<(), Memory> {
+        match state {
+            State::Id => {
+                self.id = value;
+                Ok(())
             }
-            State::Winner | State::Choice => {
+            State::Player => {
+                self.winner = player(value);
+                self.choice = None;
+                Ok(())
+            }
+            State::Vertex => {
+                self.choice = Some(value);
+                Ok(())
+            }
+            State::Ready => {
                 self.lines.push(SolutionLine {
                     id: self.id,
                     winner: self.winner,
                     choice: self.choice,
                 })?;
-                self.state = State::Ready;
-                Ok(true)
+                Ok(())
             }
-            _ => Ok(false),
+            _ => Ok(()),
         }
     }
 
-    fn is_complete(&self) -> bool {
-        match self.state {
-            State::Start | State::Ready => true,
+    fn is_complete(state: State) -> bool {
+        match state {
+            State::Start | State::Headed | State::Ready => true,
             _ => false,
         }
     }
@@ -144,7 +111,7 @@ impl Grammar for SolutionText {
         self.lines
     }
 
-    ghost weaker = { weaker };
+    ghost weaker = { λ sound later ts s it h k. weaker h k };
 }
 
 /// One line of a solution text.
@@ -200,18 +167,6 @@ pub fn known_of(
         (λ e. IsKnownRowFaultOf game.now (map line_of lines.now) e) }
 {
     table_of(alloc, game, lines)?.into_known(alloc, game)
-}
-
-/// What of a solution text was read last.
-#[derive(Clone, Copy, PartialEq, Eq)]
-enum State {
-    Start,
-    HeadWord,
-    HeadNumber,
-    Ready,
-    Id,
-    Winner,
-    Choice,
 }
 
 /// The table of these lines.

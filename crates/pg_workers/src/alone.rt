@@ -1,12 +1,12 @@
 //! Solving in the calling thread: the jobs of a run one after another on one board, and then the recursion on what they left
 //! unsettled (Zielonka 1998). A static library solves so, since it may start no thread.
 
-ghost use Rattle.std.specs.Prelude.{◌≡◌, ◌≤◌, length, IfOk, IfErr, ℕ};
+ghost use Rattle.std.specs.Prelude.{◌≡◌, ◌≤◌, length, IfOk, IfErr, IfSome, ℕ};
 ghost use Rattle.pg_game.specs.declared.player.Player.{Player};
 ghost use Rattle.pg_text.specs.Solution.{IsExactSolution};
 ghost use Rattle.pg_workers.specs.Known.{IsSolveFault, IsKnownRegion};
 
-use crate::jobs::Options;
+use crate::jobs::{BUDGET, Options};
 use crate::known::{SolveFault, board_with};
 use pg_board::{Board, Refusal};
 use pg_dominion::Claim;
@@ -38,6 +38,22 @@ pub fn solve_board(alloc: Global, mut board: Board<'_>) -> Result<Solution, Memo
         Some(solution) => Ok(solution),
         None => unreachable!(),
     }
+}
+
+/// The same as `solve_board`, unless the recursion needs more steps than these (`Board::finish_within`): then it gives up, and
+/// there is no solution. The searches before the recursion have budgets of their own.
+pub fn solve_board_within(
+    alloc: Global,
+    mut board: Board<'_>,
+    steps: u64,
+) -> Result<Option<Solution>, Memory>
+    ensures { IfOk result (λ found. IfSome found (λ s. IsExactSolution board.entry.graph s.rows)) }
+{
+    post_jobs(alloc, &mut board)?;
+    if !board.finish_within(alloc, steps)? {
+        return Ok(None);
+    }
+    board.solution(alloc)
 }
 
 /// Posts what the standard finder finds for each job but the last, which is the recursion, until the board is full.
@@ -82,7 +98,5 @@ fn post(alloc: Global, board: &mut Board<'_>, claim: &Claim) -> Result<(), Memor
     }
 }
 
-/// The most vertices of a small dominion, and the most choices that a search tries, as the program has them by default.
+/// The most vertices of a small dominion, as the program has it by default.
 const BOUND: u32 = 4;
-
-const BUDGET: u64 = 10_000;

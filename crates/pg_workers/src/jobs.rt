@@ -176,6 +176,9 @@ impl Jobs {
     }
 }
 
+/// The most choices that a search for a small dominion tries, in the program and in the calling thread.
+pub const BUDGET: u64 = 10_000;
+
 /// Options for solving a game.
 ///
 /// `workers`: their number, 1 to 64. `bound`: the most vertices of a small dominion, 0 to 8; 0 for no search. `budget`: the

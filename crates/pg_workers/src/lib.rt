@@ -10,8 +10,8 @@ mod solve;
 mod threads;
 mod worker;
 
-pub use alone::{solve_alone, solve_board};
-pub use jobs::{Drawn, Jobs, Options, Ticket};
+pub use alone::{solve_alone, solve_board, solve_board_within};
+pub use jobs::{BUDGET, Drawn, Jobs, Options, Ticket};
 pub use known::SolveFault;
 pub use report::ReportRow;
 pub use solve::{Outcome, solve_game};

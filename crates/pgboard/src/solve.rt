@@ -27,7 +27,7 @@ use pg_dominion::ClaimFault;
 use pg_finders::Finder;
 use pg_game::{Game, Memory, Player, Sequence};
 use pg_text::{Known, SolutionTextFault, read_known, write_solution, write_winners};
-use pg_workers::{Gate, Options, SolveFault, solve_game};
+use pg_workers::{BUDGET, Gate, Options, SolveFault, solve_game};
 use std::alloc::{AllocError, Global};
 use std::sync::Wait;
 use std::thread::Threads;
@@ -228,9 +228,6 @@ fn solve_text<R: Threads + Wait + Sync>(
     let text = write_solution(alloc, game, &solution)?;
     Ok(text)
 }
-
-/// The number of choices that a search for a small dominion may try.
-const BUDGET: u64 = 10_000;
 
 /// Why a game is not solved from what is known of it.
 fn unsolved(game: &Game, known: &Known, fault: SolveFault) -> RunFault

@@ -12,7 +12,7 @@ use Rattle.pg_board.specs.State.{IsGoodOn}
 use Rattle.pg_board.specs.Journal.{state_of, IsDominionAfter}
 use Rattle.pg_board.specs.Refusal.{Refuses}
 use Rattle.pg_board.specs.Post.{Adds, AnswersDominion, SettlesUnlessMemory}
-use Rattle.pgboard_c.specs.declared.post.PostedNumbers.{PostedNumbers}
+use Rattle.pgboard_c.specs.declared.board.PostedNumbers.{PostedNumbers}
 use Rattle.pgboard_c.specs.Posting.{ClaimLists, claim_of_lists, IsClaim, IsPosted, IsRefused, IsFaultOfDominion, refusal_fault}
 
 pub posted_of : (s t : Play) (c : ClaimLists) (claim : Claim) (x : Posted) (n : PostedNumbers) → claim ≡ claim_of_lists c → IsClaim c → t.graph ≡ s.graph

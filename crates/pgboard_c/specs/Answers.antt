@@ -65,6 +65,11 @@ IsSolveFault a r (fault.Size structure.Results) = (g : Graph) × IsGameOfArrays 
 IsSolveFault a r (fault.Results name) = (g : Graph) × IsGameOfArrays a g × AreUnfitResults g r (fault.Results name)
 IsSolveFault a r other = IsArraysFault a other
 
+-- why solving within a number of steps has no result: it gave up, on a game and results that it could solve, or a fault of solving
+abbrev pub IsSolveWithinFault : GameArrays → ResultArrays → Fault → Type 0
+IsSolveWithinFault a r fault.GaveUp = (g : Graph) × IsGameOfArrays a g × HaveSize g r
+IsSolveWithinFault a r other = IsSolveFault a r other
+
 -- why a solution's struct does not have winners and choices of the game's vertices
 abbrev pub IsUnfitSolution : Graph → ResultArrays → Fault → Type 0
 IsUnfitSolution g s (fault.Size structure.Solution) = s.size ≢ structure_size structure.Solution

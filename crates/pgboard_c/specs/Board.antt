@@ -83,6 +83,11 @@ IsFinished s t = IsFull t.graph (state_of t.journal) × IsLater (Even ∷ Odd �
 abbrev pub IsFinishFault : Fault → Type 0
 IsFinishFault e = e ≡ fault.Memory
 
+-- why a board is not finished within a number of steps: a vertex is unsettled, or memory was refused
+abbrev pub IsFinishWithinFault : Play → Fault → Type 0
+IsFinishWithinFault s fault.GaveUp = IsFull s.graph (state_of s.journal) → ⊥
+IsFinishWithinFault s other = IsFinishFault other
+
 -- the board is full, and the arrays have its winners and choices, which are the game's solution
 pub record AreSolution (s : Play) (r : ResultArrays) : Type 0 where
   pub full : IsFull s.graph (state_of s.journal)

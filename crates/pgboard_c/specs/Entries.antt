@@ -4,7 +4,7 @@ use Rattle.pg_game.specs.Player.{digit_of}
 use Rattle.pg_dominion.specs.Claim.{ClaimRows}
 use Rattle.pg_board.specs.declared.journal.Entry.{Entry}
 use Rattle.pg_board.specs.Play.{Play}
-use Rattle.pgboard_c.specs.declared.entry.EntryNumbers.{EntryNumbers}
+use Rattle.pgboard_c.specs.declared.board.EntryNumbers.{EntryNumbers}
 use Rattle.pgboard_c.specs.declared.fault.BoardFault.TheVariants as board_fault
 use Rattle.pgboard_c.specs.declared.fault.Fault.{Fault}
 use Rattle.pgboard_c.specs.declared.fault.Fault.TheVariants as fault

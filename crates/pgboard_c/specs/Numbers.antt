@@ -126,6 +126,7 @@ answer_of (fault.SolutionText f) = solution_answer f
 answer_of (fault.Capacity size) = answer 50 size 0
 answer_of (fault.Board f) = board_answer f
 answer_of (fault.Post f) = post_answer f
+answer_of fault.GaveUp = answer 90 0 0
 
 -- the answer is the fault's number, and the report has its places
 abbrev pub IsReported : Fault → ℕ → Report → Type 0

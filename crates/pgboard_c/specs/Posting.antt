@@ -13,8 +13,8 @@ use Rattle.pg_board.specs.State.{IsGoodOn, rest_of}
 use Rattle.pg_board.specs.Journal.{state_of, IsDominionAfter}
 use Rattle.pg_board.specs.Refusal.{Refuses}
 use Rattle.pg_board.specs.Post.{Adds, SettlesDominion}
-use Rattle.pgboard_c.specs.declared.post.ClaimArrays.{ClaimArrays}
-use Rattle.pgboard_c.specs.declared.post.PostedNumbers.{PostedNumbers}
+use Rattle.pgboard_c.specs.declared.board.ClaimArrays.{ClaimArrays}
+use Rattle.pgboard_c.specs.declared.board.PostedNumbers.{PostedNumbers}
 use Rattle.pgboard_c.specs.declared.fault.Structure.TheVariants as structure
 use Rattle.pgboard_c.specs.declared.fault.PostFault.TheVariants as post_fault
 use Rattle.pgboard_c.specs.declared.fault.Fault.{Fault}

@@ -1,7 +1,7 @@
 -- The texts for C: a table with one line for each answer. Each has a zero at its end.
 use Rattle.std.specs.Prelude.{ℕ, List, codes, if◌then◌else◌, ◌==◌}
 
--- of the answers on boards, and of every other number
+-- of the answers on boards and on a bound, and of every other number
 abbrev pub board_text : ℕ → List ℕ
 board_text n =
     if n == 70 then codes "the board is open already\0" else
@@ -15,6 +15,7 @@ board_text n =
     if n == 84 then codes "a vertex of the claim is settled for the opponent\0" else
     if n == 85 then codes "all vertices of the claim are settled for the player\0" else
     if n == 86 then codes "a kept edge leads out of the claim and of what is settled for the player\0" else
+    if n == 90 then codes "the recursion needs more steps than the call allows\0" else
     codes "no answer of this library\0"
 
 -- of the answers on texts, buffers and what is known

@@ -1,21 +1,25 @@
 //! The exports on a board that a C program holds: each is the call of a session, through the handle. After any answer but 0 the
 //! board is unchanged, and the call writes only `report`.
 
-ghost use Rattle.std.specs.Prelude.{◌≡◌, ◌≢◌, ◌<◌, ℕ, Option, None, Some, IfErr, OnOk, OnErr, length, slice_index};
+ghost use Rattle.std.specs.Prelude.{◌≡◌, ◌≢◌, ◌<◌, ◌≤◌, ℕ, Option, None, Some, IfOk, IfErr, OnOk, OnErr, length, slice_index};
+ghost use Rattle.pg_board.specs.declared.journal.Refusal.{Refusal};
 ghost use Rattle.pg_board.specs.Play.{Play};
 ghost use Rattle.pg_board.specs.Journal.{state_of};
 ghost use Rattle.pgboard_c.specs.declared.fault.Fault.{Fault};
 ghost use Rattle.pgboard_c.specs.Numbers.{IsReported, IsBlank};
 ghost use Rattle.pgboard_c.specs.Arrays.{game_arrays, result_arrays, IsSameStruct};
-ghost use Rattle.pgboard_c.specs.Board.{board_in, IsLawfulBoard, OnBoard, IsOpened, IsOpenFault, AreStates, IsStateFault, IsFinished, IsFinishFault};
+ghost use Rattle.pgboard_c.specs.Board.{board_in, IsLawfulBoard, OnBoard, IsOpened, IsOpenFault, AreStates, IsStateFault, IsFinished, IsFinishFault, IsFinishWithinFault};
 ghost use Rattle.pgboard_c.specs.Board.{AreSolution, IsSolutionFault, number_settled_on, number_of_entries, winner_number, chosen_number};
+ghost use Rattle.pgboard_c.specs.Entries.{AreEntryRows, IsEntry, IsEntryFault};
+ghost use Rattle.pgboard_c.specs.Posting.{claim_lists, claim_of_lists, IsClaim, IsNoClaim, refusal_fault, IsPosted, IsPostFault};
 
-use crate::fault::{BoardFault, Fault, Report, report_fault, report_none};
+use crate::fault::{BoardFault, Fault, PostFault, Report, Structure, report_fault, report_none};
 use crate::held::Handle;
 use crate::known::NO_WINNER;
-use crate::on_arrays::{Arrays, Results, number_of, write_results};
-use pg_board::Session;
-use pg_game::{Game, Player};
+use crate::on_arrays::{Arrays, Results, choice_from, number_of, player_of, write_results};
+use pg_board::{Posted, Refusal, Session};
+use pg_dominion::{Claim, ClaimFault};
+use pg_game::{Game, Memory, Player, Sequence};
 use std::alloc::Global;
 
 /// Opens a board of the game of the arrays, on which nothing is settled. Keeps none of the arrays.
@@ -34,6 +38,31 @@ pub extern "C" fn pgboard_board_open(
 {
     match open(alloc, board, game) {
         Ok(()) => report_none(report),
+        Err(fault) => report_fault(report, fault),
+    }
+}
+
+/// Posts a claim: if it is good on the board's present state, the board gains one entry. Else the answer is the first reason.
+#[unsafe(no_mangle)]
+pub extern "C" fn pgboard_board_post(
+    alloc: Global,
+    board: &mut Handle,
+    claim: &ClaimArrays,
+    posted: &mut PostedNumbers,
+    report: &mut Report,
+) -> u32
+    ensures posted { result ≡ 0 → (s : Play) × (t : Play) × (board_in board.old ≡ Some s) × (board_in board.new ≡ Some t) × IsPosted s t (claim_lists claim.now) posted.new }
+    ensures blank { result ≡ 0 → IsBlank report.new }
+    ensures refused { result ≢ 0 → (e : Fault) × IsReported e result report.new × OnBoard (board_in board.old) (λ s. IsPostFault s (claim_lists claim.now)) e }
+    ensures lawful { IsLawfulBoard (board_in board.old) × IsLawfulBoard (board_in board.new) }
+    ensures unchanged { result ≢ 0 → board_in board.new ≡ board_in board.old }
+    ensures kept { result ≢ 0 → posted.new ≡ posted.old }
+{
+    match post(alloc, board, claim) {
+        Ok(numbers) => {
+            *posted = numbers;
+            report_none(report)
+        }
         Err(fault) => report_fault(report, fault),
     }
 }
@@ -88,6 +117,36 @@ pub extern "C" fn pgboard_board_entries(alloc: Global, board: &mut Handle) -> u6
     count as u64
 }
 
+/// Writes the entry's numbers, and its rows to the front of the two arrays.
+#[unsafe(no_mangle)]
+pub extern "C" fn pgboard_board_entry(
+    alloc: Global,
+    board: &mut Handle,
+    number: u64,
+    entry: &mut EntryNumbers,
+    vertices: &mut [u32],
+    choices: &mut [u32],
+    report: &mut Report,
+) -> u32
+    ensures found { result ≡ 0 → (s : Play) × (board_in board.old ≡ Some s) × IsEntry s number entry.new vertices.old choices.old vertices.new choices.new }
+    ensures blank { result ≡ 0 → IsBlank report.new }
+    ensures refused { result ≢ 0 → (e : Fault) × IsReported e result report.new
+        × OnBoard (board_in board.old) (λ s. IsEntryFault s number (length vertices.old) (length choices.old)) e }
+    ensures lawful { IsLawfulBoard (board_in board.old) }
+    ensures unchanged { board_in board.new ≡ board_in board.old }
+    ensures kept { result ≢ 0 → entry.new ≡ entry.old }
+    ensures vertices_kept { result ≢ 0 → vertices.new ≡ vertices.old }
+    ensures choices_kept { result ≢ 0 → choices.new ≡ choices.old }
+{
+    match read_entry(alloc, board, number, vertices, choices) {
+        Ok(numbers) => {
+            *entry = numbers;
+            report_none(report)
+        }
+        Err(fault) => report_fault(report, fault),
+    }
+}
+
 /// Settles all vertices that are left, by the recursion, as worker 0.
 #[unsafe(no_mangle)]
 pub extern "C" fn pgboard_board_finish(
@@ -102,6 +161,27 @@ pub extern "C" fn pgboard_board_finish(
     ensures unchanged { result ≢ 0 → board_in board.new ≡ board_in board.old }
 {
     match finish(alloc, board) {
+        Ok(()) => report_none(report),
+        Err(fault) => report_fault(report, fault),
+    }
+}
+
+/// The same as [`pgboard_board_finish`], unless the recursion needs more steps than these. A step begins a subgame. If the call
+/// gives up, the answer is that of [`Fault::GaveUp`].
+#[unsafe(no_mangle)]
+pub extern "C" fn pgboard_board_finish_within(
+    alloc: Global,
+    board: &mut Handle,
+    steps: u64,
+    report: &mut Report,
+) -> u32
+    ensures finished { result ≡ 0 → (s : Play) × (t : Play) × (board_in board.old ≡ Some s) × (board_in board.new ≡ Some t) × IsFinished s t }
+    ensures blank { result ≡ 0 → IsBlank report.new }
+    ensures refused { result ≢ 0 → (e : Fault) × IsReported e result report.new × OnBoard (board_in board.old) IsFinishWithinFault e }
+    ensures lawful { IsLawfulBoard (board_in board.old) × IsLawfulBoard (board_in board.new) }
+    ensures unchanged { result ≢ 0 → board_in board.new ≡ board_in board.old }
+{
+    match finish_within(alloc, board, steps) {
         Ok(()) => report_none(report),
         Err(fault) => report_fault(report, fault),
     }
@@ -138,6 +218,36 @@ pub extern "C" fn pgboard_board_close(alloc: Global, board: &mut Handle)
     *board = Handle::closed(alloc);
 }
 
+/// A claim in arrays: vertices that rise, and the player's choice at each that he owns.
+#[repr(C)]
+pub struct ClaimArrays<'a> {
+    pub size: usize,
+    pub worker: u32,
+    pub player: u32,
+    pub vertices: &'a [u32],
+    pub choices: &'a [u32],
+}
+
+/// The numbers of a post: the entry's number from 0, the number of claimed vertices that were unsettled, and the number of
+/// vertices that the entry settles.
+#[repr(C)]
+#[derive(Clone, Copy)]
+pub struct PostedNumbers {
+    pub entry: u64,
+    pub rest: u64,
+    pub settled: u64,
+}
+
+/// The numbers of an entry: its worker and player, the number of rows that were claimed, which are the first, and of all rows.
+#[repr(C)]
+#[derive(Clone, Copy)]
+pub struct EntryNumbers {
+    pub worker: u32,
+    pub player: u32,
+    pub claimed: u64,
+    pub rows: u64,
+}
+
 fn open(alloc: Global, board: &mut Handle, arrays: &Arrays) -> Result<(), Fault>
     ensures opened { OnOk result (IsOpened (game_arrays arrays.now) (board_in board.new)) }
     ensures lawful { OnOk result (IsLawfulBoard (board_in board.new)) }
@@ -154,6 +264,91 @@ fn open(alloc: Global, board: &mut Handle, arrays: &Arrays) -> Result<(), Fault>
     let _game = session.game();
     *board = Handle::holding(Box::new(alloc, session)?);
     Ok(())
+}
+
+fn post(alloc: Global, board: &mut Handle, claim: &ClaimArrays) -> Result<PostedNumbers, Fault>
+    ensures posted { IfOk result (λ n. (s : Play) × (t : Play) × (board_in board.old ≡ Some s) × (board_in board.new ≡ Some t) × IsPosted s t (claim_lists claim.now) n) }
+    ensures fault { IfErr result (λ e. OnBoard (board_in board.old) (λ s. IsPostFault s (claim_lists claim.now)) e) }
+    ensures lawful { IsLawfulBoard (board_in board.old) × IsLawfulBoard (board_in board.new) }
+    ensures unchanged { OnErr result (board_in board.new ≡ board_in board.old) }
+{
+    let mut session = board.take(alloc)?;
+    let answer = post_on(alloc, &mut session, claim);
+    // for the proof: the contract of this call states what each session is
+    let _game = session.game();
+    *board = Handle::holding(session);
+    answer
+}
+
+fn post_on(
+    alloc: Global,
+    session: &mut Session,
+    given: &ClaimArrays,
+) -> Result<PostedNumbers, Fault>
+    ensures posted { IfOk result (λ n. IsPosted session.old session.new (claim_lists given.now) n) }
+    ensures fault { IfErr result (λ e. IsPostFault session.old (claim_lists given.now) e) }
+    ensures unchanged { OnErr result (session.new ≡ session.old) }
+{
+    given.check()?;
+    let claim = given.claim(alloc)?;
+    match session.post(alloc, given.worker, &claim) {
+        Ok(posted) => Ok(PostedNumbers {
+            entry: posted.entry,
+            rest: u64::from(posted.claimed),
+            settled: u64::from(posted.settled),
+        }),
+        Err(refusal) => Err(fault_of(refusal)),
+    }
+}
+
+/// Why a board refuses a claim, as a fault. Only a checked claim can be of another game.
+fn fault_of(refusal: Refusal) -> Fault
+    requires { (v : ℕ) → refusal ≡ Refusal.Foreign v → ⊥ }
+    ensures { result ≡ refusal_fault refusal }
+{
+    match refusal {
+        Refusal::Claim(ClaimFault::Shape(row)) => Fault::Post(PostFault::Shape(row)),
+        Refusal::Claim(ClaimFault::Cycle(v)) => Fault::Post(PostFault::Cycle(v)),
+        Refusal::Lost(v) => Fault::Post(PostFault::Lost(v)),
+        Refusal::Stale => Fault::Post(PostFault::Stale),
+        Refusal::Open(v, w) => Fault::Post(PostFault::Open(v, w)),
+        Refusal::Claim(ClaimFault::Memory) | Refusal::Memory => Fault::Memory,
+        Refusal::Foreign(_) => unreachable!(),
+    }
+}
+
+impl<'a> ClaimArrays<'a> {
+    /// Whether the arrays are a claim, of whatever shape.
+    fn check(&self) -> Result<(), Fault>
+        ensures claim { OnOk result (IsClaim (claim_lists self.now)) }
+        ensures fault { IfErr result (λ e. IsNoClaim (claim_lists self.now) e) }
+    {
+        if self.size != Structure::Claim.size() {
+            return Err(Fault::Size(Structure::Claim));
+        }
+        if self.player > 1 {
+            return Err(Fault::Post(PostFault::Player(self.player)));
+        }
+        if self.vertices.len() != self.choices.len() {
+            return Err(Fault::Post(PostFault::Lengths(self.vertices.len(), self.choices.len())));
+        }
+        Ok(())
+    }
+
+    /// The claim of the arrays. The only error is `Memory`.
+    fn claim(&self, alloc: Global) -> Result<Claim, Memory>
+        requires { IsClaim (claim_lists self.now) }
+        ensures { IfOk result (λ c. c ≡ claim_of_lists (claim_lists self.now)) }
+    {
+        let mut rows = Vec::with_capacity(alloc, self.vertices.len())?;
+        for i in 0..self.vertices.len() {
+            rows.push((self.vertices[i], choice_from(self.choices[i])))?;
+        }
+        Ok(Claim {
+            player: player_of(self.player as u8),
+            rows: Sequence::new(rows),
+        })
+    }
 }
 
 fn state(alloc: Global, board: &mut Handle, results: &mut Results) -> Result<(), Fault>
@@ -208,6 +403,68 @@ fn numbers_of(state: Option<(Player, Option<u32>)>) -> (u8, u32)
     }
 }
 
+fn read_entry(
+    alloc: Global,
+    board: &mut Handle,
+    number: u64,
+    vertices: &mut [u32],
+    choices: &mut [u32],
+) -> Result<EntryNumbers, Fault>
+    ensures read { IfOk result (λ n. (s : Play) × (board_in board.old ≡ Some s) × IsEntry s number n vertices.old choices.old vertices.new choices.new) }
+    ensures fault { IfErr result (λ e. OnBoard (board_in board.old) (λ s. IsEntryFault s number (length vertices.old) (length choices.old)) e) }
+    ensures lawful { IsLawfulBoard (board_in board.old) }
+    ensures unchanged { board_in board.new ≡ board_in board.old }
+    ensures vertices_kept { OnErr result (vertices.new ≡ vertices.old) }
+    ensures choices_kept { OnErr result (choices.new ≡ choices.old) }
+{
+    let session = board.take(alloc)?;
+    let answer = write_entry(&session, number, vertices, choices);
+    *board = Handle::holding(session);
+    answer
+}
+
+fn write_entry(
+    session: &Session,
+    number: u64,
+    vertices: &mut [u32],
+    choices: &mut [u32],
+) -> Result<EntryNumbers, Fault>
+    ensures read { IfOk result (λ n. IsEntry session.now number n vertices.old choices.old vertices.new choices.new) }
+    ensures fault { IfErr result (λ e. IsEntryFault session.now number (length vertices.old) (length choices.old) e) }
+    ensures vertices_kept { OnErr result (vertices.new ≡ vertices.old) }
+    ensures choices_kept { OnErr result (choices.new ≡ choices.old) }
+{
+    let entries = session.entries();
+    if number >= entries.len() as u64 {
+        return Err(Fault::Board(BoardFault::Entry(entries.len())));
+    }
+    let entry = &entries[number as usize];
+    let rows = entry.rows.as_slice();
+    if vertices.len() < rows.len() || choices.len() < rows.len() {
+        return Err(Fault::Capacity(rows.len()));
+    }
+    write_rows(rows, vertices, choices);
+    Ok(EntryNumbers {
+        worker: entry.worker,
+        player: u32::from(entry.player.digit()),
+        claimed: u64::from(entry.claimed),
+        rows: rows.len() as u64,
+    })
+}
+
+/// Writes the rows to the front of the arrays.
+fn write_rows(rows: &[(u32, Option<u32>)], vertices: &mut [u32], choices: &mut [u32])
+    requires vertices { length rows.now ≤ length vertices.old }
+    requires choices { length rows.now ≤ length choices.old }
+    ensures { AreEntryRows rows.now vertices.old choices.old vertices.new choices.new }
+{
+    for i in 0..rows.len() {
+        let (v, choice) = rows[i];
+        vertices[i] = v;
+        choices[i] = number_of(choice);
+    }
+}
+
 fn finish(alloc: Global, board: &mut Handle) -> Result<(), Fault>
     ensures finished { OnOk result ((s : Play) × (t : Play) × (board_in board.old ≡ Some s) × (board_in board.new ≡ Some t) × IsFinished s t) }
     ensures fault { IfErr result (λ e. OnBoard (board_in board.old) (λ s. IsFinishFault) e) }
@@ -220,6 +477,20 @@ fn finish(alloc: Global, board: &mut Handle) -> Result<(), Fault>
     let _game = session.game();
     *board = Handle::holding(session);
     Ok(answer?)
+}
+
+fn finish_within(alloc: Global, board: &mut Handle, steps: u64) -> Result<(), Fault>
+    ensures finished { OnOk result ((s : Play) × (t : Play) × (board_in board.old ≡ Some s) × (board_in board.new ≡ Some t) × IsFinished s t) }
+    ensures fault { IfErr result (λ e. OnBoard (board_in board.old) IsFinishWithinFault e) }
+    ensures lawful { IsLawfulBoard (board_in board.old) × IsLawfulBoard (board_in board.new) }
+    ensures unchanged { OnErr result (board_in board.new ≡ board_in board.old) }
+{
+    let mut session = board.take(alloc)?;
+    let answer = session.finish_within(alloc, steps);
+    // for the proof: the contract of this call states what each session is
+    let _game = session.game();
+    *board = Handle::holding(session);
+    if answer? { Ok(()) } else { Err(Fault::GaveUp) }
 }
 
 fn solution(alloc: Global, board: &mut Handle, results: &mut Results) -> Result<(), Fault>

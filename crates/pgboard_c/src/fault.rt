@@ -155,6 +155,8 @@ pub enum Fault {
     Board(BoardFault),
     /// The claim is not posted.
     Post(PostFault),
+    /// The recursion needs more steps than the caller's bound.
+    GaveUp,
 }
 
 impl From<AllocError> for Fault {
@@ -349,6 +351,7 @@ impl Answer {
             Fault::Capacity(size) => Answer::new(50, size as u64, 0),
             Fault::Board(fault) => Answer::of_board(fault),
             Fault::Post(fault) => Answer::of_post(fault),
+            Fault::GaveUp => Answer::new(90, 0, 0),
         }
     }
 }

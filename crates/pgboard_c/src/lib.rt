@@ -4,12 +4,10 @@
 #![tactic(auto)]
 
 mod board;
-mod entry;
 mod fault;
 mod handle;
 mod held;
 mod known;
 mod on_arrays;
 mod on_texts;
-mod post;
 mod text;

@@ -6,7 +6,7 @@ ghost use Rattle.pgboard_c.specs.declared.fault.Fault.{Fault};
 ghost use Rattle.pgboard_c.specs.Numbers.{IsReported, IsBlank};
 ghost use Rattle.pgboard_c.specs.Arrays.{game_arrays, result_arrays, solution_arrays, array_specs, targets_of, no_choice, choice_from, choice_number};
 ghost use Rattle.pgboard_c.specs.Arrays.{HaveLengths, IsBadRow, IsBadOwner, IsBadPriority, AreWellFormed, IsGameOfArrays, AreResults, IsBadWinner, IsSameStruct};
-ghost use Rattle.pgboard_c.specs.Answers.{AreSolved, IsSolveFault, AreSolution, IsCheckFault, IsArraysFault, HaveSize, AreUnfitResults, IsUnfitSolution};
+ghost use Rattle.pgboard_c.specs.Answers.{AreSolved, IsSolveFault, IsSolveWithinFault, AreSolution, IsCheckFault, IsArraysFault, HaveSize, AreUnfitResults, IsUnfitSolution};
 ghost use Rattle.pgboard_c.specs.Known.{AreSolvedFrom, IsSolveFromFault};
 ghost use Rattle.pg_game.specs.Specification.{AreNumbers};
 ghost use Rattle.pg_game.specs.Least.{NoneHas, IsLeast};
@@ -20,7 +20,7 @@ use pg_board::Board;
 use pg_dominion::{SolutionFault, check_forward_solution};
 use pg_game::{ForwardGame, Game, GameBuilder, GameFault, Memory, Player, Sequence};
 use pg_text::Solution;
-use pg_workers::solve_board;
+use pg_workers::{solve_board, solve_board_within};
 use std::alloc::Global;
 
 /// Solves the game of the arrays: writes each vertex's winner, and his choice if he owns the vertex. The answer is 0, and
@@ -39,6 +39,28 @@ pub extern "C" fn pgboard_solve(
     ensures struct_kept { IsSameStruct results.old results.new }
 {
     match solve(alloc, game, results) {
+        Ok(()) => report_none(report),
+        Err(fault) => report_fault(report, fault),
+    }
+}
+
+/// The same as [`pgboard_solve`], unless the recursion needs more steps than these. A step begins a subgame. If the call gives up,
+/// the answer is that of [`Fault::GaveUp`].
+#[unsafe(no_mangle)]
+pub extern "C" fn pgboard_solve_within(
+    alloc: Global,
+    game: &Arrays,
+    steps: u64,
+    results: &mut Results,
+    report: &mut Report,
+) -> u32
+    ensures solved { result ≡ 0 → AreSolved (game_arrays game.now) (result_arrays results.new) }
+    ensures blank { result ≡ 0 → IsBlank report.new }
+    ensures refused { result ≢ 0 → (e : Fault) × IsReported e result report.new × IsSolveWithinFault (game_arrays game.now) (result_arrays results.old) e }
+    ensures kept { result ≢ 0 → result_arrays results.new ≡ result_arrays results.old }
+    ensures struct_kept { IsSameStruct results.old results.new }
+{
+    match solve_within(alloc, game, steps, results) {
         Ok(()) => report_none(report),
         Err(fault) => report_fault(report, fault),
     }
@@ -124,6 +146,29 @@ fn solve(alloc: Global, arrays: &Arrays, results: &mut Results) -> Result<(), Fa
     results.check_lengths(&forward)?;
     let game = Game::of_forward(alloc, forward)?;
     let solution = solve_board(alloc, Board::open(alloc, &game)?)?;
+    write_results(&solution, results.winners, results.choices);
+    Ok(())
+}
+
+/// Solves the game of the arrays, unless the recursion needs more steps than these. After a refusal the arrays for results are
+/// unchanged.
+fn solve_within(
+    alloc: Global,
+    arrays: &Arrays,
+    steps: u64,
+    results: &mut Results,
+) -> Result<(), Fault>
+    ensures solved { OnOk result (AreSolved (game_arrays arrays.now) (result_arrays results.new)) }
+    ensures fault { IfErr result (λ e. IsSolveWithinFault (game_arrays arrays.now) (result_arrays results.old) e) }
+    ensures kept { OnErr result (result_arrays results.new ≡ result_arrays results.old) }
+    ensures struct_kept { IsSameStruct results.old results.new }
+{
+    let forward = arrays.forward_game(alloc)?;
+    results.check_lengths(&forward)?;
+    let game = Game::of_forward(alloc, forward)?;
+    let Some(solution) = solve_board_within(alloc, Board::open(alloc, &game)?, steps)? else {
+        return Err(Fault::GaveUp);
+    };
     write_results(&solution, results.winners, results.choices);
     Ok(())
 }

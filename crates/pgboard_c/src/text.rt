@@ -76,7 +76,7 @@ fn format_text(answer: u32) -> &'static [u8]
     }
 }
 
-/// The texts of the answers on boards.
+/// The texts of the answers on boards and on a bound.
 fn board_text(answer: u32) -> &'static [u8]
     ensures { result.now ≡ board_text answer }
 {
@@ -92,6 +92,7 @@ fn board_text(answer: u32) -> &'static [u8]
         84 => b"a vertex of the claim is settled for the opponent\0",
         85 => b"all vertices of the claim are settled for the player\0",
         86 => b"a kept edge leads out of the claim and of what is settled for the player\0",
+        90 => b"the recursion needs more steps than the call allows\0",
         _ => b"no answer of this library\0",
     }
 }

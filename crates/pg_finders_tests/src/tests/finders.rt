@@ -3,6 +3,7 @@
 //! compared with those of all strategies, and what small searches find with all sets of vertices with all choices,
 //! which checks the definitions that the clauses use.
 
+mod bounds;
 mod claims;
 mod dominions;
 mod finders;

@@ -1,5 +1,7 @@
 -- The first faults among the tokens read so far, as the private readers know them.
-use Rattle.std.specs.Prelude.{ℕ, ◌≡◌, ◌<◌, Bool, true, false, List, ◌∷◌, ◌++◌, Option, Some, None}
+use Rattle.std.specs.Prelude.{ℕ, ◌≡◌, ◌<◌, Bool, true, false, nat_lt, List, ◌∷◌, ◌++◌, Option, Some, None}
+use Rattle.pg_text.specs.declared.table.State.{State}
+use Rattle.pg_text.specs.declared.table.State.TheVariants as state
 use Rattle.pg_text.specs.Token.{Token, Number, Placed, tokens_of}
 use Rattle.pg_text.specs.Fault.{fits, AllFit}
 
@@ -11,6 +13,11 @@ abbrev pub first_at : Option ℕ → Bool → ℕ → Option ℕ
 first_at None true place = Some place
 first_at None false place = None
 first_at (Some p) b place = Some p
+
+-- the value is above 1, where the state follows a player
+abbrev pub wrong_in : State → ℕ → Bool
+wrong_in state.Player value = nat_lt 1 value
+wrong_in s value = false
 
 abbrev pub HasLarge : List Placed → ℕ → Type 0
 HasLarge ts p = (before after : List Placed) × (t : Placed) × (ts ≡ before ++ t ∷ after) × (p ≡ t.place) × AllFit (tokens_of before) × (fits t.token ≡ false)

@@ -1,31 +1,21 @@
--- What the grammar of game texts holds of the tokens that were read.
-use Rattle.std.specs.Prelude.{ℕ, ◌≡◌, ◌<◌, Bool, true, List, [], ◌∷◌, map, Some}
+-- What is known of a game text of which some tokens were read.
+use Rattle.std.specs.Prelude.{ℕ, ◌≡◌, ◌<◌, Bool, List, [], ◌∷◌, ◌++◌, length, map, codes, Option, Some, None}
 use Rattle.std.specs.List.{AllByRecursion}
 use Rattle.pg_game.specs.declared.player.Player.{Player}
 use Rattle.pg_game.specs.declared.game.Spec.{Spec}
 use Rattle.pg_text.specs.declared.game_text.GameText.{GameText}
-use Rattle.pg_text.specs.declared.game_text.State.{State}
-use Rattle.pg_text.specs.declared.game_text.State.TheVariants as state
-use Rattle.pg_text.specs.GameText.{WrittenGameLine, IsGameText, player_of, spec_of}
-use Rattle.pg_text.specs.Token.{Token}
-use Rattle.pg_text.specs.private.GameRun as reading
-use Rattle.pg_text.specs.private.GameRun.{Reading, run}
+use Rattle.pg_text.specs.declared.table.State.{State}
+use Rattle.pg_text.specs.declared.table.State.TheVariants as state
+use Rattle.pg_text.specs.GameText.{WrittenGameLine, IsGameText, player_of, spec_of, headed, game_tokens, separated, name_tokens}
+use Rattle.pg_text.specs.Token.{Token, Number, Word, Name, Comma}
+use Rattle.pg_text.specs.private.Machine.{Read, number_of}
+use Rattle.pg_text.specs.private.Tables.{game_table}
 
-abbrev pub reader_state : Reading → State
-reader_state reading.Start = state.Start
-reader_state reading.HeadWord = state.HeadWord
-reader_state (reading.HeadNumber m) = state.HeadNumber
-reader_state (reading.Headed m) = state.Headed
-reader_state (reading.StartWord h) = state.StartWord
-reader_state (reading.StartNumber h k) = state.StartNumber
-reader_state (reading.Started h k) = state.Started
-reader_state (reading.Ready f) = state.Ready
-reader_state (reading.Id f i) = state.Id
-reader_state (reading.Priority f i p) = state.Priority
-reader_state (reading.Owner f i p o) = state.Owner
-reader_state (reading.Listing f i p o w vs) = state.Listing
-reader_state (reading.Successor f i p o w vs) = state.Successor
-reader_state (reading.Named f i p o w vs b) = state.Named
+abbrev pub line : ℕ → ℕ → ℕ → List ℕ → Option (List ℕ) → WrittenGameLine
+line id priority owner successors name = record { id = id; priority = priority; owner = owner; successors = successors; name = name }
+
+abbrev pub AreNonempty : List WrittenGameLine → Type 0
+AreNonempty lines = AllByRecursion (λ l. 0 < length l.successors) lines
 
 abbrev pub AreOwners : List WrittenGameLine → Type 0
 AreOwners lines = AllByRecursion (λ l. l.owner < 2) lines
@@ -34,40 +24,65 @@ AreOwners lines = AllByRecursion (λ l. l.owner < 2) lines
 abbrev pub AreLines : List Spec → List WrittenGameLine → Type 0
 AreLines specs lines = (specs ≡ map spec_of lines) × AreOwners lines
 
--- this is what was read
-abbrev pub HoldsRead : Reading → List Spec → ℕ → ℕ → Player → List ℕ → Type 0
-HoldsRead reading.Start specs id priority owner successors = specs ≡ []
-HoldsRead reading.HeadWord specs id priority owner successors = specs ≡ []
-HoldsRead (reading.HeadNumber m) specs id priority owner successors = specs ≡ []
-HoldsRead (reading.Headed m) specs id priority owner successors = specs ≡ []
-HoldsRead (reading.StartWord h) specs id priority owner successors = specs ≡ []
-HoldsRead (reading.StartNumber h k) specs id priority owner successors = specs ≡ []
-HoldsRead (reading.Started h k) specs id priority owner successors = specs ≡ []
-HoldsRead (reading.Ready f) specs id priority owner successors = AreLines specs f.lines
-HoldsRead (reading.Id f i) specs id priority owner successors = AreLines specs f.lines × (id ≡ i)
-HoldsRead (reading.Priority f i p) specs id priority owner successors = AreLines specs f.lines × (id ≡ i) × (priority ≡ p)
-HoldsRead (reading.Owner f i p o) specs id priority owner successors =
-    AreLines specs f.lines × (id ≡ i) × (priority ≡ p) × (owner ≡ player_of o) × (o < 2) × (successors ≡ [])
-HoldsRead (reading.Listing f i p o w vs) specs id priority owner successors =
-    AreLines specs f.lines × (id ≡ i) × (priority ≡ p) × (owner ≡ player_of o) × (o < 2) × (successors ≡ w ∷ vs)
-HoldsRead (reading.Successor f i p o w vs) specs id priority owner successors =
-    AreLines specs f.lines × (id ≡ i) × (priority ≡ p) × (owner ≡ player_of o) × (o < 2) × (successors ≡ w ∷ vs)
-HoldsRead (reading.Named f i p o w vs b) specs id priority owner successors =
-    AreLines specs f.lines × (id ≡ i) × (priority ≡ p) × (owner ≡ player_of o) × (o < 2) × (successors ≡ w ∷ vs)
+-- the tokens are those of what may come before lines, and of these lines, of which there may be none
+pub record IsWhole (ts : List Token) (lines : List WrittenGameLine) : Type 0 where
+  pub header : Option ℕ
+  pub start : Option ℕ
+  pub tokens : ts ≡ game_tokens header start lines
+  pub successors : AreNonempty lines
 
--- these tokens were read; where the flag is true, this is what they say
-pub record Read (sound : Bool) (ts : List Token) (s : State) (specs : List Spec) (id priority : ℕ) (owner : Player) (successors : List ℕ) : Type 0 where
-  pub read : Reading
-  pub ran : run (Some reading.Start) ts ≡ Some read
-  pub state_is : reader_state read ≡ s
-  pub agrees : sound ≡ true → HoldsRead read specs id priority owner successors
+-- the tokens of a line begun
+abbrev pub begun : State → WrittenGameLine → List Token
+begun state.Id l = Number l.id ∷ []
+begun state.Priority l = Number l.id ∷ Number l.priority ∷ []
+begun state.Player l = Number l.id ∷ Number l.priority ∷ Number l.owner ∷ []
+begun state.Listing l = Number l.id ∷ Number l.priority ∷ Number l.owner ∷ (separated l.successors ++ Comma ∷ [])
+begun state.Vertex l = Number l.id ∷ Number l.priority ∷ Number l.owner ∷ separated l.successors
+begun state.Named l = Number l.id ∷ Number l.priority ∷ Number l.owner ∷ (separated l.successors ++ name_tokens l.name)
+begun s l = []
 
-abbrev pub ReadsGame : Bool → List Token → GameText → Type 0
-ReadsGame sound ts it = Read sound ts it.state it.specs.specs it.id it.priority it.owner it.specs.successors
+abbrev pub IsBegun : State → WrittenGameLine → Type 0
+IsBegun state.Player l = (l.successors ≡ []) × (l.name ≡ None)
+IsBegun state.Listing l = (0 < length l.successors) × (l.name ≡ None)
+IsBegun state.Vertex l = (0 < length l.successors) × (l.name ≡ None)
+IsBegun state.Named l = 0 < length l.successors
+IsBegun s l = Unit {0}
+
+-- the tokens lead to the state: they are those of whole lines and of a line begun
+abbrev pub Leads : State → List Token → List WrittenGameLine → WrittenGameLine → Type 0
+Leads state.Start ts lines l = (ts ≡ []) × (lines ≡ [])
+Leads state.HeadWord ts lines l = (ts ≡ Word (codes "parity") ∷ []) × (lines ≡ [])
+Leads state.HeadNumber ts lines l = (m : ℕ) × (ts ≡ Word (codes "parity") ∷ Number m ∷ []) × (lines ≡ [])
+Leads state.Headed ts lines l = (m : ℕ) × (ts ≡ headed (codes "parity") (Some m)) × (lines ≡ [])
+Leads state.StartWord ts lines l = (h : Option ℕ) × (ts ≡ headed (codes "parity") h ++ Word (codes "start") ∷ []) × (lines ≡ [])
+Leads state.StartNumber ts lines l =
+    (h : Option ℕ) × (k : ℕ) × (ts ≡ headed (codes "parity") h ++ Word (codes "start") ∷ Number k ∷ []) × (lines ≡ [])
+Leads state.Started ts lines l = IsWhole ts lines
+Leads state.Ready ts lines l = IsGameText ts lines
+Leads s ts lines l = (done : List Token) × IsWhole done lines × IsBegun s l × (ts ≡ done ++ begun s l)
+
+-- the line begun, after a token that leads to the state
+abbrev pub part_after : State → Token → WrittenGameLine → WrittenGameLine
+part_after state.Id t l = record l { id = number_of t }
+part_after state.Priority t l = record l { priority = number_of t }
+part_after state.Player t l = record l { owner = number_of t; successors = []; name = None }
+part_after state.Vertex t l = record l { successors = l.successors ++ number_of t ∷ [] }
+part_after state.Named (Name bytes) l = record l { name = Some bytes }
+part_after state.Ready t l = record l { successors = []; name = None }
+part_after s t l = l
+
+-- the builder holds these lines and the line begun, and all owners are 0 or 1
+pub record Agrees (lines : List WrittenGameLine) (l : WrittenGameLine) (specs : List Spec) (id priority : ℕ) (owner : Player) (successors : List ℕ) : Type 0 where
+  pub lines_are : AreLines specs lines
+  pub id_is : id ≡ l.id
+  pub priority_is : priority ≡ l.priority
+  pub owner_is : owner ≡ player_of l.owner
+  pub small : l.owner < 2
+  pub successors_are : successors ≡ l.successors
+
+abbrev pub ReadsGame : Bool → List Token → State → GameText → Type 0
+ReadsGame sound ts s it = Read game_table Leads sound ts s (λ lines l. Agrees lines l it.specs.specs it.id it.priority it.owner it.specs.successors)
 
 -- the tokens are a game text of lines that specify these, whose owners are 0 or 1
 abbrev pub SaysSpecs : List Token → List Spec → Type 0
 SaysSpecs ts specs = (lines : List WrittenGameLine) × IsGameText ts lines × AreLines specs lines
-
-pub weaker : (sound later : Bool) (ts : List Token) (it : GameText) → (later ≡ true → sound ≡ true) → ReadsGame sound ts it → ReadsGame later ts it
-weaker sound later ts it h k = record { read = k.read; ran = k.ran; state_is = k.state_is; agrees = λ u. k.agrees (h u) }

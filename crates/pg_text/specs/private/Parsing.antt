@@ -1,4 +1,4 @@
--- The progress of the private reader over a text. A relation connects the tokens with the state of the grammar.
+-- The progress of the private reader over a text. A relation connects the tokens with the state and with what the grammar holds.
 use Rattle.std.specs.Prelude.{ℕ, ◌≡◌, Bool, List, [], ◌∷◌, ◌++◌, ◌&&◌, Option, None}
 use Rattle.std.specs.Option.{is_none}
 use Rattle.pg_text.specs.declared.fault.ParseFault.{ParseFault}
@@ -6,35 +6,36 @@ use Rattle.pg_text.specs.declared.fault.ParseFault.TheVariants as fault
 use Rattle.pg_text.specs.declared.lexer.Kind.TheVariants as kind
 use Rattle.pg_text.specs.declared.lexer.Lexeme.{Lexeme}
 use Rattle.pg_text.specs.declared.reader.Reader.{Reader}
+use Rattle.pg_text.specs.declared.table.State.{State}
 use Rattle.pg_text.specs.Fault.{IsLexicalFault, IsSyntaxFault, IsNumberFault, IsPlayerFault, AllFit}
 use Rattle.pg_text.specs.Token.{Token, Placed, Spells, tokens_of}
 use Rattle.pg_text.specs.private.FirstFault.{placed, FirstLarge, FirstPlayer}
-use Rattle.pg_text.specs.private.Grammar.{TakenOr, Stops}
+use Rattle.pg_text.specs.private.Machine.{TakenOr, Stops}
 use Rattle.pg_text.specs.private.Lexeme.{IsToken, IsNextLexeme}
 use Rattle.pg_text.specs.private.Reach.{ReadsTo}
 
--- these tokens were read; their first faults are known, and without one the state of the grammar holds what they say
-pub record Keeps {R : Type 0} (Reads : Bool → List Token → R → Type 0) (IsBefore : List Token → Type 0) (ts : List Placed) (state : R)
+-- these tokens were read; their first faults are known, and without one the grammar holds what they say
+pub record Keeps {R : Type 0} (Reads : Bool → List Token → State → R → Type 0) (IsBefore : List Token → Type 0) (ts : List Placed) (state : State) (it : R)
     (large wrong : Option ℕ) : Type 0 where
-  pub reads : Reads (is_none large && is_none wrong) (tokens_of ts) state
+  pub reads : Reads (is_none large && is_none wrong) (tokens_of ts) state it
   pub numbers : FirstLarge ts large
   pub players : large ≡ None → FirstPlayer IsBefore ts wrong
 
-abbrev pub KeepsReader : {R : Type 0} → (Bool → List Token → R → Type 0) → (List Token → Type 0) → List Placed → Reader R → Type 0
-KeepsReader Reads IsBefore ts r = Keeps Reads IsBefore ts r.grammar r.large r.wrong
+abbrev pub KeepsReader : {R : Type 0} → (Bool → List Token → State → R → Type 0) → (List Token → Type 0) → List Placed → Reader R → Type 0
+KeepsReader Reads IsBefore ts r = Keeps Reads IsBefore ts r.state r.grammar r.large r.wrong
 
 -- the reader took the token at the place, or it is not expected
-abbrev pub ReaderTakes : {R : Type 0} → (Bool → List Token → R → Type 0) → (List Token → Type 0) → (List Token → Type 0) → Reader R → Reader R → Bool
+abbrev pub ReaderTakes : {R : Type 0} → (Bool → List Token → State → R → Type 0) → (List Token → Type 0) → (List Token → Type 0) → Reader R → Reader R → Bool
     → Token → ℕ → Type 0
 ReaderTakes Reads BeginsText IsBefore old new taken t place =
     (ts : List Placed) → KeepsReader Reads IsBefore ts old
     → TakenOr taken (KeepsReader Reads IsBefore (ts ++ placed t place ∷ []) new) (Stops BeginsText (tokens_of ts) t)
 
--- so did it with the lexeme
-abbrev pub TakesLexeme : (Bool → Token → ℕ → Type 0) → List ℕ → Lexeme → Bool → Type 0
-TakesLexeme Takes text lexeme taken =
+-- so did it with the token that the lexeme is
+abbrev pub TakesLexeme : (Token → ℕ → Type 0) → List ℕ → Lexeme → Type 0
+TakesLexeme Takes text lexeme =
     (at : ℕ) → IsNextLexeme text at lexeme → (lexeme.kind ≡ kind.End → ⊥) → (lexeme.kind ≡ kind.Invalid → ⊥)
-    → (t : Token) × IsToken text at lexeme.from lexeme.to t × Takes taken t lexeme.from
+    → (t : Token) × IsToken text at lexeme.from lexeme.to t × Takes t lexeme.from
 
 -- the token between the places is not expected after those before it
 pub record IsUnexpected (BeginsText : List Token → Type 0) (text : List ℕ) (from to : ℕ) : Type 0 where

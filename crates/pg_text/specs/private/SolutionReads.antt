@@ -1,47 +1,57 @@
--- What the grammar of solution texts holds of the tokens that were read.
-use Rattle.std.specs.Prelude.{ℕ, ◌≡◌, ◌<◌, Bool, true, List, [], map, Option, Some, None}
+-- What is known of a solution text of which some tokens were read.
+use Rattle.std.specs.Prelude.{ℕ, ◌≡◌, ◌<◌, Bool, List, [], ◌∷◌, ◌++◌, map, codes, Option, Some, None}
 use Rattle.std.specs.List.{AllByRecursion}
 use Rattle.pg_game.specs.Player.{digit_of}
-use Rattle.pg_text.specs.declared.solution_text.State.{State}
-use Rattle.pg_text.specs.declared.solution_text.State.TheVariants as state
+use Rattle.pg_text.specs.declared.table.State.{State}
+use Rattle.pg_text.specs.declared.table.State.TheVariants as state
 use Rattle.pg_text.specs.declared.solution_text.SolutionLine.{SolutionLine}
 use Rattle.pg_text.specs.declared.solution_text.SolutionText.{SolutionText}
-use Rattle.pg_text.specs.Token.{Token}
-use Rattle.pg_text.specs.SolutionText.{WrittenSolutionLine, IsSolutionText}
-use Rattle.pg_text.specs.private.SolutionRun as reading
-use Rattle.pg_text.specs.private.SolutionRun.{Reading, run}
+use Rattle.pg_text.specs.Token.{Token, Number, Word}
+use Rattle.pg_text.specs.SolutionText.{WrittenSolutionLine, IsSolutionText, choice_tokens}
+use Rattle.pg_text.specs.private.Machine.{Read, number_of}
+use Rattle.pg_text.specs.private.Tables.{solution_table}
 
 abbrev pub line_of : SolutionLine → WrittenSolutionLine
 line_of l = record { id = l.id; winner = digit_of l.winner; choice = l.choice }
 
-abbrev pub reader_state : Reading → State
-reader_state reading.Start = state.Start
-reader_state reading.HeadWord = state.HeadWord
-reader_state (reading.HeadNumber n) = state.HeadNumber
-reader_state (reading.Ready h ls) = state.Ready
-reader_state (reading.Id h ls i) = state.Id
-reader_state (reading.Winner h ls i w) = state.Winner
-reader_state (reading.Choice h ls i w c) = state.Choice
+-- the tokens of a line begun
+abbrev pub begun : State → WrittenSolutionLine → List Token
+begun state.Id l = Number l.id ∷ []
+begun state.Player l = Number l.id ∷ Number l.winner ∷ choice_tokens l.choice
+begun state.Vertex l = Number l.id ∷ Number l.winner ∷ choice_tokens l.choice
+begun s l = []
 
--- this is what was read
-abbrev pub HoldsRead : Reading → List WrittenSolutionLine → ℕ → ℕ → Option ℕ → Type 0
-HoldsRead reading.Start lines id winner choice = lines ≡ []
-HoldsRead reading.HeadWord lines id winner choice = lines ≡ []
-HoldsRead (reading.HeadNumber n) lines id winner choice = lines ≡ []
-HoldsRead (reading.Ready h ls) lines id winner choice = lines ≡ ls
-HoldsRead (reading.Id h ls i) lines id winner choice = (lines ≡ ls) × (id ≡ i)
-HoldsRead (reading.Winner h ls i w) lines id winner choice = (lines ≡ ls) × (id ≡ i) × (winner ≡ w) × (choice ≡ None)
-HoldsRead (reading.Choice h ls i w c) lines id winner choice = (lines ≡ ls) × (id ≡ i) × (winner ≡ w) × (choice ≡ Some c)
+abbrev pub IsBegun : State → WrittenSolutionLine → Type 0
+IsBegun state.Id l = Unit {0}
+IsBegun state.Player l = l.choice ≡ None
+IsBegun state.Vertex l = Unit {0}
+IsBegun s l = ⊥
 
--- these tokens were read; where the flag is true, this is what they say
-pub record Read (sound : Bool) (ts : List Token) (s : State) (lines : List WrittenSolutionLine) (id winner : ℕ) (choice : Option ℕ) : Type 0 where
-  pub read : Reading
-  pub ran : run (Some reading.Start) ts ≡ Some read
-  pub state_is : reader_state read ≡ s
-  pub agrees : sound ≡ true → HoldsRead read lines id winner choice
+-- the tokens lead to the state: they are those of whole lines and of a line begun
+abbrev pub Leads : State → List Token → List WrittenSolutionLine → WrittenSolutionLine → Type 0
+Leads state.Start ts lines l = (ts ≡ []) × (lines ≡ [])
+Leads state.HeadWord ts lines l = (ts ≡ Word (codes "paritysol") ∷ []) × (lines ≡ [])
+Leads state.HeadNumber ts lines l = (m : ℕ) × (ts ≡ Word (codes "paritysol") ∷ Number m ∷ []) × (lines ≡ [])
+Leads state.Headed ts lines l = IsSolutionText ts lines
+Leads state.Ready ts lines l = IsSolutionText ts lines
+Leads s ts lines l = (done : List Token) × IsSolutionText done lines × IsBegun s l × (ts ≡ done ++ begun s l)
 
-abbrev pub ReadsSolution : Bool → List Token → SolutionText → Type 0
-ReadsSolution sound ts it = Read sound ts it.state (map line_of it.lines.items) it.id (digit_of it.winner) it.choice
+-- the line begun, after a token that leads to the state
+abbrev pub part_after : State → Token → WrittenSolutionLine → WrittenSolutionLine
+part_after state.Id t l = record l { id = number_of t }
+part_after state.Player t l = record l { winner = number_of t; choice = None }
+part_after state.Vertex t l = record l { choice = Some (number_of t) }
+part_after s t l = l
+
+-- the lines and the line begun are these
+pub record Agrees (lines : List WrittenSolutionLine) (l : WrittenSolutionLine) (held : List WrittenSolutionLine) (id winner : ℕ) (choice : Option ℕ) : Type 0 where
+  pub lines_are : held ≡ lines
+  pub id_is : id ≡ l.id
+  pub winner_is : winner ≡ l.winner
+  pub choice_is : choice ≡ l.choice
+
+abbrev pub ReadsSolution : Bool → List Token → State → SolutionText → Type 0
+ReadsSolution sound ts s it = Read solution_table Leads sound ts s (λ lines l. Agrees lines l (map line_of it.lines.items) it.id (digit_of it.winner) it.choice)
 
 abbrev pub AreWinners : List WrittenSolutionLine → Type 0
 AreWinners lines = AllByRecursion (λ l. l.winner < 2) lines
@@ -50,6 +60,3 @@ AreWinners lines = AllByRecursion (λ l. l.winner < 2) lines
 pub record SaysLines (ts : List Token) (lines : List WrittenSolutionLine) : Type 0 where
   pub grammar : IsSolutionText ts lines
   pub winners : AreWinners lines
-
-pub weaker : (sound later : Bool) (ts : List Token) (it : SolutionText) → (later ≡ true → sound ≡ true) → ReadsSolution sound ts it → ReadsSolution later ts it
-weaker sound later ts it h k = record { read = k.read; ran = k.ran; state_is = k.state_is; agrees = λ u. k.agrees (h u) }

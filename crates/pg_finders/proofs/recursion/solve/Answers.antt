@@ -6,8 +6,8 @@ solved : (c : goal.After-drop-plan-3) → IsSolvedInside c.game-game.result.now 
     (choices_of c.into_plan-plan.result)
 solved c = search (rules, c.into_plan-plan.ensures, c.in_ok-run.ensures.solved)
 
-pub returns : goal.returns
-returns c =
+pub returns-clause-claims : goal.returns-clause-claims
+returns-clause-claims c =
     let g = c.game-game.result.now in
     let mask = c.mask-mask.result.now in
     let even = c.claim_of.result in

@@ -181,12 +181,14 @@ fn compare_added(rt: &impl Abort, added: &[Entry]) {
     }
 }
 
-/// Finishes a session, and compares what was added. Returns whether something was left.
+/// Finishes a session, which no step does if something is left, and compares what was added. Returns whether something was left.
 fn compare_finish(rt: &impl Abort, alloc: Global, game: &[Plain], session: &mut Session) -> bool {
     let n = size_of(game);
     let (before, digest) = (session.entries().len(), digest_of(session.entries()));
     let is_left = session.settled() < u64::from(n);
     check_eq!(*rt; made(rt, session.solution(alloc)).is_none(), is_left);
+    check_eq!(*rt; made(rt, session.finish_within(alloc, 0)), !is_left);
+    check_eq!(*rt; digest_of(session.entries()), digest);
     made(rt, session.finish(alloc));
     check_eq!(*rt; session.settled(), u64::from(n));
     let entries = session.entries();

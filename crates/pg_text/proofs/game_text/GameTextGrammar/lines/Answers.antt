@@ -1,5 +1,6 @@
+use Rattle.pg_text.proofs.Common.{refl}
 use Rattle.pg_text.proofs.GameReads.{says}
 use Rattle.pg_text.proofs.game_text.GameTextGrammar.lines.Goals as goal
 
 pub returns : goal.returns
-returns c ts k t = rw c.finish.ensures (says k t)
+returns c ts s k i = rw c.finish.ensures (says k refl (λ a. a.lines_are) i)

@@ -1,0 +1,74 @@
+-- The machine that reads tokens: a table says which state follows a state and a symbol.
+use Rattle.std.specs.Prelude.{ℕ, ◌≡◌, ◌<◌, Bool, true, false, cond, List, [], ◌∷◌, ◌++◌, codes, Option, Some, None}
+use Rattle.std.specs.Str.{bytes_eq}
+use Rattle.pg_text.specs.declared.table.State.{State}
+use Rattle.pg_text.specs.declared.table.State.TheVariants as state
+use Rattle.pg_text.specs.declared.table.Symbol.{Symbol}
+use Rattle.pg_text.specs.declared.table.Symbol.TheVariants as symbol
+use Rattle.pg_text.specs.Token.{Token, Number, Word, Name, Comma, Semicolon}
+
+abbrev pub word_symbol : List ℕ → Symbol
+word_symbol letters =
+    cond (bytes_eq letters (codes "parity")) symbol.Parity
+    (cond (bytes_eq letters (codes "paritysol")) symbol.Paritysol (cond (bytes_eq letters (codes "start")) symbol.Start symbol.Unknown))
+
+abbrev pub symbol_of : Token → Symbol
+symbol_of (Number n) = symbol.Number
+symbol_of (Word letters) = word_symbol letters
+symbol_of (Name bytes) = symbol.Name
+symbol_of Comma = symbol.Comma
+symbol_of Semicolon = symbol.Semicolon
+
+-- the value of a number, and 0 of any other token
+abbrev pub number_of : Token → ℕ
+number_of (Number n) = n
+number_of (Word letters) = 0
+number_of (Name bytes) = 0
+number_of Comma = 0
+number_of Semicolon = 0
+
+abbrev pub Table : Type 0
+Table = State → Symbol → Option State
+
+-- the state after the tokens
+abbrev pub run : Table → Option State → List Token → Option State
+run table None ts = None
+run table (Some s) [] = Some s
+run table (Some s) (t ∷ ts) = run table (table s (symbol_of t)) ts
+
+abbrev pub TakenOr : Bool → Type 0 → Type 0 → Type 0
+TakenOr true A B = A
+TakenOr false A B = B
+
+-- the tokens begin a text, and with one more they do not
+pub record Stops (BeginsText : List Token → Type 0) (ts : List Token) (t : Token) : Type 0 where
+  pub begins : BeginsText ts
+  pub stops : BeginsText (ts ++ t ∷ []) → ⊥
+
+-- the whole lines, after a token that leads to the state
+abbrev pub lines_after : {L : Type 0} → State → L → List L → List L
+lines_after state.Ready l lines = lines ++ l ∷ []
+lines_after s l lines = lines
+
+-- The tokens lead to the state, by some whole lines and a line begun. Where the flag is true, these are what is held
+pub record Read {L : Type 0} (table : Table) (Leads : State → List Token → List L → L → Type 0) (sound : Bool) (ts : List Token) (s : State)
+    (Agrees : List L → L → Type 0) : Type 0 where
+  pub lines : List L
+  pub part : L
+  pub ran : run table (Some state.Start) ts ≡ Some s
+  pub leads : Leads s ts lines part
+  pub agrees : sound ≡ true → Agrees lines part
+
+pub weaker : {L : Type 0} {table : Table} {Leads : State → List Token → List L → L → Type 0} {sound later : Bool} {ts : List Token} {s : State}
+    {Agrees : List L → L → Type 0} → (later ≡ true → sound ≡ true) → Read table Leads sound ts s Agrees → Read table Leads later ts s Agrees
+weaker h k = record { lines = k.lines; part = k.part; ran = k.ran; leads = k.leads; agrees = λ u. k.agrees (h u) }
+
+-- the token that leads to the state was read, where this is its value
+abbrev pub Enters : {R : Type 0} → Table → (Bool → List Token → State → R → Type 0) → R → R → State → ℕ → Type 0
+Enters table Reads old new to value =
+    (sound : Bool) (ts : List Token) (from : State) (t : Token) → Reads sound ts from old → table from (symbol_of t) ≡ Some to
+    → (sound ≡ true → (value ≡ number_of t) × (to ≡ state.Player → value < 2)) → Reads sound (ts ++ t ∷ []) to new
+
+-- the tokens are a text, or they only begin one
+abbrev pub IsComplete : (List Token → Type 0) → (List Token → Type 0) → List Token → Bool → Type 0
+IsComplete BeginsText IsText ts complete = TakenOr complete (IsText ts) (BeginsText ts × (IsText ts → ⊥))
