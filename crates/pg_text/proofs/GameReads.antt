@@ -7,10 +7,11 @@ use Rattle.std.proofs.Common.{Option, Some, None}
 use Rattle.std.proofs.lemmas.Grind.{flat_map-append}
 use Rattle.pg_game.proofs.Taken.{spec_of as spec}
 use Rattle.pg_text.specs.GameText.{headed}
-use Rattle.pg_text.specs.declared.table.State.{State}
-use Rattle.pg_text.specs.declared.table.Symbol.{Symbol}
-use Rattle.pg_text.specs.declared.table.State.TheVariants.{Start, HeadWord, HeadNumber, Headed, StartWord, StartNumber, Started, Ready, Id, Priority, Player as Owner}
-use Rattle.pg_text.specs.declared.table.State.TheVariants.{Listing, Vertex, Named}
+use Rattle.pg_text.specs.declared.reader.State.{State}
+use Rattle.pg_text.specs.declared.reader.Symbol.{Symbol}
+use Rattle.pg_text.specs.declared.reader.Symbol.TheVariants as symbol
+use Rattle.pg_text.specs.declared.reader.State.TheVariants.{Start, HeadWord, HeadNumber, Headed, StartWord, StartNumber, Started, Ready, Id, Priority, Player as Owner}
+use Rattle.pg_text.specs.declared.reader.State.TheVariants.{Listing, Vertex, Named}
 use Rattle.pg_text.specs.private.GameReads.{line, AreNonempty, IsWhole, AreOwners, AreLines, begun, Leads, part_after, Agrees, SaysSpecs}
 use Rattle.pg_text.specs.private.Machine.{symbol_of, run, lines_after, Read, Stops}
 use Rattle.pg_text.specs.private.Tables.{game_table as table}
@@ -140,6 +141,10 @@ begins Listing ts lines l (done, w, b, e) =
 begins Vertex ts lines l (done, w, b, e) = begins_line l (begun Vertex l) (Semicolon ∷ []) w b.0 e (search (rules, b.1))
 begins Named ts lines l (done, w, b, e) = begins_line l (begun Named l) (Semicolon ∷ []) w b e (search (rules, append_assoc))
 
+pub other_symbol : (s : State) (x : Symbol) → (x ≡ symbol.Number → ⊥) → (x ≡ symbol.Parity → ⊥) → (x ≡ symbol.Start → ⊥) → (x ≡ symbol.Name → ⊥)
+    → (x ≡ symbol.Comma → ⊥) → (x ≡ symbol.Semicolon → ⊥) → table s x ≡ None
+other_symbol x0 x1 a b c d e f = search (rules)
+
 owner_next : (s : State) (x : Symbol) → table s x ≡ Some Owner → s ≡ Priority
 owner_next x0 x1 e = search (rules)
 
@@ -158,13 +163,6 @@ one_line {lines} {l} e f a = record {
   small = a.small;
   successors_are = f;
 }
-
--- other states keep what the builder holds
-pub same_after : (to : State) (t : Token) {lines : List WrittenGameLine} {l : WrittenGameLine} {specs : List Spec} {id priority : ℕ} {owner : Player}
-    {successors : List ℕ}
-    → (to ≡ Ready → ⊥) → (to ≡ Id → ⊥) → (to ≡ Priority → ⊥) → (to ≡ Owner → ⊥) → (to ≡ Vertex → ⊥)
-    → Agrees lines l specs id priority owner successors → Agrees (lines_after to l lines) (part_after to t l) specs id priority owner successors
-same_after x0 x1 a b c d e h = search (rules)
 
 module _ {sound : Bool} {ts : List Token} {s : State} {Holds : List WrittenGameLine → WrittenGameLine → Type 0} (k : Read table Leads sound ts s Holds) where
   text_begins : BeginsGameText ts

@@ -1,13 +1,13 @@
 -- The machine that reads tokens, for every table.
-use Rattle.pg_text.proofs.Common.{◌≡◌, ℕ, Bool, true, false, List, [], ◌∷◌, ◌++◌, refl, sym, ◌∙◌, ap, append_assoc, codes, bytes_eq, bytes_eq-Decides, subst, IfSome, Token}
+use Rattle.pg_text.proofs.Common.{◌≡◌, ℕ, ◌<◌, Bool, true, false, List, [], ◌∷◌, ◌++◌, refl, sym, ◌∙◌, ap, append_assoc, codes, bytes_eq, bytes_eq-Decides, subst, IfSome, Token}
 use Rattle.std.specs.Prelude.{cond}
 use Rattle.std.specs.Bool.{Decides}
 use Rattle.std.proofs.Common.{Option, Some, None}
-use Rattle.pg_text.specs.declared.table.State.{State}
-use Rattle.pg_text.specs.declared.table.State.TheVariants.{Start}
-use Rattle.pg_text.specs.declared.table.Symbol.{Symbol}
-use Rattle.pg_text.specs.declared.table.Symbol.TheVariants as symbol
-use Rattle.pg_text.specs.private.Machine.{Table, word_symbol, symbol_of, run, lines_after, Read, Stops}
+use Rattle.pg_text.specs.declared.reader.State.{State}
+use Rattle.pg_text.specs.declared.reader.State.TheVariants.{Start, Player}
+use Rattle.pg_text.specs.declared.reader.Symbol.{Symbol}
+use Rattle.pg_text.specs.declared.reader.Symbol.TheVariants as symbol
+use Rattle.pg_text.specs.private.Machine.{Table, word_symbol, symbol_of, number_of, run, lines_after, Read, Stops, Enters}
 
 module _ (letters : List ℕ) (P : Symbol → Type 0) where
   decided : (word : List ℕ) (x y : Symbol) → (letters ≡ word → P x) → P y → P (cond (bytes_eq letters word) x y)
@@ -71,3 +71,10 @@ module _ {L : Type 0} {table : Table} {Leads : State → List Token → List L �
         let h : None ≡ Some q = sym (run-append table (Some Start) (ts ++ t ∷ []) more ∙ ap (λ r. run table r more) (ran-push t f)) ∙ g in
         cc h;
   }
+
+-- no player may come where another state follows
+pub entered : {R : Type 0} {Reads : Bool → List Token → State → R → Type 0} {IsBefore : List Token → Type 0} {sound : Bool} {ts : List Token} {t : Token}
+    {to : State} {new : R} {value : ℕ} → (to ≡ Player → ⊥)
+    → ((sound ≡ true → (value ≡ number_of t) × (to ≡ Player → value < 2)) → Reads sound (ts ++ t ∷ []) to new)
+    → Enters Reads IsBefore sound ts t to new value
+entered n r = record { reads = r; before = λ u p. absurd (n p) }

@@ -6,10 +6,10 @@ use Rattle.pg_text.proofs.Common.{SpellsRest, IsBadFrom}
 use Rattle.std.proofs.Common.{Option, Some, None}
 use Rattle.std.specs.Prelude.{◌&&◌, IfOk, Result, Ok, Err}
 use Rattle.std.specs.Option.{is_none}
-use Rattle.pg_text.specs.declared.table.State.{State}
-use Rattle.pg_text.specs.declared.table.State.TheVariants.{Player}
+use Rattle.pg_text.specs.declared.reader.State.{State}
+use Rattle.pg_text.specs.declared.reader.State.TheVariants.{Player}
 use Rattle.pg_text.specs.private.FirstFault.{wrong_in}
-use Rattle.pg_text.specs.private.Machine.{Table, symbol_of, number_of, Enters}
+use Rattle.pg_text.specs.private.Machine.{number_of, Enters}
 use Rattle.pg_text.specs.private.Parsing.{Keeps, IsUnexpected}
 use Rattle.pg_text.proofs.Once.{tokens_append}
 use Rattle.pg_text.proofs.Reach.{reaches_more, later_fault}
@@ -34,16 +34,15 @@ module _ {R : Type 0} {Reads : Bool → List Token → State → R → Type 0} {
     {large wrong : Option ℕ} (k : Keeps Reads IsBefore ts state old large wrong)
     (weaker : (sound later : Bool) (ts : List Token) (s : State) (it : R) → (later ≡ true → sound ≡ true) → Reads sound ts s it → Reads later ts s it) where
   -- the token was read
-  pub token_kept : {place small : ℕ} {later : Option ℕ} (t : Token) → IsTaken (number_of t) place large later small → (table : Table) (to : State) (new : R)
-      → table state (symbol_of t) ≡ Some to → Enters table Reads old new to small
-      → ((us : List Token) (it : R) → Reads true us state it → to ≡ Player → IsBefore us)
+  pub token_kept : {place small : ℕ} {later : Option ℕ} (t : Token) → IsTaken (number_of t) place large later small → (to : State) (new : R)
+      → ((sound : Bool) (us : List Token) → Reads sound us state old → Enters Reads IsBefore sound us t to new small)
       → Keeps Reads IsBefore (ts ++ placed t place ∷ []) to new later (first_at wrong (wrong_in to small) place)
-  token_kept {place} {small} {later} t taken table to new e enters before =
+  token_kept {place} {small} {later} t taken to new enters =
       let wrong' = first_at wrong (wrong_in to small) place in
       let sound' = is_none later && is_none wrong' in
       let old_reads : Reads sound' (tokens_of ts) state old = search (rules, weaker, both_none, taken_none, none_known, k.reads) in
       record {
-        reads = subst (λ us. Reads sound' us to new) (sym (tokens_append ts (placed t place ∷ []))) (enters sound' (tokens_of ts) state t old_reads e (λ u.
+        reads = subst (λ us. Reads sound' us to new) (sym (tokens_append ts (placed t place ∷ []))) ((enters sound' (tokens_of ts) old_reads).reads (λ u.
             let (l, w) = both_none later wrong' u in
             let v = (none_known wrong (wrong_in to small) place w).1 in
             ((taken_none taken l).1, player_right to small v)));
@@ -51,7 +50,7 @@ module _ {R : Type 0} {Reads : Bool → List Token → State → R → Type 0} {
         players = λ l.
             let (m, v) = taken_none taken l in
             first_player-token IsBefore ts wrong (wrong_in to small) t place (k.players m)
-            (λ b w. before (tokens_of ts) old (let r = k.reads in rw (m, w) at r) (player_wrong to small b).0)
+            (λ b w. (enters true (tokens_of ts) (let r = k.reads in rw (m, w) at r)).before refl (player_wrong to small b).0)
             (λ b. subst (λ n. 1 < n) v (player_wrong to small b).1);
       }
 

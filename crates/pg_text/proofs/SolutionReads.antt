@@ -5,9 +5,10 @@ use Rattle.pg_text.proofs.Common.{WrittenSolutionLine, solution_tokens, IsSoluti
 use Rattle.std.proofs.Common.{Option, Some, None}
 use Rattle.std.proofs.lemmas.Grind.{flat_map-append}
 use Rattle.pg_text.specs.SolutionText.{solution_line_tokens}
-use Rattle.pg_text.specs.declared.table.State.{State}
-use Rattle.pg_text.specs.declared.table.Symbol.{Symbol}
-use Rattle.pg_text.specs.declared.table.State.TheVariants.{Start, HeadWord, HeadNumber, Headed, Ready, Id, Player as Winner, Vertex}
+use Rattle.pg_text.specs.declared.reader.State.{State}
+use Rattle.pg_text.specs.declared.reader.Symbol.{Symbol}
+use Rattle.pg_text.specs.declared.reader.Symbol.TheVariants as symbol
+use Rattle.pg_text.specs.declared.reader.State.TheVariants.{Start, HeadWord, HeadNumber, Headed, Ready, Id, Player as Winner, Vertex}
 use Rattle.pg_text.specs.private.SolutionReads.{AreWinners, begun, Leads, part_after, Agrees, SaysLines}
 use Rattle.pg_text.specs.private.Machine.{symbol_of, run, lines_after, Read, Stops}
 use Rattle.pg_text.specs.private.Tables.{solution_table as table}
@@ -78,6 +79,9 @@ begins Winner ts lines l (done, w, b, e) = begins_line lines l (begun Winner l) 
 begins Vertex ts lines l (done, w, b, e) = begins_line lines l (begun Vertex l) (Semicolon ∷ []) w e refl
 begins _ ts lines l h = absurd h.2
 
+pub other_symbol : (s : State) (x : Symbol) → (x ≡ symbol.Number → ⊥) → (x ≡ symbol.Paritysol → ⊥) → (x ≡ symbol.Semicolon → ⊥) → table s x ≡ None
+other_symbol x0 x1 a b c = search (rules)
+
 winner_next : (s : State) (x : Symbol) → table s x ≡ Some Winner → s ≡ Id
 winner_next x0 x1 e = search (rules)
 
@@ -96,12 +100,6 @@ are_winners (l ∷ lines) = (owner_small l.winner, are_winners lines)
 -- a winner, where it is 0 or 1
 pub winner_is : {n value : ℕ} → value ≡ n → value < 2 → digit_of (player_of value) ≡ n
 winner_is {n} {value} e h = digit_is value (omega (arith, h)) ∙ e
-
--- other states keep what is held
-pub same_after : (to : State) (t : Token) {lines : List WrittenSolutionLine} {l : WrittenSolutionLine} {held : List WrittenSolutionLine} {id winner : ℕ}
-    {choice : Option ℕ} → (to ≡ Ready → ⊥) → (to ≡ Id → ⊥) → (to ≡ Winner → ⊥) → (to ≡ Vertex → ⊥)
-    → Agrees lines l held id winner choice → Agrees (lines_after to l lines) (part_after to t l) held id winner choice
-same_after x0 t a b c d h = search (rules)
 
 module _ {sound : Bool} {ts : List Token} {s : State} {Holds : List WrittenSolutionLine → WrittenSolutionLine → Type 0}
     (k : Read table Leads sound ts s Holds) where

@@ -3,8 +3,7 @@
 ghost use Rattle.std.specs.Prelude.{IfOk, true, []};
 ghost use Rattle.pg_text.specs.private.GameReads.{ReadsGame};
 
-use crate::reader::{Grammar, player};
-use crate::table::{State, Symbol, next_in_game};
+use crate::reader::{Grammar, State, Symbol, player};
 use pg_game::{GameBuilder, IncrementalBuilder, Memory, Player};
 use std::alloc::Global;
 
@@ -35,7 +34,6 @@ impl Grammar for GameText {
     ghost use Rattle.pg_text.specs.GameText.{BeginsGameText, IsBeforeOwner};
     ghost use Rattle.pg_text.specs.Reading.{IsSomeGameText};
     ghost use Rattle.pg_text.specs.private.Machine.{weaker};
-    ghost use Rattle.pg_text.specs.private.Tables.{game_table};
     ghost use Rattle.pg_text.specs.private.GameReads.{ReadsGame, SaysSpecs};
 
     type Lines = GameBuilder;
@@ -48,40 +46,41 @@ impl Grammar for GameText {
 
     ghost Says = { SaysSpecs };
 
-    ghost table = { game_table };
-
     ghost Reads = { ReadsGame };
 
     #[inline(always)]
-    fn next(state: State, symbol: Symbol) -> Option<State> {
-        next_in_game(state, symbol)
-    }
-
-    #[inline(always)]
-    fn enter(&mut self, state: State, value: u32) -> Result<(), Memory> {
-        match state {
-            State::Id => {
+    fn take(&mut self, state: State, symbol: Symbol, value: u32) -> Result<Option<State>, Memory> {
+        match (symbol, state) {
+            (Symbol::Number, State::Start | State::Headed | State::Started | State::Ready) => {
                 self.id = value;
-                Ok(())
+                Ok(Some(State::Id))
             }
-            State::Priority => {
+            (Symbol::Number, State::Id) => {
                 self.priority = value;
-                Ok(())
+                Ok(Some(State::Priority))
             }
-            State::Player => {
+            (Symbol::Number, State::Priority) => {
                 self.owner = player(value);
                 self.specs.clear();
-                Ok(())
+                Ok(Some(State::Player))
             }
-            State::Vertex => {
+            (Symbol::Number, State::Player | State::Listing) => {
                 self.specs.push(value)?;
-                Ok(())
+                Ok(Some(State::Vertex))
             }
-            State::Ready => {
+            (Symbol::Comma, State::Vertex) => Ok(Some(State::Listing)),
+            (Symbol::Name, State::Vertex) => Ok(Some(State::Named)),
+            (Symbol::Semicolon, State::Vertex | State::Named) => {
                 self.specs.close(self.id, self.priority, self.owner)?;
-                Ok(())
+                Ok(Some(State::Ready))
             }
-            _ => Ok(()),
+            (Symbol::Parity, State::Start) => Ok(Some(State::HeadWord)),
+            (Symbol::Number, State::HeadWord) => Ok(Some(State::HeadNumber)),
+            (Symbol::Semicolon, State::HeadNumber) => Ok(Some(State::Headed)),
+            (Symbol::Start, State::Start | State::Headed) => Ok(Some(State::StartWord)),
+            (Symbol::Number, State::StartWord) => Ok(Some(State::StartNumber)),
+            (Symbol::Semicolon, State::StartNumber) => Ok(Some(State::Started)),
+            _ => Ok(None),
         }
     }
 

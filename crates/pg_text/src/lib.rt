@@ -10,7 +10,6 @@ mod lexer;
 mod reader;
 mod reading;
 mod solution_text;
-mod table;
 mod writing;
 
 pub use fault::{SolutionTextFault, TextFault};

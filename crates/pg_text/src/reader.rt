@@ -1,28 +1,27 @@
-//! One reader for the texts of all grammars, in one pass over the tokens (PGSolver's manual). A grammar's table says which
-//! state follows. A number above the limit or a player above 1 is only noted, since the grammar is judged first. A token that
-//! is not allowed where it is ends the pass, and the rest is searched once for a byte that begins no token.
+//! One reader for the texts of all grammars, in one pass over the tokens (PGSolver's manual). A grammar says which state
+//! follows, and keeps what a token says. A number above the limit or a player above 1 is only noted, since the grammar is
+//! judged first. A token that is not allowed where it is ends the pass, and the rest is searched once for a byte that begins
+//! no token.
 
 ghost use Rattle.std.specs.Prelude.{◌≡◌, ℕ, ◌≤◌, true, length, IfOk, MatchResult, List, [], Bool};
-ghost use Rattle.pg_text.specs.Token.{Placed, Spells, Token};
+ghost use Rattle.pg_text.specs.Token.{Placed, Spells, Token, Word};
 ghost use Rattle.pg_text.specs.Reading.{max_text};
 ghost use Rattle.pg_text.specs.private.Lexeme.{fitting};
-ghost use Rattle.pg_text.specs.private.Parsing.{KeepsReader, ReaderTakes, TakesLexeme, IsUnexpected, SpellsLines, IsParseFaultOf};
+ghost use Rattle.pg_text.specs.private.Parsing.{KeepsReader, ReaderTakes, OfToken, IsUnexpected, SpellsLines, IsParseFaultOf};
 ghost use Rattle.pg_text.specs.private.Machine.{symbol_of, number_of};
 ghost use Rattle.pg_text.specs.GameText.{player_of};
 ghost use Rattle.pg_text.specs.private.FirstFault.{first_at, wrong_in};
 
 use crate::fault::ParseFault;
 use crate::lexer::{Kind, Lexeme, first_invalid, next_token};
-use crate::table::{State, Symbol, word_symbol};
 use pg_game::{Memory, Player};
 
 /// What a text of a grammar says, read up to some token.
 pub trait Grammar {
-    ghost use Rattle.std.specs.Prelude.{ℕ, ◌≡◌, Bool, true, List, Option, Some, None, OnOk};
+    ghost use Rattle.std.specs.Prelude.{◌≡◌, Bool, true, List, IfOk};
     ghost use Rattle.pg_text.specs.Token.{Token};
-    ghost use Rattle.pg_text.specs.declared.table.State.{State};
-    ghost use Rattle.pg_text.specs.declared.table.State.TheVariants as states;
-    ghost use Rattle.pg_text.specs.private.Machine.{Table, symbol_of, Stops, Enters, IsComplete};
+    ghost use Rattle.pg_text.specs.declared.reader.State.{State};
+    ghost use Rattle.pg_text.specs.private.Machine.{Takes, IsComplete};
 
     /// What a text says.
     type Lines;
@@ -39,22 +38,12 @@ pub trait Grammar {
     /// The tokens are a text that says this, and its players are 0 and 1.
     ghost Says: { List Token → Self.Lines → Type 0 };
 
-    /// The state after a state and a symbol.
-    ghost table: { Table };
-
     /// These tokens lead to the state. Where the flag is true, this holds what they say, and the players so far are 0 and 1.
     ghost Reads: { Bool → List Token → State → Self → Type 0 };
 
-    /// The state after a symbol; none where the symbol is not allowed.
-    fn next(state: State, symbol: Symbol) -> Option<State>
-        ensures table { result ≡ table state symbol }
-        ensures stops { (sound : Bool) (ts : List Token) (it : Self) (t : Token) → Reads sound ts state it → symbol ≡ symbol_of t → result ≡ None
-            → Stops BeginsText ts t }
-        ensures player { (ts : List Token) (it : Self) → Reads true ts state it → result ≡ Some states.Player → IsBeforePlayer ts };
-
-    /// Enters a state by a token, which has this value if it is a number.
-    fn enter(&mut self, state: State, value: u32) -> Result<(), Memory>
-        ensures { OnOk result (Enters table Reads self.old self.new state value) };
+    /// Takes a token, by its symbol, and by its value if it is a number. The next state; none where the token is not allowed.
+    fn take(&mut self, state: State, symbol: Symbol, value: u32) -> Result<Option<State>, Memory>
+        ensures { IfOk result (λ next. Takes Reads BeginsText IsBeforePlayer self.old self.new state symbol value next) };
 
     /// Whether a text may end in this state.
     fn is_complete(state: State) -> bool
@@ -104,6 +93,38 @@ pub fn player(n: u32) -> Player
     if n == 0 { Player::Even } else { Player::Odd }
 }
 
+/// What was read last.
+#[derive(Clone, Copy, PartialEq, Eq)]
+pub enum State {
+    Start,
+    HeadWord,
+    HeadNumber,
+    Headed,
+    StartWord,
+    StartNumber,
+    Started,
+    Ready,
+    Id,
+    Priority,
+    Player,
+    Listing,
+    Vertex,
+    Named,
+}
+
+/// What a token is to a grammar.
+#[derive(Clone, Copy, PartialEq, Eq)]
+pub enum Symbol {
+    Number,
+    Parity,
+    Paritysol,
+    Start,
+    Unknown,
+    Name,
+    Comma,
+    Semicolon,
+}
+
 /// A text that is being read, the first number above the limit, and the first player above 1.
 #[derive(Drop)]
 struct Reader<G> {
@@ -120,34 +141,15 @@ impl<G: Grammar + Drop> Reader<G> {
         requires size { length text.now ≤ max_text }
         requires order { lexeme.from ≤ lexeme.to }
         requires within { lexeme.to ≤ length text.now }
-        ensures { IfOk result (λ taken. TakesLexeme (ReaderTakes G.Reads G.BeginsText G.IsBeforePlayer self.old self.new taken) text.now lexeme) }
+        ensures { IfOk result (λ taken. OfToken (ReaderTakes G.Reads G.BeginsText G.IsBeforePlayer self.old self.new taken) text.now lexeme) }
     {
+        let (symbol, value) = symbol_and_value(text, lexeme);
         let place = lexeme.from as u32;
-        match lexeme.kind {
-            Kind::Number(value) => self.step(Symbol::Number, value, place),
-            Kind::Word => {
-                let symbol = word_symbol(&text[lexeme.from..lexeme.to]);
-                self.step(symbol, Some(0), place)
-            }
-            Kind::Name => self.step(Symbol::Name, Some(0), place),
-            Kind::Comma => self.step(Symbol::Comma, Some(0), place),
-            Kind::Semicolon => self.step(Symbol::Semicolon, Some(0), place),
-            Kind::End | Kind::Invalid => Ok(false),
-        }
-    }
-
-    /// Takes the token at the place, by its symbol and its value, which is 0 of what is no number, and none above the limit.
-    #[inline(always)]
-    fn step(&mut self, symbol: Symbol, value: Option<u32>, place: u32) -> Result<bool, Memory>
-        ensures { IfOk result (λ taken. (t : Token) → symbol ≡ symbol_of t → value ≡ fitting (number_of t)
-            → ReaderTakes G.Reads G.BeginsText G.IsBeforePlayer self.old self.new taken t place) }
-    {
-        match G::next(self.state, symbol) {
+        note_first(&mut self.large, value.is_none(), place);
+        let small = value.unwrap_or(0);
+        match self.grammar.take(self.state, symbol, small)? {
             Some(state) => {
-                let small = value.unwrap_or(0);
-                self.grammar.enter(state, small)?;
                 self.state = state;
-                note_first(&mut self.large, value.is_none(), place);
                 note_first(&mut self.wrong, is_wrong(state, small), place);
                 Ok(true)
             }
@@ -170,6 +172,38 @@ impl<G: Grammar + Drop> Reader<G> {
             return Err(ParseFault::Player(at));
         }
         Ok(self.grammar.lines())
+    }
+}
+
+/// The symbol of a token, and its value: 0 of what is no number, and none above the limit.
+#[inline(always)]
+fn symbol_and_value(text: &[u8], lexeme: Lexeme) -> (Symbol, Option<u32>)
+    requires order { lexeme.from ≤ lexeme.to }
+    requires within { lexeme.to ≤ length text.now }
+    ensures { OfToken (λ t place. (result.0 ≡ symbol_of t) × (result.1 ≡ fitting (number_of t))) text.now lexeme }
+{
+    match lexeme.kind {
+        Kind::Number(value) => (Symbol::Number, value),
+        Kind::Word => (word_symbol(&text[lexeme.from..lexeme.to]), Some(0)),
+        Kind::Name => (Symbol::Name, Some(0)),
+        Kind::Comma => (Symbol::Comma, Some(0)),
+        Kind::Semicolon => (Symbol::Semicolon, Some(0)),
+        Kind::End | Kind::Invalid => (Symbol::Unknown, Some(0)),
+    }
+}
+
+/// The symbol of a word.
+fn word_symbol(letters: &[u8]) -> Symbol
+    ensures { result ≡ symbol_of (Word letters.now) }
+{
+    if letters == b"parity".as_slice() {
+        Symbol::Parity
+    } else if letters == b"paritysol".as_slice() {
+        Symbol::Paritysol
+    } else if letters == b"start".as_slice() {
+        Symbol::Start
+    } else {
+        Symbol::Unknown
     }
 }
 

@@ -17,8 +17,7 @@ ghost use Rattle.pg_text.specs.private.SolutionTable.{HoldsTable, IsNamed, IsStr
 ghost use Rattle.pg_text.specs.Known.{AreKnownLinesOf};
 
 use crate::fault::{ParseFault, SolutionTextFault};
-use crate::reader::{Grammar, player, read_lines};
-use crate::table::{State, Symbol, next_in_solution};
+use crate::reader::{Grammar, State, Symbol, player, read_lines};
 use pg_game::{ForwardGame, Mask, Memory, Player, Sequence};
 use std::alloc::Global;
 
@@ -50,7 +49,6 @@ impl Grammar for SolutionText {
     ghost use Rattle.pg_text.specs.SolutionText.{BeginsSolutionText, IsBeforeWinner};
     ghost use Rattle.pg_text.specs.Reading.{IsSomeSolutionText};
     ghost use Rattle.pg_text.specs.private.Machine.{weaker};
-    ghost use Rattle.pg_text.specs.private.Tables.{solution_table};
     ghost use Rattle.pg_text.specs.private.SolutionReads.{ReadsSolution, SaysLines, line_of};
 
     type Lines = Vec<SolutionLine>;
@@ -63,40 +61,36 @@ impl Grammar for SolutionText {
 
     ghost Says = { λ ts lines. SaysLines ts (map line_of lines.items) };
 
-    ghost table = { solution_table };
-
     ghost Reads = { ReadsSolution };
 
     #[inline(always)]
-    fn next(state: State, symbol: Symbol) -> Option<State> {
-        next_in_solution(state, symbol)
-    }
-
-    #[inline(always)]
-    fn enter(&mut self, state: State, value: u32) -> Result<(), Memory> {
-        match state {
-            State::Id => {
+    fn take(&mut self, state: State, symbol: Symbol, value: u32) -> Result<Option<State>, Memory> {
+        match (symbol, state) {
+            (Symbol::Number, State::Start | State::Headed | State::Ready) => {
                 self.id = value;
-                Ok(())
+                Ok(Some(State::Id))
             }
-            State::Player => {
+            (Symbol::Number, State::Id) => {
                 self.winner = player(value);
                 self.choice = None;
-                Ok(())
+                Ok(Some(State::Player))
             }
-            State::Vertex => {
+            (Symbol::Number, State::Player) => {
                 self.choice = Some(value);
-                Ok(())
+                Ok(Some(State::Vertex))
             }
-            State::Ready => {
+            (Symbol::Semicolon, State::Player | State::Vertex) => {
                 self.lines.push(SolutionLine {
                     id: self.id,
                     winner: self.winner,
                     choice: self.choice,
                 })?;
-                Ok(())
+                Ok(Some(State::Ready))
             }
-            _ => Ok(()),
+            (Symbol::Paritysol, State::Start) => Ok(Some(State::HeadWord)),
+            (Symbol::Number, State::HeadWord) => Ok(Some(State::HeadNumber)),
+            (Symbol::Semicolon, State::HeadNumber) => Ok(Some(State::Headed)),
+            _ => Ok(None),
         }
     }
 

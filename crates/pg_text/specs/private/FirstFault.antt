@@ -1,7 +1,7 @@
 -- The first faults among the tokens read so far, as the private readers know them.
 use Rattle.std.specs.Prelude.{ℕ, ◌≡◌, ◌<◌, Bool, true, false, nat_lt, List, ◌∷◌, ◌++◌, Option, Some, None}
-use Rattle.pg_text.specs.declared.table.State.{State}
-use Rattle.pg_text.specs.declared.table.State.TheVariants as state
+use Rattle.pg_text.specs.declared.reader.State.{State}
+use Rattle.pg_text.specs.declared.reader.State.TheVariants as state
 use Rattle.pg_text.specs.Token.{Token, Number, Placed, tokens_of}
 use Rattle.pg_text.specs.Fault.{fits, AllFit}
 

@@ -4,8 +4,8 @@ use Rattle.std.specs.List.{AllByRecursion}
 use Rattle.pg_game.specs.declared.player.Player.{Player}
 use Rattle.pg_game.specs.declared.game.Spec.{Spec}
 use Rattle.pg_text.specs.declared.game_text.GameText.{GameText}
-use Rattle.pg_text.specs.declared.table.State.{State}
-use Rattle.pg_text.specs.declared.table.State.TheVariants as state
+use Rattle.pg_text.specs.declared.reader.State.{State}
+use Rattle.pg_text.specs.declared.reader.State.TheVariants as state
 use Rattle.pg_text.specs.GameText.{WrittenGameLine, IsGameText, player_of, spec_of, headed, game_tokens, separated, name_tokens}
 use Rattle.pg_text.specs.Token.{Token, Number, Word, Name, Comma}
 use Rattle.pg_text.specs.private.Machine.{Read, number_of}

@@ -1,10 +1,10 @@
 -- The machine that reads tokens: a table says which state follows a state and a symbol.
-use Rattle.std.specs.Prelude.{ℕ, ◌≡◌, ◌<◌, Bool, true, false, cond, List, [], ◌∷◌, ◌++◌, codes, Option, Some, None}
+use Rattle.std.specs.Prelude.{ℕ, ◌≡◌, ◌<◌, Bool, true, false, cond, List, [], ◌∷◌, ◌++◌, codes, Option, Some, None, MatchOption}
 use Rattle.std.specs.Str.{bytes_eq}
-use Rattle.pg_text.specs.declared.table.State.{State}
-use Rattle.pg_text.specs.declared.table.State.TheVariants as state
-use Rattle.pg_text.specs.declared.table.Symbol.{Symbol}
-use Rattle.pg_text.specs.declared.table.Symbol.TheVariants as symbol
+use Rattle.pg_text.specs.declared.reader.State.{State}
+use Rattle.pg_text.specs.declared.reader.State.TheVariants as state
+use Rattle.pg_text.specs.declared.reader.Symbol.{Symbol}
+use Rattle.pg_text.specs.declared.reader.Symbol.TheVariants as symbol
 use Rattle.pg_text.specs.Token.{Token, Number, Word, Name, Comma, Semicolon}
 
 abbrev pub word_symbol : List ℕ → Symbol
@@ -63,11 +63,18 @@ pub weaker : {L : Type 0} {table : Table} {Leads : State → List Token → List
     {Agrees : List L → L → Type 0} → (later ≡ true → sound ≡ true) → Read table Leads sound ts s Agrees → Read table Leads later ts s Agrees
 weaker h k = record { lines = k.lines; part = k.part; ran = k.ran; leads = k.leads; agrees = λ u. k.agrees (h u) }
 
--- the token that leads to the state was read, where this is its value
-abbrev pub Enters : {R : Type 0} → Table → (Bool → List Token → State → R → Type 0) → R → R → State → ℕ → Type 0
-Enters table Reads old new to value =
-    (sound : Bool) (ts : List Token) (from : State) (t : Token) → Reads sound ts from old → table from (symbol_of t) ≡ Some to
-    → (sound ≡ true → (value ≡ number_of t) × (to ≡ state.Player → value < 2)) → Reads sound (ts ++ t ∷ []) to new
+-- the token was read where its value is this, and a player comes where one may
+pub record Enters {R : Type 0} (Reads : Bool → List Token → State → R → Type 0) (IsBefore : List Token → Type 0) (sound : Bool) (ts : List Token) (t : Token)
+    (to : State) (new : R) (value : ℕ) : Type 0 where
+  pub reads : (sound ≡ true → (value ≡ number_of t) × (to ≡ state.Player → value < 2)) → Reads sound (ts ++ t ∷ []) to new
+  pub before : sound ≡ true → to ≡ state.Player → IsBefore ts
+
+-- a token with this symbol leads to the next state; where there is none, it is not allowed
+abbrev pub Takes : {R : Type 0} → (Bool → List Token → State → R → Type 0) → (List Token → Type 0) → (List Token → Type 0) → R → R → State → Symbol → ℕ
+    → Option State → Type 0
+Takes Reads BeginsText IsBefore old new from symbol value next =
+    (sound : Bool) (ts : List Token) (t : Token) → symbol ≡ symbol_of t → Reads sound ts from old
+    → MatchOption next (Stops BeginsText ts t) (λ to. Enters Reads IsBefore sound ts t to new value)
 
 -- the tokens are a text, or they only begin one
 abbrev pub IsComplete : (List Token → Type 0) → (List Token → Type 0) → List Token → Bool → Type 0

@@ -6,7 +6,7 @@ use Rattle.pg_text.specs.declared.fault.ParseFault.TheVariants as fault
 use Rattle.pg_text.specs.declared.lexer.Kind.TheVariants as kind
 use Rattle.pg_text.specs.declared.lexer.Lexeme.{Lexeme}
 use Rattle.pg_text.specs.declared.reader.Reader.{Reader}
-use Rattle.pg_text.specs.declared.table.State.{State}
+use Rattle.pg_text.specs.declared.reader.State.{State}
 use Rattle.pg_text.specs.Fault.{IsLexicalFault, IsSyntaxFault, IsNumberFault, IsPlayerFault, AllFit}
 use Rattle.pg_text.specs.Token.{Token, Placed, Spells, tokens_of}
 use Rattle.pg_text.specs.private.FirstFault.{placed, FirstLarge, FirstPlayer}
@@ -31,11 +31,11 @@ ReaderTakes Reads BeginsText IsBefore old new taken t place =
     (ts : List Placed) → KeepsReader Reads IsBefore ts old
     → TakenOr taken (KeepsReader Reads IsBefore (ts ++ placed t place ∷ []) new) (Stops BeginsText (tokens_of ts) t)
 
--- so did it with the token that the lexeme is
-abbrev pub TakesLexeme : (Token → ℕ → Type 0) → List ℕ → Lexeme → Type 0
-TakesLexeme Takes text lexeme =
+-- this holds of the token that the lexeme is, and of its place
+abbrev pub OfToken : (Token → ℕ → Type 0) → List ℕ → Lexeme → Type 0
+OfToken Holds text lexeme =
     (at : ℕ) → IsNextLexeme text at lexeme → (lexeme.kind ≡ kind.End → ⊥) → (lexeme.kind ≡ kind.Invalid → ⊥)
-    → (t : Token) × IsToken text at lexeme.from lexeme.to t × Takes t lexeme.from
+    → (t : Token) × IsToken text at lexeme.from lexeme.to t × Holds t lexeme.from
 
 -- the token between the places is not expected after those before it
 pub record IsUnexpected (BeginsText : List Token → Type 0) (text : List ℕ) (from to : ℕ) : Type 0 where

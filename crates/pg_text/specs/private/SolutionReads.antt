@@ -2,8 +2,8 @@
 use Rattle.std.specs.Prelude.{ℕ, ◌≡◌, ◌<◌, Bool, List, [], ◌∷◌, ◌++◌, map, codes, Option, Some, None}
 use Rattle.std.specs.List.{AllByRecursion}
 use Rattle.pg_game.specs.Player.{digit_of}
-use Rattle.pg_text.specs.declared.table.State.{State}
-use Rattle.pg_text.specs.declared.table.State.TheVariants as state
+use Rattle.pg_text.specs.declared.reader.State.{State}
+use Rattle.pg_text.specs.declared.reader.State.TheVariants as state
 use Rattle.pg_text.specs.declared.solution_text.SolutionLine.{SolutionLine}
 use Rattle.pg_text.specs.declared.solution_text.SolutionText.{SolutionText}
 use Rattle.pg_text.specs.Token.{Token, Number, Word}

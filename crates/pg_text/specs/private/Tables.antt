@@ -1,8 +1,8 @@
 -- What may come next in a game text and in a solution text.
 use Rattle.std.specs.Prelude.{Some, None}
-use Rattle.pg_text.specs.declared.table.State.TheVariants.{Start, HeadWord, HeadNumber, Headed, StartWord, StartNumber, Started, Ready, Id, Priority}
-use Rattle.pg_text.specs.declared.table.State.TheVariants.{Player, Listing, Vertex, Named}
-use Rattle.pg_text.specs.declared.table.Symbol.TheVariants as on
+use Rattle.pg_text.specs.declared.reader.State.TheVariants.{Start, HeadWord, HeadNumber, Headed, StartWord, StartNumber, Started, Ready, Id, Priority}
+use Rattle.pg_text.specs.declared.reader.State.TheVariants.{Player, Listing, Vertex, Named}
+use Rattle.pg_text.specs.declared.reader.Symbol.TheVariants as on
 use Rattle.pg_text.specs.private.Machine.{Table}
 
 abbrev pub game_table : Table

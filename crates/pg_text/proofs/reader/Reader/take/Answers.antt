@@ -1,31 +1,21 @@
-use Rattle.pg_text.proofs.Common.{refl, ap, ◌∙◌, Number, Word, Name, Comma, Semicolon}
-use Rattle.pg_text.specs.declared.lexer.Kind.TheVariants as kind
-use Rattle.pg_text.specs.private.Machine.{word_symbol}
-use Rattle.pg_text.proofs.Next.{word_bytes}
-use Rattle.pg_text.proofs.Parsing.{if_ok}
-use Rattle.pg_text.proofs.Reach.{of_kind}
+use Rattle.pg_text.proofs.Common.{rules}
+use Rattle.pg_text.proofs.FirstFaults.{is_taken}
+use Rattle.pg_text.proofs.Parsing.{token_kept}
 use Rattle.pg_text.proofs.reader.Reader.take.Goals as goal
 
-pub returns-in-Number : goal.returns-in-Number
-returns-in-Number g c = if_ok c.step.result (λ taken f at i e b.
-    let (n, v, t) = of_kind (kind.Number c.in-Number.value) c.args.text.now at c.args.lexeme c.in-Number.is i in (Number n, t, f (Number n) refl v))
-    c.step.ensures
+pub returns-in-Some : goal.returns-in-Some
+returns-in-Some g c at i e b =
+    let (t, is, (x, v)) = c.symbol_and_value-symbol.ensures at i e b in (
+      t,
+      is,
+      λ ts k.
+          let taken = is_taken v c.note_first.ensures c.unwrap_or-small.ensures (search rules) in
+          rw (c.note_first-in-Some.ensures, c.is_wrong.ensures)
+          (token_kept k g.met.G.Grammar.weaker t taken c.in-Some.state _ (λ sound us r.
+          let enters = c.in_ok-state.ensures sound us t x r in rw c.in-Some.is at enters)),
+    )
 
-pub returns-in-Word : goal.returns-in-Word
-returns-in-Word g c = if_ok c.step-in-Word.result (λ taken f at i e b.
-    let (letters, t) = of_kind kind.Word c.args.text.now at c.args.lexeme c.in-Word.is i in
-    let s = word_bytes c.args.text.now at c.args.lexeme.from c.args.lexeme.to letters t in
-    (Word letters, t, f (Word letters) (c.word_symbol-symbol.ensures ∙ ap word_symbol s) refl)) c.step-in-Word.ensures
-
-pub returns-in-Name : goal.returns-in-Name
-returns-in-Name g c = if_ok c.step-in-Name.result (λ taken f at i e b.
-    let (bytes, t) = of_kind kind.Name c.args.text.now at c.args.lexeme c.in-Name.is i in (Name bytes, t, f (Name bytes) refl refl))
-    c.step-in-Name.ensures
-
-pub returns-in-Comma : goal.returns-in-Comma
-returns-in-Comma g c = if_ok c.step-in-Comma.result (λ taken f at i e b.
-    (Comma, of_kind kind.Comma c.args.text.now at c.args.lexeme c.in-Comma.is i, f Comma refl refl)) c.step-in-Comma.ensures
-
-pub returns-in-Semicolon : goal.returns-in-Semicolon
-returns-in-Semicolon g c = if_ok c.step-in-Semicolon.result (λ taken f at i e b.
-    (Semicolon, of_kind kind.Semicolon c.args.text.now at c.args.lexeme c.in-Semicolon.is i, f Semicolon refl refl)) c.step-in-Semicolon.ensures
+pub returns-in-None : goal.returns-in-None
+returns-in-None g c at i e b =
+    let (t, is, (x, v)) = c.symbol_and_value-symbol.ensures at i e b in
+    (t, is, λ ts k. let stops = c.in_ok-state.ensures _ _ t x k.reads in rw c.in-None.is at stops)
