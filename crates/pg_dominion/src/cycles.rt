@@ -29,12 +29,12 @@ pub fn least_bad_vertex(alloc: Global, kept: &StrategyGraph) -> Result<Option<u3
     requires { IsKept kept.now }
     ensures { IfOk result (λ least. MatchOption least (NoneHas (IsOnBadCycle kept.now)) (IsLeast (IsOnBadCycle kept.now))) }
 {
-    let patience = u64::from(kept.game.len()) / 2;
+    let patience = u64::from(kept.game.len()) / 4;
     let from = match search_from(alloc, kept, 0, patience)? {
         SearchProgress::All(least) => return Ok(least),
         SearchProgress::Before(v) => v,
     };
-    if let Some(least) = first_by_ranking(alloc, kept)? {
+    if let Some(least) = first_by_ranking(alloc, kept, from)? {
         return Ok(least);
     }
     match search_from(alloc, kept, from, u64::MAX)? {
@@ -43,8 +43,8 @@ pub fn least_bad_vertex(alloc: Global, kept: &StrategyGraph) -> Result<Option<u3
     }
 }
 
-/// Searches from each bad vertex, from `from` on, until there are more repeats than the patience and about twice the edges at
-/// which searches started. A patience of the greatest number has no limit.
+/// Searches from each bad vertex, from `from` on, until more repeats are left than the patience. A patience of the greatest
+/// number has no limit.
 fn search_from(
     alloc: Global,
     kept: &StrategyGraph,
@@ -58,12 +58,13 @@ fn search_from(
     let Some(first) = first_bad(kept, from) else {
         return Ok(SearchProgress::All(None));
     };
-    let mut searches = Searches::new(alloc, kept, patience)?;
+    let mut searches = Searches::new(alloc, kept)?;
     'starts: for v in first..kept.game.len() {
-        match searches.is_on_bad_cycle(kept, v)? {
-            Some(false) => {}
-            Some(true) => return Ok(SearchProgress::All(Some(v))),
-            None => return Ok(SearchProgress::Before(v)),
+        if searches.is_on_bad_cycle(kept, v)? {
+            return Ok(SearchProgress::All(Some(v)));
+        }
+        if searches.are_over(patience) {
+            return Ok(SearchProgress::Before(v + 1));
         }
     }
     Ok(SearchProgress::All(None))
@@ -97,37 +98,41 @@ fn first_bad(kept: &StrategyGraph, from: u32) -> Option<u32>
 struct Searches {
     labels: Labels,
     search: WalkSearch,
-    /// How many repeats there may be: the patience, and about twice the edges at which searches started.
-    most: u64,
 }
 
 impl Searches {
-    fn new(alloc: Global, kept: &StrategyGraph, most: u64) -> Result<Searches, AllocError>
-        ensures { IfOk result (λ s. AreSearches kept.now s × (s.most ≡ most)) }
+    fn new(alloc: Global, kept: &StrategyGraph) -> Result<Searches, AllocError>
+        ensures { IfOk result (AreSearches kept.now) }
     {
         Ok(Searches {
             labels: Labels::new(alloc, kept)?,
             search: WalkSearch::new(alloc, kept)?,
-            most,
         })
     }
 
-    /// Whether the vertex is bad and the greatest on a closed walk through it. None where the patience ends.
-    fn is_on_bad_cycle(&mut self, kept: &StrategyGraph, v: u32) -> Result<Option<bool>, AllocError>
+    /// Whether the vertex is bad and the greatest on a closed walk through it. Each search takes about twice its first edges off
+    /// the repeats, so that many short searches do not pay for long ones.
+    fn is_on_bad_cycle(&mut self, kept: &StrategyGraph, v: u32) -> Result<bool, AllocError>
         requires kept { IsKept kept.now }
         requires searches { AreSearches kept.now self.old }
         requires vertex { v < length kept.now.game.now }
         ensures searches { IfOk result (λ found. AreSearches kept.now self.new) }
-        ensures bounded { IfOk result (λ found. IsBounded self.new.most → IsBounded self.old.most) }
-        ensures bad_cycle { IfOk result (λ found. found ≡ Some true → IsOnBadCycle kept.now v) }
-        ensures none { IfOk result (λ found. found ≡ Some false → IsOnBadCycle kept.now v → ⊥) }
-        ensures given_up { IfOk result (λ found. found ≡ None → IsBounded self.old.most) }
+        ensures bad_cycle { IfOk result (λ found. found ≡ true → IsOnBadCycle kept.now v) }
+        ensures none { IfOk result (λ found. found ≡ false → IsOnBadCycle kept.now v → ⊥) }
     {
         if !kept.bad.has(v) || is_alone(kept, &self.labels, v) {
-            return Ok(Some(false));
+            return Ok(false);
         }
-        self.most = self.most.saturating_add(4 + 2 * kept.row(v).len() as u64);
-        walks_back(kept, v, self.most, &mut self.labels, &mut self.search)
+        let first_edges = kept.row(v).len() as u64;
+        self.search.repeats = self.search.repeats.saturating_sub(4 + 2 * first_edges);
+        walks_back(kept, v, &mut self.labels, &mut self.search)
+    }
+
+    /// Whether more repeats are left than the patience.
+    fn are_over(&self, patience: u64) -> bool
+        ensures { result ≡ true → IsBounded patience }
+    {
+        self.search.repeats > patience
     }
 }
 
@@ -168,7 +173,7 @@ struct WalkSearch {
     places: Vec<u32>,
     /// The least place that was reached twice.
     least: usize,
-    /// The number of edges from vertices of earlier searches that searches have looked at again.
+    /// The number of edges from vertices of earlier searches that searches have looked at again, less what searches took off.
     repeats: u64,
 }
 
@@ -211,24 +216,21 @@ fn is_alone(kept: &StrategyGraph, labels: &Labels, v: u32) -> bool
     labels.levels[v as usize] > kept.game.priority(v) && labels.groups[v as usize] == v + 1
 }
 
-/// Whether a vertex is the greatest on a closed walk through it. None if there are more than `most` repeats; the greatest number is
-/// no limit.
+/// Whether a vertex is the greatest on a closed walk through it.
 fn walks_back(
     kept: &StrategyGraph,
     start: u32,
-    most: u64,
     labels: &mut Labels,
     search: &mut WalkSearch,
-) -> Result<Option<bool>, AllocError>
+) -> Result<bool, AllocError>
     requires kept { IsKept kept.now }
     requires start { start < length kept.now.game.now }
     requires labels { AreLabelled kept.now labels.old.levels.items labels.old.groups.items }
     requires size { length search.old.places.items ≡ length kept.now.game.now }
     ensures labels { IfOk result (λ found. AreLabelled kept.now labels.new.levels.items labels.new.groups.items) }
     ensures size { IfOk result (λ found. length search.new.places.items ≡ length kept.now.game.now) }
-    ensures back { IfOk result (λ found. found ≡ Some true → Reaches kept.now start start) }
-    ensures none { IfOk result (λ found. found ≡ Some false → Reaches kept.now start start → ⊥) }
-    ensures given_up { IfOk result (λ found. found ≡ None → IsBounded most) }
+    ensures back { IfOk result (λ found. found ≡ true → Reaches kept.now start start) }
+    ensures none { IfOk result (λ found. found ≡ false → Reaches kept.now start start → ⊥) }
 {
     // for the proof: priorities are so small that one more fits, and so are vertices
     let _n = kept.game.len();
@@ -238,17 +240,13 @@ fn walks_back(
     search.queue.push(start)?;
     search.places[start as usize] = 0;
     search.least = usize::MAX;
-    let found = finds_back(kept, labels, top, own, most, search)?;
-    let Some(leads_back) = found else {
-        return Ok(None);
-    };
-    if leads_back {
-        return Ok(Some(true));
+    if finds_back(kept, labels, top, own, search)? {
+        return Ok(true);
     }
     if own == 0 {
         note(labels, search, top + 1, start);
     }
-    Ok(Some(false))
+    Ok(false)
 }
 
 /// The group of a vertex if its level is above the priority, else 0.
@@ -265,15 +263,14 @@ fn group_above(kept: &StrategyGraph, labels: &Labels, v: u32, top: u32) -> u32
     }
 }
 
-/// Searches for a way back to the first vertex of the queue. Returns whether there is one; none if there are too many repeats.
+/// Searches for a way back to the first vertex of the queue. Returns whether there is one.
 fn finds_back(
     kept: &StrategyGraph,
     labels: &Labels,
     top: u32,
     own: u32,
-    most: u64,
     search: &mut WalkSearch,
-) -> Result<Option<bool>, AllocError>
+) -> Result<bool, AllocError>
     requires kept { IsKept kept.now }
     requires labels { AreLabelled kept.now labels.now.levels.items labels.now.groups.items }
     requires least { 0 < search.old.least }
@@ -282,23 +279,19 @@ fn finds_back(
     ensures state { IfOk result (λ found. Searching kept.now labels.now.levels.items labels.now.groups.items top own search.new.places.items
         search.new.queue.items) }
     ensures first { IfOk result (λ found. slice_index search.new.queue.items 0 ≡ slice_index search.old.queue.items 0) }
-    ensures back { IfOk result (λ found. found ≡ Some true → Leads kept.now top (slice_index search.old.queue.items 0) (slice_index search.old.queue.items 0)) }
-    ensures spread { IfOk result (λ found. found ≡ Some false → (i : ℕ) → i < length search.new.queue.items
+    ensures back { IfOk result (λ found. found ≡ true → Leads kept.now top (slice_index search.old.queue.items 0) (slice_index search.old.queue.items 0)) }
+    ensures spread { IfOk result (λ found. found ≡ false → (i : ℕ) → i < length search.new.queue.items
         → IsSpread kept.now labels.now.levels.items labels.now.groups.items top own search.new.least search.new.places.items search.new.queue.items i) }
-    ensures given_up { IfOk result (λ found. found ≡ None → IsBounded most) }
 {
     'queue: for next in 0..usize::MAX {
         if next >= search.queue.len() {
             break;
         }
         if spread(kept, labels, top, own, next, search)? {
-            return Ok(Some(true));
-        }
-        if search.repeats > most {
-            return Ok(None);
+            return Ok(true);
         }
     }
-    Ok(Some(false))
+    Ok(false)
 }
 
 /// Continues the search for a way back to the queue's first vertex from a place of the queue. Returns whether there is one.
@@ -384,8 +377,7 @@ fn leads_back(alloc: Global, kept: &StrategyGraph, v: u32) -> Result<bool, Alloc
 {
     let mut labels = Labels::new(alloc, kept)?;
     let mut search = WalkSearch::new(alloc, kept)?;
-    let found = walks_back(kept, v, u64::MAX, &mut labels, &mut search)?;
-    Ok(found == Some(true))
+    walks_back(kept, v, &mut labels, &mut search)
 }
 
 /// Gives the reached vertices the level, and groups: each before the least place its own, and the others one group.
@@ -407,15 +399,21 @@ fn note(labels: &mut Labels, search: &WalkSearch, level: u32, start: u32)
     }
 }
 
-/// The least bad vertex that is the greatest on a closed walk through it, if a ranking shows it.
-fn first_by_ranking(alloc: Global, kept: &StrategyGraph) -> Result<Option<Option<u32>>, AllocError>
-    requires { IsKept kept.now }
+/// The least bad vertex that is the greatest on a closed walk through it, if a ranking shows it. Searches have shown that there
+/// is none before `from`.
+fn first_by_ranking(
+    alloc: Global,
+    kept: &StrategyGraph,
+    from: u32,
+) -> Result<Option<Option<u32>>, AllocError>
+    requires kept { IsKept kept.now }
+    requires none { (v : ℕ) → v < from → IsOnBadCycle kept.now v → ⊥ }
     ensures { IfOk result (λ shown. IfSome shown (λ least. MatchOption least (NoneHas (IsOnBadCycle kept.now)) (IsLeast (IsOnBadCycle kept.now)))) }
 {
     let n = kept.game.len();
-    let ranking = find_ranking(alloc, kept)?;
+    let ranking = find_ranking(alloc, kept, from)?;
     let limit = ranking.limit;
-    if !is_ranked(alloc, kept, &ranking)? {
+    if ranking.from > from || !is_ranked(alloc, kept, &ranking)? {
         return Ok(None);
     }
     if limit >= n {

@@ -1,4 +1,4 @@
-//! Rankings: an order of vertices that shows that no bad vertex below a limit is the greatest on a closed walk.
+//! Rankings: an order of vertices that shows that no bad vertex from one vertex on and below a limit is the greatest on a closed walk.
 //!
 //! Vertices have places, which they may share, and places have keys. Each such bad vertex has a place whose key is greater than
 //! twice its priority, and its edges go down. Any other edge from a place goes down too, or up over keys of at most twice the
@@ -12,19 +12,20 @@ ghost use Rattle.pg_dominion.specs.private.Ranking.{AreEnds, IsJudged, IsRankedR
 use crate::strategy_graph::StrategyGraph;
 use std::alloc::{AllocError, Global};
 
-/// Places of vertices, a key for each place, and a limit: the least bad vertex of which they show nothing. A number after the
-/// last key is no place.
+/// Places of vertices, a key for each place, the first vertex of which they show something, and a limit: the least bad vertex
+/// after it of which they show nothing. A number after the last key is no place.
 #[derive(Drop)]
 pub struct Ranking {
     pub places: Vec<u32>,
     pub keys: Vec<u32>,
+    pub from: u32,
     pub limit: u32,
 }
 
-/// Whether the places show that no bad vertex below the limit is the greatest on a closed walk.
+/// Whether the places show that no bad vertex from `from` on and below the limit is the greatest on a closed walk.
 pub fn is_ranked(alloc: Global, kept: &StrategyGraph, ranking: &Ranking) -> Result<bool, AllocError>
     requires { IsKept kept.now }
-    ensures { IfOk result (λ b. b ≡ true → (v : ℕ) → v < ranking.now.limit → IsOnBadCycle kept.now v → ⊥) }
+    ensures { IfOk result (λ b. b ≡ true → (v : ℕ) → ranking.now.from ≤ v → v < ranking.now.limit → IsOnBadCycle kept.now v → ⊥) }
 {
     let n = kept.game.len();
     if ranking.places.len() != n as usize || ranking.keys.len() > n as usize {
@@ -85,14 +86,14 @@ fn is_ranked_row(kept: &StrategyGraph, ranking: &Ranking, ends: &[u32], v: u32) 
     requires places { length ranking.now.places.items ≡ length kept.now.game.now }
     requires size { length ends.now ≡ length ranking.now.keys.items }
     requires covered { AreEnds ranking.now.keys.items ends.now }
-    ensures { result ≡ true → IsRankedRow kept.now ranking.now.limit ranking.now.places.items ranking.now.keys.items v }
+    ensures { result ≡ true → IsRankedRow kept.now ranking.now.from ranking.now.limit ranking.now.places.items ranking.now.keys.items v }
 {
     // for the proof: priorities are so small that twice one fits
     let _n = kept.game.len();
     let places = ranking.places.as_slice();
     let keys = ranking.keys.as_slice();
     let at = places[v as usize] as usize;
-    let is_judged = is_judged(kept, ranking.limit, v);
+    let is_judged = is_judged(kept, ranking, v);
     if at >= keys.len() {
         return !is_judged;
     }
@@ -108,12 +109,12 @@ fn is_ranked_row(kept: &StrategyGraph, ranking: &Ranking, ends: &[u32], v: u32) 
     goes_down || (end <= ends[at] as usize && keys[at] <= twice)
 }
 
-/// Whether a vertex is bad, and below the limit.
-fn is_judged(kept: &StrategyGraph, limit: u32, v: u32) -> bool
+/// Whether a vertex is bad, and one of those of which the ranking shows something.
+fn is_judged(kept: &StrategyGraph, ranking: &Ranking, v: u32) -> bool
     requires kept { IsKept kept.now }
     requires vertex { v < length kept.now.game.now }
-    ensures yes { result ≡ true → IsJudged kept.now limit v }
-    ensures no { result ≡ false → IsJudged kept.now limit v → ⊥ }
+    ensures yes { result ≡ true → IsJudged kept.now ranking.now.from ranking.now.limit v }
+    ensures no { result ≡ false → IsJudged kept.now ranking.now.from ranking.now.limit v → ⊥ }
 {
-    v < limit && kept.bad.has(v)
+    ranking.from <= v && v < ranking.limit && kept.bad.has(v)
 }

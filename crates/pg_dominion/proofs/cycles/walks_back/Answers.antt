@@ -1,4 +1,4 @@
-use Rattle.pg_dominion.proofs.Common.{◌≡◌, ℕ, ◌+◌, length, slice_index, refl, sym, ◌∙◌, subst, arith, rules, AreNoted}
+use Rattle.pg_dominion.proofs.Common.{◌≡◌, ℕ, ◌+◌, length, slice_index, refl, sym, ◌∙◌, subst, arith, AreNoted}
 use Rattle.pg_dominion.proofs.Labelled.{searching_first, labelled_more, none_reached}
 use Rattle.pg_dominion.proofs.cycles.walks_back.Goals as goal
 
@@ -11,7 +11,7 @@ finds_back-requires-clause-state c =
 
 pub returns-then-own-eq0-clause-labels : goal.returns-then-own-eq0-clause-labels
 returns-then-own-eq0-clause-labels c =
-    let h = c.in_ok-found.ensures in
+    let h = c.in_ok-finds_back.ensures in
     let s = c.finds_back.new.search in
     let L = c.args.labels.now.levels.items in
     let G = c.args.labels.now.groups.items in
@@ -20,38 +20,33 @@ returns-then-own-eq0-clause-labels c =
     let e : slice_index s.queue.items 0 ≡ c.args.start = h.first ∙ (rw (c.in_ok-push.ensures.items, c.clear.ensures.items) refl) in
     let top = c.priority-top.result in
     labelled_more c.args.kept.now L G top c.group_above-own.result s.least s.places.items s.queue.items c.requires.labels h.state
-    (h.spread (cc (c.in-Some.is, c.if-leads_back.false)))
+    (h.spread c.if-branch.false)
     c.if-own-eq0.true h.least L' G'
     (subst (λ (x : ℕ). AreNoted L G s.places.items s.queue.items (top + 1) x s.least (length s.queue.items) L' G') (sym e) c.note.ensures)
 
 pub returns-then-own-eq0-clause-none : goal.returns-then-own-eq0-clause-none
 returns-then-own-eq0-clause-none c = λ _.
-    let h = c.in_ok-found.ensures in
+    let h = c.in_ok-finds_back.ensures in
     let s = c.finds_back.new.search in
     let l = c.args.labels.now in
     none_reached c.args.kept.now l.levels.items l.groups.items c.priority-top.result c.group_above-own.result s.least s.places.items s.queue.items
-    c.requires.labels h.state (h.spread (cc (c.in-Some.is, c.if-leads_back.false))) h.least c.args.start
+    c.requires.labels h.state (h.spread c.if-branch.false) h.least c.args.start
     (h.first ∙ (rw (c.in_ok-push.ensures.items, c.clear.ensures.items) refl)) c.priority-top.ensures
 
 pub returns-else-own-eq0-clause-none : goal.returns-else-own-eq0-clause-none
 returns-else-own-eq0-clause-none c = λ _.
-    let h = c.in_ok-found.ensures in
+    let h = c.in_ok-finds_back.ensures in
     let s = c.finds_back.new.search in
     let l = c.args.labels.now in
     none_reached c.args.kept.now l.levels.items l.groups.items c.priority-top.result c.group_above-own.result s.least s.places.items s.queue.items
-    c.requires.labels h.state (h.spread (cc (c.in-Some.is, c.if-leads_back.false))) h.least c.args.start
+    c.requires.labels h.state (h.spread c.if-branch.false) h.least c.args.start
     (h.first ∙ (rw (c.in_ok-push.ensures.items, c.clear.ensures.items) refl)) c.priority-top.ensures
 
-pub returns-then-leads_back-clause-back : goal.returns-then-leads_back-clause-back
-returns-then-leads_back-clause-back c =
-    let yes = c.in_ok-found.ensures.back (cc (c.in-Some.is, c.if-leads_back.true)) in
-    search (rules, slice_index, c.in_ok-push.ensures.items, c.clear.ensures.items, yes, c.priority-top.ensures)
-
 pub note-requires-clause-below : goal.note-requires-clause-below
-note-requires-clause-below c = λ i l. omega (arith, c.in_ok-found.ensures.state.below i l, c.in_ok-found.ensures.state.size)
+note-requires-clause-below c = λ i l. omega (arith, c.in_ok-finds_back.ensures.state.below i l, c.in_ok-finds_back.ensures.state.size)
 
 pub note-requires-clause-placed : goal.note-requires-clause-placed
-note-requires-clause-placed c = c.in_ok-found.ensures.state.placed
+note-requires-clause-placed c = c.in_ok-finds_back.ensures.state.placed
 
 pub returns-else-own-eq0-clause-labels : goal.returns-else-own-eq0-clause-labels
 returns-else-own-eq0-clause-labels c = c.requires.labels
