@@ -15,7 +15,6 @@ PGBOARD_ARCHIVE names another static library, as in embed.py.
 import importlib.machinery
 import importlib.util
 import os
-import pathlib
 import random
 import re
 import shutil
@@ -88,8 +87,14 @@ class Referee(Boards):
         cls.env = {**os.environ, "PGBOARD_LIBRARY": str(embed.build_shared(cls.folder))}
 
     def run_script(self, *words, given=b"", script=(BOARD / "referee.py",), **env):
-        status, out, err = common.run([sys.executable, "-B", *script, *words], given, timeout=120, env={**self.env, **env})
-        return status, out, err.decode()
+        said = self.folder / "said"
+        command = ["sh", "-c", 'exec "$@" 2>"$0"', said, sys.executable, "-B", *script, *words]
+        status, out, _ = common.run(command, given, timeout=120, env={**self.env, **env})
+        return status, out, said.read_text(encoding="utf-8")
+
+    def after(self, worker, commands):
+        """A solver that runs commands of sh once the referee has said what became of another solver."""
+        return f"sh -c 'until grep -q \"solver {worker} \" {self.folder / 'said'}; do sleep 0.05; done; {commands}'"
 
     def referee(self, game, *solvers, more=(), **how):
         """The lines of each solver as (worker, command, how it ended, what was done), and how many vertices were left to the recursion.
@@ -137,7 +142,7 @@ class Referee(Boards):
 
     def test_what_another_solver_has_settled_is_lost(self):
         game = {3: (2, 0, {9}), 9: (1, 1, {9}), 12: (0, 0, {12})}
-        lines, left = self.referee(game, f"cat {self.file('odd', '9 1 9;')}", f"sh -c 'sleep 1; cat {self.file('even', '3 0 9; 9 1 9;')}'")
+        lines, left = self.referee(game, f"cat {self.file('odd', '9 1 9;')}", self.after(1, f"cat {self.file('even', '3 0 9; 9 1 9;')}"))
         wanted = ["Odd settled 2, of which 1 of 1 claimed", "Even refused: 3 is settled for the other player; Odd refused: all of it is settled already"]
         self.assertEqual(([it[3] for it in lines], left), (wanted, 1))
 
@@ -164,15 +169,15 @@ class Referee(Boards):
     def test_a_solver_that_never_ends_is_ended_with_all_that_it_started(self):
         half, pid = self.file("half", "9 1 9; 3 0"), self.folder / "pid"
         begun = time.monotonic()
-        lines, left = self.referee(GAME, f"sh -c 'sleep 600 & echo $! > {pid}; cat {half}; wait'", "sleep 600", more=["--time", "1.5"])
-        self.assertEqual([it[2] for it in lines], ["ended after 1.5 s"] * 2)
+        lines, left = self.referee(GAME, f"sh -c 'sleep 600 & echo $! > {pid}; cat {half}; wait'", "sleep 600", more=["--time", "4.5"])
+        self.assertEqual([it[2] for it in lines], ["ended after 4.5 s"] * 2)
         self.assertEqual(({it[0]: it[3] for it in lines}, left), ({"1": "Odd settled 1, of which 1 of 1 claimed", "2": "nothing is claimed"}, 2))
-        self.assertLess(time.monotonic() - begun, 20)
+        self.assertLess(time.monotonic() - begun, 60)
         self.assert_gone(int(pid.read_text(encoding="ascii")))
 
     def assert_gone(self, pid):
-        ends = time.monotonic() + 10
-        while os.path.exists(f"/proc/{pid}") and " Z " not in pathlib.Path(f"/proc/{pid}/stat").read_text(encoding="ascii"):
+        ends = time.monotonic() + 60
+        while common.is_alive(pid):
             self.assertLess(time.monotonic(), ends)
             time.sleep(0.05)
 
@@ -220,7 +225,7 @@ class Referee(Boards):
 
     def test_the_picture_has_what_each_solver_settled(self):
         path = self.folder / "run.svg"
-        solvers = [f"cat {self.file('odd', '9 1 9;')}", f"sh -c 'sleep 0.3; cat {self.file('even', '3 0 3;')} # <&'", "false"]
+        solvers = [f"cat {self.file('odd', '9 1 9;')}", self.after(3, f"sleep 0.3; cat {self.file('even', '3 0 3;')} # <&"), "false"]
         self.referee({**GAME, 20: (1, 1, {20})}, *solvers, more=["--picture", path])
         text = path.read_text(encoding="utf-8")
         counts = {name: int(count) for count, name in re.findall(r'<text x="\d+" y="\d+">(\d+) (.*?)</text>', text)}
@@ -297,7 +302,7 @@ class Promote(Boards):
                 assert (status, err) == (0, ""), err
                 cls.programs[" ".join([compiler, *flags])] = program
 
-    def ran(self, program, game, timeout=60):
+    def ran(self, program, game, timeout=300):
         """The output, and of each worker what it settled and how its posts were answered."""
         status, out, err = common.run([program, self.file("game.pg", plain.written_game(game))], timeout=timeout)
         self.assertEqual(status, 0, err.decode())

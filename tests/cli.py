@@ -71,7 +71,7 @@ class Cases(unittest.TestCase):
             with self.subTest(words=words):
                 folder = common.make_folder(self)
                 case.put_files(folder)
-                status, out, err = common.program(*words, given=case.stdin, timeout=20, cwd=folder)
+                status, out, err = common.program(*words, given=case.stdin, cwd=folder)
                 self.assertEqual(status, case.status, err)
                 self.judge_output(case, out)
                 self.judge_error(case, err)
@@ -241,8 +241,10 @@ class Devices(Answers):
             with self.subTest(before=len(before)), subprocess.Popen(words, cwd=self.folder, stdout=subprocess.PIPE) as ran:
                 with open(pipe, "wb", buffering=0) as file:
                     # (opening it has waited for the program)
-                    time.sleep(0.2)
-                    self.assertIn(str(solution), [os.path.realpath(it) for it in pathlib.Path(f"/proc/{ran.pid}/fd").iterdir()])
+                    opened, ends = pathlib.Path(f"/proc/{ran.pid}/fd"), time.monotonic() + 60
+                    while str(solution) not in map(os.path.realpath, opened.iterdir()):
+                        self.assertLess(time.monotonic(), ends)
+                        time.sleep(0.01)
                     solution.write_bytes(then)
                     file.write(GAME)
                 self.assertEqual((ran.communicate(timeout=60)[0], ran.returncode), (b"ok\n", 0))

@@ -1,5 +1,6 @@
 """What the scripts of tests/ share: the repository's folder, the program under test, and a last line that ./test adds up."""
 
+import contextlib
 import functools
 import os
 import pathlib
@@ -49,6 +50,13 @@ def run(words, given=b"", timeout=60, **how):
 def program(*words, given=b"", **how):
     """Runs the program under test likewise."""
     return run([PROGRAM, *words], given, **how)
+
+
+def is_alive(pid):
+    """Whether a process of this number is there and has not ended."""
+    with contextlib.suppress(OSError), open(f"/proc/{pid}/stat", encoding="ascii", errors="replace") as file:
+        return file.read().rsplit(")", 1)[1].split()[0] != "Z"
+    return False
 
 
 @functools.lru_cache(maxsize=None)

@@ -323,8 +323,11 @@ class Convert(Use, unittest.TestCase):
                     self.assertEqual(even_wins(plain.game_of(out.encode())), even_wins(game, least, odd))
 
     def test_a_pipe_that_nobody_reads(self):
-        script = '(sleep 1; cat) | "$@" | true; exit ${PIPESTATUS[1]}'
-        got = common.run(["bash", "-c", script, "", sys.executable, "-B", EXAMPLES / "convert.py"], b"0 8 0 0;")
+        reader, writer = os.pipe()
+        os.close(reader)
+        with open(writer, "wb"):
+            command = ["bash", "-c", f'exec "$@" >&{writer}', "", sys.executable, "-B", EXAMPLES / "convert.py"]
+            got = common.run(command, b"0 8 0 0;", pass_fds=[writer])
         self.assertEqual(got, (2, b"", b"convert: standard output: Broken pipe\n"))
         for sign, name in (("<", b"input"), (">", b"output")):
             got = common.run(["sh", "-c", f'exec "$@" {sign}&-', "", sys.executable, "-B", EXAMPLES / "convert.py"], b"0 8 0 0;")
