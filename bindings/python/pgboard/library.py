@@ -176,11 +176,15 @@ def judged(at: int, to: int, written: int, answer: int) -> int:
 def run_in_child(block: memoryview, work: Callable[[], None]) -> None:
     """Has a child process do work, which writes an answer, and waits until it has ended. What is raised here meanwhile, as
     KeyboardInterrupt is in the main thread, ends the child."""
-    child, status = 0, 0
+    child, status, parent = 0, 0, os.getpid()
+    masked = signal.pthread_sigmask(signal.SIG_BLOCK, [])
     try:
+        # (the child unblocks it; until it heeds interrupts, one would be lost there)
+        signal.pthread_sigmask(signal.SIG_BLOCK, [signal.SIGINT])
         child = os.fork()
         if child == 0:
-            be_child(work)
+            be_child(work, parent)
+        signal.pthread_sigmask(signal.SIG_SETMASK, masked)
         # (until it is waited for below, no other process has its number)
         os.waitid(os.P_PID, child, os.WEXITED | os.WNOWAIT)
     except ChildProcessError:
@@ -191,11 +195,12 @@ def run_in_child(block: memoryview, work: Callable[[], None]) -> None:
         if child:
             os.kill(child, signal.SIGKILL)
             status = os.waitpid(child, 0)[1]
+        signal.pthread_sigmask(signal.SIG_SETMASK, masked)
     if OUTCOME.unpack_from(block)[3] == UNANSWERED:
         raise reason_of(status)
 
 
-def be_child(work: Callable[[], None]) -> None:
+def be_child(work: Callable[[], None], parent: int) -> None:
     """Does the work, and ends this process. Ctrl-C at a terminal reaches all processes there, and ends this one, unless the program
     ignores it; and it ends with the thread that waits for it."""
     try:
@@ -204,7 +209,8 @@ def be_child(work: Callable[[], None]) -> None:
             signal.signal(signal.SIGINT, signal.SIG_DFL)
         signal.pthread_sigmask(signal.SIG_UNBLOCK, [signal.SIGINT])
         PROCESS.prctl(1, signal.SIGKILL)  # PR_SET_PDEATHSIG
-        work()
+        if os.getppid() == parent:
+            work()
     finally:
         os._exit(0)
 
