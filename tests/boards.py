@@ -68,7 +68,7 @@ class Boards(unittest.TestCase):
     @classmethod
     def setUpClass(cls):
         cls.folder = common.make_folder(cls)
-        embed.build_archive()
+        embed.build_archive(cls.folder)
 
     def file(self, name, text):
         path = self.folder / name

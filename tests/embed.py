@@ -12,6 +12,7 @@ PGBOARD_ARCHIVE names another static library to test, which is not made here.
 """
 
 import collections
+import contextlib
 import itertools
 import os
 import pathlib
@@ -188,20 +189,35 @@ def run(words, given=b""):
     return status, out.decode(), err.decode()
 
 
+@contextlib.contextmanager
+def locked():
+    """The crates, in which no rt works meanwhile: another script may have started one."""
+    crates = rtlib.crates_below(common.ROOT)
+    held = rtlib.lock(crates)
+    try:
+        yield crates
+    finally:
+        for it in held:
+            os.close(it)
+
+
 def take_as_built():
     """Has rt take the libraries that the gate has just proved, and left without a stamp, as built of their sources."""
-    for crate in rtlib.crates_below(common.ROOT):
-        library = pathlib.Path(crate.folder, "out", "rlib")
-        if (library / f"{crate.name}.rlib").is_dir() and not (library / "stamp").exists():
-            (library / "stamp").write_text(crate.stamp(), encoding="utf-8")
+    with locked() as crates:
+        for crate in crates:
+            library = pathlib.Path(crate.folder, "out", "rlib")
+            if (library / f"{crate.name}.rlib").is_dir() and not (library / "stamp").exists():
+                (library / "stamp").write_text(crate.stamp(), encoding="utf-8")
 
 
-def build_archive():
-    """Proves and builds the static library, unless another one is named."""
+def build_archive(folder):
+    """Proves and builds the static library, unless another one is named, and copies it to a folder: another script may build it again."""
     if not OTHER:
         take_as_built()
         status, out, err = common.run(["rt", "lib", "--jobs", "1"], timeout=3000, cwd=CRATE)
-        assert status == 0 and ARCHIVES[0].exists(), (out + err).decode()[-2000:]
+        assert status == 0, (out + err).decode()[-2000:]
+        with locked():
+            ARCHIVES[0] = shutil.copy(CRATE / "out" / "libpgboard_c.a", folder)
 
 
 def build_shared(folder):
@@ -217,7 +233,7 @@ class Embed(unittest.TestCase):
     @classmethod
     def setUpClass(cls):
         cls.folder = common.make_folder(cls)
-        build_archive()
+        build_archive(cls.folder)
 
     def built(self, words):
         status, _, err = run(["cc", *words])
