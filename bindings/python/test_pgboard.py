@@ -120,10 +120,11 @@ def interrupt(kill, target, calls=1, pause=0.3):
         interrupt.sent = time.monotonic()
         kill(target, signal.SIGINT)
     threading.Thread(target=later).start()
+LATE = []
 def has_ended():
-    late = time.monotonic() - interrupt.sent
+    LATE.append(time.monotonic() - interrupt.sent)
     wait_for(lambda: len(os.listdir("/proc/self/task")) == 1)
-    print("interrupted", late < 10, len(os.listdir("/proc/self/task")), children(), flush=True)
+    print("interrupted", LATE[-1] < 10, len(os.listdir("/proc/self/task")), children(), flush=True)
 """
 
 
@@ -635,8 +636,10 @@ class Calls(Tests):
             "        pgboard.solve(*LARGE)\n"
             "    except KeyboardInterrupt:\n"
             "        has_ended()\n"
+            "print(min(LATE) < 1)\n"
         )
-        self.assertEqual(self.run_of(program), "interrupted True 1 []\n" * 4)
+        # (other work on the machine may take a second once, and not four times)
+        self.assertEqual(self.run_of(program), "interrupted True 1 []\n" * 4 + "True\n")
 
     def test_an_interrupt_at_a_terminal_ends_the_calls_of_all_threads(self):
         # (which gets it to each process of the group, also to a child that has just begun)
