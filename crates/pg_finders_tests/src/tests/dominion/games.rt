@@ -81,9 +81,10 @@ pub enum Hostile {
     Ladder(u32, Option<u32>),
     /// Each of this many vertices leads to each, and vertex v has the priority `step * v`.
     Dense(u32, u32),
-    /// A bad vertex that leads to a cycle of this many good ones, this many of which lead to the next but one, too; and after it a
-    /// bad one of greater priority that leads to 19 of them. Nothing leads to the bad ones.
-    Chords(u32, u32),
+    /// A bad vertex that leads to a cycle of this many good ones, this many of which lead to the next but one, too; after it two
+    /// bad ones of greater priorities that lead to 11 of them, and this many vertices on a cycle of their own. Nothing leads to
+    /// the first three.
+    Chords(u32, u32, u32),
 }
 
 impl Hostile {
@@ -94,7 +95,10 @@ impl Hostile {
             Hostile::Downward(n) => add_downward(rt, alloc, draft, n),
             Hostile::Ladder(levels, turned) => add_ladder(rt, alloc, draft, levels, turned),
             Hostile::Dense(n, step) => add_dense(rt, alloc, draft, n, step),
-            Hostile::Chords(n, more) => add_chords(rt, alloc, draft, n, more),
+            Hostile::Chords(n, more, others) => {
+                add_chords(rt, alloc, draft, n, more);
+                add_cycle(rt, alloc, draft, others, 2);
+            }
         }
     }
 
@@ -233,8 +237,9 @@ fn add_chords(rt: &impl Abort, alloc: Global, draft: &mut Draft, n: u32, more: u
         let next = next_on_cycle(rt, alloc, first, n, v, many);
         add(rt, alloc, draft, 0, ODD, next.as_slice());
     }
-    let some = numbers_from(rt, alloc, first, 19);
+    let some = numbers_from(rt, alloc, first, 11);
     add(rt, alloc, draft, 3, ODD, some.as_slice());
+    add(rt, alloc, draft, 5, ODD, some.as_slice());
 }
 
 /// One to 24 vertices with one to three random successors each.

@@ -242,18 +242,18 @@ fn a_ladder_is_judged_after_a_refusal(rt: HostRuntime) {
     compare_hostile(&rt, rt.alloc(), Hostile::Ladder(33, None));
 }
 
-// In the next two games a search from vertex 0 reaches the cycle of 98 vertices, and one from the last vertex looks at its edges
-// again. A ranking is made where these are more than 98: half as many as the 100 vertices, 6 for the search from vertex 0, which
-// has one edge, and 42 for the one from the last, which has 19.
+// In the next two games a search from vertex 0 reaches a cycle of 25 vertices, and those from vertices 26 and 27 look at its edges
+// again. A ranking is made where more than 25 such looks are left: a quarter of the 100 vertices. The search from vertex 27, which
+// has 11 edges, first takes 26 of them off: twice its edges, and 4.
 
-/// 98 edges: were one looked at twice, a ranking would be made.
+/// 25 edges: were one looked at twice, or fewer looks taken off, a ranking would be made.
 #[test]
 fn each_edge_of_a_cycle_is_looked_at_once_after_a_refusal(rt: HostRuntime) {
-    compare_hostile(&rt, rt.alloc(), Hostile::Chords(98, 0));
+    compare_hostile(&rt, rt.alloc(), Hostile::Chords(25, 0, 72));
 }
 
-/// 99 edges: were one not looked at, none would be made.
+/// 26 edges: were one not looked at, none would be made.
 #[test]
 fn with_one_edge_more_a_ranking_is_made_after_a_refusal(rt: HostRuntime) {
-    compare_hostile(&rt, rt.alloc(), Hostile::Chords(98, 1));
+    compare_hostile(&rt, rt.alloc(), Hostile::Chords(25, 1, 72));
 }
