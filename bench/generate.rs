@@ -260,6 +260,34 @@ fn chords(n: u32) -> Game {
         .collect()
 }
 
+/// The corners of a cube of many dimensions. An edge leads to each corner that differs in one of them, which the other player owns.
+fn hypercube(dimensions: u32) -> Game {
+    let random = &mut Random(26);
+    let n = 1 << dimensions;
+    (0..n)
+        .map(|v: u32| {
+            let mut row: Vec<u32> = (0..dimensions).map(|at| v ^ (1 << at)).collect();
+            row.sort_unstable();
+            Vertex(random.below(256), v.count_ones() % 2 == 1, row)
+        })
+        .collect()
+}
+
+/// A binary tree in which each leaf leads back to a vertex above it.
+fn tree_with_ways_back(n: u32) -> Game {
+    let random = &mut Random(27);
+    (0..n)
+        .map(|v| {
+            let mut row: Vec<u32> = [2 * v + 1, 2 * v + 2].into_iter().filter(|w| *w < n).collect();
+            if row.is_empty() {
+                // one above has the leading binary digits of v + 1, less 1
+                row.push(((v + 1) >> (1 + random.below((v + 1).ilog2()))) - 1);
+            }
+            Vertex(random.below(32), random.below(2) == 1, row)
+        })
+        .collect()
+}
+
 /// A game on which the recursion takes a time exponential in the levels (Friedmann 2011).
 fn recursive_ladder(levels: u32) -> Game {
     let (a, b, c, d, e) = (0, levels, 2 * levels, 3 * levels, 4 * levels);
@@ -456,6 +484,8 @@ fn game_of(name: &str) -> Option<Game> {
         "degree_two" => sparse(30_000, 2, 30_000, 26),
         "recursive_ladder" => recursive_ladder(40),
         "simulation" => simulation(180),
+        "hypercube" => hypercube(13),
+        "tree_with_ways_back" => tree_with_ways_back(n),
         _ => return None,
     })
 }

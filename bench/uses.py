@@ -11,10 +11,9 @@ import sys
 
 sys.path.append(os.path.join(os.path.dirname(os.path.abspath(__file__)), "..", "examples"))
 
-import games
-import hoa
 import modelcheck
 import synthesise
+from lib import games, hoa
 
 # fixed points that alternate three deep, with priorities from 0 to 2
 FORMULA = "nu A. ([true] A && [ask] nu X. mu Y. (([fail] X && [work] Y) || (<answer> true || <ask> nu Z. (<work> Z || <fail> Y))))"

@@ -1,8 +1,8 @@
-# Completion of pgboard for bash.
+# Completion of pgboard for bash. (tests/help.py --write makes this file from the program's help)
 _pgboard() {
     local word=${COMP_WORDS[COMP_CWORD]} before=${COMP_WORDS[COMP_CWORD - 1]} command= it words
     for it in "${COMP_WORDS[@]:1:COMP_CWORD-1}"; do
-        case $it in verify | tidy | solve | trace | help) command=$it && break ;; esac
+        case $it in solve | trace | verify | tidy | help) command=$it && break ;; esac
     done
     case $before in
     --workers) words=$(printf '%s ' {1..64}) ;;
@@ -10,11 +10,15 @@ _pgboard() {
     --known) words= ;;
     *)
         case $command in
-        '') words='verify tidy solve trace help --help --version' ;;
-        help) words='verify tidy solve trace help' ;;
+        '')
+            words='solve trace verify tidy help --help --version'
+            # (where the command is the script ./pgboard)
+            if [ "$(head -c 2 -- "$(type -P -- "${COMP_WORDS[0]}")" 2>/dev/null)" = '#!' ]; then words+=' --unproved --rebuild --install'; fi
+            ;;
+        help) words='solve trace verify tidy help' ;;
         solve) words='--workers --bound --winners --known --help' ;;
         trace) words='--workers --help' ;;
-        *) words='--help' ;;
+        verify | tidy) words='--help' ;;
         esac
         # flags where one begins, and the other words where none does
         case $word in

@@ -38,13 +38,15 @@ environment chooses in vertex 0, and Even is the controller.
              listed has no line in it: `solve --known` completes it.
 """
 
+from lib import games
+
+import collections
 import gzip
 import re
 import sys
 import zlib
 
-import games
-from games import Refused
+from lib.games import Refused
 
 HELP = """
 example:
@@ -54,23 +56,16 @@ status: 0 where it is done; 2 where the command line or the input was refused,
 or the output was not written
 """
 GREATEST = 2_147_483_647
-COMMENTS = {sign: re.compile(re.escape(sign) + rb"[^\n]*") for sign in (b"#", b"//")}
+# (int takes no more)
+MOST_DIGITS = 4000
 # (before a semicolon the name ends, and its last byte is a backslash)
 ESCAPED = re.compile(rb'\\"(?!\s*;)')
 NAME_OR_COMMENT = re.compile(rb'("[^"]*")|(?:#|//)[^\n]*')
-HEAD = re.compile(rb"\s*(?:(?:max-?|min-?)?parity\s+[0-9]+\s*;\s*|start\s+[0-9]+\s*;\s*)*")
-START = re.compile(rb"\bstart\s+([0-9]+)\s*;")
-# A game is regular where each vertex has a line of its own with single blanks. These find a line that is not, in a text that begins
-# and ends with a line feed: of a text as it is given; where a name is a quote alone; and the same with dead ends, which have nothing
-# after the third blank.
-NOT_AS_IT_IS = re.compile(rb'\n(?!\Z|[0-9]+ [0-9]+ [01] (?:[0-9][0-9,]*)?[0-9](?: "[^"]*")?;\n)')
-NOT_REGULAR = re.compile(rb'\n(?!\Z|[0-9]+ [0-9]+ [01] (?:[0-9][0-9,]*)?[0-9]"?;\n)')
-NO_LINE = re.compile(rb'\n(?!\Z|[0-9]+ [0-9]+ [01] (?:(?:[0-9][0-9,]*)?[0-9])?"?;\n)')
-SHORT = re.compile(rb'(\n[0-9]+ [0-9]+ [01])(?="?;\n)')
-VERTEX = re.compile(rb'\s*([0-9]+)\s+([0-9]+)\s+0*([01])(?:\s+([0-9]+(?:,[0-9]+)*))?\s*("?)\s*;')
-DEAD_END = re.compile(rb'(?m)^([0-9]+) [0-9]+ ([01]) ("?;)$')
-# how many bytes are looked at together: as many as stay in a processor's cache while they are
-PIECE = 1 << 16
+STATEMENT = re.compile(
+    rb"""\s*(?:(?P<id>[0-9]+)\s+(?P<priority>[0-9]+)\s+0*(?P<owner>[01])(?:\s+(?P<to>[0-9]+(?:\s*,\s*[0-9]+)*))?\s*(?P<name>"[^"]*")?"""
+    rb"""|start\s*(?P<start>[0-9]+)|(?P<kind>max-?|min-?)?parity\s*(?P<most>[0-9]+))\s*;"""
+)
+CHOICE = re.compile(rb"\s*(?:paritysol\s*[0-9]+|[0-9]+\s+0*[01](?:\s+[0-9]+)?)\s*;")
 PLAYER = re.compile(r"(?i)^\W*(?:player|won by|winner)\W*(0|1|even|odd)\b[^:\n]*:?(.*)$")
 LISTED = re.compile(r"(?i)\s*(?:with strategy:?)?([\s0-9{}\[\](),;>-]*)")
 
@@ -87,46 +82,16 @@ def bytes_of(path):
     return data.removeprefix(b"\xef\xbb\xbf")
 
 
-def apart(data):
-    """A game's text without comments and with a quote in place of each name; and the names."""
-    if b'\\"' in data:
-        data = ESCAPED.sub(b"'", data)
-    pieces = data.split(b'"')
-    text, names = b'"'.join(pieces[::2]), pieces[1::2]
-    signs = [it for it in COMMENTS if it in text]
-    for sign in signs:
-        text = COMMENTS[sign].sub(b"", text)
-    if signs and (len(pieces) % 2 == 0 or text.count(b'"') != len(names)):
-        # there are quotes in comments
-        pieces = NAME_OR_COMMENT.sub(rb"\1", data).split(b'"')
-        text, names = b'"'.join(pieces[::2]), pieces[1::2]
-    if len(pieces) % 2 == 0:
-        raise Refused("a quote is never closed")
-    return text.replace(b' "', b'"') if names else text, names
-
-
-def lines_from(text, begin):
-    """The text from there on, with a line feed before it and at its end."""
-    text = text[begin - 1 :] if text[begin - 1 : begin] == b"\n" else b"\n" + text[begin:]
-    return text if text.endswith(b"\n") else text + b"\n"
-
-
-def regular(text):
-    """The lines of the vertices, and whether they are known to have no dead end."""
-    if not NOT_REGULAR.search(text) and b",," not in text:
-        return text, True
-    if b"start" in text:
-        text = START.sub(b"", text)
-    rows = filter(None, map(bytes.strip, text.split(b"\n")))
-    text = SHORT.sub(rb"\1 ", b"\n%b\n" % b"\n".join(rows).replace(b", ", b","))
-    if NO_LINE.search(text) or b",," in text:
-        text = b"\n%b\n" % VERTEX.sub(rb"\n\1 \2 \3 \4\5;", re.sub(rb"\s*,\s*", b",", text)).strip()
-    bad = NO_LINE.search(text) or re.search(rb"\n(?=[^\n]*,,)", text)
-    if bad:
-        first, semicolon, _ = text[bad.end() :].lstrip().partition(b";")
-        first = " ".join(first.decode(errors="backslashreplace").split())[:70]
-        raise Refused(f"{'not understood:' if semicolon else 'no semicolon after'} {first}{other_format(first)}")
-    return text, False
+def refuse(path, text, at, why=None):
+    """Refuses a text for the statement that begins at a place, or after the blanks there."""
+    rest = text[at:].lstrip()
+    line = text.count(b"\n", 0, len(text) - len(rest)) + 1
+    words, semicolon, _ = rest.partition(b";")
+    words = " ".join(words[:200].decode(errors="backslashreplace").split())
+    if not why and rest.count(b'"') % 2:
+        why = f"a quote is never closed after {games.shown(words)}"
+    why = why or f"{'not understood:' if semicolon else 'no semicolon after'} {games.shown(words)}{other_format(words)}"
+    raise Refused(f"{games.called(path)}:{line}: {why}")
 
 
 def other_format(words):
@@ -136,91 +101,76 @@ def other_format(words):
     return " (a line of the DIMACS formats, which no flag reads)" if re.match("[pc] ", words) else ""
 
 
-def pieces_of(text):
-    """A text in pieces that end with a line."""
+def statements(path, text, pattern):
+    """The statements of a text, each of which has to match a pattern."""
     at = 0
     while at < len(text):
-        end = text.find(b"\n", at + PIECE) + 1 or len(text)
-        yield text[at:end]
-        at = end
+        found = pattern.match(text, at)
+        if not found:
+            refuse(path, text, at)
+        yield found
+        at = found.end()
 
 
-def with_priorities(text, least, odd):
-    """The lines with other priorities: for the least one to decide by the greatest, and for odd ones to be Even's."""
-    found = set()
-    for piece in pieces_of(text):
-        found.update(piece.split(b" ")[1::3])
-    if max(map(len, found)) > 4000:
-        raise Refused("a priority has more than 4000 digits")
-    top = max(map(int, found))
-    top += top % 2
-    new = {it: (top - int(it) if least else int(it)) + odd for it in found}
-    if max(new.values()) > GREATEST:
-        raise Refused(f"a priority would be above {GREATEST}")
-    spelled = {it: b"%d" % priority for it, priority in new.items()}
-    for piece in pieces_of(text):
-        words = piece.split(b" ")
-        words[1::3] = map(spelled.__getitem__, words[1::3])
-        yield b" ".join(words)
+class Game:
+    """A game's text: what has to be known of all of it before a line is written, and the lines."""
 
+    def __init__(self, path, data, given):
+        # (a comment may have quotes, and a name what begins a comment)
+        self.path, self.text = path, NAME_OR_COMMENT.sub(rb"\1", ESCAPED.sub(b"'", data)).rstrip()
+        self.odd, self.closes, self.least = given.odd, given.dead_ends, given.min
+        self.most, self.starts, self.last, self.top, seen = None, set(), 0, 0, 0
+        for it in statements(path, self.text, STATEMENT):
+            if it["start"]:
+                self.starts.add(self.number(it, "start"))
+            elif it["id"]:
+                seen, self.last, self.top = 1, max(self.last, self.number(it, "id")), max(self.top, self.number(it, "priority"))
+            elif seen:
+                refuse(path, self.text, it.start())
+            else:
+                self.most, self.least = self.most or it["most"], self.least or (it["kind"] or b"").startswith(b"min")
+        # the least even number that is no less than any priority
+        self.top += self.top % 2
+        if not seen:
+            raise Refused(f"{games.called(path)}: no vertex")
+        if len(self.starts) > 1:
+            raise Refused(f"{games.called(path)}: several lines `start` name vertices: {', '.join(map(str, sorted(self.starts)))}")
 
-def without_dead_ends(text, closes):
-    """The lines, in which each vertex without successors has an edge to itself, on which its owner loses."""
-    dead = (b" ;" in text or b' ";' in text) and DEAD_END.search(text)
-    if dead and not closes:
-        raise Refused(f"vertex {dead[1].decode()} has no successor, and --dead-ends was not given")
-    return DEAD_END.sub(lambda it: b"%b %d %b %b%b" % (it[1], 1 - int(it[2]), it[2], it[1], it[3]), text) if dead else text
+    def number(self, found, what):
+        if len(found[what]) > MOST_DIGITS:
+            refuse(self.path, self.text, found.start(), f"a number has more than {MOST_DIGITS} digits")
+        return int(found[what])
 
+    def lines(self):
+        yield b"parity %b;\n" % (self.most or b"%d" % self.last)
+        yield from (b"start %d;\n" % it for it in self.starts)
+        for it in statements(self.path, self.text, STATEMENT):
+            if it["id"]:
+                yield self.line(it)
 
-def with_names(text, names):
-    """The lines with their names in place of the quotes."""
-    if not names:
-        return text
-    whole = [b""] * (2 * len(names) + 1)
-    whole[::2], whole[1::2] = text.replace(b'"', b' "').split(b'"'), names
-    return b'"'.join(whole)
-
-
-def header_of(head, starts, lines):
-    number = re.search(rb"parity\s+([0-9]+)", head[0])
-    header = b"parity %b;" % (number[1] if number else max(re.findall(rb"\n0*([0-9]+)", lines), key=lambda it: (len(it), it)))
-    named = sorted({it.lstrip(b"0") or b"0" for it in starts})
-    if len(named) > 1:
-        raise Refused(f"several lines `start` name vertices: {b', '.join(named).decode()}")
-    return header + b"".join(b"\nstart %b;" % it for it in named)
-
-
-def other_lines(head, text, given):
-    """The lines of a game that pgboard does not read as it is, whose names are quotes alone."""
-    lines, is_closed = regular(text)
-    if len(lines) < 2:
-        raise Refused("no vertex")
-    least = given.min or b"min" in head[0]
-    if least or given.odd:
-        lines = b"".join(with_priorities(lines, least, given.odd))
-    return lines if is_closed else without_dead_ends(lines, given.dead_ends)
-
-
-def game_of(data, given):
-    """The text of a game that pgboard reads, in parts."""
-    head = HEAD.match(data)
-    lines, names, text = lines_from(data, head.end()), [], head[0]
-    if given.min or given.odd or b"min" in head[0] or len(lines) < 2 or b",," in lines or NOT_AS_IT_IS.search(lines):
-        text, names = apart(data)
-        head = HEAD.match(text)
-        lines = other_lines(head, lines_from(text, head.end()), given)
-    yield header_of(head, START.findall(text), lines)
-    yield with_names(lines, names)
+    def line(self, found):
+        id, owner, priority, to = found["id"], found["owner"], found["priority"], found["to"]
+        if not to and not self.closes:
+            why = f"vertex {games.shown(id.decode())} has no successor, and --dead-ends was not given"
+            refuse(self.path, self.text, found.start(), why)
+        if not to:
+            to, priority = id, b"%d" % (1 - int(owner))
+        elif self.least or self.odd:
+            value = (self.top - int(priority) if self.least else int(priority)) + self.odd
+            if value > GREATEST:
+                refuse(self.path, self.text, found.start(), f"a priority would be above {GREATEST}")
+            priority = b"%d" % value
+        return b"%b %b %b %b%b;\n" % (id, priority, owner, b"".join(to.split()), b" " + found["name"] if found["name"] else b"")
 
 
 def game_of_automaton(path, data, closes):
     """The text of a game in the HOA format, or of the game of an automaton's environment and controller."""
     import synthesise
-    from hoa import Automaton
+    from lib.hoa import Automaton
 
     automaton = Automaton(path, data.decode("utf-8", "surrogateescape"))
     if automaton.owners is None and closes:
-        raise Refused("--dead-ends is for a game, and an automaton needs none")
+        raise Refused(f"{games.called(path)}: --dead-ends is for a game, and an automaton needs none")
     if automaton.owners is None:
         text = games.game_text(synthesise.Game(automaton).rows)
     else:
@@ -247,16 +197,16 @@ def vertices_of(automaton, closes):
                 yield last, own + 1, owner, [to], f' "{state} to {to}"'
         if not edges:
             if not closes:
-                raise Refused(f"state {state} has no edge, and --dead-ends was not given")
+                automaton.tokens.refuse(f"state {state} has no edge, and --dead-ends was not given", automaton.places[state])
             successors, priority = [state], 1 - owner
         name = automaton.called[state].replace('\\"', "'")
         yield state, priority, owner, list(successors), f' "{name}"' * bool(name)
 
 
-def listed(text):
+def listed(path, text):
     """Winners and choices, (winner, choice or None) of each vertex, by a listing for people."""
     solution, player = {}, None
-    for line in text.splitlines():
+    for at, line in enumerate(text.splitlines(), 1):
         head = PLAYER.match(line)
         if head:
             player, line = int(head[1].lower() in ("1", "odd")), head[2]
@@ -266,23 +216,26 @@ def listed(text):
         elif player is not None:
             for vertex, choice in re.findall(r"([0-9]+)(?:\s*->\s*([0-9]+))?", row[1]):
                 if max(len(vertex), len(choice)) > 10:
-                    raise Refused(f"this is no vertex: {max(vertex, choice, key=len)}")
+                    raise Refused(f"{games.called(path)}:{at}: this is no vertex: {games.shown(max(vertex, choice, key=len))}")
                 winner, before = solution.get(int(vertex), (player, None))
                 if winner != player:
-                    raise Refused(f"vertex {vertex} is listed for both players")
+                    raise Refused(f"{games.called(path)}:{at}: vertex {vertex} is listed for both players")
                 solution[int(vertex)] = player, int(choice) if choice else before
     if not solution:
-        raise Refused("there is no solution in it: neither a line paritysol nor the vertices that a player wins")
+        raise Refused(f"{games.called(path)}: there is no solution in it: neither a line paritysol nor the vertices that a player wins")
     return solution
 
 
-def solution_of(data):
+def solution_of(path, data):
     """The `paritysol` text of a solution."""
     begun = re.search(rb"(?m)^paritysol\b", data)
     if begun:
+        # (the lines keep their numbers)
+        text = b"\n" * data.count(b"\n", 0, begun.start()) + data[begun.start() :]
+        collections.deque(statements(path, text.rstrip(), CHOICE), maxlen=0)
         yield data[begun.start() :]
         return
-    solution = sorted(listed(data.decode("utf-8", "surrogateescape")).items())
+    solution = sorted(listed(path, data.decode("utf-8", "surrogateescape")).items())
     rows = "".join(f"{vertex} {winner}{'' if choice is None else f' {choice}'};\n" for vertex, (winner, choice) in solution)
     yield f"paritysol {solution[-1][0]};\n{rows}".encode()
 
@@ -298,9 +251,9 @@ def main(words):
     if is_automaton and (given.min or given.odd) or given.solution and (given.min or given.odd or given.dead_ends):
         raise Refused("--min and --odd are for the text of a game, and --dead-ends for a game")
     if given.solution:
-        made = solution_of(data)
+        made = solution_of(given.input, data)
     else:
-        made = game_of_automaton(given.input, data, given.dead_ends) if is_automaton else game_of(data, given)
+        made = game_of_automaton(given.input, data, given.dead_ends) if is_automaton else Game(given.input, data, given).lines()
     sys.stdout.buffer.writelines(list(made))
 
 

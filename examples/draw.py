@@ -13,12 +13,13 @@ the first K entries of the journal settle, or all entries without a K. The
 result goes to standard output. At most 200 vertices are drawn.
 """
 
+from lib import games
+
 import html
 import re
 import sys
 
-import games
-from games import Refused
+from lib.games import Refused
 
 HELP = """
 examples:
@@ -35,8 +36,6 @@ HEAD = [
     '    node [fontname="DejaVu Sans" width=0.7 height=0.5 margin=0.05];',
     '    edge [fontname="DejaVu Sans"];',
 ]
-LINE = re.compile(r'([0-9]{1,10}) ([0-9]{1,10}) ([01]) ([0-9]{1,10}(?: , [0-9]{1,10})*)(?: "([^"]*)")?')
-TOKEN = re.compile(r'"[^"]*"|[^\s;,"]+|[,;]')
 STYLES = {
     None: 'style="filled,dashed" fillcolor="white"',
     0: 'style="filled" fillcolor="#fde68a"',
@@ -44,79 +43,46 @@ STYLES = {
 }
 
 
-def statements(text):
-    """What stands before each semicolon, its words parted by single spaces."""
-    words = []
-    for token in TOKEN.findall(text):
-        if token == ";":
-            yield " ".join(words)
-            words = []
-        else:
-            words.append(token)
-    if words:
-        raise Refused(f"no semicolon after {' '.join(words)}")
-
-
-def game_of(text):
-    """A game: (priority, owner, successors, name or None) of each identifier, by rising identifier."""
-    game = {}
-    for words in statements(text):
-        line = LINE.fullmatch(words)
-        if line:
-            game[int(line[1])] = int(line[2]), int(line[3]), sorted({int(it) for it in line[4].split(" , ")}), line[5]
-        elif game or not re.fullmatch(r"(parity|start) \d+", words):
-            raise Refused(f"not understood: {words}")
-    strangers = [it for row in game.values() for it in row[2] if it not in game]
-    if not game or strangers:
-        raise Refused(f"successor {strangers[0]} is not specified" if game else "no vertex")
+def game_of(path, text):
+    """The vertices of a game that is small enough for a picture, by rising identifier."""
+    game = games.game_of(path, text)
     if len(game) > games.MOST_DRAWN:
-        raise Refused(f"{len(game)} vertices are too many for a picture: at most {games.MOST_DRAWN} are drawn")
+        raise Refused(f"{games.called(path)}: {len(game)} vertices are too many for a picture: at most {games.MOST_DRAWN} are drawn")
     return dict(sorted(game.items()))
 
 
-def solution_of(text):
-    """Winners and choices: (winner, choice or None) of each identifier."""
-    solution = {}
-    for words in statements(text):
-        line = re.fullmatch(r"([0-9]{1,10}) ([01])(?: ([0-9]{1,10}))?", words)
-        if line:
-            solution[int(line[1])] = int(line[2]), line[3] and int(line[3])
-        elif solution or not re.fullmatch(r"paritysol \d+", words):
-            raise Refused(f"not understood: {words}")
-    return solution
-
-
-def journal_of(text):
-    """The entries of a trace, each the (winner, choice or None) of the vertices that it settles."""
+def journal_of(path, text):
+    """The entries of a trace, each the (winner, choice or None, line) of the vertices that it settles."""
     entries = []
-    for line in text.splitlines():
+    for at, line in enumerate(text.splitlines(), 1):
         head = re.fullmatch(r"entry \d+ \d+ ([01]) \d+ \d+", line)
         row = re.fullmatch(r"([0-9]{1,10})(?: ([0-9]{1,10}))?;", line)
         if head:
             winner, rows = int(head[1]), {}
             entries.append(rows)
         elif row and entries:
-            rows[int(row[1])] = winner, row[2] and int(row[2])
+            rows[int(row[1])] = winner, row[2] and int(row[2]), at
         elif line.startswith("report"):
             return entries
         elif not line.startswith("journal"):
-            raise Refused(f"not understood: {line}")
-    raise Refused("the trace has no report")
+            raise Refused(f"{games.called(path)}:{at}: not understood: {games.shown(line)}")
+    raise Refused(f"{games.called(path)}: the trace has no report")
 
 
-def judge(game, solution):
+def judge(path, game, solution):
     """Refuses what can't be a solution of the game, or a part of one, since it is of another."""
-    for id, (winner, choice) in solution.items():
+    for id, (winner, choice, line) in solution.items():
+        other = f"{games.called(path)}:{line}: of another game:"
         for it in (id, choice):
             if it is not None and it not in game:
-                raise Refused(f"the solution is of another game: vertex {it} is not in this one")
+                raise Refused(f"{other} vertex {it} is not in this one")
         if choice is not None and winner == game[id][1] and choice not in game[id][2]:
-            raise Refused(f"the solution is of another game: {choice} is no successor of {id} in this one")
+            raise Refused(f"{other} {choice} is no successor of {id} in this one")
 
 
 def label(id, priority, name):
     """What a vertex shows, as Graphviz reads it."""
-    text = games.printable(name.encode("utf-8", "surrogateescape").decode("utf-8", "replace")) if name else ""
+    text = games.printable(name[1:-1].encode("utf-8", "surrogateescape").decode("utf-8", "replace"))
     text = text[:MOST_LETTERS] + "..." * (len(text) > MOST_LETTERS)
     return f'{priority}<br/>{html.escape(text)}{"<br/>" * bool(text)}<font point-size="9">id {id}</font>'
 
@@ -125,10 +91,10 @@ def picture(game, solution):
     """The Graphviz text of a game, of which the solution may leave vertices open."""
     lines = ["digraph game {", *HEAD]
     for id, (priority, owner, _, name) in game.items():
-        winner, _ = solution.get(id, (None, None))
+        winner = solution[id][0] if id in solution else None
         lines.append(f'    {id} [shape={"box" if owner else "diamond"} label=<{label(id, priority, name)}> {STYLES[winner]}];')
     for id, (_, owner, successors, _) in game.items():
-        winner, choice = solution.get(id, (None, None))
+        winner, choice, _ = solution.get(id, (None, None, None))
         for to in successors:
             lines.append(f"    {id} -> {to}{' [style=bold penwidth=2.5]' if winner == owner and to == choice else ''};")
     return "\n".join(lines + ["}", ""]).encode()
@@ -149,13 +115,13 @@ def main(words):
     second = given.trace or given.solution
     first, *rest = games.texts_of(given.game, *([second] if second else []))
     with games.hints((given.game, first), (second, rest[0]) if given.solution else None):
-        game, solution = game_of(first), {}
+        game, solution = game_of(given.game, first), {}
         if given.trace:
-            for rows in journal_of(rest[0])[: given.entries]:
+            for rows in journal_of(second, rest[0])[: given.entries]:
                 solution.update(rows)
         elif given.solution:
-            solution = solution_of(rest[0])
-    judge(game, solution)
+            solution = games.solution_of(second, rest[0])
+    judge(second, game, solution)
     text = picture(game, solution)
     sys.stdout.buffer.write(games.pictured(text, given.kind) if given.kind else text)
 

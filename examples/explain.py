@@ -11,10 +11,11 @@ the other ways. For a choice that is missing, or is no successor, it shows the
 line and what could be there.
 """
 
+from lib import games
+
 import re
 
-import games
-from games import PLAYERS, Refused
+from lib.games import PLAYERS, Refused
 
 HELP = """
 example, where a choice of Even's makes a cycle that Odd wins:
@@ -33,7 +34,8 @@ class Claim:
     """A game, and who is said to win it, by which choices."""
 
     def __init__(self, game, solution):
-        self.game, self.solution = games.game_of(game), games.solution_of(solution)
+        """Of both the path and the text."""
+        self.game, self.solution = games.game_of(*game), games.solution_of(*solution)
 
     def winner(self, id):
         return self.solution[id][0]
@@ -152,9 +154,10 @@ def main(words):
     parser.add_argument("solution", metavar="SOLUTION", help="a solution of it; - is standard input")
     parser.add_argument("--picture", metavar="FILE", type=games.picture_path, help="draw what is wrong, in .dot, .svg, .png or .pdf")
     given = parser.parse_args(words)
-    game, solution = games.texts_of(given.game, given.solution)
-    with games.hints((given.game, game), (given.solution, solution)):
-        verdict, _ = games.verdict(game, solution)
+    texts = games.texts_of(given.game, given.solution)
+    game, solution = zip((given.game, given.solution), texts)
+    with games.hints(game, solution):
+        verdict, _ = games.verdict(*texts)
     if verdict == "ok":
         print(verdict)
         return 0

@@ -9,17 +9,19 @@ not. pgboard solves the game and verifies the solution. Then `true` or `false`
 is written. The size of the game is written before, to standard error.
 """
 
+from lib import games
+
+import os
 import re
 import sys
 
-import games
-from formulas import Formula
-from games import Refused
+from lib.formulas import Formula, Labels, named
+from lib.games import Refused
 
 HELP = """
 formulas, as mCRL2 writes them, from what binds least to what binds most:
   mu X. F   nu X. F   the least, the greatest fixed point; as far as can be
-  F => G    F || G    F && G    !F        (or, and, not are the same)
+  F => G    F || G    F && G    !F
   <R> F     [R] F     F after some, after each sequence of transitions of R
   true      false     X         (F)
 R is one of
@@ -30,7 +32,11 @@ and A, a set of actions, one of
 An action a is a label without blanks: a name, with data in brackets where the
 label has some, or several joined by |. A label of another form stands between
 double quotes. A variable stands under an even number of negations inside its
-fixed point. % begins a comment that ends with its line.
+fixed point. The words or, and, not are the same as ||, && and !. % begins a
+comment that ends with its line.
+
+Standard error names each action that is no label of the model, since it may be
+a typing error. An action under a negation is not named, and neither is tau.
 
 example, that two processes are never inside at a time, and that the first one
 who asks doesn't wait for ever:
@@ -101,9 +107,12 @@ class Product:
 
     def __init__(self, model, formula):
         self.model, self.formula, self.count = model, formula, len(formula.parts)
-        labels = {label for moves in model.next.values() for label, _ in moves}
+        labels = Labels(label for moves in model.next.values() for label, _ in moves)
+        # what the formula names and no label is; without `tau`, which a model need not have
+        leaves = [it for regular in formula.regulars for it in named(regular) if it[2] != "tau"]
+        self.unknown = dict.fromkeys(it[1] for it in leaves if not labels.taken(it))
         # of each modality its labels, and the states to which these lead; None of another subformula
-        self.taken = [actions and set(filter(actions, labels)) for _, _, actions, _ in formula.parts]
+        self.taken = [actions and labels.taken(actions) for _, _, actions, _ in formula.parts]
         known = {frozenset(taken): None for taken in self.taken if taken is not None}
         known = {taken: self.leads(taken) for taken in known}
         self.targets = [None if taken is None else known[frozenset(taken)] for taken in self.taken]
@@ -127,7 +136,7 @@ class Product:
         """
         vertices, count, numbers = self.vertices, self.count, {self.vertices[0]: 0}
         kinds = [
-            (priority, int(operator in ("and", "all")), list(dict.fromkeys(parts)), int(operator == "some"), targets)
+            (priority, int(operator in ("&&", "[")), list(dict.fromkeys(parts)), int(operator == "<"), targets)
             for (operator, priority, _, parts), targets in zip(self.formula.parts, self.targets)
         ]
         for vertex in vertices:  # which grow on the way
@@ -202,29 +211,42 @@ def options(words):
     return parser.parse_args(words)
 
 
+def formula_of(word):
+    """The formula that a word is, or that the file has which it names."""
+    if word == "-" or word.endswith(".mcf"):
+        return Formula(word, games.text_of(word))
+    try:
+        return Formula("formula", word)
+    except Refused as refused:
+        if os.path.isfile(word):
+            raise Refused(f"{refused}; a file has this name, and the name of a formula's file ends in .mcf") from None
+        raise
+
+
 def main(words):
     given = options(words)
     if given.model == given.formula == "-":
         raise Refused("- is standard input, which can't be two files")
-    is_file = given.formula == "-" or given.formula.endswith(".mcf")
-    formula = Formula(*((given.formula, games.text_of(given.formula)) if is_file else ("formula", given.formula)))
+    formula = formula_of(given.formula)
     model = Model(given.model)
     product = Product(model, formula)
     edges = sum(len(it[2]) for it in product.moves)
     print(f"modelcheck: size of the game: vertices {len(product.moves):,}, edges {edges:,}", file=sys.stderr)
     if given.game:
         games.write(given.game, games.game_text(product.rows))
+    for it in product.unknown:
+        print(f"modelcheck: the model has no label {games.shown(it)}", file=sys.stderr)
     progress("modelcheck: solving")
     try:
         solution = games.solved(product.moves)
     finally:
         progress("")
+    print("false" if solution[0][0] else "true")
     transitions = product.evidence(solution) if given.evidence or given.picture else []
     if given.evidence:
         games.write(given.evidence, aldebaran(model, transitions))
     if given.picture:
         draw(given.picture, model, transitions)
-    print("false" if solution[0][0] else "true")
     return solution[0][0]
 
 

@@ -27,10 +27,10 @@ outputs have the names of the propositions. Its latches are the bits of the
 state, from 0.
 """
 
-import aiger
-import games
-from games import Refused
-from hoa import Automaton
+from lib import aiger, games
+
+from lib.games import Refused
+from lib.hoa import Automaton
 
 HELP = """
 example, an arbiter of two clients, and one that has to grant at once:
@@ -176,8 +176,8 @@ def check(automaton, text, player, inputs, outputs):
         elif line and line[0] not in "#.":
             read, state, to, written = line.split(" ")
             lines.setdefault(state, []).append((automaton.cube(inputs, read), automaton.cube(outputs, written), to))
-    for state, rows in lines.items():
-        seen = 0
+    for state in [*lines, *(to for rows in lines.values() for _, _, to in rows if to not in lines)]:
+        rows, seen = lines.get(state, []), 0
         for read, written, _ in rows:
             if read & seen or player and written != rows[0][1]:
                 raise Refused(f"the machine that was found is none: {state} has two answers")
@@ -237,13 +237,13 @@ def main(words):
     rows = rows_of(machine, len(inputs))
     text = table(rows, automaton.names, inputs, outputs)
     check(automaton, text, winner, inputs, outputs)
-    if given.aiger:
-        circuit = aiger.Circuit(machine, automaton.names, inputs, outputs)
-        text = circuit.text() if given.aiger == "-" else ""
+    circuit = aiger.Circuit(machine, automaton.names, inputs, outputs) if given.aiger else None
+    text = text if not circuit else circuit.text() if given.aiger == "-" else ""
+    print("UNREALIZABLE\n" if winner else "REALIZABLE\n", text, sep="", end="")
+    if circuit:
         aiger.write(given.aiger, circuit)
     if given.picture:
         draw(given.picture, rows)
-    print("UNREALIZABLE\n" if winner else "REALIZABLE\n", text, sep="", end="")
     return winner
 
 

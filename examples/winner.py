@@ -12,9 +12,10 @@ the same identifiers, in which only the other player has choices, and which the
 winner wins from each vertex. --picture draws that game.
 """
 
+from lib import games
+
 import draw
-import games
-from games import PLAYERS, Refused
+from lib.games import PLAYERS, Refused
 
 HELP = """
 examples:
@@ -55,8 +56,8 @@ def game_text(game, moves, start):
 
 def picture(path, game, solution, moves):
     """Draws the part as draw.py draws a game and its solution."""
-    part = {id: (*game[id][:2], successors, game[id][3].strip('"')) for id, successors in moves.items()}
-    games.write_picture(path, len(part), draw.picture(part, {id: solution[id][:2] for id in part}))
+    part = {id: (*game[id][:2], successors, game[id][3]) for id, successors in moves.items()}
+    games.write_picture(path, len(part), draw.picture(part, {id: solution[id] for id in part}))
 
 
 def main(words):
@@ -72,18 +73,18 @@ def main(words):
         said, solution = games.verdict(text)
     if said != "ok":
         raise Refused(f"what pgboard solved was refused: {said or 'no verdict'}")
-    game, solution = games.game_of(text), games.solution_of(solution)
-    start = games.start_of(text) if given.vertex is None else given.vertex
+    game, solution = games.game_of(given.game, text), games.solution_of("the solution", solution)
+    start = games.start_of(given.game, text) if given.vertex is None else given.vertex
     if start is None:
         raise Refused(f"{games.called(given.game)}: no line `start` names a vertex: --vertex ID does")
     if start not in game:
         raise Refused(f"{games.called(given.game)}: there is no vertex {start}")
     moves, winner = reached(game, solution, start), solution[start][0]
+    print(solution_text(solution, moves) if given.reach else f"{PLAYERS[winner]} wins vertex {start}\n", end="")
     if given.part:
         games.write(given.part, game_text(game, moves, start))
     if given.picture:
         picture(given.picture, game, solution, moves)
-    print(solution_text(solution, moves) if given.reach else f"{PLAYERS[winner]} wins vertex {start}\n", end="")
     return winner
 
 

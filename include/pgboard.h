@@ -6,7 +6,10 @@
  *
  * The calls start no thread, wait for nothing and keep nothing but open boards. Several threads may make calls at once. They may
  * share what a call only reads, such as a game; each needs its own results and report, and its turn at a board. No thread may
- * change an array or a struct during a call that reads it. The header is C89, with the types of stdint.h, and C++. */
+ * change an array or a struct during a call that reads it. Make no call in a signal handler, or in the forked child of a process
+ * with threads. Memory comes from the program's malloc, realloc and free, which have to be of one allocator.
+ *
+ * The header is C89, with the types of stdint.h, and C++. */
 #ifndef PGBOARD_H
 #define PGBOARD_H
 
@@ -57,27 +60,27 @@ uint32_t pgboard_version(void);
 /* The answers; pgboard_strerror has a text for each. In brackets are the fields of `report`, `at` and then `to`. A field
  * without a name there is 0. A call reports the first fault. It looks at the game, then at the solution or at what is known,
  * then at the struct for results, and at last at what the solution or the known choices mean. Each of these has its faults in
- * the order below, for the least vertex and then the least successor. */
+ * the order below, for the least vertex and then the least successor, or as the brackets say. */
 #define PGBOARD_OK 0u
 #define PGBOARD_MEMORY 1u
 
 /* a struct and its arrays */
-#define PGBOARD_SIZE 9u      /* (one of PGBOARD_STRUCT_*, the size that this library takes) */
-#define PGBOARD_LENGTHS 2u   /* (one of PGBOARD_ARRAY_*: the first that does not fit those before it) */
-#define PGBOARD_ROW 3u       /* (the vertex) */
-#define PGBOARD_OWNER 4u     /* (the vertex) */
-#define PGBOARD_PRIORITY 5u  /* (the vertex) */
-#define PGBOARD_SOLUTION 8u  /* of struct pgboard_solution (one of PGBOARD_ARRAY_*) */
-#define PGBOARD_WINNER 7u    /* (the vertex) */
-#define PGBOARD_RESULTS 6u   /* of struct pgboard_results (one of PGBOARD_ARRAY_*) */
+#define PGBOARD_SIZE 9u     /* (one of PGBOARD_STRUCT_*, the size that this library takes) */
+#define PGBOARD_LENGTHS 2u  /* (one of PGBOARD_ARRAY_*: the first that does not fit those before it) */
+#define PGBOARD_ROW 3u      /* (the vertex) */
+#define PGBOARD_OWNER 4u    /* (the vertex) */
+#define PGBOARD_PRIORITY 5u /* (the vertex) */
+#define PGBOARD_SOLUTION 8u /* of struct pgboard_solution (one of PGBOARD_ARRAY_*) */
+#define PGBOARD_WINNER 7u   /* (the vertex) */
+#define PGBOARD_RESULTS 6u  /* of struct pgboard_results (one of PGBOARD_ARRAY_*) */
 
 /* a game */
 #define PGBOARD_NO_VERTEX 10u
 #define PGBOARD_TOO_MANY_VERTICES 11u
-#define PGBOARD_TWICE 12u /* of texts alone (the vertex) */
+#define PGBOARD_TWICE 12u        /* of texts alone (the vertex) */
 #define PGBOARD_NO_SUCCESSOR 13u /* (the vertex) */
 #define PGBOARD_TOO_MANY_EDGES 14u
-#define PGBOARD_UNKNOWN 15u /* (the vertex, the successor) */
+#define PGBOARD_UNKNOWN 15u      /* (the vertex, the first such successor in its row) */
 
 /* winners and choices */
 #define PGBOARD_NO_CHOICE_AT 20u /* (the vertex) */
@@ -120,13 +123,14 @@ uint32_t pgboard_version(void);
 /* a claim that is posted */
 #define PGBOARD_POST_PLAYER 80u  /* the player is neither 0 nor 1 (the player) */
 #define PGBOARD_POST_LENGTHS 81u /* the arrays have two lengths (that of the vertices, that of the choices) */
-#define PGBOARD_POST_SHAPE 82u   /* the first wrong row: its vertex is not in the game or not above the one before it, or it does
-                                  * not have a successor as choice exactly where the player owns the vertex (the row, from 0) */
+#define PGBOARD_POST_SHAPE 82u   /* the first wrong row: its vertex is not in the game or not above the one before it, or it
+                                  * does not have a successor as choice exactly where the player owns the vertex; or there is no
+                                  * row (the row from 0; 0 without rows) */
 #define PGBOARD_POST_CYCLE 83u   /* the greatest priority on a closed walk in the claim is the opponent's (the vertex with it) */
 #define PGBOARD_POST_LOST 84u    /* a vertex is settled for the opponent (the vertex) */
 #define PGBOARD_POST_STALE 85u   /* all vertices are settled for the player */
-#define PGBOARD_POST_OPEN 86u    /* an edge of the opponent, or a choice, leads from an unsettled vertex of the claim to one that
-                                  * is neither in the claim nor settled for the player (from, to) */
+#define PGBOARD_POST_OPEN 86u    /* an edge of the opponent, or a choice, leads from an unsettled vertex of the claim to one
+                                  * that is neither in the claim nor settled for the player (from, to) */
 
 /* a bound on the recursion */
 #define PGBOARD_GAVE_UP 90u /* it needs more steps than the call allows */
@@ -187,13 +191,13 @@ PGBOARD_CALL
 uint32_t pgboard_solve(const struct pgboard_game *game, struct pgboard_results *results, struct pgboard_report *report);
 
 /* The same as pgboard_solve, with a bound on the recursion, which takes exponential time on some games: the answer is
- * PGBOARD_GAVE_UP if it needs more steps. A step begins a subgame. A game needs the same number in each call. The searches before
- * the recursion have bounds of their own. */
+ * PGBOARD_GAVE_UP if it needs more steps. A step begins a subgame. The same call on the same game needs the same number each time,
+ * as tests show. The searches before the recursion have bounds of their own. */
 PGBOARD_CALL
 uint32_t pgboard_solve_within(const struct pgboard_game *game, uint64_t steps, struct pgboard_results *results,
                               struct pgboard_report *report);
 
-/* The same as pgboard_solve, from what is known; PGBOARD_NO_WINNER is an unknown winner. What is known may come from any
+/* The same as pgboard_solve, from what is known, which is kept; PGBOARD_NO_WINNER is an unknown winner. What is known may come from any
  * source. Each player's known vertices have to be a set that he wins by his choices there, without leaving it. */
 PGBOARD_CALL
 uint32_t pgboard_solve_known(const struct pgboard_game *game, const struct pgboard_solution *known,
@@ -298,7 +302,8 @@ PGBOARD_CALL
 uint32_t pgboard_board_entry(struct pgboard_board *board, uint64_t number, struct pgboard_entry *entry, uint32_t *vertices,
                              size_t vertices_len, uint32_t *choices, size_t choices_len, struct pgboard_report *report);
 
-/* Settles all vertices that are left, as worker 0. The faults are PGBOARD_BOARD_CLOSED and PGBOARD_MEMORY. */
+/* Settles all vertices that are left, by posts of worker 0 that solve as pgboard_solve does. The faults are PGBOARD_BOARD_CLOSED and
+ * PGBOARD_MEMORY. */
 PGBOARD_CALL
 uint32_t pgboard_board_finish(struct pgboard_board *board, struct pgboard_report *report);
 

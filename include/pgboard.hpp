@@ -1,8 +1,12 @@
-// pgboard.h for C++17: vectors and texts in, results or an exception out.
+// pgboard.h for C++17: arrays and texts in, results or an exception out. The calls whose names begin with `try_` return each answer
+// of the library, and throw nothing for it.
 #ifndef PGBOARD_HPP
 #define PGBOARD_HPP
 
+#include <cstddef>
 #include <cstdint>
+#include <initializer_list>
+#include <iterator>
 #include <new>
 #include <stdexcept>
 #include <string>
@@ -12,6 +16,10 @@
 #include <vector>
 
 #include "pgboard.h"
+
+#if !defined(__cpp_exceptions) && !defined(_CPPUNWIND)
+#error "pgboard.hpp needs exceptions: with -fno-exceptions include pgboard.h"
+#endif
 
 namespace pgboard {
 
@@ -26,6 +34,26 @@ struct fault : std::runtime_error {
     }
 };
 
+// A pointer and a length, as std::span of C++20: of a vector, a std::span, an array or a list, which has to be there during the call.
+template <class Item> class span {
+  public:
+    span() = default;
+    span(Item *first, std::size_t length) : first(first), length(length) {}
+    span(std::initializer_list<Item> items) : span(items.begin(), items.size()) {}
+    template <class Items, class = std::enable_if_t<std::is_convertible_v<decltype(std::declval<const Items &>().data()), Item *>>>
+    span(const Items &items) : first(items.data()), length(items.size())
+    {
+    }
+    // (an empty vector may have no address, and the calls take none that is null)
+    Item *data() const { return first ? first : &nothing; }
+    std::size_t size() const { return length; }
+
+  private:
+    static constexpr std::remove_const_t<Item> nothing{};
+    Item *first = nullptr;
+    std::size_t length = 0;
+};
+
 // A game, as struct pgboard_game has it: the successors of v are targets[starts[v]], up to and without targets[starts[v + 1]].
 struct game {
     std::vector<std::uint8_t> owners;
@@ -38,14 +66,37 @@ struct solution {
     std::vector<std::uint32_t> choices;
 };
 
-namespace detail {
+// The same, which others hold.
+struct game_view {
+    span<const std::uint8_t> owners;
+    span<const std::uint32_t> priorities, starts, targets;
 
-// (an empty vector may have no address, and the calls take none that is null)
-template <class Items> auto address(Items &items)
-{
-    static std::remove_const_t<typename Items::value_type> nothing{};
-    return items.data() ? items.data() : &nothing;
-}
+    game_view() = default;
+    game_view(const game &it) : game_view(it.owners, it.priorities, it.starts, it.targets) {}
+    game_view(span<const std::uint8_t> owners, span<const std::uint32_t> priorities, span<const std::uint32_t> starts, span<const std::uint32_t> targets)
+        : owners(owners), priorities(priorities), starts(starts), targets(targets)
+    {
+    }
+};
+
+struct solution_view {
+    span<const std::uint8_t> winners;
+    span<const std::uint32_t> choices;
+
+    solution_view(const solution &it) : solution_view(it.winners, it.choices) {}
+    solution_view(span<const std::uint8_t> winners, span<const std::uint32_t> choices) : winners(winners), choices(choices) {}
+};
+
+// An answer of pgboard.h, its report, and the value if the answer is PGBOARD_OK.
+template <class Value> struct outcome {
+    std::uint32_t answer;
+    pgboard_report report;
+    Value value;
+
+    explicit operator bool() const { return answer == PGBOARD_OK; }
+};
+
+namespace detail {
 
 inline void judge(std::uint32_t answer, const pgboard_report &report)
 {
@@ -55,24 +106,34 @@ inline void judge(std::uint32_t answer, const pgboard_report &report)
         throw fault(answer, report);
 }
 
-inline pgboard_game arrays(const game &it)
+template <class Value> Value judged(outcome<Value> &&found)
 {
-    pgboard_game arrays{};
-    arrays.size = sizeof arrays;
-    arrays.owners = address(it.owners), arrays.owners_len = it.owners.size();
-    arrays.priorities = address(it.priorities), arrays.priorities_len = it.priorities.size();
-    arrays.starts = address(it.starts), arrays.starts_len = it.starts.size();
-    arrays.targets = address(it.targets), arrays.targets_len = it.targets.size();
-    return arrays;
+    judge(found.answer, found.report);
+    return std::move(found.value);
 }
 
-template <class Arrays, class Solution> Arrays arrays(Solution &it)
+inline pgboard_game arrays(const game_view &it)
 {
-    Arrays arrays{};
-    arrays.size = sizeof arrays;
-    arrays.winners = address(it.winners), arrays.winners_len = it.winners.size();
-    arrays.choices = address(it.choices), arrays.choices_len = it.choices.size();
-    return arrays;
+    return {sizeof(pgboard_game),     it.owners.data(), it.owners.size(),  it.priorities.data(), it.priorities.size(),
+            it.starts.data(), it.starts.size(), it.targets.data(), it.targets.size()};
+}
+
+inline pgboard_solution arrays(const solution_view &it)
+{
+    return {sizeof(pgboard_solution), it.winners.data(), it.winners.size(), it.choices.data(), it.choices.size()};
+}
+
+// A solution of so many vertices, by a call that writes it.
+template <class Call> outcome<solution> written(std::size_t size, Call call)
+{
+    outcome<solution> found{PGBOARD_OK, {}, {std::vector<std::uint8_t>(size), std::vector<std::uint32_t>(size)}};
+    solution &it = found.value;
+    // (an empty vector may have no address)
+    std::uint8_t no_winner;
+    std::uint32_t no_choice;
+    pgboard_results results{sizeof results, size ? it.winners.data() : &no_winner, size, size ? it.choices.data() : &no_choice, size};
+    found.answer = call(&results, &found.report);
+    return found;
 }
 
 inline const std::uint8_t *bytes(std::string_view text)
@@ -80,7 +141,7 @@ inline const std::uint8_t *bytes(std::string_view text)
     return reinterpret_cast<const std::uint8_t *>(text.data() ? text.data() : "");
 }
 
-template <class Call> std::string written(Call call, std::string_view text)
+template <class Call> std::string text_by(Call call, std::string_view text)
 {
     std::string into(PGBOARD_TEXT_BOUND(text.size()), '\0');
     std::size_t size = 0;
@@ -93,44 +154,36 @@ template <class Call> std::string written(Call call, std::string_view text)
 } // namespace detail
 
 // Solves a game.
-inline solution solve(const game &game)
+inline solution solve(const game_view &game)
 {
-    solution found{std::vector<std::uint8_t>(game.owners.size()), std::vector<std::uint32_t>(game.owners.size())};
     const pgboard_game arrays = detail::arrays(game);
-    pgboard_results results = detail::arrays<pgboard_results>(found);
-    pgboard_report report;
-    detail::judge(pgboard_solve(&arrays, &results, &report), report);
-    return found;
+    return detail::judged(detail::written(game.owners.size(), [&](auto *results, auto *report) { return pgboard_solve(&arrays, results, report); }));
 }
 
-// Solves a game, or gives up with the fault PGBOARD_GAVE_UP if the recursion needs more steps than these.
-inline solution solve_within(const game &game, std::uint64_t steps)
+// Solves a game, or gives up with the answer PGBOARD_GAVE_UP if the recursion needs more steps than these.
+inline outcome<solution> try_solve_within(const game_view &game, std::uint64_t steps)
 {
-    solution found{std::vector<std::uint8_t>(game.owners.size()), std::vector<std::uint32_t>(game.owners.size())};
     const pgboard_game arrays = detail::arrays(game);
-    pgboard_results results = detail::arrays<pgboard_results>(found);
-    pgboard_report report;
-    detail::judge(pgboard_solve_within(&arrays, steps, &results, &report), report);
-    return found;
+    return detail::written(game.owners.size(), [&](auto *results, auto *report) { return pgboard_solve_within(&arrays, steps, results, report); });
+}
+inline solution solve_within(const game_view &game, std::uint64_t steps)
+{
+    return detail::judged(try_solve_within(game, steps));
 }
 
 // Solves a game from what is known, where PGBOARD_NO_WINNER is an unknown winner.
-inline solution solve(const game &game, const solution &known)
+inline solution solve(const game_view &game, const solution_view &known)
 {
-    solution found{std::vector<std::uint8_t>(game.owners.size()), std::vector<std::uint32_t>(game.owners.size())};
     const pgboard_game arrays = detail::arrays(game);
-    const pgboard_solution given = detail::arrays<pgboard_solution>(known);
-    pgboard_results results = detail::arrays<pgboard_results>(found);
-    pgboard_report report;
-    detail::judge(pgboard_solve_known(&arrays, &given, &results, &report), report);
-    return found;
+    const pgboard_solution given = detail::arrays(known);
+    return detail::judged(detail::written(game.owners.size(), [&](auto *results, auto *report) { return pgboard_solve_known(&arrays, &given, results, report); }));
 }
 
 // Checks that winners and choices are a solution of a game; a fault says what is wrong first.
-inline void check(const game &game, const solution &solution)
+inline void check(const game_view &game, const solution_view &solution)
 {
     const pgboard_game arrays = detail::arrays(game);
-    const pgboard_solution given = detail::arrays<pgboard_solution>(solution);
+    const pgboard_solution given = detail::arrays(solution);
     pgboard_report report;
     detail::judge(pgboard_check(&arrays, &given, &report), report);
 }
@@ -138,13 +191,13 @@ inline void check(const game &game, const solution &solution)
 // The text of a solution of a game's text.
 inline std::string solve_text(std::string_view game)
 {
-    return detail::written(pgboard_solve_text, game);
+    return detail::text_by(pgboard_solve_text, game);
 }
 
 // The one written form of a game's text.
 inline std::string tidy_text(std::string_view game)
 {
-    return detail::written(pgboard_tidy_text, game);
+    return detail::text_by(pgboard_tidy_text, game);
 }
 
 // Checks that a text is a solution of a game's text; a fault says what is wrong first.
@@ -161,10 +214,48 @@ struct entry {
     std::vector<std::uint32_t> vertices, choices;
 };
 
-// A board of a game, which closes it at the end. A board may be moved. As in C, it is used by one call at a time.
+class board;
+
+// The journal of a board, the oldest entry first. Each entry is read when it is reached, and those that are added meanwhile follow.
+class journal {
+  public:
+    class iterator {
+      public:
+        using iterator_category = std::input_iterator_tag;
+        using value_type = entry;
+        using difference_type = std::ptrdiff_t;
+        using pointer = const entry *;
+        using reference = entry;
+
+        iterator(const board *of, std::uint64_t number) : of(of), number(number) {}
+        entry operator*() const;
+        iterator &operator++() { return number++, *this; }
+        iterator operator++(int) { return {of, number++}; }
+        // (the end is where no entry is left)
+        bool operator==(const iterator &other) const { return at() == other.at(); }
+        bool operator!=(const iterator &other) const { return !(*this == other); }
+
+      private:
+        std::uint64_t at() const;
+        const board *of;
+        std::uint64_t number;
+    };
+
+    explicit journal(const board &of) : of(&of) {}
+    iterator begin() const { return {of, 0}; }
+    iterator end() const { return {of, UINT64_MAX}; }
+    std::uint64_t size() const;
+    entry operator[](std::uint64_t number) const;
+
+  private:
+    const board *of;
+};
+
+// A board of a game, which closes it at the end. A board may be moved. As in C, it is used by one call at a time, also by one of those
+// that are const, which only read.
 class board {
   public:
-    explicit board(const game &game) : size(game.owners.size())
+    explicit board(const game_view &game) : size(game.owners.size())
     {
         const pgboard_game arrays = detail::arrays(game);
         pgboard_report report;
@@ -179,30 +270,28 @@ class board {
     }
     ~board() { pgboard_board_close(&held); }
 
-    // Posts a claim; a fault says why it is refused.
-    pgboard_posted post(std::uint32_t player, const std::vector<std::uint32_t> &vertices, const std::vector<std::uint32_t> &choices,
-                        std::uint32_t worker = 0)
+    // Posts a claim; the answer says why it is refused. PGBOARD_POST_STALE and PGBOARD_POST_LOST are no errors where others post too.
+    outcome<pgboard_posted> try_post(std::uint32_t player, span<const std::uint32_t> vertices, span<const std::uint32_t> choices, std::uint32_t worker = 0)
     {
-        pgboard_claim claim{};
-        claim.size = sizeof claim;
-        claim.worker = worker;
-        claim.player = player;
-        claim.vertices = detail::address(vertices), claim.vertices_len = vertices.size();
-        claim.choices = detail::address(choices), claim.choices_len = choices.size();
-        pgboard_posted posted;
-        pgboard_report report;
-        detail::judge(pgboard_board_post(&held, &claim, &posted, &report), report);
-        return posted;
+        const pgboard_claim claim{sizeof claim, worker, player, vertices.data(), vertices.size(), choices.data(), choices.size()};
+        outcome<pgboard_posted> found{};
+        found.answer = pgboard_board_post(&held, &claim, &found.value, &found.report);
+        return found;
+    }
+    pgboard_posted post(std::uint32_t player, span<const std::uint32_t> vertices, span<const std::uint32_t> choices, std::uint32_t worker = 0)
+    {
+        return detail::judged(try_post(player, vertices, choices, worker));
     }
 
     // The winner and the choice of each vertex, or PGBOARD_NO_WINNER.
-    pgboard::solution state() { return results(pgboard_board_state); }
+    pgboard::solution state() const { return results(pgboard_board_state); }
 
-    std::uint64_t settled() { return pgboard_board_settled(&held); }
-    std::uint64_t entries() { return pgboard_board_entries(&held); }
+    std::uint64_t settled() const { return pgboard_board_settled(&held); }
+    std::uint64_t entries() const { return pgboard_board_entries(&held); }
+    pgboard::journal journal() const { return pgboard::journal(*this); }
 
     // The entry with this number, from 0.
-    pgboard::entry entry(std::uint64_t number)
+    pgboard::entry entry(std::uint64_t number) const
     {
         pgboard::entry found{0, 0, 0, std::vector<std::uint32_t>(16), std::vector<std::uint32_t>(16)};
         pgboard_entry it;
@@ -224,36 +313,52 @@ class board {
         return found;
     }
 
-    // Settles what is left.
+    // Settles what is left, as pgboard::solve does.
     void finish()
     {
         pgboard_report report;
         detail::judge(pgboard_board_finish(&held, &report), report);
     }
 
-    // The same, or gives up with the fault PGBOARD_GAVE_UP if the recursion needs more steps than these.
-    void finish_within(std::uint64_t steps)
+    // The same, or gives up with the answer PGBOARD_GAVE_UP if the recursion needs more steps than these.
+    std::uint32_t try_finish_within(std::uint64_t steps)
     {
         pgboard_report report;
-        detail::judge(pgboard_board_finish_within(&held, steps, &report), report);
+        return pgboard_board_finish_within(&held, steps, &report);
     }
+    void finish_within(std::uint64_t steps) { detail::judge(try_finish_within(steps), {}); }
 
     // The solution of a full board.
-    pgboard::solution solution() { return results(pgboard_board_solution); }
+    pgboard::solution solution() const { return results(pgboard_board_solution); }
 
   private:
-    template <class Call> pgboard::solution results(Call call)
+    template <class Call> pgboard::solution results(Call call) const
     {
-        pgboard::solution found{std::vector<std::uint8_t>(size), std::vector<std::uint32_t>(size)};
-        pgboard_results results = detail::arrays<pgboard_results>(found);
-        pgboard_report report;
-        detail::judge(call(&held, &results, &report), report);
-        return found;
+        return detail::judged(detail::written(size, [&](auto *results, auto *report) { return call(&held, results, report); }));
     }
 
-    pgboard_board held{};
+    // (C's readers take a board that is not const)
+    mutable pgboard_board held{};
     std::size_t size;
 };
+
+inline entry journal::iterator::operator*() const
+{
+    return of->entry(number);
+}
+inline std::uint64_t journal::iterator::at() const
+{
+    const std::uint64_t count = of->entries();
+    return number < count ? number : count;
+}
+inline std::uint64_t journal::size() const
+{
+    return of->entries();
+}
+inline entry journal::operator[](std::uint64_t number) const
+{
+    return of->entry(number);
+}
 
 } // namespace pgboard
 

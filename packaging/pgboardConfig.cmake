@@ -1,6 +1,8 @@
 # The targets pgboard::pgboard, the shared library, and pgboard::pgboard_static, below the prefix of this file.
-get_filename_component(_pgboard_lib "${CMAKE_CURRENT_LIST_DIR}/../.." ABSOLUTE)
-get_filename_component(_pgboard_prefix "${CMAKE_CURRENT_LIST_DIR}/../../@up@" ABSOLUTE)
+# (CMake may have come by /lib, a link to /usr/lib, which has no folder include beside it.)
+get_filename_component(_pgboard_here "${CMAKE_CURRENT_LIST_DIR}" REALPATH)
+get_filename_component(_pgboard_lib "${_pgboard_here}/../.." ABSOLUTE)
+get_filename_component(_pgboard_prefix "${_pgboard_here}/../../@up@" ABSOLUTE)
 foreach(_pgboard_kind SHARED STATIC)
   if(_pgboard_kind STREQUAL "SHARED")
     set(_pgboard_target pgboard::pgboard)

@@ -1,7 +1,10 @@
-# A version that is asked for is met by the same major number, and of 0 by the same minor number.
+# A version that is asked for is met by the same major number, and of 0 by the same minor number, where one is asked for.
 set(PACKAGE_VERSION @version@)
 string(REGEX MATCH "^(0\\.)?[0-9]+" _pgboard_same "${PACKAGE_VERSION}")
 string(REGEX MATCH "^(0\\.)?[0-9]+" _pgboard_asked "${PACKAGE_FIND_VERSION}")
+if(PACKAGE_FIND_VERSION STREQUAL "0")
+  string(REGEX MATCH "^[0-9]+" _pgboard_same "${PACKAGE_VERSION}")
+endif()
 if(PACKAGE_FIND_VERSION VERSION_GREATER PACKAGE_VERSION OR NOT _pgboard_same STREQUAL _pgboard_asked)
   set(PACKAGE_VERSION_COMPATIBLE FALSE)
 else()

@@ -18,12 +18,16 @@ import os
 import random
 import re
 import shutil
+import signal
+import subprocess
 import sys
 import time
 import unittest
+import xml.etree.ElementTree
 
 import common
 import embed
+import faults
 import plain
 import plain_board
 import random_games
@@ -188,9 +192,54 @@ class Referee(Boards):
         self.assertEqual(left, 0)
         self.assertLess(time.monotonic() - begun, 60)
 
+    def test_an_interrupt_ends_the_solvers_and_leaves_nothing(self):
+        scratch, pids = self.folder / "scratch", self.folder / "pids"
+        for it in (scratch, pids):
+            it.mkdir()
+        words = [it for at in range(3) for it in ("--solver", f"sh -c 'sleep 600 & echo $! > {pids}/{at}; touch {pids}/{at}.begun; wait'")]
+        how = {"stdout": subprocess.PIPE, "stderr": subprocess.PIPE, "env": {**self.env, "TMPDIR": str(scratch)}}
+        heeds = lambda: signal.signal(signal.SIGINT, signal.SIG_DFL)
+        with subprocess.Popen([sys.executable, "-B", BOARD / "referee.py", *words, self.file("game.pg", plain.written_game(GAME))], preexec_fn=heeds, **how) as ran:
+            for _ in range(1200):
+                time.sleep(0.05 * (len([*pids.glob("*.begun")]) < 3))
+            self.assertEqual(len([*scratch.iterdir()]), 1)
+            ran.send_signal(signal.SIGINT)
+            out, err = ran.communicate(timeout=60)
+        self.assertEqual((out, b"Traceback" in err), (b"", False), err)
+        self.assertIn(ran.returncode, (130, -signal.SIGINT))
+        self.assertEqual([*scratch.iterdir()], [])
+        for it in pids.glob("?"):
+            self.assert_gone(int(it.read_text(encoding="ascii")))
+
+    def by_hand(self, lines, *words):
+        """A run of the script in which these lines come first."""
+        program = "\n".join([f"import sys; sys.path.insert(1, {str(BOARD)!r}); import referee", *lines, "referee.games.run('referee', referee.main)"])
+        return {"script": ["-c", program], "more": words}
+
+    def test_a_solver_that_is_ended_before_it_starts_is_not_started(self):
+        begun, late = self.folder / "begun", "if self.worker == 2: import time; time.sleep(3)"
+        # the second one's command is begun once the board is full
+        lines = ["start = referee.Solver.run", "def run(self, *given):", f"    {late}", "    return start(self, *given)", "referee.Solver.run = run"]
+        said, left = self.referee(GAME, f"cat {self.file('all', '3 0 3; 9 1 9; 12 0;')}", f"sh -c 'touch {begun}; sleep 600'", **self.by_hand(lines, "--time", "600"))
+        self.assertEqual((said[1][2:], left, begun.exists()), (("ended, since the board is full", "nothing is claimed"), 0, False))
+
+    def test_one_solver_is_posted_at_a_time(self):
+        lines = [
+            "import threading, time; busy = threading.Lock(); post = referee.Referee.post_all", "def one(*given):",
+            "    alone = busy.acquire(blocking=False); time.sleep(0.2); found = post(*given)", "    if alone: busy.release()", "    return found if alone else 'two at a time'",
+            "referee.Referee.post_all = one",
+        ]  # fmt: skip
+        said, _ = self.referee(GAME, *[f"cat {self.file('odd', '9 1 9;')}"] * 4, **self.by_hand(lines))
+        first = ["Odd settled 1, of which 1 of 1 claimed", *["Odd refused: all of it is settled already"] * 3]
+        self.assertEqual([it[3] for it in said], first)
+
+    def test_what_a_solver_says_on_standard_error_is_shown(self):
+        status, out, err = self.run_script("--solver", "sh -c 'echo out of luck >&2; exit 7'", self.file("game.pg", plain.written_game(GAME)))
+        self.assertEqual((status, err.splitlines()[0]), (0, "out of luck"))
+        self.assertRegex(err.splitlines()[1], r"^referee: solver 1 .*: status 7, 0\.\d s: nothing is claimed$")
+
     def test_a_solver_that_prints_without_end_is_ended(self):
-        program = f"import sys; sys.path.insert(1, {str(BOARD)!r}); import referee; referee.MOST = 10**6; referee.games.run('referee', referee.main)"
-        lines, _ = self.referee(GAME, "yes '3 0 3;'", more=["--time", "600"], script=["-c", program])
+        lines, _ = self.referee(GAME, "yes '3 0 3;'", **self.by_hand(["referee.MOST = 10**6"], "--time", "600"))
         self.assertEqual(lines[0][2:], ("ended, since it printed too much", "vertex 3 is written twice"))
 
     def test_how_a_solver_gets_the_game_and_gives_the_solution(self):
@@ -239,7 +288,7 @@ class Referee(Boards):
             self.assertTrue(all(80 <= x <= 720 for x, _ in places))
             if worker == 2:
                 self.assertGreater(places[0][0], 200)
-        self.assertEqual(common.run(["xmllint", "--noout", path])[0] if shutil.which("xmllint") else 0, 0)
+        self.assertEqual(xml.etree.ElementTree.fromstring(text).tag, "{http://www.w3.org/2000/svg}svg")
 
     def test_what_is_refused(self):
         good = self.file("game.pg", plain.written_game(GAME))
@@ -266,7 +315,8 @@ class Referee(Boards):
         self.assertEqual((status, err), (0, "referee: solver 1 (/nowhere {game}): /nowhere: No such file or directory\nreferee: the recursion settled 3 of 3\n"))
 
     def test_help_fits(self):
-        status, out, err = self.run_script("--help")
+        # (it needs no library)
+        status, out, err = self.run_script("--help", PGBOARD_LIBRARY="/nowhere.so")
         self.assertEqual((status, err, [it for it in out.decode().splitlines() if len(it) > 80]), (0, "", []))
         self.assertLessEqual(len(common.text_of("examples", "board", "referee.py").splitlines()), 400)
 
@@ -302,9 +352,9 @@ class Promote(Boards):
                 assert (status, err) == (0, ""), err
                 cls.programs[" ".join([compiler, *flags])] = program
 
-    def ran(self, program, game, timeout=300):
+    def ran(self, program, game, **how):
         """The output, and of each worker what it settled and how its posts were answered."""
-        status, out, err = common.run([program, self.file("game.pg", plain.written_game(game))], timeout=timeout)
+        status, out, err = common.run([program, self.file("game.pg", plain.written_game(game))], timeout=300, **how)
         self.assertEqual(status, 0, err.decode())
         lines = err.decode().splitlines()
         self.assertEqual(len(lines), 5, lines)
@@ -315,7 +365,7 @@ class Promote(Boards):
         self.assertEqual(sum(settled for settled, _ in workers), len(game), lines)
         # promotion ends: nothing is left to the recursion, and of its posts none is refused but stale ones
         self.assertEqual(workers[0], (0, []), lines)
-        stale = embed.TEXTS["PGBOARD_POST_STALE"]
+        stale = faults.TEXT_OF["POST_STALE"]
         for _, answers in workers[1:3]:
             self.assertEqual([it for it in answers if not re.fullmatch(rf"posted \d+|refused \d+: {re.escape(stale)}", it)], [])
         return out, workers
@@ -334,6 +384,23 @@ class Promote(Boards):
             # the liar was heard, and refused for more than one reason
             self.assertGreater(len([it for it in refused if it.startswith("refused")]), 1, refused)
 
+    def test_calls_take_turns_and_the_report_is_that_of_the_journal(self):
+        turns, counts, guessed = self.folder / "turns", self.folder / "counts", 0
+        calls = [f"-Wl,--wrap=pgboard_board_{it}" for it in ("open", "settled", "entries", "state", "entry", "post")]
+        for words in (["cc", *embed.FLAGS, "-c", "tests/turns.c", "-o", f"{turns}.o"], ["g++", "-std=c++17", "-Iinclude", "-O2", BOARD / "promote.cpp", f"{turns}.o", *embed.ARCHIVES, "-lpthread", *calls, "-o", turns]):
+            self.assertEqual(embed.run(words)[::2], (0, ""))
+        loops = {v: (2 * v + v % 2, 0, {v}) for v in range(2_000)}
+        for seed in range(30):
+            game = layers(random.Random(seed), 2_000) if seed % 6 else loops
+            out, workers = self.ran(turns, game, env={**os.environ, "TURNS": str(counts)})
+            *rows, late = counts.read_text(encoding="ascii").splitlines()
+            said = [(sum(int(it.split()[1]) for it in answers if it.startswith("posted")), settled) for settled, answers in workers]
+            self.assertEqual([*map(str, said)], [f"({row.replace(' ', ', ')})" for row in rows])
+            # no post comes once the board is full, and promotion posts a sixteenth of the game at a time, for each player
+            self.assertEqual((late, [it for it, _ in said[1:3] if it > 34]), ("0", []))
+            guessed += said[3][0]
+        self.assertGreater(guessed, 0)
+
     def test_games_that_take_the_recursion_long(self):
         program = self.programs["g++ -O2"]
         self.solves(plain.ladder(40), self.ran(program, plain.ladder(40))[0])
@@ -346,7 +413,7 @@ class Promote(Boards):
     def test_the_commands_of_the_page(self):
         commands = re.findall(r"(?m)^\$ (.*)$", common.text_of("examples", "README.md").split("`board/promote.cpp`")[1].split("\n## ")[0])
         for name in ("crates", "include", "examples"):
-            (self.folder / name).symlink_to(common.ROOT / name)
+            (self.folder / name).symlink_to((common.PROVED if name == "crates" else common.ROOT) / name)
         status, out, err = common.run(["bash", "-e", "-c", "\n".join(commands)], timeout=3000, cwd=self.folder)
         self.assertEqual((status, len(commands)), (0, 3), out + err)
         self.solves(plain.game_of(common.text_of("examples", "requests.pg").encode()), out[out.index(b"paritysol") :])
@@ -355,7 +422,7 @@ class Promote(Boards):
         program = self.programs["g++ -O2"]
         self.assertEqual(embed.run([program]), (2, "", "promote: usage: promote GAME\n"))
         self.assertEqual(embed.run([program, "/nowhere"]), (2, "", "promote: /nowhere cannot be read\n"))
-        said = embed.TEXTS["PGBOARD_GAME_LEXICAL"]
+        said = faults.TEXT_OF["GAME_LEXICAL"]
         self.assertEqual(embed.run([program, self.file("bad.pg", "0 0 0 ?;")]), (2, "", f"promote: {said} (6)\n"))
 
 

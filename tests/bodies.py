@@ -4,9 +4,10 @@
 No contract can say that memory was really refused. So a value that says it is made in an implementation of `From`, of the
 allocator's error. All other code passes it on: by `?`, or in an arm whose pattern takes such a value.
 
-Nor can one say that workers run at once. So each file of tests/wrong_bodies names a unit test that has to fail on the edited
-sources: `file:`, `old:` and `new:` as in the must-fail edits, with paths from the repository's top, and `test:` with the crate
-and the test. The test runs without proofs (`rt try --test`) in a copy of the crates.
+Nor can one say that workers run at once, or that an office accepts anything. So each file of tests/wrong_bodies names a unit
+test that has to fail on the edited sources: `file:` and pairs of `old:` and `new:` as in the must-fail edits, with paths from
+the repository's top, and `test:` with the crate and the test. The test runs alone and without proofs (`rt try --test`) in a copy
+of the crates.
 """
 
 import re
@@ -67,6 +68,13 @@ class Memory(unittest.TestCase):
         self.assertEqual(list(wrong_lines(after)), ["    Fault::Memory"])
 
 
+def leave_one_test(folder, test):
+    """Removes all tests of a crate but one, so that no other has to run."""
+    for path in folder.glob("src/**/*.rt"):
+        text = path.read_text(encoding="utf-8")
+        path.write_text(re.sub(rf"(?ms)^(?:///[^\n]*\n)*#\[test\]\nfn (?!{test}\().*?^}}\n", "", text), encoding="utf-8")
+
+
 @common.needs("rt")
 class WrongBodies(unittest.TestCase):
     def test_each_fails_its_test(self):
@@ -74,20 +82,26 @@ class WrongBodies(unittest.TestCase):
         self.assertTrue(edits)
         for path in edits:
             with self.subTest(path.stem):
-                self.judge(dict(line.split(": ", 1) for line in path.read_text(encoding="utf-8").splitlines()))
+                self.judge([line.split(": ", 1) for line in path.read_text(encoding="utf-8").splitlines()])
 
-    def judge(self, edit):
+    def judge(self, lines):
         folder = common.make_folder(self)
         shutil.copytree(common.ROOT / "crates", folder / "crates", ignore=shutil.ignore_patterns("out", "must-fail"))
         for name in ("crates.txt", "HANDLES"):
             shutil.copy(common.ROOT / name, folder)
-        text = (folder / edit["file"]).read_text(encoding="utf-8")
-        self.assertEqual(text.count(edit["old"]), 1)
-        (folder / edit["file"]).write_text(text.replace(edit["old"], edit["new"]), encoding="utf-8")
-        crate, test = edit["test"].split()
-        # (a test that hangs is ended, and has not failed as it should)
+        (_, file), *pairs, (_, test) = lines
+        text = (folder / file).read_text(encoding="utf-8")
+        for (_, old), (_, new) in zip(pairs[::2], pairs[1::2], strict=True):
+            self.assertEqual(text.count(old), 1)
+            text = text.replace(old, new)
+        (folder / file).write_text(text, encoding="utf-8")
+        crate, test = test.split()
+        leave_one_test(folder / "crates" / crate, test)
         _, out, err = common.run(["rt", "try", "--test"], timeout=900, cwd=folder / "crates" / crate)
-        self.assertRegex((out + err).decode(errors="replace")[-20_000:], rf"(?m)^test \S*::{test} .*\bFAILED$")
+        said = (out + err).decode(errors="replace")
+        self.assertEqual(re.findall(r"(?m)^test \S*::(\w+) \.\.\. .*?(\w+)$", said), [(test, "FAILED")], said)
+        # (a test that does not end has not failed as it should)
+        self.assertNotIn("no-answer", said)
 
 
 if __name__ == "__main__":

@@ -1,6 +1,6 @@
 """Reads circuits in the AIGER format (version 1.0), ASCII and binary, and follows them; writes tables as circuits of another kind.
 
-Nothing of it is taken from examples/aiger.py, which writes circuits: tests compare the two. The form is that of Biere's
+Nothing of it is taken from examples/lib/aiger.py, which writes circuits: tests compare the two. The form is that of Biere's
 description, "The AIGER And-Inverter Graph (AIG) Format" of 2007: literals, the order of sections, the order of gates and their
 differences in the binary form, and the symbols.
 """

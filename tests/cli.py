@@ -7,12 +7,7 @@ begins with a line '-- NAME':
     file PATH       a file in the folder that the program runs in
     stdin           none: nothing
     stdout          the exact output; where it stands more than once, one of them
-    stdout has      in place of stdout: lines, each of which has to occur in the output
-    stdout begins   beside 'stdout has': what the output begins with
-    stderr          the exact text on standard error; none: nothing
-    stderr some     in place of stderr: any text that is not empty
-    stderr names    in place of stderr: a refused command line, of words that begin with 'error: ', once, end with one line
-                    feed and have each of these lines
+    stderr          the exact text on standard error; where it stands more than once, one for each run; none: nothing
     status          none: 0
 Texts are ASCII with the escapes of Python's bytes: \xff is a byte, and a backslash at the end of a line leaves its line feed out.
 
@@ -21,6 +16,7 @@ and each byte at places of games and solutions, compared with the definitions of
 """
 
 import concurrent.futures
+import functools
 import os
 import pathlib
 import re
@@ -33,7 +29,7 @@ import common
 import plain
 
 CASES = common.ROOT / "tests" / "cli"
-SECTION = re.compile(r"(?m)^-- (args|file \S.*|stdin|stdout(?: has| begins)?|stderr(?: some| names)?|status)\n")
+SECTION = re.compile(r"(?m)^-- (args|file \S.*|stdin|stdout|stderr|status)\n")
 
 
 class Case:
@@ -67,39 +63,21 @@ class Cases(unittest.TestCase):
 
     def judge(self, name):
         case = Case(name)
-        for words in case.runs:
+        errors = case.every("stderr") or [b""]
+        self.assertIn(len(errors), (1, len(case.runs)))
+        for i, words in enumerate(case.runs):
             with self.subTest(words=words):
                 folder = common.make_folder(self)
                 case.put_files(folder)
                 status, out, err = common.program(*words, given=case.stdin, cwd=folder)
-                self.assertEqual(status, case.status, err)
-                self.judge_output(case, out)
-                self.judge_error(case, err)
-
-    def judge_output(self, case, out):
-        self.assertTrue(out.startswith(case.one("stdout begins")), out)
-        if case.every("stdout has"):
-            lines = {line.strip() for line in out.split(b"\n")}
-            self.assertLessEqual({line.strip() for line in case.one("stdout has").splitlines()}, lines)
-        else:
-            self.assertIn(out, case.every("stdout") or [b""])
-
-    def judge_error(self, case, err):
-        if case.every("stderr names"):
-            self.assertRegex(err, rb"(?s)\Aerror: (?!.*error: ).*[^\n]\n\Z")
-            self.assertTrue(case.one("stderr names"))
-            for name in case.one("stderr names").splitlines():
-                self.assertIn(name, err)
-        elif case.every("stderr some"):
-            self.assertNotEqual(err, b"")
-        else:
-            self.assertEqual(err, case.one("stderr"))
+                self.assertEqual((status, err), (case.status, errors[i % len(errors)]))
+                self.assertIn(out, case.every("stdout") or [b""])
 
 
 common.load_tests_of_table(Cases, {it.name: it.name for it in sorted(CASES.iterdir())}, Cases.judge)
 
 # what a build says of itself: rt alone records nothing, ./pgboard and ./package record the commit, and twelve digits where they suffice
-BUILD = rb"build: (?:not recorded: whether this program was proved, and of which commit it is|(?:un)?proved, (?:(?:changed since )?commit|sources) [0-9a-f]{40} *)"
+BUILD = rb"build: (?:not recorded: whether this program was proved, and of which commit it is|(?:un)?proved, (?:(?:changed since )?commit|sources) [0-9a-f]{40})"
 
 
 class Version(unittest.TestCase):
@@ -250,9 +228,7 @@ class Devices(Answers):
                 self.assertEqual((ran.communicate(timeout=60)[0], ran.returncode), (b"ok\n", 0))
 
     def test_an_argument_that_is_no_text_is_a_refused_command_line(self):
-        status, out, err = common.program(b"tidy", b"\xff\xfe")
-        self.assertEqual((status, out), (2, b""))
-        self.assertTrue(err)
+        self.assertEqual(common.program(b"tidy", b"\xff\xfe"), (2, b"", b"error: an argument is not text\n"))
 
 
 common.load_tests_of_table(Devices, DEVICES, Devices.judge)
@@ -293,6 +269,13 @@ def chain(count):
     return b"0 0 1 " + b",".join(b"%d" % v for v in range(1, count)) + b";\n1 0 0 1;\n" + rest
 
 
+def chain_to_a_cycle(count):
+    """As `chain`, to six vertices of two successors each: no loop, and neither player has single successors, so the recursion is left."""
+    cycle = b"".join(b"%d 2 0 %d,%d;\n" % (v, v % 6 + 1, (v + 1) % 6 + 1) for v in range(1, 7))
+    rest = b"".join(b"%d 1 0 %d;\n" % (v, v - 1) for v in range(7, count))
+    return b"0 0 1 " + b",".join(b"%d" % v for v in range(1, count)) + b";\n" + cycle + rest
+
+
 def all_to_even(count, own=False):
     """A solution in which Even wins everywhere, by own loops if he has a choice."""
     return b"paritysol %d;\n" % (count - 1) + b"".join(b"%d 0 %d;\n" % (v, v) if own else b"%d 0;\n" % v for v in range(count))
@@ -316,6 +299,7 @@ def ladder(levels):
     return b"".join(ring)
 
 
+@functools.lru_cache(maxsize=1)
 def greatest_game():
     """Even owns each vertex, which leads to itself and to those after it, in a ring: he wins by the even priorities."""
     ids = [b"%d" % (FIRST + v) for v in range(VERTICES)]
@@ -366,6 +350,7 @@ LIMITS = {
     "solve_a_vertex_with_70000_successors": (WINNERS, lambda: wide_vertex(70_000), lambda: all_to_even(70_000)),
     # (a search that began again at the first successor each time would take minutes)
     "solve_a_chain_of_all_successors_of_a_vertex": (WINNERS, lambda: chain(VERTICES), lambda: all_to_even(VERTICES)),
+    "solve_such_a_chain_by_the_recursion": ([*WINNERS, "--bound", "0"], lambda: chain_to_a_cycle(VERTICES), lambda: all_to_even(VERTICES)),
     "solve_own_loops_of_even_priorities": (
         ["solve", "--workers", "1", "--bound", "0"],
         lambda: own_loops(5_000, lambda v: 2 * v),

@@ -10,11 +10,14 @@ import subprocess
 import sys
 import tempfile
 import unittest
+import xml.etree.ElementTree
 
 sys.dont_write_bytecode = True
 ROOT = pathlib.Path(__file__).resolve().parent.parent
 # in the gate no test may be skipped
 IS_GATE = bool(os.environ.get("PGBOARD_GATE"))
+# the tree in which rt proves and builds the C library: in the gate library.py has done so in a copy
+PROVED = pathlib.Path(os.environ.get("PGBOARD_PROVED") or ROOT)
 # what `rt ci` and `rt run` build
 BUILT = ROOT / "crates" / "pgboard_program" / "out" / "pgboard_program"
 
@@ -50,6 +53,17 @@ def run(words, given=b"", timeout=60, **how):
 def program(*words, given=b"", **how):
     """Runs the program under test likewise."""
     return run([PROGRAM, *words], given, **how)
+
+
+def drawn(text):
+    """What Graphviz has drawn, in whatever layout: of each vertex and edge its kind, its name, its texts, and how its shapes look."""
+    tag = "{http://www.w3.org/2000/svg}%s"
+    for group in xml.etree.ElementTree.fromstring(text.encode()).iter(tag % "g"):
+        if group.get("class") in ("node", "edge"):
+            texts = ["".join(it.itertext()) for it in group.iter(tag % "text")]
+            shapes = [it for it in group if it.tag not in (tag % "title", tag % "text")]
+            looks = [tuple(it.get(name, "") for name in ("fill", "stroke-width", "stroke-dasharray")) for it in shapes]
+            yield group.get("class"), group.find(tag % "title").text, texts, looks
 
 
 def is_alive(pid):
@@ -113,7 +127,8 @@ def main():
     """
     runner = unittest.TextTestRunner(resultclass=Result)
     result = unittest.main(testRunner=runner, exit=False).result
-    failed = len(result.failures) + len(result.errors) + IS_GATE * len(result.skipped) or int(not result.passed and not result.skipped)
+    failed = len(result.failures) + len(result.errors) + len(result.unexpectedSuccesses) + IS_GATE * len(result.skipped)
+    failed = failed or int(not result.passed and not result.skipped)
     for test, why in result.skipped:
         print(f"skipped: {test}: {why}")
     print(f"{result.passed} passed, {failed} failed", flush=True)

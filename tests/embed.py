@@ -1,34 +1,34 @@
 #!/usr/bin/env python3
 """Builds the static library, and looks at what C and Python see of it: tests/embed.py [PROGRAM] [-k WORD]
 
-include/pgboard.h declares the exports of crates/pgboard_c and has the fields and the numbers that the crate has, with a text for
-each answer; it is C89 and C++. tests/embed/test.c goes through each answer by its name, also with sanitizers; on random games it
-gives the winners of the program, and so does tests/embed/test.cpp with include/pgboard.hpp. tests/embed/board.c goes through the
-calls on boards, also under valgrind, and has eight threads post on one board, which is replayed on a plain one. tests/embed/linear.c
-solves two large games within a limit of time. The C programs of docs/INTEROP.md, built by the commands there, print what it says
-there. The tests of bindings/python pass under each Python that is installed.
+include/pgboard.h declares the exports of crates/pgboard_c and has the fields that the crate has, and each answer of the table (faults.py)
+has its text; it is C89 and C++. tests/embed/test.c goes through each answer by its name, also with sanitizers; on random games it
+gives the solution of the program's one worker, and so does tests/embed/test.cpp with include/pgboard.hpp. tests/embed/board.c goes
+through the calls on boards, also under valgrind, and has eight threads post on one board, which is replayed on a plain one.
+tests/embed/large.c has games of many vertices: limits of time, of stack, of steps and of memory. The C programs of docs/INTEROP.md, built by
+the commands there, print what it says there. The tests of bindings/python pass under each Python that is installed.
 
 PGBOARD_ARCHIVE names another static library to test, which is not made here.
 """
 
 import collections
-import contextlib
+import functools
 import itertools
 import os
 import pathlib
 import random
 import re
+import shlex
 import shutil
 import sys
 import unittest
 
 import common
+import faults
+import library
 import pages
 import plain
 import plain_board
-
-sys.path.insert(0, os.path.dirname(os.path.realpath(shutil.which("rt"))))
-import rtlib
 
 CRATE = common.ROOT / "crates" / "pgboard_c"
 KIT = pathlib.Path(common.run(["rt", "doc"])[1].decode()).parent
@@ -64,9 +64,6 @@ RESULTS = {"u32": "uint32_t", "u64": "uint64_t", None: "void"}
 # what a field takes in C, beside a slice; an allocator takes nothing
 SIZES = {"u32": 4, "bool": 1, "u64": 8, "usize": 8, "*mut u8": 8}
 HEADER = common.text_of("include/pgboard.h")
-# what the limits are called in the specifications
-LIMITS = {"max_vertices": "MAX_VERTICES", "max_edges": "MAX_EDGES", "max_number": "MAX_NUMBER", "max_text": "MAX_TEXT"}
-TEXTS = {name: text for text, name in re.findall(r"(?m)^(.+?) +(PGBOARD_\w+)$", common.text_of("tests/embed/texts.txt"))}
 
 
 def prototypes():
@@ -79,18 +76,6 @@ def prototypes():
                     found.append(TYPES[kind] + parameter)
                     found += [f"size_t {parameter}_len"] * kind.endswith("]")
             yield f"{RESULTS[result or None]} {name}({', '.join(found) or 'void'});"
-
-
-def header_numbers():
-    """The names of the header and their numbers, by the definitions that the contracts cite: of answers, and of parts."""
-    text = common.text_of("crates/pgboard_c/specs/Numbers.antt")
-    groups = {"text": "GAME_", "solution": "SOLUTION_", "known": "KNOWN_", "board": "BOARD_", "post": "POST_", "array": "ARRAY_", "structure": "STRUCT_"}
-    other_names = {"NO_CHOICE": "NO_CHOICE_AT"}
-    found = re.findall(r"(?m)^(?:\w+_answer|answer_of) \(?(\w+)\.(\w+)[^=\n]*= answer (\d+) ", text)
-    answers = [it for it in found if it[1] != "Memory" or it[0] == "fault"]
-    for group, name, number in answers + re.findall(r"(?m)^(array|structure)_number \w+\.(\w+) = (\d+)$", text):
-        name = groups.get(group, "") + re.sub(r"(?<!^)([A-Z])", r"_\1", name).upper()
-        yield group in ("array", "structure"), f"PGBOARD_{other_names.get(name, name)}", number
 
 
 def layouts():
@@ -124,6 +109,20 @@ def drawn(seed):
     return {v: (p, o, set(row)) for v, (p, o, row) in enumerate(game)}, " ".join(map(str, numbers)) + "\n"
 
 
+@functools.lru_cache(maxsize=None)
+def fault_of(seed, line):
+    """What is wrong with the library's line of a random game, or None: it has the solution of the program's one worker, and it is one by
+    the definition."""
+    game, _ = drawn(seed)
+    if not line.startswith("0 0 "):
+        return game, line
+    rows = [map(int, it.split(":")) for it in line.split()[2:]]
+    solution = {v: (winner, None if choice == -1 else choice) for v, (winner, choice) in enumerate(rows)}
+    solved = common.program("solve", "--workers", "1", given=plain.written_game(game).encode())[1].decode()
+    is_right = plain.verdict(game, solution) == "ok\n" and solved == plain.written_solution(game, solution)
+    return None if is_right else (game, line, solved)
+
+
 def replayed(text):
     """Replays what eight threads posted on a plain board: each answer, each entry, and the states at the end and once finished. Yields the
     answers."""
@@ -131,7 +130,7 @@ def replayed(text):
     game = {v: (int(row[1]), int(row[2]), set(map(int, row[3:]))) for v, row in enumerate(row for row in lines if row[0] == "vertex")}
     entries = [entry_of(row) for row in lines if row[0] == "entry"]
     states = [(int(row[1]), choice_of(row[2])) for row in lines if row[0] == "state"]
-    numbers = {int(number): name for name, number in re.findall(r"#define PGBOARD_(?:POST_)?(\w+) (\d+)u", HEADER)}
+    numbers = {it.number: it.name.removeprefix("POST_") for it in faults.ANSWERS}
     board = plain_board.Board(game)
     for row in lines:
         if row[0] == "post":
@@ -189,35 +188,12 @@ def run(words, given=b""):
     return status, out.decode(), err.decode()
 
 
-@contextlib.contextmanager
-def locked():
-    """The crates, in which no rt works meanwhile: another script may have started one."""
-    crates = rtlib.crates_below(common.ROOT)
-    held = rtlib.lock(crates)
-    try:
-        yield crates
-    finally:
-        for it in held:
-            os.close(it)
-
-
-def take_as_built():
-    """Has rt take the libraries that the gate has just proved, and left without a stamp, as built of their sources."""
-    with locked() as crates:
-        for crate in crates:
-            library = pathlib.Path(crate.folder, "out", "rlib")
-            if (library / f"{crate.name}.rlib").is_dir() and not (library / "stamp").exists():
-                (library / "stamp").write_text(crate.stamp(), encoding="utf-8")
-
-
 def build_archive(folder):
     """Proves and builds the static library, unless another one is named, and copies it to a folder: another script may build it again."""
     if not OTHER:
-        take_as_built()
-        status, out, err = common.run(["rt", "lib", "--jobs", "1"], timeout=3000, cwd=CRATE)
-        assert status == 0, (out + err).decode()[-2000:]
-        with locked():
-            ARCHIVES[0] = shutil.copy(CRATE / "out" / "libpgboard_c.a", folder)
+        made = library.built()
+        with library.locked(common.PROVED):
+            ARCHIVES[0] = shutil.copy(made, folder)
 
 
 def build_shared(folder):
@@ -244,18 +220,6 @@ class Embed(unittest.TestCase):
         self.assertEqual(declared, set(prototypes()))
         self.assertEqual(len(declared), 20)
 
-    def test_the_header_has_the_numbers_of_the_contracts(self):
-        defined = dict(re.findall(r"(?m)^#define (PGBOARD_\w+) (\d+)u", HEADER))
-        numbers = {name: number for _, name, number in header_numbers()}
-        specs = "".join(it.read_text(encoding="utf-8") for it in sorted(common.ROOT.glob("crates/*/specs/*.antt")))
-        limits = {f"PGBOARD_{LIMITS[name]}": number for name, number in re.findall(r"(?m)^(\w+) = (\d+)$", specs) if name in LIMITS}
-        self.assertEqual(len(limits), len(LIMITS))
-        others = {"PGBOARD_OK": "0", "PGBOARD_NO_CHOICE": "4294967295", "PGBOARD_NO_WINNER": "255"}
-        self.assertEqual(defined, {**numbers, **limits, **others})
-        # the tests in C see each of them come from the library
-        seen = common.text_of("tests/embed/test.c") + common.text_of("tests/embed/board.c")
-        self.assertEqual(defined.keys() - set(re.findall(r"PGBOARD_\w+", seen)), set())
-
     def test_the_header_has_the_structs_of_the_crate(self):
         lines = ["#include <stddef.h>", '#include "pgboard.h"', "int main(void) { return 0; }"]
         for struct, fields, size in layouts():
@@ -265,17 +229,39 @@ class Embed(unittest.TestCase):
         (self.folder / "layout.c").write_text("\n".join(lines), encoding="ascii")
         self.built(["-std=c11", *WARNINGS, "-fsyntax-only", self.folder / "layout.c"])
 
+    def test_the_manual_page_has_the_calls_and_structs_of_the_header(self):
+        page = common.text_of("docs", "man3", "pgboard.3")
+        # (words in turns bold and slanted; what is in quotes is one)
+        lines = ["".join(shlex.split(line[4:])) if line.startswith(".BI ") else re.sub(r"^\.B ", "", line) for line in page.splitlines()]
+        in_one = lambda text: re.sub(r"\s+", " ", text)
+        shown = in_one("\n".join(lines).split(".SH DESCRIPTION")[0])
+        calls = {in_one(it) for it in re.findall(r"(?ms)^(?:uint32_t|uint64_t|void) [^;]*;", HEADER)}
+        calls |= {f"{it};" for it in re.findall(r"(?m)^PGBOARD_INLINE (const char .*\))$", HEADER)}
+        self.assertEqual(len(calls), 22)
+        structs = {in_one(it) for it in re.findall(r"(?ms)^struct \w+ \{.*?^\};", HEADER)}
+        self.assertEqual(len(structs), 9)
+        self.assertEqual(set(re.findall(r"(?:const char \*|\w+ )pgboard_\w+\([^;{]*\);", shown)), calls)
+        self.assertEqual(set(re.findall(r"struct \w+ \{[^}]*\};", shown)), structs)
+        names = {re.search(r"(pgboard_\w+)\(", it)[1] for it in calls}
+        self.assertEqual(set(re.findall(r"\bpgboard_\w+", page.split(".SH LIBRARY")[0])), names)
+        self.assertEqual({it.stem for it in (common.ROOT / "docs/man3").iterdir()}, {*names, "pgboard"})
+
+    @common.needs("man")
+    def test_man_finds_each_page_in_the_folder_of_pages(self):
+        for name, section in (("pgboard", "1"), *((it.stem, "3") for it in (common.ROOT / "docs/man3").iterdir())):
+            status, out, err = run(["man", "-M", common.ROOT / "docs", "-P", "cat", section, name])
+            self.assertEqual((status, err), (0, ""))
+            self.assertTrue(out.startswith(f"PGBOARD({section})"), out[:80])
+        self.assertTrue(run(["man", "-M", common.ROOT / "docs", "-P", "cat", "pgboard"])[1].startswith("PGBOARD(1)"))
+
     def test_each_answer_has_its_own_text(self):
-        numbers = {name: int(number) for name, number in re.findall(r"(?m)^#define (PGBOARD_\w+) (\d+)u", HEADER)}
-        asked = [*TEXTS, "99"]
-        lines = [f'    printf("%s %s\\n", pgboard_strerror({name}), "{name}");' for name in asked]
+        names = [*(f"PGBOARD_{it.name}" for it in faults.ANSWERS), "99"]
+        lines = [f'    printf("%s %s\\n", pgboard_strerror({name}), "{name}");' for name in names]
         program = '#include <stdio.h>\n#include "pgboard.h"\nint main(void)\n{\n' + "\n".join(lines) + "\n    return 0;\n}\n"
         (self.folder / "texts.c").write_text(program, encoding="ascii")
         self.built([*FLAGS, self.folder / "texts.c", *ARCHIVES, "-o", self.folder / "texts"])
-        wanted = [f"{text} {name}" for name, text in TEXTS.items()]
-        self.assertEqual(run([self.folder / "texts"])[1].splitlines(), [*wanted, "no answer of this library 99"])
-        self.assertEqual(TEXTS.keys(), {"PGBOARD_OK", *(name for is_part, name, _ in header_numbers() if not is_part)})
-        self.assertEqual(len(set(numbers[name] for name in TEXTS)), len(set(TEXTS.values())))
+        wanted = [*(it.text for it in faults.ANSWERS), "no answer of this library"]
+        self.assertEqual(run([self.folder / "texts"])[1].splitlines(), [f"{text} {name}" for text, name in zip(wanted, names)])
 
     def test_the_versions_are_the_programs(self):
         found = dict(re.findall(r"(?m)^#define PGBOARD_VERSION_(\w+) (\d+)$", HEADER))
@@ -314,9 +300,9 @@ class Embed(unittest.TestCase):
                 self.passes(test)
                 self.judge_games(test)
 
-    def test_solving_is_not_quadratic_in_the_priorities(self):
-        self.built([*FLAGS, "tests/embed/linear.c", *ARCHIVES, "-o", self.folder / "linear"])
-        self.passes(self.folder / "linear")
+    def test_large_games_in_c(self):
+        self.built([*FLAGS, *REFUSING, "tests/embed/large.c", *ARCHIVES, "-o", self.folder / "large", "-lpthread"])
+        self.passes(self.folder / "large")
 
     def test_each_answer_of_a_board_in_c(self):
         for name, flags in (("plain", []), ("with sanitizers", SANITIZERS)):
@@ -349,10 +335,18 @@ class Embed(unittest.TestCase):
         for compiler, standard in itertools.product(filter(shutil.which, ("g++", "clang++")), ("c++17", "c++20")):
             with self.subTest(compiler, standard=standard):
                 test = self.folder / f"{compiler}-{standard}"
-                flags = [f"-std={standard}", *WARNINGS, *(SANITIZERS if compiler == "g++" else [])]
-                self.assertEqual(run([compiler, *flags, "tests/embed/test.cpp", *ARCHIVES, "-o", test])[::2], (0, ""))
+                flags = [f"-std={standard}", *WARNINGS, *REFUSING, *(SANITIZERS if compiler == "g++" else [])]
+                self.assertEqual(run([compiler, *flags, "tests/embed/test.cpp", *ARCHIVES, "-o", test, "-lpthread"])[::2], (0, ""))
                 self.passes(test)
                 self.judge_games(test)
+
+    def test_the_header_for_cpp_says_that_it_needs_exceptions(self):
+        for compiler, header in itertools.product(filter(shutil.which, ("g++", "clang++")), ("pgboard.h", "pgboard.hpp")):
+            source = self.folder / "without_exceptions.cpp"
+            source.write_text(f'#include "{header}"\n', encoding="ascii")
+            status, _, err = run([compiler, "-std=c++17", *WARNINGS, "-fno-exceptions", "-fsyntax-only", source])
+            said = "pgboard.hpp needs exceptions: with -fno-exceptions include pgboard.h" in err
+            self.assertEqual((status == 0, said), (header == "pgboard.h", header == "pgboard.hpp"), err)
 
     def passes(self, test):
         status, out, err = run([test])
@@ -360,23 +354,16 @@ class Embed(unittest.TestCase):
         self.assertRegex(out, r"(?m)^[1-9]\d* passed, 0 failed$")
 
     def judge_games(self, test):
-        """The library gives the program's winners on random games, with choices that are a solution by the definition."""
-        games, texts = zip(*map(drawn, range(GAMES)))
-        status, out, err = run([test, "games"], "".join(texts).encode())
+        status, out, err = run([test, "games"], "".join(text for _, text in map(drawn, range(GAMES))).encode())
         self.assertEqual((status, len(out.splitlines())), (0, GAMES), err)
-        for game, line in zip(games, out.splitlines()):
-            self.assertTrue(line.startswith("0 0 "), f"{game}: {line}")
-            rows = [map(int, it.split(":")) for it in line.split()[2:]]
-            solution = {v: (winner, None if choice == -1 else choice) for v, (winner, choice) in enumerate(rows)}
-            self.assertEqual(plain.verdict(game, solution), "ok\n", game)
-            winners = common.program("solve", "--winners", given=plain.written_game(game).encode())
-            self.assertEqual(winners[1].decode(), plain.written_winners(game, solution), game)
+        for seed, line in enumerate(out.splitlines()):
+            self.assertIsNone(fault_of(seed, line))
 
     def test_the_c_programs_of_the_pages(self):
         programs, commands = pages.c_programs(common.text_of(pages.C_PAGE))
         self.assertEqual(len(programs), 2)
         for name in ("crates", "include"):
-            (self.folder / name).symlink_to(common.ROOT / name)
+            (self.folder / name).symlink_to((common.PROVED if name == "crates" else common.ROOT) / name)
         for program, printed in programs:
             (self.folder / "embed.c").write_text(program, encoding="utf-8")
             self.built([*FLAGS, "-fsyntax-only", f"{self.folder}/embed.c"])
@@ -387,7 +374,7 @@ class Embed(unittest.TestCase):
     def test_bindings_python(self):
         env = {**os.environ, "PGBOARD_LIBRARY": str(build_shared(self.folder)), "PGBOARD_PROGRAM": str(common.PROGRAM)}
         folder = common.ROOT / "bindings" / "python"
-        for python, name in itertools.product(pythons(), ("test_pgboard.py", "test_board.py")):
+        for python, name in itertools.product(pythons(), ("test_pgboard.py", "test_calls.py", "test_board.py")):
             with self.subTest(python, name=name):
                 status, out, err = common.run([python, "-B", folder / name], timeout=600, cwd=folder, env=env)
                 self.assertEqual(status, 0, out + err)

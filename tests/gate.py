@@ -14,7 +14,6 @@ import unittest
 
 import common
 
-TEST = common.text_of("test")
 # each tool with a file of the PATH that makes it known, and the packages that have it
 TOOLS = {
     "git": ("git", "git"),
@@ -52,16 +51,33 @@ if [ "$1" = install ] && [ ! -e "${{0%/*}}/refuses" ]; then
     for it in {' '.join(file for file, _ in TOOLS.values())}; do [ -e "${{0%/*}}/$it" ] || cp "${{0%/*}}/true" "${{0%/*}}/$it"; done
 fi
 """
+# an rt that has proved the crates, and then tries edits: it waits for what HOLDS names before it says that the program is proved, and
+# for what ENDS names before it ends
 RT = """#!/bin/sh
+has_come() { i=0; for it in $1; do until [ -e "did/$it" ]; do sleep .05; i=$((i + 1)); [ $i -lt 400 ] || exit 9; done; done; }
 echo "== pg_low"
 echo "what the check says"
 echo "rt: pg_low proved"
 echo "rt: pg_low: its tests are proved"
-echo "rt: pg_high NOT PROVED" | sed "${EDIT-s/NOT PROVED/proved/}"
+echo "rt: pg_workers is kept: an earlier run on this machine proved the same"
+has_come "$HOLDS"
+echo "rt: pgboard_program NOT PROVED" | sed "${EDIT-s/NOT PROVED/proved/}"
 echo "rt: pg_high: trying its must-fail edits (7)"
+has_come "$ENDS"
+touch did/proofs
 echo "9 passed, ${FAILED-0} failed"
 exit "${FAILED-0}"
 """
+# A script that is done, once others are: it is there for these, and counts how many run beside it.
+DID = """import pathlib, time
+        did = pathlib.Path('did')
+        self.assertEqual([it for it in {needs!r}.split() if not (did / it).exists()], [])
+        self.assertTrue({is_free} or common.PROGRAM.is_file())
+        (did / '{name}.runs').touch()
+        time.sleep(0.1)
+        self.assertLessEqual(len([*did.glob('*.runs')]), {most})
+        (did / '{name}.runs').unlink()
+        (did / '{name}').touch()"""
 
 
 class Gate(unittest.TestCase):
@@ -70,13 +86,15 @@ class Gate(unittest.TestCase):
         self.top, self.path = self.folder / "top", self.folder / "path"
         (self.top / "tests").mkdir(parents=True)
         self.path.mkdir()
-        shutil.copy(common.ROOT / "test", self.top)
+        (self.top / "did").mkdir()
+        for name in ("test", "CONTRIBUTING.md"):
+            shutil.copy(common.ROOT / name, self.top)
         shutil.copy(common.ROOT / "tests" / "common.py", self.top / "tests")
         self.built = self.top / "crates" / "pgboard_program" / "out" / "pgboard_program"
         self.built.parent.mkdir(parents=True)
         self.put(self.built, "#!/bin/sh\n")
         self.scripts = runpy.run_path(str(common.ROOT / "test"))["ALL"]
-        for name in self.scripts:
+        for name in [*self.scripts, "library"]:
             self.script(name, "pass")
         for name in ("sh", "sed", "true", "cp", "env", "touch", "sleep"):
             (self.path / name).symlink_to(shutil.which(name))
@@ -173,26 +191,76 @@ class Gate(unittest.TestCase):
 
     # --- the parts ---
 
-    def test_the_gate_runs_all_over_the_program_of_rt(self):
+    def test_the_gate_runs_all_over_a_copy_of_the_program_of_rt(self):
         (self.top / "out" / "unproved").mkdir(parents=True)
         self.put(self.top / "out" / "unproved" / "pgboard", "#!/bin/sh\n")
+        self.put(self.built, "#!/bin/sh\n# of rt\n")
         for name in self.scripts:
-            self.script(name, f"self.assertEqual(str(common.PROGRAM), '{self.built}')")
+            wanted = "#!/bin/sh\n# of rt\n" if name not in ("bodies", "gate", "theorem") else None
+            self.script(name, f"self.assertIn({wanted!r}, (None, common.PROGRAM.is_file() and common.PROGRAM.read_text()))")
+        self.script("library", "self.assertEqual(common.PROGRAM, common.PROVED)")
+        self.script("refused_calls", "self.assertEqual(common.PROGRAM, common.BUILT)")
         status, out, err = self.run_test()
         self.assertEqual((status, err), (0, ""), out)
         lines = out.splitlines()
         what = f"`rt ci` of 0 crates with proofs and {len(self.scripts)} scripts"
-        self.assertRegex(lines[0], rf"^test: {what}; about .* (minutes|hours) on .*; logs in .*/out/test$")
+        takes = re.search(r"the gate takes (.* on four processors and .* on two), from nothing", common.text_of("CONTRIBUTING.md"))[1]
+        self.assertRegex(lines[0], rf"^test: {what}; about {takes}; logs in .*/out/test$")
+        self.assertRegex(lines[-2], r"^ +0:\d\d  in all, and \d+ minutes of processor time$")
         shown = [re.sub(r"^ +\d+:\d\d  ", "", it) for it in lines[1:]]
-        crates = ["pg_low proved", "pg_low: its tests are proved", "pg_high proved", "pg_high: trying its must-fail edits (7)"]
-        scripts = [f"{it}: 1 passed, 0 failed" for it in self.scripts]
-        before = [*crates, "proofs: 9 passed, 0 failed", f"test: over {self.built}"]
-        self.assertEqual([*shown[:len(before)], *sorted(shown[len(before):-1]), shown[-1]], [*before, *sorted(scripts), f"{9 + len(scripts)} passed, 0 failed"])
+        crates = ["pg_low proved", "pg_low: its tests are proved", "pg_workers is kept", "pgboard_program proved"]
+        before = [*crates, f"test: over a copy of {self.built}", "pg_high: trying its must-fail edits (7)", "proofs: 9 passed, 0 failed"]
+        scripts = [f"{it}: 1 passed, 0 failed" for it in (*self.scripts, "library")]
+        self.assertEqual(sorted(shown[:-2]), sorted([*before, *scripts]))
+        self.assertEqual([it for it in shown if it in crates], crates)
+        self.assertEqual(lines[-1], f"{10 + len(self.scripts)} passed, 0 failed")
         self.assertIn("what the check says", (self.top / "out" / "test" / "proofs.log").read_text(encoding="ascii"))
-        self.assertIn(f"test: over {self.built}", out)
 
-    def test_the_time_of_the_gate_is_that_of_the_page(self):
-        self.assertIn(re.search(r'GATE_TAKES.* = "(.*?) with', TEST)[1], common.text_of("CONTRIBUTING.md"))
+    def did(self, most, **needs):
+        """Scripts that leave a file, each of which needs those of others."""
+        for name in (*self.scripts, "library"):
+            is_free = name in ("bodies", "gate", "theorem", "library")
+            self.script(name, DID.format(name=name, needs=needs.get(name, ""), most=most, is_free=is_free))
+
+    def test_each_script_begins_as_soon_as_what_it_needs_is_there(self):
+        most = max(1, min(4, len(os.sched_getaffinity(0))) // 2)
+        self.did(most, embed="library", package="library", boards="library bench", random_games="bench", refused_calls="proofs")
+        # some need no program, and all but one no end of `rt ci`
+        others = " ".join(it for it in self.scripts if it != "refused_calls")
+        status, out, err = self.run_test(HOLDS="bodies gate theorem library", ENDS=others)
+        self.assertEqual((status, out.splitlines()[-1]), (0, f"{10 + len(self.scripts)} passed, 0 failed"), out)
+
+    def test_as_many_scripts_as_processors_run_once_the_edits_are_tried(self):
+        names = ["bench", "launcher", "cli", "uses"][: len(os.sched_getaffinity(0))]
+        meets = f"self.assertEqual(common.run(['sh', '-c', 'touch did/{{}}; for i in {' '.join(names)}; do until [ -e did/$i ]; do sleep .1; done; done'], timeout=20)[0], 0)"
+        for name in names:
+            self.script(name, meets.format(name))
+        tried = 'echo "rt: must-fail pg_high/a.edit: refused, as it must be"\nhas_come "$ENDS"'
+        self.put(self.path / "rt", RT.replace('has_come "$ENDS"', tried))
+        status, out, err = self.run_test(ENDS=" ".join(names))
+        self.assertEqual((status, out.splitlines()[-1]), (0, f"{10 + len(self.scripts)} passed, 0 failed"), out)
+
+    def test_no_script_runs_without_what_it_needs(self):
+        self.did(9)
+        for case, env, gone in (
+            ("no program", {"EDIT": ""}, set(self.scripts) - {"bodies", "gate", "theorem"}),
+            ("no library", {}, {"embed", "package", "boards"}),
+            ("`rt ci` ends in its midst", {"HOLDS": "none"}, set(self.scripts) - {"bodies", "gate", "theorem"}),
+        ):
+            with self.subTest(case):
+                self.script("library", "self.fail()" if case == "no library" else "pass")
+                self.put(self.path / "rt", RT.replace("400", "1"))
+                status, out, err = self.run_test(**env)
+                not_run = set(re.findall(r"(?m)^test: (\w+) was not run, as there is no .*: 0 passed, 1 failed$", out))
+                self.assertEqual((status, err, not_run), (1, "", gone), out)
+                passed, failed = len(self.scripts) - len(gone) + 10, len(gone)
+                passed, failed = {"no program": (passed, failed), "no library": (passed - 1, failed + 1)}.get(case, (passed - 9, failed + 1))
+                self.assertEqual(out.splitlines()[-1], f"{passed} passed, {failed} failed", out)
+
+    def test_a_part_that_cannot_be_started_has_failed(self):
+        (self.top / "out" / "test" / "uses.log").mkdir(parents=True)
+        status, out, _ = self.run_test("cli", "uses")
+        self.assertEqual((status, out.splitlines()[-1]), (1, "1 passed, 1 failed"))
 
     def test_parts_run_over_what_was_built_last(self):
         unproved = self.top / "out" / "unproved" / "pgboard"
@@ -218,9 +286,10 @@ class Gate(unittest.TestCase):
         self.assertIn("uses: 0 passed, 1 failed", out)
         for name in ("cli", "uses"):
             self.script(name, "pass")
-        status, out, _ = self.run_test(EDIT="", FAILED="1")
-        self.assertEqual((status, out.splitlines()[-1]), (1, f"{9 + len(self.scripts)} passed, 1 failed"))
-        self.assertIn("rt: pg_high NOT PROVED", out)
+        self.put(self.path / "rt", RT.replace("trying its must-fail edits (7)", "NOT PROVED").replace("pg_high: NOT", "pg_high NOT"))
+        status, out, _ = self.run_test(FAILED="1")
+        self.assertEqual((status, out.splitlines()[-1]), (1, f"{10 + len(self.scripts)} passed, 1 failed"))
+        self.assertRegex(out, r"(?m)^ +0:\d\d  rt: pg_high NOT PROVED$")
 
     def test_two_scripts_run_at_once(self):
         # each passes only if the other one begins meanwhile; on one processor the first one does not
@@ -233,10 +302,6 @@ class Gate(unittest.TestCase):
         wanted = (0, "2 passed, 0 failed") if has_two else (1, "1 passed, 1 failed")
         self.assertEqual((status, out.splitlines()[-1]), wanted, out)
 
-    def test_what_needs_the_comparator_begins_after_four_others(self):
-        self.assertLess(self.scripts.index("bench"), 4)
-        self.assertEqual(set(self.scripts[-2:]), {"boards", "random_games"})
-
     def test_a_status_without_a_counted_failure_is_one(self):
         self.script("cli", "common.unittest.TextTestResult.wasSuccessful; import atexit; atexit.register(lambda: common.os._exit(7))")
         self.assertEqual(self.run_test("cli")[0], 1)
@@ -245,22 +310,47 @@ class Gate(unittest.TestCase):
         self.script("cli", "self.skipTest('no tool')")
         self.assertEqual(self.run_test("cli", "uses")[0], 0)
         status, out, _ = self.run_test()
-        self.assertEqual((status, out.splitlines()[-1]), (1, f"{8 + len(self.scripts)} passed, 1 failed"))
+        self.assertEqual((status, out.splitlines()[-1]), (1, f"{9 + len(self.scripts)} passed, 1 failed"))
         self.assertIn("no tool", out)
 
     def test_without_a_program_a_line_says_how_to_build_one(self):
         self.built.unlink()
-        for words in (["cli"], []):
-            status, out, err = self.run_test(*words)
-            self.assertEqual(status, 2)
-            self.assertRegex(err, r"^test: \S+ is not there; ./pgboard --unproved --rebuild builds a program in one or two minutes\n$")
+        status, out, err = self.run_test("cli")
+        self.assertEqual((status, out.count("passed")), (2, 0))
+        self.assertRegex(err, r"^test: \S+ is not there; ./pgboard --unproved --rebuild builds a program in one or two minutes\n$")
+        # (also where `rt ci` says that it was built)
+        status, out, err = self.run_test()
+        self.assertEqual((status, out.count("cli was not run, as there is no pgboard_program")), (1, 1), out)
+
+    def test_what_did_not_pass_is_never_counted_as_passed(self):
+        broken = "@classmethod\n    def setUpClass(cls):\n        raise OSError('broken')\n"
+        rows = "for at in range(3):\n            with self.subTest(at=at):\n                self.assertEqual(at, 1, 'broken')"
+        good = "class Passes(unittest.TestCase):\n    def test(self):\n        pass\n"
+        test = good + "class It(unittest.TestCase):\n    {}\n    def test(self):\n        {}\n"
+        for case, text, counts in [
+            ("raises", test.format("", "raise OSError('broken')"), "1 passed, 1 failed"),
+            ("fails", test.format("", "self.fail('broken')"), "1 passed, 1 failed"),
+            ("setUpClass raises", test.format(broken, "pass"), "1 passed, 1 failed"),
+            ("setUpModule raises", "def setUpModule():\n    raise OSError('broken')\n" + test.format("", "pass"), "0 passed, 1 failed"),
+            ("a cleanup raises", test.format("", "self.addCleanup(lambda: self.fail('broken'))"), "1 passed, 1 failed"),
+            ("rows fail", test.format("", rows), "2 passed, 2 failed"),
+            ("rows pass, and then it raises", test.format("", "with self.subTest(1):\n            pass\n        raise OSError('broken')"), "2 passed, 1 failed"),
+            ("an unexpected success", test.format("@unittest.expectedFailure", "print('broken')"), "1 passed, 1 failed"),
+            ("no test", "print('broken')\n", "0 passed, 1 failed"),
+            ("another name than test", good.replace("def test", "def other") + "print('broken')\n", "0 passed, 1 failed"),
+            ("no script", "raise SystemExit('broken')\n", "0 passed, 1 failed"),
+        ]:
+            with self.subTest(case):
+                self.put(self.top / "tests" / "cli.py", f"import unittest\nimport common\n{text}common.main()\n")
+                status, out, _ = self.run_test("cli")
+                self.assertEqual((status, out.splitlines()[-1], "broken" in out), (1, counts, True), out)
 
     def test_help_names_each_part_and_another_word_is_refused(self):
         status, out, err = self.run_test("--help")
-        self.assertEqual((status, err), (0, ""))
+        self.assertEqual((status, err, [it for it in out.splitlines() if len(it) > 80]), (0, "", []))
         self.assertLessEqual({"proofs", "scripts", *self.scripts}, set(re.findall(r"\w+", out)))
         self.assertEqual(self.run_test("clu")[::2], (2, "test: clu is no part; ./test --help names them\n"))
-        self.assertEqual(sorted([*self.scripts, "circuits", "common", "plain", "plain_board"]), sorted(it.stem for it in common.ROOT.glob("tests/*.py")))
+        self.assertEqual(sorted([*self.scripts, "circuits", "common", "library", "plain", "plain_board", "script_ends", "scripts"]), sorted(it.stem for it in common.ROOT.glob("tests/*.py")))
 
 
 if __name__ == "__main__":

@@ -19,9 +19,9 @@ import unittest.mock
 from typing import Callable
 
 import common
-import uses
+import scripts
 
-MODELS = uses.EXAMPLES / "modelcheck"
+MODELS = scripts.EXAMPLES / "modelcheck"
 # mostly one, so that a state has several transitions of a label
 LABELS = ["a", "a", "a", "b", "a b", "true", "c(1,true)", "c(1, true)", "a|b(2)"]
 # how one action is spelled, and the labels that it is
@@ -201,19 +201,118 @@ def drawn(seed):
     return model, formula
 
 
+# --- formulas read back ---
+
+# how a formula's operators bind, from what binds least; a prefix binds most
+BINDS = {"=>": 0, "||": 1, "&&": 2}
+PREFIX = 3
+# the same of what a modality has in its brackets; an action binds most
+REGULAR_BINDS = {"+": 0, ".": 1, "*": 2, "plus": 2, "=>": 3, "||": 4, "&&": 5, "!": 6}
+SET_OPERATORS = ["=>", "||", "&&"]
+# tokens of an action, and how the reader spells it
+SPELLED = [
+    (["a"], "a"),
+    (["a'"], "a'"),
+    (["true_"], "true_"),
+    (["0"], "0"),
+    (["c(1,  f(2, (3)))"], "c(1,f(2,(3)))"),
+    (["c (x|f(b) | a)", "|", "b"], "b|c(x|f(b)|a)"),
+    (["d(a mod  b, -1)", "|", "b", "|", "a"], "a|b|d(a mod b,-1)"),
+    (["b", "|", "a", "|", "a"], "a|a|b"),
+]
+
+
+def random_regular(chance, depth, is_set=False):
+    if depth == 0 or chance.random() < 0.2:
+        label = chance.choice(["", "a b", "% ] '[(", "true"])
+        return chance.choice([("action", *chance.choice(SPELLED)), ("label", label), ("true",), ("false",)])
+    part = lambda some: random_regular(chance, depth - 1, some)
+    operator = chance.choice(["!", *SET_OPERATORS] if is_set else [*REGULAR_BINDS, "+", "."])
+    if operator in ("!", "*", "plus"):
+        return operator, part(operator == "!")
+    return operator, part(operator in SET_OPERATORS), part(operator in SET_OPERATORS)
+
+
+def random_tree(chance, depth):
+    """A random formula as the reader gives it, without places."""
+    if depth == 0 or chance.random() < 0.1:
+        return chance.choice([("true",), ("false",), ("variable", chance.choice(["X", "Y_1", "Z'", "nu_", "andy"]))])
+    part = lambda: random_tree(chance, depth - 1)
+    operator = chance.choice([*BINDS, *BINDS, "!", "<", "[", "mu", "nu"])
+    if operator in BINDS:
+        return operator, part(), part()
+    if operator in ("mu", "nu"):
+        return operator, chance.choice(["X", "Y_1"]), part()
+    return (operator, part()) if operator == "!" else (operator, random_regular(chance, 3), part())
+
+
+def regular_tokens(tree, binds=0):
+    """The tokens of what a modality has in its brackets, with brackets only where they are needed."""
+    operator, *parts = tree
+    if operator == "action":
+        return parts[0]
+    if operator not in REGULAR_BINDS:
+        return [f'"{parts[0]}"' if parts else operator]
+    own = REGULAR_BINDS[operator]
+    if operator == "!":
+        found = ["!", *regular_tokens(parts[0], own)]
+    elif len(parts) == 1:
+        found = [*regular_tokens(parts[0], own), "*" if operator == "*" else "+"]
+    else:
+        from_right = operator in (".", "=>")
+        found = [*regular_tokens(parts[0], own + from_right), operator, *regular_tokens(parts[1], own + (not from_right))]
+    return ["(", *found, ")"] if own < binds else found
+
+
+def formula_tokens(tree, binds=0, is_last=True):
+    """The tokens of a formula likewise. Only where nothing follows inside its brackets does a fixed point need none."""
+    operator, *parts = tree
+    if operator in ("true", "false", "variable"):
+        return [*parts, operator][:1]
+    own = BINDS.get(operator, PREFIX)
+    needs = own < binds or operator in ("mu", "nu") and not is_last
+    is_last = is_last or needs
+    if operator in BINDS:
+        from_right = operator == "=>"
+        left = formula_tokens(parts[0], own + from_right, False)
+        found = [*left, operator, *formula_tokens(parts[1], own + (not from_right), is_last)]
+    elif operator in ("mu", "nu"):
+        found = [operator, parts[0], ".", *formula_tokens(parts[1])]
+    else:
+        within = [] if operator == "!" else [*regular_tokens(parts[0]), ">" if operator == "<" else "]"]
+        found = [operator, *within, *formula_tokens(parts[-1], PREFIX, is_last)]
+    return ["(", *found, ")"] if needs else found
+
+
+def spaced(chance, tokens):
+    """A text of tokens, in which words may stand for signs, and blanks and comments between tokens."""
+    words = {"&&": "and", "||": "or", "!": "not"}
+    blanks = [" ", "\n", ' % a note ) ] "\n', "  "]
+    text = ""
+    for token in tokens:
+        token = words[token] if token in words and chance.random() < 0.5 else token
+        needs = re.search(r"[\w']$", text) and re.match(r"[\w'(]", token)
+        text += (chance.choice(blanks) if needs or chance.random() < 0.3 else "") + token
+    return text
+
+
+def without_places(tree):
+    return (tree[0], *(without_places(it) if isinstance(it, tuple) else it for it in tree[2:]))
+
+
 # what is said of a game before it is solved
 SIZE = "modelcheck: size of the game: vertices {}, edges {}\n"
 # one who asks is let in, which is false for a single reason
 WAITING = "[ask_1] mu X. (<true> true && [!enter_1] X)"
 
 
-class ModelCheck(uses.Use, unittest.TestCase):
+class ModelCheck(scripts.Use, unittest.TestCase):
     name = "modelcheck"
 
     def setUp(self):
         super().setUp()
         self.model, self.evidence, self.game = (self.folder / it for it in ("model.aut", "evidence.aut", "game.pg"))
-        self.model.write_text(uses.MODEL, encoding="ascii")
+        self.model.write_text(scripts.MODEL, encoding="ascii")
 
     def check(self, path, formula, expected, *words):
         """That the script says so of a formula."""
@@ -240,8 +339,92 @@ class ModelCheck(uses.Use, unittest.TestCase):
                 self.check(self.model, f"!{formula.text}", not answers[-1])
         self.assertGreater(min(answers.count(True), answers.count(False)), 300)
 
+    def test_random_formulas_read_back(self):
+        """What a formula is, with as few brackets as the grammar allows, is read as it was meant."""
+        parts = lambda tree: tuple(as_read(it) if isinstance(it, tuple) else it for it in tree)
+        as_read = lambda tree: ("action", tree[2]) if tree[0] == "action" else parts(tree)
+        parser = sys.modules["lib.formulas"].Parser
+        sizes = []
+        for seed in range(3000):
+            chance = random.Random(seed)
+            tree = random_tree(chance, 1 + seed % 6)
+            text = spaced(chance, formula_tokens(tree))
+            with self.subTest(seed=seed, text=text):
+                self.assertEqual(without_places(parser("formula", text).whole()), as_read(tree))
+            sizes.append(len(text))
+        self.assertGreater(max(sizes), 600)
+
+    def test_a_comment_in_an_action(self):
+        """A comment is no part of an action, nor of its data."""
+        self.model.write_text('des (0, 2, 2)\n(0, "a", 1)\n(1, "c(1)|b", 0)\n', encoding="ascii")
+        for formula, expected in {
+            "[true*.(a % the request\n)] false": False,
+            "<a % one ] two\n> true": True,
+            "<a.b % one\n | % two )\n c( % three )\n 1 )> true": True,
+            '<"a"> % "\n true % "': True,
+            "<a.b> true": False,
+        }.items():
+            self.check(self.model, formula, expected)
+
+    def test_labels(self):
+        """An action takes the labels that differ in blanks beside signs, and in the order of what | joins."""
+        labels = ["a", "a b", "ab", "c(1,f(x|y))|b|a", "a|b|c(1, f(x | y))", "b|c(1,f(y|x))|a", "d(x mod y)", "d(x  mod y)", "d(xmody)"]
+        for formula, taken in {
+            "ab": ["ab"],
+            '"a b"': ["a b"],
+            "c(1,f(x|y)) | a | b": labels[3:5],
+            "b|a|c(1,f(y|x))": labels[5:6],
+            "d( x mod y )": labels[6:8],
+            "a|b": [],
+            "!(a || ab)": [labels[1], *labels[3:]],
+            "a => ab": labels[1:],
+            "true && !false": labels,
+        }.items():
+            for at, label in enumerate(labels):
+                self.model.write_text(f'des (0, 1, 1)\n(0, "{label}", 0)\n', encoding="ascii")
+                with self.subTest(formula, label=label):
+                    self.check(self.model, f"<{formula}> true", label in taken)
+
+    def test_many_labels_and_actions(self):
+        """Each label and each action is spelled once, and labels are not compared with each action."""
+        count, actions, module = 4_000, 60, sys.modules["lib.formulas"]
+        self.model.write_text(Model(0, 1, [(0, f"a({at})", 0) for at in range(count)]).text, encoding="ascii")
+        formula = " || ".join(f"<a({at}) && a({at + 1})> true" for at in range(actions // 2))
+        calls, spelled = [], module.spelled
+        with unittest.mock.patch.object(module, "spelled", lambda text: calls.append(text) or spelled(text)):
+            self.check(self.model, formula, False)
+        self.assertEqual(len(calls), count + actions)
+
+    def test_actions_that_no_label_is(self):
+        """A line says so, but not of tau, nor where the action stands under a negation alone. The answer is the same."""
+        for formula, expected, unknown in (
+            ("[true*.entre] false", True, ["entre"]),
+            ("<!entre> true", True, []),
+            ("<a && !(entre || !other)> true", False, ["other"]),
+            ("<entre => a> true", True, []),
+            ("<a => entre> true", False, ["entre"]),
+            ("<(entre => b) => a> true", True, ["entre"]),
+            ("!<entre> true", True, ["entre"]),
+            ("[tau] false && [true] true && [false] true", True, []),
+            ("<!entre> true && [entre+.entre.x|y] [\"b c\"] false", True, ["entre", "x|y", '"b c"']),
+            ('<a."a"> true && <"a".a> true', True, []),
+        ):
+            with self.subTest(formula):
+                status, out, err = self.run_script(self.model, formula)
+                self.assertEqual((status, out), (int(not expected), f"{str(expected).lower()}\n"))
+                self.assertEqual(err.splitlines()[1:], [f"modelcheck: the model has no label {it}" for it in unknown])
+
+    def test_the_name_of_a_formulas_file(self):
+        """Where a formula is refused whose text names a file, the fault says how such a file has to be called."""
+        path = self.file("always.txt", "nu X. <a> X")
+        status, out, err = self.run_script(self.model, path)
+        self.assertEqual((status, out, err.count("\n")), (2, "", 1))
+        self.assertRegex(err, "^modelcheck: formula:1:1: .*; a file has this name, and the name of a formula's file ends in .mcf\n$")
+        for formula in ("always.txt", f"{path} ", str(self.folder)):
+            self.assertNotIn("file", self.run_script(self.model, formula)[2].replace(path, ""))
+
     def test_known_models(self):
-        rows = uses.rows_of("known_models.txt")
+        rows = scripts.rows_of("known_models.txt")
         self.assertGreater(len(rows), 20)
         for name, says, expected, formula in rows:
             with self.subTest(f"{name}: {says}"):
@@ -315,12 +498,12 @@ class ModelCheck(uses.Use, unittest.TestCase):
     def test_a_formula_of_a_file(self):
         formula = self.file("always.mcf", "% always\nnu X.\n <a> X\n")
         self.assertEqual(self.run_script(self.model, formula), (0, "true\n", SIZE.format(4, 4)))
-        self.assertEqual(self.run_script(self.model, "-", given=b"<b> true % none\n"), (1, "false\n", SIZE.format(1, 1)))
+        self.assertEqual(self.run_script(self.model, "-", given=b"<b> true % none\n"), (1, "false\n", SIZE.format(1, 1) + "modelcheck: the model has no label b\n"))
         self.check_standard_input(str(self.model), str(self.model), "<a.a> true")
         formula = self.file("always.mcf", "nu X.\n (<a> X\n")
         status, out, err = self.run_script(self.model, formula)
         self.assertEqual((status, out), (2, ""))
-        self.assertTrue(err.startswith(f"modelcheck: {formula}:2:8: the formula ends"), err)
+        self.assertTrue(err.startswith(f"modelcheck: {formula}:2:8: the text ends"), err)
 
     def test_bytes_of_other_encodings(self):
         self.model.write_bytes(b'des (0, 1, 1)\n(0, "\xe9\xff", 0)\n')
@@ -342,7 +525,7 @@ class ModelCheck(uses.Use, unittest.TestCase):
 
     def test_progress_on_a_terminal(self):
         """The line of progress is replaced, and the size and the answer stay; a pipe gets no progress."""
-        command = [sys.executable, "-B", uses.EXAMPLES / "modelcheck.py", self.model, "[true*] <a> true"]
+        command = [sys.executable, "-B", scripts.EXAMPLES / "modelcheck.py", self.model, "[true*] <a> true"]
         main, other = pty.openpty()
         env = {**os.environ, "PGBOARD": shlex.quote(str(common.PROGRAM))}
         ran = subprocess.run(command, stdout=subprocess.PIPE, stderr=other, env=env)
@@ -385,7 +568,7 @@ class ModelCheck(uses.Use, unittest.TestCase):
         self.assertEqual(self.evidence.read_text(encoding="ascii"), Model(0, 8, cycle).text)
         self.check_picture(words, "first -> 0", '0 -> 1 [label="ask_1"]', '7 -> 1 [label="leave_2"]')
         for end in ("dot", "svg"):
-            uses.check_kept(self, f"waiting.{end}", (self.folder / f"picture.{end}").read_text(encoding="utf-8"))
+            scripts.check_kept(self, f"waiting.{end}", (self.folder / f"picture.{end}").read_text(encoding="utf-8"))
 
 
 if __name__ == "__main__":

@@ -3,12 +3,15 @@
 
 The tree is a checkout of one commit of its own here, so that changes that are not committed do not count. What rt has proved in this
 tree is taken (--proved). What is made is unpacked, and used with what it brings alone: the program in an empty root, a C program by
-pkg-config and by CMake, the wheel without an index, the Debian packages in a bare root. Sums and the wheel's RECORD are computed
-again. A tree with changes is refused, one whose crates are not the commit's, and one that the prover refuses.
+pkg-config and by CMake, the wheel without an index, the Debian packages in a bare root, each with the packages that it declares.
+Fields, paths and modes are compared with tables, and what the linker was asked for is read from the files. Sums and the wheel's RECORD
+are computed again. A tree with changes is refused, one whose crates are not the commit's, and one that the prover refuses.
 """
 
 import base64
 import csv
+import email
+import gzip
 import hashlib
 import itertools
 import os
@@ -17,10 +20,12 @@ import re
 import shutil
 import subprocess
 import sys
+import tarfile
 import unittest
 import zipfile
 
 import common
+import library
 import pages
 
 JOINED = b"parity 1;\n0 2 0 0,1;\n1 1 1 1;\n%paritysol 1;\n0 0 0;\n1 1 1;\n"
@@ -48,6 +53,25 @@ endforeach()
 """
 
 
+# what each Debian package depends on, and what else its fields are
+DEPENDS = {
+    "pgboard": r"libc6 \(>= [0-9.]+\)",
+    "libpgboard0": r"libc6 \(>= [0-9.]+\)",
+    "libpgboard-dev": r"libpgboard0 \(= VERSION\), libc6-dev \| libc-dev",
+    "python3-pgboard": r"libpgboard0 \(>= VERSION\), python3:any \(>= 3\.8~\)",
+}
+SECTIONS = {"pgboard": "math", "libpgboard0": "libs", "libpgboard-dev": "libdevel", "python3-pgboard": "python"}
+# the packages of Debian that are there, and what each of pgboard's needs beside them
+SYSTEM = {"libc6": "2.36-9", "libc6-dev": "2.36-9", "python3": "3.11.2-1"}
+NEEDS = {"pgboard": [], "libpgboard0": [], "libpgboard-dev": ["libpgboard0"], "python3-pgboard": ["libpgboard0"]}
+USES = {"pgboard": "libc6", "libpgboard0": "libc6", "libpgboard-dev": "libc6-dev", "python3-pgboard": "python3"}
+
+
+def stanza(name, version):
+    """What dpkg has to say of a package that is installed."""
+    return f"Package: {name}\nStatus: install ok installed\nMaintainer: none <none@localhost>\nArchitecture: amd64\nMulti-Arch: allowed\nVersion: {version}\nDescription: none\n\n"
+
+
 def done(*words, **how):
     """What a command wrote, which has to end well."""
     ran = subprocess.run(words, stdin=subprocess.DEVNULL, stdout=subprocess.PIPE, stderr=subprocess.STDOUT, text=True, timeout=3000, **how)
@@ -70,7 +94,7 @@ class Checkout:
         self.git("add", "--all")
         self.git("commit", "--quiet", "--message", "the tree as it is")
 
-    def package(self, folder, proved=common.ROOT):
+    def package(self, folder, proved=common.PROVED):
         """The status of ./package, and what it says."""
         status, out, err = common.run([self.top / "package", "--proved", proved, folder], timeout=7200, env=self.env)
         return status, (out + err).decode()
@@ -87,6 +111,7 @@ class Packaged(unittest.TestCase):
     @classmethod
     def setUpClass(cls):
         cls.folder = common.make_folder(cls)
+        library.take_as_built(common.PROVED, "pgboard_program")
         cls.tree = Checkout(common.ROOT, cls.folder / "git")
         cls.tree.commit()
         # what git does not have is in no package
@@ -127,7 +152,7 @@ class Packaged(unittest.TestCase):
         """What PROVENANCE has to say of these files."""
         cc = done("cc", "--version").splitlines()[0]
         about = f"pgboard {self.version}\ncommit {self.commit}\nkit {done('rt', 'version')}"
-        about += f"proofs taken over by rt from {common.ROOT}, of the same sources\ncompiler {cc}\n"
+        about += f"proofs taken over by rt from a tree of the same sources\ncompiler {cc}\n"
         return about + "".join(f"sha256 {hashlib.sha256((folder / it).read_bytes()).hexdigest()} {it}\n" for it in sorted(paths))
 
     def test_it_says_what_it_is_made_from(self):
@@ -156,8 +181,51 @@ class Packaged(unittest.TestCase):
         self.assertEqual(self.tree.package(self.folder / "none", copy), (1, f"package: {more} is not that of the commit\n"))
 
     def test_the_same_again_gives_the_same_bytes(self):
-        self.assertEqual(self.tree.package(self.folder / "again")[0], 0)
+        # (built again in another tree, with another folder for scratch work, for a user of other habits)
+        other = self.folder / "another path"
+        other.mkdir()
+        library.copy_crates(other)
+        library.take_as_built(other, "pgboard_program")
+        (self.folder / "scratch").mkdir()
+        self.tree.env.update(TMPDIR=str(self.folder / "scratch"), TZ="Asia/Tokyo", LC_ALL="C.UTF-8")
+        kept = os.umask(0o077)
+        try:
+            status, said = self.tree.package(self.folder / "again", other)
+        finally:
+            os.umask(kept)
+        self.assertEqual(status, 0, said)
         done("sha256sum", "--check", "--strict", self.dist / "SHA256SUMS", cwd=self.folder / "again")
+        listed = lambda it: done("find", ".", "-printf", "%P %m %l\\n", cwd=it).splitlines()
+        self.assertEqual(sorted(listed(self.folder / "again")), sorted(listed(self.dist)))
+
+    def test_no_path_of_this_machine_is_in_what_is_made(self):
+        local = [str(common.ROOT).encode(), str(common.PROVED).encode(), b"pgboard-package-", str(self.folder).encode()]
+        for path in (it for top in (self.unpacked, self.root) for it in top.rglob("*") if it.is_file() and "var/lib/dpkg" not in str(it)):
+            data = gzip.decompress(path.read_bytes()) if path.suffix == ".gz" else path.read_bytes()
+            self.assertEqual([it for it in local if it in data], [], path)
+        with zipfile.ZipFile(self.wheel()) as wheel:
+            for name in wheel.namelist():
+                self.assertEqual([it for it in local if it in wheel.read(name)], [], name)
+
+    def test_modes_and_owners(self):
+        """A folder and what runs may be entered and run by all, and written by its owner alone; all is root's."""
+        (archive,) = self.dist.glob("*.tar.gz")
+        tops = [tarfile.open(archive)]
+        for package in sorted(self.dist.glob("*.deb")):
+            made = self.folder / f"{package.name}.tar"
+            with open(made, "wb") as file:
+                subprocess.run(["dpkg-deb", "--fsys-tarfile", package], stdout=file, check=True)
+            tops.append(tarfile.open(made))
+        scripts = {it.split()[3] for it in self.tree.git("ls-files", "--stage", "examples").splitlines() if it.startswith("100755")}
+        for top in tops:
+            with top:
+                for it in top.getmembers():
+                    script = it.name.partition("/doc/pgboard/")[2]
+                    runs = it.isdir() or it.name.endswith("bin/pgboard") or script in scripts
+                    if not it.issym() and not re.search(r"\.so\.[0-9.]+$", it.name):
+                        self.assertEqual(oct(it.mode), oct(0o755 if runs else 0o644), (top.name, it.name))
+                    self.assertEqual((it.uid, it.gid, oct(it.mode & 0o22)), (0, 0, "0o22" if it.issym() else "0o0"), it.name)
+        self.assertEqual({oct(it.stat().st_mode & 0o7777) for it in self.dist.rglob("*") if it.is_dir()}, {"0o755"})
 
     def test_a_tree_with_changes_and_one_that_the_prover_refuses_are_refused(self):
         copy = self.folder / "copy"
@@ -174,8 +242,8 @@ class Packaged(unittest.TestCase):
         self.assertEqual(tree.package(self.folder / "none"), (1, "package: the tree has changes that are not committed\n"))
         tree.commit()
         for crate in PRODUCT[:-1]:
-            if (common.ROOT / "crates" / crate / "out" / "rlib").exists():
-                shutil.copytree(common.ROOT / "crates" / crate / "out" / "rlib", copy / "crates" / crate / "out" / "rlib")
+            if (common.PROVED / "crates" / crate / "out" / "rlib").exists():
+                shutil.copytree(common.PROVED / "crates" / crate / "out" / "rlib", copy / "crates" / crate / "out" / "rlib")
         status, said = tree.package(self.folder / "none", copy)
         self.assertEqual((status, (self.folder / "none").exists()), (1, False), said)
         self.assertRegex(said, r"\Apackage: not proved: pgboard_program\n")
@@ -208,7 +276,7 @@ class Packaged(unittest.TestCase):
         status, out, err = common.run([self.program, "--version"])
         self.assertEqual((status, err), (0, b""))
         kit = re.escape(common.kit())
-        self.assertRegex(out.decode(), rf"^pgboard [0-9.]+\nkit: {kit}\nbuild: proved, commit {self.commit} *\n$")
+        self.assertRegex(out.decode(), rf"^pgboard [0-9.]+\nkit: {kit}\nbuild: proved, commit {self.commit}\n$")
 
     def test_a_c_program_is_built_by_pkg_config_alone(self):
         lib = self.unpacked / "lib"
@@ -232,12 +300,13 @@ class Packaged(unittest.TestCase):
         done(sys.executable, "-m", "venv", self.folder / "venv")
         done(self.folder / "venv/bin/pip", "install", "--no-index", "--disable-pip-version-check", wheel)
         (self.folder / "python").mkdir()
-        for path in ("bindings/python/test_pgboard.py", "tests/plain.py"):
+        for path in (*(f"bindings/python/test_{it}.py" for it in ("pgboard", "calls", "board")), "tests/plain.py", "tests/plain_board.py"):
             shutil.copy(common.ROOT / path, self.folder / "python")
+        shutil.copy(common.ROOT / "bindings/python/README.md", self.folder / "python")
         env = {name: value for name, value in os.environ.items() if name != "PGBOARD_LIBRARY"}
-        env["PGBOARD_PROGRAM"] = str(self.program)
-        said = done(self.folder / "venv/bin/python", "-m", "unittest", "test_pgboard", cwd=self.folder / "python", env=env)
-        self.assertRegex(said, r"(?m)^Ran [1-9]\d* tests")
+        env.update(PGBOARD_PROGRAM=str(self.program), PGBOARD_POSTS="3000")
+        said = done(self.folder / "venv/bin/python", "-m", "unittest", "test_pgboard", "test_calls", "test_board", cwd=self.folder / "python", env=env)
+        self.assertRegex(said, r"(?m)^Ran [1-9]\d\d tests")
 
     def wheel(self):
         (path,) = self.dist.glob("*.whl")
@@ -267,6 +336,23 @@ class Packaged(unittest.TestCase):
         self.assertRegex(said, rf"(?m)^Name: pgboard\nVersion: {re.escape(self.version)}\nSummary: Solves and verifies max-parity games$")
         for line in re.findall(r'(?m)^    "(.* :: .*)",$', common.text_of("bindings/python/pyproject.toml")):
             self.assertIn(f"\nClassifier: {line}\n", said)
+
+    def test_the_wheel_says_what_it_is(self):
+        with zipfile.ZipFile(self.wheel()) as wheel:
+            (name,) = (it for it in wheel.namelist() if it.endswith(".dist-info/METADATA"))
+            said = email.message_from_string(wheel.read(name).decode())
+            # (wheel itself writes RECORD, and pip its own)
+            modes = {it.external_attr >> 16 & 0o7777 for it in wheel.infolist() if not it.filename.endswith("/RECORD")}
+        fields = {
+            "Name": ["pgboard"], "Version": [self.version], "License": ["MIT"], "Requires-Python": [">=3.8"],
+            "Author-email": ["The pgboard authors <pgboard@example.org>"], "Description-Content-Type": ["text/markdown"], "Requires-Dist": None,
+        }  # fmt: skip
+        self.assertEqual({it: said.get_all(it) for it in fields}, fields)
+        self.assertEqual([it.split(", ")[1] for it in said.get_all("Project-URL")], ["https://pgboard.example.org"])
+        # (an index has no pages beside this one)
+        links = re.findall(r"\]\(([^)]*)\)", said.get_payload())
+        self.assertEqual([it for it in links if not it.startswith(("https://", "#"))], [])
+        self.assertEqual([oct(it) for it in modes if it not in (0o644, 0o755)], [])
 
     @common.needs("twine")
     def test_an_index_would_take_the_wheel(self):
@@ -300,13 +386,92 @@ class Packaged(unittest.TestCase):
         self.assertIn(common.text_of("LICENSE").strip(), found)
         for debian in ("pgboard", "libpgboard0", "libpgboard-dev", "python3-pgboard"):
             self.assertIn(found.strip(), (self.root / "usr/share/doc" / debian / "copyright").read_text(encoding="utf-8"))
-        self.assertIn("GNU LESSER GENERAL PUBLIC LICENSE", (folder / "LGPL-2.1.txt").read_text(encoding="utf-8"))
+        whole = pathlib.Path("/usr/share/common-licenses/LGPL-2.1")
+        self.assertEqual((folder / "LGPL-2.1.txt").read_bytes(), whole.read_bytes() if whole.exists() else (common.ROOT / "packaging/LGPL-2.1.txt").read_bytes())
 
     def test_the_program_can_be_linked_with_another_glibc(self):
         command = re.search(r"(?m)^program with another version of it: (cc .*)$", (self.unpacked / "share/doc/pgboard/NOTICES.glibc").read_text(encoding="ascii"))[1]
         done("sh", "-ec", command.replace("-o pgboard", f"-o {self.folder}/linked"), cwd=self.unpacked)
         self.assertEqual(common.run([self.folder / "linked"], JOINED), (0, b"ok\n", b""))
         self.assertEqual(done(self.folder / "linked", "--version"), done(self.program, "--version"))
+
+    def test_what_the_linker_was_asked_for(self):
+        """Addresses are read-only once it has started, the stack cannot run, no path is looked in, and no library is needed but C's."""
+        library = f"libpgboard.so.{self.version}"
+        files = {
+            self.program: [], self.root / "usr/bin/pgboard": ["libc.so.6"],
+            self.unpacked / "lib" / library: ["libc.so.6"], self.root / LIBRARIES / library: ["libc.so.6"],
+        }  # fmt: skip
+        for path, needed in files.items():
+            with self.subTest(path):
+                heads, dynamic = done("readelf", "--wide", "--program-headers", path), done("readelf", "--wide", "--dynamic", path)
+                self.assertIn(" GNU_RELRO ", heads)
+                self.assertRegex(heads, r"GNU_STACK .* RW +0x")
+                self.assertRegex(done("readelf", "--wide", "--file-header", path), r"Type: +DYN ")
+                self.assertRegex(dynamic, r"FLAGS.*\bNOW\b")
+                self.assertEqual(re.findall(r"\(NEEDED\).*\[(.*)\]", dynamic), needed)
+                self.assertNotRegex(dynamic, r"\(R(UN)?PATH\)")
+                self.assertNotIn(".debug", done("readelf", "--wide", "--sections", path))
+                self.assertNotIn(" .symtab ", done("readelf", "--wide", "--sections", path))
+
+    def test_the_fields_of_the_debian_packages(self):
+        for package in sorted(self.dist.glob("*.deb")):
+            field = lambda name, package=package: done("dpkg-deb", "--field", package, name).strip()
+            name = field("Package")
+            with self.subTest(name):
+                self.assertRegex(field("Depends"), rf"\A{DEPENDS[name].replace('VERSION', re.escape(self.version))}\Z")
+                self.assertEqual([field(it) for it in ("Version", "Section", "Priority")], [self.version, SECTIONS[name], "optional"])
+                self.assertEqual(field("Architecture"), "all" if name.startswith("python") else "amd64")
+                self.assertEqual([field(it) for it in ("Maintainer", "Homepage")], ["The pgboard authors <pgboard@example.org>", "https://pgboard.example.org"])
+                self.assertEqual([field(it) for it in ("Pre-Depends", "Recommends", "Conflicts", "Replaces")], [""] * 4)
+
+    def paths(self, package):
+        """The files of a Debian package, but for those of its own folder of documents."""
+        lines = done("sh", "-c", 'dpkg-deb --fsys-tarfile "$0" | tar -t', next(self.dist.glob(f"{package}_*.deb"))).splitlines()
+        own = f"./usr/share/doc/{package}/"
+        return {it[2:] for it in lines if not it.endswith("/") and not it.startswith(own)}
+
+    def test_each_file_is_in_its_debian_package(self):
+        library, python = f"{LIBRARIES}/libpgboard", "usr/lib/python3/dist-packages/pgboard"
+        manual = {f"usr/share/man/man3/{it.name}.gz" for it in (common.ROOT / "docs/man3").iterdir()}
+        development = {f"{library}.so", f"{library}.a", f"{LIBRARIES}/pkgconfig/pgboard.pc", "usr/include/pgboard.h", "usr/include/pgboard.hpp"}
+        development |= {f"{LIBRARIES}/cmake/pgboard/pgboardConfig{it}.cmake" for it in ("", "Version")}
+        wanted = {
+            "pgboard": {"usr/bin/pgboard", "usr/share/man/man1/pgboard.1.gz", *(debian for _, debian in COMPLETIONS.values())},
+            "libpgboard0": {f"{library}.so.0", f"{library}.so.{self.version}"},
+            "libpgboard-dev": development | manual,
+            "python3-pgboard": {f"{python}/{it.rpartition('/')[2]}" for it in self.tree.git("ls-files", "bindings/python/pgboard").split()},
+        }
+        self.assertEqual({name: self.paths(name) for name in wanted}, wanted)
+        shlibs = done("dpkg-deb", "--info", next(self.dist.glob("libpgboard0_*.deb")), "shlibs").split("\n")
+        self.assertEqual([it for it in shlibs if it], [f"libpgboard 0 libpgboard0 (>= {self.version})"])
+
+    def installs(self, name, packages, system):
+        """Whether dpkg installs these packages in a root that has these of Debian's, and what it says."""
+        root = self.folder / name
+        for part in ("info", "updates"):
+            (root / "var/lib/dpkg" / part).mkdir(parents=True)
+        (root / "var/lib/dpkg/status").write_text("".join(stanza(it, SYSTEM[it]) for it in system), encoding="ascii")
+        for it in system:
+            (root / "var/lib/dpkg/info" / f"{it}.list").touch()
+        files = [next(self.dist.glob(f"{it}_*.deb")) for it in packages]
+        flags = ["--force-not-root", "--force-script-chrootless", f"--root={root}"]
+        env = {**os.environ, "PATH": f"{os.environ['PATH']}:/usr/sbin:/sbin", "LC_ALL": "C"}
+        status, out, err = common.run(["dpkg", *flags, "--install", *files], env=env)
+        return status == 0, (out + err).decode()
+
+    def test_each_debian_package_takes_what_it_declares_and_no_less(self):
+        for name, others in NEEDS.items():
+            with self.subTest(name):
+                holds, said = self.installs(f"root of {name}", [*others, name], SYSTEM)
+                self.assertTrue(holds, said)
+                holds, said = self.installs(f"root of {name} without {USES[name]}", [*others, name], SYSTEM.keys() - {USES[name]})
+                self.assertFalse(holds, said)
+                self.assertRegex(said, rf"{name} depends on {USES[name]}")
+                for other in others:
+                    holds, said = self.installs(f"root of {name} alone", [name], SYSTEM)
+                    self.assertFalse(holds, said)
+                    self.assertRegex(said, rf"{name} depends on {other}")
 
     @common.needs("lintian")
     def test_debian_finds_no_error(self):
@@ -324,7 +489,7 @@ class Packaged(unittest.TestCase):
             self.assertEqual((self.root / "usr/include" / name).read_bytes(), (self.unpacked / "include" / name).read_bytes())
         pages = {it.name for it in (self.unpacked / "share/man").rglob("*") if it.is_file()}
         self.assertEqual({it.name.removesuffix(".gz") for it in (self.root / "usr/share/man").rglob("*") if not it.is_dir()}, pages)
-        self.assertEqual(pages, {"pgboard.1", "pgboard.3", *(f"{it}.3" for it in EXPORTS), "pgboard_strerror.3"})
+        self.assertEqual(pages, {"pgboard.1", "pgboard.3", *(f"{it}.3" for it in EXPORTS), "pgboard_strerror.3", "pgboard_version_string.3"})
 
     def test_the_debian_packages_work(self):
         program = self.root / "usr/bin/pgboard"
@@ -344,7 +509,8 @@ class Packaged(unittest.TestCase):
             folder.mkdir()
             (folder / "embed.c").write_text(program, encoding="utf-8")
             flags = [f"-DCMAKE_PREFIX_PATH={prefix}", "-DCMAKE_LIBRARY_ARCHITECTURE=x86_64-linux-gnu"]
-            for version, status in (("0.1", 0), ("0.1.99", 1), ("0.2", 1), ("1", 1), (self.version, 0)):
+            asked = [("", 0), ("0", 0), ("0.1", 0), ("0.0", 1), ("0.1.99", 1), ("0.2", 1), ("1", 1), ("00", 1), (f"{self.version} EXACT", 0), ("0.1 EXACT", 1), (self.version, 0)]
+            for version, status in asked:
                 (folder / "CMakeLists.txt").write_text(CMAKE.format(version=version), encoding="ascii")
                 self.assertEqual(common.run(["cmake", "-S", folder, "-B", folder / f"of{version}", *flags])[0], status, version)
             done("cmake", "--build", folder / f"of{self.version}")
@@ -352,6 +518,31 @@ class Packaged(unittest.TestCase):
                 made = folder / f"of{self.version}" / name
                 self.assertEqual(common.run([made], env={"LD_LIBRARY_PATH": str(lib)}), (0, printed.encode(), b""))
                 self.assertEqual("libpgboard.so.0" in done("ldd", made), name == "by_pgboard")
+
+    @common.needs("cmake")
+    def test_cmake_may_find_the_package_by_lib(self):
+        """As with /lib, a link to /usr/lib: CMake takes the folder above a folder bin of the PATH for a prefix."""
+        merged = self.folder / "merged"
+        shutil.copytree(self.root / "usr", merged / "usr", symlinks=True)
+        for name in ("lib", "bin"):
+            (merged / name).symlink_to(f"usr/{name}")
+        folder = self.folder / "found by lib"
+        folder.mkdir()
+        program, printed = pages.c_programs(common.text_of(pages.C_PAGE))[0][0]
+        (folder / "embed.c").write_text(program, encoding="utf-8")
+        (folder / "CMakeLists.txt").write_text(CMAKE.format(version=""), encoding="ascii")
+        env = {**os.environ, "PATH": f"{merged}/bin:{os.environ['PATH']}"}
+        said = done("cmake", "-S", folder, "-B", folder / "build", "-DCMAKE_LIBRARY_ARCHITECTURE=x86_64-linux-gnu", env=env)
+        found = re.search(r"(?m)^pgboard_DIR:PATH=(.*)$", (folder / "build" / "CMakeCache.txt").read_text(encoding="utf-8"))
+        self.assertEqual(found[1], f"{merged}/lib/x86_64-linux-gnu/cmake/pgboard", said)
+        done("cmake", "--build", folder / "build", env=env)
+        self.assertEqual(common.run([folder / "build" / "by_pgboard_static"]), (0, printed.encode(), b""))
+
+    def test_pkg_config_says_the_version(self):
+        for lib in (self.unpacked / "lib", self.root / LIBRARIES):
+            env = {"PATH": "/usr/bin:/bin", "PKG_CONFIG_PATH": str(lib / "pkgconfig")}
+            self.assertEqual(done("pkg-config", "--modversion", "pgboard", env=env).strip(), self.version)
+            self.assertEqual(done("pkg-config", "--exists", "--print-errors", f"pgboard = {self.version}", env=env), "")
 
 
 if __name__ == "__main__":

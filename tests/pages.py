@@ -62,13 +62,18 @@ def anchors(page):
 
 
 def ran(case, commands):
-    """Runs commands by bash in a folder like the top: the output and error, as in a terminal, and the last status."""
-    folder = common.make_folder(case)
+    """Runs commands by bash in a folder like the top: the output and error, as in a terminal, and the last status.
+
+    They need nothing of the commands before them on the page, not even a variable, and leave no file behind.
+    """
+    folder, others = common.make_folder(case), common.make_folder(case)
     (folder / "pgboard").symlink_to(common.PROGRAM)
-    shutil.copytree(common.ROOT / "examples", folder / "examples")
-    env = {**os.environ, "PGBOARD": shlex.quote(str(common.PROGRAM))}
-    # (docs/INTEROP.md begins with a folder for what its commands leave)
-    status, out, _ = common.run(["bash", "-c", f"exec 2>&1\nmade=.\n{commands}"], timeout=300, cwd=folder, env=env)
+    shutil.copytree(common.ROOT / "examples", folder / "examples", ignore=shutil.ignore_patterns("__pycache__"))
+    env = {**os.environ, "PGBOARD": shlex.quote(str(common.PROGRAM)), "TMPDIR": str(others), "PYTHONDONTWRITEBYTECODE": "1"}
+    before = sorted(folder.rglob("*"))
+    status, out, _ = common.run(["bash", "-uc", f"exec 2>&1\n{commands}"], timeout=300, cwd=folder, env=env)
+    case.assertEqual(sorted(folder.rglob("*")), before, commands)
+    case.assertEqual(list(others.iterdir()), [], commands)
     return out.decode("utf-8", "backslashreplace"), status
 
 
@@ -156,8 +161,10 @@ class Faults(unittest.TestCase):
 
 # --- help ---
 
-PAGES = ["docs/CLI.md", "docs/pgboard.1", "README.md"]
+PAGES = ["docs/CLI.md", "docs/man1/pgboard.1", "README.md"]
 COMPLETIONS = common.ROOT / "completions"
+# of the script ./pgboard
+OF_SCRIPT = {"--unproved", "--rebuild", "--install"}
 FLAG = r"(?<![\w-])--[a-z][a-z-]*"
 
 
@@ -191,7 +198,7 @@ def synopsis_block(page):
 def man_page():
     """The parts of the man page as plain text, by heading; a line `.TP` or `.br` stays."""
     lines = []
-    for line in common.text_of("docs/pgboard.1").replace("\\-", "-").splitlines():
+    for line in common.text_of("docs/man1/pgboard.1").replace("\\-", "-").splitlines():
         macro, _, words = line.partition(" ")
         if re.fullmatch(r"\.[RBI]{2}", macro):
             # a macro of two letters writes its words without blanks between
@@ -223,7 +230,7 @@ def said_by(page):
     text = "\n".join(it for it in common.text_of(page).splitlines() if not re.search(others, it))
     commands = re.findall(r"(?m)(?<!-)\bpgboard (?!\d)([a-z]+)\b(?= [\[A-Z<.`]|`|$)", text)
     statuses = re.findall(r"(?m)^\| ([0-9]) \| (.*) \|$", text)
-    return set(commands), set(re.findall(FLAG, text)) - {"--rebuild", "--unproved", "--install"}, statuses
+    return set(commands), set(re.findall(FLAG, text)) - OF_SCRIPT, statuses
 
 
 class HelpAgrees(unittest.TestCase):
@@ -283,7 +290,7 @@ class HelpAgrees(unittest.TestCase):
         self.assertEqual(bounds, ["4", "4"])
 
     def test_each_synopsis(self):
-        for page in [*PAGES, "crates/pgboard_program/README.md"]:
+        for page in PAGES:
             with self.subTest(page):
                 self.assertEqual(synopsis_of(page), {line_of(name, text) for name, text in self.helps.items()})
 
@@ -303,14 +310,15 @@ class HelpAgrees(unittest.TestCase):
     def test_the_version(self):
         ((printed, kit),) = re.findall(r"^pgboard (\S+)\nkit: (.*)\n", help_of("--version"))
         self.assertEqual([printed], re.findall(r"(?m)^## ([0-9][0-9.]*)", common.text_of("CHANGELOG.md"))[:1])
-        self.assertEqual([printed], re.findall(r'"pgboard ([0-9.]+)"', common.text_of("docs/pgboard.1")))
+        self.assertEqual([printed], re.findall(r'"pgboard ([0-9.]+)"', common.text_of("docs/man1/pgboard.1")))
         self.assertEqual(kit, common.kit())
         self.assertEqual([kit], re.findall(r"the kit's line `([^`]*)`", common.text_of("README.md")))
 
-    def offered(self, *words):
+    def offered(self, *words, **env):
         """What bash offers where the last of these words stands."""
         script = 'source "$0"; COMP_WORDS=(pgboard "$@"); COMP_CWORD=$#; _pgboard; printf "%s\\n" "${COMPREPLY[@]}"'
-        return set(common.run(["bash", "-c", script, COMPLETIONS / "pgboard.bash", *words])[1].decode().split())
+        path = ["bash", "-c", script, COMPLETIONS / "pgboard.bash", *words]
+        return set(common.run(path, env={"PATH": "/usr/bin:/bin", **env})[1].decode().split())
 
     def test_the_completions_of_bash(self):
         self.assertEqual(self.offered(""), {*self.commands, "help"})
@@ -321,13 +329,20 @@ class HelpAgrees(unittest.TestCase):
         self.assertEqual(self.offered("solve", "--bound", ""), set("012345678"))
         self.assertEqual(self.offered("trace", "--workers", "6"), {"6", "60", "61", "62", "63", "64"})
         self.assertEqual(self.offered("solve", "--known", ""), set())
+        # the script has options of its own, before a command
+        path = f"{common.ROOT}:/usr/bin:/bin"
+        self.assertEqual(self.offered("--", PATH=path), {"--help", "--version", *OF_SCRIPT})
+        self.assertEqual(self.offered("tidy", "--", PATH=path), {"--help"})
 
     def test_the_completions_of_zsh_and_fish(self):
-        zsh, fish = ((COMPLETIONS / it).read_text(encoding="utf-8") for it in ("_pgboard", "pgboard.fish"))
-        self.assertEqual(set(re.findall(r"--[a-z]+", zsh)), self.flags)
-        self.assertEqual({f"--{it}" for it in re.findall(r"(?m)^complete .* -l ([a-z]+)", fish)}, self.flags)
+        zsh, fish = (re.sub(r"(?m)^#.*", "", (COMPLETIONS / it).read_text(encoding="utf-8")) for it in ("_pgboard", "pgboard.fish"))
+        self.assertEqual(set(re.findall(r"--[a-z]+", re.sub(r"head.*", "", zsh))), self.flags | OF_SCRIPT)
+        self.assertEqual({f"--{it}" for it in re.findall(r"(?m)^complete .* -l ([a-z]+)", fish)}, self.flags | OF_SCRIPT)
         self.assertEqual(set(re.findall(r"(?m)^    '([a-z]+):", zsh)), {*self.commands, "help"})
         self.assertEqual(set(re.findall(r" -f -a ([a-z]+) ", fish)), {*self.commands, "help"})
+        ranges = {("workers", "1", "64"), ("bound", "0", "8")}
+        self.assertEqual(set(re.findall(r"--(\w+)\[.*:number:\(\{(\d+)\.\.(\d+)\}\)'", zsh)), ranges)
+        self.assertEqual(set(re.findall(r' -l (\w+) -x -a "\(seq (\d+) (\d+)\)"', fish)), ranges)
 
 
 # --- code on the pages of crates ---

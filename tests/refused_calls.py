@@ -187,9 +187,12 @@ class Program(Refusing):
         n, jobs = 65_536, 2_051
         cycle = b"".join(b"%d 0 0 %d;" % (v, (v + 1) % n) for v in range(n))
         many = plain.written_game(random_games.small_dominions(n)).encode()
-        for command, (game, each, workers) in itertools.product(("solve", "trace"), ((cycle, 156, 1), (many, 122, 1), (many, 122, 64))):
+        rows = [*itertools.product(("solve", "trace"), ((cycle, 156, 1), (many, 122, 1), (many, 122, 64)))]
+        for command, (game, each, workers) in rows + [("solve --known known.sol", it) for it in ((cycle, 116, 1), (many, 120, 1))]:
             with self.subTest(command, each=each, workers=workers):
-                ran, numbers = self.counted([command, "--workers", str(workers)], game)
+                if "--known" in command:
+                    (self.folder / "known.sol").write_bytes(self.counted(["solve"], game)[0][1])
+                ran, numbers = self.counted([*command.split(), "--workers", str(workers)], game)
                 self.assertEqual(ran[0], 0, ran[2])
                 # (a worker has a ticket with 8 bytes for each job, and rows of 56)
                 self.assertLess(numbers[5], each * n + 64 * jobs * (workers - 1))
@@ -284,9 +287,8 @@ class Program(Refusing):
 TEST_ENDED = b'error: "no memory for the test itself"\nthe test failed: its result gives status 1\n'
 # The first test of each row needs fewer allocations than the second and this number more; the games of a row have as many
 # vertices. Lists in order are the game as they are, and no allocation is made for it; others are laid out flat, without a value
-# for each of the 40 vertices; the
-# searches of a long cycle end before a ranking is made, as it is of a ladder; and of two games that differ in one edge the
-# second makes one, which takes more than three allocations.
+# for each of the 40 vertices. The searches of a long cycle end before a ranking is made, as it is of a ladder. Of two games that
+# differ in one edge, or whose searches do, the second makes one, which takes more than three allocations.
 GAME_TESTS, DOMINION_TESTS = "pg_text_tests_tests tests::game::memory", "pg_finders_tests_tests tests::dominion::memory"
 IN_ORDER = "many_lists_in_order_are_a_game_after_a_refusal"
 FEWER = [
@@ -298,6 +300,12 @@ FEWER = [
         DOMINION_TESTS,
         "each_edge_of_a_cycle_is_looked_at_once_after_a_refusal",
         "with_one_edge_more_a_ranking_is_made_after_a_refusal",
+        -3,
+    ),
+    (
+        DOMINION_TESTS,
+        "many_short_searches_need_no_ranking_after_a_refusal",
+        "many_searches_that_are_one_edge_longer_need_one_after_a_refusal",
         -3,
     ),
 ]

@@ -12,12 +12,12 @@ definitions that no public contract reaches are in specs/private/, and no others
 import collections
 import dataclasses
 import functools
+import graphlib
 import itertools
 import re
 import sys
 import unicodedata
 import unittest
-import xml.etree.ElementTree
 
 import common
 
@@ -111,8 +111,13 @@ def calls(path):
 
 
 def views(path):
-    """How contracts see the types of a file: the type, and each `ghost` line of its implementations but the invariant."""
-    return [(owner, line) for owner, _, line in owned_lines(path) if owner and re.match(r"    ghost (?!use |invariant)\w+", line)]
+    """How contracts see the types of a file: the type, and each `ghost` line of its implementations but the invariant.
+
+    A public `ghost` field of a struct is such a line too.
+    """
+    structs = re.findall(r"(?ms)^pub struct (\w+)[^{;]*\{\n(.*?)^\}$", read(path))
+    fields = [(owner, line) for owner, body in structs for line in body.splitlines() if line.startswith("    pub ghost ")]
+    return fields + [(owner, line) for owner, _, line in owned_lines(path) if owner and re.match(r"    ghost (?!use |invariant)\w+", line)]
 
 
 def exported_files():
@@ -225,8 +230,8 @@ def names_in(text, known, own=frozenset(), module=""):
 
 
 def means(path, text):
-    """The whole names that a piece of a source file means."""
-    return names_in(re.sub(r"(?:ensures|requires) \w*", "", text), imports(path))
+    """The whole names that a piece of a source file means. Arguments' names, which are before a colon or `.now`, mean no definition."""
+    return names_in(re.sub(r"(?:ensures|requires) \w*|\b\w+(?=: |\.(?:now|old|new|entry)\b)", "", text), imports(path))
 
 
 class Sources:
@@ -410,6 +415,12 @@ class Theorem(unittest.TestCase):
         found = re.search(r"(?ms)^## The headline, part by part$(.*?)^## ", common.text_of("docs/PROVED.md"))[1]
         self.assertEqual([it[0].lower() for it in rows_of(found)], [text.lower() for text in PARTS])
 
+    def test_what_only_speaks_of_is_beside_each_headline(self):
+        pages = [common.text_of("README.md"), self.made, common.text_of("docs/PROVED.md")]
+        self.assertTrue(all(PARTS[-1] in it for it in pages))
+        for text in pages:
+            self.assertRegex(text, r"'Only' speaks of the winners(?: \(`IsExactSolution.winners`\))?: a winner may have several right choices")
+
     def test_the_page_is_what_is_made_of_the_sources(self):
         lines = itertools.zip_longest(common.text_of("docs/THEOREM.md").splitlines(), self.made.splitlines())
         first = next((it for it in enumerate(lines, 1) if it[1][0] != it[1][1]), None)
@@ -473,7 +484,8 @@ class Proved(unittest.TestCase):
 
     @classmethod
     def setUpClass(cls):
-        cls.rows = rows_of(common.text_of("docs/PROVED.md"))
+        # (a later table has the mistakes of a caller in C)
+        cls.rows = rows_of(common.text_of("docs/PROVED.md").split("\n## Premises\n")[0])
 
     def test_each_row(self):
         self.assertGreater(len(self.rows), 40)
@@ -499,6 +511,13 @@ class Proved(unittest.TestCase):
         self.assertTrue(names)
         for name in names:
             self.assertTrue(any(read(f"{crate}/must-fail/{name}") for crate in crates), name)
+
+    def test_the_answers_to_a_caller_in_c_are_those_of_the_header(self):
+        named = re.findall(r"`(PGBOARD_\w+)(\.\.)?`", common.text_of("docs/PROVED.md"))
+        self.assertGreater(len(named), 20)
+        for name, more in named:
+            with self.subTest(name):
+                self.assertRegex(common.text_of("include/pgboard.h"), rf"(?m)^#define {name}{'' if more else ' '}")
 
     def test_each_public_call_has_a_row(self):
         shown = {(path, name) for row in self.rows for path, name, _ in calls_of(row[2])}
@@ -527,6 +546,19 @@ class Layers(unittest.TestCase):
                 for method in methods:
                     self.assertRegex(code, rf"(?:\.|::){method.split('::')[1]}\(")
 
+    def test_no_ring_of_modules(self):
+        """The modules of a crate import one another in an order, so each can be read after those that it names."""
+        for crate in sorted(it.name for it in (common.ROOT / "crates").iterdir()):
+            sources = {path.partition("/src/")[2][:-3]: read(path) for path in files(f"{crate}/src/**/*.rt")}
+            imports = {}
+            for module, code in sources.items():
+                paths = [it.split("::") for it in re.findall(r"\bcrate::(\w+(?:::\w+)*)", re.sub(r"//.*", "", code))]
+                paths += [[module, *it.split("::")] for it in re.findall(r"(?m)^(?:pub )?use (\w+(?:::\w+)*)", code)]
+                named = {max((it for n in range(len(path)) if (it := "/".join(path[: n + 1])) in sources), default=module) for path in paths}
+                imports[module] = named - {module}
+            with self.subTest(crate):
+                graphlib.TopologicalSorter(imports).prepare()
+
     def test_the_picture(self):
         """Each box of the picture is a function of the file that it names, and the drawing has its boxes and arrows."""
         source = common.text_of("docs/pictures/architecture.dot")
@@ -538,14 +570,9 @@ class Layers(unittest.TestCase):
                 self.assertTrue(re.search(rf"\bfn {function}\b", read(path)), label)
         chains = re.findall(r"(?m)^\s*(\w+(?: -> \w+)+)", source)
         arrows = {pair for chain in chains for pair in itertools.pairwise(chain.split(" -> "))}
-        drawing = xml.etree.ElementTree.parse(common.ROOT / "docs/pictures/architecture.svg")
-        drawn = {"node": {}, "edge": {}}
-        for group in drawing.iter("{http://www.w3.org/2000/svg}g"):
-            if group.get("class") in drawn:
-                texts = ["".join(it.itertext()) for it in group.iter("{http://www.w3.org/2000/svg}text")]
-                drawn[group.get("class")][group[0].text] = "\\n".join(texts)
-        self.assertEqual(drawn["node"], boxes)
-        self.assertEqual({tuple(it.split("->")) for it in drawn["edge"]}, arrows)
+        drawing = list(common.drawn(common.text_of("docs/pictures/architecture.svg")))
+        self.assertEqual({title: "\\n".join(texts) for kind, title, texts, _ in drawing if kind == "node"}, boxes)
+        self.assertEqual({tuple(title.split("->")) for kind, title, *_ in drawing if kind == "edge"}, arrows)
 
 
 if __name__ == "__main__":

@@ -1,5 +1,5 @@
 #!/usr/bin/env python3
-"""Tests of examples/convert.py, draw.py, explain.py and winner.py, and what all tests of examples/ share: tests/uses.py [PROGRAM]
+"""Tests of examples/convert.py, draw.py, explain.py and winner.py, and of how each script ends (script_ends.py): tests/uses.py [PROGRAM]
 
 Games that convert.py has turned are won as before, by the definition of who wins: each pair of positional strategies is played
 from each vertex to the end. Pictures are read back into their graphs. The pictures of docs/pictures are what draw.py gives; with
@@ -8,10 +8,7 @@ kept edges that the other player wins, an edge that leaves, or a choice. What ed
 """
 
 import collections
-import contextlib
 import gzip
-import importlib.util
-import io
 import itertools
 import math
 import os
@@ -26,203 +23,10 @@ import unittest
 import common
 import plain
 import random_games
-
-EXAMPLES = common.ROOT / "examples"
-# after this folder, which has scripts of the same names
-sys.path.append(str(EXAMPLES))
-WRITE = "--write" in sys.argv
-# a small model for modelcheck.py, and the parts of a specification for synthesise.py
-MODEL = 'des (0, 2, 2)\n(0, "a", 1)\n(1, "a", 0)\n'
-HEAD = r'HOA: v1\nStart: 0\nAP: 2 "a" "b"\ncontrollable-AP: 1\nAcceptance: 1 Inf(0)\n'
-BODY = r"--BODY--\nState: 0\n[t] 0\n--END--\n"
-
-
-def rows_of(name):
-    """The rows of a file of tests/uses, whose columns ` | ` separates; a line that begins with # is a comment."""
-    lines = common.text_of("tests", "uses", name).splitlines()
-    return [[it.strip(" ") for it in re.split(r" \|(?= |$)", line, maxsplit=4)] for line in lines if not line.startswith("#")]
-
-
-def load(name):
-    """A script of examples/ as a module."""
-    spec = importlib.util.spec_from_file_location(f"examples_{name}", EXAMPLES / f"{name}.py")
-    script = importlib.util.module_from_spec(spec)
-    spec.loader.exec_module(script)
-    return script
-
-
-def called(script, words, given=b""):
-    """The status, the output and the errors of a script's main, in this process: many calls take no time to start."""
-    os.environ["PGBOARD"] = shlex.quote(str(common.PROGRAM))
-    out, err, before = io.TextIOWrapper(io.BytesIO(), "utf-8", "surrogateescape", newline=""), io.StringIO(), sys.stdin
-    sys.stdin = io.TextIOWrapper(io.BytesIO(given))
-    try:
-        with contextlib.redirect_stdout(out), contextlib.redirect_stderr(err):
-            status = script.main([str(it) for it in words]) or 0
-    finally:
-        sys.stdin = before
-    out.flush()
-    return status, out.buffer.getvalue().decode("utf-8", "replace"), err.getvalue()
-
-
-class Use:
-    """What the tests of each script of examples/ have, beside `unittest.TestCase`."""
-
-    # the script
-    name = None
-
-    def setUp(self):
-        self.script = load(self.name)
-        self.folder = common.make_folder(self)
-
-    def file(self, name, text):
-        """The path of a file of the test's folder that has this text."""
-        path = self.folder / name
-        path.write_bytes(text if isinstance(text, bytes) else text.encode())
-        return str(path)
-
-    def call(self, *words):
-        """The status and the output of the script's main, in this process."""
-        return called(self.script, words)[:2]
-
-    def run_script(self, *words, given=b"", **env):
-        """The status, the output and the errors of the script as a process, at the top of the repository."""
-        command = [sys.executable, "-B", EXAMPLES / f"{self.name}.py", *words]
-        env = {**os.environ, "PGBOARD": shlex.quote(str(common.PROGRAM)), **env}
-        status, out, err = common.run(command, given, timeout=600, cwd=common.ROOT, env=env)
-        return status, out.decode(errors="replace"), err.decode()
-
-    def check_picture(self, words, *lines):
-        """That the script draws these lines, that Graphviz takes them, and that it says so where there is no Graphviz."""
-        path = self.folder / "picture.dot"
-        self.run_script(*words, "--picture", path)
-        for line in lines:
-            self.assertIn(f"    {line};\n", path.read_text(encoding="utf-8"))
-        path = self.folder / "picture.svg"
-        self.run_script(*words, "--picture", path)
-        self.assertIn("</svg>", path.read_text(encoding="utf-8"))
-        status, _, err = self.run_script(*words, "--picture", path, PATH=str(self.folder))
-        self.assertEqual(status, 2)
-        self.assertIn("the command dot is not on the PATH", err)
-
-    def check_standard_input(self, path, *words):
-        """That `-` in place of the path gives the same."""
-        wanted = self.run_script(*words)
-        self.assertEqual(self.run_script(*("-" if it == path else it for it in words), given=pathlib.Path(path).read_bytes()), wanted)
-        self.assertIn(wanted[0], (0, 1))
-
-    def check_no_verdict(self, *words, good=0):
-        """That a solution is believed only where `verify` says that it is one: neither nothing nor another word is enough.
-
-        So many calls of it are good, and the next one is not.
-        """
-        for said in ("", "okay", "not a solution"):
-            count = self.folder / "count"
-            count.write_text("x" * (good + 1), encoding="ascii")
-            says = f'read count < {count}; echo "${{count#x}}" > {count}; [ "$count" != x ] || {{ printf "{said}"; exit 0; }}'
-            program = self.file("program", f'#!/bin/sh\nif [ "$1" = verify ]; then {says}; fi\nexec {common.PROGRAM} "$@"\n')
-            os.chmod(program, 0o755)
-            status, out, err = self.run_script(*words, PGBOARD=program)
-            self.assertEqual((status, out), (2, ""), said)
-            self.assertRegex(err, f"^({self.name}: size.*\n)?{self.name}: (what|this|the machine).*: {said or 'no'}")
-
-    def check_damaged(self, call, text):
-        """That the script answers or refuses what a damaged text has, and fails in no other way."""
-        for seed in range(200):
-            given = damaged(random.Random(seed), text)
-            with self.subTest(seed=seed, given=given):
-                try:
-                    self.assertIn(call(given)[0], (0, 1))
-                except self.script.Refused as refused:
-                    self.assertTrue(str(refused).isprintable())
-                except self.script.games.Ended as ended:
-                    self.assertEqual((ended.status, ended.said.count("\n")), (3, 1))
-
-    def check_benchmark(self, size):
-        """That bench/ gets a game of about so many vertices, in which each player wins some."""
-        name = f"{self.name}_{size}"
-        got = common.run([sys.executable, "-B", common.ROOT / "bench" / "uses.py", self.folder, name], timeout=600)
-        self.assertEqual((got[0], got[2]), (0, b""))
-        status, winners, _ = common.program("solve", "--winners", self.folder / f"{name}.pg", timeout=600)
-        lines = winners.decode().splitlines()[1:]
-        self.assertEqual(status, 0)
-        self.assertAlmostEqual(len(lines) / size, 1, delta=0.25)
-        self.assertEqual({line.split()[1] for line in lines}, {"0;", "1;"})
-
-    def test_help(self):
-        """The help shows an example, and has 80 columns also where the terminal has more."""
-        status, out, err = self.run_script("--help", COLUMNS="200")
-        self.assertEqual((status, err), (0, ""))
-        self.assertIn(f"\n  examples/{self.name}.py ", out)
-        self.assertLessEqual(max(map(len, out.splitlines())), 80)
-
-
-def damaged(chance, text):
-    """A text in which something is left out, doubled or put in elsewhere."""
-    for _ in range(chance.randint(1, 3)):
-        first, last = sorted(chance.randint(0, len(text)) for _ in range(2))
-        last = min(last, first + chance.randint(0, 9))
-        piece = chance.choice(["", text[first:last] * 2, chance.choice(text), chance.choice('()[]{}<>"!&|,;:.01 9\n\x00\u00e9')])
-        text = text[:first] + piece + text[last:]
-    return text
-
-
-def graph_of(text):
-    """The vertices and edges of Graphviz text, with what stands between their brackets; vertices are what has no arrow."""
-    rows = re.findall(r"(?ms)^    (\w+)(?: -> (\w+))?(?: \[(.*?)\])?;$", text)
-    rows = [row for row in rows if row[0] not in ("graph", "node", "edge")]
-    vertices, edges = {row[0]: row[2] for row in rows if not row[1]}, {row[:2]: row[2] for row in rows if row[1]}
-    assert len(vertices) + len(edges) == len(rows), "nothing is drawn twice"
-    return vertices, edges
-
-
-def colour_of(style):
-    """Whose colours a vertex has: Even's, Odd's, or None where it is white."""
-    return {"#fde68a": 0, "#2563a8": 1, "white": None}[re.search('fillcolor="([^"]*)"', style)[1]]
-
-
-def check_kept(case, name, made):
-    """That a picture is the one of docs/pictures; another version of Graphviz lays out in another way."""
-    path = common.ROOT / "docs" / "pictures" / name
-    if WRITE:
-        path.write_text(made, encoding="utf-8")
-    kept = path.read_text(encoding="utf-8")
-    version = re.search("graphviz version [0-9.]+", made)
-    if not version or version[0] in kept:
-        case.assertEqual(made, kept)
-
+from script_ends import Ends  # whose tests run here
+from scripts import ARENA, BODY, EXAMPLES, HEAD, MODEL, Use, called, check_kept, colour_of, even_wins, graph_of, load, rows_of
 
 # --- convert.py ---
-
-
-def plays(game, player):
-    """The positional strategies of a player: a successor, or None at a dead end, for each vertex of his."""
-    own = sorted(id for id in game if game[id][1] == player)
-    for choices in itertools.product(*(sorted(game[id][2]) or [None] for id in own)):
-        yield dict(zip(own, choices))
-
-
-def winner(game, moves, id, least, odd):
-    """Who wins the play of these moves: the owner of a dead end loses, else the priority that decides on the cycle says."""
-    seen = []
-    while id not in seen:
-        seen.append(id)
-        if moves[id] is None:
-            return 1 - game[id][1]
-        id = moves[id]
-    cycle = [game[it][0] for it in seen[seen.index(id) :]]
-    return ((min if least else max)(cycle) + odd) % 2
-
-
-def even_wins(game, least=False, odd=False):
-    """The vertices from which some strategy of player 0 wins against all of player 1."""
-    won = set()
-    for mine in plays(game, 0):
-        left = set(game) - won
-        for other in plays(game, 1):
-            left = {id for id in left if winner(game, {**mine, **other}, id, least, odd) == 0}
-        won |= left
-    return won
 
 
 def spelled_game(chance, game, least):
@@ -242,14 +46,6 @@ def spelled_game(chance, game, least):
 
 
 AUTOMATON = common.text_of("examples/synthesise/arbiter_2_at_once.hoa")
-ARENA = """parity 4;
-start 0;
-0 0 1 1,2 "0, the environment";
-1 0 0 3 "0, the controller";
-2 0 0 4 "0, the controller";
-3 0 0 0 "to 0";
-4 1 0 4 "no edge";
-"""
 # as PGSolver and Oink print a solution
 LISTED = """Chosen solver `recursive' .................... 0.00 sec
 
@@ -321,6 +117,43 @@ class Convert(Use, unittest.TestCase):
                     edges = {id: (owner, to or {id}) for id, (_, owner, to) in game.items()}
                     self.assertEqual({id: it[1:] for id, it in plain.game_of(out.encode()).items()}, edges)
                     self.assertEqual(even_wins(plain.game_of(out.encode())), even_wins(game, least, odd))
+
+    def test_each_line_of_a_large_game(self):
+        """Of 20,000 vertices each has the priority of the definition, K - p, and all else as it was."""
+        chance, size = random.Random(1), 20_000
+        game = random_games.random_game(chance, size)
+        for id in chance.sample(list(game), 9):
+            game[id] = *game[id][:2], set()
+        names = {id: chance.choice(["", "", "a name", "a; b", "1 2 0 3"]) for id in game}
+        for top, flags in ((1_000_000, ["--min"]), (999_999, ["--min"]), (999_998, ["--odd"]), (1_000_001, ["--min", "--odd"]), (8, [])):
+            game = {id: (chance.randrange(top), owner, to) for id, (_, owner, to) in game.items()}
+            game[next(iter(game))] = top, *game[next(iter(game))][1:]
+            row = lambda id, p, owner, to: f'{id} {p} {owner} {",".join(map(str, to))} "{names[id]}";'
+            lines = [row(id, *it) + "# 0 1 1 1;" * (id % 7 == 0) + "\n" for id, it in game.items()]
+            text = "".join(it.replace(' ""', "") for it in lines)
+            self.assertGreater(len(text), 3 * 65_536)
+            status, out, err = called(self.script, ["--dead-ends", *flags], text.encode())
+            self.assertEqual((status, err), (0, ""))
+            least_even = top + top % 2
+            turned = lambda p: (least_even - p if "--min" in flags else p) + ("--odd" in flags)
+            wanted = {id: (turned(p) if to else 1 - owner, owner, to or {id}) for id, (p, owner, to) in game.items()}
+            found = dict(re.findall('(?m)^([0-9]+) [^"\\n]*"(.*)";$', out))
+            made = {id: (row, found.get(str(id), "")) for id, row in plain.game_of(out.encode()).items()}
+            self.assertEqual([(id, made.get(id), row) for id, row in wanted.items() if made.get(id) != (row, names[id])][:3], [])
+            self.assertEqual(re.findall("(?m)^[0-9]+(?= )", out) == list(map(str, game)), True, "the order stays, and nothing is added")
+
+    def test_a_solution_that_is_cut(self):
+        """A text of a solution that ends within a line is refused, and one that ends with a line is not."""
+        for log in ("", "solved 7\n"):
+            for cut in range(len("paritysol "), len(SOLUTION)):
+                text = (log + SOLUTION[:cut]).encode()
+                with self.subTest(text):
+                    if SOLUTION[:cut].rstrip().endswith(";"):
+                        self.assertEqual(called(self.script, ["--solution"], text), (0, SOLUTION[:cut], ""))
+                    else:
+                        line = len(text.splitlines())
+                        with self.assertRaisesRegex(self.script.Refused, f"^standard input:{line}: "):
+                            called(self.script, ["--solution"], text)
 
     def test_a_pipe_that_nobody_reads(self):
         reader, writer = os.pipe()
@@ -720,7 +553,7 @@ class Program(unittest.TestCase):
 
     def test_lines_and_columns(self):
         """No script has more than 400 lines."""
-        for path in EXAMPLES.glob("*.py"):
+        for path in EXAMPLES.glob("**/*.py"):
             self.assertLessEqual(path.read_text(encoding="utf-8").count("\n"), 400, path)
 
 
@@ -760,7 +593,8 @@ class Refused(unittest.TestCase):
                 *usage, line = [it for it in err.splitlines() if "size of the game" not in it]
                 self.assertEqual((status, out), (2, b""))
                 self.assertTrue(not usage or usage[0].startswith("usage: "), err)
-                self.assertRegex(line, rf"^{script}(\.py)?: {re.escape(place.replace('FILE', file))}")
+                place = place.replace("FILE", file).replace("TRACE", named["TRACE"])
+                self.assertRegex(line, rf"^{script}(\.py)?: {re.escape(place)}")
                 self.assertIn(said, line)
 
 

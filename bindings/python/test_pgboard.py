@@ -1,6 +1,7 @@
 """Tests of the package pgboard, by unittest."""
 
-import contextlib
+import argparse
+import ast
 import ctypes
 import ctypes.util
 import doctest
@@ -11,12 +12,9 @@ import pickle
 import random
 import re
 import shutil
-import signal
 import subprocess
 import sys
 import tempfile
-import threading
-import time
 import typing
 import unittest
 from array import array
@@ -26,6 +24,11 @@ import pgboard
 sys.path.append(str(pathlib.Path(__file__).resolve().parent.parent.parent / "tests"))
 import plain
 
+sys.path.append(str(pathlib.Path(__file__).resolve().parent.parent.parent / "examples"))
+try:
+    import convert
+except ImportError:
+    convert = None
 try:
     import networkx
 except ImportError:
@@ -34,6 +37,10 @@ try:
     import numpy
 except ImportError:
     numpy = None
+try:
+    import scipy.sparse
+except ImportError:
+    scipy = None
 
 TWO = [0, 1], [2, 1], [[0, 1], [1]]
 CSR = array("B", [0, 1]), array("I", [2, 1]), array("I", [0, 2, 3]), array("I", [0, 1, 1])
@@ -92,56 +99,6 @@ def python(program, cwd=HERE, **env):
     env = {name: value for name, value in {**os.environ, **env}.items() if value}
     how = {"stdout": subprocess.PIPE, "stderr": subprocess.PIPE, "text": True, "start_new_session": True}
     return subprocess.Popen([sys.executable, "-B", "-c", program], cwd=cwd, env=env, **how)
-
-
-# a game of which the library's call never ends, and which a signal does not wake: a lock that is taken already
-ENDLESS = """import ctypes, os, signal, sys, threading, time, pgboard
-from concurrent.futures import ThreadPoolExecutor
-# (a shell has what it runs in the background ignore the interrupt)
-signal.signal(signal.SIGINT, signal.default_int_handler)
-libc, lock = ctypes.CDLL(None), ctypes.create_string_buffer(64)
-libc.pthread_mutex_lock(lock)
-class Endless:
-    def pgboard_solve(*arguments):
-        return libc.pthread_mutex_lock(lock)
-pgboard.library.LIBRARY = Endless
-LARGE = [0] * 200, [0] * 200, [[0]] * 200
-def children(thread=None):
-    return open(f"/proc/self/task/{thread or threading.get_native_id()}/children").read().split()
-def wait_for(holds):
-    ends = time.monotonic() + 40
-    while not holds() and time.monotonic() < ends:
-        time.sleep(0.001)
-def interrupt(kill, target, calls=1, pause=0.3):
-    # (a while after so many calls have begun)
-    def later():
-        wait_for(lambda: sum(len(children(it)) for it in os.listdir("/proc/self/task")) == calls)
-        time.sleep(pause)
-        interrupt.sent = time.monotonic()
-        kill(target, signal.SIGINT)
-    threading.Thread(target=later).start()
-LATE = []
-def has_ended():
-    LATE.append(time.monotonic() - interrupt.sent)
-    wait_for(lambda: len(os.listdir("/proc/self/task")) == 1)
-    print("interrupted", LATE[-1] < 10, len(os.listdir("/proc/self/task")), children(), flush=True)
-"""
-
-
-# the class of each answer of the header
-CLASSES = {
-    "MEMORY": "OutOfMemory", "LENGTHS": "BadLengths", "ROW": "BadRow", "OWNER": "BadOwner", "PRIORITY": "BadPriority",
-    "SOLUTION": "BadResults", "WINNER": "BadWinner", "RESULTS": "BadResults", "NO_VERTEX": "NoVertex",
-    "TOO_MANY_VERTICES": "TooManyVertices", "TWICE": "SpecifiedTwice", "NO_SUCCESSOR": "NoSuccessor", "TOO_MANY_EDGES": "TooManyEdges",
-    "UNKNOWN": "UnknownSuccessor", "NO_CHOICE_AT": "NoChoice", "BAD_CHOICE": "BadChoice", "LEAVES": "Leaves", "CYCLE": "BadCycle",
-    "KNOWN_CHOICE": "KnownChoice", "KNOWN_CYCLE": "KnownCycle", "KNOWN_LOST": "KnownLost", "KNOWN_LEAVES": "KnownLeaves",
-    "GAME_TOO_LONG": "TextTooLong", "GAME_LEXICAL": "NoToken", "GAME_SYNTAX": "NotExpected", "GAME_NUMBER": "NumberTooLarge",
-    "GAME_OWNER": "NoPlayer", "SOLUTION_TOO_LONG": "TextTooLong", "SOLUTION_LEXICAL": "NoToken", "SOLUTION_SYNTAX": "NotExpected",
-    "SOLUTION_NUMBER": "NumberTooLarge", "SOLUTION_WINNER": "NoPlayer", "SOLUTION_STRANGER": "Stranger",
-    "SOLUTION_TWICE": "WrittenTwice", "SOLUTION_MISSING": "NotWritten", "BOARD_CLOSED": "Closed", "BOARD_UNSETTLED": "Unsettled",
-    "POST_PLAYER": "BadPlayer", "POST_LENGTHS": "BadClaimLengths", "POST_SHAPE": "BadShape", "POST_CYCLE": "ClaimCycle",
-    "POST_LOST": "Lost", "POST_STALE": "Stale", "POST_OPEN": "Open", "GAVE_UP": "GaveUp",
-}  # fmt: skip
 
 
 class Tests(unittest.TestCase):
@@ -404,9 +361,62 @@ class Buffers(Tests):
         self.assertEqual((run.communicate(timeout=60), run.returncode), (("", ""), 0))
 
     def test_refuses_other_items(self):
-        for at, other in [(0, [0, 1]), (0, b""[:0].join), (1, array("f", [2, 1])), (1, array("d", [2, 1])), (2, memoryview(bytes(24)).cast("I")[::2]), (3, "01")]:
+        for at, other in [(0, {0, 1}), (0, b""[:0].join), (1, array("f", [2, 1])), (1, array("d", [2, 1])), (2, memoryview(bytes(24)).cast("I")[::2]), (3, "01")]:
             with self.subTest(at=at, other=other), self.assertRaisesRegex(TypeError, f"^{['owners', 'priorities', 'indptr', 'indices'][at]}: a contiguous buffer"):
                 pgboard.solve_csr(*CSR[:at], other, *CSR[at + 1 :])
+
+    def test_takes_lists(self):
+        lists = [list(it) for it in CSR]
+        for game in (lists, list(map(tuple, lists)), [*CSR[:3], lists[3]], [lists[0], *CSR[1:]]):
+            self.assertEqual(pgboard.solve_csr(*game), pgboard.solve_csr(*CSR))
+            pgboard.verify_csr(*game, [0, 1], [0, 1])
+            self.assertEqual(pgboard.solve_csr(*game, known=([255, 1], (0, 1))), pgboard.solve_csr(*CSR))
+            with pgboard.Board.from_csr(*game) as board:
+                self.assertEqual(board.post_arrays(1, [1], (1,)), (0, 1, 1))
+        self.refused(pgboard.BadOwner, 1, 0, pgboard.solve_csr, [0, 256], *lists[1:])
+        self.refused(pgboard.BadPriority, 0, 0, pgboard.solve_csr, lists[0], [-1, 1], *lists[2:])
+        self.refused(pgboard.UnknownSuccessor, 0, 2**32 + 1, pgboard.solve_csr, *lists[:3], [0, 2**32 + 1, 1])
+        self.refused(pgboard.UnknownSuccessor, 1, -5, pgboard.solve_csr, *lists[:3], (0, 1, -5))
+        for at, name in enumerate(("owners", "priorities", "indptr", "indices")):
+            for wrong in ([0, 1.5], ["0", "1"], [None]):
+                with self.assertRaisesRegex(TypeError, f"^{name}: a list of integers is needed: "):
+                    pgboard.solve_csr(*lists[:at], wrong, *lists[at + 1 :])
+
+    @unittest.skipUnless(scipy, "SciPy is not installed")
+    def test_takes_a_matrix_of_scipy(self):
+        for seed in range(30):
+            owners, priorities, rows = random_game(random.Random(seed))
+            size = len(owners)
+            dense = numpy.zeros((size, size), "i8")
+            for v, row in enumerate(rows):
+                dense[v, row] = 1 + v
+            wanted = pgboard.solve(owners, priorities, rows)[0]
+            for kind in (scipy.sparse.csr_matrix, scipy.sparse.csr_array):
+                matrix = kind(dense)
+                found = pgboard.solve_csr(owners, priorities, matrix)
+                self.assertEqual(list(found.winners), wanted)
+                pgboard.verify_csr(owners, priorities, matrix, None, *found)
+                with pgboard.Board.from_csr(owners, priorities, matrix) as board:
+                    board.finish()
+                    self.assertEqual(list(board.solution().winners), wanted)
+        # (a column-compressed one has the same fields, by which each edge would go the other way)
+        for wrong in (matrix.tocsc(), matrix.tocoo(), numpy.array([0, 1]), [0, 2, 3]):
+            with self.assertRaisesRegex(TypeError, "^indices: without them a SciPy matrix in the form csr is needed for indptr, not "):
+                pgboard.solve_csr(owners, priorities, wrong)
+        self.refused(pgboard.BadLengths, 2, 0, pgboard.solve_csr, [0, 1], [2, 1], scipy.sparse.csr_matrix(numpy.ones((3, 2))))
+        self.refused(pgboard.UnknownSuccessor, 0, 2, pgboard.solve_csr, [0, 1], [2, 1], scipy.sparse.csr_matrix(numpy.ones((2, 3))))
+
+    @unittest.skipUnless(numpy, "NumPy is not installed")
+    def test_takes_truth_values_of_numpy(self):
+        # (the owner is Odd where it holds)
+        game = [numpy.array(it) for it in CSR]
+        game[0] = numpy.array([False, True])
+        self.assertEqual(pgboard.solve_csr(*game), pgboard.solve_csr(*CSR))
+        pgboard.verify_csr(*game, numpy.array([False, True]), [0, 1])
+        with self.assertRaises(pgboard.BadCycle):
+            pgboard.verify_csr(*game, numpy.array([False, False]), [0, pgboard.NO_CHOICE])
+        priorities = numpy.array([False, True])
+        self.assertEqual(pgboard.solve_csr([0, 1], priorities, [0, 2, 3], [0, 1, 1]).winners, array("B", [0, 1]))
 
     def test_refuses_games(self):
         def refused(fault, at, to, *changes):
@@ -425,6 +435,74 @@ class Buffers(Tests):
         refused(pgboard.UnknownSuccessor, 0, -1, (3, array("i", [0, -1, 1])))
 
 
+def by_convert(owners, priorities, rows, dead_ends=False, least=False):
+    """The game that examples/convert.py makes, as lists."""
+    text = "".join(f"{v} {p} {o} {','.join(map(str, row))};\n" for v, (o, p, row) in enumerate(zip(owners, priorities, rows)))
+    flags = argparse.Namespace(dead_ends=dead_ends, min=least, odd=False)
+    made = b"".join(convert.Game("-", text.encode(), flags).lines()).decode()
+    lines = [line.rstrip(";").split() for line in made.splitlines()[1:]]
+    return [int(it[2]) for it in lines], [int(it[1]) for it in lines], [list(map(int, it[3].split(","))) for it in lines]
+
+
+class Rules(Tests):
+    """`dead_ends` and `least`: the games that examples/convert.py makes with the same flags, and the winners by the definition."""
+
+    def game(self, seed, has_dead_ends):
+        numbers = random.Random(seed)
+        owners, priorities, rows = random_game(numbers)
+        if has_dead_ends:
+            rows = [[] if numbers.random() < 0.3 else row for row in rows]
+        return owners, priorities, [sorted(set(row)) for row in rows]
+
+    @unittest.skipUnless(convert, "examples/convert.py is not here")
+    def test_are_those_of_convert(self):
+        for seed in range(90):
+            how = [{"dead_ends": True}, {"least": True}, {"dead_ends": True, "least": True}][seed % 3]
+            game = self.game(seed, "dead_ends" in how)
+            other = by_convert(*game, **how)
+            csr = csr_of(*game)
+            winners, choices = pgboard.solve(*game, **how)
+            # (the made game is solved by the definition)
+            solution = {v: (p, o, set(row)) for v, (o, p, row) in enumerate(zip(*other))}
+            self.assertEqual(dict(enumerate(winners)), plain.recursion(solution)[0], (game, how))
+            self.assertEqual((winners, choices), pgboard.solve(*other), (game, how))
+            self.assertEqual(pgboard.solve_csr(*csr, **how), pgboard.solve_csr(*csr_of(*other)))
+            self.assertEqual(pgboard.solve_csr(*map(list, csr), **how), pgboard.solve_csr(*csr_of(*other)))
+            pgboard.verify(*game, winners, choices, **how)
+            pgboard.verify_csr(*csr, *pgboard.solve_csr(*csr, **how), **how)
+            for board in (pgboard.Board(*game, **how), pgboard.Board.from_csr(*csr, **how)):
+                board.finish()
+                self.assertEqual(list(board.solution().winners), winners)
+            for v, winner in enumerate(winners):
+                damaged = winners[:v] + [1 - winner] + winners[v + 1 :]
+                with self.assertRaises(pgboard.NotASolution):
+                    pgboard.verify(*game, damaged, choices, **how)
+
+    def test_a_dead_end_is_lost_by_its_owner(self):
+        self.assertEqual(pgboard.solve([0, 1, 0, 1], [7, 8, 0, 0], [[], [], [0, 1], [0, 1]], dead_ends=True), ([1, 0, 0, 1], [None, None, 1, 0]))
+        with self.assertRaises(pgboard.NoSuccessor):
+            pgboard.solve([0], [0], [[]])
+
+    def test_the_least_priority_decides(self):
+        # a cycle of 1 and 2, and one of 2 and 3
+        game = [0, 0, 1, 1], [1, 2, 2, 3], [[1], [0], [3], [2]]
+        self.assertEqual((pgboard.solve(*game)[0], pgboard.solve(*game, least=True)[0]), ([0, 0, 1, 1], [1, 1, 0, 0]))
+
+    def test_faults_are_those_of_what_is_given(self):
+        for how in ({"dead_ends": True}, {"least": True}, {"dead_ends": True, "least": True}):
+            self.refused(pgboard.BadLengths, 1, 0, pgboard.solve, [0], [0, 1], [[0]], **how)
+            self.refused(pgboard.BadLengths, 2, 0, pgboard.solve, [0, 0], [0, 1], [[0]], **how)
+            self.refused(pgboard.BadOwner, 1, 0, pgboard.solve, [0, 2], [0, 1], [[0], [0]], **how)
+            self.refused(pgboard.BadPriority, 1, 0, pgboard.solve, [0, 0], [0, 2**31], [[0], [0]], **how)
+            self.refused(pgboard.NoVertex, 0, 0, pgboard.solve, [], [], [], **how)
+            self.refused(pgboard.BadRow, 0, 0, pgboard.solve_csr, [0, 0], [0, 0], [0, 3, 2], [0, 1], **how)
+            self.refused(pgboard.BadRow, 0, 0, pgboard.solve_csr, [0, 0, 0], [0, 0, 0], [0, 9, 9, 2], [0, 1], **how)
+            self.refused(pgboard.BadLengths, 3, 0, pgboard.solve_csr, [0, 0], [0, 0], [0, 0, 1], [0, 1], **how)
+        self.refused(pgboard.UnknownSuccessor, 1, -7, pgboard.solve, [0, 0], [0, 0], [[], [-7]], dead_ends=True)
+        self.refused(pgboard.UnknownSuccessor, 2, 2**32 + 1, pgboard.solve_csr, [0] * 3, [0] * 3, [0, 0, 1, 2], array("q", [1, 2**32 + 1]), dead_ends=True)
+        self.refused(pgboard.NoSuccessor, 0, 0, pgboard.solve, [0, 0], [0, 0], [[], [0]], least=True)
+
+
 class Faults(Tests):
     def test_are_value_errors_with_one_text(self):
         with self.assertRaises(ValueError) as found:
@@ -436,17 +514,19 @@ class Faults(Tests):
         self.assertTrue(issubclass(pgboard.OutOfMemory, MemoryError))
 
     def test_survive_pickling(self):
-        for it in [pgboard.Leaves(3, 4), pgboard.BadLengths(2), pgboard.OutOfMemory(), pgboard.MissingAttribute(1, "x", "owner")]:
+        faults = [pgboard.Leaves(3, 4), pgboard.BadLengths(2), pgboard.OutOfMemory(), pgboard.MissingAttribute(1, "x", "owner")]
+        for it in [*faults, pgboard.TimedOut(), pgboard.Cancelled(), pgboard.HelperFailed("ended")]:
             again = pickle.loads(pickle.dumps(it))
             self.assertEqual((type(again), str(again), vars(again)), (type(it), str(it), vars(it)))
 
     @unittest.skipUnless(HEADER.exists(), "the header is not here")
-    def test_each_answer_of_the_header_has_its_own(self):
+    def test_each_answer_of_the_header_has_one_but_those_that_no_call_hands_on(self):
         header = HEADER.read_text(encoding="utf-8")
         answers = header[header.index("#define PGBOARD_OK") : header.index("#define PGBOARD_ARRAY_")]
-        numbers = {name: int(number) for name, number in re.findall(r"(?m)^#define PGBOARD_(\w+) (\d+)u", answers)}
-        self.assertEqual({numbers[name]: kind for name, kind in CLASSES.items()}, {number: it.__name__ for number, it in pgboard.faults.FAULTS.items()})
-        self.assertEqual(numbers.keys() - CLASSES.keys(), {"OK", "SIZE", "CAPACITY", "BOARD_OPEN", "BOARD_ENTRY"})
+        numbers = {int(number): name for name, number in re.findall(r"(?m)^#define PGBOARD_(\w+) (\d+)u", answers)}
+        without = {numbers[it] for it in numbers.keys() - pgboard.faults.FAULTS.keys()}
+        self.assertEqual(without, {"OK", "SIZE", "CAPACITY", "BOARD_OPEN", "BOARD_ENTRY"})
+        self.assertEqual(pgboard.faults.FAULTS.keys() - numbers.keys(), set())
 
     def test_texts_of_what_is_known_name_the_players(self):
         # (vertex 1 of Odd may only go to vertex 0 of Even, where Even stays; each player is known to win what he owns)
@@ -547,7 +627,16 @@ class Package(Tests):
         self.assertEqual(pgboard.library.VERSION, numbers[0] * 10000 + numbers[1] * 100 + numbers[2])
         for name in pgboard.__all__:
             self.assertTrue(hasattr(pgboard, name), name)
+        is_fault = lambda it: isinstance(it, type) and issubclass(it, pgboard.Fault)
+        names = {name for name, it in vars(pgboard.faults).items() if is_fault(it)}
+        self.assertEqual((names, names - set(pgboard.__all__)), (set(pgboard.faults.__all__), set()))
         self.assertTrue(os.path.exists(os.path.join(os.path.dirname(pgboard.__file__), "py.typed")))
+
+    @unittest.skipUnless(os.path.exists(os.path.join(HERE, "pyproject.toml")), "pyproject.toml is not here")
+    def test_the_least_python_can_read_it(self):
+        least = re.search(r'requires-python = ">=3\.(\d+)"', pathlib.Path(HERE, "pyproject.toml").read_text(encoding="utf-8"))
+        for path in pathlib.Path(pgboard.__file__).parent.glob("*.py"):
+            ast.parse(path.read_text(encoding="utf-8"), feature_version=(3, int(least[1])))
 
     def test_an_import_without_the_library_says_what_to_do(self):
         for path in ("/nowhere/libpgboard.so", ctypes.util.find_library("c") or "libc.so.6"):
@@ -557,9 +646,11 @@ class Package(Tests):
             self.assertRegex(err, r"ImportError: pgboard: .*install the wheel that ./package makes, or set PGBOARD_LIBRARY")
 
     def test_a_library_of_another_version_is_refused(self):
-        old = "class Old:\n    def __getattr__(self, name):\n        return lambda: 7\n"
-        err = python(f"import ctypes\n{old}ctypes.CDLL = lambda path: Old()\nimport pgboard", PGBOARD_LIBRARY="old.so").communicate(timeout=60)[1]
-        self.assertIn(f"ImportError: pgboard: old.so is of version 7, and this package of {pgboard.library.VERSION}: install", err)
+        mine = pgboard.library.VERSION
+        for version in (7, mine + 1, mine + 100, 10 * mine):
+            other = f"class Other:\n    def __getattr__(self, name):\n        return lambda: {version}\n"
+            err = python(f"import ctypes\n{other}ctypes.CDLL = lambda path: Other()\nimport pgboard", PGBOARD_LIBRARY="other.so").communicate(timeout=60)[1]
+            self.assertIn(f"ImportError: pgboard: other.so is of version {version}, and this package of {mine}: install", err)
 
     def test_examples(self):
         self.assertEqual(doctest.testmod(pgboard).failed, 0)
@@ -584,16 +675,16 @@ class Package(Tests):
     @unittest.skipUnless(shutil.which("mypy"), "mypy is not installed")
     def test_types_of_buffers(self):
         head = "from array import array\nimport pgboard\nclass Mine:\n    def __buffer__(self, flags: int, /) -> memoryview: return memoryview(b'')\n"
-        taken = ["b''", "bytearray()", "memoryview(b'')", "array('I')", "Mine()"]
+        taken = ["b''", "bytearray()", "memoryview(b'')", "array('I')", "Mine()", "[0, 1]", "(0, 1)"]
         if numpy and "site-packages" not in numpy.__file__:
             taken.append("numpy.zeros(3)")
             head += "import numpy\n"
-        refused = ["[0, 1]", "3", "'text'", "None", "object()"]
+        refused = ["[0.5, 1]", "3", "'text'", "None", "object()"]
         call = "pgboard.solve_csr(b'', {0}, {0}, b'', known=(b'', {0}))"
         status, said = self.mypy("-c", head + "\n".join(map(call.format, taken)))
         self.assertEqual(status, 0, said)
         status, said = self.mypy("-c", head + "\n".join(map(call.format, refused)))
-        lines = set(map(int, re.findall(r"(?m)^<string>:(\d+): error: Argument", said)))
+        lines = set(map(int, re.findall(r"(?m)^<string>:(\d+): error: (?:Argument|List item)", said)))
         first = head.count("\n") + 1
         self.assertEqual(lines, set(range(first, first + len(refused))), said)
         status, said = self.mypy("-c", f"{head}reveal_type(pgboard.solve_csr(b'', b'', b'', b'').winners)")
@@ -610,118 +701,6 @@ class Package(Tests):
             self.assertEqual(python(call, **here).communicate(timeout=60), ("libpgboard.so.0 ([0], [0])\n", ""))
             os.symlink(pgboard.library.path_of_library(), f"{folder}/python/pgboard/libpgboard.so")
             self.assertEqual(python(call, **here).communicate(timeout=60), (f"{folder}/python/pgboard/libpgboard.so ([0], [0])\n", ""))
-
-
-class Calls(Tests):
-    def test_run_in_other_threads_too(self):
-        found = []
-        threads = [threading.Thread(target=lambda: found.append(pgboard.solve(*TWO))) for _ in range(4)]
-        for it in threads:
-            it.start()
-        for it in threads:
-            it.join()
-        self.assertEqual(found, [([0, 1], [0, 1])] * 4)
-
-    def run_of(self, program):
-        run = python(ENDLESS + program)
-        out, err = run.communicate(timeout=60)
-        self.assertEqual((err, run.returncode), ("", 0), out)
-        return out
-
-    def test_an_interrupt_ends_a_long_call(self):
-        program = (
-            "for _ in range(4):\n"
-            "    try:\n"
-            "        interrupt(os.kill, os.getpid())\n"
-            "        pgboard.solve(*LARGE)\n"
-            "    except KeyboardInterrupt:\n"
-            "        has_ended()\n"
-            "print(min(LATE) < 1)\n"
-        )
-        # (other work on the machine may take a second once, and not four times)
-        self.assertEqual(self.run_of(program), "interrupted True 1 []\n" * 4 + "True\n")
-
-    def test_an_interrupt_at_a_terminal_ends_the_calls_of_all_threads(self):
-        # (which gets it to each process of the group, also to a child that has just begun)
-        program = (
-            "os.register_at_fork(after_in_child=lambda: time.sleep(0.3))\n"
-            "for pause in (0.6, 0):\n"
-            "    try:\n"
-            "        with ThreadPoolExecutor(3) as pool:\n"
-            "            calls = [pool.submit(pgboard.solve, *LARGE) for _ in range(3)]\n"
-            "            interrupt(os.killpg, os.getpid(), 3, pause)\n"
-            "            calls[0].result()\n"
-            "    except KeyboardInterrupt:\n"
-            "        has_ended()\n"
-            "    print([type(it.exception()).__name__ for it in calls])\n"
-        )
-        self.assertEqual(self.run_of(program), f"interrupted True 1 []\n{['KeyboardInterrupt'] * 3}\n" * 2)
-
-    def test_what_a_handler_raises_ends_a_long_call(self):
-        program = (
-            "def late(number, frame):\n"
-            "    raise TimeoutError\n"
-            "signal.signal(signal.SIGALRM, late)\n"
-            "try:\n"
-            "    signal.setitimer(signal.ITIMER_REAL, 0.2)\n"
-            "    pgboard.solve(*LARGE)\n"
-            "except TimeoutError:\n"
-            "    print(children())\n"
-        )
-        self.assertEqual(self.run_of(program), "[]\n")
-
-    def test_a_call_goes_on_where_interrupts_are_ignored(self):
-        program = (
-            "signal.signal(signal.SIGINT, signal.SIG_IGN)\n"
-            "interrupt(os.killpg, os.getpid())\n"
-            "def end():\n"
-            "    wait_for(lambda: hasattr(interrupt, 'sent'))\n"
-            "    time.sleep(0.5)\n"
-            "    end.begun = time.monotonic()\n"
-            "    [os.kill(int(it), signal.SIGKILL) for it in children(os.getpid())]\n"
-            "threading.Thread(target=end).start()\n"
-            "try:\n"
-            "    pgboard.solve(*LARGE)\n"
-            "except pgboard.OutOfMemory:\n"
-            "    print(time.monotonic() >= end.begun)\n"
-        )
-        self.assertEqual(self.run_of(program), "True\n")
-
-    def test_a_long_call_ends_with_its_process(self):
-        program = (
-            "def tell():\n"
-            "    wait_for(lambda: children(os.getpid()))\n"
-            "    print(*children(os.getpid()), flush=True)\n"
-            "threading.Thread(target=tell).start()\n"
-            "pgboard.solve(*LARGE)\n"
-        )
-        run = python(ENDLESS + program)
-        child = pathlib.Path("/proc", run.stdout.readline().strip(), "stat")
-        self.assertTrue(child.exists())
-        run.kill()
-        run.communicate(timeout=60)
-        ends = time.monotonic() + 60
-        with contextlib.suppress(OSError):
-            while " Z " not in child.read_text(encoding="ascii"):
-                self.assertLess(time.monotonic(), ends)
-                time.sleep(0.01)
-
-    def test_a_call_whose_process_fails_says_so(self):
-        program = (
-            "class Fails:\n"
-            "    def pgboard_solve(*arguments):\n"
-            "        os.kill(os.getpid(), signal.SIGSEGV)\n"
-            "pgboard.library.LIBRARY = Fails\n"
-            "try:\n"
-            "    pgboard.solve(*LARGE)\n"
-            "except RuntimeError as error:\n"
-            "    print(error)\n"
-        )
-        self.assertEqual(self.run_of(program), "a process of pgboard was ended by signal 11\n")
-
-    def test_works_where_children_are_not_waited_for(self):
-        program = "signal.signal(signal.SIGCHLD, signal.SIG_IGN)\nimport importlib\nimportlib.reload(pgboard.library)\nimportlib.reload(pgboard)\nprint(pgboard.solve(*LARGE)[0] == [0] * 200)\n"
-        self.assertEqual(self.run_of(program), "True\n")
 
 
 @unittest.skipUnless(networkx, "networkx is not installed")

@@ -16,27 +16,29 @@ Standard error says of each solver how it ended, what was settled of each
 player's part, and what was refused, with the vertex.
 """
 
-import contextlib
 import os
+import sys
+
+HERE = os.path.dirname(os.path.abspath(__file__))
+sys.path[1:1] = [os.path.dirname(HERE), os.path.join(HERE, "..", "..", "bindings", "python")]
+import lib
+
+import contextlib
 import re
 import shlex
 import signal
 import subprocess
-import sys
-import tempfile
 import threading
 import time
 
-HERE = os.path.dirname(os.path.abspath(__file__))
-sys.path[1:1] = [os.path.dirname(HERE), os.path.join(HERE, "..", "..", "bindings", "python")]
-import games
-from games import PLAYERS, Refused
+from lib import games
+from lib.games import PLAYERS, Refused
 
 try:
     import pgboard
 except ImportError as error:
-    print(f"referee: {error}", file=sys.stderr)
-    sys.exit(2)
+    # (--help needs no library)
+    pgboard, WHY = None, str(error)
 
 HELP = """
 examples:
@@ -102,6 +104,11 @@ class Game:
         return f"bad cycle at {place}" if isinstance(refused, pgboard.BadCycle) else f"{place} is settled for the other player"
 
 
+def end_all(solvers):
+    for it in solvers:
+        it.end("ended")
+
+
 def lines_of(text):
     """The lines of a solution's text: identifier, winner, and choice or None. What comes after the last semicolon is left out, since
     a solver may be ended as it prints."""
@@ -121,21 +128,24 @@ class Solver:
 
     def __init__(self, worker, command):
         self.worker, self.command, self.words = worker, command, shlex.split(command)
-        self.process, self.is_over, self.why = None, False, ""
+        self.process, self.is_over, self.why, self.starting = None, False, "", threading.Lock()
 
     def name(self):
         return f"solver {self.worker} ({self.command})"
 
     def run(self, text, limit, folder):
-        """Runs the command until it ends or the limit in seconds is over. Returns what it has printed."""
+        """Runs the command until it ends or the limit in seconds is over, unless it was ended before. Returns what it has printed."""
         paths = {"{game}": os.path.join(folder, "game.pg"), "{solution}": os.path.join(folder, f"{self.worker}.sol")}
         words = [re.sub(r"\{game\}|\{solution\}", lambda it: paths[it[0]], word) for word in self.words]
         writes_file = any("{solution}" in word for word in self.words)
         with contextlib.ExitStack() as open_files:
             given = subprocess.DEVNULL if any("{game}" in word for word in self.words) else open_files.enter_context(open(paths["{game}"], "rb"))
             out = subprocess.DEVNULL if writes_file else subprocess.PIPE
-            self.process = subprocess.Popen(words, stdin=given, stdout=out, start_new_session=True)
-        timer = threading.Timer(0 if self.why else limit, self.end, [f"ended after {limit:g} s"])
+            with self.starting:
+                if self.why:
+                    return ""
+                self.process = subprocess.Popen(words, stdin=given, stdout=out, start_new_session=True)
+        timer = threading.Timer(limit, self.end, [f"ended after {limit:g} s"])
         timer.start()
         printed = b"" if writes_file else self.process.stdout.read(MOST + 1)
         if len(printed) > MOST:
@@ -153,14 +163,17 @@ class Solver:
         """Ends the command and all that it has started."""
         if self.is_over:
             return
-        self.why = self.why or why
-        if self.process:
-            with contextlib.suppress(ProcessLookupError):
-                os.killpg(self.process.pid, signal.SIGKILL)
+        with self.starting:
+            self.why = self.why or why
+            if self.process:
+                with contextlib.suppress(ProcessLookupError):
+                    os.killpg(self.process.pid, signal.SIGKILL)
 
     def how_it_ended(self):
+        if self.why:
+            return self.why
         status = self.process.returncode
-        return self.why or (f"status {status}" if status >= 0 else f"signal {-status}")
+        return f"status {status}" if status >= 0 else f"signal {-status}"
 
 
 class Referee:
@@ -173,19 +186,15 @@ class Referee:
         self.posts = []
 
     def run(self):
-        with tempfile.TemporaryDirectory(prefix="pgboard-") as folder:
+        with games.folder() as folder, lib.undone(lambda: self.solvers, end_all):
             games.write(os.path.join(folder, "game.pg"), self.game.text)
             threads = [threading.Thread(target=self.serve, args=(it, folder), daemon=True) for it in self.solvers]
-            try:
-                for it in threads:
-                    it.start()
-                for it in threads:
-                    it.join()
-            finally:
-                for it in self.solvers:
-                    it.end("ended")
-        # (Ctrl-C does not reach Python during a call of the board)
-        signal.signal(signal.SIGINT, signal.SIG_DFL)
+            for it in threads:
+                it.start()
+            for it in threads:
+                it.join()
+        # (no signal reaches Python during a call of the board)
+        lib.on_signals(signal.SIG_DFL)
         before = self.game.board.settled
         self.game.board.finish()
         self.note(0, self.game.board.settled - before)
@@ -280,6 +289,8 @@ def main(words):
     parser.add_argument("--time", metavar="SECONDS", type=seconds, default=60, help="the time that each solver has (60)")
     parser.add_argument("--picture", metavar="FILE", type=svg_path, help="draw how many vertices each solver settled, over time, in .svg")
     given = parser.parse_args(words)
+    if not pgboard:
+        raise Refused(WHY)
     solvers = []
     for worker, command in enumerate(given.solver, 1):
         try:

@@ -1,8 +1,15 @@
 // Goes through the calls of include/pgboard.hpp. With the word `games`, reads games as numbers from standard input (n and m, owners,
 // priorities, starts, targets), and writes for each the winners and the choices that it got. The last line is 'N passed, M failed'.
+#include <array>
+#include <atomic>
+#include <cstdlib>
 #include <cstring>
 #include <functional>
 #include <iostream>
+#include <utility>
+#if __cplusplus >= 202002L
+#include <span>
+#endif
 
 #include "pgboard.hpp"
 
@@ -23,6 +30,174 @@ static bool refuses(std::uint32_t answer, std::uint64_t at, std::uint64_t to, co
         return fault.answer == answer && fault.at == at && fault.to == to && std::strcmp(fault.what(), pgboard_strerror(answer)) == 0;
     }
     return false;
+}
+
+// How many allocations of the library are still allowed; none is refused below 0. (Those of C++ are not the library's.)
+static std::atomic<int> allowed{-1};
+
+extern "C" void *__real_malloc(std::size_t size);
+extern "C" void *__wrap_malloc(std::size_t size)
+{
+    return allowed == 0 ? nullptr : (allowed > 0 ? --allowed : 0, __real_malloc(size));
+}
+extern "C" void *__real_realloc(void *at, std::size_t size);
+extern "C" void *__wrap_realloc(void *at, std::size_t size)
+{
+    return allowed == 0 ? nullptr : (allowed > 0 ? --allowed : 0, __real_realloc(at, size));
+}
+
+// Whether a call throws bad_alloc for each allocation that is refused, and else does what it does.
+static bool runs_out(const std::function<void()> &call)
+{
+    for (int first = 0;; first++) {
+        bool is_refused = false;
+        allowed = first;
+        try {
+            call();
+        } catch (const std::bad_alloc &) {
+            is_refused = true;
+        } catch (...) {
+            return allowed = -1, false;
+        }
+        allowed = -1;
+        if (!is_refused)
+            return first > 0;
+    }
+}
+
+// A game of own loops, each of one player, with his priority.
+static pgboard::game loops(std::uint32_t count, std::uint8_t player)
+{
+    pgboard::game loops{{}, {}, {0}, {}};
+    for (std::uint32_t v = 0; v < count; v++)
+        loops.owners.push_back(player), loops.priorities.push_back(2 - player), loops.targets.push_back(v), loops.starts.push_back(v + 1);
+    return loops;
+}
+
+// What runs at the next allocation of C++, as in the making of an exception.
+static void (*meanwhile)() = nullptr;
+
+void *operator new(std::size_t size)
+{
+    if (void (*call)() = std::exchange(meanwhile, nullptr))
+        call();
+    if (void *at = __real_malloc(size ? size : 1))
+        return at;
+    throw std::bad_alloc();
+}
+void operator delete(void *at) noexcept { std::free(at); }
+void operator delete(void *at, std::size_t) noexcept { std::free(at); }
+
+// Whether a refusal says its own place where another call is refused before the exception is made, as another thread's may be.
+static bool has_its_report()
+{
+    pgboard::game game = loops(20, 0);
+    const pgboard::solution right = pgboard::solve(game);
+    game.targets[7] = 99;
+    static bool was_refused;
+    return refuses(PGBOARD_UNKNOWN, 7, 99, [&] {
+               meanwhile = [] { was_refused = refuses(PGBOARD_LEAVES, 0, 1, [] { pgboard::check(two, {{0, 1}, {1, 1}}); }); };
+               pgboard::check(game, right);
+           })
+        && was_refused;
+}
+
+// What is in memory of other kinds than vectors, and a call that may not own it.
+static void views()
+{
+    const std::uint8_t owners[] = {0, 1};
+    const std::array<std::uint32_t, 2> priorities{2, 1};
+    const std::vector<std::uint32_t> starts{9, 0, 2, 3, 9};
+    const std::uint32_t targets[] = {0, 1, 1};
+    const pgboard::game_view game({owners, 2}, priorities, {starts.data() + 1, 3}, {targets, 3});
+    const auto found = pgboard::solve(game);
+    EXPECT((found.winners == std::vector<std::uint8_t>{0, 1}) && (found.choices == std::vector<std::uint32_t>{0, 1}));
+    const std::uint8_t known[] = {PGBOARD_NO_WINNER, 1};
+    EXPECT(pgboard::solve(game, {{known, 2}, found.choices}).winners == found.winners);
+    EXPECT((pgboard::check(game, {found.winners, {found.choices.data(), 2}}), true));
+    EXPECT(refuses(PGBOARD_SOLUTION, PGBOARD_ARRAY_CHOICES, 0, [&] { pgboard::check(game, {found.winners, {found.choices.data(), 1}}); }));
+    pgboard::board board(game);
+    // (the calls take no null pointer)
+    const std::vector<std::uint32_t> empty;
+    EXPECT(pgboard::span<const std::uint32_t>().data() && pgboard::span<const std::uint32_t>(empty).data() && pgboard::game_view().owners.data());
+    const std::uint32_t rows[] = {7, 1};
+    EXPECT(board.post(1, {rows + 1, 1}, {rows + 1, 1}).settled == 1);
+#if __cplusplus >= 202002L
+    EXPECT(pgboard::solve({std::span(owners), std::span(priorities), std::span(starts).subspan(1, 3), std::span(targets)}).choices == found.choices);
+    EXPECT(board.try_post(1, std::span(rows).last(1), std::span(rows).last(1)).answer == PGBOARD_POST_STALE);
+#endif
+}
+
+// Answers that are no errors, without an exception.
+static void answers()
+{
+    const std::uint64_t more = std::uint64_t{1} << 32; // 0 in 32 bits
+    const auto gave_up = pgboard::try_solve_within(five, 0);
+    EXPECT(!gave_up && gave_up.answer == PGBOARD_GAVE_UP);
+    const auto within = pgboard::try_solve_within(five, more);
+    EXPECT(within && within.answer == PGBOARD_OK && within.value.winners == pgboard::solve(five).winners && within.value.choices == pgboard::solve(five).choices);
+    EXPECT(pgboard::solve_within(five, more + 1).winners == within.value.winners);
+    EXPECT(pgboard::try_solve_within(pgboard::game{{}, {}, {0}, {}}, more).answer == PGBOARD_NO_VERTEX);
+    pgboard::board rest(five);
+    EXPECT(rest.try_finish_within(0) == PGBOARD_GAVE_UP && rest.entries() == 0 && rest.settled() == 0);
+    EXPECT(rest.try_finish_within(more) == PGBOARD_OK && rest.settled() == 5 && rest.solution().winners == within.value.winners);
+    pgboard::board board(two);
+    const auto posted = board.try_post(1, {1}, {1});
+    EXPECT(posted && posted.value.entry == 0 && posted.value.rest == 1 && posted.value.settled == 1);
+    const auto stale = board.try_post(1, {1}, {1}, 8);
+    EXPECT(!stale && stale.answer == PGBOARD_POST_STALE && stale.report.at == 0);
+    const auto open = board.try_post(0, {0}, {1});
+    EXPECT(!open && open.answer == PGBOARD_POST_OPEN && open.report.at == 0 && open.report.to == 1);
+    EXPECT(board.try_post(0, {}, {}).answer == PGBOARD_POST_SHAPE && board.entries() == 1);
+    EXPECT(board.try_finish_within(more) == PGBOARD_OK && board.settled() == 2);
+    EXPECT(board.entry(0).worker == 0);
+}
+
+// What only reads takes a board that is const, and the journal is gone through from the first entry on.
+static void readers()
+{
+    pgboard::board board(loops(40, 0));
+    const pgboard::board &same = board;
+    EXPECT(same.journal().begin() == same.journal().end() && same.journal().size() == 0);
+    for (std::uint32_t v = 0; v < 40; v += 2)
+        EXPECT(board.post(0, {v, v + 1}, {v, v + 1}, v).entry == v / 2);
+    std::uint32_t next = 0;
+    for (const pgboard::entry &it : same.journal()) {
+        EXPECT(it.worker == next && it.player == 0 && it.claimed == 2 && (it.vertices == std::vector<std::uint32_t>{next, next + 1}) && it.choices == it.vertices);
+        next += 2;
+    }
+    EXPECT(next == 40 && same.journal().size() == 20 && same.journal()[19].worker == 38 && same.entry(3).worker == 6);
+    EXPECT(std::distance(same.journal().begin(), same.journal().end()) == 20);
+    EXPECT(same.settled() == 40 && same.entries() == 20 && same.state().choices == same.solution().choices);
+    // entries that are added on the way follow
+    pgboard::board other(loops(10, 1));
+    std::uint32_t count = 0;
+    EXPECT(other.post(1, {0}, {0}).entry == 0);
+    for (const pgboard::entry &it : other.journal())
+        if (count = it.vertices[0] + 1; count < 10)
+            EXPECT(other.post(1, {count}, {count}).entry == count);
+    EXPECT(count == 10 && other.settled() == 10 && other.entry(0).worker == 0 && other.entry(9).worker == 0);
+}
+
+// Boards of other sizes are moved, and memory is refused.
+static void sizes_and_memory()
+{
+    pgboard::board board(two);
+    board = pgboard::board(loops(50, 1));
+    EXPECT(board.state().winners.size() == 50);
+    board.finish();
+    EXPECT(board.solution().winners == std::vector<std::uint8_t>(50, 1));
+    pgboard::board moved(std::move(board));
+    EXPECT(moved.solution().choices.size() == 50 && moved.settled() == 50);
+    moved = pgboard::board(two);
+    moved.finish();
+    EXPECT((moved.solution().winners == std::vector<std::uint8_t>{0, 1}));
+    EXPECT(runs_out([] { pgboard::solve(five); }));
+    EXPECT(runs_out([] { pgboard::solve_within(five, 9); }));
+    EXPECT(runs_out([] { pgboard::solve_text("9 1 1 9; 3 2 0 3, 9;"); }));
+    EXPECT(runs_out([] { pgboard::check(two, {{0, 1}, {0, 1}}); }));
+    EXPECT(runs_out([] { pgboard::board(two).finish(); }));
+    EXPECT(has_its_report());
 }
 
 static int games()
@@ -87,10 +262,14 @@ int main(int argc, char **argv)
     EXPECT(refuses(PGBOARD_BOARD_ENTRY, 2, 0, [&] { board.entry(2); }));
     board = pgboard::board(two);
     EXPECT(board.entries() == 0);
+    // the searches settle both vertices, and nothing is left that needs a step
+    board.finish_within(0);
+    EXPECT(board.solution().winners == found.winners && board.solution().choices == found.choices);
+    board = pgboard::board(five);
     EXPECT(refuses(PGBOARD_GAVE_UP, 0, 0, [&] { board.finish_within(0); }));
     EXPECT(board.entries() == 0 && board.settled() == 0);
     board.finish_within(9);
-    EXPECT(board.solution().winners == found.winners && board.solution().choices == found.choices);
+    EXPECT(board.solution().winners == pgboard::solve(five).winners && board.solution().choices == pgboard::solve(five).choices);
     // own loops of Even's, each with the priority 2, which he wins by staying: entries of 16 rows, of 17 and of the others
     pgboard::game loops{{}, {}, {0}, {}};
     for (std::uint32_t v = 0; v < 100; v++)
@@ -102,6 +281,10 @@ int main(int argc, char **argv)
         const auto long_entry = long_board.entry(number);
         EXPECT(long_entry.claimed == rows.size() && long_entry.vertices == rows && long_entry.choices == rows);
     }
+    views();
+    answers();
+    readers();
+    sizes_and_memory();
     std::cout << passed << " passed, " << failed << " failed\n";
     return failed != 0;
 }

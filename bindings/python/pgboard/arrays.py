@@ -3,19 +3,20 @@ read it."""
 
 from __future__ import annotations
 
+import operator
 import os
 from array import array
+from itertools import accumulate
 from typing import TYPE_CHECKING, Any, Dict, Iterable, List, NamedTuple, Optional, Protocol, Sequence, Tuple, Type, Union
 
 from . import faults
-from .library import NO_CHOICE, NO_WINNER
+from .library import NO_CHOICE, NO_WINNER, Ints
 
 if TYPE_CHECKING:
-    Ints = array[int]
     PathLike = os.PathLike[str]
 else:
-    # (these have no parameters before Python 3.9)
-    Ints, PathLike = array, os.PathLike
+    # (it has no parameters before Python 3.9)
+    PathLike = os.PathLike
 
 
 class HasBuffer(Protocol):
@@ -31,7 +32,17 @@ class HasArrayInterface(Protocol):
     def __array_interface__(self) -> Dict[str, Any]: ...
 
 
-Buffer = Union[bytes, bytearray, memoryview, Ints, HasBuffer, HasArrayInterface]
+class Rows(Protocol):
+    """A matrix of SciPy in the form `csr`, whose rows are what vertices lead to."""
+
+    @property
+    def indptr(self) -> Any: ...
+
+    @property
+    def indices(self) -> Any: ...
+
+
+Buffer = Union[bytes, bytearray, memoryview, Ints, HasBuffer, HasArrayInterface, Sequence[int]]
 Numbers = Iterable[int]
 MaybeNumbers = Iterable[Optional[int]]
 Text = Union[str, bytes]
@@ -46,6 +57,8 @@ class Solution(NamedTuple):
 
 # the formats of items that are integers in this machine's order of bytes, and those of them that C takes as they are
 INTEGERS = "?bBhHiIlLqQnN"
+# the greatest priority
+MOST = 2**31 - 1
 TAKEN = {"B": ("B", "b", "?"), "I": ("I", "i")}
 
 
@@ -69,6 +82,8 @@ def view_of(name: str, value: Buffer, code: str) -> memoryview:
     """A view of a buffer's memory, if C takes its items for those of this code; else of a copy with such items. TypeError for what is
     no contiguous buffer of integers."""
     needed = "a contiguous buffer of integers in one dimension is needed, not"
+    if isinstance(value, (list, tuple)):
+        return memoryview(listed(name, value, code))
     try:
         view = memoryview(value)  # type: ignore[arg-type]
     except (TypeError, ValueError, BufferError) as error:
@@ -82,6 +97,14 @@ def view_of(name: str, value: Buffer, code: str) -> memoryview:
     if view.format.lstrip("@=<") not in tuple(INTEGERS):
         raise TypeError(f"{name}: {needed} one of items {view.format!r} of {view.itemsize} bytes")
     return memoryview(fitting(code, integers(view)))
+
+
+def listed(name: str, values: Sequence[int], code: str) -> Ints:
+    """The numbers of a list as an array; TypeError, with its name, for other items."""
+    try:
+        return fitting(code, values)
+    except TypeError as error:
+        raise TypeError(f"{name}: a list of integers is needed: {error}") from error
 
 
 def numbers(code: str, values: Numbers, fault: Type[faults.Fault]) -> Ints:
@@ -118,8 +141,50 @@ def claims_of(winners: MaybeNumbers, choices: MaybeNumbers) -> Tuple[Ints, Ints]
     return numbers("B", [NO_WINNER if it is None else it for it in winners], faults.BadWinner), array("I", moves)
 
 
-def game_views(owners: Buffer, priorities: Buffer, indptr: Buffer, indices: Buffer) -> List[memoryview]:
-    return [view_of("owners", owners, "B"), view_of("priorities", priorities, "I"), view_of("indptr", indptr, "I"), view_of("indices", indices, "I")]
+def rows_of_matrix(indptr: Union[Buffer, Rows], indices: Optional[Buffer]) -> Tuple[Buffer, Buffer]:
+    """Two buffers as they are given, or those of a matrix that is given alone."""
+    if indices is not None:
+        return indptr, indices  # type: ignore[return-value]
+    if getattr(indptr, "format", None) != "csr":
+        raise TypeError(f"indices: without them a SciPy matrix in the form csr is needed for indptr, not {type(indptr).__name__}")
+    return indptr.indptr, indptr.indices  # type: ignore[union-attr]
+
+
+def game_views(owners: Buffer, priorities: Buffer, indptr: Buffer, indices: Buffer, dead_ends: bool = False, least: bool = False) -> List[memoryview]:
+    """The views of a game: of what is given, or of copies in the form that the library takes."""
+    views = [view_of("owners", owners, "B"), view_of("priorities", priorities, "I"), view_of("indptr", indptr, "I"), view_of("indices", indices, "I")]
+    if least:
+        views[1] = with_greatest(views[1])
+    return with_loops(*views) if dead_ends else views
+
+
+def with_greatest(priorities: memoryview) -> memoryview:
+    """Priorities of which the greatest decides, for those of which the least does: p becomes K - p, where K is the least even number that
+    is no less than any of them. (What is no priority stays, and is refused.)"""
+    held = integers(priorities)
+    most = max(held, default=0)
+    if min(held, default=0) < 0 or most > MOST:
+        return priorities
+    return memoryview(array("I", (most + most % 2 - it for it in held)))
+
+
+def with_loops(owners: memoryview, priorities: memoryview, indptr: memoryview, indices: memoryview) -> List[memoryview]:
+    """The game in which a vertex without successors leads to itself, with the priority that its owner loses by. (Where the arrays do not
+    fit, they stay, and are refused.)"""
+    starts, ranks = integers(indptr), array("I", priorities.tobytes())
+    dead = [v for v in range(min(len(owners), len(ranks), len(starts) - 1)) if starts[v] == starts[v + 1]]
+    fits = len(starts) == len(owners) + 1 and starts[0] == 0 and starts[-1] == len(indices) and all(map(operator.le, starts, starts[1:]))
+    if not dead or not fits:
+        return [owners, priorities, indptr, indices]
+    targets, begin = array("I"), 0
+    for v in dead:
+        ranks[v] = 1 - owners[v] % 2
+        targets.frombytes(indices[begin : starts[v]].tobytes())
+        targets.append(v)
+        begin = starts[v]
+    targets.frombytes(indices[begin:].tobytes())
+    added = accumulate(it == after for it, after in zip(starts, starts[1:]))
+    return [owners, memoryview(ranks), memoryview(array("I", [0, *map(operator.add, starts[1:], added)])), memoryview(targets)]
 
 
 def claim_views(winners: Buffer, choices: Buffer) -> List[memoryview]:
@@ -129,6 +194,7 @@ def claim_views(winners: Buffer, choices: Buffer) -> List[memoryview]:
 def as_given(fault: faults.UnknownSuccessor, indptr: memoryview, indices: Buffer) -> faults.UnknownSuccessor:
     """The fault of an unknown successor, with the number that the caller's buffer has."""
     start, end = integers(indptr)[fault.at : fault.at + 2]
-    row = integers(memoryview(indices))[start:end]  # type: ignore[arg-type]
+    row: Sequence[int] = indices if isinstance(indices, (list, tuple)) else integers(memoryview(indices))  # type: ignore[arg-type]
+    row = row[start:end]
     same = [it for it in row if it % 2**32 == fault.to] or [it for it in row if not 0 <= it < 2**32]
     return faults.UnknownSuccessor(fault.at, same[0])

@@ -11,7 +11,7 @@ __all__ = [
     "NoChoice", "BadChoice", "Leaves", "BadCycle", "KnownChoice", "KnownCycle", "KnownLost", "KnownLeaves",
     "TextTooLong", "NoToken", "NotExpected", "NumberTooLarge", "NoPlayer", "Stranger", "WrittenTwice", "NotWritten",
     "Closed", "Unsettled", "RefusedClaim", "BadPlayer", "BadClaimLengths", "BadShape", "ClaimCycle", "Lost", "Stale", "Open",
-    "GaveUp",
+    "GaveUp", "TimedOut", "Cancelled", "HelperFailed",
 ]  # fmt: skip
 
 # the arrays by the numbers of include/pgboard.h
@@ -225,8 +225,29 @@ class GaveUp(Fault):
     words = "the recursion needs more steps than it may take"
 
 
-# The exception of each answer of include/pgboard.h. Four are never handed on: the size of a struct (9), a board that is open (70) and
-# the number of an entry (72), which are right here, and a buffer that is too small (50), which is asked for again.
+class TimedOut(Fault, TimeoutError):
+    words = "the call took longer than its timeout"
+
+
+class Cancelled(Fault):
+    words = "the call was cancelled"
+
+
+class HelperFailed(Fault, RuntimeError):
+    """The process that makes long calls could not be started, or ended; `how` says it."""
+
+    def __init__(self, how: str) -> None:
+        super().__init__()
+        self.args = (how,)
+        self.how = how
+
+    def __str__(self) -> str:
+        return f"a helper process {self.how}"
+
+
+# The exception of each answer of include/pgboard.h, as tests/faults.py makes it. Four are never handed on: the size of
+# a struct (9), a board that is open (70) and the number of an entry (72), which are right here, and a buffer that is too small (50), which
+# is asked for again.
 FAULTS: Dict[int, Type[Fault]] = {
     1: OutOfMemory,
     2: BadLengths,

@@ -22,7 +22,7 @@ pub use Rattle.std.specs.declared.sync.Arc.{Arc}
 pub use Rattle.pg_game.proofs.Attract.{Attractor-idempotent, target_attracted}
 pub use Rattle.pg_game.proofs.Disjoint.{kept_other, kept_own, wins_disjoint}
 pub use Rattle.pg_game.proofs.Edges.{edge_inside, some_edge}
-pub use Rattle.pg_game.proofs.Grown.{grown_region}
+pub use Rattle.pg_game.proofs.GrownRegions.{grown_region}
 pub use Rattle.pg_game.proofs.Masks.{member_below}
 pub use Rattle.pg_game.proofs.Players.{is_same, not_own, not_same, own_or_other, same_is}
 pub use Rattle.pg_game.proofs.Walks.{ClosedWalk-weaker}
@@ -40,7 +40,7 @@ pub use Rattle.pg_game.specs.declared.player.Player.TheVariants.{Even, Odd}
 pub use Rattle.pg_game.specs.private.VertexSet.{without}
 pub use Rattle.pg_text.specs.Known.{choice_in_row, is_winner}
 pub use Rattle.pg_text.specs.Solution.{IsExactSolution}
-pub use Rattle.pg_dominion.proofs.Attracting.{read_set}
+pub use Rattle.pg_dominion.proofs.AttractionSteps.{read_set}
 pub use Rattle.pg_dominion.proofs.Named.{choice-back, choice-front, named-append, place_of}
 pub use Rattle.pg_dominion.proofs.Rows.{named-push, named_right}
 pub use Rattle.pg_dominion.specs.Attraction.{IsAttractedRow, IsAttraction}
@@ -48,12 +48,12 @@ pub use Rattle.pg_dominion.specs.Checked.{claim_rows}
 pub use Rattle.pg_dominion.specs.Claim.{AreRight, ClaimRows, IsGoodIn, IsRightRow, IsSound, choice_in, named}
 pub use Rattle.pg_dominion.specs.Fault.{IsClaimFault}
 pub use Rattle.pg_dominion.specs.declared.claim.Claim.{Claim}
-pub use Rattle.pg_finders.proofs.Solving.{choice_leads, kept_same}
+pub use Rattle.pg_finders.proofs.SolvedSubgames.{choice_leads, kept_same}
 pub use Rattle.pg_finders.specs.declared.inside.Copied.{Copied}
 pub use Rattle.pg_board.specs.Full.{AreStateRows, IsFull}
 pub use Rattle.pg_board.specs.Journal.{Answers, IsDominionAfter, IsLawful, Journal, attracted_rows, claimed_rows, number_settled, settled_by, state_of}
 pub use Rattle.pg_board.specs.Order.{Posts}
-pub use Rattle.pg_board.specs.Play.{Play}
+pub use Rattle.pg_board.specs.BoardRecord.{BoardRecord}
 pub use Rattle.pg_board.specs.Post.{Adds, AnswersDominion, SettlesUnlessMemory}
 pub use Rattle.pg_board.specs.Refusal.{IsLost, Refuses, refusal_of}
 pub use Rattle.pg_board.specs.State.{IsDominion, IsGoodOn, IsLawfulState, State, choices, is_unsettled, rest_of, settled, unsettled}

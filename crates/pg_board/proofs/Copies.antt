@@ -2,9 +2,9 @@
 use Rattle.pg_board.proofs.Common.{rules, ◌≡◌, ℕ, inl, inr, length, ltb-true, ◌∙◌, ap, Some, take-length, or_left, or_right, Player, Graph, IsGame, edge_inside}
 use Rattle.pg_board.proofs.Common.{In, union, KeptEdge, named_right, ClaimRows, named, choice_in, IsGoodIn, choice_leads, State, settled, unsettled}
 use Rattle.pg_board.proofs.Common.{IsLawfulState, Journal, state_of, IsLawful, IsDominionAfter}
-use Rattle.pg_finders.proofs.Solving.{kept_leads}
+use Rattle.pg_finders.proofs.SolvedSubgames.{kept_leads}
 use Rattle.pg_board.proofs.Numbers.{lawful_now}
-use Rattle.pg_board.proofs.Whole.{part_of, not_to_other, all_of}
+use Rattle.pg_board.proofs.WholeAttractor.{part_of, not_to_other, all_of}
 
 module _ (g : Graph) (game : IsGame g) (st : State) (lawful : IsLawfulState g st) (p : Player) (rows : ClaimRows)
     (good : IsGoodIn g (unsettled g st) p rows) where

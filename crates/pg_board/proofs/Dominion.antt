@@ -4,10 +4,10 @@ use Rattle.pg_board.proofs.Common.{if◌then◌else◌, Contains, false_from_ne_
 use Rattle.pg_board.proofs.Common.{opponent, Graph, In, no_vertices, union, Choices, kept, KeptEdge, Wins, ClosedWalk-weaker, wins_disjoint, grown_region}
 use Rattle.pg_board.proofs.Common.{ClaimRows, named, choice_in, named_right, kept_same, is_winner, State, settled, choices, is_unsettled, rest_of, IsGoodOn}
 use Rattle.pg_board.proofs.Common.{IsDominion, IsLawfulState, Journal, state_of, IsLawful, IsDominionAfter}
-use Rattle.pg_game.proofs.Grown.{Grows}
+use Rattle.pg_game.proofs.GrownRegions.{Grows}
 use Rattle.pg_board.proofs.RestIsGood.{in_rest, named_rest}
 use Rattle.pg_board.proofs.Numbers.{lawful_now}
-use Rattle.pg_board.proofs.Push.{open_unsettled, settled_shut, neither_open}
+use Rattle.pg_board.proofs.PushedEntry.{open_unsettled, settled_shut, neither_open}
 
 pub state_append : (xs ys : Journal) (v : ℕ) → state_of (xs ++ ys) v ≡ (if is_unsettled (state_of xs v) then state_of ys v else state_of xs v)
 state_append [] ys v = refl

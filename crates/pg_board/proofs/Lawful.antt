@@ -5,7 +5,7 @@ use Rattle.pg_board.proofs.Common.{State, IsGoodOn, is_unsettled, Journal, state
 use Rattle.std.proofs.lemmas.Grind.{flat_map-append}
 use Rattle.pg_board.proofs.RestIsGood.{vertices}
 use Rattle.pg_board.proofs.Distinct.{AllRows, distinct-append, each_settled}
-use Rattle.pg_board.proofs.Push.{IsAdded, lawful_state, own_claim_good, own_claim_answered, once_rows, each_open}
+use Rattle.pg_board.proofs.PushedEntry.{IsAdded, lawful_state, own_claim_good, own_claim_answered, once_rows, each_open}
 
 last_cases : (j : Journal) (e f : Entry) (k : ℕ) → slice_get (j ++ e ∷ []) k ≡ Some f → (slice_get j k ≡ Some f) ⊎ ((k ≡ length j) × (e ≡ f))
 last_cases [] e f zero h = inr (refl, cc h)

@@ -3,7 +3,7 @@ use Rattle.std.specs.Prelude.{◌≡◌, ◌≤◌, ◌++◌, Bool, List, length
 use Rattle.std.specs.List.{AllByRecursion}
 use Rattle.pg_game.specs.declared.player.Player.{Player}
 use Rattle.pg_board.specs.declared.journal.Entry.{Entry}
-use Rattle.pg_board.specs.Play.{Play}
+use Rattle.pg_board.specs.BoardRecord.{BoardRecord}
 use Rattle.pg_board.specs.Journal.{Journal}
 
 -- entries of worker 0, at most one for each of the players, in their order
@@ -13,9 +13,16 @@ pub record AreOfCaller (players : List Player) (entries : Journal) : Type 0 wher
   pub order : map (λ e. e.player) entries ≡ filter posted players
 
 -- the same board with more entries, of worker 0: at most one for each of the players, in their order
-pub record IsLater (players : List Player) (old new : Play) : Type 0 where
+pub record IsLater (players : List Player) (old new : BoardRecord) : Type 0 where
   pub graph : new.graph ≡ old.graph
   pub added : List Entry
   pub journal : new.journal ≡ old.journal ++ added
   pub few : length added ≤ length players
   pub by_caller : AreOfCaller players added
+
+-- the same board with more entries, each of worker 0
+pub record IsContinued (old new : BoardRecord) : Type 0 where
+  pub graph : new.graph ≡ old.graph
+  pub added : Journal
+  pub journal : new.journal ≡ old.journal ++ added
+  pub worker : AllByRecursion (λ e. e.worker ≡ 0) added

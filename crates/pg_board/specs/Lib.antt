@@ -3,10 +3,11 @@ pub mod Journal
 pub mod Order
 pub mod Laws
 pub mod Refusal
-pub mod Play
+pub mod BoardRecord
 pub mod Post
 pub mod Shares
 pub mod Full
 pub mod Finish
+pub mod Work
 pub mod Office
 pub mod private

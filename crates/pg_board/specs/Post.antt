@@ -11,11 +11,11 @@ use Rattle.pg_board.specs.State.{State, settled, rest_of}
 use Rattle.pg_dominion.specs.declared.claim.Claim.{Claim}
 use Rattle.pg_board.specs.declared.journal.Entry.{Entry}
 use Rattle.pg_board.specs.declared.journal.Posted.{Posted}
-use Rattle.pg_board.specs.Play.{Play}
+use Rattle.pg_board.specs.BoardRecord.{BoardRecord}
 use Rattle.pg_board.specs.Journal.{state_of, Answers}
 
 -- one entry, with the worker's number, that answers the claim, and its numbers
-pub record Adds (old new : Play) (worker : ℕ) (claim : Claim) (posted : Posted) : Type 0 where
+pub record Adds (old new : BoardRecord) (worker : ℕ) (claim : Claim) (posted : Posted) : Type 0 where
   pub entry : Entry
   pub journal : new.journal ≡ old.journal ++ entry ∷ []
   pub answers : Answers old.graph (state_of old.journal) claim.player claim.rows entry
@@ -35,12 +35,12 @@ AnswersDominion st rows (Err (refusal.Lost v)) = ⊥
 AnswersDominion st rows (Err (refusal.Open v w)) = ⊥
 
 -- the player then has what his old vertices and the claim's attract, and the opponent the same as before
-pub record SettlesDominion (old new : Play) (p : Player) (rows : ClaimRows) : Type 0 where
+pub record SettlesDominion (old new : BoardRecord) (p : Player) (rows : ClaimRows) : Type 0 where
   pub own : (v : ℕ) → In (settled (state_of new.journal) p) v ↔ Attractor old.graph p (all_vertices old.graph)
       (union (settled (state_of old.journal) p) (named rows)) v
   pub other : (v : ℕ) → settled (state_of new.journal) (opponent p) v ≡ settled (state_of old.journal) (opponent p) v
 
-abbrev pub SettlesUnlessMemory : Play → Play → Player → ClaimRows → Result Posted Refusal → Type 0
+abbrev pub SettlesUnlessMemory : BoardRecord → BoardRecord → Player → ClaimRows → Result Posted Refusal → Type 0
 SettlesUnlessMemory old new p rows (Ok posted) = SettlesDominion old new p rows
 SettlesUnlessMemory old new p rows (Err refusal.Memory) = Unit {0}
 SettlesUnlessMemory old new p rows (Err other) = SettlesDominion old new p rows

@@ -5,3 +5,4 @@ pub mod Contents
 pub mod OpenEdges
 pub mod Growth
 pub mod Growing
+pub mod Office

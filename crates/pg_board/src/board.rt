@@ -1,20 +1,18 @@
 //! The board: a game, the journal of its settled vertices, and tables of the journal's state.
 //! The invariant of its type is that the journal is lawful, so every board has a lawful one.
 
-ghost use Rattle.std.specs.Prelude.{◌≡◌, ◌≤◌, ℕ, [], length, IfOk, IfErr, OnErr, IsTrue, IsSome, IfSome, ◌↔◌, OnOk, ◌∷◌, true, false};
+ghost use Rattle.std.specs.Prelude.{◌≡◌, ◌≤◌, ℕ, [], length, take, IfOk, IfErr, OnErr, IsTrue, IsSome, IfSome, ◌↔◌};
 ghost use Rattle.pg_game.specs.declared.player.Player.{Player};
-ghost use Rattle.pg_game.specs.declared.player.Player.TheVariants.{Even, Odd};
 ghost use Rattle.pg_game.specs.Graph.{IsGame};
 ghost use Rattle.pg_game.specs.Limits.{IsWithinLimits};
 ghost use Rattle.pg_game.specs.VertexSet.{members};
 ghost use Rattle.pg_dominion.specs.Claim.{ClaimRows, IsGoodIn, IsSound};
-ghost use Rattle.pg_finders.specs.Claims.{AreClaims};
 ghost use Rattle.pg_dominion.specs.Checked.{claim_rows, claim_of, AgreesWithGame};
 ghost use Rattle.pg_board.specs.State.{unsettled, rest_of, IsGoodOn, choices, winner_in};
 ghost use Rattle.pg_board.specs.Journal.{state_of, IsLawful, IsDominionAfter, number_settled, settled_by};
 ghost use Rattle.pg_board.specs.Full.{IsFull, AreStateRows};
-ghost use Rattle.pg_board.specs.Finish.{IsLater};
-ghost use Rattle.pg_board.specs.private.Contents.{IsOf, play_of};
+ghost use Rattle.pg_board.specs.private.Contents.{IsOf, board_record};
+ghost use Rattle.pg_board.specs.private.Regions.{IsBoard};
 ghost use Rattle.pg_text.specs.Solution.{IsExactSolution};
 ghost use Rattle.pg_board.specs.Refusal.{Refuses, RefusesChecked, IsOfState};
 ghost use Rattle.pg_board.specs.Post.{Adds, AnswersDominion, SettlesUnlessMemory};
@@ -23,7 +21,7 @@ use crate::contents::Contents;
 use crate::journal::{Entry, Posted, Refusal};
 use crate::regions::Regions;
 use pg_dominion::{Checked, Claim, judge_claim};
-use pg_finders::{Copied, Inside, Solved, zielonka, zielonka_within};
+use pg_finders::{Copied, Inside};
 use pg_game::{Game, Memory, Player};
 use pg_text::Solution;
 use std::alloc::Global;
@@ -32,15 +30,15 @@ use std::marker::Model;
 /// A game, and the journal of its settled vertices. The board checks every claim.
 #[derive(Drop)]
 pub struct Board<'g> {
-    game: &'g Game,
-    contents: Contents,
+    pub(crate) game: &'g Game,
+    pub(crate) contents: Contents,
 }
 
 impl<'g> Model for Board<'g> {
-    ghost use Rattle.pg_board.specs.Play.{Play};
+    ghost use Rattle.pg_board.specs.BoardRecord.{BoardRecord};
     ghost use Rattle.pg_board.specs.private.Regions.{IsBoard};
 
-    ghost Value = { Play };
+    ghost Value = { BoardRecord };
 
     ghost view = { λ b. record { graph = b.game.now; journal = b.contents.entries.items } };
 
@@ -68,7 +66,7 @@ impl<'g> Board<'g> {
     /// A board of these contents.
     pub(crate) fn attach(game: &'g Game, contents: Contents) -> Board<'g>
         requires { IsOf game.now contents }
-        ensures { result ≡ play_of game.now contents }
+        ensures { result ≡ board_record game.now contents }
     {
         Board { game, contents }
     }
@@ -76,7 +74,7 @@ impl<'g> Board<'g> {
     /// The contents, without their game.
     pub(crate) fn detach(self) -> Contents
         ensures contents { IsOf self.entry.graph result }
-        ensures board { play_of self.entry.graph result ≡ self.entry }
+        ensures board { board_record self.entry.graph result ≡ self.entry }
     {
         self.contents
     }
@@ -225,44 +223,6 @@ impl<'g> Board<'g> {
         self.contents.solution(alloc, self.game)
     }
 
-    /// Settles all that is unsettled by Zielonka's recursion (1998), as worker 0: Even's part and then Odd's, each as one
-    /// entry unless it has no vertex. A full board is unchanged. The only error is `Memory`, after which nothing has changed.
-    pub fn finish(&mut self, alloc: Global) -> Result<(), Memory>
-        ensures lawful { IsLawful self.new.graph self.new.journal }
-        ensures full { OnOk result (IsFull self.new.graph (state_of self.new.journal)) }
-        ensures later { OnOk result (IsLater (Even ∷ Odd ∷ []) self.old self.new) }
-        ensures unchanged { OnErr result (self.new ≡ self.old) }
-    {
-        if self.contents.is_full(self.game) {
-            return Ok(());
-        }
-        let copied = self.copy(alloc)?;
-        let solved = zielonka(alloc, &copied.inside)?;
-        self.settle_solved(alloc, &solved)
-    }
-
-    /// The same as `finish`, unless the recursion needs more steps than these (`zielonka_within`). False if it gave up: then some
-    /// vertex is unsettled, and nothing has changed.
-    pub fn finish_within(&mut self, alloc: Global, steps: u64) -> Result<bool, Memory>
-        ensures lawful { IsLawful self.new.graph self.new.journal }
-        ensures game { self.new.graph ≡ self.old.graph }
-        ensures full { IfOk result (λ done. done ≡ true → IsFull self.new.graph (state_of self.new.journal)) }
-        ensures later { IfOk result (λ done. done ≡ true → IsLater (Even ∷ Odd ∷ []) self.old self.new) }
-        ensures gave_up { IfOk result (λ done. done ≡ false → self.new ≡ self.old) }
-        ensures unsettled { IfOk result (λ done. done ≡ false → IsFull self.old.graph (state_of self.old.journal) → ⊥) }
-        ensures unchanged { OnErr result (self.new ≡ self.old) }
-    {
-        if self.contents.is_full(self.game) {
-            return Ok(true);
-        }
-        let copied = self.copy(alloc)?;
-        let Some(solved) = zielonka_within(alloc, &copied.inside, steps)? else {
-            return Ok(false);
-        };
-        self.settle_solved(alloc, &solved)?;
-        Ok(true)
-    }
-
     /// The journal; the board is given up.
     pub fn into_entries(self) -> Vec<Entry>
         ensures { result.items ≡ self.entry.journal }
@@ -270,24 +230,15 @@ impl<'g> Board<'g> {
         self.detach().entries
     }
 
-    /// Settles two claims that share out the unsettled part. All memory is allocated before the board changes.
-    fn settle_solved(&mut self, alloc: Global, solved: &Solved) -> Result<(), Memory>
-        requires { AreClaims self.old.graph (unsettled self.old.graph (state_of self.old.journal)) solved.now.even solved.now.odd }
-        ensures lawful { IsLawful self.new.graph self.new.journal }
-        ensures full { OnOk result (IsFull self.new.graph (state_of self.new.journal)) }
-        ensures later { OnOk result (IsLater (Even ∷ Odd ∷ []) self.old self.new) }
-        ensures unchanged { OnErr result (self.new ≡ self.old) }
+    /// Takes the board back to the time when it had so many entries, and these tables.
+    pub(crate) fn rewind(&mut self, entries: usize, regions: Regions, number: u32)
+        requires { IsBoard self.old.graph (take entries self.old.journal) regions number }
+        ensures graph { self.new.graph ≡ self.old.graph }
+        ensures journal { self.new.journal ≡ take entries self.old.journal }
     {
-        // for the proof: the graph is a game
-        let n = self.game.len() as usize;
-        let even_rows = Vec::with_capacity(alloc, n)?;
-        let odd_rows = Vec::with_capacity(alloc, n)?;
-        self.contents.entries.reserve(2)?;
-        self.contents
-            .settle_dominion(self.game, &solved.even, even_rows);
-        self.contents
-            .settle_dominion(self.game, &solved.odd, odd_rows);
-        Ok(())
+        self.contents.entries.truncate(entries);
+        self.contents.regions = regions;
+        self.contents.number = number;
     }
 
     /// The same as `post` for a claim that is known to be sound.

@@ -1,18 +1,16 @@
 //! What a board stores beside its game: the journal, and tables of the journal's state. The calls that write them take no
 //! memory, so their callers have it all before the board changes.
 
-ghost use Rattle.std.specs.Prelude.{◌≡◌, ◌≤◌, ◌<◌, ◌+◌, ◌↔◌, ◌∷◌, ℕ, [], length, IfOk, IsTrue, IsSome, IfSome, vec_capacity, vec_len};
+ghost use Rattle.std.specs.Prelude.{◌≡◌, ◌≤◌, ◌<◌, ◌↔◌, length, IfOk, IsTrue, IsSome, IfSome, vec_capacity, vec_len};
 ghost use Rattle.pg_board.specs.State.{rest_of, IsGoodOn};
-ghost use Rattle.pg_board.specs.Journal.{state_of, IsDominionAfter};
+ghost use Rattle.pg_board.specs.Journal.{state_of};
 ghost use Rattle.pg_board.specs.Full.{IsFull, AreStateRows};
-ghost use Rattle.pg_board.specs.Finish.{IsLater};
 ghost use Rattle.pg_board.specs.Post.{Adds};
-ghost use Rattle.pg_board.specs.private.Contents.{IsOf, Settles, play_of};
+ghost use Rattle.pg_board.specs.private.Contents.{IsOf, board_record};
 ghost use Rattle.pg_text.specs.Solution.{IsExactSolution};
 
 use crate::journal::{Entry, Posted};
 use crate::regions::Regions;
-use pg_dominion::Claim;
 use pg_game::{Game, Memory, Player, Sequence};
 use pg_text::Solution;
 use std::alloc::Global;
@@ -50,28 +48,6 @@ impl Contents {
         }))
     }
 
-    /// Settles what is unsettled of a claim that was a dominion at some time, in one entry of worker 0; if nothing is, adds none.
-    /// The rows are an empty list with capacity for every vertex.
-    pub fn settle_dominion(&mut self, game: &Game, claim: &Claim, mut rows: Vec<(u32, Option<u32>)>)
-        requires board { IsOf game.now self.old }
-        requires dominion { 0 < length claim.now.rows
-            → (k : ℕ) × IsDominionAfter game.now self.old.entries.items k claim.now.player claim.now.rows }
-        requires rows { (rows.items ≡ []) × (length game.now ≤ vec_capacity rows) }
-        requires spare { vec_len self.old.entries < vec_capacity self.old.entries }
-        ensures board { IsOf game.now self.new }
-        ensures settles { Settles self.new.entries.items claim.now.player claim.now.rows }
-        ensures later { IsLater (claim.now.player ∷ []) (play_of game.now self.old) (play_of game.now self.new) }
-        ensures spare { vec_capacity self.new.entries ≡ vec_capacity self.old.entries }
-    {
-        // for the proof: the graph is a game
-        let _n = game.len();
-        self.regions.rest_of(claim, &mut rows);
-        if rows.is_empty() {
-            return;
-        }
-        self.enter(game, 0, claim.player, rows);
-    }
-
     /// Settles the rest and what it attracts, in one entry. The rows have capacity for every vertex, and the journal for one
     /// more entry.
     pub fn enter(
@@ -86,7 +62,7 @@ impl Contents {
         requires unsettled { rest_of (state_of self.old.entries.items) rows.items ≡ rows.items }
         requires spare { (length game.now ≤ vec_capacity rows) × (vec_len self.old.entries < vec_capacity self.old.entries) }
         ensures board { IsOf game.now self.new }
-        ensures added { Adds (play_of game.now self.old) (play_of game.now self.new) worker (record { player = player; rows = rows.items }) result }
+        ensures added { Adds (board_record game.now self.old) (board_record game.now self.new) worker (record { player = player; rows = rows.items }) result }
         ensures spare { vec_capacity self.new.entries ≡ vec_capacity self.old.entries }
     {
         // for the proof: the graph is a game, and so small that the numbers of its vertices add up without overflow

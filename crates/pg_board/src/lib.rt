@@ -5,13 +5,16 @@
 
 mod board;
 mod contents;
+mod finish;
 mod journal;
 pub mod laws;
 mod office;
+mod options;
 mod regions;
 mod session;
 
 pub use board::Board;
 pub use journal::{Entry, Posted, Refusal};
 pub use office::{Office, Share};
+pub use options::{BUDGET, Options};
 pub use session::Session;

@@ -7,7 +7,10 @@ ghost use Rattle.pg_game.specs.Specification.{max_vertices};
 ghost use Rattle.pg_board.specs.Journal.{IsLawful, number_settled};
 ghost use Rattle.std.specs.Sync.Mutex.{mutex_guard_value};
 ghost use Rattle.pg_board.specs.Shares.{AreExact};
-ghost use Rattle.pg_board.specs.Office.{IsCopyOfSome, IsAnswerOfSome, IsCheckedAnswerOfSome};
+ghost use Rattle.pg_board.specs.Office.{IsCopyOfSome, IsPostAnswer, IsAnswerOfSome, IsCheckedAnswer, IsCheckedAnswerOfSome};
+ghost use Rattle.pg_board.specs.Post.{Adds};
+ghost use Rattle.pg_board.specs.private.Office.{IsLawfulBoard};
+ghost use Rattle.pg_dominion.specs.Checked.{claim_of};
 
 use crate::board::Board;
 use crate::journal::{Posted, Refusal};
@@ -157,12 +160,7 @@ impl<'g, L: Ledger> Office<'g, L> {
         ensures within { IfOk result (λ n. share.new ≤ max_vertices) }
         ensures unchanged { OnErr result (share.new ≡ share.old) }
     {
-        let mut locked = self.lock_for(rt, share);
-        let LockedBoard { board, book } = &mut *locked;
-        // for the proof: the invariant of the board before the post
-        let _game = board.game();
-        let posted = board.post(alloc, worker, claim)?;
-        Ok(share.raise(book, board, posted))
+        self.lock_for(rt, share).post(alloc, share, worker, claim)
     }
 
     /// The same as `post` for a checked claim: it searches for no closed walk under the lock.
@@ -179,12 +177,8 @@ impl<'g, L: Ledger> Office<'g, L> {
         ensures within { IfOk result (λ n. share.new ≤ max_vertices) }
         ensures unchanged { OnErr result (share.new ≡ share.old) }
     {
-        let mut locked = self.lock_for(rt, share);
-        let LockedBoard { board, book } = &mut *locked;
-        // for the proof: the invariant of the board before the claim is settled
-        let _game = board.game();
-        let posted = board.settle(alloc, worker, checked)?;
-        Ok(share.raise(book, board, posted))
+        self.lock_for(rt, share)
+            .settle(alloc, share, worker, checked)
     }
 
     /// Waits for the lock and copies the unsettled part of the board, which has at least the share's amount settled. The
@@ -227,4 +221,52 @@ pub(crate) struct LockedBoard<'g, L: Ledger> {
     board: Board<'g>,
     book: Book<L>,
     ghost exact: { book.total ≡ number_settled board.journal },
+}
+
+impl<'g, L: Ledger> LockedBoard<'g, L> {
+    /// The call of this board, with this worker's number. The share and the book rise by the number that it settles.
+    fn post(
+        &mut self,
+        alloc: Global,
+        share: &mut Share<L>,
+        worker: u32,
+        claim: &Claim,
+    ) -> Result<u32, Refusal>
+        requires { share.old ≤ number_settled self.old.board.journal }
+        ensures board { IsLawfulBoard self.old.board }
+        ensures posted { IfOk result (λ n. (posted : Posted) × Adds self.old.board self.new.board worker claim.now posted × (n ≡ posted.settled)) }
+        ensures answer { IsPostAnswer self.old.board.graph self.old.board.journal claim.now.player claim.now.rows result }
+        ensures added { IfOk result (λ n. (1 ≤ n) × (share.new ≡ share.old + n)) }
+        ensures within { IfOk result (λ n. share.new ≤ max_vertices) }
+        ensures unchanged { OnErr result ((share.new ≡ share.old) × (self.new.board ≡ self.old.board)) }
+    {
+        let LockedBoard { board, book } = self;
+        // for the proof: the invariant of the board before the post
+        let _game = board.game();
+        let posted = board.post(alloc, worker, claim)?;
+        Ok(share.raise(book, board, posted))
+    }
+
+    /// The same as `post` for a checked claim.
+    fn settle(
+        &mut self,
+        alloc: Global,
+        share: &mut Share<L>,
+        worker: u32,
+        checked: &Checked,
+    ) -> Result<u32, Refusal>
+        requires { share.old ≤ number_settled self.old.board.journal }
+        ensures board { IsLawfulBoard self.old.board }
+        ensures posted { IfOk result (λ n. (posted : Posted) × Adds self.old.board self.new.board worker (claim_of checked.now) posted × (n ≡ posted.settled)) }
+        ensures answer { IsCheckedAnswer self.old.board.graph self.old.board.journal checked.now result }
+        ensures added { IfOk result (λ n. (1 ≤ n) × (share.new ≡ share.old + n)) }
+        ensures within { IfOk result (λ n. share.new ≤ max_vertices) }
+        ensures unchanged { OnErr result ((share.new ≡ share.old) × (self.new.board ≡ self.old.board)) }
+    {
+        let LockedBoard { board, book } = self;
+        // for the proof: the invariant of the board before the claim is settled
+        let _game = board.game();
+        let posted = board.settle(alloc, worker, checked)?;
+        Ok(share.raise(book, board, posted))
+    }
 }

@@ -2,8 +2,8 @@
 //! Attraction changes them in place (Zielonka 1998): an attracted vertex is settled at once, and each vertex of the opponent
 //! watches its first unsettled successor. A watch only moves forward, as long as the board exists.
 
-ghost use Rattle.std.specs.Prelude.{◌≡◌, ◌<◌, ◌==◌, ◌^◌, ◌≤◌, if◌then◌else◌, ℕ, [], length, map, nat_eq, true, false, Some, None, IfOk, MatchOption};
-ghost use Rattle.std.specs.Prelude.{slice_set, slice_get, slice_index, vec_capacity};
+ghost use Rattle.std.specs.Prelude.{◌≡◌, ◌<◌, ◌==◌, ◌≤◌, if◌then◌else◌, ℕ, [], length, map, nat_eq, true, false, Some, None, IfOk, MatchOption};
+ghost use Rattle.std.specs.Prelude.{slice_set, slice_get, vec_capacity};
 ghost use Rattle.std.specs.List.{IsDistinct};
 ghost use Rattle.std.specs.List.Sorted.{IsStrictlyIncreasing};
 ghost use Rattle.pg_board.specs.State.{settled, is_unsettled, rest_of};
@@ -14,7 +14,6 @@ ghost use Rattle.pg_game.specs.Subgame.{IsSubgame};
 ghost use Rattle.pg_game.specs.VertexSet.{members, In, Within, union};
 ghost use Rattle.pg_dominion.specs.Claim.{named, IsRightRow, AreRight};
 ghost use Rattle.pg_dominion.specs.AttractorState.{AttractsNoFurther};
-ghost use Rattle.pg_dominion.specs.private.Attracting.{ArePassed};
 ghost use Rattle.pg_board.specs.private.Growth.{open_before, IsGrowing, Grows};
 ghost use Rattle.pg_game.specs.Least.{NoneHas, IsLeast};
 ghost use Rattle.pg_board.specs.Refusal.{IsLost};
@@ -46,6 +45,19 @@ impl Regions {
             table: vec![in alloc; VertexState::Unsettled; n as usize]?,
             unsettled: Mask::full(alloc, n)?,
             passed: vec![in alloc; 0u32; n as usize]?,
+        })
+    }
+
+    /// A copy of the tables. The only error is `Memory`.
+    pub fn copy(&self, alloc: Global) -> Result<Regions, Memory>
+        ensures table { IfOk result (λ r. r.table.items ≡ self.now.table.items) }
+        ensures mask { IfOk result (λ r. r.unsettled ≡ self.now.unsettled) }
+        ensures passed { IfOk result (λ r. r.passed.items ≡ self.now.passed.items) }
+    {
+        Ok(Regions {
+            table: Vec::from_slice(alloc, self.table.as_slice())?,
+            unsettled: self.unsettled.copy(alloc)?,
+            passed: Vec::from_slice(alloc, self.passed.as_slice())?,
         })
     }
 
@@ -207,7 +219,7 @@ impl Regions {
     }
 
     /// Moves the vertex's watch forward. Returns whether it has an unsettled successor.
-    fn moves_watch(&mut self, game: &Game, v: u32) -> bool
+    fn move_watch(&mut self, game: &Game, v: u32) -> bool
         requires regions { AreRegions game.now self.old }
         requires vertex { v < length game.now }
         ensures regions { AreRegions game.now self.new }
@@ -217,9 +229,12 @@ impl Regions {
         ensures none { result ≡ false → (w : ℕ) → HasEdge game.now v w → members self.old.unsettled w ≡ false }
     {
         let successors = game.successors(v);
-        let at = first_unsettled(successors, &self.unsettled, self.passed[v as usize]);
+        let end = successors.len() as u32;
+        let at = self
+            .unsettled
+            .first_of(successors, self.passed[v as usize], end);
         self.passed[v as usize] = at;
-        (at as usize) < successors.len()
+        at < end
     }
 }
 
@@ -251,8 +266,8 @@ impl AttractorState for Regions {
         self.unsettled.has(v)
     }
 
-    fn has_way_out(&mut self, game: &Game, _list: &Vec<(u32, Option<u32>)>, v: u32) -> bool {
-        self.moves_watch(game, v)
+    fn find_way_out(&mut self, game: &Game, _list: &Vec<(u32, Option<u32>)>, v: u32) -> bool {
+        self.move_watch(game, v)
     }
 
     fn take(
@@ -331,13 +346,14 @@ struct Bounds<'a> {
     regions: &'a Regions,
     player: Player,
     rest: &'a [(u32, Option<u32>)],
+    ghost size: { length regions.now.table.items ≡ length game.now },
+    ghost mask_size: { length regions.now.unsettled ≡ length game.now },
+    ghost taken_out: { AreTakenOut rest.now regions.now },
 }
 
 impl<'a> Bounds<'a> {
     fn has(&self, w: u32) -> bool
-        requires size { w < length self.now.regions.now.table.items }
-        requires mask_size { length self.now.regions.now.unsettled ≡ length self.now.regions.now.table.items }
-        requires taken_out { AreTakenOut self.now.rest.now self.now.regions.now }
+        requires { w < length self.now.game.now }
         ensures { result ≡ union (named self.now.rest.now) (settled (table_state self.now.regions.now.table.items) self.now.player) w }
     {
         !self.regions.unsettled.has(w) && !self.regions.is_settled_for(self.player.other(), w)
@@ -345,10 +361,7 @@ impl<'a> Bounds<'a> {
 
     /// The first kept edge of the row that ends outside, by its end.
     fn first_end(&self, row: (u32, Option<u32>)) -> Option<u32>
-        requires size { length self.now.regions.now.table.items ≡ length self.now.game.now }
-        requires mask_size { length self.now.regions.now.unsettled ≡ length self.now.regions.now.table.items }
-        requires taken_out { AreTakenOut self.now.rest.now self.now.regions.now }
-        requires right { IsRightRow self.now.game.now self.now.player row }
+        requires { IsRightRow self.now.game.now self.now.player row }
         ensures { MatchOption result ((w : ℕ) → EndsOutside self.now.game.now self.now.player
             (union (named self.now.rest.now) (settled (table_state self.now.regions.now.table.items) self.now.player)) row w → ⊥)
             (IsFirstEnd self.now.game.now self.now.player (union (named self.now.rest.now)
@@ -369,10 +382,7 @@ impl<'a> Bounds<'a> {
 
     /// The first kept edge of the rest that ends outside.
     fn first_edge(&self) -> Option<(u32, u32)>
-        requires size { length self.now.regions.now.table.items ≡ length self.now.game.now }
-        requires mask_size { length self.now.regions.now.unsettled ≡ length self.now.regions.now.table.items }
-        requires taken_out { AreTakenOut self.now.rest.now self.now.regions.now }
-        requires right { AreRight self.now.game.now self.now.player self.now.rest.now }
+        requires { AreRight self.now.game.now self.now.player self.now.rest.now }
         ensures { MatchOption result ((v w : ℕ) → LeadsOutside self.now.game.now self.now.player
             (union (named self.now.rest.now) (settled (table_state self.now.regions.now.table.items) self.now.player)) self.now.rest.now v w → ⊥)
             (λ e. IsFirstOutside self.now.game.now self.now.player
@@ -396,21 +406,4 @@ fn insert_named(mask: &mut Mask, rows: &[(u32, Option<u32>)])
     'rows: for row in rows {
         mask.insert(row.0);
     }
-}
-
-/// The first place from `at` on whose vertex is in the mask, or the number of places.
-fn first_unsettled(successors: &[u32], unsettled: &Mask, at: u32) -> u32
-    requires short { length successors.now < 2 ^ 32 }
-    requires below { (k : ℕ) → k < length successors.now → slice_index successors.now k < length unsettled.now }
-    requires passed { ArePassed successors.now unsettled.now at }
-    ensures passed { ArePassed successors.now unsettled.now result }
-    ensures unsettled { result < length successors.now → In (members unsettled.now) (slice_index successors.now result) }
-{
-    let end = successors.len() as u32;
-    'pass: for next in at..end {
-        if unsettled.has(successors[next as usize]) {
-            return next;
-        }
-    }
-    end
 }

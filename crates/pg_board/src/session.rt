@@ -1,17 +1,16 @@
 //! A game and its board, which nothing borrows: each call that posts makes a `Board` of them for its own time. So a session can
 //! be kept where no lifetime can be, as behind a handle in C.
 
-ghost use Rattle.std.specs.Prelude.{◌≡◌, ◌≤◌, ◌↔◌, ◌∷◌, ℕ, [], length, IfOk, IfErr, OnOk, OnErr, IsSome, IfSome, true, false};
-ghost use Rattle.pg_game.specs.declared.player.Player.TheVariants.{Even, Odd};
+ghost use Rattle.std.specs.Prelude.{◌≡◌, ◌≤◌, ◌↔◌, ℕ, [], length, IfOk, IfErr, OnErr, IsSome, IfSome, true, false};
 ghost use Rattle.pg_game.specs.Graph.{IsGame};
 ghost use Rattle.pg_game.specs.Limits.{IsWithinLimits};
 ghost use Rattle.pg_board.specs.State.{IsGoodOn};
 ghost use Rattle.pg_board.specs.Journal.{state_of, IsLawful, IsDominionAfter, number_settled};
 ghost use Rattle.pg_board.specs.Full.{IsFull, AreStateRows};
-ghost use Rattle.pg_board.specs.Finish.{IsLater};
+ghost use Rattle.pg_board.specs.Finish.{IsContinued};
 ghost use Rattle.pg_board.specs.Refusal.{Refuses};
 ghost use Rattle.pg_board.specs.Post.{Adds, AnswersDominion, SettlesUnlessMemory};
-ghost use Rattle.pg_board.specs.private.Contents.{IsOf, play_of};
+ghost use Rattle.pg_board.specs.private.Contents.{IsOf, board_record};
 ghost use Rattle.pg_text.specs.Solution.{IsExactSolution};
 
 use crate::board::Board;
@@ -31,10 +30,10 @@ pub struct Session {
 }
 
 impl Model for Session {
-    ghost use Rattle.pg_board.specs.Play.{Play, journal_of};
+    ghost use Rattle.pg_board.specs.BoardRecord.{BoardRecord, journal_of};
     ghost use Rattle.pg_board.specs.private.Contents.{AreOf};
 
-    ghost Value = { Play };
+    ghost Value = { BoardRecord };
 
     ghost view = { λ s. record { graph = s.game; journal = journal_of s.contents } };
 
@@ -42,7 +41,7 @@ impl Model for Session {
 }
 
 impl Session {
-    /// A session of this game, in which nothing is settled. The only error is `Memory`, with which the game is gone.
+    /// A session of this game, in which nothing is settled. The only error is `Memory`, which uses up the game.
     pub fn open(alloc: Global, game: Game) -> Result<Session, Memory>
         ensures graph { IfOk result (λ s. s.graph ≡ game) }
         ensures journal { IfOk result (λ s. s.journal ≡ []) }
@@ -72,33 +71,20 @@ impl Session {
         answer
     }
 
-    /// Settles all that is unsettled by the recursion, as `Board::finish` does: Even's part and then Odd's, as worker 0. The only
-    /// error is `Memory`, after which nothing has changed.
-    pub fn finish(&mut self, alloc: Global) -> Result<(), Memory>
-        ensures lawful { IsLawful self.new.graph self.new.journal }
-        ensures full { OnOk result (IsFull self.new.graph (state_of self.new.journal)) }
-        ensures later { OnOk result (IsLater (Even ∷ Odd ∷ []) self.old self.new) }
-        ensures unchanged { OnErr result (self.new ≡ self.old) }
-    {
-        let mut board = Board::attach(&self.game, self.contents.take().unwrap());
-        let answer = board.finish(alloc);
-        self.contents = Some(board.detach());
-        answer
-    }
-
-    /// The same as `finish` within a number of steps, as `Board::finish_within` does. False if it gave up: then some vertex is
-    /// unsettled, and nothing has changed.
-    pub fn finish_within(&mut self, alloc: Global, steps: u64) -> Result<bool, Memory>
+    /// Settles all that is unsettled, as `Board::finish` does: by the searches and then by the recursion, as worker 0. False if it
+    /// gave up. After that or an error nothing has changed. The only error is `Memory`.
+    pub fn finish(&mut self, alloc: Global, limit: Option<u64>) -> Result<bool, Memory>
         ensures lawful { IsLawful self.new.graph self.new.journal }
         ensures game { self.new.graph ≡ self.old.graph }
         ensures full { IfOk result (λ done. done ≡ true → IsFull self.new.graph (state_of self.new.journal)) }
-        ensures later { IfOk result (λ done. done ≡ true → IsLater (Even ∷ Odd ∷ []) self.old self.new) }
+        ensures continued { IfOk result (λ done. done ≡ true → IsContinued self.old self.new) }
         ensures gave_up { IfOk result (λ done. done ≡ false → self.new ≡ self.old) }
         ensures unsettled { IfOk result (λ done. done ≡ false → IsFull self.old.graph (state_of self.old.journal) → ⊥) }
+        ensures limited { IfOk result (λ done. done ≡ false → IsSome limit) }
         ensures unchanged { OnErr result (self.new ≡ self.old) }
     {
         let mut board = Board::attach(&self.game, self.contents.take().unwrap());
-        let answer = board.finish_within(alloc, steps);
+        let answer = board.finish(alloc, limit);
         self.contents = Some(board.detach());
         answer
     }
@@ -151,7 +137,7 @@ impl Session {
 
     fn contents(&self) -> &Contents
         ensures contents { IsOf self.now.graph result.now }
-        ensures play { play_of self.now.graph result.now ≡ self.now }
+        ensures same { board_record self.now.graph result.now ≡ self.now }
     {
         match &self.contents {
             Some(contents) => contents,

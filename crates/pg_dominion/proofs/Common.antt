@@ -34,7 +34,8 @@ pub use Rattle.pg_dominion.specs.AttractorState.{AttractsNoFurther, Takes, liste
 pub use Rattle.pg_dominion.specs.Attraction.{IsAttractedRow, IsAttraction}
 pub use Rattle.pg_dominion.specs.Checked.{AgreesAt, AgreesWithGame, AreChecked, RowEdge, claim_row, claim_rows, row_priority}
 pub use Rattle.pg_dominion.specs.Claim.{AreRight, ClaimRows, IsRightRow, IsSound, choice_in, named}
-pub use Rattle.pg_dominion.specs.KeptEdges.{Edge, IsKept, IsOnBadCycle, kept_row}
+pub use Rattle.pg_dominion.specs.Kept.{IsKept}
+pub use Rattle.pg_dominion.specs.KeptEdges.{Edge, IsOnBadCycle, kept_row}
 pub use Rattle.pg_dominion.specs.declared.checked.CheckedRow.{CheckedRow}
 pub use Rattle.pg_dominion.specs.declared.strategy_graph.StrategyGraph.{StrategyGraph}
 pub use Rattle.pg_dominion.specs.private.Attracting.{IsTakenOrOpen, LeadFrom}

@@ -1,16 +1,10 @@
 pub mod Common
-pub mod Agreed
-pub mod Recorded
 pub mod Rows
-pub mod Attracting
-pub mod Taking
-pub mod Beginning
-pub mod Extending
-pub mod Searching
 pub mod Shape
-pub mod Laid
-pub mod Plan
-pub mod Ranked
 pub mod Named
-mod Staying
-mod Labelled
+pub mod AgreeingRows
+pub mod AttractionSteps
+pub mod TakenRow
+pub mod CheckedRows
+pub mod SearchSteps
+pub mod ListedVertices

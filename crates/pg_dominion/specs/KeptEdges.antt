@@ -1,17 +1,9 @@
 -- The kept edges of a game, in the tables of the checks, and searches along them.
-use Rattle.std.specs.Prelude.{ℕ, ◌≡◌, ◌<◌, List, [], ◌∷◌, length, slice_index, Contains, if◌then◌else◌}
+use Rattle.std.specs.Prelude.{ℕ, ◌≡◌, List, [], ◌∷◌, slice_index, Contains, if◌then◌else◌}
 use Rattle.pg_game.specs.Graph.{priority_of, successors_of}
 use Rattle.pg_game.specs.VertexSet.{In, members}
 use Rattle.pg_game.specs.Walk.{ClosedWalk, greatest_priority}
 use Rattle.pg_dominion.specs.declared.strategy_graph.StrategyGraph.{StrategyGraph}
-
--- the masks and the choices have one place for each vertex, and each choice is a vertex
-pub record IsKept (k : StrategyGraph) : Type 0 where
-  pub inside : length k.inside ≡ length k.game.now
-  pub chosen : length k.chosen ≡ length k.game.now
-  pub choices : length k.choices.items ≡ length k.game.now
-  pub bad : length k.bad ≡ length k.game.now
-  pub below : (v : ℕ) → In (members k.chosen) v → slice_index k.choices.items v < length k.game.now
 
 abbrev pub kept_row : StrategyGraph → ℕ → List ℕ
 kept_row k v = if members k.chosen v then slice_index k.choices.items v ∷ [] else (if members k.inside v then successors_of k.game.now v else [])

@@ -9,7 +9,7 @@ ghost use Rattle.pg_game.specs.Graph.{HasEdge};
 ghost use Rattle.pg_game.specs.Predecessors.{ArePredecessors};
 ghost use Rattle.pg_game.specs.VertexSet.{In, Within, all_vertices, union, members};
 ghost use Rattle.pg_dominion.specs.AttractorState.{listed_by, Takes, AttractsNoFurther};
-ghost use Rattle.pg_dominion.specs.private.Attracting.{IsTakenOrOpen, ArePassed};
+ghost use Rattle.pg_dominion.specs.private.Attracting.{IsTakenOrOpen};
 ghost use Rattle.pg_game.specs.Subgame.{IsSubgame};
 ghost use Rattle.pg_dominion.specs.Claim.{named};
 ghost use Rattle.pg_dominion.specs.Attraction.{IsAttraction};
@@ -53,7 +53,7 @@ pub trait AttractorState {
         ensures { result ≡ free self.now v };
 
     /// Whether a successor of the vertex is free.
-    fn has_way_out(&mut self, game: &Game, list: &Vec<Self::Item>, v: u32) -> bool
+    fn find_way_out(&mut self, game: &Game, list: &Vec<Self::Item>, v: u32) -> bool
         requires ready { ready game.now self.old list.now.items (vec_capacity list.now) }
         requires vertex { v < length game.now }
         ensures ready { ready game.now self.new list.now.items (vec_capacity list.now) }
@@ -203,7 +203,7 @@ fn consider<A: AttractorState>(
     if game.owner(from) == player {
         return state.take(game, player, from, Some(to), list);
     }
-    if state.has_way_out(game, list, from) {
+    if state.find_way_out(game, list, from) {
         return Ok(());
     }
     state.take(game, player, from, None, list)
@@ -268,11 +268,12 @@ impl AttractorState for FreeVertices {
         self.free.has(v)
     }
 
-    fn has_way_out(&mut self, game: &Game, _list: &Vec<(u32, Option<u32>)>, v: u32) -> bool {
+    fn find_way_out(&mut self, game: &Game, _list: &Vec<(u32, Option<u32>)>, v: u32) -> bool {
         let successors = game.successors(v);
-        let at = first_free(successors, &self.free, self.passed[v as usize]);
+        let end = successors.len() as u32;
+        let at = self.free.first_of(successors, self.passed[v as usize], end);
         self.passed[v as usize] = at;
-        (at as usize) < successors.len()
+        at < end
     }
 
     fn take(
@@ -295,21 +296,4 @@ impl AttractorState for FreeVertices {
     ghost grown_same = { λ g p s rows. extends_same g p (members s.free) rows };
 
     ghost grown_then = { λ g p a b c xs ys zs. extends_then g p (members a.free) (members b.free) (members c.free) xs ys zs };
-}
-
-/// The first place from `at` on whose vertex is in the mask, or the number of places.
-fn first_free(successors: &[u32], free: &Mask, at: u32) -> u32
-    requires short { length successors.now < 2 ^ 32 }
-    requires below { (k : ℕ) → k < length successors.now → slice_index successors.now k < length free.now }
-    requires passed { ArePassed successors.now free.now at }
-    ensures passed { ArePassed successors.now free.now result }
-    ensures free { result < length successors.now → In (members free.now) (slice_index successors.now result) }
-{
-    let end = successors.len() as u32;
-    'pass: for next in at..end {
-        if free.has(successors[next as usize]) {
-            return next;
-        }
-    }
-    end
 }

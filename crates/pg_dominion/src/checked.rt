@@ -1,16 +1,15 @@
 //! A claim that was checked, with what its game says of its vertices: so whether it is sound in another game can be judged
 //! row by row, with no search for closed walks. A checked claim owns its rows, and outlives the claim and the game.
 
-ghost use Rattle.std.specs.Prelude.{◌≡◌, ◌<◌, length, IfOk, MatchOption, true, false};
+ghost use Rattle.std.specs.Prelude.{◌≡◌, IfOk, IfErr, MatchOption, true, false};
 ghost use Rattle.pg_dominion.specs.Claim.{IsRightRow, AreRight, IsSound};
-ghost use Rattle.pg_dominion.specs.private.Shape.{ends_at};
+ghost use Rattle.pg_dominion.specs.Fault.{IsClaimFault};
 ghost use Rattle.pg_dominion.specs.Checked.{claim_row, claim_rows, claim_of, KeepsOne, AgreesAt, AgreesWithGame, IsForeign, AreChecked};
 
-use crate::claim::Claim;
+use crate::claim::{Claim, ClaimFault, judge_claim, kept_successors};
 use pg_game::{ForwardGame, Game, Player, Sequence};
 use std::alloc::{AllocError, Global};
 use std::marker::Model;
-use std::slice;
 
 /// A vertex of a checked claim, with what its game says of it. The kept successors are the choice alone where the
 /// player owns the vertex, and all of them elsewhere.
@@ -155,15 +154,15 @@ impl Checked {
     }
 }
 
-/// Where the kept edges of a claim's row end: in its choice alone, or without one in all successors of its vertex.
-pub(crate) fn kept_successors<'a>(game: &'a ForwardGame, row: &'a (u32, Option<u32>)) -> &'a [u32]
-    requires { row.now.0 < length game.now }
-    ensures { result.now ≡ ends_at game.now row.now.0 row.now.1 }
+/// As `judge_claim`, with what was found, for a use where the game is not at hand or another.
+pub fn check_claim(alloc: Global, game: &Game, claim: &Claim) -> Result<Checked, ClaimFault>
+    ensures sound { IfOk result (λ c. IsSound game.now claim.now.player claim.now.rows) }
+    ensures holds { IfOk result (λ c. claim_of c ≡ claim.now) }
+    ensures agrees { IfOk result (λ c. AgreesWithGame game.now c.player c.rows) }
+    ensures fault { IfErr result (λ e. IsClaimFault game.now claim.now.player claim.now.rows e) }
 {
-    match &row.1 {
-        Some(w) => slice::from_ref(w),
-        None => game.successors(row.0),
-    }
+    judge_claim(alloc, game, claim)?;
+    Ok(Checked::of(alloc, game.forward(), claim)?)
 }
 
 /// What the game says of the rows of a claim that are right in it.

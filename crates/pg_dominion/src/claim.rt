@@ -4,25 +4,23 @@
 //! for a closed walk whose greatest priority is the opponent's. Any other such claim, and one that this search cannot decide, is
 //! laid out by vertex as kept edges, and `cycles` looks for the walk.
 
-ghost use Rattle.std.specs.Prelude.{◌≡◌, ℕ, ◌↔◌, ◌<◌, IfOk, IfErr, OnOk, length, slice_set, true, false, ◌++◌, List, MatchOption, None, if◌then◌else◌};
+ghost use Rattle.std.specs.Prelude.{◌≡◌, ℕ, ◌↔◌, ◌<◌, IfOk, IfErr, OnOk, length, true, false, ◌++◌, List, MatchOption};
 ghost use Rattle.std.specs.List.{list_any};
 ghost use Rattle.pg_game.specs.Region.{OnBadWalk};
 ghost use Rattle.pg_dominion.specs.Claim.{IsSound, IsRightRow, HasShape, named, choice_in};
 ghost use Rattle.pg_dominion.specs.Fault.{IsClaimFault};
-ghost use Rattle.pg_dominion.specs.private.Shape.{is_bad, chosen_with, choices_with};
-ghost use Rattle.pg_dominion.specs.KeptEdges.{IsKept, IsOnBadCycle};
-ghost use Rattle.pg_dominion.specs.Checked.{claim_of, AgreesWithGame};
+ghost use Rattle.pg_dominion.specs.private.Shape.{is_bad, ends_at};
+ghost use Rattle.pg_dominion.specs.KeptEdges.{IsOnBadCycle};
 ghost use Rattle.pg_game.specs.Least.{NoneHas};
-ghost use Rattle.pg_game.specs.Graph.{owner_of};
-ghost use Rattle.pg_game.specs.Player.{same_player};
 ghost use Rattle.pg_game.specs.VertexSet.{In};
 ghost use Rattle.pg_dominion.specs.private.Staying.{Stays, AreNamed};
 
-use crate::checked::{Checked, kept_successors};
 use crate::cycles::least_bad_vertex;
+use crate::notes::{is_bad, note_choice, note_test};
 use crate::strategy_graph::StrategyGraph;
 use pg_game::{ForwardGame, Game, Mask, Player, Sequence};
 use std::alloc::{AllocError, Global};
+use std::slice;
 
 /// Vertices that a player claims to win, rising, with his choice at each that he owns.
 #[derive(Drop)]
@@ -54,49 +52,6 @@ impl From<AllocError> for ClaimFault {
     }
 }
 
-/// The choice, if the player owns the vertex; else none.
-pub fn own_choice(game: &ForwardGame, player: Player, v: u32, choice: Option<u32>) -> Option<u32>
-    requires { v < length game.now }
-    ensures { result ≡ (if same_player (owner_of game.now v) player then choice else None) }
-{
-    if game.owner(v) == player {
-        choice
-    } else {
-        None
-    }
-}
-
-/// Whether the vertex's priority has the parity of the player's opponent.
-pub fn is_bad(game: &ForwardGame, player: Player, v: u32) -> bool
-    requires { v < length game.now }
-    ensures { result ≡ is_bad game.now player v }
-{
-    Player::of_parity(game.priority(v)) == player.other()
-}
-
-/// Notes in a mask whether a vertex passes a test. It is written in either case, since no processor foretells which.
-pub fn note_test(test: bool, mask: &mut Mask, v: u32)
-    requires { v < length mask.old }
-    ensures { mask.new ≡ slice_set mask.old v test }
-{
-    if test {
-        mask.insert(v);
-    } else {
-        mask.remove(v);
-    }
-}
-
-/// Notes whether a vertex has a choice, and which.
-pub fn note_choice(chosen: &mut Mask, choices: &mut Vec<u32>, v: u32, choice: Option<u32>)
-    requires chosen { v < length chosen.old }
-    requires choices { v < length choices.old.items }
-    ensures chosen { chosen.new ≡ chosen_with chosen.old v choice }
-    ensures choices { choices.new.items ≡ choices_with choices.old.items v choice }
-{
-    note_test(choice.is_some(), chosen, v);
-    choices[v as usize] = choice.unwrap_or(0);
-}
-
 /// Whether a claim is sound in a game: it has its shape, and the edges that it keeps inside make only closed walks
 /// whose greatest priority has the player's parity. Edges that leave the claim don't count.
 ///
@@ -114,17 +69,6 @@ pub fn judge_claim(alloc: Global, game: &Game, claim: &Claim) -> Result<(), Clai
         Some(v) => Err(ClaimFault::Cycle(v)),
         None => Ok(()),
     }
-}
-
-/// As `judge_claim`, with what was found, for a use where the game is not at hand or another.
-pub fn check_claim(alloc: Global, game: &Game, claim: &Claim) -> Result<Checked, ClaimFault>
-    ensures sound { IfOk result (λ c. IsSound game.now claim.now.player claim.now.rows) }
-    ensures holds { IfOk result (λ c. claim_of c ≡ claim.now) }
-    ensures agrees { IfOk result (λ c. AgreesWithGame game.now c.player c.rows) }
-    ensures fault { IfErr result (λ e. IsClaimFault game.now claim.now.player claim.now.rows e) }
-{
-    judge_claim(alloc, game, claim)?;
-    Ok(Checked::of(alloc, game.forward(), claim)?)
 }
 
 /// Whether a claim is seen to be sound with no table of one place a vertex: it names no bad vertex, or it is small and a
@@ -280,6 +224,17 @@ fn expand(
     Ok(true)
 }
 
+/// Where the kept edges of a claim's row end: in its choice alone, or without one in all successors of its vertex.
+pub(crate) fn kept_successors<'a>(game: &'a ForwardGame, row: &'a (u32, Option<u32>)) -> &'a [u32]
+    requires { row.now.0 < length game.now }
+    ensures { result.now ≡ ends_at game.now row.now.0 row.now.1 }
+{
+    match &row.1 {
+        Some(w) => slice::from_ref(w),
+        None => game.successors(row.0),
+    }
+}
+
 /// The choice in the row of the vertex; none without such a row.
 fn choice_at(rows: &[(u32, Option<u32>)], v: u32) -> Option<Option<u32>>
     ensures { MatchOption result (named rows.now v ≡ false) (λ c. (named rows.now v ≡ true) × (choice_in rows.now v ≡ c)) }
@@ -302,7 +257,6 @@ fn kept_of<'g>(
     claim: &Claim,
 ) -> Result<StrategyGraph<'g>, AllocError>
     requires { HasShape game.now claim.now.player claim.now.rows }
-    ensures kept { IfOk result (λ k. IsKept k) }
     ensures bad_cycle { IfOk result (λ k. (v : ℕ) → IsOnBadCycle k v
         ↔ OnBadWalk game.now claim.now.player (named claim.now.rows) (choice_in claim.now.rows) v) }
 {

@@ -11,7 +11,7 @@
 
 ghost use Rattle.std.specs.Prelude.{◌≡◌, ℕ, ◌<◌, ◌≤◌, IfOk, IfSome, MatchOption, Some, None, length, true, false, ◌≢◌, ◌^◌, ◌⊎◌, slice_index};
 ghost use Rattle.pg_game.specs.Least.{NoneHas, IsLeast};
-ghost use Rattle.pg_dominion.specs.KeptEdges.{IsKept, IsOnBadCycle};
+ghost use Rattle.pg_dominion.specs.KeptEdges.{IsOnBadCycle};
 ghost use Rattle.pg_dominion.specs.private.KeptEdges.{Reaches, IsBounded, Leads, AreLabelled, Searching, IsSpread, GoesOn, AreNoted};
 ghost use Rattle.pg_dominion.specs.private.SearchProgress.{AreSearches, IsSearched};
 ghost use Rattle.pg_game.specs.Graph.{priority_of};
@@ -26,7 +26,6 @@ use std::alloc::{AllocError, Global};
 /// In most games a search from each bad vertex ends soon. If searches look again and again at reached vertices, a ranking
 /// gives the result in near-linear time, with the memory of their tables. The only error is refused memory.
 pub fn least_bad_vertex(alloc: Global, kept: &StrategyGraph) -> Result<Option<u32>, AllocError>
-    requires { IsKept kept.now }
     ensures { IfOk result (λ least. MatchOption least (NoneHas (IsOnBadCycle kept.now)) (IsLeast (IsOnBadCycle kept.now))) }
 {
     let patience = u64::from(kept.game.len()) / 4;
@@ -51,7 +50,6 @@ fn search_from(
     from: u32,
     patience: u64,
 ) -> Result<SearchProgress, AllocError>
-    requires kept { IsKept kept.now }
     requires none { (v : ℕ) → v < from → IsOnBadCycle kept.now v → ⊥ }
     ensures { IfOk result (IsSearched kept.now patience) }
 {
@@ -60,7 +58,7 @@ fn search_from(
     };
     let mut searches = Searches::new(alloc, kept)?;
     'starts: for v in first..kept.game.len() {
-        if searches.is_on_bad_cycle(kept, v)? {
+        if searches.find_bad_cycle(kept, v)? {
             return Ok(SearchProgress::All(Some(v)));
         }
         if searches.are_over(patience) {
@@ -81,7 +79,6 @@ enum SearchProgress {
 
 /// The first bad vertex, from `from` on. Without one, no search needs tables.
 fn first_bad(kept: &StrategyGraph, from: u32) -> Option<u32>
-    requires kept { IsKept kept.now }
     requires none { (v : ℕ) → v < from → IsOnBadCycle kept.now v → ⊥ }
     ensures { MatchOption result (NoneHas (IsOnBadCycle kept.now)) (λ first. (v : ℕ) → v < first → IsOnBadCycle kept.now v → ⊥) }
 {
@@ -112,8 +109,7 @@ impl Searches {
 
     /// Whether the vertex is bad and the greatest on a closed walk through it. Each search takes about twice its first edges off
     /// the repeats, so that many short searches do not pay for long ones.
-    fn is_on_bad_cycle(&mut self, kept: &StrategyGraph, v: u32) -> Result<bool, AllocError>
-        requires kept { IsKept kept.now }
+    fn find_bad_cycle(&mut self, kept: &StrategyGraph, v: u32) -> Result<bool, AllocError>
         requires searches { AreSearches kept.now self.old }
         requires vertex { v < length kept.now.game.now }
         ensures searches { IfOk result (λ found. AreSearches kept.now self.new) }
@@ -172,7 +168,7 @@ struct WalkSearch {
     queue: Vec<u32>,
     places: Vec<u32>,
     /// The least place that was reached twice.
-    least: usize,
+    first_repeated: usize,
     /// The number of edges from vertices of earlier searches that searches have looked at again, less what searches took off.
     repeats: u64,
 }
@@ -187,7 +183,7 @@ impl WalkSearch {
         Ok(WalkSearch {
             queue: Vec::with_capacity(alloc, n as usize)?,
             places: vec![in alloc; 0u32; n as usize]?,
-            least: usize::MAX,
+            first_repeated: usize::MAX,
             repeats: 0,
         })
     }
@@ -199,7 +195,7 @@ impl Drop for WalkSearch {
         let WalkSearch {
             queue: _queue,
             places: _places,
-            least: _least,
+            first_repeated: _first_repeated,
             repeats: _repeats,
         } = self;
     }
@@ -223,7 +219,6 @@ fn walks_back(
     labels: &mut Labels,
     search: &mut WalkSearch,
 ) -> Result<bool, AllocError>
-    requires kept { IsKept kept.now }
     requires start { start < length kept.now.game.now }
     requires labels { AreLabelled kept.now labels.old.levels.items labels.old.groups.items }
     requires size { length search.old.places.items ≡ length kept.now.game.now }
@@ -239,7 +234,7 @@ fn walks_back(
     search.queue.clear();
     search.queue.push(start)?;
     search.places[start as usize] = 0;
-    search.least = usize::MAX;
+    search.first_repeated = usize::MAX;
     if finds_back(kept, labels, top, own, search)? {
         return Ok(true);
     }
@@ -271,17 +266,16 @@ fn finds_back(
     own: u32,
     search: &mut WalkSearch,
 ) -> Result<bool, AllocError>
-    requires kept { IsKept kept.now }
     requires labels { AreLabelled kept.now labels.now.levels.items labels.now.groups.items }
-    requires least { 0 < search.old.least }
+    requires least { 0 < search.old.first_repeated }
     requires state { Searching kept.now labels.now.levels.items labels.now.groups.items top own search.old.places.items search.old.queue.items }
-    ensures least { IfOk result (λ found. 0 < search.new.least) }
+    ensures least { IfOk result (λ found. 0 < search.new.first_repeated) }
     ensures state { IfOk result (λ found. Searching kept.now labels.now.levels.items labels.now.groups.items top own search.new.places.items
         search.new.queue.items) }
     ensures first { IfOk result (λ found. slice_index search.new.queue.items 0 ≡ slice_index search.old.queue.items 0) }
     ensures back { IfOk result (λ found. found ≡ true → Leads kept.now top (slice_index search.old.queue.items 0) (slice_index search.old.queue.items 0)) }
     ensures spread { IfOk result (λ found. found ≡ false → (i : ℕ) → i < length search.new.queue.items
-        → IsSpread kept.now labels.now.levels.items labels.now.groups.items top own search.new.least search.new.places.items search.new.queue.items i) }
+        → IsSpread kept.now labels.now.levels.items labels.now.groups.items top own search.new.first_repeated search.new.places.items search.new.queue.items i) }
 {
     'queue: for next in 0..usize::MAX {
         if next >= search.queue.len() {
@@ -303,18 +297,17 @@ fn spread(
     at: usize,
     search: &mut WalkSearch,
 ) -> Result<bool, AllocError>
-    requires kept { IsKept kept.now }
     requires labels { AreLabelled kept.now labels.now.levels.items labels.now.groups.items }
     requires place { at < length search.old.queue.items }
-    requires least { 0 < search.old.least }
+    requires least { 0 < search.old.first_repeated }
     requires state { Searching kept.now labels.now.levels.items labels.now.groups.items top own search.old.places.items search.old.queue.items }
-    ensures least { IfOk result (λ found. 0 < search.new.least) }
+    ensures least { IfOk result (λ found. 0 < search.new.first_repeated) }
     ensures state { IfOk result (λ found. Searching kept.now labels.now.levels.items labels.now.groups.items top own search.new.places.items
         search.new.queue.items) }
-    ensures later { IfOk result (λ found. GoesOn search.old.queue.items search.old.least search.new.queue.items search.new.least) }
+    ensures later { IfOk result (λ found. GoesOn search.old.queue.items search.old.first_repeated search.new.queue.items search.new.first_repeated) }
     ensures back { IfOk result (λ found. found ≡ true → Leads kept.now top (slice_index search.old.queue.items 0) (slice_index search.old.queue.items 0)) }
     ensures spread { IfOk result (λ found. found ≡ false
-        → IsSpread kept.now labels.now.levels.items labels.now.groups.items top own search.new.least search.new.places.items search.new.queue.items at) }
+        → IsSpread kept.now labels.now.levels.items labels.now.groups.items top own search.new.first_repeated search.new.places.items search.new.queue.items at) }
 {
     // for the proof: a game has fewer than 2^32 vertices, so a place in the queue fits
     let _n = kept.game.len();
@@ -332,7 +325,7 @@ fn spread(
             if place == 0 {
                 return Ok(true);
             }
-            search.least = search.least.min(place);
+            search.first_repeated = search.first_repeated.min(place);
             continue;
         }
         search.queue.push(to)?;
@@ -355,7 +348,6 @@ fn count_repeats(labels: &Labels, v: u32, edges: usize, repeats: u64) -> u64
 /// Whether a search of this priority, from this group or from none, passes over a vertex: its own priority is greater, or its level
 /// is, and it has another group. The test has no branch, which a processor could not predict.
 fn passes_over(kept: &StrategyGraph, labels: &Labels, top: u32, own: u32, v: u32) -> bool
-    requires kept { IsKept kept.now }
     requires labels { AreLabelled kept.now labels.now.levels.items labels.now.groups.items }
     requires vertex { v < length kept.now.game.now }
     ensures over { result ≡ true → (top < priority_of kept.now.game.now v)
@@ -371,7 +363,6 @@ fn passes_over(kept: &StrategyGraph, labels: &Labels, top: u32, own: u32, v: u32
 
 /// Whether the vertex is the greatest on a closed walk through it, by a search with tables of its own.
 fn leads_back(alloc: Global, kept: &StrategyGraph, v: u32) -> Result<bool, AllocError>
-    requires kept { IsKept kept.now }
     requires vertex { v < length kept.now.game.now }
     ensures { IfOk result (λ found. found ≡ true → Reaches kept.now v v) }
 {
@@ -388,12 +379,16 @@ fn note(labels: &mut Labels, search: &WalkSearch, level: u32, start: u32)
     requires short { length search.now.places.items < 2 ^ 32 }
     requires below { (i : ℕ) → i < length search.now.queue.items → slice_index search.now.queue.items i < length search.now.places.items }
     requires placed { (i : ℕ) → i < length search.now.queue.items → slice_index search.now.places.items (slice_index search.now.queue.items i) ≡ i }
-    ensures { AreNoted labels.old.levels.items labels.old.groups.items search.now.places.items search.now.queue.items level start search.now.least
+    ensures { AreNoted labels.old.levels.items labels.old.groups.items search.now.places.items search.now.queue.items level start search.now.first_repeated
         (length search.now.queue.items) labels.new.levels.items labels.new.groups.items }
 {
     'queue: for at in 0..search.queue.len() {
         let v = search.queue[at];
-        let group = if at < search.least { v + 1 } else { start + 1 };
+        let group = if at < search.first_repeated {
+            v + 1
+        } else {
+            start + 1
+        };
         labels.levels[v as usize] = level;
         labels.groups[v as usize] = group;
     }
@@ -406,7 +401,6 @@ fn first_by_ranking(
     kept: &StrategyGraph,
     from: u32,
 ) -> Result<Option<Option<u32>>, AllocError>
-    requires kept { IsKept kept.now }
     requires none { (v : ℕ) → v < from → IsOnBadCycle kept.now v → ⊥ }
     ensures { IfOk result (λ shown. IfSome shown (λ least. MatchOption least (NoneHas (IsOnBadCycle kept.now)) (IsLeast (IsOnBadCycle kept.now)))) }
 {

@@ -6,7 +6,7 @@
 //! back over its place.
 
 ghost use Rattle.std.specs.Prelude.{◌≡◌, ℕ, ◌<◌, ◌≤◌, ◌^◌, length, slice_index, vec_len, IfOk, true, false};
-ghost use Rattle.pg_dominion.specs.KeptEdges.{IsKept, IsOnBadCycle};
+ghost use Rattle.pg_dominion.specs.KeptEdges.{IsOnBadCycle};
 ghost use Rattle.pg_dominion.specs.private.Ranking.{AreEnds, IsJudged, IsRankedRow};
 
 use crate::strategy_graph::StrategyGraph;
@@ -24,7 +24,6 @@ pub struct Ranking {
 
 /// Whether the places show that no bad vertex from `from` on and below the limit is the greatest on a closed walk.
 pub fn is_ranked(alloc: Global, kept: &StrategyGraph, ranking: &Ranking) -> Result<bool, AllocError>
-    requires { IsKept kept.now }
     ensures { IfOk result (λ b. b ≡ true → (v : ℕ) → ranking.now.from ≤ v → v < ranking.now.limit → IsOnBadCycle kept.now v → ⊥) }
 {
     let n = kept.game.len();
@@ -81,7 +80,6 @@ fn end_of(keys: &[u32], ends: &[u32], at: u32) -> u32
 
 /// Whether a vertex and its edges meet the conditions of a ranking.
 fn is_ranked_row(kept: &StrategyGraph, ranking: &Ranking, ends: &[u32], v: u32) -> bool
-    requires kept { IsKept kept.now }
     requires vertex { v < length kept.now.game.now }
     requires places { length ranking.now.places.items ≡ length kept.now.game.now }
     requires size { length ends.now ≡ length ranking.now.keys.items }
@@ -111,7 +109,6 @@ fn is_ranked_row(kept: &StrategyGraph, ranking: &Ranking, ends: &[u32], v: u32) 
 
 /// Whether a vertex is bad, and one of those of which the ranking shows something.
 fn is_judged(kept: &StrategyGraph, ranking: &Ranking, v: u32) -> bool
-    requires kept { IsKept kept.now }
     requires vertex { v < length kept.now.game.now }
     ensures yes { result ≡ true → IsJudged kept.now ranking.now.from ranking.now.limit v }
     ensures no { result ≡ false → IsJudged kept.now ranking.now.from ranking.now.limit v → ⊥ }

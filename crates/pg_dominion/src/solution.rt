@@ -8,11 +8,11 @@ ghost use Rattle.pg_game.specs.Least.{NoneHas, IsLeast};
 ghost use Rattle.pg_text.specs.Solution.{IsSolution, winner_of, choice_of};
 ghost use Rattle.pg_text.specs.Verdict.{LacksChoice, HasBadChoice, Leaves, IsOnBadWalk, IsFirstLeaving};
 ghost use Rattle.pg_dominion.specs.Verdict.{FailsBy};
-ghost use Rattle.pg_dominion.specs.KeptEdges.{IsKept, IsOnBadCycle};
+ghost use Rattle.pg_dominion.specs.KeptEdges.{IsOnBadCycle};
 ghost use Rattle.pg_dominion.specs.private.Plan.{IsPlanOf, LeavesTo, IsFirstTo};
 
-use crate::claim::{is_bad, note_choice, note_test, own_choice};
 use crate::cycles::least_bad_vertex;
+use crate::notes::{is_bad, note_choice, note_test, own_choice};
 use crate::strategy_graph::StrategyGraph;
 use pg_game::{ForwardGame, Game, Mask, Player};
 use pg_text::Solution;
@@ -45,6 +45,23 @@ impl From<AllocError> for SolutionFault {
     }
 }
 
+/// A game with a winner, and a choice or none, for each of its vertices.
+#[derive(Clone, Copy)]
+struct Candidate<'a> {
+    game: &'a ForwardGame,
+    solution: &'a Solution,
+    ghost size: { length solution.now.rows ≡ length game.now },
+}
+
+/// The edges that are kept of a game, where each winner has his choices.
+#[derive(Clone, Copy)]
+struct Plan<'a, 'g> {
+    kept: &'a StrategyGraph<'g>,
+    solution: &'a Solution,
+    ghost size: { length solution.now.rows ≡ length kept.now.game.now },
+    ghost plan: { IsPlanOf kept.now solution.now.rows },
+}
+
 /// Whether winners and choices are a solution of a game: the vertices of each winner are closed under the edges that he
 /// keeps, and these make only closed walks whose greatest priority has his parity (Zielonka 1998).
 ///
@@ -69,14 +86,19 @@ pub fn check_forward_solution(
 {
     // for the proof: the graph is a game, so no edge leaves it
     let _n = game.len();
-    if let Some(v) = first_without_choice(game, solution) {
+    let candidate = Candidate { game, solution };
+    if let Some(v) = first_without_choice(&candidate) {
         return Err(SolutionFault::NoChoice(game.id(v)));
     }
-    if let Some(v) = first_bad_choice(game, solution) {
+    if let Some(v) = first_bad_choice(&candidate) {
         return Err(SolutionFault::BadChoice(game.id(v)));
     }
-    let kept = plan_of(alloc, game, solution)?;
-    if let Some((v, w)) = first_leaving(&kept, solution) {
+    let kept = plan_of(alloc, &candidate)?;
+    let plan = Plan {
+        kept: &kept,
+        solution,
+    };
+    if let Some((v, w)) = first_leaving(&plan) {
         return Err(SolutionFault::Leaves(game.id(v), game.id(w)));
     }
     if let Some(v) = least_bad_vertex(alloc, &kept)? {
@@ -85,12 +107,12 @@ pub fn check_forward_solution(
     Ok(())
 }
 
-fn first_without_choice(game: &ForwardGame, solution: &Solution) -> Option<u32>
-    requires { length solution.now.rows ≡ length game.now }
-    ensures { MatchOption result (NoneHas (LacksChoice game.now solution.now.rows)) (IsLeast (LacksChoice game.now solution.now.rows)) }
+fn first_without_choice(candidate: &Candidate) -> Option<u32>
+    ensures { MatchOption result (NoneHas (LacksChoice candidate.now.game.now candidate.now.solution.now.rows))
+        (IsLeast (LacksChoice candidate.now.game.now candidate.now.solution.now.rows)) }
 {
-    for v in 0..game.len() {
-        if lacks_choice(game, solution, v) {
+    for v in 0..candidate.game.len() {
+        if lacks_choice(candidate, v) {
             return Some(v);
         }
     }
@@ -98,14 +120,13 @@ fn first_without_choice(game: &ForwardGame, solution: &Solution) -> Option<u32>
 }
 
 /// Whether the vertex's winner owns it and it has no choice.
-fn lacks_choice(game: &ForwardGame, solution: &Solution, v: u32) -> bool
-    requires size { length solution.now.rows ≡ length game.now }
-    requires vertex { v < length game.now }
-    ensures lacks { result ≡ true → LacksChoice game.now solution.now.rows v }
-    ensures has { result ≡ false → LacksChoice game.now solution.now.rows v → ⊥ }
+fn lacks_choice(candidate: &Candidate, v: u32) -> bool
+    requires { v < length candidate.now.game.now }
+    ensures lacks { result ≡ true → LacksChoice candidate.now.game.now candidate.now.solution.now.rows v }
+    ensures has { result ≡ false → LacksChoice candidate.now.game.now candidate.now.solution.now.rows v → ⊥ }
 {
-    let (winner, choice) = row_at(solution, v);
-    game.owner(v) == winner && choice.is_none()
+    let (winner, choice) = row_at(candidate.solution, v);
+    candidate.game.owner(v) == winner && choice.is_none()
 }
 
 /// The winner of a vertex and its choice.
@@ -117,12 +138,12 @@ fn row_at(solution: &Solution, v: u32) -> (Player, Option<u32>)
     solution.rows.as_slice()[v as usize]
 }
 
-fn first_bad_choice(game: &ForwardGame, solution: &Solution) -> Option<u32>
-    requires { length solution.now.rows ≡ length game.now }
-    ensures { MatchOption result (NoneHas (HasBadChoice game.now solution.now.rows)) (IsLeast (HasBadChoice game.now solution.now.rows)) }
+fn first_bad_choice(candidate: &Candidate) -> Option<u32>
+    ensures { MatchOption result (NoneHas (HasBadChoice candidate.now.game.now candidate.now.solution.now.rows))
+        (IsLeast (HasBadChoice candidate.now.game.now candidate.now.solution.now.rows)) }
 {
-    for v in 0..game.len() {
-        if has_bad_choice(game, solution, v) {
+    for v in 0..candidate.game.len() {
+        if has_bad_choice(candidate, v) {
             return Some(v);
         }
     }
@@ -130,37 +151,31 @@ fn first_bad_choice(game: &ForwardGame, solution: &Solution) -> Option<u32>
 }
 
 /// Whether the vertex's winner owns it and its choice is no successor.
-fn has_bad_choice(game: &ForwardGame, solution: &Solution, v: u32) -> bool
-    requires size { length solution.now.rows ≡ length game.now }
-    requires vertex { v < length game.now }
-    ensures bad { result ≡ true → HasBadChoice game.now solution.now.rows v }
-    ensures good { result ≡ false → HasBadChoice game.now solution.now.rows v → ⊥ }
+fn has_bad_choice(candidate: &Candidate, v: u32) -> bool
+    requires { v < length candidate.now.game.now }
+    ensures bad { result ≡ true → HasBadChoice candidate.now.game.now candidate.now.solution.now.rows v }
+    ensures good { result ≡ false → HasBadChoice candidate.now.game.now candidate.now.solution.now.rows v → ⊥ }
 {
-    let (winner, choice) = row_at(solution, v);
-    if game.owner(v) != winner {
+    let (winner, choice) = row_at(candidate.solution, v);
+    if candidate.game.owner(v) != winner {
         return false;
     }
     match choice {
-        Some(w) => !game.has_edge(v, w),
+        Some(w) => !candidate.game.has_edge(v, w),
         None => false,
     }
 }
 
 /// The kept edges of all winners, where each has his choices.
-fn plan_of<'g>(
-    alloc: Global,
-    game: &'g ForwardGame,
-    solution: &Solution,
-) -> Result<StrategyGraph<'g>, AllocError>
-    requires size { length solution.now.rows ≡ length game.now }
-    requires choices { NoneHas (LacksChoice game.now solution.now.rows) }
-    requires right { NoneHas (HasBadChoice game.now solution.now.rows) }
-    ensures kept { IfOk result (λ k. IsKept k) }
-    ensures game { IfOk result (λ k. k.game.now ≡ game.now) }
-    ensures plan { IfOk result (λ k. IsPlanOf k solution.now.rows) }
-    ensures bad_cycle { IfOk result (λ k. ((v w : ℕ) → Leaves game.now solution.now.rows v w → ⊥) → (v : ℕ)
-        → IsOnBadCycle k v ↔ IsOnBadWalk game.now solution.now.rows v) }
+fn plan_of<'g>(alloc: Global, candidate: &Candidate<'g>) -> Result<StrategyGraph<'g>, AllocError>
+    requires choices { NoneHas (LacksChoice candidate.now.game.now candidate.now.solution.now.rows) }
+    requires right { NoneHas (HasBadChoice candidate.now.game.now candidate.now.solution.now.rows) }
+    ensures game { IfOk result (λ k. k.game.now ≡ candidate.now.game.now) }
+    ensures plan { IfOk result (λ k. IsPlanOf k candidate.now.solution.now.rows) }
+    ensures bad_cycle { IfOk result (λ k. ((v w : ℕ) → Leaves candidate.now.game.now candidate.now.solution.now.rows v w → ⊥) → (v : ℕ)
+        → IsOnBadCycle k v ↔ IsOnBadWalk candidate.now.game.now candidate.now.solution.now.rows v) }
 {
+    let game = candidate.game;
     let n = game.len();
     let mut inside = Mask::empty(alloc, n)?;
     let mut chosen = Mask::empty(alloc, n)?;
@@ -168,7 +183,7 @@ fn plan_of<'g>(
     let mut bad = Mask::empty(alloc, n)?;
     'vertices: for v in 0..n {
         inside.insert(v);
-        let (winner, choice) = row_at(solution, v);
+        let (winner, choice) = row_at(candidate.solution, v);
         note_test(is_bad(game, winner, v), &mut bad, v);
         note_choice(
             &mut chosen,
@@ -186,16 +201,13 @@ fn plan_of<'g>(
     })
 }
 
-fn first_leaving(kept: &StrategyGraph, solution: &Solution) -> Option<(u32, u32)>
-    requires kept { IsKept kept.now }
-    requires size { length solution.now.rows ≡ length kept.now.game.now }
-    requires plan { IsPlanOf kept.now solution.now.rows }
-    ensures first { MatchOption result ((v w : ℕ) → Leaves kept.now.game.now solution.now.rows v w → ⊥)
-        (λ e. IsFirstLeaving kept.now.game.now solution.now.rows e.0 e.1) }
-    ensures within { IfSome result (λ e. (e.0 < length kept.now.game.now) × (e.1 < length kept.now.game.now)) }
+fn first_leaving(plan: &Plan) -> Option<(u32, u32)>
+    ensures first { MatchOption result ((v w : ℕ) → Leaves plan.now.kept.now.game.now plan.now.solution.now.rows v w → ⊥)
+        (λ e. IsFirstLeaving plan.now.kept.now.game.now plan.now.solution.now.rows e.0 e.1) }
+    ensures within { IfSome result (λ e. (e.0 < length plan.now.kept.now.game.now) × (e.1 < length plan.now.kept.now.game.now)) }
 {
-    'vertices: for v in 0..kept.game.len() {
-        if let Some(w) = leaves_to(kept, solution, v) {
+    'vertices: for v in 0..plan.kept.game.len() {
+        if let Some(w) = leaves_to(plan, v) {
             return Some((v, w));
         }
     }
@@ -203,18 +215,17 @@ fn first_leaving(kept: &StrategyGraph, solution: &Solution) -> Option<(u32, u32)
 }
 
 /// The least vertex of the other winner to which a kept edge leads from `v`.
-fn leaves_to(kept: &StrategyGraph, solution: &Solution, v: u32) -> Option<u32>
-    requires kept { IsKept kept.now }
-    requires size { length solution.now.rows ≡ length kept.now.game.now }
-    requires vertex { v < length kept.now.game.now }
-    ensures first { MatchOption result (NoneHas (LeavesTo kept.now solution.now.rows v)) (IsFirstTo kept.now solution.now.rows v) }
-    ensures within { IfSome result (λ w. w < length kept.now.game.now) }
+fn leaves_to(plan: &Plan, v: u32) -> Option<u32>
+    requires { v < length plan.now.kept.now.game.now }
+    ensures first { MatchOption result (NoneHas (LeavesTo plan.now.kept.now plan.now.solution.now.rows v))
+        (IsFirstTo plan.now.kept.now plan.now.solution.now.rows v) }
+    ensures within { IfSome result (λ w. w < length plan.now.kept.now.game.now) }
 {
     // for the proof: the graph is a game, so successors rise
-    let _n = kept.game.len();
-    let winner = row_at(solution, v).0;
-    'row: for w in kept.row(v) {
-        if row_at(solution, *w).0 != winner {
+    let _n = plan.kept.game.len();
+    let winner = row_at(plan.solution, v).0;
+    'row: for w in plan.kept.row(v) {
+        if row_at(plan.solution, *w).0 != winner {
             return Some(*w);
         }
     }

@@ -1,7 +1,7 @@
 //! The edges that are kept of a game, read in place: no edge is copied.
 
 ghost use Rattle.std.specs.Prelude.{◌≡◌, ℕ, ◌<◌, ◌^◌, length, slice_index};
-ghost use Rattle.pg_dominion.specs.KeptEdges.{IsKept, kept_row};
+ghost use Rattle.pg_dominion.specs.Kept.{IsKept};
 
 use pg_game::{ForwardGame, Mask};
 
@@ -13,13 +13,15 @@ pub struct StrategyGraph<'g> {
     pub chosen: Mask,
     pub choices: Vec<u32>,
     pub bad: Mask,
+    pub ghost shape: { IsKept game.now inside chosen choices.items bad },
 }
 
 impl<'g> StrategyGraph<'g> {
+    ghost use Rattle.pg_dominion.specs.KeptEdges.{kept_row};
+
     /// Where the kept edges of a vertex end.
     pub fn row(&self, v: u32) -> &[u32]
-        requires kept { IsKept self.now }
-        requires vertex { v < length self.now.game.now }
+        requires { v < length self.now.game.now }
         ensures all { result.now ≡ kept_row self.now v }
         ensures below { (i : ℕ) → i < length result.now → slice_index result.now i < length self.now.game.now }
         ensures short { length result.now < 2 ^ 32 }

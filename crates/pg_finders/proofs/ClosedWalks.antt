@@ -2,7 +2,7 @@
 use Rattle.pg_finders.proofs.Common.{◌≡◌, ℕ, zero, suc, ◌<◌, ◌≤◌, Bool, true, false, ◌⊎◌, inl, inr, List, [], ◌∷◌, refl, sym, ◌∙◌, ap, arith, Contains, Player}
 use Rattle.pg_finders.proofs.Common.{of_parity, Graph, priority_of, VertexSet, In, Walk, ClosedWalk, greatest_priority, Contains-head, Contains-tail}
 use Rattle.pg_finders.proofs.Common.{Contains-cons, Contains-nil, ClosedWalk-weaker}
-use Rattle.pg_game.proofs.Grown.{OnLevel, one_level}
+use Rattle.pg_game.proofs.GrownRegions.{OnLevel, one_level}
 
 -- an edge between vertices that have the property
 abbrev pub Among : (ℕ → ℕ → Type 0) → (ℕ → Type 0) → ℕ → ℕ → Type 0

@@ -46,7 +46,7 @@ pub use Rattle.pg_finders.specs.private.Solved.{IsAttracted, IsBegun, IsSolvedIn
 pub use Rattle.pg_finders.specs.private.loops.Singles.{itself, loops}
 pub use Rattle.pg_finders.specs.private.recursion.Growing.{AttractsNoActive, Before, IsGrown, IsKnown, IsReady, IsTested, active_of, place, won_of}
 pub use Rattle.pg_finders.specs.private.recursion.Listed.{Apart, Once, listed}
-pub use Rattle.pg_finders.specs.private.recursion.Order.{AllStand, AreVertices, priority_at, vertex_at_place}
+pub use Rattle.pg_finders.specs.private.recursion.Order.{AllStand, AreDistinct, AreGreatest, AreVertices, IsLast, IsOrder, priority_at, vertex_at_place}
 pub use Rattle.pg_finders.specs.private.recursion.Planned.{HasBelow, IsGiven, SameAt, SameOutside, choices_of, size, winners_of}
 pub use Rattle.pg_finders.specs.private.recursion.Running.{AllPlaced, IsRunning, how_many_gone, steps_left, work}
 pub use Rattle.pg_finders.specs.private.recursion.Settled.{SettledLists, settled_of}

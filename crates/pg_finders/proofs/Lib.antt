@@ -4,7 +4,6 @@ pub mod Sets
 pub mod Masks
 pub mod Sizes
 pub mod Rows
-pub mod Solving
-pub mod Good
-pub mod Apart
-pub mod Jobs
+pub mod RowsByPlace
+pub mod GoodClaims
+pub mod SolvedSubgames

@@ -1,2 +1,2 @@
 -- Dominions of a single vertex: lemmas.
-pub mod Singles
+pub mod SingleDominions

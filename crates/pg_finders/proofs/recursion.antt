@@ -1,12 +1,13 @@
 -- The recursion: lemmas.
-pub mod Waiting
-pub mod UnderWay
-pub mod Listed
-pub mod Growing
-pub mod Again
-pub mod Ordered
-pub mod Beginning
-pub mod Sharing
-pub mod Running
-pub mod Leaving
-pub mod Entering
+pub mod RepeatedAttraction
+pub mod BegunSubgame
+pub mod ActivePart
+pub mod AttractionSteps
+pub mod FinishedSubgame
+pub mod ListsAsSets
+pub mod GreatestVertices
+pub mod PriorityOrder
+pub mod StepBounds
+pub mod SharedLists
+pub mod LoopSteps
+pub mod WaitingLevels

@@ -1,9 +1,9 @@
 -- The search for small dominions: lemmas.
-pub mod Walked
-pub mod Extended
-pub mod Fresh
-pub mod Restored
-pub mod Counted
-pub mod Gathered
-pub mod Ends
 pub mod Bits
+pub mod ChoiceCount
+pub mod LastVertex
+pub mod PartialClaims
+pub mod FreshChoice
+pub mod GatheredClaim
+pub mod RestoredRows
+pub mod WayBack

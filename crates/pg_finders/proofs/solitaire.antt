@@ -1,3 +1,3 @@
 -- Solitaire subgames: lemmas.
-pub mod Backward
-pub mod Forced
+pub mod BackwardSearch
+pub mod ForcedPlayer

@@ -1,5 +1,6 @@
 -- Definitions that only private functions and proofs cite: no public contract uses them.
 pub mod Solved
+pub mod DeadEnds
 pub mod recursion
 pub mod small
 pub mod solitaire

@@ -6,6 +6,7 @@ ghost use Rattle.pg_game.specs.VertexSet.{In, members};
 ghost use Rattle.pg_game.specs.Subgame.{IsSubgame};
 ghost use Rattle.pg_game.specs.Least.{IsLeast};
 ghost use Rattle.pg_finders.specs.Part.{IsPart, IsDeadEnd, IsOut};
+ghost use Rattle.pg_finders.specs.private.DeadEnds.{HasNoDeadEnd};
 
 use pg_dominion::Claim;
 use pg_game::{Game, Mask, Player, Sequence};
@@ -54,6 +55,18 @@ impl<'g> Inside<'g> {
         Inside { game, mask }
     }
 
+    /// Both, borrowed.
+    pub(crate) fn view(&self) -> View<'_>
+        ensures graph { result.game.now ≡ self.now.graph }
+        ensures mask { result.mask.now ≡ self.now.mask }
+        ensures part { IsPart self.now }
+    {
+        View {
+            game: self.game,
+            mask: &self.mask,
+        }
+    }
+
     /// The game.
     pub fn game(&self) -> &'g Game
         ensures graph { result.now ≡ self.now.graph }
@@ -68,6 +81,15 @@ impl<'g> Inside<'g> {
     {
         &self.mask
     }
+}
+
+/// A game and a subgame of it, borrowed: what the finders' own functions pass on.
+#[derive(Clone, Copy)]
+pub(crate) struct View<'a> {
+    pub game: &'a Game,
+    pub mask: &'a Mask,
+    ghost size: { length mask.now ≡ length game.now },
+    ghost no_dead_end: { HasNoDeadEnd game.now (members mask.now) },
 }
 
 /// A copy of the unsettled part of a board, with the number of its entries and the number of settled vertices.

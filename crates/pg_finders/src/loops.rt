@@ -9,7 +9,6 @@ ghost use Rattle.pg_game.specs.declared.player.Player.TheVariants.{Even, Odd};
 ghost use Rattle.pg_game.specs.Player.{of_parity, same_player};
 ghost use Rattle.pg_game.specs.Graph.{HasEdge, owner_of, priority_of};
 ghost use Rattle.pg_game.specs.VertexSet.{In, members};
-ghost use Rattle.pg_game.specs.Subgame.{IsSubgame};
 ghost use Rattle.pg_game.specs.Least.{NoneHas};
 ghost use Rattle.pg_dominion.specs.Claim.{IsGoodIn, named, choice_in};
 ghost use Rattle.pg_finders.specs.Claims.{own_choices, rows_below};
@@ -19,7 +18,7 @@ ghost use Rattle.pg_finders.specs.private.loops.Singles.{itself, loops};
 
 use crate::inside::{Inside, claim_of};
 use pg_dominion::{Claim, own_choice};
-use pg_game::{Game, Mask, Player};
+use pg_game::Player;
 use std::alloc::{AllocError, Global};
 
 /// The vertices that alone are the player's dominions, each with itself as the choice if he owns it.
@@ -51,10 +50,9 @@ fn rows_of_loops(
         (own_choices inside.now.graph player itself) (length inside.now.graph)) }
 {
     let game = inside.game();
-    let mask = inside.mask();
     let mut rows = Vec::new(alloc);
     for v in 0..game.len() {
-        if is_loop(game, mask, player, v) {
+        if is_loop(inside, player, v) {
             rows.push((v, own_choice(game.forward(), player, v, Some(v))))?;
         }
     }
@@ -62,29 +60,29 @@ fn rows_of_loops(
 }
 
 /// Whether a vertex alone is the player's dominion.
-fn is_loop(game: &Game, mask: &Mask, player: Player, v: u32) -> bool
-    requires size { length mask.now ≡ length game.now }
-    requires subgame { IsSubgame game.now (members mask.now) }
-    requires vertex { v < length game.now }
-    ensures { result ≡ loops game.now (members mask.now) player v }
+fn is_loop(inside: &Inside, player: Player, v: u32) -> bool
+    requires { v < length inside.now.graph }
+    ensures { result ≡ loops inside.now.graph (members inside.now.mask) player v }
 {
+    let game = inside.game();
+    let mask = inside.mask();
     if !mask.has(v) || Player::of_parity(game.priority(v)) != player {
         return false;
     }
     if game.owner(v) == player {
         game.has_edge(v, v)
     } else {
-        has_no_other_successor(game, mask, v)
+        has_no_other_successor(inside, v)
     }
 }
 
 /// Whether a vertex is its own only successor in the mask, or has none there.
-fn has_no_other_successor(game: &Game, mask: &Mask, v: u32) -> bool
-    requires size { length mask.now ≡ length game.now }
-    requires vertex { v < length game.now }
-    ensures { IsTrue result ↔ ((w : ℕ) → HasEdge game.now v w → In (members mask.now) w → w ≡ v) }
+fn has_no_other_successor(inside: &Inside, v: u32) -> bool
+    requires { v < length inside.now.graph }
+    ensures { IsTrue result ↔ ((w : ℕ) → HasEdge inside.now.graph v w → In (members inside.now.mask) w → w ≡ v) }
 {
-    for w in game.successors(v) {
+    let mask = inside.mask();
+    for w in inside.game().successors(v) {
         if *w != v && mask.has(*w) {
             return false;
         }

@@ -4,9 +4,9 @@
 //! number of subgames that are begun, which is exponential on some games.
 
 ghost use Rattle.std.specs.Prelude.{◌≡◌, length, IfOk, ◌≢◌, ◌≤◌, ◌<◌, ◌^◌, drop, take, ◌||◌, ℕ, All, ◌++◌, ◌∷◌, [], OnOk, true, false};
-ghost use Rattle.std.specs.Prelude.{None, IsSome, IfSome};
+ghost use Rattle.std.specs.Prelude.{None, Some, IsNone, IsSome, IfSome};
 ghost use Rattle.pg_game.specs.declared.player.Player.TheVariants.{Even, Odd};
-ghost use Rattle.pg_game.specs.VertexSet.{members, union};
+ghost use Rattle.pg_game.specs.VertexSet.{In, members, union};
 ghost use Rattle.pg_finders.specs.private.Solved.{won_inside, IsSolvedInside};
 ghost use Rattle.pg_finders.specs.private.recursion.Planned.{winners_of, choices_of, HasSize, size};
 ghost use Rattle.pg_finders.specs.Claims.{AreClaims, own_choices, rows_below};
@@ -17,7 +17,7 @@ ghost use Rattle.pg_game.specs.Player.{opponent};
 ghost use Rattle.std.specs.Borrow.{sem};
 ghost use Rattle.pg_finders.specs.private.recursion.Settled.{settled_of, LendsList};
 ghost use Rattle.pg_finders.specs.private.recursion.UnderWay.{count_at};
-ghost use Rattle.pg_finders.specs.private.recursion.Running.{IsRunning, how_many_gone, work};
+ghost use Rattle.pg_finders.specs.private.recursion.Running.{IsRunning, how_many_gone, with_active, work};
 ghost use Rattle.pg_game.specs.private.VertexSet.{without};
 
 mod order;
@@ -25,7 +25,7 @@ mod subgame;
 
 use crate::inside::{Inside, claim_of};
 use crate::recursion::order::Order;
-use crate::recursion::subgame::{Plan, Subgame, begin};
+use crate::recursion::subgame::{Plan, Subgame};
 use pg_dominion::{Claim, own_choice};
 use pg_game::{Game, Mask, Memory, Player};
 use std::alloc::Global;
@@ -42,16 +42,15 @@ pub struct Solved {
 pub fn zielonka(alloc: Global, inside: &Inside) -> Result<Solved, Memory>
     ensures { IfOk result (λ solved. AreClaims inside.now.graph (members inside.now.mask) solved.even solved.odd) }
 {
-    match solve_up_to(alloc, inside, None)? {
-        Some(solved) => Ok(solved),
-        None => unreachable!(),
-    }
+    Ok(solve_up_to(alloc, inside, None)?.unwrap())
 }
 
 /// The same as `zielonka`, unless it needs more steps than these: then it gives up, and there are no claims. A step begins a
-/// subgame that has a vertex. The same subgame needs the same number of steps in each call, and no vertex inside needs none.
+/// subgame that has a vertex. If no vertex is inside, it needs none, and otherwise at least one.
 pub fn zielonka_within(alloc: Global, inside: &Inside, steps: u64) -> Result<Option<Solved>, Memory>
-    ensures { IfOk result (λ found. IfSome found (λ solved. AreClaims inside.now.graph (members inside.now.mask) solved.even solved.odd)) }
+    ensures claims { IfOk result (λ found. IfSome found (λ solved. AreClaims inside.now.graph (members inside.now.mask) solved.even solved.odd)) }
+    ensures nothing { IfOk result (λ found. ((v : ℕ) → members inside.now.mask v ≡ false) → IsSome found) }
+    ensures no_steps { IfOk result (λ found. steps ≡ 0 → (v : ℕ) → In (members inside.now.mask) v → IsNone found) }
 {
     solve_up_to(alloc, inside, Some(steps))
 }
@@ -60,6 +59,8 @@ pub fn zielonka_within(alloc: Global, inside: &Inside, steps: u64) -> Result<Opt
 fn solve_up_to(alloc: Global, inside: &Inside, limit: Option<u64>) -> Result<Option<Solved>, Memory>
     ensures claims { IfOk result (λ found. IfSome found (λ solved. AreClaims inside.now.graph (members inside.now.mask) solved.even solved.odd)) }
     ensures unlimited { IfOk result (λ found. limit ≡ None → IsSome found) }
+    ensures nothing { IfOk result (λ found. ((v : ℕ) → members inside.now.mask v ≡ false) → IsSome found) }
+    ensures no_steps { IfOk result (λ found. limit ≡ Some 0 → (v : ℕ) → In (members inside.now.mask) v → IsNone found) }
 {
     if inside.mask().is_empty() {
         return Ok(Some(Solved {
@@ -74,6 +75,7 @@ fn solve_up_to(alloc: Global, inside: &Inside, limit: Option<u64>) -> Result<Opt
 fn solve(alloc: Global, inside: &Inside, limit: Option<u64>) -> Result<Option<Solved>, Memory>
     ensures claims { IfOk result (λ found. IfSome found (λ solved. AreClaims inside.now.graph (members inside.now.mask) solved.even solved.odd)) }
     ensures unlimited { IfOk result (λ found. limit ≡ None → IsSome found) }
+    ensures no_steps { IfOk result (λ found. limit ≡ Some 0 → (v : ℕ) → In (members inside.now.mask) v → IsNone found) }
 {
     let game = inside.game();
     let mask = inside.mask();
@@ -109,7 +111,8 @@ impl Solver {
     fn new(alloc: Global, game: &Game, inside: &Mask) -> Result<Solver, Memory>
         requires length { length inside.now ≡ length game.now }
         requires subgame { IsSubgame game.now (members inside.now) }
-        ensures { IfOk result (λ solver. IsRunning game.now inside.now solver solver.frames.items) }
+        ensures running { IfOk result (λ solver. IsRunning game.now inside.now solver solver.frames.items) }
+        ensures active { IfOk result (λ solver. solver.subgame.active ≡ inside.now) }
     {
         // Capacities are for all vertices that a list may get, as far as this is known. If a list outgrows a block below a KiB, the
         // allocator of glibc keeps that block, and does not return the memory below it to the system.
@@ -153,6 +156,7 @@ impl Solver {
             → IsSolvedInside game.now (members inside.now) (winners_of self.new.subgame.plan) (choices_of self.new.subgame.plan)) }
         ensures size { IfOk result (λ done. done ≡ true → HasSize (length game.now) self.new.subgame.plan) }
         ensures unlimited { IfOk result (λ done. limit ≡ None → done ≡ true) }
+        ensures no_steps { IfOk result (λ done. limit ≡ Some 0 → (v : ℕ) → In (active_of self.old.subgame) v → done ≡ false) }
     {
         let mut left = limit;
         'steps: loop {
@@ -170,7 +174,7 @@ impl Solver {
         Ok(true)
     }
 
-    /// Begins the active part: sets aside what its greatest priority attracts. False if nothing is
+    /// Begins the active part: sets aside its greatest vertices of one parity and what they attract. False if nothing is
     /// active.
     fn enter(&mut self, game: &Game, inside: &Mask) -> Result<bool, Memory>
         requires { IsRunning game.now inside.now self.old self.old.frames.items }
@@ -180,27 +184,25 @@ impl Solver {
         ensures same { IfOk result (λ entered. entered ≡ false
             → work (size inside.now) self.new self.new.frames.items ≡ work (size inside.now) self.old self.old.frames.items) }
         ensures none { IfOk result (λ entered. entered ≡ false → (v : ℕ) → active_of self.new.subgame v ≡ false) }
+        ensures kept { IfOk result (λ entered. entered ≡ false → self.new.subgame ≡ self.old.subgame) }
     {
         // for the proof: there are so few vertices that the numbers listed add up without overflow
         let _n = game.len();
         if self.gone() == self.size {
             return Ok(false);
         }
-        let place = self.order.upto();
         let Some(top) = self.order.top(game, &self.subgame.active) else {
             return Ok(false);
         };
-        begin(
-            &mut self.subgame,
-            &mut self.order,
-            game,
-            top,
-            &mut self.list,
-        )?;
+        let place = self.order.upto();
+        let player = Player::of_parity(top);
+        self.order
+            .list_greatest(game, &self.subgame.active, player, &mut self.list)?;
+        self.subgame.begin(game, player, &mut self.list)?;
         let set_aside = self.set_aside.len();
-        append_all(&mut self.set_aside, &self.list)?;
+        self.set_aside.extend_from_slice(&self.list)?;
         self.frames.push(Frame {
-            player: Player::of_parity(top),
+            player,
             place,
             even: self.settled.count(Player::Even),
             odd: self.settled.count(Player::Odd),
@@ -286,12 +288,7 @@ impl Solver {
             (drop (count_at frame frame.player) (settled_of self.old.settled frame.player)) v) }
         ensures own { settled_of self.new.settled frame.player ≡ take (count_at frame frame.player) (settled_of self.old.settled frame.player) }
         ensures other { settled_of self.new.settled (opponent frame.player) ≡ settled_of self.old.settled (opponent frame.player) }
-        ensures set_aside { self.new.set_aside ≡ self.old.set_aside }
-        ensures plan { self.new.subgame.plan ≡ self.old.subgame.plan }
-        ensures cursors { self.new.subgame.cursors ≡ self.old.subgame.cursors }
-        ensures order { self.new.order ≡ self.old.order }
-        ensures frames { self.new.frames ≡ self.old.frames }
-        ensures size { self.new.size ≡ self.old.size }
+        ensures same { self.new ≡ with_active self.old self.new.subgame.active self.new.settled }
     {
         insert_all(&mut self.subgame.active, &self.set_aside[frame.set_aside..]);
         let own = frame.count(frame.player);
@@ -381,7 +378,8 @@ impl Settled {
         ensures own { OnOk result (settled_of self.new player ≡ settled_of self.old player ++ drop from list.now) }
         ensures other { OnOk result (settled_of self.new (opponent player) ≡ settled_of self.old (opponent player)) }
     {
-        append_all(self.list_mut(player), &list[from..])
+        self.list_mut(player).extend_from_slice(&list[from..])?;
+        Ok(())
     }
 
     /// Settles for the player what he attracts to his vertices. Of the active vertices only those set aside from a place
@@ -424,6 +422,7 @@ impl Settled {
 /// Takes one of the steps that are left. False if none is left; without a limit one always is.
 fn take_step(left: &mut Option<u64>) -> bool
     ensures unlimited { left.old ≡ None → (result ≡ true) × (left.new ≡ None) }
+    ensures none { left.old ≡ Some 0 → result ≡ false }
 {
     match *left {
         None => true,
@@ -433,16 +432,6 @@ fn take_step(left: &mut Option<u64>) -> bool
             true
         }
     }
-}
-
-/// Appends the vertices to the list.
-fn append_all(list: &mut Vec<u32>, vertices: &[u32]) -> Result<(), Memory>
-    ensures { OnOk result (list.new.items ≡ list.old.items ++ vertices.now) }
-{
-    for v in vertices {
-        list.push(*v)?;
-    }
-    Ok(())
 }
 
 /// Adds the listed vertices to the mask.

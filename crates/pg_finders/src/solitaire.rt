@@ -7,7 +7,6 @@
 ghost use Rattle.std.specs.Prelude.{◌≡◌, ℕ, ◌<◌, ◌↔◌, length, slice_index, IfOk, IfSome, IsNone, IsTrue, MatchOption, ◌⊎◌, List, OnOk};
 ghost use Rattle.pg_game.specs.VertexSet.{In, members};
 ghost use Rattle.pg_game.specs.Graph.{owner_of, priority_of};
-ghost use Rattle.pg_game.specs.Subgame.{IsSubgame};
 ghost use Rattle.pg_dominion.specs.Claim.{IsGoodIn};
 ghost use Rattle.pg_finders.specs.Part.{IsOut};
 ghost use Rattle.pg_finders.specs.private.recursion.Planned.{HoldsSet};
@@ -17,7 +16,7 @@ ghost use Rattle.pg_finders.specs.private.solitaire.Solitaire.{HasOneAt, IsSingl
 ghost use Rattle.pg_game.specs.Walk.{Walk};
 ghost use Rattle.pg_finders.specs.private.solitaire.Leading.{IsQueue, Follows};
 
-use crate::inside::{Inside, claim_of};
+use crate::inside::{Inside, View, claim_of};
 use pg_dominion::{Claim, StrategyGraph, least_bad_vertex, own_choice};
 use pg_game::{Game, Mask, Player};
 use std::alloc::{AllocError, Global};
@@ -30,28 +29,41 @@ pub fn find_solitaire(alloc: Global, inside: &Inside) -> Result<Option<Claim>, A
         (λ claim. IsSolitaire inside.now.graph (members inside.now.mask))) }
     ensures good { IfOk result (λ found. MatchOption found (Unit {0}) (λ claim. IsGoodIn inside.now.graph (members inside.now.mask) claim.player claim.rows)) }
 {
-    let game = inside.game();
-    let mask = inside.mask();
-    if mask.is_empty() {
+    let view = inside.view();
+    if view.mask.is_empty() {
         return Ok(None);
     }
-    if has_one_successor(game, mask, Player::Even) {
-        return Ok(Some(solve(alloc, game, mask, Player::Even)?));
+    if has_one_successor(&view, Player::Even) {
+        let even = Solitaire {
+            view,
+            forced: Player::Even,
+        };
+        return Ok(Some(solve(alloc, &even)?));
     }
-    if has_one_successor(game, mask, Player::Odd) {
-        return Ok(Some(solve(alloc, game, mask, Player::Odd)?));
+    if has_one_successor(&view, Player::Odd) {
+        let odd = Solitaire {
+            view,
+            forced: Player::Odd,
+        };
+        return Ok(Some(solve(alloc, &odd)?));
     }
     Ok(None)
 }
 
+/// A subgame in which this player has a single successor at each of his vertices.
+#[derive(Clone, Copy)]
+struct Solitaire<'a> {
+    view: View<'a>,
+    forced: Player,
+    ghost one: { HasOneSuccessor view.game.now (members view.mask.now) forced },
+}
+
 /// Whether the player has a single successor in the mask at each of his vertices in it.
-fn has_one_successor(game: &Game, mask: &Mask, player: Player) -> bool
-    requires size { length mask.now ≡ length game.now }
-    requires subgame { IsSubgame game.now (members mask.now) }
-    ensures { IsTrue result ↔ HasOneSuccessor game.now (members mask.now) player }
+fn has_one_successor(view: &View, player: Player) -> bool
+    ensures { IsTrue result ↔ HasOneSuccessor view.now.game.now (members view.now.mask.now) player }
 {
-    for v in 0..game.len() {
-        if mask.has(v) && game.owner(v) == player && single_successor(game, mask, v).is_none() {
+    for v in 0..view.game.len() {
+        if view.mask.has(v) && view.game.owner(v) == player && single_successor(view, v).is_none() {
             return false;
         }
     }
@@ -59,15 +71,14 @@ fn has_one_successor(game: &Game, mask: &Mask, player: Player) -> bool
 }
 
 /// The single successor of a vertex in the mask. None if there are two, or none.
-fn single_successor(game: &Game, mask: &Mask, v: u32) -> Option<u32>
-    requires size { length mask.now ≡ length game.now }
-    requires vertex { v < length game.now }
-    ensures found { IfSome result (λ w. IsSingle game.now (members mask.now) v w) }
-    ensures none { IsNone result → HasOneAt game.now (members mask.now) v → IsOut game.now (members mask.now) v }
+fn single_successor(view: &View, v: u32) -> Option<u32>
+    requires { v < length view.now.game.now }
+    ensures found { IfSome result (λ w. IsSingle view.now.game.now (members view.now.mask.now) v w) }
+    ensures none { IsNone result → HasOneAt view.now.game.now (members view.now.mask.now) v → IsOut view.now.game.now (members view.now.mask.now) v }
 {
     let mut single = None;
-    for w in game.successors(v) {
-        if mask.has(*w) {
+    for w in view.game.successors(v) {
+        if view.mask.has(*w) {
             match single {
                 Some(x) if x != *w => return None,
                 _ => single = Some(*w),
@@ -77,28 +88,27 @@ fn single_successor(game: &Game, mask: &Mask, v: u32) -> Option<u32>
     single
 }
 
-/// A claim that is good in the subgame, where `forced` has a single successor inside at each of his vertices.
-fn solve(alloc: Global, game: &Game, mask: &Mask, forced: Player) -> Result<Claim, AllocError>
-    requires size { length mask.now ≡ length game.now }
-    requires subgame { IsSubgame game.now (members mask.now) }
-    requires some { (v : ℕ) × In (members mask.now) v }
-    requires one { HasOneSuccessor game.now (members mask.now) forced }
-    ensures { IfOk result (λ claim. IsGoodIn game.now (members mask.now) claim.player claim.rows) }
+/// A claim that is good in the subgame, which has a vertex.
+fn solve(alloc: Global, solitaire: &Solitaire) -> Result<Claim, AllocError>
+    requires { (v : ℕ) × In (members solitaire.now.view.mask.now) v }
+    ensures { IfOk result (λ claim. IsGoodIn solitaire.now.view.game.now (members solitaire.now.view.mask.now) claim.player claim.rows) }
 {
+    let view = &solitaire.view;
+    let forced = solitaire.forced;
     let kept = StrategyGraph {
-        game: game.forward(),
-        inside: mask.copy(alloc)?,
-        chosen: owned_by(alloc, game, mask, forced)?,
-        choices: single_successors(alloc, game, mask, forced)?,
-        bad: of_parity(alloc, game, mask, forced.other())?,
+        game: view.game.forward(),
+        inside: view.mask.copy(alloc)?,
+        chosen: owned_by(alloc, view, forced)?,
+        choices: single_successors(alloc, solitaire)?,
+        bad: of_parity(alloc, view, forced.other())?,
     };
     match least_bad_vertex(alloc, &kept)? {
-        None => claim_of_set(alloc, game, forced, mask, kept.choices.as_slice()),
+        None => claim_of_set(alloc, view.game, forced, view.mask, kept.choices.as_slice()),
         Some(goal) => {
-            let lead = lead_to(alloc, game, mask, goal)?;
+            let lead = lead_to(alloc, view, goal)?;
             claim_of_set(
                 alloc,
-                game,
+                view.game,
                 forced.other(),
                 &lead.taken,
                 lead.next.as_slice(),
@@ -108,13 +118,12 @@ fn solve(alloc: Global, game: &Game, mask: &Mask, forced: Player) -> Result<Clai
 }
 
 /// The player's vertices in the mask.
-fn owned_by(alloc: Global, game: &Game, mask: &Mask, player: Player) -> Result<Mask, AllocError>
-    requires { length mask.now ≡ length game.now }
-    ensures { IfOk result (λ set. HoldsSet set (length game.now) (owned game.now (members mask.now) player)) }
+fn owned_by(alloc: Global, view: &View, player: Player) -> Result<Mask, AllocError>
+    ensures { IfOk result (λ set. HoldsSet set (length view.now.game.now) (owned view.now.game.now (members view.now.mask.now) player)) }
 {
-    let mut set = Mask::empty(alloc, game.len())?;
-    for v in 0..game.len() {
-        if mask.has(v) && game.owner(v) == player {
+    let mut set = Mask::empty(alloc, view.game.len())?;
+    for v in 0..view.game.len() {
+        if view.mask.has(v) && view.game.owner(v) == player {
             set.insert(v);
         }
     }
@@ -122,52 +131,43 @@ fn owned_by(alloc: Global, game: &Game, mask: &Mask, player: Player) -> Result<M
 }
 
 /// By vertex, the single successors of the player's vertices in the mask.
-fn single_successors(
-    alloc: Global,
-    game: &Game,
-    mask: &Mask,
-    player: Player,
-) -> Result<Vec<u32>, AllocError>
-    requires size { length mask.now ≡ length game.now }
-    requires subgame { IsSubgame game.now (members mask.now) }
-    requires one { HasOneSuccessor game.now (members mask.now) player }
-    ensures size { IfOk result (λ next. length next.items ≡ length game.now) }
-    ensures single { IfOk result (λ next. (v : ℕ) → In (members mask.now) v → owner_of game.now v ≡ player
-        → IsSingle game.now (members mask.now) v (slice_index next.items v)) }
+fn single_successors(alloc: Global, solitaire: &Solitaire) -> Result<Vec<u32>, AllocError>
+    ensures size { IfOk result (λ next. length next.items ≡ length solitaire.now.view.game.now) }
+    ensures single { IfOk result (λ next. (v : ℕ) → In (members solitaire.now.view.mask.now) v
+        → owner_of solitaire.now.view.game.now v ≡ solitaire.now.forced
+        → IsSingle solitaire.now.view.game.now (members solitaire.now.view.mask.now) v (slice_index next.items v)) }
 {
-    let n = game.len();
+    let n = solitaire.view.game.len();
     let mut next = Vec::with_capacity(alloc, n as usize)?;
     for v in 0..n {
-        next.push(forced_choice(game, mask, player, v))?;
+        next.push(forced_choice(solitaire, v))?;
     }
     Ok(next)
 }
 
 /// The single successor of a vertex that the player owns in the mask, and 0 for another vertex.
-fn forced_choice(game: &Game, mask: &Mask, player: Player, v: u32) -> u32
-    requires size { length mask.now ≡ length game.now }
-    requires subgame { IsSubgame game.now (members mask.now) }
-    requires one { HasOneSuccessor game.now (members mask.now) player }
-    requires vertex { v < length game.now }
-    ensures { In (members mask.now) v → owner_of game.now v ≡ player → IsSingle game.now (members mask.now) v result }
+fn forced_choice(solitaire: &Solitaire, v: u32) -> u32
+    requires { v < length solitaire.now.view.game.now }
+    ensures { In (members solitaire.now.view.mask.now) v → owner_of solitaire.now.view.game.now v ≡ solitaire.now.forced
+        → IsSingle solitaire.now.view.game.now (members solitaire.now.view.mask.now) v result }
 {
-    if !mask.has(v) || game.owner(v) != player {
+    let view = &solitaire.view;
+    if !view.mask.has(v) || view.game.owner(v) != solitaire.forced {
         return 0;
     }
-    match single_successor(game, mask, v) {
+    match single_successor(view, v) {
         Some(w) => w,
         None => 0,
     }
 }
 
 /// The vertices in the mask whose priority has the player's parity.
-fn of_parity(alloc: Global, game: &Game, mask: &Mask, player: Player) -> Result<Mask, AllocError>
-    requires { length mask.now ≡ length game.now }
-    ensures { IfOk result (λ set. HoldsSet set (length game.now) (good_for game.now (members mask.now) player)) }
+fn of_parity(alloc: Global, view: &View, player: Player) -> Result<Mask, AllocError>
+    ensures { IfOk result (λ set. HoldsSet set (length view.now.game.now) (good_for view.now.game.now (members view.now.mask.now) player)) }
 {
-    let mut set = Mask::empty(alloc, game.len())?;
-    for v in 0..game.len() {
-        if mask.has(v) && Player::of_parity(game.priority(v)) == player {
+    let mut set = Mask::empty(alloc, view.game.len())?;
+    for v in 0..view.game.len() {
+        if view.mask.has(v) && Player::of_parity(view.game.priority(v)) == player {
             set.insert(v);
         }
     }
@@ -198,14 +198,13 @@ fn claim_of_set(
 }
 
 /// The vertices in the mask from which a walk leads to the goal over no greater priority than the goal's.
-fn lead_to(alloc: Global, game: &Game, mask: &Mask, goal: u32) -> Result<Lead, AllocError>
-    requires size { length mask.now ≡ length game.now }
-    requires goal { goal < length game.now }
-    ensures leading { IfOk result (λ lead. AreLeading game.now (members mask.now) (priority_of game.now goal) goal lead.taken lead.next.items) }
-    ensures all { IfOk result (λ lead. (v : ℕ) (vs : List ℕ) → Walk (EdgeBelow game.now (members mask.now) (priority_of game.now goal)) v vs goal
+fn lead_to(alloc: Global, view: &View, goal: u32) -> Result<Lead, AllocError>
+    requires goal { goal < length view.now.game.now }
+    ensures leading { IfOk result (λ lead. AreLeading view.now.game.now (members view.now.mask.now) (priority_of view.now.game.now goal) goal lead.taken lead.next.items) }
+    ensures all { IfOk result (λ lead. (v : ℕ) (vs : List ℕ) → Walk (EdgeBelow view.now.game.now (members view.now.mask.now) (priority_of view.now.game.now goal)) v vs goal
         → In (members lead.taken) v) }
 {
-    let n = game.len();
+    let n = view.game.len();
     let mut lead = Lead {
         taken: Mask::empty(alloc, n)?,
         next: vec![in alloc; 0u32; n as usize]?,
@@ -217,7 +216,7 @@ fn lead_to(alloc: Global, game: &Game, mask: &Mask, goal: u32) -> Result<Lead, A
             break;
         }
         let to = queue[at];
-        reach_back(game, mask, goal, to, &mut lead, &mut queue)?;
+        reach_back(view, goal, to, &mut lead, &mut queue)?;
     }
     Ok(lead)
 }
@@ -231,28 +230,26 @@ struct Lead {
 
 /// Adds the vertices in the mask with an edge to `to` and no greater priority than the goal's.
 fn reach_back(
-    game: &Game,
-    mask: &Mask,
+    view: &View,
     goal: u32,
     to: u32,
     lead: &mut Lead,
     queue: &mut Vec<u32>,
 ) -> Result<(), AllocError>
-    requires size { length mask.now ≡ length game.now }
-    requires goal { goal < length game.now }
-    requires state { AreLeading game.now (members mask.now) (priority_of game.now goal) goal lead.old.taken lead.old.next.items }
-    requires queue { IsQueue game.now goal lead.old.taken queue.old.items }
+    requires goal { goal < length view.now.game.now }
+    requires state { AreLeading view.now.game.now (members view.now.mask.now) (priority_of view.now.game.now goal) goal lead.old.taken lead.old.next.items }
+    requires queue { IsQueue view.now.game.now goal lead.old.taken queue.old.items }
     requires to { (to ≡ goal) ⊎ In (members lead.old.taken) to }
-    requires vertex { to < length game.now }
-    ensures state { OnOk result (AreLeading game.now (members mask.now) (priority_of game.now goal) goal lead.new.taken lead.new.next.items) }
-    ensures queue { OnOk result (IsQueue game.now goal lead.new.taken queue.new.items) }
+    requires vertex { to < length view.now.game.now }
+    ensures state { OnOk result (AreLeading view.now.game.now (members view.now.mask.now) (priority_of view.now.game.now goal) goal lead.new.taken lead.new.next.items) }
+    ensures queue { OnOk result (IsQueue view.now.game.now goal lead.new.taken queue.new.items) }
     ensures follows { OnOk result (Follows lead.old.taken queue.old.items lead.new.taken queue.new.items) }
-    ensures seen { OnOk result (IsSeen game.now (members mask.now) (priority_of game.now goal) (members lead.new.taken) to) }
+    ensures seen { OnOk result (IsSeen view.now.game.now (members view.now.mask.now) (priority_of view.now.game.now goal) (members lead.new.taken) to) }
 {
-    let top = game.priority(goal);
-    'edges: for from in game.predecessors(to) {
+    let top = view.game.priority(goal);
+    'edges: for from in view.game.predecessors(to) {
         let v = *from;
-        if !mask.has(v) || lead.taken.has(v) || game.priority(v) > top {
+        if !view.mask.has(v) || lead.taken.has(v) || view.game.priority(v) > top {
             continue;
         }
         queue.push(v)?;

@@ -33,8 +33,8 @@ pub use Rattle.pg_game.specs.Specification.{first_unknown, first_unspecified, fi
 pub use Rattle.pg_game.specs.VertexSet.{In, VertexSet, Within, all_vertices, union}
 pub use Rattle.pg_game.specs.View.{graph_of}
 pub use Rattle.pg_game.specs.Walk.{ClosedWalk, Walk, greatest_priority}
-pub use Rattle.pg_game.specs.declared.game.GameFault.{GameFault}
-pub use Rattle.pg_game.specs.declared.game.Spec.{Spec}
+pub use Rattle.pg_game.specs.declared.specification.GameFault.{GameFault}
+pub use Rattle.pg_game.specs.declared.specification.Spec.{Spec}
 pub use Rattle.pg_game.specs.declared.player.Player.{Player}
 pub use Rattle.pg_game.specs.declared.player.Player.TheVariants.{Even, Odd}
 pub use Rattle.pg_game.specs.private.Gathered.{AreSums, HasCapacity, IsFilled, banded, is_in, once_in, partly, sources_below}

@@ -6,7 +6,7 @@ use Rattle.pg_game.proofs.Common.{first_repeated, first_without, first_unknown, 
 use Rattle.pg_game.proofs.Common.{rows_fault}
 use Rattle.std.specs.Prelude.{not, find}
 use Rattle.pg_game.proofs.Members.{Contains-head, Contains-tail, Contains-cons}
-use Rattle.pg_game.specs.declared.game.GameFault.TheVariants.{TooManyVertices, NoSuccessor, TooManyEdges, Unknown}
+use Rattle.pg_game.specs.declared.specification.GameFault.TheVariants.{TooManyVertices, NoSuccessor, TooManyEdges, Unknown}
 use Rattle.pg_game.specs.Specification.{is_empty, paired_or}
 
 pub record IsSound (specs : List Spec) : Type 0 where

@@ -1,7 +1,7 @@
 -- Specifications in lists of their parts, and those that are a game unchanged.
 use Rattle.std.specs.Prelude.{ℕ, List, map}
 use Rattle.pg_game.specs.declared.player.Player.{Player}
-use Rattle.pg_game.specs.declared.game.Spec.{Spec}
+use Rattle.pg_game.specs.declared.specification.Spec.{Spec}
 use Rattle.pg_game.specs.Graph.{Vertex}
 use Rattle.pg_game.specs.View.{graph_of}
 

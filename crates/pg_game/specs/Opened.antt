@@ -1,7 +1,7 @@
 -- Specifications, and the successors of one more that is not complete yet.
 use Rattle.std.specs.Prelude.{ℕ, List, take, drop}
 use Rattle.pg_game.specs.declared.player.Player.{Player}
-use Rattle.pg_game.specs.declared.game.Spec.{Spec}
+use Rattle.pg_game.specs.declared.specification.Spec.{Spec}
 use Rattle.pg_game.specs.Flat.{specs_from}
 use Rattle.pg_game.specs.Rows.{rows_of}
 

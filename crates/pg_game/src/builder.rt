@@ -1,40 +1,38 @@
-//! Specifications become a game here, or their first fault. A `GameBuilder` has whole specifications, each part in a list of
-//! its own, which is the game's where nothing has to be sorted. An `IncrementalBuilder` has one more that is not complete,
-//! so that a reader of texts writes each successor once.
+//! Specifications in lists, which are sorted and resolved here, or have a first fault. A `GameBuilder` has whole
+//! specifications, each part in a list of its own, which is the game's where nothing has to be sorted. An `IncrementalBuilder`
+//! has one more that is not complete, so that a reader of texts writes each successor once.
 
-ghost use Rattle.std.specs.Prelude.{◌≡◌, ◌<◌, ◌≤◌, ◌^◌, ◌↔◌, ◌⊎◌, ◌++◌, ◌∷◌, [], ℕ, length, map, slice_index, slice_index_or, All, Contains};
+ghost use Rattle.std.specs.Prelude.{◌≡◌, ◌<◌, ◌≤◌, ◌^◌, ◌↔◌, ◌++◌, ◌∷◌, [], ℕ, length, map, slice_index, slice_index_or, All};
 ghost use Rattle.std.specs.Prelude.{IfOk, IfErr, OnOk, OnErr, IsTrue, None, Some};
 ghost use Rattle.std.specs.List.Sorted.{IsStrictlyIncreasing, IsNonDecreasing, IsPermutation};
 ghost use Rattle.pg_game.specs.Flat.{specs_from};
-ghost use Rattle.pg_game.specs.private.Stored.{AreParts, IsStored};
-ghost use Rattle.pg_game.specs.declared.game.Spec.{Spec};
-ghost use Rattle.pg_game.specs.Specification.{AreNumbers, IsGameOf, OrMemory, max_vertices, max_edges, edges, first_fault, first_repeated, first_without};
-ghost use Rattle.pg_game.specs.private.Identifiers.{ids_of, priorities_of, owners_of, successor_lists, twice_of, rows_fault};
+ghost use Rattle.pg_game.specs.private.Stored.{AreParts};
+ghost use Rattle.pg_game.specs.declared.specification.Spec.{Spec};
+ghost use Rattle.pg_game.specs.Specification.{OrMemory, max_vertices, max_edges, edges, first_repeated, first_without};
+ghost use Rattle.pg_game.specs.private.Identifiers.{ids_of, twice_of, rows_fault};
 ghost use Rattle.pg_game.specs.private.Lines.{AreLines};
-ghost use Rattle.pg_game.specs.Graph.{IsGame};
-ghost use Rattle.pg_game.specs.View.{graph_of};
 ghost use Rattle.pg_game.specs.private.Resolved.{AreResolvedSpecs};
 
 use crate::Memory;
-use crate::adjacency::Adjacency;
-use crate::game::{ForwardGame, GameFault, MAX_EDGES, MAX_VERTICES, Spec};
+use crate::adjacency::{Adjacency, is_rising, put_rising};
 use crate::identifiers::{Identifiers, index_set};
 use crate::player::Player;
+use crate::specification::{GameFault, MAX_EDGES, Spec};
 use std::alloc::Global;
 use std::marker::Model;
 
 /// Specifications in their order, part by part. The successors are identifiers.
 #[derive(Drop)]
 pub struct GameBuilder {
-    ids: Vec<u32>,
-    priorities: Vec<u32>,
-    owners: Vec<Player>,
-    rows: Adjacency,
+    pub(crate) ids: Vec<u32>,
+    pub(crate) priorities: Vec<u32>,
+    pub(crate) owners: Vec<Player>,
+    pub(crate) rows: Adjacency,
 }
 
 impl Model for GameBuilder {
     ghost use Rattle.std.specs.Prelude.{List};
-    ghost use Rattle.pg_game.specs.declared.game.Spec.{Spec};
+    ghost use Rattle.pg_game.specs.declared.specification.Spec.{Spec};
 
     ghost Value = { List Spec };
 
@@ -218,59 +216,9 @@ impl IncrementalBuilder {
     }
 }
 
-impl ForwardGame {
-    /// The game of these specifications, whose vertices go by rising identifier. Where the identifiers are 0, 1 and so on and
-    /// successors rise, the lists are the game's. Refused by the first fault, or by `Memory`.
-    pub fn from_rows(alloc: Global, specs: GameBuilder) -> Result<ForwardGame, GameFault>
-        requires { All AreNumbers specs }
-        ensures game { IfOk result (λ g. IsGame g × IsGameOf specs g × (first_fault specs ≡ None)) }
-        ensures fault { IfErr result (λ e. OrMemory (first_fault specs ≡ Some e) e) }
-    {
-        if specs.ids.is_empty() {
-            return Err(GameFault::NoVertex);
-        }
-        if specs.ids.len() > MAX_VERTICES {
-            return Err(GameFault::TooManyVertices);
-        }
-        if is_rising(specs.ids.as_slice()) {
-            return specs.game_in_order(alloc);
-        }
-        specs.game_by_sorting(alloc)
-    }
-}
-
 impl GameBuilder {
-    /// The game where identifiers rise. Where they are 0, 1 and so on and each row rises, the lists are used unchanged.
-    fn game_in_order(self, alloc: Global) -> Result<ForwardGame, GameFault>
-        requires numbers { All AreNumbers self }
-        requires some { 0 < length self }
-        requires few { length self ≤ max_vertices }
-        requires rising { IsStrictlyIncreasing (ids_of self) }
-        ensures game { IfOk result (λ g. IsGame g × IsGameOf self g × (first_fault self ≡ None)) }
-        ensures fault { IfErr result (λ e. OrMemory (first_fault self ≡ Some e) e) }
-    {
-        let identifiers = Identifiers::of_rising(alloc, self.ids.as_slice())?;
-        let resolved = self.resolved(alloc, &identifiers)?;
-        Ok(resolved.into_game(identifiers))
-    }
-
-    /// The game of specifications in any order, which are sorted by identifier.
-    fn game_by_sorting(self, alloc: Global) -> Result<ForwardGame, GameFault>
-        requires numbers { All AreNumbers self }
-        requires some { 0 < length self }
-        requires few { length self ≤ max_vertices }
-        ensures game { IfOk result (λ g. IsGame g × IsGameOf self g × (first_fault self ≡ None)) }
-        ensures fault { IfErr result (λ e. OrMemory (first_fault self ≡ Some e) e) }
-    {
-        let lines = self.sorted_lines(alloc)?;
-        let identifiers = self.distinct_identifiers(alloc, lines.as_slice())?;
-        let resolved = self.resolved(alloc, &identifiers)?;
-        let sorted = resolved.picked(alloc, lines.as_slice())?;
-        Ok(sorted.into_game(identifiers))
-    }
-
     /// A pair of each identifier and its line, by rising identifier. The only error is `Memory`.
-    fn sorted_lines(&self, alloc: Global) -> Result<Vec<(u32, u32)>, Memory>
+    pub(crate) fn sorted_lines(&self, alloc: Global) -> Result<Vec<(u32, u32)>, Memory>
         requires { length self.now ≤ max_vertices }
         ensures { IfOk result (λ lines. AreLines (ids_of self.now) lines.items) }
     {
@@ -280,7 +228,7 @@ impl GameBuilder {
     }
 
     /// The identifiers of the lines. Refused by the first identifier that is earlier in the list, or by `Memory`.
-    fn distinct_identifiers(
+    pub(crate) fn distinct_identifiers(
         &self,
         alloc: Global,
         lines: &[(u32, u32)],
@@ -315,7 +263,11 @@ impl GameBuilder {
 
     /// The specifications with vertices for successors, each once, rising. A vertex is the place of its identifier. Refused by
     /// the first fault of a row, or by `Memory`.
-    fn resolved(self, alloc: Global, identifiers: &Identifiers) -> Result<GameBuilder, GameFault>
+    pub(crate) fn resolved(
+        self,
+        alloc: Global,
+        identifiers: &Identifiers,
+    ) -> Result<GameBuilder, GameFault>
         requires few { length self ≤ max_vertices }
         requires identifiers { IsPermutation (ids_of self) identifiers.now }
         ensures resolved { IfOk result (λ resolved. AreResolvedSpecs identifiers.now self resolved) }
@@ -375,7 +327,7 @@ impl GameBuilder {
     }
 
     /// The specifications of these lines. The only error is `Memory`.
-    fn picked(&self, alloc: Global, lines: &[(u32, u32)]) -> Result<GameBuilder, Memory>
+    pub(crate) fn picked(&self, alloc: Global, lines: &[(u32, u32)]) -> Result<GameBuilder, Memory>
         requires { All (λ line. line.1 < length self.now) lines.now }
         ensures { IfOk result (λ specs. (d : Spec) → specs ≡ map (λ line. slice_index_or self.now line.1 d) lines.now) }
     {
@@ -387,74 +339,6 @@ impl GameBuilder {
         }
         Ok(specs)
     }
-
-    /// The game whose vertices have these identifiers, and the specifications' successors as vertices.
-    fn into_game(self, identifiers: Identifiers) -> ForwardGame
-        requires { IsStored identifiers (priorities_of self) (owners_of self) (successor_lists self) }
-        ensures { result ≡ graph_of identifiers (priorities_of self) (owners_of self) (successor_lists self) }
-    {
-        let GameBuilder {
-            ids: _ids,
-            priorities,
-            owners,
-            rows,
-        } = self;
-        ForwardGame {
-            identifiers,
-            priorities,
-            owners,
-            successors: rows,
-        }
-    }
-}
-
-/// Whether each number is below the next.
-#[inline]
-pub fn is_rising(numbers: &[u32]) -> bool
-    ensures { IsTrue result → IsStrictlyIncreasing numbers.now }
-{
-    'numbers: for k in 1..numbers.len() {
-        if numbers[k - 1] >= numbers[k] {
-            return false;
-        }
-    }
-    true
-}
-
-/// Leaves in `rising` each number of the row once, rising. The only error is `Memory`.
-pub fn put_rising(row: &[u32], rising: &mut Vec<u32>) -> Result<(), Memory>
-    ensures rising { OnOk result (IsStrictlyIncreasing rising.new.items) }
-    ensures same { OnOk result ((w : ℕ) → Contains row.now w ↔ Contains rising.new.items w) }
-{
-    rising.clear();
-    'row: for number in row {
-        push_unless_last(rising, *number)?;
-    }
-    make_rising(rising);
-    Ok(())
-}
-
-/// Adds a number at the end of the list, unless it is the last one already. The only error is `Memory`.
-#[inline]
-fn push_unless_last(numbers: &mut Vec<u32>, number: u32) -> Result<(), Memory>
-    ensures { OnOk result ((x : ℕ) → Contains numbers.new.items x ↔ (Contains numbers.old.items x ⊎ (x ≡ number))) }
-{
-    if numbers.last() != Some(&number) {
-        numbers.push(number)?;
-    }
-    Ok(())
-}
-
-/// Leaves each number once, rising.
-fn make_rising(numbers: &mut Vec<u32>)
-    ensures rising { IsStrictlyIncreasing numbers.new.items }
-    ensures same { (x : ℕ) → Contains numbers.old.items x ↔ Contains numbers.new.items x }
-{
-    if is_rising(numbers.as_slice()) {
-        return;
-    }
-    numbers.sort_unstable();
-    numbers.dedup();
 }
 
 /// A pair of each identifier and its line, in order. The only error is `Memory`.

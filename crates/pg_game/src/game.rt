@@ -1,84 +1,24 @@
-//! Parity games in the terms of PGSolver's manual: what specifies one, why there is none, and the game with its look-ups.
-//! Vertices go by rising identifier. A `ForwardGame` has successors alone, and a `Game` has predecessors too.
+//! Parity games in the terms of PGSolver's manual: how specifications become one, and its look-ups. Vertices go by rising
+//! identifier. A `ForwardGame` has successors alone, and a `Game` has predecessors too.
 
-ghost use Rattle.std.specs.Prelude.{◌≡◌, ◌<◌, ◌^◌, ◌↔◌, ℕ, length, slice_index, IfOk, IsTrue, IfErr, IfSome, IfNone, All, Some, None};
+ghost use Rattle.std.specs.Prelude.{◌≡◌, ◌<◌, ◌≤◌, ◌^◌, ◌↔◌, ℕ, length, slice_index, IfOk, IsTrue, IfErr, IfSome, IfNone, All, Some, None};
 ghost use Rattle.pg_game.specs.Predecessors.{ArePredecessors};
-ghost use Rattle.pg_game.specs.Specification.{AreNumbers, IsGameOf, first_fault, OrMemory};
+ghost use Rattle.std.specs.List.Sorted.{IsStrictlyIncreasing};
+ghost use Rattle.pg_game.specs.Specification.{AreNumbers, IsGameOf, first_fault, OrMemory, max_vertices};
+ghost use Rattle.pg_game.specs.private.Identifiers.{ids_of, priorities_of, owners_of, successor_lists};
+ghost use Rattle.pg_game.specs.private.Stored.{IsStored};
+ghost use Rattle.pg_game.specs.View.{graph_of};
 ghost use Rattle.pg_game.specs.Limits.{IsWithinLimits};
 ghost use Rattle.pg_game.specs.Graph.{IsGame, id_of, priority_of, owner_of, successors_of, HasEdge};
 
 use crate::Memory;
-use crate::adjacency::Adjacency;
+use crate::adjacency::{Adjacency, is_rising};
 use crate::builder::GameBuilder;
 use crate::identifiers::Identifiers;
 use crate::player::Player;
-use crate::sequence::Sequence;
-use std::alloc::{AllocError, AllocFailed, Global};
+use crate::specification::{GameFault, MAX_VERTICES, Spec};
+use std::alloc::Global;
 use std::marker::Model;
-use thiserror::Error;
-
-/// What a text says of one vertex. The successors are identifiers.
-#[derive(Drop)]
-pub struct Spec {
-    pub id: u32,
-    pub priority: u32,
-    pub owner: Player,
-    pub successors: Sequence<u32>,
-}
-
-/// The greatest number of vertices.
-pub const MAX_VERTICES: usize = 1_048_576;
-
-/// The greatest number of edges.
-pub const MAX_EDGES: usize = 16_777_216;
-
-/// Why specifications make no game.
-#[derive(Clone, Copy, Debug, Drop, PartialEq, Eq, Error)]
-pub enum GameFault {
-    /// The list is empty.
-    #[error("no vertex")]
-    NoVertex,
-    /// The list has more than 1,048,576 specifications.
-    #[error("too many vertices")]
-    TooManyVertices,
-    /// The first identifier that is earlier in the list.
-    #[error("vertex {0}: specified twice")]
-    Twice(u32),
-    /// The first specification without a successor.
-    #[error("vertex {0}: no successor")]
-    NoSuccessor(u32),
-    /// Distinct successors, summed over the specifications, are more than 16,777,216.
-    #[error("too many edges")]
-    TooManyEdges,
-    /// The first specification, and in it the first successor, that names no specification.
-    #[error("vertex {0}: successor {1} is not specified")]
-    Unknown(u32, u32),
-    /// Memory was refused.
-    #[error("no memory")]
-    Memory,
-}
-
-impl From<AllocError> for GameFault {
-    ghost use Rattle.std.specs.Prelude.{◌≡◌};
-    ghost use Rattle.pg_game.specs.declared.game.GameFault.TheVariants.{Memory};
-
-    ghost from_gives = { λ _ fault. fault ≡ Memory };
-
-    fn from(_fault: AllocError) -> GameFault {
-        GameFault::Memory
-    }
-}
-
-impl<T: Drop> From<AllocFailed<T>> for GameFault {
-    ghost use Rattle.std.specs.Prelude.{◌≡◌};
-    ghost use Rattle.pg_game.specs.declared.game.GameFault.TheVariants.{Memory};
-
-    ghost from_gives = { λ _ fault. fault ≡ Memory };
-
-    fn from(_fault: AllocFailed<T>) -> GameFault {
-        GameFault::Memory
-    }
-}
 
 /// A parity game.
 pub struct Game {
@@ -239,10 +179,10 @@ impl PartialEq for Game {
 
 /// A parity game without predecessors: what reading, writing and judging need. `Game::of_forward` adds them.
 pub struct ForwardGame {
-    pub(crate) identifiers: Identifiers,
-    pub(crate) priorities: Vec<u32>,
-    pub(crate) owners: Vec<Player>,
-    pub(crate) successors: Adjacency,
+    identifiers: Identifiers,
+    priorities: Vec<u32>,
+    owners: Vec<Player>,
+    successors: Adjacency,
 }
 
 impl Model for ForwardGame {
@@ -259,6 +199,25 @@ impl Model for ForwardGame {
 }
 
 impl ForwardGame {
+    /// The game of these specifications, whose vertices go by rising identifier. Where the identifiers are 0, 1 and so on and
+    /// successors rise, the lists are the game's. Refused by the first fault, or by `Memory`.
+    pub fn from_rows(alloc: Global, specs: GameBuilder) -> Result<ForwardGame, GameFault>
+        requires { All AreNumbers specs }
+        ensures game { IfOk result (λ g. IsGame g × IsGameOf specs g × (first_fault specs ≡ None)) }
+        ensures fault { IfErr result (λ e. OrMemory (first_fault specs ≡ Some e) e) }
+    {
+        if specs.ids.is_empty() {
+            return Err(GameFault::NoVertex);
+        }
+        if specs.ids.len() > MAX_VERTICES {
+            return Err(GameFault::TooManyVertices);
+        }
+        if is_rising(specs.ids.as_slice()) {
+            return specs.game_in_order(alloc);
+        }
+        specs.game_by_sorting(alloc)
+    }
+
     /// How many vertices there are: from 1 to 1,048,576.
     #[inline]
     pub fn len(&self) -> u32
@@ -355,5 +314,55 @@ impl Drop for ForwardGame {
             owners: _owners,
             successors: _successors,
         } = self;
+    }
+}
+
+impl GameBuilder {
+    /// The game where identifiers rise. Where they are 0, 1 and so on and each row rises, the lists are used unchanged.
+    fn game_in_order(self, alloc: Global) -> Result<ForwardGame, GameFault>
+        requires numbers { All AreNumbers self }
+        requires some { 0 < length self }
+        requires few { length self ≤ max_vertices }
+        requires rising { IsStrictlyIncreasing (ids_of self) }
+        ensures game { IfOk result (λ g. IsGame g × IsGameOf self g × (first_fault self ≡ None)) }
+        ensures fault { IfErr result (λ e. OrMemory (first_fault self ≡ Some e) e) }
+    {
+        let identifiers = Identifiers::of_rising(alloc, self.ids.as_slice())?;
+        let resolved = self.resolved(alloc, &identifiers)?;
+        Ok(resolved.into_game(identifiers))
+    }
+
+    /// The game of specifications in any order, which are sorted by identifier.
+    fn game_by_sorting(self, alloc: Global) -> Result<ForwardGame, GameFault>
+        requires numbers { All AreNumbers self }
+        requires some { 0 < length self }
+        requires few { length self ≤ max_vertices }
+        ensures game { IfOk result (λ g. IsGame g × IsGameOf self g × (first_fault self ≡ None)) }
+        ensures fault { IfErr result (λ e. OrMemory (first_fault self ≡ Some e) e) }
+    {
+        let lines = self.sorted_lines(alloc)?;
+        let identifiers = self.distinct_identifiers(alloc, lines.as_slice())?;
+        let resolved = self.resolved(alloc, &identifiers)?;
+        let sorted = resolved.picked(alloc, lines.as_slice())?;
+        Ok(sorted.into_game(identifiers))
+    }
+
+    /// The game whose vertices have these identifiers, and the specifications' successors as vertices.
+    fn into_game(self, identifiers: Identifiers) -> ForwardGame
+        requires { IsStored identifiers (priorities_of self) (owners_of self) (successor_lists self) }
+        ensures { result ≡ graph_of identifiers (priorities_of self) (owners_of self) (successor_lists self) }
+    {
+        let GameBuilder {
+            ids: _ids,
+            priorities,
+            owners,
+            rows,
+        } = self;
+        ForwardGame {
+            identifiers,
+            priorities,
+            owners,
+            successors: rows,
+        }
     }
 }

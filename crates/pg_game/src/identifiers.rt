@@ -4,13 +4,13 @@
 ghost use Rattle.std.specs.Prelude.{◌≡◌, ◌<◌, ◌↔◌, ℕ, [], length, slice_index, nat_eq, None, IfOk, IfErr, IfSome, IfNone, IsTrue, OnOk};
 ghost use Rattle.std.specs.List.{IsDistinct};
 ghost use Rattle.pg_game.specs.Specification.{first_repeated, OrMemory};
-ghost use Rattle.pg_game.specs.declared.game.GameFault.TheVariants.{Memory};
+ghost use Rattle.pg_game.specs.declared.specification.GameFault.TheVariants.{Memory};
 ghost use Rattle.pg_game.specs.private.Identifiers.{twice_of};
 ghost use Rattle.pg_game.specs.private.IdentifierList.{AreNames, AreOwnPlaces};
 ghost use Rattle.pg_game.specs.private.Seed.{seeded_by};
 ghost use Rattle.indexmap.specs.IndexSet.{hasher_of};
 
-use crate::game::GameFault;
+use crate::specification::GameFault;
 use indexmap::IndexSet;
 use std::alloc::Global;
 use std::hash::{BuildHasher, DefaultHasher, FoldHasher, Hasher};

@@ -13,9 +13,11 @@ mod identifiers;
 mod mask;
 mod player;
 mod sequence;
+mod specification;
 
 pub use builder::{GameBuilder, IncrementalBuilder};
-pub use game::{ForwardGame, Game, GameFault, Spec};
+pub use game::{ForwardGame, Game};
 pub use mask::Mask;
 pub use player::Player;
 pub use sequence::Sequence;
+pub use specification::{GameFault, Spec};

@@ -1,7 +1,7 @@
 //! Sets of vertices, one bit for each vertex. A call for one vertex reads or writes one word of 64 bits, and a call for the
 //! whole set goes over all words.
 
-ghost use Rattle.std.specs.Prelude.{◌≡◌, ◌<◌, ℕ, length, IfOk, true, false, slice_set, replicate};
+ghost use Rattle.std.specs.Prelude.{◌≡◌, ◌<◌, ◌≤◌, ℕ, length, IfOk, true, false, slice_index, slice_set, replicate};
 ghost use Rattle.pg_game.specs.VertexSet.{In, members, how_many};
 
 use crate::Memory;
@@ -93,6 +93,25 @@ impl Mask {
         ensures { self.new ≡ slice_set self.old v false }
     {
         self.words[(v / 64) as usize] &= !(1u64 << (v % 64));
+    }
+
+    /// The first place from `begin` on whose vertex is a member, or `end` where none before it is.
+    #[inline]
+    pub fn first_of(&self, vertices: &[u32], begin: u32, end: u32) -> u32
+        requires below { (k : ℕ) → k < length vertices.now → slice_index vertices.now k < length self.now }
+        requires begin { begin ≤ end }
+        requires end { end ≤ length vertices.now }
+        ensures begin { begin ≤ result }
+        ensures end { result ≤ end }
+        ensures passed { (k : ℕ) → begin ≤ k → k < result → members self.now (slice_index vertices.now k) ≡ false }
+        ensures found { result < end → In (members self.now) (slice_index vertices.now result) }
+    {
+        'places: for at in begin..end {
+            if self.has(vertices[at as usize]) {
+                return at;
+            }
+        }
+        end
     }
 
     /// The number of members.

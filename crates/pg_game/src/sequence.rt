@@ -45,11 +45,4 @@ impl<T> Sequence<T> {
     {
         self.items.as_slice()
     }
-
-    /// The vector of the items. Takes no memory.
-    pub fn into_vec(self) -> Vec<T>
-        ensures { result.items ≡ self }
-    {
-        self.items
-    }
 }

@@ -3,8 +3,6 @@
 ghost use Rattle.std.specs.Prelude.{All};
 ghost use Rattle.pg_game.specs.Specification.{AreNumbers};
 
-use crate::plain::Plain;
-use crate::sets::vertices_of;
 use pg_game::{Game, GameFault, Memory, Player, Sequence, Spec};
 use std::alloc::Global;
 
@@ -65,16 +63,6 @@ pub fn game_of(alloc: Global, rows: &[Vertex]) -> Result<Game, GameFault> {
     let mut draft = Draft::new(alloc);
     for (priority, owner, successors) in rows {
         draft.add(alloc, *priority, *owner, *successors)?;
-    }
-    draft.game(alloc)
-}
-
-/// The game of these vertices, whose successors are sets.
-pub fn game_of_sets(alloc: Global, rows: &[Plain]) -> Result<Game, GameFault> {
-    let mut draft = Draft::new(alloc);
-    for (priority, owner, set) in rows {
-        let successors = vertices_of(alloc, *set)?;
-        draft.add(alloc, *priority, *owner, successors.as_slice())?;
     }
     draft.game(alloc)
 }

@@ -1,8 +1,9 @@
 //! The definitions once more, as plain as they can be written, over games of at most 32 vertices.
 
-use crate::draft::{EVEN, Row};
-use crate::sets::{bit, has};
-use pg_game::Player;
+use crate::draft::{Draft, EVEN, Row};
+use crate::sets::{bit, has, vertices_of};
+use pg_game::{Game, GameFault, Player};
+use std::alloc::Global;
 
 /// Priority, owner and set of successors of a vertex; a game is a slice of them.
 pub type Plain = (u32, Player, u32);
@@ -140,4 +141,14 @@ pub fn first_foreign(on: &[Plain], other: &[Plain], rows: &[Row]) -> Option<u32>
         }
     }
     None
+}
+
+/// The game of these vertices, whose successors are sets.
+pub fn game_of_sets(alloc: Global, rows: &[Plain]) -> Result<Game, GameFault> {
+    let mut draft = Draft::new(alloc);
+    for (priority, owner, set) in rows {
+        let successors = vertices_of(alloc, *set)?;
+        draft.add(alloc, *priority, *owner, successors.as_slice())?;
+    }
+    draft.game(alloc)
 }

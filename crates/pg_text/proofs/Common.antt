@@ -19,7 +19,7 @@ pub use Rattle.pg_game.specs.Limits.{IsWithinLimits}
 pub use Rattle.pg_game.specs.Player.{digit_of, same_player}
 pub use Rattle.pg_game.specs.Specification.{first_fault, first_repeated, max_number}
 pub use Rattle.pg_game.specs.VertexSet.{In, members}
-pub use Rattle.pg_game.specs.declared.game.Spec.{Spec}
+pub use Rattle.pg_game.specs.declared.specification.Spec.{Spec}
 pub use Rattle.pg_game.specs.declared.player.Player.{Player}
 pub use Rattle.pg_game.specs.declared.player.Player.TheVariants.{Even}
 pub use Rattle.pg_text.specs.Bytes.{AllAre, EndsRun, begins_token, is_blank, is_digit, is_letter, is_no_quote, value_of}

@@ -7,7 +7,7 @@ use Rattle.std.specs.Prelude.{decimal}
 use Rattle.std.specs.Int.Digits.{digits_of}
 use Rattle.std.proofs.lemmas.Fmt.{decimal_by_steps_wide}
 use Rattle.std.proofs.lemmas.Int.Digits.{digits_of_step}
-use Rattle.pg_text.proofs.Runs.{all-append, value-push}
+use Rattle.pg_text.proofs.lexer.ByteRuns.{all-append, value-push}
 
 -- the numeral of a number that is not zero
 by_digits : (n : ℕ) → 0 < n → numeral n ≡ map (λ d. 48 + d) (digits_of 10 n)

@@ -9,11 +9,11 @@ use Rattle.pg_text.specs.SolutionText.{choice_tokens, solution_line_tokens}
 use Rattle.pg_text.specs.private.SolutionReads.{AreWinners}
 use Rattle.pg_text.specs.Reading.{IsSolutionFaultOf}
 use Rattle.pg_text.specs.Laws.{OneSolutionFault, SolutionTextOrFault}
-use Rattle.pg_text.proofs.Spelling.{one_spelling}
-use Rattle.pg_text.proofs.Faults.{lexical_once, lexical_or_tokens}
-use Rattle.pg_text.proofs.Once.{tokens_at, player_once, syntax_once, syntax_or_grammar, number_once, number_or_fit, solution_prefix, solution_begins}
-use Rattle.pg_text.proofs.Stages.{one_fault_of, no_fault}
-use Rattle.pg_text.proofs.Lines.{Avoids, behind_head, no_word, lines_once, player_small}
+use Rattle.pg_text.proofs.laws.UniqueTokens.{one_spelling}
+use Rattle.pg_text.proofs.laws.FaultOrTokens.{lexical_once, lexical_or_tokens}
+use Rattle.pg_text.proofs.laws.ExclusiveFaults.{tokens_at, player_once, syntax_once, syntax_or_grammar, number_once, number_or_fit, solution_prefix, solution_begins}
+use Rattle.pg_text.proofs.laws.FaultKinds.{one_fault_of, no_fault}
+use Rattle.pg_text.proofs.laws.UniqueLines.{Avoids, behind_head, no_word, lines_once, player_small}
 use Rattle.pg_text.specs.Token as token
 
 same_choice : (c d : Option ℕ) (xs ys : List Token) → (choice_tokens c ++ Semicolon ∷ []) ++ xs ≡ (choice_tokens d ++ Semicolon ∷ []) ++ ys → (c ≡ d) × (xs ≡ ys)

@@ -13,14 +13,14 @@ use Rattle.pg_text.specs.Reading.{IsTextOf}
 use Rattle.pg_text.specs.SolutionLines.{AreRowsOf}
 use Rattle.pg_text.specs.Laws.{WrittenGameReads, WrittenSolutionReads, WrittenGameIsText, WrittenSolutionIsText}
 use Rattle.pg_game.specs.private.Described.{spec_at, specs_of}
-use Rattle.pg_game.proofs.Described.{described_game, one_described, described_sound}
-use Rattle.pg_text.proofs.Spelling.{one_spelling}
-use Rattle.pg_text.proofs.Parse.{one_reading}
+use Rattle.pg_game.proofs.UniqueGame.{described_game, one_described, described_sound}
+use Rattle.pg_text.proofs.laws.UniqueTokens.{one_spelling}
+use Rattle.pg_text.proofs.laws.UniqueGameLines.{one_reading}
 use Rattle.pg_text.proofs.OneSolutionFault.{one_lines}
-use Rattle.pg_text.proofs.Identifiers.{number_at, stranger-append}
-use Rattle.pg_text.proofs.SolutionTable.{IsChoice, player_back, find_none, row_is, at_home}
-use Rattle.pg_text.proofs.WrittenSpells.{line_of, row_line, row_lines, written_lines, written_grammar, written_owners, spells_game, spells_solution}
-use Rattle.pg_text.proofs.WrittenSpells.{all_from_places, small_winners, written_game_spells, written_solution_spells}
+use Rattle.pg_text.proofs.solution_text.Identifiers.{number_at, stranger-append}
+use Rattle.pg_text.proofs.solution_text.VertexTable.{IsChoice, player_back, find_none, row_is, at_home}
+use Rattle.pg_text.proofs.writing.WrittenTexts.{line_of, row_line, row_lines, written_lines, written_grammar, written_owners, spells_game, spells_solution}
+use Rattle.pg_text.proofs.writing.WrittenTexts.{all_from_places, small_winners, written_game_spells, written_solution_spells}
 use Rattle.pg_text.specs.SolutionText as solutions
 
 -- the written lines specify what describes the game

@@ -7,7 +7,7 @@ use Rattle.pg_game.specs.Specification.{IsGameOf}
 use Rattle.pg_text.specs.declared.fault.TextFault.{TextFault}
 use Rattle.pg_text.specs.declared.fault.SolutionTextFault.{SolutionTextFault}
 use Rattle.pg_text.specs.declared.fault.SolutionTextFault.TheVariants as solution
-use Rattle.pg_game.specs.declared.game.GameFault.TheVariants as GameFault
+use Rattle.pg_game.specs.declared.specification.GameFault.TheVariants as GameFault
 use Rattle.pg_text.specs.declared.fault.TextFault.TheVariants.{Game, Memory}
 use Rattle.pg_text.specs.Fault.{IsLexicalFault}
 use Rattle.pg_text.specs.Reading.{IsTextOf, IsFaultOf, IsSolutionTextOf, IsSolutionFaultOf}

@@ -1,5 +1,5 @@
 //! Laws on texts and solutions alone, each the contract of a function with an empty body. Worked examples are
-//! `crate::proofs::Examples::written_five` and `written_two` (written texts), `two_solved` (a solution), and `five_fails` (winners and
+//! `crate::proofs::laws::Examples::written_five` and `written_two` (written texts), `two_solved` (a solution), and `five_fails` (winners and
 //! choices that are none).
 
 ghost use Rattle.pg_text.specs.Laws.{OneSpelling, WrittenGameReads, WrittenSolutionReads, WrittenGameIsText, WrittenSolutionIsText, TokensOrLexical};
@@ -7,7 +7,7 @@ ghost use Rattle.pg_text.specs.Laws.{TextOrFault, OneFault, NoGameWantsMemory, S
 
 /// A written text reads back, and as nothing else. A text spells at most one list of tokens. The written text of a game
 /// spells one game text, and this describes that game and no other. The same holds for winners and choices. Identifiers and
-/// priorities may have any size (`crate::proofs::Examples::written_wide`). Within the limits of games, written texts have no fault.
+/// priorities may have any size (`crate::proofs::laws::Examples::written_wide`). Within the limits of games, written texts have no fault.
 pub fn written()
     ensures tokens { OneSpelling }
     ensures games { WrittenGameReads }

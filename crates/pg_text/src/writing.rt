@@ -2,7 +2,7 @@
 //! vertex in rising identifier. Numbers have no leading zeros; there is no start line and no name. A line is written from its
 //! end, so that `itoa` writes digits where they stay: a writer of a part returns where it begins.
 
-ghost use Rattle.std.specs.Prelude.{◌≡◌, ◌<◌, ◌≤◌, ◌+◌, ◌*◌, ◌^◌, ◌++◌, ◌∷◌, [], ℕ, length, drop, take, slice_index, codes, map, max, IfOk, OnOk, IfSome};
+ghost use Rattle.std.specs.Prelude.{◌≡◌, ◌<◌, ◌≤◌, ◌+◌, ◌*◌, ◌^◌, ◌++◌, ◌∷◌, [], ℕ, length, drop, take, slice_index, codes, map, max, IfOk, OnOk, OnErr, IfSome};
 ghost use Rattle.std.specs.List.{join_with_byte};
 ghost use Rattle.pg_game.specs.Graph.{id_of, priority_of, owner_of, successors_of, vertex_at};
 ghost use Rattle.pg_game.specs.Player.{digit_of};
@@ -69,9 +69,10 @@ pub fn write_forward_game(alloc: Global, game: &ForwardGame) -> Result<Vec<u8>, 
     Ok(out)
 }
 
-/// Adds a number in decimal digits. The only error is `Memory`.
+/// Adds a number in decimal digits. The only error is `Memory`, after which the output is unchanged.
 pub fn put_number(out: &mut Vec<u8>, n: u64) -> Result<(), Memory>
-    ensures { OnOk result (out.new.items ≡ out.old.items ++ numeral n) }
+    ensures added { OnOk result (out.new.items ≡ out.old.items ++ numeral n) }
+    ensures unchanged { OnErr result (out.new.items ≡ out.old.items) }
 {
     let mut buffer = Buffer::new();
     out.extend_from_slice(buffer.format(n).as_bytes())

@@ -11,11 +11,11 @@ pub use Rattle.std.proofs.lemmas.List.Sums.{fold_push, sum-map, sum_by-append, s
 pub use Rattle.std.proofs.lemmas.Option.{none-some, same_Some}
 pub use Rattle.std.specs.Vec.Iter.{into_iter_items, into_iter_len}
 pub use Rattle.atomic_table.specs.Table.{Allows, Joins, Splits, Step, opening, step}
-pub use Rattle.pg_game.proofs.Common.{max_vertices, sum_by-cons}
+pub use Rattle.pg_game.proofs.Common.{sum_by-cons}
 pub use Rattle.pg_text.proofs.Common.{get_or_from_slice_get, nat_tests, slice_get-get_or}
 pub use Rattle.pg_text.specs.Known.{KnownRows, known_choice, known_of}
 pub use Rattle.pg_finders.proofs.Common.{AreClaims, common_steps, get_or_default, nil_from_length, own_choices, rows_below}
-pub use Rattle.pg_board.proofs.Common.{AreStateRows, Claim, ClaimRows, Graph, IsDominionAfter, IsExactSolution, IsFull, IsGoodIn, IsLawful, Journal, Play}
+pub use Rattle.pg_board.proofs.Common.{AreStateRows, Claim, ClaimRows, Graph, IsDominionAfter, IsExactSolution, IsFull, IsGoodIn, IsLawful, Journal, BoardRecord}
 pub use Rattle.pg_board.proofs.Common.{Player, VertexSet, false_from_ne_true, is_unsettled, map-append, number_settled, or_cases, slice_get_within}
 pub use Rattle.pg_board.proofs.Common.{state_of, sum_by_push, take-append-drop, take-append-le, take_more, target_attracted, unsettled}
 pub use Rattle.pg_board.specs.Finish.{AreOfCaller, IsLater}
@@ -25,7 +25,7 @@ pub use Rattle.pg_workers.specs.Known.{IsSolveFault, known_rows}
 pub use Rattle.pg_workers.specs.Outcomes.{IsOutcome}
 pub use Rattle.pg_workers.specs.Report.{AddsUp, AreCounts, AreNumbered, IsDrawnRow, IsInOrder, IsReport, blank_row, settled_in}
 pub use Rattle.pg_workers.specs.Tickets.{AreDrawn, HeldTicket, fresh}
-unfoldable pub use Rattle.pg_workers.specs.Work.{batch_of, batches, batches_of, doubled, most_batches, most_doublings, total_of}
+pub use Rattle.pg_board.specs.Work.{total_of}
 pub use Rattle.pg_workers.specs.declared.known.SolveFault.{SolveFault}
 pub use Rattle.pg_workers.specs.declared.report.ReportRow.{ReportRow}
 pub use Rattle.pg_workers.specs.private.Answers.{AreNoted, IsAnswerTo}

@@ -1,11 +1,4 @@
 pub mod Common
-pub mod AddingUp
-pub mod Rows
-pub mod Placing
-pub mod Noting
 pub mod Counts
-pub mod Moves
-pub mod Closing
-pub mod Batches
-pub mod Knowing
-pub mod Dropping
+pub mod KeptState
+pub mod KnownSets

@@ -1,5 +1,5 @@
 -- What is known of a game before it is solved: as regions, as rows of claims, and the results of its posts.
-use Rattle.std.specs.Prelude.{ℕ, ◌≡◌, ◌+◌, ◌↔◌, false, List, [], length, nat_eq}
+use Rattle.std.specs.Prelude.{ℕ, ◌≡◌, ◌+◌, ◌↔◌, false, List, [], length, nat_eq, Some}
 use Rattle.std.specs.List.{Contains, IsDistinct}
 use Rattle.pg_game.specs.declared.player.Player.{Player}
 use Rattle.pg_game.specs.declared.player.Player.TheVariants.{Even, Odd}
@@ -12,7 +12,7 @@ use Rattle.pg_dominion.specs.Claim.{ClaimRows}
 use Rattle.pg_finders.specs.Claims.{own_choices, rows_below}
 use Rattle.pg_board.specs.declared.journal.Refusal.{Refusal}
 use Rattle.pg_board.specs.declared.journal.Refusal.TheVariants as refusal
-use Rattle.pg_board.specs.State.{settled}
+use Rattle.pg_board.specs.State.{State, settled}
 use Rattle.pg_board.specs.Journal.{Journal, state_of, IsLawful}
 use Rattle.pg_board.specs.Refusal.{Refuses}
 use Rattle.pg_workers.specs.declared.known.SolveFault.{SolveFault}
@@ -21,6 +21,10 @@ use Rattle.pg_workers.specs.declared.known.SolveFault.TheVariants as fault
 -- the player's known set is a region of his, with the known choices
 abbrev pub IsKnownRegion : Graph → KnownRows → Player → Type 0
 IsKnownRegion g known p = IsRegion g p (known_of known p) (known_choice known)
+
+-- what is known stays so in the state: the player wins, by the known choice where he owns the vertex
+abbrev pub KeepsKnown : Graph → KnownRows → State → Type 0
+KeepsKnown g known st = (p : Player) (v : ℕ) → In (known_of known p) v → st v ≡ Some (p, own_choices g p (known_choice known) v)
 
 -- the known set as rows: its vertices in order, with the choices at those that the player owns
 abbrev pub known_rows : Graph → KnownRows → Player → ClaimRows

@@ -1,5 +1,4 @@
 pub mod Counting
-pub mod Work
 pub mod Report
 pub mod Tickets
 pub mod TicketFields

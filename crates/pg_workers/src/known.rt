@@ -30,23 +30,26 @@ impl From<Memory> for SolveFault {
     }
 }
 
+/// A game, and what is known of it: no more rows than there are vertices.
+#[derive(Clone, Copy)]
+pub(crate) struct KnownOf<'x> {
+    pub game: &'x Game,
+    pub known: &'x Known,
+    ghost size: { length known.now.rows ≤ length game.now },
+}
+
 /// A board after the posts of what is known: Even's set and then Odd's.
-pub(crate) fn board_with<'g>(
-    alloc: Global,
-    game: &'g Game,
-    known: &Known,
-) -> Result<Board<'g>, SolveFault>
-    requires { length known.now.rows ≤ length game.now }
-    ensures game { IfOk result (λ b. b.graph ≡ game.now) }
-    ensures known { IfOk result (λ b. HasKnown game.now known.now.rows b.journal) }
-    ensures fault { IfErr result (λ e. IsSolveFault game.now known.now.rows e) }
+pub(crate) fn board_with<'g>(alloc: Global, of: &KnownOf<'g>) -> Result<Board<'g>, SolveFault>
+    ensures game { IfOk result (λ b. b.graph ≡ of.now.game.now) }
+    ensures known { IfOk result (λ b. HasKnown of.now.game.now of.now.known.now.rows b.journal) }
+    ensures fault { IfErr result (λ e. IsSolveFault of.now.game.now of.now.known.now.rows e) }
 {
-    let mut board = Board::open(alloc, game)?;
+    let mut board = Board::open(alloc, of.game)?;
     // for the proof, here and below: reading the board gives that its journal is lawful
     let _opened = board.game();
-    post_known(alloc, &mut board, known, Player::Even)?;
+    post_known(alloc, &mut board, of.known, Player::Even)?;
     let _posted = board.game();
-    post_known(alloc, &mut board, known, Player::Odd)?;
+    post_known(alloc, &mut board, of.known, Player::Odd)?;
     Ok(board)
 }
 
@@ -64,7 +67,7 @@ fn post_known(
     ensures fault { IfErr result (λ e. IsKnownFault board.old.graph board.old.journal known.now.rows player e) }
 {
     let game = board.game();
-    let claim = known_claim(alloc, game, known, player)?;
+    let claim = known_claim(alloc, &KnownOf { game, known }, player)?;
     if claim.rows.as_slice().is_empty() {
         return Ok(());
     }
@@ -75,19 +78,18 @@ fn post_known(
 }
 
 /// The player's known set as a claim: only his own vertices have choices.
-fn known_claim(alloc: Global, game: &Game, known: &Known, player: Player) -> Result<Claim, Memory>
-    requires { length known.now.rows ≤ length game.now }
+fn known_claim(alloc: Global, of: &KnownOf<'_>, player: Player) -> Result<Claim, Memory>
     ensures player { IfOk result (λ claim. claim.player ≡ player) }
-    ensures rows { IfOk result (λ claim. claim.rows ≡ known_rows game.now known.now.rows player) }
+    ensures rows { IfOk result (λ claim. claim.rows ≡ known_rows of.now.game.now of.now.known.now.rows player) }
 {
     // for the proof: there are no more rows than vertices, whose number fits
-    let _n = game.len();
-    let of_vertices = known.rows.as_slice();
+    let _n = of.game.len();
+    let of_vertices = of.known.rows.as_slice();
     let mut rows = Vec::new(alloc);
     for v in 0..of_vertices.len() as u32 {
         if let Some((winner, choice)) = of_vertices[v as usize] {
             if winner == player {
-                rows.push((v, own_choice(game.forward(), player, v, choice)))?;
+                rows.push((v, own_choice(of.game.forward(), player, v, choice)))?;
             }
         }
     }

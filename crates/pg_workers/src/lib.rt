@@ -10,9 +10,10 @@ mod solve;
 mod threads;
 mod worker;
 
-pub use alone::{solve_alone, solve_board, solve_board_within};
-pub use jobs::{BUDGET, Drawn, Jobs, Options, Ticket};
+pub use alone::{solve_alone, solve_board};
+pub use jobs::{Drawn, Jobs, Ticket};
 pub use known::SolveFault;
+pub use pg_board::{BUDGET, Options};
 pub use report::ReportRow;
 pub use solve::{Outcome, solve_game};
 pub use worker::{Gate, Pass};

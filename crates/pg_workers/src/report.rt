@@ -60,7 +60,7 @@ impl ReportRow {
 }
 
 /// A row for each job, in order, none of them drawn.
-#[tactic(auto, using(crate::proofs::Rows::none_settled))]
+#[tactic(auto, using(crate::proofs::report::Rows::none_settled))]
 pub(crate) fn blank_report(alloc: Global, total: u64) -> Result<Vec<ReportRow>, Memory>
     requires { total ≤ 4096 }
     ensures rows { IfOk result (λ report. IsInOrder total report.items) }

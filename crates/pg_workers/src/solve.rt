@@ -10,14 +10,14 @@ ghost use Rattle.pg_workers.specs.Known.{IsKnownRegion, IsSolveFault};
 ghost use Rattle.pg_workers.specs.private.Known.{HasSettled};
 ghost use Rattle.pg_workers.specs.Report.{AreNumbered, IsReport, settled_in};
 ghost use Rattle.pg_workers.specs.Tickets.{fresh};
-ghost use Rattle.pg_workers.specs.Work.{total_of};
+ghost use Rattle.pg_board.specs.Work.{total_of};
 
-use crate::jobs::{Jobs, Options, Ticket};
-use crate::known::{SolveFault, board_with};
+use crate::jobs::{Jobs, Ticket};
+use crate::known::{KnownOf, SolveFault, board_with};
 use crate::report::{ReportRow, blank_report, with_no_posts, with_rows};
 use crate::threads::{new_workers, start_all, take_apart};
 use crate::worker::{Gate, RunJobs, Search, Setup, Task};
-use pg_board::{Board, Entry, Office, Share};
+use pg_board::{Board, Entry, Office, Options, Share};
 use pg_finders::Finder;
 use pg_game::{Game, Memory};
 use pg_text::{Known, Solution};
@@ -63,39 +63,39 @@ pub fn solve_game<R: Threads + Wait + Sync>(
         rt,
         alloc,
         options,
-        size: game.len(),
+        game,
+        known,
         gate,
         finder,
     };
-    solve_on::<Brand, _, _, R>(&setup, blank, game, known)
+    solve_on::<Brand, _, _, R>(&setup, blank)
 }
 
-/// A run over an office of the game, with a ledger made of this blank.
+/// A run over an office of its game, with a ledger made of this blank.
 fn solve_on<L: Ledger + Send + Sync, G: Gate, F: Search, R: Threads + Wait + Sync>(
     setup: &Setup<'_, G, F, R>,
     blank: Blank,
-    game: &Game,
-    known: &Known,
 ) -> Result<Outcome, SolveFault>
     requires name { blank.name ≡ L.name }
     requires parts { (blank.parts ≡ L.parts) × (blank.parts ≡ setup.now.options.now.workers + 1) }
-    requires size { setup.now.size ≡ length game.now }
-    requires known { length known.now.rows ≤ length game.now }
-    requires workers { (1 ≤ setup.now.options.now.workers) × (setup.now.options.now.workers ≤ 64) }
-    ensures outcome { IfOk result (λ o. IsOutcome game.now known.now.rows (total_of setup.now.options.now.bound (length game.now))
-        setup.now.options.now.workers o) }
-    ensures regions { IfOk result (λ o. (p : Player) → IsKnownRegion game.now known.now.rows p) }
-    ensures fault { IfErr result (λ e. IsSolveFault game.now known.now.rows e) }
+    ensures outcome { IfOk result (λ o. IsOutcome setup.now.game.now setup.now.known.now.rows
+        (total_of setup.now.options.now.bound (length setup.now.game.now)) setup.now.options.now.workers o) }
+    ensures regions { IfOk result (λ o. (p : Player) → IsKnownRegion setup.now.game.now setup.now.known.now.rows p) }
+    ensures fault { IfErr result (λ e. IsSolveFault setup.now.game.now setup.now.known.now.rows e) }
 {
     let alloc = setup.alloc;
     let workers = setup.options.workers;
-    let board = board_with(alloc, game, known)?;
+    let of = KnownOf {
+        game: setup.game,
+        known: setup.known,
+    };
+    let board = board_with(alloc, &of)?;
     let (office, mut shares) = Office::<L>::open_with(alloc, blank, board, workers + 1)?;
     let first = shares.remove(0);
-    let total = setup.options.total(setup.size);
+    let total = setup.options.total(setup.game.len());
     let (jobs, tickets) = Jobs::open(alloc, total, workers)?;
     let (board, report) = run::<L, Brand, G, F, R>(setup, office, first, shares, jobs, tickets)?;
-    let (board, report) = on_own_game(alloc, game, known, board, report)?;
+    let (board, report) = on_own_game(alloc, &of, board, report)?;
     Ok(outcome_of(alloc, board, report)?)
 }
 
@@ -116,7 +116,7 @@ fn run<
     jobs: Jobs,
     tickets: Vec<Ticket>,
 ) -> Result<(Board<'g>, Vec<ReportRow>), Memory>
-    requires total { (J.series.total ≤ 4096) × (J.series.total ≡ total_of setup.now.options.now.bound setup.now.size) }
+    requires total { (J.series.total ≤ 4096) × (J.series.total ≡ total_of setup.now.options.now.bound (length setup.now.game.now)) }
     requires shares { (shares.items ≡ replicate (vec_len shares) 0) × (vec_len shares + 1 ≡ L.parts) }
     requires jobs { (jobs.series ≡ J.series) × (jobs.seats ≡ vec_len shares) }
     requires workers { (vec_len shares ≡ J.workers) × (1 ≤ J.workers) × (J.workers ≤ 64) }
@@ -127,7 +127,7 @@ fn run<
     ensures length { IfOk result (λ r. vec_len r.1 ≡ J.series.total) }
 {
     let alloc = setup.alloc;
-    let total = setup.options.total(setup.size);
+    let total = setup.options.total(setup.game.len());
     let seats = shares.len();
     let shares_back = Vec::with_capacity(alloc, seats + 1)?;
     let tickets_back = Vec::with_capacity(alloc, seats)?;
@@ -152,26 +152,24 @@ fn run<
 /// report without posts.
 fn on_own_game<'g>(
     alloc: Global,
-    game: &'g Game,
-    known: &Known,
+    of: &KnownOf<'g>,
     board: Board<'g>,
     report: Vec<ReportRow>,
 ) -> Result<(Board<'g>, Vec<ReportRow>), SolveFault>
-    requires known { length known.now.rows ≤ length game.now }
-    requires settled { HasSettled game.now known.now.rows report.items board.journal }
+    requires settled { HasSettled of.now.game.now of.now.known.now.rows report.items board.journal }
     requires numbered { AreNumbered report.items }
-    ensures same { board.entry.graph ≡ game.now → IfOk result (λ r. (r.0.journal ≡ board.entry.journal) × (r.1.items ≡ report.items)) }
-    ensures game { IfOk result (λ r. r.0.graph ≡ game.now) }
-    ensures settled { IfOk result (λ r. HasSettled game.now known.now.rows r.1.items r.0.journal) }
+    ensures same { board.entry.graph ≡ of.now.game.now → IfOk result (λ r. (r.0.journal ≡ board.entry.journal) × (r.1.items ≡ report.items)) }
+    ensures game { IfOk result (λ r. r.0.graph ≡ of.now.game.now) }
+    ensures settled { IfOk result (λ r. HasSettled of.now.game.now of.now.known.now.rows r.1.items r.0.journal) }
     ensures numbered { IfOk result (λ r. AreNumbered r.1.items) }
     ensures rows { IfOk result (λ r. (n : ℕ) → IsReport n report.items → IsReport n r.1.items) }
     ensures length { IfOk result (λ r. vec_len r.1 ≡ vec_len report) }
-    ensures fault { IfErr result (λ e. IsSolveFault game.now known.now.rows e) }
+    ensures fault { IfErr result (λ e. IsSolveFault of.now.game.now of.now.known.now.rows e) }
 {
-    if *board.game() == *game {
+    if *board.game() == *of.game {
         return Ok((board, report));
     }
-    let board = board_with(alloc, game, known)?;
+    let board = board_with(alloc, of)?;
     Ok((board, with_no_posts(report)))
 }
 
@@ -185,7 +183,7 @@ fn outcome_of(
     ensures { (known : KnownRows) (n : ℕ) → HasSettled board.entry.graph known report.items board.entry.journal → IsReport n report.items
         → IfOk result (λ o. IsOutcome board.entry.graph known (vec_len report) n o) }
 {
-    board.finish(alloc)?;
+    board.post_rest(alloc, None)?;
     let Some(solution) = board.solution(alloc)? else {
         unreachable!()
     };

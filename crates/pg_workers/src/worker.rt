@@ -7,15 +7,15 @@ ghost use Rattle.pg_board.specs.declared.journal.Refusal.{Refusal};
 ghost use Rattle.pg_workers.specs.private.Answers.{AreNoted, IsAnswerTo, IsJobRow, IsSearched, drawn_row};
 ghost use Rattle.pg_workers.specs.Report.{AreCounts, IsDrawnRow, settled_in};
 ghost use Rattle.pg_workers.specs.private.Report.{answered, noted};
-ghost use Rattle.pg_game.specs.Specification.{max_vertices};
-ghost use Rattle.pg_workers.specs.Work.{job_of, total_of};
+ghost use Rattle.pg_board.specs.Work.{job_of, total_of};
 
-use crate::jobs::{Jobs, Options, Ticket};
+use crate::jobs::{Jobs, Ticket};
 use crate::report::ReportRow;
-use pg_board::{Office, Refusal, Share};
+use pg_board::{Office, Options, Refusal, Share};
 use pg_dominion::{Claim, check_claim};
 use pg_finders::{Copied, Finder, Found, Job};
 use pg_game::{Game, Memory};
+use pg_text::Known;
 use std::alloc::{AllocError, Global};
 use std::marker::{Brand, PhantomData};
 use std::sync::Wait;
@@ -79,16 +79,18 @@ impl<F: Finder> Search for F {
     }
 }
 
-/// How a run goes: its handle and allocator, its options for a game with so many vertices, and what its workers call.
+/// How a run goes: its handle and allocator, its options, the game and what is known of it, and what its workers call.
 #[derive(Drop)]
 pub(crate) struct Setup<'x, G, F, R> {
     pub rt: &'x R,
     pub alloc: Global,
     pub options: &'x Options,
-    pub size: u32,
+    pub game: &'x Game,
+    pub known: &'x Known,
     pub gate: &'x G,
     pub finder: &'x F,
-    ghost small: { size ≤ max_vertices },
+    ghost size: { length known.now.rows ≤ length game.now },
+    ghost workers: { (1 ≤ options.now.workers) × (options.now.workers ≤ 64) },
 }
 
 /// What all workers of a run share.
@@ -99,7 +101,7 @@ pub(crate) struct Task<'x, 'g, L: Ledger, J: RunJobs, G, F, R> {
     pub jobs: &'x Jobs,
     pub of_run: PhantomData<J>,
     ghost drawn_from: { jobs.now.series ≡ J.series },
-    ghost total: { J.series.total ≡ total_of setup.now.options.now.bound setup.now.size },
+    ghost total: { J.series.total ≡ total_of setup.now.options.now.bound (length setup.now.game.now) },
 }
 
 /// What one worker has. The calling thread lends it to the worker's thread; afterwards only this type says what it is.
@@ -157,7 +159,7 @@ impl<'x, 'g, L: Ledger, J: RunJobs, G: Gate, F: Search, R: Wait> Task<'x, 'g, L,
     fn do_job(&self, share: &mut Share<L>, worker: u32, number: u64) -> ReportRow
         requires { number < J.series.total }
         ensures row { IsJobRow F.finds self.now.setup.now.finder.now
-            (job_of self.now.setup.now.options.now.bound self.now.setup.now.options.now.budget self.now.setup.now.size number)
+            (job_of self.now.setup.now.options.now.bound self.now.setup.now.options.now.budget (length self.now.setup.now.game.now) number)
             share.old number worker result }
         ensures job { (result.job ≡ number) × (result.worker ≡ Some worker) }
         ensures counts { AreCounts result }
@@ -175,11 +177,11 @@ impl<'x, 'g, L: Ledger, J: RunJobs, G: Gate, F: Search, R: Wait> Task<'x, 'g, L,
     fn search_copy(&self, share: &Share<L>, number: u64) -> Result<(Found, &'g Game), Memory>
         requires { number < J.series.total }
         ensures { IfOk result (λ r. IsSearched F.finds self.now.setup.now.finder.now
-            (job_of self.now.setup.now.options.now.bound self.now.setup.now.options.now.budget self.now.setup.now.size number)
+            (job_of self.now.setup.now.options.now.bound self.now.setup.now.options.now.budget (length self.now.setup.now.game.now) number)
             share.now r.1.now r.0) }
     {
         let setup = self.setup;
-        let job = setup.options.job(setup.size, number);
+        let job = setup.options.job(setup.game.len(), number);
         let copied = self.office.copy(setup.rt, setup.alloc, share)?;
         let found = setup.finder.search(setup.alloc, &copied, &job)?;
         Ok((found, copied.inside.game()))

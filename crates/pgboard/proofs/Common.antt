@@ -33,6 +33,5 @@ pub use Rattle.pgboard.specs.Run.{IsNoGame, IsReadGame}
 pub use Rattle.pgboard.specs.Solving.{IsSolveOutput, IsSolveText}
 pub use Rattle.pgboard.specs.Trace.{entries_text, entry_text, job_line, row_line, trace_line, trace_text}
 pub use Rattle.pgboard.specs.declared.fault.RunFault.{RunFault}
-pub use Rattle.pgboard.specs.private.Known.{IsRefusedText}
 pub use Rattle.pgboard.specs.private.Run.{IsRefusedGame, IsRefusedSolution, IsVerdictOn}
 pub use Rattle.pgboard.specs.private.Trace.{AreVertices}

@@ -1,15 +1,1 @@
 pub mod Common
-pub mod Devices
-pub mod Joined
-pub mod Judging
-pub mod Answering
-pub mod Lines
-pub mod Journals
-pub mod Solved
-pub mod Traced
-pub mod Nothing
-pub mod Rows
-pub mod Unknown
-pub mod Refusing
-pub mod Knowing
-pub mod CommandLine

@@ -1,6 +1,5 @@
 -- Definitions that only private functions and proofs cite: no public contract uses them.
 pub mod Run
-pub mod Known
 pub mod Refused
 pub mod Trace
 pub mod Line

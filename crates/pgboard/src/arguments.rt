@@ -51,10 +51,10 @@ impl Asked {
         ensures taken { (asked : Asked) → IsRead (subcommand_rows_of matches.now) asked → IsInRange asked → IfErr result (λ e. e ≡ AskedFault.Memory) }
     {
         match matches.subcommand() {
-            Some(("verify", given)) => verify(alloc, given),
-            Some(("tidy", given)) => tidy(alloc, given),
-            Some(("solve", given)) => solve(alloc, given),
-            Some(("trace", given)) => trace(alloc, given),
+            Some(("verify", given)) => asked_to_verify(alloc, given),
+            Some(("tidy", given)) => asked_to_tidy(alloc, given),
+            Some(("solve", given)) => asked_to_solve(alloc, given),
+            Some(("trace", given)) => asked_to_trace(alloc, given),
             _ => Err(AskedFault::words(alloc, "error: there is no such command\n")),
         }
     }
@@ -84,7 +84,8 @@ impl Asked {
     }
 }
 
-fn verify(alloc: Global, given: &ArgMatches<'_>) -> Result<Asked, AskedFault>
+/// What the values after the command `verify` ask for.
+fn asked_to_verify(alloc: Global, given: &ArgMatches<'_>) -> Result<Asked, AskedFault>
     ensures range { IfOk result IsInRange }
     ensures read { IfOk result (λ asked. IsRead (Some (codes "verify", rows_of (found_of given.now))) asked) }
     ensures taken { (asked : Asked) → IsRead (Some (codes "verify", rows_of (found_of given.now))) asked → IsInRange asked
@@ -116,7 +117,8 @@ fn path(alloc: Global, given: &ArgMatches<'_>, name: &str) -> Result<String, Ask
     }
 }
 
-fn tidy(alloc: Global, given: &ArgMatches<'_>) -> Result<Asked, AskedFault>
+/// What the values after the command `tidy` ask for.
+fn asked_to_tidy(alloc: Global, given: &ArgMatches<'_>) -> Result<Asked, AskedFault>
     ensures range { IfOk result IsInRange }
     ensures read { IfOk result (λ asked. IsRead (Some (codes "tidy", rows_of (found_of given.now))) asked) }
     ensures taken { (asked : Asked) → IsRead (Some (codes "tidy", rows_of (found_of given.now))) asked → IsInRange asked
@@ -141,7 +143,8 @@ fn optional_path(
     Ok(None)
 }
 
-fn solve(alloc: Global, given: &ArgMatches<'_>) -> Result<Asked, AskedFault>
+/// What the values after the command `solve` ask for.
+fn asked_to_solve(alloc: Global, given: &ArgMatches<'_>) -> Result<Asked, AskedFault>
     ensures range { IfOk result IsInRange }
     ensures read { IfOk result (λ asked. IsRead (Some (codes "solve", rows_of (found_of given.now))) asked) }
     ensures taken { (asked : Asked) → IsRead (Some (codes "solve", rows_of (found_of given.now))) asked → IsInRange asked
@@ -172,7 +175,8 @@ fn number(
 ) -> Result<u32, AskedFault>
     ensures range { IfOk result (λ n. (least ≤ n) × (n ≤ most)) }
     ensures value { IfOk result (λ n. IsNumber name.now (rows_of (found_of given.now)) n) }
-    ensures taken { (n : ℕ) → IsNumber name.now (rows_of (found_of given.now)) n → least ≤ n → n ≤ most → IfErr result (λ e. e ≡ AskedFault.Memory) }
+    ensures taken { (n : ℕ) → IsNumber name.now (rows_of (found_of given.now)) n → least ≤ n → n ≤ most
+        → IfErr result (λ e. e ≡ AskedFault.Memory) }
 {
     if let Some(n) = given.get_one::<u32>(name) {
         if least <= n && n <= most {
@@ -182,7 +186,8 @@ fn number(
     Err(AskedFault::words(alloc, "error: a number is out of its range\n"))
 }
 
-fn trace(alloc: Global, given: &ArgMatches<'_>) -> Result<Asked, AskedFault>
+/// What the values after the command `trace` ask for.
+fn asked_to_trace(alloc: Global, given: &ArgMatches<'_>) -> Result<Asked, AskedFault>
     ensures range { IfOk result IsInRange }
     ensures read { IfOk result (λ asked. IsRead (Some (codes "trace", rows_of (found_of given.now))) asked) }
     ensures taken { (asked : Asked) → IsRead (Some (codes "trace", rows_of (found_of given.now))) asked → IsInRange asked

@@ -57,7 +57,7 @@ fn command<'a>(alloc: Global) -> Result<Command<'a>, AllocError>
 
 /// The kit's line is what `rt version` prints, without the letter of the release. The last words hold the place of what the
 /// program can't know of itself: whether it was proved, and of what commit. Who builds it writes that over them, in a copy of
-/// the program (`tools/build`).
+/// the program (`tools/build`), and fills the place with blanks.
 const VERSION: &str = "0.1.0\n\
 kit: rattle-kit-13 logic dac8208d650f15bf\n\
 build: not recorded: whether this program was proved, and of which commit it is";
@@ -138,6 +138,7 @@ fn known<'a>(alloc: Global) -> Arg<'a>
         .help("A solution text of what is known; it may omit vertices")
 }
 
+/// The command `verify`, with its files.
 fn verify_command<'a>(alloc: Global) -> Result<Command<'a>, AllocError>
     ensures { IfOk result (λ command. IsCommand verify_command command) }
 {
@@ -155,6 +156,7 @@ it reads the solution.{n}{n}\
 Example:{n}  \
 pgboard verify game.pg game.sol && echo right";
 
+/// The command `solve`, with its flags and its file.
 fn solve_command<'a>(alloc: Global) -> Result<Command<'a>, AllocError>
     ensures { IfOk result (λ command. IsCommand solve_command command) }
 {
@@ -219,6 +221,7 @@ fn bound<'a>(alloc: Global) -> Arg<'a>
         .help("The most vertices of a small dominion, 0 to 8")
 }
 
+/// The command `trace`, with its flag and its file.
 fn trace_command<'a>(alloc: Global) -> Result<Command<'a>, AllocError>
     ensures { IfOk result (λ command. IsCommand trace_command command) }
 {
@@ -235,6 +238,7 @@ another run. Without GAME it reads standard input.{n}{n}\
 Example:{n}  \
 pgboard trace --workers 1 game.pg";
 
+/// The command `tidy`, with its file.
 fn tidy_command<'a>(alloc: Global) -> Result<Command<'a>, AllocError>
     ensures { IfOk result (λ command. IsCommand tidy_command command) }
 {
@@ -259,30 +263,18 @@ fn refused(alloc: Global, error: &Error) -> Result<Asked, AskedFault>
 {
     match error.kind() {
         ErrorKind::OutOfMemory => Err(AskedFault::Memory),
-        ErrorKind::DisplayHelp | ErrorKind::DisplayVersion => Ok(Asked::Help(error.to_string(
-            alloc,
-        )?)),
-        _ => {
+        ErrorKind::DisplayHelp => Ok(Asked::Help(error.to_string(alloc)?)),
+        ErrorKind::DisplayVersion => {
             let text = error.to_string(alloc)?;
-            Err(AskedFault::Words(without_advice(alloc, text.as_str())?))
+            Ok(Asked::Help(without_last_blanks(alloc, text.as_str())?))
         }
+        _ => Err(AskedFault::Words(error.to_string(alloc)?)),
     }
 }
 
-/// The text of a refusal without the advice of `clap` to give an unknown flag after `--`, where it is a path. The advice is
-/// the paragraph before the usage.
-fn without_advice(alloc: Global, text: &str) -> Result<String, AllocError> {
-    let (before, advice) = text.split_once(ADVICE).unwrap_or((text, ""));
-    let mut kept = String::from_str(alloc, before)?;
-    if let Some((_, usage)) = advice.split_once(USAGE) {
-        kept.push_str(USAGE)?;
-        kept.push_str(usage)?;
-    }
+/// The text of the version without the blanks that fill the place of what a build says of itself.
+fn without_last_blanks(alloc: Global, text: &str) -> Result<String, AllocError> {
+    let mut kept = String::from_str(alloc, text.trim_end())?;
+    kept.push('\n')?;
     Ok(kept)
 }
-
-/// What the advice begins with.
-const ADVICE: &str = "\n\n  tip: to pass '";
-
-/// What the usage begins with.
-const USAGE: &str = "\n\nUsage: ";

@@ -1,10 +1,12 @@
 //! Sources and sinks of a run's bytes, and the two loops over them: one reads a whole text into one buffer, and one writes a
 //! whole output by calls of `write`. No buffer keeps bytes back, so no failed write is hidden.
 
-ghost use Rattle.std.specs.Prelude.{ℕ, ◌≤◌, ◌<◌, ◌≡◌, length, List, Option, IfOk, ◌+◌, ◌⊎◌, take, drop, IfErr, OnOk, IfSome, IsErrOf, [], vec_len, OnErr};
+ghost use Rattle.std.specs.Prelude.{ℕ, ◌≤◌, ◌<◌, ◌≡◌, ◌+◌, ◌⊎◌, List, [], length, take, drop, vec_len, Option, IfSome};
+ghost use Rattle.std.specs.Prelude.{IfOk, OnOk, IfErr, OnErr, IsErrOf};
 ghost use Rattle.std.specs.Io.KnownBytes.{ReadConsumes, WriteAppends, Consumes, IsAtEnd, Appends};
 ghost use Rattle.std.specs.Io.{ReadsAtMost};
 ghost use Rattle.pgboard.specs.Device.{CountsFailure, untouched, HasFailed, AppendsPrefix};
+ghost use Rattle.pgboard.specs.Run.{Reads};
 ghost use Rattle.pg_text.specs.Reading.{max_text};
 
 use crate::fault::RunFault;
@@ -29,6 +31,7 @@ pub trait Source {
         0
     }
 
+    /// Reads the next bytes into the buffer, and returns their number: 0 at the end, or for an empty buffer.
     fn read(&mut self, buffer: &mut [u8]) -> Result<usize, Failed>
         ensures bound { ReadsAtMost result buffer.new }
         ensures bytes { ReadConsumes (left self.old) (left self.new) result buffer.new }
@@ -140,9 +143,8 @@ impl<W: Write> Sink for Std<W> {
 pub fn read_text<S: Source>(alloc: Global, source: &mut S) -> Result<Vec<u8>, RunFault>
     ensures text { IfOk result (λ text. IfSome (S.left source.old) (λ bytes. text.items ≡ bytes)) }
     ensures limit { IfOk result (λ text. length text.items ≤ max_text) }
-    ensures no_failure { (IsErrOf result RunFault.Read → ⊥) → S.read_failures source.new ≡ S.read_failures source.old }
+    ensures reads { Reads result (S.read_failures source.old) (S.read_failures source.new) }
     ensures too_long { IsErrOf result RunFault.TooLong → IfSome (S.left source.old) (λ bytes. max_text < length bytes) }
-    ensures failed { IsErrOf result RunFault.Read → HasFailed (S.read_failures source.old) (S.read_failures source.new) }
     ensures only { IfErr result (λ e. ((e ≡ RunFault.Read) ⊎ (e ≡ RunFault.TooLong)) ⊎ (e ≡ RunFault.Memory)) }
 {
     let mut buffer = Vec::new(alloc);
@@ -177,9 +179,8 @@ fn read_into<S: Source>(source: &mut S, buffer: Vec<u8>) -> Result<Vec<u8>, RunF
     requires { buffer.items ≡ [] }
     ensures text { IfOk result (λ text. IfSome (S.left source.old) (λ bytes. text.items ≡ bytes)) }
     ensures limit { IfOk result (λ text. length text.items ≤ max_text) }
-    ensures no_failure { (IsErrOf result RunFault.Read → ⊥) → S.read_failures source.new ≡ S.read_failures source.old }
+    ensures reads { Reads result (S.read_failures source.old) (S.read_failures source.new) }
     ensures too_long { IsErrOf result RunFault.TooLong → IfSome (S.left source.old) (λ bytes. max_text < length bytes) }
-    ensures failed { IsErrOf result RunFault.Read → HasFailed (S.read_failures source.old) (S.read_failures source.new) }
     ensures only { IfErr result (λ e. ((e ≡ RunFault.Read) ⊎ (e ≡ RunFault.TooLong)) ⊎ (e ≡ RunFault.Memory)) }
 {
     let mut text = buffer;

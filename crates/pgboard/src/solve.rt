@@ -1,34 +1,32 @@
-//! The runs that solve a game, from what is known of it or from nothing, and the run that a command line asks for, over any
-//! sources and sink. A fault names vertices by their identifiers.
+//! The runs that solve a game, from what is known of it or from nothing, over any sources and sink. A fault names vertices by
+//! their identifiers.
 
 ghost use Rattle.std.specs.Prelude.{◌≡◌, ◌≤◌, ◌⊎◌, [], length, Some, None, IfOk, IfErr, ◌<◌, option_map, slice_get};
 ghost use Rattle.pg_game.specs.declared.player.Player.{Player};
 ghost use Rattle.pg_game.specs.Graph.{Graph};
-ghost use Rattle.pg_workers.specs.Known.{IsKnownRegion, known_rows, IsSolveFault};
+ghost use Rattle.pg_board.specs.Work.{total_of};
+ghost use Rattle.pg_workers.specs.Known.{known_rows, IsKnownRegion, IsSolveFault};
+ghost use Rattle.pg_workers.specs.Outcomes.{IsOutcome};
 ghost use Rattle.pgboard.specs.Device.{HasFailed};
-ghost use Rattle.pgboard.specs.Known.{left_in, IfGiven, OnGiven};
+ghost use Rattle.pgboard.specs.Known.{left_in, IfGiven, IsReadKnown, OnGiven};
 ghost use Rattle.pgboard.specs.Refused.{IsNotKnown, Names};
 ghost use Rattle.pgboard.specs.private.Refused.{IsUnsolved};
 ghost use Rattle.pgboard.specs.Run.{IsReadGame, IsNoGame, Reads, ReadsInTurn, Writes};
 ghost use Rattle.pgboard.specs.Solving.{IsSolveText, IsSolveOutput, IsTraceText};
-ghost use Rattle.pg_text.specs.Known.{IsKnownTextOf, known_of};
-ghost use Rattle.pg_text.specs.Reading.{max_text};
-ghost use Rattle.pgboard.specs.private.Known.{IsRefusedText};
-ghost use Rattle.pgboard.specs.Answer.{known_text, ReadsGiven, SolvingFailed, ReadsFor, IsOutputFor, FailsFor};
-ghost use Rattle.pgboard.specs.Asking.{IsInRange};
+ghost use Rattle.pg_text.specs.Known.{known_of};
+ghost use Rattle.pg_text.specs.Solution.{IsExactSolution};
 
-use crate::arguments::Asked;
-use crate::device::{Sink, Source, Std, read_text, write_all};
+use crate::device::{Sink, Source, read_text, write_all};
 use crate::fault::{KnownFault, RunFault};
+use crate::reading::game_from;
 use crate::trace::write_trace;
-use crate::verify::{game_from, run_joined, run_tidy, run_verify};
 use pg_board::Refusal;
 use pg_dominion::ClaimFault;
 use pg_finders::Finder;
 use pg_game::{Game, Memory, Player, Sequence};
-use pg_text::{Known, SolutionTextFault, read_known, write_solution, write_winners};
-use pg_workers::{BUDGET, Gate, Options, SolveFault, solve_game};
-use std::alloc::{AllocError, Global};
+use pg_text::{Known, Solution, SolutionTextFault, read_known, write_solution, write_winners};
+use pg_workers::{BUDGET, Gate, Options, Outcome, SolveFault, solve_game};
+use std::alloc::Global;
 use std::sync::Wait;
 use std::thread::Threads;
 
@@ -70,9 +68,16 @@ pub fn run_solve<I: Source, K: Source, O: Sink, R: Threads + Wait + Sync>(
         ⊎ (IsNoGame (I.left input.old) e ⊎ ((g : Graph) × IsReadGame (I.left input.old) g × IsNotKnown g (left_in K.left known.entry) e))) }
     ensures alone { IfErr result (λ e. known.entry ≡ None → (e ≡ RunFault.Write) ⊎ IsNoGame (I.left input.old) e) }
 {
+    let run = Run {
+        rt,
+        alloc,
+        options: options_of(options.workers, options.bound),
+        gate,
+        finder,
+    };
     match known {
-        Some(known) => solve_from_known(rt, alloc, input, known, out, options, gate, finder),
-        None => solve_from_nothing(rt, alloc, input, out, options, gate, finder),
+        Some(known) => run.solve_from_known(input, known, out, options.winners),
+        None => run.solve_from_nothing(input, out, options.winners),
     }
 }
 
@@ -93,207 +98,211 @@ pub fn run_trace<I: Source, O: Sink, R: Threads + Wait + Sync>(
         result (O.taken out.old) (O.taken out.new) (O.write_failures out.old) (O.write_failures out.new) }
     ensures fault { IfErr result (λ e. (e ≡ RunFault.Write) ⊎ IsNoGame (I.left input.old) e) }
 {
+    let run = Run {
+        rt,
+        alloc,
+        options: options_of(workers, TRACE_BOUND),
+        gate,
+        finder,
+    };
     let game = game_from(alloc, input)?;
-    let text = trace_of(rt, alloc, &game, workers, gate, finder)?;
+    // for the proof alone, which takes from it that the game is one
+    let _n = game.len();
+    let known = nothing_known(alloc);
+    let start = KnownOf {
+        game: &game,
+        known: &known,
+    };
+    let outcome = run.outcome(&start)?;
+    let entries = outcome.entries.as_slice();
+    let text = write_trace(alloc, &game, entries, outcome.report.as_slice())?;
     write_all(text.as_slice(), out)
 }
 
-/// Runs what was asked for, and returns the status. The second source has the solution where one is verified and what
-/// is known where it was given, and is not read otherwise.
-pub fn run_asked<I: Source, S: Source, O: Sink, R: Threads + Wait + Sync>(
-    rt: &R,
-    alloc: Global,
-    asked: &Asked,
-    input: &mut I,
-    second: &mut S,
-    out: &mut O,
-    gate: &impl Gate,
-    finder: &impl Finder,
-) -> Result<u8, RunFault>
-    requires { IsInRange asked.now }
-    ensures reads { ReadsFor asked.now result (I.left input.old) (I.read_failures input.old) (I.read_failures input.new) (input.new ≡ input.old)
-        (second.new ≡ second.old) (S.read_failures second.new ≡ S.read_failures second.old)
-        (HasFailed (S.read_failures second.old) (S.read_failures second.new)) }
-    ensures writes { Writes (λ status text. IsOutputFor asked.now (I.left input.old) (S.left second.old) status text)
-        result (O.taken out.old) (O.taken out.new) (O.write_failures out.old) (O.write_failures out.new) }
-    ensures fault { IfErr result (λ e. FailsFor asked.now (I.left input.old) (S.left second.old) e) }
+/// The greatest size of the dominions that a traced run searches for.
+const TRACE_BOUND: u32 = 4;
+
+/// The options of a run with so many workers and this bound.
+pub(crate) fn options_of(workers: u32, bound: u32) -> Options
+    ensures workers { result.workers ≡ workers }
+    ensures bound { result.bound ≡ bound }
 {
-    match asked {
-        Asked::Joined => Ok(run_joined(alloc, input, out)?.status()),
-        Asked::Verify { .. } => Ok(run_verify(alloc, input, second, out)?.status()),
-        Asked::Tidy { .. } => {
-            run_tidy(alloc, input, out)?;
-            Ok(0)
-        }
-        Asked::Solve {
-            workers,
-            bound,
-            winners,
-            known,
-            ..
-        } => {
-            let options = SolveOptions {
-                workers: *workers,
-                bound: *bound,
-                winners: *winners,
-            };
-            solve_given(rt, alloc, input, known, second, out, &options, gate, finder)?;
-            Ok(0)
-        }
-        Asked::Trace { workers, .. } => {
-            run_trace(rt, alloc, input, out, *workers, gate, finder)?;
-            Ok(0)
-        }
-        Asked::Help(text) => {
-            write_all(text.as_str().as_bytes(), out)?;
-            Ok(0)
+    Options {
+        workers,
+        bound,
+        budget: BUDGET,
+    }
+}
+
+/// What a run that solves a game needs: its handle, its allocator, its options, and what its workers call.
+#[derive(Drop)]
+pub(crate) struct Run<'x, G, F, R> {
+    pub rt: &'x R,
+    pub alloc: Global,
+    pub options: Options,
+    pub gate: &'x G,
+    pub finder: &'x F,
+    ghost workers: { (1 ≤ options.workers) × (options.workers ≤ 64) },
+    ghost bound: { options.bound ≤ 8 },
+}
+
+impl<G: Gate, F: Finder, R: Threads + Wait + Sync> Run<'_, G, F, R> {
+    /// Reads a game and then what is known of it, solves it, and writes its solution or its winners.
+    pub fn solve_from_known<I: Source, K: Source, O: Sink>(
+        &self,
+        input: &mut I,
+        known: &mut K,
+        out: &mut O,
+        winners: bool,
+    ) -> Result<(), RunFault>
+        ensures reads { ReadsInTurn result (I.left input.old) (I.read_failures input.old) (I.read_failures input.new) (known.new ≡ known.old)
+            (K.read_failures known.new ≡ K.read_failures known.old) (HasFailed (K.read_failures known.old) (K.read_failures known.new)) }
+        ensures writes { Writes (λ _ text. IsSolveOutput (I.left input.old) (K.left known.old) winners text)
+            result (O.taken out.old) (O.taken out.new) (O.write_failures out.old) (O.write_failures out.new) }
+        ensures fault { IfErr result (λ e. (e ≡ RunFault.Write)
+            ⊎ (IsNoGame (I.left input.old) e ⊎ ((g : Graph) × IsReadGame (I.left input.old) g × IsNotKnown g (K.left known.old) e))) }
+    {
+        let game = game_from(self.alloc, input)?;
+        let known = known_from(self.alloc, &game, known)?;
+        let start = KnownOf {
+            game: &game,
+            known: &known,
+        };
+        let text = self.text(&start, winners)?;
+        write_all(text.as_slice(), out)
+    }
+
+    /// Reads a game of which nothing is known, solves it, and writes its solution or its winners.
+    pub fn solve_from_nothing<I: Source, O: Sink>(
+        &self,
+        input: &mut I,
+        out: &mut O,
+        winners: bool,
+    ) -> Result<(), RunFault>
+        ensures reads { Reads result (I.read_failures input.old) (I.read_failures input.new) }
+        ensures writes { Writes (λ _ text. IsSolveOutput (I.left input.old) (Some []) winners text)
+            result (O.taken out.old) (O.taken out.new) (O.write_failures out.old) (O.write_failures out.new) }
+        ensures fault { IfErr result (λ e. (e ≡ RunFault.Write) ⊎ IsNoGame (I.left input.old) e) }
+    {
+        let game = game_from(self.alloc, input)?;
+        // for the proof alone, which takes from it that the game is one
+        let _n = game.len();
+        let known = nothing_known(self.alloc);
+        let start = KnownOf {
+            game: &game,
+            known: &known,
+        };
+        let text = self.text(&start, winners)?;
+        write_all(text.as_slice(), out)
+    }
+
+    /// The text of the game's solution, or of its winners alone.
+    fn text(&self, start: &KnownOf<'_>, winners: bool) -> Result<Vec<u8>, RunFault>
+        ensures text { IfOk result (λ text. IsSolveText winners start.now.game.now text.items) }
+        ensures regions { IfOk result (λ _. (p : Player) → IsKnownRegion start.now.game.now start.now.known.now.rows p) }
+        ensures fault { IfErr result (λ e. IsUnsolved start.now.game.now start.now.known.now.rows e) }
+    {
+        // the journal takes as much memory as the solution, and is freed before the text is made
+        let solution = self.outcome(start)?.solution;
+        Ok(text_of(self.alloc, start.game, &solution, winners)?)
+    }
+
+    /// The outcome of solving a game from what is known of it.
+    fn outcome(&self, start: &KnownOf<'_>) -> Result<Outcome, RunFault>
+        ensures outcome { IfOk result (λ o. IsOutcome start.now.game.now start.now.known.now.rows
+            (total_of self.now.options.bound (length start.now.game.now)) self.now.options.workers o) }
+        ensures regions { IfOk result (λ _. (p : Player) → IsKnownRegion start.now.game.now start.now.known.now.rows p) }
+        ensures fault { IfErr result (λ e. IsUnsolved start.now.game.now start.now.known.now.rows e) }
+    {
+        match solve_game(
+            self.rt,
+            self.alloc,
+            start.game,
+            &self.options,
+            start.known,
+            self.gate,
+            self.finder,
+        ) {
+            Ok(outcome) => Ok(outcome),
+            Err(fault) => Err(start.unsolved(fault)),
         }
     }
 }
 
-/// Reads a game and then what is known of it, solves it, and writes its solution or its winners.
-fn solve_from_known<I: Source, K: Source, O: Sink, R: Threads + Wait + Sync>(
-    rt: &R,
-    alloc: Global,
-    input: &mut I,
-    known: &mut K,
-    out: &mut O,
-    options: &SolveOptions,
-    gate: &impl Gate,
-    finder: &impl Finder,
-) -> Result<(), RunFault>
-    requires workers { (1 ≤ options.now.workers) × (options.now.workers ≤ 64) }
-    requires bound { options.now.bound ≤ 8 }
-    ensures reads { ReadsInTurn result (I.left input.old) (I.read_failures input.old) (I.read_failures input.new) (known.new ≡ known.old)
-        (K.read_failures known.new ≡ K.read_failures known.old) (HasFailed (K.read_failures known.old) (K.read_failures known.new)) }
-    ensures writes { Writes (λ _ text. IsSolveOutput (I.left input.old) (K.left known.old) options.now.winners text)
-        result (O.taken out.old) (O.taken out.new) (O.write_failures out.old) (O.write_failures out.new) }
-    ensures fault { IfErr result (λ e. (e ≡ RunFault.Write)
-        ⊎ (IsNoGame (I.left input.old) e ⊎ ((g : Graph) × IsReadGame (I.left input.old) g × IsNotKnown g (K.left known.old) e))) }
-{
-    let game = game_from(alloc, input)?;
-    let text = read_text(alloc, known)?;
-    let known = known_of(alloc, &game, text.as_slice())?;
-    let text = solve_text(rt, alloc, &game, &known, options, gate, finder)?;
-    write_all(text.as_slice(), out)
-}
-
-/// What is known of the game by a text.
-fn known_of(alloc: Global, game: &Game, text: &[u8]) -> Result<Known, RunFault>
-    requires { length text.now ≤ max_text }
+/// What is known of the game by the text of a source.
+fn known_from<S: Source>(alloc: Global, game: &Game, source: &mut S) -> Result<Known, RunFault>
     ensures size { IfOk result (λ known. length known.rows ≡ length game.now) }
-    ensures known { IfOk result (λ known. IsKnownTextOf game.now text.now known.rows) }
-    ensures fault { IfErr result (λ e. IsRefusedText game.now text.now e) }
+    ensures known { IfOk result (λ known. IsReadKnown game.now (S.left source.old) known.rows) }
+    ensures fault { IfErr result (λ e. IsNotKnown game.now (S.left source.old) e) }
+    ensures reads { Reads result (S.read_failures source.old) (S.read_failures source.new) }
 {
-    match read_known(alloc, game, text) {
+    let text = read_text(alloc, source)?;
+    match read_known(alloc, game, text.as_slice()) {
         Ok(known) => Ok(known),
         Err(SolutionTextFault::Memory) => Err(RunFault::Memory),
         Err(fault) => Err(RunFault::Solution(fault)),
     }
 }
 
-/// The text of a game's solution, from what is known of it.
-fn solve_text<R: Threads + Wait + Sync>(
-    rt: &R,
-    alloc: Global,
-    game: &Game,
-    known: &Known,
-    options: &SolveOptions,
-    gate: &impl Gate,
-    finder: &impl Finder,
-) -> Result<Vec<u8>, RunFault>
-    requires known { length known.now.rows ≤ length game.now }
-    requires workers { (1 ≤ options.now.workers) × (options.now.workers ≤ 64) }
-    requires bound { options.now.bound ≤ 8 }
-    ensures text { IfOk result (λ text. IsSolveText options.now.winners game.now text.items) }
-    ensures regions { IfOk result (λ text. (p : Player) → IsKnownRegion game.now known.now.rows p) }
-    ensures fault { IfErr result (λ e. IsUnsolved game.now known.now.rows e) }
-{
-    // for the proof alone, which takes from it that the game is one
-    let _n = game.len();
-    let run = Options {
-        workers: options.workers,
-        bound: options.bound,
-        budget: BUDGET,
-    };
-    // the journal takes as much memory as the solution, and is freed before the text is made
-    let solution = match solve_game(rt, alloc, game, &run, known, gate, finder) {
-        Ok(outcome) => outcome.solution,
-        Err(fault) => return Err(unsolved(game, known, fault)),
-    };
-    if options.winners {
-        let text = write_winners(alloc, game, &solution)?;
-        return Ok(text);
-    }
-    let text = write_solution(alloc, game, &solution)?;
-    Ok(text)
+/// A game and what is known of it, which has no more rows than the game has vertices.
+#[derive(Clone, Copy)]
+struct KnownOf<'a> {
+    game: &'a Game,
+    known: &'a Known,
+    ghost size: { length known.now.rows ≤ length game.now },
 }
 
-/// Why a game is not solved from what is known of it.
-fn unsolved(game: &Game, known: &Known, fault: SolveFault) -> RunFault
-    requires known { length known.now.rows ≤ length game.now }
-    requires fault { IsSolveFault game.now known.now.rows fault }
-    ensures { IsUnsolved game.now known.now.rows result }
-{
-    match fault {
-        SolveFault::Known(player, refusal) => {
-            RunFault::Known(known_fault(game, known, player, refusal))
-        }
-        SolveFault::Memory => RunFault::Memory,
-    }
-}
-
-/// The reason of the refused post of a player's known set, by identifiers.
-fn known_fault(game: &Game, known: &Known, player: Player, refusal: Refusal) -> KnownFault
-    requires known { length known.now.rows ≤ length game.now }
-    requires refusal { IsSolveFault game.now known.now.rows (SolveFault.Known player refusal) }
-    ensures { Names game.now (known_rows game.now known.now.rows player) refusal result }
-{
-    // for the proof alone, which takes from it that the game is one
-    let _n = game.len();
-    match refusal {
-        Refusal::Claim(fault) => claim_fault(game, known, player, fault),
-        Refusal::Lost(v) => KnownFault::Lost(game.id(v)),
-        Refusal::Open(v, w) => KnownFault::Open(game.id(v), game.id(w)),
-        Refusal::Foreign(_) | Refusal::Stale | Refusal::Memory => unreachable!(),
-    }
-}
-
-/// The fault that a check of a player's known set found, by identifiers.
-fn claim_fault(game: &Game, known: &Known, player: Player, fault: ClaimFault) -> KnownFault
-    requires known { length known.now.rows ≤ length game.now }
-    requires fault { IsSolveFault game.now known.now.rows (SolveFault.Known player (Refusal.Claim fault)) }
-    ensures { Names game.now (known_rows game.now known.now.rows player) (Refusal.Claim fault) result }
-{
-    // for the proof alone, which takes from it that the game is one
-    let _n = game.len();
-    match fault {
-        ClaimFault::Shape(row) => {
-            let v = vertex_in_row(game, known, player, row);
-            KnownFault::Choice(game.id(v))
-        }
-        ClaimFault::Cycle(v) => KnownFault::Cycle(game.id(v)),
-        ClaimFault::Memory => unreachable!(),
-    }
-}
-
-/// The vertex in a row of the player's known set: of his known vertices, in order, the one with this many before it.
-fn vertex_in_row(game: &Game, known: &Known, player: Player, row: u32) -> u32
-    requires known { length known.now.rows ≤ length game.now }
-    requires row { row < length (known_rows game.now known.now.rows player) }
-    ensures vertex { result < length game.now }
-    ensures row { option_map (λ r. r.0) (slice_get (known_rows game.now known.now.rows player) row) ≡ Some result }
-{
-    let mut before = 0u32;
-    for v in 0..game.len() {
-        if is_known_of(known, player, v) {
-            if before == row {
-                return v;
+impl KnownOf<'_> {
+    /// Why the game is not solved.
+    fn unsolved(&self, fault: SolveFault) -> RunFault
+        requires { IsSolveFault self.now.game.now self.now.known.now.rows fault }
+        ensures { IsUnsolved self.now.game.now self.now.known.now.rows result }
+    {
+        match fault {
+            SolveFault::Known(player, refusal) => {
+                RunFault::Known(self.known_fault(player, refusal))
             }
-            before += 1;
+            SolveFault::Memory => RunFault::Memory,
         }
     }
-    unreachable!()
+
+    /// The reason of the refused post of a player's known set, by identifiers.
+    fn known_fault(&self, player: Player, refusal: Refusal) -> KnownFault
+        requires { IsSolveFault self.now.game.now self.now.known.now.rows (SolveFault.Known player refusal) }
+        ensures { Names self.now.game.now (known_rows self.now.game.now self.now.known.now.rows player) refusal result }
+    {
+        // for the proof alone, which takes from it that the game is one
+        let _n = self.game.len();
+        match refusal {
+            Refusal::Claim(ClaimFault::Shape(row)) => {
+                let v = self.vertex_in_row(player, row);
+                KnownFault::Choice(self.game.id(v))
+            }
+            Refusal::Claim(ClaimFault::Cycle(v)) => KnownFault::Cycle(self.game.id(v)),
+            Refusal::Lost(v) => KnownFault::Lost(self.game.id(v)),
+            Refusal::Open(v, w) => KnownFault::Open(self.game.id(v), self.game.id(w)),
+            Refusal::Claim(ClaimFault::Memory) => unreachable!(),
+            Refusal::Foreign(_) | Refusal::Stale | Refusal::Memory => unreachable!(),
+        }
+    }
+
+    /// The vertex in a row of the player's known set: of his known vertices, in order, the one with this many before it.
+    fn vertex_in_row(&self, player: Player, row: u32) -> u32
+        requires { row < length (known_rows self.now.game.now self.now.known.now.rows player) }
+        ensures vertex { result < length self.now.game.now }
+        ensures row { option_map (λ r. r.0) (slice_get (known_rows self.now.game.now self.now.known.now.rows player) row) ≡ Some result }
+    {
+        let mut before = 0u32;
+        for v in 0..self.game.len() {
+            if is_known_of(self.known, player, v) {
+                if before == row {
+                    return v;
+                }
+                before += 1;
+            }
+        }
+        unreachable!()
+    }
 }
 
 /// Whether the player is known to win the vertex.
@@ -311,31 +320,6 @@ fn is_known_of(known: &Known, player: Player, v: u32) -> bool
     }
 }
 
-/// Reads a game of which nothing is known, solves it, and writes its solution or its winners.
-fn solve_from_nothing<I: Source, O: Sink, R: Threads + Wait + Sync>(
-    rt: &R,
-    alloc: Global,
-    input: &mut I,
-    out: &mut O,
-    options: &SolveOptions,
-    gate: &impl Gate,
-    finder: &impl Finder,
-) -> Result<(), RunFault>
-    requires workers { (1 ≤ options.now.workers) × (options.now.workers ≤ 64) }
-    requires bound { options.now.bound ≤ 8 }
-    ensures reads { Reads result (I.read_failures input.old) (I.read_failures input.new) }
-    ensures writes { Writes (λ _ text. IsSolveOutput (I.left input.old) (Some []) options.now.winners text)
-        result (O.taken out.old) (O.taken out.new) (O.write_failures out.old) (O.write_failures out.new) }
-    ensures fault { IfErr result (λ e. (e ≡ RunFault.Write) ⊎ IsNoGame (I.left input.old) e) }
-{
-    let game = game_from(alloc, input)?;
-    // for the proof alone, which takes from it that the game is one
-    let _n = game.len();
-    let known = nothing_known(alloc);
-    let text = solve_text(rt, alloc, &game, &known, options, gate, finder)?;
-    write_all(text.as_slice(), out)
-}
-
 /// What is known of a game without a text: nothing, which has no rows.
 fn nothing_known(alloc: Global) -> Known
     ensures { result.rows ≡ [] }
@@ -345,80 +329,20 @@ fn nothing_known(alloc: Global) -> Known
     }
 }
 
-/// The text of a run on a game of which nothing is known.
-fn trace_of<R: Threads + Wait + Sync>(
-    rt: &R,
+/// The text of a game's solution, or of its winners alone.
+fn text_of(
     alloc: Global,
     game: &Game,
-    workers: u32,
-    gate: &impl Gate,
-    finder: &impl Finder,
-) -> Result<Vec<u8>, AllocError>
-    requires workers { (1 ≤ workers) × (workers ≤ 64) }
-    ensures { IfOk result (λ text. IsTraceText workers game.now text.items) }
+    solution: &Solution,
+    winners: bool,
+) -> Result<Vec<u8>, Memory>
+    requires { IsExactSolution game.now solution.now.rows }
+    ensures { IfOk result (λ text. IsSolveText winners game.now text.items) }
 {
     // for the proof alone, which takes from it that the game is one
     let _n = game.len();
-    let run = Options {
-        workers,
-        bound: TRACE_BOUND,
-        budget: BUDGET,
-    };
-    let known = nothing_known(alloc);
-    let outcome = match solve_game(rt, alloc, game, &run, &known, gate, finder) {
-        Ok(outcome) => outcome,
-        Err(fault) => return Err(only_memory(game, &known, fault)),
-    };
-    let text = write_trace(
-        alloc,
-        game,
-        outcome.entries.as_slice(),
-        outcome.report.as_slice(),
-    )?;
-    Ok(text)
-}
-
-/// The greatest size of the dominions that a traced run searches for.
-const TRACE_BOUND: u32 = 4;
-
-/// Why a game of which nothing is known is not solved: refused memory is the only reason.
-fn only_memory(game: &Game, known: &Known, fault: SolveFault) -> Memory
-    requires known { known.now.rows ≡ [] }
-    requires fault { IsSolveFault game.now known.now.rows fault }
-{
-    // for the proof alone, which takes from it that the game is one
-    let _n = game.len();
-    match fault {
-        SolveFault::Known(..) => unreachable!(),
-        SolveFault::Memory => AllocError,
+    if winners {
+        return write_winners(alloc, game, solution);
     }
-}
-
-/// Solves a game, from what the second source has where the path of what is known was given.
-fn solve_given<I: Source, S: Source, O: Sink, R: Threads + Wait + Sync>(
-    rt: &R,
-    alloc: Global,
-    input: &mut I,
-    known: &Option<String>,
-    second: &mut S,
-    out: &mut O,
-    options: &SolveOptions,
-    gate: &impl Gate,
-    finder: &impl Finder,
-) -> Result<(), RunFault>
-    requires workers { (1 ≤ options.now.workers) × (options.now.workers ≤ 64) }
-    requires bound { options.now.bound ≤ 8 }
-    ensures reads { ReadsGiven known.now result (I.left input.old) (I.read_failures input.old) (I.read_failures input.new) (second.new ≡ second.old)
-        (S.read_failures second.new ≡ S.read_failures second.old) (HasFailed (S.read_failures second.old) (S.read_failures second.new)) }
-    ensures writes { Writes (λ _ text. IsSolveOutput (I.left input.old) (known_text known.now (S.left second.old)) options.now.winners text)
-        result (O.taken out.old) (O.taken out.new) (O.write_failures out.old) (O.write_failures out.new) }
-    ensures fault { IfErr result (λ e. SolvingFailed known.now (I.left input.old) (S.left second.old) e) }
-{
-    match known {
-        Some(_) => run_solve(rt, alloc, input, Some(second), out, options, gate, finder),
-        None => {
-            let nothing = None::<&mut Std<&[u8]>>;
-            run_solve(rt, alloc, input, nothing, out, options, gate, finder)
-        }
-    }
+    write_solution(alloc, game, solution)
 }

@@ -1,7 +1,7 @@
 //! The text of a solved game: the journal of its board, then a line for each job, then the sums. Each function adds one line.
 //! The invariant of each loop: the written lines and those of the rest are the whole text.
 
-ghost use Rattle.std.specs.Prelude.{◌≡◌, ◌<◌, ◌++◌, ◌∷◌, [], length, codes, flat_map, sum_by, IfOk, OnOk, IfSome};
+ghost use Rattle.std.specs.Prelude.{◌≡◌, ◌<◌, ◌++◌, ◌∷◌, [], length, codes, flat_map, sum_by, IfOk, OnOk};
 ghost use Rattle.std.specs.List.{AllByRecursion};
 ghost use Rattle.pg_game.specs.Player.{digit_of};
 ghost use Rattle.pg_text.specs.Written.{numeral};
@@ -67,6 +67,7 @@ fn put_journal_head(out: &mut Vec<u8>, entries: u64, settled: u128) -> Result<()
     put(out, b"\n")
 }
 
+/// Bytes as they are.
 fn put(out: &mut Vec<u8>, bytes: &[u8]) -> Result<(), AllocError>
     ensures { OnOk result (out.new.items ≡ out.old.items ++ bytes.now) }
 {
@@ -148,8 +149,7 @@ fn put_rows(out: &mut Vec<u8>, game: &Game, rows: &[(u32, Option<u32>)]) -> Resu
 
 /// The line of a settled vertex, written from its end.
 fn put_row(out: &mut Vec<u8>, game: &Game, row: &(u32, Option<u32>)) -> Result<(), AllocError>
-    requires vertex { row.now.0 < length game.now }
-    requires choice { IfSome row.now.1 (λ w. w < length game.now) }
+    requires { AreVertices (length game.now) row.now }
     ensures { OnOk result (out.new.items ≡ out.old.items ++ row_line game.now row.now) }
 {
     let mut buffer = [0u8; ROW];
@@ -225,6 +225,7 @@ fn put_total(out: &mut Vec<u8>, report: &[ReportRow]) -> Result<(), AllocError>
     put(out, b"\n")
 }
 
+/// The sums of the columns over all jobs.
 fn sums_of(report: &[ReportRow]) -> Sums
     ensures posted { result.posted ≡ sum_by (λ r. r.posted) report.now }
     ensures settled { result.settled ≡ sum_by (λ r. r.settled) report.now }

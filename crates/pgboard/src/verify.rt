@@ -5,21 +5,22 @@ ghost use Rattle.std.specs.Prelude.{◌≡◌, ◌≤◌, ◌⊎◌, IfErr, IfSo
 ghost use Rattle.std.specs.Io.KnownBytes.{Appends, Keeps};
 ghost use Rattle.pg_game.specs.Graph.{Graph};
 ghost use Rattle.pg_text.specs.Written.{written_game, numeral};
-ghost use Rattle.pg_text.specs.Reading.{max_text, IsTextOf, IsSolutionTextOf, IsSolutionFaultOf};
+ghost use Rattle.pg_text.specs.Reading.{max_text, IsSolutionTextOf, IsSolutionFaultOf};
 ghost use Rattle.pgboard.specs.Device.{HasFailed, AppendsPrefix};
 ghost use Rattle.pgboard.specs.Joined.{game_part, solution_part, IsJudged, verdict_line, JudgingFailed, IsVerdict, fault_text};
 ghost use Rattle.pgboard.specs.Run.{IsReadGame, IsNoGame, IsNoSolution, Reads, ReadsInTurn, Writes};
-ghost use Rattle.pgboard.specs.private.Run.{IsRefusedSolution, IsVerdictOn, IsRefusedGame, IsReadSolution};
+ghost use Rattle.pgboard.specs.private.Run.{IsRefusedSolution, IsVerdictOn, IsReadSolution};
 ghost use Rattle.pgboard.specs.Status.{verdict_status};
 
 use crate::device::{Sink, Source, read_text, write_all};
 use crate::fault::RunFault;
+use crate::reading::{forward_game_from, forward_game_of};
 use memchr::memchr;
 use pg_dominion::{SolutionFault, check_forward_solution};
-use pg_game::{ForwardGame, Game};
+use pg_game::ForwardGame;
 use pg_text::{
-    Solution, SolutionTextFault, TextFault, put_number, read_forward_game, read_forward_solution,
-    take_solution, write_forward_game,
+    Solution, SolutionTextFault, put_number, read_forward_solution, take_solution,
+    write_forward_game,
 };
 use std::alloc::{AllocError, Global};
 
@@ -117,17 +118,7 @@ pub fn run_tidy<I: Source, O: Sink>(
     write_all(text.as_slice(), out)
 }
 
-/// The game that the text of a source spells, with predecessors.
-pub fn game_from<S: Source>(alloc: Global, source: &mut S) -> Result<Game, RunFault>
-    ensures game { IfOk result (λ g. IsReadGame (S.left source.old) g) }
-    ensures fault { IfErr result (λ e. IsNoGame (S.left source.old) e) }
-    ensures no_failure { (IsErrOf result RunFault.Read → ⊥) → S.read_failures source.new ≡ S.read_failures source.old }
-    ensures failed { IsErrOf result RunFault.Read → HasFailed (S.read_failures source.old) (S.read_failures source.new) }
-{
-    let forward = forward_game_from(alloc, source)?;
-    Ok(Game::of_forward(alloc, forward)?)
-}
-
+/// Adds what is wrong.
 fn put_fault(fault: &SolutionFault, line: &mut Vec<u8>) -> Result<(), AllocError>
     ensures { OnOk result (line.new.items ≡ line.old.items ++ fault_text fault.now) }
 {
@@ -165,19 +156,6 @@ fn parts(text: &[u8]) -> (&[u8], &[u8])
     }
 }
 
-/// The game that a text spells, without predecessors.
-fn forward_game_of(alloc: Global, text: &[u8]) -> Result<ForwardGame, RunFault>
-    requires { length text.now ≤ max_text }
-    ensures game { IfOk result (λ g. IsTextOf text.now g) }
-    ensures fault { IfErr result (λ e. IsRefusedGame text.now e) }
-{
-    match read_forward_game(alloc, text) {
-        Ok(game) => Ok(game),
-        Err(TextFault::Memory) => Err(RunFault::Memory),
-        Err(fault) => Err(RunFault::Game(fault)),
-    }
-}
-
 /// What is said of the winners and choices that a text spells. The game is given up, so that a caller's proof has no field
 /// of it to drop.
 fn verdict_of(alloc: Global, game: ForwardGame, text: &[u8]) -> Result<Verdict, RunFault>
@@ -185,19 +163,8 @@ fn verdict_of(alloc: Global, game: ForwardGame, text: &[u8]) -> Result<Verdict, 
     ensures verdict { IfOk result (λ verdict. IsVerdictOn game text.now verdict) }
     ensures fault { IfErr result (λ e. IsRefusedSolution game text.now e) }
 {
-    let solution = solution_of(alloc, &game, text)?;
-    verdict_on(alloc, &game, &solution)
-}
-
-/// The winners and choices that a text spells for a game.
-fn solution_of(alloc: Global, game: &ForwardGame, text: &[u8]) -> Result<Solution, RunFault>
-    requires { length text.now ≤ max_text }
-    ensures fit { IfOk result (λ s. length s.rows ≡ length game.now) }
-    ensures rows { IfOk result (λ s. IsSolutionTextOf game.now text.now s.rows) }
-    ensures fault { IfErr result (λ e. IsRefusedSolution game.now text.now e) }
-{
-    match read_forward_solution(alloc, game, text) {
-        Ok(solution) => Ok(solution),
+    match read_forward_solution(alloc, &game, text) {
+        Ok(solution) => verdict_on(alloc, &game, &solution),
         Err(fault) => Err(refused_for(fault)),
     }
 }
@@ -238,17 +205,6 @@ fn write_verdict<O: Sink>(alloc: Global, verdict: &Verdict, out: &mut O) -> Resu
     write_all(line.as_slice(), out)
 }
 
-/// The game that the text of a source spells, without predecessors.
-fn forward_game_from<S: Source>(alloc: Global, source: &mut S) -> Result<ForwardGame, RunFault>
-    ensures game { IfOk result (λ g. IsReadGame (S.left source.old) g) }
-    ensures fault { IfErr result (λ e. IsNoGame (S.left source.old) e) }
-    ensures no_failure { (IsErrOf result RunFault.Read → ⊥) → S.read_failures source.new ≡ S.read_failures source.old }
-    ensures failed { IsErrOf result RunFault.Read → HasFailed (S.read_failures source.old) (S.read_failures source.new) }
-{
-    let text = read_text(alloc, source)?;
-    forward_game_of(alloc, text.as_slice())
-}
-
 /// What is said of the winners and choices that the text of a source spells. The text is freed before they are judged.
 fn verdict_from<S: Source>(
     alloc: Global,
@@ -257,8 +213,7 @@ fn verdict_from<S: Source>(
 ) -> Result<Verdict, RunFault>
     ensures verdict { IfOk result (λ verdict. IfSome (S.left source.old) (λ text. (length text ≤ max_text) × IsVerdictOn game text verdict)) }
     ensures fault { IfErr result (λ e. IsNoSolution game (S.left source.old) e) }
-    ensures no_failure { (IsErrOf result RunFault.Read → ⊥) → S.read_failures source.new ≡ S.read_failures source.old }
-    ensures failed { IsErrOf result RunFault.Read → HasFailed (S.read_failures source.old) (S.read_failures source.new) }
+    ensures reads { Reads result (S.read_failures source.old) (S.read_failures source.new) }
 {
     let solution = solution_from(alloc, &game, source)?;
     verdict_on(alloc, &game, &solution)
@@ -273,8 +228,7 @@ fn solution_from<S: Source>(
     ensures fit { IfOk result (λ s. length s.rows ≡ length game.now) }
     ensures rows { IfOk result (λ s. IsReadSolution game.now (S.left source.old) s.rows) }
     ensures fault { IfErr result (λ e. IsNoSolution game.now (S.left source.old) e) }
-    ensures no_failure { (IsErrOf result RunFault.Read → ⊥) → S.read_failures source.new ≡ S.read_failures source.old }
-    ensures failed { IsErrOf result RunFault.Read → HasFailed (S.read_failures source.old) (S.read_failures source.new) }
+    ensures reads { Reads result (S.read_failures source.old) (S.read_failures source.new) }
 {
     let text = read_text(alloc, source)?;
     match take_solution(alloc, game, text) {

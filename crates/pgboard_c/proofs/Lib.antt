@@ -1,6 +1,2 @@
 pub mod Common
-pub mod Described
-pub mod Choices
-pub mod Shapes
-pub mod Boxed
-pub mod Posted
+pub mod PostAnswers

@@ -1,5 +1,5 @@
 -- The answers of the calls on arrays, and their refusals: the first reason that applies, for the least vertex.
-use Rattle.std.specs.Prelude.{◌≡◌, ◌≢◌, ◌+◌, length, slice_index, Some}
+use Rattle.std.specs.Prelude.{ℕ, ◌≡◌, ◌≢◌, ◌+◌, length, slice_index, Option, Some, IsSome}
 use Rattle.pg_game.specs.Graph.{Graph}
 use Rattle.pg_game.specs.Specification.{first_fault}
 use Rattle.pg_game.specs.Least.{NoneHas, IsLeast}
@@ -59,16 +59,13 @@ AreUnfitResults g r (fault.Size structure.Results) = r.size ≢ structure_size s
 AreUnfitResults g r (fault.Results name) = (r.size ≡ structure_size structure.Results) × IsResultMisfit g r name
 AreUnfitResults g r other = ⊥
 
--- why solving has no result, with the results before the call
-abbrev pub IsSolveFault : GameArrays → ResultArrays → Fault → Type 0
-IsSolveFault a r (fault.Size structure.Results) = (g : Graph) × IsGameOfArrays a g × AreUnfitResults g r (fault.Size structure.Results)
-IsSolveFault a r (fault.Results name) = (g : Graph) × IsGameOfArrays a g × AreUnfitResults g r (fault.Results name)
-IsSolveFault a r other = IsArraysFault a other
-
--- why solving within a number of steps has no result: it gave up, on a game and results that it could solve, or a fault of solving
-abbrev pub IsSolveWithinFault : GameArrays → ResultArrays → Fault → Type 0
-IsSolveWithinFault a r fault.GaveUp = (g : Graph) × IsGameOfArrays a g × HaveSize g r
-IsSolveWithinFault a r other = IsSolveFault a r other
+-- why solving has no result, with the results before the call; with a limit of steps also that it gave up, on a game and results that it
+-- could solve
+abbrev pub IsSolveFault : Option ℕ → GameArrays → ResultArrays → Fault → Type 0
+IsSolveFault limit a r (fault.Size structure.Results) = (g : Graph) × IsGameOfArrays a g × AreUnfitResults g r (fault.Size structure.Results)
+IsSolveFault limit a r (fault.Results name) = (g : Graph) × IsGameOfArrays a g × AreUnfitResults g r (fault.Results name)
+IsSolveFault limit a r fault.GaveUp = IsSome limit × ((g : Graph) × IsGameOfArrays a g × HaveSize g r)
+IsSolveFault limit a r other = IsArraysFault a other
 
 -- why a solution's struct does not have winners and choices of the game's vertices
 abbrev pub IsUnfitSolution : Graph → ResultArrays → Fault → Type 0

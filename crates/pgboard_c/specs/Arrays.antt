@@ -2,16 +2,16 @@
 use Rattle.std.specs.Prelude.{ℕ, zero, suc, ◌≡◌, ◌+◌, ◌<◌, ◌⊎◌, ◌==◌, List, [], ◌∷◌, ◌++◌, length, slice_index}
 use Rattle.std.specs.Prelude.{if◌then◌else◌, Option, Some, None}
 use Rattle.std.specs.List.{slice_range}
-use Rattle.pg_game.specs.declared.game.Spec.{Spec}
+use Rattle.pg_game.specs.declared.specification.Spec.{Spec}
 use Rattle.pg_game.specs.Player.{digit_of}
 use Rattle.pg_game.specs.Graph.{Graph, IsGame}
 use Rattle.pg_game.specs.Specification.{IsGameOf, max_number}
 use Rattle.pg_game.specs.Least.{NoneHas}
 use Rattle.pg_text.specs.GameText.{player_of}
 use Rattle.pg_text.specs.Solution.{SolutionRows, winner_of, choice_of}
-use Rattle.pgboard_c.specs.declared.on_arrays.Arrays.{Arrays}
-use Rattle.pgboard_c.specs.declared.on_arrays.Results.{Results}
-use Rattle.pgboard_c.specs.declared.on_arrays.SolutionArrays.{SolutionArrays}
+use Rattle.pgboard_c.specs.declared.arrays.Arrays.{Arrays}
+use Rattle.pgboard_c.specs.declared.arrays.Results.{Results}
+use Rattle.pgboard_c.specs.declared.arrays.SolutionArrays.{SolutionArrays}
 use Rattle.pgboard_c.specs.declared.fault.Structure.TheVariants as structure
 use Rattle.pgboard_c.specs.Numbers.{structure_size}
 

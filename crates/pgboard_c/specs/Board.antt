@@ -1,16 +1,15 @@
 -- The answers of the calls on a board that C holds. The board is none where it is closed, and else a game with the journal of its settled
 -- vertices.
-use Rattle.std.specs.Prelude.{ℕ, ◌≡◌, ◌<◌, ◌≤◌, ◌+◌, ◌∷◌, [], length, slice_index, Option, Some, None, IfSome, IsSome}
+use Rattle.std.specs.Prelude.{ℕ, ◌≡◌, ◌<◌, ◌≤◌, ◌+◌, [], length, slice_index, Option, Some, None, IfSome, IsSome}
 use Rattle.pg_game.specs.declared.player.Player.{Player}
-use Rattle.pg_game.specs.declared.player.Player.TheVariants.{Even, Odd}
 use Rattle.pg_game.specs.Player.{digit_of}
 use Rattle.pg_game.specs.Graph.{Graph, IsGame}
 use Rattle.pg_game.specs.Limits.{IsWithinLimits}
 use Rattle.pg_text.specs.Solution.{SolutionRows, IsExactSolution}
-use Rattle.pg_board.specs.Play.{Play}
+use Rattle.pg_board.specs.BoardRecord.{BoardRecord}
 use Rattle.pg_board.specs.Journal.{state_of, IsLawful, number_settled}
 use Rattle.pg_board.specs.Full.{IsFull, AreStateRows}
-use Rattle.pg_board.specs.Finish.{IsLater}
+use Rattle.pg_board.specs.Finish.{IsContinued}
 use Rattle.pgboard_c.specs.declared.held.Handle.{Handle}
 use Rattle.pgboard_c.specs.declared.fault.BoardFault.TheVariants as board_fault
 use Rattle.pgboard_c.specs.declared.fault.Fault.{Fault}
@@ -20,24 +19,24 @@ use Rattle.pgboard_c.specs.Answers.{HaveSize, AreUnfitResults, IsArraysFault}
 use Rattle.pgboard_c.specs.Known.{no_winner}
 
 -- the board of a handle
-abbrev pub board_in : Handle → Option Play
+abbrev pub board_in : Handle → Option BoardRecord
 board_in h = h.held.value
 
 -- a board is a game within the limits, and its journal is lawful
-pub record IsLawfulPlay (s : Play) : Type 0 where
+pub record IsLawfulRecord (s : BoardRecord) : Type 0 where
   pub game : IsGame s.graph
   pub limits : IsWithinLimits s.graph
   pub lawful : IsLawful s.graph s.journal
   pub within : number_settled s.journal ≤ length s.graph
 
-abbrev pub IsLawfulBoard : Option Play → Type 0
-IsLawfulBoard b = IfSome b IsLawfulPlay
+abbrev pub IsLawfulBoard : Option BoardRecord → Type 0
+IsLawfulBoard b = IfSome b IsLawfulRecord
 
 -- the board of the arrays' game on which nothing is settled
-abbrev pub IsOpened : GameArrays → Option Play → Type 0
+abbrev pub IsOpened : GameArrays → Option BoardRecord → Type 0
 IsOpened a b = (g : Graph) × IsGameOfArrays a g × (b ≡ Some (record { graph = g; journal = [] }))
 
-abbrev pub IsOpenFault : Option Play → GameArrays → Fault → Type 0
+abbrev pub IsOpenFault : Option BoardRecord → GameArrays → Fault → Type 0
 IsOpenFault b a (fault.Board board_fault.Open) = IsSome b
 IsOpenFault b a other = (b ≡ None) × IsArraysFault a other
 
@@ -46,15 +45,15 @@ abbrev pub closed_fault : Fault
 closed_fault = fault.Board board_fault.Closed
 
 -- the fault is that the board is closed, or one of the open board
-abbrev pub OnBoard : Option Play → (Play → Fault → Type 0) → Fault → Type 0
+abbrev pub OnBoard : Option BoardRecord → (BoardRecord → Fault → Type 0) → Fault → Type 0
 OnBoard None of e = e ≡ closed_fault
 OnBoard (Some s) of e = of s e
 
-abbrev pub number_settled_on : Option Play → ℕ
+abbrev pub number_settled_on : Option BoardRecord → ℕ
 number_settled_on None = 0
 number_settled_on (Some s) = number_settled s.journal
 
-abbrev pub number_of_entries : Option Play → ℕ
+abbrev pub number_of_entries : Option BoardRecord → ℕ
 number_of_entries None = 0
 number_of_entries (Some s) = length s.journal
 
@@ -68,28 +67,25 @@ chosen_number None = no_choice
 chosen_number (Some r) = choice_number r.1
 
 -- the winner and the choice of each vertex as it is settled, or that it has none
-pub record AreStates (s : Play) (r : ResultArrays) : Type 0 where
+pub record AreStates (s : BoardRecord) (r : ResultArrays) : Type 0 where
   pub fit : HaveSize s.graph r
   pub winners_are : (v : ℕ) → v < length s.graph → slice_index r.winners v ≡ winner_number (state_of s.journal v)
   pub choices_are : (v : ℕ) → v < length s.graph → slice_index r.choices v ≡ chosen_number (state_of s.journal v)
 
-abbrev pub IsStateFault : Play → ResultArrays → Fault → Type 0
+abbrev pub IsStateFault : BoardRecord → ResultArrays → Fault → Type 0
 IsStateFault s r e = AreUnfitResults s.graph r e
 
--- every vertex is settled, by at most one further entry for each player
-abbrev pub IsFinished : Play → Play → Type 0
-IsFinished s t = IsFull t.graph (state_of t.journal) × IsLater (Even ∷ Odd ∷ []) s t
+-- every vertex is settled, by further entries of worker 0
+abbrev pub IsFinished : BoardRecord → BoardRecord → Type 0
+IsFinished s t = IsFull t.graph (state_of t.journal) × IsContinued s t
 
-abbrev pub IsFinishFault : Fault → Type 0
-IsFinishFault e = e ≡ fault.Memory
-
--- why a board is not finished within a number of steps: a vertex is unsettled, or memory was refused
-abbrev pub IsFinishWithinFault : Play → Fault → Type 0
-IsFinishWithinFault s fault.GaveUp = IsFull s.graph (state_of s.journal) → ⊥
-IsFinishWithinFault s other = IsFinishFault other
+-- why a board is not finished: memory was refused, or there is a limit of steps and it gave up, with a vertex unsettled
+abbrev pub IsFinishFault : Option ℕ → BoardRecord → Fault → Type 0
+IsFinishFault limit s fault.GaveUp = IsSome limit × (IsFull s.graph (state_of s.journal) → ⊥)
+IsFinishFault limit s other = other ≡ fault.Memory
 
 -- the board is full, and the arrays have its winners and choices, which are the game's solution
-pub record AreSolution (s : Play) (r : ResultArrays) : Type 0 where
+pub record AreSolution (s : BoardRecord) (r : ResultArrays) : Type 0 where
   pub full : IsFull s.graph (state_of s.journal)
   pub fit : HaveSize s.graph r
   pub rows : SolutionRows
@@ -98,7 +94,7 @@ pub record AreSolution (s : Play) (r : ResultArrays) : Type 0 where
   pub state : AreStateRows s.graph (state_of s.journal) rows
 
 -- why a board has no solution; refused memory says nothing of it
-abbrev pub IsSolutionFault : Play → ResultArrays → Fault → Type 0
+abbrev pub IsSolutionFault : BoardRecord → ResultArrays → Fault → Type 0
 IsSolutionFault s r fault.Memory = Unit {0}
 IsSolutionFault s r (fault.Board (board_fault.Unsettled n)) =
     HaveSize s.graph r × (IsFull s.graph (state_of s.journal) → ⊥) × (n + number_settled s.journal ≡ length s.graph)

@@ -3,7 +3,7 @@ use Rattle.std.specs.Prelude.{ℕ, ◌≡◌, ◌<◌, ◌≤◌, ◌⊎◌, Lis
 use Rattle.pg_game.specs.Player.{digit_of}
 use Rattle.pg_dominion.specs.Claim.{ClaimRows}
 use Rattle.pg_board.specs.declared.journal.Entry.{Entry}
-use Rattle.pg_board.specs.Play.{Play}
+use Rattle.pg_board.specs.BoardRecord.{BoardRecord}
 use Rattle.pgboard_c.specs.declared.board.EntryNumbers.{EntryNumbers}
 use Rattle.pgboard_c.specs.declared.fault.BoardFault.TheVariants as board_fault
 use Rattle.pgboard_c.specs.declared.fault.Fault.{Fault}
@@ -20,7 +20,7 @@ pub record AreEntryRows (rows : ClaimRows) (old_vertices old_choices vertices ch
   pub choices_kept : (i : ℕ) → length rows ≤ i → slice_index choices i ≡ slice_index old_choices i
 
 -- the numbers and the rows of the journal's entry with this number, from 0
-pub record IsEntry (s : Play) (number : ℕ) (n : EntryNumbers) (old_vertices old_choices vertices choices : List ℕ) : Type 0 where
+pub record IsEntry (s : BoardRecord) (number : ℕ) (n : EntryNumbers) (old_vertices old_choices vertices choices : List ℕ) : Type 0 where
   pub entry : Entry
   pub found : slice_get s.journal number ≡ Some entry
   pub worker : n.worker ≡ entry.worker
@@ -31,7 +31,7 @@ pub record IsEntry (s : Play) (number : ℕ) (n : EntryNumbers) (old_vertices ol
   pub fit : (length entry.rows ≤ length old_vertices) × (length entry.rows ≤ length old_choices)
 
 -- no entry has the number, or an array is shorter than its rows
-abbrev pub IsEntryFault : Play → ℕ → ℕ → ℕ → Fault → Type 0
+abbrev pub IsEntryFault : BoardRecord → ℕ → ℕ → ℕ → Fault → Type 0
 IsEntryFault s number vertices choices (fault.Board (board_fault.Entry n)) = (n ≡ length s.journal) × (n ≤ number)
 IsEntryFault s number vertices choices (fault.Capacity n) =
     (e : Entry) × (slice_get s.journal number ≡ Some e) × (n ≡ length e.rows) × ((vertices < n) ⊎ (choices < n))

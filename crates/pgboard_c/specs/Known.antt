@@ -1,5 +1,5 @@
 -- What is known of a game in arrays, and why a known set is no region.
-use Rattle.std.specs.Prelude.{ℕ, ◌≡◌, ◌≢◌, ◌<◌, ◌==◌, List, length, slice_index, if◌then◌else◌, Option, Some, None}
+use Rattle.std.specs.Prelude.{ℕ, ◌≡◌, ◌≢◌, ◌<◌, ◌==◌, List, length, slice_get, slice_index, if◌then◌else◌, Option, Some, None}
 use Rattle.pg_game.specs.declared.player.Player.{Player}
 use Rattle.pg_game.specs.Graph.{Graph, HasEdge, owner_of}
 use Rattle.pg_game.specs.VertexSet.{In}
@@ -10,8 +10,8 @@ use Rattle.pg_text.specs.Solution.{SolutionRows, IsExactSolution}
 use Rattle.pg_dominion.specs.declared.claim.ClaimFault.TheVariants as claim_fault
 use Rattle.pg_board.specs.declared.journal.Refusal.TheVariants as refusal
 use Rattle.pg_workers.specs.declared.known.SolveFault.TheVariants as solving
-use Rattle.pg_workers.specs.Known.{IsKnownRegion, IsSolveFault as IsRefusedSet}
-use Rattle.pgboard_c.specs.declared.fault.KnownFault.TheVariants as known_fault
+use Rattle.pg_workers.specs.Known.{IsKnownRegion, KeepsKnown, IsSolveFault as IsRefusedSet}
+use Rattle.pgboard_c.specs.declared.fault.KnownSetFault.TheVariants as known_fault
 use Rattle.pgboard_c.specs.declared.fault.Structure.TheVariants as structure
 use Rattle.pgboard_c.specs.declared.fault.Fault.{Fault}
 use Rattle.pgboard_c.specs.declared.fault.Fault.TheVariants as fault
@@ -60,11 +60,11 @@ IsRefusedKnown g known (fault.Known (known_fault.Leaves v w)) =
     HaveRightChoices g known × (p : Player) × IsRefusedSet g known (solving.Known p (refusal.Open v w))
 IsRefusedKnown g known other = ⊥
 
--- the same as AreSolved, and each player's known set is a region of his
+-- the same as AreSolved, each player's known set is a region of his, and he keeps its vertices and the choices at those that he owns
 abbrev pub AreSolvedFrom : GameArrays → ResultArrays → ResultArrays → Type 0
 AreSolvedFrom a k r =
     (g : Graph) × (known : KnownRows) × (rows : SolutionRows) × IsGameOfArrays a g × FitsAsKnown g k × AreKnown k.winners k.choices known
-    × ((p : Player) → IsKnownRegion g known p) × HaveSize g r × AreResults r.winners r.choices rows × IsExactSolution g rows
+    × ((p : Player) → IsKnownRegion g known p) × KeepsKnown g known (λ v. slice_get rows v) × HaveSize g r × AreResults r.winners r.choices rows × IsExactSolution g rows
 
 -- why solving from what is known has no result: the game comes first, then what is known as arrays, then the results, then what it means
 abbrev pub IsSolveFromFault : GameArrays → ResultArrays → ResultArrays → Fault → Type 0

@@ -1,7 +1,7 @@
 -- The number of each answer, and its report: a table with one line for each fault.
 use Rattle.std.specs.Prelude.{ℕ, ◌≡◌}
-use Rattle.pg_game.specs.declared.game.GameFault.{GameFault}
-use Rattle.pg_game.specs.declared.game.GameFault.TheVariants as game
+use Rattle.pg_game.specs.declared.specification.GameFault.{GameFault}
+use Rattle.pg_game.specs.declared.specification.GameFault.TheVariants as game
 use Rattle.pg_dominion.specs.declared.solution.SolutionFault.{SolutionFault}
 use Rattle.pg_dominion.specs.declared.solution.SolutionFault.TheVariants as verdict
 use Rattle.pg_text.specs.declared.fault.TextFault.{TextFault}
@@ -12,8 +12,8 @@ use Rattle.pgboard_c.specs.declared.fault.ArrayName.{ArrayName}
 use Rattle.pgboard_c.specs.declared.fault.ArrayName.TheVariants as array_name
 use Rattle.pgboard_c.specs.declared.fault.Structure.{Structure}
 use Rattle.pgboard_c.specs.declared.fault.Structure.TheVariants as structure
-use Rattle.pgboard_c.specs.declared.fault.KnownFault.{KnownFault}
-use Rattle.pgboard_c.specs.declared.fault.KnownFault.TheVariants as known
+use Rattle.pgboard_c.specs.declared.fault.KnownSetFault.{KnownSetFault}
+use Rattle.pgboard_c.specs.declared.fault.KnownSetFault.TheVariants as known
 use Rattle.pgboard_c.specs.declared.fault.BoardFault.{BoardFault}
 use Rattle.pgboard_c.specs.declared.fault.BoardFault.TheVariants as board
 use Rattle.pgboard_c.specs.declared.fault.PostFault.{PostFault}
@@ -66,7 +66,7 @@ verdict_answer (verdict.Leaves id to) = answer 22 id to
 verdict_answer (verdict.Cycle id) = answer 23 id 0
 verdict_answer verdict.Memory = answer 1 0 0
 
-abbrev pub known_answer : KnownFault → Answer
+abbrev pub known_answer : KnownSetFault → Answer
 known_answer (known.Choice v) = answer 60 v 0
 known_answer (known.Cycle v) = answer 61 v 0
 known_answer (known.Lost v) = answer 62 v 0

@@ -8,12 +8,12 @@ use Rattle.pg_dominion.specs.Claim.{ClaimRows}
 use Rattle.pg_board.specs.declared.journal.Posted.{Posted}
 use Rattle.pg_board.specs.declared.journal.Refusal.{Refusal}
 use Rattle.pg_board.specs.declared.journal.Refusal.TheVariants as refusal
-use Rattle.pg_board.specs.Play.{Play}
+use Rattle.pg_board.specs.BoardRecord.{BoardRecord}
 use Rattle.pg_board.specs.State.{IsGoodOn, rest_of}
 use Rattle.pg_board.specs.Journal.{state_of, IsDominionAfter}
 use Rattle.pg_board.specs.Refusal.{Refuses}
 use Rattle.pg_board.specs.Post.{Adds, SettlesDominion}
-use Rattle.pgboard_c.specs.declared.board.ClaimArrays.{ClaimArrays}
+use Rattle.pgboard_c.specs.declared.claims.ClaimArrays.{ClaimArrays}
 use Rattle.pgboard_c.specs.declared.board.PostedNumbers.{PostedNumbers}
 use Rattle.pgboard_c.specs.declared.fault.Structure.TheVariants as structure
 use Rattle.pgboard_c.specs.declared.fault.PostFault.TheVariants as post_fault
@@ -69,7 +69,7 @@ refusal_fault refusal.Memory = fault.Memory
 
 -- the claim is good, and the board has one more entry, with the numbers that are reported. If it was a dominion after some entries, all that
 -- was unsettled of it is settled
-pub record IsPosted (old new : Play) (c : ClaimLists) (n : PostedNumbers) : Type 0 where
+pub record IsPosted (old new : BoardRecord) (c : ClaimLists) (n : PostedNumbers) : Type 0 where
   pub claim : IsClaim c
   pub graph : new.graph ≡ old.graph
   pub good : IsGoodOn old.graph (state_of old.journal) (player_of c.player) (claim_of_lists c).rows
@@ -82,13 +82,13 @@ pub record IsPosted (old new : Play) (c : ClaimLists) (n : PostedNumbers) : Type
       → (n.rest ≡ length (rest_of (state_of old.journal) (claim_of_lists c).rows)) × SettlesDominion old new (player_of c.player) (claim_of_lists c).rows
 
 -- why a claim that was a dominion is not posted: nothing of it is unsettled, or memory was refused
-abbrev pub IsFaultOfDominion : Play → Player → ClaimRows → Fault → Type 0
+abbrev pub IsFaultOfDominion : BoardRecord → Player → ClaimRows → Fault → Type 0
 IsFaultOfDominion s p rows (fault.Post post_fault.Stale) = (rest_of (state_of s.journal) rows ≡ []) × SettlesDominion s s p rows
 IsFaultOfDominion s p rows fault.Memory = Unit {0}
 IsFaultOfDominion s p rows other = ⊥
 
 -- the board refuses the claim, and the fault says why
-pub record IsRefused (s : Play) (c : ClaimLists) (e : Fault) : Type 0 where
+pub record IsRefused (s : BoardRecord) (c : ClaimLists) (e : Fault) : Type 0 where
   pub claim : IsClaim c
   pub refusal : Refusal
   pub refused : Refuses s.graph (state_of s.journal) (player_of c.player) (claim_of_lists c).rows refusal
@@ -97,5 +97,5 @@ pub record IsRefused (s : Play) (c : ClaimLists) (e : Fault) : Type 0 where
       → IsFaultOfDominion s (player_of c.player) (claim_of_lists c).rows e
 
 -- why a claim is not posted: the first of the reasons that apply
-abbrev pub IsPostFault : Play → ClaimLists → Fault → Type 0
+abbrev pub IsPostFault : BoardRecord → ClaimLists → Fault → Type 0
 IsPostFault s c e = IsNoClaim c e ⊎ IsRefused s c e

@@ -19,8 +19,8 @@ board_text n =
     codes "no answer of this library\0"
 
 -- of the answers on texts, buffers and what is known
-abbrev pub format_text : ℕ → List ℕ
-format_text n =
+abbrev pub reading_text : ℕ → List ℕ
+reading_text n =
     if n == 30 then codes "the game's text is longer than 268435456 bytes\0" else
     if n == 31 then codes "the game's text has a byte that begins no token, or a quote that is never closed\0" else
     if n == 32 then codes "the game's text has a token that is not expected, or ends too early\0" else
@@ -63,7 +63,7 @@ answer_text n =
     if n == 21 then codes "a winner's choice is no successor\0" else
     if n == 22 then codes "a kept edge leads to a vertex that its winner does not win\0" else
     if n == 23 then codes "the greatest priority on a closed walk is the loser's\0" else
-    format_text n
+    reading_text n
 
 abbrev pub version_text : List ℕ
 version_text = codes "0.1.0\0"

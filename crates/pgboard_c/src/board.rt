@@ -2,24 +2,25 @@
 //! board is unchanged, and the call writes only `report`.
 
 ghost use Rattle.std.specs.Prelude.{◌≡◌, ◌≢◌, ◌<◌, ◌≤◌, ℕ, Option, None, Some, IfOk, IfErr, OnOk, OnErr, length, slice_index};
-ghost use Rattle.pg_board.specs.declared.journal.Refusal.{Refusal};
-ghost use Rattle.pg_board.specs.Play.{Play};
+ghost use Rattle.pg_board.specs.BoardRecord.{BoardRecord};
 ghost use Rattle.pg_board.specs.Journal.{state_of};
 ghost use Rattle.pgboard_c.specs.declared.fault.Fault.{Fault};
 ghost use Rattle.pgboard_c.specs.Numbers.{IsReported, IsBlank};
 ghost use Rattle.pgboard_c.specs.Arrays.{game_arrays, result_arrays, IsSameStruct};
-ghost use Rattle.pgboard_c.specs.Board.{board_in, IsLawfulBoard, OnBoard, IsOpened, IsOpenFault, AreStates, IsStateFault, IsFinished, IsFinishFault, IsFinishWithinFault};
+ghost use Rattle.pgboard_c.specs.Board.{board_in, IsLawfulRecord, IsLawfulBoard, OnBoard, IsOpened, IsOpenFault, AreStates, IsStateFault};
+ghost use Rattle.pgboard_c.specs.Board.{IsFinished, IsFinishFault};
+ghost use Rattle.pgboard_c.specs.Answers.{IsArraysFault};
 ghost use Rattle.pgboard_c.specs.Board.{AreSolution, IsSolutionFault, number_settled_on, number_of_entries, winner_number, chosen_number};
-ghost use Rattle.pgboard_c.specs.Entries.{AreEntryRows, IsEntry, IsEntryFault};
-ghost use Rattle.pgboard_c.specs.Posting.{claim_lists, claim_of_lists, IsClaim, IsNoClaim, refusal_fault, IsPosted, IsPostFault};
+ghost use Rattle.pgboard_c.specs.Entries.{IsEntry, IsEntryFault};
+ghost use Rattle.pgboard_c.specs.Posting.{claim_lists, IsPosted, IsPostFault};
 
-use crate::fault::{BoardFault, Fault, PostFault, Report, Structure, report_fault, report_none};
+use crate::arrays::{Arrays, Results, number_of, write_results};
+use crate::claims::{ClaimArrays, fault_of};
+use crate::fault::{BoardFault, Fault, Report, reported};
 use crate::held::Handle;
 use crate::known::NO_WINNER;
-use crate::on_arrays::{Arrays, Results, choice_from, number_of, player_of, write_results};
-use pg_board::{Posted, Refusal, Session};
-use pg_dominion::{Claim, ClaimFault};
-use pg_game::{Game, Memory, Player, Sequence};
+use pg_board::Session;
+use pg_game::{Game, Player};
 use std::alloc::Global;
 
 /// Opens a board of the game of the arrays, on which nothing is settled. Keeps none of the arrays.
@@ -32,14 +33,12 @@ pub extern "C" fn pgboard_board_open(
 ) -> u32
     ensures opened { result ≡ 0 → IsOpened (game_arrays game.now) (board_in board.new) }
     ensures lawful { result ≡ 0 → IsLawfulBoard (board_in board.new) }
+    ensures closed { result ≡ 0 → board_in board.old ≡ None }
     ensures blank { result ≡ 0 → IsBlank report.new }
     ensures refused { result ≢ 0 → (e : Fault) × IsReported e result report.new × IsOpenFault (board_in board.old) (game_arrays game.now) e }
     ensures unchanged { result ≢ 0 → board_in board.new ≡ board_in board.old }
 {
-    match open(alloc, board, game) {
-        Ok(()) => report_none(report),
-        Err(fault) => report_fault(report, fault),
-    }
+    reported!(report, open(alloc, board, game))
 }
 
 /// Posts a claim: if it is good on the board's present state, the board gains one entry. Else the answer is the first reason.
@@ -51,20 +50,15 @@ pub extern "C" fn pgboard_board_post(
     posted: &mut PostedNumbers,
     report: &mut Report,
 ) -> u32
-    ensures posted { result ≡ 0 → (s : Play) × (t : Play) × (board_in board.old ≡ Some s) × (board_in board.new ≡ Some t) × IsPosted s t (claim_lists claim.now) posted.new }
+    ensures posted { result ≡ 0 → (s : BoardRecord) × (t : BoardRecord) × (board_in board.old ≡ Some s) × (board_in board.new ≡ Some t)
+        × IsPosted s t (claim_lists claim.now) posted.new }
     ensures blank { result ≡ 0 → IsBlank report.new }
     ensures refused { result ≢ 0 → (e : Fault) × IsReported e result report.new × OnBoard (board_in board.old) (λ s. IsPostFault s (claim_lists claim.now)) e }
     ensures lawful { IsLawfulBoard (board_in board.old) × IsLawfulBoard (board_in board.new) }
     ensures unchanged { result ≢ 0 → board_in board.new ≡ board_in board.old }
     ensures kept { result ≢ 0 → posted.new ≡ posted.old }
 {
-    match post(alloc, board, claim) {
-        Ok(numbers) => {
-            *posted = numbers;
-            report_none(report)
-        }
-        Err(fault) => report_fault(report, fault),
-    }
+    reported!(report, post(alloc, board, claim), numbers => *posted = numbers)
 }
 
 /// Writes the winner and the choice of each settled vertex, and of the others that they have none.
@@ -75,18 +69,16 @@ pub extern "C" fn pgboard_board_state(
     results: &mut Results,
     report: &mut Report,
 ) -> u32
-    ensures written { result ≡ 0 → (s : Play) × (board_in board.old ≡ Some s) × AreStates s (result_arrays results.new) }
+    ensures written { result ≡ 0 → (s : BoardRecord) × (board_in board.old ≡ Some s) × AreStates s (result_arrays results.new) }
     ensures blank { result ≡ 0 → IsBlank report.new }
-    ensures refused { result ≢ 0 → (e : Fault) × IsReported e result report.new × OnBoard (board_in board.old) (λ s. IsStateFault s (result_arrays results.old)) e }
+    ensures refused { result ≢ 0 → (e : Fault) × IsReported e result report.new
+        × OnBoard (board_in board.old) (λ s. IsStateFault s (result_arrays results.old)) e }
     ensures lawful { IsLawfulBoard (board_in board.old) }
     ensures unchanged { board_in board.new ≡ board_in board.old }
     ensures kept { result ≢ 0 → result_arrays results.new ≡ result_arrays results.old }
     ensures struct_kept { IsSameStruct results.old results.new }
 {
-    match state(alloc, board, results) {
-        Ok(()) => report_none(report),
-        Err(fault) => report_fault(report, fault),
-    }
+    reported!(report, state(alloc, board, results))
 }
 
 /// The number of settled vertices; 0 of a closed board.
@@ -128,7 +120,8 @@ pub extern "C" fn pgboard_board_entry(
     choices: &mut [u32],
     report: &mut Report,
 ) -> u32
-    ensures found { result ≡ 0 → (s : Play) × (board_in board.old ≡ Some s) × IsEntry s number entry.new vertices.old choices.old vertices.new choices.new }
+    ensures found { result ≡ 0 → (s : BoardRecord) × (board_in board.old ≡ Some s)
+        × IsEntry s number entry.new vertices.old choices.old vertices.new choices.new }
     ensures blank { result ≡ 0 → IsBlank report.new }
     ensures refused { result ≢ 0 → (e : Fault) × IsReported e result report.new
         × OnBoard (board_in board.old) (λ s. IsEntryFault s number (length vertices.old) (length choices.old)) e }
@@ -138,32 +131,23 @@ pub extern "C" fn pgboard_board_entry(
     ensures vertices_kept { result ≢ 0 → vertices.new ≡ vertices.old }
     ensures choices_kept { result ≢ 0 → choices.new ≡ choices.old }
 {
-    match read_entry(alloc, board, number, vertices, choices) {
-        Ok(numbers) => {
-            *entry = numbers;
-            report_none(report)
-        }
-        Err(fault) => report_fault(report, fault),
-    }
+    reported!(report, read_entry(alloc, board, number, vertices, choices), numbers => *entry = numbers)
 }
 
-/// Settles all vertices that are left, by the recursion, as worker 0.
+/// Settles all vertices that are left, as worker 0: by the searches of [`pgboard_solve`](crate::on_arrays::pgboard_solve), and then by the recursion.
 #[unsafe(no_mangle)]
 pub extern "C" fn pgboard_board_finish(
     alloc: Global,
     board: &mut Handle,
     report: &mut Report,
 ) -> u32
-    ensures finished { result ≡ 0 → (s : Play) × (t : Play) × (board_in board.old ≡ Some s) × (board_in board.new ≡ Some t) × IsFinished s t }
+    ensures finished { result ≡ 0 → (s : BoardRecord) × (t : BoardRecord) × (board_in board.old ≡ Some s) × (board_in board.new ≡ Some t) × IsFinished s t }
     ensures blank { result ≡ 0 → IsBlank report.new }
-    ensures refused { result ≢ 0 → (e : Fault) × IsReported e result report.new × OnBoard (board_in board.old) (λ s. IsFinishFault) e }
+    ensures refused { result ≢ 0 → (e : Fault) × IsReported e result report.new × OnBoard (board_in board.old) (IsFinishFault None) e }
     ensures lawful { IsLawfulBoard (board_in board.old) × IsLawfulBoard (board_in board.new) }
     ensures unchanged { result ≢ 0 → board_in board.new ≡ board_in board.old }
 {
-    match finish(alloc, board) {
-        Ok(()) => report_none(report),
-        Err(fault) => report_fault(report, fault),
-    }
+    reported!(report, finish(alloc, board, None))
 }
 
 /// The same as [`pgboard_board_finish`], unless the recursion needs more steps than these. A step begins a subgame. If the call
@@ -175,16 +159,13 @@ pub extern "C" fn pgboard_board_finish_within(
     steps: u64,
     report: &mut Report,
 ) -> u32
-    ensures finished { result ≡ 0 → (s : Play) × (t : Play) × (board_in board.old ≡ Some s) × (board_in board.new ≡ Some t) × IsFinished s t }
+    ensures finished { result ≡ 0 → (s : BoardRecord) × (t : BoardRecord) × (board_in board.old ≡ Some s) × (board_in board.new ≡ Some t) × IsFinished s t }
     ensures blank { result ≡ 0 → IsBlank report.new }
-    ensures refused { result ≢ 0 → (e : Fault) × IsReported e result report.new × OnBoard (board_in board.old) IsFinishWithinFault e }
+    ensures refused { result ≢ 0 → (e : Fault) × IsReported e result report.new × OnBoard (board_in board.old) (IsFinishFault (Some steps)) e }
     ensures lawful { IsLawfulBoard (board_in board.old) × IsLawfulBoard (board_in board.new) }
     ensures unchanged { result ≢ 0 → board_in board.new ≡ board_in board.old }
 {
-    match finish_within(alloc, board, steps) {
-        Ok(()) => report_none(report),
-        Err(fault) => report_fault(report, fault),
-    }
+    reported!(report, finish(alloc, board, Some(steps)))
 }
 
 /// Writes the solution of a full board: each vertex's winner, and his choice if he owns the vertex.
@@ -195,7 +176,7 @@ pub extern "C" fn pgboard_board_solution(
     results: &mut Results,
     report: &mut Report,
 ) -> u32
-    ensures solved { result ≡ 0 → (s : Play) × (board_in board.old ≡ Some s) × AreSolution s (result_arrays results.new) }
+    ensures solved { result ≡ 0 → (s : BoardRecord) × (board_in board.old ≡ Some s) × AreSolution s (result_arrays results.new) }
     ensures blank { result ≡ 0 → IsBlank report.new }
     ensures refused { result ≢ 0 → (e : Fault) × IsReported e result report.new
         × OnBoard (board_in board.old) (λ s. IsSolutionFault s (result_arrays results.old)) e }
@@ -204,10 +185,7 @@ pub extern "C" fn pgboard_board_solution(
     ensures kept { result ≢ 0 → result_arrays results.new ≡ result_arrays results.old }
     ensures struct_kept { IsSameStruct results.old results.new }
 {
-    match solution(alloc, board, results) {
-        Ok(()) => report_none(report),
-        Err(fault) => report_fault(report, fault),
-    }
+    reported!(report, solution(alloc, board, results))
 }
 
 /// Frees the board, if it is open.
@@ -216,16 +194,6 @@ pub extern "C" fn pgboard_board_close(alloc: Global, board: &mut Handle)
     ensures { board_in board.new ≡ None }
 {
     *board = Handle::closed(alloc);
-}
-
-/// A claim in arrays: vertices that rise, and the player's choice at each that he owns.
-#[repr(C)]
-pub struct ClaimArrays<'a> {
-    pub size: usize,
-    pub worker: u32,
-    pub player: u32,
-    pub vertices: &'a [u32],
-    pub choices: &'a [u32],
 }
 
 /// The numbers of a post: the entry's number from 0, the number of claimed vertices that were unsettled, and the number of
@@ -248,26 +216,39 @@ pub struct EntryNumbers {
     pub rows: u64,
 }
 
+/// Opens a board of the game of the arrays in a closed handle.
 fn open(alloc: Global, board: &mut Handle, arrays: &Arrays) -> Result<(), Fault>
     ensures opened { OnOk result (IsOpened (game_arrays arrays.now) (board_in board.new)) }
     ensures lawful { OnOk result (IsLawfulBoard (board_in board.new)) }
+    ensures closed { OnOk result (board_in board.old ≡ None) }
     ensures fault { IfErr result (λ e. IsOpenFault (board_in board.old) (game_arrays arrays.now) e) }
     ensures unchanged { OnErr result (board_in board.new ≡ board_in board.old) }
 {
     if board.is_open() {
         return Err(Fault::Board(BoardFault::Open));
     }
+    *board = Handle::holding(new_session(alloc, arrays)?);
+    Ok(())
+}
+
+/// A session of the arrays' game, on which nothing is settled.
+fn new_session(alloc: Global, arrays: &Arrays) -> Result<Box<Session>, Fault>
+    ensures opened { IfOk result (λ b. IsOpened (game_arrays arrays.now) (Some b.value)) }
+    ensures lawful { IfOk result (λ b. IsLawfulRecord b.value) }
+    ensures fault { IfErr result (λ e. IsArraysFault (game_arrays arrays.now) e) }
+{
     let forward = arrays.forward_game(alloc)?;
     let game = Game::of_forward(alloc, forward)?;
     let session = Session::open(alloc, game)?;
     // for the proof: the contract of this call states what each session is
     let _game = session.game();
-    *board = Handle::holding(Box::new(alloc, session)?);
-    Ok(())
+    Ok(Box::new(alloc, session)?)
 }
 
+/// Posts the claim on the board of the handle.
 fn post(alloc: Global, board: &mut Handle, claim: &ClaimArrays) -> Result<PostedNumbers, Fault>
-    ensures posted { IfOk result (λ n. (s : Play) × (t : Play) × (board_in board.old ≡ Some s) × (board_in board.new ≡ Some t) × IsPosted s t (claim_lists claim.now) n) }
+    ensures posted { IfOk result (λ n. (s : BoardRecord) × (t : BoardRecord) × (board_in board.old ≡ Some s) × (board_in board.new ≡ Some t)
+        × IsPosted s t (claim_lists claim.now) n) }
     ensures fault { IfErr result (λ e. OnBoard (board_in board.old) (λ s. IsPostFault s (claim_lists claim.now)) e) }
     ensures lawful { IsLawfulBoard (board_in board.old) × IsLawfulBoard (board_in board.new) }
     ensures unchanged { OnErr result (board_in board.new ≡ board_in board.old) }
@@ -280,6 +261,7 @@ fn post(alloc: Global, board: &mut Handle, claim: &ClaimArrays) -> Result<Posted
     answer
 }
 
+/// Posts the claim of the arrays on a session, and returns the numbers of the post.
 fn post_on(
     alloc: Global,
     session: &mut Session,
@@ -289,7 +271,6 @@ fn post_on(
     ensures fault { IfErr result (λ e. IsPostFault session.old (claim_lists given.now) e) }
     ensures unchanged { OnErr result (session.new ≡ session.old) }
 {
-    given.check()?;
     let claim = given.claim(alloc)?;
     match session.post(alloc, given.worker, &claim) {
         Ok(posted) => Ok(PostedNumbers {
@@ -301,58 +282,9 @@ fn post_on(
     }
 }
 
-/// Why a board refuses a claim, as a fault. Only a checked claim can be of another game.
-fn fault_of(refusal: Refusal) -> Fault
-    requires { (v : ℕ) → refusal ≡ Refusal.Foreign v → ⊥ }
-    ensures { result ≡ refusal_fault refusal }
-{
-    match refusal {
-        Refusal::Claim(ClaimFault::Shape(row)) => Fault::Post(PostFault::Shape(row)),
-        Refusal::Claim(ClaimFault::Cycle(v)) => Fault::Post(PostFault::Cycle(v)),
-        Refusal::Lost(v) => Fault::Post(PostFault::Lost(v)),
-        Refusal::Stale => Fault::Post(PostFault::Stale),
-        Refusal::Open(v, w) => Fault::Post(PostFault::Open(v, w)),
-        Refusal::Claim(ClaimFault::Memory) | Refusal::Memory => Fault::Memory,
-        Refusal::Foreign(_) => unreachable!(),
-    }
-}
-
-impl<'a> ClaimArrays<'a> {
-    /// Whether the arrays are a claim, of whatever shape.
-    fn check(&self) -> Result<(), Fault>
-        ensures claim { OnOk result (IsClaim (claim_lists self.now)) }
-        ensures fault { IfErr result (λ e. IsNoClaim (claim_lists self.now) e) }
-    {
-        if self.size != Structure::Claim.size() {
-            return Err(Fault::Size(Structure::Claim));
-        }
-        if self.player > 1 {
-            return Err(Fault::Post(PostFault::Player(self.player)));
-        }
-        if self.vertices.len() != self.choices.len() {
-            return Err(Fault::Post(PostFault::Lengths(self.vertices.len(), self.choices.len())));
-        }
-        Ok(())
-    }
-
-    /// The claim of the arrays. The only error is `Memory`.
-    fn claim(&self, alloc: Global) -> Result<Claim, Memory>
-        requires { IsClaim (claim_lists self.now) }
-        ensures { IfOk result (λ c. c ≡ claim_of_lists (claim_lists self.now)) }
-    {
-        let mut rows = Vec::with_capacity(alloc, self.vertices.len())?;
-        for i in 0..self.vertices.len() {
-            rows.push((self.vertices[i], choice_from(self.choices[i])))?;
-        }
-        Ok(Claim {
-            player: player_of(self.player as u8),
-            rows: Sequence::new(rows),
-        })
-    }
-}
-
+/// Writes the state of the board of the handle.
 fn state(alloc: Global, board: &mut Handle, results: &mut Results) -> Result<(), Fault>
-    ensures written { OnOk result ((s : Play) × (board_in board.old ≡ Some s) × AreStates s (result_arrays results.new)) }
+    ensures written { OnOk result ((s : BoardRecord) × (board_in board.old ≡ Some s) × AreStates s (result_arrays results.new)) }
     ensures fault { IfErr result (λ e. OnBoard (board_in board.old) (λ s. IsStateFault s (result_arrays results.old)) e) }
     ensures lawful { IsLawfulBoard (board_in board.old) }
     ensures unchanged { board_in board.new ≡ board_in board.old }
@@ -365,6 +297,7 @@ fn state(alloc: Global, board: &mut Handle, results: &mut Results) -> Result<(),
     answer
 }
 
+/// Writes the state of a session, if the arrays for results have its size.
 fn write_state(session: &Session, results: &mut Results) -> Result<(), Fault>
     ensures written { OnOk result (AreStates session.now (result_arrays results.new)) }
     ensures fault { IfErr result (λ e. IsStateFault session.now (result_arrays results.old) e) }
@@ -403,6 +336,7 @@ fn numbers_of(state: Option<(Player, Option<u32>)>) -> (u8, u32)
     }
 }
 
+/// Writes an entry of the board of the handle, and returns its numbers.
 fn read_entry(
     alloc: Global,
     board: &mut Handle,
@@ -410,7 +344,8 @@ fn read_entry(
     vertices: &mut [u32],
     choices: &mut [u32],
 ) -> Result<EntryNumbers, Fault>
-    ensures read { IfOk result (λ n. (s : Play) × (board_in board.old ≡ Some s) × IsEntry s number n vertices.old choices.old vertices.new choices.new) }
+    ensures read { IfOk result (λ n. (s : BoardRecord) × (board_in board.old ≡ Some s)
+        × IsEntry s number n vertices.old choices.old vertices.new choices.new) }
     ensures fault { IfErr result (λ e. OnBoard (board_in board.old) (λ s. IsEntryFault s number (length vertices.old) (length choices.old)) e) }
     ensures lawful { IsLawfulBoard (board_in board.old) }
     ensures unchanged { board_in board.new ≡ board_in board.old }
@@ -423,6 +358,7 @@ fn read_entry(
     answer
 }
 
+/// Writes the rows of an entry of a session to the front of the arrays, and returns its numbers.
 fn write_entry(
     session: &Session,
     number: u64,
@@ -443,7 +379,11 @@ fn write_entry(
     if vertices.len() < rows.len() || choices.len() < rows.len() {
         return Err(Fault::Capacity(rows.len()));
     }
-    write_rows(rows, vertices, choices);
+    for i in 0..rows.len() {
+        let (v, choice) = rows[i];
+        vertices[i] = v;
+        choices[i] = number_of(choice);
+    }
     Ok(EntryNumbers {
         worker: entry.worker,
         player: u32::from(entry.player.digit()),
@@ -452,49 +392,25 @@ fn write_entry(
     })
 }
 
-/// Writes the rows to the front of the arrays.
-fn write_rows(rows: &[(u32, Option<u32>)], vertices: &mut [u32], choices: &mut [u32])
-    requires vertices { length rows.now ≤ length vertices.old }
-    requires choices { length rows.now ≤ length choices.old }
-    ensures { AreEntryRows rows.now vertices.old choices.old vertices.new choices.new }
-{
-    for i in 0..rows.len() {
-        let (v, choice) = rows[i];
-        vertices[i] = v;
-        choices[i] = number_of(choice);
-    }
-}
-
-fn finish(alloc: Global, board: &mut Handle) -> Result<(), Fault>
-    ensures finished { OnOk result ((s : Play) × (t : Play) × (board_in board.old ≡ Some s) × (board_in board.new ≡ Some t) × IsFinished s t) }
-    ensures fault { IfErr result (λ e. OnBoard (board_in board.old) (λ s. IsFinishFault) e) }
+/// Settles all vertices of the board of the handle that are left, unless there is a limit and the recursion needs more steps.
+fn finish(alloc: Global, board: &mut Handle, limit: Option<u64>) -> Result<(), Fault>
+    ensures finished { OnOk result ((s : BoardRecord) × (t : BoardRecord) × (board_in board.old ≡ Some s) × (board_in board.new ≡ Some t)
+        × IsFinished s t) }
+    ensures fault { IfErr result (λ e. OnBoard (board_in board.old) (IsFinishFault limit) e) }
     ensures lawful { IsLawfulBoard (board_in board.old) × IsLawfulBoard (board_in board.new) }
     ensures unchanged { OnErr result (board_in board.new ≡ board_in board.old) }
 {
     let mut session = board.take(alloc)?;
-    let answer = session.finish(alloc);
-    // for the proof: the contract of this call states what each session is
-    let _game = session.game();
-    *board = Handle::holding(session);
-    Ok(answer?)
-}
-
-fn finish_within(alloc: Global, board: &mut Handle, steps: u64) -> Result<(), Fault>
-    ensures finished { OnOk result ((s : Play) × (t : Play) × (board_in board.old ≡ Some s) × (board_in board.new ≡ Some t) × IsFinished s t) }
-    ensures fault { IfErr result (λ e. OnBoard (board_in board.old) IsFinishWithinFault e) }
-    ensures lawful { IsLawfulBoard (board_in board.old) × IsLawfulBoard (board_in board.new) }
-    ensures unchanged { OnErr result (board_in board.new ≡ board_in board.old) }
-{
-    let mut session = board.take(alloc)?;
-    let answer = session.finish_within(alloc, steps);
+    let answer = session.finish(alloc, limit);
     // for the proof: the contract of this call states what each session is
     let _game = session.game();
     *board = Handle::holding(session);
     if answer? { Ok(()) } else { Err(Fault::GaveUp) }
 }
 
+/// Writes the solution of the board of the handle.
 fn solution(alloc: Global, board: &mut Handle, results: &mut Results) -> Result<(), Fault>
-    ensures solved { OnOk result ((s : Play) × (board_in board.old ≡ Some s) × AreSolution s (result_arrays results.new)) }
+    ensures solved { OnOk result ((s : BoardRecord) × (board_in board.old ≡ Some s) × AreSolution s (result_arrays results.new)) }
     ensures fault { IfErr result (λ e. OnBoard (board_in board.old) (λ s. IsSolutionFault s (result_arrays results.old)) e) }
     ensures lawful { IsLawfulBoard (board_in board.old) }
     ensures unchanged { board_in board.new ≡ board_in board.old }
@@ -507,6 +423,7 @@ fn solution(alloc: Global, board: &mut Handle, results: &mut Results) -> Result<
     answer
 }
 
+/// Writes the solution of a session, if it is full and the arrays for results have its size.
 fn write_solution(alloc: Global, session: &Session, results: &mut Results) -> Result<(), Fault>
     ensures solved { OnOk result (AreSolution session.now (result_arrays results.new)) }
     ensures fault { IfErr result (λ e. IsSolutionFault session.now (result_arrays results.old) e) }

@@ -71,7 +71,7 @@ impl Structure {
 
 /// Why a player's known set is no region of his.
 #[derive(Clone, Copy, Drop)]
-pub enum KnownFault {
+pub enum KnownSetFault {
     /// The first vertex that its owner is known to win, without a choice that is a successor.
     Choice(u32),
     /// The vertex has the opponent's parity and is the greatest on a closed walk of kept edges.
@@ -140,7 +140,7 @@ pub enum Fault {
     /// The winners and choices are no solution. Never `SolutionFault::Memory`.
     Verdict(SolutionFault),
     /// What is known does not hold.
-    Known(KnownFault),
+    Known(KnownSetFault),
     /// The game's text is longer than 268,435,456 bytes.
     GameTooLong,
     /// The text is none of a game. Never `TextFault::Memory`.
@@ -210,6 +210,27 @@ pub fn report_none(report: &mut Report) -> u32
     0
 }
 
+/// Reports what a call comes to, and is its answer. What the call gives is written first.
+macro_rules! reported {
+    ($report:ident, $call:expr) => {
+        match $call {
+            Ok(()) => $crate::fault::report_none($report),
+            Err(fault) => $crate::fault::report_fault($report, fault),
+        }
+    };
+    ($report:ident, $call:expr, $value:ident => $written:expr) => {
+        match $call {
+            Ok($value) => {
+                $written;
+                $crate::fault::report_none($report)
+            }
+            Err(fault) => $crate::fault::report_fault($report, fault),
+        }
+    };
+}
+
+pub(crate) use reported;
+
 /// The report of a fault: the number of the answer, and its two places. A place that the fault does not have is 0.
 #[derive(Clone, Copy)]
 pub struct Answer {
@@ -219,12 +240,14 @@ pub struct Answer {
 }
 
 impl Answer {
+    /// An answer of these numbers.
     fn new(number: u32, at: u64, to: u64) -> Answer
         ensures { result ≡ answer number at to }
     {
         Answer { number, at, to }
     }
 
+    /// The answer to a game that specifications do not make.
     fn of_game(fault: GameFault) -> Answer
         ensures answer { result ≡ game_answer fault }
         ensures above { 0 < result.number }
@@ -240,6 +263,7 @@ impl Answer {
         }
     }
 
+    /// The answer to winners and choices that are no solution.
     fn of_verdict(fault: SolutionFault) -> Answer
         ensures answer { result ≡ verdict_answer fault }
         ensures above { 0 < result.number }
@@ -253,18 +277,20 @@ impl Answer {
         }
     }
 
-    fn of_known(fault: KnownFault) -> Answer
+    /// The answer to known sets that a board does not take.
+    fn of_known(fault: KnownSetFault) -> Answer
         ensures answer { result ≡ known_answer fault }
         ensures above { 0 < result.number }
     {
         match fault {
-            KnownFault::Choice(v) => Answer::new(60, u64::from(v), 0),
-            KnownFault::Cycle(v) => Answer::new(61, u64::from(v), 0),
-            KnownFault::Lost(v) => Answer::new(62, u64::from(v), 0),
-            KnownFault::Leaves(v, w) => Answer::new(63, u64::from(v), u64::from(w)),
+            KnownSetFault::Choice(v) => Answer::new(60, u64::from(v), 0),
+            KnownSetFault::Cycle(v) => Answer::new(61, u64::from(v), 0),
+            KnownSetFault::Lost(v) => Answer::new(62, u64::from(v), 0),
+            KnownSetFault::Leaves(v, w) => Answer::new(63, u64::from(v), u64::from(w)),
         }
     }
 
+    /// The answer to a text that is no game.
     fn of_text(fault: TextFault) -> Answer
         ensures answer { result ≡ text_answer fault }
         ensures above { 0 < result.number }
@@ -279,6 +305,7 @@ impl Answer {
         }
     }
 
+    /// The answer to a text that is no solution.
     fn of_solution(fault: SolutionTextFault) -> Answer
         ensures answer { result ≡ solution_answer fault }
         ensures above { 0 < result.number }
@@ -295,6 +322,7 @@ impl Answer {
         }
     }
 
+    /// The answer to a call that the board of the handle does not take.
     fn of_board(fault: BoardFault) -> Answer
         ensures answer { result ≡ board_answer fault }
         ensures above { 0 < result.number }
@@ -307,6 +335,7 @@ impl Answer {
         }
     }
 
+    /// The answer to a claim that the board does not take.
     fn of_post(fault: PostFault) -> Answer
         ensures answer { result ≡ post_answer fault }
         ensures above { 0 < result.number }

@@ -1,14 +1,17 @@
 //! What C holds of a board: the address of a session, or nothing. The pointer is to a byte, since a pointer to a struct with a
-//! `Vec` does not cross to C; a ghost field says which session it owns. Only here is a box taken apart, and made again.
+//! `Vec` does not cross to C; a ghost field says which session it owns. Only here is a box taken apart, and made again. A call
+//! takes the session out, works, and puts it back, so no call reads through the address.
 
-ghost use Rattle.std.specs.Prelude.{◌≡◌, Option, None, Some, IsSome, is_some, option_map, false};
+ghost use Rattle.std.specs.Prelude.{◌≡◌, Option, None, Some, IfOk, IfErr, IsSome, is_some, option_map, false};
 ghost use Rattle.std.specs.Box.Ownership.{box_owns};
 ghost use Rattle.pgboard_c.specs.private.Held.{held};
-ghost use Rattle.pg_board.specs.Play.{Play};
+ghost use Rattle.pg_board.specs.BoardRecord.{BoardRecord};
 
+use crate::fault::{BoardFault, Fault};
 use pg_board::Session;
 use std::alloc::{Allocator, Global};
 use std::marker::Model;
+use std::mem::replace;
 use std::ptr::null_mut;
 
 /// A board of a C program, which declares this struct and sets it to zero before the first call. Zero is closed.
@@ -20,6 +23,51 @@ pub struct Handle {
 }
 
 impl Handle {
+    ghost use Rattle.pgboard_c.specs.Board.{board_in, IsLawfulRecord, closed_fault};
+
+    /// A handle of no session.
+    pub fn closed(alloc: Global) -> Handle
+        ensures { board_in result ≡ None }
+    {
+        Handle {
+            held: Held::nothing(alloc),
+            live: false,
+        }
+    }
+
+    /// A handle that owns the session.
+    pub fn holding(session: Box<Session>) -> Handle
+        ensures { board_in result ≡ Some session.value }
+    {
+        Handle {
+            held: Held::of(session),
+            live: true,
+        }
+    }
+
+    /// Whether the handle owns a session.
+    pub fn is_open(&self) -> bool
+        ensures { result ≡ is_some (board_in self.now) }
+    {
+        self.live
+    }
+
+    /// Takes the session out, and leaves the handle closed.
+    pub fn take(&mut self, alloc: Global) -> Result<Box<Session>, Fault>
+        ensures taken { IfOk result (λ b. board_in self.old ≡ Some b.value) }
+        ensures lawful { IfOk result (λ b. IsLawfulRecord b.value) }
+        ensures closed { IfErr result (λ e. (board_in self.old ≡ None) × (e ≡ closed_fault)) }
+        ensures left { board_in self.new ≡ None }
+    {
+        let Some(session) = replace(self, Handle::closed(alloc)).into_session() else {
+            return Err(Fault::Board(BoardFault::Closed));
+        };
+        // for the proof: the contract of this call states what each session is
+        let _game = session.game();
+        Ok(session)
+    }
+
+    /// The session, if the handle owns one.
     pub(crate) fn into_session(self) -> Option<Box<Session>>
         ensures { option_map (λ b. b.value) result ≡ self.held.value }
     {
@@ -45,7 +93,7 @@ impl Drop for Handle {
 pub struct Held {
     at: *mut u8,
     alloc: Global,
-    pub ghost value: { Option Play },
+    pub ghost value: { Option BoardRecord },
 }
 
 impl Model for Held {
@@ -53,6 +101,7 @@ impl Model for Held {
 }
 
 impl Held {
+    /// No session.
     pub(crate) fn nothing(alloc: Global) -> Held
         ensures { result.value ≡ None }
     {
@@ -62,12 +111,14 @@ impl Held {
         }
     }
 
+    /// The session, by its address.
     pub(crate) fn of(session: Box<Session>) -> Held
         ensures { result.value ≡ Some session.value }
     {
         Held::of_parts(Parts::of(session))
     }
 
+    /// The session in its box.
     pub(crate) fn into_box(self) -> Box<Session>
         requires { IsSome self.value }
         ensures { self.value ≡ Some result.value }
@@ -75,6 +126,7 @@ impl Held {
         self.into_parts().into_box()
     }
 
+    /// Uses up what holds no session.
     pub(crate) fn end(self)
         requires { is_some self.value ≡ false }
     {
@@ -84,6 +136,7 @@ impl Held {
         } = self;
     }
 
+    /// The session of a box that was taken apart.
     fn of_parts(parts: Parts<Session, Global>) -> Held
         ensures { result.value ≡ Some parts.value }
     {
@@ -94,6 +147,7 @@ impl Held {
         }
     }
 
+    /// The parts of the box of the session.
     fn into_parts(self) -> Parts<Session, Global>
         requires { IsSome self.value }
         ensures { self.value ≡ Some result.value }
@@ -121,6 +175,7 @@ impl<T, A: Allocator> Model for Parts<T, A> {
 }
 
 impl<T: Drop, A: Allocator> Parts<T, A> {
+    /// The parts of a box.
     fn of(value: Box<T, A>) -> Parts<T, A>
         ensures { result.value ≡ value.value }
     {
@@ -128,6 +183,7 @@ impl<T: Drop, A: Allocator> Parts<T, A> {
         Parts { ptr, alloc }
     }
 
+    /// The box of these parts.
     fn into_box(self) -> Box<T, A>
         ensures { result.value ≡ self.value }
     {

@@ -1,17 +1,16 @@
 //! What is known of a game, in arrays: winners of some vertices, and their choices there. A board judges it, as in `pg_workers`.
 
-ghost use Rattle.std.specs.Prelude.{◌≡◌, ◌<◌, ◌≤◌, ℕ, length, IfOk, IfErr, OnOk, MatchOption, IsTrue, IsFalse};
+ghost use Rattle.std.specs.Prelude.{◌≡◌, ◌<◌, length, slice_get, IfOk, IfErr, MatchOption, IsTrue, IsFalse};
 ghost use Rattle.pg_game.specs.Graph.{owner_of};
 ghost use Rattle.pg_game.specs.VertexSet.{In};
 ghost use Rattle.pg_game.specs.Least.{NoneHas, IsLeast};
-ghost use Rattle.pg_text.specs.Known.{KnownRows, known_of};
+ghost use Rattle.pg_text.specs.Known.{known_of};
 ghost use Rattle.pg_text.specs.Solution.{IsExactSolution};
-ghost use Rattle.pg_workers.specs.Known.{IsKnownRegion, IsSolveFault as IsRefusedSet};
-ghost use Rattle.pgboard_c.specs.Arrays.{solution_arrays};
+ghost use Rattle.pg_workers.specs.Known.{IsKnownRegion, KeepsKnown, IsSolveFault as IsRefusedSet};
 ghost use Rattle.pgboard_c.specs.Known.{known_from, AreKnown, IsBadKnownWinner, HasRightChoice, HaveRightChoices, IsWrongChoice, IsRefusedKnown};
 
-use crate::fault::{Fault, KnownFault};
-use crate::on_arrays::{SolutionArrays, choice_from};
+use crate::arrays::choice_from;
+use crate::fault::{Fault, KnownSetFault};
 use pg_board::Refusal;
 use pg_dominion::ClaimFault;
 use pg_game::{Game, Memory, Player, Sequence};
@@ -45,20 +44,78 @@ pub fn read_known(alloc: Global, winners: &[u8], choices: &[u32]) -> Result<Know
     })
 }
 
-/// The game's solution, from what is known of it.
-pub fn solution_from_known(alloc: Global, game: &Game, known: &Known) -> Result<Solution, Fault>
-    requires { length known.now.rows ≡ length game.now }
-    ensures exact { IfOk result (λ s. IsExactSolution game.now s.rows) }
-    ensures regions { IfOk result (λ s. (p : Player) → IsKnownRegion game.now known.now.rows p) }
-    ensures fault { IfErr result (λ e. IsRefusedKnown game.now known.now.rows e) }
-{
-    if let Some(v) = first_wrong_choice(game, known) {
-        return Err(Fault::Known(KnownFault::Choice(v)));
+/// A game, and what is known of each of its vertices.
+#[derive(Clone, Copy)]
+pub struct KnownOf<'a> {
+    pub game: &'a Game,
+    pub known: &'a Known,
+    ghost size: { length known.now.rows ≡ length game.now },
+}
+
+impl<'a> KnownOf<'a> {
+    /// The game's solution, from what is known of it.
+    pub fn solution(&self, alloc: Global) -> Result<Solution, Fault>
+        ensures exact { IfOk result (λ s. IsExactSolution self.now.game.now s.rows) }
+        ensures regions { IfOk result (λ s. (p : Player) → IsKnownRegion self.now.game.now self.now.known.now.rows p) }
+        ensures kept { IfOk result (λ s. KeepsKnown self.now.game.now self.now.known.now.rows (λ v. slice_get s.rows v)) }
+        ensures fault { IfErr result (λ e. IsRefusedKnown self.now.game.now self.now.known.now.rows e) }
+    {
+        if let Some(v) = self.first_wrong_choice() {
+            return Err(Fault::Known(KnownSetFault::Choice(v)));
+        }
+        match solve_alone(alloc, self.game, self.known) {
+            Ok(solution) => Ok(solution),
+            Err(SolveFault::Known(player, refusal)) => Err(self.set_fault(player, refusal)),
+            Err(SolveFault::Memory) => Err(Fault::Memory),
+        }
     }
-    match solve_alone(alloc, game, known) {
-        Ok(solution) => Ok(solution),
-        Err(SolveFault::Known(player, refusal)) => Err(known_fault(game, known, player, refusal)),
-        Err(SolveFault::Memory) => Err(Fault::Memory),
+
+    /// The first vertex that its owner is known to win, without a choice that is a successor.
+    fn first_wrong_choice(&self) -> Option<u32>
+        ensures { MatchOption result (HaveRightChoices self.now.game.now self.now.known.now.rows)
+            (IsLeast (IsWrongChoice self.now.game.now self.now.known.now.rows)) }
+    {
+        for v in 0..self.game.len() {
+            if !self.has_right_choice(v) {
+                return Some(v);
+            }
+        }
+        None
+    }
+
+    /// Whether the vertex has a choice that is a successor, or its owner is not known to win it.
+    fn has_right_choice(&self, v: u32) -> bool
+        requires { v < length self.now.game.now }
+        ensures right { IsTrue result → In (known_of self.now.known.now.rows (owner_of self.now.game.now v)) v
+            → HasRightChoice self.now.game.now self.now.known.now.rows v }
+        ensures wrong { IsFalse result → IsWrongChoice self.now.game.now self.now.known.now.rows v }
+    {
+        let Some((winner, choice)) = self.known.rows.as_slice()[v as usize] else {
+            return true;
+        };
+        if self.game.owner(v) != winner {
+            return true;
+        }
+        match choice {
+            Some(w) => self.game.has_edge(v, w),
+            None => false,
+        }
+    }
+
+    /// Why the player's known set is no region, if each of the choices is a successor.
+    fn set_fault(&self, player: Player, refusal: Refusal) -> Fault
+        requires choices { HaveRightChoices self.now.game.now self.now.known.now.rows }
+        requires fault { IsRefusedSet self.now.game.now self.now.known.now.rows (SolveFault.Known player refusal) }
+        ensures { IsRefusedKnown self.now.game.now self.now.known.now.rows result }
+    {
+        match refusal {
+            Refusal::Claim(ClaimFault::Cycle(v)) => Fault::Known(KnownSetFault::Cycle(v)),
+            Refusal::Lost(v) => Fault::Known(KnownSetFault::Lost(v)),
+            Refusal::Open(v, w) => Fault::Known(KnownSetFault::Leaves(v, w)),
+            Refusal::Claim(ClaimFault::Shape(_)) => unreachable!(),
+            Refusal::Claim(ClaimFault::Memory) => unreachable!(),
+            Refusal::Foreign(_) | Refusal::Stale | Refusal::Memory => unreachable!(),
+        }
     }
 }
 
@@ -73,54 +130,5 @@ fn known_from(winner: u8, choice: u32) -> Option<(Player, Option<u32>)>
         NO_WINNER => None,
         0 => Some((Player::Even, choice_from(choice))),
         _ => Some((Player::Odd, choice_from(choice))),
-    }
-}
-
-/// The first vertex that its owner is known to win, without a choice that is a successor.
-fn first_wrong_choice(game: &Game, known: &Known) -> Option<u32>
-    requires { length known.now.rows ≡ length game.now }
-    ensures { MatchOption result (HaveRightChoices game.now known.now.rows) (IsLeast (IsWrongChoice game.now known.now.rows)) }
-{
-    for v in 0..game.len() {
-        if !has_right_choice(game, known, v) {
-            return Some(v);
-        }
-    }
-    None
-}
-
-/// Whether the vertex has a choice that is a successor, or its owner is not known to win it.
-fn has_right_choice(game: &Game, known: &Known, v: u32) -> bool
-    requires size { length known.now.rows ≡ length game.now }
-    requires vertex { v < length game.now }
-    ensures right { IsTrue result → In (known_of known.now.rows (owner_of game.now v)) v → HasRightChoice game.now known.now.rows v }
-    ensures wrong { IsFalse result → IsWrongChoice game.now known.now.rows v }
-{
-    let Some((winner, choice)) = known.rows.as_slice()[v as usize] else {
-        return true;
-    };
-    if game.owner(v) != winner {
-        return true;
-    }
-    match choice {
-        Some(w) => game.has_edge(v, w),
-        None => false,
-    }
-}
-
-/// Why the player's known set is no region, if each of the choices is a successor.
-fn known_fault(game: &Game, known: &Known, player: Player, refusal: Refusal) -> Fault
-    requires size { length known.now.rows ≡ length game.now }
-    requires choices { HaveRightChoices game.now known.now.rows }
-    requires fault { IsRefusedSet game.now known.now.rows (SolveFault.Known player refusal) }
-    ensures { IsRefusedKnown game.now known.now.rows result }
-{
-    match refusal {
-        Refusal::Claim(ClaimFault::Cycle(v)) => Fault::Known(KnownFault::Cycle(v)),
-        Refusal::Lost(v) => Fault::Known(KnownFault::Lost(v)),
-        Refusal::Open(v, w) => Fault::Known(KnownFault::Leaves(v, w)),
-        Refusal::Claim(ClaimFault::Shape(_)) => unreachable!(),
-        Refusal::Claim(ClaimFault::Memory) => unreachable!(),
-        Refusal::Foreign(_) | Refusal::Stale | Refusal::Memory => unreachable!(),
     }
 }

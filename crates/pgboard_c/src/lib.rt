@@ -3,9 +3,10 @@
 //! `include/pgboard.h` declares the exports, and names each answer.
 #![tactic(auto)]
 
+mod arrays;
 mod board;
+mod claims;
 mod fault;
-mod handle;
 mod held;
 mod known;
 mod on_arrays;

@@ -1,15 +1,14 @@
-//! The exports on texts in PGSolver's formats, which are in the caller's memory. A game is solved in the calling thread: the searches of a
-//! run one after another, and then the recursion (Zielonka 1998).
+//! The exports on texts in PGSolver's formats, which are in the caller's memory. A game is solved in the calling thread.
 
-ghost use Rattle.std.specs.Prelude.{◌≡◌, ◌≢◌, ◌<◌, ℕ, List, length, IfOk, OnOk, OnErr, IfErr, All};
+ghost use Rattle.std.specs.Prelude.{◌≡◌, ◌≢◌, ◌<◌, ℕ, List, length, IfOk, OnOk, OnErr, IfErr};
 ghost use Rattle.pg_game.specs.Graph.{IsGame};
-ghost use Rattle.pg_text.specs.Solution.{SolutionRows, IsSolution, IsExactSolution};
+ghost use Rattle.pg_text.specs.Solution.{SolutionRows, IsSolution};
 ghost use Rattle.pg_text.specs.Reading.{IsTextOf, IsSolutionTextOf};
 ghost use Rattle.pgboard_c.specs.declared.fault.Fault.{Fault};
 ghost use Rattle.pgboard_c.specs.Numbers.{IsReported, IsBlank};
 ghost use Rattle.pgboard_c.specs.Texts.{IsWritten, IsSolvedText, IsTidyText, IsRefusedGameText, IsTextFault, AreVerified, IsVerifyFault};
 
-use crate::fault::{Fault, Report, report_fault, report_none};
+use crate::fault::{Fault, Report, reported};
 use pg_board::Board;
 use pg_dominion::{SolutionFault, check_forward_solution};
 use pg_game::{ForwardGame, Game};
@@ -36,13 +35,7 @@ pub extern "C" fn pgboard_solve_text(
     ensures kept { result ≢ 0 → into.new ≡ into.old }
     ensures size_kept { result ≢ 0 → size.new ≡ size.old }
 {
-    match solve(alloc, game, into) {
-        Ok(written) => {
-            *size = written;
-            report_none(report)
-        }
-        Err(fault) => report_fault(report, fault),
-    }
+    reported!(report, solve(alloc, game, into), written => *size = written)
 }
 
 /// Writes the game that a text spells in its one written form to the front of the buffer, and its size. The answer is 0,
@@ -61,13 +54,7 @@ pub extern "C" fn pgboard_tidy_text(
     ensures kept { result ≢ 0 → into.new ≡ into.old }
     ensures size_kept { result ≢ 0 → size.new ≡ size.old }
 {
-    match tidy(alloc, game, into) {
-        Ok(written) => {
-            *size = written;
-            report_none(report)
-        }
-        Err(fault) => report_fault(report, fault),
-    }
+    reported!(report, tidy(alloc, game, into), written => *size = written)
 }
 
 /// Whether a text is a solution of the game that another spells. The answer is 0, and the report is blank; or it is the
@@ -83,10 +70,7 @@ pub extern "C" fn pgboard_verify_text(
     ensures blank { result ≡ 0 → IsBlank report.new }
     ensures refused { result ≢ 0 → (e : Fault) × IsReported e result report.new × IsVerifyFault game.now solution.now e }
 {
-    match verify(alloc, game, solution) {
-        Ok(()) => report_none(report),
-        Err(fault) => report_fault(report, fault),
-    }
+    reported!(report, verify(alloc, game, solution))
 }
 
 /// Writes a solution of the game that a text spells, and returns its size.
@@ -97,7 +81,9 @@ fn solve(alloc: Global, text: &[u8], into: &mut [u8]) -> Result<usize, Fault>
 {
     let forward = forward_game_of(alloc, text)?;
     let game = Game::of_forward(alloc, forward)?;
-    let solution = solve_board(alloc, Board::open(alloc, &game)?)?;
+    let Some(solution) = solve_board(alloc, Board::open(alloc, &game)?, None)? else {
+        unreachable!()
+    };
     let answer = write_solution(alloc, &game, &solution)?;
     copy_to_front(answer.as_slice(), into)
 }

@@ -3,7 +3,7 @@
 
 ghost use Rattle.std.specs.Prelude.{◌≡◌};
 ghost use Rattle.pgboard_c.specs.Numbers.{version};
-ghost use Rattle.pgboard_c.specs.Text.{answer_text, format_text, board_text, version_text};
+ghost use Rattle.pgboard_c.specs.Text.{answer_text, reading_text, board_text, version_text};
 
 /// A text of the library, with a zero byte at its end.
 #[repr(C)]
@@ -19,6 +19,7 @@ pub extern "C" fn pgboard_answer_text(answer: u32, text: &mut Text<'static>)
     text.bytes = answer_text(answer);
 }
 
+/// The texts of the answers on arrays, games and solutions, and of the others.
 fn answer_text(answer: u32) -> &'static [u8]
     ensures { result.now ≡ answer_text answer }
 {
@@ -43,13 +44,13 @@ fn answer_text(answer: u32) -> &'static [u8]
         21 => b"a winner's choice is no successor\0",
         22 => b"a kept edge leads to a vertex that its winner does not win\0",
         23 => b"the greatest priority on a closed walk is the loser's\0",
-        _ => format_text(answer),
+        _ => reading_text(answer),
     }
 }
 
 /// The texts of the answers on texts, buffers and what is known.
-fn format_text(answer: u32) -> &'static [u8]
-    ensures { result.now ≡ format_text answer }
+fn reading_text(answer: u32) -> &'static [u8]
+    ensures { result.now ≡ reading_text answer }
 {
     match answer {
         30 => b"the game's text is longer than 268435456 bytes\0",

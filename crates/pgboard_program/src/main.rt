@@ -1,5 +1,5 @@
-//! The program `pgboard`: it reads the command line, opens the files, has the library `pgboard` run what was asked for, and
-//! ends with the status of the outcome. Results go to standard output, and faults to standard error.
+//! The program `pgboard`: it takes the words of the command line, opens the files, hands them with standard output to
+//! `pgboard::run_over`, and ends with the status of the outcome. A fault goes to standard error.
 #![tactic(auto)]
 
 ghost use Rattle.std.specs.Prelude.{ℕ, List, ◌≡◌, ◌⊎◌, None, Ok, IfOk, IfErr, codes, is_some, true};
@@ -11,9 +11,7 @@ ghost use Rattle.pgboard.specs.declared.fault.RunFault.{RunFault};
 ghost use Rattle.pgboard.specs.Status.{status_of, asked_status_of};
 ghost use Rattle.pgboard_program.specs.Input.{IsFile};
 
-use pg_finders::Standard;
-use pg_workers::Pass;
-use pgboard::{Asked, AskedFault, RunFault, Std, asked, run_asked};
+use pgboard::{Asked, AskedFault, RunFault, Std, asked, run_over};
 use std::alloc::Global;
 use std::env;
 use std::fs::File;
@@ -83,7 +81,7 @@ fn run_on_files<T: Threads + Wait + Sync>(
 {
     let mut input = open(rt, asked.path(), Input::Standard(rt.stdin()))?;
     let mut second = open(rt, asked.second_path(), Input::Nothing)?;
-    run_over(rt, threads, asked, &mut input, &mut second)
+    run_to_output(rt, threads, asked, &mut input, &mut second)
 }
 
 /// The file of this path, or where none was given the other input.
@@ -105,7 +103,7 @@ fn open(rt: &HostRuntime, path: Option<&str>, other: Input) -> Result<Std<Input>
 }
 
 /// Runs what was asked for on these inputs and standard output.
-fn run_over<T: Threads + Wait + Sync>(
+fn run_to_output<T: Threads + Wait + Sync>(
     rt: &HostRuntime,
     threads: &T,
     asked: &Asked,
@@ -119,16 +117,7 @@ fn run_over<T: Threads + Wait + Sync>(
     ensures fault { IfErr result (λ fault. FailsFor asked.now None None fault) }
 {
     let mut out = Std::new(rt.stdout());
-    run_asked(
-        threads,
-        rt.alloc(),
-        asked,
-        input,
-        second,
-        &mut out,
-        &Pass,
-        &Standard,
-    )
+    run_over(threads, rt.alloc(), asked, input, second, &mut out)
 }
 
 /// The status of a run. Its fault is printed.

@@ -5,13 +5,13 @@ use Rattle.pg_game.specs.Graph.{Graph}
 use Rattle.pg_game.specs.VertexSet.{In}
 use Rattle.pg_dominion.specs.Claim.{ClaimRows, named}
 use Rattle.pg_board.specs.declared.contents.Contents.{Contents}
-use Rattle.pg_board.specs.Play.{Play}
+use Rattle.pg_board.specs.BoardRecord.{BoardRecord}
 use Rattle.pg_board.specs.State.{settled}
 use Rattle.pg_board.specs.Journal.{Journal, state_of}
 use Rattle.pg_board.specs.private.Regions.{IsBoard}
 
-abbrev pub play_of : Graph → Contents → Play
-play_of g c = record { graph = g; journal = c.entries.items }
+abbrev pub board_record : Graph → Contents → BoardRecord
+board_record g c = record { graph = g; journal = c.entries.items }
 
 abbrev pub IsOf : Graph → Contents → Type 0
 IsOf g c = IsBoard g c.entries.items c.regions c.number

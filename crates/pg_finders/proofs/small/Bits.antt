@@ -6,7 +6,7 @@ use Rattle.std.specs.Prelude.{bit_or}
 use Rattle.std.specs.Int.{bit_at}
 use Rattle.std.proofs.lemmas.Nat.Bits.{bit_at_or, bit_at_set_same, bit_at-lt}
 use Rattle.pg_finders.specs.private.small.Few.{IsFew, HaveBits}
-use Rattle.pg_finders.proofs.Apart.{view_length, view_row, place_of}
+use Rattle.pg_finders.proofs.RowsByPlace.{view_length, view_row, place_of}
 
 -- what has no bit is not there
 pub no_bit : (rows now : ClaimRows) (len : ℕ) (words : List ℕ) → IsFew rows len → HaveBits rows len words → take len rows ≡ now → (v : ℕ)

@@ -1,27 +1,24 @@
 //! A subgame during the recursion: its active vertices, and their unfinished plan. A player attracts in place: a vertex
 //! that he takes is no longer active, and is listed after those that it leads to (Zielonka 1998). The first half of a step
-//! removes what the greatest priorities attract for their player: those of the greatest one's parity above every vertex of
-//! the other parity.
+//! removes what the greatest vertices attract for their player: those of one parity above every vertex of the other parity.
 //!
 //! For each vertex a cursor keeps the place among its successors where the last search for an active one ended. If
 //! successors become inactive one by one, the searches pass over them once.
 
-ghost use Rattle.std.specs.Prelude.{◌≡◌, ◌<◌, ℕ, length, All, IfOk, IfSome, IsNone, OnOk, ◌≤◌, ◌-◌, [], false, ◌⊎◌, slice_index, IsTrue, IsFalse, ◌≢◌, Some};
+ghost use Rattle.std.specs.Prelude.{◌≡◌, ◌<◌, ℕ, length, All, IfOk, IfSome, IsNone, OnOk, false, IsTrue, IsFalse, ◌≢◌, Some};
 ghost use Rattle.pg_game.specs.Graph.{HasEdge};
-ghost use Rattle.pg_game.specs.VertexSet.{In, members, union};
+ghost use Rattle.pg_game.specs.VertexSet.{In, Within, members, union};
 ghost use Rattle.pg_game.specs.private.VertexSet.{without};
 ghost use Rattle.pg_game.specs.Subgame.{IsSubgame};
-ghost use Rattle.pg_finders.specs.private.recursion.Listed.{listed, Once};
+ghost use Rattle.pg_finders.specs.private.recursion.Listed.{listed};
 ghost use Rattle.pg_finders.specs.private.recursion.Growing.{active_of, won_of, HasSizes, IsReady, IsKnown, IsGrown, IsTested, AttractsNoActive};
 ghost use Rattle.pg_finders.specs.private.recursion.Growing.{AttractsAtMost};
 ghost use Rattle.pg_finders.specs.Part.{IsOut};
-ghost use Rattle.pg_game.specs.Player.{of_parity};
-ghost use Rattle.pg_finders.specs.private.recursion.Order.{IsOrder, AllStand, vertex_at_place, priority_at};
+ghost use Rattle.pg_finders.specs.private.recursion.Order.{AreGreatest};
 ghost use Rattle.pg_finders.specs.private.recursion.Planned.{winners_of, choices_of, IsGiven, SameOutside, HasSize, SameAt};
 ghost use Rattle.pg_finders.specs.private.Solved.{IsBegun};
 
 use crate::inside::successor_in;
-use crate::recursion::order::Order;
 use pg_dominion::{AttractorState, attract_from};
 use pg_game::{Game, Mask, Memory, Player};
 use std::alloc::Global;
@@ -148,7 +145,7 @@ impl Subgame {
                 None => Ok(()),
             };
         }
-        if self.cursors.has_active(game, &self.active, v) {
+        if self.cursors.find_active(game, &self.active, v) {
             return Ok(());
         }
         self.take(game, player, v, None, list)
@@ -180,81 +177,37 @@ impl Subgame {
         inside.has(v) && !self.active.has(v) && self.plan.winner(v) == player
     }
 
-    /// Gives an active vertex to the player, with any active successor as its choice.
-    fn give(&mut self, game: &Game, player: Player, v: u32)
+    /// Removes the greatest active vertices, which are listed, and what they attract for their player, which is listed too.
+    pub fn begin(&mut self, game: &Game, player: Player, list: &mut Vec<u32>) -> Result<(), Memory>
         requires sizes { HasSizes (length game.now) self.old }
         requires subgame { IsSubgame game.now (active_of self.old) }
-        requires vertex { v < length game.now }
-        ensures sizes { HasSizes (length game.now) self.new }
-        ensures active { self.new.active ≡ self.old.active }
-        ensures given { In (active_of self.old) v → IsGiven game.now (active_of self.old) player self.new.plan v }
-        ensures same { SameOutside (active_of self.old) self.old.plan self.new.plan }
-        ensures kept { (w : ℕ) → IsGiven game.now (active_of self.old) player self.old.plan w → IsGiven game.now (active_of self.old) player self.new.plan w }
+        requires greatest { AreGreatest game.now (active_of self.old) player list.old.items }
+        ensures ready { OnOk result (IsReady (length game.now) self.new list.new.items) }
+        ensures begun { OnOk result (IsBegun game.now (active_of self.old) (active_of self.new) player (winners_of self.new.plan)
+            (choices_of self.new.plan)) }
+        ensures listed { OnOk result ((v : ℕ) → listed list.new.items v ≡ without (active_of self.old) (active_of self.new) v) }
+        ensures fewer { OnOk result (Within (active_of self.new) (without (active_of self.old) (listed list.old.items))) }
+        ensures same { OnOk result (SameOutside (active_of self.old) self.old.plan self.new.plan) }
     {
-        if self.active.has(v) {
-            self.plan.write_any(game, &self.active, player, v);
-        }
-    }
-
-    /// Gives the active vertices between the places to the player.
-    fn give_all(&mut self, game: &Game, player: Player, order: &Order, first: usize, end: usize)
-        requires sizes { HasSizes (length game.now) self.old }
-        requires subgame { IsSubgame game.now (active_of self.old) }
-        requires order { IsOrder game.now order.now }
-        requires end { end ≤ length order.now.vertices.items }
-        ensures sizes { HasSizes (length game.now) self.new }
-        ensures active { self.new.active ≡ self.old.active }
-        ensures given { (k : ℕ) → first ≤ k → k < end → In (active_of self.old) (vertex_at_place order.now k)
-            → IsGiven game.now (active_of self.old) player self.new.plan (vertex_at_place order.now k) }
-        ensures same { SameOutside (active_of self.old) self.old.plan self.new.plan }
-    {
-        'places: for place in first..end {
-            self.give(game, player, order.vertex(place));
-        }
-    }
-
-    /// Lists an active vertex, which is then no longer active.
-    fn leave_out(&mut self, n: u32, list: &mut Vec<u32>, v: u32) -> Result<(), Memory>
-        requires ready { IsReady n self.old list.old.items }
-        requires vertex { v < n }
-        ensures ready { OnOk result (IsReady n self.new list.new.items) }
-        ensures plan { OnOk result (self.new.plan ≡ self.old.plan) }
-        ensures gone { OnOk result (active_of self.new v ≡ false) }
-        ensures fewer { OnOk result ((w : ℕ) → In (active_of self.new) w → In (active_of self.old) w) }
-        ensures both { OnOk result ((w : ℕ) → union (active_of self.new) (listed list.new.items) w ≡ union (active_of self.old) (listed list.old.items) w) }
-        ensures listed { OnOk result ((w : ℕ) → In (listed list.new.items) w → In (listed list.old.items) w ⊎ (w ≡ v)) }
-    {
-        if self.active.has(v) {
-            list.push(v)?;
-            self.active.remove(v);
-        }
+        self.give_all(game, player, list);
+        remove_all(&mut self.active, list);
+        self.attract(game, player, list)?;
         Ok(())
     }
 
-    /// Lists the active vertices between the places, which are then no longer active.
-    fn leave_all_out(
-        &mut self,
-        n: u32,
-        order: &Order,
-        first: usize,
-        end: usize,
-        list: &mut Vec<u32>,
-    ) -> Result<(), Memory>
-        requires ready { IsReady n self.old list.old.items }
-        requires below { (k : ℕ) → k < end → vertex_at_place order.now k < n }
-        requires places { first ≤ end }
-        requires end { end ≤ length order.now.vertices.items }
-        requires empty { list.old.items ≡ [] }
-        ensures ready { OnOk result (IsReady n self.new list.new.items) }
-        ensures plan { OnOk result (self.new.plan ≡ self.old.plan) }
-        ensures gone { OnOk result ((k : ℕ) → first ≤ k → k < end → active_of self.new (vertex_at_place order.now k) ≡ false) }
-        ensures both { OnOk result ((w : ℕ) → union (active_of self.new) (listed list.new.items) w ≡ active_of self.old w) }
-        ensures listed { OnOk result ((w : ℕ) → In (listed list.new.items) w → (k : ℕ) × (first ≤ k) × (k < end) × (vertex_at_place order.now k ≡ w)) }
+    /// Gives these active vertices to the player, each with any active successor as its choice.
+    fn give_all(&mut self, game: &Game, player: Player, vertices: &[u32])
+        requires sizes { HasSizes (length game.now) self.old }
+        requires subgame { IsSubgame game.now (active_of self.old) }
+        requires active { Within (listed vertices.now) (active_of self.old) }
+        ensures sizes { HasSizes (length game.now) self.new }
+        ensures active { self.new.active ≡ self.old.active }
+        ensures given { (v : ℕ) → In (listed vertices.now) v → IsGiven game.now (active_of self.old) player self.new.plan v }
+        ensures same { SameOutside (active_of self.old) self.old.plan self.new.plan }
     {
-        'places: for place in first..end {
-            self.leave_out(n, list, order.vertex(place))?;
+        for v in vertices {
+            self.plan.write_any(game, &self.active, player, *v);
         }
-        Ok(())
     }
 }
 
@@ -284,8 +237,8 @@ impl AttractorState for Subgame {
         self.active.has(v)
     }
 
-    fn has_way_out(&mut self, game: &Game, _list: &Vec<u32>, v: u32) -> bool {
-        self.cursors.has_active(game, &self.active, v)
+    fn find_way_out(&mut self, game: &Game, _list: &Vec<u32>, v: u32) -> bool {
+        self.cursors.find_active(game, &self.active, v)
     }
 
     fn take(
@@ -372,40 +325,15 @@ impl Plan {
     }
 }
 
-/// Removes from a subgame what its greatest priorities of one parity attract for their player, and lists it.
-pub fn begin(
-    subgame: &mut Subgame,
-    order: &mut Order,
-    game: &Game,
-    top: u32,
-    list: &mut Vec<u32>,
-) -> Result<(), Memory>
-    requires sizes { HasSizes (length game.now) subgame.old }
-    requires subgame { IsSubgame game.now (active_of subgame.old) }
-    requires order { IsOrder game.now order.old }
-    requires stand { AllStand order.old.vertices.items (active_of subgame.old) order.old.upto }
-    requires some { 0 < order.old.upto }
-    requires last { priority_at game.now order.old (order.old.upto - 1) ≡ top }
-    requires active { In (active_of subgame.old) (vertex_at_place order.old (order.old.upto - 1)) }
-    ensures sizes { OnOk result (HasSizes (length game.now) subgame.new) }
-    ensures once { OnOk result (Once list.new.items) }
-    ensures begun { OnOk result (IsBegun game.now (active_of subgame.old) (active_of subgame.new) (of_parity top) (winners_of subgame.new.plan)
-        (choices_of subgame.new.plan)) }
-    ensures listed { OnOk result ((v : ℕ) → listed list.new.items v ≡ without (active_of subgame.old) (active_of subgame.new) v) }
-    ensures same { OnOk result (SameOutside (active_of subgame.old) subgame.old.plan subgame.new.plan) }
-    ensures vertices { order.new.vertices.items ≡ order.old.vertices.items }
-    ensures stand { OnOk result (AllStand order.new.vertices.items (active_of subgame.new) order.new.upto) }
-    ensures upto { OnOk result (order.new.upto ≤ order.old.upto) }
+/// Removes the listed vertices from the mask.
+fn remove_all(mask: &mut Mask, list: &[u32])
+    requires { All (λ v. v < length mask.old) list.now }
+    ensures length { length mask.new ≡ length mask.old }
+    ensures has { (v : ℕ) → members mask.new v ≡ without (members mask.old) (listed list.now) v }
 {
-    let player = Player::of_parity(top);
-    let end = order.upto();
-    let first = order.first_of(game, &subgame.active, player);
-    subgame.give_all(game, player, order, first, end);
-    list.clear();
-    subgame.leave_all_out(game.len(), order, first, end, list)?;
-    order.go_back(first);
-    subgame.attract(game, player, list)?;
-    Ok(())
+    for v in list {
+        mask.remove(*v);
+    }
 }
 
 /// The places where searches begin, one for each vertex.
@@ -425,7 +353,7 @@ impl Cursors {
     }
 
     /// Whether a successor of `v` is active.
-    pub fn has_active(&mut self, game: &Game, active: &Mask, v: u32) -> bool
+    pub fn find_active(&mut self, game: &Game, active: &Mask, v: u32) -> bool
         requires places { length self.old.places.items ≡ length game.now }
         requires size { length active.now ≡ length game.now }
         requires vertex { v < length game.now }
@@ -436,30 +364,16 @@ impl Cursors {
         let successors = game.successors(v);
         let end = successors.len() as u32;
         let begin = self.places[v as usize].min(end);
-        if let Some(at) = first_active(successors, active, begin, end) {
+        let at = active.first_of(successors, begin, end);
+        if at < end {
             self.places[v as usize] = at;
             return true;
         }
-        if let Some(at) = first_active(successors, active, 0, begin) {
+        let at = active.first_of(successors, 0, begin);
+        if at < begin {
             self.places[v as usize] = at;
             return true;
         }
         false
     }
-}
-
-/// The first place from `begin` on and before `end` with an active vertex.
-fn first_active(successors: &[u32], active: &Mask, begin: u32, end: u32) -> Option<u32>
-    requires below { (k : ℕ) → k < length successors.now → slice_index successors.now k < length active.now }
-    requires end { end ≤ length successors.now }
-    ensures place { IfSome result (λ at. at < length successors.now) }
-    ensures found { IfSome result (λ at. In (members active.now) (slice_index successors.now at)) }
-    ensures none { IsNone result → (k : ℕ) → begin ≤ k → k < end → members active.now (slice_index successors.now k) ≡ false }
-{
-    for at in begin..end {
-        if active.has(successors[at as usize]) {
-            return Some(at);
-        }
-    }
-    None
 }

@@ -6,7 +6,8 @@ ghost use Rattle.std.specs.Prelude.{◌≡◌, ◌≢◌, ℕ, ◌≤◌, ◌<�
 ghost use Rattle.std.specs.Prelude.{IfSome, IsNone};
 ghost use Rattle.pg_dominion.specs.Claim.{named, choice_in};
 ghost use Rattle.pg_finders.specs.private.small.Partial.{no_row, vertex_in, choice_at, AreFew};
-ghost use Rattle.pg_finders.specs.private.small.Excluded.{IsBetween};
+ghost use Rattle.pg_finders.specs.private.small.Excluded.{IsBetween, NoneHasBetween};
+ghost use Rattle.pg_game.specs.VertexSet.{members};
 ghost use Rattle.pg_game.specs.Region.{OnlyGoodWalks};
 ghost use Rattle.pg_finders.specs.private.small.Walked.{RowLeadsTo, IsReachedNext, IsReached, WalksBack};
 
@@ -199,6 +200,9 @@ pub struct DominionSearch<'a> {
     pub bound: usize,
     /// No good claim within the bound has one of these.
     pub excluded: Excluded,
+    ghost sizes: { length mask.now ≡ length game.now },
+    ghost few: { bound ≤ 8 },
+    ghost none: { NoneHasBetween game.now (members mask.now) player bound excluded.low excluded.high },
 }
 
 impl<'a> DominionSearch<'a> {
@@ -210,24 +214,43 @@ impl<'a> DominionSearch<'a> {
         ensures good { IsTrue result → OnlyGoodWalks self.now.game.now self.now.player (named (take (at + 1) chosen.now)) (choice_in chosen.now) }
         ensures bad { IsFalse result → OnlyGoodWalks self.now.game.now self.now.player (named (take (at + 1) chosen.now)) (choice_in chosen.now) → ⊥ }
     {
-        !self.closes(chosen, at) || self.is_good(chosen, at + 1)
+        let rows = FirstRows {
+            game: self.game,
+            player: self.player,
+            chosen,
+            done: at + 1,
+        };
+        !rows.closes(at) || rows.is_good()
     }
+}
 
+/// The first rows of an unfinished claim, and the edges that their vertices keep.
+#[derive(Clone, Copy)]
+struct FirstRows<'a> {
+    game: &'a Game,
+    player: Player,
+    chosen: &'a Chosen,
+    /// The number of rows.
+    done: usize,
+    ghost few: { AreFew game.now chosen.now },
+    ghost within: { done ≤ length chosen.now },
+}
+
+impl<'a> FirstRows<'a> {
     /// Whether a kept edge of the row leads to itself or an earlier one.
-    fn closes(&self, chosen: &Chosen, at: usize) -> bool
-        requires rows { AreFew self.now.game.now chosen.now }
-        requires at { at < length chosen.now }
-        ensures none { IsFalse result → (to : ℕ) → to ≤ at → RowLeadsTo self.now.game.now self.now.player chosen.now at to → ⊥ }
+    fn closes(&self, at: usize) -> bool
+        requires { at < length self.now.chosen.now }
+        ensures none { IsFalse result → (to : ℕ) → to ≤ at → RowLeadsTo self.now.game.now self.now.player self.now.chosen.now at to → ⊥ }
     {
-        let v = chosen.vertex(at);
+        let v = self.chosen.vertex(at);
         if self.game.owner(v) == self.player {
-            return match chosen.choice(at) {
-                Some(w) => chosen.has_before(at + 1, w),
+            return match self.chosen.choice(at) {
+                Some(w) => self.chosen.has_before(at + 1, w),
                 None => false,
             };
         }
         for w in self.game.successors(v) {
-            if chosen.has_before(at + 1, *w) {
+            if self.chosen.has_before(at + 1, *w) {
                 return true;
             }
         }
@@ -235,15 +258,15 @@ impl<'a> DominionSearch<'a> {
     }
 
     /// Whether the kept edges of the first rows make only closed walks that are good for the player.
-    fn is_good(&self, chosen: &Chosen, done: usize) -> bool
-        requires rows { AreFew self.now.game.now chosen.now }
-        requires done { done ≤ length chosen.now }
-        ensures good { IsTrue result → OnlyGoodWalks self.now.game.now self.now.player (named (take done chosen.now)) (choice_in chosen.now) }
-        ensures bad { IsFalse result → OnlyGoodWalks self.now.game.now self.now.player (named (take done chosen.now)) (choice_in chosen.now) → ⊥ }
+    fn is_good(&self) -> bool
+        ensures good { IsTrue result → OnlyGoodWalks self.now.game.now self.now.player (named (take self.now.done self.now.chosen.now))
+            (choice_in self.now.chosen.now) }
+        ensures bad { IsFalse result → OnlyGoodWalks self.now.game.now self.now.player (named (take self.now.done self.now.chosen.now))
+            (choice_in self.now.chosen.now) → ⊥ }
     {
-        for start in 0..done {
-            let priority = self.game.priority(chosen.vertex(start));
-            if Player::of_parity(priority) != self.player && self.walks_back(chosen, done, start) {
+        for start in 0..self.done {
+            let priority = self.game.priority(self.chosen.vertex(start));
+            if Player::of_parity(priority) != self.player && self.walks_back(start) {
                 return false;
             }
         }
@@ -251,15 +274,13 @@ impl<'a> DominionSearch<'a> {
     }
 
     /// Whether a closed walk leads through the start over no greater priority than its own.
-    fn walks_back(&self, chosen: &Chosen, done: usize, start: usize) -> bool
-        requires rows { AreFew self.now.game.now chosen.now }
-        requires done { done ≤ length chosen.now }
-        requires start { start < done }
-        ensures back { IsTrue result → WalksBack self.now.game.now self.now.player chosen.now done start }
-        ensures none { IsFalse result → WalksBack self.now.game.now self.now.player chosen.now done start → ⊥ }
+    fn walks_back(&self, start: usize) -> bool
+        requires { start < self.now.done }
+        ensures back { IsTrue result → WalksBack self.now.game.now self.now.player self.now.chosen.now self.now.done start }
+        ensures none { IsFalse result → WalksBack self.now.game.now self.now.player self.now.chosen.now self.now.done start → ⊥ }
     {
         let mut left = [true; 8];
-        'rows: while let Some(to) = self.next_reached(chosen, done, start, &left) {
+        'rows: while let Some(to) = self.next_reached(start, &left) {
             if to == start {
                 return true;
             }
@@ -269,28 +290,20 @@ impl<'a> DominionSearch<'a> {
     }
 
     /// An unreached row, of no greater priority than the start's, to which a kept edge leads.
-    fn next_reached(
-        &self,
-        chosen: &Chosen,
-        done: usize,
-        start: usize,
-        left: &[bool; 8],
-    ) -> Option<usize>
-        requires rows { AreFew self.now.game.now chosen.now }
-        requires done { done ≤ length chosen.now }
-        requires start { start < length chosen.now }
-        ensures found { IfSome result (λ to. IsReached self.now.game.now self.now.player chosen.now done start left.now to) }
-        ensures none { IsNone result → (to : ℕ) → IsReached self.now.game.now self.now.player chosen.now done start left.now to → ⊥ }
+    fn next_reached(&self, start: usize, left: &[bool; 8]) -> Option<usize>
+        requires { start < length self.now.chosen.now }
+        ensures found { IfSome result (λ to. IsReached self.now.game.now self.now.player self.now.chosen.now self.now.done start left.now to) }
+        ensures none { IsNone result → (to : ℕ) → IsReached self.now.game.now self.now.player self.now.chosen.now self.now.done start left.now to → ⊥ }
     {
-        let top = self.game.priority(chosen.vertex(start));
-        for to in 0..done {
+        let top = self.game.priority(self.chosen.vertex(start));
+        for to in 0..self.done {
             if !left[to] {
                 continue;
             }
-            if self.game.priority(chosen.vertex(to)) > top {
+            if self.game.priority(self.chosen.vertex(to)) > top {
                 continue;
             }
-            if self.is_next(chosen, done, start, left, to) {
+            if self.is_next(start, left, to) {
                 return Some(to);
             }
         }
@@ -298,25 +311,16 @@ impl<'a> DominionSearch<'a> {
     }
 
     /// Whether a kept edge leads to the row from the start or from a reached row.
-    fn is_next(
-        &self,
-        chosen: &Chosen,
-        done: usize,
-        start: usize,
-        left: &[bool; 8],
-        to: usize,
-    ) -> bool
-        requires rows { AreFew self.now.game.now chosen.now }
-        requires done { done ≤ length chosen.now }
-        requires to { to < length chosen.now }
-        ensures found { IsTrue result → IsReachedNext self.now.game.now self.now.player chosen.now done start left.now to }
-        ensures none { IsFalse result → IsReachedNext self.now.game.now self.now.player chosen.now done start left.now to → ⊥ }
+    fn is_next(&self, start: usize, left: &[bool; 8], to: usize) -> bool
+        requires { to < length self.now.chosen.now }
+        ensures found { IsTrue result → IsReachedNext self.now.game.now self.now.player self.now.chosen.now self.now.done start left.now to }
+        ensures none { IsFalse result → IsReachedNext self.now.game.now self.now.player self.now.chosen.now self.now.done start left.now to → ⊥ }
     {
-        for from in 0..done {
+        for from in 0..self.done {
             if from != start && left[from] {
                 continue;
             }
-            if self.leads(chosen, from, to) {
+            if self.leads(from, to) {
                 return true;
             }
         }
@@ -324,18 +328,17 @@ impl<'a> DominionSearch<'a> {
     }
 
     /// Whether a kept edge leads from one row's vertex to another's.
-    fn leads(&self, chosen: &Chosen, from: usize, to: usize) -> bool
-        requires rows { AreFew self.now.game.now chosen.now }
-        requires from { from < length chosen.now }
-        requires to { to < length chosen.now }
-        ensures { IsTrue result ↔ RowLeadsTo self.now.game.now self.now.player chosen.now from to }
+    fn leads(&self, from: usize, to: usize) -> bool
+        requires from { from < length self.now.chosen.now }
+        requires to { to < length self.now.chosen.now }
+        ensures { IsTrue result ↔ RowLeadsTo self.now.game.now self.now.player self.now.chosen.now from to }
     {
-        let v = chosen.vertex(from);
-        let w = chosen.vertex(to);
+        let v = self.chosen.vertex(from);
+        let w = self.chosen.vertex(to);
         if self.game.owner(v) != self.player {
             return self.game.has_edge(v, w);
         }
-        match chosen.choice(from) {
+        match self.chosen.choice(from) {
             Some(x) => x == w,
             None => false,
         }

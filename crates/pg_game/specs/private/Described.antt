@@ -1,6 +1,6 @@
 -- The specifications that describe a game.
 use Rattle.std.specs.Prelude.{List, map}
-use Rattle.pg_game.specs.declared.game.Spec.{Spec}
+use Rattle.pg_game.specs.declared.specification.Spec.{Spec}
 use Rattle.pg_game.specs.Graph.{Graph, Vertex, id_of}
 
 -- what describes a vertex: its successors by their identifiers

@@ -4,9 +4,9 @@ use Rattle.std.specs.Prelude.{Contains, Some, if◌then◌else◌, nat_lt}
 use Rattle.std.specs.List.{list_any}
 use Rattle.std.specs.List.Sorted.{IsStrictlyIncreasing}
 use Rattle.pg_game.specs.declared.player.Player.{Player}
-use Rattle.pg_game.specs.declared.game.Spec.{Spec}
-use Rattle.pg_game.specs.declared.game.GameFault.{GameFault}
-use Rattle.pg_game.specs.declared.game.GameFault.TheVariants.{Twice, NoSuccessor, TooManyEdges, Unknown}
+use Rattle.pg_game.specs.declared.specification.Spec.{Spec}
+use Rattle.pg_game.specs.declared.specification.GameFault.{GameFault}
+use Rattle.pg_game.specs.declared.specification.GameFault.TheVariants.{Twice, NoSuccessor, TooManyEdges, Unknown}
 use Rattle.pg_game.specs.Specification.{fault_or, first_repeated, first_without, first_unknown, edges, max_edges, different}
 
 abbrev pub ids_of : List Spec → List ℕ

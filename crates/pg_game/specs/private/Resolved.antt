@@ -1,7 +1,7 @@
 -- Identifiers, and their places in a list.
 use Rattle.std.specs.Prelude.{ℕ, ◌≡◌, ◌<◌, ◌≤◌, ◌⊎◌, List, length, slice_index, slice_index_or, Contains}
 use Rattle.std.specs.List.Sorted.{IsStrictlyIncreasing}
-use Rattle.pg_game.specs.declared.game.Spec.{Spec}
+use Rattle.pg_game.specs.declared.specification.Spec.{Spec}
 
 -- each number is the place of the identifier
 pub record AreNamed (ids row places : List ℕ) : Type 0 where

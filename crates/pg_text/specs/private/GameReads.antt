@@ -2,7 +2,7 @@
 use Rattle.std.specs.Prelude.{ℕ, ◌≡◌, ◌<◌, Bool, List, [], ◌∷◌, ◌++◌, length, map, codes, Option, Some, None}
 use Rattle.std.specs.List.{AllByRecursion}
 use Rattle.pg_game.specs.declared.player.Player.{Player}
-use Rattle.pg_game.specs.declared.game.Spec.{Spec}
+use Rattle.pg_game.specs.declared.specification.Spec.{Spec}
 use Rattle.pg_text.specs.declared.game_text.GameText.{GameText}
 use Rattle.pg_text.specs.declared.reader.State.{State}
 use Rattle.pg_text.specs.declared.reader.State.TheVariants as state

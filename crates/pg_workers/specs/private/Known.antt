@@ -1,14 +1,15 @@
 -- What is known of a game before it is solved: as regions, as rows of claims, and the results of its posts (private).
-use Rattle.std.specs.Prelude.{ℕ, ◌≡◌, ◌+◌, ◌↔◌, List, [], ◌∷◌}
+use Rattle.std.specs.Prelude.{ℕ, ◌≡◌, ◌+◌, ◌↔◌, List, [], ◌∷◌, Some}
 use Rattle.pg_game.specs.declared.player.Player.{Player}
 use Rattle.pg_game.specs.declared.player.Player.TheVariants.{Even, Odd}
 use Rattle.pg_game.specs.Player.{opponent}
 use Rattle.pg_game.specs.Graph.{Graph}
 use Rattle.pg_game.specs.VertexSet.{In}
-use Rattle.pg_text.specs.Known.{KnownRows}
+use Rattle.pg_text.specs.Known.{KnownRows, known_of, known_choice}
+use Rattle.pg_finders.specs.Claims.{own_choices}
 use Rattle.pg_board.specs.declared.journal.Refusal.{Refusal}
 use Rattle.pg_board.specs.declared.journal.Refusal.TheVariants as refusal
-use Rattle.pg_board.specs.Play.{Play}
+use Rattle.pg_board.specs.BoardRecord.{BoardRecord}
 use Rattle.pg_board.specs.State.{settled}
 use Rattle.pg_board.specs.Journal.{Journal, state_of, number_settled}
 use Rattle.pg_workers.specs.declared.report.ReportRow.{ReportRow}
@@ -16,14 +17,15 @@ use Rattle.pg_workers.specs.Report.{settled_in}
 use Rattle.pg_board.specs.Finish.{AreOfCaller, IsLater}
 use Rattle.pg_workers.specs.declared.known.SolveFault.{SolveFault}
 use Rattle.pg_workers.specs.declared.known.SolveFault.TheVariants as fault
-use Rattle.pg_workers.specs.Known.{IsKnownRegion, IsAttractedToKnown, HasCount, IsKnownSize, IsRefusedKnown}
+use Rattle.pg_workers.specs.Known.{IsKnownRegion, IsAttractedToKnown, KeepsKnown, HasCount, IsKnownSize, IsRefusedKnown}
 
 -- the known set is a region, the player has what he attracts to it, and the opponent the same as before
-pub record SettlesKnown (old new : Play) (known : KnownRows) (p : Player) : Type 0 where
+pub record SettlesKnown (old new : BoardRecord) (known : KnownRows) (p : Player) : Type 0 where
   pub region : IsKnownRegion old.graph known p
   pub later : IsLater (p ∷ []) old new
   pub own : (v : ℕ) → In (settled (state_of new.journal) p) v ↔ IsAttractedToKnown old.graph known p v
   pub other : (v : ℕ) → settled (state_of new.journal) (opponent p) v ≡ settled (state_of old.journal) (opponent p) v
+  pub states : (v : ℕ) → In (known_of known p) v → state_of new.journal v ≡ Some (p, own_choices old.graph p (known_choice known) v)
   pub more : ℕ
   pub size : HasCount (IsAttractedToKnown old.graph known p) more
   pub number : number_settled new.journal ≡ number_settled old.journal + more
@@ -46,6 +48,7 @@ fault_of p (refusal.Open v w) = fault.Known p (refusal.Open v w)
 pub record HasKnown (g : Graph) (known : KnownRows) (journal : Journal) : Type 0 where
   pub entries : AreOfCaller (Even ∷ Odd ∷ []) journal
   pub regions : (p : Player) → IsKnownRegion g known p
+  pub states : KeepsKnown g known (state_of journal)
   pub number : IsKnownSize g known (number_settled journal)
 
 -- the rows' column `settled` and what the known sets attract are together the number settled

@@ -1,18 +1,22 @@
 //! Runs over bytes in memory, whose devices know them all: what the runs promise, said of the bytes themselves.
-ghost use Rattle.std.specs.Prelude.{◌≡◌, ◌≤◌, false, IfOk, length};
+ghost use Rattle.std.specs.Prelude.{◌≡◌, ◌≤◌, false, Some, IfOk, length};
 ghost use Rattle.pg_game.specs.declared.player.Player.{Player};
 ghost use Rattle.pg_game.specs.Graph.{Graph};
 ghost use Rattle.pg_text.specs.Known.{KnownRows, IsKnownTextOf};
 ghost use Rattle.pg_text.specs.Reading.{max_text, IsTextOf};
 ghost use Rattle.pg_text.specs.Winners.{IsWinnersText};
 ghost use Rattle.pg_workers.specs.Known.{IsKnownRegion};
+ghost use Rattle.pgboard.specs.Answer.{IsOutputFor};
+ghost use Rattle.pgboard.specs.Asking.{IsInRange};
 ghost use Rattle.pgboard.specs.Joined.{IsJudged, verdict_line};
 ghost use Rattle.pgboard.specs.Solving.{IsSolveText};
 
 use super::asserting::made;
 use pg_finders::Standard;
 use pg_workers::Pass;
-use pgboard::{RunFault, SolveOptions, Std, Verdict, run_solve, run_verify};
+use pgboard::{
+    Asked, RunFault, SolveOptions, Std, Verdict, asked, run_over, run_solve, run_verify,
+};
 use std::alloc::Global;
 use std::process::Abort;
 use std::sync::Wait;
@@ -90,6 +94,24 @@ fn solution_from<R: Threads + Wait + Sync>(
     Ok(out.into_inner())
 }
 
+/// What the program writes for what was asked for, of two texts, and its status.
+fn output_for<R: Threads + Wait + Sync>(
+    rt: &R,
+    alloc: Global,
+    asked: &Asked,
+    first: &[u8],
+    second: &[u8],
+) -> Result<(u8, Vec<u8>), RunFault>
+    requires { IsInRange asked.now }
+    ensures { IfOk result (λ r. IsOutputFor asked.now (Some first.now) (Some second.now) r.0 r.1.items) }
+{
+    let mut out = Std::new(Vec::new(alloc));
+    let mut first = Std::new(first);
+    let mut second = Std::new(second);
+    let status = run_over(rt, alloc, asked, &mut first, &mut second, &mut out)?;
+    Ok((status, out.into_inner()))
+}
+
 /// A loop that Even wins.
 const LOOP: &[u8] = b"0 0 0 0;";
 
@@ -112,9 +134,38 @@ fn compare_solution<R: Threads + Wait + Abort + Sync>(rt: &R, alloc: Global) {
     check_eq!(*rt; text.as_slice(), ONE_EACH_SOLVED);
 }
 
+/// What the words ask for, said of the two texts.
+fn compare_output<R: Threads + Wait + Abort + Sync>(
+    rt: &R,
+    alloc: Global,
+    words: &[&str],
+    second: &[u8],
+    want: (u8, &[u8]),
+) {
+    let Ok(asked) = asked(alloc, words) else {
+        check!(*rt; false, words);
+        return;
+    };
+    let (status, text) = made(rt, output_for(rt, alloc, &asked, ONE_EACH, second));
+    check_eq!(*rt; (status, text.as_slice()), want, words);
+}
+
 #[test]
 fn what_runs_promise_holds_of_bytes_in_memory(rt: HostRuntime) {
     compare_verdict(&rt, rt.alloc());
     compare_winners(&rt, rt.alloc());
     compare_solution(&rt, rt.alloc());
+}
+
+#[test]
+fn what_the_program_writes_holds_of_bytes_in_memory(rt: HostRuntime) {
+    let alloc = rt.alloc();
+    let verify = ["verify", "game.pg", "game.sol"];
+    compare_output(&rt, alloc, &verify, ONE_EACH_SOLVED, (0, b"ok\n"));
+    let leaves = (1, b"not a solution: 0 leaves to 1\n".as_slice());
+    compare_output(&rt, alloc, &verify, b"0 0 1; 1 1 1;", leaves);
+    let known = ["solve", "--known", "part.sol"];
+    compare_output(&rt, alloc, &known, b"1 1 1;", (0, ONE_EACH_SOLVED));
+    let tidy = (0, b"parity 1;\n0 2 0 0,1;\n1 1 1 1;\n".as_slice());
+    compare_output(&rt, alloc, &["tidy"], b"", tidy);
 }

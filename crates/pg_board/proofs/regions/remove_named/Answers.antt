@@ -1,6 +1,6 @@
 use Rattle.pg_board.proofs.Common.{rules, ◌∙◌, ap, length, false, length-set, members}
 use Rattle.pg_board.proofs.Places.{row_at, named_at}
-use Rattle.pg_board.proofs.Masks.{members_removed}
+use Rattle.pg_board.proofs.regions.RowsInMasks.{members_removed}
 use Rattle.pg_board.proofs.regions.remove_named.Goals as goal
 
 pub remove-requires : goal.remove-requires

@@ -1,7 +1,7 @@
 use Rattle.pg_dominion.proofs.Common.{ℕ, ◌<◌, length, sym, subst, arith, rules, HasEdge, VertexSet, In, union, listed_by, IsTakenOrOpen}
 use Rattle.pg_game.specs.VertexSet.{all_vertices}
-use Rattle.pg_dominion.proofs.Taking.{takes_none, takes_then, takes_set, takes_longer, takes_below, next_below, next_listed}
-use Rattle.pg_dominion.proofs.Taking.{next_reached, all_done}
+use Rattle.pg_dominion.proofs.ListedVertices.{takes_none, takes_then, takes_set, takes_longer, takes_below, next_below, next_listed}
+use Rattle.pg_dominion.proofs.ListedVertices.{next_reached, all_done}
 use Rattle.pg_dominion.proofs.attractor.attract_from.Goals as goal
 
 pub list-init : goal.list-init

@@ -1,7 +1,7 @@
 use Rattle.pg_dominion.proofs.Common.{◌≡◌, ℕ, slice_index, sym, ◌∙◌, subst, arith, below_more, rules, get_or_default, Contains-get_or, VertexSet, In, union}
 use Rattle.pg_dominion.proofs.Common.{listed_by, IsTakenOrOpen}
-use Rattle.pg_dominion.proofs.Taking.{takes_none, takes_then, takes_within, takes_set}
-use Rattle.pg_dominion.proofs.Attracting.{IsSettled-before, IsSettled-later}
+use Rattle.pg_dominion.proofs.ListedVertices.{takes_none, takes_then, takes_within, takes_set}
+use Rattle.pg_dominion.proofs.AttractionSteps.{IsSettled-before, IsSettled-later}
 use Rattle.pg_dominion.proofs.attractor.attract_to.Goals as goal
 
 pub loop-from-init : goal.loop-from-init

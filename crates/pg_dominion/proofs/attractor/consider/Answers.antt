@@ -1,13 +1,13 @@
 use Rattle.pg_dominion.proofs.Common.{◌≡◌, ◌≢◌, true, inl, inr, refl, sym, ◌∙◌, rules, false_from_ne_true, or_left, vec_capacity, owner_of, listed_by}
 use Rattle.std.proofs.lemmas.Result.{on_ok_weaker}
-use Rattle.pg_dominion.proofs.Taking.{on_ok_both, takes_one, last_listed}
+use Rattle.pg_dominion.proofs.ListedVertices.{on_ok_both, takes_one, last_listed}
 use Rattle.pg_dominion.proofs.attractor.consider.Goals as goal
 
-pub returns-then-has_way_out-clause-settled : goal.returns-then-has_way_out-clause-settled
-returns-then-has_way_out-clause-settled g c = λ i.
+pub returns-then-find_way_out-clause-settled : goal.returns-then-find_way_out-clause-settled
+returns-then-find_way_out-clause-settled g c = λ i.
     let a = g.A.AttractorState in
     let o : owner_of c.args.game.now c.args.from ≢ c.args.player = search rules in
-    let h = c.has_way_out.ensures.out c.if-has_way_out.true in
+    let h = c.find_way_out.ensures.out c.if-find_way_out.true in
     let xs = c.args.list.now.items in
     inr (
       o,
@@ -27,8 +27,8 @@ returns-clause-takes g c =
     let a = g.A.AttractorState in
     let h = c.take-2.ensures in
     on_ok_weaker c.take-2.result
-    (λ q. takes_one a.vertex_of (a.free c.args.state.now) (a.free c.has_way_out.new.self)
-    (a.free c.take-2.new.self) c.args.list.now.items c.take-2.new.list.items c.args.from c.has_way_out.ensures.free (search rules) q.0 q.1)
+    (λ q. takes_one a.vertex_of (a.free c.args.state.now) (a.free c.find_way_out.new.self)
+    (a.free c.take-2.new.self) c.args.list.now.items c.take-2.new.list.items c.args.from c.find_way_out.ensures.free (search rules) q.0 q.1)
     (on_ok_both _ _ c.take-2.result h.listed h.free)
 
 pub take-requires-clause-leads : goal.take-requires-clause-leads

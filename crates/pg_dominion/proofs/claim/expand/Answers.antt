@@ -3,7 +3,7 @@ use Rattle.pg_dominion.proofs.Common.{Contains-append_left, In, ClaimRows, IsRig
 use Rattle.std.proofs.lemmas.List.Elements.{Contains-append_right}
 use Rattle.pg_game.proofs.Gathered.{any_from}
 use Rattle.pg_dominion.proofs.Rows.{named_right}
-use Rattle.pg_dominion.proofs.Staying.{kept_in_row, Stays-from_row, longer_push, AreNamed-push, named_vertex}
+use Rattle.pg_dominion.proofs.claim.NoWayBack.{kept_in_row, Stays-from_row, longer_push, AreNamed-push, named_vertex}
 use Rattle.pg_dominion.proofs.claim.expand.Goals.{then-priority-top-via-then-priority-top, then-priority-top-via-else-priority-top+then-contains}
 use Rattle.pg_dominion.proofs.claim.expand.Goals as goal
 

@@ -1,6 +1,6 @@
 use Rattle.pg_dominion.proofs.Common.{named, choice_in}
 use Rattle.pg_game.proofs.Rotate.{good_from_none}
-use Rattle.pg_dominion.proofs.Staying.{none_on_bad_walk}
+use Rattle.pg_dominion.proofs.claim.NoWayBack.{none_on_bad_walk}
 use Rattle.pg_dominion.proofs.claim.is_seen_sound.Goals as goal
 
 pub returns-then-not-branch-clause-sound : goal.returns-then-not-branch-clause-sound

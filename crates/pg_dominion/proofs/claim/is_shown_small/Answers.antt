@@ -1,7 +1,7 @@
 use Rattle.pg_dominion.proofs.Common.{◌≡◌, ◌<◌, ℕ, length, get_or, sym, arith, below_more, rules, None, eq-eqb, In, ClaimRows, named}
 use Rattle.std.proofs.lemmas.List.Folds.{list_any_at}
 use Rattle.pg_dominion.proofs.Rows.{named_right}
-use Rattle.pg_dominion.proofs.Staying.{none_from_rows}
+use Rattle.pg_dominion.proofs.claim.NoWayBack.{none_from_rows}
 use Rattle.pg_dominion.proofs.claim.is_shown_small.Goals.{else-is_bad-via-then-is_bad+in_ok-never_returns+else-not-branch, else-is_bad-via-else-is_bad}
 use Rattle.pg_dominion.proofs.claim.is_shown_small.Goals as goal
 

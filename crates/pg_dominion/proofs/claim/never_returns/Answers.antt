@@ -1,6 +1,6 @@
 use Rattle.pg_dominion.proofs.Common.{◌≡◌, ◌<◌, ℕ, length, slice_index, sym, ◌∙◌, ap, subst, arith, below_more, length-append, get_or_append_left, get_or_read}
 use Rattle.pg_dominion.proofs.Common.{In, named, Stays}
-use Rattle.pg_dominion.proofs.Staying.{Stays-longer, none_returns}
+use Rattle.pg_dominion.proofs.claim.NoWayBack.{Stays-longer, none_returns}
 use Rattle.pg_dominion.proofs.claim.never_returns.Goals as goal
 
 pub returns-then-next-len : goal.returns-then-next-len

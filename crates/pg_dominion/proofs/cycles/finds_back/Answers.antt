@@ -1,5 +1,5 @@
 use Rattle.pg_dominion.proofs.Common.{arith, below_more, rules}
-use Rattle.pg_dominion.proofs.Searching.{IsSpread-later, GoesOn-then}
+use Rattle.pg_dominion.proofs.SearchSteps.{IsSpread-later, GoesOn-then}
 use Rattle.pg_dominion.proofs.cycles.finds_back.Goals as goal
 
 pub queue-init : goal.queue-init
@@ -16,10 +16,10 @@ queue-preserved c =
     record {
       least = h.least;
       state = h.state;
-      later = GoesOn-then _ old.queue.items new.queue.items _ old.least new.least c.queue.invariant.later h.later;
+      later = GoesOn-then _ old.queue.items new.queue.items _ old.first_repeated new.first_repeated c.queue.invariant.later h.later;
       within = omega (arith, h.later.longer);
       spread = below_more _ _
-          (λ i l. IsSpread-later k L G c.args.top c.args.own old.places.items old.queue.items new.places.items new.queue.items old.least new.least i
+          (λ i l. IsSpread-later k L G c.args.top c.args.own old.places.items old.queue.items new.places.items new.queue.items old.first_repeated new.first_repeated i
           (omega arith) h.later h.state (c.queue.invariant.spread i l))
           (h.spread c.if-branch.false);
     }

@@ -3,10 +3,10 @@ use Rattle.pg_dominion.proofs.cycles.finds_back.Given as goal
 
 abbrev pub invariant-queue : goal.invariant-queue
 invariant-queue l = record {
-  least : 0 < l.search.least;
+  least : 0 < l.search.first_repeated;
   state : Searching l.kept l.labels.levels.items l.labels.groups.items l.top l.own l.search.places.items l.search.queue.items;
-  later : GoesOn l.fn.search.queue.items l.fn.search.least l.search.queue.items l.search.least;
+  later : GoesOn l.fn.search.queue.items l.fn.search.first_repeated l.search.queue.items l.search.first_repeated;
   within : l.next ≤ length l.search.queue.items;
   spread : (i : ℕ) → i < l.next
-      → IsSpread l.kept l.labels.levels.items l.labels.groups.items l.top l.own l.search.least l.search.places.items l.search.queue.items i;
+      → IsSpread l.kept l.labels.levels.items l.labels.groups.items l.top l.own l.search.first_repeated l.search.places.items l.search.queue.items i;
 }

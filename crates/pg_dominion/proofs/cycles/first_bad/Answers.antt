@@ -7,4 +7,4 @@ vertices-preserved c =
     below_more _ _ c.vertices.invariant (λ w. absurd (true≢false (sym w.0 ∙ out)))
 
 pub returns : goal.returns
-returns c = λ v w. c.vertices.invariant v (omega (arith, member_below c.args.kept.now.bad v w.0, c.requires.kept.bad)) w
+returns c = λ v w. c.vertices.invariant v (omega (arith, member_below c.args.kept.now.bad v w.0, c.args.kept.now.shape.bad)) w

@@ -1,5 +1,5 @@
 use Rattle.pg_dominion.proofs.Common.{inl, inr, arith, cases_lt, IsOnBadCycle}
-use Rattle.pg_dominion.proofs.Searching.{OnTop-from_reaches, not_below}
+use Rattle.pg_dominion.proofs.SearchSteps.{OnTop-from_reaches, not_below}
 use Rattle.pg_dominion.proofs.cycles.first_by_ranking.Goals as goal
 
 pub returns-then-branch : goal.returns-then-branch

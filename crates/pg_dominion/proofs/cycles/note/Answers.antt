@@ -1,5 +1,5 @@
 use Rattle.pg_dominion.proofs.Common.{◌≡◌, ℕ, ◌+◌, ◌<◌, ◌≤◌, ◌⊎◌, inl, inr, length, slice_index, sym, ◌∙◌, ap, arith, rules, get_or_read}
-use Rattle.pg_dominion.proofs.Labelled.{noted_none, noted_next}
+use Rattle.pg_dominion.proofs.cycles.NoWayBack.{noted_none, noted_next}
 use Rattle.pg_dominion.proofs.cycles.note.Goals.{then-at-search, else-at-search}
 use Rattle.pg_dominion.proofs.cycles.note.Goals as goal
 
@@ -18,11 +18,11 @@ queue-preserved c =
     let p : slice_index s.places.items v ≡ at = ap (λ (x : ℕ). slice_index s.places.items x) (sym q) ∙ c.requires.placed at l in
     let b = c.requires.below at l in
     let old = c.queue.invariant in
-    let h : ((at < s.least) × (c.if-at-search.group ≡ v + 1)) ⊎ ((s.least ≤ at) × (c.if-at-search.group ≡ c.args.start + 1)) = elim c.if-at-search.branch [
+    let h : ((at < s.first_repeated) × (c.if-at-search.group ≡ v + 1)) ⊎ ((s.first_repeated ≤ at) × (c.if-at-search.group ≡ c.args.start + 1)) = elim c.if-at-search.branch [
       | then-at-search w ↦ inl (w.if-at-search.true, w.group-is)
       | else-at-search w ↦ inr (w.if-at-search.false, w.group-is)
     ] in
-    noted_next L G s.places.items s.queue.items c.args.level c.args.start s.least c.queue.labels.levels.items c.queue.labels.groups.items at v
+    noted_next L G s.places.items s.queue.items c.args.level c.args.start s.first_repeated c.queue.labels.levels.items c.queue.labels.groups.items at v
     c.if-at-search.group q p
     (omega (arith, b, q, old.levels_size, c.requires.levels)) (omega (arith, b, q, old.groups_size, c.requires.groups)) h old
 

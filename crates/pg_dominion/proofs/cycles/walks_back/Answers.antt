@@ -1,5 +1,5 @@
 use Rattle.pg_dominion.proofs.Common.{◌≡◌, ℕ, ◌+◌, length, slice_index, refl, sym, ◌∙◌, subst, arith, AreNoted}
-use Rattle.pg_dominion.proofs.Labelled.{searching_first, labelled_more, none_reached}
+use Rattle.pg_dominion.proofs.cycles.NoWayBack.{searching_first, labelled_more, none_reached}
 use Rattle.pg_dominion.proofs.cycles.walks_back.Goals as goal
 
 pub finds_back-requires-clause-state : goal.finds_back-requires-clause-state
@@ -19,17 +19,17 @@ returns-then-own-eq0-clause-labels c =
     let G' = c.note.new.labels.groups.items in
     let e : slice_index s.queue.items 0 ≡ c.args.start = h.first ∙ (rw (c.in_ok-push.ensures.items, c.clear.ensures.items) refl) in
     let top = c.priority-top.result in
-    labelled_more c.args.kept.now L G top c.group_above-own.result s.least s.places.items s.queue.items c.requires.labels h.state
+    labelled_more c.args.kept.now L G top c.group_above-own.result s.first_repeated s.places.items s.queue.items c.requires.labels h.state
     (h.spread c.if-branch.false)
     c.if-own-eq0.true h.least L' G'
-    (subst (λ (x : ℕ). AreNoted L G s.places.items s.queue.items (top + 1) x s.least (length s.queue.items) L' G') (sym e) c.note.ensures)
+    (subst (λ (x : ℕ). AreNoted L G s.places.items s.queue.items (top + 1) x s.first_repeated (length s.queue.items) L' G') (sym e) c.note.ensures)
 
 pub returns-then-own-eq0-clause-none : goal.returns-then-own-eq0-clause-none
 returns-then-own-eq0-clause-none c = λ _.
     let h = c.in_ok-finds_back.ensures in
     let s = c.finds_back.new.search in
     let l = c.args.labels.now in
-    none_reached c.args.kept.now l.levels.items l.groups.items c.priority-top.result c.group_above-own.result s.least s.places.items s.queue.items
+    none_reached c.args.kept.now l.levels.items l.groups.items c.priority-top.result c.group_above-own.result s.first_repeated s.places.items s.queue.items
     c.requires.labels h.state (h.spread c.if-branch.false) h.least c.args.start
     (h.first ∙ (rw (c.in_ok-push.ensures.items, c.clear.ensures.items) refl)) c.priority-top.ensures
 
@@ -38,7 +38,7 @@ returns-else-own-eq0-clause-none c = λ _.
     let h = c.in_ok-finds_back.ensures in
     let s = c.finds_back.new.search in
     let l = c.args.labels.now in
-    none_reached c.args.kept.now l.levels.items l.groups.items c.priority-top.result c.group_above-own.result s.least s.places.items s.queue.items
+    none_reached c.args.kept.now l.levels.items l.groups.items c.priority-top.result c.group_above-own.result s.first_repeated s.places.items s.queue.items
     c.requires.labels h.state (h.spread c.if-branch.false) h.least c.args.start
     (h.first ∙ (rw (c.in_ok-push.ensures.items, c.clear.ensures.items) refl)) c.priority-top.ensures
 

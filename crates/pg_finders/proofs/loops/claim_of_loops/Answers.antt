@@ -1,5 +1,5 @@
 use Rattle.pg_finders.proofs.Common.{◌≡◌, [], length, refl, vec_len, arith, rules, nil_from_length}
-use Rattle.pg_finders.proofs.loops.Singles.{exactly_loops, chooses_itself, loops_good, no_loops, positive}
+use Rattle.pg_finders.proofs.loops.SingleDominions.{exactly_loops, chooses_itself, loops_good, no_loops, positive}
 use Rattle.pg_finders.proofs.loops.claim_of_loops.Goals as goal
 
 pub returns-then-is_empty : goal.returns-then-is_empty

@@ -1,5 +1,5 @@
 use Rattle.pg_finders.proofs.Common.{sym, ◌∙◌, subst, rules, members, IsSubgame, winners_of, choices_of, IsSolvedInside, AreClaims}
-use Rattle.pg_finders.proofs.Good.{are_claims}
+use Rattle.pg_finders.proofs.GoodClaims.{are_claims}
 use Rattle.pg_finders.proofs.recursion.solve.Goals as goal
 
 solved : (c : goal.After-drop-plan-3) → IsSolvedInside c.game-game.result.now (members c.mask-mask.result.now) (winners_of c.into_plan-plan.result)

@@ -1,12 +1,12 @@
 use Rattle.pg_finders.proofs.Common.{◌≡◌, ◌<◌, ◌≤◌, ◌⊎◌, inl, inr, false, length, slice_index, sym, ◌∙◌, subst, arith, below_more, get_or_default, rules}
 use Rattle.pg_finders.proofs.Common.{Contains-get_or, priority_of, In, members, EdgeBelow, get_or_append_left, length-append}
-use Rattle.pg_finders.proofs.solitaire.Backward.{leading_push, queue_push, still_set, now_set}
+use Rattle.pg_finders.proofs.solitaire.BackwardSearch.{leading_push, queue_push, still_set, now_set}
 use Rattle.pg_finders.proofs.solitaire.reach_back.Goals as goal
 
 pub edges-preserved : goal.edges-preserved
 edges-preserved c =
-    let g = c.args.game.now in
-    let U = members c.args.mask.now in
+    let g = c.args.view.now.game.now in
+    let U = members c.args.view.now.mask.now in
     let goal_at = c.args.goal in
     let to = c.args.to in
     let us = c.predecessors-from-items.result.now in
@@ -34,4 +34,4 @@ returns-clause-seen c = λ v e.
     let m = (c.predecessors-from-items.ensures.exact v).1 e.0 in
     let q : slice_index us m.0 ≡ v = get_or_default us m.0 0 v m.1 ∙ m.2 in
     subst (In (members c.edges.lead.taken)) q (c.edges.invariant.seen m.0 (omega (arith, m.1, c.edges-test.false))
-    (subst (λ x. EdgeBelow c.args.game.now (members c.args.mask.now) (priority_of c.args.game.now c.args.goal) x c.args.to) (sym q) e))
+    (subst (λ x. EdgeBelow c.args.view.now.game.now (members c.args.view.now.mask.now) (priority_of c.args.view.now.game.now c.args.goal) x c.args.to) (sym q) e))

@@ -4,8 +4,8 @@ use Rattle.pg_finders.proofs.solitaire.single_successors.Goals as goal
 
 pub loop-v-preserved : goal.loop-v-preserved
 loop-v-preserved c =
-    let g = c.args.game.now in
-    let U = members c.args.mask.now in
+    let g = c.args.solitaire.now.view.game.now in
+    let U = members c.args.solitaire.now.view.mask.now in
     let xs = c.loop-v.next.items in
     let x = c.forced_choice.result in
     rw c.in_ok-push.ensures.items record {
@@ -17,4 +17,4 @@ loop-v-preserved c =
     }
 
 pub returns-clause-single : goal.returns-clause-single
-returns-clause-single c = λ v i o. c.loop-v.invariant.single v (omega (arith, member_below c.args.mask.now v i, c.requires.size)) i o
+returns-clause-single c = λ v i o. c.loop-v.invariant.single v (omega (arith, member_below c.args.solitaire.now.view.mask.now v i, c.args.solitaire.now.view.size)) i o

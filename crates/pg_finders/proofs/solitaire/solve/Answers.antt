@@ -1,30 +1,21 @@
-use Rattle.pg_finders.proofs.Common.{◌≡◌, ℕ, length, slice_index, refl, sym, ◌∙◌, ap, arith, rules, and_parts, opponent, same_player, Graph, owner_of, NoneHas}
-use Rattle.pg_finders.proofs.Common.{members, member_below, same_is, StrategyGraph, IsOnBadCycle, own_choices, rows_below, good_for, choices_by}
+use Rattle.pg_finders.proofs.Common.{◌≡◌, ℕ, length, refl, arith, rules, opponent, NoneHas}
+use Rattle.pg_finders.proofs.Common.{members, member_below, StrategyGraph, IsOnBadCycle, own_choices, rows_below, good_for, choices_by}
 use Rattle.pg_game.specs.Least.{IsLeast}
-use Rattle.pg_finders.proofs.solitaire.Forced.{all_held, bad_cycle_leads, bad_cycle_parity, lead_held, held_good, ok_good}
+use Rattle.pg_finders.proofs.solitaire.ForcedPlayer.{all_held, forced_shape, bad_cycle_leads, bad_cycle_parity, lead_held, held_good, ok_good}
 use Rattle.pg_finders.proofs.solitaire.solve.Goals as goal
 
-pub least_bad_vertex-requires : goal.least_bad_vertex-requires
-least_bad_vertex-requires c =
-    let g = c.args.game.now in
-    let q = c.args.forced in
-    let s = c.in_ok-single_successors.ensures in
-    let n : length c.forward.result.now ≡ length g = ap (λ (h : Graph). length h) c.forward.ensures in
-    record {
-      inside = ap length c.in_ok-copy.ensures ∙ (c.requires.size ∙ sym n);
-      chosen = c.in_ok-owned_by.ensures.0 ∙ sym n;
-      choices = s.size ∙ sym n;
-      bad = c.in_ok-of_parity.ensures.0 ∙ sym n;
-      below = λ v i. (let b = and_parts ((members c.args.mask.now) v) (same_player (owner_of g v) q) (sym (c.in_ok-owned_by.ensures.1 v) ∙ i) in
-          let h = s.single v b.0 (same_is (owner_of g v) q b.1) in
-          omega (arith, member_below c.args.mask.now (slice_index c.in_ok-single_successors.field-0.items v) h.inside, c.requires.size, n));
-    }
+pub invariant_of-kept : goal.invariant_of-kept
+invariant_of-kept c = record {
+  shape = forced_shape c.args.solitaire.now.view.game.now c.forward.result.now c.args.solitaire.now.view.mask.now c.in_ok-copy.field-0 c.in_ok-owned_by.field-0
+      c.in_ok-single_successors.field-0.items c.in_ok-of_parity.field-0 c.args.solitaire.now.forced c.forward.ensures c.args.solitaire.now.view.size c.in_ok-copy.ensures
+      c.in_ok-owned_by.ensures c.in_ok-single_successors.ensures.size c.in_ok-single_successors.ensures.single c.in_ok-of_parity.ensures.0;
+}
 
 pub returns-in-None : goal.returns-in-None
 returns-in-None c =
-    let g = c.args.game.now in
-    let U = members c.args.mask.now in
-    let q = c.args.forced in
+    let g = c.args.solitaire.now.view.game.now in
+    let U = members c.args.solitaire.now.view.mask.now in
+    let q = c.args.solitaire.now.forced in
     let k : StrategyGraph =
     record {
       game = c.forward.result;
@@ -32,20 +23,24 @@ returns-in-None c =
       chosen = c.in_ok-owned_by.field-0;
       choices = c.in_ok-single_successors.field-0;
       bad = c.in_ok-of_parity.field-0;
+      shape = forced_shape c.args.solitaire.now.view.game.now c.forward.result.now c.args.solitaire.now.view.mask.now c.in_ok-copy.field-0 c.in_ok-owned_by.field-0
+          c.in_ok-single_successors.field-0.items c.in_ok-of_parity.field-0 c.args.solitaire.now.forced c.forward.ensures c.args.solitaire.now.view.size c.in_ok-copy.ensures
+          c.in_ok-owned_by.ensures c.in_ok-single_successors.ensures.size c.in_ok-single_successors.ensures.single c.in_ok-of_parity.ensures.0;
     } in
     let none : NoneHas (IsOnBadCycle k) = search rules in
     let held = rw c.forward.ensures at (all_held k U q (λ v. rw c.in_ok-copy.ensures refl) (rw c.forward.ensures c.in_ok-owned_by.ensures.1)
     (λ v. rw (← c.other.ensures, c.forward.ensures) (c.in_ok-of_parity.ensures.1 v)) (rw c.forward.ensures c.in_ok-single_successors.ensures.single) none) in
-    let some = c.requires.some in
-    ok_good g U q (rows_below (members c.args.mask.now) (own_choices g q (choices_by c.as_slice.result.now))
+    let some = c.requires in
+    ok_good g U q (rows_below (members c.args.solitaire.now.view.mask.now) (own_choices g q (choices_by c.as_slice.result.now))
     (length g)) c.claim_of_set.result c.claim_of_set.ensures.player c.claim_of_set.ensures.rows
-    (rw c.as_slice.ensures.value (held_good g U q U c.in_ok-single_successors.field-0.items c.requires.subgame held some.0 some.1))
+    (rw c.as_slice.ensures.value (held_good g U q U c.in_ok-single_successors.field-0.items
+    (λ x m. omega (arith, member_below c.args.solitaire.now.view.mask.now x m, c.args.solitaire.now.view.size)) held some.0 some.1))
 
 pub returns : goal.returns
 returns c =
-    let g = c.args.game.now in
-    let U = members c.args.mask.now in
-    let q = c.args.forced in
+    let g = c.args.solitaire.now.view.game.now in
+    let U = members c.args.solitaire.now.view.mask.now in
+    let q = c.args.solitaire.now.forced in
     let k : StrategyGraph =
     record {
       game = c.forward.result;
@@ -53,6 +48,9 @@ returns c =
       chosen = c.in_ok-owned_by.field-0;
       choices = c.in_ok-single_successors.field-0;
       bad = c.in_ok-of_parity.field-0;
+      shape = forced_shape c.args.solitaire.now.view.game.now c.forward.result.now c.args.solitaire.now.view.mask.now c.in_ok-copy.field-0 c.in_ok-owned_by.field-0
+          c.in_ok-single_successors.field-0.items c.in_ok-of_parity.field-0 c.args.solitaire.now.forced c.forward.ensures c.args.solitaire.now.view.size c.in_ok-copy.ensures
+          c.in_ok-owned_by.ensures c.in_ok-single_successors.ensures.size c.in_ok-single_successors.ensures.single c.in_ok-of_parity.ensures.0;
     } in
     let v = c.in-Some.goal in
     let lead = c.in_ok-lead-in-Some.lead in
@@ -63,8 +61,9 @@ returns c =
     let parity = rw c.forward.ensures at (bad_cycle_parity k U q (λ x. rw c.in_ok-copy.ensures refl) (rw c.forward.ensures c.in_ok-owned_by.ensures.1)
     (rw c.forward.ensures bad) (rw c.forward.ensures c.in_ok-single_successors.ensures.single) v least.has) in
     let there = c.in_ok-lead-in-Some.ensures.all v walk.0 walk.1 in
-    let held = lead_held g U q c.requires.one v lead.taken lead.next.items c.in_ok-lead-in-Some.ensures.leading there parity in
+    let held = lead_held g U q c.args.solitaire.now.one v lead.taken lead.next.items c.in_ok-lead-in-Some.ensures.leading there parity in
     ok_good g U (opponent q) (rows_below (members lead.taken) (own_choices g (opponent q) (choices_by c.as_slice-in-Some.result.now))
     (length g)) c.claim_of_set-in-Some.result (rw (← c.other-in-Some.ensures) c.claim_of_set-in-Some.ensures.player)
     (rw (← c.other-in-Some.ensures) c.claim_of_set-in-Some.ensures.rows)
-    (rw c.as_slice-in-Some.ensures.value (held_good g U (opponent q) (members lead.taken) lead.next.items c.requires.subgame held v there))
+    (rw c.as_slice-in-Some.ensures.value (held_good g U (opponent q) (members lead.taken) lead.next.items
+    (λ x m. omega (arith, member_below c.args.solitaire.now.view.mask.now x m, c.args.solitaire.now.view.size)) held v there))

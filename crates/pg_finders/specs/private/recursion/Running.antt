@@ -5,6 +5,7 @@ use Rattle.pg_game.specs.Graph.{Graph}
 use Rattle.pg_game.specs.VertexSet.{members}
 use Rattle.pg_game.specs.Subgame.{IsSubgame}
 use Rattle.pg_finders.specs.declared.recursion.Frame.{Frame}
+use Rattle.pg_finders.specs.declared.recursion.Settled.{Settled}
 use Rattle.pg_finders.specs.declared.recursion.Solver.{Solver}
 use Rattle.pg_finders.specs.private.recursion.Planned.{winners_of, choices_of, size}
 use Rattle.pg_finders.specs.private.recursion.Settled.{SettledLists, settled_of}
@@ -25,11 +26,14 @@ pub record IsRunning (g : Graph) (inside : List Bool) (solver : Solver) (frames 
   pub whole : solver.size ≡ size inside
   pub sizes : HasSizes (length g) solver.subgame
   pub subgame : IsSubgame g (active_of solver.subgame)
-  pub order : IsOrder g solver.order
-  pub stand : AllStand solver.order.vertices.items (active_of solver.subgame) solver.order.upto
+  pub order : IsOrder g (active_of solver.subgame) solver.order
   pub placed : AllPlaced solver.order.vertices.items (map (level_at (members inside) (settled_of solver.settled) solver.set_aside.items) frames) frames
   pub under_way : IsUnderWay g (members inside) (active_of solver.subgame) (settled_of solver.settled) solver.set_aside.items frames
       (winners_of solver.subgame.plan) (choices_of solver.subgame.plan)
+
+-- the solver with other active vertices, and others that are settled
+abbrev pub with_active : Solver → List Bool → Settled → Solver
+with_active x active settled = record x { subgame = record x.subgame { active = active }; settled = settled }
 
 -- the greatest number of steps that remain, for a whole of n vertices
 abbrev pub steps_left : ℕ → List Frame → ℕ

@@ -85,6 +85,8 @@ pub enum Hostile {
     /// bad ones of greater priorities that lead to 11 of them, and this many vertices on a cycle of their own. Nothing leads to
     /// the first three.
     Chords(u32, u32, u32),
+    /// This many bad vertices of rising priorities, each with one edge, to the first vertex of a cycle of this many good ones.
+    Spokes(u32, u32),
 }
 
 impl Hostile {
@@ -99,6 +101,7 @@ impl Hostile {
                 add_chords(rt, alloc, draft, n, more);
                 add_cycle(rt, alloc, draft, others, 2);
             }
+            Hostile::Spokes(n, rim) => add_spokes(rt, alloc, draft, n, rim),
         }
     }
 
@@ -186,6 +189,18 @@ fn add_dense(rt: &impl Abort, alloc: Global, draft: &mut Draft, n: u32, step: u3
             ODD,
             all.as_slice(),
         );
+    }
+}
+
+fn add_spokes(rt: &impl Abort, alloc: Global, draft: &mut Draft, n: u32, rim: u32) {
+    let first = draft.len();
+    for v in 0..rim {
+        let next = on_cycle(first, rim, v.saturating_add(1));
+        add(rt, alloc, draft, 0, ODD, &[next]);
+    }
+    for v in 0..n {
+        let priority = v.saturating_mul(2).saturating_add(1);
+        add(rt, alloc, draft, priority, ODD, &[first]);
     }
 }
 

@@ -1,7 +1,6 @@
 //! StrategyGraph edges of a game, and the least bad vertex that they have.
 
 ghost use Rattle.std.specs.Prelude.{◌≡◌, length, vec_len, replicate, false};
-ghost use Rattle.pg_dominion.specs.KeptEdges.{IsKept};
 
 use crate::tests::asserting::made;
 use pg_dominion::{StrategyGraph, least_bad_vertex};
@@ -58,7 +57,6 @@ fn no_choices(rt: &impl Abort, alloc: Global, game: &Game) -> Vec<u32>
 /// All edges of a game, with these bad vertices.
 fn all_edges<'g>(rt: &impl Abort, alloc: Global, game: &'g Game, bad: Mask) -> StrategyGraph<'g>
     requires { length bad ≡ length game.now }
-    ensures { IsKept result }
 {
     StrategyGraph {
         game: game.forward(),
@@ -78,9 +76,7 @@ pub fn least_bad(rt: &impl Abort, alloc: Global, game: &Game, bad: Mask) -> Opti
 }
 
 /// The same, asked once more where memory was refused.
-fn least_bad_kept(rt: &impl Abort, alloc: Global, kept: &StrategyGraph) -> Option<u32>
-    requires { IsKept kept.now }
-{
+fn least_bad_kept(rt: &impl Abort, alloc: Global, kept: &StrategyGraph) -> Option<u32> {
     match least_bad_vertex(alloc, kept) {
         Ok(found) => found,
         Err(_) => made(rt, least_bad_vertex(alloc, kept)),

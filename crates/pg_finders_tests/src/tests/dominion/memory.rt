@@ -257,3 +257,18 @@ fn each_edge_of_a_cycle_is_looked_at_once_after_a_refusal(rt: HostRuntime) {
 fn with_one_edge_more_a_ranking_is_made_after_a_refusal(rt: HostRuntime) {
     compare_hostile(&rt, rt.alloc(), Hostile::Chords(25, 1, 72));
 }
+
+// In the next two games each search but the first looks at all edges of the cycle again, and takes 6 looks off before: twice its
+// one edge, and 4.
+
+/// 6 edges: none of these looks is left after the next search, so no ranking is made.
+#[test]
+fn many_short_searches_need_no_ranking_after_a_refusal(rt: HostRuntime) {
+    compare_hostile(&rt, rt.alloc(), Hostile::Spokes(94, 6));
+}
+
+/// 7 edges: each search leaves one look more, so a ranking is made.
+#[test]
+fn many_searches_that_are_one_edge_longer_need_one_after_a_refusal(rt: HostRuntime) {
+    compare_hostile(&rt, rt.alloc(), Hostile::Spokes(93, 7));
+}

@@ -1,7 +1,7 @@
 use Rattle.pg_game.proofs.Common.{rules}
 use Rattle.pg_game.proofs.Common.{not-false}
 use Rattle.std.proofs.lemmas.Bool.{not-true}
-use Rattle.pg_game.proofs.Seen.{one_more, repeated_here, repeated_later}
+use Rattle.pg_game.proofs.identifiers.FirstRepeated.{one_more, repeated_here, repeated_later}
 use Rattle.pg_game.proofs.identifiers.index_set.Goals as goal
 
 pub returns-then-not-branch-clause-fault : goal.returns-then-not-branch-clause-fault

@@ -1,5 +1,5 @@
 use Rattle.pg_game.proofs.Common.{◌≡◌, take, drop, nat_eq, [], IsDistinct, first_repeated}
-use Rattle.pg_game.proofs.Seen.{earlier}
+use Rattle.pg_game.proofs.identifiers.FirstRepeated.{earlier}
 use Rattle.pg_game.specs.private.Seed.{seeded_by}
 use Rattle.indexmap.specs.IndexSet.{hasher_of}
 use Rattle.pg_game.proofs.identifiers.index_set.Given as goal

@@ -1,6 +1,6 @@
 use Rattle.pg_text.proofs.Common.{arith, ◌++◌, ◌∷◌, [], rules, placed}
-use Rattle.pg_text.proofs.Next.{token_ahead}
-use Rattle.pg_text.proofs.Reach.{reaches_more, reaches_end, lexeme_token, of_kind}
+use Rattle.pg_text.proofs.lexer.TokenAtPlace.{token_ahead}
+use Rattle.pg_text.proofs.reader.TokenRuns.{reaches_more, reaches_end, lexeme_token, of_kind}
 use Rattle.pg_text.proofs.lexer.first_invalid.Goals as goal
 
 pub returns-in-End-clause-place : goal.returns-in-End-clause-place

@@ -1,5 +1,5 @@
 use Rattle.pg_text.proofs.Common.{arith, ◌∙◌, sym, ◌++◌, ◌∷◌, [], get_or, is_letter}
-use Rattle.pg_text.proofs.Runs.{run_more}
+use Rattle.pg_text.proofs.lexer.ByteRuns.{run_more}
 use Rattle.pg_text.proofs.lexer.letters_end.Goals as goal
 
 pub letters-preserved : goal.letters-preserved

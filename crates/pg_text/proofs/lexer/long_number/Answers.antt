@@ -1,5 +1,5 @@
 use Rattle.pg_text.proofs.Common.{arith, ◌∙◌, sym, ◌++◌, ◌∷◌, [], get_or, is_digit, cases_lt, rules}
-use Rattle.pg_text.proofs.Runs.{run_more, counts_more, value-push}
+use Rattle.pg_text.proofs.lexer.ByteRuns.{run_more, counts_more, value-push}
 use Rattle.pg_text.proofs.lexer.long_number.Goals.{then-value-le-GREATEST, else-value-le-GREATEST}
 use Rattle.pg_text.proofs.lexer.long_number.Goals as goal
 

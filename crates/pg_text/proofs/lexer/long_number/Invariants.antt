@@ -1,5 +1,5 @@
 use Rattle.pg_text.proofs.Common.{length, ◌-◌, ℕ, ◌≤◌, List, is_digit, value_of, IsRun}
-use Rattle.pg_text.proofs.Runs.{Counts}
+use Rattle.pg_text.proofs.lexer.ByteRuns.{Counts}
 use Rattle.pg_text.proofs.lexer.long_number.Given as goal
 
 abbrev pub invariant-digits : goal.invariant-digits

@@ -1,5 +1,5 @@
 use Rattle.pg_text.proofs.Common.{rules}
-use Rattle.pg_text.proofs.Next.{lexeme_past}
+use Rattle.pg_text.proofs.lexer.TokenAtPlace.{lexeme_past}
 use Rattle.pg_text.proofs.lexer.next_token.Goals as goal
 
 pub returns-clause-token : goal.returns-clause-token

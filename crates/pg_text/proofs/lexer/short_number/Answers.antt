@@ -1,6 +1,6 @@
 use Rattle.std.proofs.Common.{rules}
 use Rattle.pg_text.proofs.Common.{◌≡◌, ◌+◌, ◌++◌, ◌∷◌, [], ℕ, get_or, sym, subst, ◌∙◌, arith, true, is_digit, IsRun}
-use Rattle.pg_text.proofs.Runs.{run_more, digits_more}
+use Rattle.pg_text.proofs.lexer.ByteRuns.{run_more, digits_more}
 use Rattle.pg_text.proofs.lexer.short_number.Goals as goal
 
 pub digits-preserved : goal.digits-preserved

@@ -1,6 +1,6 @@
 use Rattle.pg_text.proofs.Common.{◌∙◌, sym, get_or, inl, rules}
 use Rattle.std.proofs.lemmas.Slice.{between_to_end}
-use Rattle.pg_text.proofs.Next.{name_found, word_at, nothing_at, begins_none, plain_all}
+use Rattle.pg_text.proofs.lexer.TokenAtPlace.{name_found, word_at, nothing_at, begins_none, plain_all}
 use Rattle.pg_text.proofs.lexer.word_or_name.Goals as goal
 
 pub returns-in-Some-clause-token : goal.returns-in-Some-clause-token

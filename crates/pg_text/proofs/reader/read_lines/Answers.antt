@@ -1,5 +1,5 @@
 use Rattle.pg_text.proofs.Common.{rules, [], ◌∷◌, ◌++◌, placed}
-use Rattle.pg_text.proofs.Reach.{of_kind, reaches_end, reaches_more, lexical_fault}
+use Rattle.pg_text.proofs.reader.TokenRuns.{of_kind, reaches_end, reaches_more, lexical_fault}
 use Rattle.pg_text.proofs.reader.read_lines.Goals as goal
 
 pub returns-in-End : goal.returns-in-End

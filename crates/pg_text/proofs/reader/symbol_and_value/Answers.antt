@@ -1,8 +1,8 @@
 use Rattle.pg_text.proofs.Common.{refl, ap, ◌∙◌, Number, Word, Name, Comma, Semicolon}
 use Rattle.pg_text.specs.declared.lexer.Kind.TheVariants as kind
 use Rattle.pg_text.specs.private.Machine.{word_symbol}
-use Rattle.pg_text.proofs.Next.{word_bytes}
-use Rattle.pg_text.proofs.Reach.{of_kind}
+use Rattle.pg_text.proofs.lexer.TokenAtPlace.{word_bytes}
+use Rattle.pg_text.proofs.reader.TokenRuns.{of_kind}
 use Rattle.pg_text.proofs.reader.symbol_and_value.Goals as goal
 
 pub returns-in-Number : goal.returns-in-Number

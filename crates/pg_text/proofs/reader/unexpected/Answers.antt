@@ -1,4 +1,4 @@
-use Rattle.pg_text.proofs.Parsing.{unexpected_later, unexpected_here}
+use Rattle.pg_text.proofs.reader.TokenSteps.{unexpected_later, unexpected_here}
 use Rattle.pg_text.proofs.reader.unexpected.Goals as goal
 
 pub returns-in-Some : goal.returns-in-Some

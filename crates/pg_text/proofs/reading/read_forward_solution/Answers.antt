@@ -1,5 +1,5 @@
 use Rattle.pg_text.proofs.Common.{rules}
-use Rattle.pg_text.proofs.RowsRead.{rows_read}
+use Rattle.pg_text.proofs.reading.RowsOfLines.{rows_read}
 use Rattle.pg_text.proofs.reading.read_forward_solution.Goals as goal
 
 pub returns-clause-rows : goal.returns-clause-rows

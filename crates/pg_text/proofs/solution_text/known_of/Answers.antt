@@ -1,5 +1,5 @@
 use Rattle.pg_text.proofs.Common.{rules}
-use Rattle.pg_text.proofs.KnownLines.{passed_on}
+use Rattle.pg_text.proofs.solution_text.KnownLines.{passed_on}
 use Rattle.pg_text.proofs.solution_text.known_of.Goals as goal
 
 pub returns-in_err-table_of-clause-rows : goal.returns-in_err-table_of-clause-rows

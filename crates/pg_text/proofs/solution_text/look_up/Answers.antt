@@ -2,7 +2,7 @@ use Rattle.pg_text.proofs.Common.{◌≡◌, ℕ, ◌<◌, false, length, refl, 
 use Rattle.pg_text.proofs.Common.{false_from_ne_true}
 use Rattle.std.specs.Prelude.{IfNone}
 use Rattle.std.specs.Option.{ok_or}
-use Rattle.pg_text.proofs.Identifiers.{named_at}
+use Rattle.pg_text.proofs.solution_text.Identifiers.{named_at}
 use Rattle.pg_text.proofs.solution_text.look_up.Goals as goal
 
 either : (g : Graph) (id : ℕ) (o : Option ℕ) → IfSome o (λ v. (v < length g) × (id_of g v ≡ id)) → IfNone o ((v : ℕ) → v < length g → id_of g v ≡ id → ⊥)

@@ -2,11 +2,11 @@ use Rattle.pg_text.proofs.Common.{rules, ◌≡◌, ℕ, ◌<◌, Bool, true, fa
 use Rattle.pg_text.proofs.Common.{Option, Some, None, IfSome, IfOk, MatchResult, Result, find, slice_get, Contains, eqb-true, get_or-map, length-map}
 use Rattle.pg_text.proofs.Common.{get_or_from_slice_get, Player, Even, Graph, IsGame, id_of, no_vertex, SolutionTextFault, Solution, WrittenSolutionLine}
 use Rattle.pg_text.proofs.Common.{SolutionRows, AreSolutionRows, AreLinesOf, has_line, row_of_line}
-use Rattle.pg_text.proofs.KnownLines.{passed_on}
+use Rattle.pg_text.proofs.solution_text.KnownLines.{passed_on}
 use Rattle.std.proofs.lemmas.Bool.{not-false}
 use Rattle.std.proofs.lemmas.List.Elements.{Contains-get_or}
-use Rattle.pg_text.proofs.Identifiers.{some_at, number_at, line_home, choice_below}
-use Rattle.pg_text.proofs.WrittenSpells.{all_from_places}
+use Rattle.pg_text.proofs.solution_text.Identifiers.{some_at, number_at, line_home, choice_below}
+use Rattle.pg_text.proofs.writing.WrittenTexts.{all_from_places}
 use Rattle.pg_text.proofs.solution_text.solution_of.Goals as goal
 
 no_line : WrittenSolutionLine

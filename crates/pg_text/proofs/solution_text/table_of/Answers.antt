@@ -1,6 +1,6 @@
 use Rattle.pg_text.proofs.Common.{rules}
-use Rattle.pg_text.proofs.SolutionTable.{next_line, is_stranger}
-use Rattle.pg_text.proofs.KnownLines.{passed_on}
+use Rattle.pg_text.proofs.solution_text.VertexTable.{next_line, is_stranger}
+use Rattle.pg_text.proofs.solution_text.KnownLines.{passed_on}
 use Rattle.pg_text.proofs.solution_text.table_of.Goals as goal
 
 pub returns-in_err-add_line : goal.returns-in_err-add_line

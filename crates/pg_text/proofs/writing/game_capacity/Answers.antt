@@ -1,5 +1,5 @@
 use Rattle.pg_text.proofs.Common.{rules}
-use Rattle.pg_text.proofs.Lengths.{long_lines}
+use Rattle.pg_text.proofs.writing.Lengths.{long_lines}
 use Rattle.pg_text.proofs.writing.game_capacity.Goals as goal
 
 pub lines-preserved : goal.lines-preserved

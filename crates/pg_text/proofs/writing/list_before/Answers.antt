@@ -1,6 +1,6 @@
 use Rattle.pg_text.proofs.Common.{◌≡◌, ◌∙◌, ◌-◌, ◌++◌, ◌∷◌, ap, arith, List, ℕ, numeral, drop, get_or, id_of, append_assoc, rules, drop_more}
 use Rattle.std.proofs.Common.{flat_map}
-use Rattle.pg_text.proofs.Written.{list_whole, same_front}
+use Rattle.pg_text.proofs.writing.NumberLists.{list_whole, same_front}
 use Rattle.pg_text.proofs.writing.list_before.Goals as goal
 
 pub vertices-preserved : goal.vertices-preserved

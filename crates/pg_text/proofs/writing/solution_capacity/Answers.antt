@@ -1,5 +1,5 @@
 use Rattle.pg_text.proofs.Common.{arith}
-use Rattle.pg_text.proofs.Lengths.{long_solution}
+use Rattle.pg_text.proofs.writing.Lengths.{long_solution}
 use Rattle.pg_text.proofs.writing.solution_capacity.Goals as goal
 
 pub returns : goal.returns

@@ -1,7 +1,7 @@
 use Rattle.pg_text.proofs.Common.{rules}
 use Rattle.std.proofs.lemmas.List.{drop_all}
 use Rattle.pg_text.proofs.Common.{ap, append-nil, drop, length, List, ℕ, arith, length-append, flat_map, written_vertex}
-use Rattle.pg_text.proofs.Lengths.{short_game}
+use Rattle.pg_text.proofs.writing.Lengths.{short_game}
 use Rattle.pg_text.proofs.writing.write_forward_game.Goals as goal
 
 pub returns-clause-short : goal.returns-clause-short

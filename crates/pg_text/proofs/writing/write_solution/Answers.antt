@@ -3,7 +3,7 @@ use Rattle.pg_text.proofs.Common.{◌≡◌, ℕ, ◌+◌, ◌<◌, List, [], �
 use Rattle.pg_text.proofs.Common.{drop_more, Even, Graph, vertex_at, SolutionRows, AreSolutionRows}
 use Rattle.pg_text.proofs.Common.{written_rows}
 use Rattle.pg_text.proofs.WrittenReads.{all_at}
-use Rattle.pg_text.proofs.Lengths.{short_solution}
+use Rattle.pg_text.proofs.writing.Lengths.{short_solution}
 use Rattle.pg_text.proofs.writing.write_solution.Goals as goal
 
 -- one more row

@@ -1,7 +1,7 @@
 use Rattle.std.proofs.lemmas.Grind.{common_steps}
 use Rattle.pg_text.proofs.Common.{ap, drop, length, map, List, ℕ, arith, length-append, written_rows}
 use Rattle.std.proofs.Common.{None}
-use Rattle.pg_text.proofs.Lengths.{short_winners}
+use Rattle.pg_text.proofs.writing.Lengths.{short_winners}
 use Rattle.pg_text.proofs.writing.write_winners.Goals as goal
 
 pub returns-clause-short : goal.returns-clause-short

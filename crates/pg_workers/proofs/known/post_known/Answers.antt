@@ -1,5 +1,5 @@
 use Rattle.pg_workers.proofs.Common.{rules, ◌≡◌, ◌<◌, ◌∙◌, length, sym, ap, subst, Graph, ClaimRows, known_rows, IsKnownFault, SolveFault}
-use Rattle.pg_workers.proofs.Knowing.{settles_nothing, settles_known, refused_known}
+use Rattle.pg_workers.proofs.KnownSets.{settles_nothing, settles_known, refused_known}
 use Rattle.pg_workers.proofs.known.post_known.Goals as goal
 
 pub returns-then-is_empty-clause-settles : goal.returns-then-is_empty-clause-settles

@@ -1,5 +1,5 @@
 use Rattle.pg_workers.proofs.Common.{rules, ◌+◌, ◌∙◌, ap, sym}
-use Rattle.pg_workers.proofs.Rows.{blank_more, blank_in_order, blank_settled}
+use Rattle.pg_workers.proofs.report.Rows.{blank_more, blank_in_order, blank_settled}
 use Rattle.pg_workers.proofs.report.blank_report.Goals as goal
 
 pub loop-job-preserved : goal.loop-job-preserved

@@ -1,5 +1,5 @@
 use Rattle.pg_workers.proofs.Common.{◌<◌, rules, get_or, length, arith, ReportRow, blank_row}
-use Rattle.pg_workers.proofs.Placing.{next_row, next_place, next_placed, next_settled}
+use Rattle.pg_workers.proofs.report.PlacedRows.{next_row, next_place, next_placed, next_settled}
 use Rattle.pg_workers.proofs.report.place_rows.Goals as goal
 
 pub bounds-report-row : goal.bounds-report-row

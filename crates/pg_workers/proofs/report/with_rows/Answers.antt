@@ -1,7 +1,7 @@
 use Rattle.pg_workers.proofs.Common.{◌≡◌, ◌+◌, List, ◌++◌, length, take, drop, sym, ap, ◌∙◌, subst, arith, ReportRow, settled_in, AreNotedRows}
 use Rattle.pg_workers.proofs.Common.{rows_in, HasPlaces}
-use Rattle.pg_workers.proofs.Placing.{has_places, more_placed, more_settled}
-use Rattle.pg_workers.proofs.Rows.{written}
+use Rattle.pg_workers.proofs.report.PlacedRows.{has_places, more_placed, more_settled}
+use Rattle.pg_workers.proofs.report.Rows.{written}
 use Rattle.pg_workers.proofs.report.with_rows.Goals as goal
 
 pub place_rows-requires : goal.place_rows-requires

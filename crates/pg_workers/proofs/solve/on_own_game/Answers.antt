@@ -1,5 +1,5 @@
 use Rattle.pg_workers.proofs.Common.{◌≡◌, ◌∙◌, ap, sym, arith, subst, List, ReportRow, AreNumbered, IsReport, settled_in}
-use Rattle.pg_workers.proofs.Dropping.{still_numbered, still_report, none_settled_any_more}
+use Rattle.pg_workers.proofs.solve.DroppedPosts.{still_numbered, still_report, none_settled_any_more}
 use Rattle.pg_workers.proofs.solve.on_own_game.Goals as goal
 
 pub returns-clause-settled : goal.returns-clause-settled

@@ -1,7 +1,7 @@
 use Rattle.pg_workers.proofs.Common.{◌≡◌, ℕ, ◌+◌, List, Vec, Global, sum, sym, ap, ◌∙◌, subst, arith, min, sum-map, sum_by_push, ReportRow, IsDrawnRow, rows_in}
-use Rattle.pg_workers.proofs.Common.{settled_in, AreOfPrefix, AreNotedRows, HeldTicket}
-use Rattle.pg_workers.proofs.Placing.{is_report, of_front, placed_numbered}
-use Rattle.pg_workers.proofs.Rows.{all_rows, settled_in-rows_in}
+use Rattle.pg_workers.proofs.Common.{total_of, settled_in, AreOfPrefix, AreNotedRows, HeldTicket}
+use Rattle.pg_workers.proofs.report.PlacedRows.{is_report, of_front, placed_numbered}
+use Rattle.pg_workers.proofs.report.Rows.{all_rows, settled_in-rows_in}
 use Rattle.pg_workers.proofs.solve.run.Goals as goal
 
 abbrev settled_by_one : Vec ReportRow Global → ℕ
@@ -13,7 +13,8 @@ with_rows-requires-clause-prefix g c =
     let drawn = c.close.ensures.fair in let back = c.take_apart-shares in
     let n : ℕ = min c.args.jobs.series.total drawn.word in
     let prefix = of_front n (λ (t : HeldTicket). t.numbers) back.result.1.items back.result.2.items drawn.fair back.ensures.numbers in
-    let long = c.in_ok-report.ensures.rows.0 in let total = c.total-total.ensures.number ∙ sym c.requires.total.1 in
+    let long = c.in_ok-report.ensures.rows.0 in let bound : ℕ = c.args.setup.now.options.now.bound in
+    let total = c.total-total.ensures.number ∙ ap (total_of bound) c.len.ensures.number ∙ sym c.requires.total.1 in
     let series = ap (λ s. s.total) c.requires.jobs.0 in
     (n, omega arith, subst (λ (all : List (Vec ReportRow Global)). AreOfPrefix n (rows_in all)) (sym c.as_slice.ensures.value) prefix)
 

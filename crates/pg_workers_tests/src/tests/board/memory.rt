@@ -75,10 +75,10 @@ fn post_evens(rt: &impl Abort, alloc: Global, session: &mut Session) {
 /// Finishes a session with the entries of a case. Where memory is refused, it has these entries alone, and is finished again.
 fn finish(rt: &impl Abort, alloc: Global, session: &mut Session, before: &Case) {
     let settled = session.settled();
-    if session.finish(alloc).is_err() {
+    if session.finish(alloc, None).is_err() {
         compare_entries(rt, session.entries(), before.entries);
         check_eq!(*rt; session.settled(), settled);
-        made(rt, session.finish(alloc));
+        check!(*rt; made(rt, session.finish(alloc, None)));
     }
     check_eq!(*rt; (session.entries().len(), session.settled()), (2, 3));
 }

@@ -4,7 +4,7 @@
 ghost use Rattle.std.specs.Prelude.{◌<◌};
 
 use crate::tests::asserting::made;
-use crate::tests::board::games::plain_game;
+use crate::tests::board::games::{WIDE, game_made, plain_game};
 use crate::tests::board::random::{random_claim, random_game};
 use crate::tests::board::reference::{
     answer, are_attracted, region_of, starts_with_rest, state_of,
@@ -170,26 +170,25 @@ fn compare_solution(rt: &impl Abort, alloc: Global, game: &[Plain], session: &Se
     }
 }
 
-/// Compares the entries of `finish`: of worker 0, for Even at most one and then for Odd at most one, none without rows.
+/// Compares the entries of `finish`: of worker 0, and none without rows.
 fn compare_added(rt: &impl Abort, added: &[Entry]) {
-    let mut earlier = None;
     for entry in added {
         check_eq!(*rt; entry.worker, 0);
-        check!(*rt; earlier.is_none() || (earlier, entry.player) == (Some(EVEN), ODD));
         check!(*rt; !entry.rows.as_slice().is_empty());
-        earlier = Some(entry.player);
     }
 }
 
-/// Finishes a session, which no step does if something is left, and compares what was added. Returns whether something was left.
+/// Finishes a session, which is unchanged where it gives up, and compares what was added. Returns whether something was left.
 fn compare_finish(rt: &impl Abort, alloc: Global, game: &[Plain], session: &mut Session) -> bool {
     let n = size_of(game);
     let (before, digest) = (session.entries().len(), digest_of(session.entries()));
     let is_left = session.settled() < u64::from(n);
     check_eq!(*rt; made(rt, session.solution(alloc)).is_none(), is_left);
-    check_eq!(*rt; made(rt, session.finish_within(alloc, 0)), !is_left);
-    check_eq!(*rt; digest_of(session.entries()), digest);
-    made(rt, session.finish(alloc));
+    if !made(rt, session.finish(alloc, Some(0))) {
+        check!(*rt; is_left);
+        check_eq!(*rt; digest_of(session.entries()), digest);
+        check!(*rt; made(rt, session.finish(alloc, None)));
+    }
     check_eq!(*rt; session.settled(), u64::from(n));
     let entries = session.entries();
     check_eq!(*rt; digest_before(entries, before), Some(digest));
@@ -200,7 +199,7 @@ fn compare_finish(rt: &impl Abort, alloc: Global, game: &[Plain], session: &mut 
     compare_state(rt, session, n);
     compare_solution(rt, alloc, game, session);
     let digest = digest_of(session.entries());
-    made(rt, session.finish(alloc));
+    check!(*rt; made(rt, session.finish(alloc, Some(0))));
     check_eq!(*rt; digest_of(session.entries()), digest);
     is_left
 }
@@ -233,4 +232,14 @@ fn random_claims_and_what_they_leave_are_settled_as_the_reference_says(rt: HostR
     for count in counts.as_slice() {
         check!(rt; *count > 100);
     }
+}
+
+#[test]
+fn a_session_gives_up_without_a_step_and_is_finished_by_one(rt: HostRuntime) {
+    let game = game_made(&rt, rt.alloc(), WIDE);
+    let mut session = made(&rt, Session::open(rt.alloc(), game));
+    check!(rt; !made(&rt, session.finish(rt.alloc(), Some(0))));
+    check_eq!(rt; (session.entries().len(), session.settled()), (0, 0));
+    check!(rt; made(&rt, session.finish(rt.alloc(), Some(1))));
+    check_eq!(rt; (session.entries().len(), session.settled()), (1, 6));
 }

@@ -1,7 +1,7 @@
 use Rattle.std.proofs.Common.{rules, ◌≡◌, ◌∙◌, ℕ, Option, Some, ap, sym, arith}
 use Rattle.std.specs.Prelude.{unwrap_or}
 use Rattle.clap.specs.Words.{found_of}
-use Rattle.pgboard.proofs.CommandLine.{number_read, number_given}
+use Rattle.pgboard.proofs.arguments.CommandLine.{number_read, number_given}
 use Rattle.pgboard.proofs.arguments.number.Goals as goal
 use Rattle.pgboard.proofs.arguments.number.Goals.{in-Some+else-least-n, else-least-n-via-then-least-n+else-n-most, else-least-n-via-else-least-n, in_default}
 

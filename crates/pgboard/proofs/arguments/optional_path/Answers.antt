@@ -1,6 +1,6 @@
 use Rattle.std.proofs.Common.{rules, ◌∙◌, sym}
 use Rattle.clap.specs.Words.{found_of}
-use Rattle.pgboard.proofs.CommandLine.{no_path, some_path}
+use Rattle.pgboard.proofs.arguments.CommandLine.{no_path, some_path}
 use Rattle.pgboard.proofs.arguments.optional_path.Goals as goal
 
 pub returns-in_err-path-clause-taken : goal.returns-in_err-path-clause-taken

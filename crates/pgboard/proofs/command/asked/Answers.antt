@@ -6,7 +6,7 @@ use Rattle.clap.specs.declared.parser.matches.ArgMatches.{ArgMatches}
 use Rattle.pgboard.specs.Line.{program, IsRead}
 use Rattle.pgboard.specs.declared.arguments.Asked.{Asked}
 use Rattle.std.proofs.lemmas.Result.{IfOk-weaker}
-use Rattle.pgboard.proofs.CommandLine.{asked_by, asked_for_help, fails_by, found_subcommand, helped, not_helped, read_by, some_word}
+use Rattle.pgboard.proofs.arguments.CommandLine.{asked_by, asked_for_help, fails_by, found_subcommand, helped, not_helped, read_by, some_word}
 use Rattle.pgboard.proofs.command.asked.Goals as goal
 
 pub returns-in-Ok-clause-words : goal.returns-in-Ok-clause-words

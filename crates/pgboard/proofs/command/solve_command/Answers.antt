@@ -1,5 +1,5 @@
 use Rattle.std.proofs.lemmas.Result.{IfOk-weaker}
-use Rattle.pgboard.proofs.CommandLine.{one_more}
+use Rattle.pgboard.proofs.arguments.CommandLine.{one_more}
 use Rattle.pgboard.proofs.command.solve_command.Goals as goal
 
 pub returns : goal.returns

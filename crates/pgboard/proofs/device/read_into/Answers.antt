@@ -1,5 +1,5 @@
 use Rattle.pgboard.proofs.Common.{take, ap, ◌∙◌, rules, arith, with_items_is, places}
-use Rattle.pgboard.proofs.Devices.{filled_more}
+use Rattle.pgboard.proofs.device.Pieces.{filled_more}
 use Rattle.pgboard.proofs.device.read_into.Goals as goal
 
 pub reads-preserved : goal.reads-preserved
@@ -24,5 +24,5 @@ returns-in_default-clause-text g c = search rules
 pub returns-in_default-clause-limit : goal.returns-in_default-clause-limit
 returns-in_default-clause-limit g c = search rules
 
-pub returns-in_default-clause-no_failure : goal.returns-in_default-clause-no_failure
-returns-in_default-clause-no_failure g c = search rules
+pub returns-in_default-clause-reads : goal.returns-in_default-clause-reads
+returns-in_default-clause-reads g c = search rules

@@ -1,5 +1,5 @@
 use Rattle.pgboard.proofs.Common.{◌∙◌}
-use Rattle.pgboard.proofs.Devices.{wrote_more}
+use Rattle.pgboard.proofs.device.Pieces.{wrote_more}
 use Rattle.pgboard.proofs.device.write_all.Goals as goal
 
 pub rest-preserved : goal.rest-preserved

@@ -1,5 +1,5 @@
 use Rattle.pgboard.proofs.Common.{length, sym, subst, AllByRecursion, all_at, Entry, AreVertices}
-use Rattle.pgboard.proofs.Traced.{one_entry_more}
+use Rattle.pgboard.proofs.trace.ItemTexts.{one_entry_more}
 use Rattle.pgboard.proofs.trace.put_entries.Goals as goal
 
 pub put_entry-requires : goal.put_entry-requires

@@ -1,5 +1,5 @@
 use Rattle.pgboard.proofs.Common.{ℕ, List, length, Option, ◌∷◌, ◌++◌, ◌∙◌, ap, numeral, on_ok_weaker}
-use Rattle.pgboard.proofs.Lines.{first, next, last}
+use Rattle.pgboard.proofs.trace.WordLines.{first, next, last}
 use Rattle.pgboard.proofs.trace.put_entry_head.Goals as goal
 
 pub returns : goal.returns

@@ -1,5 +1,5 @@
 use Rattle.pgboard.proofs.Common.{on_ok_weaker}
-use Rattle.pgboard.proofs.Lines.{first, next, last}
+use Rattle.pgboard.proofs.trace.WordLines.{first, next, last}
 use Rattle.pgboard.proofs.trace.put_job.Goals as goal
 
 pub returns : goal.returns

@@ -1,14 +1,10 @@
 use Rattle.pgboard.proofs.Common.{length, None, all_at, row_line, AreVertices}
-use Rattle.pgboard.proofs.Traced.{one_more}
+use Rattle.pgboard.proofs.trace.ItemTexts.{one_more}
 use Rattle.pgboard.proofs.trace.put_rows.Goals as goal
 
-pub put_row-requires-clause-vertex : goal.put_row-requires-clause-vertex
-put_row-requires-clause-vertex c =
-    (all_at (AreVertices (length c.args.game.now)) c.args.rows.now c.loop-row.row-index (0, None) c.requires c.loop-row-test.true).vertex
-
-pub put_row-requires-clause-choice : goal.put_row-requires-clause-choice
-put_row-requires-clause-choice c =
-    (all_at (AreVertices (length c.args.game.now)) c.args.rows.now c.loop-row.row-index (0, None) c.requires c.loop-row-test.true).choice
+pub put_row-requires : goal.put_row-requires
+put_row-requires c =
+    all_at (AreVertices (length c.args.game.now)) c.args.rows.now c.loop-row.row-index (0, None) c.requires c.loop-row-test.true
 
 pub loop-row-preserved : goal.loop-row-preserved
 loop-row-preserved c =

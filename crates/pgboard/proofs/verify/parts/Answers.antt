@@ -1,5 +1,5 @@
 use Rattle.pgboard.proofs.Common.{◌+◌, sym, ◌∙◌, take_rest}
-use Rattle.pgboard.proofs.Joined.{game_before, solution_after, game_alone, no_solution}
+use Rattle.pgboard.proofs.verify.JoinedText.{game_before, solution_after, game_alone, no_solution}
 use Rattle.pgboard.proofs.verify.parts.Goals as goal
 
 pub returns-in-Some-clause-game : goal.returns-in-Some-clause-game

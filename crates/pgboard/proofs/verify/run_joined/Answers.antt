@@ -1,5 +1,5 @@
 use Rattle.pgboard.proofs.Common.{rules, err_from_is_err_and}
-use Rattle.pgboard.proofs.Judging.{err_again, joined_text, no_game, no_solution_of, no_output, judged_within}
+use Rattle.pgboard.proofs.verify.JoinedFaults.{err_again, joined_text, no_game, no_solution_of, no_output, judged_within}
 use Rattle.pgboard.proofs.verify.run_joined.Goals as goal
 
 pub returns-in_err-game-clause-fault : goal.returns-in_err-game-clause-fault

@@ -6,7 +6,7 @@ returns-in-Err-clause-fault g c =
     let refused : IsRefusedSolution c.args.game.now c.in_ok-text.text.items c.refused_for.result = c.refused_for.ensures _ _ c.in-Err.ensures.fault in
     search (rules, refused, c.in_ok-text.ensures.text, c.in_ok-text.ensures.limit)
 
-pub returns-in-Err-clause-failed : goal.returns-in-Err-clause-failed
-returns-in-Err-clause-failed g c =
+pub returns-in-Err-clause-reads : goal.returns-in-Err-clause-reads
+returns-in-Err-clause-reads g c =
     let refused : IsRefusedSolution c.args.game.now c.in_ok-text.text.items c.refused_for.result = c.refused_for.ensures _ _ c.in-Err.ensures.fault in
     search (rules, refused)

@@ -1,5 +1,5 @@
 use Rattle.pgboard_c.proofs.Common.{rules, ◌≤◌, length, no_choice, IsExactSolution}
-use Rattle.pgboard_c.proofs.Choices.{choices_below}
+use Rattle.pgboard_c.proofs.arrays.ChoiceNumbers.{choices_below}
 use Rattle.pgboard_c.proofs.board.write_solution.Goals as goal
 
 pub write_results-requires-clause-below : goal.write_results-requires-clause-below

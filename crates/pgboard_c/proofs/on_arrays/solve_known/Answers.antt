@@ -1,5 +1,5 @@
 use Rattle.pgboard_c.proofs.Common.{subst, Graph, IsExactSolution, no_choice}
-use Rattle.pgboard_c.proofs.Choices.{choices_below}
+use Rattle.pgboard_c.proofs.arrays.ChoiceNumbers.{choices_below}
 use Rattle.pgboard_c.proofs.on_arrays.solve_known.Goals as goal
 
 pub write_results-requires-clause-below : goal.write_results-requires-clause-below

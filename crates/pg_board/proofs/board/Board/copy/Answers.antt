@@ -1,5 +1,5 @@
 use Rattle.pg_board.proofs.Common.{◌≡◌, ◌∙◌, ℕ, length, sym, subst, ap, arith, List, Bool, fun_ext, Player, Graph, VertexSet, members, IsSubgame}
-use Rattle.pg_board.proofs.Common.{ClaimRows, IsGoodIn, Play, State, unsettled, state_of, IsDominionAfter, VertexState, table_state}
+use Rattle.pg_board.proofs.Common.{ClaimRows, IsGoodIn, BoardRecord, State, unsettled, state_of, IsDominionAfter, VertexState, table_state}
 use Rattle.pg_board.proofs.Numbers.{lawful_now}
 use Rattle.pg_board.proofs.Copies.{dominion_now}
 use Rattle.pg_board.proofs.board.Board.copy.Goals as goal
@@ -22,7 +22,7 @@ returns-clause-dominions c =
     let same = same_set g (state_of b.entries.items) b.regions.table.items b.regions.unsettled c.of_subgame.result.mask
     (c.of_subgame.ensures.mask ∙ c.in_ok-mask.ensures) i.regions.mask i.state in
     let at : c.len.result ≡ length b.entries.items = omega (arith, c.len.ensures, b.entries.ok.0) in
-    subst (λ (x : Play). (p : Player) (rows : ClaimRows) → IsGoodIn x.graph (members c.of_subgame.result.mask) p rows
+    subst (λ (x : BoardRecord). (p : Player) (rows : ClaimRows) → IsGoodIn x.graph (members c.of_subgame.result.mask) p rows
     → IsDominionAfter x.graph x.journal c.len.result p rows) c.self.view_is
     (λ p rows good. subst (λ (n : ℕ). IsDominionAfter g b.entries.items n p rows) (sym at)
     (dominion_now g c.len-n.ensures.game b.entries.items i.lawful p rows (subst (λ (U : VertexSet). IsGoodIn g U p rows) (sym same) good)))

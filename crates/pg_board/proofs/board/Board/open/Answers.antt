@@ -1,5 +1,5 @@
 use Rattle.pg_board.proofs.Common.{sym, subst, refl, List, Entry, IsBoard}
-use Rattle.pg_board.proofs.Opening.{lawful_none}
+use Rattle.pg_board.proofs.OpeningState.{lawful_none}
 use Rattle.pg_board.proofs.board.Board.open.Goals as goal
 
 pub invariant_of-result : goal.invariant_of-result

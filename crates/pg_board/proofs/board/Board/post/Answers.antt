@@ -1,6 +1,6 @@
-use Rattle.pg_board.proofs.Common.{◌≡◌, Err, Result, refl, sym, subst, rules, IsClaimFault, Posted, Refusal, Play, state_of, refusal_of, AnswersDominion}
+use Rattle.pg_board.proofs.Common.{◌≡◌, Err, Result, refl, sym, subst, rules, IsClaimFault, Posted, Refusal, BoardRecord, state_of, refusal_of, AnswersDominion}
 use Rattle.pg_board.proofs.Common.{SettlesUnlessMemory}
-use Rattle.pg_board.proofs.OldCopies.{IsAnswered, lawful_play, old_copy, lawful_after}
+use Rattle.pg_board.proofs.board.OldCopies.{IsAnswered, lawful_record, old_copy, lawful_after}
 use Rattle.pg_board.proofs.board.Board.post.Goals.{After-settle_sound}
 use Rattle.pg_board.proofs.board.Board.post.Goals as goal
 
@@ -9,14 +9,14 @@ answered c = let e = c.settle_sound.ensures in record { posted = e.posted; refus
 
 pub returns-clause-old_copies : goal.returns-clause-old_copies
 returns-clause-old_copies c = λ k d.
-    let play = lawful_play c.self.view_is c.len-n.ensures.game c.self.invariant in
+    let holds = lawful_record c.self.view_is c.len-n.ensures.game c.self.invariant in
     let s = c.settle_sound in
-    old_copy c.args.self.now play c.args.claim.now k d s.new.self c.args.worker s.result (answered (goal.at.returns-clause-old_copies c).After-settle_sound)
+    old_copy c.args.self.now holds c.args.claim.now k d s.new.self c.args.worker s.result (answered (goal.at.returns-clause-old_copies c).After-settle_sound)
 
 pub returns-clause-lawful : goal.returns-clause-lawful
 returns-clause-lawful c =
-    let play = lawful_play c.self.view_is c.len-n.ensures.game c.self.invariant in
-    lawful_after c.settle_sound.result play (answered (goal.at.returns-clause-lawful c).After-settle_sound) c.settle_sound.ensures.game
+    let holds = lawful_record c.self.view_is c.len-n.ensures.game c.self.invariant in
+    lawful_after c.settle_sound.result holds (answered (goal.at.returns-clause-lawful c).After-settle_sound) c.settle_sound.ensures.game
 
 pub returns-in_err-judge_claim-clause-old_copies : goal.returns-in_err-judge_claim-clause-old_copies
 returns-in_err-judge_claim-clause-old_copies c = λ k d.
@@ -25,10 +25,10 @@ returns-in_err-judge_claim-clause-old_copies c = λ k d.
     let claim = c.args.claim.now in
     let p = claim.player in
     let fault = c.in_err-judge_claim.field-0.0 in
-    let play = lawful_play c.self.view_is c.len-n.ensures.game c.self.invariant in
-    let wrong = subst (λ (y : Play). IsClaimFault y.graph p claim.rows fault) c.self.view_is c.in_err-judge_claim.ensures.fault in
+    let holds = lawful_record c.self.view_is c.len-n.ensures.game c.self.invariant in
+    let wrong = subst (λ (y : BoardRecord). IsClaimFault y.graph p claim.rows fault) c.self.view_is c.in_err-judge_claim.ensures.fault in
     let h : IsAnswered x x c.args.worker claim (Err (refusal_of fault)) =
     record { posted = tt; refused = search rules; unchanged = refl } in
     let e : c.from_residual.result ≡ Err (refusal_of fault) = search rules in
     subst (λ (r : Result Posted Refusal). AnswersDominion st claim.rows r × SettlesUnlessMemory x x p claim.rows r) (sym e)
-    (old_copy x play claim k d x c.args.worker (Err (refusal_of fault)) h)
+    (old_copy x holds claim k d x c.args.worker (Err (refusal_of fault)) h)

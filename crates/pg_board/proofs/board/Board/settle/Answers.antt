@@ -1,8 +1,8 @@
-use Rattle.pg_board.proofs.Common.{rules, sym, subst, Claim, IsSound, claim_rows, Play}
+use Rattle.pg_board.proofs.Common.{rules, sym, subst, Claim, IsSound, claim_rows, BoardRecord}
 use Rattle.pg_dominion.specs.Checked.{claim_of, IsForeign}
-use Rattle.pg_dominion.proofs.Agreed.{sound}
-use Rattle.pg_dominion.proofs.Recorded.{never_foreign}
-use Rattle.pg_board.proofs.OldCopies.{IsAnswered, lawful_play, old_copy, lawful_after}
+use Rattle.pg_dominion.proofs.AgreeingRows.{sound}
+use Rattle.pg_dominion.proofs.CheckedRows.{never_foreign}
+use Rattle.pg_board.proofs.board.OldCopies.{IsAnswered, lawful_record, old_copy, lawful_after}
 use Rattle.pg_board.proofs.board.Board.settle.Goals.{After-settle_sound}
 use Rattle.pg_board.proofs.board.Board.settle.Goals as goal
 
@@ -18,7 +18,7 @@ returns-in-Some-clause-old_copies c = λ k a d.
     let q = c.args.checked.now in
     let x = c.args.self.now in
     let foreign : IsForeign x.graph q.player q.rows c.in-Some.v =
-    subst (λ (y : Play). IsForeign y.graph q.player q.rows c.in-Some.v) c.self.view_is c.in-Some.ensures in
+    subst (λ (y : BoardRecord). IsForeign y.graph q.player q.rows c.in-Some.v) c.self.view_is c.in-Some.ensures in
     absurd (never_foreign x.graph q.player q.rows c.in-Some.v a foreign)
 
 pub settle_sound-requires : goal.settle_sound-requires
@@ -26,7 +26,7 @@ settle_sound-requires c =
     let q = c.args.checked.now in
     let b = c.self.inside in
     let here : IsSound b.game.now q.player (claim_rows q.player q.rows) = sound b.game.now q.player q.rows c.claim.ensures.checked c.in_default.ensures in
-    subst (λ (y : Play). IsSound y.graph c.in_ok-claim.claim.player c.in_ok-claim.claim.rows) c.self.view_is
+    subst (λ (y : BoardRecord). IsSound y.graph c.in_ok-claim.claim.player c.in_ok-claim.claim.rows) c.self.view_is
     (subst (λ (k : Claim). IsSound b.game.now k.player k.rows) (sym c.in_ok-claim.ensures.claim) here)
 
 pub returns-clause-posted : goal.returns-clause-posted
@@ -39,12 +39,12 @@ returns-clause-refused c =
 
 pub returns-clause-lawful : goal.returns-clause-lawful
 returns-clause-lawful c =
-    let play = lawful_play c.self.view_is c.len-n.ensures.game c.self.invariant in
-    lawful_after c.settle_sound.result play (answered (goal.at.returns-clause-lawful c).After-settle_sound) c.settle_sound.ensures.game
+    let holds = lawful_record c.self.view_is c.len-n.ensures.game c.self.invariant in
+    lawful_after c.settle_sound.result holds (answered (goal.at.returns-clause-lawful c).After-settle_sound) c.settle_sound.ensures.game
 
 pub returns-clause-old_copies : goal.returns-clause-old_copies
 returns-clause-old_copies c = λ k a d.
-    let play = lawful_play c.self.view_is c.len-n.ensures.game c.self.invariant in
+    let holds = lawful_record c.self.view_is c.len-n.ensures.game c.self.invariant in
     let s = c.settle_sound in
-    old_copy c.args.self.now play (claim_of c.args.checked.now) k d s.new.self c.args.worker s.result
+    old_copy c.args.self.now holds (claim_of c.args.checked.now) k d s.new.self c.args.worker s.result
     (answered_of (goal.at.returns-clause-old_copies c).After-settle_sound)

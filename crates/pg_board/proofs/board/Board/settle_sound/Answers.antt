@@ -1,7 +1,7 @@
-use Rattle.pg_board.proofs.Common.{◌≡◌, ◌<◌, length, refl, sym, ◌∙◌, ap, subst, arith, Claim, ClaimRows, Journal, Play, rest_of}
+use Rattle.pg_board.proofs.Common.{◌≡◌, ◌<◌, length, refl, sym, ◌∙◌, ap, subst, arith, Claim, ClaimRows, Journal, BoardRecord, rest_of}
 use Rattle.pg_board.proofs.Common.{IsGoodOn, state_of, Refuses, Adds}
 use Rattle.pg_board.proofs.RestIsGood.{rest_is_good, rest_twice}
-use Rattle.pg_board.proofs.Posting.{IsChecked, play, rest_now, rest_right_here, rest_open, refused_open, claim_good, nonempty, sound_here, adds_claim, few_rows}
+use Rattle.pg_board.proofs.board.PostChecks.{IsChecked, record_with, rest_now, rest_right_here, rest_open, refused_open, claim_good, nonempty, sound_here, adds_claim, few_rows}
 use Rattle.pg_board.specs.declared.journal.Refusal.TheVariants as refusal
 use Rattle.pg_board.proofs.board.Board.settle_sound.Goals.{After-as_slice}
 use Rattle.pg_board.proofs.board.Board.settle_sound.Goals as goal
@@ -32,7 +32,7 @@ returns-in-Some-edge-clause-refused c =
     let claim = c.args.claim.now in
     let edge = c.in-Some-edge in
     let h = checked (goal.at.returns-in-Some-edge-clause-refused c).After-as_slice in
-    subst (λ (x : Play). Refuses x.graph (state_of x.journal) claim.player claim.rows (refusal.Open edge.v edge.w)) c.self.view_is
+    subst (λ (x : BoardRecord). Refuses x.graph (state_of x.journal) claim.player claim.rows (refusal.Open edge.v edge.w)) c.self.view_is
     (refused_open h edge.v edge.w edge.ensures.edge)
 
 pub enter-requires-clause-good : goal.enter-requires-clause-good
@@ -64,12 +64,12 @@ returns-clause-posted c =
     let some = nonempty rest (c.rest_of.new.rest.ok.0) (sym c.is_empty.ensures ∙ c.if-is_empty.false) in
     let good = claim_good h (subst (λ (xs : ClaimRows). 0 < length xs) (sym all) some) c.in_default-edge.ensures.edge in
     let posted = c.enter.result in
-    let here = subst (λ (x : Play). rest ≡ rest_of (state_of x.journal) claim.rows) c.self.view_is (sym all ∙ rest_now h) in
+    let here = subst (λ (x : BoardRecord). rest ≡ rest_of (state_of x.journal) claim.rows) c.self.view_is (sym all ∙ rest_now h) in
     let rest_claim : Claim = record { player = p; rows = rest } in
     let g = c.self.inside.game.now in
-    let new = play g c.enter.new.self.entries.items in
-    let same : play g c.reserve.new.self.items ≡ c.args.self.now = ap (play g) c.reserve.ensures.items ∙ c.self.view_is in
-    let added = subst (λ (x : Play). Adds x new c.args.worker rest_claim posted) same c.enter.ensures.added in (
-      subst (λ (x : Play). IsGoodOn x.graph (state_of x.journal) p claim.rows) c.self.view_is good,
+    let new = record_with g c.enter.new.self.entries.items in
+    let same : record_with g c.reserve.new.self.items ≡ c.args.self.now = ap (record_with g) c.reserve.ensures.items ∙ c.self.view_is in
+    let added = subst (λ (x : BoardRecord). Adds x new c.args.worker rest_claim posted) same c.enter.ensures.added in (
+      subst (λ (x : BoardRecord). IsGoodOn x.graph (state_of x.journal) p claim.rows) c.self.view_is good,
       adds_claim c.args.self.now new c.args.worker p rest claim posted refl here added,
     )

@@ -1,4 +1,4 @@
-use Rattle.pg_board.proofs.Common.{◌≡◌, List, take, get_or, length, ◌<◌, sym, subst, ap, arith, Entry, Play, settled_by}
+use Rattle.pg_board.proofs.Common.{◌≡◌, List, take, get_or, length, ◌<◌, sym, subst, ap, arith, Entry, BoardRecord, settled_by}
 use Rattle.pg_board.proofs.Numbers.{number_within, more_settled_by}
 use Rattle.pg_board.proofs.board.Board.settled_by.Goals as goal
 
@@ -9,7 +9,7 @@ overflow_add-total c =
     let i = c.entries.entry-index in
     let e = c.entry-item.result in
     let so_far : c.entries.total ≡ settled_by (take i j) c.args.worker =
-    subst (λ (x : Play). c.entries.total ≡ settled_by (take i x.journal) c.args.worker) (sym c.self.view_is) c.entries.invariant in
+    subst (λ (x : BoardRecord). c.entries.total ≡ settled_by (take i x.journal) c.args.worker) (sym c.self.view_is) c.entries.invariant in
     let at : e ≡ get_or j i e = subst (λ (xs : List Entry). e ≡ get_or xs i e) c.deref-entry-items.ensures.value c.entry-item.is in
     let l : i < length j = subst (λ (xs : List Entry). i < length xs) c.deref-entry-items.ensures.value c.entries-test.true in
     let more = more_settled_by j c.args.worker i e l at in

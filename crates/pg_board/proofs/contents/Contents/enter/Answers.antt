@@ -2,8 +2,8 @@ use Rattle.pg_board.proofs.Common.{◌≡◌, ◌+◌, [], ◌∷◌, ◌++◌, 
 use Rattle.pg_board.proofs.Common.{Journal, IsBoard, ◌∙◌}
 use Rattle.std.specs.Prelude.{nat_eq}
 use Rattle.pg_board.proofs.RestIsGood.{vertices}
-use Rattle.pg_board.proofs.Entering.{IsEntering, HasGrown, HasRows, open_subgame, rest_distinct, rest_within, entry_answers, grown_fits, board_entered}
-use Rattle.pg_board.proofs.Entering.{has_grown, IsGrowing-more, few, none_left}
+use Rattle.pg_board.proofs.contents.EntryOfRest.{IsEntering, HasGrown, HasRows, open_subgame, rest_distinct, rest_within, entry_answers, grown_fits, board_entered}
+use Rattle.pg_board.proofs.contents.EntryOfRest.{has_grown, IsGrowing-more, few, none_left}
 use Rattle.pg_board.proofs.contents.Contents.enter.Goals.{After-len-claimed, After-len-settled, After-push_reserved}
 use Rattle.pg_board.proofs.contents.Contents.enter.Goals as goal
 

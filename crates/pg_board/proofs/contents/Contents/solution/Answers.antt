@@ -1,7 +1,7 @@
 use Rattle.std.proofs.Common.{rules}
 use Rattle.pg_board.proofs.Common.{◌≡◌, length, ◌∙◌, ap, arith, slice_get, state_of, AreStateRows}
 use Rattle.pg_text.specs.Solution.{SolutionRows}
-use Rattle.pg_board.proofs.Solved.{exact_solution}
+use Rattle.pg_board.proofs.contents.FullJournals.{exact_solution}
 use Rattle.pg_board.proofs.contents.Contents.solution.Goals as goal
 
 pub returns-clause-solution : goal.returns-clause-solution

@@ -1,11 +1,11 @@
 use Rattle.pg_board.proofs.Common.{rules, ℕ, inl, inr, sym, subst, union, named, settled, table_state, EndsOutside}
 use Rattle.pg_game.proofs.Rows.{below_or_last}
 use Rattle.pg_board.proofs.Places.{row_at}
-use Rattle.pg_board.proofs.Ends.{none_outside, first_outside}
+use Rattle.pg_board.proofs.regions.KeptEdgesOfRows.{none_outside, first_outside}
 use Rattle.pg_board.proofs.regions.Bounds.first_edge.Goals as goal
 
 pub returns-in-Some : goal.returns-in-Some
-returns-in-Some c = search (rules, first_outside, c.requires.right, c.rows-test.true, c.rows.invariant, c.in-Some.ensures.ends, c.in-Some.ensures.least)
+returns-in-Some c = search (rules, first_outside, c.requires, c.rows-test.true, c.rows.invariant, c.in-Some.ensures.ends, c.in-Some.ensures.least)
 
 pub rows-preserved : goal.rows-preserved
 rows-preserved c = λ k w l.
@@ -17,4 +17,4 @@ rows-preserved c = λ k w l.
     ]
 
 pub returns : goal.returns
-returns c = search (rules, none_outside, c.requires.right, c.rows-test.false, c.rows.invariant)
+returns c = search (rules, none_outside, c.requires, c.rows-test.false, c.rows.invariant)

@@ -1,5 +1,5 @@
 use Rattle.pg_board.proofs.Common.{table_state}
-use Rattle.pg_board.proofs.Lost.{NoneBefore}
+use Rattle.pg_board.proofs.regions.FirstLost.{NoneBefore}
 use Rattle.pg_board.proofs.regions.Regions.first_lost.Given as goal
 
 abbrev pub invariant-rows : goal.invariant-rows

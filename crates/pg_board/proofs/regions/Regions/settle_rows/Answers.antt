@@ -1,9 +1,9 @@
 use Rattle.pg_board.proofs.Common.{rules, ◌≡◌, ◌+◌, ◌++◌, ◌∷◌, [], length, take, None, sym, ◌∙◌, ap, subst, arith, take_more, take_all, member_below, ClaimRows}
 use Rattle.pg_board.proofs.Common.{table_state, state_with, open_before, IsGrowing}
 use Rattle.pg_board.proofs.Places.{row_at}
-use Rattle.pg_board.proofs.Tables.{Settles, state_with-none}
-use Rattle.pg_board.proofs.Growing.{Takes, row_open, before_none, IsGrowing-take, same-take, written-take}
-use Rattle.pg_board.proofs.Entering.{IsGrowing-start}
+use Rattle.pg_board.proofs.regions.Tables.{Settles, state_with-none}
+use Rattle.pg_board.proofs.regions.GrowthSteps.{Takes, row_open, before_none, IsGrowing-take, same-take, written-take}
+use Rattle.pg_board.proofs.contents.EntryOfRest.{IsGrowing-start}
 use Rattle.pg_board.proofs.regions.Regions.settle_rows.Goals as goal
 
 pub rows-init : goal.rows-init

@@ -1,6 +1,6 @@
 use Rattle.pg_board.proofs.Common.{rules}
 use Rattle.std.specs.Prelude.{vec_capacity}
-use Rattle.pg_board.proofs.Growing.{Takes, IsGrowing-take, Grows-take}
+use Rattle.pg_board.proofs.regions.GrowthSteps.{Takes, IsGrowing-take, Grows-take}
 use Rattle.pg_board.proofs.regions.RegionsAttractorState.take.Goals.{After-settle_vertex}
 use Rattle.pg_board.proofs.regions.RegionsAttractorState.take.Goals as goal
 

@@ -1,8 +1,8 @@
 use Rattle.pg_dominion.proofs.Common.{◌≡◌, ◌<◌, ℕ, Bool, List, length, set, false, inl, inr, refl, sym, length-set, ◌∙◌, rules, ◌==◌, cases_Bool, or_cases}
 use Rattle.pg_dominion.proofs.Common.{named, members, member_below}
 use Rattle.pg_dominion.proofs.Rows.{named-push}
-use Rattle.pg_dominion.proofs.Attracting.{read_set}
-use Rattle.pg_dominion.proofs.Extending.{extends_taken}
+use Rattle.pg_dominion.proofs.AttractionSteps.{read_set}
+use Rattle.pg_dominion.proofs.TakenRow.{extends_taken}
 use Rattle.pg_dominion.proofs.attractor.FreeVerticesAttractorState.take.Goals as goal
 
 -- what is not in a mask is not in it without another vertex

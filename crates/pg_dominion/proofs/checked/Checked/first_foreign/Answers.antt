@@ -1,6 +1,6 @@
 use Rattle.pg_dominion.proofs.Common.{subst, Player}
 use Rattle.pg_dominion.specs.Checked.{IsForeign}
-use Rattle.pg_dominion.proofs.Recorded.{foreign_here}
+use Rattle.pg_dominion.proofs.CheckedRows.{foreign_here}
 use Rattle.pg_dominion.proofs.checked.Checked.first_foreign.Goals as goal
 
 pub returns-then-not-agrees : goal.returns-then-not-agrees

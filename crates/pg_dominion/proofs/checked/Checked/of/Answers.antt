@@ -1,5 +1,5 @@
 use Rattle.pg_dominion.proofs.Common.{sym, subst, ClaimRows, IsSound}
-use Rattle.pg_dominion.proofs.Recorded.{checked}
+use Rattle.pg_dominion.proofs.CheckedRows.{checked}
 use Rattle.pg_dominion.proofs.checked.Checked.of.Goals as goal
 
 pub invariant_of-result : goal.invariant_of-result

@@ -4,7 +4,7 @@ use Rattle.std.specs.Prelude.{◌++◌}
 use Rattle.std.specs.Option.{option_to_list}
 use Rattle.std.proofs.lemmas.Result.{IfOk-weaker}
 use Rattle.pg_finders.specs.Jobs.{seeds_of, with_rows}
-use Rattle.pg_finders.proofs.Jobs.{both_of}
+use Rattle.pg_finders.proofs.finder.Jobs.{both_of}
 use Rattle.pg_finders.proofs.finder.StandardFinder.find.Goals as goal
 
 pub returns-in_ok-find_solitaire-in-Solitaire-clause-solitaire : goal.returns-in_ok-find_solitaire-in-Solitaire-clause-solitaire

@@ -1,13 +1,12 @@
-use Rattle.pg_finders.proofs.Common.{◌≡◌, ◌≤◌, ◌&&◌, not, ◌++◌, ◌∷◌, [], length, vec_len, map, sym, ◌∙◌, ap, subst, arith, IsNonDecreasingBy, Player, Even}
-use Rattle.pg_finders.proofs.Common.{Odd, members, Frame, priority_of, settled_of, AreVertices, AllStand, winners_of, choices_of, IsBegun, active_of}
-use Rattle.pg_finders.proofs.Common.{level_at, count_at, AllPlaced}
+use Rattle.pg_finders.proofs.Common.{◌≡◌, ◌≤◌, ◌&&◌, not, ◌++◌, ◌∷◌, [], length, vec_len, map, sym, ◌∙◌, ap, subst, arith, Player, Even, Odd, VertexSet}
+use Rattle.pg_finders.proofs.Common.{members, Frame, settled_of, AllStand, winners_of, choices_of, IsBegun, active_of, level_at, count_at, AllPlaced}
 use Rattle.pg_finders.proofs.Sets.{only}
-use Rattle.pg_finders.proofs.recursion.Listed.{some_length}
-use Rattle.pg_finders.proofs.Solving.{back_equal, left_subgame}
+use Rattle.pg_finders.proofs.recursion.ListsAsSets.{some_length}
+use Rattle.pg_finders.proofs.SolvedSubgames.{back_equal, left_subgame}
 use Rattle.pg_finders.proofs.Sizes.{size_below}
-use Rattle.pg_finders.proofs.recursion.UnderWay.{Begins, lists_fit, none_active, under_way_begin, stops_now, inside_now}
-use Rattle.pg_finders.proofs.recursion.Running.{placed_push}
-use Rattle.pg_finders.proofs.recursion.Entering.{enters_fewer}
+use Rattle.pg_finders.proofs.recursion.LoopSteps.{Begins, lists_fit, none_active, under_way_begin, stops_now, inside_now}
+use Rattle.pg_finders.proofs.recursion.StepBounds.{placed_push}
+use Rattle.pg_finders.proofs.recursion.ActivePart.{enters_fewer}
 use Rattle.pg_finders.proofs.recursion.Solver.enter.Goals as goal
 
 pub gone-requires : goal.gone-requires
@@ -22,10 +21,15 @@ returns-then-gone-self-clause-none c _ v =
 abbrev After : Type 0
 After = goal.In_ok-push
 
+abbrev A : After → VertexSet
+A c = active_of c.args.self.now.subgame
+
+abbrev C : After → VertexSet
+C c = active_of c.begin.new.self
+
 abbrev frame : After → Frame
 frame c = record {
-  player =
-      c.of_parity.result;
+  player = c.of_parity-player.result;
   place = c.upto-place.result;
   even = c.count.result;
   odd = c.count-2.result;
@@ -33,16 +37,14 @@ frame c = record {
   upto = c.len.result;
 }
 
-aside_is : (c : After) → c.append_all.new.list.items ≡ c.args.self.now.set_aside.items ++ c.begin.new.list.items
-aside_is c = c.in_ok-append_all.ensures ∙ ap (λ xs. c.args.self.now.set_aside.items ++ xs) c.deref.ensures.value
+aside_is : (c : After) → c.extend_from_slice.new.self.items ≡ c.args.self.now.set_aside.items ++ c.begin.new.list.items
+aside_is c = c.in_ok-extend_from_slice.ensures.items ∙ ap (λ xs. c.args.self.now.set_aside.items ++ xs) c.deref.ensures.value
 
-vertices_are : (c : After) → c.begin.new.order.vertices.items ≡ c.args.self.now.order.vertices.items
-vertices_are c = c.in_ok-begin.ensures.vertices ∙ c.in-Some.ensures.vertices
+vertices_are : (c : After) → c.list_greatest.new.self.vertices.items ≡ c.args.self.now.order.vertices.items
+vertices_are c = c.in_ok-list_greatest.ensures.vertices ∙ c.in-Some.ensures.vertices
 
-begun : (c : After) → IsBegun c.args.game.now (active_of c.args.self.now.subgame) (active_of c.begin.new.subgame) c.of_parity.result
-    (winners_of c.begin.new.subgame.plan) (choices_of c.begin.new.subgame.plan)
-begun c = subst (λ p. IsBegun c.args.game.now (active_of c.args.self.now.subgame) (active_of c.begin.new.subgame) p (winners_of c.begin.new.subgame.plan)
-    (choices_of c.begin.new.subgame.plan)) (sym c.of_parity.ensures) c.in_ok-begin.ensures.begun
+begun : (c : After) → IsBegun c.args.game.now (A c) (C c) c.of_parity-player.result (winners_of c.begin.new.self.plan) (choices_of c.begin.new.self.plan)
+begun c = c.in_ok-begin.ensures.begun
 
 counts : (c : After) (p : Player) → count_at (frame c) p ≡ length (settled_of c.args.self.now.settled p)
 counts c Even = c.count.ensures
@@ -52,30 +54,36 @@ from : (c : After) → c.len-set_aside.result ≡ length c.args.self.now.set_asi
 from c = let a : c.len-set_aside.result ≡ vec_len c.args.self.now.set_aside = c.len-set_aside.ensures in omega (arith, a, c.args.self.now.set_aside.ok)
 
 upto : (c : After) → c.len.result ≡ length (c.args.self.now.set_aside.items ++ c.begin.new.list.items)
-upto c = let a : c.len.result ≡ vec_len c.append_all.new.list = c.len.ensures in
-    let b : c.len.result ≡ length c.append_all.new.list.items = omega (arith, a, c.append_all.new.list.ok) in
+upto c = let a : c.len.result ≡ vec_len c.extend_from_slice.new.self = c.len.ensures in
+    let b : c.len.result ≡ length c.extend_from_slice.new.self.items = omega (arith, a, c.extend_from_slice.new.self.ok) in
     b ∙ ap (λ xs. length xs) (aside_is c)
 
-begins : (c : After) → Begins c.args.game.now (members c.args.inside.now) (active_of c.args.self.now.subgame) (active_of c.begin.new.subgame)
+begins : (c : After) → Begins c.args.game.now (members c.args.inside.now) (A c) (C c)
     (settled_of c.args.self.now.settled) c.args.self.now.set_aside.items c.begin.new.list.items c.args.self.now.frames.items (frame c)
-    (winners_of c.args.self.now.subgame.plan) (winners_of c.begin.new.subgame.plan) (choices_of c.args.self.now.subgame.plan)
-    (choices_of c.begin.new.subgame.plan)
-begins c =
-    let A = active_of c.args.self.now.subgame in
-    let C = active_of c.begin.new.subgame in
-    record {
-      under_way = c.requires.under_way;
-      within = λ v i. (only (A v) (C v) (sym (c.in_ok-begin.ensures.listed v) ∙ i)).0;
-      once = c.in_ok-begin.ensures.once;
-      left = λ v. sym (back_equal (A v) (C v) ((begun c).within v)) ∙ ap (λ b. A v && not b) (sym (c.in_ok-begin.ensures.listed v));
-      begun = begun c;
-      same = c.in_ok-begin.ensures.same;
-      counts = counts c;
-      from = from c;
-      upto = upto c;
-    }
+    (winners_of c.args.self.now.subgame.plan) (winners_of c.begin.new.self.plan) (choices_of c.args.self.now.subgame.plan)
+    (choices_of c.begin.new.self.plan)
+begins c = record {
+  under_way = c.requires.under_way;
+  within = λ v i. (only (A c v) (C c v) (sym (c.in_ok-begin.ensures.listed v) ∙ i)).0;
+  once = c.in_ok-begin.ensures.ready.once;
+  left = λ v. sym (back_equal (A c v) (C c v) ((begun c).within v)) ∙ ap (λ b. A c v && not b) (sym (c.in_ok-begin.ensures.listed v));
+  begun = begun c;
+  same = c.in_ok-begin.ensures.same;
+  counts = counts c;
+  from = from c;
+  upto = upto c;
+}
 
-placed : (c : After) → AllPlaced c.begin.new.order.vertices.items
+-- the active vertices are before the frame's place
+stand : (c : After) → AllStand c.args.self.now.order.vertices.items (A c) c.upto-place.result
+stand c = subst (λ vertices. AllStand vertices (A c) c.upto-place.result) c.in-Some.ensures.vertices
+    (subst (λ n. AllStand c.top.new.self.vertices.items (A c) n) (sym c.upto-place.ensures) c.in-Some.ensures.order.stand)
+
+fits : (c : After) → c.upto-place.result ≤ length c.args.self.now.order.vertices.items
+fits c = subst (λ vertices. c.upto-place.result ≤ length vertices) c.in-Some.ensures.vertices
+    (subst (λ n. n ≤ length c.top.new.self.vertices.items) (sym c.upto-place.ensures) c.in-Some.ensures.order.upto)
+
+placed : (c : After) → AllPlaced c.list_greatest.new.self.vertices.items
     (map (level_at (members c.args.inside.now) (settled_of c.args.self.now.settled) (c.args.self.now.set_aside.items ++ c.begin.new.list.items))
     (c.args.self.now.frames.items ++ frame c ∷ [])) (c.args.self.now.frames.items ++ frame c ∷ [])
 placed c =
@@ -84,25 +92,25 @@ placed c =
     subst (λ vertices. AllPlaced vertices (map level (x.frames.items ++ frame c ∷ [])) (x.frames.items ++ frame c ∷ [])) (sym (vertices_are c))
     (placed_push x.order.vertices.items level x.frames.items (frame c)
     (subst (λ ls. AllPlaced x.order.vertices.items ls x.frames.items) (sym (stops_now (begins c))) c.requires.placed)
-    (subst (λ Z. AllStand x.order.vertices.items Z c.upto-place.result) (sym (inside_now (begins c)))
-    (subst (λ n. AllStand x.order.vertices.items (active_of x.subgame) n) (sym c.upto-place.ensures) c.requires.stand))
-    (omega (arith, c.upto-place.ensures, c.requires.order.upto)))
+    (subst (λ Z. AllStand x.order.vertices.items Z c.upto-place.result) (sym (inside_now (begins c))) (stand c))
+    (fits c))
 
 pub returns-clause-running : goal.returns-clause-running
 returns-clause-running c =
     let frames : c.push.new.self.items ≡ c.args.self.now.frames.items ++ frame c ∷ [] = c.in_ok-push.ensures.items in
+    let order = c.in_ok-list_greatest.ensures.order in
     record {
       inside_length = c.requires.inside_length;
       whole = c.requires.whole;
-      sizes = c.in_ok-begin.ensures.sizes;
+      sizes = c.in_ok-begin.ensures.ready.sizes;
       subgame = left_subgame (begun c);
       order = record {
-        right = subst (AreVertices c.args.game.now) (sym (vertices_are c)) c.requires.order.right;
-        rising = subst (IsNonDecreasingBy (priority_of c.args.game.now)) (sym (vertices_are c)) c.requires.order.rising;
-        upto = subst (λ xs. c.begin.new.order.upto ≤ length xs) (sym (vertices_are c))
-            (omega (arith, c.in_ok-begin.ensures.upto, c.in-Some.ensures.upto, c.requires.order.upto));
+        right = order.right;
+        rising = order.rising;
+        distinct = order.distinct;
+        upto = order.upto;
+        stand = λ v i. order.stand v (c.in_ok-begin.ensures.fewer v i);
       };
-      stand = c.in_ok-begin.ensures.stand;
       placed = rw (frames, aside_is c) (placed c);
       under_way = rw (frames, aside_is c) (under_way_begin (begins c));
     }

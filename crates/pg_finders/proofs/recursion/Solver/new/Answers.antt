@@ -1,18 +1,17 @@
-use Rattle.pg_finders.proofs.Common.{◌≡◌, map, refl, sym, ◌∙◌, subst, members, IsSubgame, settled_of, AllStand, level_at, AllPlaced}
+use Rattle.pg_finders.proofs.Common.{◌≡◌, map, refl, sym, ◌∙◌, subst, members, IsSubgame, settled_of, IsOrder, level_at, AllPlaced}
 use Rattle.pg_finders.proofs.Sizes.{size_is}
-use Rattle.pg_finders.proofs.recursion.UnderWay.{under_way_start}
+use Rattle.pg_finders.proofs.recursion.LoopSteps.{under_way_start}
 use Rattle.pg_finders.proofs.recursion.Solver.new.Goals as goal
 
-pub returns : goal.returns
-returns c =
+pub returns-clause-running : goal.returns-clause-running
+returns-clause-running c =
     let e : c.in_ok-subgame.subgame.active ≡ c.args.inside.now = c.in_ok-subgame.ensures.active in
     record {
       inside_length = c.requires.length;
       whole = c.count-n.ensures ∙ size_is c.args.inside.now;
       sizes = c.in_ok-subgame.ensures.sizes;
       subgame = subst (λ m. IsSubgame c.args.game.now (members m)) (sym e) c.requires.subgame;
-      order = c.in_ok-order.ensures.order;
-      stand = subst (λ m. AllStand c.in_ok-order.order.vertices.items (members m) c.in_ok-order.order.upto) (sym e) c.in_ok-order.ensures.all;
+      order = subst (λ m. IsOrder c.args.game.now (members m) c.in_ok-order.order) (sym e) c.in_ok-order.ensures;
       placed = subst (λ fs. AllPlaced c.in_ok-order.order.vertices.items
           (map (level_at (members c.args.inside.now) (settled_of c.in_ok-settled.settled) c.in_ok-set_aside.set_aside.items) fs) fs)
           (sym c.in_ok-frames.ensures.items) tt;

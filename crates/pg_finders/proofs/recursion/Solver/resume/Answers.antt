@@ -1,15 +1,15 @@
 use Rattle.pg_finders.proofs.Common.{◌≡◌, ℕ, ◌<◌, ◌≤◌, length, take, sym, ◌∙◌, ap, subst, rules, IsNonDecreasingBy, Player, opponent, VertexSet, In}
-use Rattle.pg_finders.proofs.Common.{members, union, priority_of, Plan, listed, Once, SettledLists, settled_of, AreVertices, active_of, IsGrown}
+use Rattle.pg_finders.proofs.Common.{members, union, priority_of, Plan, listed, Once, SettledLists, settled_of, AreDistinct, AreVertices, active_of, IsGrown}
 use Rattle.pg_finders.proofs.Common.{AttractsNoActive, gone, count_at, level_at, AllPlaced}
 use Rattle.pg_finders.specs.private.recursion.Planned.{HasSize}
 use Rattle.pg_finders.proofs.Sets.{twice}
 use Rattle.pg_finders.proofs.Masks.{inside_mask}
-use Rattle.pg_finders.proofs.recursion.Listed.{all_below}
-use Rattle.pg_finders.proofs.recursion.Sharing.{gone_settled, gone_aside}
-use Rattle.pg_finders.proofs.recursion.Running.{placed_pop}
-use Rattle.pg_finders.proofs.recursion.UnderWay.{stop_fits}
-use Rattle.pg_finders.proofs.recursion.Leaving.{IsAtEnd, IsFinished, Retakes, at_end, reopened_apart, reopened_known, reopened_rest, resume_subgame}
-use Rattle.pg_finders.proofs.recursion.Leaving.{resume_inside, resume_finished}
+use Rattle.pg_finders.proofs.recursion.ListsAsSets.{all_below}
+use Rattle.pg_finders.proofs.recursion.SharedLists.{gone_settled, gone_aside}
+use Rattle.pg_finders.proofs.recursion.StepBounds.{placed_pop}
+use Rattle.pg_finders.proofs.recursion.LoopSteps.{stop_fits}
+use Rattle.pg_finders.proofs.recursion.FinishedSubgame.{IsAtEnd, IsFinished, Retakes, at_end, reopened_apart, reopened_known, reopened_rest, resume_subgame}
+use Rattle.pg_finders.proofs.recursion.FinishedSubgame.{resume_inside, resume_finished}
 use Rattle.pg_finders.proofs.recursion.Solver.resume.Goals as goal
 
 abbrev Start : Type 0
@@ -45,7 +45,7 @@ ended : (c : Reopened) → IsAtEnd c.args.game.now c.args.inside.now c.args.self
 ended c = at_end c.args.self.now.frames.items c.args.frame c.requires.running c.requires.done
 
 aside_is : (c : Reopened) → c.reopen.new.self.set_aside.items ≡ c.args.self.now.set_aside.items
-aside_is c = ap (λ a. a.items) c.reopen.ensures.set_aside
+aside_is c = ap (λ s. s.set_aside.items) c.reopen.ensures.same
 
 pub attract-requires-clause-ready : goal.attract-requires-clause-ready
 attract-requires-clause-ready c =
@@ -53,8 +53,8 @@ attract-requires-clause-ready c =
     record {
       sizes = record {
         active = r.length ∙ c.requires.running.sizes.active;
-        cursors = ap (λ w. length w.places.items) r.cursors ∙ c.requires.running.sizes.cursors;
-        plan = subst (HasSize (length c.args.game.now)) (sym r.plan) c.requires.running.sizes.plan;
+        cursors = ap (λ s. length s.subgame.cursors.places.items) r.same ∙ c.requires.running.sizes.cursors;
+        plan = subst (HasSize (length c.args.game.now)) (sym (ap (λ s. s.subgame.plan) r.same)) c.requires.running.sizes.plan;
       };
       once = subst Once (sym (same_lost c)) (c.requires.running.under_way.apart.settled_once (opponent c.args.frame.player));
       apart = λ v i. reopened_apart (ended c) (active_of c.reopen.new.self.subgame) r.active v (subst (λ xs. In (listed xs) v) (same_lost c) i);
@@ -62,7 +62,9 @@ attract-requires-clause-ready c =
 
 pub attract-requires-clause-known : goal.attract-requires-clause-known
 attract-requires-clause-known c =
-    let r = c.reopen.ensures in rw (c.other-other.ensures, r.plan, r.other) (reopened_known (ended c) (active_of c.reopen.new.self.subgame) r.active)
+    let r = c.reopen.ensures in
+    let plan : c.reopen.new.self.subgame.plan ≡ c.args.self.now.subgame.plan = ap (λ s. s.subgame.plan) r.same in
+    rw (c.other-other.ensures, plan, r.other) (reopened_known (ended c) (active_of c.reopen.new.self.subgame) r.active)
 
 pub attract-requires-clause-place : goal.attract-requires-clause-place
 attract-requires-clause-place c = rw (c.deref.ensures.value, aside_is c) (stop_fits c.args.self.now.frames.items c.args.frame c.requires.running.under_way).1
@@ -80,7 +82,9 @@ attract-requires-clause-at_most c =
     rw (c.deref.ensures.value, aside_is c, c.other-other.ensures, r.other) (reopened_rest (ended c) (active_of c.reopen.new.self.subgame) r.active)
 
 pub go_back-requires : goal.go_back-requires
-go_back-requires c = search (rules, c.reopen.ensures.order, placed_pop, c.requires.running.placed)
+go_back-requires c =
+    let order : c.reopen.new.self.order ≡ c.args.self.now.order = ap (λ s. s.order) c.reopen.ensures.same in
+    search (rules, order, placed_pop, c.requires.running.placed)
 
 abbrev After : Type 0
 After = goal.After-go_back
@@ -108,7 +112,7 @@ retakes c =
     let q : c.other-other.result ≡ lost c = c.other-other.ensures in
     record {
       some = c.requires.some;
-      grown = subst (λ plan. IsGrown g (lost c) (A c) plan (settled_of c.args.self.now.settled (lost c)) (C c) (retaken c) (now c (lost c))) r.plan
+      grown = subst (λ plan. IsGrown g (lost c) (A c) plan (settled_of c.args.self.now.settled (lost c)) (C c) (retaken c) (now c (lost c))) (ap (λ s. s.subgame.plan) r.same)
           (subst (λ xs. IsGrown g (lost c) (A c) c.reopen.new.self.subgame.plan xs (C c) (retaken c) (now c (lost c))) r.other
           (subst (λ p. IsGrown g p (A c) c.reopen.new.self.subgame.plan (settled_of c.reopen.new.self.settled p) (C c) (retaken c) (now c p)) q h.grown));
       done = subst (λ xs. AttractsNoActive g (lost c) (union (A c) (listed xs)) (listed (now c (lost c))) (C c)) r.other
@@ -125,13 +129,13 @@ finished : (c : After) → IsFinished c.args.game.now c.args.inside.now c.args.s
 finished c = resume_finished (over c) (A c) c.reopen.ensures.active (retakes c)
 
 vertices_are : (c : After) → c.go_back.new.self.vertices.items ≡ c.args.self.now.order.vertices.items
-vertices_are c = c.go_back.ensures.vertices ∙ ap (λ o. o.vertices.items) c.reopen.ensures.order
+vertices_are c = c.go_back.ensures.vertices ∙ ap (λ s. s.order.vertices.items) c.reopen.ensures.same
 
 stops_are : (c : After) → c.reopen.new.self.frames.items ≡ c.args.self.now.frames.items
-stops_are c = ap (λ s. s.items) c.reopen.ensures.frames
+stops_are c = ap (λ s. s.frames.items) c.reopen.ensures.same
 
 set_aside : (c : After) → c.truncate.new.self.items ≡ take c.args.frame.set_aside c.args.self.now.set_aside.items
-set_aside c = c.truncate.ensures.items ∙ ap (λ a. take c.args.frame.set_aside a.items) c.reopen.ensures.set_aside
+set_aside c = c.truncate.ensures.items ∙ ap (λ s. take c.args.frame.set_aside s.set_aside.items) c.reopen.ensures.same
 
 pub returns-clause-running : goal.returns-clause-running
 returns-clause-running c =
@@ -141,15 +145,16 @@ returns-clause-running c =
     placed_pop x.order.vertices.items (level_at (members c.args.inside.now) (settled_of x.settled) x.set_aside.items) x.frames.items c.args.frame was.placed in
     record {
       inside_length = was.inside_length;
-      whole = c.reopen.ensures.size ∙ was.whole;
+      whole = ap (λ s. s.size) c.reopen.ensures.same ∙ was.whole;
       sizes = c.in_ok-attract.ensures.ready.sizes;
       subgame = resume_subgame (over c) (A c) c.reopen.ensures.active (retakes c);
       order = record {
         right = subst (AreVertices c.args.game.now) (sym (vertices_are c)) was.order.right;
         rising = subst (IsNonDecreasingBy (priority_of c.args.game.now)) (sym (vertices_are c)) was.order.rising;
+        distinct = subst AreDistinct (sym (vertices_are c)) was.order.distinct;
         upto = rw (c.go_back.ensures.upto, vertices_are c) popped.2;
+        stand = rw (c.go_back.ensures.upto, vertices_are c) (λ v i. popped.1 v (resume_inside (over c) (A c) c.reopen.ensures.active (retakes c) v i));
       };
-      stand = rw (c.go_back.ensures.upto, vertices_are c) (λ v i. popped.1 v (resume_inside (over c) (A c) c.reopen.ensures.active (retakes c) v i));
       placed = rw (stops_are c, set_aside c, vertices_are c) (subst (λ ls. AllPlaced x.order.vertices.items ls x.frames.items) (sym (finished c).kept)
           popped.0);
       under_way = rw (stops_are c, set_aside c) (finished c).under_way;

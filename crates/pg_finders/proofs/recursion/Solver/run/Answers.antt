@@ -1,5 +1,5 @@
 use Rattle.pg_finders.proofs.Common.{◌≡◌, [], arith, nil_from_length}
-use Rattle.pg_finders.proofs.recursion.UnderWay.{under_way_done}
+use Rattle.pg_finders.proofs.recursion.LoopSteps.{under_way_done}
 use Rattle.pg_finders.proofs.recursion.Solver.run.Goals as goal
 
 pub returns-clause-solved : goal.returns-clause-solved

@@ -1,7 +1,7 @@
 use Rattle.pg_finders.proofs.Common.{◌≡◌, ◌++◌, drop, sym, ◌∙◌, ap, subst, rules, members, settled_of, active_of, level_at, AllPlaced}
-use Rattle.pg_finders.proofs.recursion.Running.{placed_pop}
-use Rattle.pg_finders.proofs.recursion.UnderWay.{stop_fits}
-use Rattle.pg_finders.proofs.recursion.Leaving.{IsFinished, at_end, settle_finished}
+use Rattle.pg_finders.proofs.recursion.StepBounds.{placed_pop}
+use Rattle.pg_finders.proofs.recursion.LoopSteps.{stop_fits}
+use Rattle.pg_finders.proofs.recursion.FinishedSubgame.{IsFinished, at_end, settle_finished}
 use Rattle.pg_finders.proofs.recursion.Solver.settle.Goals as goal
 
 pub append_from-requires : goal.append_from-requires
@@ -28,7 +28,6 @@ returns-clause-running c =
       sizes = c.requires.running.sizes;
       subgame = c.requires.running.subgame;
       order = c.requires.running.order;
-      stand = c.requires.running.stand;
       placed = rw c.truncate.ensures.items (subst (λ ls. AllPlaced x.order.vertices.items ls x.frames.items) (sym (finished c).kept)
           (placed_pop x.order.vertices.items (level_at (members c.args.inside.now)
           (settled_of x.settled) x.set_aside.items) x.frames.items c.args.frame c.requires.running.placed).0);

@@ -3,12 +3,12 @@ use Rattle.pg_game.proofs.Common.{refl, ◌==◌, Contains, AllByRecursion, list
 use Rattle.pg_game.proofs.Common.{IsDistinct-IsPermutation, IsDistinct-cons}
 use Rattle.std.proofs.lemmas.Map.Keys.{IsStrictlyIncreasing-from_distinct, IsDistinct-head, IsDistinct-tail}
 use Rattle.pg_game.proofs.Members.{Contains-nil, Contains-head, Contains-tail, Contains-cons}
-use Rattle.pg_game.proofs.Laid.{none_repeated}
+use Rattle.pg_game.proofs.builder.GamesInOrder.{none_repeated}
 use Rattle.pg_game.proofs.NoMemory.{passed_on}
-use Rattle.pg_game.proofs.Taken.{ids_is}
+use Rattle.pg_game.proofs.SpecificationLists.{ids_is}
 use Rattle.std.proofs.lemmas.Bool.{or_from}
 use Rattle.std.proofs.lemmas.List.Elements.{recursion_from_All}
-use Rattle.pg_game.proofs.Seen.{eqb_flip}
+use Rattle.pg_game.proofs.identifiers.FirstRepeated.{eqb_flip}
 use Rattle.pg_game.proofs.Sound.{none_or}
 use Rattle.pg_game.proofs.builder.GameBuilder.check_distinct.Goals as goal
 

@@ -1,6 +1,6 @@
 use Rattle.pg_game.proofs.Common.{rules}
 use Rattle.pg_game.proofs.Common.{length-map, length_permutation}
-use Rattle.pg_game.proofs.Ordered.{named_moves, named_rise}
+use Rattle.pg_game.proofs.builder.PickedSpecifications.{named_moves, named_rise}
 use Rattle.pg_game.proofs.builder.GameBuilder.distinct_identifiers.Goals as goal
 
 pub check_distinct-requires-clause-moved : goal.check_distinct-requires-clause-moved

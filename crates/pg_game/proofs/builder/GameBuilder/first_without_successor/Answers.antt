@@ -2,7 +2,7 @@ use Rattle.pg_game.proofs.Common.{rules}
 use Rattle.pg_game.proofs.Common.{◌≡◌, ◌<◌, true, false, [], length, get_or, sym, ◌∙◌, arith, get_or_read, drop_of_length-le}
 use Rattle.pg_game.specs.Specification.{is_empty}
 use Rattle.pg_game.proofs.Sound.{without_here, without_later, empty_is}
-use Rattle.pg_game.proofs.Taken.{length_is, spec_is, spec_in}
+use Rattle.pg_game.proofs.SpecificationLists.{length_is, spec_is, spec_in}
 use Rattle.pg_game.proofs.builder.GameBuilder.first_without_successor.Goals as goal
 
 pub overflow_cast-v-end : goal.overflow_cast-v-end

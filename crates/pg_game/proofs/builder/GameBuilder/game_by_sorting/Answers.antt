@@ -1,9 +1,9 @@
 use Rattle.pg_game.proofs.Common.{rules}
 use Rattle.pg_game.proofs.Common.{◌≡◌, ◌∙◌, arith}
 use Rattle.pg_game.proofs.Common.{Spec, first_fault, rows_fault, length-map}
-use Rattle.pg_game.proofs.Made.{no_spec}
-use Rattle.pg_game.proofs.Laid.{resolved_stored, resolved_game}
-use Rattle.pg_game.proofs.Ordered.{named_moves, lines_fit, specs_move, picked_ids, picked_resolved}
+use Rattle.pg_game.proofs.builder.GamesWithoutFault.{no_spec}
+use Rattle.pg_game.proofs.builder.GamesInOrder.{resolved_stored, resolved_game}
+use Rattle.pg_game.proofs.builder.PickedSpecifications.{named_moves, lines_fit, specs_move, picked_ids, picked_resolved}
 use Rattle.pg_game.proofs.Sound.{listed_fault}
 use Rattle.pg_game.proofs.builder.GameBuilder.game_by_sorting.Goals as goal
 

@@ -2,9 +2,9 @@ use Rattle.pg_game.proofs.Common.{◌≡◌, List, [], ◌<◌, length, refl, sy
 use Rattle.pg_game.proofs.Common.{ids_of, first_fault, rows_fault, Spec, max_vertices, ◌≤◌}
 use Rattle.pg_game.proofs.Members.{Contains-nil}
 use Rattle.pg_game.proofs.NoMemory.{passed_on}
-use Rattle.pg_game.proofs.Laid.{none_repeated, resolved_stored, resolved_game}
+use Rattle.pg_game.proofs.builder.GamesInOrder.{none_repeated, resolved_stored, resolved_game}
 use Rattle.pg_game.proofs.Sound.{listed_fault}
-use Rattle.pg_game.proofs.Taken.{ids_is}
+use Rattle.pg_game.proofs.SpecificationLists.{ids_is}
 use Rattle.pg_game.proofs.builder.GameBuilder.game_in_order.Goals as goal
 
 listed : (specs : List Spec) (few : length specs ≤ max_vertices) → 0 < length specs → IsStrictlyIncreasing (ids_of specs) → first_fault specs ≡ rows_fault specs

@@ -1,7 +1,7 @@
 use Rattle.pg_game.proofs.Common.{rules, ◌<◌, length, sym, ap, arith, different, drop_of_length-le, refl, ◌≡◌, ℕ, ◌+◌, ◌≤◌, List, [], ◌∷◌, drop, get_or, ◌∙◌}
 use Rattle.pg_game.proofs.Common.{drop_more, sum_by-cons, Spec, edges, size_of, successor_lists}
 use Rattle.pg_game.proofs.Different.{different_is, different_most}
-use Rattle.pg_game.proofs.Taken.{length_is, lists_is, spec_is, spec_in}
+use Rattle.pg_game.proofs.SpecificationLists.{length_is, lists_is, spec_is, spec_in}
 use Rattle.pg_game.proofs.builder.GameBuilder.has_too_many_edges.Goals as goal
 
 edges_more : (specs : List Spec) (k : ℕ) (s : Spec) → k < length specs → s ≡ get_or specs k s →

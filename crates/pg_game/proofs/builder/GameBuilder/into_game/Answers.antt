@@ -1,5 +1,5 @@
 use Rattle.pg_game.proofs.Common.{refl}
-use Rattle.pg_game.proofs.Taken.{priorities_is, owners_is, lists_is}
+use Rattle.pg_game.proofs.SpecificationLists.{priorities_is, owners_is, lists_is}
 use Rattle.pg_game.proofs.builder.GameBuilder.into_game.Goals as goal
 
 pub invariant_of-result : goal.invariant_of-result

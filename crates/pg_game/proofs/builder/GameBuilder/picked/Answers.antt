@@ -1,7 +1,7 @@
 use Rattle.pg_game.proofs.Common.{rules}
 use Rattle.pg_game.proofs.Common.{◌≡◌, ℕ, ◌<◌, [], ◌∷◌, ◌++◌, List, length, take, map, get_or, sym, ◌∙◌, ap, arith, get_or_read, take_all, take_more, map_push}
 use Rattle.pg_game.proofs.Common.{Even, Spec, specs_from}
-use Rattle.pg_game.proofs.Taken.{place_within, spec_at, spec_of}
+use Rattle.pg_game.proofs.SpecificationLists.{place_within, spec_at, spec_of}
 use Rattle.pg_game.proofs.builder.GameBuilder.picked.Goals as goal
 
 pub row-row-requires : goal.row-row-requires

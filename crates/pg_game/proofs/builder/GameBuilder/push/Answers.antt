@@ -1,5 +1,5 @@
 use Rattle.pg_game.proofs.Common.{rules}
-use Rattle.pg_game.proofs.Pushed.{specs_more}
+use Rattle.pg_game.proofs.builder.PushedParts.{specs_more}
 use Rattle.pg_game.proofs.builder.GameBuilder.push.Goals as goal
 
 pub returns-clause-pushed : goal.returns-clause-pushed

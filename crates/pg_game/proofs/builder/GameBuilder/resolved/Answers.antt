@@ -3,12 +3,12 @@ use Rattle.pg_game.proofs.Common.{Some, Contains, IsPermutation, IsPermutation-s
 use Rattle.pg_game.proofs.Common.{ids_of, first_outside, Bool, false, cases_lt, first_unspecified, first_unknown, AreParts, AreNamed, AreResolvedSpecs, row_at}
 use Rattle.pg_game.proofs.Common.{specs_from}
 use Rattle.pg_game.proofs.Sound.{unknown_named, rows_sound, none_unknown}
-use Rattle.pg_game.proofs.Taken.{length_is}
+use Rattle.pg_game.proofs.SpecificationLists.{length_is}
 use Rattle.std.specs.Prelude.{IsTrue}
-use Rattle.pg_game.proofs.Unknown.{to_specified, outside_is, unknown_here, unknown_before}
-use Rattle.pg_game.proofs.Naming.{all_places}
+use Rattle.pg_game.proofs.builder.FirstUnknown.{to_specified, outside_is, unknown_here, unknown_before}
+use Rattle.pg_game.proofs.adjacency.NamedRanges.{all_places}
 use Rattle.pg_game.proofs.builder.GameBuilder.resolved.Goals as goal
-use Rattle.pg_game.proofs.Taken as taken
+use Rattle.pg_game.proofs.SpecificationLists as taken
 
 module _ {ids ps : List ℕ} {os : List Player} {rows : List (List ℕ)} (a : AreParts ids ps os rows) {ss : List Spec} (is : specs_from ids ps os rows ≡ ss)
     {identifiers : List ℕ} (moved : IsPermutation (ids_of ss) identifiers) where

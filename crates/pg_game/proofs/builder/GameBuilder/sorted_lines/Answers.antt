@@ -1,6 +1,6 @@
 use Rattle.pg_game.proofs.Common.{◌≡◌, ℕ, rules}
 use Rattle.std.proofs.lemmas.List.Sorted.{IsNonDecreasingBy-from_sort_by_key}
-use Rattle.pg_game.proofs.Taken.{length_is, ids_is}
+use Rattle.pg_game.proofs.SpecificationLists.{length_is, ids_is}
 use Rattle.pg_game.proofs.builder.GameBuilder.sorted_lines.Goals as goal
 
 pub numbered-requires : goal.numbered-requires

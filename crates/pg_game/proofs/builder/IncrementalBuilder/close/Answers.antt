@@ -1,5 +1,5 @@
 use Rattle.pg_game.proofs.Common.{◌≡◌, ◌++◌, ◌∷◌, [], length, drop, ap, ◌∙◌, arith, ℕ, ◌+◌, List, take, sym, length-append, take-length, rows_of, IsCompressed}
-use Rattle.pg_game.proofs.Pushed.{specs_more, parts_more}
+use Rattle.pg_game.proofs.builder.PushedParts.{specs_more, parts_more}
 use Rattle.std.proofs.lemmas.List.{take-append-drop}
 use Rattle.pg_game.specs.Opened.{whole_rows}
 use Rattle.pg_game.proofs.Rows.{rows_of-push, IsCompressed-push}

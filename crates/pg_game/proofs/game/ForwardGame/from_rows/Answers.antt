@@ -1,7 +1,7 @@
 use Rattle.pg_game.proofs.Common.{rules}
 use Rattle.pg_game.proofs.Common.{arith}
 use Rattle.pg_game.proofs.Sound.{many_fault, some_of}
-use Rattle.pg_game.proofs.Taken.{length_is, ids_is}
+use Rattle.pg_game.proofs.SpecificationLists.{length_is, ids_is}
 use Rattle.pg_game.proofs.game.ForwardGame.from_rows.Goals as goal
 
 pub returns-then-len-gt-MAX_VERTICES-clause-fault : goal.returns-then-len-gt-MAX_VERTICES-clause-fault

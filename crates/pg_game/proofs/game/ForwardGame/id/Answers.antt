@@ -1,5 +1,5 @@
 use Rattle.pg_game.proofs.Common.{sym, ◌∙◌, arith}
-use Rattle.pg_game.proofs.Parts.{length_is, id_is}
+use Rattle.pg_game.proofs.game.Parts.{length_is, id_is}
 use Rattle.pg_game.proofs.game.ForwardGame.id.Goals as goal
 
 pub id-requires : goal.id-requires

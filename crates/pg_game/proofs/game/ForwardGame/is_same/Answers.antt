@@ -1,6 +1,6 @@
 use Rattle.pg_game.proofs.Common.{rules, ◌≡◌, true, false, refl, sym, ◌∙◌, graph_of}
 use Rattle.std.specs.Prelude.{nat_eq}
-use Rattle.pg_game.proofs.Equal.{same_parts, number_decides, player_decides, differ, agree}
+use Rattle.pg_game.proofs.game.Equality.{same_parts, number_decides, player_decides, differ, agree}
 use Rattle.pg_game.proofs.game.ForwardGame.is_same.Goals as goal
 
 pub returns-then-not-is_same : goal.returns-then-not-is_same

@@ -1,5 +1,5 @@
 use Rattle.pg_game.proofs.Common.{arith}
-use Rattle.pg_game.proofs.Parts.{length_is}
+use Rattle.pg_game.proofs.game.Parts.{length_is}
 use Rattle.pg_game.proofs.game.ForwardGame.len.Goals as goal
 
 pub returns-clause-number : goal.returns-clause-number

@@ -1,5 +1,5 @@
 use Rattle.pg_game.proofs.Common.{◌<◌, length, sym, ◌∙◌, arith, get_or_read, Even}
-use Rattle.pg_game.proofs.Parts.{length_is, owner_is}
+use Rattle.pg_game.proofs.game.Parts.{length_is, owner_is}
 use Rattle.pg_game.proofs.game.ForwardGame.owner.Goals as goal
 
 pub index-requires : goal.index-requires

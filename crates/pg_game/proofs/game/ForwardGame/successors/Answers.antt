@@ -1,6 +1,6 @@
 use Rattle.pg_game.proofs.Common.{ℕ, List, length, ap, sym, ◌∙◌, subst, arith, Graph, IsGame, IsWithinLimits, successors_of}
 use Rattle.pg_game.proofs.Different.{rising_most}
-use Rattle.pg_game.proofs.Parts.{length_is, successors_are}
+use Rattle.pg_game.proofs.game.Parts.{length_is, successors_are}
 use Rattle.pg_game.proofs.game.ForwardGame.successors.Goals as goal
 
 pub row-requires : goal.row-requires

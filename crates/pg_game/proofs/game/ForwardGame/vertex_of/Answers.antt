@@ -1,5 +1,5 @@
 use Rattle.pg_game.proofs.Common.{rules}
-use Rattle.pg_game.proofs.Parts.{length_is, id_is}
+use Rattle.pg_game.proofs.game.Parts.{length_is, id_is}
 use Rattle.pg_game.proofs.game.ForwardGame.vertex_of.Goals as goal
 
 pub returns-clause-found : goal.returns-clause-found

@@ -1,6 +1,6 @@
 use Rattle.pg_game.proofs.Common.{rules, subst, Graph, HasPredecessors, ◌≡◌, ℕ, ◌<◌, List, length, get_or, refl, ◌∙◌, sym, arith, Contains-get_or, Player}
 use Rattle.pg_game.proofs.Common.{IsGame, AreSuccessors, ArePredecessors, row_at, AreRisingRows, AreSources, graph_of, AreParts, IsStored}
-use Rattle.pg_game.proofs.Parts.{length_is, successors_are}
+use Rattle.pg_game.proofs.game.Parts.{length_is, successors_are}
 use Rattle.pg_game.proofs.Gathered.{begins}
 use Rattle.pg_game.proofs.game.Game.of_forward.Goals as goal
 

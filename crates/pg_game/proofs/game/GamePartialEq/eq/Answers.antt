@@ -1,5 +1,5 @@
 use Rattle.std.specs.Bool.{one_answer}
-use Rattle.pg_game.proofs.Equal.{graphs_decide}
+use Rattle.pg_game.proofs.game.Equality.{graphs_decide}
 use Rattle.pg_game.proofs.game.GamePartialEq.eq.Goals as goal
 
 pub returns-clause-test : goal.returns-clause-test

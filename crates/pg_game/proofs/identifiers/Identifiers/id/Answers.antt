@@ -1,5 +1,5 @@
 use Rattle.pg_game.proofs.Common.{rules}
-use Rattle.pg_game.proofs.OwnPlaces.{own_length, own_at}
+use Rattle.pg_game.proofs.identifiers.OwnPlaces.{own_length, own_at}
 use Rattle.pg_game.proofs.identifiers.Identifiers.id.Goals as goal
 
 pub returns-in-Own : goal.returns-in-Own

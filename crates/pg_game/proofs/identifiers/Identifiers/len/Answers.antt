@@ -1,5 +1,5 @@
 use Rattle.pg_game.proofs.Common.{sym}
-use Rattle.pg_game.proofs.OwnPlaces.{own_length}
+use Rattle.pg_game.proofs.identifiers.OwnPlaces.{own_length}
 use Rattle.pg_game.proofs.identifiers.Identifiers.len.Goals as goal
 
 pub returns-in-Own : goal.returns-in-Own

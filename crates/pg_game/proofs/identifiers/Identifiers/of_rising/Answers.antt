@@ -1,6 +1,6 @@
 use Rattle.pg_game.proofs.Common.{rules}
-use Rattle.pg_game.proofs.OwnPlaces.{own_are}
-use Rattle.pg_game.proofs.Laid.{none_repeated}
+use Rattle.pg_game.proofs.identifiers.OwnPlaces.{own_are}
+use Rattle.pg_game.proofs.builder.GamesInOrder.{none_repeated}
 use Rattle.pg_game.proofs.NoMemory.{passed_on, only_memory}
 use Rattle.pg_game.proofs.identifiers.Identifiers.of_rising.Goals as goal
 

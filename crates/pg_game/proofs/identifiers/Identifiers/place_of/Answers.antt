@@ -1,6 +1,6 @@
 use Rattle.pg_game.proofs.Common.{rules}
-use Rattle.pg_game.proofs.Places.{stood}
-use Rattle.pg_game.proofs.OwnPlaces.{own_length, own_at}
+use Rattle.pg_game.proofs.identifiers.Places.{stood}
+use Rattle.pg_game.proofs.identifiers.OwnPlaces.{own_length, own_at}
 use Rattle.pg_game.proofs.identifiers.Identifiers.place_of.Goals as goal
 
 pub returns-then-id-count-clause-found : goal.returns-then-id-count-clause-found

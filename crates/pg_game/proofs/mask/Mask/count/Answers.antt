@@ -3,7 +3,7 @@ use Rattle.pg_game.proofs.Common.{◌+◌, ◌≤◌, sym, arith}
 use Rattle.std.proofs.Common.{◌*◌}
 use Rattle.pg_game.specs.Bits.{bits_of}
 use Rattle.pg_game.specs.VertexSet.{how_many}
-use Rattle.pg_game.proofs.Bits.{opened, none_counted, word_more, at_most, all_counted}
+use Rattle.pg_game.proofs.mask.Bits.{opened, none_counted, word_more, at_most, all_counted}
 use Rattle.pg_game.proofs.mask.Mask.count.Goals as goal
 
 pub words-init : goal.words-init

@@ -1,5 +1,5 @@
 use Rattle.pg_game.proofs.Common.{rules}
-use Rattle.pg_game.proofs.Bits.{closed, fit-none, bits_of_none}
+use Rattle.pg_game.proofs.mask.Bits.{closed, fit-none, bits_of_none}
 use Rattle.pg_game.proofs.mask.Mask.empty.Goals as goal
 
 pub invariant_of-result : goal.invariant_of-result

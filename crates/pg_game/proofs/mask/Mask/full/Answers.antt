@@ -1,5 +1,5 @@
 use Rattle.pg_game.proofs.Common.{ap}
-use Rattle.pg_game.proofs.Bits.{closed, AreFull, full_with_rest, full_words, fit-full, bits_of_full}
+use Rattle.pg_game.proofs.mask.Bits.{closed, AreFull, full_with_rest, full_words, fit-full, bits_of_full}
 use Rattle.pg_game.proofs.mask.Mask.full.Goals as goal
 use Rattle.pg_game.proofs.mask.Mask.full.Goals.{then-rest-gt0, else-rest-gt0}
 

@@ -1,7 +1,7 @@
 use Rattle.pg_game.proofs.Common.{rules}
 use Rattle.std.proofs.lemmas.Nat.Bits.{shr_and_one}
 use Rattle.pg_game.proofs.Common.{arith, get_or_read}
-use Rattle.pg_game.proofs.Bits.{opened, below, get_or-bits_of}
+use Rattle.pg_game.proofs.mask.Bits.{opened, below, get_or-bits_of}
 use Rattle.pg_game.proofs.mask.Mask.has.Goals as goal
 
 pub index-requires : goal.index-requires

@@ -1,7 +1,7 @@
 use Rattle.pg_game.proofs.Common.{rules}
 use Rattle.pg_game.proofs.Common.{arith, get_or_read}
 use Rattle.std.proofs.Common.{◌/◌}
-use Rattle.pg_game.proofs.Bits.{opened, closed, below, inserted}
+use Rattle.pg_game.proofs.mask.Bits.{opened, closed, below, inserted}
 use Rattle.pg_game.proofs.mask.Mask.insert.Goals as goal
 
 pub index_mut-requires : goal.index_mut-requires

@@ -1,5 +1,5 @@
 use Rattle.pg_game.proofs.Common.{rules}
-use Rattle.pg_game.proofs.Bits.{opened, member_in, no_member}
+use Rattle.pg_game.proofs.mask.Bits.{opened, member_in, no_member}
 use Rattle.pg_game.proofs.mask.Mask.is_empty.Goals as goal
 
 pub returns-then-word-ne0-clause-not_empty : goal.returns-then-word-ne0-clause-not_empty

@@ -1,5 +1,5 @@
 use Rattle.pg_game.proofs.Common.{length, sym, ap, ◌∙◌}
-use Rattle.pg_game.proofs.Bits.{length-bits_of}
+use Rattle.pg_game.proofs.mask.Bits.{length-bits_of}
 use Rattle.pg_game.proofs.mask.Mask.len.Goals as goal
 
 pub returns : goal.returns

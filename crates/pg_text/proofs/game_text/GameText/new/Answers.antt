@@ -1,5 +1,5 @@
 use Rattle.pg_text.proofs.Common.{refl}
-use Rattle.pg_text.proofs.GameReads.{reads_none}
+use Rattle.pg_text.proofs.game_text.TokenSteps.{reads_none}
 use Rattle.pg_text.proofs.game_text.GameText.new.Goals as goal
 
 pub returns : goal.returns

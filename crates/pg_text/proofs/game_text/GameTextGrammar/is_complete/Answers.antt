@@ -1,4 +1,4 @@
-use Rattle.pg_text.proofs.GameReads.{complete, not_complete}
+use Rattle.pg_text.proofs.game_text.TokenSteps.{complete, not_complete}
 use Rattle.pg_text.proofs.game_text.GameTextGrammar.is_complete.Goals as goal
 
 pub returns-in-Ready : goal.returns-in-Ready

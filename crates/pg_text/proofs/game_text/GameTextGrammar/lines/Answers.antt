@@ -1,5 +1,5 @@
 use Rattle.pg_text.proofs.Common.{refl}
-use Rattle.pg_text.proofs.GameReads.{says}
+use Rattle.pg_text.proofs.game_text.TokenSteps.{says}
 use Rattle.pg_text.proofs.game_text.GameTextGrammar.lines.Goals as goal
 
 pub returns : goal.returns

@@ -1,8 +1,8 @@
 use Rattle.pg_text.proofs.Common.{rules, refl, sym, ap, ◌∙◌}
 use Rattle.pg_text.specs.declared.reader.State.TheVariants as state
 use Rattle.pg_text.specs.private.Tables.{game_table}
-use Rattle.pg_text.proofs.Machine.{entered}
-use Rattle.pg_text.proofs.GameReads.{on, one_line, stops, other_symbol, before_owner}
+use Rattle.pg_text.proofs.reader.Machine.{entered}
+use Rattle.pg_text.proofs.game_text.TokenSteps.{on, one_line, stops, other_symbol, before_owner}
 use Rattle.pg_text.proofs.game_text.GameTextGrammar.take.Goals as goal
 
 pub returns-in-Number-Start : goal.returns-in-Number-Start

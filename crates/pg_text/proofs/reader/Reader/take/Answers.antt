@@ -1,6 +1,6 @@
 use Rattle.pg_text.proofs.Common.{rules}
 use Rattle.pg_text.proofs.FirstFaults.{is_taken}
-use Rattle.pg_text.proofs.Parsing.{token_kept}
+use Rattle.pg_text.proofs.reader.TokenSteps.{token_kept}
 use Rattle.pg_text.proofs.reader.Reader.take.Goals as goal
 
 pub returns-in-Some : goal.returns-in-Some

@@ -1,5 +1,5 @@
 use Rattle.pg_text.proofs.Common.{ap, map, line_of, refl}
-use Rattle.pg_text.proofs.SolutionReads.{reads_none}
+use Rattle.pg_text.proofs.solution_text.TokenSteps.{reads_none}
 use Rattle.pg_text.proofs.solution_text.SolutionText.new.Goals as goal
 
 pub returns : goal.returns

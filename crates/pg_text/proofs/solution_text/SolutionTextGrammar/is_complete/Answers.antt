@@ -1,5 +1,5 @@
 use Rattle.pg_text.proofs.Common.{rules}
-use Rattle.pg_text.proofs.SolutionReads.{complete, not_complete}
+use Rattle.pg_text.proofs.solution_text.TokenSteps.{complete, not_complete}
 use Rattle.pg_text.proofs.solution_text.SolutionTextGrammar.is_complete.Goals as goal
 
 pub returns-in-Start : goal.returns-in-Start

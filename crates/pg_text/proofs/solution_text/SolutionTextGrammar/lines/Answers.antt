@@ -1,5 +1,5 @@
 use Rattle.pg_text.proofs.Common.{refl}
-use Rattle.pg_text.proofs.SolutionReads.{says, are_winners}
+use Rattle.pg_text.proofs.solution_text.TokenSteps.{says, are_winners}
 use Rattle.pg_text.proofs.solution_text.SolutionTextGrammar.lines.Goals as goal
 
 pub returns : goal.returns

@@ -2,8 +2,8 @@ use Rattle.pg_text.proofs.Common.{rules, refl, sym, ap, subst, map-append, digit
 use Rattle.pg_text.specs.declared.reader.State.TheVariants as state
 use Rattle.pg_text.specs.private.SolutionReads.{AreWinners}
 use Rattle.pg_text.specs.private.Tables.{solution_table}
-use Rattle.pg_text.proofs.Machine.{entered}
-use Rattle.pg_text.proofs.SolutionReads.{on, winner_is, stops, other_symbol, before_winner, are_winners}
+use Rattle.pg_text.proofs.reader.Machine.{entered}
+use Rattle.pg_text.proofs.solution_text.TokenSteps.{on, winner_is, stops, other_symbol, before_winner, are_winners}
 use Rattle.pg_text.proofs.solution_text.SolutionTextGrammar.take.Goals as goal
 
 pub returns-in-Number-Start : goal.returns-in-Number-Start

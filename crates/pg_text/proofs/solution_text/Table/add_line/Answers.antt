@@ -1,5 +1,5 @@
 use Rattle.pg_text.proofs.Common.{ℕ, refl, sym, subst, Option, Some, None, line_of}
-use Rattle.pg_text.proofs.SolutionTable.{IsChoice, row_is, at_home}
+use Rattle.pg_text.proofs.solution_text.VertexTable.{IsChoice, row_is, at_home}
 use Rattle.pg_text.proofs.solution_text.Table.add_line.Goals.{in-Some+in_ok-look_up-in-Some, in-None}
 use Rattle.pg_text.proofs.solution_text.Table.add_line.Goals as goal
 

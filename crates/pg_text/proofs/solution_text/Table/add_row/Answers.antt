@@ -1,6 +1,6 @@
 use Rattle.pg_text.proofs.Common.{◌≡◌, ℕ, true, false, ◌∷◌, ◌++◌, [], set, refl, sym, ◌∙◌, ap, subst, Option, Some, None, option_or, row_of_line, HoldsLines}
 use Rattle.std.specs.Option.{is_some}
-use Rattle.pg_text.proofs.SolutionTable.{holds_again, holds_more}
+use Rattle.pg_text.proofs.solution_text.VertexTable.{holds_again, holds_more}
 use Rattle.pg_text.proofs.solution_text.Table.add_row.Goals as goal
 
 nothing : (o : Option ℕ) (x : ℕ) → is_some o ≡ false → option_or o (Some x) ≡ Some x

@@ -1,6 +1,6 @@
 use Rattle.std.proofs.lemmas.Grind.{common_steps}
 use Rattle.pg_text.proofs.Common.{◌≡◌, rules, sym, subst, arith, None, AreKnownLinesOf}
-use Rattle.pg_text.proofs.KnownLines.{say_known}
+use Rattle.pg_text.proofs.solution_text.KnownLines.{say_known}
 use Rattle.pg_text.proofs.solution_text.Table.into_known.Goals as goal
 
 pub returns : goal.returns

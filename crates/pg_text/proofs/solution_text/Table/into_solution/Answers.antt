@@ -1,5 +1,5 @@
 use Rattle.pg_text.proofs.Common.{rules}
-use Rattle.pg_text.proofs.SolutionTable.{is_missing, say_rows}
+use Rattle.pg_text.proofs.solution_text.VertexTable.{is_missing, say_rows}
 use Rattle.pg_text.proofs.solution_text.Table.into_solution.Goals as goal
 
 pub returns-then-not-has : goal.returns-then-not-has

@@ -1,8 +1,8 @@
 use Rattle.pg_workers.proofs.Common.{◌≡◌, ℕ, ◌<◌, List, [], ◌∷◌, ◌++◌, All, length, sym, ap, ◌∙◌, subst, arith, length-append, append_assoc, append-nil, cond}
 use Rattle.pg_workers.proofs.Common.{if◌then◌else◌, flat_map, into_iter_items, nil_from_length, sum_by_push, sum_by-cons, HeldTicket, AreDrawn}
 use Rattle.pg_workers.specs.declared.jobs.Drawn.{Drawn}
-use Rattle.pg_workers.proofs.Moves.{joins, knows_all}
-use Rattle.pg_workers.proofs.Closing.{remade, all_here, flat_map-push, listed-push, drawn_by_all}
+use Rattle.pg_workers.proofs.jobs.WordSteps.{joins, knows_all}
+use Rattle.pg_workers.proofs.jobs.DrawnNumbers.{remade, all_here, flat_map-push, listed-push, drawn_by_all}
 use Rattle.pg_workers.proofs.jobs.Jobs.close.Goals as goal
 
 -- the ticket and the first one are of these jobs

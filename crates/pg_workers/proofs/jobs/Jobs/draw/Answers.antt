@@ -1,5 +1,5 @@
 use Rattle.pg_workers.proofs.Common.{◌+◌, ◌<◌, ◌^◌, Bool, sym, ap, ◌∙◌, arith, if◌then◌else◌, none, step}
-use Rattle.pg_workers.proofs.Moves.{draws}
+use Rattle.pg_workers.proofs.jobs.WordSteps.{draws}
 use Rattle.pg_workers.proofs.jobs.Jobs.draw.Goals as goal
 
 pub fetch_add-found-requires : goal.fetch_add-found-requires

@@ -1,5 +1,5 @@
 use Rattle.pg_workers.proofs.Common.{ap, arith}
-use Rattle.pg_workers.proofs.Moves.{splits}
+use Rattle.pg_workers.proofs.jobs.WordSteps.{splits}
 use Rattle.pg_workers.proofs.jobs.Jobs.open.Goals as goal
 
 pub split_seat-seat-requires : goal.split_seat-seat-requires

@@ -1,5 +1,5 @@
 use Rattle.pg_workers.proofs.Common.{rules, arith}
-use Rattle.pg_workers.proofs.Noting.{fits, noted_counts}
+use Rattle.pg_workers.proofs.worker.NotedAnswers.{fits, noted_counts}
 use Rattle.pg_workers.proofs.worker.Task.post.Goals as goal
 
 pub note-requires-clause-settled : goal.note-requires-clause-settled

@@ -1,6 +1,6 @@
 use Rattle.pg_workers.proofs.Common.{◌≡◌, ◌∙◌, ◌∷◌, ◌++◌, [], length-append, append_assoc, sym, ap, subst, arith, into_iter_items}
 use Rattle.pg_workers.proofs.Common.{ReportRow, AreNoted, answered}
-use Rattle.pg_workers.proofs.Noting.{noted_few, noted_one, noted_same, one_noted}
+use Rattle.pg_workers.proofs.worker.NotedAnswers.{noted_few, noted_one, noted_same, one_noted}
 use Rattle.pg_workers.proofs.worker.Task.post_all.Goals as goal
 
 pub loop-claim-preserved : goal.loop-claim-preserved

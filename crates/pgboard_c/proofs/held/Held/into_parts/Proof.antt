@@ -20,7 +20,7 @@ use Rattle.std.proofs.raw_atomic.Walks.{proved_at, leaves}
 use Rattle.std_alloc.proofs.BoxSteps.Form.{D, X, B, word, box_typed}
 use Rattle.std_alloc.proofs.BoxSteps.Steps.{box_out, box_in}
 use Rattle.pgboard_c.specs.private.Held.{held}
-use Rattle.pgboard_c.proofs.Boxed.{E, value_of}
+use Rattle.pgboard_c.proofs.held.Boxes.{E, value_of}
 use Rattle.pgboard_c.specs.contracts.held.Held.{the_row}
 use Rattle.pgboard_c.specs.contracts.held.Held.into_parts.{ended, clauses}
 use Rattle.pgboard_c.specs.contracts.held.Held.into_parts.Key.{name as #self}

@@ -22,7 +22,7 @@ use denote.Triple.Walked.{Stays, stay_dropped, walk_of, Goes-dropped}
 use Rattle.std.proofs.alloc.Calls.{handle_tells}
 use Rattle.std.proofs.raw_atomic.Walks.{proved_at, leaves}
 use Rattle.std_alloc.proofs.ResultValues.{and_tt}
-use Rattle.pgboard_c.proofs.Boxed.{E}
+use Rattle.pgboard_c.proofs.held.Boxes.{E}
 use Rattle.pgboard_c.specs.contracts.held.Held.{the_row, the_type}
 use Rattle.std.specs.contracts.alloc.Global as heap
 use Rattle.pgboard_c.specs.contracts.held.Held.nothing.{ended, clauses}

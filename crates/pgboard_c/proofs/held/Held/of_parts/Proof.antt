@@ -19,7 +19,7 @@ use denote.Triple.Walked.{Stays, stay_dropped, walk_of, Goes-dropped}
 use Rattle.std.proofs.raw_atomic.Walks.{proved_at, leaves}
 use Rattle.std_alloc.proofs.BoxSteps.Form.{D, word, box_typed}
 use Rattle.std_alloc.proofs.BoxSteps.Steps.{box_out, box_in}
-use Rattle.pgboard_c.proofs.Boxed.{E, Parts}
+use Rattle.pgboard_c.proofs.held.Boxes.{E, Parts}
 use Rattle.pgboard_c.specs.contracts.held.Held.{the_row}
 use Rattle.pgboard_c.specs.contracts.held.Held.of_parts.{ended, clauses}
 use Rattle.pgboard_c.specs.contracts.held.Held.of_parts.Key.{name as #self}

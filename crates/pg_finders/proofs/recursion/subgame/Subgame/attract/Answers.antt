@@ -1,5 +1,5 @@
 use Rattle.pg_finders.proofs.Common.{on_ok_weaker}
-use Rattle.pg_finders.proofs.recursion.Growing.{grown_none}
+use Rattle.pg_finders.proofs.recursion.AttractionSteps.{grown_none}
 use Rattle.pg_finders.proofs.recursion.subgame.Subgame.attract.Goals as goal
 
 pub returns-clause-grown : goal.returns-clause-grown

@@ -1,7 +1,7 @@
 use Rattle.pg_finders.proofs.Common.{◌≡◌, length, vec_len, take, sym, ◌∙◌, ap, subst, arith, on_ok_weaker, union, listed, active_of, AttractsNoActive}
-use Rattle.pg_dominion.proofs.Taking.{on_ok_both}
-use Rattle.pg_finders.proofs.recursion.Growing.{grown_union, prefix_taken, no_active, no_further}
-use Rattle.pg_finders.proofs.recursion.Again.{done_equal, tested_done}
+use Rattle.pg_dominion.proofs.ListedVertices.{on_ok_both}
+use Rattle.pg_finders.proofs.recursion.AttractionSteps.{grown_union, prefix_taken, no_active, no_further}
+use Rattle.pg_finders.proofs.recursion.RepeatedAttraction.{done_equal, tested_done}
 use Rattle.pg_finders.proofs.recursion.subgame.Subgame.attract_again.Goals as goal
 
 pub attract_from-requires-clause-done : goal.attract_from-requires-clause-done

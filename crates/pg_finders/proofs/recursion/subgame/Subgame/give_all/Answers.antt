@@ -1,40 +1,39 @@
-use Rattle.pg_finders.proofs.Common.{◌≡◌, ◌∙◌, ℕ, false, inl, inr, sym, subst, arith, rules, In, members, IsSubgame, active_of, vertex_at_place, IsGiven}
-use Rattle.pg_finders.proofs.Masks.{order}
+use Rattle.pg_finders.proofs.Common.{◌≡◌, ◌∙◌, ℕ, false, subst, arith, below_more, get_or_default, slice_index, In, members, member_below}
+use Rattle.pg_finders.proofs.Common.{Some, HasEdge, active_of, choices_of, IsGiven}
+use Rattle.pg_finders.proofs.Sets.{no_both}
+use Rattle.pg_finders.proofs.recursion.RepeatedAttraction.{all_listed}
+use Rattle.pg_finders.proofs.recursion.BegunSubgame.{given_more}
+use Rattle.pg_finders.proofs.recursion.ListsAsSets.{listed_get}
 use Rattle.pg_finders.proofs.recursion.subgame.Subgame.give_all.Goals as goal
 
-pub give-requires-clause-sizes : goal.give-requires-clause-sizes
-give-requires-clause-sizes c = c.places.invariant.sizes
+pub write_any-requires-clause-vertex : goal.write_any-requires-clause-vertex
+write_any-requires-clause-vertex c =
+    let i = c.requires.active _ (listed_get c.args.vertices.now c.loop-v.v-index 0 c.loop-v-test.true) in
+    omega (arith, member_below c.args.self.now.active _ i, c.requires.sizes.active)
 
-pub give-requires-clause-subgame : goal.give-requires-clause-subgame
-give-requires-clause-subgame c = subst (λ m. IsSubgame c.args.game.now (members m)) (sym c.places.invariant.active) c.requires.subgame
+pub loop-v-preserved : goal.loop-v-preserved
+loop-v-preserved c =
+    let old = c.loop-v.invariant in
+    let A = active_of c.args.self.now in
+    let v = slice_index c.args.vertices.now c.loop-v.v-index in
+    let there : In A v = c.requires.active v (listed_get c.args.vertices.now c.loop-v.v-index 0 c.loop-v-test.true) in
+    let here : IsGiven c.args.game.now A c.args.player c.write_any.new.self v = (
+      c.write_any.ensures.winner,
+      subst (λ m. (w : ℕ) × (choices_of c.write_any.new.self v ≡ Some w) × HasEdge c.args.game.now v w × In (members m) w)
+          old.active c.write_any.ensures.choice,
+    ) in
+    record {
+      sizes = record { active = old.sizes.active; cursors = old.sizes.cursors; plan = c.write_any.ensures.size };
+      active = old.active;
+      given = below_more _ _ (λ k l. given_more c.args.game.now A c.args.player c.loop-v.self.plan c.write_any.new.self v here c.write_any.ensures.elsewhere _ (old.given k l)) here;
+      same = λ w n. (
+          let a = old.same w n in
+          let b = c.write_any.ensures.elsewhere w (λ e. no_both there (subst (λ u. A u ≡ false) e n)) in
+          (b.0 ∙ a.0, b.1 ∙ a.1));
+    }
 
-abbrev After : Type 0
-After = goal.After-give
-
-kept : (c : After) (w : ℕ) → IsGiven c.args.game.now (active_of c.args.self.now) c.args.player c.places.self.plan w
-    → IsGiven c.args.game.now (active_of c.args.self.now) c.args.player c.give.new.self.plan w
-kept c w h =
-    subst (λ m. IsGiven c.args.game.now (members m) c.args.player c.places.self.plan w
-    → IsGiven c.args.game.now (members m) c.args.player c.give.new.self.plan w) c.places.invariant.active (c.give.ensures.kept w) h
-
-now : (c : After) → In (active_of c.args.self.now) (vertex_at_place c.args.order.now c.places.place)
-    → IsGiven c.args.game.now (active_of c.args.self.now) c.args.player c.give.new.self.plan (vertex_at_place c.args.order.now c.places.place)
-now c = search (rules, c.vertex.ensures, c.places.invariant.active, c.give.ensures.given)
-
-pub places-preserved : goal.places-preserved
-places-preserved c = record {
-  sizes = c.give.ensures.sizes;
-  active = c.give.ensures.active ∙ c.places.invariant.active;
-  given = λ k f l i. elim (order k c.places.place) [
-    | inl h ↦ kept c (vertex_at_place c.args.order.now k) (c.places.invariant.given k f h i)
-    | inr (inl e) ↦
-        subst (λ j. In (active_of c.args.self.now) (vertex_at_place c.args.order.now j)
-        → IsGiven c.args.game.now (active_of c.args.self.now) c.args.player c.give.new.self.plan (vertex_at_place c.args.order.now j)) (sym e) (now c) i
-    | inr (inr h) ↦ absurd (omega (arith, l, h))
-  ];
-  same = λ v n. (
-      let a = c.places.invariant.same v n in
-      let b = c.give.ensures.same v (subst (λ m. members m v ≡ false) (sym c.places.invariant.active) n) in
-      (b.0 ∙ a.0, b.1 ∙ a.1)
-      );
-}
+pub returns-clause-given : goal.returns-clause-given
+returns-clause-given c =
+    let P = λ (v : ℕ). IsGiven c.args.game.now (active_of c.args.self.now) c.args.player c.loop-v.self.plan v in
+    all_listed P c.args.vertices.now (λ k d l. subst P (get_or_default c.args.vertices.now k 0 d l)
+    (c.loop-v.invariant.given k (omega (arith, l, c.loop-v-test.false))))

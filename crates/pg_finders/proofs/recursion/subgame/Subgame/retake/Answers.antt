@@ -1,5 +1,5 @@
 use Rattle.pg_finders.proofs.Common.{on_ok_weaker}
-use Rattle.pg_finders.proofs.recursion.Growing.{grown_none}
+use Rattle.pg_finders.proofs.recursion.AttractionSteps.{grown_none}
 use Rattle.pg_finders.proofs.recursion.subgame.Subgame.retake.Goals as goal
 
 pub returns-in-Some-clause-grown : goal.returns-in-Some-clause-grown
@@ -8,8 +8,8 @@ returns-in-Some-clause-grown c = on_ok_weaker c.take.result (λ h. h _ _ _ grown
 pub returns-in-None-clause-grown : goal.returns-in-None-clause-grown
 returns-in-None-clause-grown c = grown_none
 
-pub returns-then-has_active-clause-grown : goal.returns-then-has_active-clause-grown
-returns-then-has_active-clause-grown c = grown_none
+pub returns-then-find_active-clause-grown : goal.returns-then-find_active-clause-grown
+returns-then-find_active-clause-grown c = grown_none
 
 pub returns-clause-grown : goal.returns-clause-grown
 returns-clause-grown c = on_ok_weaker c.take-2.result (λ h. h _ _ _ grown_none) c.take-2.ensures.grown

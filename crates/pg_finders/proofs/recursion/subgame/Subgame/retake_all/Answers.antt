@@ -1,6 +1,6 @@
 use Rattle.pg_finders.proofs.Common.{ℕ, subst, arith, below_more, rules, get_or_default, listed, active_of, IsTested}
-use Rattle.pg_finders.proofs.recursion.Growing.{grown_none, grown_then, grown_active, grown_fewer, prefix_misses}
-use Rattle.pg_finders.proofs.recursion.Again.{known_grown, tested_later, tested_before, all_listed}
+use Rattle.pg_finders.proofs.recursion.AttractionSteps.{grown_none, grown_then, grown_active, grown_fewer, prefix_misses}
+use Rattle.pg_finders.proofs.recursion.RepeatedAttraction.{known_grown, tested_later, tested_before, all_listed}
 use Rattle.pg_finders.proofs.recursion.subgame.Subgame.retake_all.Goals as goal
 
 pub loop-v-init : goal.loop-v-init

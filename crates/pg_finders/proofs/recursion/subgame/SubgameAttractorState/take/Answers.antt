@@ -1,7 +1,7 @@
 use Rattle.pg_finders.proofs.Common.{◌≡◌, ℕ, false, length, ◌∙◌, ap, length-set, members, without, active_of}
 use Rattle.std.proofs.Common.{nat_eq}
 use Rattle.pg_finders.proofs.Masks.{members-unset}
-use Rattle.pg_finders.proofs.recursion.Growing.{grown_one, grown_then, once_push, apart_push}
+use Rattle.pg_finders.proofs.recursion.AttractionSteps.{grown_one, grown_then, once_push, apart_push}
 use Rattle.pg_finders.proofs.recursion.subgame.SubgameAttractorState.take.Goals as goal
 
 now : (c : goal.After-write) (w : ℕ) → members c.remove.new.self w ≡ without (active_of c.args.self.now) (λ u. nat_eq c.args.v u) w

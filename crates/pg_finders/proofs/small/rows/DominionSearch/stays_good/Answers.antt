@@ -1,5 +1,5 @@
 use Rattle.pg_finders.proofs.Common.{rules}
-use Rattle.pg_finders.proofs.small.Walked.{closes_none}
+use Rattle.pg_finders.proofs.small.WayBack.{closes_none}
 use Rattle.pg_finders.proofs.small.rows.DominionSearch.stays_good.Goals as goal
 
 pub returns-then-not-closes-clause-good : goal.returns-then-not-closes-clause-good

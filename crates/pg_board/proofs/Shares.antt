@@ -1,1 +1,0 @@
--- How the shares of an office are opened, and how they come back.

@@ -1,0 +1,3 @@
+-- Lemmas of the proofs of `board`.
+pub mod OldCopies
+pub mod PostChecks

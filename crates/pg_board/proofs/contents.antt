@@ -1,0 +1,3 @@
+-- Lemmas of the proofs of `contents`.
+pub mod EntryOfRest
+pub mod FullJournals

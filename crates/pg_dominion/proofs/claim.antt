@@ -1,0 +1,3 @@
+-- Lemmas of the proofs of `claim`.
+pub mod RowsByVertex
+pub mod NoWayBack

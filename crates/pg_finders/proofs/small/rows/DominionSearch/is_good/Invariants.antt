@@ -1,7 +1,0 @@
-use Rattle.pg_finders.proofs.Common.{◌≢◌, ℕ, ◌<◌, of_parity, priority_of, vertex_in, WalksBack}
-use Rattle.pg_finders.proofs.small.rows.DominionSearch.is_good.Given as goal
-
-abbrev pub invariant-loop-start : goal.invariant-loop-start
-invariant-loop-start l =
-    (k : ℕ) → k < l.start → of_parity (priority_of l.self.game.now (vertex_in l.chosen k)) ≢ l.self.player
-    → WalksBack l.self.game.now l.self.player l.chosen l.done k → ⊥

@@ -1,5 +1,0 @@
-use Rattle.pg_finders.proofs.Common.{ℕ, ◌<◌, IsFrom, RowLeadsTo}
-use Rattle.pg_finders.proofs.small.rows.DominionSearch.is_next.Given as goal
-
-abbrev pub invariant-loop-from : goal.invariant-loop-from
-invariant-loop-from l = (k : ℕ) → k < l.from → IsFrom l.start l.left k → RowLeadsTo l.self.game.now l.self.player l.chosen k l.to → ⊥

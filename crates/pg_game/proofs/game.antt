@@ -1,0 +1,3 @@
+-- Lemmas of the proofs of `game`.
+pub mod Equality
+pub mod Parts

@@ -1,0 +1,4 @@
+-- Lemmas of the proofs of `identifiers`.
+pub mod OwnPlaces
+pub mod Places
+pub mod FirstRepeated

@@ -1,0 +1,2 @@
+-- Lemmas of the proofs of `mask`.
+pub mod Bits

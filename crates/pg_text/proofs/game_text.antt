@@ -1,0 +1,2 @@
+-- Lemmas of the proofs of `game_text`.
+pub mod TokenSteps

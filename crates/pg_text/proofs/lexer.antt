@@ -1,0 +1,3 @@
+-- Lemmas of the proofs of `lexer`.
+pub mod TokenAtPlace
+pub mod ByteRuns

@@ -1,0 +1,4 @@
+-- Lemmas of the proofs of `reader`.
+pub mod Machine
+pub mod TokenSteps
+pub mod TokenRuns

@@ -1,0 +1,2 @@
+-- Lemmas of the proofs of `reading`.
+pub mod RowsOfLines

@@ -1,0 +1,3 @@
+-- Lemmas of the proofs of `jobs`.
+pub mod DrawnNumbers
+pub mod WordSteps

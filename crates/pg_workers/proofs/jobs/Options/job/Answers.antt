@@ -1,6 +1,0 @@
-use Rattle.pg_workers.proofs.Common.{arith}
-use Rattle.pg_workers.proofs.Batches.{job_begins}
-use Rattle.pg_workers.proofs.jobs.Options.job.Goals as goal
-
-pub overflow_sub-n : goal.overflow_sub-n
-overflow_sub-n c = grind (arith, job_begins, c.batch_of-size.ensures, c.requires.number, c.total-total.ensures.number)

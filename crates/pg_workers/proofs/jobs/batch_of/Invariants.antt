@@ -1,9 +1,0 @@
-use Rattle.pg_workers.proofs.Common.{◌-◌}
-use Rattle.pg_workers.proofs.Batches.{IsTried}
-use Rattle.pg_workers.proofs.jobs.batch_of.Given as goal
-
-abbrev pub invariant-loop-size : goal.invariant-loop-size
-invariant-loop-size l = IsTried l.fn.n l.size
-
-abbrev pub decreases-loop-size : goal.decreases-loop-size
-decreases-loop-size l = l.n - l.size

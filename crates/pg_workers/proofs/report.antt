@@ -1,0 +1,3 @@
+-- Lemmas of the proofs of `report`.
+pub mod PlacedRows
+pub mod Rows

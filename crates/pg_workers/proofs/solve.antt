@@ -1,0 +1,3 @@
+-- Lemmas of the proofs of `solve`.
+pub mod SettledSum
+pub mod DroppedPosts

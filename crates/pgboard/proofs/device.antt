@@ -1,0 +1,2 @@
+-- Lemmas of the proofs of `device`.
+pub mod Pieces

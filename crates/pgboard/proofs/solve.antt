@@ -1,0 +1,8 @@
+-- Lemmas of the proofs of `solve`.
+pub mod JournalRows
+pub mod KnownTexts
+pub mod EmptyText
+pub mod RefusedSets
+pub mod SetRows
+pub mod ExactSolutions
+pub mod NothingKnown

@@ -1,0 +1,3 @@
+-- Lemmas of the proofs of `trace`.
+pub mod WordLines
+pub mod ItemTexts

@@ -1,0 +1,3 @@
+-- Lemmas of the proofs of `verify`.
+pub mod JoinedText
+pub mod JoinedFaults

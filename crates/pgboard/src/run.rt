@@ -1,0 +1,102 @@
+//! What a command line asks for is run, over any sources and sink.
+
+ghost use Rattle.std.specs.Prelude.{◌≡◌, IfErr};
+ghost use Rattle.pgboard.specs.Answer.{ReadsFor, IsOutputFor, FailsFor};
+ghost use Rattle.pgboard.specs.Asking.{IsInRange};
+ghost use Rattle.pgboard.specs.Device.{HasFailed};
+ghost use Rattle.pgboard.specs.Run.{Writes};
+
+use crate::arguments::Asked;
+use crate::device::{Sink, Source, write_all};
+use crate::fault::RunFault;
+use crate::solve::{Run, options_of, run_trace};
+use crate::verify::{run_joined, run_tidy, run_verify};
+use pg_finders::{Finder, Standard};
+use pg_workers::{Gate, Pass};
+use std::alloc::Global;
+use std::sync::Wait;
+use std::thread::Threads;
+
+/// Runs what was asked for as the program does: by the finder `Standard`, with a gate that holds nobody. The status is that of
+/// the outcome. All that is read and written goes through the arguments.
+pub fn run_over<I: Source, S: Source, O: Sink, R: Threads + Wait + Sync>(
+    rt: &R,
+    alloc: Global,
+    asked: &Asked,
+    input: &mut I,
+    second: &mut S,
+    out: &mut O,
+) -> Result<u8, RunFault>
+    requires { IsInRange asked.now }
+    ensures reads { ReadsFor asked.now result (I.left input.old) (I.read_failures input.old) (I.read_failures input.new) (input.new ≡ input.old)
+        (second.new ≡ second.old) (S.read_failures second.new ≡ S.read_failures second.old)
+        (HasFailed (S.read_failures second.old) (S.read_failures second.new)) }
+    ensures writes { Writes (λ status text. IsOutputFor asked.now (I.left input.old) (S.left second.old) status text)
+        result (O.taken out.old) (O.taken out.new) (O.write_failures out.old) (O.write_failures out.new) }
+    ensures fault { IfErr result (λ e. FailsFor asked.now (I.left input.old) (S.left second.old) e) }
+{
+    run_asked(rt, alloc, asked, input, second, out, &Pass, &Standard)
+}
+
+/// Runs what was asked for, and returns the status. The second source has the solution where one is verified and what
+/// is known where it was given, and is not read otherwise.
+pub fn run_asked<I: Source, S: Source, O: Sink, R: Threads + Wait + Sync>(
+    rt: &R,
+    alloc: Global,
+    asked: &Asked,
+    input: &mut I,
+    second: &mut S,
+    out: &mut O,
+    gate: &impl Gate,
+    finder: &impl Finder,
+) -> Result<u8, RunFault>
+    requires { IsInRange asked.now }
+    ensures reads { ReadsFor asked.now result (I.left input.old) (I.read_failures input.old) (I.read_failures input.new) (input.new ≡ input.old)
+        (second.new ≡ second.old) (S.read_failures second.new ≡ S.read_failures second.old)
+        (HasFailed (S.read_failures second.old) (S.read_failures second.new)) }
+    ensures writes { Writes (λ status text. IsOutputFor asked.now (I.left input.old) (S.left second.old) status text)
+        result (O.taken out.old) (O.taken out.new) (O.write_failures out.old) (O.write_failures out.new) }
+    ensures fault { IfErr result (λ e. FailsFor asked.now (I.left input.old) (S.left second.old) e) }
+{
+    match asked {
+        Asked::Joined => Ok(run_joined(alloc, input, out)?.status()),
+        Asked::Verify { .. } => Ok(run_verify(alloc, input, second, out)?.status()),
+        Asked::Tidy { .. } => {
+            run_tidy(alloc, input, out)?;
+            Ok(0)
+        }
+        Asked::Solve {
+            workers,
+            bound,
+            winners,
+            known,
+            ..
+        } => {
+            let run = Run {
+                rt,
+                alloc,
+                options: options_of(*workers, *bound),
+                gate,
+                finder,
+            };
+            match known {
+                Some(_) => {
+                    run.solve_from_known(input, second, out, *winners)?;
+                    Ok(0)
+                }
+                None => {
+                    run.solve_from_nothing(input, out, *winners)?;
+                    Ok(0)
+                }
+            }
+        }
+        Asked::Trace { workers, .. } => {
+            run_trace(rt, alloc, input, out, *workers, gate, finder)?;
+            Ok(0)
+        }
+        Asked::Help(text) => {
+            write_all(text.as_str().as_bytes(), out)?;
+            Ok(0)
+        }
+    }
+}

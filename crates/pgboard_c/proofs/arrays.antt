@@ -1,0 +1,3 @@
+-- Lemmas of the proofs of `arrays`.
+pub mod GameOfArrays
+pub mod ChoiceNumbers

@@ -1,0 +1,65 @@
+"""What the scripts of examples/ share. Nothing in this folder is a command.
+
+A signal that ends a script, as Ctrl-C does, first ends the programs that the script runs and removes its temporary files. Where
+there are none it ends the script at once. A script imports this folder first, before all that takes time to load.
+"""
+
+import contextlib
+import os
+import signal
+
+# the calls that a signal makes before it ends the script, the last one first
+undo = []
+# while something is begun, signals wait
+_begun, _waiting = [], []
+
+
+def _end(number, _):
+    _waiting.append(number)
+    if _begun:
+        return
+    for it in reversed(undo):
+        with contextlib.suppress(Exception):
+            it()
+    signal.signal(number, signal.SIG_DFL)
+    os.kill(os.getpid(), number)
+
+
+def on_signals(handler):
+    """Sets what signals do that end a script, except those that are ignored, as by nohup."""
+    for it in (signal.SIGINT, signal.SIGTERM, signal.SIGHUP):
+        if signal.getsignal(it) != signal.SIG_IGN:
+            signal.signal(it, handler)
+
+
+@contextlib.contextmanager
+def _held():
+    _begun.append(None)
+    try:
+        yield
+    finally:
+        _begun.pop()
+        if _waiting and not _begun:
+            os.kill(os.getpid(), _waiting.pop())
+
+
+@contextlib.contextmanager
+def undone(begin, end):
+    """What `begin` returns. `end` is called on it afterwards, or before a signal ends the script."""
+    with _held():
+        if not undo:
+            on_signals(_end)
+        made = begin()
+        last = lambda: end(made)
+        undo.append(last)
+    try:
+        yield made
+    finally:
+        with _held():
+            undo.remove(last)
+            last()
+            if not undo:
+                on_signals(signal.SIG_DFL)
+
+
+on_signals(signal.SIG_DFL)

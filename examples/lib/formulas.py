@@ -1,0 +1,270 @@
+"""Reads formulas of the modal mu-calculus with regular modalities, as mCRL2 writes them, and makes them games' subformulas.
+
+Of mCRL2's formulas those without data are read: no val(..), no quantifiers, no time, and no parameters of fixed points. An
+action is compared with the label's text.
+"""
+
+import re
+
+from lib import games
+from lib.tokens import Tokens
+
+OPERATORS = ("=>", "||", "&&")
+VALUES = ("true", "false")
+FIXED_POINTS = ("mu", "nu")
+NOT_READ = ("val", "forall", "exists", "delay", "yaled", "nil")
+QUOTED_OR_COMMENT = re.compile(r'"[^"]*"|%.*')
+DATA = re.compile(r"\s*\(")
+BRACKET = re.compile(r"(\()|\)")
+# what is no set of actions
+REGULAR = ("+", ".", "*", "plus")
+NAME_LENGTH = 60
+
+
+def spelled(label):
+    """A label, or an action of a formula, with blanks only between words, and with the actions of a multi-action in order."""
+    actions, depth = [""], 0
+    for it in re.findall(r"[()|]|[^()|]+", re.sub(r"(?<![\w']) | (?![\w'])", "", " ".join(label.split()))):
+        depth += (it == "(") - (it == ")")
+        if it == "|" and not depth:
+            actions.append("")
+        else:
+            actions[-1] += it
+    return "|".join(sorted(actions))
+
+
+class Parser(Tokens):
+    """Reads a formula: a tree (operator, place, ..), in which negations and implications still stand.
+
+    What a modality has in its brackets is a tree (operator, text, ..). Its leaves are actions, quoted labels, true and false.
+    """
+
+    pattern = re.compile(
+        r"""(?P<blank>\s+)|(?P<sign>&&|\|\||=>|[!.()<>\[\]*+|])|(?P<label>"[^"]*")|(?P<word>[A-Za-z_0-9][A-Za-z_0-9']*)"""
+    )
+    same = {"and": "&&", "or": "||", "not": "!"}
+
+    def __init__(self, name, text):
+        # a comment is as good as blanks
+        super().__init__(name, QUOTED_OR_COMMENT.sub(lambda it: it[0] if it[0][0] == '"' else " " * len(it[0]), text))
+
+    def end_of(self, found):
+        if found["word"] in NOT_READ:
+            self.refuse(f"{found[0]} is not read: only formulas without data and time are", found.start())
+        data = DATA.match(self.text, found.end())
+        if not data or not found["word"] or found[0] in (*self.same, *VALUES, *FIXED_POINTS):
+            return found.end()
+        # an action's data are taken as they are
+        return self.end_of_nested(BRACKET, data.end() - 1)
+
+    def whole(self):
+        tree = self.formula()
+        return self.expect("the end of the formula") if self.left else tree
+
+    def formula(self):
+        return self.chain(OPERATORS, self.unary, lambda *tree: tree)
+
+    def unary(self):
+        at = self.at()
+        if self.takes("!"):
+            return "!", at, self.unary()
+        if self.takes("("):
+            tree = self.formula()
+            self.take(")")
+            return tree
+        for begins, ends in ("<>", "[]"):
+            if self.takes(begins):
+                within = self.regular()
+                self.take(ends)
+                return begins, at, within, self.unary()
+        if self.next_is(*VALUES):
+            return self.take(*VALUES).text, at
+        if self.next_is(*FIXED_POINTS):
+            operator, name = self.take(*FIXED_POINTS).text, self.variable("a variable")
+            self.take(".")
+            return operator, at, name, self.formula()
+        return "variable", at, self.variable("a formula")
+
+    def word(self, wanted):
+        return self.take("a word") if self.next_is("a word") else self.expect(wanted)
+
+    def variable(self, wanted):
+        name = self.word(wanted).text
+        if name in (*VALUES, *FIXED_POINTS) or name[0].isdigit():
+            self.refuse(f"{games.shown(name)} can't be a variable", self.done - len(name))
+        if "(" in name:
+            self.refuse("a fixed point with parameters is not read: only formulas without data are", self.done - len(name))
+        return name
+
+    # --- what modalities have in their brackets ---
+
+    def since(self, at):
+        """The text from there to here, with single blanks, as long as names show it."""
+        return " ".join(self.text[at : min(self.done, at + 4 * NAME_LENGTH)].split())
+
+    def regular(self):
+        return self.chain(("+", "."), self.repeated, self.joined)
+
+    def repeated(self):
+        at, tree = self.at(), self.chain(OPERATORS, self.action, self.joined)
+        while self.next_is("*") or self.next_is("+") and not self.goes_on():
+            operator = "*" if self.take("*", "+").text == "*" else "plus"
+            tree = operator, self.since(at), tree
+        return tree
+
+    def goes_on(self):
+        """Whether something follows the next token that it joins."""
+        after = self.left[-2:-1]
+        return bool(after) and (after[0].text in ("!", "(") or after[0].kind in ("a word", "a label"))
+
+    def joined(self, operator, at, left, right):
+        for it in (left, right):
+            if operator in OPERATORS and it[0] in REGULAR:
+                self.refuse(f"{operator} joins sets of actions, and {games.shown(it[1])} is none", at)
+        return operator, self.since(at), left, right
+
+    def action(self):
+        at = self.at()
+        if self.takes("!"):
+            tree = self.action()
+            if tree[0] in REGULAR:
+                self.refuse(f"! is for a set of actions, and {games.shown(tree[1])} is none", at)
+            return "!", self.since(at), tree
+        if self.takes("("):
+            operator, _, *parts = self.regular()
+            self.take(")")
+            return operator, self.since(at), *parts
+        if self.next_is("a label"):
+            label = self.take("a label").text
+            return "label", label, label[1:-1]
+        if self.next_is(*VALUES):
+            return self.take(*VALUES).text, self.since(at)
+        self.word("an action")
+        while self.takes("|"):
+            self.word("an action")
+        return "action", self.since(at), spelled(self.text[at : self.done])
+
+
+class Labels:
+    """The labels of a model, and those that sets of actions take."""
+
+    def __init__(self, labels):
+        self.all, self.spelled = set(labels), {}
+        for label in self.all:
+            self.spelled.setdefault(spelled(label), set()).add(label)
+
+    def taken(self, tree):
+        operator, _, *parts = tree
+        if operator in VALUES:
+            return self.all if operator == "true" else set()
+        if operator == "label":
+            return self.all.intersection(parts)
+        if operator == "action":
+            return self.spelled.get(parts[0], set())
+        left, *right = map(self.taken, parts)
+        if operator == "&&":
+            return left.intersection(*right)
+        return (left if operator == "||" else self.all - left).union(*right)
+
+
+def named(tree, negated=False):
+    """The leaves that name an action in what a modality has in its brackets, but for those under an odd number of negations."""
+    operator, _, *parts = tree
+    if operator in ("label", "action"):
+        return [] if negated else [tree]
+    if operator in VALUES:
+        return []
+    turned = negated != (operator in ("!", "=>"))
+    return [leaf for at, it in enumerate(parts) for leaf in named(it, negated if at else turned)]
+
+
+DUAL = {"true": "false", "&&": "||", "<": "[", "mu": "nu"}
+DUAL.update({value: key for key, value in DUAL.items()})
+
+
+class Formula:
+    """A formula without negations, as a list of subformulas (operator, priority, set of actions, parts), and the first one's number.
+
+    A variable is no subformula of its own: where it is a part, its fixed point is. A fixed point's priority is the least that is
+    odd for mu and even for nu, and no less than that of each fixed point inside it in which its variable is free: so it is as
+    great as the formula's alternations ask for, and the greatest that is seen again and again is that of the outermost fixed
+    point that is. A regular modality becomes plain ones by its fixed points, as <R*>F = mu X. (F || <R>X).
+    """
+
+    def __init__(self, name, text):
+        self.parser = Parser(name, text)
+        self.parts, self.free, self.texts = [], [], []
+        # what the modalities have in their brackets, in order
+        self.regulars = []
+        self.first, _, _ = self.add(self.parser.whole(), False, {})
+
+    def new(self, operator=None, text="", parts=(), actions=None, number=None):
+        """Adds a subformula of some parts: its number, the fixed points whose variables are free in it, and its text."""
+        if number is None:
+            number = len(self.parts)
+            for every in (self.parts, self.free, self.texts):
+                every.append(None)
+        if operator:
+            self.free[number] = set().union(*(free for _, free, _ in parts)) - {number}
+            self.parts[number] = operator, self.priority(operator, number), actions, [part for part, _, _ in parts]
+            self.texts[number] = text if len(text) <= NAME_LENGTH else text[: NAME_LENGTH - 2] + ".."
+        return number, self.free[number], self.texts[number]
+
+    def add(self, tree, negated, scope):
+        """Adds a subformula or its negation."""
+        operator, at, *rest = tree
+        if operator == "!":
+            return self.add(rest[0], not negated, scope)
+        if operator == "variable":
+            return self.variable(at, rest[0], negated, scope)
+        if operator == "=>":
+            left, right = self.add(rest[0], not negated, scope), self.add(rest[1], negated, scope)
+            return self.join("&&" if negated else "||", left, right)
+        operator = DUAL[operator] if negated else operator
+        if operator in ("<", "["):
+            self.regulars.append(rest[0])
+            return self.step(operator, rest[0], self.add(rest[1], negated, scope))
+        if operator in FIXED_POINTS:
+            number, _, _ = self.new()
+            part = self.add(rest[1], negated, {**scope, rest[0]: (number, negated)})
+            return self.new(operator, f"{operator} {rest[0]}. {part[2]}", [part], number=number)
+        if operator in VALUES:
+            return self.new(operator, operator)
+        return self.join(operator, *(self.add(it, negated, scope) for it in rest))
+
+    def join(self, operator, left, right):
+        return self.new(operator, f"({left[2]} {operator} {right[2]})", [left, right])
+
+    def step(self, modality, regular, after):
+        """Adds a modality before a subformula that was added."""
+        operator, text, *parts = regular
+        text = (f"<{text}> " if modality == "<" else f"[{text}] ") + after[2]
+        if operator not in REGULAR:
+            return self.new(modality, text, [after], regular)
+        if operator == ".":
+            return self.step(modality, parts[0], self.step(modality, parts[1], after))
+        join, fixed = ("||", "mu") if modality == "<" else ("&&", "nu")
+        if operator == "+":
+            return self.join(join, *(self.step(modality, it, after) for it in parts))
+        number, _, _ = self.new()
+        again = number, {number}, text
+        if operator == "*":
+            part = self.join(join, after, self.step(modality, parts[0], again))
+        else:
+            part = self.step(modality, parts[0], self.join(join, after, again))
+        return self.new(fixed, text, [part], number=number)
+
+    def variable(self, at, name, negated, scope):
+        if name not in scope:
+            self.parser.refuse(f"the variable {games.shown(name)} is not bound by mu or nu", at)
+        number, inside = scope[name]
+        if inside != negated:
+            self.parser.refuse(f"the variable {games.shown(name)} is under an odd number of negations inside its fixed point", at)
+        return number, {number}, name
+
+    def priority(self, operator, number):
+        if operator not in FIXED_POINTS:
+            return int(operator == "false")
+        inside = (part for part, free in zip(self.parts, self.free) if part and part[0] in FIXED_POINTS and number in free)
+        least = max((priority for _, priority, _, _ in inside), default=0)
+        return least + (least + (operator == "mu")) % 2

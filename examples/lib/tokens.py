@@ -1,0 +1,89 @@
+"""Texts as tokens, for grammars in which the next token says what begins there."""
+
+from typing import NamedTuple
+
+from lib import games
+
+# these operators join from the right, and all others from the left
+FROM_THE_RIGHT = ("=>", ".")
+
+
+class Token(NamedTuple):
+    """A token's text and place, and its kind: `a` and the name of its group in the pattern."""
+
+    text: str
+    kind: str
+    at: int
+    end: int
+
+
+class Tokens:
+    """The tokens of a text, taken one after the other. What is wanted of a token is its text or its kind."""
+
+    # of each token a group, of which `blank` is none; and how a text may spell the text of another token
+    pattern, same = None, {}
+
+    def __init__(self, path, text):
+        self.path, self.text, self.left, self.done, at = path, text, [], 0, 0
+        while at < len(text):
+            found = self.pattern.match(text, at)
+            if not found:
+                self.refuse("no token begins here", at)
+            at = self.end_of(found)
+            if found[0] in self.same:
+                self.left.append(Token(self.same[found[0]], "a sign", found.start(), at))
+            elif found.lastgroup != "blank":
+                self.left.append(Token(text[found.start() : at], f"a {found.lastgroup}", found.start(), at))
+        self.end = self.left[-1].end if self.left else 0
+        self.left.reverse()
+
+    def end_of(self, found):
+        """Where a token ends of which the pattern has found the beginning."""
+        return found.end()
+
+    def end_of_nested(self, pattern, at):
+        """Where that ends which begins there and may have its like inside; the pattern finds each beginning, as a group, and each end."""
+        depth = 0
+        for found in pattern.finditer(self.text, at):
+            depth += 1 if found[1] else -1
+            if not depth:
+                return found.end()
+        self.refuse(f"this {self.text[at]} is never closed", at)
+
+    def refuse(self, why, at=None):
+        raise games.Refused(f"{games.place(self.path, self.text, self.at() if at is None else at)}: {why}")
+
+    def at(self):
+        """The place of the next token, or where the last one ends."""
+        return self.left[-1].at if self.left else self.end
+
+    def next_is(self, *wanted):
+        return bool(self.left) and (self.left[-1].text in wanted or self.left[-1].kind in wanted)
+
+    def take(self, *wanted):
+        """The next token, which has to be one that is wanted."""
+        if not self.next_is(*wanted):
+            self.expect(" or ".join(wanted))
+        token = self.left.pop()
+        self.done = token.end
+        return token
+
+    def takes(self, *wanted):
+        """Takes the next token where it is one that is wanted, and says whether."""
+        return bool(self.next_is(*wanted) and self.take(*wanted))
+
+    def expect(self, wanted):
+        """Refuses the next token, in whose place another one has to stand."""
+        stands = f"{games.shown(self.text[self.at() : self.left[-1].end])} stands" if self.left else "the text ends"
+        self.refuse(f"{stands} where {wanted} has to stand")
+
+    def chain(self, operators, part, join):
+        """What operators join, of which the first one binds least; `join` gets the operator, where its left side begins, and both."""
+        if not operators:
+            return part()
+        operator, at = operators[0], self.at()
+        left = self.chain(operators[1:], part, join)
+        while self.takes(operator):
+            right = self.chain(operators[operator not in FROM_THE_RIGHT :], part, join)
+            left = join(operator, at, left, right)
+        return left

@@ -1,0 +1,70 @@
+#!/usr/bin/env python3
+"""Has rt prove and build the C library in a copy of the crates, over the libraries that `rt ci` has proved: tests/library.py FOLDER
+
+The gate runs it while `rt ci` is still at work, once for embed.py, boards.py and package.py. Its last line counts it as one test.
+"""
+
+import contextlib
+import os
+import pathlib
+import shutil
+import sys
+
+import common
+
+sys.path.insert(0, os.path.dirname(os.path.realpath(shutil.which("rt"))))
+import rtlib
+
+
+@contextlib.contextmanager
+def locked(tree):
+    """The crates of a tree, in which no rt works meanwhile: another script may have started one."""
+    crates = rtlib.crates_below(str(tree))
+    held = rtlib.lock(crates)
+    try:
+        yield {it.name: it for it in crates}
+    finally:
+        for it in held:
+            os.close(it)
+
+
+def take_as_built(tree, above):
+    """Has rt take the libraries below a crate of a tree as built of their sources: those that the gate has just proved, and left without
+    a stamp. A tree that is not this one gets a copy of them."""
+    with locked(tree) as crates:
+        for crate in crates[above].below():
+            library = pathlib.Path(crate.folder, "out", "rlib")
+            proved = common.ROOT / "crates" / crate.name / "out" / "rlib"
+            if proved.is_dir() and not library.exists():
+                shutil.copytree(proved, library)
+            if (library / f"{crate.name}.rlib").is_dir() and not (library / "stamp").exists():
+                (library / "stamp").write_text(crate.stamp(), encoding="utf-8")
+
+
+def build(tree):
+    """Proves and builds the static library of a tree, and returns its path."""
+    take_as_built(tree, "pgboard_c")
+    crate = pathlib.Path(tree, "crates", "pgboard_c")
+    status, out, err = common.run(["rt", "lib", "--jobs", "1"], timeout=3000, cwd=crate)
+    assert status == 0, (out + err).decode()[-2000:]
+    return crate / "out" / "libpgboard_c.a"
+
+
+def built():
+    """The static library: that of the gate, or one that is built now."""
+    if common.PROVED == common.ROOT:
+        return build(common.ROOT)
+    return common.PROVED / "crates" / "pgboard_c" / "out" / "libpgboard_c.a"
+
+
+def copy_crates(folder):
+    """What proofs read of this tree."""
+    shutil.copytree(common.ROOT / "crates", folder / "crates", ignore=shutil.ignore_patterns("out", "must-fail"))
+    for name in ("crates.txt", "HANDLES"):
+        shutil.copy(common.ROOT / name, folder)
+
+
+if __name__ == "__main__":
+    copy_crates(common.PROGRAM)
+    print(build(common.PROGRAM))
+    print("1 passed, 0 failed")

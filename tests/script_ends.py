@@ -1,0 +1,254 @@
+"""How each script of examples/ ends: by which status, by a signal, or with a fault after its answer. tests/uses.py runs these tests."""
+
+import os
+import pathlib
+import re
+import shlex
+import signal
+import subprocess
+import sys
+import time
+import unittest
+
+import common
+from scripts import EXAMPLES
+
+MUTEX, ARBITER = str(EXAMPLES / "modelcheck" / "mutex.aut"), str(EXAMPLES / "synthesise" / "arbiter_2.hoa")
+BOTH = [str(EXAMPLES / f"both_win.{it}") for it in ("pg", "sol", "wrong")]
+# of each script that runs pgboard, for each status of an answer: words, how the answer begins, and what the help says of the status
+ANSWERS = {
+    "winner": [
+        (["--vertex", "0", BOTH[0]], "Even wins vertex 0\n", "0 where Even wins"),
+        (["--vertex", "1", BOTH[0]], "Odd wins vertex 1\n", "1 where Odd wins"),
+    ],
+    "explain": [
+        (BOTH[:2], "ok\n", "0 where it is a solution"),
+        (BOTH[::2], "not a solution: 0 leaves to 1\n", "1 where it is explained why not"),
+    ],
+    "modelcheck": [
+        ([MUTEX, "<ask_1> true"], "true\n", "0 where the formula holds"),
+        ([MUTEX, "<leave_1> true"], "false\n", "1 where it doesn't"),
+    ],
+    "synthesise": [
+        ([ARBITER], "REALIZABLE\n", "0 where there is a controller"),
+        ([ARBITER.replace("_2.", "_2_at_once.")], "UNREALIZABLE\n", "1 where there is none"),
+    ],
+}
+# the files that a script writes after its answer
+FILES = {
+    "winner": {"--game": "pg", "--picture": "dot"},
+    "explain": {"--picture": "dot"},
+    "modelcheck": {"--evidence": "aut", "--picture": "dot"},
+    "synthesise": {"--aiger": "aag", "--picture": "dot"},
+}
+SCRIPTS = [*ANSWERS, "convert", "draw"]
+SIGNALS = [signal.SIGINT, signal.SIGTERM, signal.SIGHUP]
+
+
+class Ends(unittest.TestCase):
+    """How scripts end: by each status, by the program's, by signals, and where something can't be written."""
+
+    def setUp(self):
+        self.folder = common.make_folder(self)
+
+    def program(self, text):
+        """A program in pgboard's place."""
+        path = self.folder / "program"
+        path.write_text(f"#!/bin/sh\n{text}\n", encoding="ascii")
+        path.chmod(0o755)
+        return str(path)
+
+    def command(self, script, words):
+        return [sys.executable, "-B", EXAMPLES / f"{script}.py", *words]
+
+    def run_script(self, script, words, program=common.PROGRAM, **env):
+        env = {**os.environ, "PGBOARD": shlex.quote(str(program)), **env}
+        status, out, err = common.run(self.command(script, words), env=env, cwd=self.folder)
+        return status, out.decode(), re.sub("^modelcheck: size.*\n", "", err.decode())
+
+    def answers(self, most=2):
+        for script, rows in ANSWERS.items():
+            for status, (words, begins, said) in enumerate(rows[:most]):
+                with self.subTest(script, status=status):
+                    yield script, words, status, begins, said
+
+    def test_answers_and_what_help_says_of_their_status(self):
+        for script, words, wanted, begins, said in self.answers():
+            status, out, err = self.run_script(script, words)
+            self.assertEqual((status, err), (wanted, ""))
+            self.assertTrue(out.startswith(begins), out)
+            help = " ".join(self.run_script(script, ["--help"])[1].split())
+            self.assertRegex(help, rf"status: .*\b{re.escape(said)}(,|$)")
+            self.assertRegex(help, r", 2 (or more )?where something was refused$")
+
+    def test_other_statuses_of_the_program(self):
+        """A status above 1 and its line are the script's too, wherever the program ends so; a signal is status 2."""
+        for script, words, _, _, _ in self.answers(most=1):
+            for command in ("solve", "verify")[script == "explain" :]:
+                at = lambda ends: self.program(f'[ "$1" != {command} ] || {{ {ends}; }}\nexec {common.PROGRAM} "$@"')
+                for status in (2, 5, 126, 255):
+                    program = at(f'echo "pgboard: {status}" >&2; exit {status}')
+                    self.assertEqual(self.run_script(script, words, program), (status, "", f"pgboard: {status}\n"))
+                for number in (signal.SIGINT, signal.SIGKILL):
+                    program = at(f"kill -{int(number)} $$")
+                    wanted = 2, "", f"{script}: {program} was ended by signal {int(number)}\n"
+                    self.assertEqual(self.run_script(script, words, program), wanted)
+
+    def test_a_verdict_with_the_status_of_another(self):
+        for script, words, _, _, _ in self.answers():
+            program = self.program(f'[ "$1" != verify ] || {{ echo ok; exit 1; }}\nexec {common.PROGRAM} "$@"')
+            status, out, err = self.run_script(script, words, program)
+            self.assertEqual((status, out, err.count("\n")), (2, "", 1))
+            self.assertRegex(err, f"^{script}: .*: ok with status 1\n$")
+
+    def test_no_program(self):
+        for script, words, _, _, _ in self.answers(most=1):
+            for path, said in ((self.folder, "Permission denied"), (self.folder / "none", "No such file or directory")):
+                self.assertEqual(self.run_script(script, words, path), (2, "", f"{script}: {path}: {said}\n"))
+
+    def start(self, command, **how):
+        """Starts a command that makes temporary files in a folder of its own, and runs a program that waits; and its number."""
+        temporary, number = self.folder / "temporary", self.folder / "number"
+        temporary.mkdir(exist_ok=True)
+        program = self.program(f"echo $$ > {number}.new; mv {number}.new {number}; exec sleep 99")
+        env = {**os.environ, "PGBOARD": program, "TMPDIR": str(temporary)}
+        process = subprocess.Popen(command, stdout=subprocess.PIPE, stderr=subprocess.PIPE, env=env, **how)
+        self.addCleanup(process.kill)
+        self.wait_for(number.exists)
+        self.assertEqual(len(list(temporary.iterdir())), 1)
+        return process, int(number.read_text(encoding="ascii"))
+
+    def wait_for(self, is_so):
+        for _ in range(2000):
+            if is_so():
+                return
+            time.sleep(0.01)
+        self.fail("it takes too long")
+
+    def check_ended(self, process, number, program):
+        """That a script was ended by a signal, said nothing of it, and left neither a file nor the program that it ran."""
+        out, err = process.communicate(timeout=60)
+        self.assertEqual((process.returncode, out, re.sub(b"^modelcheck: size.*\n", b"", err)), (-number, b"", b""))
+        self.assertEqual(list((self.folder / "temporary").iterdir()), [])
+        self.wait_for(lambda: not common.is_alive(program))
+        (self.folder / "number").unlink()
+
+    def test_signals(self):
+        for script, words, _, _, _ in self.answers(most=1):
+            for number in SIGNALS:
+                process, program = self.start(self.command(script, words))
+                process.send_signal(number)
+                self.check_ended(process, number, program)
+
+    def test_a_signal_that_is_ignored(self):
+        """As by nohup."""
+        command = ["sh", "-c", 'trap "" HUP INT; exec "$@"', "", *self.command(*("winner", ANSWERS["winner"][0][0]))]
+        process, program = self.start(command)
+        for number in (signal.SIGHUP, signal.SIGINT):
+            process.send_signal(number)
+        time.sleep(0.3)
+        self.assertIsNone(process.poll())
+        self.assertTrue(common.is_alive(program))
+        process.terminate()
+        self.check_ended(process, signal.SIGTERM, program)
+
+    def test_a_signal_while_a_script_begins(self):
+        """While it loads what it needs, of which `argparse` takes long here."""
+        here = self.folder / "here"
+        (self.folder / "argparse.py").write_text(f"import time\nopen({str(here)!r}, 'w')\ntime.sleep(99)\n", encoding="ascii")
+        for script in (*SCRIPTS, "board/referee"):
+            for number in SIGNALS:
+                with self.subTest(script, number=number):
+                    env = {**os.environ, "PYTHONPATH": str(self.folder)}
+                    process = subprocess.Popen(self.command(script, []), stdout=subprocess.PIPE, stderr=subprocess.PIPE, env=env)
+                    self.addCleanup(process.kill)
+                    self.wait_for(here.exists)
+                    process.send_signal(number)
+                    self.assertEqual(process.communicate(timeout=60), (b"", b""))
+                    self.assertEqual(process.returncode, -number)
+                    here.unlink()
+
+    def test_a_signal_while_something_is_begun(self):
+        """It waits until that can be undone, and what is undone afterwards is not undone by a signal."""
+        text = """
+import os, signal, sys, lib
+def begin(name):
+    print("begin", name)
+    os.kill(os.getpid(), signal.SIGTERM if name == sys.argv[1] else 0)
+    print("begun", name, flush=True)
+    return name
+end = lambda name: print("end", name, flush=True)
+with lib.undone(lambda: begin("first"), end):
+    with lib.undone(lambda: begin("second"), end):
+        pass
+    with lib.undone(lambda: begin("third"), end):
+        pass
+"""
+        first, second, third = ([f"{it} {name}" for it in ("begin", "begun", "end")] for name in ("first", "second", "third"))
+        whole = [*first[:2], *second, *third, first[2]]
+        for name, status, wanted in (
+            ("none", 0, whole),
+            ("first", -signal.SIGTERM, first),
+            ("second", -signal.SIGTERM, [*first[:2], *second, first[2]]),
+            ("third", -signal.SIGTERM, whole),
+        ):
+            got = common.run([sys.executable, "-B", "-c", text, name], env={**os.environ, "PYTHONPATH": str(EXAMPLES)})
+            self.assertEqual(got, (status, "".join(f"{it}\n" for it in wanted).encode(), b""), name)
+
+    def test_a_full_device(self):
+        rows = [(script, words) for script, words, _, _, _ in self.answers()]
+        for script, words in [*rows, *((it, ["--help"]) for it in SCRIPTS), ("convert", BOTH[:1]), ("draw", BOTH[:1])]:
+            with self.subTest(script, words=words), open("/dev/full", "wb") as device:
+                env = {**os.environ, "PGBOARD": shlex.quote(str(common.PROGRAM))}
+                done = subprocess.run(self.command(script, words), stdout=device, stderr=subprocess.PIPE, env=env)
+                said = re.sub(b"^modelcheck: size.*\n", b"", done.stderr).decode()
+                self.assertEqual((done.returncode, said), (2, f"{script}: standard output: No space left on device\n"))
+
+    def test_the_answer_comes_before_files(self):
+        """Where a file can't be written, or a picture can't be made, the answer has been printed."""
+        for script, words, _, begins, _ in self.answers():
+            for flag, end in FILES[script].items():
+                _, wanted, _ = self.run_script(script, [*words, flag, self.folder / f"file.{end}"])
+                self.assertTrue(wanted.startswith(begins))
+                got = self.run_script(script, [*words, flag, f"no/file.{end}"])
+                if wanted != "ok\n":
+                    self.assertEqual(got, (2, wanted, f"{script}: no/file.{end}: No such file or directory\n"))
+            got = self.run_script(script, [*words, "--picture", "file.svg"], PATH="/no")
+            if wanted != "ok\n":
+                said = f"{script}: file.svg: no picture without Graphviz: the command dot is not on the PATH\n"
+                self.assertEqual((got[0], got[2]), (2, said))
+                self.assertTrue(got[1].startswith(begins))
+
+    def test_no_standard_error(self):
+        """The size of a game, a warning and a fault do not become output then."""
+        program = self.program(f'echo "pgboard: warning: old" >&2\nexec {common.PROGRAM} "$@"')
+        for words, wanted in (([MUTEX, "true"], (0, b"true\n")), ([MUTEX, "("], (2, b""))):
+            command = ["sh", "-c", 'exec "$@" 2>&-', "", *self.command("modelcheck", words)]
+            self.assertEqual(common.run(command, env={**os.environ, "PGBOARD": program})[:2], wanted)
+
+    def test_quoted_text_has_a_limit(self):
+        """A fault quotes no more than a piece of a text that is long."""
+        long, file = "A" * 5000, str(self.folder / "file")
+        texts = {
+            "convert": [([file], it) for it in (f"0 0 {long};", f"0 {long}", f'"{long}', f"0 0 0 0;{long};")],
+            "draw": [([file], it) for it in (f"0 0 {long};", f"0 {long}", f'"{long}', f'0 0 0 0 "{long}" 1;')],
+            "modelcheck": [
+                ([MUTEX, it], "")
+                for it in (f"<a> {long}", f"mu 1{long}. true", f"<{long}*.!({long}*)> true", f"a {long}", f"nu X. !<{long}> X")
+            ],
+            "synthesise": [
+                ([file], it) for it in (long, *(f"HOA: v1 {it}" for it in (f"{long}:", f'"{long}"', f"AP: 0 Alias: {long} 0", f'Start: "{long}"')))
+            ],
+        }
+        texts["draw"].append((["--trace", file, BOTH[0]], long))
+        texts["convert"] += [(["--solution", file], it) for it in (f"won by even: {'1' * 5000}", f"paritysol 0;\n{long};")]
+        for script, rows in texts.items():
+            for words, text in rows:
+                with self.subTest(script, words=[it[:20] for it in words], text=text[:20]):
+                    pathlib.Path(file).write_text(text, encoding="ascii")
+                    status, out, err = self.run_script(script, words)
+                    self.assertEqual((status, out, err.count("\n")), (2, "", 1))
+                    self.assertLess(len(err), 300)
+        pathlib.Path(file).write_text(f"0 0 {long};", encoding="ascii")
+        wanted = f"draw: {file}:1: not understood: 0 0 {'A' * 56}..\n"
+        self.assertEqual(self.run_script("draw", [file]), (2, "", wanted))
