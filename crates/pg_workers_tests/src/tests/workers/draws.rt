@@ -111,7 +111,7 @@ fn drawn_by_many<R: Threads + Abort + Sync>(
         requires { ticket.series ≡ shared.now.series }
         ensures { (result.series ≡ ticket.series) × (result.told_none ≡ true) }
     {
-        yield_often(before.fetch_add(1, Ordering::SeqCst).wrapping_mul(stride) % 64);
+        yield_often(before.fetch_add(1, Ordering::SeqCst).wrapping_mul(stride) % 8);
         draw_all(shared, ticket, stride)
     };
     let tickets = thread::map_vec(rt, tickets, &draw).expect(rt, "memory");

@@ -17,7 +17,6 @@ use pg_workers::{Gate, Outcome, Pass};
 use std::alloc::Global;
 use std::process::Abort;
 use std::sync::{Mutex, Wait};
-use std::thread;
 use std::thread::Threads;
 
 const GAMES: u64 = 50;
@@ -34,8 +33,9 @@ const LEAST_ORDERS: usize = 38;
 /// The jobs of a game of at most 64 vertices.
 const JOBS: u32 = 5;
 
-/// How often a worker looks for the others' progress before it continues anyway.
-const LOOKS: u32 = 40;
+/// How often a worker looks for the others' progress before it continues anyway: some microseconds. It yields no
+/// processor, since on a busy machine it would get none again for milliseconds.
+const LOOKS: u32 = 100;
 
 /// What is drawn next, and how many calls there were.
 #[derive(Drop)]
@@ -75,7 +75,6 @@ impl Schedule {
             if self.progress.lock(rt).calls >= until {
                 return;
             }
-            thread::yield_now();
         }
     }
 }
