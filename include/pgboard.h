@@ -1,8 +1,8 @@
 /* pgboard solves max-parity games and checks solutions, for programs with games in memory.
  *
  * Each call returns a number: 0, or one of those below. If it is 0, both fields of `report` are 0. Else `report` says
- * where the fault is, and the call writes nothing but `report`. No pointer may be null, even with length 0. No array or struct
- * that a call writes may overlap another.
+ * where the fault is, and the call writes nothing but `report`; pgboard_board_advance may have written more. No pointer may be
+ * null, even with length 0. No array or struct that a call writes may overlap another.
  *
  * The calls start no thread, wait for nothing and keep nothing but open boards. Several threads may make calls at once. They may
  * share what a call only reads, such as a game; each needs its own results and report, and its turn at a board. No thread may
@@ -133,7 +133,7 @@ uint32_t pgboard_version(void);
                                   * that is neither in the claim nor settled for the player (from, to) */
 
 /* a bound on the recursion */
-#define PGBOARD_GAVE_UP 90u /* it needs more steps than the call allows */
+#define PGBOARD_GAVE_UP 90u /* it needs more steps than the call allows; of pgboard_board_advance: something is left to settle */
 
 /* The array or struct of an answer. */
 #define PGBOARD_ARRAY_PRIORITIES 1u
@@ -232,8 +232,8 @@ uint32_t pgboard_verify_text(const uint8_t *game, size_t game_len, const uint8_t
  * is an entry of the board's journal. Entries are numbered from 0.
  *
  * Set the struct to zero before the first call: that is a closed board. Never look into it, and never copy one that is open.
- * After any answer but PGBOARD_OK the board is unchanged. Each call has a board for itself, also one that only reads. Threads
- * that share a board take turns:
+ * After any answer but PGBOARD_OK the board is unchanged, except after pgboard_board_advance. Each call has a board for itself,
+ * also one that only reads. Threads that share a board take turns:
  *
  *     static pthread_mutex_t turn = PTHREAD_MUTEX_INITIALIZER;
  *     pthread_mutex_lock(&turn);
@@ -278,6 +278,11 @@ struct pgboard_entry {
 PGBOARD_CALL
 uint32_t pgboard_board_open(struct pgboard_board *board, const struct pgboard_game *game, struct pgboard_report *report);
 
+/* The same with a game in PGSolver's format. The board numbers the vertices from 0 on, in the order of their identifiers. The
+ * faults are PGBOARD_BOARD_OPEN, which comes first, and those of a game's text. */
+PGBOARD_CALL
+uint32_t pgboard_board_open_text(struct pgboard_board *board, const uint8_t *game, size_t game_len, struct pgboard_report *report);
+
 /* Posts a claim. The faults are PGBOARD_BOARD_CLOSED, PGBOARD_SIZE and those of a claim that is posted. A claim that was found on
  * an earlier state is posted too: vertices that are settled for the player by then are no fault, but for PGBOARD_POST_STALE. */
 PGBOARD_CALL
@@ -311,9 +316,24 @@ uint32_t pgboard_board_finish(struct pgboard_board *board, struct pgboard_report
 PGBOARD_CALL
 uint32_t pgboard_board_finish_within(struct pgboard_board *board, uint64_t steps, struct pgboard_report *report);
 
+/* Settles more of what is left, by the posts of pgboard_board_finish in the same order. A call makes one search or, after the last
+ * search, takes up to `*steps` steps of the recursion. It leaves in `*steps` the number of steps that it did not take; a search takes
+ * none. The answer is PGBOARD_OK once all is settled, and PGBOARD_GAVE_UP before that. What is settled stays, whatever the answer.
+ * The next call goes on where this one ended. If something was posted in between, or memory was refused, it begins anew. So a
+ * program can do something else between two calls, or stop. The other faults are PGBOARD_BOARD_CLOSED and PGBOARD_MEMORY. */
+PGBOARD_CALL
+uint32_t pgboard_board_advance(struct pgboard_board *board, uint64_t *steps, struct pgboard_report *report);
+
 /* Writes the solution of a full board, as pgboard_solve does. Of another the fault is PGBOARD_BOARD_UNSETTLED. */
 PGBOARD_CALL
 uint32_t pgboard_board_solution(struct pgboard_board *board, struct pgboard_results *results, struct pgboard_report *report);
+
+/* Writes the solution's text of a full board, as pgboard_solve_text does. The identifiers are those of the game's text; of a game in
+ * arrays they are the vertices. PGBOARD_TEXT_BOUND(game_len) bytes suffice for a text's game. The faults are PGBOARD_BOARD_CLOSED,
+ * PGBOARD_BOARD_UNSETTLED, PGBOARD_CAPACITY and PGBOARD_MEMORY. */
+PGBOARD_CALL
+uint32_t pgboard_board_solution_text(struct pgboard_board *board, uint8_t *into, size_t into_len, size_t *size,
+                                     struct pgboard_report *report);
 
 /* Closes a board: frees it, if it is open. */
 void pgboard_board_close(struct pgboard_board *board);

@@ -261,6 +261,21 @@ class board {
         pgboard_report report;
         detail::judge(pgboard_board_open(&held, &arrays, &report), report);
     }
+    // A board of a game's text; its vertices have numbers from 0 on, in the order of their identifiers.
+    static board open_text(std::string_view game)
+    {
+        board opened;
+        pgboard_report report;
+        detail::judge(pgboard_board_open_text(&opened.held, detail::bytes(game), game.size(), &report), report);
+        // nothing is settled, so there is no text to write: the report has the number of vertices
+        std::uint8_t nothing;
+        std::size_t unused;
+        const std::uint32_t answer = pgboard_board_solution_text(&opened.held, &nothing, 0, &unused, &report);
+        if (answer != PGBOARD_BOARD_UNSETTLED)
+            detail::judge(answer, report);
+        opened.size = static_cast<std::size_t>(report.at);
+        return opened;
+    }
     board(board &&other) noexcept : held(std::exchange(other.held, {})), size(other.size) {}
     board &operator=(board other) noexcept
     {
@@ -328,10 +343,46 @@ class board {
     }
     void finish_within(std::uint64_t steps) { detail::judge(try_finish_within(steps), {}); }
 
-    // The solution of a full board.
+    // Makes one search of those that are left or, after the last one, takes up to so many steps of the recursion, and leaves in `steps`
+    // the number of steps that it did not take. PGBOARD_OK once all is settled, and PGBOARD_GAVE_UP before: call it again then.
+    std::uint32_t try_advance(std::uint64_t &steps)
+    {
+        pgboard_report report;
+        return pgboard_board_advance(&held, &steps, &report);
+    }
+    // The same, as whether all is settled.
+    bool advance(std::uint64_t &steps)
+    {
+        const std::uint32_t answer = try_advance(steps);
+        if (answer != PGBOARD_GAVE_UP)
+            detail::judge(answer, {});
+        return answer == PGBOARD_OK;
+    }
+
+    // The solution of a full board, and its text.
     pgboard::solution solution() const { return results(pgboard_board_solution); }
+    std::string solution_text() const
+    {
+        // (a row of the game's arrays takes up to 20 bytes)
+        std::string into(size * 20 + 20, '\0');
+        std::size_t written = 0;
+        pgboard_report report;
+        const auto write = [&] {
+            return pgboard_board_solution_text(&held, reinterpret_cast<std::uint8_t *>(into.data()), into.size(), &written, &report);
+        };
+        std::uint32_t answer = write();
+        if (answer == PGBOARD_CAPACITY) {
+            into.resize(static_cast<std::size_t>(report.at)); // the size of the text
+            answer = write();
+        }
+        detail::judge(answer, report);
+        into.resize(written);
+        return into;
+    }
 
   private:
+    board() = default;
+
     template <class Call> pgboard::solution results(Call call) const
     {
         return detail::judged(detail::written(size, [&](auto *results, auto *report) { return call(&held, results, report); }));
@@ -339,7 +390,7 @@ class board {
 
     // (C's readers take a board that is not const)
     mutable pgboard_board held{};
-    std::size_t size;
+    std::size_t size = 0;
 };
 
 inline entry journal::iterator::operator*() const

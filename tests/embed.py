@@ -5,6 +5,7 @@ include/pgboard.h declares the exports of crates/pgboard_c and has the fields th
 has its text; it is C89 and C++. tests/embed/test.c goes through each answer by its name, also with sanitizers; on random games it
 gives the solution of the program's one worker, and so does tests/embed/test.cpp with include/pgboard.hpp. tests/embed/board.c goes
 through the calls on boards, also under valgrind, and has eight threads post on one board, which is replayed on a plain one.
+tests/embed/advance.c finishes boards part by part, and tests/embed/board_texts.c has boards of texts.
 tests/embed/large.c has games of many vertices: limits of time, of stack, of steps and of memory. The C programs of docs/INTEROP.md, built by
 the commands there, print what it says there. The tests of bindings/python pass under each Python that is installed.
 
@@ -37,6 +38,8 @@ ARCHIVES = [OTHER or CRATE / "out" / "libpgboard_c.a", KIT / "c" / "liblibc_c.a"
 GAMES = 300
 # games on which eight threads post
 THREADED = 100
+# games of the tests of boards that are finished part by part, and of boards of texts
+ADVANCED, SPELLED = 3000, 500
 NO_CHOICE, NO_WINNER = 2**32 - 1, 255
 WARNINGS = ["-Wall", "-Wextra", "-Werror", "-pedantic", "-Iinclude"]
 FLAGS = ["-std=c11", *WARNINGS, "-O1"]
@@ -48,6 +51,7 @@ TYPES = {
     "&mut [u8]": "uint8_t *",
     "&mut [u32]": "uint32_t *",
     "&mut usize": "size_t *",
+    "&mut u64": "uint64_t *",
     "&Arrays": "const struct pgboard_game *",
     "&SolutionArrays": "const struct pgboard_solution *",
     "&mut Results": "struct pgboard_results *",
@@ -218,7 +222,7 @@ class Embed(unittest.TestCase):
     def test_the_header_declares_what_the_crate_exports(self):
         declared = {re.sub(r"\s+", " ", it) for it in re.findall(r"(?ms)^(?:uint32_t|uint64_t|void) [^;]*;", HEADER)}
         self.assertEqual(declared, set(prototypes()))
-        self.assertEqual(len(declared), 20)
+        self.assertEqual(len(declared), 23)
 
     def test_the_header_has_the_structs_of_the_crate(self):
         lines = ["#include <stddef.h>", '#include "pgboard.h"', "int main(void) { return 0; }"]
@@ -237,7 +241,7 @@ class Embed(unittest.TestCase):
         shown = in_one("\n".join(lines).split(".SH DESCRIPTION")[0])
         calls = {in_one(it) for it in re.findall(r"(?ms)^(?:uint32_t|uint64_t|void) [^;]*;", HEADER)}
         calls |= {f"{it};" for it in re.findall(r"(?m)^PGBOARD_INLINE (const char .*\))$", HEADER)}
-        self.assertEqual(len(calls), 22)
+        self.assertEqual(len(calls), 25)
         structs = {in_one(it) for it in re.findall(r"(?ms)^struct \w+ \{.*?^\};", HEADER)}
         self.assertEqual(len(structs), 9)
         self.assertEqual(set(re.findall(r"(?:const char \*|\w+ )pgboard_\w+\([^;{]*\);", shown)), calls)
@@ -309,11 +313,19 @@ class Embed(unittest.TestCase):
             with self.subTest(name):
                 self.passes(self.built_board(name, flags))
 
+    def test_a_board_that_is_finished_part_by_part_and_one_of_a_text(self):
+        for name, flags in (("plain", []), ("with sanitizers", SANITIZERS)):
+            for source, games in (("advance", ADVANCED), ("board_texts", SPELLED)):
+                with self.subTest(name, source=source):
+                    self.passes(self.built_board(name, flags, source), str(games if name == "plain" else games // 10))
+
     @common.needs("valgrind")
     def test_a_board_under_valgrind(self):
-        program = self.built_board("for valgrind", ["-g"])
-        status, out, err = run(["valgrind", "-q", "--error-exitcode=9", "--leak-check=full", "--errors-for-leak-kinds=all", program])
-        self.assertEqual(status, 0, out + err)
+        for source, games in (("board", []), ("advance", ["10"]), ("board_texts", ["5"])):
+            with self.subTest(source):
+                program = self.built_board("for valgrind", ["-g"], source)
+                status, out, err = run(["valgrind", "-q", "--error-exitcode=9", "--leak-check=full", "--errors-for-leak-kinds=all", program, *games])
+                self.assertEqual(status, 0, out + err)
 
     def test_threads_that_share_a_board(self):
         answers = collections.Counter()
@@ -326,9 +338,9 @@ class Embed(unittest.TestCase):
         # each kind of answer came
         self.assertEqual(answers.keys(), {"PLAYER", "LENGTHS", "SHAPE", "CYCLE", "LOST", "STALE", "OPEN", "OK"})
 
-    def built_board(self, name, flags):
-        program = self.folder / f"board {name}"
-        self.built([*FLAGS, *flags, *REFUSING, "tests/embed/board.c", *ARCHIVES, "-o", program, "-lpthread"])
+    def built_board(self, name, flags, source="board"):
+        program = self.folder / f"{source} {name}"
+        self.built([*FLAGS, *flags, *REFUSING, f"tests/embed/{source}.c", *ARCHIVES, "-o", program, "-lpthread"])
         return program
 
     def test_the_header_for_cpp(self):
@@ -348,8 +360,8 @@ class Embed(unittest.TestCase):
             said = "pgboard.hpp needs exceptions: with -fno-exceptions include pgboard.h" in err
             self.assertEqual((status == 0, said), (header == "pgboard.h", header == "pgboard.hpp"), err)
 
-    def passes(self, test):
-        status, out, err = run([test])
+    def passes(self, test, *words):
+        status, out, err = run([test, *words])
         self.assertEqual(status, 0, out + err)
         self.assertRegex(out, r"(?m)^[1-9]\d* passed, 0 failed$")
 
@@ -361,7 +373,7 @@ class Embed(unittest.TestCase):
 
     def test_the_c_programs_of_the_pages(self):
         programs, commands = pages.c_programs(common.text_of(pages.C_PAGE))
-        self.assertEqual(len(programs), 2)
+        self.assertEqual(len(programs), 3)
         for name in ("crates", "include"):
             (self.folder / name).symlink_to((common.PROVED if name == "crates" else common.ROOT) / name)
         for program, printed in programs:

@@ -51,8 +51,6 @@ HERE = os.path.dirname(os.path.abspath(__file__))
 HEADER = pathlib.Path(HERE, "..", "..", "include", "pgboard.h")
 # the proved program, which gets the same games as text
 PROGRAM = os.environ.get("PGBOARD_PROGRAM")
-# a call on more bytes than this is made by a child process
-SMALL = pgboard.library.SMALL
 
 
 def random_game(numbers):
@@ -515,7 +513,7 @@ class Faults(Tests):
 
     def test_survive_pickling(self):
         faults = [pgboard.Leaves(3, 4), pgboard.BadLengths(2), pgboard.OutOfMemory(), pgboard.MissingAttribute(1, "x", "owner")]
-        for it in [*faults, pgboard.TimedOut(), pgboard.Cancelled(), pgboard.HelperFailed("ended")]:
+        for it in [*faults, pgboard.TimedOut(), pgboard.Cancelled()]:
             again = pickle.loads(pickle.dumps(it))
             self.assertEqual((type(again), str(again), vars(again)), (type(it), str(it), vars(it)))
 

@@ -5,32 +5,7 @@
 #include <string.h>
 
 #include "expect.h"
-#include "pgboard.h"
-
-/* of a game, and of a random one */
-#define MOST 130
-#define SOME 64
-
-/* A game as arrays, and the structs over them. */
-static size_t n;
-static uint8_t owners[MOST], winners[MOST];
-static uint32_t priorities[MOST], starts[MOST + 1], targets[MOST * 4], choices[MOST];
-static struct pgboard_board board;
-static struct pgboard_report report;
-static struct pgboard_posted posted;
-
-static struct pgboard_game game(void)
-{
-    struct pgboard_game it = {.size = sizeof it, .owners = owners, .owners_len = n, .priorities = priorities, .priorities_len = n,
-                              .starts = starts, .starts_len = n + 1, .targets = targets, .targets_len = starts[n]};
-    return it;
-}
-
-static struct pgboard_results results(void)
-{
-    struct pgboard_results it = {.size = sizeof it, .winners = winners, .winners_len = n, .choices = choices, .choices_len = n};
-    return it;
-}
+#include "boards.h"
 
 /* Even owns 0 and 2, Odd owns 1. From 0 to 0 and 1, from 1 to 1, from 2 to 0 and 1. Even wins 0 and 2, and Odd wins 1. */
 static void three(void)
@@ -43,62 +18,10 @@ static void three(void)
     memcpy(targets, some_targets, sizeof some_targets);
 }
 
-static uint32_t opens(void)
-{
-    struct pgboard_game it = game();
-    return pgboard_board_open(&board, &it, &report);
-}
-
-static uint32_t post(uint32_t worker, uint32_t player, const uint32_t *vertices, size_t vertices_len, const uint32_t *chosen,
-                     size_t chosen_len)
-{
-    struct pgboard_claim it = {.size = sizeof it, .worker = worker, .player = player, .vertices = vertices, .vertices_len = vertices_len,
-                               .choices = chosen, .choices_len = chosen_len};
-    return pgboard_board_post(&board, &it, &posted, &report);
-}
-
 /* A claim of one vertex. */
 static uint32_t post_one(uint32_t player, uint32_t v, uint32_t choice)
 {
     return post(7, player, &v, 1, &choice, 1);
-}
-
-static uint32_t state(void)
-{
-    struct pgboard_results it = results();
-    return pgboard_board_state(&board, &it, &report);
-}
-
-static uint32_t solution(void)
-{
-    struct pgboard_results it = results();
-    return pgboard_board_solution(&board, &it, &report);
-}
-
-/* All that can be read of the board: the state, and the rows of the journal. */
-struct view {
-    uint8_t winners[MOST];
-    uint32_t choices[MOST], vertices[MOST], chosen[MOST];
-    struct pgboard_entry entries[MOST];
-    uint64_t settled, count;
-};
-
-static struct view view(void)
-{
-    struct view it;
-    struct pgboard_report unused;
-    struct pgboard_results into = {.size = sizeof into, .winners = it.winners, .winners_len = n, .choices = it.choices, .choices_len = n};
-    size_t at = 0;
-    memset(&it, 0, sizeof it);
-    it.settled = pgboard_board_settled(&board), it.count = pgboard_board_entries(&board);
-    if (pgboard_board_state(&board, &into, &unused) != PGBOARD_OK)
-        return it;
-    for (uint64_t number = 0; number < it.count; number++) {
-        EXPECT(pgboard_board_entry(&board, number, &it.entries[number], it.vertices + at, MOST - at, it.chosen + at, MOST - at, &unused) == PGBOARD_OK);
-        at += it.entries[number].rows;
-    }
-    EXPECT(at == it.settled);
-    return it;
 }
 
 /* The call's answer and report, and that it has changed neither the board nor the arrays for results. */
@@ -179,7 +102,6 @@ static void is_closed_at_first(void)
     EXPECT(!board.live);
 }
 
-#define NONE PGBOARD_NO_CHOICE
 static const uint32_t no_rows[1];
 static uint32_t posts_size(void)
 {
@@ -284,56 +206,6 @@ static void refuses_memory(uint32_t (*finish)(void))
     pgboard_board_close(&board);
 }
 
-/* Random numbers (xorshift). */
-static uint64_t drawn(uint64_t *seed, uint64_t below)
-{
-    *seed ^= *seed << 13, *seed ^= *seed >> 7, *seed ^= *seed << 17;
-    return (*seed >> 11) % below;
-}
-
-static void random_game(uint64_t *seed)
-{
-    n = 2 + drawn(seed, SOME - 2);
-    starts[0] = 0;
-    for (size_t v = 0; v < n; v++) {
-        owners[v] = (uint8_t)drawn(seed, 2), priorities[v] = (uint32_t)drawn(seed, 7);
-        starts[v + 1] = starts[v] + 1 + (uint32_t)drawn(seed, 3);
-        for (uint32_t e = starts[v]; e < starts[v + 1]; e++)
-            targets[e] = (uint32_t)drawn(seed, n);
-    }
-}
-
-/* The recursive ladder (Friedmann 2011), on which the recursion takes time exponential in the levels. */
-static void ladder(uint32_t levels)
-{
-    uint32_t a = 0, b = levels, c = 2 * levels, d = 3 * levels, e = 4 * levels, to = 0;
-    n = 5 * levels;
-    for (uint32_t kind = 0; kind < 5; kind++)
-        for (uint32_t i = 0; i < levels; i++) {
-            uint32_t v = kind * levels + i, is_odd = i % 2;
-            starts[v] = to;
-            if (kind == 0)
-                owners[v] = (uint8_t)is_odd, priorities[v] = is_odd, targets[to++] = b + i, targets[to++] = d + i;
-            if (kind == 1)
-                owners[v] = (uint8_t)!is_odd, priorities[v] = is_odd, targets[to++] = a + i;
-            if (kind == 1 && i + 1 < levels)
-                targets[to++] = c + i + 1;
-            if (kind == 2)
-                owners[v] = (uint8_t)!is_odd, priorities[v] = 3 * i + 5, targets[to++] = b + i, targets[to++] = d + i;
-            if (kind == 3)
-                owners[v] = (uint8_t)is_odd, priorities[v] = 3 * i + 4, targets[to++] = e + i;
-            if (kind == 3 && i > 0)
-                targets[to++] = d + i - 1;
-            if (kind == 3 && i + 1 < levels)
-                targets[to++] = d + i + 1;
-            if (kind == 4)
-                owners[v] = (uint8_t)!is_odd, priorities[v] = 3 * i + 3, targets[to++] = d + i;
-            if (kind == 4 && i > 0)
-                targets[to++] = b + i - 1;
-        }
-    starts[n] = to;
-}
-
 /* The least bound with which a call does not give up, by halving. The board is a new one before each call, and at the end. */
 static uint64_t least_bound(uint32_t (*call)(void))
 {
@@ -352,18 +224,6 @@ static uint64_t least_bound(uint32_t (*call)(void))
     pgboard_board_close(&board);
     EXPECT(opens() == PGBOARD_OK);
     return least;
-}
-
-/* Six vertices of priority 0. Each set that Even wins without leaving it has five or more, so no search finds one, and the recursion
- * solves them in one step. The last vertex is Odd's own loop. */
-static void seven(void)
-{
-    static const uint32_t some_targets[] = {2, 3, 3, 4, 1, 3, 1, 5, 1, 2, 2, 3, 6};
-    n = 7;
-    for (uint32_t v = 0; v < n; v++)
-        owners[v] = v % 2 || v == 6, priorities[v] = v == 6, starts[v] = 2 * v;
-    starts[n] = 13;
-    memcpy(targets, some_targets, sizeof some_targets);
 }
 
 /* Without a step for six vertices that are left, and with one. */
@@ -455,35 +315,7 @@ static void has_no_effect_with_steps_enough(void)
     }
 }
 
-/* The winners and the choices, of which the threads make claims. */
-static uint8_t right_winners[MOST];
-static uint32_t right_choices[MOST];
 static pthread_mutex_t turn = PTHREAD_MUTEX_INITIALIZER;
-
-struct rows {
-    uint32_t worker, player, vertices[MOST + 1], choices[MOST + 1];
-    size_t vertices_len, choices_len;
-};
-
-/* All that the player reaches by the solution's kept edges from a vertex that he wins. */
-static struct rows good_claim(uint64_t *seed)
-{
-    struct rows it = {0};
-    char in[MOST] = {0};
-    size_t v = drawn(seed, n);
-    it.player = right_winners[v], in[v] = 1;
-    for (size_t turn_of = 0; turn_of < n; turn_of++)
-        for (v = 0; v < n; v++)
-            for (uint32_t e = starts[v]; in[v] && e < starts[v + 1]; e++)
-                if (owners[v] != it.player || targets[e] == right_choices[v])
-                    in[targets[e]] = 1;
-    for (v = 0; v < n; v++)
-        if (in[v]) {
-            it.vertices[it.vertices_len++] = (uint32_t)v;
-            it.choices[it.choices_len++] = owners[v] == it.player ? right_choices[v] : NONE;
-        }
-    return it;
-}
 
 /* A good claim, or one with something wrong. */
 static struct rows random_claim(uint64_t *seed)

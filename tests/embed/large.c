@@ -1,6 +1,6 @@
 /* Games of many vertices: two on which the recursion alone takes a time that is quadratic in their size, one that is left to the
  * recursion, random ones on which it alone takes more steps than anyone waits for, and the memory that a call asks for. The library
- * searches first, as the program does. */
+ * searches first, as the program does. One board is finished part by part, by short calls. */
 #include <pthread.h>
 #include <string.h>
 #include <time.h>
@@ -10,6 +10,8 @@
 
 #define N 65536u
 #define SECONDS 5.0
+/* of a call that finishes a part */
+#define SHORT 0.5
 /* of a random game */
 #define VERTICES 2000u
 #define STEPS 10000u
@@ -83,12 +85,35 @@ static void is_not_quadratic(enum kind kind)
     EXPECT(right == n);
 }
 
+/* The game is solved; a board of it is finished part by part, by calls of which none takes long. */
+static void is_advanced_by_short_calls(void)
+{
+    struct pgboard_board board = {0};
+    struct pgboard_game it = game();
+    struct pgboard_results more = results(again, others);
+    double longest = 0;
+    uint64_t calls = 0, taken = 0;
+    uint32_t answer;
+    EXPECT(pgboard_board_open(&board, &it, &report) == PGBOARD_OK);
+    do {
+        uint64_t steps = 1;
+        clock_t begun = clock();
+        answer = pgboard_board_advance(&board, &steps, &report);
+        double took = (double)(clock() - begun) / CLOCKS_PER_SEC;
+        longest = took > longest ? took : longest, calls++, taken += 1 - steps;
+    } while (answer == PGBOARD_GAVE_UP);
+    EXPECT(answer == PGBOARD_OK && calls > taken && taken > 0 && longest < SHORT);
+    EXPECT(pgboard_board_solution(&board, &more, &report) == PGBOARD_OK && memcmp(winners, again, n) == 0);
+    pgboard_board_close(&board);
+}
+
 /* On 64 KB of stack. */
 static void *need_little_stack(void *unused)
 {
     is_not_quadratic(LOOPS);
     is_not_quadratic(PATH);
     is_not_quadratic(SPREAD);
+    is_advanced_by_short_calls();
     return unused;
 }
 

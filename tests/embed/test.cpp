@@ -179,6 +179,93 @@ static void readers()
     EXPECT(count == 10 && other.settled() == 10 && other.entry(0).worker == 0 && other.entry(9).worker == 0);
 }
 
+// All entries of a board, as text.
+static std::string journal_of(const pgboard::board &board)
+{
+    std::string all;
+    for (const pgboard::entry &it : board.journal()) {
+        all += std::to_string(it.worker) + ' ' + std::to_string(it.player) + ' ' + std::to_string(it.claimed);
+        for (std::size_t k = 0; k < it.vertices.size(); k++)
+            all += ' ' + std::to_string(it.vertices[k]) + ':' + std::to_string(it.choices[k]);
+        all += '\n';
+    }
+    return all;
+}
+
+// A board that is finished part by part, with no step and with all of them in the last call.
+static void parts()
+{
+    pgboard::board board(five), finished(five);
+    finished.finish();
+    std::uint64_t steps = 0;
+    for (int k = 0; k < 3000; k++)
+        EXPECT(!board.advance(steps) && steps == 0);
+    EXPECT(board.try_advance(steps) == PGBOARD_GAVE_UP && steps == 0 && board.settled() < 5);
+    const std::uint64_t given = std::uint64_t{1} << 40;
+    steps = given;
+    EXPECT(board.advance(steps) && board.settled() == 5 && steps < given);
+    const std::uint64_t taken = given - steps;
+    EXPECT(board.advance(steps) && board.try_advance(steps) == PGBOARD_OK && given - steps == taken);
+    EXPECT(journal_of(board) == journal_of(finished) && board.solution().choices == finished.solution().choices);
+    EXPECT(pgboard::board(five).try_finish_within(taken) == PGBOARD_OK && pgboard::board(five).try_finish_within(taken - 1) == PGBOARD_GAVE_UP);
+    // the caller may stop, post what it has found, and go on
+    pgboard::board stopped(two);
+    EXPECT(stopped.post(1, {1}, {1}, 8).entry == 0);
+    steps = 1;
+    while (!stopped.advance(steps))
+        steps = 1;
+    EXPECT((stopped.solution().winners == std::vector<std::uint8_t>{0, 1}) && stopped.entry(0).worker == 8 && stopped.entry(1).worker == 0);
+    pgboard::board moved(std::move(stopped));
+    EXPECT(refuses(PGBOARD_BOARD_CLOSED, 0, 0, [&] { stopped.advance(steps); }) && stopped.try_advance(steps) == PGBOARD_BOARD_CLOSED);
+    EXPECT(moved.advance(steps));
+    EXPECT(runs_out([] {
+        pgboard::board some(five);
+        std::uint64_t more = 9;
+        while (!some.advance(more))
+            continue;
+    }));
+}
+
+// A board of a text, and the text of its solution.
+static void board_texts()
+{
+    const std::string text = "9 1 1 9; 3 2 0 3, 9 \"a name\";";
+    pgboard::board board = pgboard::board::open_text(text);
+    EXPECT(board.settled() == 0 && board.entries() == 0);
+    EXPECT((board.state().winners == std::vector<std::uint8_t>{PGBOARD_NO_WINNER, PGBOARD_NO_WINNER}));
+    EXPECT(refuses(PGBOARD_BOARD_UNSETTLED, 2, 0, [&] { board.solution_text(); }));
+    // the vertices 3 and 9 are 0 and 1
+    EXPECT(board.post(1, {1}, {1}).settled == 1);
+    EXPECT(refuses(PGBOARD_BOARD_UNSETTLED, 1, 0, [&] { board.solution_text(); }));
+    board.finish();
+    EXPECT((board.solution().winners == std::vector<std::uint8_t>{0, 1}) && board.solution_text() == "paritysol 9;\n3 0 3;\n9 1 9;\n");
+    board = pgboard::board(two);
+    board.finish();
+    EXPECT(board.solution_text() == "paritysol 1;\n0 0 0;\n1 1 1;\n");
+    EXPECT(refuses(PGBOARD_GAME_LEXICAL, 6, 0, [] { pgboard::board::open_text("0 0 0 ?;"); }));
+    EXPECT(refuses(PGBOARD_GAME_SYNTAX, 0, 0, [] { pgboard::board::open_text({}); }));
+    EXPECT(refuses(PGBOARD_UNKNOWN, 7, 8, [] { pgboard::board::open_text("7 0 0 7, 8;"); }));
+    pgboard::board moved(std::move(board));
+    EXPECT(refuses(PGBOARD_BOARD_CLOSED, 0, 0, [&] { board.solution_text(); }));
+    // texts with short rows and with long ones
+    for (std::uint32_t first : {0u, 10u, 999990u, 2147483600u})
+        for (std::uint32_t count : {1u, 2u, 40u}) {
+            std::string loops;
+            for (std::uint32_t v = first; v < first + count; v++)
+                loops += std::to_string(v) + " 0 " + std::to_string(v % 2) + ' ' + std::to_string(v) + ";\n";
+            pgboard::board other = pgboard::board::open_text(loops);
+            EXPECT(other.state().winners.size() == count);
+            other.finish();
+            EXPECT(other.solution_text() == pgboard::solve_text(loops));
+        }
+    EXPECT(runs_out([&] { pgboard::board::open_text(text); }));
+    EXPECT(runs_out([&] {
+        pgboard::board some = pgboard::board::open_text(text);
+        some.finish();
+        some.solution_text();
+    }));
+}
+
 // Boards of other sizes are moved, and memory is refused.
 static void sizes_and_memory()
 {
@@ -284,6 +371,8 @@ int main(int argc, char **argv)
     views();
     answers();
     readers();
+    parts();
+    board_texts();
     sizes_and_memory();
     std::cout << passed << " passed, " << failed << " failed\n";
     return failed != 0;

@@ -8,8 +8,8 @@ Vertices are 0, 1 and so on. Player 0 is Even, who wins a play where the greates
 
 The library is the file that the environment variable PGBOARD_LIBRARY names, else libpgboard.so beside this file, as the wheel
 of ./package has it, else crates/pgboard_c/out/libpgboard.so of the repository, else the one of the system. Without one the
-import fails, and says what to do. A helper process makes each call that may take long. So Ctrl-C ends a call of the main thread, and
-`timeout` and `cancel` those of any thread. A `Board` is in the program's own memory, so its calls but for `finish` can't be ended.
+import fails, and says what to do. A call that solves works in slices, and between two of them Python handles signals. So Ctrl-C ends
+such a call of the main thread, and `timeout` and `cancel` those of any thread.
 """
 
 from __future__ import annotations
@@ -23,8 +23,10 @@ from .arrays import (
 )  # fmt: skip
 from .board import Board, Entries, Entry, Posted
 from .faults import *  # noqa: F401,F403
-from .helpers import Cancel, Limits, limits_of
-from .library import NO_CHOICE, NO_WINNER, Ints, bound, run
+from .library import NO_CHOICE, NO_WINNER, bound, owned, run, written
+from .native import span_of, struct_of
+from .slices import Cancel, limits_of
+from .solving import blank_text, solve_arrays, solve_bytes
 from .version import __version__
 
 __all__ = [
@@ -56,19 +58,18 @@ def solve_csr(
     exponential time on some games: GaveUp is raised if it begins more subgames. There may not be both. With `dead_ends` a vertex without
     successors is lost by its owner. With `least` the least priority that is seen again and again decides.
 
-    Raises TimedOut after `timeout` seconds, and Cancelled once another thread calls `cancel.cancel()`. Raises Refused, NotKnown,
-    OutOfMemory or HelperFailed too, and TypeError for other arguments."""
+    Raises TimedOut after `timeout` seconds, and Cancelled once another thread calls `cancel.cancel()`. Raises Refused, NotKnown or
+    OutOfMemory too, and TypeError for other arguments."""
     if known is not None and steps is not None:
         raise TypeError("known and steps can't be given together")
     number, limits = bound(steps), limits_of(timeout, cancel)
     rows = rows_of_matrix(indptr, indices)
     game = game_views(owners, priorities, *rows, dead_ends, least)
-    size = len(game[0])
-    found = Solution(array("B", bytes(size)), array("I", bytes(4 * size)))
-    given = [game] if known is None else [game, claim_views(*known)]
-    name = "pgboard_solve_known" if known is not None else "pgboard_solve_within" if steps is not None else "pgboard_solve"
-    run_arrays(name, given, found, rows, number, limits)
-    return found
+    claims = None if known is None else claim_views(*known)
+    try:
+        return solve_arrays(owned(game), None if claims is None else owned(claims), number, limits)
+    except faults.UnknownSuccessor as fault:
+        raise as_given(fault, view_of("indptr", rows[0], "I"), rows[1]) from None
 
 
 def verify_csr(
@@ -81,22 +82,13 @@ def verify_csr(
     *,
     dead_ends: bool = False,
     least: bool = False,
-    timeout: Optional[float] = None,
-    cancel: Optional[Cancel] = None,
 ) -> None:
     """Looks whether winners and choices are a solution of a game, all as `solve_csr` takes and returns them, and raises NotASolution
     with what is wrong first if they are none. Raises what `solve_csr` does too. (`indices` is None where `indptr` is a matrix.)"""
     rows = rows_of_matrix(indptr, indices)
-    given = [game_views(owners, priorities, *rows, dead_ends, least), claim_views(winners, choices)]
-    run_arrays("pgboard_check", given, [], rows, None, limits_of(timeout, cancel))
-
-
-def run_arrays(
-    name: str, given: List[List[memoryview]], results: Sequence[Ints], rows: Tuple[Buffer, Buffer], steps: Optional[int], limits: Limits
-) -> None:
-    """Makes a call on a game and what else is given. An unknown successor is reported as it is in the caller's buffer."""
+    given = [owned(game_views(owners, priorities, *rows, dead_ends, least)), owned(claim_views(winners, choices))]
     try:
-        run(name, given, results, steps, limits)
+        run("pgboard_check", *map(struct_of, given))
     except faults.UnknownSuccessor as fault:
         raise as_given(fault, view_of("indptr", rows[0], "I"), rows[1]) from None
 
@@ -132,34 +124,25 @@ def verify(
     *,
     dead_ends: bool = False,
     least: bool = False,
-    timeout: Optional[float] = None,
-    cancel: Optional[Cancel] = None,
 ) -> None:
     """Looks whether winners and choices are a solution of a game, and raises NotASolution with what is wrong first if they
     are none. A choice may be None. Raises what `solve` does too."""
     game, claims = game_of(owners, priorities, successors), claims_of(winners, choices)
-    verify_csr(*game, *claims, dead_ends=dead_ends, least=least, timeout=timeout, cancel=cancel)
+    verify_csr(*game, *claims, dead_ends=dead_ends, least=least)
 
 
-def text_view(text: Text) -> memoryview:
+def text_bytes(text: Text) -> bytes:
     if isinstance(text, str):
-        return memoryview(text.encode("utf-8", "surrogateescape"))
+        return text.encode("utf-8", "surrogateescape")
     if isinstance(text, bytes):
-        return memoryview(text)
+        return text
     raise TypeError(f"a text is bytes or str, not {type(text).__name__}")
-
-
-def written(name: str, text: Text, timeout: Optional[float], cancel: Optional[Cancel]) -> str:
-    """The text that a call writes, which is never longer than the buffer (PGBOARD_TEXT_BOUND in include/pgboard.h)."""
-    given = text_view(text)
-    into = array("B", bytes(len(given) + len(given) // 8 + 22))
-    size = run(name, [[given]], [into], None, limits_of(timeout, cancel))
-    return into[:size].tobytes().decode("ascii")
 
 
 def solve_text(game: Text, *, timeout: Optional[float] = None, cancel: Optional[Cancel] = None) -> str:
     """A solution's text of a game's text in PGSolver's format. Raises what `solve` does."""
-    return written("pgboard_solve_text", game, timeout, cancel)
+    limits = limits_of(timeout, cancel)
+    return solve_bytes(array("B", text_bytes(game)), limits)
 
 
 def solve_file(path: Union[str, bytes, PathLike], *, timeout: Optional[float] = None, cancel: Optional[Cancel] = None) -> str:
@@ -169,14 +152,16 @@ def solve_file(path: Union[str, bytes, PathLike], *, timeout: Optional[float] = 
         return solve_text(file.read(), timeout=timeout, cancel=cancel)
 
 
-def tidy_text(game: Text, *, timeout: Optional[float] = None, cancel: Optional[Cancel] = None) -> str:
+def tidy_text(game: Text) -> str:
     """The one written form of a game's text. Raises what `solve_text` does."""
-    return written("pgboard_tidy_text", game, timeout, cancel)
+    given = array("B", text_bytes(game))
+    return written(blank_text(given), "pgboard_tidy_text", *span_of(given))
 
 
-def verify_text(game: Text, solution: Text, *, timeout: Optional[float] = None, cancel: Optional[Cancel] = None) -> None:
+def verify_text(game: Text, solution: Text) -> None:
     """Looks whether a text is a solution of a game's text, and raises NotASolution if it is none. Raises what `solve_text` does too."""
-    run("pgboard_verify_text", [[text_view(game)], [text_view(solution)]], [], None, limits_of(timeout, cancel))
+    given = [array("B", text_bytes(it)) for it in (game, solution)]
+    run("pgboard_verify_text", *span_of(given[0]), *span_of(given[1]))
 
 
 def attributes(graph: Any, nodes: Sequence[Any], name: str) -> List[int]:

@@ -1,30 +1,31 @@
 """A board of include/pgboard.h. Solvers post what they find to it; it settles what holds, and refuses the rest.
 
-A board lives in this process, so its calls run here. `finish` alone may take long: a helper process finishes a board of the same game
-and state, and what it finds is posted here. Each board has a lock, since the library takes one call at a time on it, and ctypes releases
-the interpreter's lock during a call. The library gets arrays of our own alone: no other thread can change one during the call.
+Each board has a lock, since the library takes one call at a time on it, and ctypes releases the interpreter's lock during a call. The
+library gets arrays of our own alone: no other thread can change one during the call.
 """
 
 from __future__ import annotations
 
-import ctypes
+import contextlib
 import threading
+import time
 import weakref
 from array import array
 from collections.abc import Mapping as MappingOf
 from collections.abc import Sequence as SequenceOf
-from itertools import chain, compress
-from typing import TYPE_CHECKING, Any, Iterable, List, Mapping, NamedTuple, Optional, Tuple, Type, TypeVar, Union, overload
+from itertools import compress
+from typing import TYPE_CHECKING, Iterable, Iterator, List, Mapping, NamedTuple, Optional, Set, Tuple, Type, TypeVar, Union, overload
 
-from . import faults, helpers, native
+from . import faults, native, slices
 from .arrays import Buffer, Numbers, Rows, Solution, as_given, fitting, game_of, game_views, rows_of_matrix, view_of
-from .helpers import Cancel, limits_of
-from .library import LIBRARY, NO_CHOICE, NO_WINNER, VERSION, Ints, bound, index_of, judged, own, path_of
+from .library import NO_CHOICE, NO_WINNER, Handle, Ints, bound, index_of, own, owned
+from .slices import Cancel, limits_of
+from .solving import blank
 
-# To finish so few vertices takes no time.
-FEW = 60
-# in bytes of winners: 1 where a vertex is unsettled, where Even wins and where Odd does, and else 0
-HAS_NONE, IS_EVEN, IS_ODD = (bytes(it == winner for it in range(256)) for winner in (NO_WINNER, 0, 1))
+# in bytes of winners: 1 where a vertex is unsettled, and else 0
+HAS_NONE = bytes(it == NO_WINNER for it in range(256))
+# how often, and for how many seconds, `finish` lets those go first that wait for the board
+TIMES, PAUSE = 100, 0.0001
 
 if TYPE_CHECKING:
     EntrySequence = SequenceOf["Entry"]
@@ -53,22 +54,6 @@ class Entry(NamedTuple):
     choices: Ints
 
 
-def entries_in(written: bytearray) -> List[Entry]:
-    """The entries that a helper process has written one after another."""
-    found, place, size = [], 0, native.ENTRY.size
-    while place < len(written):
-        worker, player, claimed, rows = native.ENTRY.unpack_from(written, place)
-        ends = [place + size, place + size + 4 * rows, place + size + 8 * rows]
-        found.append(Entry(worker, player, claimed, *(array("I", bytes(written[it:end])) for it, end in zip(ends, ends[1:]))))
-        place = ends[2]
-    return found
-
-
-def close(handle: ctypes.Array[ctypes.c_char], ended: Cancel) -> None:
-    ended.cancel()
-    LIBRARY.pgboard_board_close(handle)
-
-
 AnyBoard = TypeVar("AnyBoard", bound="Board")
 
 
@@ -82,9 +67,9 @@ class Board:
         Posted(entry=0, rest=1, settled=1)
         array('B', [0, 1])
 
-    Several threads may use a board; their calls take turns, but for `finish` while it searches. `close`, the end of a `with` block or of
-    the board frees its memory. After that each call raises Closed. Ctrl-C ends `finish` alone. Each call may raise OutOfMemory, and then
-    has done nothing, but for `finish`."""
+    Several threads may use a board, and their calls take turns. `finish` takes one for each slice of its work. `close`, the end of a
+    `with` block or of the board frees its memory. After that each call raises Closed. Each call may raise OutOfMemory, and then has done
+    nothing, but for `finish`."""
 
     def __init__(self, owners: Numbers, priorities: Numbers, successors: Iterable[Numbers], *, dead_ends: bool = False, least: bool = False) -> None:
         """Takes a game as `solve` does. Nothing of it is settled. Raises Refused."""
@@ -107,38 +92,44 @@ class Board:
         return board
 
     def _open(self, owners: Buffer, priorities: Buffer, indptr: Buffer, indices: Buffer, dead_ends: bool, least: bool) -> None:
-        views = game_views(owners, priorities, indptr, indices, dead_ends, least)
-        self._game = [own(view, code) for view, code in zip(views, "BIII")]
-        size = len(views[0])
+        game = owned(game_views(owners, priorities, indptr, indices, dead_ends, least))
+        size = len(game[0])
         # (a handler of a signal may call the board that its thread calls)
-        self._lock, self._handle, self._ended = threading.RLock(), ctypes.create_string_buffer(16), Cancel()
+        self._lock, self._handle = threading.RLock(), Handle()
+        # the threads that have it or wait for it
+        self._users: Set[int] = set()
         self._seen, self._state = 0, Solution(array("B", [NO_WINNER]) * size, array("I", [NO_CHOICE]) * size)
         try:
-            self._call("pgboard_board_open", native.struct_of(map(native.slice_of, self._game)))
+            self._handle.open(game)
         except faults.UnknownSuccessor as fault:
             raise as_given(fault, view_of("indptr", indptr, "I"), indices) from None
-        self._close = weakref.finalize(self, close, self._handle, self._ended)
+        self._close = weakref.finalize(self, self._handle.close)
         self._close.atexit = False
 
+    @contextlib.contextmanager
+    def _turn(self) -> Iterator[None]:
+        """Has the board to itself meanwhile."""
+        me = threading.get_ident()
+        self._users.add(me)
+        try:
+            with self._lock:
+                yield
+        finally:
+            self._users.discard(me)
+
     def __repr__(self) -> str:
-        with self._lock:
+        with self._turn():
             is_open = hasattr(self, "_close") and self._close.alive
-            counts = [getattr(LIBRARY, f"pgboard_board_{it}")(self._handle) for it in ("settled", "entries")]
+            counts = [self._handle.count(it) for it in ("settled", "entries")]
         said = "settled vertices: {}, entries: {}".format(*counts) if is_open else "closed"
         return f"<pgboard.{type(self).__name__}: vertices: {len(self._state.winners)}, {said}>"
 
-    def _call(self, name: str, *arguments: Any) -> None:
-        """Makes a call; the caller has the lock. Raises the fault of its answer."""
-        report = (ctypes.c_uint64 * 2)()
-        answer = getattr(LIBRARY, name)(self._handle, *arguments, report)
-        judged((report[0], report[1], 0, answer))
-
-    def _count(self, name: str) -> int:
+    def _count(self, what: str) -> int:
         """A number of the board. (A closed one has 0 of everything.)"""
-        with self._lock:
+        with self._turn():
             if not self._close.alive:
                 raise faults.Closed()
-            return int(getattr(LIBRARY, name)(self._handle))
+            return self._handle.count(what)
 
     def post(self, player: int, choices: Mapping[int, Optional[int]], worker: int = 0) -> Posted:
         """Claims that the player wins these vertices, by these choices at those that he owns, and None at the others.
@@ -156,31 +147,29 @@ class Board:
     def post_arrays(self, player: int, vertices: Buffer, choices: Buffer, worker: int = 0) -> Posted:
         """The same with two buffers of one length, as of `solve_csr`: vertices that rise, and choices, which are NO_CHOICE at the
         opponent's vertices. Else BadClaimLengths is raised, after BadPlayer."""
-        return self._post(player, own(view_of("vertices", vertices, "I"), "I"), own(view_of("choices", choices, "I"), "I"), worker)
+        return self._post(player, own(view_of("vertices", vertices, "I")), own(view_of("choices", choices, "I")), worker)
 
     def _post(self, player: int, vertices: Ints, choices: Ints, worker: int) -> Posted:
         worker, player = index_of("worker", worker), index_of("player", player)
         if not 0 <= worker < 2**32:
             raise ValueError(f"worker {worker} is not from 0 to 4294967295")
-        posted = (ctypes.c_uint64 * 3)()
-        with self._lock:
+        with self._turn():
             if self._close.alive and not 0 <= player < 2**32:
                 raise faults.BadPlayer(player)
-            self._call("pgboard_board_post", native.struct_of(map(native.slice_of, (vertices, choices)), worker, player % 2**32), posted)
-        return Posted(*posted)
+            return Posted(*self._handle.post(worker, player % 2**32, (vertices, choices)))
 
     def _read(self) -> Solution:
         """The state, which is read again where an entry has been added."""
-        with self._lock:
-            entries = self._count("pgboard_board_entries")
+        with self._turn():
+            entries = self._count("entries")
             if entries != self._seen:
-                self._call("pgboard_board_state", native.struct_of(map(native.slice_of, self._state)))
+                self._handle.write("state", self._state)
                 self._seen = entries
             return self._state
 
     def state(self) -> Solution:
         """A copy of what is settled, with NO_WINNER and NO_CHOICE at each unsettled vertex: `known` of `solve_csr` takes it."""
-        with self._lock:
+        with self._turn():
             return Solution(*(it[:] for it in self._read()))
 
     def winner(self, v: int) -> Optional[int]:
@@ -192,7 +181,7 @@ class Board:
         return self._at(v)[1]
 
     def _at(self, v: int) -> Tuple[Optional[int], Optional[int]]:
-        with self._lock:
+        with self._turn():
             winners, choices = self._read()
             v = index_of("a vertex", v)
             if not 0 <= v < len(winners):
@@ -203,11 +192,11 @@ class Board:
     @property
     def settled(self) -> int:
         """How many vertices are settled."""
-        return self._count("pgboard_board_settled")
+        return self._count("settled")
 
     def unsettled(self) -> Ints:
         """The vertices that are unsettled, in rising order."""
-        with self._lock:
+        with self._turn():
             winners = self._read().winners.tobytes()
         return array("I", compress(range(len(winners)), winners.translate(HAS_NONE)))
 
@@ -217,81 +206,42 @@ class Board:
         return Entries(self)
 
     def _entry(self, number: int) -> Entry:
-        with self._lock:
-            outcome, (numbers, vertices, choices) = native.entry_of(LIBRARY, self._handle, number)
-        judged(outcome)
+        with self._turn():
+            numbers, vertices, choices = self._handle.entry(number)
         worker, player, claimed, _ = native.ENTRY.unpack(numbers)
         return Entry(worker, player, claimed, vertices, choices)
 
     def finish(self, steps: Optional[int] = None, timeout: Optional[float] = None, cancel: Optional[Cancel] = None) -> None:
         """Settles what is unsettled, by posts of worker 0 that solve as `solve` does.
 
-        Raises GaveUp if the recursion begins more subgames than `steps`, and TimedOut or Cancelled as `solve_csr` does; the board is then
-        as other threads have left it, which may use it meanwhile. After Ctrl-C it is so too, or finished. After OutOfMemory it is so, or
-        has some of the posts. Raises Closed if another thread closes the board meanwhile."""
-        number, limits = bound(steps), limits_of(timeout, cancel, self._ended)
-        with self._lock:
-            unsettled = len(self._state.winners) - self.settled
-            if unsettled <= FEW:
-                self._call("pgboard_board_finish") if number is None else self._call("pgboard_board_finish_within", number)
-                return
-            winners, choices = self.state()
-        self._post_all(self._finished(winners, choices, number, limits))
+        Raises GaveUp if the recursion takes more than `steps`, and TimedOut or Cancelled as `solve_csr` does. Ctrl-C ends it too. What it
+        has found stays then, and another call goes on. Between two slices other threads may use the board; a post of theirs has the
+        search begin anew. Raises Closed if another thread closes the board meanwhile."""
+        slices.advance(self._advance, len(self._state.winners), limits_of(timeout, cancel), bound(steps))
 
-    def _finished(self, winners: Ints, choices: Ints, steps: Optional[int], limits: helpers.Limits) -> List[Entry]:
-        """The entries that finishing this board would add in this state: a helper process finishes a board of its own."""
-        claims = []
-        for table in (IS_EVEN, IS_ODD):
-            chosen = winners.tobytes().translate(table)
-            claims.append([array("I", compress(range(len(winners)), chosen)), array("I", compress(choices, chosen))])
-        groups = [self._game, *claims]
-        shapes = [[(len(it), len(it) * it.itemsize) for it in group] for group in groups]
-        views = map(memoryview, chain(*groups))
-        try:
-            outcome, written = helpers.ask(path_of(LIBRARY), VERSION, ("finish", steps, shapes, []), views, limits)
-        except faults.Cancelled:
-            self._count("pgboard_board_entries")
-            raise
-        judged(outcome)
-        return entries_in(written)
-
-    def _post_all(self, entries: List[Entry]) -> None:
-        """Posts what finishing another copy of this board has added. An interrupt waits until all is posted."""
-        interrupt = None
-        while True:
-            try:
-                for it in entries:
-                    self._post_again(it)
+    def _advance(self, steps: int) -> Tuple[bool, int]:
+        """Takes a slice; the threads that wait for the board go first."""
+        for _ in range(TIMES):
+            if not self._users:
                 break
-            except KeyboardInterrupt as error:
-                interrupt = error
-        if interrupt:
-            raise interrupt
-
-    def _post_again(self, it: Entry) -> None:
-        """Posts the claim of an entry, unless an interrupt came after that, or a handler of a signal has settled all of it."""
-        try:
-            self._post(it.player, it.vertices[: it.claimed], it.choices[: it.claimed], it.worker)
-        except faults.Stale:
-            pass
-        except faults.RefusedClaim as error:
-            raise faults.HelperFailed("has found what the board refuses") from error
+            time.sleep(PAUSE)
+        with self._turn():
+            return self._handle.advance(steps)
 
     def solution(self) -> Solution:
         """The solution, of a full board. Raises Unsettled, whose `at` is the number of unsettled vertices."""
-        size = len(self._state.winners)
-        found = Solution(array("B", bytes(size)), array("I", bytes(4 * size)))
-        with self._lock:
-            self._call("pgboard_board_solution", native.struct_of(map(native.slice_of, found)))
+        found = blank(len(self._state.winners))
+        with self._turn():
+            self._handle.write("solution", found)
         return found
 
     def close(self) -> None:
-        """Frees the board, and ends `finish` in other threads. To close it again does nothing."""
-        with self._lock:
+        """Frees the board, and ends `finish` in other threads after a slice. To close it again does nothing."""
+        with self._turn():
             self._close()
 
     def __enter__(self: AnyBoard) -> AnyBoard:
-        self._count("pgboard_board_entries")
+        self._count("entries")
         return self
 
     def __exit__(self, *_: object) -> None:
@@ -308,7 +258,7 @@ class Entries(EntrySequence):
         self._board = board
 
     def __len__(self) -> int:
-        return self._board._count("pgboard_board_entries")
+        return self._board._count("entries")
 
     @overload
     def __getitem__(self, at: int) -> Entry: ...

@@ -11,7 +11,7 @@ __all__ = [
     "NoChoice", "BadChoice", "Leaves", "BadCycle", "KnownChoice", "KnownCycle", "KnownLost", "KnownLeaves",
     "TextTooLong", "NoToken", "NotExpected", "NumberTooLarge", "NoPlayer", "Stranger", "WrittenTwice", "NotWritten",
     "Closed", "Unsettled", "RefusedClaim", "BadPlayer", "BadClaimLengths", "BadShape", "ClaimCycle", "Lost", "Stale", "Open",
-    "GaveUp", "TimedOut", "Cancelled", "HelperFailed",
+    "GaveUp", "TimedOut", "Cancelled",
 ]  # fmt: skip
 
 # the arrays by the numbers of include/pgboard.h
@@ -231,18 +231,6 @@ class TimedOut(Fault, TimeoutError):
 
 class Cancelled(Fault):
     words = "the call was cancelled"
-
-
-class HelperFailed(Fault, RuntimeError):
-    """The process that makes long calls could not be started, or ended; `how` says it."""
-
-    def __init__(self, how: str) -> None:
-        super().__init__()
-        self.args = (how,)
-        self.how = how
-
-    def __str__(self) -> str:
-        return f"a helper process {self.how}"
 
 
 # The exception of each answer of include/pgboard.h, as tests/faults.py makes it. Four are never handed on: the size of

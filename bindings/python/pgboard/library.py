@@ -6,11 +6,10 @@ import ctypes
 import operator
 import os
 from array import array
-from itertools import chain
-from typing import TYPE_CHECKING, Any, Optional, Sequence, Tuple
+from typing import TYPE_CHECKING, Any, Iterable, List, Optional, Sequence, Tuple
 
-from . import helpers, native
-from .faults import FAULTS
+from . import native
+from .faults import FAULTS, GaveUp
 from .version import __version__
 
 if TYPE_CHECKING:
@@ -21,8 +20,6 @@ else:
 
 NO_CHOICE = 4294967295
 NO_WINNER = 255
-# A call on so many bytes ends at once: a game has fewer than 60 vertices there.
-SMALL = 512
 
 # the package's version as pgboard_version says it
 NUMBERS = [int(it) for it in __version__.split(".")]
@@ -35,9 +32,7 @@ def path_of_library() -> str:
     beside = os.path.join(HERE, "libpgboard.so")
     built = os.path.normpath(os.path.join(HERE, "..", "..", "..", "crates", "pgboard_c", "out", "libpgboard.so"))
     there = [os.environ.get("PGBOARD_LIBRARY"), *filter(os.path.exists, [beside, built])]
-    found = next(filter(None, there), f"libpgboard.so.{NUMBERS[0]}")
-    # (a helper process has another working directory)
-    return os.path.abspath(found) if "/" in found else found
+    return next(filter(None, there), f"libpgboard.so.{NUMBERS[0]}")
 
 
 def load() -> ctypes.CDLL:
@@ -72,54 +67,84 @@ def bound(steps: Optional[int]) -> Optional[int]:
     return min(number, 2**64 - 1)
 
 
-def own(view: memoryview, code: str) -> Ints:
-    """A copy of a view, as an array."""
-    return array(code, view.tobytes())
+def own(view: memoryview) -> Ints:
+    """A copy of a view of 8 or 32 bits, as an array."""
+    return array("I" if view.itemsize == 4 else "B", view.tobytes())
 
 
-def run(
-    name: str,
-    given: Sequence[Sequence[memoryview]],
-    results: Sequence[Ints],
-    steps: Optional[int] = None,
-    limits: helpers.Limits = helpers.Limits(),
-) -> int:
-    """Makes a call on groups of views, and on a bound if there is one, and fills the arrays of results. Returns the size of a text, or
-    raises the fault of the answer.
-
-    The call works on copies, so nothing that another thread does meanwhile reaches it. Python looks at signals between its own steps
-    alone, and so never in the library. Therefore a helper process makes each call that may take long."""
-    if sum([it.nbytes for group in given for it in group]) > SMALL:
-        shapes = [[(len(it), it.nbytes) for it in group] for group in given]
-        wanted = [(len(it), len(it) * it.itemsize) for it in results]
-        outcome, written = helpers.ask(path_of(LIBRARY), VERSION, (name, steps, shapes, wanted), chain(*given), limits)
-        size = judged(outcome)
-        fill(results, written)
-        return size
-    copies = [[own(it, "I" if it.itemsize == 4 else "B") for it in group] for group in given]
-    groups = [[native.slice_of(it) for it in group] for group in (*copies, results) if group]
-    return judged(native.call(LIBRARY, name, groups, steps))
+def owned(views: Iterable[memoryview]) -> List[Ints]:
+    """Copies of views. (The library releases the interpreter's lock, so another thread may change what a caller has given.)"""
+    return [own(it) for it in views]
 
 
-def path_of(library: Any) -> str:
-    return str(library._name)
-
-
-def fill(results: Sequence[Ints], written: bytearray) -> None:
-    """Fills arrays with what a helper process has written, one after another."""
-    place = 0
-    for it in results:
-        view = memoryview(it).cast("B") if len(it) else memoryview(b"")
-        part = memoryview(written)[place : place + len(view)]
-        view[: len(part)] = part
-        place += len(view)
-
-
-def judged(outcome: Tuple[int, int, int, int]) -> int:
-    """The size that a call has written, or the fault of its answer."""
-    at, to, written, answer = outcome
-    if answer in FAULTS:
-        raise FAULTS[answer](at, to)
+def run(name: str, *arguments: Any) -> None:
+    """Makes a call, or raises the fault of its answer."""
+    report = native.REPORT()
+    answer = getattr(LIBRARY, name)(*arguments, report)
     if answer:
-        raise RuntimeError(f"the library of pgboard answers {answer}")
-    return written
+        raise fault_of(answer, report[0], report[1])
+
+
+def fault_of(answer: int, at: int, to: int) -> Exception:
+    """The fault of an answer."""
+    return FAULTS[answer](at, to) if answer in FAULTS else RuntimeError(f"the library of pgboard answers {answer}")
+
+
+def written(into: Ints, name: str, *arguments: Any) -> str:
+    """The text that a call writes to the front of a buffer."""
+    size = ctypes.c_size_t()
+    run(name, *arguments, *native.span_of(into), ctypes.byref(size))
+    return into[: size.value].tobytes().decode("ascii")
+
+
+class Handle:
+    """A board of the library, which is closed at first. The library takes one call at a time on it."""
+
+    def __init__(self) -> None:
+        self.memory = ctypes.create_string_buffer(16)
+
+    def open(self, game: Sequence[Ints]) -> None:
+        """Opens a board of a game in arrays."""
+        run("pgboard_board_open", self.memory, native.struct_of(game))
+
+    def open_text(self, text: Ints) -> None:
+        """Opens a board of the game of a text."""
+        run("pgboard_board_open_text", self.memory, *native.span_of(text))
+
+    def post(self, worker: int, player: int, claim: Sequence[Ints]) -> Tuple[int, int, int]:
+        """Posts a claim. Returns the numbers of the post."""
+        posted = (ctypes.c_uint64 * 3)()
+        run("pgboard_board_post", self.memory, native.struct_of(claim, worker, player), posted)
+        return posted[0], posted[1], posted[2]
+
+    def write(self, what: str, results: Sequence[Ints]) -> None:
+        """Fills arrays with the state or the solution."""
+        run(f"pgboard_board_{what}", self.memory, native.struct_of(results))
+
+    def advance(self, steps: int) -> Tuple[bool, int]:
+        """Makes a search, or takes up to so many steps of the recursion. Returns whether the board is full, and how many steps were taken."""
+        left = ctypes.c_uint64(steps)
+        try:
+            run("pgboard_board_advance", self.memory, ctypes.byref(left))
+        except GaveUp:
+            return False, steps - left.value
+        return True, steps - left.value
+
+    def solution_text(self, into: Ints) -> str:
+        """The solution's text, which is written to the front of a buffer."""
+        return written(into, "pgboard_board_solution_text", self.memory)
+
+    def count(self, what: str) -> int:
+        """How many vertices are settled, or how many entries there are."""
+        return int(getattr(LIBRARY, f"pgboard_board_{what}")(self.memory))
+
+    def entry(self, number: int) -> Tuple[bytes, Ints, Ints]:
+        """The numbers, the vertices and the choices of an entry."""
+        outcome, found = native.entry_of(LIBRARY, self.memory, number)
+        if outcome[0]:
+            raise fault_of(*outcome)
+        return found
+
+    def close(self) -> None:
+        """Frees the board, if it is open."""
+        LIBRARY.pgboard_board_close(self.memory)

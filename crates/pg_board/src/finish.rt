@@ -84,24 +84,18 @@ impl<'g> Board<'g> {
     fn post_jobs(&mut self, alloc: Global) -> Result<(), Memory>
         ensures { IsContinued self.old self.new }
     {
-        let options = Options {
-            workers: 1,
-            bound: BOUND,
-            budget: BUDGET,
-        };
         let n = self.game().len();
-        let recursion = options.total(n) - 1;
-        'jobs: for number in 0..recursion {
+        'jobs: for number in 0..SEARCHES.total(n) - 1 {
             if self.is_full() {
                 return Ok(());
             }
-            self.post_job(alloc, &options.job(n, number))?;
+            self.post_job(alloc, &SEARCHES.job(n, number))?;
         }
         Ok(())
     }
 
     /// Posts what the standard finder finds for a job on a copy of the unsettled part.
-    fn post_job(&mut self, alloc: Global, job: &Job) -> Result<(), Memory>
+    pub(crate) fn post_job(&mut self, alloc: Global, job: &Job) -> Result<(), Memory>
         ensures { IsContinued self.old self.new }
     {
         let copied = self.copy(alloc)?;
@@ -142,7 +136,7 @@ impl<'g> Board<'g> {
     }
 
     /// Posts a claim as worker 0. A refused claim is dropped, as a worker drops it. The only error is `Memory`.
-    fn post_own(&mut self, alloc: Global, claim: &Claim) -> Result<(), Memory>
+    pub(crate) fn post_own(&mut self, alloc: Global, claim: &Claim) -> Result<(), Memory>
         ensures lawful { IsLawful self.new.graph self.new.journal }
         ensures later { IsLater (claim.now.player ∷ []) self.old self.new }
         ensures settles { (k : ℕ) → IsDominionAfter self.old.graph self.old.journal k claim.now.player claim.now.rows
@@ -180,5 +174,9 @@ fn solve_inside(
     }
 }
 
-/// The most vertices of a small dominion, as the program has it by default.
-const BOUND: u32 = 4;
+/// The options of the searches, with the bound that the program has by default. The last job is the recursion.
+pub const SEARCHES: Options = Options {
+    workers: 1,
+    bound: 4,
+    budget: BUDGET,
+};

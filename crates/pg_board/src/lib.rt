@@ -3,6 +3,7 @@
 //! Uses pg_finders (copies, the recursion), pg_dominion (claims, attractors) and pg_game.
 #![tactic(auto)]
 
+mod advance;
 mod board;
 mod contents;
 mod finish;

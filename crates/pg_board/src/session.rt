@@ -1,7 +1,7 @@
 //! A game and its board, which nothing borrows: each call that posts makes a `Board` of them for its own time. So a session can
 //! be kept where no lifetime can be, as behind a handle in C.
 
-ghost use Rattle.std.specs.Prelude.{◌≡◌, ◌≤◌, ◌↔◌, ℕ, [], length, IfOk, IfErr, OnErr, IsSome, IfSome, true, false};
+ghost use Rattle.std.specs.Prelude.{◌≡◌, ◌≤◌, ◌↔◌, ℕ, [], length, IfOk, IfErr, OnErr, IsSome, IfSome, IsTrue, true, false};
 ghost use Rattle.pg_game.specs.Graph.{IsGame};
 ghost use Rattle.pg_game.specs.Limits.{IsWithinLimits};
 ghost use Rattle.pg_board.specs.State.{IsGoodOn};
@@ -13,6 +13,7 @@ ghost use Rattle.pg_board.specs.Post.{Adds, AnswersDominion, SettlesUnlessMemory
 ghost use Rattle.pg_board.specs.private.Contents.{IsOf, board_record};
 ghost use Rattle.pg_text.specs.Solution.{IsExactSolution};
 
+use crate::advance::Progress;
 use crate::board::Board;
 use crate::contents::Contents;
 use crate::journal::{Entry, Posted, Refusal};
@@ -21,23 +22,26 @@ use pg_game::{Game, Memory, Player};
 use pg_text::Solution;
 use std::alloc::Global;
 use std::marker::Model;
+use std::sync::Arc;
 
-/// A game and its board. There are no contents only while a call has a board of them.
+/// A game and its board, and where the slices of `advance` are. There are no contents only while a call has a board of them.
 #[derive(Drop)]
 pub struct Session {
-    game: Game,
+    game: Arc<Game>,
     contents: Option<Contents>,
+    progress: Option<Progress>,
 }
 
 impl Model for Session {
     ghost use Rattle.pg_board.specs.BoardRecord.{BoardRecord, journal_of};
+    ghost use Rattle.std.specs.Arc.{arc_value};
     ghost use Rattle.pg_board.specs.private.Contents.{AreOf};
 
     ghost Value = { BoardRecord };
 
-    ghost view = { λ s. record { graph = s.game; journal = journal_of s.contents } };
+    ghost view = { λ s. record { graph = arc_value s.game; journal = journal_of s.contents } };
 
-    ghost invariant = { λ s. AreOf s.game s.contents };
+    ghost invariant = { λ s. AreOf (arc_value s.game) s.contents };
 }
 
 impl Session {
@@ -48,8 +52,9 @@ impl Session {
     {
         let contents = Board::open(alloc, &game)?.detach();
         Ok(Session {
-            game,
+            game: Arc::new(alloc, game)?,
             contents: Some(contents),
+            progress: None,
         })
     }
 
@@ -87,6 +92,23 @@ impl Session {
         let answer = board.finish(alloc, limit);
         self.contents = Some(board.detach());
         answer
+    }
+
+    /// Settles more of what is unsettled, as worker 0: one search of `finish`, or after the last search up to so many steps of the
+    /// recursion. Leaves how many steps are left. True if nothing is unsettled then. Called again, it goes on where it was; if
+    /// others have posted since, it begins anew. What it has settled stays. The only error is `Memory`, after which it begins anew.
+    pub fn advance(&mut self, alloc: Global, steps: &mut u64) -> Result<bool, Memory>
+        ensures lawful { IsLawful self.new.graph self.new.journal }
+        ensures game { self.new.graph ≡ self.old.graph }
+        ensures continued { IsContinued self.old self.new }
+        ensures full { IfOk result (λ done. IsTrue done ↔ IsFull self.new.graph (state_of self.new.journal)) }
+        ensures steps { steps.new ≤ steps.old }
+    {
+        let mut board = Board::attach(&self.game, self.contents.take().unwrap());
+        let answer = board.advance(alloc, &self.game, self.progress.take(), steps);
+        self.contents = Some(board.detach());
+        self.progress = Some(answer?);
+        Ok(self.contents().is_full(&self.game))
     }
 
     /// The game. The contract of this call states the invariant of the type.

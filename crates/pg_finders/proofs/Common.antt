@@ -48,7 +48,7 @@ pub use Rattle.pg_finders.specs.private.recursion.Growing.{AttractsNoActive, Bef
 pub use Rattle.pg_finders.specs.private.recursion.Listed.{Apart, Once, listed}
 pub use Rattle.pg_finders.specs.private.recursion.Order.{AllStand, AreDistinct, AreGreatest, AreVertices, IsLast, IsOrder, priority_at, vertex_at_place}
 pub use Rattle.pg_finders.specs.private.recursion.Planned.{HasBelow, IsGiven, SameAt, SameOutside, choices_of, size, winners_of}
-pub use Rattle.pg_finders.specs.private.recursion.Running.{AllPlaced, IsRunning, how_many_gone, steps_left, work}
+pub use Rattle.pg_finders.specs.private.recursion.Running.{AllPlaced, IsRunning, how_many_gone, steps_left, work, AreFewer}
 pub use Rattle.pg_finders.specs.private.recursion.Settled.{SettledLists, settled_of}
 pub use Rattle.pg_finders.specs.private.recursion.UnderWay.{AreApart, IsUnderWay, Linked, count_at, gone, level_at, part, prefix}
 pub use Rattle.pg_finders.specs.private.recursion.Waiting.{Level, Waits, steps, steps_after}

@@ -13,6 +13,6 @@ mod solitaire;
 pub use finder::{Finder, Found, Job, Standard};
 pub use inside::{Copied, Inside};
 pub use loops::find_loop;
-pub use recursion::{Solved, zielonka, zielonka_within};
+pub use recursion::{Advanced, Recursion, Solved, zielonka, zielonka_within};
 pub use small::{Small, find_small};
 pub use solitaire::find_solitaire;

@@ -17,7 +17,9 @@ ghost use Rattle.pg_game.specs.Player.{opponent};
 ghost use Rattle.std.specs.Borrow.{sem};
 ghost use Rattle.pg_finders.specs.private.recursion.Settled.{settled_of, LendsList};
 ghost use Rattle.pg_finders.specs.private.recursion.UnderWay.{count_at};
-ghost use Rattle.pg_finders.specs.private.recursion.Running.{IsRunning, how_many_gone, with_active, work};
+ghost use Rattle.pg_finders.specs.private.recursion.Running.{IsRunning, how_many_gone, with_active, work, AreFewer};
+ghost use Rattle.pg_finders.specs.Recursion.{IfSolved, IfRunning};
+ghost use Rattle.std.specs.Arc.{arc_value};
 ghost use Rattle.pg_game.specs.private.VertexSet.{without};
 
 mod order;
@@ -29,6 +31,8 @@ use crate::recursion::subgame::{Plan, Subgame};
 use pg_dominion::{Claim, own_choice};
 use pg_game::{Game, Mask, Memory, Player};
 use std::alloc::Global;
+use std::marker::Model;
+use std::sync::Arc;
 
 /// The two players' claims, which share the subgame out.
 #[derive(Drop)]
@@ -78,19 +82,77 @@ fn solve(alloc: Global, inside: &Inside, limit: Option<u64>) -> Result<Option<So
     ensures no_steps { IfOk result (λ found. limit ≡ Some 0 → (v : ℕ) → In (members inside.now.mask) v → IsNone found) }
 {
     let game = inside.game();
-    let mask = inside.mask();
-    let mut solver = Solver::new(alloc, game, mask)?;
-    if !solver.run(game, mask, limit)? {
-        return Ok(None);
+    let mut solver = Solver::new(alloc, game, inside.mask())?;
+    let mut left = limit;
+    solver.solve(alloc, game, inside.mask(), &mut left)
+}
+
+/// A run of the recursion that can stop between two steps. It shares the game and borrows nothing, so a caller may keep it.
+#[derive(Drop)]
+pub struct Recursion {
+    game: Arc<Game>,
+    mask: Mask,
+    solver: Solver,
+}
+
+impl Model for Recursion {
+    ghost use Rattle.std.specs.Prelude.{length};
+    ghost use Rattle.std.specs.Arc.{arc_value};
+    ghost use Rattle.pg_game.specs.VertexSet.{members};
+    ghost use Rattle.pg_game.specs.Subgame.{IsSubgame};
+    ghost use Rattle.pg_finders.specs.Part.{Part};
+    ghost use Rattle.pg_finders.specs.private.recursion.Running.{IsRunning};
+
+    ghost Value = { Part };
+
+    ghost view = { λ r. record { graph = arc_value r.game; mask = r.mask } };
+
+    ghost invariant = { λ r. IsSubgame (arc_value r.game) (members r.mask)
+        × IsRunning (arc_value r.game) r.mask r.solver r.solver.frames.items };
+}
+
+/// What a run of the recursion has come to.
+#[derive(Drop)]
+pub enum Advanced {
+    /// Steps remain.
+    Running(Recursion),
+    /// The two players' claims.
+    Solved(Solved),
+}
+
+impl Recursion {
+    /// A run on the subgame in the mask, of which no step is taken. The only error is `Memory`.
+    pub fn begin(alloc: Global, game: &Arc<Game>, mask: Mask) -> Result<Recursion, Memory>
+        requires size { length mask ≡ length (arc_value game.now) }
+        requires subgame { IsSubgame (arc_value game.now) (members mask) }
+        ensures graph { IfOk result (λ r. r.graph ≡ arc_value game.now) }
+        ensures mask { IfOk result (λ r. r.mask ≡ mask) }
+    {
+        let solver = Solver::new(alloc, game, &mask)?;
+        Ok(Recursion {
+            game: Arc::try_clone(game)?,
+            mask,
+            solver,
+        })
     }
-    let for_even = solver.count(Player::Even);
-    let for_odd = solver.count(Player::Odd);
-    let plan = solver.into_plan();
-    let (even, odd) = rows_of(alloc, game, mask, &plan, for_even, for_odd)?;
-    Ok(Some(Solved {
-        even: claim_of(Player::Even, even),
-        odd: claim_of(Player::Odd, odd),
-    }))
+
+    /// Takes up to so many steps, and leaves how many of them are left. A step begins a subgame that has a vertex. Returns the claims
+    /// of `zielonka` once no step remains to be taken. The only error is `Memory`.
+    pub fn advance(self, alloc: Global, steps: &mut u64) -> Result<Advanced, Memory>
+        ensures solved { IfOk result (λ a. IfSolved a (λ solved. AreClaims self.graph (members self.mask) solved.even solved.odd)) }
+        ensures running { IfOk result (λ a. IfRunning a (λ r. (r ≡ self) × (steps.new ≡ 0))) }
+        ensures steps { steps.new ≤ steps.old }
+    {
+        let Recursion { game, mask, solver } = self;
+        let mut solver = solver;
+        let mut left = Some(*steps);
+        let found = solver.solve(alloc, &game, &mask, &mut left);
+        *steps = left.unwrap_or(0);
+        match found? {
+            Some(solved) => Ok(Advanced::Solved(solved)),
+            None => Ok(Advanced::Running(Recursion { game, mask, solver })),
+        }
+    }
 }
 
 /// A run of the loop.
@@ -143,27 +205,53 @@ impl Solver {
         self.settled.count(player)
     }
 
-    fn into_plan(self) -> Plan
-        ensures { result ≡ self.subgame.plan }
+    /// Takes the steps that are left, or all where there is no limit. Returns the claims once no step remains to be taken.
+    fn solve(
+        &mut self,
+        alloc: Global,
+        game: &Game,
+        inside: &Mask,
+        left: &mut Option<u64>,
+    ) -> Result<Option<Solved>, Memory>
+        requires running { IsRunning game.now inside.now self.old self.old.frames.items }
+        requires subgame { IsSubgame game.now (members inside.now) }
+        ensures claims { IfOk result (λ found. IfSome found (λ solved. AreClaims game.now (members inside.now) solved.even solved.odd)) }
+        ensures running { IfOk result (λ found. IsNone found → IsRunning game.now inside.now self.new self.new.frames.items) }
+        ensures fewer { AreFewer left.old left.new }
+        ensures unlimited { IfOk result (λ found. left.old ≡ None → IsSome found) }
+        ensures all { IfOk result (λ found. IsNone found → left.new ≡ Some 0) }
+        ensures no_steps { IfOk result (λ found. left.old ≡ Some 0 → (v : ℕ) → In (active_of self.old.subgame) v → IsNone found) }
     {
-        self.subgame.plan
+        if !self.run(game, inside, left)? {
+            return Ok(None);
+        }
+        let for_even = self.count(Player::Even);
+        let for_odd = self.count(Player::Odd);
+        let plan = &self.subgame.plan;
+        let (even, odd) = rows_of(alloc, game, inside, plan, for_even, for_odd)?;
+        Ok(Some(Solved {
+            even: claim_of(Player::Even, even),
+            odd: claim_of(Player::Odd, odd),
+        }))
     }
 
-    /// Plans the whole mask. False if it gave up, since it needs more steps than the limit.
-    fn run(&mut self, game: &Game, inside: &Mask, limit: Option<u64>) -> Result<bool, Memory>
+    /// Takes the steps that are left, or all where there is no limit. False if one more was needed; if true, the whole mask is planned.
+    fn run(&mut self, game: &Game, inside: &Mask, left: &mut Option<u64>) -> Result<bool, Memory>
         requires { IsRunning game.now inside.now self.old self.old.frames.items }
         ensures solved { IfOk result (λ done. done ≡ true
             → IsSolvedInside game.now (members inside.now) (winners_of self.new.subgame.plan) (choices_of self.new.subgame.plan)) }
         ensures size { IfOk result (λ done. done ≡ true → HasSize (length game.now) self.new.subgame.plan) }
-        ensures unlimited { IfOk result (λ done. limit ≡ None → done ≡ true) }
-        ensures no_steps { IfOk result (λ done. limit ≡ Some 0 → (v : ℕ) → In (active_of self.old.subgame) v → done ≡ false) }
+        ensures running { IfOk result (λ done. done ≡ false → IsRunning game.now inside.now self.new self.new.frames.items) }
+        ensures fewer { AreFewer left.old left.new }
+        ensures unlimited { IfOk result (λ done. left.old ≡ None → done ≡ true) }
+        ensures all { IfOk result (λ done. done ≡ false → left.new ≡ Some 0) }
+        ensures no_steps { IfOk result (λ done. left.old ≡ Some 0 → (v : ℕ) → In (active_of self.old.subgame) v → done ≡ false) }
     {
-        let mut left = limit;
         'steps: loop {
+            if !self.may_enter(game, inside, left) {
+                return Ok(false);
+            }
             if self.enter(game, inside)? {
-                if !take_step(&mut left) {
-                    return Ok(false);
-                }
                 continue;
             }
             let Some(frame) = self.frames.pop() else {
@@ -172,6 +260,17 @@ impl Solver {
             self.leave(game, inside, frame)?;
         }
         Ok(true)
+    }
+
+    /// Takes one of the steps that are left, if a vertex is active. False if none is left.
+    fn may_enter(&self, game: &Game, inside: &Mask, left: &mut Option<u64>) -> bool
+        requires { IsRunning game.now inside.now self.now self.now.frames.items }
+        ensures fewer { AreFewer left.old left.new }
+        ensures unlimited { left.old ≡ None → result ≡ true }
+        ensures none { left.old ≡ Some 0 → (v : ℕ) → In (active_of self.now.subgame) v → result ≡ false }
+        ensures all { result ≡ false → left.new ≡ Some 0 }
+    {
+        !self.has_more(game, inside) || take_step(left)
     }
 
     /// Begins the active part: sets aside its greatest vertices of one parity and what they attract. False if nothing is
@@ -186,9 +285,7 @@ impl Solver {
         ensures none { IfOk result (λ entered. entered ≡ false → (v : ℕ) → active_of self.new.subgame v ≡ false) }
         ensures kept { IfOk result (λ entered. entered ≡ false → self.new.subgame ≡ self.old.subgame) }
     {
-        // for the proof: there are so few vertices that the numbers listed add up without overflow
-        let _n = game.len();
-        if self.gone() == self.size {
+        if !self.has_more(game, inside) {
             return Ok(false);
         }
         let Some(top) = self.order.top(game, &self.subgame.active) else {
@@ -210,6 +307,16 @@ impl Solver {
             upto: self.set_aside.len(),
         })?;
         Ok(true)
+    }
+
+    /// Whether a vertex is neither settled nor set aside. Such a vertex is active.
+    fn has_more(&self, game: &Game, inside: &Mask) -> bool
+        requires { IsRunning game.now inside.now self.now self.now.frames.items }
+        ensures { result ≡ false → (v : ℕ) → active_of self.now.subgame v ≡ false }
+    {
+        // for the proof: there are so few vertices that the numbers listed add up without overflow
+        let _n = game.len();
+        self.gone() != self.size
     }
 
     /// The number of vertices that are settled or set aside. The others are active.
@@ -421,8 +528,10 @@ impl Settled {
 
 /// Takes one of the steps that are left. False if none is left; without a limit one always is.
 fn take_step(left: &mut Option<u64>) -> bool
-    ensures unlimited { left.old ≡ None → (result ≡ true) × (left.new ≡ None) }
+    ensures fewer { AreFewer left.old left.new }
+    ensures unlimited { left.old ≡ None → result ≡ true }
     ensures none { left.old ≡ Some 0 → result ≡ false }
+    ensures all { result ≡ false → left.new ≡ Some 0 }
 {
     match *left {
         None => true,

@@ -200,8 +200,10 @@ fn claim_of_set(
 /// The vertices in the mask from which a walk leads to the goal over no greater priority than the goal's.
 fn lead_to(alloc: Global, view: &View, goal: u32) -> Result<Lead, AllocError>
     requires goal { goal < length view.now.game.now }
-    ensures leading { IfOk result (λ lead. AreLeading view.now.game.now (members view.now.mask.now) (priority_of view.now.game.now goal) goal lead.taken lead.next.items) }
-    ensures all { IfOk result (λ lead. (v : ℕ) (vs : List ℕ) → Walk (EdgeBelow view.now.game.now (members view.now.mask.now) (priority_of view.now.game.now goal)) v vs goal
+    ensures leading { IfOk result (λ lead.
+        AreLeading view.now.game.now (members view.now.mask.now) (priority_of view.now.game.now goal) goal lead.taken lead.next.items) }
+    ensures all { IfOk result (λ lead. (v : ℕ) (vs : List ℕ)
+        → Walk (EdgeBelow view.now.game.now (members view.now.mask.now) (priority_of view.now.game.now goal)) v vs goal
         → In (members lead.taken) v) }
 {
     let n = view.game.len();
@@ -241,7 +243,8 @@ fn reach_back(
     requires queue { IsQueue view.now.game.now goal lead.old.taken queue.old.items }
     requires to { (to ≡ goal) ⊎ In (members lead.old.taken) to }
     requires vertex { to < length view.now.game.now }
-    ensures state { OnOk result (AreLeading view.now.game.now (members view.now.mask.now) (priority_of view.now.game.now goal) goal lead.new.taken lead.new.next.items) }
+    ensures state { OnOk result
+        (AreLeading view.now.game.now (members view.now.mask.now) (priority_of view.now.game.now goal) goal lead.new.taken lead.new.next.items) }
     ensures queue { OnOk result (IsQueue view.now.game.now goal lead.new.taken queue.new.items) }
     ensures follows { OnOk result (Follows lead.old.taken queue.old.items lead.new.taken queue.new.items) }
     ensures seen { OnOk result (IsSeen view.now.game.now (members view.now.mask.now) (priority_of view.now.game.now goal) (members lead.new.taken) to) }

@@ -84,6 +84,16 @@ abbrev pub IsFinishFault : Option ℕ → BoardRecord → Fault → Type 0
 IsFinishFault limit s fault.GaveUp = IsSome limit × (IsFull s.graph (state_of s.journal) → ⊥)
 IsFinishFault limit s other = other ≡ fault.Memory
 
+-- the same board with more entries of worker 0; a closed one stays closed
+abbrev pub IsContinuedOn : Option BoardRecord → Option BoardRecord → Type 0
+IsContinuedOn None b = b ≡ None
+IsContinuedOn (Some s) b = (t : BoardRecord) × (b ≡ Some t) × IsContinued s t
+
+-- why a board is not full yet: a vertex is unsettled, or memory was refused
+abbrev pub IsAdvanceFault : BoardRecord → Fault → Type 0
+IsAdvanceFault s fault.GaveUp = IsFull s.graph (state_of s.journal) → ⊥
+IsAdvanceFault s other = other ≡ fault.Memory
+
 -- the board is full, and the arrays have its winners and choices, which are the game's solution
 pub record AreSolution (s : BoardRecord) (r : ResultArrays) : Type 0 where
   pub full : IsFull s.graph (state_of s.journal)

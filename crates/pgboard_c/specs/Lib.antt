@@ -5,6 +5,7 @@ pub mod Known
 pub mod Texts
 pub mod private
 pub mod Board
+pub mod BoardTexts
 pub mod Posting
 pub mod Entries
 pub mod Text

@@ -1,5 +1,5 @@
 //! The exports on a board that a C program holds: each is the call of a session, through the handle. After any answer but 0 the
-//! board is unchanged, and the call writes only `report`.
+//! board is unchanged, except by `pgboard_board_advance`, and the call writes only `report`.
 
 ghost use Rattle.std.specs.Prelude.{◌≡◌, ◌≢◌, ◌<◌, ◌≤◌, ℕ, Option, None, Some, IfOk, IfErr, OnOk, OnErr, length, slice_index};
 ghost use Rattle.pg_board.specs.BoardRecord.{BoardRecord};
@@ -8,7 +8,8 @@ ghost use Rattle.pgboard_c.specs.declared.fault.Fault.{Fault};
 ghost use Rattle.pgboard_c.specs.Numbers.{IsReported, IsBlank};
 ghost use Rattle.pgboard_c.specs.Arrays.{game_arrays, result_arrays, IsSameStruct};
 ghost use Rattle.pgboard_c.specs.Board.{board_in, IsLawfulRecord, IsLawfulBoard, OnBoard, IsOpened, IsOpenFault, AreStates, IsStateFault};
-ghost use Rattle.pgboard_c.specs.Board.{IsFinished, IsFinishFault};
+ghost use Rattle.pgboard_c.specs.Board.{IsFinished, IsFinishFault, IsContinuedOn, IsAdvanceFault};
+ghost use Rattle.pg_board.specs.Full.{IsFull};
 ghost use Rattle.pgboard_c.specs.Answers.{IsArraysFault};
 ghost use Rattle.pgboard_c.specs.Board.{AreSolution, IsSolutionFault, number_settled_on, number_of_entries, winner_number, chosen_number};
 ghost use Rattle.pgboard_c.specs.Entries.{IsEntry, IsEntryFault};
@@ -166,6 +167,26 @@ pub extern "C" fn pgboard_board_finish_within(
     ensures unchanged { result ≢ 0 → board_in board.new ≡ board_in board.old }
 {
     reported!(report, finish(alloc, board, Some(steps)))
+}
+
+/// Settles more of what is left, as worker 0: one search of [`pgboard_board_finish`], or after the last search up to so many steps of
+/// the recursion. Leaves how many steps are left. The answer is 0 once all is settled, and that of [`Fault::GaveUp`] before. What it
+/// has settled stays, whatever the answer. Called again it goes on where it was; a post in between has it begin anew.
+#[unsafe(no_mangle)]
+pub extern "C" fn pgboard_board_advance(
+    alloc: Global,
+    board: &mut Handle,
+    steps: &mut u64,
+    report: &mut Report,
+) -> u32
+    ensures continued { IsContinuedOn (board_in board.old) (board_in board.new) }
+    ensures full { result ≡ 0 → (s : BoardRecord) × (board_in board.new ≡ Some s) × IsFull s.graph (state_of s.journal) }
+    ensures blank { result ≡ 0 → IsBlank report.new }
+    ensures refused { result ≢ 0 → (e : Fault) × IsReported e result report.new × OnBoard (board_in board.new) IsAdvanceFault e }
+    ensures lawful { IsLawfulBoard (board_in board.old) × IsLawfulBoard (board_in board.new) }
+    ensures steps { steps.new ≤ steps.old }
+{
+    reported!(report, advance(alloc, board, steps))
 }
 
 /// Writes the solution of a full board: each vertex's winner, and his choice if he owns the vertex.
@@ -406,6 +427,22 @@ fn finish(alloc: Global, board: &mut Handle, limit: Option<u64>) -> Result<(), F
     let _game = session.game();
     *board = Handle::holding(session);
     if answer? { Ok(()) } else { Err(Fault::GaveUp) }
+}
+
+/// Settles more of what is left on the board of the handle.
+fn advance(alloc: Global, board: &mut Handle, steps: &mut u64) -> Result<(), Fault>
+    ensures continued { IsContinuedOn (board_in board.old) (board_in board.new) }
+    ensures full { OnOk result ((s : BoardRecord) × (board_in board.new ≡ Some s) × IsFull s.graph (state_of s.journal)) }
+    ensures fault { IfErr result (λ e. OnBoard (board_in board.new) IsAdvanceFault e) }
+    ensures lawful { IsLawfulBoard (board_in board.old) × IsLawfulBoard (board_in board.new) }
+    ensures steps { steps.new ≤ steps.old }
+{
+    let mut session = board.take(alloc)?;
+    let is_full = session.advance(alloc, steps);
+    // for the proof: the contract of this call states what each session is
+    let _game = session.game();
+    *board = Handle::holding(session);
+    if is_full? { Ok(()) } else { Err(Fault::GaveUp) }
 }
 
 /// Writes the solution of the board of the handle.

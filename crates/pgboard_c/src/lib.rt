@@ -5,6 +5,7 @@
 
 mod arrays;
 mod board;
+mod board_texts;
 mod claims;
 mod fault;
 mod held;

@@ -89,7 +89,7 @@ fn solve(alloc: Global, text: &[u8], into: &mut [u8]) -> Result<usize, Fault>
 }
 
 /// The game that a text spells, without predecessors.
-fn forward_game_of(alloc: Global, text: &[u8]) -> Result<ForwardGame, Fault>
+pub fn forward_game_of(alloc: Global, text: &[u8]) -> Result<ForwardGame, Fault>
     ensures game { IfOk result (λ g. IsGame g × IsTextOf text.now g) }
     ensures fault { IfErr result (λ e. IsRefusedGameText text.now e) }
 {
@@ -104,7 +104,7 @@ fn forward_game_of(alloc: Global, text: &[u8]) -> Result<ForwardGame, Fault>
 }
 
 /// Copies the text to the front of the buffer, and returns its size.
-fn copy_to_front(text: &[u8], into: &mut [u8]) -> Result<usize, Fault>
+pub fn copy_to_front(text: &[u8], into: &mut [u8]) -> Result<usize, Fault>
     ensures held { IfOk result (λ n. IsWritten into.old into.new n text.now) }
     ensures small { IfErr result (λ e. (e ≡ Fault.Capacity (length text.now)) × (length into.old < length text.now)) }
     ensures kept { OnErr result (into.new ≡ into.old) }

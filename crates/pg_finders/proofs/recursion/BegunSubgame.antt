@@ -74,12 +74,6 @@ module _ {g : Graph} {p : Player} {A B L : VertexSet} {before given now : Plan} 
   pub listed_is : (v : ℕ) → listed list v ≡ without A L v
   listed_is v = rest_listed (L v) (listed list v) (A v) (grown_union h.grown v ∙ h.both v) (h.apart v)
 
-  pub begun_same_outside : SameOutside A before now
-  begun_same_outside v n =
-      let a = h.same v n in
-      let b = h.grown.same v (false_from_ne_true (B v) (λ y. no_both (sym (h.both v) ∙ or_left (B v) (listed target v) y) n)) in
-      (b.0 ∙ a.0, b.1 ∙ a.1)
-
   attracted_here : IsAttracted g p A (listed target) (without A L) (choices_of now) (place list)
   attracted_here =
       IsAttracted-subst listed_is

@@ -14,3 +14,4 @@ mod reference;
 mod sequences;
 mod sessions;
 mod settling;
+mod slices;

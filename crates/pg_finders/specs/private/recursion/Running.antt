@@ -1,5 +1,5 @@
 -- The solver in its loop, and the number of steps that remain (private).
-use Rattle.std.specs.Prelude.{ℕ, ◌≡◌, ◌+◌, ◌-◌, ◌≤◌, Bool, List, [], ◌∷◌, length, map}
+use Rattle.std.specs.Prelude.{ℕ, ◌≡◌, ◌+◌, ◌-◌, ◌≤◌, Bool, List, [], ◌∷◌, length, map, Option, None, Some, IsSome, IfSome}
 use Rattle.pg_game.specs.declared.player.Player.TheVariants.{Even, Odd}
 use Rattle.pg_game.specs.Graph.{Graph}
 use Rattle.pg_game.specs.VertexSet.{members}
@@ -47,3 +47,8 @@ how_many_gone settled set_aside = length (settled Even) + length (settled Odd) +
 -- the greatest number of steps that remain, for a mask of n vertices
 abbrev pub work : ℕ → Solver → List Frame → ℕ
 work n solver frames = steps (n - how_many_gone (settled_of solver.settled) solver.set_aside.items) + steps_left n frames
+
+-- not more steps are left than before, and still no limit where there was none
+abbrev pub AreFewer : Option ℕ → Option ℕ → Type 0
+AreFewer None left = left ≡ None
+AreFewer (Some n) left = IfSome left (λ m. m ≤ n) × IsSome left

@@ -19,7 +19,7 @@ use std::alloc::Global;
 use std::process::Abort;
 
 /// A number that changes with whatever an entry says.
-fn digest_of(entries: &[Entry]) -> u64 {
+pub fn digest_of(entries: &[Entry]) -> u64 {
     let mut digest = 1u64;
     for entry in entries {
         digest = mixed(digest, entry.worker);

@@ -3,20 +3,10 @@ use Rattle.pg_finders.proofs.Common.{members, Frame, settled_of, AllStand, winne
 use Rattle.pg_finders.proofs.Sets.{only}
 use Rattle.pg_finders.proofs.recursion.ListsAsSets.{some_length}
 use Rattle.pg_finders.proofs.SolvedSubgames.{back_equal, left_subgame}
-use Rattle.pg_finders.proofs.Sizes.{size_below}
-use Rattle.pg_finders.proofs.recursion.LoopSteps.{Begins, lists_fit, none_active, under_way_begin, stops_now, inside_now}
+use Rattle.pg_finders.proofs.recursion.LoopSteps.{Begins, under_way_begin, stops_now, inside_now}
 use Rattle.pg_finders.proofs.recursion.StepBounds.{placed_push}
 use Rattle.pg_finders.proofs.recursion.ActivePart.{enters_fewer}
 use Rattle.pg_finders.proofs.recursion.Solver.enter.Goals as goal
-
-pub gone-requires : goal.gone-requires
-gone-requires c =
-    let h = c.requires.under_way in
-    omega (arith, lists_fit c.args.inside.now h.apart h.listed_inside, size_below c.args.inside.now, c.requires.inside_length, c.len-n.ensures)
-
-pub returns-then-gone-self-clause-none : goal.returns-then-gone-self-clause-none
-returns-then-gone-self-clause-none c _ v =
-    none_active c.args.inside.now c.requires.under_way (sym c.gone.ensures ∙ (c.if-gone-self.true ∙ c.requires.whole)) v
 
 abbrev After : Type 0
 After = goal.In_ok-push

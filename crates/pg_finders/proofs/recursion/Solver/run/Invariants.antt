@@ -1,11 +1,11 @@
-use Rattle.pg_finders.proofs.Common.{◌≡◌, ℕ, None, Some, In, active_of, size, IsRunning, work}
+use Rattle.pg_finders.proofs.Common.{◌≡◌, ℕ, None, Some, In, active_of, size, IsRunning, work, AreFewer}
 use Rattle.pg_finders.proofs.recursion.Solver.run.Given as goal
 
 abbrev pub invariant-steps : goal.invariant-steps
 invariant-steps l = record {
   running : IsRunning l.game l.inside l.self l.self.frames.items;
-  unlimited : l.fn.limit ≡ None → l.left ≡ None;
-  no_steps : l.fn.limit ≡ Some 0 → (v : ℕ) → In (active_of l.fn.self.subgame) v → (l.left ≡ Some 0) × In (active_of l.self.subgame) v;
+  fewer : AreFewer l.initial.left l.left;
+  no_steps : l.initial.left ≡ Some 0 → (v : ℕ) → In (active_of l.fn.self.subgame) v → (l.left ≡ Some 0) × In (active_of l.self.subgame) v;
 }
 
 abbrev pub decreases-steps : goal.decreases-steps

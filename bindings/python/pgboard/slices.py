@@ -1,0 +1,70 @@
+"""Calls that may take long, in slices: the library stops after each, so that Python can handle signals and the call can end early."""
+
+from __future__ import annotations
+
+import time
+from typing import Callable, NamedTuple, Optional, Tuple
+
+from .faults import Cancelled, GaveUp, TimedOut
+
+# the seconds below which slices of the recursion get longer, and above which they get shorter
+SHORT, LONG = 0.01, 0.03
+# A slice has at most so many steps times vertices: a step may be short, and the next one may look at the whole game.
+MOST = 20_000_000
+
+
+class Cancel:
+    """Ends calls from another thread: a call that has it as `cancel` raises Cancelled after `cancel()`, also if that came before."""
+
+    def __init__(self) -> None:
+        self.is_cancelled = False
+
+    def cancel(self) -> None:
+        """Ends all calls that have it, and those that will."""
+        self.is_cancelled = True
+
+
+class Limits(NamedTuple):
+    """When a call is to end without a result: after so many seconds, or after a `Cancel`."""
+
+    timeout: Optional[float] = None
+    cancel: Optional[Cancel] = None
+
+
+def limits_of(timeout: Optional[float], cancel: Optional[Cancel]) -> Limits:
+    """The limits of a call; TypeError or ValueError for what are none."""
+    if timeout is not None and (isinstance(timeout, bool) or not isinstance(timeout, (int, float))):
+        raise TypeError(f"timeout is a number of seconds, not {type(timeout).__name__}")
+    if timeout is not None and not 0 <= timeout:
+        raise ValueError(f"timeout {timeout} is not 0 or more")
+    if cancel is not None and not isinstance(cancel, Cancel):
+        raise TypeError(f"cancel is a pgboard.Cancel, not {type(cancel).__name__}")
+    return Limits(timeout, cancel)
+
+
+def advance(take: Callable[[int], Tuple[bool, int]], vertices: int, limits: Limits, steps: Optional[int]) -> None:
+    """Takes slices of a game with so many vertices until nothing is left. `take` makes one of up to so many steps, and returns whether
+    nothing is left, and how many steps it has taken. Raises GaveUp if more than `steps` are needed, and TimedOut or Cancelled before a
+    slice."""
+    begun = time.monotonic()
+    size, left = 1, steps
+    while True:
+        before = time.monotonic()
+        if limits.cancel is not None and limits.cancel.is_cancelled:
+            raise Cancelled
+        if limits.timeout is not None and before - begun >= limits.timeout:
+            raise TimedOut
+        # (one step above the bound says that more are needed)
+        is_done, used = take(size if left is None else min(size, left + 1))
+        if left is not None:
+            if used > left:
+                raise GaveUp
+            left -= used
+        if is_done:
+            return
+        # (a search takes no step)
+        took = time.monotonic() - before
+        if used == size and took < SHORT:
+            size = max(1, min(2 * size, MOST // vertices))
+        elif used and took > LONG:
+            size = max(1, int(used * SHORT / took))

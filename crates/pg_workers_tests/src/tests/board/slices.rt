@@ -1,0 +1,185 @@
+//! Sessions that are settled in slices, against `finish` on a session of the same game with the same posts.
+
+use crate::tests::asserting::made;
+use crate::tests::board::games::plain_game;
+use crate::tests::board::random::random_claim;
+use crate::tests::board::sessions::digest_of;
+use pg_board::{Entry, Session};
+use pg_dominion::Claim;
+use pg_game::{Player, Sequence};
+use pg_test_support::{EVEN, ODD, Plain, Random, bit};
+use std::alloc::Global;
+use std::process::Abort;
+
+/// More slices than a game of 28 vertices needs.
+const MOST_SLICES: u32 = 100_000;
+
+/// A game of eight to 28 vertices with priorities below 10, which mostly leaves something to the recursion.
+fn large_game(rt: &impl Abort, alloc: Global, random: &mut Random) -> Vec<Plain> {
+    let n = random.below(21).saturating_add(8);
+    let mut vertices = Vec::new(alloc);
+    for _v in 0..n {
+        let owner = if random.below(2) == 0 { EVEN } else { ODD };
+        let successors = bit(random.below(n)) | bit(random.below(n));
+        made(rt, vertices.push((random.below(10), owner, successors)));
+    }
+    vertices
+}
+
+fn session_of(rt: &impl Abort, alloc: Global, plain: &[Plain]) -> Session {
+    made(rt, Session::open(alloc, plain_game(rt, alloc, plain)))
+}
+
+/// Takes slices of at most two steps until all is settled. Returns how many steps they took.
+fn steps_of_slices(
+    rt: &impl Abort,
+    alloc: Global,
+    random: &mut Random,
+    session: &mut Session,
+) -> u64 {
+    let mut taken = 0u64;
+    for _slice in 0..MOST_SLICES {
+        let given = u64::from(random.below(3));
+        let mut left = given;
+        let is_full = made(rt, session.advance(alloc, &mut left));
+        taken = taken.wrapping_add(given.wrapping_sub(left));
+        if is_full {
+            return taken;
+        }
+    }
+    panic!(*rt; "the slices do not end")
+}
+
+/// Compares what slices add, and the steps that they take, with a session that is finished at once.
+fn compare_with_whole(
+    rt: &impl Abort,
+    alloc: Global,
+    random: &mut Random,
+    mut whole: Session,
+    mut sliced: Session,
+) -> u64 {
+    let taken = steps_of_slices(rt, alloc, random, &mut sliced);
+    if taken > 0 {
+        check!(*rt; !made(rt, whole.finish(alloc, Some(taken.wrapping_sub(1)))));
+    }
+    check!(*rt; made(rt, whole.finish(alloc, Some(taken))));
+    check_eq!(*rt; digest_of(sliced.entries()), digest_of(whole.entries()));
+    taken
+}
+
+/// Posts some random claims to two sessions of a game, and settles the rest of one in slices and of the other at once. Returns the
+/// steps.
+fn compare_game(rt: &impl Abort, alloc: Global, random: &mut Random) -> u64 {
+    let plain = large_game(rt, alloc, random);
+    let mut whole = session_of(rt, alloc, plain.as_slice());
+    let mut sliced = session_of(rt, alloc, plain.as_slice());
+    for _post in 0..random.below(4) {
+        let claim = random_claim(rt, alloc, random, plain.as_slice());
+        let found = whole.post(alloc, 7, &claim);
+        check_eq!(*rt; sliced.post(alloc, 7, &claim), found);
+    }
+    compare_with_whole(rt, alloc, random, whole, sliced)
+}
+
+#[test]
+fn slices_post_the_same_as_finish_and_take_as_many_steps(rt: HostRuntime) {
+    let mut random = Random::new(20_261_129);
+    let mut of_many_steps = 0u32;
+    for _game in 0..1_000 {
+        if compare_game(&rt, rt.alloc(), &mut random) > 3 {
+            of_many_steps = of_many_steps.saturating_add(1);
+        }
+    }
+    check!(rt; of_many_steps > 50, of_many_steps);
+}
+
+/// A session with the same entries, of which each is posted anew.
+fn replayed(rt: &impl Abort, alloc: Global, plain: &[Plain], entries: &[Entry]) -> Session {
+    let mut session = session_of(rt, alloc, plain);
+    for entry in entries {
+        let mut rows = Vec::new(alloc);
+        for row in entry.rows.as_slice().iter().take(entry.claimed as usize) {
+            made(rt, rows.push(*row));
+        }
+        let claim = Claim {
+            player: entry.player,
+            rows: Sequence::new(rows),
+        };
+        check!(*rt; session.post(alloc, entry.worker, &claim).is_ok());
+    }
+    check_eq!(*rt; digest_of(session.entries()), digest_of(entries));
+    session
+}
+
+/// All that a player wins, with the choices of a session that was finished.
+fn region_of(rt: &impl Abort, alloc: Global, plain: &[Plain], player: Player) -> Claim {
+    let mut session = session_of(rt, alloc, plain);
+    check!(*rt; made(rt, session.finish(alloc, None)));
+    let mut rows = Vec::new(alloc);
+    for v in 0..session.game().len() {
+        if let Some((winner, choice)) = session.state(v) {
+            if winner == player {
+                made(rt, rows.push((v, choice)));
+            }
+        }
+    }
+    Claim {
+        player,
+        rows: Sequence::new(rows),
+    }
+}
+
+/// Takes some slices and posts all that a player wins. The slices that follow add what `finish` adds to a session with the same
+/// entries. Returns whether something of it was unsettled.
+fn compare_with_post_between(rt: &impl Abort, alloc: Global, random: &mut Random) -> bool {
+    let plain = large_game(rt, alloc, random);
+    let mut sliced = session_of(rt, alloc, plain.as_slice());
+    for _slice in 0..random.below(8) {
+        let mut steps = u64::from(random.below(3));
+        let _is_full = made(rt, sliced.advance(alloc, &mut steps));
+    }
+    let player = if random.below(2) == 0 { EVEN } else { ODD };
+    let claim = region_of(rt, alloc, plain.as_slice(), player);
+    if sliced.post(alloc, 7, &claim).is_err() {
+        return false;
+    }
+    let whole = replayed(rt, alloc, plain.as_slice(), sliced.entries());
+    let _taken = compare_with_whole(rt, alloc, random, whole, sliced);
+    true
+}
+
+#[test]
+fn slices_begin_anew_after_a_post(rt: HostRuntime) {
+    let mut random = Random::new(20_261_130);
+    let mut accepted = 0u32;
+    for _game in 0..2_000 {
+        if compare_with_post_between(&rt, rt.alloc(), &mut random) {
+            accepted = accepted.saturating_add(1);
+        }
+    }
+    check!(rt; accepted > 300, accepted);
+}
+
+/// How many slices with all steps that there are a game needs.
+fn slices_of(rt: &impl Abort, alloc: Global, plain: &[Plain]) -> u32 {
+    let mut session = session_of(rt, alloc, plain);
+    for slice in 0..MOST_SLICES {
+        let mut steps = u64::MAX;
+        if made(rt, session.advance(alloc, &mut steps)) {
+            return slice.saturating_add(1);
+        }
+    }
+    panic!(*rt; "the slices do not end")
+}
+
+/// Four searches come before the recursion on a game of at most 64 vertices.
+#[test]
+fn a_game_needs_one_slice_for_each_search_and_for_the_recursion(rt: HostRuntime) {
+    let mut random = Random::new(20_261_131);
+    let mut most = 0u32;
+    for _game in 0..1_000 {
+        let plain = large_game(&rt, rt.alloc(), &mut random);
+        most = most.max(slices_of(&rt, rt.alloc(), plain.as_slice()));
+    }
+    check_eq!(rt; most, 5);
+}

@@ -1,0 +1,34 @@
+-- The answers of the calls on a board and a text.
+use Rattle.std.specs.Prelude.{ℕ, ◌≡◌, ◌<◌, ◌+◌, [], List, length, Option, Some, None, IsSome}
+use Rattle.pg_game.specs.Graph.{Graph}
+use Rattle.pg_text.specs.Solution.{SolutionRows, IsExactSolution}
+use Rattle.pg_text.specs.Reading.{IsTextOf}
+use Rattle.pg_text.specs.Written.{written_solution}
+use Rattle.pg_board.specs.BoardRecord.{BoardRecord}
+use Rattle.pg_board.specs.Journal.{state_of, number_settled}
+use Rattle.pg_board.specs.Full.{IsFull, AreStateRows}
+use Rattle.pgboard_c.specs.declared.fault.BoardFault.TheVariants as board_fault
+use Rattle.pgboard_c.specs.declared.fault.Fault.{Fault}
+use Rattle.pgboard_c.specs.declared.fault.Fault.TheVariants as fault
+use Rattle.pgboard_c.specs.Texts.{IsRefusedGameText}
+
+-- the board of the text's game on which nothing is settled
+abbrev pub IsOpenedText : List ℕ → Option BoardRecord → Type 0
+IsOpenedText text b = (g : Graph) × IsTextOf text g × (b ≡ Some (record { graph = g; journal = [] }))
+
+abbrev pub IsOpenTextFault : Option BoardRecord → List ℕ → Fault → Type 0
+IsOpenTextFault b text (fault.Board board_fault.Open) = IsSome b
+IsOpenTextFault b text other = (b ≡ None) × IsRefusedGameText text other
+
+-- the board is full, and the text has its winners and choices, which are the game's solution
+abbrev pub IsSolutionText : BoardRecord → List ℕ → Type 0
+IsSolutionText s text = IsFull s.graph (state_of s.journal) × ((rows : SolutionRows) × IsExactSolution s.graph rows
+    × AreStateRows s.graph (state_of s.journal) rows × (text ≡ written_solution s.graph rows))
+
+-- why a board's solution is not written; refused memory says nothing of it
+abbrev pub IsSolutionTextFault : BoardRecord → ℕ → Fault → Type 0
+IsSolutionTextFault s capacity fault.Memory = Unit {0}
+IsSolutionTextFault s capacity (fault.Board (board_fault.Unsettled n)) =
+    (IsFull s.graph (state_of s.journal) → ⊥) × (n + number_settled s.journal ≡ length s.graph)
+IsSolutionTextFault s capacity (fault.Capacity size) = (text : List ℕ) × IsSolutionText s text × (size ≡ length text) × (capacity < size)
+IsSolutionTextFault s capacity other = ⊥
