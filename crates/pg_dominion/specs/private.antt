@@ -2,6 +2,7 @@
 pub mod Attracting
 pub mod Extending
 pub mod KeptEdges
+pub mod Labels
 pub mod Shape
 pub mod Plan
 pub mod Ranking

@@ -12,8 +12,8 @@
 ghost use Rattle.std.specs.Prelude.{◌≡◌, ℕ, ◌<◌, ◌≤◌, IfOk, IfSome, MatchOption, Some, None, length, true, false, ◌≢◌, ◌^◌, ◌⊎◌, slice_index};
 ghost use Rattle.pg_game.specs.Least.{NoneHas, IsLeast};
 ghost use Rattle.pg_dominion.specs.KeptEdges.{IsOnBadCycle};
-ghost use Rattle.pg_dominion.specs.private.KeptEdges.{Reaches, IsBounded, Leads, AreLabelled, Searching, IsSpread, GoesOn, AreNoted};
-ghost use Rattle.pg_dominion.specs.private.SearchProgress.{AreSearches, IsSearched};
+ghost use Rattle.pg_dominion.specs.private.KeptEdges.{Reaches, IsBounded, Leads, AreLabelled, GoesOn, AreNoted};
+ghost use Rattle.pg_dominion.specs.private.SearchProgress.{IsSearched};
 ghost use Rattle.pg_game.specs.Graph.{priority_of};
 
 use crate::peeling::find_ranking;
@@ -58,7 +58,7 @@ fn search_from(
     };
     let mut searches = Searches::new(alloc, kept)?;
     'starts: for v in first..kept.game.len() {
-        if searches.find_bad_cycle(kept, v)? {
+        if searches.find_bad_cycle(v)? {
             return Ok(SearchProgress::All(Some(v)));
         }
         if searches.are_over(patience) {
@@ -90,38 +90,72 @@ fn first_bad(kept: &StrategyGraph, from: u32) -> Option<u32>
     None
 }
 
-/// The tables of searches from one bad vertex after another.
+/// Searches from one bad vertex after another.
 #[derive(Drop)]
-struct Searches {
-    labels: Labels,
+struct Searches<'k, 'g> {
+    labels: Labels<'k, 'g>,
     search: WalkSearch,
+    ghost size: { length search.places.items ≡ length labels.kept.now.game.now },
 }
 
-impl Searches {
-    fn new(alloc: Global, kept: &StrategyGraph) -> Result<Searches, AllocError>
-        ensures { IfOk result (AreSearches kept.now) }
+impl<'k, 'g> Searches<'k, 'g> {
+    /// No search has been made yet.
+    fn new(alloc: Global, kept: &'k StrategyGraph<'g>) -> Result<Searches<'k, 'g>, AllocError>
+        ensures { IfOk result (λ s. s.labels.kept.now ≡ kept.now) }
     {
         Ok(Searches {
             labels: Labels::new(alloc, kept)?,
-            search: WalkSearch::new(alloc, kept)?,
+            search: WalkSearch::new(alloc, kept.game.len())?,
         })
     }
 
     /// Whether the vertex is bad and the greatest on a closed walk through it. Each search takes about twice its first edges off
     /// the repeats, so that many short searches do not pay for long ones.
-    fn find_bad_cycle(&mut self, kept: &StrategyGraph, v: u32) -> Result<bool, AllocError>
-        requires searches { AreSearches kept.now self.old }
-        requires vertex { v < length kept.now.game.now }
-        ensures searches { IfOk result (λ found. AreSearches kept.now self.new) }
-        ensures bad_cycle { IfOk result (λ found. found ≡ true → IsOnBadCycle kept.now v) }
-        ensures none { IfOk result (λ found. found ≡ false → IsOnBadCycle kept.now v → ⊥) }
+    fn find_bad_cycle(&mut self, v: u32) -> Result<bool, AllocError>
+        requires { v < length self.old.labels.kept.now.game.now }
+        ensures graph { self.new.labels.kept.now ≡ self.old.labels.kept.now }
+        ensures bad_cycle { IfOk result (λ found. found ≡ true → IsOnBadCycle self.old.labels.kept.now v) }
+        ensures none { IfOk result (λ found. found ≡ false → IsOnBadCycle self.old.labels.kept.now v → ⊥) }
     {
-        if !kept.bad.has(v) || is_alone(kept, &self.labels, v) {
+        let kept = self.labels.kept;
+        if !kept.bad.has(v) || self.labels.is_alone(v) {
             return Ok(false);
         }
         let first_edges = kept.row(v).len() as u64;
         self.search.repeats = self.search.repeats.saturating_sub(4 + 2 * first_edges);
-        walks_back(kept, v, &mut self.labels, &mut self.search)
+        self.walks_back(v)
+    }
+
+    /// Whether a vertex is the greatest on a closed walk through it.
+    fn walks_back(&mut self, start: u32) -> Result<bool, AllocError>
+        requires { start < length self.old.labels.kept.now.game.now }
+        ensures graph { self.new.labels.kept.now ≡ self.old.labels.kept.now }
+        ensures back { IfOk result (λ found. found ≡ true → Reaches self.old.labels.kept.now start start) }
+        ensures none { IfOk result (λ found. found ≡ false → Reaches self.old.labels.kept.now start start → ⊥) }
+    {
+        let kept = self.labels.kept;
+        // for the proof: priorities are so small that one more fits, and so are vertices
+        let _n = kept.game.len();
+        let top = kept.game.priority(start);
+        let own = self.labels.group_above(start, top);
+        self.search.queue.clear();
+        self.search.queue.push(start)?;
+        self.search.places[start as usize] = 0;
+        self.search.first_repeated = usize::MAX;
+        if self.labels.finds_back(top, own, &mut self.search)? {
+            return Ok(true);
+        }
+        if own == 0 {
+            let labels = &mut self.labels;
+            note(
+                &mut labels.levels,
+                &mut labels.groups,
+                &self.search,
+                top + 1,
+                start,
+            );
+        }
+        Ok(false)
     }
 
     /// Whether more repeats are left than the patience.
@@ -134,28 +168,148 @@ impl Searches {
 
 /// What searches have shown. All vertices on a closed walk with a vertex, of priorities below its level, have its group and
 /// its level. If the group is the vertex's own number and one more, there is no such walk.
-struct Labels {
+struct Labels<'k, 'g> {
+    kept: &'k StrategyGraph<'g>,
     levels: Vec<u32>,
     groups: Vec<u32>,
+    ghost shown: { AreLabelled kept.now levels.items groups.items },
 }
 
-impl Labels {
+impl<'k, 'g> Labels<'k, 'g> {
+    ghost use Rattle.pg_dominion.specs.private.Labels.{IsSearching, IsSpreadAt};
+
     /// No search has shown anything yet.
-    fn new(alloc: Global, kept: &StrategyGraph) -> Result<Labels, AllocError>
-        ensures { IfOk result (λ l. AreLabelled kept.now l.levels.items l.groups.items) }
+    fn new(alloc: Global, kept: &'k StrategyGraph<'g>) -> Result<Labels<'k, 'g>, AllocError>
+        ensures { IfOk result (λ l. l.kept.now ≡ kept.now) }
     {
         let n = kept.game.len();
         Ok(Labels {
+            kept,
             levels: vec![in alloc; 0u32; n as usize]?,
             groups: vec![in alloc; 0u32; n as usize]?,
         })
     }
+
+    /// Whether searches have shown that the vertex is not the greatest on a closed walk through it.
+    fn is_alone(&self, v: u32) -> bool
+        requires { v < length self.now.kept.now.game.now }
+        ensures { result ≡ true → Reaches self.now.kept.now v v → ⊥ }
+    {
+        // for the proof: a game has fewer than 2^32 vertices, so a vertex and one more fits
+        let _n = self.kept.game.len();
+        self.levels[v as usize] > self.kept.game.priority(v) && self.groups[v as usize] == v + 1
+    }
+
+    /// The group of a vertex if its level is above the priority, else 0.
+    fn group_above(&self, v: u32, top: u32) -> u32
+        requires { v < length self.now.kept.now.game.now }
+        ensures above { top < slice_index self.now.levels.items v → slice_index self.now.groups.items v ≡ result }
+        ensures none { slice_index self.now.levels.items v ≤ top → result ≡ 0 }
+    {
+        if self.levels[v as usize] > top {
+            self.groups[v as usize]
+        } else {
+            0
+        }
+    }
+
+    /// Searches for a way back to the first vertex of the queue. Returns whether there is one.
+    fn finds_back(&self, top: u32, own: u32, search: &mut WalkSearch) -> Result<bool, AllocError>
+        requires least { 0 < search.old.first_repeated }
+        requires state { IsSearching self.now top own search.old }
+        ensures least { 0 < search.new.first_repeated }
+        ensures state { IsSearching self.now top own search.new }
+        ensures first { IfOk result (λ found. slice_index search.new.queue.items 0 ≡ slice_index search.old.queue.items 0) }
+        ensures back { IfOk result (λ found. found ≡ true
+            → Leads self.now.kept.now top (slice_index search.old.queue.items 0) (slice_index search.old.queue.items 0)) }
+        ensures spread { IfOk result (λ found. found ≡ false → (i : ℕ) → i < length search.new.queue.items → IsSpreadAt self.now top own search.new i) }
+    {
+        'queue: for next in 0..usize::MAX {
+            if next >= search.queue.len() {
+                break;
+            }
+            if self.spread(top, own, next, search)? {
+                return Ok(true);
+            }
+        }
+        Ok(false)
+    }
+
+    /// Continues the search for a way back to the queue's first vertex from a place of the queue. Returns whether there is one.
+    fn spread(
+        &self,
+        top: u32,
+        own: u32,
+        at: usize,
+        search: &mut WalkSearch,
+    ) -> Result<bool, AllocError>
+        requires place { at < length search.old.queue.items }
+        requires least { 0 < search.old.first_repeated }
+        requires state { IsSearching self.now top own search.old }
+        ensures least { 0 < search.new.first_repeated }
+        ensures state { IsSearching self.now top own search.new }
+        ensures later { IfOk result (λ found. GoesOn search.old.queue.items search.old.first_repeated search.new.queue.items search.new.first_repeated) }
+        ensures back { IfOk result (λ found. found ≡ true
+            → Leads self.now.kept.now top (slice_index search.old.queue.items 0) (slice_index search.old.queue.items 0)) }
+        ensures spread { IfOk result (λ found. found ≡ false → IsSpreadAt self.now top own search.new at) }
+    {
+        // for the proof: a game has fewer than 2^32 vertices, so a place in the queue fits
+        let _n = self.kept.game.len();
+        let v = search.queue[at];
+        let row = self.kept.row(v);
+        search.repeats = self.count_repeats(v, row.len(), search.repeats);
+        'row: for w in row {
+            let to = *w;
+            if self.passes_over(top, own, to) {
+                continue;
+            }
+            let end = search.queue.len();
+            let place = search.places[to as usize] as usize;
+            if place < end && search.queue[place] == to {
+                if place == 0 {
+                    return Ok(true);
+                }
+                search.first_repeated = search.first_repeated.min(place);
+                continue;
+            }
+            search.queue.push(to)?;
+            search.places[to as usize] = end as u32;
+        }
+        Ok(false)
+    }
+
+    /// Adds this many edges to the repeats, if an earlier search has reached their source.
+    fn count_repeats(&self, v: u32, edges: usize, repeats: u64) -> u64
+        requires { v < length self.now.kept.now.game.now }
+    {
+        if self.levels[v as usize] > 0 {
+            repeats.saturating_add(edges as u64)
+        } else {
+            repeats
+        }
+    }
+
+    /// Whether a search of this priority, from this group or from none, passes over a vertex: its own priority is greater, or its
+    /// level is, and it has another group. The test has no branch, which a processor could not predict.
+    fn passes_over(&self, top: u32, own: u32, v: u32) -> bool
+        requires { v < length self.now.kept.now.game.now }
+        ensures over { result ≡ true → (top < priority_of self.now.kept.now.game.now v)
+            ⊎ ((top < slice_index self.now.levels.items v) × (slice_index self.now.groups.items v ≢ own)) }
+        ensures into { result ≡ false → (priority_of self.now.kept.now.game.now v ≤ top)
+            × (top < slice_index self.now.levels.items v → slice_index self.now.groups.items v ≡ own) }
+    {
+        let is_greater = self.kept.game.priority(v) > top;
+        let is_shown = self.levels[v as usize] > top;
+        let is_apart = self.groups[v as usize] != own;
+        is_greater | (is_shown & is_apart)
+    }
 }
 
 /// Written by hand, so that dropping a value is one step in the proofs of callers, and not one for each list.
-impl Drop for Labels {
+impl<'k, 'g> Drop for Labels<'k, 'g> {
     fn drop(self) {
         let Labels {
+            kept: _kept,
             levels: _levels,
             groups: _groups,
         } = self;
@@ -174,12 +328,12 @@ struct WalkSearch {
 }
 
 impl WalkSearch {
-    fn new(alloc: Global, kept: &StrategyGraph) -> Result<WalkSearch, AllocError>
-        ensures { IfOk result (λ s. length s.places.items ≡ length kept.now.game.now) }
+    /// The tables of a graph with this number of vertices.
+    fn new(alloc: Global, n: u32) -> Result<WalkSearch, AllocError>
+        ensures { IfOk result (λ s. length s.places.items ≡ n) }
     {
         // The queue has capacity for all vertices, so that it frees no small blocks. The allocator would keep those, and the
         // memory below them.
-        let n = kept.game.len();
         Ok(WalkSearch {
             queue: Vec::with_capacity(alloc, n as usize)?,
             places: vec![in alloc; 0u32; n as usize]?,
@@ -201,186 +355,16 @@ impl Drop for WalkSearch {
     }
 }
 
-/// Whether searches have shown that the vertex is not the greatest on a closed walk through it.
-fn is_alone(kept: &StrategyGraph, labels: &Labels, v: u32) -> bool
-    requires labels { AreLabelled kept.now labels.now.levels.items labels.now.groups.items }
-    requires vertex { v < length kept.now.game.now }
-    ensures { result ≡ true → Reaches kept.now v v → ⊥ }
-{
-    // for the proof: a game has fewer than 2^32 vertices, so a vertex and one more fits
-    let _n = kept.game.len();
-    labels.levels[v as usize] > kept.game.priority(v) && labels.groups[v as usize] == v + 1
-}
-
-/// Whether a vertex is the greatest on a closed walk through it.
-fn walks_back(
-    kept: &StrategyGraph,
-    start: u32,
-    labels: &mut Labels,
-    search: &mut WalkSearch,
-) -> Result<bool, AllocError>
-    requires start { start < length kept.now.game.now }
-    requires labels { AreLabelled kept.now labels.old.levels.items labels.old.groups.items }
-    requires size { length search.old.places.items ≡ length kept.now.game.now }
-    ensures labels { IfOk result (λ found. AreLabelled kept.now labels.new.levels.items labels.new.groups.items) }
-    ensures size { IfOk result (λ found. length search.new.places.items ≡ length kept.now.game.now) }
-    ensures back { IfOk result (λ found. found ≡ true → Reaches kept.now start start) }
-    ensures none { IfOk result (λ found. found ≡ false → Reaches kept.now start start → ⊥) }
-{
-    // for the proof: priorities are so small that one more fits, and so are vertices
-    let _n = kept.game.len();
-    let top = kept.game.priority(start);
-    let own = group_above(kept, labels, start, top);
-    search.queue.clear();
-    search.queue.push(start)?;
-    search.places[start as usize] = 0;
-    search.first_repeated = usize::MAX;
-    if finds_back(kept, labels, top, own, search)? {
-        return Ok(true);
-    }
-    if own == 0 {
-        note(labels, search, top + 1, start);
-    }
-    Ok(false)
-}
-
-/// The group of a vertex if its level is above the priority, else 0.
-fn group_above(kept: &StrategyGraph, labels: &Labels, v: u32, top: u32) -> u32
-    requires labels { AreLabelled kept.now labels.now.levels.items labels.now.groups.items }
-    requires vertex { v < length kept.now.game.now }
-    ensures above { top < slice_index labels.now.levels.items v → slice_index labels.now.groups.items v ≡ result }
-    ensures none { slice_index labels.now.levels.items v ≤ top → result ≡ 0 }
-{
-    if labels.levels[v as usize] > top {
-        labels.groups[v as usize]
-    } else {
-        0
-    }
-}
-
-/// Searches for a way back to the first vertex of the queue. Returns whether there is one.
-fn finds_back(
-    kept: &StrategyGraph,
-    labels: &Labels,
-    top: u32,
-    own: u32,
-    search: &mut WalkSearch,
-) -> Result<bool, AllocError>
-    requires labels { AreLabelled kept.now labels.now.levels.items labels.now.groups.items }
-    requires least { 0 < search.old.first_repeated }
-    requires state { Searching kept.now labels.now.levels.items labels.now.groups.items top own search.old.places.items search.old.queue.items }
-    ensures least { IfOk result (λ found. 0 < search.new.first_repeated) }
-    ensures state { IfOk result (λ found. Searching kept.now labels.now.levels.items labels.now.groups.items top own search.new.places.items
-        search.new.queue.items) }
-    ensures first { IfOk result (λ found. slice_index search.new.queue.items 0 ≡ slice_index search.old.queue.items 0) }
-    ensures back { IfOk result (λ found. found ≡ true → Leads kept.now top (slice_index search.old.queue.items 0) (slice_index search.old.queue.items 0)) }
-    ensures spread { IfOk result (λ found. found ≡ false → (i : ℕ) → i < length search.new.queue.items
-        → IsSpread kept.now labels.now.levels.items labels.now.groups.items top own search.new.first_repeated search.new.places.items search.new.queue.items i) }
-{
-    'queue: for next in 0..usize::MAX {
-        if next >= search.queue.len() {
-            break;
-        }
-        if spread(kept, labels, top, own, next, search)? {
-            return Ok(true);
-        }
-    }
-    Ok(false)
-}
-
-/// Continues the search for a way back to the queue's first vertex from a place of the queue. Returns whether there is one.
-fn spread(
-    kept: &StrategyGraph,
-    labels: &Labels,
-    top: u32,
-    own: u32,
-    at: usize,
-    search: &mut WalkSearch,
-) -> Result<bool, AllocError>
-    requires labels { AreLabelled kept.now labels.now.levels.items labels.now.groups.items }
-    requires place { at < length search.old.queue.items }
-    requires least { 0 < search.old.first_repeated }
-    requires state { Searching kept.now labels.now.levels.items labels.now.groups.items top own search.old.places.items search.old.queue.items }
-    ensures least { IfOk result (λ found. 0 < search.new.first_repeated) }
-    ensures state { IfOk result (λ found. Searching kept.now labels.now.levels.items labels.now.groups.items top own search.new.places.items
-        search.new.queue.items) }
-    ensures later { IfOk result (λ found. GoesOn search.old.queue.items search.old.first_repeated search.new.queue.items search.new.first_repeated) }
-    ensures back { IfOk result (λ found. found ≡ true → Leads kept.now top (slice_index search.old.queue.items 0) (slice_index search.old.queue.items 0)) }
-    ensures spread { IfOk result (λ found. found ≡ false
-        → IsSpread kept.now labels.now.levels.items labels.now.groups.items top own search.new.first_repeated search.new.places.items search.new.queue.items at) }
-{
-    // for the proof: a game has fewer than 2^32 vertices, so a place in the queue fits
-    let _n = kept.game.len();
-    let v = search.queue[at];
-    let row = kept.row(v);
-    search.repeats = count_repeats(labels, v, row.len(), search.repeats);
-    'row: for w in row {
-        let to = *w;
-        if passes_over(kept, labels, top, own, to) {
-            continue;
-        }
-        let end = search.queue.len();
-        let place = search.places[to as usize] as usize;
-        if place < end && search.queue[place] == to {
-            if place == 0 {
-                return Ok(true);
-            }
-            search.first_repeated = search.first_repeated.min(place);
-            continue;
-        }
-        search.queue.push(to)?;
-        search.places[to as usize] = end as u32;
-    }
-    Ok(false)
-}
-
-/// Adds this many edges to the repeats, if an earlier search has reached their source.
-fn count_repeats(labels: &Labels, v: u32, edges: usize, repeats: u64) -> u64
-    requires { v < length labels.now.levels.items }
-{
-    if labels.levels[v as usize] > 0 {
-        repeats.saturating_add(edges as u64)
-    } else {
-        repeats
-    }
-}
-
-/// Whether a search of this priority, from this group or from none, passes over a vertex: its own priority is greater, or its level
-/// is, and it has another group. The test has no branch, which a processor could not predict.
-fn passes_over(kept: &StrategyGraph, labels: &Labels, top: u32, own: u32, v: u32) -> bool
-    requires labels { AreLabelled kept.now labels.now.levels.items labels.now.groups.items }
-    requires vertex { v < length kept.now.game.now }
-    ensures over { result ≡ true → (top < priority_of kept.now.game.now v)
-        ⊎ ((top < slice_index labels.now.levels.items v) × (slice_index labels.now.groups.items v ≢ own)) }
-    ensures into { result ≡ false → (priority_of kept.now.game.now v ≤ top)
-        × (top < slice_index labels.now.levels.items v → slice_index labels.now.groups.items v ≡ own) }
-{
-    let is_greater = kept.game.priority(v) > top;
-    let is_shown = labels.levels[v as usize] > top;
-    let is_apart = labels.groups[v as usize] != own;
-    is_greater | (is_shown & is_apart)
-}
-
-/// Whether the vertex is the greatest on a closed walk through it, by a search with tables of its own.
-fn leads_back(alloc: Global, kept: &StrategyGraph, v: u32) -> Result<bool, AllocError>
-    requires vertex { v < length kept.now.game.now }
-    ensures { IfOk result (λ found. found ≡ true → Reaches kept.now v v) }
-{
-    let mut labels = Labels::new(alloc, kept)?;
-    let mut search = WalkSearch::new(alloc, kept)?;
-    walks_back(kept, v, &mut labels, &mut search)
-}
-
 /// Gives the reached vertices the level, and groups: each before the least place its own, and the others one group.
-fn note(labels: &mut Labels, search: &WalkSearch, level: u32, start: u32)
-    requires levels { length labels.old.levels.items ≡ length search.now.places.items }
-    requires groups { length labels.old.groups.items ≡ length search.now.places.items }
+fn note(levels: &mut Vec<u32>, groups: &mut Vec<u32>, search: &WalkSearch, level: u32, start: u32)
+    requires levels { length levels.old.items ≡ length search.now.places.items }
+    requires groups { length groups.old.items ≡ length search.now.places.items }
     requires start { start < length search.now.places.items }
     requires short { length search.now.places.items < 2 ^ 32 }
     requires below { (i : ℕ) → i < length search.now.queue.items → slice_index search.now.queue.items i < length search.now.places.items }
     requires placed { (i : ℕ) → i < length search.now.queue.items → slice_index search.now.places.items (slice_index search.now.queue.items i) ≡ i }
-    ensures { AreNoted labels.old.levels.items labels.old.groups.items search.now.places.items search.now.queue.items level start search.now.first_repeated
-        (length search.now.queue.items) labels.new.levels.items labels.new.groups.items }
+    ensures { AreNoted levels.old.items groups.old.items search.now.places.items search.now.queue.items level start search.now.first_repeated
+        (length search.now.queue.items) levels.new.items groups.new.items }
 {
     'queue: for at in 0..search.queue.len() {
         let v = search.queue[at];
@@ -389,9 +373,18 @@ fn note(labels: &mut Labels, search: &WalkSearch, level: u32, start: u32)
         } else {
             start + 1
         };
-        labels.levels[v as usize] = level;
-        labels.groups[v as usize] = group;
+        levels[v as usize] = level;
+        groups[v as usize] = group;
     }
+}
+
+/// Whether the vertex is the greatest on a closed walk through it, by a search with tables of its own.
+fn leads_back(alloc: Global, kept: &StrategyGraph, v: u32) -> Result<bool, AllocError>
+    requires { v < length kept.now.game.now }
+    ensures { IfOk result (λ found. found ≡ true → Reaches kept.now v v) }
+{
+    let mut searches = Searches::new(alloc, kept)?;
+    searches.walks_back(v)
 }
 
 /// The least bad vertex that is the greatest on a closed walk through it, if a ranking shows it. Searches have shown that there

@@ -2,6 +2,7 @@ pub mod Common
 pub mod ClosedWalks
 pub mod Sets
 pub mod Masks
+pub mod DeadEnds
 pub mod Sizes
 pub mod Rows
 pub mod RowsByPlace

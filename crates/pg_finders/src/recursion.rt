@@ -17,7 +17,7 @@ ghost use Rattle.pg_game.specs.Player.{opponent};
 ghost use Rattle.std.specs.Borrow.{sem};
 ghost use Rattle.pg_finders.specs.private.recursion.Settled.{settled_of, LendsList};
 ghost use Rattle.pg_finders.specs.private.recursion.UnderWay.{count_at};
-ghost use Rattle.pg_finders.specs.private.recursion.Running.{IsRunning, how_many_gone, with_active, work, AreFewer};
+ghost use Rattle.pg_finders.specs.private.recursion.Running.{IsRunning, how_many_gone, with_active, work, AreFewer, after_step};
 ghost use Rattle.pg_finders.specs.Recursion.{IfSolved, IfRunning};
 ghost use Rattle.std.specs.Arc.{arc_value};
 ghost use Rattle.pg_game.specs.private.VertexSet.{without};
@@ -25,7 +25,7 @@ ghost use Rattle.pg_game.specs.private.VertexSet.{without};
 mod order;
 mod subgame;
 
-use crate::inside::{Inside, claim_of};
+use crate::inside::{Inside, View, claim_of};
 use crate::recursion::order::Order;
 use crate::recursion::subgame::{Plan, Subgame};
 use pg_dominion::{Claim, own_choice};
@@ -81,10 +81,10 @@ fn solve(alloc: Global, inside: &Inside, limit: Option<u64>) -> Result<Option<So
     ensures unlimited { IfOk result (λ found. limit ≡ None → IsSome found) }
     ensures no_steps { IfOk result (λ found. limit ≡ Some 0 → (v : ℕ) → In (members inside.now.mask) v → IsNone found) }
 {
-    let game = inside.game();
-    let mut solver = Solver::new(alloc, game, inside.mask())?;
+    let view = inside.view();
+    let mut solver = Solver::new(alloc, &view)?;
     let mut left = limit;
-    solver.solve(alloc, game, inside.mask(), &mut left)
+    solver.solve(alloc, &view, &mut left)
 }
 
 /// A run of the recursion that can stop between two steps. It shares the game and borrows nothing, so a caller may keep it.
@@ -128,7 +128,8 @@ impl Recursion {
         ensures graph { IfOk result (λ r. r.graph ≡ arc_value game.now) }
         ensures mask { IfOk result (λ r. r.mask ≡ mask) }
     {
-        let solver = Solver::new(alloc, game, &mask)?;
+        let view = View { game, mask: &mask };
+        let solver = Solver::new(alloc, &view)?;
         Ok(Recursion {
             game: Arc::try_clone(game)?,
             mask,
@@ -146,7 +147,11 @@ impl Recursion {
         let Recursion { game, mask, solver } = self;
         let mut solver = solver;
         let mut left = Some(*steps);
-        let found = solver.solve(alloc, &game, &mask, &mut left);
+        let view = View {
+            game: &game,
+            mask: &mask,
+        };
+        let found = solver.solve(alloc, &view, &mut left);
         *steps = left.unwrap_or(0);
         match found? {
             Some(solved) => Ok(Advanced::Solved(solved)),
@@ -170,19 +175,17 @@ struct Solver {
 
 impl Solver {
     /// No vertex is settled yet.
-    fn new(alloc: Global, game: &Game, inside: &Mask) -> Result<Solver, Memory>
-        requires length { length inside.now ≡ length game.now }
-        requires subgame { IsSubgame game.now (members inside.now) }
-        ensures running { IfOk result (λ solver. IsRunning game.now inside.now solver solver.frames.items) }
-        ensures active { IfOk result (λ solver. solver.subgame.active ≡ inside.now) }
+    fn new(alloc: Global, view: &View) -> Result<Solver, Memory>
+        ensures running { IfOk result (λ solver. IsRunning view.now.game.now view.now.mask.now solver solver.frames.items) }
+        ensures active { IfOk result (λ solver. solver.subgame.active ≡ view.now.mask.now) }
     {
         // Capacities are for all vertices that a list may get, as far as this is known. If a list outgrows a block below a KiB, the
         // allocator of glibc keeps that block, and does not return the memory below it to the system.
-        let n = inside.count();
+        let n = view.mask.count();
         let frames = Vec::with_capacity(alloc, 64)?;
         // the order first, which frees its temporary memory
-        let order = Order::new(alloc, game, inside)?;
-        let subgame = Subgame::new(alloc, game, inside)?;
+        let order = Order::new(alloc, view)?;
+        let subgame = Subgame::new(alloc, view)?;
         let settled = Settled::new(alloc, n)?;
         let set_aside = Vec::with_capacity(alloc, n as usize)?;
         let list = Vec::with_capacity(alloc, n as usize)?;
@@ -209,26 +212,24 @@ impl Solver {
     fn solve(
         &mut self,
         alloc: Global,
-        game: &Game,
-        inside: &Mask,
+        view: &View,
         left: &mut Option<u64>,
     ) -> Result<Option<Solved>, Memory>
-        requires running { IsRunning game.now inside.now self.old self.old.frames.items }
-        requires subgame { IsSubgame game.now (members inside.now) }
-        ensures claims { IfOk result (λ found. IfSome found (λ solved. AreClaims game.now (members inside.now) solved.even solved.odd)) }
-        ensures running { IfOk result (λ found. IsNone found → IsRunning game.now inside.now self.new self.new.frames.items) }
+        requires { IsRunning view.now.game.now view.now.mask.now self.old self.old.frames.items }
+        ensures claims { IfOk result (λ found. IfSome found (λ solved. AreClaims view.now.game.now (members view.now.mask.now) solved.even solved.odd)) }
+        ensures running { IfOk result (λ found. IsNone found → IsRunning view.now.game.now view.now.mask.now self.new self.new.frames.items) }
         ensures fewer { AreFewer left.old left.new }
         ensures unlimited { IfOk result (λ found. left.old ≡ None → IsSome found) }
         ensures all { IfOk result (λ found. IsNone found → left.new ≡ Some 0) }
         ensures no_steps { IfOk result (λ found. left.old ≡ Some 0 → (v : ℕ) → In (active_of self.old.subgame) v → IsNone found) }
     {
-        if !self.run(game, inside, left)? {
+        if !self.run(view, left)? {
             return Ok(None);
         }
         let for_even = self.count(Player::Even);
         let for_odd = self.count(Player::Odd);
         let plan = &self.subgame.plan;
-        let (even, odd) = rows_of(alloc, game, inside, plan, for_even, for_odd)?;
+        let (even, odd) = rows_of(alloc, view, plan, for_even, for_odd)?;
         Ok(Some(Solved {
             even: claim_of(Player::Even, even),
             odd: claim_of(Player::Odd, odd),
@@ -236,66 +237,66 @@ impl Solver {
     }
 
     /// Takes the steps that are left, or all where there is no limit. False if one more was needed; if true, the whole mask is planned.
-    fn run(&mut self, game: &Game, inside: &Mask, left: &mut Option<u64>) -> Result<bool, Memory>
-        requires { IsRunning game.now inside.now self.old self.old.frames.items }
+    fn run(&mut self, view: &View, left: &mut Option<u64>) -> Result<bool, Memory>
+        requires { IsRunning view.now.game.now view.now.mask.now self.old self.old.frames.items }
         ensures solved { IfOk result (λ done. done ≡ true
-            → IsSolvedInside game.now (members inside.now) (winners_of self.new.subgame.plan) (choices_of self.new.subgame.plan)) }
-        ensures size { IfOk result (λ done. done ≡ true → HasSize (length game.now) self.new.subgame.plan) }
-        ensures running { IfOk result (λ done. done ≡ false → IsRunning game.now inside.now self.new self.new.frames.items) }
+            → IsSolvedInside view.now.game.now (members view.now.mask.now) (winners_of self.new.subgame.plan) (choices_of self.new.subgame.plan)) }
+        ensures size { IfOk result (λ done. done ≡ true → HasSize (length view.now.game.now) self.new.subgame.plan) }
+        ensures running { IfOk result (λ done. done ≡ false → IsRunning view.now.game.now view.now.mask.now self.new self.new.frames.items) }
         ensures fewer { AreFewer left.old left.new }
         ensures unlimited { IfOk result (λ done. left.old ≡ None → done ≡ true) }
         ensures all { IfOk result (λ done. done ≡ false → left.new ≡ Some 0) }
         ensures no_steps { IfOk result (λ done. left.old ≡ Some 0 → (v : ℕ) → In (active_of self.old.subgame) v → done ≡ false) }
     {
         'steps: loop {
-            if !self.may_enter(game, inside, left) {
+            if !self.may_enter(view, left) {
                 return Ok(false);
             }
-            if self.enter(game, inside)? {
+            if self.enter(view)? {
                 continue;
             }
             let Some(frame) = self.frames.pop() else {
                 break;
             };
-            self.leave(game, inside, frame)?;
+            self.leave(view, frame)?;
         }
         Ok(true)
     }
 
     /// Takes one of the steps that are left, if a vertex is active. False if none is left.
-    fn may_enter(&self, game: &Game, inside: &Mask, left: &mut Option<u64>) -> bool
-        requires { IsRunning game.now inside.now self.now self.now.frames.items }
+    fn may_enter(&self, view: &View, left: &mut Option<u64>) -> bool
+        requires { IsRunning view.now.game.now view.now.mask.now self.now self.now.frames.items }
         ensures fewer { AreFewer left.old left.new }
         ensures unlimited { left.old ≡ None → result ≡ true }
         ensures none { left.old ≡ Some 0 → (v : ℕ) → In (active_of self.now.subgame) v → result ≡ false }
         ensures all { result ≡ false → left.new ≡ Some 0 }
     {
-        !self.has_more(game, inside) || take_step(left)
+        !self.has_more(view) || take_step(left)
     }
 
     /// Begins the active part: sets aside its greatest vertices of one parity and what they attract. False if nothing is
     /// active.
-    fn enter(&mut self, game: &Game, inside: &Mask) -> Result<bool, Memory>
-        requires { IsRunning game.now inside.now self.old self.old.frames.items }
-        ensures running { OnOk result (IsRunning game.now inside.now self.new self.new.frames.items) }
+    fn enter(&mut self, view: &View) -> Result<bool, Memory>
+        requires { IsRunning view.now.game.now view.now.mask.now self.old self.old.frames.items }
+        ensures running { OnOk result (IsRunning view.now.game.now view.now.mask.now self.new self.new.frames.items) }
         ensures fewer { IfOk result (λ entered. entered ≡ true
-            → work (size inside.now) self.new self.new.frames.items < work (size inside.now) self.old self.old.frames.items) }
+            → work (size view.now.mask.now) self.new self.new.frames.items < work (size view.now.mask.now) self.old self.old.frames.items) }
         ensures same { IfOk result (λ entered. entered ≡ false
-            → work (size inside.now) self.new self.new.frames.items ≡ work (size inside.now) self.old self.old.frames.items) }
+            → work (size view.now.mask.now) self.new self.new.frames.items ≡ work (size view.now.mask.now) self.old self.old.frames.items) }
         ensures none { IfOk result (λ entered. entered ≡ false → (v : ℕ) → active_of self.new.subgame v ≡ false) }
         ensures kept { IfOk result (λ entered. entered ≡ false → self.new.subgame ≡ self.old.subgame) }
     {
-        if !self.has_more(game, inside) {
+        if !self.has_more(view) {
             return Ok(false);
         }
-        let Some(top) = self.order.top(game, &self.subgame.active) else {
+        let Some(top) = self.order.top(view.game, &self.subgame.active) else {
             return Ok(false);
         };
         let place = self.order.upto();
         let player = Player::of_parity(top);
         self.order
-            .list_greatest(game, &self.subgame.active, player, &mut self.list)?;
-        self.subgame.begin(game, player, &mut self.list)?;
+            .list_greatest(view.game, &self.subgame.active, player, &mut self.list)?;
+        self.subgame.begin(view.game, player, &mut self.list)?;
         let set_aside = self.set_aside.len();
         self.set_aside.extend_from_slice(&self.list)?;
         self.frames.push(Frame {
@@ -310,12 +311,12 @@ impl Solver {
     }
 
     /// Whether a vertex is neither settled nor set aside. Such a vertex is active.
-    fn has_more(&self, game: &Game, inside: &Mask) -> bool
-        requires { IsRunning game.now inside.now self.now self.now.frames.items }
+    fn has_more(&self, view: &View) -> bool
+        requires { IsRunning view.now.game.now view.now.mask.now self.now self.now.frames.items }
         ensures { result ≡ false → (v : ℕ) → active_of self.now.subgame v ≡ false }
     {
         // for the proof: there are so few vertices that the numbers listed add up without overflow
-        let _n = game.len();
+        let _n = view.game.len();
         self.gone() != self.size
     }
 
@@ -328,28 +329,28 @@ impl Solver {
     }
 
     /// Finishes the subgame that waits there, which has no active vertex.
-    fn leave(&mut self, game: &Game, inside: &Mask, frame: Frame) -> Result<(), Memory>
-        requires running { IsRunning game.now inside.now self.old (self.old.frames.items ++ frame ∷ []) }
+    fn leave(&mut self, view: &View, frame: Frame) -> Result<(), Memory>
+        requires running { IsRunning view.now.game.now view.now.mask.now self.old (self.old.frames.items ++ frame ∷ []) }
         requires done { (v : ℕ) → active_of self.old.subgame v ≡ false }
-        ensures running { OnOk result (IsRunning game.now inside.now self.new self.new.frames.items) }
-        ensures fewer { OnOk result (work (size inside.now) self.new self.new.frames.items < work (size inside.now) self.old
+        ensures running { OnOk result (IsRunning view.now.game.now view.now.mask.now self.new self.new.frames.items) }
+        ensures fewer { OnOk result (work (size view.now.mask.now) self.new self.new.frames.items < work (size view.now.mask.now) self.old
             (self.old.frames.items ++ frame ∷ [])) }
     {
         let other = frame.player.other();
         if self.settled.count(other) == frame.count(other) {
-            self.settle(game, inside, frame)
+            self.settle(view, frame)
         } else {
-            self.resume(game, inside, frame)
+            self.resume(view, frame)
         }
     }
 
     /// Settles the subgame that waits there for its player, who won its whole rest.
-    fn settle(&mut self, game: &Game, inside: &Mask, frame: Frame) -> Result<(), Memory>
-        requires running { IsRunning game.now inside.now self.old (self.old.frames.items ++ frame ∷ []) }
+    fn settle(&mut self, view: &View, frame: Frame) -> Result<(), Memory>
+        requires running { IsRunning view.now.game.now view.now.mask.now self.old (self.old.frames.items ++ frame ∷ []) }
         requires done { (v : ℕ) → active_of self.old.subgame v ≡ false }
         requires all { length (settled_of self.old.settled (opponent frame.player)) ≡ count_at frame (opponent frame.player) }
-        ensures running { OnOk result (IsRunning game.now inside.now self.new self.new.frames.items) }
-        ensures fewer { OnOk result (work (size inside.now) self.new self.new.frames.items < work (size inside.now) self.old
+        ensures running { OnOk result (IsRunning view.now.game.now view.now.mask.now self.new self.new.frames.items) }
+        ensures fewer { OnOk result (work (size view.now.mask.now) self.new self.new.frames.items < work (size view.now.mask.now) self.old
             (self.old.frames.items ++ frame ∷ [])) }
     {
         self.settled
@@ -360,20 +361,19 @@ impl Solver {
 
     /// Removes from the subgame that waits there what the opponent won and attracts, and makes the others active. What he
     /// won stays in its list: of the others only those set aside may lead to it.
-    fn resume(&mut self, game: &Game, inside: &Mask, frame: Frame) -> Result<(), Memory>
-        requires running { IsRunning game.now inside.now self.old (self.old.frames.items ++ frame ∷ []) }
+    fn resume(&mut self, view: &View, frame: Frame) -> Result<(), Memory>
+        requires running { IsRunning view.now.game.now view.now.mask.now self.old (self.old.frames.items ++ frame ∷ []) }
         requires done { (v : ℕ) → active_of self.old.subgame v ≡ false }
         requires some { length (settled_of self.old.settled (opponent frame.player)) ≢ count_at frame (opponent frame.player) }
-        ensures running { OnOk result (IsRunning game.now inside.now self.new self.new.frames.items) }
-        ensures fewer { OnOk result (work (size inside.now) self.new self.new.frames.items < work (size inside.now) self.old
+        ensures running { OnOk result (IsRunning view.now.game.now view.now.mask.now self.new self.new.frames.items) }
+        ensures fewer { OnOk result (work (size view.now.mask.now) self.new self.new.frames.items < work (size view.now.mask.now) self.old
             (self.old.frames.items ++ frame ∷ [])) }
     {
         let other = frame.player.other();
         self.reopen(frame);
         self.settled.attract(
             &mut self.subgame,
-            game,
-            inside,
+            view,
             other,
             &self.set_aside,
             frame.set_aside,
@@ -494,27 +494,25 @@ impl Settled {
     fn attract(
         &mut self,
         subgame: &mut Subgame,
-        game: &Game,
-        inside: &Mask,
+        view: &View,
         player: Player,
         set_aside: &[u32],
         from: usize,
     ) -> Result<(), Memory>
-        requires ready { IsReady (length game.now) subgame.old (settled_of self.old player) }
-        requires length { length inside.now ≡ length game.now }
-        requires known { IsKnown game.now (members inside.now) player (active_of subgame.old) subgame.old.plan (settled_of self.old player) }
+        requires ready { IsReady (length view.now.game.now) subgame.old (settled_of self.old player) }
+        requires known { IsKnown view.now.game.now (members view.now.mask.now) player (active_of subgame.old) subgame.old.plan (settled_of self.old player) }
         requires place { from ≤ length set_aside.now }
-        requires below { All (λ v. v < length game.now) set_aside.now }
-        requires at_most { AttractsAtMost game.now player (active_of subgame.old) (settled_of self.old player) (drop from set_aside.now) }
-        ensures ready { OnOk result (IsReady (length game.now) subgame.new (settled_of self.new player)) }
-        ensures grown { OnOk result (IsGrown game.now player (active_of subgame.old) subgame.old.plan (settled_of self.old player)
+        requires below { All (λ v. v < length view.now.game.now) set_aside.now }
+        requires at_most { AttractsAtMost view.now.game.now player (active_of subgame.old) (settled_of self.old player) (drop from set_aside.now) }
+        ensures ready { OnOk result (IsReady (length view.now.game.now) subgame.new (settled_of self.new player)) }
+        ensures grown { OnOk result (IsGrown view.now.game.now player (active_of subgame.old) subgame.old.plan (settled_of self.old player)
             (active_of subgame.new) subgame.new.plan (settled_of self.new player)) }
-        ensures done { OnOk result (AttractsNoActive game.now player (union (active_of subgame.old) (listed (settled_of self.old player)))
+        ensures done { OnOk result (AttractsNoActive view.now.game.now player (union (active_of subgame.old) (listed (settled_of self.old player)))
             (listed (settled_of self.new player)) (active_of subgame.new)) }
         ensures other { settled_of self.new (opponent player) ≡ settled_of self.old (opponent player) }
     {
         let list = self.list_mut(player);
-        subgame.attract_again(game, inside, player, list, &set_aside[from..])
+        subgame.attract_again(view, player, list, &set_aside[from..])
     }
 
     /// Removes the player's vertices from a place on.
@@ -528,10 +526,9 @@ impl Settled {
 
 /// Takes one of the steps that are left. False if none is left; without a limit one always is.
 fn take_step(left: &mut Option<u64>) -> bool
-    ensures fewer { AreFewer left.old left.new }
-    ensures unlimited { left.old ≡ None → result ≡ true }
+    ensures one { left.new ≡ after_step left.old }
     ensures none { left.old ≡ Some 0 → result ≡ false }
-    ensures all { result ≡ false → left.new ≡ Some 0 }
+    ensures all { result ≡ false → left.old ≡ Some 0 }
 {
     match *left {
         None => true,
@@ -554,28 +551,26 @@ fn insert_all(mask: &mut Mask, list: &[u32])
     }
 }
 
-/// The rows of the mask that a plan gives Even, and those that it gives Odd, in lists with these capacities at first.
+/// The rows inside that a plan gives Even, and those that it gives Odd, in lists with these capacities at first.
 fn rows_of(
     alloc: Global,
-    game: &Game,
-    mask: &Mask,
+    view: &View,
     plan: &Plan,
     for_even: usize,
     for_odd: usize,
 ) -> Result<(Vec<(u32, Option<u32>)>, Vec<(u32, Option<u32>)>), Memory>
-    requires length { length mask.now ≡ length game.now }
-    requires size { HasSize (length game.now) plan.now }
-    ensures even { IfOk result (λ rows. rows.0.items ≡ rows_below (won_inside (members mask.now) (winners_of plan.now) Even)
-        (own_choices game.now Even (choices_of plan.now)) (length game.now)) }
-    ensures odd { IfOk result (λ rows. rows.1.items ≡ rows_below (won_inside (members mask.now) (winners_of plan.now) Odd)
-        (own_choices game.now Odd (choices_of plan.now)) (length game.now)) }
+    requires { HasSize (length view.now.game.now) plan.now }
+    ensures even { IfOk result (λ rows. rows.0.items ≡ rows_below (won_inside (members view.now.mask.now) (winners_of plan.now) Even)
+        (own_choices view.now.game.now Even (choices_of plan.now)) (length view.now.game.now)) }
+    ensures odd { IfOk result (λ rows. rows.1.items ≡ rows_below (won_inside (members view.now.mask.now) (winners_of plan.now) Odd)
+        (own_choices view.now.game.now Odd (choices_of plan.now)) (length view.now.game.now)) }
 {
     let mut even = Vec::with_capacity(alloc, for_even)?;
     let mut odd = Vec::with_capacity(alloc, for_odd)?;
-    for v in 0..game.len() {
-        if mask.has(v) {
+    for v in 0..view.game.len() {
+        if view.mask.has(v) {
             let winner = plan.winner(v);
-            let choice = own_choice(game.forward(), winner, v, plan.choice(v));
+            let choice = own_choice(view.game.forward(), winner, v, plan.choice(v));
             match winner {
                 Player::Even => even.push((v, choice))?,
                 Player::Odd => odd.push((v, choice))?,

@@ -80,15 +80,10 @@ pub fn run_asked<I: Source, S: Source, O: Sink, R: Threads + Wait + Sync>(
                 finder,
             };
             match known {
-                Some(_) => {
-                    run.solve_from_known(input, second, out, *winners)?;
-                    Ok(0)
-                }
-                None => {
-                    run.solve_from_nothing(input, out, *winners)?;
-                    Ok(0)
-                }
+                Some(_) => run.solve_from_known(input, second, out, *winners)?,
+                None => run.solve_from_nothing(input, out, *winners)?,
             }
+            Ok(0)
         }
         Asked::Trace { workers, .. } => {
             run_trace(rt, alloc, input, out, *workers, gate, finder)?;

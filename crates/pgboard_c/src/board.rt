@@ -1,7 +1,7 @@
 //! The exports on a board that a C program holds: each is the call of a session, through the handle. After any answer but 0 the
 //! board is unchanged, except by `pgboard_board_advance`, and the call writes only `report`.
 
-ghost use Rattle.std.specs.Prelude.{◌≡◌, ◌≢◌, ◌<◌, ◌≤◌, ℕ, Option, None, Some, IfOk, IfErr, OnOk, OnErr, length, slice_index};
+ghost use Rattle.std.specs.Prelude.{◌≡◌, ◌≢◌, ◌<◌, ◌≤◌, ℕ, Option, None, Some, [], IfOk, IfErr, OnOk, OnErr, length, slice_index};
 ghost use Rattle.pg_board.specs.BoardRecord.{BoardRecord};
 ghost use Rattle.pg_board.specs.Journal.{state_of};
 ghost use Rattle.pgboard_c.specs.declared.fault.Fault.{Fault};
@@ -10,7 +10,6 @@ ghost use Rattle.pgboard_c.specs.Arrays.{game_arrays, result_arrays, IsSameStruc
 ghost use Rattle.pgboard_c.specs.Board.{board_in, IsLawfulRecord, IsLawfulBoard, OnBoard, IsOpened, IsOpenFault, AreStates, IsStateFault};
 ghost use Rattle.pgboard_c.specs.Board.{IsFinished, IsFinishFault, IsContinuedOn, IsAdvanceFault};
 ghost use Rattle.pg_board.specs.Full.{IsFull};
-ghost use Rattle.pgboard_c.specs.Answers.{IsArraysFault};
 ghost use Rattle.pgboard_c.specs.Board.{AreSolution, IsSolutionFault, number_settled_on, number_of_entries, winner_number, chosen_number};
 ghost use Rattle.pgboard_c.specs.Entries.{IsEntry, IsEntryFault};
 ghost use Rattle.pgboard_c.specs.Posting.{claim_lists, IsPosted, IsPostFault};
@@ -21,7 +20,7 @@ use crate::fault::{BoardFault, Fault, Report, reported};
 use crate::held::Handle;
 use crate::known::NO_WINNER;
 use pg_board::Session;
-use pg_game::{Game, Player};
+use pg_game::{ForwardGame, Game, Memory, Player};
 use std::alloc::Global;
 
 /// Opens a board of the game of the arrays, on which nothing is settled. Keeps none of the arrays.
@@ -248,17 +247,16 @@ fn open(alloc: Global, board: &mut Handle, arrays: &Arrays) -> Result<(), Fault>
     if board.is_open() {
         return Err(Fault::Board(BoardFault::Open));
     }
-    *board = Handle::holding(new_session(alloc, arrays)?);
+    let forward = arrays.forward_game(alloc)?;
+    *board = Handle::holding(session_of(alloc, forward)?);
     Ok(())
 }
 
-/// A session of the arrays' game, on which nothing is settled.
-fn new_session(alloc: Global, arrays: &Arrays) -> Result<Box<Session>, Fault>
-    ensures opened { IfOk result (λ b. IsOpened (game_arrays arrays.now) (Some b.value)) }
+/// A session of the game, on which nothing is settled. The only error is `Memory`.
+pub(crate) fn session_of(alloc: Global, forward: ForwardGame) -> Result<Box<Session>, Memory>
+    ensures board { IfOk result (λ b. b.value ≡ record { graph = forward; journal = [] }) }
     ensures lawful { IfOk result (λ b. IsLawfulRecord b.value) }
-    ensures fault { IfErr result (λ e. IsArraysFault (game_arrays arrays.now) e) }
 {
-    let forward = arrays.forward_game(alloc)?;
     let game = Game::of_forward(alloc, forward)?;
     let session = Session::open(alloc, game)?;
     // for the proof: the contract of this call states what each session is

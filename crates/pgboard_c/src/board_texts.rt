@@ -4,15 +4,15 @@ ghost use Rattle.std.specs.Prelude.{◌≡◌, ◌≢◌, List, ℕ, None, Some,
 ghost use Rattle.pg_board.specs.BoardRecord.{BoardRecord};
 ghost use Rattle.pgboard_c.specs.declared.fault.Fault.{Fault};
 ghost use Rattle.pgboard_c.specs.Numbers.{IsReported, IsBlank};
-ghost use Rattle.pgboard_c.specs.Texts.{IsWritten, IsRefusedGameText};
-ghost use Rattle.pgboard_c.specs.Board.{board_in, IsLawfulRecord, IsLawfulBoard, OnBoard};
+ghost use Rattle.pgboard_c.specs.Texts.{IsWritten};
+ghost use Rattle.pgboard_c.specs.Board.{board_in, IsLawfulBoard, OnBoard};
 ghost use Rattle.pgboard_c.specs.BoardTexts.{IsOpenedText, IsOpenTextFault, IsSolutionText, IsSolutionTextFault};
 
+use crate::board::session_of;
 use crate::fault::{BoardFault, Fault, Report, reported};
 use crate::held::Handle;
 use crate::on_texts::{copy_to_front, forward_game_of};
 use pg_board::Session;
-use pg_game::Game;
 use pg_text::write_solution;
 use std::alloc::Global;
 
@@ -67,22 +67,9 @@ fn open(alloc: Global, board: &mut Handle, text: &[u8]) -> Result<(), Fault>
     if board.is_open() {
         return Err(Fault::Board(BoardFault::Open));
     }
-    *board = Handle::holding(new_session(alloc, text)?);
-    Ok(())
-}
-
-/// A session of the text's game, on which nothing is settled.
-fn new_session(alloc: Global, text: &[u8]) -> Result<Box<Session>, Fault>
-    ensures opened { IfOk result (λ b. IsOpenedText text.now (Some b.value)) }
-    ensures lawful { IfOk result (λ b. IsLawfulRecord b.value) }
-    ensures fault { IfErr result (λ e. IsRefusedGameText text.now e) }
-{
     let forward = forward_game_of(alloc, text)?;
-    let game = Game::of_forward(alloc, forward)?;
-    let session = Session::open(alloc, game)?;
-    // for the proof: the contract of this call states what each session is
-    let _game = session.game();
-    Ok(Box::new(alloc, session)?)
+    *board = Handle::holding(session_of(alloc, forward)?);
+    Ok(())
 }
 
 /// Writes the solution's text of the board of the handle, and returns its size.

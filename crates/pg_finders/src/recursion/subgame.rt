@@ -18,7 +18,7 @@ ghost use Rattle.pg_finders.specs.private.recursion.Order.{AreGreatest};
 ghost use Rattle.pg_finders.specs.private.recursion.Planned.{winners_of, choices_of, IsGiven, SameOutside, HasSize, SameAt};
 ghost use Rattle.pg_finders.specs.private.Solved.{IsBegun};
 
-use crate::inside::successor_in;
+use crate::inside::{View, successor_in};
 use pg_dominion::{AttractorState, attract_from};
 use pg_game::{Game, Mask, Memory, Player};
 use std::alloc::Global;
@@ -33,14 +33,13 @@ pub struct Subgame {
 
 impl Subgame {
     /// All vertices of the mask are active, and nothing is planned.
-    pub fn new(alloc: Global, game: &Game, inside: &Mask) -> Result<Subgame, Memory>
-        requires { length inside.now ≡ length game.now }
-        ensures sizes { IfOk result (λ x. HasSizes (length game.now) x) }
-        ensures active { IfOk result (λ x. x.active ≡ inside.now) }
+    pub fn new(alloc: Global, view: &View) -> Result<Subgame, Memory>
+        ensures sizes { IfOk result (λ x. HasSizes (length view.now.game.now) x) }
+        ensures active { IfOk result (λ x. x.active ≡ view.now.mask.now) }
     {
-        let active = inside.copy(alloc)?;
-        let plan = Plan::new(alloc, game.len())?;
-        let cursors = Cursors::new(alloc, game.len())?;
+        let active = view.mask.copy(alloc)?;
+        let plan = Plan::new(alloc, view.game.len())?;
+        let cursors = Cursors::new(alloc, view.game.len())?;
         Ok(Subgame {
             active,
             plan,
@@ -70,49 +69,45 @@ impl Subgame {
     /// ones may lead to them.
     pub fn attract_again(
         &mut self,
-        game: &Game,
-        inside: &Mask,
+        view: &View,
         player: Player,
         list: &mut Vec<u32>,
         vertices: &[u32],
     ) -> Result<(), Memory>
-        requires ready { IsReady (length game.now) self.old list.old.items }
-        requires length { length inside.now ≡ length game.now }
-        requires known { IsKnown game.now (members inside.now) player (active_of self.old) self.old.plan list.old.items }
-        requires below { All (λ v. v < length game.now) vertices.now }
-        requires at_most { AttractsAtMost game.now player (active_of self.old) list.old.items vertices.now }
-        ensures ready { OnOk result (IsReady (length game.now) self.new list.new.items) }
-        ensures grown { OnOk result (IsGrown game.now player (active_of self.old) self.old.plan list.old.items
+        requires ready { IsReady (length view.now.game.now) self.old list.old.items }
+        requires known { IsKnown view.now.game.now (members view.now.mask.now) player (active_of self.old) self.old.plan list.old.items }
+        requires below { All (λ v. v < length view.now.game.now) vertices.now }
+        requires at_most { AttractsAtMost view.now.game.now player (active_of self.old) list.old.items vertices.now }
+        ensures ready { OnOk result (IsReady (length view.now.game.now) self.new list.new.items) }
+        ensures grown { OnOk result (IsGrown view.now.game.now player (active_of self.old) self.old.plan list.old.items
             (active_of self.new) self.new.plan list.new.items) }
-        ensures done { OnOk result (AttractsNoActive game.now player (union (active_of self.old) (listed list.old.items)) (listed list.new.items)
+        ensures done { OnOk result (AttractsNoActive view.now.game.now player (union (active_of self.old) (listed list.old.items)) (listed list.new.items)
             (active_of self.new)) }
     {
         let from = list.len();
-        self.retake_all(game, inside, player, list, vertices)?;
-        attract_from(self, game, player, list, from)
+        self.retake_all(view, player, list, vertices)?;
+        attract_from(self, view.game, player, list, from)
     }
 
     /// Takes the vertices of these that the player attracts at once.
     fn retake_all(
         &mut self,
-        game: &Game,
-        inside: &Mask,
+        view: &View,
         player: Player,
         list: &mut Vec<u32>,
         vertices: &[u32],
     ) -> Result<(), Memory>
-        requires ready { IsReady (length game.now) self.old list.old.items }
-        requires length { length inside.now ≡ length game.now }
-        requires known { IsKnown game.now (members inside.now) player (active_of self.old) self.old.plan list.old.items }
-        requires below { All (λ v. v < length game.now) vertices.now }
-        ensures ready { OnOk result (IsReady (length game.now) self.new list.new.items) }
-        ensures grown { OnOk result (IsGrown game.now player (active_of self.old) self.old.plan list.old.items
+        requires ready { IsReady (length view.now.game.now) self.old list.old.items }
+        requires known { IsKnown view.now.game.now (members view.now.mask.now) player (active_of self.old) self.old.plan list.old.items }
+        requires below { All (λ v. v < length view.now.game.now) vertices.now }
+        ensures ready { OnOk result (IsReady (length view.now.game.now) self.new list.new.items) }
+        ensures grown { OnOk result (IsGrown view.now.game.now player (active_of self.old) self.old.plan list.old.items
             (active_of self.new) self.new.plan list.new.items) }
         ensures tested { OnOk result ((v : ℕ) → In (listed vertices.now) v
-            → IsTested game.now player (listed list.old.items) (active_of self.old) (active_of self.new) v) }
+            → IsTested view.now.game.now player (listed list.old.items) (active_of self.old) (active_of self.new) v) }
     {
         for v in vertices {
-            self.retake(game, inside, player, list, *v)?;
+            self.retake(view, player, list, *v)?;
         }
         Ok(())
     }
@@ -121,46 +116,44 @@ impl Subgame {
     /// opponent's that leads to no active vertex.
     fn retake(
         &mut self,
-        game: &Game,
-        inside: &Mask,
+        view: &View,
         player: Player,
         list: &mut Vec<u32>,
         v: u32,
     ) -> Result<(), Memory>
-        requires ready { IsReady (length game.now) self.old list.old.items }
-        requires length { length inside.now ≡ length game.now }
-        requires known { IsKnown game.now (members inside.now) player (active_of self.old) self.old.plan list.old.items }
-        requires vertex { v < length game.now }
-        ensures ready { OnOk result (IsReady (length game.now) self.new list.new.items) }
-        ensures grown { OnOk result (IsGrown game.now player (active_of self.old) self.old.plan list.old.items
+        requires ready { IsReady (length view.now.game.now) self.old list.old.items }
+        requires known { IsKnown view.now.game.now (members view.now.mask.now) player (active_of self.old) self.old.plan list.old.items }
+        requires vertex { v < length view.now.game.now }
+        ensures ready { OnOk result (IsReady (length view.now.game.now) self.new list.new.items) }
+        ensures grown { OnOk result (IsGrown view.now.game.now player (active_of self.old) self.old.plan list.old.items
             (active_of self.new) self.new.plan list.new.items) }
-        ensures tested { OnOk result (IsTested game.now player (listed list.old.items) (active_of self.old) (active_of self.new) v) }
+        ensures tested { OnOk result (IsTested view.now.game.now player (listed list.old.items) (active_of self.old) (active_of self.new) v) }
     {
         if !self.active.has(v) {
             return Ok(());
         }
-        if game.owner(v) == player {
-            return match self.won_successor(game, inside, player, v) {
-                Some(w) => self.take(game, player, v, Some(w), list),
+        if view.game.owner(v) == player {
+            return match self.won_successor(view, player, v) {
+                Some(w) => self.take(view.game, player, v, Some(w), list),
                 None => Ok(()),
             };
         }
-        if self.cursors.find_active(game, &self.active, v) {
+        if self.cursors.find_active(view.game, &self.active, v) {
             return Ok(());
         }
-        self.take(game, player, v, None, list)
+        self.take(view.game, player, v, None, list)
     }
 
     /// A successor of the vertex that the player won inside.
-    fn won_successor(&self, game: &Game, inside: &Mask, player: Player, v: u32) -> Option<u32>
-        requires sizes { HasSizes (length game.now) self.now }
-        requires length { length inside.now ≡ length game.now }
-        requires vertex { v < length game.now }
-        ensures found { IfSome result (λ w. HasEdge game.now v w × In (won_of (members inside.now) (active_of self.now) self.now.plan player) w) }
-        ensures none { IsNone result → IsOut game.now (won_of (members inside.now) (active_of self.now) self.now.plan player) v }
+    fn won_successor(&self, view: &View, player: Player, v: u32) -> Option<u32>
+        requires sizes { HasSizes (length view.now.game.now) self.now }
+        requires vertex { v < length view.now.game.now }
+        ensures found { IfSome result (λ w. HasEdge view.now.game.now v w
+            × In (won_of (members view.now.mask.now) (active_of self.now) self.now.plan player) w) }
+        ensures none { IsNone result → IsOut view.now.game.now (won_of (members view.now.mask.now) (active_of self.now) self.now.plan player) v }
     {
-        for w in game.successors(v) {
-            if self.has_won(inside, player, *w) {
+        for w in view.game.successors(v) {
+            if self.has_won(view, player, *w) {
                 return Some(*w);
             }
         }
@@ -168,13 +161,12 @@ impl Subgame {
     }
 
     /// Whether the player won the vertex inside: it is planned as his and not active.
-    fn has_won(&self, inside: &Mask, player: Player, v: u32) -> bool
-        requires active { v < length self.now.active }
-        requires winner { v < length self.now.plan.winners.items }
-        requires inside { v < length inside.now }
-        ensures { result ≡ won_of (members inside.now) (active_of self.now) self.now.plan player v }
+    fn has_won(&self, view: &View, player: Player, v: u32) -> bool
+        requires sizes { HasSizes (length view.now.game.now) self.now }
+        requires vertex { v < length view.now.game.now }
+        ensures { result ≡ won_of (members view.now.mask.now) (active_of self.now) self.now.plan player v }
     {
-        inside.has(v) && !self.active.has(v) && self.plan.winner(v) == player
+        view.mask.has(v) && !self.active.has(v) && self.plan.winner(v) == player
     }
 
     /// Removes the greatest active vertices, which are listed, and what they attract for their player, which is listed too.

@@ -9,8 +9,8 @@ queue-init c = search (rules, noted_none)
 pub queue-preserved : goal.queue-preserved
 queue-preserved c =
     let s = c.args.search.now in
-    let L = c.args.labels.now.levels.items in
-    let G = c.args.labels.now.groups.items in
+    let L = c.args.levels.now.items in
+    let G = c.args.groups.now.items in
     let at = c.queue.at in
     let v = c.index-v.result.now in
     let l : at < length s.queue.items = omega (arith, c.queue-test.true, c.len-at-end.ensures) in
@@ -18,11 +18,12 @@ queue-preserved c =
     let p : slice_index s.places.items v ≡ at = ap (λ (x : ℕ). slice_index s.places.items x) (sym q) ∙ c.requires.placed at l in
     let b = c.requires.below at l in
     let old = c.queue.invariant in
-    let h : ((at < s.first_repeated) × (c.if-at-search.group ≡ v + 1)) ⊎ ((s.first_repeated ≤ at) × (c.if-at-search.group ≡ c.args.start + 1)) = elim c.if-at-search.branch [
+    let h : ((at < s.first_repeated) × (c.if-at-search.group ≡ v + 1)) ⊎ ((s.first_repeated ≤ at) × (c.if-at-search.group ≡ c.args.start + 1))
+    = elim c.if-at-search.branch [
       | then-at-search w ↦ inl (w.if-at-search.true, w.group-is)
       | else-at-search w ↦ inr (w.if-at-search.false, w.group-is)
     ] in
-    noted_next L G s.places.items s.queue.items c.args.level c.args.start s.first_repeated c.queue.labels.levels.items c.queue.labels.groups.items at v
+    noted_next L G s.places.items s.queue.items c.args.level c.args.start s.first_repeated c.queue.levels.items c.queue.groups.items at v
     c.if-at-search.group q p
     (omega (arith, b, q, old.levels_size, c.requires.levels)) (omega (arith, b, q, old.groups_size, c.requires.groups)) h old
 

@@ -3,6 +3,6 @@ use Rattle.pg_finders.proofs.recursion.rows_of.Given as goal
 
 abbrev pub invariant-loop-v : goal.invariant-loop-v
 invariant-loop-v l = record {
-  even : l.even.items ≡ rows_below (won_inside (members l.mask) (winners_of l.plan) Even) (own_choices l.game Even (choices_of l.plan)) l.v;
-  odd : l.odd.items ≡ rows_below (won_inside (members l.mask) (winners_of l.plan) Odd) (own_choices l.game Odd (choices_of l.plan)) l.v;
+  even : l.even.items ≡ rows_below (won_inside (members l.view.mask.now) (winners_of l.plan) Even) (own_choices l.view.game.now Even (choices_of l.plan)) l.v;
+  odd : l.odd.items ≡ rows_below (won_inside (members l.view.mask.now) (winners_of l.plan) Odd) (own_choices l.view.game.now Odd (choices_of l.plan)) l.v;
 }

@@ -48,6 +48,11 @@ how_many_gone settled set_aside = length (settled Even) + length (settled Odd) +
 abbrev pub work : ℕ → Solver → List Frame → ℕ
 work n solver frames = steps (n - how_many_gone (settled_of solver.settled) solver.set_aside.items) + steps_left n frames
 
+-- the steps that are left after one; without a limit there is still none
+abbrev pub after_step : Option ℕ → Option ℕ
+after_step None = None
+after_step (Some n) = Some (n - 1)
+
 -- not more steps are left than before, and still no limit where there was none
 abbrev pub AreFewer : Option ℕ → Option ℕ → Type 0
 AreFewer None left = left ≡ None

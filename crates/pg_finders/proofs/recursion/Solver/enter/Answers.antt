@@ -33,7 +33,8 @@ aside_is c = c.in_ok-extend_from_slice.ensures.items ∙ ap (λ xs. c.args.self.
 vertices_are : (c : After) → c.list_greatest.new.self.vertices.items ≡ c.args.self.now.order.vertices.items
 vertices_are c = c.in_ok-list_greatest.ensures.vertices ∙ c.in-Some.ensures.vertices
 
-begun : (c : After) → IsBegun c.args.game.now (A c) (C c) c.of_parity-player.result (winners_of c.begin.new.self.plan) (choices_of c.begin.new.self.plan)
+begun : (c : After) → IsBegun c.args.view.now.game.now (A c) (C c) c.of_parity-player.result (winners_of c.begin.new.self.plan)
+    (choices_of c.begin.new.self.plan)
 begun c = c.in_ok-begin.ensures.begun
 
 counts : (c : After) (p : Player) → count_at (frame c) p ≡ length (settled_of c.args.self.now.settled p)
@@ -48,7 +49,7 @@ upto c = let a : c.len.result ≡ vec_len c.extend_from_slice.new.self = c.len.e
     let b : c.len.result ≡ length c.extend_from_slice.new.self.items = omega (arith, a, c.extend_from_slice.new.self.ok) in
     b ∙ ap (λ xs. length xs) (aside_is c)
 
-begins : (c : After) → Begins c.args.game.now (members c.args.inside.now) (A c) (C c)
+begins : (c : After) → Begins c.args.view.now.game.now (members c.args.view.now.mask.now) (A c) (C c)
     (settled_of c.args.self.now.settled) c.args.self.now.set_aside.items c.begin.new.list.items c.args.self.now.frames.items (frame c)
     (winners_of c.args.self.now.subgame.plan) (winners_of c.begin.new.self.plan) (choices_of c.args.self.now.subgame.plan)
     (choices_of c.begin.new.self.plan)
@@ -74,11 +75,11 @@ fits c = subst (λ vertices. c.upto-place.result ≤ length vertices) c.in-Some.
     (subst (λ n. n ≤ length c.top.new.self.vertices.items) (sym c.upto-place.ensures) c.in-Some.ensures.order.upto)
 
 placed : (c : After) → AllPlaced c.list_greatest.new.self.vertices.items
-    (map (level_at (members c.args.inside.now) (settled_of c.args.self.now.settled) (c.args.self.now.set_aside.items ++ c.begin.new.list.items))
+    (map (level_at (members c.args.view.now.mask.now) (settled_of c.args.self.now.settled) (c.args.self.now.set_aside.items ++ c.begin.new.list.items))
     (c.args.self.now.frames.items ++ frame c ∷ [])) (c.args.self.now.frames.items ++ frame c ∷ [])
 placed c =
     let x = c.args.self.now in
-    let level = level_at (members c.args.inside.now) (settled_of x.settled) (x.set_aside.items ++ c.begin.new.list.items) in
+    let level = level_at (members c.args.view.now.mask.now) (settled_of x.settled) (x.set_aside.items ++ c.begin.new.list.items) in
     subst (λ vertices. AllPlaced vertices (map level (x.frames.items ++ frame c ∷ [])) (x.frames.items ++ frame c ∷ [])) (sym (vertices_are c))
     (placed_push x.order.vertices.items level x.frames.items (frame c)
     (subst (λ ls. AllPlaced x.order.vertices.items ls x.frames.items) (sym (stops_now (begins c))) c.requires.placed)
@@ -109,4 +110,4 @@ pub returns-clause-fewer : goal.returns-clause-fewer
 returns-clause-fewer c _ =
     let frames : c.push.new.self.items ≡ c.args.self.now.frames.items ++ frame c ∷ [] = c.in_ok-push.ensures.items in
     let s = (begun c).some in
-    rw (frames, aside_is c) (enters_fewer c.args.inside.now (begins c) (some_length c.begin.new.list.items s.0 (c.in_ok-begin.ensures.listed s.0 ∙ s.1)))
+    rw (frames, aside_is c) (enters_fewer c.args.view.now.mask.now (begins c) (some_length c.begin.new.list.items s.0 (c.in_ok-begin.ensures.listed s.0 ∙ s.1)))

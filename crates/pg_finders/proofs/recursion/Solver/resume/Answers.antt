@@ -41,7 +41,7 @@ Reopened = goal.After-deref
 same_lost : (c : Reopened) → settled_of c.reopen.new.self.settled c.other-other.result ≡ settled_of c.args.self.now.settled (opponent c.args.frame.player)
 same_lost c = ap (settled_of c.reopen.new.self.settled) c.other-other.ensures ∙ c.reopen.ensures.other
 
-ended : (c : Reopened) → IsAtEnd c.args.game.now c.args.inside.now c.args.self.now c.args.self.now.frames.items c.args.frame
+ended : (c : Reopened) → IsAtEnd c.args.view.now.game.now c.args.view.now.mask.now c.args.self.now c.args.self.now.frames.items c.args.frame
 ended c = at_end c.args.self.now.frames.items c.args.frame c.requires.running c.requires.done
 
 aside_is : (c : Reopened) → c.reopen.new.self.set_aside.items ≡ c.args.self.now.set_aside.items
@@ -54,7 +54,7 @@ attract-requires-clause-ready c =
       sizes = record {
         active = r.length ∙ c.requires.running.sizes.active;
         cursors = ap (λ s. length s.subgame.cursors.places.items) r.same ∙ c.requires.running.sizes.cursors;
-        plan = subst (HasSize (length c.args.game.now)) (sym (ap (λ s. s.subgame.plan) r.same)) c.requires.running.sizes.plan;
+        plan = subst (HasSize (length c.args.view.now.game.now)) (sym (ap (λ s. s.subgame.plan) r.same)) c.requires.running.sizes.plan;
       };
       once = subst Once (sym (same_lost c)) (c.requires.running.under_way.apart.settled_once (opponent c.args.frame.player));
       apart = λ v i. reopened_apart (ended c) (active_of c.reopen.new.self.subgame) r.active v (subst (λ xs. In (listed xs) v) (same_lost c) i);
@@ -73,8 +73,8 @@ pub attract-requires-clause-below : goal.attract-requires-clause-below
 attract-requires-clause-below c =
     let x = c.args.self.now in
     rw (c.deref.ensures.value, aside_is c)
-    (all_below (length c.args.game.now) x.set_aside.items (λ v i. subst (λ n. v < n) c.requires.running.inside_length
-    (inside_mask c.args.inside.now v (c.requires.running.under_way.listed_inside v (gone_aside (settled_of x.settled) x.set_aside.items v i)))))
+    (all_below (length c.args.view.now.game.now) x.set_aside.items (λ v i. subst (λ n. v < n) c.requires.running.inside_length
+    (inside_mask c.args.view.now.mask.now v (c.requires.running.under_way.listed_inside v (gone_aside (settled_of x.settled) x.set_aside.items v i)))))
 
 pub attract-requires-clause-at_most : goal.attract-requires-clause-at_most
 attract-requires-clause-at_most c =
@@ -104,15 +104,17 @@ lost c = opponent c.args.frame.player
 abbrev retaken : After → Plan
 retaken c = c.attract.new.subgame.plan
 
-retakes : (c : After) → Retakes c.args.game.now c.args.frame (A c) c.args.self.now.subgame.plan (settled_of c.args.self.now.settled) (now c) (C c) (retaken c)
+retakes : (c : After) → Retakes c.args.view.now.game.now c.args.frame (A c) c.args.self.now.subgame.plan (settled_of c.args.self.now.settled) (now c) (C c)
+    (retaken c)
 retakes c =
-    let g = c.args.game.now in
+    let g = c.args.view.now.game.now in
     let r = c.reopen.ensures in
     let h = c.in_ok-attract.ensures in
     let q : c.other-other.result ≡ lost c = c.other-other.ensures in
     record {
       some = c.requires.some;
-      grown = subst (λ plan. IsGrown g (lost c) (A c) plan (settled_of c.args.self.now.settled (lost c)) (C c) (retaken c) (now c (lost c))) (ap (λ s. s.subgame.plan) r.same)
+      grown = subst (λ plan. IsGrown g (lost c) (A c) plan (settled_of c.args.self.now.settled (lost c)) (C c) (retaken c) (now c (lost c)))
+          (ap (λ s. s.subgame.plan) r.same)
           (subst (λ xs. IsGrown g (lost c) (A c) c.reopen.new.self.subgame.plan xs (C c) (retaken c) (now c (lost c))) r.other
           (subst (λ p. IsGrown g p (A c) c.reopen.new.self.subgame.plan (settled_of c.reopen.new.self.settled p) (C c) (retaken c) (now c p)) q h.grown));
       done = subst (λ xs. AttractsNoActive g (lost c) (union (A c) (listed xs)) (listed (now c (lost c))) (C c)) r.other
@@ -122,10 +124,11 @@ retakes c =
       own = subst (λ p. now c p ≡ settled_of c.reopen.new.self.settled p) (ap opponent q ∙ twice c.args.frame.player) c.attract.ensures.other ∙ r.own;
     }
 
-over : (c : After) → IsAtEnd c.args.game.now c.args.inside.now c.args.self.now c.args.self.now.frames.items c.args.frame
+over : (c : After) → IsAtEnd c.args.view.now.game.now c.args.view.now.mask.now c.args.self.now c.args.self.now.frames.items c.args.frame
 over c = at_end c.args.self.now.frames.items c.args.frame c.requires.running c.requires.done
 
-finished : (c : After) → IsFinished c.args.game.now c.args.inside.now c.args.self.now c.args.self.now.frames.items c.args.frame (C c) (now c) (retaken c)
+finished : (c : After) → IsFinished c.args.view.now.game.now c.args.view.now.mask.now c.args.self.now c.args.self.now.frames.items c.args.frame (C c) (now c)
+    (retaken c)
 finished c = resume_finished (over c) (A c) c.reopen.ensures.active (retakes c)
 
 vertices_are : (c : After) → c.go_back.new.self.vertices.items ≡ c.args.self.now.order.vertices.items
@@ -142,15 +145,16 @@ returns-clause-running c =
     let x = c.args.self.now in
     let was = c.requires.running in
     let popped =
-    placed_pop x.order.vertices.items (level_at (members c.args.inside.now) (settled_of x.settled) x.set_aside.items) x.frames.items c.args.frame was.placed in
+    placed_pop x.order.vertices.items (level_at (members c.args.view.now.mask.now) (settled_of x.settled) x.set_aside.items) x.frames.items c.args.frame
+    was.placed in
     record {
       inside_length = was.inside_length;
       whole = ap (λ s. s.size) c.reopen.ensures.same ∙ was.whole;
       sizes = c.in_ok-attract.ensures.ready.sizes;
       subgame = resume_subgame (over c) (A c) c.reopen.ensures.active (retakes c);
       order = record {
-        right = subst (AreVertices c.args.game.now) (sym (vertices_are c)) was.order.right;
-        rising = subst (IsNonDecreasingBy (priority_of c.args.game.now)) (sym (vertices_are c)) was.order.rising;
+        right = subst (AreVertices c.args.view.now.game.now) (sym (vertices_are c)) was.order.right;
+        rising = subst (IsNonDecreasingBy (priority_of c.args.view.now.game.now)) (sym (vertices_are c)) was.order.rising;
         distinct = subst AreDistinct (sym (vertices_are c)) was.order.distinct;
         upto = rw (c.go_back.ensures.upto, vertices_are c) popped.2;
         stand = rw (c.go_back.ensures.upto, vertices_are c) (λ v i. popped.1 v (resume_inside (over c) (A c) c.reopen.ensures.active (retakes c) v i));

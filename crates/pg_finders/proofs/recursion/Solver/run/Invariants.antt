@@ -1,12 +1,12 @@
-use Rattle.pg_finders.proofs.Common.{◌≡◌, ℕ, None, Some, In, active_of, size, IsRunning, work, AreFewer}
+use Rattle.pg_finders.proofs.Common.{◌≡◌, ℕ, Some, In, active_of, size, IsRunning, work, AreFewer}
 use Rattle.pg_finders.proofs.recursion.Solver.run.Given as goal
 
 abbrev pub invariant-steps : goal.invariant-steps
 invariant-steps l = record {
-  running : IsRunning l.game l.inside l.self l.self.frames.items;
+  running : IsRunning l.view.game.now l.view.mask.now l.self l.self.frames.items;
   fewer : AreFewer l.initial.left l.left;
   no_steps : l.initial.left ≡ Some 0 → (v : ℕ) → In (active_of l.fn.self.subgame) v → (l.left ≡ Some 0) × In (active_of l.self.subgame) v;
 }
 
 abbrev pub decreases-steps : goal.decreases-steps
-decreases-steps l = work (size l.inside) l.self l.self.frames.items
+decreases-steps l = work (size l.view.mask.now) l.self l.self.frames.items

@@ -15,7 +15,7 @@ own : (c : After) → settled_of c.append_from.new.self c.args.frame.player
 own c = c.in_ok-append_from.ensures.own ∙ ap (λ xs. settled_of c.args.self.now.settled c.args.frame.player ++ drop c.args.frame.set_aside xs)
     c.deref.ensures.value
 
-finished : (c : After) → IsFinished c.args.game.now c.args.inside.now c.args.self.now c.args.self.now.frames.items c.args.frame
+finished : (c : After) → IsFinished c.args.view.now.game.now c.args.view.now.mask.now c.args.self.now c.args.self.now.frames.items c.args.frame
     (active_of c.args.self.now.subgame) (settled_of c.append_from.new.self) c.args.self.now.subgame.plan
 finished c = search (rules, settle_finished, at_end, c.requires.running, c.requires.done, c.requires.all, own, c.in_ok-append_from.ensures.other)
 
@@ -29,7 +29,7 @@ returns-clause-running c =
       subgame = c.requires.running.subgame;
       order = c.requires.running.order;
       placed = rw c.truncate.ensures.items (subst (λ ls. AllPlaced x.order.vertices.items ls x.frames.items) (sym (finished c).kept)
-          (placed_pop x.order.vertices.items (level_at (members c.args.inside.now)
+          (placed_pop x.order.vertices.items (level_at (members c.args.view.now.mask.now)
           (settled_of x.settled) x.set_aside.items) x.frames.items c.args.frame c.requires.running.placed).0);
       under_way = rw c.truncate.ensures.items (finished c).under_way;
     }

@@ -11,7 +11,7 @@ attract_from-requires-clause-done c =
     let from_is : c.len-from.result ≡ length c.args.list.now.items = (
     let a : c.len-from.result ≡ vec_len c.args.list.now = c.len-from.ensures in omega (arith, a, c.args.list.now.ok)) in
     no_further (done_equal (λ v. sym (grown_union h.grown v))
-    (subst (λ xs. AttractsNoActive c.args.game.now c.args.player U (listed xs) (active_of c.retake_all.new.self))
+    (subst (λ xs. AttractsNoActive c.args.view.now.game.now c.args.player U (listed xs) (active_of c.retake_all.new.self))
     (sym (ap (λ n. take n c.retake_all.new.list.items) from_is ∙ prefix_taken h.grown))
     (tested_done c.args.vertices.now h.grown c.requires.ready.apart c.requires.at_most h.tested)))
 

@@ -1,4 +1,4 @@
-use Rattle.pg_finders.proofs.Common.{on_ok_weaker}
+use Rattle.pg_finders.proofs.Common.{◌≢◌, inr, on_ok_weaker, rules, owner_of}
 use Rattle.pg_finders.proofs.recursion.AttractionSteps.{grown_none}
 use Rattle.pg_finders.proofs.recursion.subgame.Subgame.retake.Goals as goal
 
@@ -13,3 +13,9 @@ returns-then-find_active-clause-grown c = grown_none
 
 pub returns-clause-grown : goal.returns-clause-grown
 returns-clause-grown c = on_ok_weaker c.take-2.result (λ h. h _ _ _ grown_none) c.take-2.ensures.grown
+
+pub returns-then-find_active-clause-tested : goal.returns-then-find_active-clause-tested
+returns-then-find_active-clause-tested c =
+    let other : owner_of c.args.view.now.game.now c.args.v ≢ c.args.player = search rules in
+    let found = c.find_active.ensures.found c.if-find_active.true in
+    inr (inr (other, found.0, found.1, found.2))

@@ -11,7 +11,7 @@ retake-requires-clause-known c = search (rules, known_grown, c.requires.known, c
 
 pub loop-v-preserved : goal.loop-v-preserved
 loop-v-preserved c =
-    let g = c.args.game.now in
+    let g = c.args.view.now.game.now in
     let p = c.args.player in
     let was = active_of c.args.self.now in
     let mid = active_of c.loop-v.self in
@@ -28,6 +28,6 @@ loop-v-preserved c =
 
 pub returns-clause-tested : goal.returns-clause-tested
 returns-clause-tested c =
-    let P = λ (v : ℕ). IsTested c.args.game.now c.args.player (listed c.args.list.now.items) (active_of c.args.self.now) (active_of c.loop-v.self) v in
+    let P = λ (v : ℕ). IsTested c.args.view.now.game.now c.args.player (listed c.args.list.now.items) (active_of c.args.self.now) (active_of c.loop-v.self) v in
     all_listed P c.args.vertices.now (λ k d l. subst P (get_or_default c.args.vertices.now k 0 d l)
     (c.loop-v.invariant.tested k (omega (arith, l, c.loop-v-test.false))))

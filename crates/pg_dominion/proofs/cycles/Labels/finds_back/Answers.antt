@@ -1,6 +1,6 @@
 use Rattle.pg_dominion.proofs.Common.{arith, below_more, rules}
 use Rattle.pg_dominion.proofs.SearchSteps.{IsSpread-later, GoesOn-then}
-use Rattle.pg_dominion.proofs.cycles.finds_back.Goals as goal
+use Rattle.pg_dominion.proofs.cycles.Labels.finds_back.Goals as goal
 
 pub queue-init : goal.queue-init
 queue-init c = search (rules, c.requires.least, c.requires.state)
@@ -10,16 +10,17 @@ queue-preserved c =
     let h = c.in_ok-spread.ensures in
     let old = c.queue.search in
     let new = c.spread.new.search in
-    let k = c.args.kept.now in
-    let L = c.args.labels.now.levels.items in
-    let G = c.args.labels.now.groups.items in
+    let k = c.args.self.now.kept.now in
+    let L = c.args.self.now.levels.items in
+    let G = c.args.self.now.groups.items in
     record {
       least = h.least;
       state = h.state;
       later = GoesOn-then _ old.queue.items new.queue.items _ old.first_repeated new.first_repeated c.queue.invariant.later h.later;
       within = omega (arith, h.later.longer);
       spread = below_more _ _
-          (λ i l. IsSpread-later k L G c.args.top c.args.own old.places.items old.queue.items new.places.items new.queue.items old.first_repeated new.first_repeated i
+          (λ i l. IsSpread-later k L G c.args.top c.args.own old.places.items old.queue.items new.places.items new.queue.items old.first_repeated
+          new.first_repeated i
           (omega arith) h.later h.state (c.queue.invariant.spread i l))
           (h.spread c.if-branch.false);
     }
