@@ -6,8 +6,8 @@ begins with a line '-- NAME':
     args            the words of each run, a line for each, as a shell reads them; none: one run without words
     file PATH       a file in the folder that the program runs in
     stdin           none: nothing
-    stdout          the exact output; where it stands more than once, one of them
-    stderr          the exact text on standard error; where it stands more than once, one for each run; none: nothing
+    stdout          the exact output; where it occurs more than once, one of them
+    stderr          the exact text on standard error; where it occurs more than once, one for each run; none: nothing
     status          none: 0
 Texts are ASCII with the escapes of Python's bytes: \xff is a byte, and a backslash at the end of a line leaves its line feed out.
 

@@ -32,7 +32,7 @@ class Text(Tokens):
 
     def number(self, below):
         if not self.next_is("a number") or int(self.left[-1].text) >= below:
-            self.refuse(f"a number below {below} has to stand here")
+            self.refuse(f"expected a number below {below}")
         return int(self.take("a number").text)
 
     def string(self):
@@ -64,7 +64,7 @@ class Automaton:
         self.states = MOST
         self.aliases, self.edges, self.targets, self.places, self.called, self.headers = {}, {}, {}, {}, {}, set()
         if not self.tokens.next_is("HOA:"):
-            self.tokens.refuse("HOA: has to stand here")
+            self.tokens.refuse("expected HOA:")
         while not self.tokens.takes("--BODY--"):
             self.header()
         if self.owners is None:
@@ -90,13 +90,13 @@ class Automaton:
         tokens = self.tokens
         at, name = tokens.at(), tokens.take("a header").text
         if name in ("Alias:", "controllable-AP:") and self.names is None:
-            tokens.refuse("the header AP: has to stand before this one", at)
+            tokens.refuse("the header AP: has to come before this one", at)
         known = {"HOA:": self.version, "States:": self.count, "Start:": self.start, "AP:": self.propositions}
         known.update({"controllable-AP:": self.outputs, "Alias:": self.alias, "Acceptance:": self.acceptance})
         known["spot-state-player:"] = self.players
         if name in known:
             if name in self.headers and name not in ("Start:", "Alias:"):
-                tokens.refuse(f"the header {name} stands here twice", at)
+                tokens.refuse(f"the header {name} is given twice", at)
             self.headers.add(name)
             known[name]()
         elif name[0].isupper() or PLAYERS.search(name):
@@ -131,7 +131,7 @@ class Automaton:
         while self.tokens.next_is("a number"):
             at, proposition = self.tokens.at(), self.tokens.number(len(self.names))
             if proposition in self.controllable:
-                self.tokens.refuse(f"proposition {proposition} stands here twice", at)
+                self.tokens.refuse(f"proposition {proposition} is given twice", at)
             self.controllable.append(proposition)
 
     def players(self):
@@ -199,7 +199,7 @@ class Automaton:
     def implied(self, at):
         """The letter of an edge without a label: the first edge's is that without propositions, and so on."""
         if not self.tokens.next_is("a number") or at >= 1 << len(self.names):
-            self.tokens.refuse("an edge without a label for each letter has to stand here, and no other")
+            self.tokens.refuse("expected an edge without a label for each letter, and no other edge")
         return 1 << at
 
     def bracket(self):
@@ -223,7 +223,7 @@ class Automaton:
             return self.holds[tokens.number(len(self.names))]
         known = {"t": self.all, "f": 0, **self.aliases}
         if not tokens.next_is(*known):
-            tokens.refuse("a number of a proposition, t, f, an alias from above, or ! or ( has to stand here")
+            tokens.refuse("expected a number of a proposition, t, f, an alias from above, ! or (")
         return known[tokens.take("a name").text]
 
     def cube(self, propositions, spelled):

@@ -73,9 +73,9 @@ class Tokens:
         return bool(self.next_is(*wanted) and self.take(*wanted))
 
     def expect(self, wanted):
-        """Refuses the next token, in whose place another one has to stand."""
-        stands = f"{games.shown(self.text[self.at() : self.left[-1].end])} stands" if self.left else "the text ends"
-        self.refuse(f"{stands} where {wanted} has to stand")
+        """Refuses the next token, since another one is expected."""
+        found = games.shown(self.text[self.at() : self.left[-1].end]) if self.left else "the end of the text"
+        self.refuse(f"expected {wanted}, found {found}")
 
     def chain(self, operators, part, join):
         """What operators join, of which the first one binds least; `join` gets the operator, where its left side begins, and both."""
