@@ -503,7 +503,7 @@ class ModelCheck(scripts.Use, unittest.TestCase):
         formula = self.file("always.mcf", "nu X.\n (<a> X\n")
         status, out, err = self.run_script(self.model, formula)
         self.assertEqual((status, out), (2, ""))
-        self.assertTrue(err.startswith(f"modelcheck: {formula}:2:8: the text ends"), err)
+        self.assertTrue(err.startswith(f"modelcheck: {formula}:2:8: expected ), found the end of the text"), err)
 
     def test_bytes_of_other_encodings(self):
         self.model.write_bytes(b'des (0, 1, 1)\n(0, "\xe9\xff", 0)\n')
