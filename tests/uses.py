@@ -595,7 +595,8 @@ class Refused(unittest.TestCase):
                 self.assertTrue(not usage or usage[0].startswith("usage: "), err)
                 place = place.replace("FILE", file).replace("TRACE", named["TRACE"])
                 self.assertRegex(line, rf"^{script}(\.py)?: {re.escape(place)}")
-                self.assertIn(said, line)
+                # (a row has the whole of what a parser expected)
+                self.assertTrue(line.endswith(said) if said.startswith("expected ") else said in line, line)
 
 
 if __name__ == "__main__":
